@@ -2,9 +2,17 @@
 #![tactic(auto)]
 
 mod byte_list;
+mod decimals;
 mod failures;
 mod list_of;
+mod reading;
+mod streams;
+mod writing;
 
 pub use byte_list::Bytes;
+
 pub use failures::{FileError, IoError, NoMemory};
 pub use list_of::{ListOf, NumberList, SizeList, SizeTable};
+pub use reading::{Filled, MAX_INPUT_BYTES, Stop, fill};
+pub use streams::{Link, Meanings, Sink, Source};
+pub use writing::{write_all, write_counted};

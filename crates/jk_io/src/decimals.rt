@@ -1,0 +1,1 @@
+//! Numbers as decimal digits, and text without outer blanks.

@@ -1,0 +1,58 @@
+//! Buffers that are filled, and inputs that are read to their end.
+ghost use Rattle.std.specs.Prelude.{◌≡◌, ℕ, ◌+◌, ◌<◌, ◌≤◌, ◌↔◌, List, length, take, IfOk, IsErrOf, OnErr};
+ghost use Rattle.jk_io.specs.Told.{appended, prepended, IsEmpty, Rose};
+
+use std::alloc::Global;
+
+use crate::byte_list::Bytes;
+use crate::failures::{FileError, IoError, NoMemory};
+use crate::streams::Source;
+
+/// The most bytes that a file or a standard input may have.
+pub const MAX_INPUT_BYTES: usize = 67_108_864;
+
+const CHUNK_BYTES: usize = 65_536;
+
+/// Why `fill` read no further.
+#[derive(Clone, Copy, Debug, PartialEq, Eq)]
+pub enum Stop {
+    /// The buffer is full.
+    Full,
+    /// The bytes ended.
+    End,
+    /// A read failed.
+    Fault,
+    NoMemory,
+}
+
+/// What `fill` read: the bytes at the front of the buffer, and why no more.
+#[derive(Clone, Copy, Debug, PartialEq, Eq)]
+pub struct Filled {
+    pub count: usize,
+    pub stop: Stop,
+}
+
+/// Reads until the buffer is full, unless the bytes end or a read is refused before that.
+pub fn fill<S: Source>(source: &mut S, buf: &mut [u8]) -> Filled
+    ensures count { result.count ≤ length buf.new }
+    ensures full { (result.stop ≡ Stop.Full) ↔ (result.count ≡ length buf.new) }
+    ensures end { result.stop ≡ Stop.End → IsEmpty (S.incoming source.new) }
+    ensures fault { result.stop ≡ Stop.Fault → Rose (S.faults source.old) (S.faults source.new) }
+
+    // Whatever the stop is, the bytes that came are those at the front.
+    ensures gave { S.incoming source.old ≡ prepended (take result.count buf.new) (S.incoming source.new) }
+    ensures got { S.received source.new ≡ appended (S.received source.old) (take result.count buf.new) }
+    ensures same { (S.sent source.new ≡ S.sent source.old) × (S.beside source.new ≡ S.beside source.old) }
+    ensures no_fewer { S.faults source.old ≤ S.faults source.new }
+{
+    let mut count = 0;
+    while count < buf.len() {
+        match source.read(&mut buf[count..]) {
+            Ok(0) => return Filled { count, stop: Stop::End },
+            Ok(more) => count += more,
+            Err(IoError::Failed) => return Filled { count, stop: Stop::Fault },
+            Err(IoError::NoMemory) => return Filled { count, stop: Stop::NoMemory },
+        }
+    }
+    Filled { count, stop: Stop::Full }
+}
