@@ -1,0 +1,31 @@
+-- When a request whose talk failed may be sent once more.
+use Rattle.std.specs.Prelude.{ℕ, ◌/◌, ◌%◌, ◌==◌, Bool, not, ◌&&◌, ◌||◌}
+use Rattle.recovery_rule.specs.declared.options.RecoveryOption.{RecoveryOption}
+use Rattle.recovery_rule.specs.declared.options.RecoveryOption.TheVariants.{NotOnceGot, NotOnceHeaders, CloseWithClient, AlwaysHead, AlwaysGet}
+
+-- what an option adds to `recovery_options`
+abbrev pub number_of : RecoveryOption → ℕ
+number_of NotOnceGot = 1
+number_of NotOnceHeaders = 2
+number_of CloseWithClient = 4
+number_of AlwaysHead = 8
+number_of AlwaysGet = 16
+
+-- a sum of options has this one among them
+abbrev pub is_on : ℕ → RecoveryOption → Bool
+is_on sum option = sum / number_of option % 2 == 1
+
+-- a method that is always recovered, however far the talk had come
+abbrev pub is_always_recovered : (options : ℕ) (head get : Bool) → Bool
+is_always_recovered options head get = (head && is_on options AlwaysHead) || (get && is_on options AlwaysGet)
+
+-- the talk hadn't come to a place after which the options forbid another
+abbrev pub is_early_enough : (options : ℕ) (got headers : Bool) → Bool
+is_early_enough options got headers =
+    (not got || not (is_on options NotOnceGot)) && (not headers || not (is_on options NotOnceHeaders))
+
+-- Another try is allowed: no byte of the reply was passed, no byte beyond the first piece was taken, and the
+-- method is always recovered or the talk broke off early enough.
+abbrev pub may_retry_of : (options : ℕ) (head get got headers passed beyond : Bool) → Bool
+may_retry_of options head get got headers passed beyond =
+    not passed && (not beyond && (is_always_recovered options head get || is_early_enough options got headers))
