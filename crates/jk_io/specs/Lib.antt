@@ -1,1 +1,4 @@
+pub mod Answers
+pub mod Stored
+pub mod Talks
 pub mod Told

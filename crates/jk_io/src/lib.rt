@@ -5,14 +5,18 @@ mod byte_list;
 mod decimals;
 mod failures;
 mod list_of;
+mod reaching;
 mod reading;
 mod streams;
+mod surroundings;
 mod writing;
 
 pub use byte_list::Bytes;
 
 pub use failures::{FileError, IoError, NoMemory};
 pub use list_of::{ListOf, NumberList, SizeList, SizeTable};
+pub use reaching::{Begun, Beside, Reach, Talk, TalkList};
 pub use reading::{Filled, MAX_INPUT_BYTES, Stop, fill};
 pub use streams::{Link, Meanings, Sink, Source};
+pub use surroundings::{Clock, Dial, Door, Files, Peer};
 pub use writing::{write_all, write_counted};

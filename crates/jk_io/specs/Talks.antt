@@ -1,0 +1,25 @@
+-- What a talk was begun with, what was said in it, and how it becomes one of the talks that ended.
+use Rattle.std.specs.Prelude.{◌≡◌, ℕ, List, [], Option, Some, None, IfSome, Bool, true, false}
+use Rattle.jk_io.specs.declared.reaching.Talk.{Talk}
+use Rattle.jk_io.specs.declared.reaching.Begun.{Begun}
+
+-- what a talk was begun with
+abbrev pub begun_of : Talk → Begun
+begun_of talk = record {
+  lb = talk.lb; member = talk.member; host = talk.host; port = talk.port;
+  fresh = talk.fresh; dialled = talk.dialled; came = talk.came;
+}
+
+-- the talk that a begin which failed leaves: nothing was dialled, and nothing was said
+abbrev pub failed_talk : ℕ → ℕ → List ℕ → ℕ → Bool → Talk
+failed_talk lb member host port fresh = record {
+  lb = lb; member = member; host = host; port = port;
+  fresh = fresh; dialled = false; came = None; sent = []; received = []; keep = false;
+}
+
+-- the note says of the running talk what is told of it, and whether its link is to be kept
+pub record IsNoteOf (begun : Option Begun) (sent received : Option (List ℕ)) (keep : Bool) (note : Talk) : Type 0 where
+  pub begun_with : IfSome begun (λ b. b ≡ begun_of note)
+  pub sent_in : IfSome sent (λ bytes. bytes ≡ note.sent)
+  pub received_in : IfSome received (λ bytes. bytes ≡ note.received)
+  pub kept : keep ≡ note.keep
