@@ -12,32 +12,32 @@ take-next p at n = take-add at n p ∙ ap (λ x. take at p ++ take n x) (sym (ta
 
 -- the first `at` of what was there, and `n` of what `&mut xs[at..]` was filled with
 pub take-filled : {T : Type 0} → (xs ys : List T) (at k n : ℕ) → at ≤ length xs → n ≤ length ys
-  → take (at + n) (put_mid at k xs ys) ≡ take at xs ++ take n ys
+    → take (at + n) (put_mid at k xs ys) ≡ take at xs ++ take n ys
 take-filled {T} xs ys at k n within more =
     let P : ℕ → Type 0 = λ m. take (m + n) (take at xs ++ (ys ++ post_of at k xs)) ≡ take at xs ++ take n ys in
     subst P (length-take-le at xs within)
-      (take-append-add (take at xs) (ys ++ post_of at k xs) n ∙ ap (λ x. take at xs ++ x) (take-append-le n ys (post_of at k xs) more))
+    (take-append-add (take at xs) (ys ++ post_of at k xs) n ∙ ap (λ x. take at xs ++ x) (take-append-le n ys (post_of at k xs) more))
 
 -- what was put before `at`, and `n` of `&p[at..]` behind it
 pub put_next : (before now after : Option (List ℕ)) (p : List ℕ) (at n : ℕ)
-  → now ≡ appended before (take at p) → after ≡ appended now (take n (take (length p - at) (drop at p)))
-  → after ≡ appended before (take (at + n) p)
+    → now ≡ appended before (take at p) → after ≡ appended now (take n (take (length p - at) (drop at p)))
+    → after ≡ appended before (take (at + n) p)
 put_next before now after p at n first next =
     next ∙ ap (λ s. appended s (take n (take (length p - at) (drop at p)))) first
-      ∙ appended-appended before (take at p) (take n (take (length p - at) (drop at p)))
-      ∙ ap (appended before) (sym (take-next p at n))
+    ∙ appended-appended before (take at p) (take n (take (length p - at) (drop at p)))
+    ∙ ap (appended before) (sym (take-next p at n))
 
 -- what came before `at`, and `n` more behind it, as the buffer holds them
 pub got_next : (before now after : Option (List ℕ)) (xs ys : List ℕ) (at k n : ℕ) → at ≤ length xs → n ≤ length ys
-  → now ≡ appended before (take at xs) → after ≡ appended now (take n ys)
-  → after ≡ appended before (take (at + n) (put_mid at k xs ys))
+    → now ≡ appended before (take at xs) → after ≡ appended now (take n ys)
+    → after ≡ appended before (take (at + n) (put_mid at k xs ys))
 got_next before now after xs ys at k n within more first next =
     next ∙ ap (λ s. appended s (take n ys)) first ∙ appended-appended before (take at xs) (take n ys)
-      ∙ ap (appended before) (sym (take-filled xs ys at k n within more))
+    ∙ ap (appended before) (sym (take-filled xs ys at k n within more))
 
 pub gave_next : (before now after : Option (List ℕ)) (xs ys : List ℕ) (at k n : ℕ) → at ≤ length xs → n ≤ length ys
-  → before ≡ prepended (take at xs) now → now ≡ prepended (take n ys) after
-  → before ≡ prepended (take (at + n) (put_mid at k xs ys)) after
+    → before ≡ prepended (take at xs) now → now ≡ prepended (take n ys) after
+    → before ≡ prepended (take (at + n) (put_mid at k xs ys)) after
 gave_next before now after xs ys at k n within more first next =
     first ∙ ap (prepended (take at xs)) next ∙ prepended-prepended (take at xs) (take n ys) after
-      ∙ ap (λ x. prepended x after) (sym (take-filled xs ys at k n within more))
+    ∙ ap (λ x. prepended x after) (sym (take-filled xs ys at k n within more))

@@ -29,7 +29,7 @@ all_put before now piece put = record { front = piece; rest = []; whole = sym (a
 
 -- all of `first`, and then a front of what follows it
 pub then_put : {T : Type 0} → (before mid now : Option (List T)) (first piece : List T)
-  → mid ≡ appended before first → PutsFront mid now piece → PutsFront before now (first ++ piece)
+    → mid ≡ appended before first → PutsFront mid now piece → PutsFront before now (first ++ piece)
 then_put before mid now first piece put more = record {
   front = first ++ more.front;
   rest = more.rest;
@@ -39,7 +39,7 @@ then_put before mid now first piece put more = record {
 
 -- a front of a piece is one of a longer piece
 pub more_put : {T : Type 0} → (before now : Option (List T)) (piece more : List T)
-  → PutsFront before now piece → PutsFront before now (piece ++ more)
+    → PutsFront before now piece → PutsFront before now (piece ++ more)
 more_put before now piece more put = record {
   front = put.front;
   rest = put.rest ++ more;
@@ -53,5 +53,5 @@ Rose-within first before now last earlier rose later = omega arith
 
 -- what was taken of a piece is a front of it
 pub taken_put : {T : Type 0} → (before now : Option (List T)) (piece : List T) (n : ℕ)
-  → now ≡ appended before (take n piece) → PutsFront before now piece
+    → now ≡ appended before (take n piece) → PutsFront before now piece
 taken_put before now piece n put = record { front = take n piece; rest = drop n piece; whole = sym (take-append-drop n piece); put = put }

@@ -6,15 +6,28 @@ use Rattle.jk_io.specs.declared.reaching.Begun.{Begun}
 -- what a talk was begun with
 abbrev pub begun_of : Talk → Begun
 begun_of talk = record {
-  lb = talk.lb; member = talk.member; host = talk.host; port = talk.port;
-  fresh = talk.fresh; dialled = talk.dialled; came = talk.came;
+  lb = talk.lb;
+  member = talk.member;
+  host = talk.host;
+  port = talk.port;
+  fresh = talk.fresh;
+  dialled = talk.dialled;
+  came = talk.came;
 }
 
 -- the talk that a begin which failed leaves: nothing was dialled, and nothing was said
 abbrev pub failed_talk : ℕ → ℕ → List ℕ → ℕ → Bool → Talk
 failed_talk lb member host port fresh = record {
-  lb = lb; member = member; host = host; port = port;
-  fresh = fresh; dialled = false; came = None; sent = []; received = []; keep = false;
+  lb = lb;
+  member = member;
+  host = host;
+  port = port;
+  fresh = fresh;
+  dialled = false;
+  came = None;
+  sent = [];
+  received = [];
+  keep = false;
 }
 
 -- the note says of the running talk what is told of it, and whether its link is to be kept

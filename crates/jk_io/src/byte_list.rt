@@ -1,10 +1,9 @@
 //! `Bytes`: a list of bytes that owns its memory.
 ghost use Rattle.std.specs.Prelude.{◌≡◌, List, ℕ, [], ◌∷◌, ◌++◌, length, take, IfOk, OnOk, OnErr, IsTrue, ◌↔◌};
 
+use crate::failures::NoMemory;
 use std::alloc::Global;
 use std::marker::Model;
-
-use crate::failures::NoMemory;
 
 /// Bytes in order. A contract sees a list of numbers below 256.
 #[derive(Debug, Drop)]

@@ -9,14 +9,16 @@ mod reaching;
 mod reading;
 mod streams;
 mod surroundings;
+mod whole_input;
 mod writing;
 
 pub use byte_list::Bytes;
-
+pub use decimals::{parse_decimal, put_decimal, trim};
 pub use failures::{FileError, IoError, NoMemory};
 pub use list_of::{ListOf, NumberList, SizeList, SizeTable};
 pub use reaching::{Begun, Beside, Reach, Talk, TalkList};
-pub use reading::{Filled, MAX_INPUT_BYTES, Stop, fill};
+pub use reading::{Filled, Stop, fill};
 pub use streams::{Link, Meanings, Sink, Source};
 pub use surroundings::{Clock, Dial, Door, Files, Peer};
+pub use whole_input::MAX_INPUT_BYTES;
 pub use writing::{write_all, write_counted};

@@ -1,10 +1,9 @@
 //! A reach: talks with the members of balancers, one after another, each over a link that is dialled or kept.
-use std::alloc::Global;
-
 use crate::byte_list::Bytes;
 use crate::failures::{IoError, NoMemory};
 use crate::list_of::ListOf;
 use crate::streams::{Link, Meanings};
+use std::alloc::Global;
 
 /// A talk that ended, or that never began since the dial failed.
 #[derive(Debug, Drop)]
@@ -60,14 +59,29 @@ pub trait Reach: Link + Meanings<Beside = Beside> {
     ghost use Rattle.jk_io.specs.declared.reaching.Talk.{Talk};
 
     /// Begins a talk with a member, and answers whether its link is new.
-    fn begin(&mut self, alloc: Global, lb: u32, member: u32, host: &Bytes, port: u16, fresh: bool) -> Result<bool, IoError>
+    fn begin(
+        &mut self,
+        alloc: Global,
+        lb: u32,
+        member: u32,
+        host: &Bytes,
+        port: u16,
+        fresh: bool,
+    ) -> Result<bool, IoError>
         requires idle { (Self.beside self.old).runs ≡ false }
         requires known { member < slice_index (Self.beside self.old).sizes lb }
 
         ensures runs { (Self.beside self.new).runs ≡ is_ok result }
         ensures new_link { IfOk result (λ dialled. fresh ≡ true → dialled ≡ true) }
-        ensures begun { IfOk result (λ dialled. IfSome (Self.beside self.new).begun (λ b. b ≡ record { lb = lb; member = member;
-            host = host.now; port = port; fresh = fresh; dialled = dialled; came = Self.incoming self.new })) }
+        ensures begun { IfOk result (λ dialled. IfSome (Self.beside self.new).begun (λ b. b ≡ record {
+          lb = lb;
+          member = member;
+          host = host.now;
+          port = port;
+          fresh = fresh;
+          dialled = dialled;
+          came = Self.incoming self.new;
+        })) }
         ensures nothing_yet { IsEmpty (Self.sent self.new) × IsEmpty (Self.received self.new) }
 
         // A begin that failed is a talk, one that wanted memory is none.

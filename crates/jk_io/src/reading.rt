@@ -1,17 +1,9 @@
-//! Buffers that are filled, and inputs that are read to their end.
-ghost use Rattle.std.specs.Prelude.{◌≡◌, ℕ, ◌+◌, ◌<◌, ◌≤◌, ◌↔◌, List, length, take, IfOk, IsErrOf, OnErr};
+//! Buffers that are filled from a source.
+ghost use Rattle.std.specs.Prelude.{◌≡◌, ◌≤◌, ◌↔◌, length, take};
 ghost use Rattle.jk_io.specs.Told.{appended, prepended, IsEmpty, Rose};
 
-use std::alloc::Global;
-
-use crate::byte_list::Bytes;
-use crate::failures::{FileError, IoError, NoMemory};
+use crate::failures::IoError;
 use crate::streams::Source;
-
-/// The most bytes that a file or a standard input may have.
-pub const MAX_INPUT_BYTES: usize = 67_108_864;
-
-const CHUNK_BYTES: usize = 65_536;
 
 /// Why `fill` read no further.
 #[derive(Clone, Copy, Debug, PartialEq, Eq)]
@@ -48,11 +40,23 @@ pub fn fill<S: Source>(source: &mut S, buf: &mut [u8]) -> Filled
     let mut count = 0;
     while count < buf.len() {
         match source.read(&mut buf[count..]) {
-            Ok(0) => return Filled { count, stop: Stop::End },
+            Ok(0) => return Filled {
+                count,
+                stop: Stop::End,
+            },
             Ok(more) => count += more,
-            Err(IoError::Failed) => return Filled { count, stop: Stop::Fault },
-            Err(IoError::NoMemory) => return Filled { count, stop: Stop::NoMemory },
+            Err(IoError::Failed) => return Filled {
+                count,
+                stop: Stop::Fault,
+            },
+            Err(IoError::NoMemory) => return Filled {
+                count,
+                stop: Stop::NoMemory,
+            },
         }
     }
-    Filled { count, stop: Stop::Full }
+    Filled {
+        count,
+        stop: Stop::Full,
+    }
 }

@@ -4,15 +4,14 @@ ghost use Rattle.jk_io.specs.Told.{appended, prepended, IsEmpty, Rose, HasCause}
 ghost use Rattle.jk_io.specs.Answers.{Answers};
 ghost use Rattle.jk_io.specs.Stored.{content_of};
 
-use std::alloc::Global;
-
 use crate::byte_list::Bytes;
 use crate::failures::{FileError, IoError};
 use crate::streams::Link;
+use std::alloc::Global;
 
 /// Files that are read whole.
 pub trait Files {
-    ghost use Rattle.jk_io.specs.declared.reading.TheConstants.{MAX_INPUT_BYTES};
+    ghost use Rattle.jk_io.specs.declared.whole_input.TheConstants.{MAX_INPUT_BYTES};
     ghost use Rattle.std.specs.Prelude.{◌≡◌, ℕ, ◌<◌, ◌≤◌, List, Option, IfSome, IsSomeAnd, IfOk, IsErrOf, length};
     ghost use Rattle.jk_io.specs.Told.{Rose};
     ghost use Rattle.jk_io.specs.Stored.{content_of};
