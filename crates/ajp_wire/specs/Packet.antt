@@ -1,0 +1,80 @@
+-- Packets each way, and what the bytes are that a read of one packet took.
+use Rattle.std.specs.Prelude.{◌≡◌, ℕ, ◌+◌, ◌<◌, ◌≤◌, Bool, true, false, List, [], ◌∷◌, ◌++◌, length, Result, Ok, Err}
+use Rattle.ajp_wire.specs.Spelling.{int}
+use Rattle.ajp_wire.specs.declared.errors.PacketError.{PacketError}
+use Rattle.ajp_wire.specs.declared.errors.PacketError.TheVariants.{End, Short, BadMagic, TooLong, Fault, NoMemory}
+
+-- The two bytes that begin a packet: 12 34 to the container, 41 42 from it.
+abbrev pub magic : Bool → List ℕ
+magic true = 65 ∷ 66 ∷ []
+magic false = 18 ∷ 52 ∷ []
+
+-- The four bytes in front of a payload of this length.
+abbrev pub head : Bool → ℕ → List ℕ
+head from_container size = magic from_container ++ int size
+
+abbrev pub packet : Bool → List ℕ → List ℕ
+packet from_container payload = head from_container (length payload) ++ payload
+
+-- A packet of this payload has at most so many bytes, and its length fits an integer.
+pub record FitsPacket (most : ℕ) (payload : List ℕ) : Type 0 where
+  pub within : length payload + 4 ≤ most
+  pub narrow : length payload < 65536
+
+-- The one packet of this payload.
+pub record IsPacket (from_container : Bool) (most : ℕ) (payload bytes : List ℕ) : Type 0 where
+  pub whole : bytes ≡ packet from_container payload
+  pub fits : FitsPacket most payload
+
+-- Less than a whole packet: more bytes complete one, and where its length has come it is within the limit.
+pub record IsPart (from_container : Bool) (most : ℕ) (bytes : List ℕ) : Type 0 where
+  pub payload : List ℕ
+  pub more : List ℕ
+  pub goes_on : bytes ++ more ≡ packet from_container payload
+  pub lacking : 0 < length more
+  pub narrow : length payload < 65536
+  pub within : 4 ≤ length bytes → length payload + 4 ≤ most
+
+-- No packet begins so, however the bytes go on.
+abbrev pub IsNoPacket : Bool → List ℕ → Type 0
+IsNoPacket from_container bytes = (more payload rest : List ℕ) → bytes ++ more ≡ packet from_container payload ++ rest → ⊥
+
+-- The head of a packet that is longer than the limit.
+pub record IsTooLong (from_container : Bool) (most : ℕ) (bytes : List ℕ) : Type 0 where
+  pub size : ℕ
+  pub narrow : size < 65536
+  pub head_alone : bytes ≡ head from_container size
+  pub above : most < size + 4
+
+-- Bytes that are no packet: at most the four of a head came.
+pub record IsBad (from_container : Bool) (bytes : List ℕ) : Type 0 where
+  pub begins_none : IsNoPacket from_container bytes
+  pub no_more_than_head : length bytes ≤ 4
+
+-- What the bytes are that came, for each answer.
+abbrev pub CameAs : Bool → ℕ → Result (List ℕ) PacketError → List ℕ → Type 0
+CameAs from_container most (Ok payload) bytes = IsPacket from_container most payload bytes
+CameAs from_container most (Err (End count)) bytes = bytes ≡ []
+CameAs from_container most (Err (Short count)) bytes = (0 < length bytes) × IsPart from_container most bytes
+CameAs from_container most (Err (BadMagic count)) bytes = IsBad from_container bytes
+CameAs from_container most (Err (TooLong count)) bytes = IsTooLong from_container most bytes
+CameAs from_container most (Err (Fault count)) bytes = IsPart from_container most bytes
+CameAs from_container most (Err (NoMemory count)) bytes = IsPart from_container most bytes
+
+-- How many bytes an answer says that came.
+abbrev pub count_of : Result (List ℕ) PacketError → ℕ
+count_of (Ok payload) = length payload + 4
+count_of (Err (End count)) = count
+count_of (Err (Short count)) = count
+count_of (Err (BadMagic count)) = count
+count_of (Err (TooLong count)) = count
+count_of (Err (Fault count)) = count
+count_of (Err (NoMemory count)) = count
+
+-- The payload of a body packet: nothing where there is no more body, else its length and its bytes.
+abbrev pub body_payload : List ℕ → List ℕ
+body_payload [] = []
+body_payload (byte ∷ bytes) = int (length (byte ∷ bytes)) ++ byte ∷ bytes
+
+abbrev pub body_packet : List ℕ → List ℕ
+body_packet piece = packet false (body_payload piece)
