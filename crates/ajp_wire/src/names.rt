@@ -1,9 +1,10 @@
 //! The codes that stand for the names of headers.
 
 ghost use Rattle.std.specs.Prelude.{◌≡◌, ◌<◌, length, map};
+ghost use Rattle.std.specs.Str.{str_eq_ignore_ascii_case};
 ghost use Rattle.ajp_wire.specs.Names.{code_of as code_in};
 
-/// The code of the first of these.
+/// The code of the first name of a table.
 pub const FIRST_CODE: u16 = 0xA001;
 
 /// The code that stands for a header's name in either case.
@@ -13,10 +14,16 @@ pub fn code_of(table: &[&[u8]], name: &[u8]) -> Option<u16>
 {
     let mut code = FIRST_CODE;
     for known in table {
-        if known.len() == name.len() && known.eq_ignore_ascii_case(name) {
+        if is_same_name(known, name) {
             return Some(code);
         }
         code += 1;
     }
     None
+}
+
+fn is_same_name(known: &[u8], name: &[u8]) -> bool
+    ensures { result ≡ str_eq_ignore_ascii_case known.now name.now }
+{
+    known.eq_ignore_ascii_case(name)
 }
