@@ -1,3 +1,4 @@
 pub mod Spelling
 pub mod Names
 pub mod Packet
+pub mod Head

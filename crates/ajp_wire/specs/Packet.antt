@@ -1,5 +1,6 @@
 -- Packets each way, and what the bytes are that a read of one packet took.
-use Rattle.std.specs.Prelude.{◌≡◌, ℕ, ◌+◌, ◌<◌, ◌≤◌, Bool, true, false, List, [], ◌∷◌, ◌++◌, length, Result, Ok, Err}
+use Rattle.std.specs.Prelude.{◌≡◌, ℕ, ◌+◌, ◌<◌, ◌≤◌, Bool, true, false, List, [], ◌∷◌, ◌++◌, length, Option, Result, Ok, Err}
+use Rattle.jk_io.specs.Told.{appended, prepended}
 use Rattle.ajp_wire.specs.Spelling.{int}
 use Rattle.ajp_wire.specs.declared.errors.PacketError.{PacketError}
 use Rattle.ajp_wire.specs.declared.errors.PacketError.TheVariants.{End, Short, BadMagic, TooLong, Fault, NoMemory}
@@ -61,6 +62,24 @@ CameAs from_container most (Err (TooLong count)) bytes = IsTooLong from_containe
 CameAs from_container most (Err (Fault count)) bytes = IsPart from_container most bytes
 CameAs from_container most (Err (NoMemory count)) bytes = IsPart from_container most bytes
 
+-- The bytes ended, as an answer says.
+abbrev pub says_end : PacketError → Bool
+says_end (End count) = true
+says_end (Short count) = true
+says_end (BadMagic count) = false
+says_end (TooLong count) = false
+says_end (Fault count) = false
+says_end (NoMemory count) = false
+
+-- The link failed, as an answer says.
+abbrev pub says_fault : PacketError → Bool
+says_fault (End count) = false
+says_fault (Short count) = false
+says_fault (BadMagic count) = false
+says_fault (TooLong count) = false
+says_fault (Fault count) = true
+says_fault (NoMemory count) = false
+
 -- How many bytes an answer says that came.
 abbrev pub count_of : Result (List ℕ) PacketError → ℕ
 count_of (Ok payload) = length payload + 4
@@ -70,6 +89,19 @@ count_of (Err (BadMagic count)) = count
 count_of (Err (TooLong count)) = count
 count_of (Err (Fault count)) = count
 count_of (Err (NoMemory count)) = count
+
+-- These bytes came on a link: they were the next ones to come, and are the last ones received.
+pub record HasCome (incoming received incoming_after received_after : Option (List ℕ)) (bytes : List ℕ) : Type 0 where
+  pub used : incoming ≡ prepended bytes incoming_after
+  pub kept : received_after ≡ appended received bytes
+
+-- One read of a packet: the bytes that came, what they are, and that the answer counts them.
+pub record ReadsPacket (from_container : Bool) (most : ℕ) (result : Result (List ℕ) PacketError)
+    (incoming received incoming_after received_after : Option (List ℕ)) : Type 0 where
+  pub bytes : List ℕ
+  pub came : HasCome incoming received incoming_after received_after bytes
+  pub are : CameAs from_container most result bytes
+  pub counted : count_of result ≡ length bytes
 
 -- The payload of a body packet: nothing where there is no more body, else its length and its bytes.
 abbrev pub body_payload : List ℕ → List ℕ

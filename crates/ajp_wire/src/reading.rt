@@ -1,0 +1,130 @@
+//! One packet at a time from a link.
+
+ghost use Rattle.std.specs.Prelude.{◌≡◌, ◌↔◌, ℕ, ◌+◌, ◌≤◌, ◌<◌, List, length, IfOk, IfErr, IsTrue};
+ghost use Rattle.jk_io.specs.Told.{IsEmpty, Rose};
+ghost use Rattle.ajp_wire.specs.Packet.{HasCome, ReadsPacket, says_end, says_fault};
+ghost use Rattle.ajp_wire.specs.Head.{begins_packet as begins, HeadCameAs, PayloadCameAs};
+
+use std::alloc::Global;
+
+use crate::errors::PacketError;
+use crate::writing::HEAD_BYTES;
+use jk_io::{Bytes, Filled, Link, Stop, fill};
+
+/// Reads one packet, and no byte behind it, and gives its payload. `most` counts the head's 4 bytes too.
+pub fn read_packet<L: Link>(
+    alloc: Global,
+    line: &mut L,
+    from_container: bool,
+    most: u32,
+) -> Result<Bytes, PacketError>
+    // Whatever the answer is: which bytes came, what they are, and that it counts them.
+    ensures packet { ReadsPacket from_container most result
+        (L.incoming line.old) (L.received line.old) (L.incoming line.new) (L.received line.new) }
+
+    ensures end { IfErr result (λ error. IsTrue (says_end error) → IsEmpty (L.incoming line.new)) }
+    ensures fault { IfErr result (λ error. IsTrue (says_fault error) → Rose (L.faults line.old) (L.faults line.new)) }
+    ensures no_fewer { L.faults line.old ≤ L.faults line.new }
+    ensures same { (L.sent line.new ≡ L.sent line.old) × (L.beside line.new ≡ L.beside line.old) }
+{
+    let size = read_head(line, from_container, most)?;
+    read_payload(alloc, line, size)
+}
+
+/// Reads the head of a packet, and gives the length of its payload.
+fn read_head<L: Link>(line: &mut L, from_container: bool, most: u32) -> Result<u16, PacketError>
+    ensures head { (bytes : List ℕ) × HasCome (L.incoming line.old) (L.received line.old) (L.incoming line.new) (L.received line.new) bytes
+        × HeadCameAs from_container most result bytes }
+    ensures end { IfErr result (λ error. IsTrue (says_end error) → IsEmpty (L.incoming line.new)) }
+    ensures fault { IfErr result (λ error. IsTrue (says_fault error) → Rose (L.faults line.old) (L.faults line.new)) }
+    ensures no_fewer { L.faults line.old ≤ L.faults line.new }
+    ensures same { (L.sent line.new ≡ L.sent line.old) × (L.beside line.new ≡ L.beside line.old) }
+{
+    let mut head = [0u8; HEAD_BYTES];
+    let Filled { count, stop } = fill(line, &mut head);
+    judge_head(&head[..count], stop, from_container, most)
+}
+
+/// What the front of a head says that came before a stop.
+fn judge_head(
+    came: &[u8],
+    stop: Stop,
+    from_container: bool,
+    most: u32,
+) -> Result<u16, PacketError>
+    requires short { length came.now ≤ 4 }
+    requires full { (stop ≡ Stop.Full) ↔ (length came.now ≡ 4) }
+    ensures head { HeadCameAs from_container most result came.now }
+    ensures end { IfErr result (λ error. IsTrue (says_end error) → stop ≡ Stop.End) }
+    ensures fault { IfErr result (λ error. IsTrue (says_fault error) → stop ≡ Stop.Fault) }
+{
+    let read = came.len() as u32;
+    if !begins_packet(came, from_container) {
+        return Err(PacketError::BadMagic { read });
+    }
+    match stop {
+        Stop::Full => size_within(came, from_container, most),
+        Stop::End => {
+            if read == 0 {
+                Err(PacketError::End { read })
+            } else {
+                Err(PacketError::Short { read })
+            }
+        }
+        Stop::Fault => Err(PacketError::Fault { read }),
+        Stop::NoMemory => Err(PacketError::NoMemory { read }),
+    }
+}
+
+/// As far as they go, the bytes are those that begin a packet.
+fn begins_packet(came: &[u8], from_container: bool) -> bool
+    ensures { result ≡ begins from_container came.now }
+{
+    let (first, second) = if from_container { (0x41, 0x42) } else { (0x12, 0x34) };
+    match came {
+        [] => true,
+        [a] => *a == first,
+        [a, b, ..] => *a == first && *b == second,
+    }
+}
+
+/// The length in a whole head, where the packet is within the limit. The head begins as a packet does.
+fn size_within(head: &[u8], from_container: bool, most: u32) -> Result<u16, PacketError>
+    requires whole { length head.now ≡ 4 }
+    requires begun { IsTrue (begins from_container head.now) }
+    ensures head { HeadCameAs from_container most result head.now }
+    ensures no_end { IfErr result (λ error. IsTrue (says_end error) → ⊥) }
+    ensures no_fault { IfErr result (λ error. IsTrue (says_fault error) → ⊥) }
+{
+    let size = u16::from(head[2]) * 256 + u16::from(head[3]);
+    if u32::from(size) + 4 > most {
+        return Err(PacketError::TooLong { read: 4 });
+    }
+    Ok(size)
+}
+
+/// Reads the payload behind a head.
+fn read_payload<L: Link>(alloc: Global, line: &mut L, size: u16) -> Result<Bytes, PacketError>
+    ensures payload { (bytes : List ℕ) × HasCome (L.incoming line.old) (L.received line.old) (L.incoming line.new) (L.received line.new) bytes
+        × PayloadCameAs size result bytes }
+    ensures end { IfErr result (λ error. IsTrue (says_end error) → IsEmpty (L.incoming line.new)) }
+    ensures fault { IfErr result (λ error. IsTrue (says_fault error) → Rose (L.faults line.old) (L.faults line.new)) }
+    ensures no_fewer { L.faults line.old ≤ L.faults line.new }
+    ensures same { (L.sent line.new ≡ L.sent line.old) × (L.beside line.new ≡ L.beside line.old) }
+{
+    if size == 0 {
+        return Ok(Bytes::new(alloc));
+    }
+    let mut payload = Vec::new(alloc);
+    if payload.resize(size as usize, 0).is_err() {
+        return Err(PacketError::NoMemory { read: 4 });
+    }
+    let Filled { count, stop } = fill(line, payload.as_mut_slice());
+    let read = 4 + count as u32;
+    match stop {
+        Stop::Full => Ok(Bytes::from_vec(payload)),
+        Stop::End => Err(PacketError::Short { read }),
+        Stop::Fault => Err(PacketError::Fault { read }),
+        Stop::NoMemory => Err(PacketError::NoMemory { read }),
+    }
+}
