@@ -1,3 +1,4 @@
 pub mod NameLaws
 pub mod PacketLaws
 pub mod ReadLaws
+pub mod HeaderLaws

@@ -2,3 +2,4 @@ pub mod Spelling
 pub mod Names
 pub mod Packet
 pub mod Head
+pub mod Places

@@ -1,7 +1,7 @@
 -- The codes that stand for the names of headers, and how a header is written.
-use Rattle.std.specs.Prelude.{◌≡◌, ℕ, ◌+◌, ◌<◌, List, [], ◌∷◌, ◌++◌, length, All, Option, Some, None, if◌then◌else◌}
+use Rattle.std.specs.Prelude.{◌≡◌, ℕ, ◌+◌, ◌<◌, List, [], ◌∷◌, ◌++◌, length, Option, Some, None, if◌then◌else◌}
 use Rattle.std.specs.Str.{str_eq_ignore_ascii_case}
-use Rattle.std.specs.List.{flat_map}
+use Rattle.std.specs.List.{AllByRecursion}
 use Rattle.ajp_wire.specs.Spelling.{int, string}
 
 -- The code of the first name of the table that is this one in either case, where the table's codes begin with `code`.
@@ -31,7 +31,8 @@ abbrev pub header_bytes : List (List ℕ) → List ℕ × List ℕ → List ℕ
 header_bytes table header = name_bytes table header.0 ++ string header.1
 
 abbrev pub headers_bytes : List (List ℕ) → List (List ℕ × List ℕ) → List ℕ
-headers_bytes table headers = flat_map (header_bytes table) headers
+headers_bytes table [] = []
+headers_bytes table (header ∷ headers) = header_bytes table header ++ headers_bytes table headers
 
 -- A header that can be written: its name is no longer than 40,959 bytes, and its value than 65,534.
 pub record FitsHeader (header : List ℕ × List ℕ) : Type 0 where
@@ -39,7 +40,7 @@ pub record FitsHeader (header : List ℕ × List ℕ) : Type 0 where
   pub value : length header.1 < 65535
 
 abbrev pub FitsHeaders : List (List ℕ × List ℕ) → Type 0
-FitsHeaders headers = All FitsHeader headers
+FitsHeaders headers = AllByRecursion FitsHeader headers
 
 -- The headers as they are read again: each coded name in its table's spelling.
 abbrev pub header_as_read : List (List ℕ) → List ℕ × List ℕ → List ℕ × List ℕ
