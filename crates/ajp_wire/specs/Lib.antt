@@ -3,3 +3,4 @@ pub mod Names
 pub mod Packet
 pub mod Head
 pub mod Places
+pub mod Reading

@@ -1,6 +1,6 @@
 use Rattle.std.proofs.Common.{◌≡◌, ◌+◌, ◌*◌, ◌≤◌, length, map, drop}
 use Rattle.ajp_wire.specs.Names.{headers_bytes, FitsHeaders}
-use Rattle.ajp_wire.proofs.HeaderLaws.{Measured}
+use Rattle.ajp_wire.proofs.WritingLaws.{Measured}
 use Rattle.ajp_wire.proofs.head_pairs.headers_len.Given as goal
 
 abbrev pub invariant-loop-header : goal.invariant-loop-header

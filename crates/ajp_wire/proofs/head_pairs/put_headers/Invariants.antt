@@ -1,5 +1,5 @@
 use Rattle.std.proofs.Common.{map}
-use Rattle.ajp_wire.proofs.HeaderLaws.{Written}
+use Rattle.ajp_wire.proofs.WritingLaws.{Written}
 use Rattle.ajp_wire.proofs.head_pairs.put_headers.Given as goal
 
 abbrev pub invariant-loop-header : goal.invariant-loop-header
