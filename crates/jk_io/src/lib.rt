@@ -20,5 +20,5 @@ pub use reaching::{Begun, Beside, Reach, Talk, TalkList};
 pub use reading::{Filled, Stop, fill};
 pub use streams::{Link, Meanings, Sink, Source};
 pub use surroundings::{Clock, Dial, Door, Files, Peer};
-pub use whole_input::MAX_INPUT_BYTES;
+pub use whole_input::{MAX_INPUT_BYTES, read_whole};
 pub use writing::{write_all, write_counted};

@@ -1,4 +1,72 @@
 //! Inputs that are read to their end.
+ghost use Rattle.std.specs.Prelude.{◌≡◌, ℕ, ◌<◌, ◌≤◌, List, length, IfOk, IsErrOf, OnOk, OnErr, true, false};
+ghost use Rattle.jk_io.specs.Told.{IsEmpty, Rose};
+ghost use Rattle.jk_io.specs.Inputs.{HasRead, AddsChunk};
+
+use crate::byte_list::Bytes;
+use crate::failures::{FileError, NoMemory};
+use crate::reading::{Stop, fill};
+use crate::streams::Source;
+use std::alloc::Global;
 
 /// The most bytes that a file or a standard input may have.
 pub const MAX_INPUT_BYTES: usize = 67_108_864;
+
+const CHUNK_BYTES: usize = 65_536;
+
+/// Reads a source to its end.
+pub fn read_whole<S: Source>(alloc: Global, source: &mut S) -> Result<Bytes, FileError>
+    ensures whole { IfOk result (λ bytes. HasRead (S.incoming source.old) (S.received source.old) bytes (S.incoming source.new) (S.received source.new)) }
+    ensures ended { OnOk result (IsEmpty (S.incoming source.new)) }
+    ensures short { IfOk result (λ bytes. length bytes ≤ MAX_INPUT_BYTES) }
+
+    // A refusal has read a part, and TooLong more than may be.
+    ensures part { OnErr result ((bytes : List ℕ) × HasRead (S.incoming source.old) (S.received source.old) bytes (S.incoming source.new) (S.received source.new)
+        × (IsErrOf result FileError.TooLong → MAX_INPUT_BYTES < length bytes)) }
+    ensures failed { IsErrOf result FileError.Failed → Rose (S.faults source.old) (S.faults source.new) }
+    ensures no_fewer { S.faults source.old ≤ S.faults source.new }
+    ensures same { (S.sent source.new ≡ S.sent source.old) × (S.beside source.new ≡ S.beside source.old) }
+{
+    let mut text = Bytes::new(alloc);
+    let mut chunk = zeros(alloc, CHUNK_BYTES)?;
+    loop {
+        match read_chunk(source, chunk.as_mut_slice(), &mut text) {
+            Ok(true) => {}
+            Ok(false) => return Ok(text),
+            Err(error) => return Err(error),
+        }
+    }
+}
+
+// Reads a chunk on, and adds it to the text; answers whether there may be more.
+fn read_chunk<S: Source>(
+    source: &mut S,
+    chunk: &mut [u8],
+    text: &mut Bytes,
+) -> Result<bool, FileError>
+    requires { 0 < length chunk.old }
+    ensures read { (more : List ℕ) × HasRead (S.incoming source.old) (S.received source.old) more (S.incoming source.new) (S.received source.new)
+        × AddsChunk MAX_INPUT_BYTES text.old more text.new result }
+    ensures ended { result ≡ Ok false → IsEmpty (S.incoming source.new) }
+    ensures failed { IsErrOf result FileError.Failed → Rose (S.faults source.old) (S.faults source.new) }
+    ensures no_fewer { S.faults source.old ≤ S.faults source.new }
+    ensures same { (S.sent source.new ≡ S.sent source.old) × (S.beside source.new ≡ S.beside source.old) }
+{
+    let filled = fill(source, chunk);
+    text.extend(&chunk[..filled.count])?;
+    if text.len() > MAX_INPUT_BYTES {
+        return Err(FileError::TooLong);
+    }
+    match filled.stop {
+        Stop::Full => Ok(true),
+        Stop::End => Ok(false),
+        Stop::Fault => Err(FileError::Failed),
+        Stop::NoMemory => Err(FileError::NoMemory),
+    }
+}
+
+fn zeros(alloc: Global, n: usize) -> Result<Vec<u8>, NoMemory>
+    ensures { IfOk result (λ v. length v.items ≡ n) }
+{
+    Ok(vec![in alloc; 0u8; n]?)
+}
