@@ -1,0 +1,37 @@
+//! The balancer's plain types, and all definitions that speak of it.
+//!
+//! Source: Apache Tomcat Connectors reference, "workers.properties" and "LoadBalancer HowTo".
+//! Own rules: the form of loads, the probe and revival rules, ties, and the ranges (docs/DECISIONS.md).
+//! Read first: specs/Journal.antt, then specs/Tickets.antt, States.antt, Loads.antt, Choice.antt, Legal.antt.
+//! Errors: `ConfigError`; `RoomError`, `AdminError` and `Stray` are what a Book answers.
+#![tactic(auto)]
+
+mod ask;
+mod change;
+mod config;
+mod config_error;
+mod fail_list;
+mod journal;
+mod lcm;
+mod load;
+mod member;
+mod opening;
+mod refusal;
+mod served;
+mod state;
+mod view;
+
+pub use ask::{Ask, Terms};
+pub use change::{Change, Command, Redirect};
+pub use config::LbConfig;
+pub use config_error::ConfigError;
+pub use fail_list::FailList;
+pub use journal::{Answer, Call, Entry, EntryList, How, Kind, Outcome};
+pub use lcm::lcm_of;
+pub use load::halve;
+pub use member::{Activation, MemberConfig, MemberList, Method};
+pub use opening::{Opening, TicketList};
+pub use refusal::{AdminError, FullMark, RoomError, Stray};
+pub use served::{Asked, Served, ServedList};
+pub use state::MemberState;
+pub use view::{MemberRow, RowList, View};

@@ -1,0 +1,28 @@
+use jk_io::{Bytes, ListOf};
+
+/// What the client asked for.
+#[derive(Debug, Drop)]
+pub enum Asked {
+    /// The head was refused before its request line was known.
+    Refused,
+    Line {
+        method: Bytes,
+        target: Bytes,
+        /// Whether it was HTTP/1.0.
+        old: bool,
+    },
+}
+
+/// A request that was answered, for the log.
+#[derive(Debug, Drop)]
+pub struct Served {
+    pub asked: Asked,
+    pub status: u16,
+    /// The bytes of the reply's body.
+    pub body: u64,
+    /// The name of the worker that it was mounted at.
+    pub worker: Option<Bytes>,
+}
+
+/// Requests that were answered, in order.
+pub type ServedList = ListOf<Served>;
