@@ -1,3 +1,14 @@
+pub mod Choice
+pub mod Free
+pub mod Journal
+pub mod Legal
+pub mod Loads
 pub mod Multiple
+pub mod Present
 pub mod Ranges
 pub mod Rows
+pub mod Settings
+pub mod StateRows
+pub mod States
+pub mod Tickets
+pub mod Validity

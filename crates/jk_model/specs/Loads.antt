@@ -1,0 +1,113 @@
+-- The load of each member: what the last cut entry left it, and what the epoch since then gave it.
+use Rattle.std.specs.Prelude.{ℕ, suc, zero, ◌+◌, ◌-◌, ◌*◌, ◌/◌, ◌^◌, ◌==◌, ◌&&◌, nat_le, max, Bool, true, false, List, [], ◌∷◌, Option, Some, None, slice_get, is_some, if◌then◌else◌}
+use Rattle.jk_model.specs.Journal.{members, chose, maintained_of}
+use Rattle.jk_model.specs.Settings.{unit_of}
+use Rattle.jk_model.specs.States.{state_of}
+use Rattle.jk_model.specs.Tickets.{busy_of, is_on}
+use Rattle.jk_model.specs.declared.change.Command.{Command}
+use Rattle.jk_model.specs.declared.change.Command.TheVariants as command
+use Rattle.jk_model.specs.declared.journal.Call.{Call}
+use Rattle.jk_model.specs.declared.journal.Call.TheVariants as call
+use Rattle.jk_model.specs.declared.journal.Entry.{Entry}
+use Rattle.jk_model.specs.declared.member.Method.{Method}
+use Rattle.jk_model.specs.declared.member.Method.TheVariants as method
+use Rattle.jk_model.specs.declared.opening.Opening.{Opening}
+use Rattle.jk_model.specs.declared.state.MemberState.{MemberState}
+use Rattle.jk_model.specs.declared.state.MemberState.TheVariants as state
+use Rattle.jk_model.specs.declared.view.MemberRow.{MemberRow}
+
+-- Whether a call begins a new epoch: a Maintain, a Reset, or an Update that gives a factor.
+abbrev pub is_cut_command : Command → Bool
+is_cut_command (command.Update j change) = is_some change.factor
+is_cut_command (command.Reset j) = true
+is_cut_command (command.Recover j) = false
+
+abbrev pub is_cut : Call → Bool
+is_cut (call.Select ask) = false
+is_cut (call.Return t w) = false
+is_cut call.Maintain = true
+is_cut (call.Admin c) = is_cut_command c
+
+-- The present epoch: the entries since the last cut entry, newest first.
+abbrev pub epoch : List Entry → List Entry
+epoch [] = []
+epoch (e ∷ p) = if is_cut e.call then [] else e ∷ epoch p
+
+-- What an entry gave to member m, in the method's measure: choices, choices for new sessions, or bytes.
+abbrev pub given_by : Method → Opening → List Entry → Entry → Call → ℕ → ℕ
+given_by method.Request o p e (call.Select ask) m = if chose m e.answer then 1 else 0
+given_by method.Request o p e (call.Return t w) m = 0
+given_by method.Request o p e call.Maintain m = 0
+given_by method.Request o p e (call.Admin c) m = 0
+given_by method.Session o p e (call.Select ask) m = if ask.fresh && chose m e.answer then 1 else 0
+given_by method.Session o p e (call.Return t w) m = 0
+given_by method.Session o p e call.Maintain m = 0
+given_by method.Session o p e (call.Admin c) m = 0
+given_by method.Traffic o p e (call.Select ask) m = 0
+given_by method.Traffic o p e (call.Return t w) m = if is_on o p t m then w.bytes else 0
+given_by method.Traffic o p e call.Maintain m = 0
+given_by method.Traffic o p e (call.Admin c) m = 0
+given_by method.Busyness o p e c m = 0
+
+-- What the present epoch gave to member m.
+abbrev pub given_of : Opening → List Entry → ℕ → ℕ
+given_of o [] m = 0
+given_of o (e ∷ p) m = if is_cut e.call then 0 else given_by o.config.method o p e e.call m + given_of o p m
+
+abbrev pub gain_of : Opening → List Entry → ℕ → ℕ
+gain_of o p m = unit_of o p m * given_of o p m
+
+-- How often a maintenance at this moment halves.
+abbrev pub halvings_at : Opening → List Entry → ℕ → ℕ
+halvings_at o p at = (at - maintained_of o p) / o.config.maintain
+
+abbrev pub halved : ℕ → ℕ → ℕ
+halved load times = load / 2 ^ times
+
+-- The greatest of the values of f at 0 to n - 1, 0 where there is none.
+abbrev pub greatest : ℕ → (ℕ → ℕ) → ℕ
+greatest zero f = 0
+greatest (suc n) f = max (greatest n f) (f n)
+
+-- Whether a maintenance at this moment ends the error of a member in this state.
+abbrev pub is_over : ℕ → ℕ → MemberState → Bool
+is_over at recover state.Ok = false
+is_over at recover (state.Error since) = nat_le (since + recover) at
+is_over at recover state.Recover = false
+is_over at recover (state.Probe t) = false
+
+-- What a command leaves of the loads that stood before it.
+abbrev pub commanded_load : Command → (ℕ → ℕ) → ℕ → ℕ
+commanded_load (command.Update j change) loads m = loads m
+commanded_load (command.Reset j) loads m = if j == m then 0 else loads m
+commanded_load (command.Recover j) loads m = loads m
+
+-- What a cut entry leaves of the loads that stood before it.
+abbrev pub carried : ℕ → Opening → List Entry → Entry → Call → (ℕ → ℕ) → ℕ → ℕ
+carried v o p e (call.Select ask) loads m = loads m
+carried v o p e (call.Return t w) loads m = loads m
+carried v o p e call.Maintain loads m =
+    (if is_over e.at o.config.recover (state_of v o p m)
+    then greatest (members o) (λ j. halved (loads j) (halvings_at o p e.at))
+    else halved (loads m) (halvings_at o p e.at))
+carried v o p e (call.Admin c) loads m = commanded_load c loads m
+
+abbrev pub load_in : Option MemberRow → ℕ
+load_in (Some r) = r.load
+load_in None = 0
+
+-- What the last cut entry left to member m, or the opening where there is none.
+abbrev pub base_of : ℕ → Opening → List Entry → ℕ → ℕ
+base_of v o [] m = load_in (slice_get o.rows m)
+base_of v o (e ∷ p) m =
+    (if is_cut e.call then carried v o p e e.call (λ j. base_of v o p j + gain_of o p j) m else base_of v o p m)
+
+-- The load of member m. For Busyness nothing is kept: it is what runs now.
+abbrev pub load_by : Method → ℕ → Opening → List Entry → ℕ → ℕ
+load_by method.Request v o p m = base_of v o p m + gain_of o p m
+load_by method.Session v o p m = base_of v o p m + gain_of o p m
+load_by method.Traffic v o p m = base_of v o p m + gain_of o p m
+load_by method.Busyness v o p m = busy_of o p m * unit_of o p m
+
+abbrev pub load_of : ℕ → Opening → List Entry → ℕ → ℕ
+load_of v o p m = load_by o.config.method v o p m

@@ -1,0 +1,40 @@
+-- What each event makes of a member's state: the rows of the table of states, on the state before.
+use Rattle.std.specs.Prelude.{ℕ, ◌+◌, ◌==◌, nat_le, Bool, if◌then◌else◌}
+use Rattle.jk_model.specs.declared.state.MemberState.{MemberState}
+use Rattle.jk_model.specs.declared.state.MemberState.TheVariants as State
+use Rattle.jk_model.specs.declared.journal.Kind.{Kind}
+use Rattle.jk_model.specs.declared.journal.Kind.TheVariants as Kind
+
+-- It was chosen under this ticket: a trial begins where it may have one.
+abbrev pub chosen_state : ℕ → MemberState → MemberState
+chosen_state ticket State.Ok = State.Ok
+chosen_state ticket (State.Error at) = State.Probe ticket
+chosen_state ticket State.Recover = State.Probe ticket
+chosen_state ticket (State.Probe other) = State.Probe other
+
+-- Its ticket came back since the client left: the trial that this very ticket was is undone.
+abbrev pub left_state : ℕ → MemberState → MemberState
+left_state ticket State.Ok = State.Ok
+left_state ticket (State.Error at) = State.Error at
+left_state ticket State.Recover = State.Recover
+left_state ticket (State.Probe other) = (if other == ticket then State.Recover else State.Probe other)
+
+-- A ticket of it came back at this moment. A direct balancer's one member is never in Error.
+abbrev pub returned_state : Bool → ℕ → Kind → ℕ → MemberState → MemberState
+returned_state direct ticket Kind.Done at s = State.Ok
+returned_state direct ticket Kind.Failed at s = (if direct then State.Ok else State.Error at)
+returned_state direct ticket Kind.Gone at s = left_state ticket s
+
+-- A maintenance at this moment: an error that lies at least `recover` seconds back is over.
+abbrev pub maintained_state : ℕ → ℕ → MemberState → MemberState
+maintained_state at recover State.Ok = State.Ok
+maintained_state at recover (State.Error since) = (if nat_le (since + recover) at then State.Recover else State.Error since)
+maintained_state at recover State.Recover = State.Recover
+maintained_state at recover (State.Probe ticket) = State.Probe ticket
+
+-- It may have a trial, by a command or because no member is usable.
+abbrev pub recovered_state : MemberState → MemberState
+recovered_state State.Ok = State.Ok
+recovered_state (State.Error at) = State.Recover
+recovered_state State.Recover = State.Recover
+recovered_state (State.Probe ticket) = State.Probe ticket

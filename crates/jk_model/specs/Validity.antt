@@ -1,0 +1,48 @@
+-- When an opening is valid.
+use Rattle.std.specs.Prelude.{◌≡◌, ℕ, ◌+◌, ◌*◌, ◌/◌, ◌^◌, ◌<◌, ◌≤◌, ◌==◌, ◌&&◌, Bool, true, List, length, count_by, Some, slice_get, slice_index_or}
+use Rattle.std.specs.List.{list_any}
+use Rattle.jk_model.specs.Journal.{members}
+use Rattle.jk_model.specs.Multiple.{multiple_of}
+use Rattle.jk_model.specs.Ranges.{factors_in}
+use Rattle.jk_model.specs.Tickets.{Ticket}
+use Rattle.jk_model.specs.declared.member.MemberConfig.{MemberConfig}
+use Rattle.jk_model.specs.declared.member.Method.TheVariants as method
+use Rattle.jk_model.specs.declared.opening.Opening.{Opening}
+use Rattle.jk_model.specs.declared.state.MemberState.{MemberState}
+use Rattle.jk_model.specs.declared.state.MemberState.TheVariants as state
+use Rattle.jk_model.specs.declared.view.MemberRow.{MemberRow}
+
+-- The tickets rise, each is below the opening's number, and each is on a member.
+pub record AreTickets (n next : ℕ) (out : List Ticket) : Type 0 where
+  pub rising : (i j : ℕ) (a b : Ticket) → i < j → slice_get out i ≡ Some a → slice_get out j ≡ Some b → a.0 < b.0
+  pub below : (i : ℕ) (a : Ticket) → slice_get out i ≡ Some a → a.0 < next
+  pub on_members : (i : ℕ) (a : Ticket) → slice_get out i ≡ Some a → a.1 < n
+
+-- An error isn't after the opening's moment, and a trial runs under a ticket that is out on the member.
+abbrev pub IsOpeningState : Opening → ℕ → MemberState → Type 0
+IsOpeningState o m state.Ok = Unit {0}
+IsOpeningState o m (state.Error at) = at ≤ o.at
+IsOpeningState o m state.Recover = Unit {0}
+IsOpeningState o m (state.Probe t) = list_any (λ x. (x.0 == t) && (x.1 == m)) o.out ≡ true
+
+-- The row of member m, whose configuration is c.
+pub record IsOpeningRow (o : Opening) (m : ℕ) (c : MemberConfig) (r : MemberRow) : Type 0 where
+  pub name : r.name ≡ c.name
+  pub factor : r.factor ≡ c.factor
+  pub distance : r.distance ≡ c.distance
+  pub activation : r.activation ≡ c.activation
+  pub redirect : r.redirect ≡ c.redirect
+  pub busy : r.busy ≡ count_by (λ x. x.1 == m) o.out
+  pub pool : r.busy ≤ c.pool
+  pub state : IsOpeningState o m r.state
+  pub load : r.load ≤ o.next * 2 ^ 76
+  pub busyness : o.config.method ≡ method.Busyness → r.load ≡ r.busy * (multiple_of (factors_in o.config.members) / c.factor)
+
+pub record IsOpening (o : Opening) : Type 0 where
+  pub tickets : AreTickets (members o) o.next o.out
+  pub chosen : (m : ℕ) → o.chosen ≡ Some m → m < members o
+  pub count : length o.rows ≡ members o
+  pub row : (m : ℕ) (c : MemberConfig) (r : MemberRow) →
+      slice_get o.config.members m ≡ Some c → slice_get o.rows m ≡ Some r → IsOpeningRow o m c r
+  pub maintained : o.maintained ≤ o.at
+  pub room : o.next + length o.out ≤ 2 ^ 48
