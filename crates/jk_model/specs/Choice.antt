@@ -1,6 +1,6 @@
 -- The choice: which member an ask gets after a history.
-use Rattle.std.specs.Prelude.{◌≡◌, ℕ, ◌+◌, ◌<◌, ◌==◌, ◌&&◌, ◌||◌, nat_lt, Bool, true, false, not, List, Option, Some, None, is_some, is_none, if◌then◌else◌}
-use Rattle.jk_model.specs.Free.{is_in, is_free_by, is_usable_by, serves_by, is_revivable_by, is_ready, is_error}
+use Rattle.std.specs.Prelude.{◌≡◌, ℕ, ◌+◌, ◌<◌, ◌==◌, ◌&&◌, ◌||◌, nat_lt, Bool, true, false, List, Option, Some, None, is_some, is_none, if◌then◌else◌}
+use Rattle.jk_model.specs.Free.{is_in, is_free_by, is_usable_by, serves_by, is_revivable_by}
 use Rattle.jk_model.specs.Journal.{members, any_of, last_chosen, next_of}
 use Rattle.jk_model.specs.Loads.{load_of}
 use Rattle.jk_model.specs.Settings.{distance_of, pool_of, redirect_of}

@@ -1,7 +1,6 @@
 -- What a single entry says: whom it chose, which ticket it made or returned, and where the journal then stands.
 -- Everywhere `p` is the past: the entries of a journal, newest first.
 use Rattle.std.specs.Prelude.{ℕ, suc, zero, ◌+◌, ◌==◌, Bool, true, false, List, [], ◌∷◌, ◌++◌, length, Option, Some, None, ◌||◌, if◌then◌else◌}
-use Rattle.jk_model.specs.declared.ask.Ask.{Ask}
 use Rattle.jk_model.specs.declared.journal.Call.{Call}
 use Rattle.jk_model.specs.declared.journal.Call.TheVariants as call
 use Rattle.jk_model.specs.declared.journal.Answer.{Answer}

@@ -6,7 +6,6 @@ use Rattle.jk_model.specs.Settings.{common_after}
 use Rattle.jk_model.specs.Tickets.{is_out, out}
 use Rattle.jk_model.specs.Validity.{IsOpening}
 use Rattle.jk_model.specs.declared.ask.Ask.{Ask}
-use Rattle.jk_model.specs.declared.change.Change.{Change}
 use Rattle.jk_model.specs.declared.change.Command.{Command}
 use Rattle.jk_model.specs.declared.change.Command.TheVariants as command
 use Rattle.jk_model.specs.declared.change.Redirect.{Redirect}

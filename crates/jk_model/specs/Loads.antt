@@ -1,7 +1,8 @@
 -- The load of each member: what the last cut entry left it, and what the epoch since then gave it.
-use Rattle.std.specs.Prelude.{ℕ, suc, zero, ◌+◌, ◌-◌, ◌*◌, ◌/◌, ◌^◌, ◌==◌, ◌&&◌, nat_le, max, Bool, true, false, List, [], ◌∷◌, Option, Some, None, slice_get, is_some, if◌then◌else◌}
+use Rattle.std.specs.Prelude.{ℕ, suc, zero, ◌+◌, ◌-◌, ◌*◌, ◌/◌, ◌^◌, ◌==◌, max, Bool, true, false, List, [], ◌∷◌, Option, Some, None, slice_get, is_some, if◌then◌else◌}
 use Rattle.jk_model.specs.Journal.{members, chose, maintained_of}
 use Rattle.jk_model.specs.Settings.{unit_of}
+use Rattle.jk_model.specs.StateRows.{is_over}
 use Rattle.jk_model.specs.States.{state_of}
 use Rattle.jk_model.specs.Tickets.{busy_of, is_on}
 use Rattle.jk_model.specs.declared.change.Command.{Command}
@@ -12,8 +13,6 @@ use Rattle.jk_model.specs.declared.journal.Entry.{Entry}
 use Rattle.jk_model.specs.declared.member.Method.{Method}
 use Rattle.jk_model.specs.declared.member.Method.TheVariants as method
 use Rattle.jk_model.specs.declared.opening.Opening.{Opening}
-use Rattle.jk_model.specs.declared.state.MemberState.{MemberState}
-use Rattle.jk_model.specs.declared.state.MemberState.TheVariants as state
 use Rattle.jk_model.specs.declared.view.MemberRow.{MemberRow}
 
 -- Whether a call begins a new epoch: a Maintain, a Reset, or an Update that gives a factor.
@@ -33,29 +32,34 @@ abbrev pub epoch : List Entry → List Entry
 epoch [] = []
 epoch (e ∷ p) = if is_cut e.call then [] else e ∷ epoch p
 
--- What an entry gave to member m, in the method's measure: choices, choices for new sessions, or bytes.
-abbrev pub given_by : Method → Opening → List Entry → Entry → Call → ℕ → ℕ
-given_by method.Request o p e (call.Select ask) m = if chose m e.answer then 1 else 0
-given_by method.Request o p e (call.Return t w) m = 0
-given_by method.Request o p e call.Maintain m = 0
-given_by method.Request o p e (call.Admin c) m = 0
-given_by method.Session o p e (call.Select ask) m = if ask.fresh && chose m e.answer then 1 else 0
-given_by method.Session o p e (call.Return t w) m = 0
-given_by method.Session o p e call.Maintain m = 0
-given_by method.Session o p e (call.Admin c) m = 0
-given_by method.Traffic o p e (call.Select ask) m = 0
-given_by method.Traffic o p e (call.Return t w) m = if is_on o p t m then w.bytes else 0
-given_by method.Traffic o p e call.Maintain m = 0
-given_by method.Traffic o p e (call.Admin c) m = 0
-given_by method.Busyness o p e c m = 0
+-- How many units a choice gives to the chosen member: by Session only where it is for a new session.
+abbrev pub units_chosen : Method → Bool → ℕ
+units_chosen method.Request fresh = 1
+units_chosen method.Session fresh = if fresh then 1 else 0
+units_chosen method.Traffic fresh = 0
+units_chosen method.Busyness fresh = 0
 
--- What the present epoch gave to member m.
-abbrev pub given_of : Opening → List Entry → ℕ → ℕ
-given_of o [] m = 0
-given_of o (e ∷ p) m = if is_cut e.call then 0 else given_by o.config.method o p e e.call m + given_of o p m
+-- How many units a Return with these bytes gives to the ticket's member.
+abbrev pub units_returned : Method → ℕ → ℕ
+units_returned method.Request bytes = 0
+units_returned method.Session bytes = 0
+units_returned method.Traffic bytes = bytes
+units_returned method.Busyness bytes = 0
+
+-- How many units the entry e after p gave to member m.
+abbrev pub units_by : Opening → List Entry → Entry → Call → ℕ → ℕ
+units_by o p e (call.Select ask) m = if chose m e.answer then units_chosen o.config.method ask.fresh else 0
+units_by o p e (call.Return t w) m = if is_on o p t m then units_returned o.config.method w.bytes else 0
+units_by o p e call.Maintain m = 0
+units_by o p e (call.Admin c) m = 0
+
+-- How many units the present epoch gave to member m.
+abbrev pub units_of : Opening → List Entry → ℕ → ℕ
+units_of o [] m = 0
+units_of o (e ∷ p) m = if is_cut e.call then 0 else units_of o p m + units_by o p e e.call m
 
 abbrev pub gain_of : Opening → List Entry → ℕ → ℕ
-gain_of o p m = unit_of o p m * given_of o p m
+gain_of o p m = unit_of o p m * units_of o p m
 
 -- How often a maintenance at this moment halves.
 abbrev pub halvings_at : Opening → List Entry → ℕ → ℕ
@@ -68,13 +72,6 @@ halved load times = load / 2 ^ times
 abbrev pub greatest : ℕ → (ℕ → ℕ) → ℕ
 greatest zero f = 0
 greatest (suc n) f = max (greatest n f) (f n)
-
--- Whether a maintenance at this moment ends the error of a member in this state.
-abbrev pub is_over : ℕ → ℕ → MemberState → Bool
-is_over at recover state.Ok = false
-is_over at recover (state.Error since) = nat_le (since + recover) at
-is_over at recover state.Recover = false
-is_over at recover (state.Probe t) = false
 
 -- What a command leaves of the loads that stood before it.
 abbrev pub commanded_load : Command → (ℕ → ℕ) → ℕ → ℕ
@@ -102,12 +99,13 @@ base_of v o [] m = load_in (slice_get o.rows m)
 base_of v o (e ∷ p) m =
     (if is_cut e.call then carried v o p e e.call (λ j. base_of v o p j + gain_of o p j) m else base_of v o p m)
 
--- The load of member m. For Busyness nothing is kept: it is what runs now.
-abbrev pub load_by : Method → ℕ → Opening → List Entry → ℕ → ℕ
-load_by method.Request v o p m = base_of v o p m + gain_of o p m
-load_by method.Session v o p m = base_of v o p m + gain_of o p m
-load_by method.Traffic v o p m = base_of v o p m + gain_of o p m
-load_by method.Busyness v o p m = busy_of o p m * unit_of o p m
+-- The load by the method: for Busyness nothing is kept, and it is what runs now.
+abbrev pub load_by : Method → ℕ → ℕ → ℕ
+load_by method.Request running kept = kept
+load_by method.Session running kept = kept
+load_by method.Traffic running kept = kept
+load_by method.Busyness running kept = running
 
+-- The load of member m after a history.
 abbrev pub load_of : ℕ → Opening → List Entry → ℕ → ℕ
-load_of v o p m = load_by o.config.method v o p m
+load_of v o p m = load_by o.config.method (busy_of o p m * unit_of o p m) (base_of v o p m + gain_of o p m)

@@ -1,5 +1,5 @@
 -- The configuration after a history: the opening's, with the updates made in their order.
-use Rattle.std.specs.Prelude.{ℕ, ◌==◌, ◌/◌, Bool, List, [], ◌∷◌, Option, Some, None, slice_get, unwrap_or, if◌then◌else◌}
+use Rattle.std.specs.Prelude.{ℕ, ◌==◌, ◌/◌, List, [], ◌∷◌, Option, Some, None, slice_get, unwrap_or, if◌then◌else◌}
 use Rattle.jk_model.specs.Journal.{members, each}
 use Rattle.jk_model.specs.Multiple.{multiple_of}
 use Rattle.jk_model.specs.declared.change.Change.{Change}

@@ -1,9 +1,8 @@
 -- What each event makes of a member's state: the rows of the table of states, on the state before.
-use Rattle.std.specs.Prelude.{ℕ, ◌+◌, ◌==◌, nat_le, Bool, if◌then◌else◌}
+use Rattle.std.specs.Prelude.{ℕ, ◌+◌, ◌==◌, nat_le, Bool, false, if◌then◌else◌}
 use Rattle.jk_model.specs.declared.state.MemberState.{MemberState}
 use Rattle.jk_model.specs.declared.state.MemberState.TheVariants as State
 use Rattle.jk_model.specs.declared.journal.Kind.{Kind}
-use Rattle.jk_model.specs.declared.journal.Kind.TheVariants as Kind
 
 -- It was chosen under this ticket: a trial begins where it may have one.
 abbrev pub chosen_state : ℕ → MemberState → MemberState
@@ -25,12 +24,16 @@ returned_state direct ticket Kind.Done at s = State.Ok
 returned_state direct ticket Kind.Failed at s = (if direct then State.Ok else State.Error at)
 returned_state direct ticket Kind.Gone at s = left_state ticket s
 
--- A maintenance at this moment: an error that lies at least `recover` seconds back is over.
+-- Whether a maintenance at this moment ends an error: it lies at least `recover` seconds back.
+abbrev pub is_over : ℕ → ℕ → MemberState → Bool
+is_over at recover State.Ok = false
+is_over at recover (State.Error since) = nat_le (since + recover) at
+is_over at recover State.Recover = false
+is_over at recover (State.Probe ticket) = false
+
+-- A maintenance at this moment.
 abbrev pub maintained_state : ℕ → ℕ → MemberState → MemberState
-maintained_state at recover State.Ok = State.Ok
-maintained_state at recover (State.Error since) = (if nat_le (since + recover) at then State.Recover else State.Error since)
-maintained_state at recover State.Recover = State.Recover
-maintained_state at recover (State.Probe ticket) = State.Probe ticket
+maintained_state at recover s = if is_over at recover s then State.Recover else s
 
 -- It may have a trial, by a command or because no member is usable.
 abbrev pub recovered_state : MemberState → MemberState

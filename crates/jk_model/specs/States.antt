@@ -13,7 +13,6 @@ use Rattle.jk_model.specs.declared.journal.Answer.TheVariants as answer
 use Rattle.jk_model.specs.declared.journal.Call.{Call}
 use Rattle.jk_model.specs.declared.journal.Call.TheVariants as call
 use Rattle.jk_model.specs.declared.journal.Entry.{Entry}
-use Rattle.jk_model.specs.declared.journal.How.{How}
 use Rattle.jk_model.specs.declared.journal.How.TheVariants as how
 use Rattle.jk_model.specs.declared.member.Activation.{Activation}
 use Rattle.jk_model.specs.declared.opening.Opening.{Opening}

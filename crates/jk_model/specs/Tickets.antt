@@ -1,5 +1,5 @@
 -- Tickets: an entry that chooses makes one, under its own number, and it is out until its Return.
-use Rattle.std.specs.Prelude.{ℕ, ◌==◌, ◌&&◌, Bool, true, false, not, List, [], ◌∷◌, ◌++◌, reverse, filter, count_by, Option, Some, None}
+use Rattle.std.specs.Prelude.{ℕ, ◌==◌, ◌&&◌, Bool, false, not, List, ◌++◌, reverse, filter, count_by, Option, Some, None}
 use Rattle.std.specs.List.{list_any, filter_map}
 use Rattle.jk_model.specs.declared.journal.Call.{Call}
 use Rattle.jk_model.specs.declared.journal.Call.TheVariants as call

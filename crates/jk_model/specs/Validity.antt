@@ -1,5 +1,5 @@
 -- When an opening is valid.
-use Rattle.std.specs.Prelude.{◌≡◌, ℕ, ◌+◌, ◌*◌, ◌/◌, ◌^◌, ◌<◌, ◌≤◌, ◌==◌, ◌&&◌, Bool, true, List, length, count_by, Some, slice_get, slice_index_or}
+use Rattle.std.specs.Prelude.{◌≡◌, ℕ, ◌+◌, ◌*◌, ◌/◌, ◌^◌, ◌<◌, ◌≤◌, ◌==◌, ◌&&◌, true, List, length, count_by, Some, slice_get}
 use Rattle.std.specs.List.{list_any}
 use Rattle.jk_model.specs.Journal.{members}
 use Rattle.jk_model.specs.Multiple.{multiple_of}
