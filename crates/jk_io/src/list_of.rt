@@ -1,9 +1,11 @@
 //! `ListOf<T>`: the small type over `Vec` behind each type whose name ends in `List`.
-ghost use Rattle.std.specs.Prelude.{◌≡◌, List, [], ◌∷◌, ◌++◌, length, IfErr, OnOk, OnErr, IfSome, IfNone, IsTrue, ◌↔◌, slice_get};
+ghost use Rattle.std.specs.Prelude.{◌≡◌, List, [], ◌∷◌, ◌++◌, length, IfOk, IfErr, OnOk, OnErr, IfSome, IfNone, IsTrue, ◌↔◌, slice_get};
 ghost use Rattle.std.specs.Option.{option_copied};
 
 use std::alloc::{AllocFailed, Global};
 use std::marker::Model;
+
+use crate::failures::NoMemory;
 
 /// Items in order. A contract sees a list of them.
 #[derive(Debug, Drop)]
@@ -89,5 +91,21 @@ impl<T> ListOf<T> {
         ensures none { IfNone result ((self.old ≡ []) × (self.new ≡ [])) }
     {
         self.items.pop()
+    }
+
+    /// The allocator that the list keeps.
+    pub fn allocator(&self) -> Global {
+        *self.items.allocator()
+    }
+}
+
+impl<T: Copy> ListOf<T> {
+    /// An equal list.
+    pub fn copy(&self) -> Result<ListOf<T>, NoMemory>
+        ensures { IfOk result (λ l. l ≡ self.now) }
+    {
+        Ok(ListOf {
+            items: Vec::from_slice(self.allocator(), self.items.as_slice())?,
+        })
     }
 }
