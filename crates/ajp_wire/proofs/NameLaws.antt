@@ -1,5 +1,5 @@
 -- A table that is looked up from its front.
-use Rattle.std.proofs.Common.{◌≡◌, ℕ, suc, ◌+◌, ◌<◌, length, map, drop, get_or, List, [], ◌∷◌, ◌++◌, Option, Some, Bool, true, false, cond, Bor, refl, sym, ap, ◌∙◌, arith, add-one}
+use Rattle.std.proofs.Common.{◌≡◌, ℕ, ◌+◌, ◌<◌, length, map, drop, get_or, List, ◌∷◌, Some, true, false, Bor, refl, add-one}
 use Rattle.std.proofs.Math.Seq.{drop-cons}
 use Rattle.std.specs.Str.{str_eq_ignore_ascii_case}
 use Rattle.ajp_wire.specs.Names.{code_from}

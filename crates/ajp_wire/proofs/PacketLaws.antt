@@ -1,10 +1,10 @@
 -- Packets one after another: a packet is known by its own bytes, and what a read took is a part of one.
-use Rattle.std.proofs.Common.{◌≡◌, ℕ, suc, ◌+◌, ◌-◌, ◌*◌, ◌/◌, ◌%◌, ◌<◌, ◌≤◌, length, take, drop, get_or, replicate, List, [], ◌∷◌, ◌++◌, Result, Ok, Err, Bool, true, false, eqb, ◌&&◌, Option, refl, sym, ap, subst, ◌∙◌, arith, append_assoc, length-append, lit<}
+use Rattle.std.proofs.Common.{◌≡◌, ℕ, ◌-◌, ◌*◌, ◌/◌, ◌%◌, ◌<◌, length, take, drop, get_or, replicate, List, [], ◌∷◌, ◌++◌, Bool, true, false, eqb, ◌&&◌, refl, sym, ap, ◌∙◌, arith, append_assoc, length-append}
 use Rattle.std.proofs.Math.Seq.{take-append_seam, drop-append_seam}
 use Rattle.std.proofs.lemmas.List.{length-replicate, append-nil}
 use Rattle.std.proofs.lemmas.Bool.{eqb-true}
 use Rattle.ajp_wire.specs.Spelling.{int}
-use Rattle.ajp_wire.specs.Packet.{magic, head, packet, FitsPacket, IsPacket, IsPart, IsNoPacket, IsTooLong, IsBad}
+use Rattle.ajp_wire.specs.Packet.{magic, head, packet, IsPart}
 use Rattle.ajp_wire.specs.Head.{begins_packet, IsHead, Lacks}
 
 -- an integer is known by its two bytes
@@ -16,9 +16,10 @@ int-only m n x y e =
 
 -- lists of one length, each before something, are known by the whole
 pub fronts-only : (p q x y : List ℕ) → length p ≡ length q → p ++ x ≡ q ++ y → (p ≡ q) × (x ≡ y)
-fronts-only p q x y l e =
-    (sym (take-append_seam p x) ∙ ap (λ n. take n (p ++ x)) l ∙ ap (take (length q)) e ∙ take-append_seam q y,
-     sym (drop-append_seam p x) ∙ ap (λ n. drop n (p ++ x)) l ∙ ap (drop (length q)) e ∙ drop-append_seam q y)
+fronts-only p q x y l e = (
+  sym (take-append_seam p x) ∙ ap (λ n. take n (p ++ x)) l ∙ ap (take (length q)) e ∙ take-append_seam q y,
+  sym (drop-append_seam p x) ∙ ap (λ n. drop n (p ++ x)) l ∙ ap (drop (length q)) e ∙ drop-append_seam q y,
+)
 
 -- no packet is a proper prefix of another, and what stands behind one is known too
 pub packet-only : (from_container : Bool) (p q x y : List ℕ) → packet from_container p ++ x ≡ packet from_container q ++ y → (p ≡ q) × (x ≡ y)
@@ -35,7 +36,7 @@ packet-only false p q x y e =
 pub part-none : (from_container : Bool) (most : ℕ) (bytes payload rest : List ℕ) → IsPart from_container most bytes → bytes ≡ packet from_container payload ++ rest → ⊥
 part-none from_container most bytes payload rest part e =
     let whole : packet from_container payload ++ (rest ++ part.more) ≡ packet from_container part.payload ++ [] =
-        sym (append_assoc (packet from_container payload) rest part.more) ∙ ap (λ (b : List ℕ). b ++ part.more) (sym e) ∙ part.goes_on ∙ sym (append-nil (packet from_container part.payload)) in
+    sym (append_assoc (packet from_container payload) rest part.more) ∙ ap (λ (b : List ℕ). b ++ part.more) (sym e) ∙ part.goes_on ∙ sym (append-nil (packet from_container part.payload)) in
     let nothing = (packet-only from_container payload part.payload (rest ++ part.more) [] whole).1 in
     let lacking = part.lacking in
     absurd (omega (arith, ap length nothing, length-append rest part.more))
@@ -66,8 +67,8 @@ third from_container most first second h e lt =
       payload = zeros (256 * h);
       more = 0 ∷ zeros (256 * h);
       goes_on = ap (λ (m : List ℕ). m ++ (h ∷ 0 ∷ zeros (256 * h))) e
-        ∙ ap (λ (s : List ℕ). magic from_container ++ (s ++ zeros (256 * h))) (sym size)
-        ∙ sym (append_assoc (magic from_container) (int (length (zeros (256 * h)))) (zeros (256 * h)));
+          ∙ ap (λ (s : List ℕ). magic from_container ++ (s ++ zeros (256 * h))) (sym size)
+          ∙ sym (append_assoc (magic from_container) (int (length (zeros (256 * h)))) (zeros (256 * h)));
       lacking = omega arith;
       narrow = omega (arith, long);
       within = λ four. absurd (omega arith);

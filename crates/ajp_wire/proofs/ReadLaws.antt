@@ -1,10 +1,10 @@
 -- A packet that is read in two parts: its head, and the payload behind it.
-use Rattle.std.proofs.Common.{◌≡◌, ℕ, ◌+◌, ◌<◌, length, List, ◌++◌, Option, Result, Ok, Err, Bool, true, false, refl, sym, ap, subst, ◌∙◌, arith, length-append}
+use Rattle.std.proofs.Common.{◌≡◌, ℕ, ◌<◌, length, List, ◌++◌, Option, Result, Ok, Err, Bool, true, false, refl, sym, ap, ◌∙◌, arith, length-append}
 use Rattle.jk_io.specs.Told.{appended, prepended}
 use Rattle.jk_io.proofs.ToldLaws.{appended-appended, prepended-prepended}
 use Rattle.ajp_wire.specs.declared.errors.PacketError.{PacketError}
 use Rattle.ajp_wire.specs.declared.errors.PacketError.TheVariants.{End, Short, BadMagic, TooLong, Fault, NoMemory}
-use Rattle.ajp_wire.specs.Packet.{magic, head, packet, IsPart, CameAs, count_of, HasCome, ReadsPacket}
+use Rattle.ajp_wire.specs.Packet.{head, IsPart, CameAs, count_of, HasCome, ReadsPacket}
 use Rattle.ajp_wire.specs.Head.{IsHead, Lacks, PayloadCameAs}
 use Rattle.ajp_wire.proofs.PacketLaws.{part-behind_head}
 
@@ -35,11 +35,13 @@ pub are-joined : (from_container : Bool) (most size : ℕ) (result : Result (Lis
 are-joined b most size (Ok payload) front bytes h p =
     let narrow = h.narrow in
     let within = h.within in
-    let four : length front ≡ 4 = ap length h.whole ∙ length-head b size in
-    (record {
-      whole = ap (λ (f : List ℕ). f ++ bytes) h.whole ∙ ap (λ (n : ℕ). head b n ++ bytes) (sym p.1) ∙ ap (λ (t : List ℕ). head b (length payload) ++ t) p.0;
-      fits = record { within = omega (arith, p.1); narrow = omega (arith, p.1) };
-    }, omega (arith, length-append front bytes, ap length p.0))
+    let four : length front ≡ 4 = ap length h.whole ∙ length-head b size in (
+      record {
+        whole = ap (λ (f : List ℕ). f ++ bytes) h.whole ∙ ap (λ (n : ℕ). head b n ++ bytes) (sym p.1) ∙ ap (λ (t : List ℕ). head b (length payload) ++ t) p.0;
+        fits = record { within = omega (arith, p.1); narrow = omega (arith, p.1) };
+      },
+      omega (arith, length-append front bytes, ap length p.0),
+    )
 are-joined b most size (Err (End count)) front bytes h p = absurd p
 are-joined b most size (Err (Short count)) front bytes h p = (some_part b most size count front bytes h p, counted b most size count front bytes h p)
 are-joined b most size (Err (BadMagic count)) front bytes h p = absurd p

@@ -1,9 +1,9 @@
 -- Headers one after another, measured and written in a loop.
-use Rattle.std.proofs.Common.{◌≡◌, ℕ, suc, ◌+◌, ◌*◌, ◌<◌, ◌≤◌, ◌⊎◌, inl, inr, length, drop, Bool, List, [], ◌∷◌, ◌++◌, Option, Some, None, refl, sym, ap, ◌∙◌, arith, add-zero}
+use Rattle.std.proofs.Common.{◌≡◌, ℕ, suc, ◌+◌, ◌*◌, ◌<◌, ◌≤◌, ◌⊎◌, inl, inr, length, drop, Bool, List, [], ◌∷◌, ◌++◌, Some, None, refl, sym, ap, ◌∙◌, arith, add-zero}
 use Rattle.std.specs.Prelude.{slice_get}
 use Rattle.std.specs.Str.{str_eq_ignore_ascii_case}
 use Rattle.std.proofs.lemmas.Bool.{cases_Bool}
-use Rattle.ajp_wire.specs.Spelling.{int, string, SpellsHeader, SpellsHeaders}
+use Rattle.ajp_wire.specs.Spelling.{string, SpellsHeader, SpellsHeaders}
 use Rattle.ajp_wire.specs.Names.{code_from, table_spelling, name_bytes, header_bytes, headers_bytes, FitsHeader, FitsHeaders, header_as_read, headers_as_read}
 
 -- the headers before a place fit, and their bytes and those that are left are all of them
@@ -27,9 +27,9 @@ name-place code (known ∷ table) name =
     elim (cases_Bool (str_eq_ignore_ascii_case known name)) [
       | inl same ↦ inl (0, rw same refl, rw same (ap Some (sym (add-zero code))))
       | inr other ↦ elim (name-place (code + 1) table name) [
-          | inl found ↦ inl (suc found.0, rw other found.1, rw other (found.2 ∙ ap Some (omega arith)))
-          | inr none ↦ inr (rw other none.0, rw other none.1)
-        ]
+        | inl found ↦ inl (suc found.0, rw other found.1, rw other (found.2 ∙ ap Some (omega arith)))
+        | inr none ↦ inr (rw other none.0, rw other none.1)
+      ]
     ]
 
 -- What is written of a header spells it, its name as the table spells it.

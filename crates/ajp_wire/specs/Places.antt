@@ -1,5 +1,5 @@
 -- Integers and strings at a place of a list of bytes, as they are taken from there.
-use Rattle.std.specs.Prelude.{◌≡◌, ◌≢◌, ℕ, ◌+◌, ◌<◌, ◌≤◌, ◌⊎◌, List, [], ◌∷◌, ◌++◌, length, take, drop, Option, Some, None}
+use Rattle.std.specs.Prelude.{◌≡◌, ◌≢◌, ℕ, ◌+◌, ◌<◌, ◌≤◌, ◌⊎◌, List, ◌∷◌, ◌++◌, length, take, drop, Option, Some, None}
 use Rattle.ajp_wire.specs.Spelling.{int, string, absent}
 use Rattle.ajp_wire.specs.declared.errors.FieldError.{FieldError}
 use Rattle.ajp_wire.specs.declared.errors.FieldError.TheVariants.{Short, BadMark}

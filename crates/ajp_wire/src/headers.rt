@@ -9,7 +9,6 @@ use crate::refusal::{NotRead, RefusalKind, refused};
 use jk_io::Bytes;
 use std::alloc::Global;
 
-
 /// The name that a code stands for: the first of the table is A001.
 fn name_of<'a>(table: &'a [&'a [u8]], code: u16) -> Option<&'a [u8]>
     requires { length table.now < 100 }

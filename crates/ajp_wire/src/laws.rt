@@ -8,5 +8,4 @@ pub fn no_packet_begins_another()
     ensures { (from_container : Bool) (one other behind_one behind_other : List ℕ)
         → packet from_container one ++ behind_one ≡ packet from_container other ++ behind_other
         → (one ≡ other) × (behind_one ≡ behind_other) }
-{
-}
+{}

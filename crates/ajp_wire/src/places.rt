@@ -23,10 +23,7 @@ pub fn take_int(bytes: &[u8], at: usize) -> Option<(u16, usize)>
 }
 
 /// The string at a place, as the place and the length of its text, and the place behind it. An absent one is None.
-pub fn take_string(
-    bytes: &[u8],
-    at: usize,
-) -> Result<(Option<(usize, usize)>, usize), FieldError>
+pub fn take_string(bytes: &[u8], at: usize) -> Result<(Option<(usize, usize)>, usize), FieldError>
     ensures found { IfOk result (λ taken. IsStringAt bytes.now at taken.0 taken.1) }
     ensures refused { IfErr result (λ error. RefusesString bytes.now at error) }
 {

@@ -5,11 +5,10 @@ ghost use Rattle.jk_io.specs.Told.{IsEmpty, Rose};
 ghost use Rattle.ajp_wire.specs.Packet.{HasCome, ReadsPacket, says_end, says_fault};
 ghost use Rattle.ajp_wire.specs.Head.{begins_packet as begins, HeadCameAs, PayloadCameAs};
 
-use std::alloc::Global;
-
 use crate::errors::PacketError;
 use crate::writing::HEAD_BYTES;
 use jk_io::{Bytes, Filled, Link, Stop, fill};
+use std::alloc::Global;
 
 /// Reads one packet, and no byte behind it, and gives its payload. `most` counts the head's 4 bytes too.
 pub fn read_packet<L: Link>(
@@ -46,12 +45,7 @@ fn read_head<L: Link>(line: &mut L, from_container: bool, most: u32) -> Result<u
 }
 
 /// What the front of a head says that came before a stop.
-fn judge_head(
-    came: &[u8],
-    stop: Stop,
-    from_container: bool,
-    most: u32,
-) -> Result<u16, PacketError>
+fn judge_head(came: &[u8], stop: Stop, from_container: bool, most: u32) -> Result<u16, PacketError>
     requires short { length came.now ≤ 4 }
     requires full { (stop ≡ Stop.Full) ↔ (length came.now ≡ 4) }
     ensures head { HeadCameAs from_container most result came.now }
@@ -80,7 +74,11 @@ fn judge_head(
 fn begins_packet(came: &[u8], from_container: bool) -> bool
     ensures { result ≡ begins from_container came.now }
 {
-    let (first, second) = if from_container { (0x41, 0x42) } else { (0x12, 0x34) };
+    let (first, second) = if from_container {
+        (0x41, 0x42)
+    } else {
+        (0x12, 0x34)
+    };
     match came {
         [] => true,
         [a] => *a == first,

@@ -1,5 +1,4 @@
-use Rattle.std.proofs.Common.{◌≡◌, ◌+◌, ◌*◌, ◌≤◌, length, map, drop}
-use Rattle.ajp_wire.specs.Names.{headers_bytes, FitsHeaders}
+use Rattle.std.proofs.Common.{map}
 use Rattle.ajp_wire.proofs.WritingLaws.{Measured}
 use Rattle.ajp_wire.proofs.head_pairs.headers_len.Given as goal
 

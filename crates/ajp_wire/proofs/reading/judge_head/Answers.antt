@@ -1,4 +1,4 @@
-use Rattle.std.proofs.Common.{◌≡◌, ℕ, ◌<◌, ◌≤◌, refl, length, arith, sym}
+use Rattle.std.proofs.Common.{◌≡◌, refl, length, arith, sym}
 use Rattle.ajp_wire.proofs.PacketLaws.{part-before_size}
 use Rattle.ajp_wire.proofs.reading.judge_head.Goals as goal
 
