@@ -1,0 +1,4 @@
+pub mod Ascii
+pub mod Cut
+pub mod Refusal
+pub mod Search

@@ -1,0 +1,85 @@
+//! What reading a head answers, and what a head is refused for.
+use thiserror::Error;
+
+use crate::head::Head;
+
+/// What stands at the front of the client's bytes.
+#[derive(Debug, Drop)]
+pub enum HeadGot {
+    /// A request's head.
+    Head(Head),
+    /// The bytes ended between two requests.
+    End,
+}
+
+/// What a head is refused for. Where several hold, the answer is the first in this order.
+#[derive(Clone, Copy, Debug, PartialEq, Eq)]
+pub enum Form {
+    /// The bytes up to the empty line are no head of HTTP/1.0 or HTTP/1.1.
+    BadHead,
+    /// More than 100 header lines, or no empty line within 16,384 bytes.
+    TooBig,
+    /// A 1.1 request without exactly one Host, a 1.0 request with more than one, or a bad port.
+    BadHost,
+    /// Both Content-Length and Transfer-Encoding.
+    TwoFramings,
+    /// More than one Content-Length, or one that isn't 1 to 19 digits.
+    BadLength,
+    /// Transfer-Encoding in a 1.0 request.
+    OldChunked,
+    /// A Transfer-Encoding that isn't one line `chunked`.
+    BadCoding,
+    /// The method CONNECT.
+    Connect,
+    /// A Content-Length of 2^40 or more.
+    TooLong,
+    /// A path that isn't clean.
+    BadPath,
+}
+
+impl Form {
+    ghost use Rattle.std.specs.Prelude.{◌≡◌};
+    ghost use Rattle.http_front.specs.Refusal.{status_of};
+
+    /// The status of the answer to such a head.
+    pub fn status(self) -> u16
+        ensures { result ≡ status_of self }
+    {
+        match self {
+            Form::TooBig => 431,
+            Form::BadCoding | Form::Connect => 501,
+            Form::TooLong => 413,
+            Form::BadHead
+            | Form::BadHost
+            | Form::TwoFramings
+            | Form::BadLength
+            | Form::OldChunked
+            | Form::BadPath => 400,
+        }
+    }
+}
+
+/// Why no head was read. After each of them no byte of the inbox is used.
+#[derive(Clone, Copy, Debug, PartialEq, Eq, Error)]
+pub enum HeadError {
+    /// The client's fault: what stands there is refused.
+    #[error("refused with {status}: {form:?}")]
+    Refused { status: u16, form: Form },
+    /// The client's bytes ended within a head.
+    #[error("the bytes end within a head")]
+    Truncated,
+    /// A read failed.
+    #[error("the client can't be read")]
+    Fault,
+    #[error("out of memory")]
+    NoMemory,
+}
+
+/// Why a path is refused.
+#[derive(Clone, Copy, Debug, PartialEq, Eq, Error)]
+pub enum PathError {
+    #[error("bad path")]
+    BadPath,
+    #[error("out of memory")]
+    NoMemory,
+}

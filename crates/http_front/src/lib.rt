@@ -1,0 +1,13 @@
+//! Heads of requests: what a client's bytes say, and what they are refused for.
+#![tactic(auto)]
+
+mod answers;
+mod cut;
+mod head;
+mod head_lines;
+mod inbox;
+
+pub use answers::{Form, HeadError, HeadGot, PathError};
+pub use head::{BodyPlan, Head};
+pub use head_lines::{HeadLines, MAX_HEAD_LINES};
+pub use inbox::{Inbox, MAX_HEAD_BYTES};
