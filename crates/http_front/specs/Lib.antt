@@ -1,4 +1,5 @@
 pub mod Ascii
 pub mod Cut
+pub mod Path
 pub mod Refusal
 pub mod Search

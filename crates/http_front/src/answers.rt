@@ -1,4 +1,7 @@
 //! What reading a head answers, and what a head is refused for.
+use std::alloc::{AllocError, AllocFailed};
+
+use jk_io::NoMemory;
 use thiserror::Error;
 
 use crate::head::Head;
@@ -82,4 +85,37 @@ pub enum PathError {
     BadPath,
     #[error("out of memory")]
     NoMemory,
+}
+
+impl From<NoMemory> for PathError {
+    ghost use Rattle.std.specs.Prelude.{◌≡◌};
+    ghost use Rattle.http_front.specs.declared.answers.PathError.TheVariants as path;
+
+    ghost from_gives = { λ _ e. e ≡ path.NoMemory };
+
+    fn from(_error: NoMemory) -> PathError {
+        PathError::NoMemory
+    }
+}
+
+impl From<AllocError> for PathError {
+    ghost use Rattle.std.specs.Prelude.{◌≡◌};
+    ghost use Rattle.http_front.specs.declared.answers.PathError.TheVariants as path;
+
+    ghost from_gives = { λ _ e. e ≡ path.NoMemory };
+
+    fn from(_error: AllocError) -> PathError {
+        PathError::NoMemory
+    }
+}
+
+impl<T: Drop> From<AllocFailed<T>> for PathError {
+    ghost use Rattle.std.specs.Prelude.{◌≡◌};
+    ghost use Rattle.http_front.specs.declared.answers.PathError.TheVariants as path;
+
+    ghost from_gives = { λ _ e. e ≡ path.NoMemory };
+
+    fn from(_error: AllocFailed<T>) -> PathError {
+        PathError::NoMemory
+    }
 }

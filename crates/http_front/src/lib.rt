@@ -6,8 +6,10 @@ mod cut;
 mod head;
 mod head_lines;
 mod inbox;
+mod path;
 
 pub use answers::{Form, HeadError, HeadGot, PathError};
 pub use head::{BodyPlan, Head};
 pub use head_lines::{HeadLines, MAX_HEAD_LINES};
 pub use inbox::{Inbox, MAX_HEAD_BYTES};
+pub use path::clean_path;

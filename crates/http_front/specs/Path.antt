@@ -1,0 +1,53 @@
+-- The clean path of a raw path. Own rule; escapes by RFC 3986, section 2.1.
+use Rattle.std.specs.Prelude.{ℕ, ◌+◌, ◌*◌, Bool, false, true, not, ◌&&◌, ◌||◌, ◌==◌, List, [], ◌∷◌, map, Option, Some, None, slice_index, codes, bytes_eq, if◌then◌else◌}
+use Rattle.std.specs.List.{list_any, slice_split, before_first, after_first, join_with_byte}
+use Rattle.std.specs.Char.{is_digit, digit_value}
+use Rattle.percent_encoding.specs.Percent.{percent_decode}
+use Rattle.http_front.specs.Ascii.{percent, dot, slash, semicolon, question, backslash}
+
+-- the raw path: the target up to its first `?`
+abbrev pub path_of : List ℕ → List ℕ
+path_of target = before_first (λ b. b == question) target
+
+-- what follows that `?`, where the target has one
+abbrev pub query_of : List ℕ → Option (List ℕ)
+query_of target = if list_any (λ b. b == question) target then Some (after_first (λ b. b == question) target) else None
+
+-- a byte that no escape may give: `/`, `\` or zero
+abbrev pub is_refused_byte : ℕ → Bool
+is_refused_byte b = b == slash || b == backslash || b == 0
+
+-- two hexadecimal digits at the front, which give a byte that may be given
+abbrev pub begins_escape : List ℕ → Bool
+begins_escape bytes =
+    is_digit (slice_index bytes 0) 16 && is_digit (slice_index bytes 1) 16
+    && not (is_refused_byte (16 * digit_value (slice_index bytes 0) + digit_value (slice_index bytes 1)))
+
+-- no `\` stands there, and behind each `%` a good escape
+abbrev pub has_good_bytes : List ℕ → Bool
+has_good_bytes [] = true
+has_good_bytes (b ∷ bytes) = not (b == backslash) && (not (b == percent) || begins_escape bytes) && has_good_bytes bytes
+
+-- the segments between slashes
+abbrev pub segments : List ℕ → List (List ℕ)
+segments path = slice_split (λ b. b == slash) path
+
+-- a segment up to its first `;`, with its escapes decoded
+abbrev pub clean_segment : List ℕ → List ℕ
+clean_segment segment = percent_decode (before_first (λ b. b == semicolon) segment)
+
+-- a dot segment
+abbrev pub is_dots : List ℕ → Bool
+is_dots segment = bytes_eq segment (dot ∷ []) || bytes_eq segment (dot ∷ dot ∷ [])
+
+-- the clean segments, joined again
+abbrev pub cleaned : List ℕ → List ℕ
+cleaned path = join_with_byte slash (map clean_segment (segments path))
+
+-- a path with a bad byte, a bad escape or a dot segment isn't clean
+abbrev pub is_clean : List ℕ → Bool
+is_clean path = slice_index path 0 == slash && has_good_bytes path && not (list_any is_dots (map clean_segment (segments path)))
+
+-- the clean path, where there is one; the path `*` is clean
+abbrev pub clean_of : List ℕ → Option (List ℕ)
+clean_of raw = if bytes_eq raw (codes "*") then Some raw else if is_clean raw then Some (cleaned raw) else None
