@@ -1,3 +1,4 @@
+pub mod DecimalLaws
 pub mod PieceLaws
 pub mod ReadLaws
 pub mod ToldLaws

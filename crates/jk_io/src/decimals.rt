@@ -2,7 +2,7 @@
 ghost use Rattle.std.specs.Prelude.{◌≡◌, ◌<◌, ◌++◌, SomeIff, OnOk, OnErr, decimal};
 ghost use Rattle.std.specs.Char.{digit_value};
 ghost use Rattle.std.specs.Str.Parse.{digits_value};
-ghost use Rattle.jk_io.specs.Decimals.{IsDecimal, is_blank, trimmed};
+ghost use Rattle.jk_io.specs.Decimals.{IsDecimal, decimal_of, is_blank, trimmed};
 
 use crate::byte_list::Bytes;
 use crate::failures::NoMemory;
@@ -13,6 +13,13 @@ const MAX_DIGITS: usize = 20;
 
 /// The number that 1 to 20 digits write, where it is one of a u64. Leading zeros may stand, a sign may not.
 pub fn parse_decimal(text: &[u8]) -> Option<u64>
+    ensures value { result ≡ decimal_of text.now }
+    ensures decimal { SomeIff result (IsDecimal text.now) (digits_value 10 text.now) }
+{
+    read_digits(text)
+}
+
+fn read_digits(text: &[u8]) -> Option<u64>
     ensures { SomeIff result (IsDecimal text.now) (digits_value 10 text.now) }
 {
     if text.is_empty() || text.len() > MAX_DIGITS {

@@ -1,6 +1,6 @@
 use Rattle.std.proofs.Common.{◌≡◌, ◌^◌, ◌<◌, drop}
 use Rattle.std.specs.Str.Parse.{AllDigits, digits_value, digits_value_after}
-use Rattle.jk_io.proofs.decimals.parse_decimal.Given as goal
+use Rattle.jk_io.proofs.decimals.read_digits.Given as goal
 
 -- the bytes so far are digits, and the number goes on with what is left
 abbrev pub invariant-loop-byte : goal.invariant-loop-byte
