@@ -5,16 +5,18 @@ ghost use Rattle.ajp_wire.specs.Reading.{Gives, named_from, name_at, header_at, 
 
 use crate::fields::{next_int, next_marked, next_text};
 use crate::head_pairs::HeadPairs;
+use crate::names::FIRST_CODE;
 use crate::refusal::{NotRead, RefusalKind, refused};
 use jk_io::Bytes;
 use std::alloc::Global;
 
-/// The name that a code stands for: the first of the table is A001.
-fn name_of<'a>(table: &'a [&'a [u8]], code: u16) -> Option<&'a [u8]>
-    requires { length table.now < 100 }
-    ensures { option_copied result ≡ named_from 40961 (map (λ name. name.now) table.now) code }
+/// The name that a code stands for, in a table whose first name has the code `first`.
+pub fn name_of<'a>(table: &'a [&'a [u8]], first: u16, code: u16) -> Option<&'a [u8]>
+    requires few { length table.now < 100 }
+    requires fits { first < 65000 }
+    ensures { option_copied result ≡ named_from first (map (λ name. name.now) table.now) code }
 {
-    let mut at = 0xA001u16;
+    let mut at = first;
     for name in table {
         if at == code {
             return Some(name);
@@ -46,7 +48,7 @@ fn next_name<'a>(
         }
         return Err(refused(RefusalKind::Absent, rest));
     }
-    match name_of(table, first) {
+    match name_of(table, FIRST_CODE, first) {
         Some(name) => Ok((Bytes::from_slice(alloc, name)?, after)),
         None => Err(refused(RefusalKind::BadCode, rest)),
     }

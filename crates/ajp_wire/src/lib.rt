@@ -22,7 +22,7 @@ mod writing;
 pub use errors::{DecodeError, EncodeError, FieldError, PacketError, WireError};
 pub use fields::{next_byte, next_int, next_string, next_text};
 pub use head_pairs::{HeadPairs, MAX_HEADERS, MAX_NAME_BYTES, headers_len, put_headers};
-pub use headers::next_headers;
+pub use headers::{name_of, next_headers};
 pub use laws::no_packet_begins_another;
 pub use names::code_of;
 pub use places::{take_int, take_string};
