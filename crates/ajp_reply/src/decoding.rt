@@ -1,0 +1,102 @@
+//! Payloads of the container, read whole.
+
+ghost use Rattle.std.specs.Prelude.{◌≡◌, List, ℕ, length, map, IfOk, IfErr};
+ghost use Rattle.ajp_wire.specs.Reading.{Gives, Tells};
+ghost use Rattle.ajp_reply.specs.Spelling.{Spells};
+ghost use Rattle.ajp_reply.specs.Reading.{message_at, head_at, chunk_at, end_at, ask_at, ended as ended_at};
+
+use std::alloc::Global;
+
+use crate::message::{Message, ReplyParts};
+use crate::names::REPLY_NAMES;
+use ajp_wire::{DecodeError, NotRead, RefusalKind, next_headers, next_int, next_text, refused};
+use jk_io::Bytes;
+
+/// The message that a payload spells.
+pub fn decode_reply(alloc: Global, payload: &[u8]) -> Result<Message, DecodeError>
+    ensures told { Tells (length payload.now) result (message_at payload.now) }
+{
+    match message(alloc, payload) {
+        Ok(message) => Ok(message),
+        Err(stop) => Err(stop.told(payload.len())),
+    }
+}
+
+fn message(alloc: Global, payload: &[u8]) -> Result<Message, NotRead>
+    ensures { Gives (λ m. m) result (message_at payload.now) }
+{
+    match payload {
+        [4, rest @ ..] => head(alloc, rest),
+        [3, rest @ ..] => chunk(alloc, rest),
+        [5, rest @ ..] => end(rest),
+        [6, rest @ ..] => ask(rest),
+        [9, rest @ ..] => ended(Message::Pong, rest),
+        [_, ..] => Err(refused(RefusalKind::BadCode, payload)),
+        [] => Err(refused(RefusalKind::Short, payload)),
+    }
+}
+
+/// Send Headers behind its first byte.
+#[tactic(auto, unfolding(crate::specs::Reading::head_at))]
+fn head(alloc: Global, rest: &[u8]) -> Result<Message, NotRead>
+    ensures { Gives (λ m. m) result (head_at rest.now) }
+{
+    let (status, rest) = next_int(rest)?;
+    let (message, rest) = next_text(alloc, true, rest)?;
+    let (headers, rest) = next_headers(alloc, &REPLY_NAMES, true, rest)?;
+    let parts = ReplyParts {
+        status,
+        message,
+        headers,
+    };
+    ended(Message::Headers(parts), rest)
+}
+
+/// Send Body Chunk behind its first byte.
+#[tactic(auto, unfolding(crate::specs::Reading::chunk_at))]
+fn chunk(alloc: Global, rest: &[u8]) -> Result<Message, NotRead>
+    ensures { Gives (λ m. m) result (chunk_at rest.now) }
+{
+    let (size, rest) = next_int(rest)?;
+    let size = size as usize;
+    if rest.len() < size {
+        return Err(refused(RefusalKind::Short, &[]));
+    }
+    let (bytes, behind) = rest.split_at(size);
+    match behind {
+        [] => Ok(Message::Chunk(Bytes::from_slice(alloc, bytes)?)),
+        [0] => Ok(Message::Chunk(Bytes::from_slice(alloc, bytes)?)),
+        [0, extra @ ..] => Err(refused(RefusalKind::Extra, extra)),
+        [_, ..] => Err(refused(RefusalKind::BadMark, behind)),
+    }
+}
+
+/// End Response behind its first byte.
+fn end(rest: &[u8]) -> Result<Message, NotRead>
+    ensures { Gives (λ m. m) result (end_at rest.now) }
+{
+    match rest {
+        [byte, rest @ ..] => ended(Message::End { reuse: *byte == 1 }, rest),
+        [] => Err(refused(RefusalKind::Short, rest)),
+    }
+}
+
+/// Get Body Chunk behind its first byte.
+#[tactic(auto, unfolding(crate::specs::Reading::ask_at))]
+fn ask(rest: &[u8]) -> Result<Message, NotRead>
+    ensures { Gives (λ m. m) result (ask_at rest.now) }
+{
+    let (most, rest) = next_int(rest)?;
+    ended(Message::Ask(most), rest)
+}
+
+/// The message, where nothing stands behind it.
+fn ended(message: Message, rest: &[u8]) -> Result<Message, NotRead>
+    ensures { Gives (λ m. m) result (ended_at message rest.now) }
+{
+    if rest.is_empty() {
+        Ok(message)
+    } else {
+        Err(refused(RefusalKind::Extra, rest))
+    }
+}
