@@ -1,7 +1,8 @@
 //! Payloads of the container, read whole.
 
-ghost use Rattle.std.specs.Prelude.{◌≡◌, List, ℕ, length, map, IfOk, IfErr};
+ghost use Rattle.std.specs.Prelude.{◌≡◌, ◌≢◌, List, ℕ, length, map, IfOk, IfErr};
 ghost use Rattle.ajp_wire.specs.Reading.{Gives, Tells};
+ghost use Rattle.ajp_reply.specs.declared.message.Message.{Message};
 ghost use Rattle.ajp_reply.specs.Spelling.{Spells};
 ghost use Rattle.ajp_reply.specs.Reading.{message_at, head_at, chunk_at, end_at, ask_at, ended as ended_at};
 
@@ -14,7 +15,11 @@ use jk_io::Bytes;
 
 /// The message that a payload spells.
 pub fn decode_reply(alloc: Global, payload: &[u8]) -> Result<Message, DecodeError>
-    ensures told { Tells (length payload.now) result (message_at payload.now) }
+    ensures found { IfOk result (λ message. Spells message payload.now) }
+    ensures none { IfErr result (λ error. error ≢ DecodeError.NoMemory → (message : Message) → Spells message payload.now → ⊥) }
+
+    // The kind of a refusal, and the first place that can't be read.
+    ensures exact { Tells (length payload.now) result (message_at payload.now) }
 {
     match message(alloc, payload) {
         Ok(message) => Ok(message),

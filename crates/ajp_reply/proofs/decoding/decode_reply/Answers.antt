@@ -1,0 +1,9 @@
+use Rattle.std.proofs.Common.{arith}
+use Rattle.ajp_reply.proofs.ReplyLaws.{message_takes, halted-none}
+use Rattle.ajp_reply.proofs.decoding.decode_reply.Goals as goal
+
+pub returns-in-Ok-clause-found : goal.returns-in-Ok-clause-found
+returns-in-Ok-clause-found c = message_takes c.args.payload.now c.in-Ok.message (λ i. omega (arith, c.type_inv.payload i)) c.in-Ok.ensures
+
+pub returns-in-Err-clause-none : goal.returns-in-Err-clause-none
+returns-in-Err-clause-none c = halted-none c.in-Err.stop _ c.told.result c.args.payload.now c.in-Err.ensures c.told.ensures
