@@ -4,7 +4,7 @@ use Rattle.std.proofs.lemmas.Bool.{ltb-false, le-ltb, eqb-true}
 use Rattle.std.proofs.lemmas.List.{append-nil, take_at, drop_at, take-append-drop, length-take, length-append}
 use Rattle.ajp_wire.specs.declared.refusal.Refusal.{Refusal}
 use Rattle.ajp_wire.specs.declared.refusal.RefusalKind.TheVariants.{Short, BadCode}
-use Rattle.ajp_wire.specs.Spelling.{int, SpellsText, SpellsHeaders}
+use Rattle.ajp_wire.specs.Spelling.{int, string, SpellsText, SpellsHeaders}
 use Rattle.ajp_wire.specs.declared.refusal.NotRead.{NotRead}
 use Rattle.ajp_wire.specs.declared.refusal.NotRead.TheVariants as why
 use Rattle.ajp_wire.specs.declared.errors.DecodeError.{DecodeError}
@@ -15,7 +15,9 @@ use Rattle.ajp_wire.proofs.HeaderLaws.{HasHeaders, headers_take, headers_again}
 use Rattle.ajp_reply.specs.declared.message.Message.{Message}
 use Rattle.ajp_reply.specs.declared.message.Message.TheVariants.{Headers, Chunk, End, Ask, Pong}
 use Rattle.ajp_reply.specs.declared.message.ReplyParts.{ReplyParts}
-use Rattle.ajp_reply.specs.Spelling.{reply_names, SpellsHead, SpellsChunk, SpellsEnd, Spells}
+use Rattle.ajp_wire.specs.Names.{headers_bytes, headers_as_read}
+use Rattle.ajp_wire.proofs.WritingLaws.{headers-spelled, length-headers_as_read}
+use Rattle.ajp_reply.specs.Spelling.{reply_names, SpellsHead, SpellsChunk, SpellsEnd, Spells, IsMessage, FieldsFit, payload_of, as_read}
 use Rattle.ajp_reply.specs.Reading.{ended, chunk_end, chunk_at, head_at, end_at, ask_at, message_at}
 
 -- ---- what is read is spelled
@@ -177,3 +179,29 @@ halted-none (why.Refused r) len error payload h e not_memory m s =
     let read = message_again m payload s in
     let refused_is : message_at payload ≡ Err r = h in
     cc
+
+-- ---- what is written
+
+end-spelled : (reuse : Bool) → Spells (End reuse) (payload_of (End reuse))
+end-spelled true = record { byte = 1; narrow = omega arith; whole = refl; again = refl }
+end-spelled false = record { byte = 0; narrow = omega arith; whole = refl; again = refl }
+
+pub written-spelled : (m : Message) → IsMessage m → FieldsFit m → Spells (as_read m) (payload_of m)
+written-spelled (Headers parts) small fits =
+    let same = length-headers_as_read reply_names parts.headers in
+    record {
+      message = string parts.message;
+      headers = headers_bytes reply_names parts.headers;
+      whole = ap (λ (n : ℕ). 4 ∷ int parts.status ++ (string parts.message ++ (int n ++ headers_bytes reply_names parts.headers))) (sym same);
+      status = small.0;
+      text = inl (fits.0, refl);
+      few = omega (arith, same, small.1);
+      each = headers-spelled reply_names true parts.headers fits.1;
+    }
+written-spelled (Chunk bytes) small fits = record { narrow = fits; whole = inl refl }
+written-spelled (End reuse) small fits = end-spelled reuse
+written-spelled (Ask most) small fits = (small, refl)
+written-spelled Pong small fits = refl
+
+pub written-only : (m n : Message) → IsMessage m → FieldsFit m → Spells n (payload_of m) → n ≡ as_read m
+written-only m n small fits s = spells-only n (as_read m) (payload_of m) s (written-spelled m small fits)

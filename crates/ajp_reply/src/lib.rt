@@ -17,6 +17,10 @@ mod names;
 
 pub use decoding::decode_reply;
 pub use encoding::encode_reply;
+pub use laws::{
+    bytes_of_no_reply, one_message_a_payload, one_reading, readings_go_on,
+    written_messages_are_read_again,
+};
 pub use message::{Message, ReplyParts};
 pub use names::REPLY_NAMES;
 

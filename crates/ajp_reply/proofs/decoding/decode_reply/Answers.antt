@@ -1,6 +1,5 @@
 use Rattle.std.proofs.Common.{arith}
 use Rattle.ajp_reply.proofs.ReplyLaws.{message_takes, halted-none}
-use Rattle.ajp_reply.proofs.StreamLaws.{one_reading}
 use Rattle.ajp_reply.proofs.decoding.decode_reply.Goals as goal
 
 pub returns-in-Ok-clause-found : goal.returns-in-Ok-clause-found
