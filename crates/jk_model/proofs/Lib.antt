@@ -1,2 +1,6 @@
+pub mod ListFacts
 pub mod MemberFacts
 pub mod MultipleFacts
+pub mod OutFacts
+pub mod SettingFacts
+pub mod TicketFacts

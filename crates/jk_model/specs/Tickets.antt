@@ -22,7 +22,7 @@ ticket_in seq answer.Done = None
 -- Whether a call returns ticket t.
 abbrev pub gives_back : ℕ → Call → Bool
 gives_back t (call.Select ask) = false
-gives_back t (call.Return u w) = u == t
+gives_back t (call.Return u w) = t == u
 gives_back t call.Maintain = false
 gives_back t (call.Admin command) = false
 

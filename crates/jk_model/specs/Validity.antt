@@ -1,5 +1,5 @@
 -- When an opening is valid.
-use Rattle.std.specs.Prelude.{◌≡◌, ℕ, ◌+◌, ◌*◌, ◌/◌, ◌^◌, ◌<◌, ◌≤◌, ◌==◌, ◌&&◌, true, List, length, count_by, Some, slice_get}
+use Rattle.std.specs.Prelude.{◌≡◌, ℕ, ◌+◌, ◌*◌, ◌/◌, ◌^◌, ◌<◌, ◌≤◌, ◌==◌, ◌&&◌, true, List, [], ◌∷◌, length, reverse, count_by, Some, slice_get}
 use Rattle.std.specs.List.{list_any}
 use Rattle.jk_model.specs.Journal.{members}
 use Rattle.jk_model.specs.Multiple.{multiple_of}
@@ -12,11 +12,10 @@ use Rattle.jk_model.specs.declared.state.MemberState.{MemberState}
 use Rattle.jk_model.specs.declared.state.MemberState.TheVariants as state
 use Rattle.jk_model.specs.declared.view.MemberRow.{MemberRow}
 
--- The tickets rise, each is below the opening's number, and each is on a member.
-pub record AreTickets (n next : ℕ) (out : List Ticket) : Type 0 where
-  pub rising : (i j : ℕ) (a b : Ticket) → i < j → slice_get out i ≡ Some a → slice_get out j ≡ Some b → a.0 < b.0
-  pub below : (i : ℕ) (a : Ticket) → slice_get out i ≡ Some a → a.0 < next
-  pub on_members : (i : ℕ) (a : Ticket) → slice_get out i ≡ Some a → a.1 < n
+-- Tickets, newest first: each is below the one before it, the first is below `next`, and each is on one of n members.
+abbrev pub AreTickets : (n next : ℕ) → List Ticket → Type 0
+AreTickets n next [] = Unit {0}
+AreTickets n next (x ∷ xs) = (x.0 < next) × (x.1 < n) × AreTickets n x.0 xs
 
 -- An error isn't after the opening's moment, and a trial runs under a ticket that is out on the member.
 abbrev pub IsOpeningState : Opening → ℕ → MemberState → Type 0
@@ -39,7 +38,7 @@ pub record IsOpeningRow (o : Opening) (m : ℕ) (c : MemberConfig) (r : MemberRo
   pub busyness : o.config.method ≡ method.Busyness → r.load ≡ r.busy * (multiple_of (factors_in o.config.members) / c.factor)
 
 pub record IsOpening (o : Opening) : Type 0 where
-  pub tickets : AreTickets (members o) o.next o.out
+  pub tickets : AreTickets (members o) o.next (reverse o.out)
   pub chosen : (m : ℕ) → o.chosen ≡ Some m → m < members o
   pub count : length o.rows ≡ members o
   pub row : (m : ℕ) (c : MemberConfig) (r : MemberRow) →
