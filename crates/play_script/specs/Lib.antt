@@ -1,0 +1,11 @@
+pub mod Parts
+pub mod Values
+pub mod Names
+pub mod Verbs
+pub mod Fields
+pub mod Steps
+pub mod Heads
+pub mod Words
+pub mod Printed
+pub mod Drafts
+pub mod Play

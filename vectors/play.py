@@ -1,0 +1,387 @@
+#!/usr/bin/env python3
+"""The balancer's rules and the script of `play`, written from the rules alone and in another language than jkd.
+
+    play.py run < SCRIPT             prints what `jkd play` must print, and ends with its status
+    play.py make SEED LINES [FORM]   prints a script of some LINES lines; FORM is `first` (only the lines member, select,
+                                     done and failed) or `whole` (every line in every form; the default)
+
+The output of long scripts is kept as data of jkd's tests, so that the program is compared with a second reading of the
+rules, and not with itself.
+"""
+import random
+import re
+import sys
+from math import lcm
+
+MOST_BYTES = 2**44
+LIMIT_L = 2**32 - 1
+
+
+class Refused(Exception):
+    """A line that ends the script, with what is printed after `line N: `."""
+
+
+def number(word, top):
+    if not re.fullmatch(r"[0-9]{1,20}", word) or int(word) > top:
+        raise Refused("bad line")
+    return int(word)
+
+
+def u32(word):
+    return number(word, 2**32 - 1)
+
+
+def u64(word):
+    return number(word, 2**64 - 1)
+
+
+def activation(word):
+    letter = word[:1].upper()
+    if letter not in ("A", "D", "S"):
+        raise Refused("bad line")
+    return letter
+
+
+def fields(words, keys):
+    """Words KEY=VALUE, each at most once, in the order of the keys."""
+    found = {}
+    rest = list(words)
+    for key in keys:
+        if rest and rest[0].startswith(key + "="):
+            found[key] = rest.pop(0)[len(key) + 1 :]
+    if rest:
+        raise Refused("bad line")
+    return found
+
+
+class Member:
+    def __init__(self, name, factor, letter, distance, redirect, pool):
+        self.name, self.factor, self.activation = name, factor, letter
+        self.distance, self.redirect, self.pool = distance, redirect, pool
+        self.state, self.load, self.out = ("ok",), 0, 0
+
+
+class Balancer:
+    """Entries are numbered from 0. A ticket is the number of the select that made it."""
+
+    def __init__(self, lb, members, at):
+        self.method, self.sticky, self.force, self.maintain, self.recover = lb
+        self.members, self.at, self.maintained = members, at, at
+        self.next, self.last, self.open = 0, None, {}
+
+    def entry(self, at):
+        self.at = max(at, self.at)
+        self.next += 1
+        return self.next - 1
+
+    def unit(self, m):
+        factors = [x.factor for x in self.members]
+        return lcm(*factors) // self.members[m].factor
+
+    def load(self, m):
+        return self.members[m].out * self.unit(m) if self.method == "B" else self.members[m].load
+
+    def roomy(self, m):
+        return self.members[m].out < self.members[m].pool
+
+    def free(self, m):
+        return self.members[m].state[0] in ("ok", "recover") and self.roomy(m)
+
+    def usable(self, m):
+        return self.free(m) and self.members[m].activation == "A"
+
+    def serves(self, m):
+        return self.free(m) and self.members[m].activation != "S"
+
+    def revivable(self, m):
+        return self.members[m].state[0] == "error" and self.roomy(m) and self.members[m].activation == "A"
+
+    def least(self, among):
+        n = len(self.members)
+        first = 0 if self.last is None else self.last + 1
+        turns = [(first + i) % n for i in range(n)]
+        return min(among, key=lambda m: (self.members[m].distance, self.load(m), turns.index(m)))
+
+    def pick(self, routed):
+        n = range(len(self.members))
+        if self.sticky and routed is not None:
+            if self.serves(routed):
+                return routed, "sticky", []
+            other = self.members[routed].redirect
+            if other is not None and self.serves(other):
+                return other, "redirect", []
+            if self.force:
+                return None, "forced", []
+        usable = [m for m in n if self.usable(m)]
+        if usable:
+            return self.least(usable), "balanced", []
+        revivable = [m for m in n if self.revivable(m)]
+        if revivable:
+            return self.least(revivable), "balanced", revivable
+        return None, "none", []
+
+    def select(self, at, routed, fresh):
+        chosen, how, revived = self.pick(routed)
+        ticket = self.entry(at)
+        for m in revived:
+            self.members[m].state = ("recover",)
+        if chosen is None:
+            return how
+        member = self.members[chosen]
+        probe = member.state[0] == "recover"
+        if probe:
+            member.state = ("probe", ticket)
+        if self.method == "R" or (self.method == "S" and fresh):
+            member.load += self.unit(chosen)
+        member.out += 1
+        self.open[ticket] = chosen
+        self.last = chosen
+        words = [str(ticket), member.name]
+        words += [how] if how != "balanced" else []
+        words += ["probe"] if probe else []
+        return " ".join(words)
+
+    def give_back(self, at, ticket, kind, size):
+        if ticket not in self.open:
+            raise Refused(f"ticket {ticket} is not open")
+        self.entry(at)
+        m = self.open.pop(ticket)
+        member = self.members[m]
+        member.out -= 1
+        if self.method == "T":
+            member.load += self.unit(m) * size
+        if kind == "done":
+            member.state = ("ok",)
+        elif kind == "failed":
+            member.state = ("error", self.at)
+        elif member.state == ("probe", ticket):
+            member.state = ("recover",)
+
+    def maintain_if_due(self, at):
+        passed = max(at, self.at) - self.maintained
+        if passed < self.maintain:
+            return
+        self.entry(at)
+        halvings = passed // self.maintain
+        self.maintained = self.at
+        if self.method != "B":
+            for member in self.members:
+                member.load //= 2**halvings
+        greatest = max(member.load for member in self.members)
+        for member in self.members:
+            if member.state[0] == "error" and member.state[1] + self.recover <= self.at:
+                member.state = ("recover",)
+                if self.method != "B":
+                    member.load = greatest
+
+    def update(self, at, m, change):
+        factor, distance, redirect = change.get("factor"), change.get("distance"), change.get("redirect", "keep")
+        bad = factor is not None and not 1 <= factor <= 65535
+        bad = bad or (distance is not None and distance > 65535) or redirect == m
+        if bad:
+            raise Refused("refused 2")
+        factors = [x.factor for x in self.members]
+        if factor is not None:
+            factors[m] = factor
+        if lcm(*factors) > LIMIT_L:
+            raise Refused("refused 3")
+        self.entry(at)
+        member = self.members[m]
+        member.factor = factors[m]
+        member.activation = change.get("activation", member.activation)
+        if distance is not None:
+            member.distance = distance
+        if redirect != "keep":
+            member.redirect = redirect
+
+    def reset(self, at, m):
+        self.entry(at)
+        self.members[m].state, self.members[m].load = ("ok",), 0
+
+    def recover_now(self, at, m):
+        self.entry(at)
+        if self.members[m].state[0] == "error":
+            self.members[m].state = ("recover",)
+
+    def show(self):
+        return [f"{x.name} {x.state[0]} {self.load(m)} {x.out}" for m, x in enumerate(self.members)]
+
+
+class Play:
+    def __init__(self):
+        self.lb, self.drafts, self.at, self.book = ("R", True, False, 60, 60), [], 0, None
+
+    def named(self, name):
+        for m, draft in enumerate(self.drafts):
+            if draft[0] == name:
+                return m
+        raise Refused("bad line")
+
+    def head(self, words):
+        """A line of the balancer's own; true where it is one."""
+        if words[0] == "lb" and len(words) == 6:
+            method, sticky, force, maintain, recover = words[1:]
+            if method not in ("R", "S", "T", "B") or sticky not in ("0", "1") or force not in ("0", "1"):
+                raise Refused("bad line")
+            self.lb = (method, sticky == "1", force == "1", u64(maintain), u64(recover))
+            return True
+        if words[0] == "member" and len(words) >= 3:
+            name = words[1]
+            if not re.fullmatch(r"[A-Za-z0-9_-]+", name) or any(name == d[0] for d in self.drafts):
+                raise Refused("bad line")
+            more = fields(words[3:], ["activation", "distance", "redirect", "pool"])
+            redirect = more.get("redirect")
+            if redirect is not None and not re.fullmatch(r"[A-Za-z0-9_-]+", redirect):
+                raise Refused("bad line")
+            self.drafts.append((name, u32(words[2]), activation(more.get("activation", "A")),
+                                u32(more.get("distance", "0")), redirect, u32(more.get("pool", "64"))))
+            return True
+        return False
+
+    def start(self):
+        members = []
+        names = [d[0] for d in self.drafts]
+        for i, (name, factor, letter, distance, redirect, pool) in enumerate(self.drafts):
+            if redirect is not None and redirect not in names:
+                raise Refused("bad balancer")
+            target = names.index(redirect) if redirect is not None else None
+            if not (1 <= factor <= 65535 and distance <= 65535 and 1 <= pool <= 1024) or target == i:
+                raise Refused("bad balancer")
+            members.append(Member(name, factor, letter, distance, target, pool))
+        periods = self.lb[3:]
+        if not 1 <= len(members) <= 64 or not all(1 <= p <= 86400 for p in periods):
+            raise Refused("bad balancer")
+        if lcm(*[m.factor for m in members]) > LIMIT_L:
+            raise Refused("bad balancer")
+        self.book = Balancer(self.lb, members, self.at)
+
+    def act(self, words):
+        """What a line asks of the Book, as a function to be called once the Book stands."""
+        verb, rest = words[0], words[1:]
+        if verb == "select" and not rest:
+            return lambda b: [b.select(self.at, None, True)]
+        if verb == "select" and rest == ["old"]:
+            return lambda b: [b.select(self.at, None, False)]
+        if verb == "select" and len(rest) == 1 and rest[0].startswith("route="):
+            m = self.named(rest[0][len("route=") :])
+            return lambda b: [b.select(self.at, m, False)]
+        if verb in ("done", "failed", "gone") and len(rest) in (1, 2):
+            ticket, size = u64(rest[0]), number(rest[1], MOST_BYTES) if len(rest) == 2 else 0
+            return lambda b: b.give_back(self.at, ticket, verb, size) or []
+        if verb == "maintain" and not rest:
+            return lambda b: b.maintain_if_due(self.at) or []
+        if verb == "update" and rest:
+            m = self.named(rest[0])
+            given = fields(rest[1:], ["activation", "factor", "distance", "redirect"])
+            change = {}
+            if "activation" in given:
+                change["activation"] = activation(given["activation"])
+            for key in ("factor", "distance"):
+                if key in given:
+                    change[key] = u32(given[key])
+            if "redirect" in given:
+                change["redirect"] = None if given["redirect"] == "-" else self.named(given["redirect"])
+            return lambda b: b.update(self.at, m, change) or []
+        if verb in ("reset", "recover") and len(rest) == 1:
+            m = self.named(rest[0])
+            return lambda b: (b.reset(self.at, m) if verb == "reset" else b.recover_now(self.at, m)) or []
+        if verb == "show" and not rest:
+            return lambda b: b.show()
+        raise Refused("bad line")
+
+    def line(self, text):
+        if not text or text.startswith("#"):
+            return []
+        words = text.split(" ")
+        if words[0] == "at" and len(words) == 2:
+            self.at = u64(words[1])
+            return []
+        if self.book is None and self.head(words):
+            return []
+        action = self.act(words)
+        if self.book is None:
+            self.start()
+        return action(self.book)
+
+
+def run(script):
+    play, out = Play(), []
+    for n, text in enumerate(script.split("\n"), 1):
+        try:
+            out += play.line(text)
+        except Refused as why:
+            return out + [f"line {n}: {why}"], 3
+    return out, 0
+
+
+def make(seed, lines, form):
+    """A script that meets many turns of the rules; it is kept legal by running it beside."""
+    dice, script, play = random.Random(seed), [], Play()
+
+    def add(text):
+        try:
+            out = play.line(text)
+        except Refused:
+            return
+        script.append(text)
+        for shown in out:
+            word = shown.split(" ")[0]
+            if text.startswith("select") and word.isdigit():
+                tickets.append(int(word))
+
+    tickets = []
+    names = ["a", "b", "c", "n-4", "N_5"][: dice.randint(2, 5)]
+    if form == "whole":
+        add(f"lb {dice.choice('RSTB')} 1 {dice.choice('01')} {dice.choice([1, 7, 60])} {dice.choice([1, 30, 60])}")
+        add(f"at {dice.randint(0, 50)}")
+    for name in names:
+        text = f"member {name} {dice.randint(1, 6)}"
+        if form == "whole":
+            text += dice.choice(["", "", "", " activation=D", " activation=stopped"])
+            text += dice.choice(["", "", " distance=1"])
+            text += dice.choice(["", "", f" redirect={dice.choice(names)}"])
+            text += dice.choice(["", "", " pool=1", " pool=3"])
+        add(text)
+    while len(script) < lines:
+        kinds = ["select"] * 6 + ["done"] * 3 + ["failed"] * 2
+        if form == "whole":
+            kinds += ["old", "route", "route", "gone", "at", "at", "maintain", "update", "reset", "recover", "show"]
+        kind = dice.choice(kinds)
+        if kind in ("done", "failed", "gone"):
+            if tickets:
+                ticket = tickets.pop(dice.randrange(len(tickets)))
+                add(f"{kind} {ticket}" + (dice.choice(["", f" {dice.randint(0, 999)}"]) if form == "whole" else ""))
+        elif kind == "select":
+            add("select")
+        elif kind == "old":
+            add("select old")
+        elif kind == "route":
+            add(f"select route={dice.choice(names)}")
+        elif kind == "at":
+            add(f"at {play.at + dice.choice([0, 1, 5, 30, 60, 200])}")
+        elif kind == "update":
+            add(f"update {dice.choice(names)}" + dice.choice([
+                f" factor={dice.randint(0, 6)}", f" activation={dice.choice('ADS')}", f" distance={dice.randint(0, 2)}",
+                f" redirect={dice.choice(names + ['-'])}", " activation=A factor=2 distance=0 redirect=-"]))
+        elif kind in ("reset", "recover"):
+            add(f"{kind} {dice.choice(names)}")
+        else:
+            add(kind)
+    return script
+
+
+def main(words):
+    if words == ["run"]:
+        out, status = run(sys.stdin.read())
+        sys.stdout.write("".join(text + "\n" for text in out))
+        return status
+    if words[:1] == ["make"] and len(words) in (3, 4):
+        form = words[3] if len(words) == 4 else "whole"
+        print("\n".join(make(int(words[1]), int(words[2]), form)))
+        return 0
+    sys.stderr.write(__doc__)
+    return 2
+
+
+if __name__ == "__main__":
+    sys.exit(main(sys.argv[1:]))
