@@ -1,8 +1,8 @@
 -- The settings that a legal history leaves are in their ranges, and L is within its limit.
-use Rattle.std.proofs.Common.{◌≡◌, ◌≢◌, ℕ, suc, zero, ◌+◌, ◌<◌, ◌≤◌, ◌^◌, ◌==◌, Bool, true, false, ◌&&◌, not, List, [], ◌∷◌, length, map, take, Option, Some, None, refl, sym, subst, ap, ◌∙◌, arith, inl, inr}
-use Rattle.std.specs.Prelude.{slice_get, unwrap_or, if◌then◌else◌}
+use Rattle.std.proofs.Common.{◌≡◌, ℕ, ◌<◌, ◌≤◌, ◌^◌, ◌==◌, true, List, [], ◌∷◌, take, Option, Some, None, refl, subst, ap, ◌∙◌, arith, inl, inr}
+use Rattle.std.specs.Prelude.{slice_get, unwrap_or}
 use Rattle.jk_model.specs.Journal.{members, each}
-use Rattle.jk_model.specs.Legal.{IsNext, IsLegalPast, IsAnswered, IsDoable, IsFactor, IsDistance, RedirectExists, LeadsElsewhere, HasValues}
+use Rattle.jk_model.specs.Legal.{IsLegalPast, IsAnswered, IsDoable, IsFactor, IsDistance, RedirectExists, LeadsElsewhere, HasValues}
 use Rattle.std.proofs.lemmas.Bool.{cases_Bool, eqb-true}
 use Rattle.std.proofs.lemmas.Bool.Decides.{nat_tests}
 use Rattle.std.proofs.lemmas.List.{take_all, length-map}
@@ -32,11 +32,15 @@ pub record IsSetting (n m : ℕ) (s : Setting) : Type 0 where
 opening_setting : (o : Opening) (m : ℕ) → m < members o → IsSetting (members o) m (setting_in (slice_get o.config.members m))
 opening_setting o m lt =
     elim (slice_get_cases o.config.members m).1 [
-      inl found ↦
-        let is : IsInRange (members o) m found.0 = o.config.in_range.at m found.0 found.2 in
-        rw found.2 (record {
-          factor_above = is.factor_above; factor_below = is.factor_below; distance_below = is.distance_below; redirect = is.redirect })
-    | inr past ↦ absurd (omega arith)
+      | inl found ↦
+          let is : IsInRange (members o) m found.0 = o.config.in_range.at m found.0 found.2 in
+          rw found.2 (record {
+            factor_above = is.factor_above;
+            factor_below = is.factor_below;
+            distance_below = is.distance_below;
+            redirect = is.redirect;
+          })
+      | inr past ↦ absurd (omega arith)
     ]
 
 factor_after : (f : ℕ) (new : Option ℕ) → IsFactor new → (1 ≤ f) × (f ≤ 65535) → (1 ≤ unwrap_or new f) × (unwrap_or new f ≤ 65535)
@@ -57,23 +61,24 @@ changed_setting : (n m : ℕ) (change : Change) (s : Setting) → RedirectExists
     → HasValues (command.Update m change) → IsSetting n m s → IsSetting n m (setting_after change s)
 changed_setting n m change s exists values is =
     let factor : (1 ≤ unwrap_or change.factor s.factor) × (unwrap_or change.factor s.factor ≤ 65535) =
-        factor_after s.factor change.factor values.0 (is.factor_above, is.factor_below) in
+    factor_after s.factor change.factor values.0 (is.factor_above, is.factor_below) in
     record {
       factor_above = factor.0;
       factor_below = factor.1;
       distance_below = distance_after s.distance change.distance values.1 is.distance_below;
-      redirect = redirect_kept n m s.redirect change.redirect exists values.2 is.redirect }
+      redirect = redirect_kept n m s.redirect change.redirect exists values.2 is.redirect;
+    }
 
 commanded_setting : (o : Opening) (p : List Entry) (c : Command) (m : ℕ) (s : Setting)
     → IsDoable o p c → IsSetting (members o) m s → IsSetting (members o) m (commanded m c s)
 commanded_setting o p (command.Update j change) m s doable is =
     elim (cases_Bool (j == m)) [
-      inl this ↦
-        let same : j ≡ m = eqb-true j m this in
-        let values : HasValues (command.Update m change) =
-            subst (λ (k : ℕ). HasValues (command.Update k change)) same doable.values in
-        rw this (changed_setting (members o) m change s doable.target values is)
-    | inr other ↦ rw other is
+      | inl this ↦
+          let same : j ≡ m = eqb-true j m this in
+          let values : HasValues (command.Update m change) =
+          subst (λ (k : ℕ). HasValues (command.Update k change)) same doable.values in
+          rw this (changed_setting (members o) m change s doable.target values is)
+      | inr other ↦ rw other is
     ]
 commanded_setting o p (command.Reset j) m s doable is = is
 commanded_setting o p (command.Recover j) m s doable is = is
@@ -97,7 +102,7 @@ pub common-opening : (o : Opening) → common_of o [] ≡ multiple_of (factors_i
 common-opening o =
     let ms : List MemberConfig = o.config.members in
     let all : each (members o) (λ m. (setting_in (slice_get ms m)).factor) ≡ take (members o) (factors_in ms) =
-        each-slice_get (λ (m : MemberConfig). m.factor) (λ (found : Option MemberConfig). (setting_in found).factor) (λ m. refl) ms (members o) (omega arith) in
+    each-slice_get (λ (m : MemberConfig). m.factor) (λ (found : Option MemberConfig). (setting_in found).factor) (λ m. refl) ms (members o) (omega arith) in
     ap multiple_of (all ∙ take_all (members o) (factors_in ms) (omega (arith, length-map ms (λ (m : MemberConfig). m.factor))))
 
 common_kept : (v : ℕ) (o : Opening) (p : List Entry) (e : Entry) (c : Call) → IsAnswered v o p e c

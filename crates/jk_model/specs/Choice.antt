@@ -88,7 +88,7 @@ is_before_by d l t d' l' t' = nat_lt d d' || ((d == d') && (nat_lt l l' || ((l =
 abbrev pub is_before : ℕ → Opening → List Entry → ℕ → ℕ → Bool
 is_before v o p j m =
     is_before_by (distance_of o p j) (load_of v o p j) (place_of o p j)
-      (distance_of o p m) (load_of v o p m) (place_of o p m)
+    (distance_of o p m) (load_of v o p m) (place_of o p m)
 
 -- Member m, of the first n, passes the test, and none that passes it comes before m.
 pub record IsFirstOf (n : ℕ) (test : ℕ → Bool) (before : ℕ → ℕ → Bool) (m : ℕ) : Type 0 where

@@ -7,6 +7,7 @@ pub mod Multiple
 pub mod Present
 pub mod Ranges
 pub mod Rows
+pub mod Segments
 pub mod Settings
 pub mod StateRows
 pub mod States

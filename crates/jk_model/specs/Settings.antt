@@ -38,7 +38,7 @@ setting_after change s = record {
   factor = unwrap_or change.factor s.factor;
   distance = unwrap_or change.distance s.distance;
   activation = unwrap_or change.activation s.activation;
-  redirect = redirect_after change.redirect s.redirect
+  redirect = redirect_after change.redirect s.redirect;
 }
 
 -- What a call makes of the setting of member m.

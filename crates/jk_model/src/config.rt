@@ -86,7 +86,7 @@ fn put_factors(members: &[MemberConfig], table: &mut [u32])
     }
 }
 
-fn common_multiple(members: &[MemberConfig]) -> Option<u32>
+pub(crate) fn common_multiple(members: &[MemberConfig]) -> Option<u32>
     requires count { IsCount (length members.now) }
     requires in_range { AreInRange members.now }
     ensures value { SomeIff result (multiple_of (factors_in members.now) < 2 ^ 32) (multiple_of (factors_in members.now)) }

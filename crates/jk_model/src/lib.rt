@@ -17,8 +17,10 @@ mod load;
 mod member;
 mod opening;
 mod refusal;
+mod segment;
 mod served;
 mod state;
+mod validity;
 mod view;
 
 pub use ask::{Ask, Terms};
@@ -32,6 +34,7 @@ pub use load::halve;
 pub use member::{Activation, MemberConfig, MemberList, Method};
 pub use opening::{Opening, TicketList};
 pub use refusal::{AdminError, FullMark, RoomError, Stray};
+pub use segment::Segment;
 pub use served::{Asked, Served, ServedList};
 pub use state::MemberState;
 pub use view::{MemberRow, RowList, View};

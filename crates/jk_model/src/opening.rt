@@ -1,4 +1,7 @@
+ghost use Rattle.std.specs.Prelude.{◌↔◌, IsTrue};
+
 use crate::config::LbConfig;
+use crate::validity::{are_opening_rows, are_tickets, has_room, is_within};
 use crate::view::RowList;
 use jk_io::ListOf;
 
@@ -19,4 +22,22 @@ pub struct Opening {
     pub maintained: u64,
     /// The member that was chosen last.
     pub chosen: Option<u32>,
+}
+
+impl Opening {
+    ghost use Rattle.jk_model.specs.Validity.{IsOpening};
+
+    /// Whether a journal may begin so: tickets that rise and are on members, a row for each member that shows it,
+    /// loads that nothing before could exceed, and a number left for each Return. It takes no memory.
+    pub fn is_valid(&self) -> bool
+        ensures valid { IsTrue result ↔ IsOpening self.now }
+    {
+        let members = self.config.members.len();
+        let out = self.out.as_slice();
+        has_room(self.next, out.len())
+            && are_tickets(members, self.next, out)
+            && is_within(members, self.chosen)
+            && self.maintained <= self.at
+            && are_opening_rows(self)
+    }
 }

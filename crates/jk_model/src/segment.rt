@@ -1,0 +1,17 @@
+ghost use Rattle.jk_model.specs.Segments.{AreKeptEntries, AreRules};
+ghost use Rattle.jk_model.specs.Validity.{IsOpening};
+
+use crate::journal::EntryList;
+use crate::opening::Opening;
+
+/// A part of a journal: an opening and the entries after it, oldest first.
+#[derive(Debug, Drop)]
+pub struct Segment {
+    /// The rules that it is judged by, 1 or 2: under rules 2 a choice may revive members in Error.
+    pub rules: u8,
+    pub opening: Opening,
+    pub entries: EntryList,
+    pub ghost versions: { AreRules rules },
+    pub ghost valid: { ∥ IsOpening opening ∥₁ },
+    pub ghost kept: { AreKeptEntries rules entries },
+}
