@@ -1,0 +1,4 @@
+pub mod AttributeLoop
+pub mod StoredLaws
+pub mod AttributeLaws
+pub mod ForwardLaws

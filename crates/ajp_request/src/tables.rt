@@ -1,0 +1,87 @@
+//! The codes of a Forward Request.
+ghost use Rattle.std.specs.Prelude.{◌≡◌, ◌<◌, length, map};
+ghost use Rattle.std.specs.Option.{option_copied};
+ghost use Rattle.ajp_wire.specs.Reading.{named_from};
+ghost use Rattle.ajp_request.specs.Tables.{methods, method_code as code_of_method, header_names as names_of_headers, is_plain as is_plain_code};
+
+use ajp_wire::name_of;
+
+/// The methods that have a code, from 1 on.
+static METHODS: [&[u8]; 27] = [
+    b"OPTIONS",
+    b"GET",
+    b"HEAD",
+    b"POST",
+    b"PUT",
+    b"DELETE",
+    b"TRACE",
+    b"PROPFIND",
+    b"PROPPATCH",
+    b"MKCOL",
+    b"COPY",
+    b"MOVE",
+    b"LOCK",
+    b"UNLOCK",
+    b"ACL",
+    b"REPORT",
+    b"VERSION-CONTROL",
+    b"CHECKIN",
+    b"CHECKOUT",
+    b"UNCHECKOUT",
+    b"SEARCH",
+    b"MKWORKSPACE",
+    b"UPDATE",
+    b"LABEL",
+    b"MERGE",
+    b"BASELINE-CONTROL",
+    b"MKACTIVITY",
+];
+
+/// The names of headers that have a code, from A001 on.
+static HEADER_NAMES: [&[u8]; 14] = [
+    b"accept",
+    b"accept-charset",
+    b"accept-encoding",
+    b"accept-language",
+    b"authorization",
+    b"connection",
+    b"content-type",
+    b"content-length",
+    b"cookie",
+    b"cookie2",
+    b"host",
+    b"pragma",
+    b"referer",
+    b"user-agent",
+];
+
+/// The codes of the attributes that hold one string.
+static PLAIN_CODES: [u8; 11] = [1, 2, 3, 4, 5, 6, 7, 8, 9, 0x0C, 0x0D];
+
+/// The byte of a method that an attribute stores.
+pub const STORED: u8 = 0xFF;
+
+/// The code of the attribute that stores a method.
+pub const STORED_METHOD: u8 = 0x0D;
+
+/// The table of the names of headers.
+pub fn header_names() -> &'static [&'static [u8]]
+    ensures names { map (λ name. name.now) result.now ≡ names_of_headers }
+    ensures few { length result.now < 100 }
+{
+    &HEADER_NAMES
+}
+
+/// The method of a code.
+pub fn method_of(code: u8) -> Option<&'static [u8]>
+    ensures { option_copied result ≡ named_from 1 methods code }
+{
+    name_of(&METHODS, 1, u16::from(code))
+}
+
+/// Whether an attribute of this code holds one string.
+pub fn is_plain(code: u8) -> bool
+    ensures { result ≡ is_plain_code code }
+{
+    PLAIN_CODES.contains(&code)
+}
