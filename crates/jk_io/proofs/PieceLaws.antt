@@ -1,7 +1,7 @@
 -- A piece that is handed on from a place, and a buffer that is filled from a place.
 use Rattle.std.proofs.Common.{◌≡◌, ℕ, ◌+◌, ◌-◌, ◌≤◌, List, ◌++◌, Option, length, take, drop, subst, sym, ap, ◌∙◌}
 use Rattle.std.proofs.Math.Seq.{take-add, take-append-add}
-use Rattle.std.proofs.lemmas.List.{take_rest, take-append-le, length-take-le}
+use Rattle.std.proofs.lemmas.List.{take_rest, take-append-drop, take-append-le, length-take-le, drop-drop}
 use borrow.Rule.Slice.PartMut.{put_mid, post_of}
 use Rattle.jk_io.specs.Told.{appended, prepended}
 use Rattle.jk_io.proofs.ToldLaws.{appended-appended, prepended-prepended}
@@ -41,3 +41,19 @@ pub gave_next : (before now after : Option (List ℕ)) (xs ys : List ℕ) (at k 
 gave_next before now after xs ys at k n within more first next =
     first ∙ ap (prepended (take at xs)) next ∙ prepended-prepended (take at xs) (take n ys) after
     ∙ ap (λ x. prepended x after) (sym (take-filled xs ys at k n within more))
+
+-- what is copied from `&text[at..]` is what lay ahead at `at`
+pub gave_front : (text slice buf : List ℕ) (at n : ℕ) → slice ≡ text → take n buf ≡ take n (take (length slice - at) (drop at slice))
+    → drop at text ≡ take n buf ++ drop (at + n) text
+gave_front text slice buf at n same copied =
+    let front : take n buf ≡ take n (drop at text) =
+    copied ∙ ap (λ s. take n (take (length s - at) (drop at s))) same ∙ ap (take n) (take_rest text at) in
+    sym (take-append-drop n (drop at text)) ∙ ap (λ f. f ++ drop n (drop at text)) (sym front)
+    ∙ ap (λ r. take n buf ++ r) (drop-drop n at text)
+
+pub got_front : (text slice buf : List ℕ) (at n : ℕ) → slice ≡ text → take n buf ≡ take n (take (length slice - at) (drop at slice))
+    → take (at + n) text ≡ take at text ++ take n buf
+got_front text slice buf at n same copied =
+    let front : take n buf ≡ take n (drop at text) =
+    copied ∙ ap (λ s. take n (take (length s - at) (drop at s))) same ∙ ap (take n) (take_rest text at) in
+    take-add at n text ∙ ap (λ r. take at text ++ r) (sym front)

@@ -1,6 +1,10 @@
 pub mod Answers
 pub mod Decimals
 pub mod Inputs
+pub mod Memory
+pub mod MemDoors
+pub mod MemReaches
 pub mod Stored
+pub mod TalkBooks
 pub mod Talks
 pub mod Told

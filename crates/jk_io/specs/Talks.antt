@@ -36,3 +36,18 @@ pub record IsNoteOf (begun : Option Begun) (sent received : Option (List ℕ)) (
   pub sent_in : IfSome sent (λ bytes. bytes ≡ note.sent)
   pub received_in : IfSome received (λ bytes. bytes ≡ note.received)
   pub kept : keep ≡ note.keep
+
+-- the note of a talk of which all is told
+abbrev pub talk_of : Begun → List ℕ → List ℕ → Bool → Talk
+talk_of b sent received keep = record {
+  lb = b.lb;
+  member = b.member;
+  host = b.host;
+  port = b.port;
+  fresh = b.fresh;
+  dialled = b.dialled;
+  came = b.came;
+  sent = sent;
+  received = received;
+  keep = keep;
+}

@@ -1,0 +1,78 @@
+//! A dial in memory.
+ghost use Rattle.std.specs.Prelude.{◌≡◌, [], IfOk, IsErr};
+ghost use Rattle.jk_io.specs.Told.{HasCause};
+ghost use Rattle.jk_io.specs.Memory.{DialledNext};
+
+use crate::byte_list::Bytes;
+use crate::call_count::CallCount;
+use crate::failures::IoError;
+use crate::list_of::{ListOf, NumberList};
+use crate::mem_link::MemLink;
+use crate::surroundings::Dial;
+use std::alloc::Global;
+use std::marker::Model;
+
+/// Links in memory, in order.
+pub type MemLinkList = ListOf<MemLink>;
+
+/// A dial that gives its links in turn, and links with nothing to come after the last.
+#[derive(Debug, Drop)]
+pub struct MemDial {
+    /// The links to come, the next one last.
+    links: Vec<MemLink>,
+    failing: NumberList,
+    count: CallCount,
+}
+
+impl Model for MemDial {
+    ghost use Rattle.std.specs.Prelude.{reverse};
+    ghost use Rattle.jk_io.specs.Memory.{MemDialState};
+
+    ghost Value = { MemDialState };
+
+    ghost view = { λ d. record { links = reverse d.links.items; failing = d.failing; faults = d.count.failed } };
+}
+
+impl MemDial {
+    /// The dials of `failing`, numbered from 0, fail.
+    pub fn new(links: MemLinkList, failing: NumberList) -> MemDial
+        ensures { result ≡ record { links = links; failing = failing; faults = 0 } }
+    {
+        let mut links = links.into_vec();
+        links.reverse();
+        MemDial {
+            links,
+            failing,
+            count: CallCount::new(),
+        }
+    }
+
+    /// How many dials failed.
+    pub fn faults(&self) -> u64
+        ensures { result ≡ self.now.faults }
+    {
+        self.count.failed
+    }
+}
+
+impl Dial for MemDial {
+    type L = MemLink;
+
+    ghost faults = { λ d. d.faults };
+
+    fn dial(&mut self, alloc: Global, _host: &Bytes, _port: u16) -> Result<MemLink, IoError>
+        ensures next { IfOk result (λ link. DialledNext self.old.links link self.new.links) }
+        ensures failed { IsErr result → self.new.links ≡ self.old.links }
+        ensures cause { HasCause self.old.faults self.new.faults result }
+        ensures same { self.new.failing ≡ self.old.failing }
+        ensures steady { self.old.failing ≡ [] → self.new.faults ≡ self.old.faults }
+    {
+        if self.count.fails(&self.failing) {
+            return Err(IoError::Failed);
+        }
+        match self.links.pop() {
+            Some(link) => Ok(link),
+            None => Ok(MemLink::new(alloc, Bytes::new(alloc), NumberList::new(alloc))),
+        }
+    }
+}
