@@ -2,3 +2,4 @@ pub mod AttributeLoop
 pub mod StoredLaws
 pub mod AttributeLaws
 pub mod ForwardLaws
+pub mod WritingLaws

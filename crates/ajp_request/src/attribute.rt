@@ -1,5 +1,9 @@
 //! What a Forward Request tells beside its headers.
 
+ghost use Rattle.std.specs.Prelude.{◌≡◌, is_some};
+ghost use Rattle.ajp_request.specs.Spelling.{stored_method};
+
+use crate::tables::STORED_METHOD;
 use jk_io::{Bytes, ListOf};
 
 /// An attribute of a Forward Request.
@@ -15,3 +19,10 @@ pub enum Attribute {
 
 /// Attributes in the order in which they are written.
 pub type AttributeList = ListOf<Attribute>;
+
+/// Whether an attribute stores a method.
+pub fn is_stored(attribute: &Attribute) -> bool
+    ensures { result ≡ is_some (stored_method attribute.now) }
+{
+    matches!(attribute, Attribute::Plain(STORED_METHOD, _))
+}

@@ -4,9 +4,9 @@ ghost use Rattle.ajp_request.specs.Spelling.{stored_method};
 ghost use Rattle.ajp_wire.specs.Reading.{Gives, Tells};
 ghost use Rattle.ajp_request.specs.Reading.{boolean_at, method_at, line_at, ends_at, named_at, attribute_at, attributes_at, stored_in, tail_at, ended as no_more, forward_of};
 
-use crate::attribute::{Attribute, AttributeList};
+use crate::attribute::{Attribute, AttributeList, is_stored};
 use crate::forward::Forward;
-use crate::tables::{STORED, STORED_METHOD, header_names, is_plain, method_of};
+use crate::tables::{STORED, header_names, is_plain, method_of};
 use ajp_wire::{DecodeError, NotRead, Refusal, RefusalKind, next_byte, next_headers, next_int, next_text, refused};
 use jk_io::Bytes;
 use std::alloc::Global;
@@ -136,12 +136,6 @@ fn next_attributes(alloc: Global, bytes: &[u8]) -> Result<(Vec<Attribute>, &[u8]
         rest = after;
     }
     Err(refused(RefusalKind::Short, &[]))
-}
-
-fn is_stored(attribute: &Attribute) -> bool
-    ensures { result ≡ is_some (stored_method attribute.now) }
-{
-    matches!(attribute, Attribute::Plain(STORED_METHOD, _))
 }
 
 /// Takes out the first attribute that stores a method, and gives the method.

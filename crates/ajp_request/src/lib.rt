@@ -3,6 +3,7 @@
 
 mod attribute;
 mod decoding;
+mod encoding;
 mod forward;
 mod laws;
 mod tables;

@@ -2,7 +2,7 @@
 ghost use Rattle.std.specs.Prelude.{◌≡◌, ◌<◌, length, map};
 ghost use Rattle.std.specs.Option.{option_copied};
 ghost use Rattle.ajp_wire.specs.Reading.{named_from};
-ghost use Rattle.ajp_request.specs.Tables.{methods, method_code as code_of_method, header_names as names_of_headers, is_plain as is_plain_code};
+ghost use Rattle.ajp_request.specs.Tables.{methods, method_from, method_code as code_of_method, header_names as names_of_headers, is_plain as is_plain_code};
 
 use ajp_wire::name_of;
 
@@ -77,6 +77,27 @@ pub fn method_of(code: u8) -> Option<&'static [u8]>
     ensures { option_copied result ≡ named_from 1 methods code }
 {
     name_of(&METHODS, 1, u16::from(code))
+}
+
+/// The code of a method, which is looked up as it is written.
+pub fn method_code(method: &[u8]) -> Option<u8>
+    ensures { result ≡ code_of_method method.now }
+{
+    place_in(&METHODS, method)
+}
+
+fn place_in(table: &[&[u8]], name: &[u8]) -> Option<u8>
+    requires { length table.now < 100 }
+    ensures { result ≡ method_from 1 (map (λ known. known.now) table.now) name.now }
+{
+    let mut code = 1u8;
+    for known in table {
+        if *known == name {
+            return Some(code);
+        }
+        code += 1;
+    }
+    None
 }
 
 /// Whether an attribute of this code holds one string.
