@@ -1,3 +1,5 @@
 pub mod CutLemmas
 pub mod InboxLemmas
 pub mod PathLemmas
+pub mod HostLemmas
+pub mod MakesLemmas

@@ -1,10 +1,10 @@
 -- A path, segment by segment.
-use Rattle.std.proofs.Common.{◌≡◌, ℕ, ◌+◌, ◌<◌, ◌==◌, ◌||◌, Bool, true, false, not, cond, List, [], ◌∷◌, ◌++◌, length, take, drop, get_or, map, refl, sym, ap, ◌∙◌, arith, inl, inr, append_assoc}
-use Rattle.std.proofs.lemmas.Bool.{cases_Bool, cond-true, cond-false, not_from_true, not_from_false, or_from}
+use Rattle.std.proofs.Common.{◌≡◌, ℕ, ◌+◌, ◌<◌, ◌==◌, ◌||◌, Bool, true, false, not, cond, List, [], ◌∷◌, ◌++◌, length, take, drop, get_or, map, refl, sym, ap, ◌∙◌, arith, inl, inr, append_assoc, option_map, Option, Some, None, ◌-◌}
+use Rattle.std.proofs.lemmas.Bool.{cases_Bool, cond-true, cond-false, not_from_true, not_from_false, or_from, lt-ltb, le-ltb}
 use Rattle.std.proofs.lemmas.List.Splits.{slice_split_first, slice_split-cons_no, length-slice_split}
-use Rattle.std.proofs.lemmas.List.{at_drop_more}
+use Rattle.std.proofs.lemmas.List.{at_drop_more, take_rest}
 use Rattle.std.specs.List.{list_any, position_or_len, slice_split, onto_first, join_with_byte, count_by}
-use Rattle.http_front.specs.Path.{cleaned, segments, clean_segment, is_dots, has_good_bytes, begins_escape}
+use Rattle.http_front.specs.Path.{cleaned, segments, clean_segment, is_dots, query_of}
 
 -- where no byte passes, the list is its one part
 pub slice_split_whole : (p : ℕ → Bool) (xs : List ℕ) → position_or_len p xs ≡ length xs → slice_split p xs ≡ xs ∷ []
@@ -80,3 +80,14 @@ last-segment start now new path rest last joined dots clean = (
   clean.0 ∙ ap (λ (l : List ℕ). now ++ l) (sym (cleaned-whole rest last)) ∙ joined,
   sym dots ∙ dots-whole rest last ∙ or_from _ _ clean.1 refl,
 )
+
+-- the query behind the first `?`
+pub query-some : (target : List ℕ) (at : ℕ) → at ≡ position_or_len (λ b. b == 63) target → at < length target → query_of target ≡ Some (take (length target - (at + 1)) (drop (at + 1) target))
+query-some target at e within =
+    let first : position_or_len (λ b. b == 63) target < length target = omega (arith, e, within) in
+    ap (option_map (λ n. drop (n + 1) target)) (cond-true _ _ _ (lt-ltb (position_or_len (λ b. b == 63) target) (length target) first))
+    ∙ ap (λ (n : ℕ). Some (drop (n + 1) target)) (sym e)
+    ∙ ap Some (sym (take_rest target (at + 1)))
+
+pub query-none : (target : List ℕ) → position_or_len (λ b. b == 63) target ≡ length target → query_of target ≡ None
+query-none target e = ap (option_map (λ n. drop (n + 1) target)) (cond-false _ _ _ (le-ltb (position_or_len (λ b. b == 63) target) (length target) (omega (arith, e))))

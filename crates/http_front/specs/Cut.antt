@@ -1,6 +1,6 @@
 -- Where a head stands in a client's bytes, and how its lines are counted. Own rule, which rests on
 -- no parser; empty lines in front and a bare LF are let pass by RFC 9112, section 2.2.
-use Rattle.std.specs.Prelude.{ℕ, ◌≡◌, ◌+◌, ◌-◌, ◌≤◌, ◌<◌, ◌==◌, Bool, ◌&&◌, ◌||◌, List, [], ◌∷◌, ◌++◌, length, slice_index, count_by, Option, Some, None, if◌then◌else◌}
+use Rattle.std.specs.Prelude.{ℕ, ◌≡◌, ◌+◌, ◌-◌, ◌==◌, Bool, ◌&&◌, ◌||◌, List, [], ◌∷◌, ◌++◌, length, slice_index, count_by, Option, Some, None, if◌then◌else◌}
 use Rattle.std.specs.Option.{option_map}
 use Rattle.http_front.specs.Ascii.{line_feed, carriage_return}
 
@@ -26,10 +26,9 @@ head_len (b ∷ bytes) = if b == line_feed && begins_empty bytes then Some (1 + 
 abbrev pub header_lines : List ℕ → ℕ
 header_lines front = count_by (λ b. b == line_feed) front - 2
 
--- bytes are empty lines, the bytes of a head within the limit, and what follows
-pub record Cuts (limit : ℕ) (bytes blank front rest : List ℕ) : Type 0 where
+-- bytes are empty lines, the bytes of a head, and what follows
+pub record Cuts (bytes blank front rest : List ℕ) : Type 0 where
   pub whole : bytes ≡ blank ++ (front ++ rest)
   pub empty : blank_len blank ≡ length blank
   pub begins : blank_len front ≡ 0
   pub ends : head_len front ≡ Some (length front)
-  pub within : length blank + length front ≤ limit

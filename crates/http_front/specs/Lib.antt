@@ -1,5 +1,14 @@
+pub mod Answer
 pub mod Ascii
 pub mod Cut
+pub mod Fields
+pub mod Framing
+pub mod Host
+pub mod Judged
+pub mod Lone
+pub mod Makes
 pub mod Path
 pub mod Refusal
+pub mod Request
 pub mod Search
+pub mod Unread

@@ -1,6 +1,7 @@
 -- The clean path of a raw path. Own rule; escapes by RFC 3986, section 2.1.
-use Rattle.std.specs.Prelude.{ℕ, ◌+◌, ◌*◌, Bool, false, true, not, ◌&&◌, ◌||◌, ◌==◌, List, [], ◌∷◌, map, Option, Some, None, slice_index, codes, bytes_eq, if◌then◌else◌}
-use Rattle.std.specs.List.{list_any, slice_split, before_first, after_first, join_with_byte}
+use Rattle.std.specs.Prelude.{ℕ, ◌+◌, ◌*◌, Bool, false, true, not, ◌&&◌, ◌||◌, ◌==◌, List, [], ◌∷◌, map, Option, Some, None, slice_index, drop, codes, bytes_eq, if◌then◌else◌}
+use Rattle.std.specs.List.{list_any, slice_split, before_first, join_with_byte, position}
+use Rattle.std.specs.Option.{option_map}
 use Rattle.std.specs.Char.{is_digit, digit_value}
 use Rattle.percent_encoding.specs.Percent.{percent_decode}
 use Rattle.http_front.specs.Ascii.{percent, dot, slash, semicolon, question, backslash}
@@ -11,7 +12,7 @@ path_of target = before_first (λ b. b == question) target
 
 -- what follows that `?`, where the target has one
 abbrev pub query_of : List ℕ → Option (List ℕ)
-query_of target = if list_any (λ b. b == question) target then Some (after_first (λ b. b == question) target) else None
+query_of target = option_map (λ at. drop (at + 1) target) (position (λ b. b == question) target)
 
 -- a byte that no escape may give: `/`, `\` or zero
 abbrev pub is_refused_byte : ℕ → Bool

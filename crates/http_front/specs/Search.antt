@@ -1,9 +1,17 @@
 -- What a search for a head's end keeps while bytes are still to come.
-use Rattle.std.specs.Prelude.{ℕ, ◌≡◌, ◌+◌, ◌≤◌, List, ◌++◌, length, drop, Option, Some, None}
+use Rattle.std.specs.Prelude.{ℕ, ◌≡◌, ◌+◌, ◌≤◌, List, ◌++◌, length, take, drop, Option, Some, None, Result, Ok, Err, ⊤}
 use Rattle.std.specs.Option.{option_map}
-use Rattle.http_front.specs.Cut.{blank_len, head_len}
+use Rattle.http_front.specs.Cut.{Cuts, blank_len, head_len}
+use Rattle.http_front.specs.Request.{AreEmptyLines, EndsWithin, IsOver}
 use Rattle.http_front.specs.declared.cut.Search.{Search}
 use Rattle.http_front.specs.declared.cut.Search.TheVariants.{Ends, Open}
+use Rattle.http_front.specs.declared.reading.Look.{Look}
+use Rattle.http_front.specs.declared.reading.Look.TheVariants.{Whole, Part}
+use Rattle.http_front.specs.declared.reading.Found.{Found}
+use Rattle.http_front.specs.declared.reading.Found.TheVariants as found
+use Rattle.http_front.specs.declared.answers.HeadError.{HeadError}
+use Rattle.http_front.specs.declared.answers.HeadError.TheVariants as error
+use Rattle.http_front.specs.declared.answers.Form.TheVariants.{TooBig}
 
 -- the first at bytes are empty lines, whatever comes behind bytes
 abbrev pub Skipped : List ℕ → ℕ → Type 0
@@ -17,3 +25,43 @@ Searched front at = (more : List ℕ) → head_len (front ++ more) ≡ option_ma
 abbrev pub IsSearchOf : List ℕ → Search → Type 0
 IsSearchOf front (Ends n) = (n ≤ length front) × ((more : List ℕ) → head_len (front ++ more) ≡ Some n)
 IsSearchOf front (Open at) = (at ≤ length front) × (head_len front ≡ None) × Searched front at
+
+-- so many bytes are empty lines, and so many behind them were searched
+pub record IsSeen (bytes : List ℕ) (blank searched : ℕ) : Type 0 where
+  pub within : blank + searched ≤ length bytes
+  pub skipped : Skipped bytes blank
+  pub none : Searched (drop blank bytes) searched
+
+-- a head of len bytes stands behind blank bytes of empty lines
+pub record IsWhole (bytes : List ℕ) (blank len : ℕ) : Type 0 where
+  pub within : blank + len ≤ length bytes
+  pub cut : Cuts bytes (take blank bytes) (take len (drop blank bytes)) (drop len (drop blank bytes))
+
+-- no head has its end in bytes
+pub record IsPart (bytes : List ℕ) (blank searched : ℕ) : Type 0 where
+  pub seen : IsSeen bytes blank searched
+  pub empty : blank_len bytes ≡ blank
+  pub open_end : head_len (drop blank bytes) ≡ None
+
+-- what a look at the bytes says
+abbrev pub IsLook : List ℕ → Look → Type 0
+IsLook bytes (Whole blank len) = IsWhole bytes blank len
+IsLook bytes (Part blank searched) = IsPart bytes blank searched
+
+-- what the bytes that were read say
+abbrev pub IsFound : List ℕ → Result Found HeadError → Type 0
+IsFound bytes (Ok (found.Head blank len)) = IsWhole bytes blank len
+IsFound bytes (Ok found.End) = AreEmptyLines bytes
+IsFound bytes (Err (error.Refused status form)) = (status ≡ 431) × (form ≡ TooBig) × IsOver bytes
+IsFound bytes (Err error.Truncated) = EndsWithin bytes
+IsFound bytes (Err error.Fault) = ⊤
+IsFound bytes (Err error.NoMemory) = ⊤
+
+-- the client's bytes have ended
+abbrev pub HasEnded : Result Found HeadError → Type 0
+HasEnded (Ok (found.Head blank len)) = ⊥
+HasEnded (Ok found.End) = ⊤
+HasEnded (Err (error.Refused status form)) = ⊥
+HasEnded (Err error.Truncated) = ⊤
+HasEnded (Err error.Fault) = ⊥
+HasEnded (Err error.NoMemory) = ⊥

@@ -119,3 +119,14 @@ impl<T: Drop> From<AllocFailed<T>> for PathError {
         PathError::NoMemory
     }
 }
+
+impl From<NoMemory> for HeadError {
+    ghost use Rattle.std.specs.Prelude.{◌≡◌};
+    ghost use Rattle.http_front.specs.declared.answers.HeadError.TheVariants as error;
+
+    ghost from_gives = { λ _ e. e ≡ error.NoMemory };
+
+    fn from(_error: NoMemory) -> HeadError {
+        HeadError::NoMemory
+    }
+}

@@ -1,10 +1,13 @@
 //! `Inbox`: the client's bytes that were read and not yet used.
-ghost use Rattle.std.specs.Prelude.{◌≡◌, ◌==◌, ◌+◌, ◌-◌, ◌≤◌, ◌<◌, [], length, drop, take, IfOk};
+ghost use Rattle.std.specs.Prelude.{◌≡◌, ◌==◌, ◌+◌, ◌-◌, ◌≤◌, ◌<◌, ℕ, List, [], ◌++◌, length, drop, take, IfOk, OnErr};
+ghost use Rattle.std.specs.List.{between};
+ghost use Rattle.jk_io.specs.Told.{prepended, IsEmpty, HasCause};
+ghost use Rattle.http_front.specs.Unread.{unread};
 
 use std::alloc::Global;
 use std::marker::Model;
 
-use jk_io::NoMemory;
+use jk_io::{IoError, NoMemory, Source};
 
 /// The most bytes of a head, with the empty lines before it.
 pub const MAX_HEAD_BYTES: usize = 16_384;
@@ -58,7 +61,8 @@ impl Inbox {
 
     /// The bytes, oldest first.
     pub fn as_slice(&self) -> &[u8]
-        ensures { result.now ≡ self.now }
+        ensures value { result.now ≡ self.now }
+        ensures few { length self.now ≤ 16384 }
     {
         &self.buffer[self.start..self.end]
     }
@@ -70,4 +74,56 @@ impl Inbox {
     {
         self.start += n;
     }
+
+    /// Reads what the client has into the room behind the bytes, and answers how many came; 0 is the end.
+    pub fn read_more<C: Source>(&mut self, client: &mut C) -> Result<usize, IoError>
+        requires { length self.old < 16384 }
+        ensures more { IfOk result (λ n. (came : List ℕ) × (length came ≡ n) × (self.new ≡ self.old ++ came)) }
+        ensures end { IfOk result (λ n. n ≡ 0 → IsEmpty (C.incoming client.new)) }
+        ensures unread { unread self.new (C.incoming client.new) ≡ unread self.old (C.incoming client.old) }
+        ensures err { OnErr result (self.new ≡ self.old) }
+        ensures same { (C.sent client.new ≡ C.sent client.old) × (C.beside client.new ≡ C.beside client.old) }
+        ensures cause { HasCause (C.faults client.old) (C.faults client.new) result }
+    {
+        let held = self.end - self.start;
+        self.start = make_room(&mut self.buffer, self.start, self.end);
+        self.end = self.start + held;
+        let count = read_behind(client, self.buffer.as_mut_slice(), self.end)?;
+        self.end += count;
+        Ok(count)
+    }
+}
+
+/// Moves the bytes from `start` to `end` to the front of the buffer where no room is behind them,
+/// or none of them is left, and answers where they begin.
+fn make_room(buffer: &mut Vec<u8>, start: usize, end: usize) -> usize
+    requires ordered { start ≤ end }
+    requires within { end ≤ length buffer.old.items }
+    ensures kept { between result (result + (end - start)) buffer.new.items ≡ between start end buffer.old.items }
+    ensures len { length buffer.new.items ≡ length buffer.old.items }
+    ensures room { end - start < length buffer.old.items → result + (end - start) < length buffer.old.items }
+    ensures fits { result + (end - start) ≤ length buffer.old.items }
+{
+    if start == end {
+        return 0;
+    }
+    if end < buffer.len() {
+        return start;
+    }
+    buffer.copy_within(start..end, 0);
+    0
+}
+
+/// Reads into the room of the buffer behind `end`.
+fn read_behind<C: Source>(client: &mut C, buffer: &mut [u8], end: usize) -> Result<usize, IoError>
+    requires { end < length buffer.old }
+    ensures more { IfOk result (λ n. (came : List ℕ) × (length came ≡ n) × (take (end + n) buffer.new ≡ take end buffer.old ++ came)
+        × (C.incoming client.old ≡ prepended came (C.incoming client.new))) }
+    ensures within { IfOk result (λ n. end + n ≤ length buffer.old) }
+    ensures end { IfOk result (λ n. n ≡ 0 → IsEmpty (C.incoming client.new)) }
+    ensures err { OnErr result ((take end buffer.new ≡ take end buffer.old) × (C.incoming client.new ≡ C.incoming client.old)) }
+    ensures same { (C.sent client.new ≡ C.sent client.old) × (C.beside client.new ≡ C.beside client.old) }
+    ensures cause { HasCause (C.faults client.old) (C.faults client.new) result }
+{
+    client.read(&mut buffer[end..])
 }

@@ -1,0 +1,80 @@
+-- A head that was made is one of the bytes that it was parsed from.
+use Rattle.std.proofs.Common.{◌≡◌, ◌≤◌, ◌<◌, ◌+◌, ℕ, Bool, List, ◌++◌, Option, Result, Ok, Err, length, take, drop, inl, inr, sym, ap, subst, ◌∙◌, arith, append_assoc, append-nil, length-append, length-drop, length-take, drop-drop}
+use Rattle.jk_io.specs.Told.{prepended}
+use Rattle.jk_io.proofs.ToldLaws.{prepended-prepended}
+use Rattle.http_front.specs.Answer.{UsesHead, IfRefused}
+use Rattle.http_front.specs.Refusal.{status_of}
+use Rattle.http_front.specs.Search.{IsWhole, IsPart}
+use Rattle.http_front.proofs.CutLemmas.{part-none}
+use Rattle.httparse.specs.Grammar.{RequestHead}
+use Rattle.http_front.specs.Cut.{header_lines}
+use Rattle.http_front.specs.Fields.{Line}
+use Rattle.http_front.specs.Judged.{head_of}
+use Rattle.http_front.specs.Makes.{Makes, MakesOf, IsFront}
+use Rattle.http_front.specs.Request.{Reads, Refuses, RefusesFront, EndsWithin, judged}
+use Rattle.http_front.specs.declared.answers.Form.{Form}
+use Rattle.http_front.specs.declared.answers.HeadError.{HeadError}
+use Rattle.http_front.specs.declared.answers.HeadError.TheVariants.{Refused, Truncated, Fault, NoMemory}
+use Rattle.http_front.specs.declared.head.Head.{Head}
+
+pub makes-front : (front : List ℕ) (parsed : RequestHead) (wanted : Result Head Form) (r : Result Head HeadError) → header_lines front ≤ 100 → Reads front parsed → wanted ≡ judged parsed → Makes wanted r → MakesOf front r
+makes-front front parsed wanted (Ok head) few reads same makes = record { few = few; parsed = parsed; reads = reads; is = sym same ∙ makes }
+makes-front front parsed wanted (Err (Refused status form)) few reads same makes = (makes.0, inr (inr (few, (parsed, reads, sym same ∙ makes.1))))
+makes-front front parsed wanted (Err Truncated) few reads same makes = makes
+makes-front front parsed wanted (Err Fault) few reads same makes = makes
+makes-front front parsed wanted (Err NoMemory) few reads same makes = tt
+
+-- the head of the bytes in hand is a head of the client's bytes, which are used up to its end
+pub uses-head : (inbox slice : List ℕ) (blank len : ℕ) (head : Head) (before incoming : Option (List ℕ)) → IsWhole inbox blank len → length inbox ≤ 16384 → slice ≡ take len (drop blank inbox)
+    → IsFront slice head → prepended inbox incoming ≡ before → UsesHead before (prepended (drop (blank + len) inbox) incoming) head
+uses-head inbox slice blank len head before incoming whole few is front unread =
+    let b = take blank inbox in
+    let f = take len (drop blank inbox) in
+    let P : List ℕ → Type 0 = λ l. IsFront l head in
+    let at = subst P is front in
+    let room : blank ≤ length inbox = omega (arith, whole.within) in
+    let rest : drop len (drop blank inbox) ≡ drop (blank + len) inbox = drop-drop len blank inbox in
+    let joined : inbox ≡ (b ++ f) ++ drop (blank + len) inbox =
+        whole.cut.whole ∙ sym (append_assoc b f (drop len (drop blank inbox))) ∙ ap (λ (l : List ℕ). (b ++ f) ++ l) rest in
+    record {
+      bytes = b ++ f;
+      is = record {
+        blank = b;
+        front = f;
+        parsed = at.parsed;
+        cut = record { whole = ap (λ (l : List ℕ). b ++ l) (sym (append-nil f)); empty = whole.cut.empty; begins = whole.cut.begins; ends = whole.cut.ends };
+        within = omega (arith, few, ap (λ (l : List ℕ). length l) joined, length-append (b ++ f) (drop (blank + len) inbox));
+        few = at.few;
+        reads = at.reads;
+        is = at.is;
+      };
+      used = sym unread ∙ ap (λ (l : List ℕ). prepended l incoming) joined ∙ sym (prepended-prepended (b ++ f) (drop (blank + len) inbox) incoming);
+    }
+
+-- what the head of the bytes in hand is refused for, the client's bytes are refused for
+pub refuses-head : (inbox slice : List ℕ) (blank len : ℕ) (e : HeadError) → IsWhole inbox blank len → length inbox ≤ 16384 → slice ≡ take len (drop blank inbox)
+    → MakesOf slice (Err e) → IfRefused (Err e) (λ status form. (status ≡ status_of form) × Refuses inbox form)
+refuses-head inbox slice blank len (Refused status form) whole few is makes =
+    let P : List ℕ → Type 0 = λ l. RefusesFront l form in
+    (makes.0, inl (record {
+      blank = take blank inbox;
+      front = take len (drop blank inbox);
+      rest = drop len (drop blank inbox);
+      cut = whole.cut;
+      within = omega (arith, few, whole.within, length-take blank inbox, length-take len (drop blank inbox), length-drop blank inbox);
+      refused = subst P is makes.1;
+    }))
+refuses-head inbox slice blank len Truncated whole few is makes = tt
+refuses-head inbox slice blank len Fault whole few is makes = tt
+refuses-head inbox slice blank len NoMemory whole few is makes = tt
+
+-- the bytes end within a head
+pub ends-made : (bytes : List ℕ) (blank searched : ℕ) → IsPart bytes blank searched → length bytes < 16384 → (blank ≡ length bytes → ⊥) → EndsWithin bytes
+ends-made bytes blank searched part short text = record {
+  short = short;
+  begun = λ full. text (sym part.empty ∙ full);
+  none = part-none bytes blank searched part;
+}
+
+pub same-head : (m n t u : List ℕ) (a b : Bool) (l k : List Line) → m ≡ n → t ≡ u → a ≡ b → l ≡ k → head_of m t a l ≡ head_of n u b k
+same-head m n t u a b l k p q r s = cc

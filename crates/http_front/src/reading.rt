@@ -1,0 +1,128 @@
+//! `read_head`: the next head of a client's bytes.
+ghost use Rattle.std.specs.Prelude.{◌≡◌, ◌≤◌, OnErr, IsErrOf};
+ghost use Rattle.jk_io.specs.Told.{IsEmpty, Rose};
+ghost use Rattle.http_front.specs.Answer.{UsesHead, UsesEnd, IfHead, OnEnd, IfRefused};
+ghost use Rattle.http_front.specs.Refusal.{status_of};
+ghost use Rattle.http_front.specs.Request.{Refuses, EndsWithin};
+ghost use Rattle.http_front.specs.Search.{IsSeen, IsLook, IsFound, HasEnded};
+ghost use Rattle.http_front.specs.Unread.{unread};
+
+use std::alloc::Global;
+
+use jk_io::{IoError, Link};
+
+use crate::answers::{Form, HeadError, HeadGot};
+use crate::cut::{Search, find_end, skip_empty_lines};
+use crate::inbox::{Inbox, MAX_HEAD_BYTES};
+use crate::judging::refused;
+use crate::parsing::head_from;
+
+/// What a look at the bytes in hand says.
+#[derive(Clone, Copy)]
+pub enum Look {
+    /// A head of `len` bytes stands behind `blank` bytes of empty lines.
+    Whole { blank: usize, len: usize },
+    /// No head has its end yet; so many bytes of empty lines, and so many behind them need no second look.
+    Part { blank: usize, searched: usize },
+}
+
+/// What stands at the front of a client's bytes.
+#[derive(Clone, Copy)]
+pub enum Found {
+    /// A head of `len` bytes stands behind `blank` bytes of empty lines.
+    Head { blank: usize, len: usize },
+    /// The bytes ended, all of them empty lines.
+    End,
+}
+
+/// Looks for a head in the bytes, from what an earlier look at fewer of them saw.
+fn look_at(bytes: &[u8], blank: usize, searched: usize) -> Look
+    requires { IsSeen bytes.now blank searched }
+    ensures { IsLook bytes.now result }
+{
+    let begin = skip_empty_lines(bytes, blank);
+    let from = if begin == blank { searched } else { 0 };
+    match find_end(&bytes[begin..], from) {
+        Search::Ends(len) => Look::Whole { blank: begin, len },
+        Search::Open(at) => Look::Part {
+            blank: begin,
+            searched: at,
+        },
+    }
+}
+
+/// Reads until a head has its end in the inbox, the bytes end, or the limit is reached.
+fn find_head<C: Link>(inbox: &mut Inbox, client: &mut C) -> Result<Found, HeadError>
+    ensures found { IsFound inbox.new result }
+    ensures ended { HasEnded result → IsEmpty (C.incoming client.new) }
+    ensures fault { IsErrOf result HeadError.Fault → Rose (C.faults client.old) (C.faults client.new) }
+    ensures unread { unread inbox.new (C.incoming client.new) ≡ unread inbox.old (C.incoming client.old) }
+    ensures same { (C.sent client.new ≡ C.sent client.old) × (C.beside client.new ≡ C.beside client.old) }
+    ensures no_fewer { C.faults client.old ≤ C.faults client.new }
+{
+    let mut blank = 0;
+    let mut searched = 0;
+    loop {
+        match look_at(inbox.as_slice(), blank, searched) {
+            Look::Whole { blank, len } => return Ok(Found::Head { blank, len }),
+            Look::Part {
+                blank: begin,
+                searched: at,
+            } => {
+                blank = begin;
+                searched = at;
+            }
+        }
+        if inbox.len() == MAX_HEAD_BYTES {
+            return Err(refused(Form::TooBig));
+        }
+        match inbox.read_more(client) {
+            Ok(0) => {
+                if blank == inbox.len() {
+                    return Ok(Found::End);
+                }
+                return Err(HeadError::Truncated);
+            }
+            Ok(_) => {}
+            Err(IoError::Failed) => return Err(HeadError::Fault),
+            Err(IoError::NoMemory) => return Err(HeadError::NoMemory),
+        }
+    }
+}
+
+/// Reads the next head. It takes from the client what it has, as far as the inbox has room, and
+/// leaves what follows the head in the inbox.
+pub fn read_head<C: Link>(
+    alloc: Global,
+    inbox: &mut Inbox,
+    client: &mut C,
+) -> Result<HeadGot, HeadError>
+    ensures head { IfHead result (UsesHead (unread inbox.old (C.incoming client.old)) (unread inbox.new (C.incoming client.new))) }
+    ensures end { OnEnd result (UsesEnd (unread inbox.old (C.incoming client.old)) (unread inbox.new (C.incoming client.new))) }
+
+    // After a refusal, a fault and want of memory nothing is used.
+    ensures refused { IfRefused result (λ status form. (status ≡ status_of form) × Refuses inbox.new form) }
+    ensures truncated { IsErrOf result HeadError.Truncated → EndsWithin inbox.new × IsEmpty (C.incoming client.new) }
+    ensures fault { IsErrOf result HeadError.Fault → Rose (C.faults client.old) (C.faults client.new) }
+    ensures err { OnErr result (unread inbox.new (C.incoming client.new) ≡ unread inbox.old (C.incoming client.old)) }
+
+    ensures same { (C.sent client.new ≡ C.sent client.old) × (C.beside client.new ≡ C.beside client.old) }
+    ensures no_fewer { C.faults client.old ≤ C.faults client.new }
+{
+    match find_head(inbox, client) {
+        Ok(Found::Head { blank, len }) => {
+            match head_from(alloc, &inbox.as_slice()[blank..blank + len]) {
+                Ok(head) => {
+                    inbox.skip(blank + len);
+                    Ok(HeadGot::Head(head))
+                }
+                Err(error) => Err(error),
+            }
+        }
+        Ok(Found::End) => {
+            inbox.skip(inbox.len());
+            Ok(HeadGot::End)
+        }
+        Err(error) => Err(error),
+    }
+}
