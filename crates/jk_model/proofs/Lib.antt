@@ -1,3 +1,5 @@
+pub mod BoundFacts
+pub mod ChoiceFacts
 pub mod ListFacts
 pub mod MemberFacts
 pub mod MultipleFacts

@@ -3,7 +3,7 @@ use Rattle.std.proofs.Common.{◌≡◌, ℕ, suc, zero, ◌+◌, ◌<◌, ◌�
 use Rattle.std.specs.List.{list_any, filter, count_by, slice_get}
 use Rattle.std.proofs.lemmas.List.{reverse-append, take_more, length-map, get_or-map}
 use Rattle.std.proofs.lemmas.List.Sums.{sum_by-cons}
-use Rattle.std.proofs.lemmas.List.Sorted.{list_any-IsPermutation, IsPermutation-reverse}
+use Rattle.std.proofs.lemmas.List.Sorted.{list_any-IsPermutation, IsPermutation-reverse, sum_by-IsPermutation}
 use Rattle.std.proofs.lemmas.Option.{slice_get_cases}
 use Rattle.std.proofs.lemmas.Bool.{cases_Bool}
 use Rattle.jk_model.specs.Journal.{each}
@@ -16,6 +16,9 @@ list_any-reverse p xs = sym (list_any-IsPermutation p xs (reverse xs) (IsPermuta
 
 pub count_by-cons : {A : Type 0} (p : A → Bool) (x : A) (xs : List A) → count_by p (x ∷ xs) ≡ cond (p x) 1 0 + count_by p xs
 count_by-cons p x xs = sum_by-cons (λ y. cond (p y) 1 0) x xs
+
+pub count_by-reverse : {A : Type 0} (p : A → Bool) (xs : List A) → count_by p (reverse xs) ≡ count_by p xs
+count_by-reverse p xs = sum_by-IsPermutation (λ x. cond (p x) 1 0) xs (reverse xs) (IsPermutation-reverse xs)
 
 pub filter-filter : {A : Type 0} (p q : A → Bool) (xs : List A) → filter p (filter q xs) ≡ filter (λ x. q x && p x) xs
 filter-filter p q [] = refl
@@ -58,4 +61,19 @@ filter_fewer {A} p q (x ∷ xs) stricter =
       | inl passes ↦ rw (passes, stricter x passes) (omega arith)
       | inr fails ↦
           rw fails (elim (q x) as (λ b. length (filter p xs) ≤ length (cond b (x ∷ filter q xs) (filter q xs))) [ true ↦ omega arith | false ↦ rest ])
+    ]
+
+-- What is found among the items that a test keeps is found among all.
+pub list_any-filtered : {A : Type 0} (p q : A → Bool) (xs : List A) → list_any p (filter q xs) ≡ true → list_any p xs ≡ true
+list_any-filtered p q [] found = found
+list_any-filtered {A} p q (x ∷ xs) found =
+    elim (cases_Bool (p x)) [
+      inl this ↦ rw this refl
+    | inr other ↦
+        let rest : list_any p (filter q xs) ≡ true =
+            elim (q x) as (λ b. list_any p (cond b (x ∷ filter q xs) (filter q xs)) ≡ true → list_any p (filter q xs) ≡ true) [
+              true ↦ λ h. rw other at h
+            | false ↦ λ h. h
+            ] found in
+        rw other (list_any-filtered p q xs rest)
     ]

@@ -28,11 +28,11 @@ use Rattle.jk_model.specs.declared.journal.How.TheVariants as how
 use Rattle.jk_model.specs.declared.journal.Outcome.{Outcome}
 use Rattle.jk_model.specs.declared.opening.Opening.{Opening}
 
-first_in : ℕ → Option (ℕ × How) → ℕ
+pub first_in : ℕ → Option (ℕ × How) → ℕ
 first_in d None = d
 first_in d (Some x) = x.0
 
-same_first : (i j : ℕ) (h k : How) (x y : Option (ℕ × How)) → x ≡ Some (i, h) → y ≡ Some (j, k) → x ≡ y → i ≡ j
+pub same_first : (i j : ℕ) (h k : How) (x y : Option (ℕ × How)) → x ≡ Some (i, h) → y ≡ Some (j, k) → x ≡ y → i ≡ j
 unfolding first_in
 same_first i j h k x y is_x is_y is = ap (first_in i) (sym is_x ∙ is ∙ is_y)
 
