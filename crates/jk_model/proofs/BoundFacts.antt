@@ -1,22 +1,21 @@
 -- Bounds that every legal history keeps: busy counts are within the pools, and a trial's ticket is out on its member.
-use Rattle.std.proofs.Common.{◌≡◌, ◌≢◌, ℕ, suc, zero, ◌+◌, ◌<◌, ◌≤◌, Bool, true, false, ◌&&◌, ◌||◌, not, cond, List, [], ◌∷◌, ◌⊎◌, length, reverse, Option, Some, None, refl, sym, subst, ap, ◌∙◌, inl, inr, eq-eqb, arith}
-use Rattle.std.specs.Prelude.{◌==◌, nat_le, slice_get, if◌then◌else◌}
-use Rattle.std.specs.List.{list_any, filter, count_by}
+use Rattle.std.proofs.Common.{◌≡◌, ◌≢◌, ℕ, ◌+◌, ◌<◌, ◌≤◌, Bool, true, false, ◌&&◌, ◌||◌, not, cond, List, [], ◌∷◌, ◌⊎◌, Some, None, refl, sym, subst, ap, ◌∙◌, inl, inr, eq-eqb, arith}
+use Rattle.std.specs.Prelude.{◌==◌, slice_get, if◌then◌else◌}
+use Rattle.std.specs.List.{list_any, count_by}
 use Rattle.std.proofs.lemmas.Bool.{and_parts, cases_Bool, eqb-true}
-use Rattle.std.proofs.lemmas.Bool.Decides.{nat_tests}
 use Rattle.std.proofs.lemmas.Map.Views.{any-filter_same}
 use Rattle.std.proofs.lemmas.Option.{slice_get_cases}
 use Rattle.jk_model.proofs.ChoiceFacts.{chosen_roomy}
 use Rattle.jk_model.proofs.ListFacts.{count_by-reverse, list_any-filtered, list_any-reverse}
 use Rattle.jk_model.proofs.OutFacts.{busy-chosen, busy-returned, out-chosen, out-kept, out-opening, out-returned}
-use Rattle.jk_model.specs.Choice.{IsChosen, IsPick}
+use Rattle.jk_model.specs.Choice.{IsPick}
 use Rattle.jk_model.specs.Journal.{chose, members, next_of}
-use Rattle.jk_model.specs.Legal.{IsAnswered, IsLegalPast, IsNext}
+use Rattle.jk_model.specs.Legal.{IsAnswered, IsLegalPast}
 use Rattle.jk_model.specs.Settings.{pool_in, pool_of}
 use Rattle.jk_model.specs.StateRows.{chosen_state, is_over, left_state, maintained_state, recovered_state, returned_state}
 use Rattle.jk_model.specs.States.{is_revived_in, state_after, state_commanded, state_in, state_of}
-use Rattle.jk_model.specs.Tickets.{Ticket, busy_of, gives_back, is_on, is_out, is_returned, made, out, ticket_in}
-use Rattle.jk_model.specs.Validity.{AreOpeningRows, IsOpening, IsOpeningRow, IsOpeningState}
+use Rattle.jk_model.specs.Tickets.{Ticket, busy_of, gives_back, is_on, is_returned, made, out, ticket_in}
+use Rattle.jk_model.specs.Validity.{IsOpening, IsOpeningRow, IsOpeningState}
 use Rattle.jk_model.specs.declared.ask.Ask.{Ask}
 use Rattle.jk_model.specs.declared.change.Command.{Command}
 use Rattle.jk_model.specs.declared.change.Command.TheVariants as command
@@ -46,14 +45,18 @@ pub record HasRow (o : Opening) (m : ℕ) : Type 0 where
 pub has_row : (o : Opening) (m : ℕ) → IsOpening o → m < members o → HasRow o m
 has_row o m valid lt =
     elim (slice_get_cases o.config.members m).1 [
-      inl found ↦
-        elim (slice_get_cases o.rows m).1 [
-          inl row ↦ record {
-            config = found.0; row = row.0; configured = found.2; shown = row.2;
-            opening = valid.rows.row m found.0 row.0 found.2 row.2 }
-        | inr past ↦ absurd (omega (arith, valid.rows.count))
-        ]
-    | inr past ↦ absurd (omega arith)
+      | inl found ↦
+          elim (slice_get_cases o.rows m).1 [
+            | inl row ↦ record {
+              config = found.0;
+              row = row.0;
+              configured = found.2;
+              shown = row.2;
+              opening = valid.rows.row m found.0 row.0 found.2 row.2;
+            }
+            | inr past ↦ absurd (omega (arith, valid.rows.count))
+          ]
+      | inr past ↦ absurd (omega arith)
     ]
 
 -- Busy counts before any entry.
@@ -72,23 +75,23 @@ busy_within_select : (v : ℕ) (o : Opening) (p : List Entry) (e : Entry) (ask :
     → busy_of o p m ≤ pool_of o m → busy_of o (e ∷ p) m ≤ pool_of o m
 busy_within_select v o p e ask (answer.Chosen j t h probe) m legal number calls answers pick before =
     let more : busy_of o (e ∷ p) m ≡ cond (j == m) 1 0 + busy_of o p m =
-        busy-chosen v o p e ask j t h probe m legal number calls answers in
+    busy-chosen v o p e ask j t h probe m legal number calls answers in
     let room : busy_of o p j < pool_of o j = (chosen_roomy v o p ask h j pick.0).room in
     elim (cases_Bool (j == m)) [
-      inl this ↦
-        let same : j ≡ m = eqb-true j m this in
-        let here : busy_of o p m < pool_of o m = subst (λ (k : ℕ). busy_of o p k < pool_of o k) same room in
-        let one : busy_of o (e ∷ p) m ≡ 1 + busy_of o p m = rw this at more in
-        omega arith
-    | inr other ↦ let none : busy_of o (e ∷ p) m ≡ 0 + busy_of o p m = rw other at more in omega arith
+      | inl this ↦
+          let same : j ≡ m = eqb-true j m this in
+          let here : busy_of o p m < pool_of o m = subst (λ (k : ℕ). busy_of o p k < pool_of o k) same room in
+          let one : busy_of o (e ∷ p) m ≡ 1 + busy_of o p m = rw this at more in
+          omega arith
+      | inr other ↦ let none : busy_of o (e ∷ p) m ≡ 0 + busy_of o p m = rw other at more in omega arith
     ]
 busy_within_select v o p e ask answer.NoMember m legal number calls answers pick before =
     let kept : busy_of o (e ∷ p) m ≡ busy_of o p m =
-        busy-kept o p e m (ap (ticket_in e.seq) answers) (λ t. ap (gives_back t) calls) in
+    busy-kept o p e m (ap (ticket_in e.seq) answers) (λ t. ap (gives_back t) calls) in
     omega arith
 busy_within_select v o p e ask answer.Forced m legal number calls answers pick before =
     let kept : busy_of o (e ∷ p) m ≡ busy_of o p m =
-        busy-kept o p e m (ap (ticket_in e.seq) answers) (λ t. ap (gives_back t) calls) in
+    busy-kept o p e m (ap (ticket_in e.seq) answers) (λ t. ap (gives_back t) calls) in
     omega arith
 busy_within_select v o p e ask answer.Done m legal number calls answers pick before = absurd pick
 
@@ -99,15 +102,15 @@ busy_within_call v o p e (call.Select ask) m legal number calls answered before 
     busy_within_select v o p e ask e.answer m legal number calls refl answered.0 before
 busy_within_call v o p e (call.Return t w) m legal number calls answered before =
     let less : busy_of o p m ≡ cond (is_on o p t m) 1 0 + busy_of o (e ∷ p) m =
-        busy-returned v o p e t w m legal (ap (ticket_in e.seq) answered.2) calls answered.0 in
+    busy-returned v o p e t w m legal (ap (ticket_in e.seq) answered.2) calls answered.0 in
     omega arith
 busy_within_call v o p e call.Maintain m legal number calls answered before =
     let kept : busy_of o (e ∷ p) m ≡ busy_of o p m =
-        busy-kept o p e m (ap (ticket_in e.seq) answered.1) (λ t. ap (gives_back t) calls) in
+    busy-kept o p e m (ap (ticket_in e.seq) answered.1) (λ t. ap (gives_back t) calls) in
     omega arith
 busy_within_call v o p e (call.Admin c) m legal number calls answered before =
     let kept : busy_of o (e ∷ p) m ≡ busy_of o p m =
-        busy-kept o p e m (ap (ticket_in e.seq) answered.1) (λ t. ap (gives_back t) calls) in
+    busy-kept o p e m (ap (ticket_in e.seq) answered.1) (λ t. ap (gives_back t) calls) in
     omega arith
 
 -- No member has more tickets out than its pool.
@@ -141,8 +144,8 @@ recovered_trial t (state.Probe u) is = is
 maintained_trial : (at recover t : ℕ) (s : MemberState) → maintained_state at recover s ≡ state.Probe t → s ≡ state.Probe t
 maintained_trial at recover t s is =
     elim (cases_Bool (is_over at recover s)) [
-      inl over ↦ let none : state.Recover ≡ state.Probe t = rw over at is in absurd cc
-    | inr not_over ↦ rw not_over at is
+      | inl over ↦ let none : state.Recover ≡ state.Probe t = rw over at is in absurd cc
+      | inr not_over ↦ rw not_over at is
     ]
 
 left_trial : (u t : ℕ) (s : MemberState) → left_state u s ≡ state.Probe t → (s ≡ state.Probe t) × (t ≢ u)
@@ -151,11 +154,11 @@ left_trial u t (state.Error at) is = absurd cc
 left_trial u t state.Recover is = absurd cc
 left_trial u t (state.Probe other) is =
     elim (cases_Bool (other == u)) [
-      inl this ↦ let none : state.Recover ≡ state.Probe t = rw this at is in absurd cc
-    | inr that ↦
-        let same : state.Probe other ≡ state.Probe t = rw that at is in
-        let equal : other ≡ t = cc in
-        (same, λ here. let clash : (other == u) ≡ true = eq-eqb other u (equal ∙ here) in cc)
+      | inl this ↦ let none : state.Recover ≡ state.Probe t = rw this at is in absurd cc
+      | inr that ↦
+          let same : state.Probe other ≡ state.Probe t = rw that at is in
+          let equal : other ≡ t = cc in
+          (same, λ here. let clash : (other == u) ≡ true = eq-eqb other u (equal ∙ here) in cc)
     ]
 
 returned_trial : (direct : Bool) (u at t : ℕ) (k : Kind) (s : MemberState) → returned_state direct u k at s ≡ state.Probe t
@@ -169,8 +172,8 @@ commanded_trial : (c : Command) (m t : ℕ) (s : MemberState) → state_commande
 commanded_trial (command.Update j change) m t s is = is
 commanded_trial (command.Reset j) m t s is =
     elim (cases_Bool (j == m)) [
-      inl this ↦ let none : state.Ok ≡ state.Probe t = rw this at is in absurd cc
-    | inr other ↦ rw other at is
+      | inl this ↦ let none : state.Ok ≡ state.Probe t = rw this at is in absurd cc
+      | inr other ↦ rw other at is
     ]
 commanded_trial (command.Recover j) m t s is =
     elim (cases_Bool (j == m)) [ inl this ↦ recovered_trial t s (rw this at is) | inr other ↦ rw other at is ]
@@ -180,14 +183,15 @@ kept_out : (o : Opening) (p : List Entry) (e : Entry) (u t m : ℕ) (w : Outcome
     → e.call ≡ call.Return u w → t ≢ u → is_out_on o p t m ≡ true → is_out_on o (e ∷ p) t m ≡ true
 kept_out o p e u t m w no_ticket_made calls other before =
     ap (λ (xs : List Ticket). list_any (λ x. (x.0 == t) && (x.1 == m)) xs) (out-returned o p e u w no_ticket_made calls)
-      ∙ any-filter_same (λ (x : Ticket). (x.0 == t) && (x.1 == m)) (λ (x : Ticket). not (x.0 == u)) true
-          (λ x here.
-            let this : x.0 ≡ t = eqb-true x.0 t (and_parts (x.0 == t) (x.1 == m) here).0 in
-            let apart : (x.0 == u) ≡ false = elim (cases_Bool (x.0 == u)) [
-                inl same ↦ absurd (other (sym this ∙ eqb-true x.0 u same))
-              | inr differs ↦ differs ] in
-            ap (λ (b : Bool). not b) apart) (out o p)
-      ∙ before
+    ∙ any-filter_same (λ (x : Ticket). (x.0 == t) && (x.1 == m)) (λ (x : Ticket). not (x.0 == u)) true
+    (λ x here.
+    let this : x.0 ≡ t = eqb-true x.0 t (and_parts (x.0 == t) (x.1 == m) here).0 in
+    let apart : (x.0 == u) ≡ false = elim (cases_Bool (x.0 == u)) [
+      | inl same ↦ absurd (other (sym this ∙ eqb-true x.0 u same))
+      | inr differs ↦ differs
+    ] in
+    ap (λ (b : Bool). not b) apart) (out o p)
+    ∙ before
 
 same_out_on : (o : Opening) (p : List Entry) (e : Entry) (t m : ℕ) → ticket_in e.seq e.answer ≡ None
     → ((u : ℕ) → gives_back u e.call ≡ false) → is_out_on o (e ∷ p) t m ≡ is_out_on o p t m
@@ -221,26 +225,26 @@ trial_select : (v : ℕ) (o : Opening) (p : List Entry) (e : Entry) (ask : Ask) 
     → e.seq ≡ next_of o p → e.call ≡ call.Select ask → e.answer ≡ a → IsPick v o p ask a
     → (state_of v o p m ≡ state.Probe t → is_out_on o p t m ≡ true)
     → (if chose m a then chosen_state e.seq (state_of v o p m)
-       else (if is_revived_in v (λ j. state_of v o p j) o p ask a m then recovered_state (state_of v o p m) else state_of v o p m)) ≡ state.Probe t
+    else (if is_revived_in v (λ j. state_of v o p j) o p ask a m then recovered_state (state_of v o p m) else state_of v o p m)) ≡ state.Probe t
     → is_out_on o (e ∷ p) t m ≡ true
 trial_select v o p e ask (answer.Chosen j u h probe) t m legal number calls answers pick before is =
     more_out_on v o p e ask j u h probe t m legal number calls answers
-      ∙ elim (select_trial (j == m) (is_revived_in v (λ k. state_of v o p k) o p ask (answer.Chosen j u h probe) m) e.seq t (state_of v o p m) is) [
-          inl new ↦ rw (eq-eqb e.seq t (sym new.1), new.0) refl
-        | inr old ↦ or_true (e.seq == t && j == m) (is_out_on o p t m) (before old)
-        ]
+    ∙ elim (select_trial (j == m) (is_revived_in v (λ k. state_of v o p k) o p ask (answer.Chosen j u h probe) m) e.seq t (state_of v o p m) is) [
+      | inl new ↦ rw (eq-eqb e.seq t (sym new.1), new.0) refl
+      | inr old ↦ or_true (e.seq == t && j == m) (is_out_on o p t m) (before old)
+    ]
 trial_select v o p e ask answer.NoMember t m legal number calls answers pick before is =
     same_out_on o p e t m (ap (ticket_in e.seq) answers) (λ u. ap (gives_back u) calls)
-      ∙ elim (select_trial false (is_revived_in v (λ k. state_of v o p k) o p ask answer.NoMember m) e.seq t (state_of v o p m) is) [
-          inl new ↦ absurd cc
-        | inr old ↦ before old
-        ]
+    ∙ elim (select_trial false (is_revived_in v (λ k. state_of v o p k) o p ask answer.NoMember m) e.seq t (state_of v o p m) is) [
+      | inl new ↦ absurd cc
+      | inr old ↦ before old
+    ]
 trial_select v o p e ask answer.Forced t m legal number calls answers pick before is =
     same_out_on o p e t m (ap (ticket_in e.seq) answers) (λ u. ap (gives_back u) calls)
-      ∙ elim (select_trial false (is_revived_in v (λ k. state_of v o p k) o p ask answer.Forced m) e.seq t (state_of v o p m) is) [
-          inl new ↦ absurd cc
-        | inr old ↦ before old
-        ]
+    ∙ elim (select_trial false (is_revived_in v (λ k. state_of v o p k) o p ask answer.Forced m) e.seq t (state_of v o p m) is) [
+      | inl new ↦ absurd cc
+      | inr old ↦ before old
+    ]
 trial_select v o p e ask answer.Done t m legal number calls answers pick before is = absurd pick
 
 trial_return : (v : ℕ) (o : Opening) (p : List Entry) (e : Entry) (u : ℕ) (w : Outcome) (t m : ℕ)
@@ -250,15 +254,15 @@ trial_return : (v : ℕ) (o : Opening) (p : List Entry) (e : Entry) (u : ℕ) (w
     → is_out_on o (e ∷ p) t m ≡ true
 trial_return v o p e u w t m calls no_ticket_made before is =
     elim (cases_Bool (is_on o p u m)) [
-      inl on ↦
-        let kept : (state_of v o p m ≡ state.Probe t) × (t ≢ u) =
-            returned_trial o.config.direct u e.at t w.kind (state_of v o p m) (rw on at is) in
-        kept_out o p e u t m w no_ticket_made calls kept.1 (before kept.0)
-    | inr off ↦
-        let old : state_of v o p m ≡ state.Probe t = rw off at is in
-        let here : is_out_on o p t m ≡ true = before old in
-        let made_on : is_on o p t m ≡ true = on_from_out o p t m here in
-        kept_out o p e u t m w no_ticket_made calls
+      | inl on ↦
+          let kept : (state_of v o p m ≡ state.Probe t) × (t ≢ u) =
+          returned_trial o.config.direct u e.at t w.kind (state_of v o p m) (rw on at is) in
+          kept_out o p e u t m w no_ticket_made calls kept.1 (before kept.0)
+      | inr off ↦
+          let old : state_of v o p m ≡ state.Probe t = rw off at is in
+          let here : is_out_on o p t m ≡ true = before old in
+          let made_on : is_on o p t m ≡ true = on_from_out o p t m here in
+          kept_out o p e u t m w no_ticket_made calls
           (λ same. let clash : is_on o p u m ≡ true = subst (λ (k : ℕ). is_on o p k m ≡ true) same made_on in cc) here
     ]
 
@@ -272,10 +276,10 @@ trial_call v o p e (call.Return u w) t m legal number calls answered before is =
     trial_return v o p e u w t m calls (ap (ticket_in e.seq) answered.2) before is
 trial_call v o p e call.Maintain t m legal number calls answered before is =
     same_out_on o p e t m (ap (ticket_in e.seq) answered.1) (λ u. ap (gives_back u) calls)
-      ∙ before (maintained_trial e.at o.config.recover t (state_of v o p m) is)
+    ∙ before (maintained_trial e.at o.config.recover t (state_of v o p m) is)
 trial_call v o p e (call.Admin c) t m legal number calls answered before is =
     same_out_on o p e t m (ap (ticket_in e.seq) answered.1) (λ u. ap (gives_back u) calls)
-      ∙ before (commanded_trial c m t (state_of v o p m) is)
+    ∙ before (commanded_trial c m t (state_of v o p m) is)
 
 -- A trial runs under a ticket that is out on its member.
 pub trial_out : (v : ℕ) (o : Opening) (p : List Entry) (m t : ℕ) → IsLegalPast v o p → m < members o
@@ -285,6 +289,6 @@ trial_out v o [] m t legal lt is =
     let shown : has.row.state ≡ state.Probe t = sym (ap state_in has.shown) ∙ is in
     let opening : IsOpeningState o m (state.Probe t) = subst (λ (s : MemberState). IsOpeningState o m s) shown has.opening.state in
     ap (λ (xs : List Ticket). list_any (λ x. (x.0 == t) && (x.1 == m)) xs) (out-opening o)
-      ∙ list_any-reverse (λ (x : Ticket). (x.0 == t) && (x.1 == m)) o.out ∙ opening
+    ∙ list_any-reverse (λ (x : Ticket). (x.0 == t) && (x.1 == m)) o.out ∙ opening
 trial_out v o (e ∷ p) m t legal lt is =
     trial_call v o p e e.call t m legal.1 legal.0.number refl legal.0.answered (trial_out v o p m t legal.1 lt) is

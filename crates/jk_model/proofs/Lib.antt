@@ -1,8 +1,12 @@
 pub mod BoundFacts
 pub mod ChoiceFacts
+pub mod ChoiceLaws
 pub mod ListFacts
+pub mod LoadLaws
 pub mod MemberFacts
 pub mod MultipleFacts
 pub mod OutFacts
 pub mod SettingFacts
+pub mod StateLaws
 pub mod TicketFacts
+pub mod TicketLaws

@@ -68,12 +68,12 @@ pub list_any-filtered : {A : Type 0} (p q : A → Bool) (xs : List A) → list_a
 list_any-filtered p q [] found = found
 list_any-filtered {A} p q (x ∷ xs) found =
     elim (cases_Bool (p x)) [
-      inl this ↦ rw this refl
-    | inr other ↦
-        let rest : list_any p (filter q xs) ≡ true =
-            elim (q x) as (λ b. list_any p (cond b (x ∷ filter q xs) (filter q xs)) ≡ true → list_any p (filter q xs) ≡ true) [
-              true ↦ λ h. rw other at h
+      | inl this ↦ rw this refl
+      | inr other ↦
+          let rest : list_any p (filter q xs) ≡ true =
+          elim (q x) as (λ b. list_any p (cond b (x ∷ filter q xs) (filter q xs)) ≡ true → list_any p (filter q xs) ≡ true) [
+            | true ↦ λ h. rw other at h
             | false ↦ λ h. h
-            ] found in
-        rw other (list_any-filtered p q xs rest)
+          ] found in
+          rw other (list_any-filtered p q xs rest)
     ]

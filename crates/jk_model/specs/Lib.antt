@@ -1,6 +1,7 @@
 pub mod Choice
 pub mod Free
 pub mod Journal
+pub mod Laws
 pub mod Legal
 pub mod Loads
 pub mod Multiple
@@ -12,4 +13,5 @@ pub mod Settings
 pub mod StateRows
 pub mod States
 pub mod Tickets
+pub mod Touches
 pub mod Validity

@@ -1,6 +1,6 @@
-ghost use Rattle.std.specs.Prelude.{◌≡◌, ℕ, ◌*◌, ◌<◌, ◌≤◌, ◌^◌, All, length};
+ghost use Rattle.std.specs.Prelude.{◌≡◌, ℕ, ◌*◌, ◌<◌, ◌≤◌, ◌^◌, All, IfSome, length};
 ghost use Rattle.std.specs.Option.{SomeIff};
-ghost use Rattle.std.specs.Int.{IsGcd};
+ghost use Rattle.std.specs.Int.{IsGcd, ◌∣◌};
 ghost use Rattle.jk_model.specs.Multiple.{multiple_of, multiple_of_two};
 ghost use Rattle.jk_model.specs.Ranges.{factors_in};
 
@@ -36,6 +36,10 @@ fn common_of_two(a: u32, b: u32) -> u64
 pub fn lcm_of(factors: &[u32]) -> Option<u32>
     requires { All (λ f. 0 < f) factors.now }
     ensures value { SomeIff result (multiple_of factors.now < 2 ^ 32) (multiple_of factors.now) }
+
+    // It is a multiple of each factor, and divides every other one.
+    ensures common { IfSome result (λ l. All (λ f. f ∣ l) factors.now) }
+    ensures least { IfSome result (λ l. (n : ℕ) → All (λ f. f ∣ n) factors.now → l ∣ n) }
 {
     let mut common: u32 = 1;
     for factor in factors {

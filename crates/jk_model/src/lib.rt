@@ -12,6 +12,7 @@ mod config;
 mod config_error;
 mod fail_list;
 mod journal;
+pub mod laws;
 mod lcm;
 mod load;
 mod member;

@@ -1,7 +1,8 @@
-use Rattle.std.proofs.Common.{◌≡◌, ◌≤◌, ◌<◌, ◌^◌, ℕ, take, get_or, arith, ◌+◌, ap, ◌∙◌, subst}
+use Rattle.std.specs.Int.{◌∣◌}
+use Rattle.std.proofs.Common.{All, sym, ◌≡◌, ◌≤◌, ◌<◌, ◌^◌, ℕ, take, get_or, arith, ◌+◌, ap, ◌∙◌, subst}
 use Rattle.std.proofs.lemmas.List.{take_all}
 use Rattle.jk_model.specs.Multiple.{multiple_of, multiple_of_two}
-use Rattle.jk_model.proofs.MultipleFacts.{multiple_of-next, le-multiple_of, le-multiple_of_two}
+use Rattle.jk_model.proofs.MultipleFacts.{multiple_of-each, multiple_of-least, multiple_of-next, le-multiple_of, le-multiple_of_two}
 use Rattle.jk_model.proofs.lcm.lcm_of.Goals as goal
 
 pub returns : goal.returns
@@ -9,7 +10,11 @@ returns c =
     let whole : c.loop-factor.common ≡ multiple_of c.args.factors.now =
     c.loop-factor.invariant.so_far
     ∙ ap multiple_of (take_all c.loop-factor.factor-index c.args.factors.now (omega arith)) in
-    record { value = (subst (λ (n : ℕ). n < 2 ^ 32) whole c.loop-factor.invariant.fits, whole) }
+    record {
+      value = (subst (λ (n : ℕ). n < 2 ^ 32) whole c.loop-factor.invariant.fits, whole);
+      common = subst (λ (l : ℕ). All (λ f. f ∣ l) c.args.factors.now) (sym whole) (multiple_of-each c.args.factors.now);
+      least = λ n all. subst (λ (l : ℕ). l ∣ n) (sym whole) (multiple_of-least n c.args.factors.now c.requires all);
+    }
 
 pub loop-factor-preserved : goal.loop-factor-preserved
 loop-factor-preserved c =
@@ -32,4 +37,4 @@ returns-then-wide-gt-MOST_COMMON c =
     c.loop-factor-test.true c.loop-factor.invariant.so_far c.common_of_two-wide.ensures.value in
     let most : multiple_of (take (c.loop-factor.factor-index + 1) c.args.factors.now) ≤ multiple_of c.args.factors.now =
     le-multiple_of c.args.factors.now (c.loop-factor.factor-index + 1) c.requires in
-    record { value = λ narrow. omega arith }
+    record { value = λ narrow. omega arith; common = tt; least = tt }
