@@ -42,7 +42,7 @@ head_takes bytes m fits e =
     let listed = headers_take reply_names true b.0.1 c.0.0 c.0.1 (Front-rest (SpellsText true b.0.0) a.0.1 b.0.1 text behind_status) c.1 in
     let last : listed.listed ++ c.0.1 ≡ listed.listed = ap (λ (r : List ℕ). listed.listed ++ r) d.1 ∙ append-nil listed.listed in
     let whole : bytes ≡ int a.0.0 ++ (text.front ++ (int (length c.0.0) ++ listed.listed)) =
-        status.0 ∙ ap (λ (r : List ℕ). int a.0.0 ++ r) (text.parts ∙ ap (λ (r : List ℕ). text.front ++ r) (listed.parts ∙ ap (λ (r : List ℕ). int (length c.0.0) ++ r) last)) in
+    status.0 ∙ ap (λ (r : List ℕ). int a.0.0 ++ r) (text.parts ∙ ap (λ (r : List ℕ). text.front ++ r) (listed.parts ∙ ap (λ (r : List ℕ). int (length c.0.0) ++ r) last)) in
     subst (λ (y : Message). Spells y (4 ∷ bytes)) d.0
     (record { message = text.front; headers = listed.listed; whole = ap (λ (r : List ℕ). 4 ∷ r) whole; status = status.1; text = text.spelled; few = listed.few; each = listed.spelled })
 
@@ -67,7 +67,7 @@ chunk_takes bytes m fits e =
           let len : length (take n after) ≡ n = omega (arith, length-take n after) in
           let d = chunk_end_takes (take n after) (drop n after) m w.1 in
           let front : bytes ≡ int (length (take n after)) ++ (take n after ++ drop n after) =
-              size.0 ∙ ap (λ (r : List ℕ). int n ++ r) (sym (take-append-drop n after)) ∙ ap (λ (k : ℕ). int k ++ (take n after ++ drop n after)) (sym len) in
+          size.0 ∙ ap (λ (r : List ℕ). int n ++ r) (sym (take-append-drop n after)) ∙ ap (λ (k : ℕ). int k ++ (take n after ++ drop n after)) (sym len) in
           subst (λ (y : Message). Spells y (3 ∷ bytes)) d.0
           (record {
             narrow = omega (arith, size.1, len);
@@ -143,7 +143,7 @@ unfolding head_at
 head_again parts payload s =
     let few = s.few in
     let listed : headers_at reply_names true (int (length parts.headers) ++ s.headers) ≡ Ok (parts.headers, []) =
-        ap (λ (r : List ℕ). headers_at reply_names true (int (length parts.headers) ++ r)) (sym (append-nil s.headers)) ∙ headers_again reply_names true parts.headers s.headers [] (omega arith) few s.each in
+    ap (λ (r : List ℕ). headers_at reply_names true (int (length parts.headers) ++ r)) (sym (append-nil s.headers)) ∙ headers_again reply_names true parts.headers s.headers [] (omega arith) few s.each in
     ap message_at s.whole ∙ rw (int_value parts.status, text_again true parts.message s.message (int (length parts.headers) ++ s.headers) s.text, listed) refl
 
 chunk_read : (bytes behind : List ℕ) → length bytes < 65536 → chunk_at (int (length bytes) ++ (bytes ++ behind)) ≡ chunk_end bytes behind

@@ -65,7 +65,7 @@ pub record IsSame (m n : Message) (x y : List ℕ) : Type 0 where
 pub packets-only : (most : ℕ) (m n : Message) (first other x y : List ℕ) → IsPacketOf most m first → IsPacketOf most n other → first ++ x ≡ other ++ y → IsSame m n x y
 packets-only most m n first other x y p q e =
     let one : packet true p.payload ++ x ≡ packet true q.payload ++ y =
-        ap (λ (b : List ℕ). b ++ x) (sym p.packet.whole) ∙ e ∙ ap (λ (b : List ℕ). b ++ y) q.packet.whole in
+    ap (λ (b : List ℕ). b ++ x) (sym p.packet.whole) ∙ e ∙ ap (λ (b : List ℕ). b ++ y) q.packet.whole in
     let same = packet-only true p.payload q.payload x y one in
     record { message = spells-only m n p.payload p.spelled (subst (Spells n) (sym same.0) q.spelled); behind = same.1 }
 
@@ -89,8 +89,8 @@ pub goes_on : (most : ℕ) (past all : List Message) (bytes more : List ℕ) →
 goes_on most past all bytes more s t =
     let on = reads-go_on most (turned past []) (turned all []) bytes more (reads most past bytes s) (reads most all (bytes ++ more) t) in
     let same : all ≡ turned on.0 [] ++ past =
-        sym (turned-back all) ∙ ap (λ (l : List Message). turned l []) on.1 ∙ turned-append (turned past []) on.0 []
-        ∙ ap (turned on.0) (turned-back past) ∙ turned-onto on.0 [] past in
+    sym (turned-back all) ∙ ap (λ (l : List Message). turned l []) on.1 ∙ turned-append (turned past []) on.0 []
+    ∙ ap (turned on.0) (turned-back past) ∙ turned-onto on.0 [] past in
     (turned on.0 [], same, spelled most on.0 more on.2)
 
 -- the bytes behind a reading are read behind it
@@ -190,7 +190,7 @@ no_packet-begins most bytes no_packet = λ more first behind message p e.
 pub too_long-begins : (most : ℕ) (bytes : List ℕ) → IsTooLong true most bytes → BeginsNoMessage most bytes
 too_long-begins most bytes t = λ more first behind message p e.
     let one : head true t.size ++ more ≡ head true (length p.payload) ++ (p.payload ++ behind) =
-        ap (λ (b : List ℕ). b ++ more) (sym t.head_alone) ∙ e ∙ ap (λ (b : List ℕ). b ++ behind) p.packet.whole ∙ append_assoc (head true (length p.payload)) p.payload behind in
+    ap (λ (b : List ℕ). b ++ more) (sym t.head_alone) ∙ e ∙ ap (λ (b : List ℕ). b ++ behind) p.packet.whole ∙ append_assoc (head true (length p.payload)) p.payload behind in
     let high : t.size / 256 ≡ length p.payload / 256 = cc in
     let low : t.size % 256 ≡ length p.payload % 256 = cc in
     let above = t.above in
@@ -201,7 +201,7 @@ too_long-begins most bytes t = λ more first behind message p e.
 pub unread-begins : (most : ℕ) (payload bytes : List ℕ) → IsPacket true most payload bytes → ((message : Message) → Spells message payload → ⊥) → BeginsNoMessage most bytes
 unread-begins most payload bytes whole none = λ more first behind message p e.
     let one : packet true payload ++ more ≡ packet true p.payload ++ behind =
-        ap (λ (b : List ℕ). b ++ more) (sym whole.whole) ∙ e ∙ ap (λ (b : List ℕ). b ++ behind) p.packet.whole in
+    ap (λ (b : List ℕ). b ++ more) (sym whole.whole) ∙ e ∙ ap (λ (b : List ℕ). b ++ behind) p.packet.whole in
     none message (subst (Spells message) (sym (packet-only true payload p.payload more behind one).0) p.spelled)
 
 -- ---- and then less than a packet
@@ -210,13 +210,13 @@ reads-part : (most : ℕ) (ms ns : List Message) (came other rest end : List ℕ
 reads-part most [] [] came other rest end r s p q e = (refl, ap (λ (b : List ℕ). b ++ rest) (sym r) ∙ e ∙ ap (λ (b : List ℕ). b ++ end) s)
 reads-part most [] (n ∷ ns) came other rest end r (first, behind, f, s, whole) p q e =
     absurd (part-none true most rest f.payload (behind ++ end) p
-      (ap (λ (b : List ℕ). b ++ rest) (sym r) ∙ e ∙ ap (λ (b : List ℕ). b ++ end) whole ∙ append_assoc first behind end ∙ ap (λ (b : List ℕ). b ++ (behind ++ end)) f.packet.whole))
+    (ap (λ (b : List ℕ). b ++ rest) (sym r) ∙ e ∙ ap (λ (b : List ℕ). b ++ end) whole ∙ append_assoc first behind end ∙ ap (λ (b : List ℕ). b ++ (behind ++ end)) f.packet.whole))
 reads-part most (m ∷ ms) [] came other rest end (first, behind, f, r, whole) s p q e =
     absurd (part-none true most end f.payload (behind ++ rest) q
-      (ap (λ (b : List ℕ). b ++ end) (sym s) ∙ sym e ∙ ap (λ (b : List ℕ). b ++ rest) whole ∙ append_assoc first behind rest ∙ ap (λ (b : List ℕ). b ++ (behind ++ rest)) f.packet.whole))
+    (ap (λ (b : List ℕ). b ++ end) (sym s) ∙ sym e ∙ ap (λ (b : List ℕ). b ++ rest) whole ∙ append_assoc first behind rest ∙ ap (λ (b : List ℕ). b ++ (behind ++ rest)) f.packet.whole))
 reads-part most (m ∷ ms) (n ∷ ns) came other rest end (first, behind, f, r, whole) (first', behind', g, s, whole') p q e =
     let one : first ++ (behind ++ rest) ≡ first' ++ (behind' ++ end) =
-        sym (append_assoc first behind rest) ∙ ap (λ (b : List ℕ). b ++ rest) (sym whole) ∙ e ∙ ap (λ (b : List ℕ). b ++ end) whole' ∙ append_assoc first' behind' end in
+    sym (append_assoc first behind rest) ∙ ap (λ (b : List ℕ). b ++ rest) (sym whole) ∙ e ∙ ap (λ (b : List ℕ). b ++ end) whole' ∙ append_assoc first' behind' end in
     let same = packets-only most m n first first' (behind ++ rest) (behind' ++ end) f g one in
     let on = reads-part most ms ns behind behind' rest end r s p q same.behind in
     (ap (λ (l : List Message). m ∷ l) on.0 ∙ ap (λ (x : Message). x ∷ ns) same.message, on.1)

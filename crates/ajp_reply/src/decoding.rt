@@ -6,12 +6,11 @@ ghost use Rattle.ajp_reply.specs.declared.message.Message.{Message};
 ghost use Rattle.ajp_reply.specs.Spelling.{Spells};
 ghost use Rattle.ajp_reply.specs.Reading.{message_at, head_at, chunk_at, end_at, ask_at, ended as ended_at};
 
-use std::alloc::Global;
-
 use crate::message::{Message, ReplyParts};
 use crate::names::REPLY_NAMES;
 use ajp_wire::{DecodeError, NotRead, RefusalKind, next_headers, next_int, next_text, refused};
 use jk_io::Bytes;
+use std::alloc::Global;
 
 /// The message that a payload spells.
 pub fn decode_reply(alloc: Global, payload: &[u8]) -> Result<Message, DecodeError>

@@ -4,8 +4,6 @@ ghost use Rattle.std.specs.Prelude.{◌≡◌, ◌+◌, ◌≤◌, ◌++◌, Lis
 ghost use Rattle.ajp_wire.specs.Packet.{packet};
 ghost use Rattle.ajp_reply.specs.Spelling.{payload_of, FieldsFit, Fits, IsMessage};
 
-use std::alloc::Global;
-
 use crate::message::{Message, ReplyParts};
 use crate::names::REPLY_NAMES;
 use ajp_wire::{
@@ -13,6 +11,7 @@ use ajp_wire::{
     put_headers, put_int, put_text,
 };
 use jk_io::{Bytes, NoMemory};
+use std::alloc::Global;
 
 /// The packet of a message, which has at most `most` bytes.
 pub fn encode_reply(alloc: Global, message: &Message, most: u32) -> Result<Bytes, EncodeError>

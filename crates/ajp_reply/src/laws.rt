@@ -10,8 +10,7 @@ ghost use Rattle.ajp_reply.specs.Stream.{IsPacketOf, Spelled, IsStream, IsFront,
 /// A payload spells one message at most.
 pub fn one_message_a_payload()
     ensures { (one other : Message) (payload : List ℕ) → Spells one payload → Spells other payload → one ≡ other }
-{
-}
+{}
 
 /// What is written for a message spells it, with coded names in their table's spelling, and spells no other one. So
 /// decoding what was encoded gives the message again.
@@ -19,16 +18,14 @@ pub fn written_messages_are_read_again()
     ensures spelled { (message : Message) → IsMessage message → FieldsFit message → Spells (as_read message) (payload_of message) }
     ensures alone { (message other : Message) → IsMessage message → FieldsFit message
         → Spells other (payload_of message) → other ≡ as_read message }
-{
-}
+{}
 
 /// Bytes are read in one way as messages, one after another, and then less than a whole packet.
 pub fn one_reading()
     ensures { (most : ℕ) (one other : List Message) (bytes rest_of_one rest_of_other : List ℕ)
         → IsStream most one bytes rest_of_one → IsStream most other bytes rest_of_other
         → (one ≡ other) × (rest_of_one ≡ rest_of_other) }
-{
-}
+{}
 
 /// What follows the messages of some bytes is read on behind them.
 pub fn readings_go_on()
@@ -36,8 +33,7 @@ pub fn readings_go_on()
         → Spelled most past bytes → Spelled most later more → Spelled most (later ++ past) (bytes ++ more) }
     ensures only { (most : ℕ) (past all : List Message) (bytes more : List ℕ) → Spelled most past bytes → Spelled most all (bytes ++ more)
         → (later : List Message) × (all ≡ later ++ past) × Spelled most later more }
-{
-}
+{}
 
 /// Which bytes are no reply, however they go on. `good` says which heads may stand in one.
 pub fn bytes_of_no_reply()
@@ -54,5 +50,4 @@ pub fn bytes_of_no_reply()
     ensures too_long { (most : ℕ) (bytes : List ℕ) → IsTooLong true most bytes → BeginsNoMessage most bytes }
     ensures unread { (most : ℕ) (payload bytes : List ℕ) → IsPacket true most payload bytes
         → ((message : Message) → Spells message payload → ⊥) → BeginsNoMessage most bytes }
-{
-}
+{}

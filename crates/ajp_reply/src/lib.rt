@@ -24,3 +24,5 @@ pub use laws::{
 pub use message::{Message, ReplyParts};
 pub use names::REPLY_NAMES;
 
+#[cfg(test)]
+mod tests;
