@@ -12,6 +12,10 @@ use Rattle.ajp_request.specs.Tables.{is_plain}
 use Rattle.ajp_request.specs.Spelling.{SpellsAttribute, SpellsAttributes}
 use Rattle.ajp_request.specs.Reading.{named_at, size_at, plain_at, attribute_at, attributes_at}
 
+-- a byte before what was joined
+behind_code : (code : ℕ) (bytes front rest : List ℕ) → bytes ≡ front ++ rest → (code ∷ bytes) ≡ (code ∷ front) ++ rest
+behind_code code bytes front rest p = ap (λ (r : List ℕ). code ∷ r) p
+
 named_takes : (bytes : List ℕ) (attribute : Attribute) (rest : List ℕ) → IsBytes bytes → named_at bytes ≡ Ok (attribute, rest) → Front (SpellsAttribute attribute) (10 ∷ bytes) rest
 unfolding named_at
 named_takes bytes attribute rest fits e =
@@ -24,7 +28,7 @@ named_takes bytes attribute rest fits e =
     let whole : Front (SpellsAttribute (Named name.0 value.0)) (10 ∷ bytes) value.1 = record {
       front = 10 ∷ (n.front ++ v.front);
       spelled = (n.front, v.front, n.spelled, v.spelled, refl);
-      parts = ap (λ (r : List ℕ). 10 ∷ r) (joined bytes n.front name.1 v.front value.1 n.parts v.parts);
+      parts = behind_code 10 bytes (n.front ++ v.front) value.1 (joined bytes n.front name.1 v.front value.1 n.parts v.parts);
     } in
     subst (λ (x : Attribute × List ℕ). Front (SpellsAttribute x.0) (10 ∷ bytes) x.1) (ok_is (Named name.0 value.0, value.1) (attribute, rest) b.2) whole
 
@@ -36,7 +40,7 @@ size_takes bytes attribute rest fits e =
     let whole : Front (SpellsAttribute (KeySize size.0)) (11 ∷ bytes) size.1 = record {
       front = 11 ∷ int size.0;
       spelled = (t.1, refl);
-      parts = ap (λ (r : List ℕ). 11 ∷ r) t.0;
+      parts = behind_code 11 bytes (int size.0) size.1 t.0;
     } in
     subst (λ (x : Attribute × List ℕ). Front (SpellsAttribute x.0) (11 ∷ bytes) x.1) (ok_is (KeySize size.0, size.1) (attribute, rest) a.2) whole
 
@@ -48,7 +52,7 @@ plain_takes code bytes attribute rest plain fits e =
     let whole : Front (SpellsAttribute (Plain code text.0)) (code ∷ bytes) text.1 = record {
       front = code ∷ t.front;
       spelled = (t.front, plain, t.spelled, refl);
-      parts = ap (λ (r : List ℕ). code ∷ r) t.parts;
+      parts = behind_code code bytes t.front text.1 t.parts;
     } in
     subst (λ (x : Attribute × List ℕ). Front (SpellsAttribute x.0) (code ∷ bytes) x.1) (ok_is (Plain code text.0, text.1) (attribute, rest) a.2) whole
 
@@ -58,14 +62,14 @@ attribute_takes code bytes attribute rest fits e =
     elim (chosen (eqb code 10) (named_at bytes) (cond (eqb code 11) (size_at bytes) (cond (is_plain code) (plain_at code bytes) (refused BadCode (code ∷ bytes)))) (Ok (attribute, rest)) e) [
       | inl w ↦ subst (λ (k : ℕ). Front (SpellsAttribute attribute) (k ∷ bytes) rest) (sym (eqb-true _ _ w.0)) (named_takes bytes attribute rest fits w.1)
       | inr w ↦
-        elim (chosen (eqb code 11) (size_at bytes) (cond (is_plain code) (plain_at code bytes) (refused BadCode (code ∷ bytes))) (Ok (attribute, rest)) w.1) [
-          | inl v ↦ subst (λ (k : ℕ). Front (SpellsAttribute attribute) (k ∷ bytes) rest) (sym (eqb-true _ _ v.0)) (size_takes bytes attribute rest fits v.1)
-          | inr v ↦
-            elim (chosen (is_plain code) (plain_at code bytes) (refused BadCode (code ∷ bytes)) (Ok (attribute, rest)) v.1) [
-              | inl u ↦ plain_takes code bytes attribute rest u.0 fits u.1
-              | inr u ↦ absurd cc
-            ]
-        ]
+          elim (chosen (eqb code 11) (size_at bytes) (cond (is_plain code) (plain_at code bytes) (refused BadCode (code ∷ bytes))) (Ok (attribute, rest)) w.1) [
+            | inl v ↦ subst (λ (k : ℕ). Front (SpellsAttribute attribute) (k ∷ bytes) rest) (sym (eqb-true _ _ v.0)) (size_takes bytes attribute rest fits v.1)
+            | inr v ↦
+                elim (chosen (is_plain code) (plain_at code bytes) (refused BadCode (code ∷ bytes)) (Ok (attribute, rest)) v.1) [
+                  | inl u ↦ plain_takes code bytes attribute rest u.0 fits u.1
+                  | inr u ↦ absurd cc
+                ]
+          ]
     ]
 
 -- a list of attributes and the FF that ends it
@@ -81,21 +85,21 @@ attributes_take (suc most) [] attributes rest fits e = absurd cc
 attributes_take (suc most) (code ∷ bytes) attributes rest fits e =
     elim (chosen (eqb code 255) (Ok ([], bytes)) (attribute_at code (code ∷ bytes) bytes >>= λ first. attributes_at most first.1 >>= λ others. Ok (first.0 ∷ others.0, others.1)) (Ok (attributes, rest)) e) [
       | inl w ↦
-        let whole : HasAttributes [] (code ∷ bytes) bytes = record { listed = []; spelled = refl; parts = ap (λ (k : ℕ). k ∷ bytes) (eqb-true _ _ w.0) } in
-        subst (λ (x : List Attribute × List ℕ). HasAttributes x.0 (code ∷ bytes) x.1) (ok_is ([], bytes) (attributes, rest) w.1) whole
+          let whole : HasAttributes [] (code ∷ bytes) bytes = record { listed = []; spelled = refl; parts = ap (λ (k : ℕ). k ∷ bytes) (eqb-true _ _ w.0) } in
+          subst (λ (x : List Attribute × List ℕ). HasAttributes x.0 (code ∷ bytes) x.1) (ok_is ([], bytes) (attributes, rest) w.1) whole
       | inr w ↦
-        let a = bind_ok (attribute_at code (code ∷ bytes) bytes) (λ first. attributes_at most first.1 >>= λ others. Ok (first.0 ∷ others.0, others.1)) (attributes, rest) w.1 in
-        let first = a.0 in
-        let b = bind_ok (attributes_at most first.1) (λ others. Ok (first.0 ∷ others.0, others.1)) (attributes, rest) a.2 in
-        let others = b.0 in
-        let f = attribute_takes code bytes first.0 first.1 (IsBytes-rest code bytes fits) a.1 in
-        let o = attributes_take most first.1 others.0 others.1 (Front-rest (SpellsAttribute first.0) (code ∷ bytes) first.1 f fits) b.1 in
-        let whole : HasAttributes (first.0 ∷ others.0) (code ∷ bytes) others.1 = record {
-          listed = f.front ++ o.listed;
-          spelled = (f.front, o.listed, f.spelled, o.spelled, refl);
-          parts = joined (code ∷ bytes) f.front first.1 o.listed (255 ∷ others.1) f.parts o.parts;
-        } in
-        subst (λ (x : List Attribute × List ℕ). HasAttributes x.0 (code ∷ bytes) x.1) (ok_is (first.0 ∷ others.0, others.1) (attributes, rest) b.2) whole
+          let a = bind_ok (attribute_at code (code ∷ bytes) bytes) (λ first. attributes_at most first.1 >>= λ others. Ok (first.0 ∷ others.0, others.1)) (attributes, rest) w.1 in
+          let first = a.0 in
+          let b = bind_ok (attributes_at most first.1) (λ others. Ok (first.0 ∷ others.0, others.1)) (attributes, rest) a.2 in
+          let others = b.0 in
+          let f = attribute_takes code bytes first.0 first.1 (IsBytes-rest code bytes fits) a.1 in
+          let o = attributes_take most first.1 others.0 others.1 (Front-rest (SpellsAttribute first.0) (code ∷ bytes) first.1 f fits) b.1 in
+          let whole : HasAttributes (first.0 ∷ others.0) (code ∷ bytes) others.1 = record {
+            listed = f.front ++ o.listed;
+            spelled = (f.front, o.listed, f.spelled, o.spelled, refl);
+            parts = joined (code ∷ bytes) f.front first.1 o.listed (255 ∷ others.1) f.parts o.parts;
+          } in
+          subst (λ (x : List Attribute × List ℕ). HasAttributes x.0 (code ∷ bytes) x.1) (ok_is (first.0 ∷ others.0, others.1) (attributes, rest) b.2) whole
     ]
 
 -- ---- what is spelled is read

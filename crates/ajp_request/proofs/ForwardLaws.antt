@@ -1,10 +1,14 @@
 -- Forward Requests: what is read is spelled so, and what is spelled so is read.
-use Rattle.std.proofs.Common.{◌≡◌, ℕ, zero, suc, ◌+◌, ◌<◌, ◌≤◌, Bool, true, false, cond, eqb, IsTrue, List, [], ◌∷◌, ◌++◌, length, Option, Some, None, Ok, Err, refl, sym, ap, subst, ◌∙◌, append_assoc, arith, ◌⊎◌, inl, inr}
+use Rattle.std.proofs.Common.{◌≡◌, ◌≢◌, ℕ, zero, suc, ◌+◌, ◌<◌, ◌≤◌, Bool, true, false, cond, eqb, IsTrue, List, [], ◌∷◌, ◌++◌, length, Option, Some, None, Ok, Err, refl, sym, ap, subst, ◌∙◌, append_assoc, arith, ◌⊎◌, inl, inr}
 use Rattle.std.proofs.lemmas.Bool.{eqb-true, ne_eqb}
 use Rattle.std.proofs.lemmas.List.{length-append}
 use Rattle.ajp_wire.specs.declared.refusal.RefusalKind.TheVariants.{BadCode}
+use Rattle.ajp_wire.specs.declared.refusal.NotRead.{NotRead}
+use Rattle.ajp_wire.specs.declared.refusal.NotRead.TheVariants as why
+use Rattle.ajp_wire.specs.declared.errors.DecodeError.{DecodeError}
+use Rattle.ajp_wire.specs.declared.errors.DecodeError.TheVariants as errors
 use Rattle.ajp_wire.specs.Spelling.{int, SpellsText, SpellsHeaders}
-use Rattle.ajp_wire.specs.Reading.{◌>>=◌, refused, byte_at, int_at, text_at, named_from, headers_at}
+use Rattle.ajp_wire.specs.Reading.{◌>>=◌, Halts, told, refused, byte_at, int_at, text_at, named_from, headers_at}
 use Rattle.ajp_wire.proofs.ReadingLaws.{IsBytes, IsBytes-rest, IsBytes-behind, Front, Front-rest, bind_ok, ok_is, chosen, int_value, int_takes, text_takes, text_again}
 use Rattle.ajp_wire.proofs.HeaderLaws.{HasHeaders, headers_take, headers_again}
 use Rattle.ajp_request.specs.declared.attribute.Attribute.{Attribute}
@@ -48,15 +52,15 @@ method_takes (byte ∷ bytes) method rest e =
     elim (chosen (eqb byte 255) (Ok (None, bytes)) (known_method (named_from 1 methods byte) (byte ∷ bytes) bytes) (Ok (method, rest)) e) [
       | inl w ↦ subst (λ (x : Option (List ℕ) × List ℕ). (b : ℕ) × ((byte ∷ bytes) ≡ b ∷ x.1) × TellsMethod b x.0) (ok_is (None, bytes) (method, rest) w.1) (byte, refl, eqb-true _ _ w.0)
       | inr w ↦
-        let k = known_takes (named_from 1 methods byte) byte (byte ∷ bytes) bytes method rest refl w.1 in
-        (byte, ap (λ (r : List ℕ). byte ∷ r) k.1, k.0)
+          let k = known_takes (named_from 1 methods byte) byte (byte ∷ bytes) bytes method rest refl w.1 in
+          (byte, ap (λ (r : List ℕ). byte ∷ r) k.1, k.0)
     ]
 
 no_such_code : (byte : ℕ) (name : List ℕ) → named_from 1 methods byte ≡ Some name → eqb byte 255 ≡ false
 no_such_code byte name is =
     ne_eqb byte 255 (λ (same : byte ≡ 255).
-      let none : named_from 1 methods byte ≡ None = ap (named_from 1 methods) same in
-      absurd cc)
+    let none : named_from 1 methods byte ≡ None = ap (named_from 1 methods) same in
+    absurd cc)
 
 method_again : (byte : ℕ) (method : Option (List ℕ)) (rest : List ℕ) → TellsMethod byte method → method_at (byte ∷ rest) ≡ Ok (method, rest)
 unfolding method_at
@@ -171,10 +175,13 @@ ends_again : (ends : Ends) (addr host server rest : List ℕ) → SpellsText fal
     → ends_at (addr ++ (host ++ (server ++ (int ends.port ++ (boolean ends.ssl ++ rest))))) ≡ Ok (ends, rest)
 unfolding ends_at
 ends_again ends addr host server rest spells_addr spells_host spells_server =
-    rw (text_again false ends.remote_addr addr (host ++ (server ++ (int ends.port ++ (boolean ends.ssl ++ rest)))) spells_addr,
+    rw (
+      text_again false ends.remote_addr addr (host ++ (server ++ (int ends.port ++ (boolean ends.ssl ++ rest)))) spells_addr,
       text_again true ends.remote_host host (server ++ (int ends.port ++ (boolean ends.ssl ++ rest))) spells_host,
       text_again false ends.server server (int ends.port ++ (boolean ends.ssl ++ rest)) spells_server,
-      int_value ends.port, boolean_again ends.ssl rest) refl
+      int_value ends.port,
+      boolean_again ends.ssl rest,
+    ) refl
 
 -- ---- attributes and the method
 
@@ -254,7 +261,7 @@ behind_line line bytes rest l fits =
 behind_ends : (ends : Ends) (bytes rest : List ℕ) → HasEnds ends bytes rest → IsBytes bytes → IsBytes rest
 behind_ends ends bytes rest n fits =
     IsBytes-behind (boolean ends.ssl) rest (IsBytes-behind (int ends.port) (boolean ends.ssl ++ rest) (IsBytes-behind n.server (int ends.port ++ (boolean ends.ssl ++ rest))
-      (IsBytes-behind n.remote_host (n.server ++ (int ends.port ++ (boolean ends.ssl ++ rest))) (IsBytes-behind n.remote_addr (n.remote_host ++ (n.server ++ (int ends.port ++ (boolean ends.ssl ++ rest)))) (subst IsBytes n.parts fits)))))
+    (IsBytes-behind n.remote_host (n.server ++ (int ends.port ++ (boolean ends.ssl ++ rest))) (IsBytes-behind n.remote_addr (n.remote_host ++ (n.server ++ (int ends.port ++ (boolean ends.ssl ++ rest)))) (subst IsBytes n.parts fits)))))
 
 behind_headers : (headers : List (List ℕ × List ℕ)) (bytes rest : List ℕ) → HasHeaders header_names false headers bytes rest → IsBytes bytes → IsBytes rest
 behind_headers headers bytes rest h fits = IsBytes-behind h.listed rest (IsBytes-behind (int (length headers)) (h.listed ++ rest) (subst IsBytes h.parts fits))
@@ -304,7 +311,7 @@ forward_takes payload forward fits e =
     let fits3 : IsBytes headers.1 = behind_headers headers.0 ends.1 headers.1 h fits2 in
     let t = tail_takes line.0.method headers.1 tail.0.0 tail.0.1 tail.1 fits3 d.1 in
     subst (λ (f : Forward). SpellsForward f payload) (ok_is (made_of line.0 ends.0 headers.0 tail.0) forward z.2)
-      (spelled_by line.0 ends.0 headers.0 tail.0.0 tail.0.1 payload line.1 ends.1 headers.1 tail.1 l n h t (ended_takes tail.1 z.0 z.1))
+    (spelled_by line.0 ends.0 headers.0 tail.0.0 tail.0.1 payload line.1 ends.1 headers.1 tail.1 l n h t (ended_takes tail.1 z.0 z.1))
 
 pub forward_again : (forward : Forward) (payload : List ℕ) → SpellsForward forward payload → forward_of payload ≡ Ok forward
 unfolding forward_of
@@ -315,7 +322,20 @@ forward_again forward payload s =
     let last : List ℕ = s.attributes ++ 255 ∷ [] in
     let listed : List ℕ = int (length forward.headers) ++ (s.headers ++ last) in
     let behind : List ℕ = s.remote_addr ++ (s.remote_host ++ (s.server ++ (int forward.port ++ (boolean forward.ssl ++ listed)))) in
-    ap forward_of s.whole ∙ rw (line_again line s.method_byte s.protocol s.uri behind t.1 s.spells_protocol s.spells_uri,
+    ap forward_of s.whole ∙ rw (
+      line_again line s.method_byte s.protocol s.uri behind t.1 s.spells_protocol s.spells_uri,
       ends_again ends s.remote_addr s.remote_host s.server listed s.spells_remote_addr s.spells_remote_host s.spells_server,
       headers_again header_names false forward.headers s.headers last (omega arith) s.few_headers s.spells_headers,
-      tail_again t.0 forward.method forward.attributes s.written s.attributes [] s.spells_attributes t.2) refl
+      tail_again t.0 forward.method forward.attributes s.written s.attributes [] s.spells_attributes t.2,
+    ) refl
+
+-- a payload spells one request at most
+pub spells_one : (one other : Forward) (payload : List ℕ) → SpellsForward one payload → SpellsForward other payload → one ≡ other
+spells_one one other payload first second = ok_is one other (sym (forward_again one payload first) ∙ forward_again other payload second)
+
+-- what is refused spells no request
+pub refused_spells_none : (stop : NotRead) (len : ℕ) (error : DecodeError) (payload : List ℕ) → Halts stop (forward_of payload) → error ≡ told len stop → error ≢ errors.NoMemory → (forward : Forward) → SpellsForward forward payload → ⊥
+refused_spells_none why.NoMemory len error payload halts is other forward s = other is
+refused_spells_none (why.Refused r) len error payload halts is other forward s =
+    let read : Err r ≡ Ok forward = sym halts ∙ forward_again forward payload s in
+    cc

@@ -3,3 +3,4 @@ pub mod StoredLaws
 pub mod AttributeLaws
 pub mod ForwardLaws
 pub mod WritingLaws
+pub mod SpelledLaws

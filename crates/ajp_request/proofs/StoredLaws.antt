@@ -61,8 +61,8 @@ plain_from_stored : (attribute : Attribute) (method : List ℕ) → stored_metho
 plain_from_stored (Plain code text) method e =
     elim (chosen (eqb code 13) (Some text) None (Some method) e) [
       | inl w ↦
-        let same_text : text ≡ method = some_is text method w.1 in
-        rw (eqb-true code 13 w.0, same_text) refl
+          let same_text : text ≡ method = some_is text method w.1 in
+          rw (eqb-true code 13 w.0, same_text) refl
       | inr w ↦ absurd cc
     ]
 plain_from_stored (Named name value) method e = absurd cc

@@ -55,11 +55,18 @@ unfolding payload_of
 length_payload f code is =
     let line : length (line_bytes f) ≡ 2 + length (string f.protocol) + length (string f.uri) = omega (arith, length-append (string f.protocol) (string f.uri)) in
     let ends : length (ends_bytes f) ≡ length (string f.remote_addr) + length (string f.remote_host) + length (string f.server) + 3 =
-        omega (arith, length-append (string f.remote_addr) (string f.remote_host ++ (string f.server ++ (int f.port ++ boolean f.ssl))), length-append (string f.remote_host) (string f.server ++ (int f.port ++ boolean f.ssl)), length-append (string f.server) (int f.port ++ boolean f.ssl), length_boolean f.ssl) in
+    omega (arith, length-append (string f.remote_addr) (string f.remote_host ++ (string f.server ++ (int f.port ++ boolean f.ssl))), length-append (string f.remote_host) (string f.server ++ (int f.port ++ boolean f.ssl)), length-append (string f.server) (int f.port ++ boolean f.ssl), length_boolean f.ssl) in
     let tail : length (tail_bytes f) ≡ method_size code f.method + length (attributes_bytes f.attributes) + 1 =
-        rw is (omega (arith, length-append (attributes_bytes (written_attributes (method_code f.method) f.method f.attributes)) (255 ∷ []), length_written (method_code f.method) f.method f.attributes)) in
-    omega (arith, line, ends, tail, length-append (line_bytes f) (ends_bytes f ++ (int (length f.headers) ++ (headers_bytes header_names f.headers ++ tail_bytes f))),
-      length-append (ends_bytes f) (int (length f.headers) ++ (headers_bytes header_names f.headers ++ tail_bytes f)), length-append (headers_bytes header_names f.headers) (tail_bytes f))
+    rw is (omega (arith, length-append (attributes_bytes (written_attributes (method_code f.method) f.method f.attributes)) (255 ∷ []), length_written (method_code f.method) f.method f.attributes)) in
+    omega (
+      arith,
+      line,
+      ends,
+      tail,
+      length-append (line_bytes f) (ends_bytes f ++ (int (length f.headers) ++ (headers_bytes header_names f.headers ++ tail_bytes f))),
+      length-append (ends_bytes f) (int (length f.headers) ++ (headers_bytes header_names f.headers ++ tail_bytes f)),
+      length-append (headers_bytes header_names f.headers) (tail_bytes f),
+    )
 
 -- attributes that are too many for a payload, under another name
 pub too_many : (xs ys : List Attribute) → xs ≡ ys → (AllByRecursion FitsAttribute xs → length (attributes_bytes xs) < 65536 → ⊥) → AllByRecursion FitsAttribute ys → length (attributes_bytes ys) < 65536 → ⊥

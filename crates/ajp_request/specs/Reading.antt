@@ -77,7 +77,7 @@ attributes_at zero bytes = refused Short []
 attributes_at (suc most) bytes = do
   code ← byte_at bytes
   if code.0 == 255 then Ok ([], code.1)
-    else (attribute_at code.0 bytes code.1 >>= λ first. attributes_at most first.1 >>= λ others. Ok (first.0 ∷ others.0, others.1))
+      else (attribute_at code.0 bytes code.1 >>= λ first. attributes_at most first.1 >>= λ others. Ok (first.0 ∷ others.0, others.1))
 
 -- the first method that an attribute stores, and the attributes without it
 abbrev pub without : Option (List ℕ) → Attribute → List Attribute → Option (List ℕ × List Attribute) → Option (List ℕ × List Attribute)
@@ -111,9 +111,17 @@ ended (b ∷ rest) = refused Extra (b ∷ rest)
 -- the value that has these parts
 abbrev pub made_of : RequestLine → Ends → List (List ℕ × List ℕ) → List ℕ × List Attribute → Forward
 made_of line ends headers tail = record {
-  method = tail.0; protocol = line.protocol; uri = line.uri;
-  remote_addr = ends.remote_addr; remote_host = ends.remote_host; server = ends.server; port = ends.port; ssl = ends.ssl;
-  headers = headers; attributes = tail.1 }
+  method = tail.0;
+  protocol = line.protocol;
+  uri = line.uri;
+  remote_addr = ends.remote_addr;
+  remote_host = ends.remote_host;
+  server = ends.server;
+  port = ends.port;
+  ssl = ends.ssl;
+  headers = headers;
+  attributes = tail.1;
+}
 
 -- What a payload reads as, whole.
 unfoldable pub forward_of : List ℕ → Result Forward Refusal

@@ -51,7 +51,6 @@ pub record SpellsForward (forward : Forward) (payload : List ℕ) : Type 0 where
   pub method_byte : ℕ
   pub written : List Attribute
   pub method : IsMethod method_byte written forward.method forward.attributes
-
   pub protocol : List ℕ
   pub uri : List ℕ
   pub remote_addr : List ℕ
@@ -68,7 +67,6 @@ pub record SpellsForward (forward : Forward) (payload : List ℕ) : Type 0 where
   pub few_headers : length forward.headers ≤ 100
   pub spells_headers : SpellsHeaders header_names false forward.headers headers
   pub spells_attributes : SpellsAttributes written attributes
-
   pub whole : payload ≡ 2 ∷ method_byte ∷ (protocol ++ (uri ++ (remote_addr ++ (remote_host ++ (server
-    ++ (int forward.port ++ (boolean forward.ssl ++ (int (length forward.headers) ++ (headers
-    ++ (attributes ++ 255 ∷ []))))))))))
+      ++ (int forward.port ++ (boolean forward.ssl ++ (int (length forward.headers) ++ (headers
+      ++ (attributes ++ 255 ∷ []))))))))))

@@ -58,11 +58,23 @@ static HEADER_NAMES: [&[u8]; 14] = [
 /// The codes of the attributes that hold one string.
 static PLAIN_CODES: [u8; 11] = [1, 2, 3, 4, 5, 6, 7, 8, 9, 0x0C, 0x0D];
 
+/// The code of a Forward Request among the messages to a container.
+pub const FORWARD_REQUEST: u8 = 2;
+
 /// The byte of a method that an attribute stores.
 pub const STORED: u8 = 0xFF;
 
+/// The code of an attribute with a name and a value.
+pub const NAMED: u8 = 0x0A;
+
+/// The code of the size of the SSL key.
+pub const KEY_SIZE: u8 = 0x0B;
+
 /// The code of the attribute that stores a method.
 pub const STORED_METHOD: u8 = 0x0D;
+
+/// What stands behind the attributes.
+pub const END: u8 = 0xFF;
 
 /// The table of the names of headers.
 pub fn header_names() -> &'static [&'static [u8]]

@@ -4,7 +4,7 @@ use Rattle.std.proofs.lemmas.Result.{err_from_is_err_and}
 use Rattle.ajp_wire.specs.Reading.{byte_at}
 use Rattle.ajp_request.specs.Reading.{attributes_at}
 use Rattle.ajp_request.proofs.AttributeLoop.{no_code, ends, no_attribute, goes_on, runs_out}
-use Rattle.ajp_request.proofs.decoding.next_attributes.Goals as goal
+use Rattle.ajp_request.proofs.attribute_reading.next_attributes.Goals as goal
 
 pub returns-in_err-code : goal.returns-in_err-code
 returns-in_err-code c =

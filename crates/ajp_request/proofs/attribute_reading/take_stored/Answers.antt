@@ -1,7 +1,7 @@
 use Rattle.std.proofs.Common.{◌≡◌, ◌∙◌, sym, ap, subst, arith, length, take}
 use Rattle.ajp_request.specs.Reading.{stored_in}
 use Rattle.ajp_request.proofs.StoredLaws.{StoreNone, passes, is_found, is_nowhere}
-use Rattle.ajp_request.proofs.decoding.take_stored.Goals as goal
+use Rattle.ajp_request.proofs.attribute_reading.take_stored.Goals as goal
 
 pub returns-then-is_stored : goal.returns-then-is_stored
 returns-then-is_stored c =
