@@ -7,11 +7,11 @@ use Rattle.jk_model.specs.declared.state.MemberState.{MemberState}
 use Rattle.jk_model.specs.declared.state.MemberState.TheVariants as state
 
 -- Whether member m is in a set of an ask.
-abbrev pub is_in : ℕ → ℕ → Bool
+abbrev pub is_in : (set m : ℕ) → Bool
 is_in set m = bit_at set m == 1
 
 -- What a member counts as, where the ask's mount disables or stops it.
-abbrev pub counts_as : Activation → Bool → Bool → Activation
+abbrev pub counts_as : Activation → (disabled stopped : Bool) → Activation
 counts_as activation.Active disabled stopped =
     (if stopped then activation.Stopped else (if disabled then activation.Disabled else activation.Active))
 counts_as activation.Disabled disabled stopped = (if stopped then activation.Stopped else activation.Disabled)
@@ -41,17 +41,17 @@ is_error state.Recover = false
 is_error (state.Probe t) = false
 
 -- It wasn't tried, and its pool has room.
-abbrev pub has_room : Bool → ℕ → ℕ → Bool
+abbrev pub has_room : (tried : Bool) (busy pool : ℕ) → Bool
 has_room tried busy pool = not tried && nat_lt busy pool
 
-abbrev pub is_free_by : MemberState → Bool → ℕ → ℕ → Bool
+abbrev pub is_free_by : MemberState → (tried : Bool) (busy pool : ℕ) → Bool
 is_free_by s tried busy pool = is_ready s && has_room tried busy pool
 
-abbrev pub is_usable_by : MemberState → Activation → Bool → ℕ → ℕ → Bool
+abbrev pub is_usable_by : MemberState → (counted : Activation) (tried : Bool) (busy pool : ℕ) → Bool
 is_usable_by s counted tried busy pool = is_free_by s tried busy pool && is_active counted
 
-abbrev pub serves_by : MemberState → Activation → Bool → ℕ → ℕ → Bool
+abbrev pub serves_by : MemberState → (counted : Activation) (tried : Bool) (busy pool : ℕ) → Bool
 serves_by s counted tried busy pool = is_free_by s tried busy pool && not (is_stopped counted)
 
-abbrev pub is_revivable_by : MemberState → Activation → Bool → ℕ → ℕ → Bool
+abbrev pub is_revivable_by : MemberState → (counted : Activation) (tried : Bool) (busy pool : ℕ) → Bool
 is_revivable_by s counted tried busy pool = (is_error s && has_room tried busy pool) && is_active counted

@@ -29,14 +29,14 @@ chosen_in answer.Forced = None
 chosen_in answer.Done = None
 
 -- Whether an answer chose member m.
-abbrev pub chose : ℕ → Answer → Bool
+abbrev pub chose : (m : ℕ) → Answer → Bool
 chose m (answer.Chosen j t how probe) = j == m
 chose m answer.NoMember = false
 chose m answer.Forced = false
 chose m answer.Done = false
 
 -- The newer of two choices.
-abbrev pub newest_chosen : Option ℕ → Option ℕ → Option ℕ
+abbrev pub newest_chosen : (new former : Option ℕ) → Option ℕ
 newest_chosen None former = former
 newest_chosen (Some m) former = Some m
 
@@ -57,11 +57,11 @@ maintained_of o [] = o.maintained
 maintained_of o (e ∷ p) = if is_maintain e.call then e.at else maintained_of o p
 
 -- The values of f at 0 to n - 1, in order.
-abbrev pub each : {A : Type 0} → ℕ → (ℕ → A) → List A
+abbrev pub each : {A : Type 0} → (n : ℕ) (f : ℕ → A) → List A
 each zero f = []
 each (suc n) f = each n f ++ f n ∷ []
 
 -- Whether one of the first n numbers passes the test.
-abbrev pub any_of : ℕ → (ℕ → Bool) → Bool
+abbrev pub any_of : (n : ℕ) (test : ℕ → Bool) → Bool
 any_of zero test = false
 any_of (suc n) test = any_of n test || test n

@@ -6,7 +6,7 @@ use Rattle.jk_model.specs.declared.config_error.ConfigError.{ConfigError}
 use Rattle.jk_model.specs.declared.config_error.ConfigError.TheVariants as Refusal
 
 -- A redirect of member i of n leads to another member.
-abbrev pub redirects_within : ℕ → ℕ → Option ℕ → Bool
+abbrev pub redirects_within : (n i : ℕ) → Option ℕ → Bool
 redirects_within n i None = true
 redirects_within n i (Some t) = nat_lt t n && not (t == i)
 
@@ -44,7 +44,7 @@ pub record IsFirstBad (ms : List MemberConfig) (i : ℕ) : Type 0 where
   pub first : (j : ℕ) (m : MemberConfig) → j < i → slice_get ms j ≡ Some m → IsInRange (length ms) j m
 
 -- When a configuration is refused, each refusal after those before it.
-abbrev pub IsRefused : ℕ → ℕ → List MemberConfig → ConfigError → Type 0
+abbrev pub IsRefused : (maintain recover : ℕ) → List MemberConfig → ConfigError → Type 0
 IsRefused maintain recover ms Refusal.NoMembers = length ms ≡ 0
 IsRefused maintain recover ms Refusal.TooMany = 64 < length ms
 IsRefused maintain recover ms (Refusal.BadMember index) = IsCount (length ms) × IsFirstBad ms index

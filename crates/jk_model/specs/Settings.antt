@@ -27,7 +27,7 @@ abbrev pub setting_in : Option MemberConfig → Setting
 setting_in (Some m) = record { factor = m.factor; distance = m.distance; activation = m.activation; redirect = m.redirect }
 setting_in None = record { factor = 0; distance = 0; activation = activation.Stopped; redirect = None }
 
-abbrev pub redirect_after : Redirect → Option ℕ → Option ℕ
+abbrev pub redirect_after : Redirect → (former : Option ℕ) → Option ℕ
 redirect_after redirect.Keep former = former
 redirect_after redirect.None former = None
 redirect_after (redirect.To t) former = Some t
@@ -42,32 +42,32 @@ setting_after change s = record {
 }
 
 -- What a call makes of the setting of member m.
-abbrev pub commanded : ℕ → Command → Setting → Setting
+abbrev pub commanded : (m : ℕ) → Command → Setting → Setting
 commanded m (command.Update j change) s = if j == m then setting_after change s else s
 commanded m (command.Reset j) s = s
 commanded m (command.Recover j) s = s
 
-abbrev pub called : ℕ → Call → Setting → Setting
+abbrev pub called : (m : ℕ) → Call → Setting → Setting
 called m (call.Select ask) s = s
 called m (call.Return t w) s = s
 called m call.Maintain s = s
 called m (call.Admin c) s = commanded m c s
 
 -- The setting of member m after a history.
-abbrev pub setting_of : Opening → List Entry → ℕ → Setting
+abbrev pub setting_of : Opening → List Entry → (m : ℕ) → Setting
 setting_of o [] m = setting_in (slice_get o.config.members m)
 setting_of o (e ∷ p) m = called m e.call (setting_of o p m)
 
-abbrev pub factor_of : Opening → List Entry → ℕ → ℕ
+abbrev pub factor_of : Opening → List Entry → (m : ℕ) → ℕ
 factor_of o p m = (setting_of o p m).factor
 
-abbrev pub distance_of : Opening → List Entry → ℕ → ℕ
+abbrev pub distance_of : Opening → List Entry → (m : ℕ) → ℕ
 distance_of o p m = (setting_of o p m).distance
 
-abbrev pub activation_of : Opening → List Entry → ℕ → Activation
+abbrev pub activation_of : Opening → List Entry → (m : ℕ) → Activation
 activation_of o p m = (setting_of o p m).activation
 
-abbrev pub redirect_of : Opening → List Entry → ℕ → Option ℕ
+abbrev pub redirect_of : Opening → List Entry → (m : ℕ) → Option ℕ
 redirect_of o p m = (setting_of o p m).redirect
 
 -- The name and the pool size of member m, which nothing changes.
@@ -94,5 +94,5 @@ abbrev pub common_after : Opening → List Entry → Call → ℕ
 common_after o p c = multiple_of (each (members o) (λ m. (called m c (setting_of o p m)).factor))
 
 -- What one choice of member m adds to its load.
-abbrev pub unit_of : Opening → List Entry → ℕ → ℕ
+abbrev pub unit_of : Opening → List Entry → (m : ℕ) → ℕ
 unit_of o p m = common_of o p / factor_of o p m

@@ -25,11 +25,11 @@ abbrev pub counted_of : Opening → List Entry → Ask → ℕ → Activation
 counted_of o p ask m = counts_as (activation_of o p m) (is_in ask.disabled m) (is_in ask.stopped m)
 
 -- The tests of a member after p, where the members' states are those of `states`.
-abbrev pub is_usable_in : (ℕ → MemberState) → Opening → List Entry → Ask → ℕ → Bool
+abbrev pub is_usable_in : (states : ℕ → MemberState) → Opening → List Entry → Ask → (m : ℕ) → Bool
 is_usable_in states o p ask m =
     is_usable_by (states m) (counted_of o p ask m) (is_in ask.tried m) (busy_of o p m) (pool_of o m)
 
-abbrev pub is_revivable_in : (ℕ → MemberState) → Opening → List Entry → Ask → ℕ → Bool
+abbrev pub is_revivable_in : (states : ℕ → MemberState) → Opening → List Entry → Ask → (m : ℕ) → Bool
 is_revivable_in states o p ask m =
     is_revivable_by (states m) (counted_of o p ask m) (is_in ask.tried m) (busy_of o p m) (pool_of o m)
 
@@ -42,18 +42,18 @@ is_balanced answer.Forced = false
 is_balanced answer.Done = false
 
 -- Whether a Select revives member m: under rules 2, by a balanced choice where no member is usable.
-abbrev pub is_revived_in : ℕ → (ℕ → MemberState) → Opening → List Entry → Ask → Answer → ℕ → Bool
+abbrev pub is_revived_in : (v : ℕ) (states : ℕ → MemberState) → Opening → List Entry → Ask → Answer → (m : ℕ) → Bool
 is_revived_in v states o p ask a m =
     (v == 2) && (is_balanced a && (not (any_of (members o) (λ j. is_usable_in states o p ask j)) && is_revivable_in states o p ask m))
 
 -- What a command makes of the state of member m.
-abbrev pub state_commanded : Command → ℕ → MemberState → MemberState
+abbrev pub state_commanded : Command → (m : ℕ) → MemberState → MemberState
 state_commanded (command.Update j change) m s = s
 state_commanded (command.Reset j) m s = (if j == m then state.Ok else s)
 state_commanded (command.Recover j) m s = (if j == m then recovered_state s else s)
 
 -- What an entry makes of the state of member m, by its call.
-abbrev pub state_after : ℕ → Opening → List Entry → Entry → Call → (ℕ → MemberState) → ℕ → MemberState
+abbrev pub state_after : (v : ℕ) → Opening → List Entry → Entry → Call → (states : ℕ → MemberState) (m : ℕ) → MemberState
 state_after v o p e (call.Select ask) states m =
     (if chose m e.answer then chosen_state e.seq (states m)
     else (if is_revived_in v states o p ask e.answer m then recovered_state (states m) else states m))
@@ -67,6 +67,6 @@ state_in (Some r) = r.state
 state_in None = state.Ok
 
 -- The state of member m after a history, under rules v.
-abbrev pub state_of : ℕ → Opening → List Entry → ℕ → MemberState
+abbrev pub state_of : (v : ℕ) → Opening → List Entry → (m : ℕ) → MemberState
 state_of v o [] m = state_in (slice_get o.rows m)
 state_of v o (e ∷ p) m = state_after v o p e e.call (λ j. state_of v o p j) m

@@ -1,3 +1,5 @@
+use jk_io::NoMemory;
+use std::alloc::AllocError;
 use thiserror::Error;
 
 /// The numbers of a Book that has no number left.
@@ -10,7 +12,7 @@ pub struct FullMark {
 }
 
 /// Why an entry isn't added; `M` tells where there was no number left.
-#[derive(Debug, Drop, Error)]
+#[derive(Debug, PartialEq, Eq, Drop, Error)]
 pub enum RoomError<M> {
     #[error("the journal has no number left")]
     Full(M),
@@ -19,7 +21,7 @@ pub enum RoomError<M> {
 }
 
 /// Why a command isn't done; `M` tells which Book refused it.
-#[derive(Debug, Drop, Error)]
+#[derive(Debug, PartialEq, Eq, Drop, Error)]
 pub enum AdminError<M> {
     #[error("there is no such member")]
     UnknownMember,
@@ -40,4 +42,48 @@ pub struct Stray {
     pub ticket: u64,
     /// The number of the kept entry that returned it, if there is one.
     pub returned_at: Option<u64>,
+}
+
+impl<M> From<NoMemory> for RoomError<M> {
+    ghost use Rattle.std.specs.Prelude.{◌≡◌};
+    ghost use Rattle.jk_model.specs.declared.refusal.RoomError.TheVariants as Room;
+
+    ghost from_gives = { λ _ e. e ≡ Room.NoMemory };
+
+    fn from(_error: NoMemory) -> RoomError<M> {
+        RoomError::NoMemory
+    }
+}
+
+impl<M> From<AllocError> for RoomError<M> {
+    ghost use Rattle.std.specs.Prelude.{◌≡◌};
+    ghost use Rattle.jk_model.specs.declared.refusal.RoomError.TheVariants as Room;
+
+    ghost from_gives = { λ _ e. e ≡ Room.NoMemory };
+
+    fn from(_error: AllocError) -> RoomError<M> {
+        RoomError::NoMemory
+    }
+}
+
+impl<M> From<NoMemory> for AdminError<M> {
+    ghost use Rattle.std.specs.Prelude.{◌≡◌};
+    ghost use Rattle.jk_model.specs.declared.refusal.AdminError.TheVariants as Admin;
+
+    ghost from_gives = { λ _ e. e ≡ Admin.NoMemory };
+
+    fn from(_error: NoMemory) -> AdminError<M> {
+        AdminError::NoMemory
+    }
+}
+
+impl<M> From<AllocError> for AdminError<M> {
+    ghost use Rattle.std.specs.Prelude.{◌≡◌};
+    ghost use Rattle.jk_model.specs.declared.refusal.AdminError.TheVariants as Admin;
+
+    ghost from_gives = { λ _ e. e ≡ Admin.NoMemory };
+
+    fn from(_error: AllocError) -> AdminError<M> {
+        AdminError::NoMemory
+    }
 }
