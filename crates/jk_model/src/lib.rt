@@ -21,6 +21,8 @@ mod refusal;
 mod segment;
 mod served;
 mod state;
+#[cfg(test)]
+mod tests;
 mod validity;
 mod view;
 
