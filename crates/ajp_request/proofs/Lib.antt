@@ -4,3 +4,4 @@ pub mod AttributeLaws
 pub mod ForwardLaws
 pub mod WritingLaws
 pub mod SpelledLaws
+pub mod ReadableLaws

@@ -3,6 +3,7 @@ ghost use Rattle.std.specs.Prelude.{◌≡◌, ◌≢◌, length, IfOk, IfErr};
 ghost use Rattle.ajp_wire.specs.Reading.{Gives, Tells};
 ghost use Rattle.ajp_request.specs.declared.forward.Forward.{Forward as AnyForward};
 ghost use Rattle.ajp_request.specs.Spelling.{SpellsForward};
+ghost use Rattle.ajp_request.specs.Writing.{IsForward};
 ghost use Rattle.ajp_request.specs.Reading.{boolean_at, method_at, line_at, ends_at, ended as no_more, forward_of};
 
 use crate::attribute_reading::next_tail;
@@ -19,6 +20,9 @@ pub fn decode_forward(alloc: Global, payload: &[u8]) -> Result<Forward, DecodeEr
     ensures found { IfOk result (λ forward. SpellsForward forward payload.now) }
     ensures none { IfErr result (λ error. error ≢ DecodeError.NoMemory
         → (forward : AnyForward) → SpellsForward forward payload.now → ⊥) }
+
+    // What was read can be written again.
+    ensures written { IfOk result IsForward }
 
     // The kind of a refusal, and the first place that can't be read.
     ensures exact { Tells (length payload.now) result (forward_of payload.now) }
