@@ -21,7 +21,7 @@ pub Skipped-more : (xs : List ℕ) (i : ℕ) → i < length xs → begins_empty 
 Skipped-more xs i within empty skipped more =
     let split = drop_more xs i 0 within in
     let step : blank_len (drop i xs ++ more) ≡ 1 + blank_len (drop (i + 1) xs ++ more) =
-        ap (λ (l : List ℕ). blank_len (l ++ more)) split ∙ blank_len-cons (get_or xs i 0) (drop (i + 1) xs ++ more) (ap (λ (l : List ℕ). begins_empty (l ++ more)) (sym split) ∙ begins_empty-append (drop i xs) more empty) in
+    ap (λ (l : List ℕ). blank_len (l ++ more)) split ∙ blank_len-cons (get_or xs i 0) (drop (i + 1) xs ++ more) (ap (λ (l : List ℕ). begins_empty (l ++ more)) (sym split) ∙ begins_empty-append (drop i xs) more empty) in
     omega (arith, skipped more, step)
 
 -- where no empty line stands, none is counted
@@ -42,10 +42,10 @@ pub Searched-more : (xs : List ℕ) (i : ℕ) → i < length xs → ((more : Lis
 Searched-more xs i within none searched more =
     let split = drop_more xs i 0 within in
     let step : head_len (drop i xs ++ more) ≡ option_map (λ n. 1 + n) (head_len (drop (i + 1) xs ++ more)) =
-        ap (λ (l : List ℕ). head_len (l ++ more)) split ∙ cond-false _ _ _ (none more) in
+    ap (λ (l : List ℕ). head_len (l ++ more)) split ∙ cond-false _ _ _ (none more) in
     searched more ∙ ap (option_map (λ n. i + n)) step ∙ option_map-twice i (head_len (drop (i + 1) xs ++ more))
 
-empty_line_len-append : (xs more : List ℕ) → begins_empty xs ≡ true → empty_line_len (xs ++ more) ≡ empty_line_len xs
+pub empty_line_len-append : (xs more : List ℕ) → begins_empty xs ≡ true → empty_line_len (xs ++ more) ≡ empty_line_len xs
 empty_line_len-append [] more e = absurd (false≢true e)
 empty_line_len-append (b ∷ xs) more e = refl
 
@@ -55,7 +55,7 @@ head_len-ends xs i within is empty searched more =
     let split = drop_more xs i 0 within in
     let test : (get_or xs i 0 == 10 && begins_empty (drop (i + 1) xs ++ more)) ≡ true = and_from _ _ (eq-eqb _ _ is) (begins_empty-append (drop (i + 1) xs) more empty) in
     let step : head_len (drop i xs ++ more) ≡ Some (1 + empty_line_len (drop (i + 1) xs ++ more)) =
-        ap (λ (l : List ℕ). head_len (l ++ more)) split ∙ cond-true _ _ _ test in
+    ap (λ (l : List ℕ). head_len (l ++ more)) split ∙ cond-true _ _ _ test in
     let len = empty_line_len-append (drop (i + 1) xs) more empty in
     searched more ∙ ap (option_map (λ n. i + n)) step ∙ ap Some (sym (add_assoc i 1 _) ∙ ap (λ n. i + 1 + n) len)
 
@@ -92,11 +92,11 @@ blank_len-positive (b ∷ xs) e = omega (arith, blank_len-cons b xs e)
 begins-blank : (b : ℕ) (xs : List ℕ) → begins_empty (b ∷ xs) ≡ true → begins_empty (b ∷ take (blank_len xs) xs) ≡ true
 begins-blank b xs e =
     elim (or_cases (b == 10) (b == 13 && get_or xs 0 0 == 10) e) [
-      inl is ↦ or_left _ _ is
-    | inr both ↦
-        let parts = and_parts (b == 13) (get_or xs 0 0 == 10) both in
-        let first : get_or (take (blank_len xs) xs) 0 0 ≡ get_or xs 0 0 = get_or-take (blank_len xs) xs 0 0 (blank_len-positive xs (or_left _ _ parts.1)) in
-        or_right _ _ (and_from _ _ parts.0 (ap (λ (n : ℕ). n == 10) first ∙ parts.1))
+      | inl is ↦ or_left _ _ is
+      | inr both ↦
+          let parts = and_parts (b == 13) (get_or xs 0 0 == 10) both in
+          let first : get_or (take (blank_len xs) xs) 0 0 ≡ get_or xs 0 0 = get_or-take (blank_len xs) xs 0 0 (blank_len-positive xs (or_left _ _ parts.1)) in
+          or_right _ _ (and_from _ _ parts.0 (ap (λ (n : ℕ). n == 10) first ∙ parts.1))
     ]
 
 -- the empty lines at the front are empty lines by themselves
@@ -105,12 +105,12 @@ blank_len-take [] = refl
 blank_len-take (b ∷ xs) =
     let P : ℕ → Type 0 = λ n. blank_len (take n (b ∷ xs)) ≡ n in
     elim (cases_Bool (begins_empty (b ∷ xs))) [
-      inl is ↦
-        let step : suc (blank_len xs) ≡ blank_len (b ∷ xs) = omega (arith, blank_len-cons b xs is) in
-        let here : blank_len (b ∷ take (blank_len xs) xs) ≡ 1 + blank_len (take (blank_len xs) xs) = blank_len-cons b (take (blank_len xs) xs) (begins-blank b xs is) in
-        let whole : blank_len (b ∷ take (blank_len xs) xs) ≡ suc (blank_len xs) = omega (arith, here, blank_len-take xs) in
-        subst P step whole
-    | inr text ↦ subst P (sym (blank_len-none (b ∷ xs) text)) refl
+      | inl is ↦
+          let step : suc (blank_len xs) ≡ blank_len (b ∷ xs) = omega (arith, blank_len-cons b xs is) in
+          let here : blank_len (b ∷ take (blank_len xs) xs) ≡ 1 + blank_len (take (blank_len xs) xs) = blank_len-cons b (take (blank_len xs) xs) (begins-blank b xs is) in
+          let whole : blank_len (b ∷ take (blank_len xs) xs) ≡ suc (blank_len xs) = omega (arith, here, blank_len-take xs) in
+          subst P step whole
+      | inr text ↦ subst P (sym (blank_len-none (b ∷ xs) text)) refl
     ]
 
 -- where none is counted, none stands
@@ -130,8 +130,8 @@ empty-take (b ∷ []) e =
 empty-take (b ∷ c ∷ xs) e =
     let P : ℕ → Type 0 = λ n. (begins_empty (take n (b ∷ c ∷ xs)) ≡ true) × (empty_line_len (take n (b ∷ c ∷ xs)) ≡ n) in
     elim (cases_Bool (b == 10)) [
-      inl is ↦ subst P (sym (cond-true (b == 10) 1 2 is)) (or_left _ _ is, cond-true (b == 10) 1 2 is)
-    | inr text ↦ subst P (sym (cond-false (b == 10) 1 2 text)) (e, cond-false (b == 10) 1 2 text)
+      | inl is ↦ subst P (sym (cond-true (b == 10) 1 2 is)) (or_left _ _ is, cond-true (b == 10) 1 2 is)
+      | inr text ↦ subst P (sym (cond-false (b == 10) 1 2 text)) (e, cond-false (b == 10) 1 2 text)
     ]
 
 option_map-some : (o : Option ℕ) (n : ℕ) → option_map (λ m. 1 + m) o ≡ Some n → (m : ℕ) × (o ≡ Some m) × (n ≡ suc m)
@@ -144,28 +144,28 @@ head_len-take [] n e = cc
 head_len-take (b ∷ xs) n e =
     let P : ℕ → Type 0 = λ m. head_len (take m (b ∷ xs)) ≡ Some m in
     elim (cases_Bool (b == 10 && begins_empty xs)) [
-      inl is ↦
-        let parts = and_parts (b == 10) (begins_empty xs) is in
-        let front = empty-take xs parts.1 in
-        let found : Some (1 + empty_line_len xs) ≡ Some n = sym (cond-true _ _ _ is) ∙ e in
-        let len : 1 + empty_line_len xs ≡ n = cc in
-        let here : head_len (b ∷ take (empty_line_len xs) xs) ≡ Some (1 + empty_line_len (take (empty_line_len xs) xs)) = cond-true _ _ _ (and_from _ _ parts.0 front.0) in
-        subst P (sym (one-add (empty_line_len xs)) ∙ len) (here ∙ ap (λ (m : ℕ). Some (1 + m)) front.1 ∙ ap Some (one-add (empty_line_len xs)))
-    | inr later ↦
-        let behind = option_map-some (head_len xs) n (sym (cond-false _ _ _ later) ∙ e) in
-        let text : (b == 10 && begins_empty (take behind.0 xs)) ≡ false = elim (and_cases (b == 10) (begins_empty xs) later) [ inl other ↦ and_left _ _ other | inr full ↦ and_right _ _ (begins_empty-take behind.0 xs full) ] in
-        let here : head_len (b ∷ take behind.0 xs) ≡ option_map (λ m. 1 + m) (head_len (take behind.0 xs)) = cond-false _ _ _ text in
-        subst P (sym behind.2) (here ∙ ap (option_map (λ m. 1 + m)) (head_len-take xs behind.0 behind.1) ∙ ap Some (one-add behind.0))
+      | inl is ↦
+          let parts = and_parts (b == 10) (begins_empty xs) is in
+          let front = empty-take xs parts.1 in
+          let found : Some (1 + empty_line_len xs) ≡ Some n = sym (cond-true _ _ _ is) ∙ e in
+          let len : 1 + empty_line_len xs ≡ n = cc in
+          let here : head_len (b ∷ take (empty_line_len xs) xs) ≡ Some (1 + empty_line_len (take (empty_line_len xs) xs)) = cond-true _ _ _ (and_from _ _ parts.0 front.0) in
+          subst P (sym (one-add (empty_line_len xs)) ∙ len) (here ∙ ap (λ (m : ℕ). Some (1 + m)) front.1 ∙ ap Some (one-add (empty_line_len xs)))
+      | inr later ↦
+          let behind = option_map-some (head_len xs) n (sym (cond-false _ _ _ later) ∙ e) in
+          let text : (b == 10 && begins_empty (take behind.0 xs)) ≡ false = elim (and_cases (b == 10) (begins_empty xs) later) [ inl other ↦ and_left _ _ other | inr full ↦ and_right _ _ (begins_empty-take behind.0 xs full) ] in
+          let here : head_len (b ∷ take behind.0 xs) ≡ option_map (λ m. 1 + m) (head_len (take behind.0 xs)) = cond-false _ _ _ text in
+          subst P (sym behind.2) (here ∙ ap (option_map (λ m. 1 + m)) (head_len-take xs behind.0 behind.1) ∙ ap Some (one-add behind.0))
     ]
 
-head_len-two : (xs : List ℕ) (n : ℕ) → head_len xs ≡ Some n → 2 ≤ length xs
+pub head_len-two : (xs : List ℕ) (n : ℕ) → head_len xs ≡ Some n → 2 ≤ length xs
 head_len-two [] n e = cc
 head_len-two (b ∷ []) n e =
     let none : head_len (b ∷ []) ≡ None = cond-false _ _ _ (and_right (b == 10) false refl) in
     cc
 head_len-two (b ∷ c ∷ xs) n e = omega arith
 
-begins_empty-same : (xs ys : List ℕ) → 2 ≤ length xs → begins_empty (xs ++ ys) ≡ begins_empty xs
+pub begins_empty-same : (xs ys : List ℕ) → 2 ≤ length xs → begins_empty (xs ++ ys) ≡ begins_empty xs
 begins_empty-same [] ys two = absurd (omega arith)
 begins_empty-same (b ∷ []) ys two = absurd (omega arith)
 begins_empty-same (b ∷ c ∷ xs) ys two = refl
@@ -175,17 +175,17 @@ pub head_len-append : (xs ys : List ℕ) (n : ℕ) → head_len xs ≡ Some n �
 head_len-append [] ys n e = cc
 head_len-append (b ∷ xs) ys n e =
     elim (cases_Bool (b == 10 && begins_empty xs)) [
-      inl is ↦
-        let parts = and_parts (b == 10) (begins_empty xs) is in
-        let found : Some (1 + empty_line_len xs) ≡ Some n = sym (cond-true _ _ _ is) ∙ e in
-        let here : head_len (b ∷ (xs ++ ys)) ≡ Some (1 + empty_line_len (xs ++ ys)) = cond-true _ _ _ (and_from _ _ parts.0 (begins_empty-append xs ys parts.1)) in
-        here ∙ ap (λ (m : ℕ). Some (1 + m)) (empty_line_len-append xs ys parts.1) ∙ found
-    | inr later ↦
-        let behind = option_map-some (head_len xs) n (sym (cond-false _ _ _ later) ∙ e) in
-        let same = begins_empty-same xs ys (head_len-two xs behind.0 behind.1) in
-        let text : (b == 10 && begins_empty (xs ++ ys)) ≡ false = ap (λ (t : Bool). b == 10 && t) same ∙ later in
-        let here : head_len (b ∷ (xs ++ ys)) ≡ option_map (λ m. 1 + m) (head_len (xs ++ ys)) = cond-false _ _ _ text in
-        here ∙ ap (option_map (λ m. 1 + m)) (head_len-append xs ys behind.0 behind.1) ∙ ap Some (one-add behind.0 ∙ sym behind.2)
+      | inl is ↦
+          let parts = and_parts (b == 10) (begins_empty xs) is in
+          let found : Some (1 + empty_line_len xs) ≡ Some n = sym (cond-true _ _ _ is) ∙ e in
+          let here : head_len (b ∷ (xs ++ ys)) ≡ Some (1 + empty_line_len (xs ++ ys)) = cond-true _ _ _ (and_from _ _ parts.0 (begins_empty-append xs ys parts.1)) in
+          here ∙ ap (λ (m : ℕ). Some (1 + m)) (empty_line_len-append xs ys parts.1) ∙ found
+      | inr later ↦
+          let behind = option_map-some (head_len xs) n (sym (cond-false _ _ _ later) ∙ e) in
+          let same = begins_empty-same xs ys (head_len-two xs behind.0 behind.1) in
+          let text : (b == 10 && begins_empty (xs ++ ys)) ≡ false = ap (λ (t : Bool). b == 10 && t) same ∙ later in
+          let here : head_len (b ∷ (xs ++ ys)) ≡ option_map (λ m. 1 + m) (head_len (xs ++ ys)) = cond-false _ _ _ text in
+          here ∙ ap (option_map (λ m. 1 + m)) (head_len-append xs ys behind.0 behind.1) ∙ ap Some (one-add behind.0 ∙ sym behind.2)
     ]
 
 -- empty lines, and then what follows them
@@ -193,11 +193,11 @@ pub blank_len-append : (xs ys : List ℕ) → blank_len xs ≡ length xs → bla
 blank_len-append [] ys e = sym (zero-add _)
 blank_len-append (b ∷ xs) ys e =
     elim (cases_Bool (begins_empty (b ∷ xs))) [
-      inl is ↦
-        let rest : blank_len xs ≡ length xs = omega (arith, e, blank_len-cons b xs is) in
-        let here : blank_len (b ∷ (xs ++ ys)) ≡ 1 + blank_len (xs ++ ys) = blank_len-cons b (xs ++ ys) (begins_empty-append (b ∷ xs) ys is) in
-        omega (arith, here, blank_len-append xs ys rest)
-    | inr text ↦ absurd (omega (arith, e, blank_len-none (b ∷ xs) text))
+      | inl is ↦
+          let rest : blank_len xs ≡ length xs = omega (arith, e, blank_len-cons b xs is) in
+          let here : blank_len (b ∷ (xs ++ ys)) ≡ 1 + blank_len (xs ++ ys) = blank_len-cons b (xs ++ ys) (begins_empty-append (b ∷ xs) ys is) in
+          omega (arith, here, blank_len-append xs ys rest)
+      | inr text ↦ absurd (omega (arith, e, blank_len-none (b ∷ xs) text))
     ]
 
 -- a cut is the only one: its empty lines are all at the front, and its head ends at the first end
@@ -274,11 +274,11 @@ seen-more bytes came blank searched seen =
     record {
       within = omega (arith, seen.within, length-append bytes came);
       skipped = λ more.
-        ap blank_len (append_assoc bytes came more) ∙ seen.skipped (came ++ more)
-        ∙ ap (λ (l : List ℕ). blank + blank_len l) (sym (append_assoc (drop blank bytes) came more) ∙ ap (λ (l : List ℕ). l ++ more) (sym left));
+          ap blank_len (append_assoc bytes came more) ∙ seen.skipped (came ++ more)
+          ∙ ap (λ (l : List ℕ). blank + blank_len l) (sym (append_assoc (drop blank bytes) came more) ∙ ap (λ (l : List ℕ). l ++ more) (sym left));
       none = subst P (sym left) (λ more.
-        ap head_len (append_assoc (drop blank bytes) came more) ∙ seen.none (came ++ more)
-        ∙ ap (λ (l : List ℕ). option_map (λ n. searched + n) (head_len l)) (sym (append_assoc (drop searched (drop blank bytes)) came more) ∙ ap (λ (l : List ℕ). l ++ more) (sym behind)));
+          ap head_len (append_assoc (drop blank bytes) came more) ∙ seen.none (came ++ more)
+          ∙ ap (λ (l : List ℕ). option_map (λ n. searched + n) (head_len l)) (sym (append_assoc (drop searched (drop blank bytes)) came more) ∙ ap (λ (l : List ℕ). l ++ more) (sym behind)));
     }
 
 -- the limit is reached

@@ -35,7 +35,7 @@ uses-head inbox slice blank len head before incoming whole few is front unread =
     let room : blank ≤ length inbox = omega (arith, whole.within) in
     let rest : drop len (drop blank inbox) ≡ drop (blank + len) inbox = drop-drop len blank inbox in
     let joined : inbox ≡ (b ++ f) ++ drop (blank + len) inbox =
-        whole.cut.whole ∙ sym (append_assoc b f (drop len (drop blank inbox))) ∙ ap (λ (l : List ℕ). (b ++ f) ++ l) rest in
+    whole.cut.whole ∙ sym (append_assoc b f (drop len (drop blank inbox))) ∙ ap (λ (l : List ℕ). (b ++ f) ++ l) rest in
     record {
       bytes = b ++ f;
       is = record {
@@ -55,15 +55,17 @@ uses-head inbox slice blank len head before incoming whole few is front unread =
 pub refuses-head : (inbox slice : List ℕ) (blank len : ℕ) (e : HeadError) → IsWhole inbox blank len → length inbox ≤ 16384 → slice ≡ take len (drop blank inbox)
     → MakesOf slice (Err e) → IfRefused (Err e) (λ status form. (status ≡ status_of form) × Refuses inbox form)
 refuses-head inbox slice blank len (Refused status form) whole few is makes =
-    let P : List ℕ → Type 0 = λ l. RefusesFront l form in
-    (makes.0, inl (record {
-      blank = take blank inbox;
-      front = take len (drop blank inbox);
-      rest = drop len (drop blank inbox);
-      cut = whole.cut;
-      within = omega (arith, few, whole.within, length-take blank inbox, length-take len (drop blank inbox), length-drop blank inbox);
-      refused = subst P is makes.1;
-    }))
+    let P : List ℕ → Type 0 = λ l. RefusesFront l form in (
+      makes.0,
+      inl (record {
+        blank = take blank inbox;
+        front = take len (drop blank inbox);
+        rest = drop len (drop blank inbox);
+        cut = whole.cut;
+        within = omega (arith, few, whole.within, length-take blank inbox, length-take len (drop blank inbox), length-drop blank inbox);
+        refused = subst P is makes.1;
+      }),
+    )
 refuses-head inbox slice blank len Truncated whole few is makes = tt
 refuses-head inbox slice blank len Fault whole few is makes = tt
 refuses-head inbox slice blank len NoMemory whole few is makes = tt

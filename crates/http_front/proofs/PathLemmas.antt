@@ -11,10 +11,10 @@ pub slice_split_whole : (p : ℕ → Bool) (xs : List ℕ) → position_or_len p
 slice_split_whole p [] e = refl
 slice_split_whole p (x ∷ xs) e =
     elim (cases_Bool (p x)) [
-      inl passes ↦ absurd (omega (arith, e, cond-false (not (p x)) (1 + position_or_len p xs) 0 (not_from_true _ passes)))
-    | inr fails ↦
-        let rest : position_or_len p xs ≡ length xs = omega (arith, e, cond-true (not (p x)) (1 + position_or_len p xs) 0 (not_from_false _ fails)) in
-        slice_split-cons_no p x xs fails ∙ ap (onto_first x) (slice_split_whole p xs rest)
+      | inl passes ↦ absurd (omega (arith, e, cond-false (not (p x)) (1 + position_or_len p xs) 0 (not_from_true _ passes)))
+      | inr fails ↦
+          let rest : position_or_len p xs ≡ length xs = omega (arith, e, cond-true (not (p x)) (1 + position_or_len p xs) 0 (not_from_false _ fails)) in
+          slice_split-cons_no p x xs fails ∙ ap (onto_first x) (slice_split_whole p xs rest)
     ]
 
 -- there is always a part

@@ -32,8 +32,19 @@ judged_of method old lines =
 abbrev pub made : List ℕ → List ℕ → Bool → List Line → (List ℕ × ℕ × BodyPlan) → Option (List ℕ) → Result Head Form
 made method target old lines parts None = Err BadPath
 made method target old lines parts (Some clean) = Ok (record {
-    method = method; target = target; path = path_of target; query = query_of target; clean = clean; old = old;
-    headers = lines; server = parts.0; port = parts.1; plan = parts.2; close = says_close lines; expect = says_expect lines })
+  method = method;
+  target = target;
+  path = path_of target;
+  query = query_of target;
+  clean = clean;
+  old = old;
+  headers = lines;
+  server = parts.0;
+  port = parts.1;
+  plan = parts.2;
+  close = says_close lines;
+  expect = says_expect lines;
+})
 
 -- the head of these parts, or the first row that refuses it
 abbrev pub head_of : List ℕ → List ℕ → Bool → List Line → Result Head Form

@@ -5,6 +5,7 @@ pub mod Fields
 pub mod Framing
 pub mod Host
 pub mod Judged
+pub mod Lines
 pub mod Lone
 pub mod Makes
 pub mod Path

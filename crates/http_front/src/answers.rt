@@ -1,10 +1,8 @@
 //! What reading a head answers, and what a head is refused for.
-use std::alloc::{AllocError, AllocFailed};
-
-use jk_io::NoMemory;
-use thiserror::Error;
-
 use crate::head::Head;
+use jk_io::NoMemory;
+use std::alloc::{AllocError, AllocFailed};
+use thiserror::Error;
 
 /// What stands at the front of the client's bytes.
 #[derive(Debug, Drop)]

@@ -6,6 +6,7 @@ ghost use Rattle.http_front.specs.Cut.{begins_empty, blank_len, empty_line_len, 
 ghost use Rattle.http_front.specs.Search.{Skipped, Searched, IsSearchOf};
 
 const LF: u8 = b'\n';
+
 const CR: u8 = b'\r';
 
 /// How far the search for a head's end came.

@@ -49,23 +49,22 @@ pub fn only_value<'a>(lines: &'a [(Bytes, Bytes)], name: &[u8]) -> Lone<'a>
 fn has_word(value: &[u8], word: &[u8]) -> bool
     ensures { result ≡ has_word word.now value.now }
 {
-    value.split(|b| *b == b',').any(|part| same_word(trim(part), word))
+    value
+        .split(|b| *b == b',')
+        .any(|part| same_word(trim(part), word))
 }
 
 /// Whether a Connection line has the word `close`.
 pub fn says_close(lines: &[(Bytes, Bytes)]) -> bool
     ensures { result ≡ says_close lines.now }
 {
-    lines
-        .iter()
-        .any(|line| is_named(line, b"connection") && has_word(line.1.as_slice(), b"close"))
+    lines.iter().any(|line| is_named(line, b"connection") && has_word(line.1.as_slice(), b"close"))
 }
 
 /// Whether an Expect line is `100-continue`.
 pub fn says_expect(lines: &[(Bytes, Bytes)]) -> bool
     ensures { result ≡ says_expect lines.now }
 {
-    lines
-        .iter()
-        .any(|line| is_named(line, b"expect") && same_word(line.1.as_slice(), b"100-continue"))
+    lines.iter().any(|line| is_named(line, b"expect")
+        && same_word(line.1.as_slice(), b"100-continue"))
 }

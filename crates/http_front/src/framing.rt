@@ -4,11 +4,10 @@ ghost use Rattle.http_front.specs.Fields.{named};
 ghost use Rattle.http_front.specs.Framing.{plan_of, length_plan, length_of, coding_plan, is_long};
 ghost use Rattle.http_front.specs.Lone.{IsLone};
 
-use jk_io::{Bytes, parse_decimal};
-
 use crate::answers::Form;
 use crate::fields::{Lone, only_value, same_word};
 use crate::head::BodyPlan;
+use jk_io::{Bytes, parse_decimal};
 
 /// The bytes of a body are fewer than these.
 pub const MAX_BODY_BYTES: u64 = 1_099_511_627_776;

@@ -1,9 +1,7 @@
 //! `Head`: a request's head with all that the layers above ask of it.
-use std::alloc::Global;
-
-use jk_io::Bytes;
-
 use crate::head_lines::HeadLines;
+use jk_io::Bytes;
+use std::alloc::Global;
 
 /// How a request's body is framed (RFC 9112, section 6).
 #[derive(Clone, Copy, Debug, PartialEq, Eq)]

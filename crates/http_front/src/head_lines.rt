@@ -2,10 +2,9 @@
 ghost use Rattle.std.specs.Prelude.{◌≡◌, ◌<◌, ◌≤◌, List, [], ◌∷◌, ◌++◌, length, IfErr, OnOk, OnErr, IfSome, IfNone, IsTrue, ◌↔◌, slice_get};
 ghost use Rattle.std.specs.Option.{option_copied};
 
+use jk_io::Bytes;
 use std::alloc::{AllocFailed, Global};
 use std::marker::Model;
-
-use jk_io::Bytes;
 
 /// The most field lines that a head may have.
 pub const MAX_HEAD_LINES: usize = 100;

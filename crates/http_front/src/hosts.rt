@@ -3,10 +3,9 @@ ghost use Rattle.std.specs.Prelude.{◌≡◌, ◌<◌, ◌+◌, ◌^◌, List, 
 ghost use Rattle.http_front.specs.Fields.{named};
 ghost use Rattle.http_front.specs.Host.{split_port, ported, server_of, host_of};
 
-use jk_io::{Bytes, parse_decimal};
-
 use crate::answers::Form;
 use crate::fields::{Lone, only_value};
+use jk_io::{Bytes, parse_decimal};
 
 const LOCALHOST: &[u8] = b"localhost";
 
@@ -27,7 +26,10 @@ pub fn host_of(old: bool, lines: &[(Bytes, Bytes)]) -> Result<Server<'_>, Form>
     match only_value(lines, b"host") {
         Lone::Absent => {
             if old {
-                Ok(Server { name: LOCALHOST, port: HTTP_PORT })
+                Ok(Server {
+                    name: LOCALHOST,
+                    port: HTTP_PORT,
+                })
             } else {
                 Err(Form::BadHost)
             }
@@ -42,11 +44,17 @@ fn server_of(host: &[u8]) -> Result<Server<'_>, Form>
     ensures { MatchResult result (λ server. server_of host.now ≡ Ok (server.name.now, server.port)) (λ form. server_of host.now ≡ Err form) }
 {
     if host.is_empty() {
-        return Ok(Server { name: LOCALHOST, port: HTTP_PORT });
+        return Ok(Server {
+            name: LOCALHOST,
+            port: HTTP_PORT,
+        });
     }
     match split_port(host) {
         Some(at) => ported(&host[..at], &host[at + 1..]),
-        None => Ok(Server { name: host, port: HTTP_PORT }),
+        None => Ok(Server {
+            name: host,
+            port: HTTP_PORT,
+        }),
     }
 }
 
@@ -55,14 +63,20 @@ fn ported<'a>(name: &'a [u8], port: &[u8]) -> Result<Server<'a>, Form>
     ensures { MatchResult result (λ server. ported name.now port.now ≡ Ok (server.name.now, server.port)) (λ form. ported name.now port.now ≡ Err form) }
 {
     if port.is_empty() {
-        return Ok(Server { name, port: HTTP_PORT });
+        return Ok(Server {
+            name,
+            port: HTTP_PORT,
+        });
     }
     match parse_decimal(port) {
         Some(number) => {
             if number > 65_535 {
                 return Err(Form::BadHost);
             }
-            Ok(Server { name, port: number as u16 })
+            Ok(Server {
+                name,
+                port: number as u16,
+            })
         }
         None => Err(Form::BadHost),
     }

@@ -4,10 +4,9 @@ ghost use Rattle.std.specs.List.{between};
 ghost use Rattle.jk_io.specs.Told.{prepended, IsEmpty, HasCause};
 ghost use Rattle.http_front.specs.Unread.{unread};
 
+use jk_io::{IoError, NoMemory, Source};
 use std::alloc::Global;
 use std::marker::Model;
-
-use jk_io::{IoError, NoMemory, Source};
 
 /// The most bytes of a head, with the empty lines before it.
 pub const MAX_HEAD_BYTES: usize = 16_384;

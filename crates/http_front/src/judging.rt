@@ -5,10 +5,6 @@ ghost use Rattle.http_front.specs.Makes.{Makes};
 ghost use Rattle.http_front.specs.Path.{query_of};
 ghost use Rattle.http_front.specs.Refusal.{status_of};
 
-use std::alloc::Global;
-
-use jk_io::Bytes;
-
 use crate::answers::{Form, HeadError, PathError};
 use crate::fields::{says_close, says_expect};
 use crate::framing::{is_long, plan_of};
@@ -16,6 +12,8 @@ use crate::head::{BodyPlan, Head};
 use crate::head_lines::HeadLines;
 use crate::hosts::{Server, host_of};
 use crate::path::{before, clean_path, find_byte};
+use jk_io::Bytes;
+use std::alloc::Global;
 
 /// What the lines of a head ask for: a server, and how the body is framed.
 #[derive(Clone, Copy)]

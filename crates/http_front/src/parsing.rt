@@ -5,17 +5,15 @@ ghost use Rattle.httparse.specs.Spans.{IsRequestWithin, IsRequestAt, IsRequestOf
 ghost use Rattle.http_front.specs.Makes.{MakesOf};
 ghost use Rattle.http_front.specs.Request.{Reads};
 
-use std::alloc::Global;
-
-use httparse::Status;
-use httparse::spans::{EMPTY_HEADER_SPAN, HeaderSpan, RequestSpans, parse_request};
-use jk_io::{Bytes, NoMemory};
-
 use crate::answers::{Form, HeadError};
 use crate::cut::count_header_lines;
 use crate::head::Head;
 use crate::head_lines::{HeadLines, MAX_HEAD_LINES};
 use crate::judging::{make_head, refused};
+use httparse::Status;
+use httparse::spans::{EMPTY_HEADER_SPAN, HeaderSpan, RequestSpans, parse_request};
+use jk_io::{Bytes, NoMemory};
+use std::alloc::Global;
 
 /// The head that these bytes are, or what they are refused for.
 pub fn head_from(alloc: Global, front: &[u8]) -> Result<Head, HeadError>

@@ -4,12 +4,10 @@ ghost use Rattle.std.specs.List.{before_first, list_any, position_or_len};
 ghost use Rattle.std.specs.Char.{digit_value};
 ghost use Rattle.http_front.specs.Path.{begins_escape, has_good_bytes, is_refused_byte, segments, clean_segment, is_dots, clean_of, cleaned};
 
-use std::alloc::Global;
-
+use crate::answers::PathError;
 use jk_io::Bytes;
 use percent_encoding::percent_decode;
-
-use crate::answers::PathError;
+use std::alloc::Global;
 
 /// The clean path of a raw path: in each segment the text from its first `;` on is dropped and the
 /// escapes are decoded. A path that doesn't begin with `/`, one with a `\`, a bad escape, an escape

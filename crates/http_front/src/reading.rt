@@ -7,15 +7,13 @@ ghost use Rattle.http_front.specs.Request.{Refuses, EndsWithin};
 ghost use Rattle.http_front.specs.Search.{IsSeen, IsLook, IsFound, HasEnded};
 ghost use Rattle.http_front.specs.Unread.{unread};
 
-use std::alloc::Global;
-
-use jk_io::{IoError, Link};
-
 use crate::answers::{Form, HeadError, HeadGot};
 use crate::cut::{Search, find_end, skip_empty_lines};
 use crate::inbox::{Inbox, MAX_HEAD_BYTES};
 use crate::judging::refused;
 use crate::parsing::head_from;
+use jk_io::{IoError, Link};
+use std::alloc::Global;
 
 /// What a look at the bytes in hand says.
 #[derive(Clone, Copy)]

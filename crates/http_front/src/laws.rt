@@ -1,0 +1,29 @@
+//! Laws of the definitions: a client's bytes say one thing, and a head is lines with an empty one behind them.
+ghost use Rattle.std.specs.Prelude.{◌≡◌, ◌<◌, ◌+◌, ℕ, List, ◌++◌, length, Some};
+ghost use Rattle.http_front.specs.Cut.{head_len, header_lines};
+ghost use Rattle.http_front.specs.Lines.{AreFullLines, IsEmptyLine, ended};
+ghost use Rattle.http_front.specs.Request.{IsHeadOf, Refuses, AreEmptyLines, EndsWithin};
+ghost use Rattle.http_front.specs.declared.answers.Form.{Form};
+ghost use Rattle.http_front.specs.declared.head.Head.{Head};
+
+/// At the front of a client's bytes stands at most one head, the bytes are refused for one form at
+/// most, and no two of the four answers hold at once.
+pub fn one_answer()
+    ensures head { (bytes used rest other left : List ℕ) (head another : Head) → bytes ≡ used ++ rest → IsHeadOf used head
+        → bytes ≡ other ++ left → IsHeadOf other another → (used ≡ other) × (head ≡ another) }
+    ensures form { (bytes : List ℕ) (form other : Form) → Refuses bytes form → Refuses bytes other → form ≡ other }
+    ensures refused { (bytes used rest : List ℕ) (head : Head) (form : Form) → bytes ≡ used ++ rest → IsHeadOf used head → Refuses bytes form → ⊥ }
+
+    ensures empty_head { (bytes used rest : List ℕ) (head : Head) → bytes ≡ used ++ rest → IsHeadOf used head → AreEmptyLines bytes → ⊥ }
+    ensures empty_refused { (bytes : List ℕ) (form : Form) → Refuses bytes form → AreEmptyLines bytes → ⊥ }
+    ensures short_head { (bytes used rest : List ℕ) (head : Head) → bytes ≡ used ++ rest → IsHeadOf used head → EndsWithin bytes → ⊥ }
+    ensures short_refused { (bytes : List ℕ) (form : Form) → Refuses bytes form → EndsWithin bytes → ⊥ }
+    ensures short_empty { (bytes : List ℕ) → AreEmptyLines bytes → EndsWithin bytes → ⊥ }
+{}
+
+/// Lines that aren't empty, and an empty line behind them, are the bytes of a head, whatever
+/// follows; its header lines are all of them but the first.
+pub fn a_head_is_lines()
+    ensures { (lines : List (List ℕ)) (last rest : List ℕ) → 0 < length lines → AreFullLines lines → IsEmptyLine last
+        → (head_len (ended lines ++ (last ++ rest)) ≡ Some (length (ended lines ++ last))) × (header_lines (ended lines ++ last) + 1 ≡ length lines) }
+{}
