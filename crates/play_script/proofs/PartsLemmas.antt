@@ -4,8 +4,8 @@ use Rattle.std.specs.List.{slice_split, onto_first, position, position_or_len}
 use Rattle.play_script.specs.Parts.{parts_of}
 use Rattle.play_script.specs.Values.{end}
 use Rattle.std.proofs.lemmas.Bool.{cases_lt, lt-ltb, not-true, cond-true}
-use Rattle.std.proofs.lemmas.List.Splits.{slice_split_none, slice_split_first}
-use Rattle.std.proofs.lemmas.List.Sums.{prefix_len_passes, position_or_len_is}
+use Rattle.std.proofs.lemmas.List.Splits.{slice_split_none, slice_split_first, length-slice_split}
+use Rattle.std.proofs.lemmas.List.Sums.{prefix_len_passes, position_or_len_is, count_by-le-length}
 use Rattle.std.proofs.lemmas.List.Elements.{All-from_get_or}
 use Rattle.std.proofs.lemmas.List.Quantifiers.{position-Some}
 
@@ -39,3 +39,7 @@ module _ (p : ℕ → Bool) (text : List ℕ) where
 -- a text has a part
 pub parts_some : (byte : ℕ) (text : List ℕ) → end (parts_of byte text) ≡ None
 parts_some byte text = some_first (λ b. b == byte) text
+
+-- a text has one part more than places of the byte
+pub parts_few : (byte : ℕ) (text : List ℕ) → length (parts_of byte text) ≤ length text + 1
+parts_few byte text = omega (arith, length-slice_split (λ b. b == byte) text, count_by-le-length (λ b. b == byte) text)

@@ -1,5 +1,5 @@
 -- The lines after the balancer's own: each asks its Book for something, or moves the clock.
-use Rattle.std.specs.Prelude.{ℕ, Bool, true, false, List, [], ◌∷◌, Option, Some, None, codes, if◌then◌else◌, option_map}
+use Rattle.std.specs.Prelude.{ℕ, ◌^◌, ◌≤◌, Bool, true, false, List, [], ◌∷◌, Option, Some, None, codes, if◌then◌else◌, option_map}
 use Rattle.std.specs.Str.{bytes_eq}
 use Rattle.jk_io.specs.Decimals.{decimal_of}
 use Rattle.jk_model.specs.declared.ask.Ask.{Ask}
@@ -92,3 +92,15 @@ step_from names (word ∷ words) = verb_of word >>= λ v. step_by names v words
 -- what a line says after the balancer's own lines, where its members have these names; None: a bad line
 abbrev pub step_of : List (List ℕ) → List ℕ → Option Step
 step_of names line = step_from names (parts_of 32 line)
+
+-- A Return moves at most 2^44 bytes.
+abbrev pub HasSmallBytes : Call → Type 0
+HasSmallBytes (call.Select ask) = Unit {0}
+HasSmallBytes (call.Return ticket outcome) = outcome.bytes ≤ 2 ^ 44
+HasSmallBytes call.Maintain = Unit {0}
+HasSmallBytes (call.Admin c) = Unit {0}
+
+abbrev pub IsSmall : Step → Type 0
+IsSmall (step.At moment) = Unit {0}
+IsSmall (step.Ask asked) = HasSmallBytes asked
+IsSmall step.Show = Unit {0}

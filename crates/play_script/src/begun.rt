@@ -1,6 +1,6 @@
 ghost use Rattle.std.specs.Prelude.{◌≡◌, ◌+◌, ◌<◌, ◌≤◌, ◌^◌, length, false, IfOk, IfSome};
 ghost use Rattle.std.specs.Option.{option_copied};
-ghost use Rattle.play_script.specs.Drafts.{draft_after, moment_after};
+ghost use Rattle.play_script.specs.Drafts.{draft_after, moment_after, names_in};
 ghost use Rattle.play_script.specs.Play.{is_skipped, LeadsTo};
 ghost use Rattle.play_script.specs.Words.{words_of_head};
 
@@ -55,7 +55,7 @@ pub fn begin<'a>(alloc: Global, lines: &mut Parts<'a>) -> Result<Begun<'a>, NoMe
     ensures leads { IfOk result (λ b. LeadsTo lines.old b.draft (option_copied b.line) lines.new b.number b.at) }
     ensures said { IfOk result (λ b. IfSome b.line (λ line. is_skipped line.now ≡ false)) }
     ensures count { IfOk result (λ b. b.number + length lines.new ≡ length lines.old) }
-    ensures few { IfOk result (λ b. length b.draft.members ≤ b.number) }
+    ensures few { IfOk result (λ b. length (names_in b.draft) ≤ b.number) }
 {
     let mut draft = Draft::new(alloc);
     let mut at = 0u64;

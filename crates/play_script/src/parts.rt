@@ -1,4 +1,4 @@
-ghost use Rattle.std.specs.Prelude.{◌≡◌, [], ◌∷◌, ◌==◌, MatchOption, length, position, option_copied};
+ghost use Rattle.std.specs.Prelude.{◌≡◌, ◌+◌, ◌≤◌, [], ◌∷◌, ◌==◌, MatchOption, length, position, option_copied};
 ghost use Rattle.std.specs.Str.{bytes_eq};
 ghost use Rattle.play_script.specs.Parts.{parts_of, parts_left};
 ghost use Rattle.play_script.specs.Values.{end, only, value_of, past};
@@ -48,8 +48,10 @@ fn cut(byte: u8, text: &[u8]) -> (&[u8], Option<&[u8]>)
 
 impl<'a> Parts<'a> {
     /// All parts of the text.
+    #[tactic(auto, using(crate::proofs::PartsLemmas::parts_few))]
     pub fn of(byte: u8, text: &'a [u8]) -> Parts<'a>
-        ensures { result ≡ parts_of byte text.now }
+        ensures value { result ≡ parts_of byte text.now }
+        ensures few { length result ≤ length text.now + 1 }
     {
         Parts {
             byte,

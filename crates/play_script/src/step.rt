@@ -1,5 +1,5 @@
-ghost use Rattle.std.specs.Prelude.{◌≡◌, ◌<◌, ◌^◌, [], length, false, true, None, Some};
-ghost use Rattle.play_script.specs.Steps.{ask_of, old_ask, select_of, bytes_in, return_of, change_after, change_of, update_of, member_named, step_by, step_of};
+ghost use Rattle.std.specs.Prelude.{◌≡◌, ◌<◌, ◌^◌, [], length, false, true, None, Some, ◌≤◌, IfSome};
+ghost use Rattle.play_script.specs.Steps.{ask_of, old_ask, select_of, bytes_in, return_of, change_after, change_of, update_of, member_named, step_by, step_of, HasSmallBytes, IsSmall};
 
 use crate::fields::{activation_in, number_in, redirect_in};
 use crate::names::{NameList, index_of};
@@ -56,7 +56,8 @@ fn select_of(names: &NameList, words: &mut Parts) -> Option<Ask>
 }
 
 fn bytes_in(words: &mut Parts) -> Option<u64>
-    ensures { result ≡ bytes_in words.old }
+    ensures value { result ≡ bytes_in words.old }
+    ensures small { IfSome result (λ n. n ≤ 2 ^ 44) }
 {
     let Some(word) = words.next() else {
         return Some(0);
@@ -66,7 +67,8 @@ fn bytes_in(words: &mut Parts) -> Option<u64>
 }
 
 fn return_of(kind: Kind, words: &mut Parts) -> Option<Call>
-    ensures { result ≡ return_of kind words.old }
+    ensures value { result ≡ return_of kind words.old }
+    ensures small { IfSome result HasSmallBytes }
 {
     let ticket = parse_decimal(words.next()?)?;
     let bytes = bytes_in(words)?;
@@ -124,7 +126,8 @@ fn member_named(names: &NameList, words: &mut Parts) -> Option<u32>
 
 fn step_by(names: &NameList, verb: Verb, words: &mut Parts) -> Option<Step>
     requires { length names.now < 2 ^ 32 }
-    ensures { result ≡ step_by names.now verb words.old }
+    ensures value { result ≡ step_by names.now verb words.old }
+    ensures small { IfSome result IsSmall }
 {
     match verb {
         Verb::Lb | Verb::Member => None,
@@ -156,7 +159,8 @@ fn step_by(names: &NameList, verb: Verb, words: &mut Parts) -> Option<Step>
 /// What a line says after the balancer's own lines, where its members have these names. `None`: a bad line.
 pub fn step_of(names: &NameList, line: &[u8]) -> Option<Step>
     requires { length names.now < 2 ^ 32 }
-    ensures { result ≡ step_of names.now line.now }
+    ensures value { result ≡ step_of names.now line.now }
+    ensures small { IfSome result IsSmall }
 {
     let mut words = Parts::of(b' ', line);
     let verb = verb_of(words.next()?)?;

@@ -1,4 +1,4 @@
-ghost use Rattle.std.specs.Prelude.{◌≡◌, ◌≤◌, ◌^◌};
+ghost use Rattle.std.specs.Prelude.{◌≡◌, ◌≤◌, ◌^◌, IfSome};
 ghost use Rattle.play_script.specs.Values.{number_up_to, short_number, byte_count, flag_of, method_of, activation_of};
 
 use crate::parts::is;
@@ -9,7 +9,8 @@ use jk_model::{Activation, Method};
 const MOST_BYTES: u64 = 1 << 44;
 
 fn number_up_to(most: u64, text: &[u8]) -> Option<u64>
-    ensures { result ≡ number_up_to most text.now }
+    ensures value { result ≡ number_up_to most text.now }
+    ensures small { IfSome result (λ n. n ≤ most) }
 {
     let number = parse_decimal(text)?;
     if number <= most { Some(number) } else { None }
@@ -28,7 +29,8 @@ pub(crate) fn short_number(text: &[u8]) -> Option<u32>
 
 /// The bytes of an exchange.
 pub(crate) fn byte_count(text: &[u8]) -> Option<u64>
-    ensures { result ≡ byte_count text.now }
+    ensures value { result ≡ byte_count text.now }
+    ensures small { IfSome result (λ n. n ≤ 2 ^ 44) }
 {
     number_up_to(MOST_BYTES, text)
 }

@@ -1,5 +1,5 @@
 use Rattle.std.proofs.Common.{ℕ, ◌≡◌, ◌+◌, ◌≤◌, List, length}
-use Rattle.play_script.specs.Drafts.{empty_draft}
+use Rattle.play_script.specs.Drafts.{empty_draft, names_in}
 use Rattle.play_script.specs.Play.{Plays}
 use Rattle.play_script.proofs.begun.begin.Given as goal
 
@@ -7,7 +7,7 @@ use Rattle.play_script.proofs.begun.begin.Given as goal
 abbrev pub invariant-loop-line : goal.invariant-loop-line
 invariant-loop-line l = record {
   count : l.number + length l.lines ≡ length l.fn.lines;
-  few : length l.draft.members ≤ l.number;
+  few : length (names_in l.draft) ≤ l.number;
   plays : (out : List ℕ) (status : ℕ) → Plays l.lines l.draft (l.number + 1) l.at out status → Plays l.fn.lines empty_draft 1 0 out status;
 }
 
