@@ -1,0 +1,4 @@
+pub mod ReplyLaws
+pub mod NameLaws
+pub mod PassageLaws
+pub mod WriterLaws

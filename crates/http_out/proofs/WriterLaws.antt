@@ -1,0 +1,43 @@
+-- A step of the writer, from what its one write left behind.
+use Rattle.std.proofs.Common.{◌≡◌, ℕ, Bool, true, false, ◌||◌, not, List, [], ◌++◌, length, refl, sym, Option, Some, Result, Ok, Err}
+use Rattle.std.specs.Prelude.{nat_lt}
+use Rattle.jk_io.specs.Told.{appended}
+use Rattle.http_out.specs.declared.framing.RequestKind.{RequestKind}
+use Rattle.http_out.specs.declared.framing.Framing.{Framing}
+use Rattle.http_out.specs.declared.passage.Passage.{Passage}
+use Rattle.http_out.specs.declared.reply_head.OutError.{OutError}
+use Rattle.http_out.specs.declared.reply_head.OutError.TheVariants as Out
+use Rattle.http_out.specs.Framing.{framed, is_passed, closing_bytes, spent, is_beyond, is_complete}
+use Rattle.http_out.specs.Passage.{IsSent, IsBroken}
+use Rattle.http_out.specs.Writer.{Writer, IsStep, IsEndStep, IsChunkStep, BreaksOff, after_bytes}
+
+-- the writer with these parts
+abbrev pub writer_with : RequestKind → Framing → List ℕ → Passage → Bool → Writer
+writer_with kind f held p ended = record { kind = kind; framing = Some f; held = held; passed = p.passed; failed = p.failed; ended = ended }
+
+-- a write of these bytes in a state where no write failed
+pub sent_step : (kind : RequestKind) (before f : Framing) (held bytes : List ℕ) (was ended : Bool) (p q : Passage)
+    (sent now : Option (List ℕ)) (r : Result Unit OutError) → p.failed ≡ false → IsSent bytes p q sent now r
+    → IsStep false bytes (writer_with kind before held p was) (writer_with kind f held p ended) (after_bytes (writer_with kind f held p ended) bytes)
+        (writer_with kind f [] q ended) sent now r
+sent_step kind before f held bytes was ended p q sent now (Ok u) fine s = (refl, rw s.1 refl, s.0)
+sent_step kind before f held bytes was ended p q sent now (Err Out.Fault) fine s =
+    (refl, record { puts = s.puts; state = rw (s.passed, s.failed) refl })
+sent_step kind before f held bytes was ended p q sent now (Err Out.NoMemory) fine s =
+    (refl, record { puts = s.puts; state = rw (s.passed, s.failed) refl })
+sent_step kind before f held bytes was ended p q sent now (Err Out.BadReply) fine s = absurd s
+sent_step kind before f held bytes was ended p q sent now (Err Out.Disagree) fine s = absurd s
+
+pub end_step : (kind : RequestKind) (f : Framing) (held : List ℕ) (p q : Passage) (was : Bool)
+    (sent now : Option (List ℕ)) (r : Result Unit OutError) → is_complete f ≡ true → p.failed ≡ false
+    → IsSent (held ++ closing_bytes f) p q sent now r
+    → IsEndStep (writer_with kind f held p was) (writer_with kind f [] q true) sent now r
+end_step kind f held p q was sent now r complete fine s =
+    rw (complete, fine) (rw fine at (sent_step kind f f held (held ++ closing_bytes f) was true p q sent now r fine s))
+
+pub chunk_step : (kind : RequestKind) (f : Framing) (held chunk : List ℕ) (p q : Passage) (ended : Bool)
+    (sent now : Option (List ℕ)) (r : Result Unit OutError) → is_beyond f (length chunk) ≡ false → p.failed ≡ false → is_passed f chunk ≡ true
+    → IsSent (held ++ framed f chunk) p q sent now r
+    → IsChunkStep (writer_with kind f held p ended) chunk (writer_with kind (spent f (length chunk)) [] q ended) sent now r
+chunk_step kind f held chunk p q ended sent now r within fine passes s =
+    rw (within, fine, passes) (rw fine at (sent_step kind f (spent f (length chunk)) held (held ++ framed f chunk) ended ended p q sent now r fine s))

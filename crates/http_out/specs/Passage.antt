@@ -1,0 +1,21 @@
+-- What a write to the client leaves behind.
+use Rattle.std.specs.Prelude.{◌≡◌, ℕ, Bool, true, ◌||◌, List, length, nat_lt, Option, Result, Ok, Err}
+use Rattle.jk_io.specs.Told.{appended, PutsFront}
+use Rattle.http_out.specs.declared.passage.Passage.{Passage}
+use Rattle.http_out.specs.declared.reply_head.OutError.{OutError}
+use Rattle.http_out.specs.declared.reply_head.OutError.TheVariants as Out
+
+-- a front of the piece was written, and nothing more will be
+pub record IsBroken (piece : List ℕ) (before after : Passage) (sent sent_now : Option (List ℕ)) : Type 0 where
+  pub puts : PutsFront sent sent_now piece
+  pub passed : after.passed ≡ (before.passed || nat_lt 0 (length puts.front))
+  pub failed : after.failed ≡ true
+
+-- the piece was written whole, or its write broke off
+abbrev pub IsSent : List ℕ → Passage → Passage → Option (List ℕ) → Option (List ℕ) → Result Unit OutError → Type 0
+IsSent piece before after sent sent_now (Ok _) =
+    (sent_now ≡ appended sent piece) × (after ≡ record before { passed = before.passed || nat_lt 0 (length piece) })
+IsSent piece before after sent sent_now (Err Out.Fault) = IsBroken piece before after sent sent_now
+IsSent piece before after sent sent_now (Err Out.NoMemory) = IsBroken piece before after sent sent_now
+IsSent piece before after sent sent_now (Err Out.BadReply) = ⊥
+IsSent piece before after sent sent_now (Err Out.Disagree) = ⊥

@@ -1,0 +1,49 @@
+//! What has gone to the client.
+ghost use Rattle.std.specs.Prelude.{◌≡◌, ◌≤◌, ◌||◌, IsErrOf};
+ghost use Rattle.jk_io.specs.Told.{Rose};
+ghost use Rattle.http_out.specs.Passage.{IsSent};
+
+use jk_io::{IoError, Sink, write_counted};
+
+use crate::reply_head::OutError;
+
+/// Whether a byte was written, and whether a write failed.
+#[derive(Clone, Copy, Debug, PartialEq, Eq)]
+pub struct Passage {
+    pub passed: bool,
+    pub failed: bool,
+}
+
+/// Writes a piece, and notes what became of it.
+pub fn send<C: Sink>(
+    client: &mut C,
+    piece: &[u8],
+    passage: &mut Passage,
+) -> Result<(), OutError>
+    ensures sent { IsSent piece.now passage.old passage.new (C.sent client.old) (C.sent client.new) result }
+    ensures same { (C.incoming client.new ≡ C.incoming client.old) × (C.received client.new ≡ C.received client.old)
+        × (C.beside client.new ≡ C.beside client.old) }
+    ensures no_fewer { C.faults client.old ≤ C.faults client.new }
+    ensures cause { IsErrOf result OutError.Fault → Rose (C.faults client.old) (C.faults client.new) }
+{
+    let mut written = 0;
+    let answer = write_counted(client, piece, &mut written);
+    passage.passed = either(passage.passed, written > 0);
+    match answer {
+        Ok(()) => Ok(()),
+        Err(IoError::Failed) => {
+            passage.failed = true;
+            Err(OutError::Fault)
+        }
+        Err(IoError::NoMemory) => {
+            passage.failed = true;
+            Err(OutError::NoMemory)
+        }
+    }
+}
+
+fn either(before: bool, now: bool) -> bool
+    ensures { result ≡ (before || now) }
+{
+    before || now
+}

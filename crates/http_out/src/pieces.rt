@@ -1,0 +1,82 @@
+//! A chunk, and the end of a reply, in one write each.
+ghost use Rattle.std.specs.Prelude.{◌≡◌, ◌≤◌, ◌++◌, [], true, IsErrOf};
+ghost use Rattle.jk_io.specs.Told.{Rose};
+ghost use Rattle.http_out.specs.Framing.{framed, closing_bytes, is_passed};
+ghost use Rattle.http_out.specs.Passage.{IsSent};
+
+use jk_io::{Bytes, NoMemory, Sink};
+
+use crate::framing::{Framing, put_closing, put_framed};
+use crate::passage::{Passage, send};
+use crate::reply_head::OutError;
+
+/// Writes a chunk behind the text that is held, and leaves no text. A chunk that needs no frame goes from where it lies.
+pub fn write_piece<C: Sink>(
+    text: &mut Bytes,
+    framing: Framing,
+    chunk: &[u8],
+    client: &mut C,
+    passage: &mut Passage,
+) -> Result<(), OutError>
+    requires { is_passed framing chunk.now ≡ true }
+
+    ensures sent { IsSent (text.old ++ framed framing chunk.now) passage.old passage.new (C.sent client.old) (C.sent client.new) result }
+    ensures spent { text.new ≡ [] }
+    ensures same { (C.incoming client.new ≡ C.incoming client.old) × (C.received client.new ≡ C.received client.old)
+        × (C.beside client.new ≡ C.beside client.old) }
+    ensures no_fewer { C.faults client.old ≤ C.faults client.new }
+    ensures cause { IsErrOf result OutError.Fault → Rose (C.faults client.old) (C.faults client.new) }
+{
+    if text.is_empty() && !framing.is_chunked() {
+        return send(client, chunk, passage);
+    }
+    match put_framed(text, framing, chunk) {
+        Ok(()) => flush(text, client, passage),
+        Err(NoMemory) => Err(give_up(text, passage)),
+    }
+}
+
+/// Writes what is held and what follows the last chunk, and leaves no text.
+pub fn write_closing<C: Sink>(
+    text: &mut Bytes,
+    framing: Framing,
+    client: &mut C,
+    passage: &mut Passage,
+) -> Result<(), OutError>
+    ensures sent { IsSent (text.old ++ closing_bytes framing) passage.old passage.new (C.sent client.old) (C.sent client.new) result }
+    ensures spent { text.new ≡ [] }
+    ensures same { (C.incoming client.new ≡ C.incoming client.old) × (C.received client.new ≡ C.received client.old)
+        × (C.beside client.new ≡ C.beside client.old) }
+    ensures no_fewer { C.faults client.old ≤ C.faults client.new }
+    ensures cause { IsErrOf result OutError.Fault → Rose (C.faults client.old) (C.faults client.new) }
+{
+    match put_closing(text, framing) {
+        Ok(()) => flush(text, client, passage),
+        Err(NoMemory) => Err(give_up(text, passage)),
+    }
+}
+
+/// Writes the text, and leaves none.
+fn flush<C: Sink>(text: &mut Bytes, client: &mut C, passage: &mut Passage) -> Result<(), OutError>
+    ensures sent { IsSent text.old passage.old passage.new (C.sent client.old) (C.sent client.new) result }
+    ensures spent { text.new ≡ [] }
+    ensures same { (C.incoming client.new ≡ C.incoming client.old) × (C.received client.new ≡ C.received client.old)
+        × (C.beside client.new ≡ C.beside client.old) }
+    ensures no_fewer { C.faults client.old ≤ C.faults client.new }
+    ensures cause { IsErrOf result OutError.Fault → Rose (C.faults client.old) (C.faults client.new) }
+{
+    let sent = send(client, text.as_slice(), passage);
+    text.clear();
+    sent
+}
+
+/// Leaves no text, and the reply broken off for want of memory.
+fn give_up(text: &mut Bytes, passage: &mut Passage) -> OutError
+    ensures error { result ≡ OutError.NoMemory }
+    ensures spent { text.new ≡ [] }
+    ensures broken { passage.new ≡ record passage.old { failed = true } }
+{
+    text.clear();
+    passage.failed = true;
+    OutError::NoMemory
+}
