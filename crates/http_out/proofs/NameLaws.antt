@@ -14,9 +14,9 @@ is_field_name-from name h =
 pub is_field_name-false : (name : List ℕ) → ¬ (IsFieldName name) → is_field_name name ≡ false
 is_field_name-false name h =
     elim (cases_Bool (is_field_name name)) as (λ _. is_field_name name ≡ false)
-      [ inl is ↦ absurd (h (IsFieldName-from_test name is)) | inr isnt ↦ isnt ]
+    [ inl is ↦ absurd (h (IsFieldName-from_test name is)) | inr isnt ↦ isnt ]
 
 pub is_field_name-true : (name : List ℕ) → ¬ (¬ (IsFieldName name)) → is_field_name name ≡ true
 is_field_name-true name h =
     elim (cases_Bool (is_field_name name)) as (λ _. is_field_name name ≡ true)
-      [ inl is ↦ is | inr isnt ↦ absurd (h (λ (name_is : IsFieldName name). let is = is_field_name-from name name_is in cc)) ]
+    [ inl is ↦ is | inr isnt ↦ absurd (h (λ (name_is : IsFieldName name). let is = is_field_name-from name name_is in cc)) ]

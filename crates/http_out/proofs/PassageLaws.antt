@@ -15,7 +15,7 @@ broken piece before after sent now n within put passed failed =
     record {
       puts = record { front = take (n - 0) piece; rest = drop (n - 0) piece; whole = sym (take-append-drop (n - 0) piece); put = put };
       passed = rw count passed;
-      failed = failed
+      failed = failed;
     }
 
 -- for want of memory before any byte was written
@@ -24,9 +24,9 @@ pub nothing_sent : (piece : List ℕ) (before after : Passage) (sent : Option (L
 nothing_sent piece before after sent is = rw is (record {
   puts = record { front = []; rest = piece; whole = refl; put = sym (appended-nil sent) };
   passed = sym (or-false before.passed);
-  failed = refl
+  failed = refl;
 })
   where
-  or-false : (b : Bool) → (b || nat_lt 0 (length {A = ℕ} [])) ≡ b
-  or-false true = refl
-  or-false false = refl
+    or-false : (b : Bool) → (b || nat_lt 0 (length {A = ℕ} [])) ≡ b
+    or-false true = refl
+    or-false false = refl

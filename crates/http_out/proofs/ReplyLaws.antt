@@ -72,9 +72,10 @@ module _ (kind : RequestKind) (h : ReplyHead) (chunk : List ℕ) (past : List (L
 
   grows-bytes : so_far_of kind h (chunk ∷ past) ≡ so_far_of kind h past ++ chunk_bytes (writer_after kind h past) chunk
   grows-bytes =
-      elim (cases_Bool (is_passed (framing_of kind h) chunk)) as (λ _. so_far_of kind h (chunk ∷ past) ≡ so_far_of kind h past ++ chunk_bytes (writer_after kind h past) chunk)
-        [ inl q ↦ elim (cases_Bool (has_begun (framing_of kind h) past)) as (λ _. so_far_of kind h (chunk ∷ past) ≡ so_far_of kind h past ++ chunk_bytes (writer_after kind h past) chunk) [ inl b ↦ passed_behind q b | inr b ↦ passed_first q b ]
-        | inr q ↦ elim (cases_Bool (has_begun (framing_of kind h) past)) as (λ _. so_far_of kind h (chunk ∷ past) ≡ so_far_of kind h past ++ chunk_bytes (writer_after kind h past) chunk) [ inl b ↦ dropped_behind q b | inr b ↦ dropped_first q b ] ]
+      elim (cases_Bool (is_passed (framing_of kind h) chunk)) as (λ _. so_far_of kind h (chunk ∷ past) ≡ so_far_of kind h past ++ chunk_bytes (writer_after kind h past) chunk) [
+        | inl q ↦ elim (cases_Bool (has_begun (framing_of kind h) past)) as (λ _. so_far_of kind h (chunk ∷ past) ≡ so_far_of kind h past ++ chunk_bytes (writer_after kind h past) chunk) [ inl b ↦ passed_behind q b | inr b ↦ passed_first q b ]
+        | inr q ↦ elim (cases_Bool (has_begun (framing_of kind h) past)) as (λ _. so_far_of kind h (chunk ∷ past) ≡ so_far_of kind h past ++ chunk_bytes (writer_after kind h past) chunk) [ inl b ↦ dropped_behind q b | inr b ↦ dropped_first q b ]
+      ]
 
   state_passed : is_passed (framing_of kind h) chunk ≡ true → after_chunk (writer_after kind h past) chunk ≡ writer_after kind h (chunk ∷ past)
   state_passed q =
@@ -87,7 +88,7 @@ module _ (kind : RequestKind) (h : ReplyHead) (chunk : List ℕ) (past : List (L
   grows-state : after_chunk (writer_after kind h past) chunk ≡ writer_after kind h (chunk ∷ past)
   grows-state =
       elim (cases_Bool (is_passed (framing_of kind h) chunk)) as (λ _. after_chunk (writer_after kind h past) chunk ≡ writer_after kind h (chunk ∷ past))
-        [ inl q ↦ state_passed q | inr q ↦ state_dropped q ]
+      [ inl q ↦ state_passed q | inr q ↦ state_dropped q ]
 
 pub grows : GrowsByChunk
 grows kind h chunk past = (grows-bytes kind h chunk past, grows-state kind h chunk past)
@@ -102,7 +103,7 @@ module _ (kind : RequestKind) (h : ReplyHead) (past : List (List ℕ)) where
   ends-bytes : reply_bytes kind h past ≡ so_far_of kind h past ++ end_bytes (writer_after kind h past)
   ends-bytes =
       elim (cases_Bool (has_begun (framing_of kind h) past)) as (λ _. reply_bytes kind h past ≡ so_far_of kind h past ++ end_bytes (writer_after kind h past))
-        [ inl b ↦ ends_begun b | inr b ↦ ends_held b ]
+      [ inl b ↦ ends_begun b | inr b ↦ ends_held b ]
 
 pub ends : EndsWhole
 ends kind h past = ends-bytes kind h past

@@ -110,7 +110,7 @@ writer_after kind h past = record {
   held = (if has_begun (framing_of kind h) past then [] else head_bytes kind h);
   passed = has_begun (framing_of kind h) past;
   failed = false;
-  ended = false
+  ended = false;
 }
 
 -- a chunk writes just what it adds to the reply so far, and leaves the writer of the longer list

@@ -3,9 +3,8 @@ ghost use Rattle.std.specs.Prelude.{if◌then◌else◌, ◌≡◌, ◌++◌, �
 ghost use Rattle.std.specs.Fmt.{digit_glyph};
 ghost use Rattle.http_out.specs.Framing.{framing_by, hex_digits, framed, closing_bytes};
 
-use jk_io::{Bytes, NoMemory};
-
 use crate::content_length::ContentLength;
+use jk_io::{Bytes, NoMemory};
 
 /// What of a request its reply's bytes go by.
 #[derive(Clone, Copy, Debug, PartialEq, Eq)]
@@ -48,7 +47,11 @@ pub fn framing_of(kind: RequestKind, status: u16, said: ContentLength) -> Framin
 fn unbounded(old: bool) -> Framing
     ensures { result ≡ (if old then Framing.Closing else Framing.Chunks) }
 {
-    if old { Framing::Closing } else { Framing::Chunks }
+    if old {
+        Framing::Closing
+    } else {
+        Framing::Chunks
+    }
 }
 
 impl Framing {

@@ -3,13 +3,11 @@ ghost use Rattle.std.specs.Prelude.{◌≡◌, ◌++◌, IfOk, OnOk};
 ghost use Rattle.http_out.specs.Framing.{framing_of};
 ghost use Rattle.http_out.specs.ReplyBytes.{head_bytes, passes, line_bytes, lines_bytes, framing_line, last_line, status_line};
 
-use std::alloc::Global;
-
-use jk_io::{Bytes, NoMemory, put_decimal};
-
 use crate::content_length::is_content_length;
 use crate::framing::{Framing, RequestKind};
 use crate::reply_head::ReplyHead;
+use jk_io::{Bytes, NoMemory, put_decimal};
+use std::alloc::Global;
 
 /// Room for a status line, the added lines and the empty line.
 const FIXED_ROOM: usize = 80;

@@ -16,11 +16,11 @@ mod pieces;
 mod reply_head;
 mod reply_laws;
 mod reply_writer;
+#[cfg(test)]
+mod tests;
 
 pub use framing::RequestKind;
 pub use own_answers::own_answer;
 pub use reply_head::{OutError, ReplyHead};
-pub use reply_laws::{
-    replies_end_whole, replies_grow_by_chunks, what_is_written_stays_a_prefix,
-};
+pub use reply_laws::{replies_end_whole, replies_grow_by_chunks, what_is_written_stays_a_prefix};
 pub use reply_writer::ReplyWriter;

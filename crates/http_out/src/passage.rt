@@ -3,9 +3,8 @@ ghost use Rattle.std.specs.Prelude.{◌≡◌, ◌≤◌, ◌||◌, IsErrOf};
 ghost use Rattle.jk_io.specs.Told.{Rose};
 ghost use Rattle.http_out.specs.Passage.{IsSent};
 
-use jk_io::{IoError, Sink, write_counted};
-
 use crate::reply_head::OutError;
+use jk_io::{IoError, Sink, write_counted};
 
 /// Whether a byte was written, and whether a write failed.
 #[derive(Clone, Copy, Debug, PartialEq, Eq)]
@@ -15,11 +14,7 @@ pub struct Passage {
 }
 
 /// Writes a piece, and notes what became of it.
-pub fn send<C: Sink>(
-    client: &mut C,
-    piece: &[u8],
-    passage: &mut Passage,
-) -> Result<(), OutError>
+pub fn send<C: Sink>(client: &mut C, piece: &[u8], passage: &mut Passage) -> Result<(), OutError>
     ensures sent { IsSent piece.now passage.old passage.new (C.sent client.old) (C.sent client.new) result }
     ensures same { (C.incoming client.new ≡ C.incoming client.old) × (C.received client.new ≡ C.received client.old)
         × (C.beside client.new ≡ C.beside client.old) }

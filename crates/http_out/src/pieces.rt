@@ -4,11 +4,10 @@ ghost use Rattle.jk_io.specs.Told.{Rose};
 ghost use Rattle.http_out.specs.Framing.{framed, closing_bytes, is_passed};
 ghost use Rattle.http_out.specs.Passage.{IsSent};
 
-use jk_io::{Bytes, NoMemory, Sink};
-
 use crate::framing::{Framing, put_closing, put_framed};
 use crate::passage::{Passage, send};
 use crate::reply_head::OutError;
+use jk_io::{Bytes, NoMemory, Sink};
 
 /// Writes a chunk behind the text that is held, and leaves no text. A chunk that needs no frame goes from where it lies.
 pub fn write_piece<C: Sink>(

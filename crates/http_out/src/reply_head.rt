@@ -4,15 +4,13 @@ ghost use Rattle.std.specs.List.{list_all};
 ghost use Rattle.http_header.specs.FieldName.{is_field_name};
 ghost use Rattle.http_out.specs.Head.{is_text, is_field, IsJudgment};
 
-use std::alloc::Global;
-
+use crate::content_length::{ContentLength, content_length};
 use http::StatusCode;
 use http_front::HeadLines;
 use http_header::{HeaderName, HeaderNameError};
 use jk_io::{Bytes, NoMemory};
+use std::alloc::Global;
 use thiserror::Error;
-
-use crate::content_length::{ContentLength, content_length};
 
 /// The head of a container's reply, as the client is to get it but for the lines that speak of the container's link.
 #[derive(Debug, Drop)]

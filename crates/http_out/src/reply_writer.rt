@@ -1,18 +1,16 @@
 //! `ReplyWriter`: a reply on its way to the client.
-ghost use Rattle.std.specs.Prelude.{◌≡◌, ◌≤◌, None, IsErrOf};
+ghost use Rattle.std.specs.Prelude.{◌≡◌, ◌≤◌, None, OnOk, IsErrOf};
 ghost use Rattle.jk_io.specs.Told.{Rose};
 ghost use Rattle.http_out.specs.Writer.{new_writer, IsJudged, IsOpen, IsChunkStep, IsEndStep};
-
-use std::alloc::Global;
-use std::marker::Model;
-
-use jk_io::{Bytes, Sink};
 
 use crate::framing::{Framing, RequestKind, framing_of};
 use crate::head_text::head_text;
 use crate::passage::Passage;
 use crate::pieces::{write_closing, write_piece};
 use crate::reply_head::{OutError, ReplyHead, judge};
+use jk_io::{Bytes, Sink};
+use std::alloc::Global;
+use std::marker::Model;
 
 /// Writes one reply: its head, its chunks, its end. The head is held until the first chunk that passes, so that both
 /// go out in one write.
@@ -33,12 +31,12 @@ impl Model for ReplyWriter {
     ghost Value = { Writer };
 
     ghost view = { λ w. record {
-        kind = w.kind;
-        framing = w.framing;
-        held = w.text;
-        passed = w.passage.passed;
-        failed = w.passage.failed;
-        ended = w.ended
+      kind = w.kind;
+      framing = w.framing;
+      held = w.text;
+      passed = w.passage.passed;
+      failed = w.passage.failed;
+      ended = w.ended;
     } };
 }
 
@@ -82,6 +80,7 @@ impl ReplyWriter {
         requires { IsOpen self.old }
 
         ensures step { IsChunkStep self.old bytes.now self.new (C.sent client.old) (C.sent client.new) result }
+        ensures goes_on { OnOk result (IsOpen self.new) }
         ensures same { (C.incoming client.new ≡ C.incoming client.old) × (C.received client.new ≡ C.received client.old)
             × (C.beside client.new ≡ C.beside client.old) }
         ensures no_fewer { C.faults client.old ≤ C.faults client.new }

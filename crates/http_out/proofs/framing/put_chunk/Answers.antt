@@ -18,5 +18,5 @@ unfolding hex
 returns c =
     let line = not_empty c.args.chunk.now c.is_empty.result c.is_empty.ensures c.if-is_empty.false in
     let whole = joined c.reserve.new.self c.put_hex.new.text c.extend.new.self c.extend-2.new.self (hex (length c.args.chunk.now)) (codes "\r\n")
-      c.args.chunk.now c.in_ok-put_hex.ensures c.in_ok-extend.ensures.ok c.in_ok-extend-2.ensures.ok in
+    c.args.chunk.now c.in_ok-put_hex.ensures c.in_ok-extend.ensures.ok c.in_ok-extend-2.ensures.ok in
     rw (line, ← c.reserve.ensures, ← whole) c.extend-3.ensures.ok

@@ -13,4 +13,4 @@ front-of head body whole n is len =
 pub returns-then-head_only : goal.returns-then-head_only
 returns-then-head_only c =
     rw (c.own_with-own.ensures, c.if-head_only.true)
-      (front-of _ _ c.whole_answer-whole.result.now c.body_len.result c.whole_answer-whole.ensures c.body_len.ensures)
+    (front-of _ _ c.whole_answer-whole.result.now c.body_len.result c.whole_answer-whole.ensures c.body_len.ensures)

@@ -1,0 +1,333 @@
+//! Replies as a client gets them, against bytes written by hand from RFC 9112.
+ghost use Rattle.std.specs.Prelude.{OnOk, length, ◌≤◌};
+ghost use Rattle.http_out.specs.Writer.{IsOpen};
+
+use crate::{OutError, ReplyHead, ReplyWriter, own_answer};
+use http_front::HeadLines;
+use jk_io::{Bytes, MemLink, NoMemory, NumberList};
+use std::alloc::Global;
+use std::test::Fail;
+
+/// What of the request its reply goes by: of 1.0, with HEAD, the last one.
+type Asked = (bool, bool, bool);
+
+const GET: Asked = (false, false, false);
+
+const HEAD: Asked = (false, true, false);
+
+const OLD: Asked = (true, false, true);
+
+const LAST: Asked = (false, false, true);
+
+struct Case {
+    shows: &'static str,
+    asked: Asked,
+    status: u16,
+    lines: &'static [(&'static [u8], &'static [u8])],
+    chunks: &'static [&'static [u8]],
+    sent: &'static [u8],
+    end: Result<(), OutError>,
+}
+
+const CASES: [Case; 22] = [
+    Case {
+        shows: "a length",
+        asked: GET,
+        status: 200,
+        lines: &[(b"Content-Length", b"2")],
+        chunks: &[b"hi"],
+        sent: b"HTTP/1.1 200 OK\r\nContent-Length: 2\r\n\r\nhi",
+        end: Ok(()),
+    },
+    Case {
+        shows: "no length",
+        asked: GET,
+        status: 200,
+        lines: &[],
+        chunks: &[b"hi"],
+        sent: b"HTTP/1.1 200 OK\r\nTransfer-Encoding: chunked\r\n\r\n2\r\nhi\r\n0\r\n\r\n",
+        end: Ok(()),
+    },
+    Case {
+        shows: "chunks of ten and eleven",
+        asked: LAST,
+        status: 200,
+        lines: &[],
+        chunks: &[b"0123456789", b"0123456789a"],
+        sent: b"HTTP/1.1 200 OK\r\nTransfer-Encoding: chunked\r\nConnection: close\r\n\r\na\r\n0123456789\r\nb\r\n0123456789a\r\n0\r\n\r\n",
+        end: Ok(()),
+    },
+    Case {
+        shows: "a chunk of nineteen",
+        asked: GET,
+        status: 200,
+        lines: &[],
+        chunks: &[b"0123456789012345678"],
+        sent: b"HTTP/1.1 200 OK\r\nTransfer-Encoding: chunked\r\n\r\n13\r\n0123456789012345678\r\n0\r\n\r\n",
+        end: Ok(()),
+    },
+    Case {
+        shows: "an empty chunk ends no body",
+        asked: GET,
+        status: 200,
+        lines: &[],
+        chunks: &[b"", b"a", b"", b"b"],
+        sent: b"HTTP/1.1 200 OK\r\nTransfer-Encoding: chunked\r\n\r\n1\r\na\r\n1\r\nb\r\n0\r\n\r\n",
+        end: Ok(()),
+    },
+    Case {
+        shows: "no chunk at all",
+        asked: GET,
+        status: 200,
+        lines: &[],
+        chunks: &[],
+        sent: b"HTTP/1.1 200 OK\r\nTransfer-Encoding: chunked\r\n\r\n0\r\n\r\n",
+        end: Ok(()),
+    },
+    Case {
+        shows: "1.0 without a length",
+        asked: OLD,
+        status: 200,
+        lines: &[],
+        chunks: &[b"hi", b"ho"],
+        sent: b"HTTP/1.1 200 OK\r\nConnection: close\r\n\r\nhiho",
+        end: Ok(()),
+    },
+    Case {
+        shows: "1.0 with a length",
+        asked: OLD,
+        status: 200,
+        lines: &[(b"content-length", b"02")],
+        chunks: &[b"hi"],
+        sent: b"HTTP/1.1 200 OK\r\ncontent-length: 02\r\nConnection: close\r\n\r\nhi",
+        end: Ok(()),
+    },
+    Case {
+        shows: "HEAD has no body",
+        asked: HEAD,
+        status: 200,
+        lines: &[(b"Content-Length", b"9")],
+        chunks: &[b"hi"],
+        sent: b"HTTP/1.1 200 OK\r\nContent-Length: 9\r\n\r\n",
+        end: Ok(()),
+    },
+    Case {
+        shows: "204 has no length",
+        asked: GET,
+        status: 204,
+        lines: &[(b"CONTENT-LENGTH", b"2"), (b"X", b"y")],
+        chunks: &[b"hi"],
+        sent: b"HTTP/1.1 204 OK\r\nX: y\r\n\r\n",
+        end: Ok(()),
+    },
+    Case {
+        shows: "204 without a length",
+        asked: GET,
+        status: 204,
+        lines: &[],
+        chunks: &[],
+        sent: b"HTTP/1.1 204 OK\r\n\r\n",
+        end: Ok(()),
+    },
+    Case {
+        shows: "304 keeps its length",
+        asked: GET,
+        status: 304,
+        lines: &[(b"Content-Length", b"2")],
+        chunks: &[b"hi"],
+        sent: b"HTTP/1.1 304 OK\r\nContent-Length: 2\r\n\r\n",
+        end: Ok(()),
+    },
+    Case {
+        shows: "lines of the container's link stay behind",
+        asked: GET,
+        status: 200,
+        lines: &[
+            (b"Connection", b"close"),
+            (b"A", b"1"),
+            (b"KEEP-ALIVE", b"5"),
+            (b"transfer-Encoding", b"chunked"),
+            (b"Content-Length", b"0"),
+        ],
+        chunks: &[],
+        sent: b"HTTP/1.1 200 OK\r\nA: 1\r\nContent-Length: 0\r\n\r\n",
+        end: Ok(()),
+    },
+    Case {
+        shows: "one byte too many",
+        asked: GET,
+        status: 200,
+        lines: &[(b"Content-Length", b"3")],
+        chunks: &[b"abcd"],
+        sent: b"",
+        end: Err(OutError::Disagree),
+    },
+    Case {
+        shows: "one byte too few",
+        asked: GET,
+        status: 200,
+        lines: &[(b"Content-Length", b"3")],
+        chunks: &[b"ab"],
+        sent: b"HTTP/1.1 200 OK\r\nContent-Length: 3\r\n\r\nab",
+        end: Err(OutError::Disagree),
+    },
+    Case {
+        shows: "two lengths",
+        asked: GET,
+        status: 200,
+        lines: &[(b"Content-Length", b"3"), (b"content-length", b"3")],
+        chunks: &[],
+        sent: b"",
+        end: Err(OutError::BadReply),
+    },
+    Case {
+        shows: "a length of twenty digits",
+        asked: GET,
+        status: 200,
+        lines: &[(b"Content-Length", b"00000000000000000003")],
+        chunks: &[],
+        sent: b"",
+        end: Err(OutError::BadReply),
+    },
+    Case {
+        shows: "a length with a sign",
+        asked: GET,
+        status: 200,
+        lines: &[(b"Content-Length", b"+3")],
+        chunks: &[],
+        sent: b"",
+        end: Err(OutError::BadReply),
+    },
+    Case {
+        shows: "a name with a space",
+        asked: GET,
+        status: 200,
+        lines: &[(b"A b", b"c")],
+        chunks: &[],
+        sent: b"",
+        end: Err(OutError::BadReply),
+    },
+    Case {
+        shows: "a value that would end its line",
+        asked: GET,
+        status: 200,
+        lines: &[(b"A", b"b\r\nC: d")],
+        chunks: &[],
+        sent: b"",
+        end: Err(OutError::BadReply),
+    },
+    Case {
+        shows: "199",
+        asked: GET,
+        status: 199,
+        lines: &[],
+        chunks: &[],
+        sent: b"",
+        end: Err(OutError::BadReply),
+    },
+    Case {
+        shows: "999",
+        asked: GET,
+        status: 999,
+        lines: &[(b"Content-Length", b"0")],
+        chunks: &[],
+        sent: b"HTTP/1.1 999 OK\r\nContent-Length: 0\r\n\r\n",
+        end: Ok(()),
+    },
+];
+
+fn head_of(alloc: Global, case: &Case) -> Result<ReplyHead, NoMemory> {
+    let mut headers = HeadLines::new(alloc);
+    for (name, value) in case.lines {
+        if headers.len() < 100 {
+            headers.push((
+                Bytes::from_slice(alloc, name)?,
+                Bytes::from_slice(alloc, value)?,
+            ))?;
+        }
+    }
+    Ok(ReplyHead {
+        status: case.status,
+        message: Bytes::from_slice(alloc, b"OK")?,
+        headers,
+    })
+}
+
+fn pass_chunks(
+    writer: &mut ReplyWriter,
+    chunks: &[&[u8]],
+    client: &mut MemLink,
+) -> Result<(), OutError>
+    requires { IsOpen writer.old }
+    ensures { OnOk result (IsOpen writer.new) }
+{
+    for chunk in chunks {
+        writer.chunk(chunk, client)?;
+    }
+    Ok(())
+}
+
+fn pass(alloc: Global, case: &Case, client: &mut MemLink) -> Result<(), OutError> {
+    let (old, head_only, last) = case.asked;
+    let mut writer = ReplyWriter::new(alloc, old, head_only, last);
+    writer.headers(head_of(alloc, case)?)?;
+    pass_chunks(&mut writer, case.chunks, client)?;
+    writer.end(client)
+}
+
+fn silent_client(alloc: Global) -> MemLink {
+    MemLink::new(alloc, Bytes::new(alloc), NumberList::new(alloc))
+}
+
+#[test]
+fn replies_go_out_framed(rt: HostRuntime) {
+    for case in &CASES {
+        let mut client = silent_client(rt.alloc());
+        let end = pass(rt.alloc(), case, &mut client);
+        assert_eq!(rt; client.sent(), case.sent, "{}", case.shows);
+        assert_eq!(rt; end, case.end, "{}", case.shows);
+    }
+}
+
+#[test]
+fn nothing_follows_a_fault(rt: HostRuntime) -> Result<(), Fail> {
+    let mut writes = NumberList::new(rt.alloc());
+    writes.push(20)?;
+    let mut client = MemLink::failing_at(
+        rt.alloc(),
+        Bytes::new(rt.alloc()),
+        NumberList::new(rt.alloc()),
+        writes,
+    )?;
+    let mut writer = ReplyWriter::new(rt.alloc(), false, false, false);
+    writer.headers(head_of(rt.alloc(), &CASES[0])?)?;
+    assert_eq!(rt; writer.chunk(b"h", &mut client), Err(OutError::Fault));
+    assert_eq!(rt; client.sent(), b"HTTP/1.1 200 OK\r\nCon".as_slice());
+    assert!(rt; writer.passed());
+    Ok(())
+}
+
+#[test]
+fn own_answers_have_the_status_twice(rt: HostRuntime) {
+    let bad_gateway =
+        b"HTTP/1.1 502 Bad Gateway\r\nContent-Type: text/plain\r\nContent-Length: 16\r\nConnection: close\r\n\r\n502 Bad Gateway\n";
+    assert_eq!(rt; own_answer(502, false), bad_gateway.as_slice());
+    assert_eq!(rt; own_answer(502, true).len(), bad_gateway.len() - 16);
+    for (status, length) in [
+        (400, 16),
+        (403, 14),
+        (404, 14),
+        (413, 22),
+        (431, 36),
+        (500, 26),
+        (501, 20),
+        (502, 16),
+        (503, 24),
+    ] {
+        assert_eq!(rt;
+            own_answer(status, false).len() - own_answer(status, true).len(),
+            length,
+            "{status}"
+        );
+    }
+}
