@@ -1,5 +1,5 @@
 -- What was read in two steps.
-use Rattle.std.proofs.Common.{◌≡◌, ℕ, List, [], ◌++◌, Option, ap, sym, ◌∙◌}
+use Rattle.std.proofs.Common.{ℕ, List, [], ◌++◌, Option, ap, sym, ◌∙◌}
 use Rattle.jk_io.specs.Told.{appended, prepended}
 use Rattle.jk_io.specs.Inputs.{HasRead}
 use Rattle.jk_io.proofs.ToldLaws.{appended-appended, appended-nil, prepended-prepended, prepended-nil}

@@ -1,5 +1,5 @@
 -- The laws of `appended`, `prepended`, `Rose` and `PutsFront`.
-use Rattle.std.proofs.Common.{◌≡◌, ℕ, ◌+◌, ◌≤◌, List, [], ◌++◌, take, drop, Option, Some, None, refl, sym, ap, ◌∙◌, append_assoc, arith}
+use Rattle.std.proofs.Common.{◌≡◌, ℕ, ◌≤◌, List, [], ◌∷◌, ◌++◌, take, drop, Option, Some, None, refl, sym, ap, ◌∙◌, append_assoc, arith}
 use Rattle.std.proofs.lemmas.List.{append-nil, take-append-drop}
 use Rattle.jk_io.specs.Told.{appended, prepended, Rose, PutsFront}
 
@@ -55,3 +55,13 @@ Rose-within first before now last earlier rose later = omega arith
 pub taken_put : {T : Type 0} → (before now : Option (List T)) (piece : List T) (n : ℕ)
     → now ≡ appended before (take n piece) → PutsFront before now piece
 taken_put before now piece n put = record { front = take n piece; rest = drop n piece; whole = sym (take-append-drop n piece); put = put }
+
+-- nothing was added, and then one more
+pub one_more : {T : Type 0} → (first before now : Option (List T)) (item : T) → before ≡ first → now ≡ appended before (item ∷ [])
+    → now ≡ appended first (item ∷ [])
+one_more first before now item same more = more ∙ ap (λ told. appended told (item ∷ [])) same
+
+-- one came, and then nothing changed
+pub one_came : {T : Type 0} → (before now last : Option (List T)) (item : T) → before ≡ prepended (item ∷ []) now → last ≡ now
+    → before ≡ prepended (item ∷ []) last
+one_came before now last item came same = came ∙ ap (λ told. prepended (item ∷ []) told) (sym same)

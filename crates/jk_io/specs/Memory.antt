@@ -1,5 +1,5 @@
 -- What contracts see of the objects in memory.
-use Rattle.std.specs.Prelude.{◌≡◌, ℕ, ◌+◌, ◌<◌, ◌≤◌, List, [], ◌∷◌, length, take, drop, Contains, count_by, ◌==◌}
+use Rattle.std.specs.Prelude.{◌≡◌, ℕ, List, [], ◌∷◌}
 use Rattle.jk_io.specs.declared.link_plan.LinkPlan.{LinkPlan}
 
 -- a link in memory: what is to come, what its reads gave and its writes took, what is to fail, and what failed

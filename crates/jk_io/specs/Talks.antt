@@ -1,5 +1,5 @@
 -- What a talk was begun with, what was said in it, and how it becomes one of the talks that ended.
-use Rattle.std.specs.Prelude.{◌≡◌, ℕ, List, [], Option, Some, None, IfSome, Bool, true, false}
+use Rattle.std.specs.Prelude.{◌≡◌, ℕ, List, [], Option, None, IfSome, Bool, false}
 use Rattle.jk_io.specs.declared.reaching.Talk.{Talk}
 use Rattle.jk_io.specs.declared.reaching.Begun.{Begun}
 

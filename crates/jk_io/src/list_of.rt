@@ -1,11 +1,10 @@
 //! `ListOf<T>`: the small type over `Vec` behind each type whose name ends in `List`.
-ghost use Rattle.std.specs.Prelude.{◌≡◌, List, [], ◌∷◌, ◌++◌, length, IfOk, IfErr, OnOk, OnErr, IfSome, IfNone, IsTrue, ◌↔◌, slice_get};
+ghost use Rattle.std.specs.Prelude.{◌≡◌, List, [], ◌∷◌, ◌++◌, length, IfOk, IfErr, OnOk, OnErr, IfSome, IfNone, IsTrue, ◌↔◌, ◌<◌, slice_get, slice_set};
 ghost use Rattle.std.specs.Option.{option_copied};
 
+use crate::failures::NoMemory;
 use std::alloc::{AllocFailed, Global};
 use std::marker::Model;
-
-use crate::failures::NoMemory;
 
 /// Items in order. A contract sees a list of them.
 #[derive(Debug, Drop)]
@@ -83,6 +82,16 @@ impl<T> ListOf<T> {
         ensures back { IfErr result (λ e. e.value ≡ item) }
     {
         self.items.push(item)
+    }
+
+    /// Puts an item in the place of another.
+    pub fn set(&mut self, place: usize, item: T)
+    where
+        T: Drop,
+        requires { place < length self.old }
+        ensures { self.new ≡ slice_set self.old place item }
+    {
+        self.items[place] = item;
     }
 
     /// Takes out the last item.

@@ -2,7 +2,7 @@
 //!
 //! A meaning that an object doesn't tell is None, and an equation on it then says nothing. So each clause here
 //! holds of a link in memory, which tells what it gives and took, and of a socket, which tells nothing.
-ghost use Rattle.std.specs.Prelude.{◌≡◌, ℕ, ◌<◌, ◌≤◌, List, Option, length, take, IfOk, OnErr};
+ghost use Rattle.std.specs.Prelude.{◌≡◌, ℕ, ◌<◌, ◌≤◌, List, Option, length, take, IsOk, IfOk, OnErr};
 ghost use Rattle.jk_io.specs.Told.{appended, prepended, IsEmpty, HasCause};
 
 use crate::failures::IoError;
@@ -41,7 +41,8 @@ pub trait Source: Meanings {
         // After a refusal no byte was given.
         ensures kept_on_error { OnErr result ((Self.incoming self.new ≡ Self.incoming self.old) × (Self.received self.new ≡ Self.received self.old)) }
         ensures same { (Self.sent self.new ≡ Self.sent self.old) × (Self.beside self.new ≡ Self.beside self.old) }
-        ensures cause { HasCause (Self.faults self.old) (Self.faults self.new) result };
+        ensures cause { HasCause (Self.faults self.old) (Self.faults self.new) result }
+        ensures steady { IsOk result → Self.faults self.new ≡ Self.faults self.old };
 }
 
 /// What bytes are written to.
@@ -57,7 +58,8 @@ pub trait Sink: Meanings {
         ensures kept_on_error { OnErr result (Self.sent self.new ≡ Self.sent self.old) }
         ensures same { (Self.incoming self.new ≡ Self.incoming self.old) × (Self.received self.new ≡ Self.received self.old)
             × (Self.beside self.new ≡ Self.beside self.old) }
-        ensures cause { HasCause (Self.faults self.old) (Self.faults self.new) result };
+        ensures cause { HasCause (Self.faults self.old) (Self.faults self.new) result }
+        ensures steady { IsOk result → Self.faults self.new ≡ Self.faults self.old };
 }
 
 /// A stream both ways, such as one end of a connection.

@@ -1,6 +1,5 @@
 -- What was counted is a front of the piece.
 use Rattle.std.proofs.Common.{rules}
-use Rattle.std.proofs.lemmas.Grind.{common_steps}
 use Rattle.jk_io.proofs.ToldLaws.{taken_put}
 use Rattle.jk_io.proofs.writing.write_all.Goals as goal
 
