@@ -1,2 +1,3 @@
 pub mod ReplyLaws
 pub mod StreamLaws
+pub mod RefusalLaws

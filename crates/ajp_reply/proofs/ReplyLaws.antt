@@ -26,7 +26,7 @@ ended_takes : (x m : Message) (rest : List ℕ) → ended x rest ≡ Ok m → (x
 ended_takes x m [] e = (ok_is x m e, refl)
 ended_takes x m (byte ∷ rest) e = absurd cc
 
-abbrev parts_of : ℕ → List ℕ → List (List ℕ × List ℕ) → ReplyParts
+abbrev pub parts_of : ℕ → List ℕ → List (List ℕ × List ℕ) → ReplyParts
 parts_of status message headers = record { status = status; message = message; headers = headers }
 
 head_takes : (bytes : List ℕ) (m : Message) → IsBytes bytes → head_at bytes ≡ Ok m → Spells m (4 ∷ bytes)

@@ -78,3 +78,7 @@ as_read (Chunk bytes) = Chunk bytes
 as_read (End reuse) = End reuse
 as_read (Ask most) = Ask most
 as_read Pong = Pong
+
+-- A payload spells some message.
+abbrev pub IsSpelled : List ℕ → Type 0
+IsSpelled payload = (message : Message) × Spells message payload

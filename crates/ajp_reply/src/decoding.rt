@@ -1,9 +1,10 @@
 //! Payloads of the container, read whole.
 
 ghost use Rattle.std.specs.Prelude.{◌≡◌, ◌≢◌, List, ℕ, length, map, IfOk, IfErr};
+ghost use Rattle.ajp_wire.specs.FirstPlace.{IsRefused};
 ghost use Rattle.ajp_wire.specs.Reading.{Gives, Tells};
 ghost use Rattle.ajp_reply.specs.declared.message.Message.{Message};
-ghost use Rattle.ajp_reply.specs.Spelling.{Spells};
+ghost use Rattle.ajp_reply.specs.Spelling.{Spells, IsSpelled};
 ghost use Rattle.ajp_reply.specs.Reading.{message_at, head_at, chunk_at, end_at, ask_at, ended as ended_at};
 
 use crate::message::{Message, ReplyParts};
@@ -17,7 +18,8 @@ pub fn decode_reply(alloc: Global, payload: &[u8]) -> Result<Message, DecodeErro
     ensures found { IfOk result (λ message. Spells message payload.now) }
     ensures none { IfErr result (λ error. error ≢ DecodeError.NoMemory → (message : Message) → Spells message payload.now → ⊥) }
 
-    // The kind of a refusal, and the first place that can't be read.
+    // The place of a refusal is the first that can't be read, and its kind is that of the field there.
+    ensures refused { IfErr result (λ error. IsRefused IsSpelled payload.now error) }
     ensures exact { Tells (length payload.now) result (message_at payload.now) }
 {
     match message(alloc, payload) {

@@ -5,3 +5,5 @@ pub mod WritingLaws
 pub mod ReadingLaws
 pub mod HeaderLaws
 pub mod HeaderLoop
+pub mod FirstPlaces
+pub mod StopLaws

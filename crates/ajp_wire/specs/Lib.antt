@@ -4,3 +4,4 @@ pub mod Packet
 pub mod Head
 pub mod Places
 pub mod Reading
+pub mod FirstPlace

@@ -1,5 +1,6 @@
 use Rattle.std.proofs.Common.{arith}
 use Rattle.ajp_reply.proofs.ReplyLaws.{message_takes, halted-none}
+use Rattle.ajp_reply.proofs.RefusalLaws.{reply-refused}
 use Rattle.ajp_reply.proofs.decoding.decode_reply.Goals as goal
 
 pub returns-in-Ok-clause-found : goal.returns-in-Ok-clause-found
@@ -7,3 +8,7 @@ returns-in-Ok-clause-found c = message_takes c.args.payload.now c.in-Ok.message 
 
 pub returns-in-Err-clause-none : goal.returns-in-Err-clause-none
 returns-in-Err-clause-none c = halted-none c.in-Err.stop _ c.told.result c.args.payload.now c.in-Err.ensures c.told.ensures
+
+pub returns-in-Err-clause-refused : goal.returns-in-Err-clause-refused
+returns-in-Err-clause-refused c =
+    rw c.told.ensures (reply-refused c.args.payload.now c.in-Err.stop (λ i. omega (arith, c.type_inv.payload i)) c.in-Err.ensures)
