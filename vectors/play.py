@@ -2,8 +2,10 @@
 """The balancer's rules and the script of `play`, written from the rules alone and in another language than jkd.
 
     play.py run < SCRIPT             prints what `jkd play` must print, and ends with its status
-    play.py make SEED LINES [FORM]   prints a script of some LINES lines; FORM is `first` (only the lines member, select,
-                                     done and failed) or `whole` (every line in every form; the default)
+    play.py make SEED LINES [FORM]   prints a script of LINES lines; FORM is `first` (only the lines member, select, done and
+                                     failed), `calls` (every line but maintain, update, reset and recover) or `whole`
+                                     (every line in every form; the default)
+    play.py consts                   prints the long scripts of jkd's tests with their output, as crates/jkd/src/long.rt
 
 The output of long scripts is kept as data of jkd's tests, so that the program is compared with a second reading of the
 rules, and not with itself.
@@ -331,12 +333,12 @@ def make(seed, lines, form):
 
     tickets = []
     names = ["a", "b", "c", "n-4", "N_5"][: dice.randint(2, 5)]
-    if form == "whole":
+    if form != "first":
         add(f"lb {dice.choice('RSTB')} 1 {dice.choice('01')} {dice.choice([1, 7, 60])} {dice.choice([1, 30, 60])}")
         add(f"at {dice.randint(0, 50)}")
     for name in names:
         text = f"member {name} {dice.randint(1, 6)}"
-        if form == "whole":
+        if form != "first":
             text += dice.choice(["", "", "", " activation=D", " activation=stopped"])
             text += dice.choice(["", "", " distance=1"])
             text += dice.choice(["", "", f" redirect={dice.choice(names)}"])
@@ -344,13 +346,15 @@ def make(seed, lines, form):
         add(text)
     while len(script) < lines:
         kinds = ["select"] * 6 + ["done"] * 3 + ["failed"] * 2
+        if form != "first":
+            kinds += ["old", "route", "route", "gone", "at", "at", "show"]
         if form == "whole":
-            kinds += ["old", "route", "route", "gone", "at", "at", "maintain", "update", "reset", "recover", "show"]
+            kinds += ["maintain", "update", "reset", "recover"]
         kind = dice.choice(kinds)
         if kind in ("done", "failed", "gone"):
             if tickets:
                 ticket = tickets.pop(dice.randrange(len(tickets)))
-                add(f"{kind} {ticket}" + (dice.choice(["", f" {dice.randint(0, 999)}"]) if form == "whole" else ""))
+                add(f"{kind} {ticket}" + (dice.choice(["", f" {dice.randint(0, 999)}"]) if form != "first" else ""))
         elif kind == "select":
             add("select")
         elif kind == "old":
@@ -370,11 +374,29 @@ def make(seed, lines, form):
     return script
 
 
+LONG = [(1, 80, "first"), (2, 100, "calls"), (3, 100, "calls")]
+
+
+def consts():
+    rows = []
+    for seed, lines, form in LONG:
+        script = "".join(text + "\n" for text in make(seed, lines, form))
+        out, status = run(script)
+        shown = "".join(text + "\n" for text in out)
+        escape = lambda text: text.replace("\n", "\\n")
+        rows.append(f'    (\n        "seed {seed}",\n        "{escape(script)}",\n        "{escape(shown)}",\n        {status},\n    ),\n')
+    head = "//! Long scripts with their output, made by vectors/play.py from the rules alone.\n\n"
+    return head + f"pub(crate) const LONG: [(&str, &str, &str, u8); {len(rows)}] = [\n" + "".join(rows) + "];"
+
+
 def main(words):
     if words == ["run"]:
         out, status = run(sys.stdin.read())
         sys.stdout.write("".join(text + "\n" for text in out))
         return status
+    if words == ["consts"]:
+        print(consts())
+        return 0
     if words[:1] == ["make"] and len(words) in (3, 4):
         form = words[3] if len(words) == 4 else "whole"
         print("\n".join(make(int(words[1]), int(words[2]), form)))
