@@ -1,21 +1,21 @@
 -- Where the reading of a message stops: what stands before the place begins a message, and what stands there spoils it.
-use Rattle.std.proofs.Common.{◌≡◌, ℕ, zero, suc, ◌+◌, ◌*◌, ◌/◌, ◌%◌, ◌<◌, ◌≤◌, Bool, true, false, cond, ltb, eqb, List, [], ◌∷◌, ◌++◌, length, take, drop, replicate, Result, Ok, Err, refl, sym, ap, subst, ◌∙◌, arith, append_assoc, ◌⊎◌, inl, inr, ◌-◌}
+use Rattle.std.proofs.Common.{◌≡◌, ℕ, zero, suc, ◌<◌, ◌≤◌, true, false, cond, ltb, eqb, List, [], ◌∷◌, ◌++◌, length, take, drop, replicate, Result, Ok, Err, refl, sym, ap, subst, ◌∙◌, arith, append_assoc, ◌⊎◌, inl, inr, ◌-◌}
 use Rattle.std.proofs.lemmas.Bool.{ltb-true, ltb-false, le-ltb, eqb-true}
 use Rattle.std.proofs.lemmas.List.{append-nil, take_at, drop_at, take-append-drop, length-take, length-append, length-replicate}
 use Rattle.ajp_wire.specs.declared.refusal.Refusal.{Refusal}
 use Rattle.ajp_wire.specs.declared.refusal.RefusalKind.TheVariants.{Short, BadCode, BadMark, Extra}
 use Rattle.ajp_wire.specs.declared.refusal.NotRead.{NotRead}
 use Rattle.ajp_wire.specs.Spelling.{int, absent, SpellsText}
-use Rattle.ajp_wire.specs.Reading.{◌>>=◌, Halts, told, refused, int_at, text_at, headers_at}
+use Rattle.ajp_wire.specs.Reading.{◌>>=◌, Halts, told, refused, text_at, headers_at}
 use Rattle.ajp_wire.specs.FirstPlace.{IsRefused}
-use Rattle.ajp_wire.proofs.ReadingLaws.{IsBytes, IsBytes-rest, IsBytes-behind, Front, Front-rest, chosen, int_value, text_takes, text_again}
-use Rattle.ajp_wire.proofs.HeaderLaws.{HasHeaders, headers_take, headers_again}
-use Rattle.ajp_wire.proofs.FirstPlaces.{is_placed, Fails, Ended, Stops, fails-bind, bind_err, refusal_is, starts, behind_it, int_cases, same_refusal, told-refused}
+use Rattle.ajp_wire.proofs.ReadingLaws.{IsBytes, IsBytes-rest, IsBytes-behind, Front-rest, chosen, int_value, text_takes, text_again}
+use Rattle.ajp_wire.proofs.HeaderLaws.{headers_take, headers_again}
+use Rattle.ajp_wire.proofs.FirstPlaces.{is_placed, Fails, Stops, fails-bind, bind_err, refusal_is, starts, behind_it, int_cases, same_refusal, told-refused}
 use Rattle.ajp_wire.proofs.StopLaws.{GoodText, text_stops, GoodHeaders, headers_stops}
 use Rattle.ajp_reply.specs.declared.message.Message.{Message}
 use Rattle.ajp_reply.specs.declared.message.Message.TheVariants.{Headers, Chunk, End, Ask, Pong}
 use Rattle.ajp_reply.specs.declared.message.ReplyParts.{ReplyParts}
-use Rattle.ajp_reply.specs.Spelling.{reply_names, SpellsHead, SpellsChunk, SpellsEnd, Spells, IsSpelled}
+use Rattle.ajp_reply.specs.Spelling.{reply_names, SpellsHead, SpellsChunk, IsSpelled}
 use Rattle.ajp_reply.specs.Reading.{ended, chunk_end, chunk_at, head_at, end_at, ask_at, message_at}
 use Rattle.ajp_reply.proofs.ReplyLaws.{message_again, parts_of}
 
@@ -27,7 +27,12 @@ ended_stops x [] r e = absurd cc
 ended_stops x (byte ∷ rest) r e =
     let k = refusal_is {A = Message} Extra (byte ∷ rest) r e in
     record {
-      front = []; there = byte ∷ []; behind = rest; more = []; whole = refl; opens = refl;
+      front = [];
+      there = byte ∷ [];
+      behind = rest;
+      more = [];
+      whole = refl;
+      opens = refl;
       how = inr (record { kind = ap is_placed k.0; left = k.1; some = omega arith; few = omega arith; always = λ y. tt });
     }
 
@@ -63,32 +68,54 @@ head_stops bytes r fits e =
                 let behind_text = Front-rest (SpellsText true text.0) after text.1 f behind_status in
                 let front_is : bytes ≡ (int n ++ f.front) ++ text.1 = whole ∙ ap (λ (b : List ℕ). int n ++ b) f.parts ∙ sym (append_assoc (int n) f.front text.1) in
                 let reads_on : (y : List ℕ) → head_at ((int n ++ f.front) ++ y) ≡ after_text n (text.0, y) =
-                    λ y. ap head_at (append_assoc (int n) f.front y) ∙ rw (int_value n, text_again true text.0 f.front y f.spelled) refl in
+                λ y. ap head_at (append_assoc (int n) f.front y) ∙ rw (int_value n, text_again true text.0 f.front y f.spelled) refl in
                 elim (bind_err (headers_at reply_names true text.1) (λ listed. ended (Headers (parts_of n text.0 listed.0)) listed.1) r on_text) [
                   | inl stopped ↦
                       behind_it (GoodHeaders reply_names true) GoodHead (headers_at reply_names true) head_at (int n ++ f.front) bytes text.1 r front_is
                       (headers_stops reply_names true text.1 r (omega arith) behind_text stopped)
-                      (λ b good. ([], (parts_of n text.0 good.0, record {
-                        message = f.front; headers = good.1;
-                        whole = ap (λ (x : List ℕ). 4 ∷ x) (append_assoc (int n) f.front (b ++ []) ∙ ap (λ (x : List ℕ). int n ++ (f.front ++ x)) (append-nil b ∙ good.4));
-                        status = narrow; text = f.spelled; few = good.2; each = good.3 })))
+                      (λ b good. (
+                        [],
+                        (
+                          parts_of n text.0 good.0,
+                          record {
+                            message = f.front;
+                            headers = good.1;
+                            whole = ap (λ (x : List ℕ). 4 ∷ x) (append_assoc (int n) f.front (b ++ []) ∙ ap (λ (x : List ℕ). int n ++ (f.front ++ x)) (append-nil b ∙ good.4));
+                            status = narrow;
+                            text = f.spelled;
+                            few = good.2;
+                            each = good.3;
+                          },
+                        ),
+                      ))
                       (λ y h. subst Fails (sym (reads_on y)) (fails-bind (headers_at reply_names true y) (λ listed. ended (Headers (parts_of n text.0 listed.0)) listed.1) h))
                   | inr (listed, read_listed, on_listed) ↦
                       let l = headers_take reply_names true text.1 listed.0 listed.1 behind_text read_listed in
                       let all : List ℕ = int (length listed.0) ++ l.listed in
                       let all_is : bytes ≡ ((int n ++ f.front) ++ all) ++ listed.1 =
-                          front_is ∙ ap (λ (b : List ℕ). (int n ++ f.front) ++ b) (l.parts ∙ sym (append_assoc (int (length listed.0)) l.listed listed.1)) ∙ sym (append_assoc (int n ++ f.front) all listed.1) in
+                      front_is ∙ ap (λ (b : List ℕ). (int n ++ f.front) ++ b) (l.parts ∙ sym (append_assoc (int (length listed.0)) l.listed listed.1)) ∙ sym (append_assoc (int n ++ f.front) all listed.1) in
                       behind_it IsNothing GoodHead (ended (Headers (parts_of n text.0 listed.0))) head_at ((int n ++ f.front) ++ all) bytes listed.1 r all_is
                       (ended_stops (Headers (parts_of n text.0 listed.0)) listed.1 r on_listed)
-                      (λ b none. ([], (parts_of n text.0 listed.0, record {
-                        message = f.front; headers = l.listed;
-                        whole = ap (λ (x : List ℕ). 4 ∷ x) (ap (λ (x : List ℕ). ((int n ++ f.front) ++ all) ++ x) (append-nil b ∙ none) ∙ append-nil ((int n ++ f.front) ++ all) ∙ append_assoc (int n) f.front all);
-                        status = narrow; text = f.spelled; few = l.few; each = l.spelled })))
+                      (λ b none. (
+                        [],
+                        (
+                          parts_of n text.0 listed.0,
+                          record {
+                            message = f.front;
+                            headers = l.listed;
+                            whole = ap (λ (x : List ℕ). 4 ∷ x) (ap (λ (x : List ℕ). ((int n ++ f.front) ++ all) ++ x) (append-nil b ∙ none) ∙ append-nil ((int n ++ f.front) ++ all) ∙ append_assoc (int n) f.front all);
+                            status = narrow;
+                            text = f.spelled;
+                            few = l.few;
+                            each = l.spelled;
+                          },
+                        ),
+                      ))
                       (λ y h.
-                        let again : headers_at reply_names true (all ++ y) ≡ Ok (listed.0, y) = ap (headers_at reply_names true) (append_assoc (int (length listed.0)) l.listed y) ∙ headers_again reply_names true listed.0 l.listed y (omega arith) l.few l.spelled in
-                        let whole_is : head_at (((int n ++ f.front) ++ all) ++ y) ≡ ended (Headers (parts_of n text.0 listed.0)) y =
-                            ap head_at (append_assoc (int n ++ f.front) all y) ∙ reads_on (all ++ y) ∙ ap (λ (x : Result (List (List ℕ × List ℕ) × List ℕ) Refusal). x >>= λ listed. ended (Headers (parts_of n text.0 listed.0)) listed.1) again in
-                        subst Fails (sym whole_is) h)
+                      let again : headers_at reply_names true (all ++ y) ≡ Ok (listed.0, y) = ap (headers_at reply_names true) (append_assoc (int (length listed.0)) l.listed y) ∙ headers_again reply_names true listed.0 l.listed y (omega arith) l.few l.spelled in
+                      let whole_is : head_at (((int n ++ f.front) ++ all) ++ y) ≡ ended (Headers (parts_of n text.0 listed.0)) y =
+                      ap head_at (append_assoc (int n ++ f.front) all y) ∙ reads_on (all ++ y) ∙ ap (λ (x : Result (List (List ℕ × List ℕ) × List ℕ) Refusal). x >>= λ listed. ended (Headers (parts_of n text.0 listed.0)) listed.1) again in
+                      subst Fails (sym whole_is) h)
                 ]
           ]
     ]
@@ -110,7 +137,12 @@ chunk_end_stops bytes [] r e = absurd cc
 chunk_end_stops bytes (suc byte ∷ rest) r e =
     let k = refusal_is {A = Message} BadMark (suc byte ∷ rest) r e in
     record {
-      front = []; there = suc byte ∷ []; behind = rest; more = []; whole = refl; opens = inl refl;
+      front = [];
+      there = suc byte ∷ [];
+      behind = rest;
+      more = [];
+      whole = refl;
+      opens = inl refl;
       how = inr (record { kind = ap is_placed k.0; left = k.1; some = omega arith; few = omega arith; always = λ y. tt });
     }
 chunk_end_stops bytes (zero ∷ rest) r e =
@@ -141,10 +173,18 @@ chunk_stops bytes r fits e =
                 let filler : List ℕ = zeros (n - length after) in
                 let long : length (after ++ filler) ≡ n = omega (arith, length-append after filler, length-zeros (n - length after)) in
                 record {
-                  front = bytes; there = []; behind = []; more = filler; whole = sym (append-nil bytes);
-                  opens = (after ++ filler, record {
-                    narrow = omega (arith, long);
-                    whole = inr (ap (λ (x : List ℕ). 3 ∷ x) (ap (λ (x : List ℕ). x ++ filler) whole ∙ append_assoc (int n) after filler ∙ ap (λ (m : ℕ). int m ++ (after ++ filler)) (sym long))) });
+                  front = bytes;
+                  there = [];
+                  behind = [];
+                  more = filler;
+                  whole = sym (append-nil bytes);
+                  opens = (
+                    after ++ filler,
+                    record {
+                      narrow = omega (arith, long);
+                      whole = inr (ap (λ (x : List ℕ). 3 ∷ x) (ap (λ (x : List ℕ). x ++ filler) whole ∙ append_assoc (int n) after filler ∙ ap (λ (m : ℕ). int m ++ (after ++ filler)) (sym long)));
+                    },
+                  );
                   how = inl (record { kind = k.0; left = k.1; few = omega arith; last = refl });
                 }
             | inr w ↦
@@ -152,19 +192,26 @@ chunk_stops bytes r fits e =
                 let text : List ℕ = take n after in
                 let long : length text ≡ n = omega (arith, length-take n after) in
                 let front_is : bytes ≡ (int n ++ text) ++ drop n after =
-                    whole ∙ ap (λ (x : List ℕ). int n ++ x) (sym (take-append-drop n after)) ∙ sym (append_assoc (int n) text (drop n after)) in
+                whole ∙ ap (λ (x : List ℕ). int n ++ x) (sym (take-append-drop n after)) ∙ sym (append_assoc (int n) text (drop n after)) in
                 behind_it IsTail GoodChunk (chunk_end text) chunk_at (int n ++ text) bytes (drop n after) r front_is (chunk_end_stops text (drop n after) r w.1)
-                (λ b tail. ([], (text, record {
-                  narrow = omega (arith, long);
-                  whole = elim tail [
-                    | inl none ↦ inr (ap (λ (x : List ℕ). 3 ∷ x) (ap (λ (x : List ℕ). (int n ++ text) ++ x) (append-nil b ∙ none) ∙ append-nil (int n ++ text) ∙ ap (λ (m : ℕ). int m ++ text) (sym long)))
-                    | inr mark ↦ inl (ap (λ (x : List ℕ). 3 ∷ x) (ap (λ (x : List ℕ). (int n ++ text) ++ x) (append-nil b ∙ mark) ∙ append_assoc (int n) text (0 ∷ []) ∙ ap (λ (m : ℕ). int m ++ (text ++ 0 ∷ [])) (sym long)))
-                  ] })))
+                (λ b tail. (
+                  [],
+                  (
+                    text,
+                    record {
+                      narrow = omega (arith, long);
+                      whole = elim tail [
+                        | inl none ↦ inr (ap (λ (x : List ℕ). 3 ∷ x) (ap (λ (x : List ℕ). (int n ++ text) ++ x) (append-nil b ∙ none) ∙ append-nil (int n ++ text) ∙ ap (λ (m : ℕ). int m ++ text) (sym long)))
+                        | inr mark ↦ inl (ap (λ (x : List ℕ). 3 ∷ x) (ap (λ (x : List ℕ). (int n ++ text) ++ x) (append-nil b ∙ mark) ∙ append_assoc (int n) text (0 ∷ []) ∙ ap (λ (m : ℕ). int m ++ (text ++ 0 ∷ [])) (sym long)))
+                      ];
+                    },
+                  ),
+                ))
                 (λ y h.
-                  let some : ltb (length (text ++ y)) n ≡ false = le-ltb _ _ (omega (arith, long, length-append text y)) in
-                  let read_is : chunk_at ((int n ++ text) ++ y) ≡ chunk_end text y =
-                      ap chunk_at (append_assoc (int n) text y) ∙ rw (int_value n, some, take_at text y n long, drop_at text y n long) refl in
-                  subst Fails (sym read_is) h)
+                let some : ltb (length (text ++ y)) n ≡ false = le-ltb _ _ (omega (arith, long, length-append text y)) in
+                let read_is : chunk_at ((int n ++ text) ++ y) ≡ chunk_end text y =
+                ap chunk_at (append_assoc (int n) text y) ∙ rw (int_value n, some, take_at text y n long, drop_at text y n long) refl in
+                subst Fails (sym read_is) h)
           ]
     ]
 
@@ -233,23 +280,28 @@ message_stops (code ∷ rest) r fits e =
     elim (chosen (eqb code 4) (head_at rest) (at_three code rest) (Err r) e) [
       | inl four ↦ coded_stops GoodHead head_at code rest r (head_stops rest r behind four.1) (λ b good. known code 4 b four.0 (Headers good.0, good.1)) (λ y h. rw four.0 h)
       | inr f ↦ elim (chosen (eqb code 3) (chunk_at rest) (at_five code rest) (Err r) f.1) [
-          | inl three ↦ coded_stops GoodChunk chunk_at code rest r (chunk_stops rest r behind three.1) (λ b good. known code 3 b three.0 (Chunk good.0, good.1)) (λ y h. rw (f.0, three.0) h)
-          | inr g ↦ elim (chosen (eqb code 5) (end_at rest) (at_six code rest) (Err r) g.1) [
-              | inl five ↦ coded_stops (Behind 5) end_at code rest r (end_stops rest r behind five.1) (λ b good. known code 5 b five.0 good) (λ y h. rw (f.0, g.0, five.0) h)
-              | inr h5 ↦ elim (chosen (eqb code 6) (ask_at rest) (at_nine code rest) (Err r) h5.1) [
-                  | inl six ↦ coded_stops (Behind 6) ask_at code rest r (ask_stops rest r behind six.1) (λ b good. known code 6 b six.0 good) (λ y h. rw (f.0, g.0, h5.0, six.0) h)
-                  | inr h6 ↦ elim (chosen (eqb code 9) (ended Pong rest) (refused BadCode (code ∷ rest)) (Err r) h6.1) [
-                      | inl nine ↦ coded_stops IsNothing (ended Pong) code rest r (ended_stops Pong rest r nine.1) (λ b none. known code 9 b nine.0 (Pong, ap (λ (x : List ℕ). 9 ∷ x) none)) (λ y h. rw (f.0, g.0, h5.0, h6.0, nine.0) h)
-                      | inr none ↦
-                          let k = refusal_is {A = Message} BadCode (code ∷ rest) r none.1 in
-                          record {
-                            front = []; there = code ∷ []; behind = rest; more = 9 ∷ []; whole = refl; opens = (Pong, refl);
-                            how = inr (record { kind = ap is_placed k.0; left = k.1; some = omega arith; few = omega arith; always = λ y. rw (f.0, g.0, h5.0, h6.0, none.0) tt });
-                          }
-                    ]
-                ]
+        | inl three ↦ coded_stops GoodChunk chunk_at code rest r (chunk_stops rest r behind three.1) (λ b good. known code 3 b three.0 (Chunk good.0, good.1)) (λ y h. rw (f.0, three.0) h)
+        | inr g ↦ elim (chosen (eqb code 5) (end_at rest) (at_six code rest) (Err r) g.1) [
+          | inl five ↦ coded_stops (Behind 5) end_at code rest r (end_stops rest r behind five.1) (λ b good. known code 5 b five.0 good) (λ y h. rw (f.0, g.0, five.0) h)
+          | inr h5 ↦ elim (chosen (eqb code 6) (ask_at rest) (at_nine code rest) (Err r) h5.1) [
+            | inl six ↦ coded_stops (Behind 6) ask_at code rest r (ask_stops rest r behind six.1) (λ b good. known code 6 b six.0 good) (λ y h. rw (f.0, g.0, h5.0, six.0) h)
+            | inr h6 ↦ elim (chosen (eqb code 9) (ended Pong rest) (refused BadCode (code ∷ rest)) (Err r) h6.1) [
+              | inl nine ↦ coded_stops IsNothing (ended Pong) code rest r (ended_stops Pong rest r nine.1) (λ b none. known code 9 b nine.0 (Pong, ap (λ (x : List ℕ). 9 ∷ x) none)) (λ y h. rw (f.0, g.0, h5.0, h6.0, nine.0) h)
+              | inr none ↦
+                  let k = refusal_is {A = Message} BadCode (code ∷ rest) r none.1 in
+                  record {
+                    front = [];
+                    there = code ∷ [];
+                    behind = rest;
+                    more = 9 ∷ [];
+                    whole = refl;
+                    opens = (Pong, refl);
+                    how = inr (record { kind = ap is_placed k.0; left = k.1; some = omega arith; few = omega arith; always = λ y. rw (f.0, g.0, h5.0, h6.0, none.0) tt });
+                  }
             ]
+          ]
         ]
+      ]
     ]
 
 -- the error that the decoder gives names the first place that can't be read

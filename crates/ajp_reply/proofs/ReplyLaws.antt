@@ -1,23 +1,23 @@
 -- A payload that is read spells what was read, and one that spells a message is read as that message.
-use Rattle.std.proofs.Common.{◌≡◌, ◌≢◌, ℕ, zero, suc, ◌+◌, ◌<◌, ◌≤◌, Bool, true, false, cond, ltb, eqb, List, [], ◌∷◌, ◌++◌, length, take, drop, Result, Ok, Err, refl, sym, ap, subst, ◌∙◌, arith, append_assoc, ◌⊎◌, inl, inr}
+use Rattle.std.proofs.Common.{◌≡◌, ◌≢◌, ℕ, zero, suc, ◌<◌, ◌≤◌, Bool, true, false, cond, ltb, eqb, List, [], ◌∷◌, ◌++◌, length, take, drop, Result, Ok, Err, refl, sym, ap, subst, ◌∙◌, arith, ◌⊎◌, inl, inr}
 use Rattle.std.proofs.lemmas.Bool.{ltb-false, le-ltb, eqb-true}
 use Rattle.std.proofs.lemmas.List.{append-nil, take_at, drop_at, take-append-drop, length-take, length-append}
 use Rattle.ajp_wire.specs.declared.refusal.Refusal.{Refusal}
 use Rattle.ajp_wire.specs.declared.refusal.RefusalKind.TheVariants.{Short, BadCode}
-use Rattle.ajp_wire.specs.Spelling.{int, string, SpellsText, SpellsHeaders}
+use Rattle.ajp_wire.specs.Spelling.{int, string, SpellsText}
 use Rattle.ajp_wire.specs.declared.refusal.NotRead.{NotRead}
 use Rattle.ajp_wire.specs.declared.refusal.NotRead.TheVariants as why
 use Rattle.ajp_wire.specs.declared.errors.DecodeError.{DecodeError}
 use Rattle.ajp_wire.specs.declared.errors.DecodeError.TheVariants as errors
 use Rattle.ajp_wire.specs.Reading.{◌>>=◌, Halts, told, refused, int_at, text_at, headers_at}
-use Rattle.ajp_wire.proofs.ReadingLaws.{IsBytes, IsBytes-rest, IsBytes-behind, Front, Front-rest, bind_ok, ok_is, chosen, int_value, int_takes, text_takes, text_again}
-use Rattle.ajp_wire.proofs.HeaderLaws.{HasHeaders, headers_take, headers_again}
+use Rattle.ajp_wire.proofs.ReadingLaws.{IsBytes, IsBytes-rest, IsBytes-behind, Front-rest, bind_ok, ok_is, chosen, int_value, int_takes, text_takes, text_again}
+use Rattle.ajp_wire.proofs.HeaderLaws.{headers_take, headers_again}
 use Rattle.ajp_reply.specs.declared.message.Message.{Message}
 use Rattle.ajp_reply.specs.declared.message.Message.TheVariants.{Headers, Chunk, End, Ask, Pong}
 use Rattle.ajp_reply.specs.declared.message.ReplyParts.{ReplyParts}
-use Rattle.ajp_wire.specs.Names.{headers_bytes, headers_as_read}
+use Rattle.ajp_wire.specs.Names.{headers_bytes}
 use Rattle.ajp_wire.proofs.WritingLaws.{headers-spelled, length-headers_as_read}
-use Rattle.ajp_reply.specs.Spelling.{reply_names, SpellsHead, SpellsChunk, SpellsEnd, Spells, IsMessage, FieldsFit, payload_of, as_read}
+use Rattle.ajp_reply.specs.Spelling.{reply_names, SpellsHead, SpellsChunk, Spells, IsMessage, FieldsFit, payload_of, as_read}
 use Rattle.ajp_reply.specs.Reading.{ended, chunk_end, chunk_at, head_at, end_at, ask_at, message_at}
 
 -- ---- what is read is spelled

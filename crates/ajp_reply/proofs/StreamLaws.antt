@@ -1,6 +1,5 @@
 -- Bytes are read as messages in one way: from the front, packet by packet.
-use Rattle.std.proofs.Common.{◌≡◌, ℕ, ◌+◌, ◌*◌, ◌/◌, ◌%◌, ◌<◌, ◌≤◌, Bool, true, List, [], ◌∷◌, ◌++◌, length, Option, Some, None, refl, sym, ap, subst, ◌∙◌, arith, append_assoc, ◌⊎◌, inl, inr}
-use Rattle.std.specs.Prelude.{IsSome, IsNone, IsTrue}
+use Rattle.std.proofs.Common.{◌≡◌, ℕ, ◌/◌, ◌%◌, Bool, true, List, [], ◌∷◌, ◌++◌, length, refl, sym, ap, subst, ◌∙◌, arith, append_assoc, ◌⊎◌, inl, inr}
 use Rattle.std.proofs.lemmas.List.{append-nil}
 use Rattle.ajp_wire.specs.Packet.{packet, IsPacket, IsPart, IsNoPacket, IsTooLong, head}
 use Rattle.ajp_wire.proofs.PacketLaws.{packet-only, part-none}
@@ -8,7 +7,7 @@ use Rattle.ajp_reply.specs.declared.message.Message.{Message}
 use Rattle.ajp_reply.specs.declared.message.Message.TheVariants.{Headers, Chunk, End, Ask, Pong}
 use Rattle.ajp_reply.specs.declared.message.ReplyParts.{ReplyParts}
 use Rattle.ajp_reply.specs.Spelling.{Spells}
-use Rattle.ajp_reply.specs.Stream.{IsPacketOf, Spelled, IsStream, head_of, IsFront, IsForm, NoReply, BeginsNoMessage}
+use Rattle.ajp_reply.specs.Stream.{IsPacketOf, Spelled, IsStream, IsFront, IsForm, NoReply, BeginsNoMessage}
 use Rattle.ajp_reply.proofs.ReplyLaws.{spells-only}
 
 -- ---- the same reading with the oldest message first

@@ -1,5 +1,5 @@
 -- Reading a payload from left to right, up to the first place that can't be read.
-use Rattle.std.specs.Prelude.{◌≡◌, ℕ, zero, suc, ◌==◌, Bool, true, List, [], ◌∷◌, length, take, drop, Result, Ok, Err, nat_lt, if◌then◌else◌}
+use Rattle.std.specs.Prelude.{ℕ, zero, suc, ◌==◌, true, List, [], ◌∷◌, length, take, drop, Result, Ok, nat_lt, if◌then◌else◌}
 use Rattle.ajp_wire.specs.declared.refusal.Refusal.{Refusal}
 use Rattle.ajp_wire.specs.declared.refusal.RefusalKind.TheVariants.{Short, BadCode, BadMark, Extra}
 use Rattle.ajp_wire.specs.Reading.{◌>>=◌, refused, int_at, text_at, headers_at}

@@ -1,5 +1,5 @@
 -- Which payloads spell each message of the container, and how a message is written.
-use Rattle.std.specs.Prelude.{◌≡◌, ℕ, ◌+◌, ◌<◌, ◌≤◌, ◌==◌, ◌⊎◌, Bool, true, false, List, [], ◌∷◌, ◌++◌, length, map, if◌then◌else◌}
+use Rattle.std.specs.Prelude.{◌≡◌, ℕ, ◌<◌, ◌≤◌, ◌==◌, ◌⊎◌, Bool, true, List, [], ◌∷◌, ◌++◌, length, map, if◌then◌else◌}
 use Rattle.ajp_wire.specs.Spelling.{int, string, SpellsText, SpellsHeaders}
 use Rattle.ajp_wire.specs.Names.{headers_bytes, headers_as_read, FitsHeaders}
 use Rattle.ajp_wire.specs.Packet.{FitsPacket}
