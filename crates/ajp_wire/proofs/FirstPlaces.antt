@@ -1,8 +1,7 @@
 -- Where a reading stops: what stands before the place begins something that can be read, and what stands there can't be
 -- read, whatever follows it.
-use Rattle.std.proofs.Common.{◌≡◌, ℕ, zero, suc, ◌+◌, ◌-◌, ◌*◌, ◌/◌, ◌%◌, ◌<◌, ◌≤◌, Bool, true, false, List, [], ◌∷◌, ◌++◌, length, take, drop, replicate, Result, Ok, Err, refl, sym, ap, subst, ◌∙◌, arith, append_assoc, ◌⊎◌, inl, inr}
+use Rattle.std.proofs.Common.{◌≡◌, ℕ, zero, suc, ◌+◌, ◌-◌, ◌*◌, ◌<◌, ◌≤◌, Bool, true, false, List, [], ◌∷◌, ◌++◌, length, take, drop, replicate, Result, Ok, Err, refl, sym, ap, subst, ◌∙◌, arith, append_assoc, ◌⊎◌, inl, inr}
 use Rattle.std.proofs.lemmas.List.{append-nil, take_at, drop_at, take-append-drop, length-take, length-drop, length-append, length-replicate}
-use Rattle.ajp_wire.specs.declared.errors.DecodeError.{DecodeError}
 use Rattle.ajp_wire.specs.declared.refusal.Refusal.{Refusal}
 use Rattle.ajp_wire.specs.declared.refusal.RefusalKind.{RefusalKind}
 use Rattle.ajp_wire.specs.declared.refusal.RefusalKind.TheVariants.{Short, BadCode, BadMark, BadBoolean, Extra, TooMany, Absent}
@@ -10,7 +9,7 @@ use Rattle.ajp_wire.specs.declared.refusal.NotRead.{NotRead}
 use Rattle.ajp_wire.specs.declared.refusal.NotRead.TheVariants as why
 use Rattle.ajp_wire.specs.Spelling.{int}
 use Rattle.ajp_wire.specs.Reading.{◌>>=◌, Halts, told, error_at, refused, int_at, mark_at, marked_at}
-use Rattle.ajp_wire.specs.FirstPlace.{Begins, IsFirstBad, EndsWithin, IsRefused}
+use Rattle.ajp_wire.specs.FirstPlace.{IsFirstBad, EndsWithin, IsRefused}
 use Rattle.ajp_wire.proofs.ReadingLaws.{IsBytes, int_takes}
 
 -- the kinds that name a place within the bytes: all but the one that names their end
@@ -75,7 +74,12 @@ refusal_is {A} kind bytes r e =
 pub starts : {A : Type 0} (Good : List ℕ → Type 0) (read : List ℕ → Result A Refusal) (bytes : List ℕ) (r : Refusal) (more : List ℕ)
     → r.kind ≡ Short → r.left ≡ 0 → length bytes ≤ 1 → Good more → Stops Good read bytes r
 starts Good read bytes r more kind left few good = record {
-  front = []; there = bytes; behind = []; more = more; whole = sym (append-nil bytes); opens = good;
+  front = [];
+  there = bytes;
+  behind = [];
+  more = more;
+  whole = sym (append-nil bytes);
+  opens = good;
   how = inl (record { kind = kind; left = left; few = few; last = refl });
 }
 
@@ -88,7 +92,7 @@ pub behind_it : {A B : Type 0} (Good Whole : List ℕ → Type 0) (read : List �
 behind_it Good Whole read both first bytes after r parts s grow carry =
     let grown = grow (s.front ++ s.more) s.opens in
     let moved : first ++ ((s.front ++ s.more) ++ grown.0) ≡ (first ++ s.front) ++ (s.more ++ grown.0) =
-        ap (λ (b : List ℕ). first ++ b) (append_assoc s.front s.more grown.0) ∙ sym (append_assoc first s.front (s.more ++ grown.0)) in
+    ap (λ (b : List ℕ). first ++ b) (append_assoc s.front s.more grown.0) ∙ sym (append_assoc first s.front (s.more ++ grown.0)) in
     record {
       front = first ++ s.front;
       there = s.there;
@@ -99,9 +103,12 @@ behind_it Good Whole read both first bytes after r parts s grow carry =
       how = elim s.how [
         | inl ended ↦ inl ended
         | inr spoiled ↦ inr (record {
-            kind = spoiled.kind; left = spoiled.left; some = spoiled.some; few = spoiled.few;
-            always = λ y. subst (λ (b : List ℕ). Fails (both b)) (sym (append_assoc first s.front (s.there ++ y))) (carry (s.front ++ (s.there ++ y)) (spoiled.always y));
-          })
+          kind = spoiled.kind;
+          left = spoiled.left;
+          some = spoiled.some;
+          few = spoiled.few;
+          always = λ y. subst (λ (b : List ℕ). Fails (both b)) (sym (append_assoc first s.front (s.there ++ y))) (carry (s.front ++ (s.there ++ y)) (spoiled.always y));
+        })
       ];
     }
 
@@ -135,7 +142,11 @@ marked_by len bytes [] r d e =
     let long : length filler ≡ len - length bytes = length-replicate (len - length bytes) 0 in
     let none : length (drop len bytes) ≡ 0 = ap length d in
     record {
-      front = bytes; there = []; behind = []; more = filler ++ 0 ∷ []; whole = sym (append-nil bytes);
+      front = bytes;
+      there = [];
+      behind = [];
+      more = filler ++ 0 ∷ [];
+      whole = sym (append-nil bytes);
       opens = (bytes ++ filler, omega (arith, length-append bytes filler, long, none, length-drop len bytes), sym (append_assoc bytes filler (0 ∷ [])));
       how = inl (record { kind = k.0; left = k.1; few = omega arith; last = refl });
     }
@@ -145,11 +156,17 @@ marked_by len bytes (suc b ∷ rest) r d e =
     let some : length (drop len bytes) ≡ suc (length rest) = ap length d in
     let long : length (take len bytes) ≡ len = omega (arith, some, length-take len bytes, length-drop len bytes) in
     record {
-      front = take len bytes; there = suc b ∷ []; behind = rest; more = 0 ∷ [];
+      front = take len bytes;
+      there = suc b ∷ [];
+      behind = rest;
+      more = 0 ∷ [];
       whole = sym (take-append-drop len bytes) ∙ ap (λ (x : List ℕ). take len bytes ++ x) d;
       opens = (take len bytes, long, refl);
       how = inr (record {
-        kind = ap is_placed k.0; left = k.1; some = omega arith; few = omega arith;
+        kind = ap is_placed k.0;
+        left = k.1;
+        some = omega arith;
+        few = omega arith;
         always = λ y. rw (take_at (take len bytes) (suc b ∷ y) len long, drop_at (take len bytes) (suc b ∷ y) len long) tt;
       });
     }
@@ -183,21 +200,28 @@ stops-refused Whole read payload r whole_reads s =
     refused_at Whole payload r.kind (length payload - r.left)
     (λ short. elim s.how [
       | inl ended ↦ record {
-          front = s.front; half = s.there;
-          parts = s.whole ∙ ap (λ (b : List ℕ). s.front ++ (s.there ++ b)) ended.last ∙ ap (λ (b : List ℕ). s.front ++ b) (append-nil s.there);
-          place = let none = ended.left in omega arith;
-          few = ended.few; begins = (s.more, s.opens);
-        }
+        front = s.front;
+        half = s.there;
+        parts = s.whole ∙ ap (λ (b : List ℕ). s.front ++ (s.there ++ b)) ended.last ∙ ap (λ (b : List ℕ). s.front ++ b) (append-nil s.there);
+        place = let none = ended.left in omega arith;
+        few = ended.few;
+        begins = (s.more, s.opens);
+      }
       | inr spoiled ↦ absurd (not_both r.kind short spoiled.kind)
     ])
     (λ placed. elim s.how [
       | inl ended ↦ absurd (not_both r.kind ended.kind placed)
       | inr spoiled ↦ record {
-          front = s.front; there = s.there; behind = s.behind; parts = s.whole;
-          place = let left = spoiled.left in let parts = s.whole in omega (arith, ap length parts, length-append s.front (s.there ++ s.behind));
-          some = spoiled.some; few = spoiled.few; begins = (s.more, s.opens);
-          bad = λ (more, whole). whole_reads ((s.front ++ s.there) ++ more) whole (subst (λ (b : List ℕ). Fails (read b)) (sym (append_assoc s.front s.there more)) (spoiled.always more));
-        }
+        front = s.front;
+        there = s.there;
+        behind = s.behind;
+        parts = s.whole;
+        place = let left = spoiled.left in let parts = s.whole in omega (arith, ap length parts, length-append s.front (s.there ++ s.behind));
+        some = spoiled.some;
+        few = spoiled.few;
+        begins = (s.more, s.opens);
+        bad = λ (more, whole). whole_reads ((s.front ++ s.there) ++ more) whole (subst (λ (b : List ℕ). Fails (read b)) (sym (append_assoc s.front s.there more)) (spoiled.always more));
+      }
     ])
 
 -- The error that a decoder gives for a payload whose reading stops.

@@ -1,11 +1,11 @@
 -- Where the reading of a string, a name or a list of headers stops.
-use Rattle.std.proofs.Common.{◌≡◌, ℕ, zero, suc, ◌+◌, ◌*◌, ◌/◌, ◌%◌, ◌<◌, ◌≤◌, Bool, true, false, cond, ltb, eqb, List, [], ◌∷◌, ◌++◌, length, Option, Some, None, Result, Ok, Err, refl, sym, ap, subst, ◌∙◌, arith, append_assoc, ◌⊎◌, inl, inr}
+use Rattle.std.proofs.Common.{◌≡◌, ℕ, zero, suc, ◌<◌, ◌≤◌, Bool, true, false, cond, ltb, eqb, List, [], ◌∷◌, ◌++◌, length, Option, Some, None, Result, Ok, Err, refl, sym, ap, subst, ◌∙◌, arith, inl, inr}
 use Rattle.std.proofs.lemmas.Bool.{ltb-true, ltb-false, eqb-true, eqb-false}
 use Rattle.std.proofs.lemmas.List.{append-nil}
 use Rattle.ajp_wire.specs.declared.refusal.Refusal.{Refusal}
-use Rattle.ajp_wire.specs.declared.refusal.RefusalKind.TheVariants.{Short, BadCode, TooMany, Absent}
+use Rattle.ajp_wire.specs.declared.refusal.RefusalKind.TheVariants.{BadCode, TooMany, Absent}
 use Rattle.ajp_wire.specs.Spelling.{int, string, absent, SpellsString, SpellsText, SpellsName, SpellsHeader, SpellsHeaders}
-use Rattle.ajp_wire.specs.Reading.{◌>>=◌, refused, int_at, marked_at, string_at, present, text_at, named_from, known_or, name_at, header_at, header_list_at, headers_at}
+use Rattle.ajp_wire.specs.Reading.{◌>>=◌, refused, marked_at, string_at, present, text_at, named_from, known_or, name_at, header_at, header_list_at, headers_at}
 use Rattle.ajp_wire.proofs.ReadingLaws.{IsBytes, IsBytes-behind, Front, Front-rest, chosen, int_value, string_takes}
 use Rattle.ajp_wire.proofs.HeaderLaws.{name_takes, name_again, header_takes, header_again}
 use Rattle.ajp_wire.proofs.FirstPlaces.{is_placed, Fails, Stops, fails-bind, bind_err, refusal_is, starts, behind_it, int_cases, same_refusal, GoodMarked, marked_stops}
@@ -38,14 +38,14 @@ string_stops bytes r fits e =
           elim (chosen (eqb n 65535) (Ok (None, after)) (marked_at n after >>= λ text. Ok (Some text.0, text.1)) (Err r) read_on) [
             | inl w ↦ absurd cc
             | inr w ↦ elim (bind_err (marked_at n after) (λ text. Ok (Some text.0, text.1)) r w.1) [
-                | inl stopped ↦
-                    let other : n ≡ 65535 → ⊥ = eqb-false _ _ w.0 in
-                    let below : n < 65535 = omega arith in
-                    behind_it (GoodMarked n) GoodString (marked_at n) string_at (int n) bytes after r whole (marked_stops n after r stopped)
-                    (λ b good. let t = text_of n b good in ([], (t.0, (omega (arith, t.1), t.2))))
-                    (λ y h. rw (int_value n, w.0) (fails-bind (marked_at n y) (λ text. Ok (Some text.0, text.1)) h))
-                | inr (x, read_it, done) ↦ absurd cc
-              ]
+              | inl stopped ↦
+                  let other : n ≡ 65535 → ⊥ = eqb-false _ _ w.0 in
+                  let below : n < 65535 = omega arith in
+                  behind_it (GoodMarked n) GoodString (marked_at n) string_at (int n) bytes after r whole (marked_stops n after r stopped)
+                  (λ b good. let t = text_of n b good in ([], (t.0, (omega (arith, t.1), t.2))))
+                  (λ y h. rw (int_value n, w.0) (fails-bind (marked_at n y) (λ text. Ok (Some text.0, text.1)) h))
+              | inr (x, read_it, done) ↦ absurd cc
+            ]
           ]
     ]
 
@@ -61,7 +61,11 @@ absent_stops false bytes r None after f e =
     let k = refusal_is {A = List ℕ × List ℕ} Absent bytes r e in
     let parts : bytes ≡ absent ++ after = f.parts ∙ ap (λ (b : List ℕ). b ++ after) f.spelled in
     record {
-      front = []; there = absent; behind = after; more = 0 ∷ 0 ∷ 0 ∷ []; whole = parts;
+      front = [];
+      there = absent;
+      behind = after;
+      more = 0 ∷ 0 ∷ 0 ∷ [];
+      whole = parts;
       opens = ([], inl (omega arith, refl));
       how = inr (record { kind = ap is_placed k.0; left = k.1 ∙ ap length parts; some = omega arith; few = omega arith; always = λ y. tt });
     }
@@ -89,7 +93,12 @@ empty_name table absent_names = ([], inr (omega arith, inl (omega arith, refl)))
 spoiled_name : (table : List (List ℕ)) (absent_names : Bool) (bytes after : List ℕ) (n : ℕ) (r : Refusal) → bytes ≡ int n ++ after
     → is_placed r.kind ≡ true → r.left ≡ length bytes → ((y : List ℕ) → Fails (name_at table absent_names (int n ++ y))) → Stops (GoodName table absent_names) (name_at table absent_names) bytes r
 spoiled_name table absent_names bytes after n r whole kind left always = record {
-  front = []; there = int n; behind = after; more = 0 ∷ 0 ∷ 0 ∷ []; whole = whole; opens = empty_name table absent_names;
+  front = [];
+  there = int n;
+  behind = after;
+  more = 0 ∷ 0 ∷ 0 ∷ [];
+  whole = whole;
+  opens = empty_name table absent_names;
   how = inr (record { kind = kind; left = left ∙ ap length whole; some = omega arith; few = omega arith; always = always });
 }
 
@@ -130,9 +139,9 @@ name_stops table absent_names bytes r fits e =
                 (λ b good. let t = text_of n b good in ([], (t.0, inr (omega (arith, t.1), inl (omega (arith, t.1), t.2)))))
                 (λ y h. rw (int_value n, w.0) h)
             | inr w ↦ elim (chosen (eqb n 65535) (present absent_names bytes (None, after)) (known_or (named_from 40961 table n) bytes after) (Err r) w.1) [
-                | inl v ↦ absent_name_stops table absent_names bytes after n r whole (eqb-true _ _ v.0) v.1
-                | inr v ↦ unknown_name_stops table absent_names bytes after n r (named_from 40961 table n) whole refl w.0 v.0 v.1
-              ]
+              | inl v ↦ absent_name_stops table absent_names bytes after n r whole (eqb-true _ _ v.0) v.1
+              | inr v ↦ unknown_name_stops table absent_names bytes after n r (named_from 40961 table n) whole refl w.0 v.0 v.1
+            ]
           ]
     ]
 
@@ -170,9 +179,14 @@ pub filled : (table : List (List ℕ)) (absent_names : Bool) (count : ℕ) → (
 unfolding empty_name
 filled table absent_names zero = ([], ([], refl, refl))
 filled table absent_names (suc count) =
-    let others = filled table absent_names count in
-    ((0 ∷ 0 ∷ 0 ∷ []) ++ (absent ++ others.0), (([], []) ∷ others.1.0, ap suc others.1.1,
-      ((0 ∷ 0 ∷ 0 ∷ []) ++ absent, others.0, (0 ∷ 0 ∷ 0 ∷ [], absent, (empty_name table absent_names).1, inr (refl, refl, refl), refl), others.1.2, refl)))
+    let others = filled table absent_names count in (
+      (0 ∷ 0 ∷ 0 ∷ []) ++ (absent ++ others.0),
+      (
+        ([], []) ∷ others.1.0,
+        ap suc others.1.1,
+        ((0 ∷ 0 ∷ 0 ∷ []) ++ absent, others.0, (0 ∷ 0 ∷ 0 ∷ [], absent, (empty_name table absent_names).1, inr (refl, refl, refl), refl), others.1.2, refl),
+      ),
+    )
 
 pub list_stops : (table : List (List ℕ)) (absent_names : Bool) (count : ℕ) (bytes : List ℕ) (r : Refusal) → length table < 100 → IsBytes bytes → header_list_at table absent_names count bytes ≡ Err r
     → Stops (GoodList table absent_names count) (header_list_at table absent_names count) bytes r
@@ -219,7 +233,12 @@ headers_stops table absent_names bytes r few fits e =
             | inl w ↦
                 let k = refusal_is {A = List (List ℕ × List ℕ) × List ℕ} TooMany bytes r w.1 in
                 record {
-                  front = []; there = int n; behind = after; more = 0 ∷ 0 ∷ []; whole = whole; opens = ([], [], omega arith, refl, refl);
+                  front = [];
+                  there = int n;
+                  behind = after;
+                  more = 0 ∷ 0 ∷ [];
+                  whole = whole;
+                  opens = ([], [], omega arith, refl, refl);
                   how = inr (record { kind = ap is_placed k.0; left = k.1 ∙ ap length whole; some = omega arith; few = omega arith; always = λ y. rw (int_value n, w.0) tt });
                 }
             | inr w ↦

@@ -74,14 +74,24 @@ fn a_packet_is_read_alone_or_its_error_counts_what_came(rt: HostRuntime) -> Resu
         (b"AB\x00\x01\x09", true, 5, "Ok(Bytes { items: [9] }) 0"),
         (b"AB\x00\x01\x09A", true, 8192, "Ok(Bytes { items: [9] }) 1"),
         (b"AB\x00\x00A", true, 4, "Ok(Bytes { items: [] }) 1"),
-        (b"\x12\x34\x00\x01\x0a", false, 8192, "Ok(Bytes { items: [10] }) 0"),
+        (
+            b"\x12\x34\x00\x01\x0a",
+            false,
+            8192,
+            "Ok(Bytes { items: [10] }) 0",
+        ),
         (b"", true, 8192, "Err(End { read: 0 }) 0"),
         (b"A", true, 8192, "Err(Short { read: 1 }) 0"),
         (b"AB\x00\x02", true, 8192, "Err(Short { read: 4 }) 0"),
         (b"AB\x00\x02\x05", true, 8192, "Err(Short { read: 5 }) 0"),
         (b"\x99", true, 8192, "Err(BadMagic { read: 1 }) 0"),
         (b"AC", true, 8192, "Err(BadMagic { read: 2 }) 0"),
-        (b"AB\x00\x01\x09", false, 8192, "Err(BadMagic { read: 4 }) 1"),
+        (
+            b"AB\x00\x01\x09",
+            false,
+            8192,
+            "Err(BadMagic { read: 4 }) 1",
+        ),
         (b"AB\x00\x01\x09", true, 4, "Err(TooLong { read: 4 }) 1"),
         (b"AB\x1f\xfd", true, 8192, "Err(TooLong { read: 4 }) 0"),
         (b"AB\x1f\xfc", true, 8192, "Err(Short { read: 4 }) 0"),
@@ -123,7 +133,11 @@ fn integers_and_strings_are_taken_from_their_places(rt: HostRuntime) -> Result<(
         (99, "None Err(Short { at: 15 })"),
     ];
     for (at, wanted) in rows {
-        let taken = format!(in rt.alloc(); "{:?} {:?}", take_int(bytes, at), take_string(bytes, at))?;
+        let taken = format!(in rt.alloc();
+            "{:?} {:?}",
+            take_int(bytes, at),
+            take_string(bytes, at)
+        )?;
         assert_eq!(rt; taken.as_str(), wanted, "at {at}");
     }
     Ok(())
@@ -157,7 +171,11 @@ fn headers_are_read_by_their_table(rt: HostRuntime) -> Result<(), Fail> {
 #[test]
 fn names_have_their_codes_in_either_case(rt: HostRuntime) -> Result<(), Fail> {
     let table: [&[u8]; 2] = [b"First", b"Second"];
-    for (name, wanted) in [("SECOND", Some(0xA002)), ("first", Some(0xA001)), ("Secon", None)] {
+    for (name, wanted) in [
+        ("SECOND", Some(0xA002)),
+        ("first", Some(0xA001)),
+        ("Secon", None),
+    ] {
         assert_eq!(rt; code_of(&table, name.as_bytes()), wanted, "{name}");
     }
     Ok(())
