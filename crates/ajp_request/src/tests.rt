@@ -1,10 +1,7 @@
 //! A worked packet, and the limits of names, strings, headers and packets.
 
-ghost use Rattle.std.specs.Prelude.{◌≤◌, IfOk};
-ghost use Rattle.ajp_request.specs.Writing.{IsForward};
-
 use super::*;
-use ajp_wire::{DecodeError, EncodeError, HEAD_BYTES, HeadPairs};
+use ajp_wire::{DecodeError, EncodeError, HEAD_BYTES, HeadPairs, MAX_HEADERS};
 use jk_io::{Bytes, NoMemory};
 use std::alloc::Global;
 use std::test::Fail;
@@ -13,17 +10,8 @@ use std::test::Fail;
 const FIRST_GET: [u8; 77] =
     *b"\x12\x34\x00\x49\x02\x02\x00\x08HTTP/1.1\x00\x00\x01/\x00\x00\x09127.0.0.1\x00\x00\x09127.0.0.1\x00\x00\x09localhost\x00\x00\x50\x00\x00\x01\xa0\x0b\x00\x09localhost\x00\xff";
 
-/// A GET with this header `count` times, and no attribute.
-fn get(
-    alloc: Global,
-    uri: &[u8],
-    name: &[u8],
-    value: &[u8],
-    count: usize,
-) -> Result<Forward, NoMemory>
-    requires { count ≤ 100 }
-    ensures { IfOk result IsForward }
-{
+/// This header `count` times.
+fn headers(alloc: Global, name: &[u8], value: &[u8], count: usize) -> Result<HeadPairs, NoMemory> {
     let mut headers = Vec::with_capacity(alloc, count)?;
     for _ in 0..count {
         headers.push((
@@ -31,18 +19,7 @@ fn get(
             Bytes::from_slice(alloc, value)?,
         ))?;
     }
-    Ok(Forward {
-        method: Bytes::from_slice(alloc, b"GET")?,
-        protocol: Bytes::from_slice(alloc, b"HTTP/1.1")?,
-        uri: Bytes::from_slice(alloc, uri)?,
-        remote_addr: Bytes::from_slice(alloc, b"127.0.0.1")?,
-        remote_host: Bytes::from_slice(alloc, b"127.0.0.1")?,
-        server: Bytes::from_slice(alloc, b"localhost")?,
-        port: 80,
-        ssl: false,
-        headers: HeadPairs::from_vec(headers),
-        attributes: AttributeList::new(alloc),
-    })
+    Ok(HeadPairs::from_vec(headers))
 }
 
 fn letters(alloc: Global, len: usize) -> Result<Bytes, NoMemory> {
@@ -52,25 +29,19 @@ fn letters(alloc: Global, len: usize) -> Result<Bytes, NoMemory> {
 #[test]
 fn a_first_get_has_these_77_bytes(rt: HostRuntime) -> Result<(), Fail> {
     let alloc = rt.alloc();
-    let forward = get(alloc, b"/", b"Host", b"localhost", 1)?;
-    let packet = encode_forward(alloc, &forward, 77)?;
-    assert_eq!(rt; packet.as_slice(), FIRST_GET.as_slice());
-    assert!(rt;
-        matches!(
-            encode_forward(alloc, &forward, 76),
-            Err(EncodeError::TooLarge)
-        )
-    );
-
-    let read = decode_forward(alloc, &FIRST_GET[HEAD_BYTES..])?;
+    let mut forward = decode_forward(alloc, &FIRST_GET[HEAD_BYTES..])?;
     assert_eq!(rt;
-        encode_forward(alloc, &read, 77)?.as_slice(),
+        encode_forward(alloc, &forward, 77)?.as_slice(),
         FIRST_GET.as_slice()
     );
-    let spelled = get(alloc, b"/", b"host", b"localhost", 1)?;
+    let lacking = encode_forward(alloc, &forward, 76);
+    assert!(rt; matches!(lacking, Err(EncodeError::TooLarge)));
+
+    forward.headers = headers(alloc, b"Host", b"localhost", 1)?;
+    assert!(rt; forward.headers.len() <= MAX_HEADERS);
     assert_eq!(rt;
-        format!(in alloc; "{read:?}")?.as_str(),
-        format!(in alloc; "{spelled:?}")?.as_str()
+        encode_forward(alloc, &forward, 77)?.as_slice(),
+        FIRST_GET.as_slice()
     );
     Ok(())
 }
@@ -93,14 +64,10 @@ fn requests_are_refused_just_above_their_limits(rt: HostRuntime) -> Result<(), F
         let path = letters(alloc, path)?;
         let name = letters(alloc, name)?;
         let value = letters(alloc, value)?;
-        assert!(rt; count <= 100);
-        let forward = get(
-            alloc,
-            path.as_slice(),
-            name.as_slice(),
-            value.as_slice(),
-            count,
-        )?;
+        let mut forward = decode_forward(alloc, &FIRST_GET[HEAD_BYTES..])?;
+        forward.uri = path;
+        forward.headers = headers(alloc, name.as_slice(), value.as_slice(), count)?;
+        assert!(rt; forward.headers.len() <= MAX_HEADERS);
         let Some(size) = size else {
             let refused = encode_forward(alloc, &forward, u32::MAX);
             assert!(rt; matches!(refused, Err(EncodeError::TooLarge)), "{count}");
