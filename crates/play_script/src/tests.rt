@@ -96,6 +96,7 @@ fn lines_after_the_balancers_say_what_they_ask(rt: HostRuntime) -> Result<(), Fa
         ("", None),
     ];
     for (line, said) in rows {
+        assert_eq!(rt; names.len(), 2);
         assert_eq!(rt; step_of(&names, line.as_bytes()), said, "{line}");
     }
     Ok(())
