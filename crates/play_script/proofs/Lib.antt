@@ -1,3 +1,4 @@
 pub mod PartsLemmas
 pub mod DraftLemmas
 pub mod PlayLemmas
+pub mod FormLaws

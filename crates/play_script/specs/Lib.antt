@@ -9,3 +9,4 @@ pub mod Words
 pub mod Printed
 pub mod Drafts
 pub mod Play
+pub mod Forms

@@ -11,6 +11,7 @@ mod begun;
 mod draft;
 mod fields;
 mod head;
+pub mod laws;
 mod names;
 mod parts;
 mod printed;
