@@ -69,144 +69,147 @@ fn one_place(alloc: Global, place: u64) -> Result<NumberList, AllocError> {
     Ok(cuts)
 }
 
+/// Heads, and what each is.
+static HEADS: [(&str, Want); 66] = [
+    ("", Want::End),
+    ("\r\n\n\r\n", Want::End),
+    ("\r\n\r", Want::Truncated),
+    ("G", Want::Truncated),
+    ("GET /a HTT", Want::Truncated),
+    ("GET / HTTP/1.1\r\nHost: h\r\n", Want::Truncated),
+    ("GET / HTTP/1.1\r\nHost: h\r\n\r", Want::Truncated),
+    ("GET / HTTP/1.1\r\nHost: h\r\n\r\n", Want::Head),
+    ("GET / HTTP/1.1\nHost: h\n\n", Want::Head),
+    ("GET / HTTP/1.1\nHost: h\r\n\n", Want::Head),
+    ("GET / HTTP/1.1\r\nHost: h\n\r\n", Want::Head),
+    ("\r\n\n\r\nGET / HTTP/1.1\r\nHost: h\r\n\r\n", Want::Head),
+    ("\rGET / HTTP/1.1\r\nHost: h\r\n\r\n", BAD_HEAD),
+    ("GET / HTTP/1.1\r\r\nHost: h\r\n\r\n", BAD_HEAD),
+    ("x\n\n", BAD_HEAD),
+    ("GET  / HTTP/1.1\r\nHost: h\r\n\r\n", BAD_HEAD),
+    ("GET /  HTTP/1.1\r\nHost: h\r\n\r\n", BAD_HEAD),
+    ("GET /\r\nHost: h\r\n\r\n", BAD_HEAD),
+    ("GET / HTTP/1.2\r\nHost: h\r\n\r\n", BAD_HEAD),
+    ("GET / HTTP/2.0\r\nHost: h\r\n\r\n", BAD_HEAD),
+    ("GET / http/1.1\r\nHost: h\r\n\r\n", BAD_HEAD),
+    ("GET / HTTP/1.1\r\nHost: h\r\n folded\r\n\r\n", BAD_HEAD),
+    ("GET / HTTP/1.1\r\nHost: h\r\nA: x\0y\r\n\r\n", BAD_HEAD),
+    ("GET / HTTP/1.1\r\nHost: h\r\nA b: x\r\n\r\n", BAD_HEAD),
+    ("GET / HTTP/1.1\r\nHost: h\r\nA\t: x\r\n\r\n", BAD_HEAD),
+    ("GET / HTTP/1.1\r\nHost: h\r\nA : x\r\n\r\n", BAD_HEAD),
+    ("GET / HTTP/1.1\r\nHost: h\r\nno colon\r\n\r\n", BAD_HEAD),
+    ("GET / HTTP/1.1\r\nHost: h\r\nA:\r\n\r\n", Want::Head),
+    ("GET / HTTP/1.1\r\n\r\n", BAD_HOST),
+    ("GET / HTTP/1.1\r\nHost: h\r\nhost: h\r\n\r\n", BAD_HOST),
+    ("GET / HTTP/1.0\r\nHost: h\r\nHOST: h\r\n\r\n", BAD_HOST),
+    ("GET / HTTP/1.0\r\n\r\n", Want::Head),
+    ("GET / HTTP/1.1\r\nHost: h:65536\r\n\r\n", BAD_HOST),
+    ("GET / HTTP/1.1\r\nHost: h:+1\r\n\r\n", BAD_HOST),
+    ("GET / HTTP/1.1\r\nHost: h: 1\r\n\r\n", BAD_HOST),
+    (
+        "GET / HTTP/1.1\r\nHost: h:000000000000000000001\r\n\r\n",
+        BAD_HOST,
+    ),
+    ("GET / HTTP/1.1\r\nHost: [::1]:x\r\n\r\n", BAD_HOST),
+    (
+        "POST / HTTP/1.1\r\nHost: h\r\nContent-Length: 1\r\nTransfer-Encoding: chunked\r\n\r\n",
+        TWO_FRAMINGS,
+    ),
+    (
+        "POST / HTTP/1.0\r\nContent-Length: 1\r\nTransfer-Encoding: x\r\n\r\n",
+        TWO_FRAMINGS,
+    ),
+    (
+        "POST / HTTP/1.1\r\nContent-Length: 1\r\nTransfer-Encoding: x\r\n\r\n",
+        BAD_HOST,
+    ),
+    (
+        "POST / HTTP/1.1\r\nHost: h\r\nContent-Length: 1\r\ncontent-length: 1\r\n\r\n",
+        BAD_LENGTH,
+    ),
+    (
+        "POST / HTTP/1.1\r\nHost: h\r\nContent-Length: 1, 1\r\n\r\n",
+        BAD_LENGTH,
+    ),
+    (
+        "POST / HTTP/1.1\r\nHost: h\r\nContent-Length: +1\r\n\r\n",
+        BAD_LENGTH,
+    ),
+    (
+        "POST / HTTP/1.1\r\nHost: h\r\nContent-Length: -1\r\n\r\n",
+        BAD_LENGTH,
+    ),
+    (
+        "POST / HTTP/1.1\r\nHost: h\r\nContent-Length: 0x1\r\n\r\n",
+        BAD_LENGTH,
+    ),
+    (
+        "POST / HTTP/1.1\r\nHost: h\r\nContent-Length:\r\n\r\n",
+        BAD_LENGTH,
+    ),
+    (
+        "POST / HTTP/1.1\r\nHost: h\r\nContent-Length: 00000000000000000001\r\n\r\n",
+        BAD_LENGTH,
+    ),
+    (
+        "POST / HTTP/1.1\r\nHost: h\r\nContent-Length: 0000000000000000001\r\n\r\n",
+        Want::Head,
+    ),
+    (
+        "POST / HTTP/1.1\r\nHost: h\r\nContent-Length: 1099511627775\r\n\r\n",
+        Want::Head,
+    ),
+    (
+        "POST / HTTP/1.1\r\nHost: h\r\nContent-Length: 1099511627776\r\n\r\n",
+        TOO_LONG,
+    ),
+    (
+        "POST / HTTP/1.0\r\nTransfer-Encoding: chunked\r\n\r\n",
+        OLD_CHUNKED,
+    ),
+    (
+        "POST / HTTP/1.1\r\nHost: h\r\nTransfer-Encoding: gzip\r\n\r\n",
+        BAD_CODING,
+    ),
+    (
+        "POST / HTTP/1.1\r\nHost: h\r\nTransfer-Encoding: chunked, gzip\r\n\r\n",
+        BAD_CODING,
+    ),
+    (
+        "POST / HTTP/1.1\r\nHost: h\r\nTransfer-Encoding: gzip, chunked\r\n\r\n",
+        BAD_CODING,
+    ),
+    (
+        "POST / HTTP/1.1\r\nHost: h\r\nTransfer-Encoding: chunked\r\nTransfer-Encoding: chunked\r\n\r\n",
+        BAD_CODING,
+    ),
+    (
+        "POST / HTTP/1.1\r\nHost: h\r\nTransfer-Encoding: \tCHUNKED \r\n\r\n",
+        Want::Head,
+    ),
+    (
+        "POST / HTTP/1.1\r\nHost: h\r\nTransfer-Encoding\t: chunked\r\nContent-Length: 4\r\n\r\n",
+        BAD_HEAD,
+    ),
+    ("CONNECT h:1 HTTP/1.1\r\nHost: h\r\n\r\n", CONNECT),
+    (
+        "CONNECT h:1 HTTP/1.1\r\nHost: h\r\nContent-Length: 1099511627776\r\n\r\n",
+        CONNECT,
+    ),
+    ("connect /a HTTP/1.1\r\nHost: h\r\n\r\n", Want::Head),
+    ("GET http://h/ HTTP/1.1\r\nHost: h\r\n\r\n", BAD_PATH),
+    ("GET /a/../b HTTP/1.1\r\nHost: h\r\n\r\n", BAD_PATH),
+    ("GET /%zz HTTP/1.1\r\nHost: h\r\n\r\n", BAD_PATH),
+    ("GET /a?/../%zz HTTP/1.1\r\nHost: h\r\n\r\n", Want::Head),
+    ("OPTIONS * HTTP/1.1\r\nHost: h\r\n\r\n", Want::Head),
+    ("GET /\u{e9} HTTP/1.1\r\nHost: h\r\n\r\n", Want::Head),
+];
+
 #[test]
 fn each_head_has_its_answer_in_every_cut(rt: HostRuntime) -> Result<(), Fail> {
-    let rows: [(&str, Want); 66] = [
-        ("", Want::End),
-        ("\r\n\n\r\n", Want::End),
-        ("\r\n\r", Want::Truncated),
-        ("G", Want::Truncated),
-        ("GET /a HTT", Want::Truncated),
-        ("GET / HTTP/1.1\r\nHost: h\r\n", Want::Truncated),
-        ("GET / HTTP/1.1\r\nHost: h\r\n\r", Want::Truncated),
-        ("GET / HTTP/1.1\r\nHost: h\r\n\r\n", Want::Head),
-        ("GET / HTTP/1.1\nHost: h\n\n", Want::Head),
-        ("GET / HTTP/1.1\nHost: h\r\n\n", Want::Head),
-        ("GET / HTTP/1.1\r\nHost: h\n\r\n", Want::Head),
-        ("\r\n\n\r\nGET / HTTP/1.1\r\nHost: h\r\n\r\n", Want::Head),
-        ("\rGET / HTTP/1.1\r\nHost: h\r\n\r\n", BAD_HEAD),
-        ("GET / HTTP/1.1\r\r\nHost: h\r\n\r\n", BAD_HEAD),
-        ("x\n\n", BAD_HEAD),
-        ("GET  / HTTP/1.1\r\nHost: h\r\n\r\n", BAD_HEAD),
-        ("GET /  HTTP/1.1\r\nHost: h\r\n\r\n", BAD_HEAD),
-        ("GET /\r\nHost: h\r\n\r\n", BAD_HEAD),
-        ("GET / HTTP/1.2\r\nHost: h\r\n\r\n", BAD_HEAD),
-        ("GET / HTTP/2.0\r\nHost: h\r\n\r\n", BAD_HEAD),
-        ("GET / http/1.1\r\nHost: h\r\n\r\n", BAD_HEAD),
-        ("GET / HTTP/1.1\r\nHost: h\r\n folded\r\n\r\n", BAD_HEAD),
-        ("GET / HTTP/1.1\r\nHost: h\r\nA: x\0y\r\n\r\n", BAD_HEAD),
-        ("GET / HTTP/1.1\r\nHost: h\r\nA b: x\r\n\r\n", BAD_HEAD),
-        ("GET / HTTP/1.1\r\nHost: h\r\nA\t: x\r\n\r\n", BAD_HEAD),
-        ("GET / HTTP/1.1\r\nHost: h\r\nA : x\r\n\r\n", BAD_HEAD),
-        ("GET / HTTP/1.1\r\nHost: h\r\nno colon\r\n\r\n", BAD_HEAD),
-        ("GET / HTTP/1.1\r\nHost: h\r\nA:\r\n\r\n", Want::Head),
-        ("GET / HTTP/1.1\r\n\r\n", BAD_HOST),
-        ("GET / HTTP/1.1\r\nHost: h\r\nhost: h\r\n\r\n", BAD_HOST),
-        ("GET / HTTP/1.0\r\nHost: h\r\nHOST: h\r\n\r\n", BAD_HOST),
-        ("GET / HTTP/1.0\r\n\r\n", Want::Head),
-        ("GET / HTTP/1.1\r\nHost: h:65536\r\n\r\n", BAD_HOST),
-        ("GET / HTTP/1.1\r\nHost: h:+1\r\n\r\n", BAD_HOST),
-        ("GET / HTTP/1.1\r\nHost: h: 1\r\n\r\n", BAD_HOST),
-        (
-            "GET / HTTP/1.1\r\nHost: h:000000000000000000001\r\n\r\n",
-            BAD_HOST,
-        ),
-        ("GET / HTTP/1.1\r\nHost: [::1]:x\r\n\r\n", BAD_HOST),
-        (
-            "POST / HTTP/1.1\r\nHost: h\r\nContent-Length: 1\r\nTransfer-Encoding: chunked\r\n\r\n",
-            TWO_FRAMINGS,
-        ),
-        (
-            "POST / HTTP/1.0\r\nContent-Length: 1\r\nTransfer-Encoding: x\r\n\r\n",
-            TWO_FRAMINGS,
-        ),
-        (
-            "POST / HTTP/1.1\r\nContent-Length: 1\r\nTransfer-Encoding: x\r\n\r\n",
-            BAD_HOST,
-        ),
-        (
-            "POST / HTTP/1.1\r\nHost: h\r\nContent-Length: 1\r\ncontent-length: 1\r\n\r\n",
-            BAD_LENGTH,
-        ),
-        (
-            "POST / HTTP/1.1\r\nHost: h\r\nContent-Length: 1, 1\r\n\r\n",
-            BAD_LENGTH,
-        ),
-        (
-            "POST / HTTP/1.1\r\nHost: h\r\nContent-Length: +1\r\n\r\n",
-            BAD_LENGTH,
-        ),
-        (
-            "POST / HTTP/1.1\r\nHost: h\r\nContent-Length: -1\r\n\r\n",
-            BAD_LENGTH,
-        ),
-        (
-            "POST / HTTP/1.1\r\nHost: h\r\nContent-Length: 0x1\r\n\r\n",
-            BAD_LENGTH,
-        ),
-        (
-            "POST / HTTP/1.1\r\nHost: h\r\nContent-Length:\r\n\r\n",
-            BAD_LENGTH,
-        ),
-        (
-            "POST / HTTP/1.1\r\nHost: h\r\nContent-Length: 00000000000000000001\r\n\r\n",
-            BAD_LENGTH,
-        ),
-        (
-            "POST / HTTP/1.1\r\nHost: h\r\nContent-Length: 0000000000000000001\r\n\r\n",
-            Want::Head,
-        ),
-        (
-            "POST / HTTP/1.1\r\nHost: h\r\nContent-Length: 1099511627775\r\n\r\n",
-            Want::Head,
-        ),
-        (
-            "POST / HTTP/1.1\r\nHost: h\r\nContent-Length: 1099511627776\r\n\r\n",
-            TOO_LONG,
-        ),
-        (
-            "POST / HTTP/1.0\r\nTransfer-Encoding: chunked\r\n\r\n",
-            OLD_CHUNKED,
-        ),
-        (
-            "POST / HTTP/1.1\r\nHost: h\r\nTransfer-Encoding: gzip\r\n\r\n",
-            BAD_CODING,
-        ),
-        (
-            "POST / HTTP/1.1\r\nHost: h\r\nTransfer-Encoding: chunked, gzip\r\n\r\n",
-            BAD_CODING,
-        ),
-        (
-            "POST / HTTP/1.1\r\nHost: h\r\nTransfer-Encoding: gzip, chunked\r\n\r\n",
-            BAD_CODING,
-        ),
-        (
-            "POST / HTTP/1.1\r\nHost: h\r\nTransfer-Encoding: chunked\r\nTransfer-Encoding: chunked\r\n\r\n",
-            BAD_CODING,
-        ),
-        (
-            "POST / HTTP/1.1\r\nHost: h\r\nTransfer-Encoding: \tCHUNKED \r\n\r\n",
-            Want::Head,
-        ),
-        (
-            "POST / HTTP/1.1\r\nHost: h\r\nTransfer-Encoding\t: chunked\r\nContent-Length: 4\r\n\r\n",
-            BAD_HEAD,
-        ),
-        ("CONNECT h:1 HTTP/1.1\r\nHost: h\r\n\r\n", CONNECT),
-        (
-            "CONNECT h:1 HTTP/1.1\r\nHost: h\r\nContent-Length: 1099511627776\r\n\r\n",
-            CONNECT,
-        ),
-        ("connect /a HTTP/1.1\r\nHost: h\r\n\r\n", Want::Head),
-        ("GET http://h/ HTTP/1.1\r\nHost: h\r\n\r\n", BAD_PATH),
-        ("GET /a/../b HTTP/1.1\r\nHost: h\r\n\r\n", BAD_PATH),
-        ("GET /%zz HTTP/1.1\r\nHost: h\r\n\r\n", BAD_PATH),
-        ("GET /a?/../%zz HTTP/1.1\r\nHost: h\r\n\r\n", Want::Head),
-        ("OPTIONS * HTTP/1.1\r\nHost: h\r\n\r\n", Want::Head),
-        ("GET /\u{e9} HTTP/1.1\r\nHost: h\r\n\r\n", Want::Head),
-    ];
     let alloc = rt.alloc();
-    for (text, want) in rows {
+    for (text, want) in &HEADS {
+        let want = *want;
         let bytes = text.as_bytes();
         assert_eq!(rt;
             answer_of(alloc, bytes, NumberList::new(alloc))?,
@@ -256,15 +259,33 @@ fn padded(
     Ok(bytes)
 }
 
+const HOST_AND_MORE: &str = "GET / HTTP/1.1\r\nHost: h\r\nA: ";
+
+/// Header lines, what follows them, and what it is.
+static LINES: [(usize, &str, Want); 3] = [
+    (100, "\r\n", Want::Head),
+    (101, "\r\n", TOO_BIG),
+    (101, "", Want::Truncated),
+];
+
+/// A front, a byte that fills up to so many bytes with the end, the end, and what it is.
+static SIZES: [(&str, u8, usize, &str, Want); 15] = [
+    (HOST_AND_MORE, b'x', 16_384, "\r\n\r\n", Want::Head),
+    (HOST_AND_MORE, b'x', 16_385, "\r\n\r\n", TOO_BIG),
+    (HOST_AND_MORE, b'x', 16_383, "\r\n\r", Want::Truncated),
+    (HOST_AND_MORE, b'x', 16_384, "\r\n\r", TOO_BIG),
+    ("", b'a', 16_384, "", TOO_BIG),
+    ("", b'\n', 16_383, "", Want::End),
+    ("", b'\n', 16_384, "", TOO_BIG),
+    ("", b'\n', 16_384, "GET / HTTP/1.0\n\n", Want::Head),
+    ("", b'\n', 16_385, "GET / HTTP/1.0\n\n", TOO_BIG),
+];
+
 #[test]
 fn the_limits_hold_to_the_line_and_the_byte(rt: HostRuntime) -> Result<(), Fail> {
     let alloc = rt.alloc();
-    for (lines, end, want) in [
-        (100, "\r\n", Want::Head),
-        (101, "\r\n", TOO_BIG),
-        (101, "", Want::Truncated),
-    ] {
-        let mut head = head_of_lines(alloc, lines)?;
+    for (lines, end, want) in &LINES {
+        let mut head = head_of_lines(alloc, *lines)?;
         head.extend_from_slice(end.as_bytes())?;
         assert_eq!(rt;
             answer_of(alloc, head.as_slice(), NumberList::new(alloc))?,
@@ -272,25 +293,8 @@ fn the_limits_hold_to_the_line_and_the_byte(rt: HostRuntime) -> Result<(), Fail>
             "{lines} lines"
         );
     }
-    let host = b"GET / HTTP/1.1\r\nHost: h\r\nA: ".as_slice();
-    for (front, pad, len, back, want) in [
-        (host, b'x', 16_384, "\r\n\r\n", Want::Head),
-        (host, b'x', 16_385, "\r\n\r\n", TOO_BIG),
-        (host, b'x', 16_383, "\r\n\r", Want::Truncated),
-        (host, b'x', 16_384, "\r\n\r", TOO_BIG),
-        (b"".as_slice(), b'a', 16_384, "", TOO_BIG),
-        (b"".as_slice(), b'\n', 16_383, "", Want::End),
-        (b"".as_slice(), b'\n', 16_384, "", TOO_BIG),
-        (
-            b"".as_slice(),
-            b'\n',
-            16_384,
-            "GET / HTTP/1.0\n\n",
-            Want::Head,
-        ),
-        (b"".as_slice(), b'\n', 16_385, "GET / HTTP/1.0\n\n", TOO_BIG),
-    ] {
-        let bytes = padded(alloc, front, pad, len, back.as_bytes())?;
+    for (front, pad, len, back, want) in &SIZES {
+        let bytes = padded(alloc, front.as_bytes(), *pad, *len, back.as_bytes())?;
         assert_eq!(rt;
             answer_of(alloc, bytes.as_slice(), NumberList::new(alloc))?,
             want,
@@ -300,22 +304,25 @@ fn the_limits_hold_to_the_line_and_the_byte(rt: HostRuntime) -> Result<(), Fail>
     Ok(())
 }
 
+/// Host lines of 1.0 requests, and the server's name and port.
+static HOSTS: [(&str, &str, u16); 11] = [
+    ("Host: localhost", "localhost", 80),
+    ("Host: h:8080", "h", 8080),
+    ("Host: h:65535", "h", 65_535),
+    ("Host: h:0081", "h", 81),
+    ("Host: h:", "h", 80),
+    ("Host:", "localhost", 80),
+    ("Host: [::1]", "[::1]", 80),
+    ("Host: [::1]:81", "[::1]", 81),
+    ("Host: [::1]:", "[::1]", 80),
+    ("Host: a:b:7", "a:b", 7),
+    ("X: y", "localhost", 80),
+];
+
 #[test]
 fn a_host_has_its_name_and_port(rt: HostRuntime) -> Result<(), Fail> {
     let alloc = rt.alloc();
-    for (host, name, port) in [
-        ("Host: localhost", "localhost", 80),
-        ("Host: h:8080", "h", 8080),
-        ("Host: h:65535", "h", 65_535),
-        ("Host: h:0081", "h", 81),
-        ("Host: h:", "h", 80),
-        ("Host:", "localhost", 80),
-        ("Host: [::1]", "[::1]", 80),
-        ("Host: [::1]:81", "[::1]", 81),
-        ("Host: [::1]:", "[::1]", 80),
-        ("Host: a:b:7", "a:b", 7),
-        ("X: y", "localhost", 80),
-    ] {
+    for (host, name, port) in &HOSTS {
         let text = format!(in alloc; "GET / HTTP/1.0\r\n{host}\r\n\r\n")?;
         let incoming = Bytes::from_slice(alloc, text.as_bytes())?;
         let mut client = MemLink::new(alloc, incoming, NumberList::new(alloc));
@@ -323,7 +330,7 @@ fn a_host_has_its_name_and_port(rt: HostRuntime) -> Result<(), Fail> {
         match read_head(alloc, &mut inbox, &mut client)? {
             HeadGot::Head(head) => {
                 assert_eq!(rt; head.server.as_slice(), name.as_bytes(), "{host}");
-                assert_eq!(rt; head.port, port, "{host}");
+                assert_eq!(rt; head.port, *port, "{host}");
             }
             HeadGot::End => assert!(rt; false, "{host}"),
         }
@@ -398,38 +405,41 @@ fn a_fault_is_told_and_the_next_call_goes_on(rt: HostRuntime) -> Result<(), Fail
     Ok(())
 }
 
+/// Raw paths and their clean paths.
+static PATHS: [(&str, Option<&str>); 27] = [
+    ("/", Some("/")),
+    ("*", Some("*")),
+    ("/app/x", Some("/app/x")),
+    ("/app/a;v=1/b", Some("/app/a/b")),
+    ("/a%20b%3Bc", Some("/a b;c")),
+    ("//a//", Some("//a//")),
+    ("/...", Some("/...")),
+    ("/;a/b", Some("//b")),
+    ("/a%", None),
+    ("/a%4", None),
+    ("/a%4g", None),
+    ("/a;%zz", None),
+    ("/%00", None),
+    ("/app/x%2Fy", None),
+    ("/%2f", None),
+    ("/%5C", None),
+    ("/a\\b", None),
+    ("/%2e%2e", None),
+    ("/.", None),
+    ("/a/./b", None),
+    ("/a;x=1/../b", None),
+    ("/..;x", None),
+    ("/%2e;x/b", None),
+    ("a/b", None),
+    ("", None),
+    ("**", None),
+    ("/\u{e9}%C3%A9", Some("/\u{e9}\u{e9}")),
+];
+
 #[test]
 fn paths_are_clean_or_refused(rt: HostRuntime) -> Result<(), Fail> {
     let alloc = rt.alloc();
-    for (raw, clean) in [
-        ("/", Some("/")),
-        ("*", Some("*")),
-        ("/app/x", Some("/app/x")),
-        ("/app/a;v=1/b", Some("/app/a/b")),
-        ("/a%20b%3Bc", Some("/a b;c")),
-        ("//a//", Some("//a//")),
-        ("/...", Some("/...")),
-        ("/;a/b", Some("//b")),
-        ("/a%", None),
-        ("/a%4", None),
-        ("/a%4g", None),
-        ("/a;%zz", None),
-        ("/%00", None),
-        ("/app/x%2Fy", None),
-        ("/%2f", None),
-        ("/%5C", None),
-        ("/a\\b", None),
-        ("/%2e%2e", None),
-        ("/.", None),
-        ("/a/./b", None),
-        ("/a;x=1/../b", None),
-        ("/..;x", None),
-        ("/%2e;x/b", None),
-        ("a/b", None),
-        ("", None),
-        ("**", None),
-        ("/\u{e9}%C3%A9", Some("/\u{e9}\u{e9}")),
-    ] {
+    for (raw, clean) in &PATHS {
         match clean_path(alloc, raw.as_bytes()) {
             Ok(path) => assert!(rt;
                 clean.is_some_and(|want| path.as_slice() == want.as_bytes()),
