@@ -1,0 +1,34 @@
+use Rattle.std.proofs.Common.{◌≡◌, ◌+◌, List, length, reverse, sym, ◌∙◌, subst, arith}
+use Rattle.jk_model.specs.Journal.{members, next_of}
+use Rattle.jk_model.specs.Present.{ArePresentRows}
+use Rattle.jk_model.specs.Rows.{HaveRedirectsWithin}
+use Rattle.jk_model.specs.declared.view.MemberRow.{MemberRow}
+use Rattle.balancer_core.specs.RuleNumbers.{rules_number}
+use Rattle.balancer_core.specs.Shown.{AreShown}
+use Rattle.balancer_core.proofs.KeptLaws.{next_is}
+use Rattle.balancer_core.proofs.OpenedLaws.{rows_present, redirects_shown, view_present}
+use Rattle.balancer_core.proofs.book.Book.view.Goals as goal
+
+pub invariant_of-result : goal.invariant_of-result
+invariant_of-result c =
+    let are : AreShown c.self.inside.opening.config.members c.self.inside.present.rows.items
+    (length c.self.inside.opening.config.members) c.in_ok-rows.rows.items =
+    rw (c.as_slice-members.ensures, c.as_slice.ensures.value) at c.in_ok-rows.ensures in
+    record {
+      redirects = subst (λ (rows : List MemberRow). HaveRedirectsWithin rows) (sym c.from_vec.ensures)
+          (redirects_shown (rules_number c.self.inside.rules) c.self.inside.opening (reverse c.self.inside.entries.items)
+          c.self.inside.present c.self.invariant.present c.in_ok-rows.rows.items are);
+    }
+
+pub returns-clause-present : goal.returns-clause-present
+returns-clause-present c =
+    let are : AreShown c.self.inside.opening.config.members c.self.inside.present.rows.items
+    (length c.self.inside.opening.config.members) c.in_ok-rows.rows.items =
+    rw (c.as_slice-members.ensures, c.as_slice.ensures.value) at c.in_ok-rows.ensures in
+    view_present _ _ c.self.view_is
+    (omega (arith, c.len.ensures, c.self.inside.entries.ok.0, next_is c.self.inside.opening c.self.inside.entries.items))
+    c.self.invariant.present.moment
+    (subst (λ (rows : List MemberRow). ArePresentRows (rules_number c.self.inside.rules) c.self.inside.opening
+    (reverse c.self.inside.entries.items) (members c.self.inside.opening) rows) (sym c.from_vec.ensures)
+    (rows_present (rules_number c.self.inside.rules) c.self.inside.opening (reverse c.self.inside.entries.items)
+    c.self.inside.present c.self.invariant.present c.in_ok-rows.rows.items are))

@@ -1,0 +1,8 @@
+-- The number of each version of the rules.
+use Rattle.std.specs.Prelude.{ℕ}
+use Rattle.balancer_core.specs.declared.rules.Rules.{Rules}
+use Rattle.balancer_core.specs.declared.rules.Rules.TheVariants as Rules
+
+abbrev pub rules_number : Rules → ℕ
+rules_number Rules.One = 1
+rules_number Rules.Two = 2

@@ -1,0 +1,181 @@
+//! What a Select answers.
+
+ghost use Rattle.std.specs.Prelude.{◌≡◌, ◌+◌, ◌<◌, ◌≤◌, ◌^◌, ℕ, List, length, IfSome, slice_index_or, is_some, ◌&&◌};
+ghost use Rattle.std.specs.Option.{ForSome};
+ghost use Rattle.jk_model.specs.Journal.{members, next_of};
+ghost use Rattle.jk_model.specs.Choice.{begin_after, begins_trial, member_within, redirected, routed_member, IsOpen, IsPick};
+ghost use Rattle.jk_model.specs.declared.journal.Entry.{Entry};
+ghost use Rattle.jk_model.specs.declared.opening.Opening.{Opening};
+ghost use Rattle.balancer_core.specs.declared.standing.Standing.{Standing};
+ghost use Rattle.balancer_core.specs.RuleNumbers.{rules_number};
+ghost use Rattle.balancer_core.specs.Rows.{serves_at, routed_at, revives_at, HasRoomAt, HasRoomFor};
+ghost use Rattle.balancer_core.specs.Least.{IsRevivalOf};
+ghost use Rattle.balancer_core.specs.Kept.{IsNow};
+
+use crate::among::{Among, serves};
+use crate::least::least;
+use crate::present::Present;
+use crate::rules::Rules;
+use crate::standing::Standing;
+use jk_model::{Answer, Ask, How, MemberState, Opening};
+
+/// The answer to an ask, and whether it turns those members from Error to Recover that may be revived.
+#[derive(Clone, Copy, Debug, PartialEq, Eq)]
+pub(crate) struct Choice {
+    pub(crate) answer: Answer,
+    pub(crate) revives: bool,
+}
+
+fn member_within(count: usize, routed: Option<u32>) -> Option<u32>
+    ensures { result ≡ member_within count routed }
+{
+    match routed {
+        Some(member) if (member as usize) < count => Some(member),
+        _ => None,
+    }
+}
+
+// The member that the ask is routed to.
+fn routed_member(opening: &Opening, ask: &Ask) -> Option<u32>
+    ensures { result ≡ routed_member opening.now ask.now }
+{
+    if opening.config.sticky {
+        member_within(opening.config.members.len(), ask.routed)
+    } else {
+        None
+    }
+}
+
+// Force is on, and the ask is routed.
+fn is_forced(opening: &Opening, ask: &Ask) -> bool
+    ensures { result ≡ (opening.now.config.force && is_some (routed_member opening.now ask.now)) }
+{
+    opening.config.force && routed_member(opening, ask).is_some()
+}
+
+// The redirect where it serves.
+fn redirected(rows: &[Standing], ask: &Ask, redirect: Option<u32>) -> Option<(u32, How)>
+    requires few { length rows.now ≤ 64 }
+    requires within { ForSome redirect (λ r. r < length rows.now) }
+    ensures value { (d : Standing) → result ≡ redirected (serves_at rows.now d ask.now) redirect }
+    ensures room { IfSome result (λ x. HasRoomAt rows.now x.0) }
+{
+    match redirect {
+        Some(member) if serves(&rows[member as usize], ask, member as usize) => {
+            Some((member, How::Redirect))
+        }
+        _ => None,
+    }
+}
+
+// The session's member where it serves, else its redirect where that serves.
+fn routed(opening: &Opening, rows: &[Standing], ask: &Ask) -> Option<(u32, How)>
+    requires few { length rows.now ≤ 64 }
+    requires whole { length rows.now ≡ members opening.now }
+    requires targets { (m : ℕ) (d : Standing) → m < length rows.now → IfSome (slice_index_or rows.now m d).redirect (λ r. r < length rows.now) }
+    ensures value { (d : Standing) → result ≡ routed_at opening.now rows.now d ask.now }
+    ensures room { IfSome result (λ x. HasRoomAt rows.now x.0) }
+{
+    let member = routed_member(opening, ask)?;
+    let row = &rows[member as usize];
+    if serves(row, ask, member as usize) {
+        return Some((member, How::Sticky));
+    }
+    redirected(rows, ask, row.redirect)
+}
+
+fn begins_trial(state: MemberState) -> bool
+    ensures { result ≡ begins_trial state }
+{
+    matches!(state, MemberState::Error { at: _ } | MemberState::Recover)
+}
+
+fn begin_after(chosen: Option<u32>) -> usize
+    ensures { result ≡ begin_after chosen }
+{
+    match chosen {
+        None => 0,
+        Some(member) => member as usize + 1,
+    }
+}
+
+// The choice of a member whose row this is.
+fn chosen(row: &Standing, member: u32, how: How, next: u64, revives: bool) -> Choice
+    ensures answer { result.answer ≡ Answer.Chosen member next how (begins_trial row.now.state) }
+    ensures revives { result.revives ≡ revives }
+{
+    let probe = begins_trial(row.state);
+    Choice {
+        answer: Answer::Chosen {
+            member,
+            ticket: next,
+            how,
+            probe,
+        },
+        revives,
+    }
+}
+
+// The least of those that may be revived, which rules 1 don't do.
+fn least_revivable(rules: Rules, rows: &[Standing], ask: &Ask, begin: usize) -> Option<usize>
+    requires few { length rows.now ≤ 64 }
+    ensures { IsRevivalOf (rules_number rules) rows.now ask.now begin result }
+{
+    match rules {
+        Rules::One => None,
+        Rules::Two => least(Among::Revivable, rows, ask, begin),
+    }
+}
+
+// The least of the usable members; where there is none, under rules 2, of those that may be revived.
+fn balanced(present: &Present, rules: Rules, ask: &Ask, next: u64) -> Choice
+    requires few { length present.now.rows.items ≤ 64 }
+    ensures pick { (o : Opening) (p : List Entry) → IsNow (rules_number rules) o p present.now
+        → IsOpen (rules_number rules) o p ask.now → next ≡ next_of o p
+        → IsPick (rules_number rules) o p ask.now result.answer }
+    ensures revives { (d : Standing) → result.revives
+        ≡ revives_at (rules_number rules) present.now.rows.items d ask.now result.answer }
+    ensures room { HasRoomFor present.now.rows.items result.answer }
+{
+    let rows = present.rows.as_slice();
+    let begin = begin_after(present.chosen);
+    if let Some(member) = least(Among::Usable, rows, ask, begin) {
+        return chosen(&rows[member], member as u32, How::Balanced, next, false);
+    }
+    match least_revivable(rules, rows, ask, begin) {
+        Some(member) => chosen(&rows[member], member as u32, How::Balanced, next, true),
+        None => Choice {
+            answer: Answer::NoMember,
+            revives: false,
+        },
+    }
+}
+
+/// The answer to `ask` under the number `next`.
+pub(crate) fn pick(
+    opening: &Opening,
+    present: &Present,
+    rules: Rules,
+    ask: &Ask,
+    next: u64,
+) -> Choice
+    requires few { length present.now.rows.items ≤ 64 }
+    requires whole { length present.now.rows.items ≡ members opening.now }
+    requires targets { (m : ℕ) (d : Standing) → m < length present.now.rows.items → IfSome (slice_index_or present.now.rows.items m d).redirect (λ r. r < length present.now.rows.items) }
+    ensures pick { (p : List Entry) → IsNow (rules_number rules) opening.now p present.now → next ≡ next_of opening.now p
+        → IsPick (rules_number rules) opening.now p ask.now result.answer }
+    ensures revives { (d : Standing) → result.revives
+        ≡ revives_at (rules_number rules) present.now.rows.items d ask.now result.answer }
+    ensures room { HasRoomFor present.now.rows.items result.answer }
+{
+    if let Some((member, how)) = routed(opening, present.rows.as_slice(), ask) {
+        return chosen(&present.rows[member as usize], member, how, next, false);
+    }
+    if is_forced(opening, ask) {
+        return Choice {
+            answer: Answer::Forced,
+            revives: false,
+        };
+    }
+    balanced(present, rules, ask, next)
+}

@@ -1,0 +1,120 @@
+//! The balancer as its journal leaves it, and what an entry makes of it.
+
+ghost use Rattle.std.specs.Prelude.{◌≡◌, ℕ, ◌+◌, ◌<◌, ◌≤◌, ◌^◌, List, length, false, slice_index_or, vec_len, None};
+ghost use Rattle.jk_model.specs.Journal.{chosen_in, newest_chosen};
+ghost use Rattle.balancer_core.specs.Revived.{AreOthersRevived, row_selected, tickets_after};
+ghost use Rattle.balancer_core.specs.Rows.{HasRoomFor};
+ghost use Rattle.balancer_core.specs.Steps.{returned_row};
+ghost use Rattle.balancer_core.specs.declared.standing.Standing.{Standing};
+
+use crate::among::{Among, passes};
+use crate::standing::Standing;
+use crate::steps::{chosen_row, returned_row, revived_row};
+use jk_model::{Answer, Ask, LbConfig, Outcome};
+
+/// The balancer as its journal leaves it.
+#[derive(Debug, Drop)]
+pub(crate) struct Present {
+    /// One for each member.
+    pub(crate) rows: Vec<Standing>,
+    /// How many tickets are out.
+    pub(crate) out: u64,
+    /// The moment of the last entry.
+    pub(crate) at: u64,
+    /// The moment of the last maintenance.
+    pub(crate) maintained: u64,
+    /// The member that was chosen last.
+    pub(crate) chosen: Option<u32>,
+}
+
+// Turns all rows from Error to Recover that may be revived for the ask, but that of `except`.
+fn revive_others(rows: &mut Vec<Standing>, ask: &Ask, except: usize, direct: bool)
+    requires { length rows.old.items ≤ 64 }
+    ensures { AreOthersRevived ask.now except (length rows.old.items) rows.old.items rows.new.items }
+{
+    for i in 0..rows.len() {
+        if i != except && passes(Among::Revivable, &rows[i], ask, i) {
+            rows[i] = revived_row(&rows[i], direct);
+        }
+    }
+}
+
+impl Present {
+    /// After a Select with this number, moment and answer, which revives or doesn't.
+    pub(crate) fn select(
+        &mut self,
+        config: &LbConfig,
+        ask: &Ask,
+        seq: u64,
+        at: u64,
+        answer: Answer,
+        revives: bool,
+    )
+        requires few { length self.old.rows.items ≤ 64 }
+        requires room { HasRoomFor self.old.rows.items answer }
+        requires light { (m : ℕ) (d : Standing) → m < length self.old.rows.items → (slice_index_or self.old.rows.items m d).load < 2 ^ 125 }
+        requires tickets { self.old.out ≤ 2 ^ 48 }
+        requires revival { chosen_in answer ≡ None → revives ≡ false }
+        ensures whole { length self.new.rows.items ≡ length self.old.rows.items }
+        ensures rows { (m : ℕ) (d : Standing) → m < length self.old.rows.items → slice_index_or self.new.rows.items m d
+            ≡ row_selected config.now.method seq ask.now answer revives m (slice_index_or self.old.rows.items m d) }
+        ensures tickets { self.new.out ≡ tickets_after answer self.old.out }
+        ensures moment { self.new.at ≡ at }
+        ensures maintained { self.new.maintained ≡ self.old.maintained }
+        ensures chosen { self.new.chosen ≡ newest_chosen (chosen_in answer) self.old.chosen }
+    {
+        self.at = at;
+        if let Answer::Chosen { member, .. } = answer {
+            let place = member as usize;
+            if revives {
+                revive_others(&mut self.rows, ask, place, config.direct);
+            }
+            self.rows[place] = chosen_row(
+                &self.rows[place],
+                config.method,
+                seq,
+                ask.fresh,
+                config.direct,
+            );
+            self.out += 1;
+            self.chosen = Some(member);
+        }
+    }
+
+    /// After a Return of a ticket on `member`.
+    pub(crate) fn give_back(
+        &mut self,
+        config: &LbConfig,
+        member: u32,
+        ticket: u64,
+        outcome: Outcome,
+        at: u64,
+    )
+        requires within { member < length self.old.rows.items }
+        requires busy { (d : Standing) → 0 < (slice_index_or self.old.rows.items member d).busy }
+        requires light { (d : Standing) → (slice_index_or self.old.rows.items member d).load < 2 ^ 125 }
+        requires few { outcome.bytes ≤ 2 ^ 44 }
+        requires tickets { 0 < self.old.out }
+        ensures whole { length self.new.rows.items ≡ length self.old.rows.items }
+        ensures row { (d : Standing) → slice_index_or self.new.rows.items member d
+            ≡ returned_row config.now.method config.now.direct ticket outcome at (slice_index_or self.old.rows.items member d) }
+        ensures others { (m : ℕ) (d : Standing) → (m ≡ member → ⊥) → slice_index_or self.new.rows.items m d ≡ slice_index_or self.old.rows.items m d }
+        ensures tickets { self.new.out + 1 ≡ self.old.out }
+        ensures moment { self.new.at ≡ at }
+        ensures maintained { self.new.maintained ≡ self.old.maintained }
+        ensures chosen { self.new.chosen ≡ self.old.chosen }
+    {
+        let place = member as usize;
+        let row = returned_row(
+            &self.rows[place],
+            config.method,
+            ticket,
+            outcome,
+            at,
+            config.direct,
+        );
+        self.rows[place] = row;
+        self.out -= 1;
+        self.at = at;
+    }
+}
