@@ -269,7 +269,7 @@ static LINES: [(usize, &str, Want); 3] = [
 ];
 
 /// A front, a byte that fills up to so many bytes with the end, the end, and what it is.
-static SIZES: [(&str, u8, usize, &str, Want); 15] = [
+static SIZES: [(&str, u8, usize, &str, Want); 9] = [
     (HOST_AND_MORE, b'x', 16_384, "\r\n\r\n", Want::Head),
     (HOST_AND_MORE, b'x', 16_385, "\r\n\r\n", TOO_BIG),
     (HOST_AND_MORE, b'x', 16_383, "\r\n\r", Want::Truncated),
@@ -289,7 +289,7 @@ fn the_limits_hold_to_the_line_and_the_byte(rt: HostRuntime) -> Result<(), Fail>
         head.extend_from_slice(end.as_bytes())?;
         assert_eq!(rt;
             answer_of(alloc, head.as_slice(), NumberList::new(alloc))?,
-            want,
+            *want,
             "{lines} lines"
         );
     }
@@ -297,7 +297,7 @@ fn the_limits_hold_to_the_line_and_the_byte(rt: HostRuntime) -> Result<(), Fail>
         let bytes = padded(alloc, front.as_bytes(), *pad, *len, back.as_bytes())?;
         assert_eq!(rt;
             answer_of(alloc, bytes.as_slice(), NumberList::new(alloc))?,
-            want,
+            *want,
             "{len} bytes, then {back:?}"
         );
     }
