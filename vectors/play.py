@@ -386,7 +386,7 @@ def consts():
         escape = lambda text: text.replace("\n", "\\n")
         rows.append(f'    (\n        "seed {seed}",\n        "{escape(script)}",\n        "{escape(shown)}",\n        {status},\n    ),\n')
     head = "//! Long scripts with their output, made by vectors/play.py from the rules alone.\n\n"
-    return head + f"pub(crate) const LONG: [(&str, &str, &str, u8); {len(rows)}] = [\n" + "".join(rows) + "];"
+    return head + f"pub(crate) static LONG: [(&str, &str, &str, u8); {len(rows)}] = [\n" + "".join(rows) + "];"
 
 
 def main(words):

@@ -1,0 +1,62 @@
+//! jkd: a connector that balances requests over servlet containers. So far it plays scripts of a balancer.
+//!
+//! Source: own rules for the commands and their statuses; what `play` prints is in play_script's specs/Play.antt.
+//! Contract: `run_plain`, a clause for each status. Read first: specs/Plain.antt.
+//! Errors: the statuses 2 to 6, each with its cause.
+#![tactic(auto)]
+
+mod answers;
+#[cfg(test)]
+mod long;
+mod plain;
+mod play;
+#[cfg(test)]
+mod tests;
+mod turn;
+mod words;
+
+use answers::{USAGE, asked_text};
+use jk_io::{Bytes, IoError, RealFiles, Sink, StdIn, StdOut, write_all};
+use plain::run_plain;
+use std::alloc::Global;
+use std::process::ExitCode;
+use std::rt::Files;
+use words::{WordsError, read_words};
+
+/// The status of words that are no command.
+const NO_COMMAND: u8 = 2;
+
+/// The status of a write that failed, and that of want of memory.
+const OUTPUT_FAULT: u8 = 5;
+
+const NO_MEMORY: u8 = 6;
+
+fn print_text<O: Sink>(out: &mut O, text: &[u8]) -> u8 {
+    match write_all(out, text) {
+        Ok(()) => 0,
+        Err(IoError::Failed) => OUTPUT_FAULT,
+        Err(IoError::NoMemory) => NO_MEMORY,
+    }
+}
+
+fn do_command<R: Files + Print + Input + AllocGlobal>(rt: &R, words: &[Bytes]) -> u8 {
+    let mut out = StdOut::new(rt);
+    if let Some(text) = asked_text(words) {
+        return print_text(&mut out, text);
+    }
+    let mut files = RealFiles::new(rt);
+    let mut input = StdIn::new(rt.reader());
+    run_plain(rt.alloc(), words, &mut files, &mut input, &mut out)
+}
+
+fn main(rt: HostRuntime) -> ExitCode {
+    let status = match read_words(&rt) {
+        Ok(words) => do_command(&rt, words.as_slice()),
+        Err(WordsError::NotText) => NO_COMMAND,
+        Err(WordsError::NoMemory) => NO_MEMORY,
+    };
+    if status == NO_COMMAND {
+        let _ = eprint!(&rt; "{USAGE}");
+    }
+    ExitCode::from(status)
+}

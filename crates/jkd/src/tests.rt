@@ -1,0 +1,378 @@
+//! What no clause says: that commands succeed, and worked scripts.
+use crate::answers::asked_text;
+use crate::long::LONG;
+use crate::plain::run_plain;
+use jk_io::{Bytes, ListOf, MemFiles, MemLink, NumberList};
+use std::alloc::Global;
+use std::process::Abort;
+use std::test::Fail;
+
+fn no_numbers(alloc: Global) -> NumberList {
+    NumberList::new(alloc)
+}
+
+fn numbers(alloc: Global, list: &[u64]) -> Result<NumberList, Fail> {
+    Ok(ListOf::from_vec(Vec::from_slice(alloc, list)?))
+}
+
+fn words(alloc: Global, list: &[&str]) -> Result<Vec<Bytes>, Fail> {
+    let mut words = Vec::new(alloc);
+    for word in list {
+        words.push(Bytes::from_slice(alloc, word.as_bytes())?)?;
+    }
+    Ok(words)
+}
+
+// The status of the words over this input, and what the output took.
+fn done(alloc: Global, list: &[&str], input: &mut MemLink, out: &mut MemLink) -> Result<u8, Fail> {
+    let mut files = MemFiles::new(ListOf::new(alloc), no_numbers(alloc));
+    let words = words(alloc, list)?;
+    Ok(run_plain(alloc, words.as_slice(), &mut files, input, out))
+}
+
+fn link(alloc: Global, bytes: &[u8]) -> Result<MemLink, Fail> {
+    Ok(MemLink::new(alloc, Bytes::from_slice(alloc, bytes)?, no_numbers(alloc)))
+}
+
+// Plays each script, and compares what it prints and its status.
+fn play_all(rt: &impl Abort, alloc: Global, rows: &[(&str, &str, &str, u8)]) -> Result<(), Fail> {
+    for (name, script, text, status) in rows {
+        let mut input = link(alloc, script.as_bytes())?;
+        let mut out = link(alloc, b"")?;
+        let ended = done(alloc, &["play"], &mut input, &mut out)?;
+        assert_eq!(rt; out.sent(), text.as_bytes(), "{name}");
+        assert_eq!(rt; ended, *status, "{name}");
+    }
+    Ok(())
+}
+
+static SCRIPTS: [(&str, &str, &str, u8); 22] = [
+    (
+        "two weights",
+        "member a 1\nmember b 2\nselect\nselect\nselect\nselect\nselect\nselect\n",
+        "0 a\n1 b\n2 b\n3 a\n4 b\n5 b\n",
+        0,
+    ),
+    (
+        "a failed member comes back for a trial",
+        "member a 1\nselect\nfailed 0\nselect\n",
+        "0 a\n2 a probe\n",
+        0,
+    ),
+    (
+        "a full pool",
+        "member a 1 pool=1\nselect\nselect\ndone 0\nselect\n",
+        "0 a\nnone\n3 a\n",
+        0,
+    ),
+    ("nothing", "", "", 0),
+    (
+        "blank lines and comments",
+        "\n# a\nmember a 1\n\nselect\n#\nselect\n",
+        "0 a\n1 a\n",
+        0,
+    ),
+    ("no line end", "member a 1\nselect", "0 a\n", 0),
+    (
+        "an unopened ticket",
+        "member a 1\ndone 0\n",
+        "line 2: ticket 0 is not open\n",
+        3,
+    ),
+    (
+        "a ticket that came back",
+        "member a 1\nselect\ndone 00\ngone 0\nselect\n",
+        "0 a\nline 4: ticket 0 is not open\n",
+        3,
+    ),
+    (
+        "a late member",
+        "member a 1\nselect\nmember b 1\n",
+        "0 a\nline 3: bad line\n",
+        3,
+    ),
+    ("no member", "select\n", "line 1: bad balancer\n", 3),
+    (
+        "a disabled member",
+        "member a 1 activation=D\nmember b 1\nselect route=a\nselect\n",
+        "0 a sticky\n1 b\n",
+        0,
+    ),
+    (
+        "a redirect",
+        "member a 1 activation=S redirect=b\nmember b 1 activation=D\nselect route=a\nselect\n",
+        "0 b redirect\nnone\n",
+        0,
+    ),
+    (
+        "force",
+        "lb R 1 1 60 60\nmember a 1\nmember b 1\nselect\nfailed 0\nselect route=a\n",
+        "0 a\nforced\n",
+        0,
+    ),
+    (
+        "no force",
+        "lb R 1 0 60 60\nmember a 1\nmember b 1\nselect\nfailed 0\nselect route=a\n",
+        "0 a\n2 b\n",
+        0,
+    ),
+    (
+        "distance",
+        "member a 1 distance=1\nmember b 1\nselect\nselect\nselect\nfailed 0\nselect\n",
+        "0 b\n1 b\n2 b\n4 a\n",
+        0,
+    ),
+    (
+        "busyness",
+        "lb B 1 0 60 60\nmember a 1\nmember b 2\nselect\nselect\nselect\nselect\ndone 0\ndone 3\nselect\n",
+        "0 a\n1 b\n2 b\n3 a\n6 a\n",
+        0,
+    ),
+    (
+        "fresh sessions",
+        "lb S 1 0 60 60\nmember a 1\nmember b 1\nselect\nselect old\nselect old\nselect\n",
+        "0 a\n1 b\n2 b\n3 b\n",
+        0,
+    ),
+    (
+        "a revival",
+        "member a 1\nmember b 1\nselect\nselect\nfailed 0\nfailed 1\nselect\nselect\nselect\nshow\n",
+        "0 a\n1 b\n4 a probe\n5 b probe\nnone\na probe 2 1\nb probe 2 1\n",
+        0,
+    ),
+    (
+        "traffic and moments",
+        "lb T 1 0 60 60\nat 7\nmember a 1\nmember b 1\nselect\nat 9\nfailed 0 13\nshow\nselect\n",
+        "0 a\na error 13 0\nb ok 0 0\n2 b\n",
+        0,
+    ),
+    (
+        "the last rules count",
+        "lb R 1 1 60 60\nmember a 1\nlb B 1 0 60 60\nmember b 1\nselect\nshow\n",
+        "0 a\na ok 1 1\nb ok 0 0\n",
+        0,
+    ),
+    (
+        "a head alone is not judged",
+        "member a 0\nlb R 1 0 0 0\nat 5\n",
+        "",
+        0,
+    ),
+    (
+        "a bad line goes before a bad balancer",
+        "member a 0\nselect now\n",
+        "line 2: bad line\n",
+        3,
+    ),
+];
+
+#[test]
+fn scripts_print_what_the_rules_say(rt: HostRuntime) -> Result<(), Fail> {
+    play_all(&rt, rt.alloc(), &SCRIPTS)
+}
+
+#[test]
+fn long_scripts_print_what_another_program_says(rt: HostRuntime) -> Result<(), Fail> {
+    play_all(&rt, rt.alloc(), &LONG)
+}
+
+// Lines that are of no form, behind a select.
+static BAD_LINES: [&str; 26] = [
+    "select now",
+    "select  ",
+    " select",
+    "select old old",
+    "select route=",
+    "select route=b",
+    "select\r",
+    "Select",
+    "done",
+    "done x",
+    "done -1",
+    "done 0 1 2",
+    "done 18446744073709551616",
+    "done 0 17592186044417",
+    "failed 0 x",
+    "gone",
+    "at",
+    "at 1 2",
+    "at 18446744073709551616",
+    "show a",
+    "lb R 1 0 60 60",
+    "member c 1",
+    "dona 0",
+    "selectx",
+    "done +0",
+    "at 000000000000000000001",
+];
+
+// Lines of the balancer that are of no form.
+static BAD_HEADS: [&str; 22] = [
+    "member",
+    "member b",
+    "member b x",
+    "member b -1",
+    "member b 4294967296",
+    "member b.c 1",
+    "member a 2",
+    "member  1",
+    "member b 1 pool=x",
+    "member b 1 pool=4294967296",
+    "member b 1 activation=",
+    "member b 1 activation=X",
+    "member b 1 distance=1 activation=A",
+    "member b 1 pool=1 pool=1",
+    "member b 1 redirect=",
+    "member b 1 redirect=a.b",
+    "member b 1 weight=1",
+    "lb R 1 0 60",
+    "lb R 1 0 60 60 60",
+    "lb X 1 0 60 60",
+    "lb R 2 0 60 60",
+    "lb r 1 0 60 60",
+];
+
+// Balancers whose values are refused.
+static BAD_BALANCERS: [&str; 9] = [
+    "member b 0",
+    "member b 65536",
+    "member b 1 distance=65536",
+    "member b 1 pool=0",
+    "member b 1 pool=1025",
+    "member b 1 redirect=c",
+    "member b 1 redirect=b",
+    "lb R 1 0 0 60",
+    "lb R 1 0 60 86401",
+];
+
+// Plays `before`, the line and `after`, and compares what is printed; the status is 3.
+fn refuse_all(
+    rt: &impl Abort,
+    alloc: Global,
+    lines: &[&str],
+    before: &str,
+    after: &str,
+    text: &str,
+) -> Result<(), Fail> {
+    for line in lines {
+        let script = format!(in alloc; "{before}{line}{after}")?;
+        let mut input = link(alloc, script.as_bytes())?;
+        let mut out = link(alloc, b"")?;
+        let ended = done(alloc, &["play"], &mut input, &mut out)?;
+        assert_eq!(rt; out.sent(), text.as_bytes(), "{line}");
+        assert_eq!(rt; ended, 3, "{line}");
+    }
+    Ok(())
+}
+
+#[test]
+fn a_refused_line_is_named(rt: HostRuntime) -> Result<(), Fail> {
+    refuse_all(
+        &rt,
+        rt.alloc(),
+        &BAD_LINES,
+        "member a 1\nselect\n",
+        "\nselect\n",
+        "0 a\nline 3: bad line\n",
+    )?;
+    refuse_all(
+        &rt,
+        rt.alloc(),
+        &BAD_HEADS,
+        "member a 1\n",
+        "\nselect\n",
+        "line 2: bad line\n",
+    )?;
+    refuse_all(
+        &rt,
+        rt.alloc(),
+        &BAD_BALANCERS,
+        "member a 1\n",
+        "\n\nselect\n",
+        "line 4: bad balancer\n",
+    )
+}
+
+#[test]
+fn an_input_beyond_the_limit_is_too_long(rt: HostRuntime) -> Result<(), Fail> {
+    let alloc = rt.alloc();
+    for (size, text, status) in [(67_108_864usize, "", 0), (67_108_865, "too long\n", 3)] {
+        let script = vec![in alloc; b'#'; size]?;
+        let mut input = MemLink::new(alloc, Bytes::from_vec(script), no_numbers(alloc));
+        let mut out = link(alloc, b"")?;
+        let ended = done(alloc, &["play"], &mut input, &mut out)?;
+        assert_eq!(rt; out.sent(), text.as_bytes(), "{size}");
+        assert_eq!(rt; ended, status, "{size}");
+    }
+    Ok(())
+}
+
+#[test]
+fn a_fault_has_its_own_status(rt: HostRuntime) -> Result<(), Fail> {
+    let alloc = rt.alloc();
+    let script = b"member a 1\nselect\nselect\n";
+    for at in 0..25u64 {
+        let text = Bytes::from_slice(alloc, script)?;
+        let mut input = MemLink::failing_at(
+            alloc,
+            text,
+            numbers(alloc, &[at])?,
+            no_numbers(alloc),
+        )?;
+        let mut out = link(alloc, b"")?;
+        assert_eq!(rt;
+            done(alloc, &["play"], &mut input, &mut out)?,
+            4,
+            "input at {at}"
+        );
+        assert_eq!(rt; out.sent(), b"".as_slice(), "input at {at}");
+    }
+    for at in 0..8u64 {
+        let mut input = link(alloc, script)?;
+        let mut out = MemLink::failing_at(
+            alloc,
+            Bytes::new(alloc),
+            no_numbers(alloc),
+            numbers(alloc, &[at])?,
+        )?;
+        assert_eq!(rt;
+            done(alloc, &["play"], &mut input, &mut out)?,
+            5,
+            "output at {at}"
+        );
+        assert_eq!(rt; out.sent(), &b"0 a\n1 a\n"[..at as usize], "output at {at}");
+    }
+    Ok(())
+}
+
+#[test]
+fn words_that_are_no_command_have_status_2(rt: HostRuntime) -> Result<(), Fail> {
+    let alloc = rt.alloc();
+    let rows: [&[&str]; 7] = [
+        &[],
+        &["play", "x"],
+        &["play", "--x"],
+        &["config"],
+        &["match", "w", "m", "x"],
+        &["--help"],
+        &["Play"],
+    ];
+    for (i, row) in rows.iter().enumerate() {
+        let mut input = link(alloc, b"select\n")?;
+        let mut out = link(alloc, b"")?;
+        assert_eq!(rt; done(alloc, row, &mut input, &mut out)?, 2, "row {i}");
+        assert_eq!(rt; out.sent(), b"".as_slice(), "row {i}");
+    }
+    Ok(())
+}
+
+#[test]
+fn help_and_version_are_asked_for_alone(rt: HostRuntime) -> Result<(), Fail> {
+    let alloc = rt.alloc();
+    let version = asked_text(&words(alloc, &["--version"])?).ok_or("no version")?;
+    assert_eq!(rt; version, b"jkd 0.1.0\n".as_slice());
+    assert!(rt; asked_text(&words(alloc, &["--help"])?).is_some());
+    assert!(rt; asked_text(&words(alloc, &["play"])?).is_none());
+    assert!(rt; asked_text(&words(alloc, &["--help", "play"])?).is_none());
+    Ok(())
+}
