@@ -1,26 +1,21 @@
 -- What is chosen among the rows is what the history before the ask says.
-use Rattle.std.proofs.Common.{◌≡◌, ℕ, zero, suc, ◌+◌, ◌<◌, ◌≤◌, Bool, true, false, not, ◌&&◌, ◌||◌, List, length, Option, Some, None, get_or, refl, sym, ◌∙◌, ap, subst, inl, inr, arith}
+use Rattle.std.proofs.Common.{◌≡◌, ℕ, zero, suc, ◌<◌, Bool, true, false, not, ◌&&◌, List, length, Option, Some, None, get_or, refl, sym, ◌∙◌, ap, subst, inl, inr, arith}
 use Rattle.std.specs.Prelude.{◌==◌, nat_lt, IfSome, is_some}
 use Rattle.std.proofs.lemmas.Bool.{or_right, or_left, cases_Bool, cases_eq, eq-eqb, ne_eqb, and_left, and_right, and_parts, ltb-true}
-use Rattle.jk_model.specs.Journal.{members, any_of, chosen_in, last_chosen, next_of}
-use Rattle.jk_model.specs.Free.{is_in, is_usable_by}
-use Rattle.jk_model.specs.States.{counted_of, state_of, is_balanced}
-use Rattle.jk_model.specs.Settings.{distance_of, redirect_of}
-use Rattle.jk_model.specs.Loads.{load_of}
-use Rattle.jk_model.specs.Choice.{is_usable, is_revivable, is_candidate, serves, any_usable, begin_after, begins_trial, member_within, redirected, routed, routed_member, routed_choice, is_forced, is_before, IsFirstOf, IsLeast, IsChosen, IsPick}
+use Rattle.jk_model.specs.Journal.{members, any_of, chosen_in, next_of}
+use Rattle.jk_model.specs.States.{state_of, is_balanced}
+use Rattle.jk_model.specs.Settings.{redirect_of}
+use Rattle.jk_model.specs.Choice.{is_usable, is_revivable, is_candidate, serves, any_usable, begin_after, begins_trial, member_within, redirected, routed, routed_member, routed_choice, is_forced, is_before, IsLeast, IsChosen, IsPick}
 use Rattle.jk_model.specs.declared.ask.Ask.{Ask}
 use Rattle.jk_model.specs.declared.member.Activation.TheVariants as Activation
 use Rattle.jk_model.specs.declared.state.MemberState.TheVariants as State
 use Rattle.jk_model.specs.declared.journal.Answer.{Answer}
-use Rattle.jk_model.specs.declared.journal.Answer.TheVariants as Answer
 use Rattle.jk_model.specs.declared.journal.How.{How}
-use Rattle.jk_model.specs.declared.journal.How.TheVariants as How
 use Rattle.jk_model.specs.declared.journal.Entry.{Entry}
 use Rattle.jk_model.specs.declared.opening.Opening.{Opening}
 use Rattle.balancer_core.specs.declared.standing.Standing.{Standing}
 use Rattle.balancer_core.specs.declared.present.Present.{Present}
 use Rattle.balancer_core.specs.declared.among.Among.{Among}
-use Rattle.balancer_core.specs.declared.among.Among.TheVariants as Among
 use Rattle.balancer_core.specs.Standings.{passes, serves_row}
 use Rattle.balancer_core.specs.Least.{row_before, IsLeastRow, HasNoRow, IsRevivalOf}
 use Rattle.balancer_core.specs.Rows.{serves_at, redirect_at, routed_at, passes_at, revives_at, HasRoomAt}

@@ -1,10 +1,10 @@
 -- What a Book keeps, over its calls.
-use Rattle.std.proofs.Common.{◌≡◌, ℕ, suc, ◌+◌, ◌*◌, ◌^◌, ◌<◌, ◌≤◌, Bool, true, ◌&&◌, cond, inl, inr, List, [], ◌∷◌, ◌++◌, length, reverse, Option, Some, None, get_or, refl, sym, ◌∙◌, ap, subst, arith}
-use Rattle.std.specs.Prelude.{max, IfSome, ◌==◌}
+use Rattle.std.proofs.Common.{◌≡◌, ℕ, ◌+◌, ◌*◌, ◌^◌, ◌<◌, ◌≤◌, Bool, true, ◌&&◌, cond, inl, inr, List, [], ◌∷◌, ◌++◌, length, reverse, Option, None, get_or, refl, sym, ◌∙◌, ap, subst, arith}
+use Rattle.std.specs.Prelude.{IfSome, ◌==◌}
 use Rattle.std.specs.List.{list_any}
 use Rattle.std.proofs.lemmas.Bool.{or_cases, and_parts, eqb-true}
 use Rattle.std.proofs.lemmas.List.{length-reverse, length_push}
-use Rattle.jk_model.specs.Journal.{members, next_of, moment_of}
+use Rattle.jk_model.specs.Journal.{members, next_of}
 use Rattle.jk_model.specs.Tickets.{Ticket, is_out, is_on, made, out, busy_of}
 use Rattle.jk_model.specs.Validity.{AreTickets}
 use Rattle.jk_model.specs.Legal.{IsLegal, IsLegalPast, IsNext, KnowsTerms}
@@ -13,7 +13,6 @@ use Rattle.jk_model.proofs.ListFacts.{reverse_snoc}
 use Rattle.jk_model.proofs.OutFacts.{legal_room, legal_opening, length-returned, busy-returned, made_tickets, out_below, out_one_more}
 use Rattle.jk_model.specs.declared.ask.Ask.{Ask}
 use Rattle.jk_model.specs.declared.journal.Answer.{Answer}
-use Rattle.jk_model.specs.declared.journal.Answer.TheVariants as Answer
 use Rattle.jk_model.specs.declared.journal.Kind.TheVariants as Kind
 use Rattle.jk_model.specs.declared.journal.Outcome.{Outcome}
 use Rattle.jk_model.specs.declared.journal.Entry.{Entry}

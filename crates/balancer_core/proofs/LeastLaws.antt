@@ -8,7 +8,7 @@ use Rattle.balancer_core.specs.declared.standing.Standing.{Standing}
 use Rattle.balancer_core.specs.declared.among.Among.{Among}
 use Rattle.balancer_core.specs.Standings.{passes}
 use Rattle.jk_model.specs.Choice.{is_before_by, place_from}
-use Rattle.balancer_core.specs.Least.{row_before, improves, IsLeastRow, HasNoRow, IsLeastOf}
+use Rattle.balancer_core.specs.Least.{row_before, improves, IsLeastRow, IsLeastOf}
 
 -- what goes before a new best goes before the old one
 pub before-trans : (d l t d' l' t' e m u : ℕ)

@@ -1,18 +1,16 @@
 -- What a Book keeps of the present, after an entry.
-use Rattle.std.proofs.Common.{◌≡◌, ℕ, suc, ◌+◌, ◌^◌, ◌<◌, ◌≤◌, Bool, true, false, ◌&&◌, not, cond, List, ◌∷◌, length, Option, Some, None, get_or, refl, sym, ◌∙◌, ap, subst, inl, inr, arith}
-use Rattle.std.specs.Prelude.{◌==◌, if◌then◌else◌}
+use Rattle.std.proofs.Common.{◌≡◌, ℕ, suc, ◌+◌, ◌^◌, ◌<◌, ◌≤◌, Bool, true, false, ◌&&◌, not, cond, List, ◌∷◌, length, Some, None, get_or, refl, sym, ◌∙◌, ap, subst, inl, inr, arith}
+use Rattle.std.specs.Prelude.{◌==◌}
 use Rattle.std.proofs.lemmas.Bool.{cases_Bool, cases_eq, eqb-true, eq-eqb}
-use Rattle.jk_model.specs.Journal.{members, any_of, chose, chosen_in, newest_chosen, next_of, last_chosen, maintained_of}
-use Rattle.jk_model.specs.States.{state_of, is_balanced, is_usable_in}
+use Rattle.jk_model.specs.Journal.{members, any_of, chose, chosen_in, newest_chosen, next_of}
+use Rattle.jk_model.specs.States.{is_balanced}
 use Rattle.jk_model.specs.Tickets.{Ticket, busy_of, is_on, is_out, out, ticket_in}
 use Rattle.jk_model.specs.Legal.{IsLegalPast}
 use Rattle.jk_model.specs.Choice.{is_usable}
-use Rattle.jk_model.specs.Loads.{units_chosen}
 use Rattle.jk_model.proofs.OutFacts.{busy-chosen, out-chosen, out-kept, length-returned, on_one}
 use Rattle.std.specs.List.{count_by}
 use Rattle.jk_model.specs.declared.ask.Ask.{Ask}
 use Rattle.jk_model.specs.declared.journal.Answer.{Answer}
-use Rattle.jk_model.specs.declared.journal.Answer.TheVariants as Answer
 use Rattle.jk_model.specs.declared.journal.How.{How}
 use Rattle.jk_model.specs.declared.journal.Outcome.{Outcome}
 use Rattle.jk_model.specs.declared.journal.Entry.{Entry}
@@ -22,7 +20,7 @@ use Rattle.balancer_core.specs.declared.present.Present.{Present}
 use Rattle.balancer_core.specs.declared.among.Among.TheVariants as Among
 use Rattle.balancer_core.specs.Rows.{HasRoomFor, revives_at, passes_at}
 use Rattle.balancer_core.specs.Steps.{returned_row}
-use Rattle.balancer_core.specs.Revived.{row_revived, row_selected, tickets_after}
+use Rattle.balancer_core.specs.Revived.{row_selected, tickets_after}
 use Rattle.balancer_core.specs.Kept.{IsStanding, IsNow}
 use Rattle.balancer_core.proofs.ChoiceLaws.{nobody, any_of-agree, usable-same}
 use Rattle.balancer_core.proofs.StepLaws.{select_entry, return_entry, is_reviving, standing-chosen, standing-other, standing-returned, standing-kept}

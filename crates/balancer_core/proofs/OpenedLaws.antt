@@ -1,10 +1,10 @@
 -- What a Book keeps at its opening, and what it shows.
-use Rattle.std.proofs.Common.{◌≡◌, ℕ, ◌+◌, ◌*◌, ◌/◌, ◌%◌, ◌^◌, ◌<◌, ◌≤◌, true, List, [], length, map, reverse, replicate, Option, Some, None, get_or, refl, sym, ◌∙◌, ap, subst, inl, inr, arith}
-use Rattle.std.specs.Prelude.{IfSome, All, slice_get, nat_lt, not, ◌&&◌, ◌==◌, count_by}
+use Rattle.std.proofs.Common.{◌≡◌, ℕ, ◌+◌, ◌*◌, ◌/◌, ◌%◌, ◌^◌, ◌<◌, ◌≤◌, true, List, [], length, replicate, Option, Some, None, get_or, refl, sym, ◌∙◌, ap, subst, inl, inr, arith}
+use Rattle.std.specs.Prelude.{IfSome, All, slice_get, nat_lt, not, ◌==◌}
 use Rattle.std.proofs.lemmas.Bool.{and_parts, ltb-true}
 use Rattle.std.proofs.lemmas.List.{get_or-map, length-map, length-reverse, length-replicate, get_or-replicate}
-use Rattle.std.proofs.lemmas.List.Elements.{All-get_or, All-from_get_or}
-use Rattle.std.proofs.lemmas.Option.{slice_get_cases, slice_get-get_or, get_or_from_slice_get, slice_get_within, slice_get-map}
+use Rattle.std.proofs.lemmas.List.Elements.{All-get_or}
+use Rattle.std.proofs.lemmas.Option.{slice_get_cases, get_or_from_slice_get, slice_get_within}
 use Rattle.std.proofs.lemmas.Nat.Gcd.{mod-eq-zero_of_dvd}
 use Rattle.std.proofs.Math.Nat.{div-le_self}
 use Rattle.std.specs.Int.{◌∣◌}
@@ -12,10 +12,9 @@ use Rattle.jk_model.specs.Journal.{members, next_of, moment_of}
 use Rattle.jk_model.specs.Multiple.{multiple_of}
 use Rattle.jk_model.specs.Ranges.{IsInRange, factors_in, redirects_within}
 use Rattle.jk_model.specs.Rows.{HaveRedirectsWithin}
-use Rattle.jk_model.specs.Settings.{Setting, setting_in, setting_of, unit_of, factor_of, common_of, pool_of, name_of}
+use Rattle.jk_model.specs.Settings.{Setting, setting_in, setting_of, unit_of, factor_of, common_of, name_of}
 use Rattle.jk_model.specs.Tickets.{busy_of, out}
-use Rattle.jk_model.specs.Loads.{load_by, load_of}
-use Rattle.jk_model.specs.Legal.{IsLegal}
+use Rattle.jk_model.specs.Loads.{load_by}
 use Rattle.jk_model.specs.Present.{IsPresentRow, ArePresentRows, IsPresent}
 use Rattle.jk_model.specs.Validity.{IsOpening, IsOpeningRow, IsRunning}
 use Rattle.jk_model.proofs.MultipleFacts.{multiple_of-each}
@@ -23,7 +22,6 @@ use Rattle.jk_model.proofs.SettingFacts.{common-opening}
 use Rattle.jk_model.proofs.OutFacts.{out-opening}
 use Rattle.jk_model.proofs.BoundFacts.{HasRow, has_row, busy-opening}
 use Rattle.jk_model.specs.declared.member.Method.{Method}
-use Rattle.jk_model.specs.declared.member.Method.TheVariants as Method
 use Rattle.jk_model.specs.declared.member.MemberConfig.{MemberConfig}
 use Rattle.jk_model.specs.declared.journal.Entry.{Entry}
 use Rattle.jk_model.specs.declared.view.MemberRow.{MemberRow}

@@ -1,12 +1,12 @@
 -- Where each ticket came back, after an entry.
-use Rattle.std.proofs.Common.{◌≡◌, ℕ, suc, ◌+◌, ◌-◌, ◌<◌, ◌≤◌, Bool, true, false, ◌&&◌, ◌||◌, List, [], ◌∷◌, ◌++◌, length, reverse, Option, Some, None, get_or, refl, sym, ◌∙◌, ap, subst, inl, inr, arith}
+use Rattle.std.proofs.Common.{◌≡◌, ℕ, ◌+◌, ◌<◌, true, false, ◌&&◌, List, [], ◌∷◌, ◌++◌, length, reverse, Option, Some, None, get_or, refl, sym, ◌∙◌, ap, subst, inl, inr, arith}
 use Rattle.std.specs.Prelude.{◌==◌, slice_get, option_and_then}
 use Rattle.std.specs.List.{list_any}
-use Rattle.std.proofs.lemmas.Bool.{cases_Bool, cases_eq, cases_lt, eqb-true, eq-eqb, ne_eqb, or_right, or_left, or_from, or_cases, and_parts}
+use Rattle.std.proofs.lemmas.Bool.{cases_eq, cases_lt, eq-eqb, ne_eqb, or_right, or_left, or_from, or_cases, and_parts}
 use Rattle.std.proofs.Math.ListN.{set}
 use Rattle.std.proofs.lemmas.List.{length-set, get_or-set_same, get_or-set_other}
 use Rattle.std.proofs.lemmas.List.{length_push, get_or_push, get_or_append_left, length-reverse}
-use Rattle.std.proofs.lemmas.Option.{slice_get_past, slice_get_within, slice_get-get_or, get_or_from_slice_get}
+use Rattle.std.proofs.lemmas.Option.{slice_get_past, slice_get_within, get_or_from_slice_get}
 use Rattle.jk_model.specs.Journal.{next_of, chosen_in}
 use Rattle.jk_model.specs.Tickets.{gives_back, is_returned, is_out}
 use Rattle.jk_model.specs.Legal.{IsLegalPast, IsLegal}
@@ -16,10 +16,9 @@ use Rattle.jk_model.specs.declared.journal.Outcome.{Outcome}
 use Rattle.jk_model.specs.declared.journal.Entry.{Entry}
 use Rattle.jk_model.specs.declared.opening.Opening.{Opening}
 use Rattle.balancer_core.specs.declared.tickets.Spot.{Spot}
-use Rattle.balancer_core.specs.declared.tickets.Spot.TheVariants as Spot
 use Rattle.balancer_core.specs.Journal.{IsReturnedAt}
 use Rattle.balancer_core.specs.Kept.{AreReturns}
-use Rattle.balancer_core.specs.Spots.{chosen_at, AreRising, IsSpot, IsPlaced, returned_in, kept_noted, early_noted}
+use Rattle.balancer_core.specs.Spots.{chosen_at, IsSpot, IsPlaced, returned_in, kept_noted, early_noted}
 use Rattle.balancer_core.proofs.SpotLaws.{opening_rising, opening_below, spot_made, made_is_out, returned_is_not_out}
 use Rattle.balancer_core.proofs.StepLaws.{return_entry}
 

@@ -1,26 +1,23 @@
 -- Where tickets were made, and which of them are out.
 use Rattle.std.proofs.Common.{◌≡◌, ℕ, zero, suc, ◌+◌, ◌-◌, ◌<◌, ◌≤◌, Bool, true, false, ◌&&◌, ◌||◌, not, List, [], ◌∷◌, ◌++◌, length, reverse, Option, Some, None, get_or, refl, sym, ◌∙◌, ap, subst, inl, inr, arith}
 use Rattle.std.specs.Prelude.{◌==◌, slice_get, option_and_then}
-use Rattle.std.specs.List.{list_any, filter}
-use Rattle.std.proofs.lemmas.Bool.{cases_Bool, cases_eq, cases_lt, eqb-true, eq-eqb, ne_eqb, or_right, or_left, or_from, and_left, and_parts, true≢false}
+use Rattle.std.specs.List.{list_any}
+use Rattle.std.proofs.lemmas.Bool.{cases_Bool, cases_eq, cases_lt, eqb-true, eq-eqb, ne_eqb, or_right, or_left, or_from, true≢false}
 use Rattle.std.proofs.lemmas.List.{get_or-reverse, length-reverse, reverse-append, reverse-reverse}
-use Rattle.std.proofs.lemmas.Option.{slice_get_past, slice_get_within, slice_get-get_or, get_or_from_slice_get}
+use Rattle.std.proofs.lemmas.Option.{slice_get_past}
 use Rattle.std.proofs.lemmas.Map.Views.{any-filter_same}
 use Rattle.jk_model.specs.Journal.{members, next_of, chosen_in}
-use Rattle.jk_model.specs.Tickets.{Ticket, ticket_in, gives_back, is_returned, made, out, is_out, is_on}
+use Rattle.jk_model.specs.Tickets.{Ticket, gives_back, is_returned, made, is_out, is_on}
 use Rattle.jk_model.specs.Validity.{AreTickets, IsOpening}
 use Rattle.jk_model.specs.Legal.{IsLegalPast, IsLegal, IsAnswered}
 use Rattle.jk_model.proofs.ListFacts.{list_any-reverse}
 use Rattle.jk_model.proofs.TicketFacts.{ticket_below}
-use Rattle.jk_model.proofs.OutFacts.{legal_opening, out_not_returned, on_some, next_not_returned}
+use Rattle.jk_model.proofs.OutFacts.{legal_opening, out_not_returned, on_some}
 use Rattle.jk_model.specs.declared.journal.Answer.{Answer}
-use Rattle.jk_model.specs.declared.journal.Answer.TheVariants as Answer
 use Rattle.jk_model.specs.declared.journal.Call.{Call}
-use Rattle.jk_model.specs.declared.journal.Call.TheVariants as Call
 use Rattle.jk_model.specs.declared.journal.Entry.{Entry}
 use Rattle.jk_model.specs.declared.opening.Opening.{Opening}
 use Rattle.balancer_core.specs.declared.tickets.Spot.{Spot}
-use Rattle.balancer_core.specs.declared.tickets.Spot.TheVariants as Spot
 use Rattle.balancer_core.specs.Spots.{chosen_at, AreRising, IsSpot, IsNoSpot}
 
 -- Tickets, newest first: each is below the bound, and later places have smaller ones.

@@ -1,5 +1,5 @@
 -- The row of a member after an entry is its row before, stepped.
-use Rattle.std.proofs.Common.{◌≡◌, ℕ, suc, ◌+◌, ◌-◌, ◌*◌, ◌^◌, ◌<◌, ◌≤◌, Bool, true, false, ◌&&◌, not, cond, List, ◌∷◌, length, Option, Some, None, refl, sym, ◌∙◌, ap, subst, inl, inr, arith}
+use Rattle.std.proofs.Common.{◌≡◌, ℕ, ◌+◌, ◌-◌, ◌*◌, ◌^◌, ◌<◌, ◌≤◌, Bool, true, false, ◌&&◌, not, cond, List, ◌∷◌, refl, sym, ◌∙◌, ap, inl, inr, arith}
 use Rattle.std.specs.Prelude.{◌==◌, if◌then◌else◌}
 use Rattle.std.proofs.lemmas.Bool.{cases_Bool}
 use Rattle.std.proofs.Math.Nat.{mul-le-mul}
@@ -7,16 +7,14 @@ use Rattle.jk_model.specs.Journal.{members, any_of, chose, next_of}
 use Rattle.jk_model.specs.Settings.{unit_of}
 use Rattle.jk_model.specs.StateRows.{chosen_state, recovered_state, returned_state}
 use Rattle.jk_model.specs.States.{state_of, is_balanced, is_usable_in, is_revivable_in, is_revived_in}
-use Rattle.jk_model.specs.Loads.{load_by, load_of, base_of, units_of, units_chosen, units_returned}
-use Rattle.jk_model.specs.Tickets.{busy_of, is_on, is_out, ticket_in}
+use Rattle.jk_model.specs.Loads.{load_by, base_of, units_of, units_chosen, units_returned}
+use Rattle.jk_model.specs.Tickets.{busy_of, is_on, is_out}
 use Rattle.jk_model.specs.Legal.{IsLegalPast}
-use Rattle.jk_model.proofs.OutFacts.{busy-chosen, busy-returned, out-kept}
+use Rattle.jk_model.proofs.OutFacts.{busy-chosen, busy-returned}
 use Rattle.jk_model.specs.declared.ask.Ask.{Ask}
 use Rattle.jk_model.specs.declared.member.Method.{Method}
-use Rattle.jk_model.specs.declared.member.Method.TheVariants as Method
 use Rattle.jk_model.specs.declared.state.MemberState.{MemberState}
 use Rattle.jk_model.specs.declared.journal.Answer.{Answer}
-use Rattle.jk_model.specs.declared.journal.Answer.TheVariants as Answer
 use Rattle.jk_model.specs.declared.journal.Call.TheVariants as Call
 use Rattle.jk_model.specs.declared.journal.How.{How}
 use Rattle.jk_model.specs.declared.journal.Outcome.{Outcome}
@@ -25,8 +23,8 @@ use Rattle.jk_model.specs.declared.opening.Opening.{Opening}
 use Rattle.balancer_core.specs.declared.standing.Standing.{Standing}
 use Rattle.balancer_core.specs.declared.among.Among.TheVariants as Among
 use Rattle.balancer_core.specs.Standings.{passes}
-use Rattle.balancer_core.specs.Steps.{chosen_row, revived_row, returned_row}
-use Rattle.balancer_core.specs.Revived.{row_revived, row_selected}
+use Rattle.balancer_core.specs.Steps.{chosen_row, returned_row}
+use Rattle.balancer_core.specs.Revived.{row_revived}
 use Rattle.balancer_core.specs.Kept.{IsStanding}
 
 -- A further gain, on a load that the method makes of what runs and what is kept.

@@ -8,8 +8,6 @@ use Rattle.jk_model.specs.declared.member.MemberConfig.{MemberConfig}
 use Rattle.jk_model.specs.declared.config.LbConfig.{LbConfig}
 use Rattle.jk_model.specs.declared.state.MemberState.TheVariants as State
 use Rattle.jk_model.specs.declared.journal.Call.{Call}
-use Rattle.jk_model.specs.declared.journal.Answer.{Answer}
-use Rattle.jk_model.specs.declared.journal.Answer.TheVariants as Answer
 use Rattle.jk_model.specs.declared.journal.Entry.{Entry}
 use Rattle.jk_model.specs.declared.view.MemberRow.{MemberRow}
 use Rattle.jk_model.specs.declared.opening.Opening.{Opening}

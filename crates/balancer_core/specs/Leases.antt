@@ -1,7 +1,6 @@
 -- The lease that an answer comes with.
 use Rattle.std.specs.Prelude.{◌≡◌, Option, Some, None}
 use Rattle.jk_model.specs.declared.journal.Answer.{Answer}
-use Rattle.jk_model.specs.declared.journal.Answer.TheVariants as Answer
 use Rattle.balancer_core.specs.declared.book.Lease.{Lease}
 
 -- There is a lease exactly where the answer is a choice, and it names the member and the ticket.

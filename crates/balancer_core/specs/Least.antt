@@ -3,7 +3,6 @@ use Rattle.std.specs.Prelude.{◌≡◌, ℕ, ◌<◌, Bool, true, false, List, 
 use Rattle.jk_model.specs.declared.ask.Ask.{Ask}
 use Rattle.balancer_core.specs.declared.standing.Standing.{Standing}
 use Rattle.balancer_core.specs.declared.among.Among.{Among}
-use Rattle.balancer_core.specs.declared.among.Among.TheVariants as Among
 use Rattle.balancer_core.specs.Standings.{passes}
 use Rattle.jk_model.specs.Choice.{is_before_by, place_from}
 

@@ -1,16 +1,14 @@
 -- The steps of a choice, over rows.
-use Rattle.std.specs.Prelude.{◌≡◌, ℕ, ◌<◌, ◌==◌, ◌&&◌, Bool, not, List, length, Option, slice_index_or}
+use Rattle.std.specs.Prelude.{ℕ, ◌<◌, ◌==◌, ◌&&◌, Bool, not, List, length, Option, slice_index_or}
 use Rattle.jk_model.specs.Journal.{any_of}
 use Rattle.jk_model.specs.States.{is_balanced}
-use Rattle.jk_model.specs.Choice.{redirected, routed, routed_member}
+use Rattle.jk_model.specs.Choice.{routed, routed_member}
 use Rattle.jk_model.specs.declared.ask.Ask.{Ask}
 use Rattle.jk_model.specs.declared.journal.Answer.{Answer}
-use Rattle.jk_model.specs.declared.journal.Answer.TheVariants as Answer
 use Rattle.jk_model.specs.declared.journal.How.{How}
 use Rattle.jk_model.specs.declared.opening.Opening.{Opening}
 use Rattle.balancer_core.specs.declared.standing.Standing.{Standing}
 use Rattle.balancer_core.specs.declared.among.Among.{Among}
-use Rattle.balancer_core.specs.declared.among.Among.TheVariants as Among
 use Rattle.balancer_core.specs.Standings.{passes, serves_row}
 
 -- Below, d stands where there is no row.

@@ -4,7 +4,6 @@ use Rattle.jk_model.specs.Journal.{chosen_in}
 use Rattle.jk_model.specs.declared.journal.Entry.{Entry}
 use Rattle.jk_model.specs.declared.opening.Opening.{Opening}
 use Rattle.balancer_core.specs.declared.tickets.Spot.{Spot}
-use Rattle.balancer_core.specs.declared.tickets.Spot.TheVariants as Spot
 
 -- The member that the entry at a place chose.
 abbrev pub chosen_at : List Entry → ℕ → Option ℕ

@@ -5,7 +5,6 @@ use Rattle.jk_model.specs.declared.ask.Ask.{Ask}
 use Rattle.jk_model.specs.declared.member.Activation.{Activation}
 use Rattle.balancer_core.specs.declared.standing.Standing.{Standing}
 use Rattle.balancer_core.specs.declared.among.Among.{Among}
-use Rattle.balancer_core.specs.declared.among.Among.TheVariants as Among
 
 -- What the member counts as for this ask.
 abbrev pub counted_row : Ask → ℕ → Standing → Activation

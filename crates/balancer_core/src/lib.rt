@@ -1,4 +1,11 @@
 //! The Book of one balancer: its journal, and the balancer as the journal leaves it.
+//!
+//! Source: Tomcat Connectors reference, LoadBalancer HowTo; the rules themselves are jk_model's definitions.
+//! Own rules: what a Book keeps beside its journal, and that a ticket is a lease which must be spent.
+//! Shapes: a Book is in contracts its rules, its opening, its kept entries and their count (specs/Journal.antt).
+//! Contract: `Book::select`, clauses `ok`, `pick` and `full`; `Book::return_ticket`, clauses `found` and `returned`;
+//! each call's `sound`: the journal, replayed from its opening, gives each answer. Read first: specs/Journal.antt.
+//! Errors: `RoomError` and `Stray` of jk_model. After one the Book is as it was.
 #![tactic(auto)]
 
 mod among;
@@ -11,6 +18,9 @@ mod rules;
 mod shown;
 mod standing;
 mod steps;
+#[cfg(test)]
+mod tests;
 mod tickets;
 
 pub use book::{Book, Lease, Picked};
+pub use jk_model::{Opening, Segment};

@@ -1,13 +1,11 @@
-use Rattle.std.proofs.Common.{sym, subst, ap, ◌∙◌, ◌<◌, ◌≡◌, Some, None, length, arith}
+use Rattle.std.proofs.Common.{ap, ◌∙◌, ◌<◌, Some, None, length, arith}
 use Rattle.jk_model.specs.Journal.{members}
 use Rattle.jk_model.specs.Choice.{begin_after}
 use Rattle.jk_model.specs.States.{is_balanced}
-use Rattle.jk_model.specs.declared.journal.Answer.{Answer}
 use Rattle.jk_model.specs.declared.journal.How.TheVariants as How
 use Rattle.balancer_core.specs.declared.among.Among.TheVariants as Among
 use Rattle.balancer_core.specs.Least.{IsLeastRow, HasNoRow, IsRevivalOf}
 use Rattle.balancer_core.specs.RuleNumbers.{rules_number}
-use Rattle.balancer_core.specs.Rows.{revives_at}
 use Rattle.balancer_core.proofs.ChoiceLaws.{least_usable, least_revivable, none_candidate, picked_at, revives-usable, revives-balanced}
 use Rattle.balancer_core.proofs.choice.balanced.Goals as goal
 

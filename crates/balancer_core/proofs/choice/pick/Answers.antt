@@ -1,6 +1,6 @@
-use Rattle.std.proofs.Common.{sym, subst, ap, ◌∙◌, ◌<◌, ◌≡◌, ℕ, Some, None, length, true, false, arith}
+use Rattle.std.proofs.Common.{sym, ap, ◌∙◌, ◌<◌, ◌≡◌, Some, None, length, true, false, arith}
 use Rattle.jk_model.specs.Journal.{members}
-use Rattle.jk_model.specs.Choice.{routed_choice, is_forced, routed_member, IsOpen}
+use Rattle.jk_model.specs.Choice.{routed_choice, is_forced, routed_member}
 use Rattle.jk_model.specs.States.{is_balanced}
 use Rattle.balancer_core.specs.RuleNumbers.{rules_number}
 use Rattle.balancer_core.specs.Rows.{routed_at, serves_at, redirect_at}

@@ -1,4 +1,4 @@
-use Rattle.std.proofs.Common.{true, false, sym, ◌∙◌}
+use Rattle.std.proofs.Common.{sym, ◌∙◌}
 use Rattle.balancer_core.proofs.LeastLaws.{least_skip, least_keep, least_take}
 use Rattle.balancer_core.proofs.least.least_with.Goals as goal
 

@@ -1,13 +1,11 @@
-use Rattle.std.proofs.Common.{◌≡◌, ◌<◌, ◌%◌, ℕ, List, [], length, refl, sym, ◌∙◌, ap, subst, Option, None, replicate, arith}
+use Rattle.std.proofs.Common.{◌≡◌, ◌<◌, ◌%◌, ℕ, List, length, refl, sym, ◌∙◌, ap, subst, None, replicate, arith}
 use Rattle.std.specs.Prelude.{All, slice_index_or, vec_capacity}
 use Rattle.jk_model.specs.Multiple.{multiple_of}
 use Rattle.jk_model.specs.Ranges.{factors_in}
 use Rattle.jk_model.specs.declared.member.MemberConfig.{MemberConfig}
 use Rattle.jk_model.specs.declared.view.MemberRow.{MemberRow}
-use Rattle.jk_model.specs.declared.journal.Entry.{Entry}
 use Rattle.balancer_core.specs.declared.present.Present.{Present}
 use Rattle.balancer_core.specs.RuleNumbers.{rules_number}
-use Rattle.balancer_core.specs.Kept.{IsKept}
 use Rattle.balancer_core.specs.Shown.{AreOpened}
 use Rattle.balancer_core.proofs.OpenedLaws.{all_factors_above, row_factors_above, row_factors_divide, kept_opened}
 use Rattle.balancer_core.proofs.book.Book.open.Goals as goal

@@ -1,7 +1,6 @@
 use Rattle.std.proofs.Common.{◌≡◌, ◌+◌, ◌≤◌, ◌^◌, ℕ, List, [], ◌∷◌, ◌++◌, length, reverse, Option, None, sym, ◌∙◌, subst, arith}
 use Rattle.std.specs.Prelude.{vec_capacity}
 use Rattle.std.proofs.lemmas.List.{length-reverse}
-use Rattle.jk_model.specs.Journal.{next_of}
 use Rattle.jk_model.specs.Tickets.{out}
 use Rattle.jk_model.specs.Legal.{KnowsTerms}
 use Rattle.jk_model.specs.declared.journal.Entry.{Entry}

@@ -1,5 +1,5 @@
-use Rattle.std.proofs.Common.{◌≡◌, ◌+◌, List, length, reverse, sym, ◌∙◌, subst, arith}
-use Rattle.jk_model.specs.Journal.{members, next_of}
+use Rattle.std.proofs.Common.{List, length, reverse, sym, subst, arith}
+use Rattle.jk_model.specs.Journal.{members}
 use Rattle.jk_model.specs.Present.{ArePresentRows}
 use Rattle.jk_model.specs.Rows.{HaveRedirectsWithin}
 use Rattle.jk_model.specs.declared.view.MemberRow.{MemberRow}
