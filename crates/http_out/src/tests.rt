@@ -1,5 +1,5 @@
 //! Replies as a client gets them, against bytes written by hand from RFC 9112.
-ghost use Rattle.std.specs.Prelude.{OnOk, length, ◌≤◌};
+ghost use Rattle.std.specs.Prelude.{IfOk, OnOk};
 ghost use Rattle.http_out.specs.Writer.{IsOpen};
 
 use crate::{OutError, ReplyHead, ReplyWriter, own_answer};
@@ -267,10 +267,18 @@ fn pass_chunks(
     Ok(())
 }
 
-fn pass(alloc: Global, case: &Case, client: &mut MemLink) -> Result<(), OutError> {
+/// A writer that has taken the case's head.
+fn opened(alloc: Global, case: &Case) -> Result<ReplyWriter, OutError>
+    ensures { IfOk result (λ writer. IsOpen writer) }
+{
     let (old, head_only, last) = case.asked;
     let mut writer = ReplyWriter::new(alloc, old, head_only, last);
     writer.headers(head_of(alloc, case)?)?;
+    Ok(writer)
+}
+
+fn pass(alloc: Global, case: &Case, client: &mut MemLink) -> Result<(), OutError> {
+    let mut writer = opened(alloc, case)?;
     pass_chunks(&mut writer, case.chunks, client)?;
     writer.end(client)
 }
@@ -299,8 +307,7 @@ fn nothing_follows_a_fault(rt: HostRuntime) -> Result<(), Fail> {
         NumberList::new(rt.alloc()),
         writes,
     )?;
-    let mut writer = ReplyWriter::new(rt.alloc(), false, false, false);
-    writer.headers(head_of(rt.alloc(), &CASES[0])?)?;
+    let mut writer = opened(rt.alloc(), &CASES[0])?;
     assert_eq!(rt; writer.chunk(b"h", &mut client), Err(OutError::Fault));
     assert_eq!(rt; client.sent(), b"HTTP/1.1 200 OK\r\nCon".as_slice());
     assert!(rt; writer.passed());
