@@ -1,0 +1,7 @@
+-- Where memory is wanted nothing was used.
+use Rattle.std.proofs.Common.{[], arith}
+use Rattle.http_body_in.proofs.BodyLemmas.{Uses-nil}
+use Rattle.http_body_in.proofs.body.next_piece.Goals as goal
+
+pub returns-in-Err-clause-err : goal.returns-in-Err-clause-err
+returns-in-Err-clause-err g c = record { breaks = record { place = c.args.place; data' = []; uses = Uses-nil _ c.args.place; meets = tt }; below = omega arith }

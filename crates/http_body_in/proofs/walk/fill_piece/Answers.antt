@@ -1,0 +1,86 @@
+-- Each exit of the walk, and its two steps.
+use Rattle.std.proofs.Common.{◌≡◌, ℕ, ◌+◌, ◌-◌, ◌≤◌, List, Option, Err, length, take, arith, subst, sym, ap, ◌∙◌}
+use Rattle.std.proofs.lemmas.Bool.{or_from}
+use Rattle.std.proofs.lemmas.Grind.{common_steps}
+use borrow.Rule.Slice.PartMut.{put_mid}
+use Rattle.jk_io.specs.Told.{prepended}
+use Rattle.jk_io.proofs.ToldLaws.{prepended-nil}
+use Rattle.http_body_in.specs.Body.{Uses}
+use Rattle.http_body_in.specs.Walks.{Fails}
+use Rattle.http_body_in.specs.declared.fault.BodyFault.{BodyFault}
+use Rattle.http_body_in.specs.declared.fault.BodyFault.TheVariants as fault
+use Rattle.http_body_in.specs.declared.place.Place.{Place}
+use Rattle.http_body_in.proofs.WalkLemmas.{fails-long, fails-bad, fails-read, fault_of-kind, uses-framing, uses-data, length-put_mid}
+use Rattle.http_body_in.proofs.walk.fill_piece.Goals as goal
+
+pub returns-then-is_reached-clause-err : goal.returns-then-is_reached-clause-err
+returns-then-is_reached-clause-err g c =
+    fails-long c.args.most c.args.taken c.saturating_add.result c.walk.count _ _ c.args.start c.walk.place c.walk.piece c.walk.invariant.within c.walk.invariant.uses c.saturating_add.ensures (sym c.is_reached.ensures ∙ c.if-is_reached.true)
+
+pub returns-then-is_bad-clause-err : goal.returns-then-is_bad-clause-err
+returns-then-is_bad-clause-err g c =
+    fails-bad c.args.most c.args.taken c.walk.count _ _ c.args.start c.walk.place c.walk.piece (omega (arith, c.walk.invariant.within, c.if-count-piece.false)) c.walk.invariant.uses (sym c.is_bad.ensures ∙ c.if-is_bad.true)
+
+pub returns-in-Err-clause-err : goal.returns-in-Err-clause-err
+returns-in-Err-clause-err g c =
+    let e = c.in-Err.ensures in
+    fails-read c.args.most c.args.taken c.walk.count _ _ _ c.args.start c.walk.place c.walk.piece c.in-Err.fault (omega (arith, c.walk.invariant.within, c.if-count-piece.false)) c.walk.invariant.uses e.err
+    (or_from _ _ (sym c.is_whole.ensures ∙ c.if-is_whole.false) (sym c.is_bad.ensures ∙ c.if-is_bad.false))
+    (λ is. e.end (ap Err is)) (λ is. e.kind.0 (ap Err is)) (λ is. e.kind.1 (ap Err is))
+
+pub walk-preserved-then-left-eq0 : goal.walk-preserved-then-left-eq0
+walk-preserved-then-left-eq0 g c =
+    let I = c.walk.invariant in
+    let e = c.in-Ok.ensures in
+    record {
+      within = I.within;
+      uses = uses-framing _ _ _ c.args.start c.walk.place c.in-Ok.next (take c.walk.count c.walk.piece) I.uses e.ok;
+      sent = e.same.0 ∙ I.sent;
+      beside = e.same.1 ∙ I.beside;
+      no_fewer = omega (arith, I.no_fewer, e.no_fewer);
+    }
+
+pub returns-in-Ok-eq0-clause-err : goal.returns-in-Ok-eq0-clause-err
+returns-in-Ok-eq0-clause-err g c =
+    let e = c.in-Ok-eq0.ensures in
+    let now = prepended c.next_data.new.inbox (g.C.Meanings.incoming c.next_data.new.client) in
+    let same = sym (e.came ∙ ap (λ (n : ℕ). prepended (take n c.next_data.new.buf) now) c.in-Ok-eq0.field-0-test ∙ prepended-nil now) in
+    let fails = fails-read c.args.most c.args.taken c.walk.count _ _ _ c.args.start c.walk.place c.walk.piece fault.Truncated (omega (arith, c.walk.invariant.within, c.if-count-piece.false)) c.walk.invariant.uses same
+    (or_from _ _ (sym c.is_whole.ensures ∙ c.if-is_whole.false) (sym c.is_bad.ensures ∙ c.if-is_bad.false))
+    (λ is. e.end c.in-Ok-eq0.field-0-test) (λ is. cc) (λ is. cc) in
+    let k = c.walk.count + c.count_of-want.result - c.walk.count in
+    let fits : c.walk.count + k ≤ length c.walk.piece = omega (arith, c.count_of-want.ensures, c.walk.invariant.within) in
+    let len : length c.next_data.new.buf ≡ k = grind (arith, common_steps, c.next_data.auto.buf, fits) in
+    let P : ℕ → Type 0 = λ n. Fails c.args.most c.args.taken n (prepended c.args.inbox.now (g.C.Meanings.incoming c.args.client.now)) now c.args.start fault.Truncated in
+    subst P (sym (length-put_mid c.walk.count k c.walk.piece c.next_data.new.buf c.walk.invariant.within fits len)) fails
+
+pub returns-in-Err-next_data-clause-err : goal.returns-in-Err-next_data-clause-err
+returns-in-Err-next_data-clause-err g c =
+    let kind = fault_of-kind c.in-Err-next_data.error in
+    let now = prepended c.next_data.new.inbox (g.C.Meanings.incoming c.next_data.new.client) in
+    let fails = fails-read c.args.most c.args.taken c.walk.count _ _ _ c.args.start c.walk.place c.walk.piece c.fault_of.result (omega (arith, c.walk.invariant.within, c.if-count-piece.false)) c.walk.invariant.uses c.in-Err-next_data.ensures.err
+    (or_from _ _ (sym c.is_whole.ensures ∙ c.if-is_whole.false) (sym c.is_bad.ensures ∙ c.if-is_bad.false))
+    (λ is. absurd (kind.0 (sym c.fault_of.ensures ∙ is))) (λ is. kind.1 (sym c.fault_of.ensures ∙ is)) (λ is. kind.2 (sym c.fault_of.ensures ∙ is)) in
+    let k = c.walk.count + c.count_of-want.result - c.walk.count in
+    let fits : c.walk.count + k ≤ length c.walk.piece = omega (arith, c.count_of-want.ensures, c.walk.invariant.within) in
+    let len : length c.next_data.new.buf ≡ k = grind (arith, common_steps, c.next_data.auto.buf, fits) in
+    let P : ℕ → Type 0 = λ n. Fails c.args.most c.args.taken n (prepended c.args.inbox.now (g.C.Meanings.incoming c.args.client.now)) now c.args.start c.fault_of.result in
+    subst P (sym (length-put_mid c.walk.count k c.walk.piece c.next_data.new.buf c.walk.invariant.within fits len)) fails
+
+pub walk-preserved : goal.walk-preserved
+walk-preserved g c =
+    let I = c.walk.invariant in
+    let e = c.in-Ok-next_data.ensures in
+    let came = c.in-Ok-next_data.came in
+    let k = c.walk.count + c.count_of-want.result - c.walk.count in
+    let fits : c.walk.count + k ≤ length c.walk.piece = omega (arith, c.count_of-want.ensures, I.within) in
+    let len : length c.next_data.new.buf ≡ k = grind (arith, common_steps, c.next_data.auto.buf, fits) in
+    let long = length-put_mid c.walk.count k c.walk.piece c.next_data.new.buf I.within fits len in
+    let P : Place → Type 0 = λ p. Uses (prepended c.args.inbox.now (g.C.Meanings.incoming c.args.client.now)) (prepended c.next_data.new.inbox (g.C.Meanings.incoming c.next_data.new.client)) c.args.start p (take (c.walk.count + came) (put_mid c.walk.count k c.walk.piece c.next_data.new.buf)) in
+    record {
+      within = omega (arith, long, fits, len, e.count);
+      uses = subst P (sym c.data_step-place.ensures) (uses-data _ _ _ c.args.start c.walk.place c.walk.piece c.next_data.new.buf c.walk.count k came I.within e.count (omega (arith, e.count, len, c.count_of-want.ensures, c.data_left-left.ensures)) I.uses e.came);
+      sent = e.same.0 ∙ I.sent;
+      beside = e.same.1 ∙ I.beside;
+      no_fewer = omega (arith, I.no_fewer, e.cause.no_fewer);
+    }

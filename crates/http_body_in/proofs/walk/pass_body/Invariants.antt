@@ -1,0 +1,20 @@
+use Rattle.std.proofs.Common.{◌≡◌, ◌≤◌, ◌+◌, ◌-◌, ◌*◌, ℕ, List, length}
+use Rattle.http_front.specs.Unread.{unread}
+use Rattle.http_body_in.specs.Body.{Uses}
+use Rattle.http_body_in.specs.Falls.{framing_left, exact_left}
+use Rattle.http_body_in.specs.Walks.{counted}
+use Rattle.http_body_in.proofs.walk.pass_body.Given as goal
+
+-- the sum counts the data of what was used
+abbrev pub invariant-walk : goal.invariant-walk
+invariant-walk g l = record {
+  passed : List ℕ;
+  uses : Uses (unread l.initial.inbox (g.C.Meanings.incoming l.initial.client)) (unread l.inbox (g.C.Meanings.incoming l.client)) l.fn.start l.place passed;
+  counts : l.sum ≡ counted l.fn.taken (length passed);
+  sent : g.C.Meanings.sent l.client ≡ g.C.Meanings.sent l.initial.client;
+  beside : g.C.Meanings.beside l.client ≡ g.C.Meanings.beside l.initial.client;
+  no_fewer : g.C.Meanings.faults l.initial.client ≤ g.C.Meanings.faults l.client;
+}
+
+abbrev pub decreases-walk : goal.decreases-walk
+decreases-walk g l = 40000 * (l.most - l.sum + exact_left l.place) + framing_left l.place

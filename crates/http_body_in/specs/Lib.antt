@@ -1,0 +1,6 @@
+pub mod Body
+pub mod Falls
+pub mod Faults
+pub mod Places
+pub mod State
+pub mod Walks

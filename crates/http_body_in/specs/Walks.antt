@@ -1,0 +1,60 @@
+-- How far a walk over a body came, and why no further.
+use Rattle.std.specs.Prelude.{ℕ, ◌≡◌, ◌≤◌, ◌<◌, ◌+◌, Bool, false, true, ◌&&◌, ◌||◌, ◌==◌, nat_le, min, List, length, Option, Result, Ok, Err}
+use Rattle.jk_io.specs.Told.{IsEmpty}
+use Rattle.http_body_in.specs.Body.{Uses, is_over}
+use Rattle.http_body_in.specs.Places.{is_whole, is_limited}
+use Rattle.http_body_in.specs.declared.fault.BodyFault.{BodyFault}
+use Rattle.http_body_in.specs.declared.fault.BodyFault.TheVariants as fault
+use Rattle.http_body_in.specs.declared.place.Place.{Place}
+use Rattle.http_body_in.specs.declared.place.Place.TheVariants as at
+
+-- the data of a chunked body reached its limit
+abbrev pub is_reached : Place → ℕ → ℕ → Bool
+is_reached place most taken = is_limited place && nat_le most taken
+
+-- a count of data stays at the last value of a u64
+abbrev pub counted : ℕ → ℕ → ℕ
+counted taken more = min (taken + more) 18446744073709551615
+
+-- what a walk met behind the data that it used
+abbrev pub Meets : ℕ → ℕ → Option (List ℕ) → Place → List ℕ → BodyFault → Type 0
+Meets most taken now place data' fault.Truncated = (is_over place ≡ false) × IsEmpty now
+Meets most taken now place data' fault.BadChunk = place ≡ at.Bad
+Meets most taken now place data' fault.TooLong = is_reached place most (counted taken (length data')) ≡ true
+Meets most taken now place data' fault.Fault = Unit {0}
+Meets most taken now place data' fault.NoMemory = Unit {0}
+
+-- fewer than the wanted n bytes of data were there, but that the limit may be reached by all of them
+abbrev pub IsBelow : ℕ → List ℕ → BodyFault → Type 0
+IsBelow n data' fault.TooLong = length data' ≤ n
+IsBelow n data' fault.Truncated = length data' < n
+IsBelow n data' fault.BadChunk = length data' < n
+IsBelow n data' fault.Fault = length data' ≤ n
+IsBelow n data' fault.NoMemory = length data' ≤ n
+
+-- the walk came to a fault
+pub record Breaks (most taken : ℕ) (before now : Option (List ℕ)) (start : Place) (why : BodyFault) : Type 0 where
+  pub place : Place
+  pub data' : List ℕ
+  pub uses : Uses before now start place data'
+  pub meets : Meets most taken now place data' why
+
+-- the walk for n bytes of data came to a fault
+pub record Fails (most taken n : ℕ) (before now : Option (List ℕ)) (start : Place) (why : BodyFault) : Type 0 where
+  pub breaks : Breaks most taken before now start why
+  pub below : IsBelow n breaks.data' why
+
+-- the walk used n bytes of data, or all of a whole body
+pub record Walks (most taken n : ℕ) (before now : Option (List ℕ)) (start place : Place) (data' : List ℕ) : Type 0 where
+  pub uses : Uses before now start place data'
+  pub within : length data' ≤ n
+  pub all : (length data' == n || is_whole place) ≡ true
+  pub under : is_reached place most (counted taken (length data')) ≡ false
+
+-- the walk used the whole body
+pub record Passes (most taken : ℕ) (before now : Option (List ℕ)) (start place : Place) (sum : ℕ) : Type 0 where
+  pub data' : List ℕ
+  pub uses : Uses before now start place data'
+  pub whole : is_whole place ≡ true
+  pub counts : sum ≡ counted taken (length data')
+  pub under : is_reached place most sum ≡ false

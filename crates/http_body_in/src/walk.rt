@@ -1,0 +1,270 @@
+//! The walk over a client's bytes: framing is stepped over, data is copied or dropped.
+ghost use Rattle.std.specs.Prelude.{◌≡◌, ◌≢◌, ◌<◌, ◌≤◌, ◌↔◌, ◌+◌, ℕ, List, [], length, take, min, false, IfOk, IfErr, OnOk, OnErr, IsErrOf, IsTrue, Err, Some};
+ghost use Rattle.jk_io.specs.Told.{prepended, IsEmpty, Rose, HasCause};
+ghost use Rattle.http_front.specs.Unread.{unread};
+ghost use Rattle.http_body_in.specs.Body.{Uses, is_over, place_behind, data_from};
+ghost use Rattle.http_body_in.specs.Places.{data_left};
+ghost use Rattle.http_body_in.specs.Falls.{framing_left, exact_left};
+ghost use Rattle.http_body_in.specs.Walks.{Walks, Fails, Passes, Breaks, is_reached};
+
+use crate::fault::{BodyFault, fault_of};
+use crate::place::{Place, data_left, data_step, is_bad, is_limited, is_whole, step};
+use http_front::Inbox;
+use jk_io::{IoError, Link};
+
+/// How far a walk came that fills a piece.
+#[derive(Clone, Copy)]
+pub struct Filled {
+    /// Where it stands.
+    pub place: Place,
+    /// How many bytes of data it put into the piece.
+    pub count: usize,
+}
+
+/// Where a walk over a whole body ended.
+#[derive(Clone, Copy)]
+pub struct Passed {
+    /// Where it stands.
+    pub place: Place,
+    /// The data of the body so far, that before the walk among it.
+    pub taken: u64,
+}
+
+/// Puts the next bytes of data into the piece, until it is full or the body is whole.
+pub fn fill_piece<C: Link>(
+    start: Place,
+    most: u64,
+    taken: u64,
+    inbox: &mut Inbox,
+    client: &mut C,
+    piece: &mut [u8],
+) -> Result<Filled, BodyFault>
+    ensures count { IfOk result (λ f. f.count ≤ length piece.new) }
+    ensures ok { IfOk result (λ f. Walks most taken (length piece.new) (unread inbox.old (C.incoming client.old)) (unread inbox.new (C.incoming client.new)) start f.place (take f.count piece.new)) }
+    ensures err { IfErr result (Fails most taken (length piece.new) (unread inbox.old (C.incoming client.old)) (unread inbox.new (C.incoming client.new)) start) }
+    ensures fault { IsErrOf result BodyFault.Fault → Rose (C.faults client.old) (C.faults client.new) }
+    ensures same { (C.sent client.new ≡ C.sent client.old) × (C.beside client.new ≡ C.beside client.old) }
+    ensures no_fewer { C.faults client.old ≤ C.faults client.new }
+{
+    let mut place = start;
+    let mut count = 0;
+    'walk: loop {
+        if is_reached(place, most, taken.saturating_add(count as u64)) {
+            return Err(BodyFault::TooLong);
+        }
+        if count == piece.len() {
+            return Ok(Filled { place, count });
+        }
+        if is_whole(place) {
+            return Ok(Filled { place, count });
+        }
+        if is_bad(place) {
+            return Err(BodyFault::BadChunk);
+        }
+        let left = data_left(place);
+        if left == 0 {
+            place = match pass_framing(place, inbox, client) {
+                Ok(next) => next,
+                Err(fault) => return Err(fault),
+            };
+        } else {
+            let want = count_of(left, piece.len() - count);
+            match next_data(inbox, client, &mut piece[count..count + want]) {
+                Ok(0) => return Err(BodyFault::Truncated),
+                Ok(came) => {
+                    place = data_step(place, came as u64);
+                    count += came;
+                }
+                Err(error) => return Err(fault_of(error)),
+            }
+        }
+    }
+}
+
+/// Drops the data until the body is whole.
+pub fn pass_body<C: Link>(
+    start: Place,
+    most: u64,
+    taken: u64,
+    inbox: &mut Inbox,
+    client: &mut C,
+) -> Result<Passed, BodyFault>
+    ensures ok { IfOk result (λ p. Passes most taken (unread inbox.old (C.incoming client.old)) (unread inbox.new (C.incoming client.new)) start p.place p.taken) }
+    ensures err { IfErr result (Breaks most taken (unread inbox.old (C.incoming client.old)) (unread inbox.new (C.incoming client.new)) start) }
+    ensures fault { IsErrOf result BodyFault.Fault → Rose (C.faults client.old) (C.faults client.new) }
+    ensures same { (C.sent client.new ≡ C.sent client.old) × (C.beside client.new ≡ C.beside client.old) }
+    ensures no_fewer { C.faults client.old ≤ C.faults client.new }
+{
+    let mut place = start;
+    let mut sum = taken;
+    'walk: loop {
+        if is_reached(place, most, sum) {
+            return Err(BodyFault::TooLong);
+        }
+        if is_whole(place) {
+            return Ok(Passed { place, taken: sum });
+        }
+        if is_bad(place) {
+            return Err(BodyFault::BadChunk);
+        }
+        let left = data_left(place);
+        if left == 0 {
+            place = match pass_framing(place, inbox, client) {
+                Ok(next) => next,
+                Err(fault) => return Err(fault),
+            };
+        } else {
+            match drop_data(left, inbox, client) {
+                Ok(count) => {
+                    place = data_step(place, count);
+                    sum = sum.saturating_add(count);
+                }
+                Err(fault) => return Err(fault),
+            }
+        }
+    }
+}
+
+/// Whether the data of a chunked body reached its limit.
+fn is_reached(place: Place, most: u64, taken: u64) -> bool
+    ensures { result ≡ is_reached place most taken }
+{
+    is_limited(place) && most <= taken
+}
+
+/// The lesser of what is left and what is wanted.
+fn count_of(left: u64, wanted: usize) -> usize
+    ensures { result ≡ min left wanted }
+{
+    if left < wanted as u64 {
+        left as usize
+    } else {
+        wanted
+    }
+}
+
+/// Whether the byte at this place is one of the framing.
+fn is_framing(place: Place) -> bool
+    ensures { IsTrue result ↔ ((data_left place ≡ 0) × (is_over place ≡ false)) }
+{
+    data_left(place) == 0 && !is_whole(place) && !is_bad(place)
+}
+
+/// Steps over the framing at the front of the bytes, and answers how many of them it is.
+fn step_framing(start: Place, bytes: &[u8]) -> (Place, usize)
+    requires framing { data_left start ≡ 0 }
+    requires open_end { is_over start ≡ false }
+    requires some { 0 < length bytes.now }
+    ensures within { result.1 ≤ length bytes.now }
+    ensures own { place_behind (take result.1 bytes.now) start ≡ Some result.0 }
+    ensures brings { (data_from (take result.1 bytes.now) start).bytes ≡ [] }
+    ensures falls { framing_left result.0 < framing_left start }
+    ensures chunked { exact_left result.0 ≡ 0 }
+{
+    let mut place = step(start, bytes[0]);
+    let mut used = 1;
+    while used < bytes.len() && is_framing(place) {
+        place = step(place, bytes[used]);
+        used += 1;
+    }
+    (place, used)
+}
+
+/// Sees that a byte is in the inbox.
+fn await_byte<C: Link>(inbox: &mut Inbox, client: &mut C) -> Result<(), BodyFault>
+    ensures ok { OnOk result (0 < length inbox.new) }
+    ensures unread { unread inbox.new (C.incoming client.new) ≡ unread inbox.old (C.incoming client.old) }
+    ensures end { IsErrOf result BodyFault.Truncated → IsEmpty (unread inbox.new (C.incoming client.new)) }
+    ensures kind { (result ≢ Err BodyFault.BadChunk) × (result ≢ Err BodyFault.TooLong) }
+    ensures fault { IsErrOf result BodyFault.Fault → Rose (C.faults client.old) (C.faults client.new) }
+    ensures same { (C.sent client.new ≡ C.sent client.old) × (C.beside client.new ≡ C.beside client.old) }
+    ensures no_fewer { C.faults client.old ≤ C.faults client.new }
+{
+    if !inbox.is_empty() {
+        return Ok(());
+    }
+    match inbox.read_more(client) {
+        Ok(0) => Err(BodyFault::Truncated),
+        Ok(_) => Ok(()),
+        Err(IoError::Failed) => Err(BodyFault::Fault),
+        Err(IoError::NoMemory) => Err(BodyFault::NoMemory),
+    }
+}
+
+/// Steps over framing, from the inbox or what the client has.
+fn pass_framing<C: Link>(
+    place: Place,
+    inbox: &mut Inbox,
+    client: &mut C,
+) -> Result<Place, BodyFault>
+    requires framing { data_left place ≡ 0 }
+    requires open_end { is_over place ≡ false }
+    ensures ok { IfOk result (λ next. Uses (unread inbox.old (C.incoming client.old)) (unread inbox.new (C.incoming client.new)) place next []) }
+    ensures falls { IfOk result (λ next. framing_left next < framing_left place) }
+    ensures chunked { IfOk result (λ next. exact_left next ≡ 0) }
+    ensures err { OnErr result (unread inbox.new (C.incoming client.new) ≡ unread inbox.old (C.incoming client.old)) }
+    ensures end { IsErrOf result BodyFault.Truncated → IsEmpty (unread inbox.new (C.incoming client.new)) }
+    ensures kind { (result ≢ Err BodyFault.BadChunk) × (result ≢ Err BodyFault.TooLong) }
+    ensures fault { IsErrOf result BodyFault.Fault → Rose (C.faults client.old) (C.faults client.new) }
+    ensures same { (C.sent client.new ≡ C.sent client.old) × (C.beside client.new ≡ C.beside client.old) }
+    ensures no_fewer { C.faults client.old ≤ C.faults client.new }
+{
+    match await_byte(inbox, client) {
+        Ok(()) => {
+            let (next, used) = step_framing(place, inbox.as_slice());
+            inbox.skip(used);
+            Ok(next)
+        }
+        Err(fault) => Err(fault),
+    }
+}
+
+/// Uses up to `left` bytes of data, from the inbox or what the client has, and answers how many.
+fn drop_data<C: Link>(left: u64, inbox: &mut Inbox, client: &mut C) -> Result<u64, BodyFault>
+    requires { 0 < left }
+    ensures count { IfOk result (λ n. (0 < n) × (n ≤ left)) }
+    ensures gone { IfOk result (λ n. (gone : List ℕ) × (length gone ≡ n) × (unread inbox.old (C.incoming client.old) ≡ prepended gone (unread inbox.new (C.incoming client.new)))) }
+    ensures err { OnErr result (unread inbox.new (C.incoming client.new) ≡ unread inbox.old (C.incoming client.old)) }
+    ensures end { IsErrOf result BodyFault.Truncated → IsEmpty (unread inbox.new (C.incoming client.new)) }
+    ensures kind { (result ≢ Err BodyFault.BadChunk) × (result ≢ Err BodyFault.TooLong) }
+    ensures fault { IsErrOf result BodyFault.Fault → Rose (C.faults client.old) (C.faults client.new) }
+    ensures same { (C.sent client.new ≡ C.sent client.old) × (C.beside client.new ≡ C.beside client.old) }
+    ensures no_fewer { C.faults client.old ≤ C.faults client.new }
+{
+    match await_byte(inbox, client) {
+        Ok(()) => {
+            let count = count_of(left, inbox.len());
+            inbox.skip(count);
+            Ok(count as u64)
+        }
+        Err(fault) => Err(fault),
+    }
+}
+
+/// Takes bytes for the buffer: those in the inbox, or where it is empty what the client has.
+fn next_data<C: Link>(inbox: &mut Inbox, client: &mut C, buf: &mut [u8]) -> Result<usize, IoError>
+    requires { 0 < length buf.old }
+    ensures count { IfOk result (λ n. n ≤ length buf.new) }
+    ensures came { IfOk result (λ n. unread inbox.old (C.incoming client.old) ≡ prepended (take n buf.new) (unread inbox.new (C.incoming client.new))) }
+    ensures end { IfOk result (λ n. n ≡ 0 → IsEmpty (unread inbox.new (C.incoming client.new))) }
+    ensures err { OnErr result (unread inbox.new (C.incoming client.new) ≡ unread inbox.old (C.incoming client.old)) }
+    ensures same { (C.sent client.new ≡ C.sent client.old) × (C.beside client.new ≡ C.beside client.old) }
+    ensures cause { HasCause (C.faults client.old) (C.faults client.new) result }
+{
+    if inbox.is_empty() {
+        return client.read(buf);
+    }
+    let count = copy_front(inbox.as_slice(), buf);
+    inbox.skip(count);
+    Ok(count)
+}
+
+/// Copies what fits to the front of the buffer, and answers how many bytes it is.
+fn copy_front(bytes: &[u8], buf: &mut [u8]) -> usize
+    ensures count { result ≡ min (length bytes.now) (length buf.old) }
+    ensures copied { take result buf.new ≡ take result bytes.now }
+{
+    let count = bytes.len().min(buf.len());
+    buf[..count].copy_from_slice(&bytes[..count]);
+    count
+}
