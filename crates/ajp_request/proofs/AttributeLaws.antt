@@ -56,7 +56,7 @@ plain_takes code bytes attribute rest plain fits e =
     } in
     subst (λ (x : Attribute × List ℕ). Front (SpellsAttribute x.0) (code ∷ bytes) x.1) (ok_is (Plain code text.0, text.1) (attribute, rest) a.2) whole
 
-attribute_takes : (code : ℕ) (bytes : List ℕ) (attribute : Attribute) (rest : List ℕ) → IsBytes bytes → attribute_at code (code ∷ bytes) bytes ≡ Ok (attribute, rest) → Front (SpellsAttribute attribute) (code ∷ bytes) rest
+pub attribute_takes : (code : ℕ) (bytes : List ℕ) (attribute : Attribute) (rest : List ℕ) → IsBytes bytes → attribute_at code (code ∷ bytes) bytes ≡ Ok (attribute, rest) → Front (SpellsAttribute attribute) (code ∷ bytes) rest
 unfolding attribute_at
 attribute_takes code bytes attribute rest fits e =
     elim (chosen (eqb code 10) (named_at bytes) (cond (eqb code 11) (size_at bytes) (cond (is_plain code) (plain_at code bytes) (refused BadCode (code ∷ bytes)))) (Ok (attribute, rest)) e) [
@@ -105,17 +105,17 @@ attributes_take (suc most) (code ∷ bytes) attributes rest fits e =
 -- ---- what is spelled is read
 
 -- a spelling of an attribute begins with a code other than FF, by which it is read
-record IsAgain (attribute : Attribute) (front rest : List ℕ) : Type 0 where
-  code : ℕ
-  held : List ℕ
-  parts : front ≡ code ∷ held
-  other : eqb code 255 ≡ false
-  again : (bytes : List ℕ) → attribute_at code bytes (held ++ rest) ≡ Ok (attribute, rest)
+pub record IsAgain (attribute : Attribute) (front rest : List ℕ) : Type 0 where
+  pub code : ℕ
+  pub held : List ℕ
+  pub parts : front ≡ code ∷ held
+  pub other : eqb code 255 ≡ false
+  pub again : (bytes : List ℕ) → attribute_at code bytes (held ++ rest) ≡ Ok (attribute, rest)
 
 not_plain : (code wrong : ℕ) → is_plain code ≡ true → is_plain wrong ≡ false → eqb code wrong ≡ false
 not_plain code wrong plain refused_there = ne_eqb code wrong (λ (same : code ≡ wrong). true≢false (sym plain ∙ ap is_plain same ∙ refused_there))
 
-attribute_again : (attribute : Attribute) (front rest : List ℕ) → SpellsAttribute attribute front → IsAgain attribute front rest
+pub attribute_again : (attribute : Attribute) (front rest : List ℕ) → SpellsAttribute attribute front → IsAgain attribute front rest
 unfolding attribute_at named_at
 attribute_again (Plain code text) front rest (held, plain, spelled, parts) = record {
   code = code;

@@ -23,13 +23,13 @@ use Rattle.ajp_request.proofs.StoredLaws.{stored_takes, stored_again}
 
 -- ---- booleans
 
-boolean_takes : (bytes : List ℕ) (b : Bool) (rest : List ℕ) → boolean_at bytes ≡ Ok (b, rest) → bytes ≡ boolean b ++ rest
+pub boolean_takes : (bytes : List ℕ) (b : Bool) (rest : List ℕ) → boolean_at bytes ≡ Ok (b, rest) → bytes ≡ boolean b ++ rest
 boolean_takes [] b rest e = absurd cc
 boolean_takes (zero ∷ bytes) b rest e = subst (λ (x : Bool × List ℕ). (0 ∷ bytes) ≡ boolean x.0 ++ x.1) (ok_is (false, bytes) (b, rest) e) refl
 boolean_takes (suc zero ∷ bytes) b rest e = subst (λ (x : Bool × List ℕ). (1 ∷ bytes) ≡ boolean x.0 ++ x.1) (ok_is (true, bytes) (b, rest) e) refl
 boolean_takes (suc (suc n) ∷ bytes) b rest e = absurd cc
 
-boolean_again : (b : Bool) (rest : List ℕ) → boolean_at (boolean b ++ rest) ≡ Ok (b, rest)
+pub boolean_again : (b : Bool) (rest : List ℕ) → boolean_at (boolean b ++ rest) ≡ Ok (b, rest)
 boolean_again false rest = refl
 boolean_again true rest = refl
 
@@ -45,7 +45,7 @@ known_takes None byte bytes after method rest is e = absurd cc
 known_takes (Some name) byte bytes after method rest is e =
     subst (λ (x : Option (List ℕ) × List ℕ). TellsMethod byte x.0 × (after ≡ x.1)) (ok_is (Some name, after) (method, rest) e) (is, refl)
 
-method_takes : (bytes : List ℕ) (method : Option (List ℕ)) (rest : List ℕ) → method_at bytes ≡ Ok (method, rest) → (byte : ℕ) × (bytes ≡ byte ∷ rest) × TellsMethod byte method
+pub method_takes : (bytes : List ℕ) (method : Option (List ℕ)) (rest : List ℕ) → method_at bytes ≡ Ok (method, rest) → (byte : ℕ) × (bytes ≡ byte ∷ rest) × TellsMethod byte method
 unfolding method_at
 method_takes [] method rest e = absurd cc
 method_takes (byte ∷ bytes) method rest e =
@@ -62,23 +62,23 @@ no_such_code byte name is =
     let none : named_from 1 methods byte ≡ None = ap (named_from 1 methods) same in
     absurd cc)
 
-method_again : (byte : ℕ) (method : Option (List ℕ)) (rest : List ℕ) → TellsMethod byte method → method_at (byte ∷ rest) ≡ Ok (method, rest)
+pub method_again : (byte : ℕ) (method : Option (List ℕ)) (rest : List ℕ) → TellsMethod byte method → method_at (byte ∷ rest) ≡ Ok (method, rest)
 unfolding method_at
 method_again byte None rest is = ap (λ (b : ℕ). method_at (b ∷ rest)) is
 method_again byte (Some name) rest is = rw (no_such_code byte name is, is) refl
 
 -- ---- the request line
 
-record HasLine (line : RequestLine) (bytes rest : List ℕ) : Type 0 where
-  byte : ℕ
-  protocol : List ℕ
-  uri : List ℕ
-  tells : TellsMethod byte line.method
-  spells_protocol : SpellsText false line.protocol protocol
-  spells_uri : SpellsText false line.uri uri
-  parts : bytes ≡ 2 ∷ byte ∷ (protocol ++ (uri ++ rest))
+pub record HasLine (line : RequestLine) (bytes rest : List ℕ) : Type 0 where
+  pub byte : ℕ
+  pub protocol : List ℕ
+  pub uri : List ℕ
+  pub tells : TellsMethod byte line.method
+  pub spells_protocol : SpellsText false line.protocol protocol
+  pub spells_uri : SpellsText false line.uri uri
+  pub parts : bytes ≡ 2 ∷ byte ∷ (protocol ++ (uri ++ rest))
 
-guarded : (byte : ℕ) (bytes after : List ℕ) (method : Option (List ℕ)) (rest : List ℕ) → cond (eqb byte 2) (method_at after) (refused BadCode bytes) ≡ Ok (method, rest) → (byte ≡ 2) × (method_at after ≡ Ok (method, rest))
+pub guarded : (byte : ℕ) (bytes after : List ℕ) (method : Option (List ℕ)) (rest : List ℕ) → cond (eqb byte 2) (method_at after) (refused BadCode bytes) ≡ Ok (method, rest) → (byte ≡ 2) × (method_at after ≡ Ok (method, rest))
 guarded byte bytes after method rest e =
     elim (chosen (eqb byte 2) (method_at after) (refused BadCode bytes) (Ok (method, rest)) e) [
       | inl w ↦ (eqb-true _ _ w.0, w.1)
@@ -89,7 +89,7 @@ line_parts : (first byte : ℕ) (bytes behind protocol after uri rest : List ℕ
 line_parts first byte bytes behind protocol after uri rest two m p u =
     ap (λ (k : ℕ). k ∷ bytes) two ∙ ap (λ (r : List ℕ). 2 ∷ r) m ∙ ap (λ (r : List ℕ). 2 ∷ byte ∷ r) p ∙ ap (λ (r : List ℕ). 2 ∷ byte ∷ (protocol ++ r)) u
 
-line_takes : (bytes : List ℕ) (line : RequestLine) (rest : List ℕ) → IsBytes bytes → line_at bytes ≡ Ok (line, rest) → HasLine line bytes rest
+pub line_takes : (bytes : List ℕ) (line : RequestLine) (rest : List ℕ) → IsBytes bytes → line_at bytes ≡ Ok (line, rest) → HasLine line bytes rest
 unfolding line_at
 line_takes [] line rest fits e = absurd cc
 line_takes (first ∷ bytes) line rest fits e =
@@ -116,29 +116,29 @@ line_takes (first ∷ bytes) line rest fits e =
     } in
     subst (λ (x : RequestLine × List ℕ). HasLine x.0 (first ∷ bytes) x.1) (ok_is (made, uri.1) (line, rest) c.2) whole
 
-line_again : (line : RequestLine) (byte : ℕ) (protocol uri rest : List ℕ) → TellsMethod byte line.method → SpellsText false line.protocol protocol → SpellsText false line.uri uri → line_at (2 ∷ byte ∷ (protocol ++ (uri ++ rest))) ≡ Ok (line, rest)
+pub line_again : (line : RequestLine) (byte : ℕ) (protocol uri rest : List ℕ) → TellsMethod byte line.method → SpellsText false line.protocol protocol → SpellsText false line.uri uri → line_at (2 ∷ byte ∷ (protocol ++ (uri ++ rest))) ≡ Ok (line, rest)
 unfolding line_at
 line_again line byte protocol uri rest tells spells_protocol spells_uri =
     rw (method_again byte line.method (protocol ++ (uri ++ rest)) tells, text_again false line.protocol protocol (uri ++ rest) spells_protocol, text_again false line.uri uri rest spells_uri) refl
 
 -- ---- the two ends
 
-record HasEnds (ends : Ends) (bytes rest : List ℕ) : Type 0 where
-  remote_addr : List ℕ
-  remote_host : List ℕ
-  server : List ℕ
-  spells_remote_addr : SpellsText false ends.remote_addr remote_addr
-  spells_remote_host : SpellsText true ends.remote_host remote_host
-  spells_server : SpellsText false ends.server server
-  fits_port : ends.port < 65536
-  parts : bytes ≡ remote_addr ++ (remote_host ++ (server ++ (int ends.port ++ (boolean ends.ssl ++ rest))))
+pub record HasEnds (ends : Ends) (bytes rest : List ℕ) : Type 0 where
+  pub remote_addr : List ℕ
+  pub remote_host : List ℕ
+  pub server : List ℕ
+  pub spells_remote_addr : SpellsText false ends.remote_addr remote_addr
+  pub spells_remote_host : SpellsText true ends.remote_host remote_host
+  pub spells_server : SpellsText false ends.server server
+  pub fits_port : ends.port < 65536
+  pub parts : bytes ≡ remote_addr ++ (remote_host ++ (server ++ (int ends.port ++ (boolean ends.ssl ++ rest))))
 
 ends_parts : (bytes addr r0 host r1 server r2 : List ℕ) (port : ℕ) (r3 : List ℕ) (ssl : Bool) (rest : List ℕ) → bytes ≡ addr ++ r0 → r0 ≡ host ++ r1 → r1 ≡ server ++ r2 → r2 ≡ int port ++ r3 → r3 ≡ boolean ssl ++ rest
     → bytes ≡ addr ++ (host ++ (server ++ (int port ++ (boolean ssl ++ rest))))
 ends_parts bytes addr r0 host r1 server r2 port r3 ssl rest p0 p1 p2 p3 p4 =
     p0 ∙ ap (λ (r : List ℕ). addr ++ r) p1 ∙ ap (λ (r : List ℕ). addr ++ (host ++ r)) p2 ∙ ap (λ (r : List ℕ). addr ++ (host ++ (server ++ r))) p3 ∙ ap (λ (r : List ℕ). addr ++ (host ++ (server ++ (int port ++ r)))) p4
 
-ends_takes : (bytes : List ℕ) (ends : Ends) (rest : List ℕ) → IsBytes bytes → ends_at bytes ≡ Ok (ends, rest) → HasEnds ends bytes rest
+pub ends_takes : (bytes : List ℕ) (ends : Ends) (rest : List ℕ) → IsBytes bytes → ends_at bytes ≡ Ok (ends, rest) → HasEnds ends bytes rest
 unfolding ends_at
 ends_takes bytes ends rest fits e =
     let a = bind_ok (text_at false bytes) (λ addr. text_at true addr.1 >>= λ host. text_at false host.1 >>= λ server. int_at server.1 >>= λ port. boolean_at port.1 >>= λ ssl. Ok (record { remote_addr = addr.0; remote_host = host.0; server = server.0; port = port.0; ssl = ssl.0 }, ssl.1)) (ends, rest) e in
@@ -171,7 +171,7 @@ ends_takes bytes ends rest fits e =
     } in
     subst (λ (x : Ends × List ℕ). HasEnds x.0 bytes x.1) (ok_is (made, ssl.1) (ends, rest) f.2) whole
 
-ends_again : (ends : Ends) (addr host server rest : List ℕ) → SpellsText false ends.remote_addr addr → SpellsText true ends.remote_host host → SpellsText false ends.server server
+pub ends_again : (ends : Ends) (addr host server rest : List ℕ) → SpellsText false ends.remote_addr addr → SpellsText true ends.remote_host host → SpellsText false ends.server server
     → ends_at (addr ++ (host ++ (server ++ (int ends.port ++ (boolean ends.ssl ++ rest))))) ≡ Ok (ends, rest)
 unfolding ends_at
 ends_again ends addr host server rest spells_addr spells_host spells_server =

@@ -5,3 +5,7 @@ pub mod ForwardLaws
 pub mod WritingLaws
 pub mod SpelledLaws
 pub mod ReadableLaws
+pub mod StopTools
+pub mod FieldStops
+pub mod AttributeStops
+pub mod RefusalLaws

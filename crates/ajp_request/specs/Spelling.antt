@@ -70,3 +70,7 @@ pub record SpellsForward (forward : Forward) (payload : List ℕ) : Type 0 where
   pub whole : payload ≡ 2 ∷ method_byte ∷ (protocol ++ (uri ++ (remote_addr ++ (remote_host ++ (server
       ++ (int forward.port ++ (boolean forward.ssl ++ (int (length forward.headers) ++ (headers
       ++ (attributes ++ 255 ∷ []))))))))))
+
+-- The payload is a Forward Request.
+abbrev pub IsSpelled : List ℕ → Type 0
+IsSpelled payload = (forward : Forward) × SpellsForward forward payload

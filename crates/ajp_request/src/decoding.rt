@@ -2,7 +2,8 @@
 ghost use Rattle.std.specs.Prelude.{◌≡◌, ◌≢◌, length, IfOk, IfErr};
 ghost use Rattle.ajp_wire.specs.Reading.{Gives, Tells};
 ghost use Rattle.ajp_request.specs.declared.forward.Forward.{Forward as AnyForward};
-ghost use Rattle.ajp_request.specs.Spelling.{SpellsForward};
+ghost use Rattle.ajp_wire.specs.FirstPlace.{IsRefused};
+ghost use Rattle.ajp_request.specs.Spelling.{SpellsForward, IsSpelled};
 ghost use Rattle.ajp_request.specs.Writing.{IsForward};
 ghost use Rattle.ajp_request.specs.Reading.{boolean_at, method_at, line_at, ends_at, ended as no_more, forward_of};
 
@@ -24,7 +25,10 @@ pub fn decode_forward(alloc: Global, payload: &[u8]) -> Result<Forward, DecodeEr
     // What was read can be written again.
     ensures written { IfOk result IsForward }
 
-    // The kind of a refusal, and the first place that can't be read.
+    // The first place that can't be read: what stands before it begins a request, and with what stands there none begins.
+    ensures refused { IfErr result (λ error. IsRefused IsSpelled payload.now error) }
+
+    // The kind of the refusal, read from left to right.
     ensures exact { Tells (length payload.now) result (forward_of payload.now) }
 {
     match whole_forward(alloc, payload) {

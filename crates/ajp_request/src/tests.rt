@@ -7,8 +7,17 @@ use std::alloc::Global;
 use std::test::Fail;
 
 /// A GET of `/` with the header `Host: localhost`.
-const FIRST_GET: [u8; 77] =
+static FIRST_GET: [u8; 77] =
     *b"\x12\x34\x00\x49\x02\x02\x00\x08HTTP/1.1\x00\x00\x01/\x00\x00\x09127.0.0.1\x00\x00\x09127.0.0.1\x00\x00\x09localhost\x00\x00\x50\x00\x00\x01\xa0\x0b\x00\x09localhost\x00\xff";
+
+fn first_get() -> &'static [u8] {
+    &FIRST_GET
+}
+
+/// What stands behind a packet's head.
+fn payload_of(packet: &[u8]) -> &[u8] {
+    packet.get(HEAD_BYTES..).unwrap_or(&[])
+}
 
 /// This header `count` times.
 fn headers(alloc: Global, name: &[u8], value: &[u8], count: usize) -> Result<HeadPairs, NoMemory> {
@@ -29,10 +38,10 @@ fn letters(alloc: Global, len: usize) -> Result<Bytes, NoMemory> {
 #[test]
 fn a_first_get_has_these_77_bytes(rt: HostRuntime) -> Result<(), Fail> {
     let alloc = rt.alloc();
-    let mut forward = decode_forward(alloc, &FIRST_GET[HEAD_BYTES..])?;
+    let mut forward = decode_forward(alloc, payload_of(first_get()))?;
     assert_eq!(rt;
         encode_forward(alloc, &forward, 77)?.as_slice(),
-        FIRST_GET.as_slice()
+        first_get()
     );
     let lacking = encode_forward(alloc, &forward, 76);
     assert!(rt; matches!(lacking, Err(EncodeError::TooLarge)));
@@ -41,7 +50,7 @@ fn a_first_get_has_these_77_bytes(rt: HostRuntime) -> Result<(), Fail> {
     assert!(rt; forward.headers.len() <= MAX_HEADERS);
     assert_eq!(rt;
         encode_forward(alloc, &forward, 77)?.as_slice(),
-        FIRST_GET.as_slice()
+        first_get()
     );
     Ok(())
 }
@@ -64,7 +73,7 @@ fn requests_are_refused_just_above_their_limits(rt: HostRuntime) -> Result<(), F
         let path = letters(alloc, path)?;
         let name = letters(alloc, name)?;
         let value = letters(alloc, value)?;
-        let mut forward = decode_forward(alloc, &FIRST_GET[HEAD_BYTES..])?;
+        let mut forward = decode_forward(alloc, payload_of(first_get()))?;
         forward.uri = path;
         forward.headers = headers(alloc, name.as_slice(), value.as_slice(), count)?;
         assert!(rt; forward.headers.len() <= MAX_HEADERS);
@@ -77,7 +86,7 @@ fn requests_are_refused_just_above_their_limits(rt: HostRuntime) -> Result<(), F
         assert_eq!(rt; packet.len(), size as usize);
         let lacking = encode_forward(alloc, &forward, size.saturating_sub(1));
         assert!(rt; matches!(lacking, Err(EncodeError::TooLarge)), "{size}");
-        let read = decode_forward(alloc, packet.as_slice().get(HEAD_BYTES..).unwrap_or(&[]))?;
+        let read = decode_forward(alloc, payload_of(packet.as_slice()))?;
         assert_eq!(rt;
             format!(in alloc; "{read:?}")?.as_str(),
             format!(in alloc; "{forward:?}")?.as_str()
