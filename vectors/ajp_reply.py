@@ -8,6 +8,8 @@ FFFF is an absent string, which reads as an empty one.
     python3 vectors/ajp_reply.py > crates/ajp_vectors/data/reply.txt
 """
 
+from ajp_data import Data, Refused
+
 NAMES = {
     0xA001: "Content-Type", 0xA002: "Content-Language", 0xA003: "Content-Length", 0xA004: "Date",
     0xA005: "Last-Modified", 0xA006: "Location", 0xA007: "Set-Cookie", 0xA008: "Set-Cookie2",
@@ -15,38 +17,7 @@ NAMES = {
 }
 
 
-class Refused(Exception):
-    def __init__(self, kind, at):
-        self.text = f"Err({kind} {{ at: {at} }})"
-
-
-class Reader:
-    def __init__(self, payload):
-        self.payload = payload
-        self.at = 0
-
-    def byte(self):
-        if self.at >= len(self.payload):
-            raise Refused("Short", len(self.payload))
-        self.at += 1
-        return self.payload[self.at - 1]
-
-    def integer(self):
-        if self.at + 2 > len(self.payload):
-            raise Refused("Short", len(self.payload))
-        self.at += 2
-        return int.from_bytes(self.payload[self.at - 2:self.at], "big")
-
-    def text(self, length):
-        end = self.at + length
-        if end >= len(self.payload):
-            raise Refused("Short", len(self.payload))
-        if self.payload[end] != 0:
-            raise Refused("BadMark", end)
-        text = self.payload[self.at:end]
-        self.at = end + 1
-        return text
-
+class Reader(Data):
     def string(self):
         length = self.integer()
         return b"" if length == 0xFFFF else self.text(length)

@@ -9,6 +9,8 @@ without a code is written before any other attribute that stores one, else as th
     python3 vectors/ajp_request.py > crates/ajp_vectors/data/request.txt
 """
 
+from ajp_data import Data, Refused
+
 METHODS = (
     "OPTIONS GET HEAD POST PUT DELETE TRACE PROPFIND PROPPATCH MKCOL COPY MOVE LOCK UNLOCK ACL REPORT VERSION-CONTROL "
     "CHECKIN CHECKOUT UNCHECKOUT SEARCH MKWORKSPACE UPDATE LABEL MERGE BASELINE-CONTROL MKACTIVITY"
@@ -23,38 +25,7 @@ PLAIN = {1, 2, 3, 4, 5, 6, 7, 8, 9, 12, 13}
 NAMED, KEY_SIZE, STORED, END = 10, 11, 13, 255
 
 
-class Refused(Exception):
-    def __init__(self, kind, at):
-        self.text = f"Err({kind} {{ at: {at} }})"
-
-
-class Reader:
-    def __init__(self, payload):
-        self.payload = payload
-        self.at = 0
-
-    def byte(self):
-        if self.at >= len(self.payload):
-            raise Refused("Short", len(self.payload))
-        self.at += 1
-        return self.payload[self.at - 1]
-
-    def integer(self):
-        if self.at + 2 > len(self.payload):
-            raise Refused("Short", len(self.payload))
-        self.at += 2
-        return int.from_bytes(self.payload[self.at - 2:self.at], "big")
-
-    def text(self, length):
-        end = self.at + length
-        if end >= len(self.payload):
-            raise Refused("Short", len(self.payload))
-        if self.payload[end] != 0:
-            raise Refused("BadMark", end)
-        text = self.payload[self.at:end]
-        self.at = end + 1
-        return text
-
+class Reader(Data):
     def string(self, absent=False):
         start = self.at
         length = self.integer()
