@@ -1,5 +1,5 @@
 //! A gate with numbered places, and a fake link that waits at one or raises one.
-ghost use Rattle.std.specs.Prelude.{◌≡◌, ◌<◌};
+ghost use Rattle.std.specs.Prelude.{◌≡◌, ◌<◌, false};
 
 use crate::failures::IoError;
 use crate::streams::{Link, Meanings, Sink, Source};
@@ -67,6 +67,8 @@ pub struct GateLink<'g, 'r, L: Link + Drop, R> {
 impl<'g, 'r, L: Link + Drop, R> GateLink<'g, 'r, L, R> {
     pub fn new(link: L, gate: &'g Gate<'r, R>, place: u32, turn: Turn) -> GateLink<'g, 'r, L, R>
         requires { place < 64 }
+        ensures link { (result.link ≡ link) × (result.failed ≡ 0) }
+        ensures turn { (result.place ≡ place) × (result.turn ≡ turn) × (result.wrote ≡ false) }
     {
         GateLink {
             link,

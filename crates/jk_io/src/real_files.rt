@@ -19,7 +19,9 @@ pub struct RealFiles<'r, R: SystemFiles> {
 }
 
 impl<'r, R: SystemFiles> RealFiles<'r, R> {
-    pub fn new(rt: &'r R) -> RealFiles<'r, R> {
+    pub fn new(rt: &'r R) -> RealFiles<'r, R>
+        ensures { result.failed ≡ 0 }
+    {
         RealFiles { rt, failed: 0 }
     }
 
@@ -62,7 +64,9 @@ pub struct RealClock<'r, R: SystemClock> {
 }
 
 impl<'r, R: SystemClock> RealClock<'r, R> {
-    pub fn new(rt: &'r R) -> RealClock<'r, R> {
+    pub fn new(rt: &'r R) -> RealClock<'r, R>
+        ensures { result.last ≡ 0 }
+    {
         RealClock { rt, last: 0 }
     }
 }

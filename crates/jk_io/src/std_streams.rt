@@ -17,7 +17,9 @@ pub struct ReadSource<T: Read + Drop> {
 pub type StdIn<T> = ReadSource<T>;
 
 impl<T: Read + Drop> ReadSource<T> {
-    pub fn new(reader: T) -> ReadSource<T> {
+    pub fn new(reader: T) -> ReadSource<T>
+        ensures { (result.reader ≡ reader) × (result.failed ≡ 0) }
+    {
         ReadSource { reader, failed: 0 }
     }
 }
@@ -73,7 +75,9 @@ pub struct StdOut<'r, P: Print> {
 }
 
 impl<'r, P: Print> StdOut<'r, P> {
-    pub fn new(rt: &'r P) -> StdOut<'r, P> {
+    pub fn new(rt: &'r P) -> StdOut<'r, P>
+        ensures { result.failed ≡ 0 }
+    {
         StdOut { rt, failed: 0 }
     }
 }

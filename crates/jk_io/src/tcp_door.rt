@@ -17,7 +17,9 @@ pub struct TcpDial<'r, R: Net<Stream = TcpStream>> {
 }
 
 impl<'r, R: Net<Stream = TcpStream>> TcpDial<'r, R> {
-    pub fn new(rt: &'r R) -> TcpDial<'r, R> {
+    pub fn new(rt: &'r R) -> TcpDial<'r, R>
+        ensures { result.failed ≡ 0 }
+    {
         TcpDial { rt, failed: 0 }
     }
 }
@@ -55,7 +57,10 @@ pub struct TcpDoor {
 }
 
 impl TcpDoor {
-    pub fn new(listener: TcpListener, clients: Option<u64>) -> TcpDoor {
+    /// No link is out, and no call failed yet.
+    pub fn new(listener: TcpListener, clients: Option<u64>) -> TcpDoor
+        ensures { (result.clients ≡ clients) × (result.out ≡ 0) × (result.failed ≡ 0) }
+    {
         TcpDoor {
             listener,
             clients,

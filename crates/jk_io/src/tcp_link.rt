@@ -1,5 +1,5 @@
 //! A link over a TCP stream.
-ghost use Rattle.std.specs.Prelude.{◌<◌, ◌≤◌, IfSome, length, vec_len};
+ghost use Rattle.std.specs.Prelude.{◌≡◌, ◌<◌, ◌≤◌, IfOk, IfSome, length, vec_len};
 
 use crate::failures::{IoError, NoMemory};
 use crate::std_streams::receive;
@@ -25,7 +25,9 @@ pub struct TcpLink {
 
 impl TcpLink {
     /// A link over a stream. Small writes are sent without delay.
-    pub fn new(alloc: Global, stream: TcpStream) -> Result<TcpLink, NoMemory> {
+    pub fn new(alloc: Global, stream: TcpStream) -> Result<TcpLink, NoMemory>
+        ensures { IfOk result (λ link. (link.failed ≡ 0) × (link.from ≡ link.to)) }
+    {
         // A stream that refuses this is broken, and the next read or write of it fails.
         let _ = stream.set_nodelay(true);
         Ok(TcpLink {
