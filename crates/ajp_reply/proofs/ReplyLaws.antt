@@ -171,6 +171,14 @@ message_again Pong payload s = ap message_at s
 pub spells-only : (m n : Message) (payload : List ℕ) → Spells m payload → Spells n payload → m ≡ n
 spells-only m n payload s t = ok_is m n (sym (message_again m payload s) ∙ message_again n payload t)
 
+-- what is spelled can be written
+pub spelled-writable : (m : Message) (payload : List ℕ) → Spells m payload → IsMessage m
+spelled-writable (Headers parts) payload s = (s.status, s.few)
+spelled-writable (Chunk bytes) payload s = tt
+spelled-writable (End reuse) payload s = tt
+spelled-writable (Ask most) payload s = s.0
+spelled-writable Pong payload s = tt
+
 -- where a payload is refused, it spells no message
 pub halted-none : (stop : NotRead) (len : ℕ) (error : DecodeError) (payload : List ℕ) → Halts stop (message_at payload) → error ≡ told len stop → error ≢ errors.NoMemory
     → (m : Message) → Spells m payload → ⊥

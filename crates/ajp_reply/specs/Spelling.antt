@@ -1,16 +1,18 @@
 -- Which payloads spell each message of the container, and how a message is written.
-use Rattle.std.specs.Prelude.{◌≡◌, ℕ, ◌<◌, ◌≤◌, ◌==◌, ◌⊎◌, Bool, true, List, [], ◌∷◌, ◌++◌, length, map, if◌then◌else◌}
+use Rattle.std.specs.Prelude.{◌≡◌, ℕ, ◌<◌, ◌≤◌, ◌==◌, ◌⊎◌, Bool, true, List, [], ◌∷◌, ◌++◌, length, codes, if◌then◌else◌}
 use Rattle.ajp_wire.specs.Spelling.{int, string, SpellsText, SpellsHeaders}
 use Rattle.ajp_wire.specs.Names.{headers_bytes, headers_as_read, FitsHeaders}
 use Rattle.ajp_wire.specs.Packet.{FitsPacket}
 use Rattle.ajp_reply.specs.declared.message.Message.{Message}
 use Rattle.ajp_reply.specs.declared.message.Message.TheVariants.{Headers, Chunk, End, Ask, Pong}
 use Rattle.ajp_reply.specs.declared.message.ReplyParts.{ReplyParts}
-use Rattle.ajp_reply.specs.declared.names.TheConstants.{REPLY_NAMES}
 
--- The names that have a code, in its order.
+-- The names of a reply's headers that have a code: the first has A001, and the others follow in order.
 abbrev pub reply_names : List (List ℕ)
-reply_names = map (λ name. name.now) REPLY_NAMES
+reply_names =
+    codes "Content-Type" ∷ codes "Content-Language" ∷ codes "Content-Length" ∷ codes "Date" ∷ codes "Last-Modified"
+    ∷ codes "Location" ∷ codes "Set-Cookie" ∷ codes "Set-Cookie2" ∷ codes "Servlet-Engine" ∷ codes "Status"
+    ∷ codes "WWW-Authenticate" ∷ []
 
 -- Send Headers: 04, the status, the message, the number of headers, and the headers.
 pub record SpellsHead (parts : ReplyParts) (payload : List ℕ) : Type 0 where

@@ -4,11 +4,11 @@ ghost use Rattle.std.specs.Prelude.{◌≡◌, ◌≢◌, List, ℕ, length, map
 ghost use Rattle.ajp_wire.specs.FirstPlace.{IsRefused};
 ghost use Rattle.ajp_wire.specs.Reading.{Gives, Tells};
 ghost use Rattle.ajp_reply.specs.declared.message.Message.{Message};
-ghost use Rattle.ajp_reply.specs.Spelling.{Spells, IsSpelled};
+ghost use Rattle.ajp_reply.specs.Spelling.{Spells, IsSpelled, IsMessage};
 ghost use Rattle.ajp_reply.specs.Reading.{message_at, head_at, chunk_at, end_at, ask_at, ended as ended_at};
 
 use crate::message::{Message, ReplyParts};
-use crate::names::REPLY_NAMES;
+use crate::names::reply_names;
 use ajp_wire::{DecodeError, NotRead, RefusalKind, next_headers, next_int, next_text, refused};
 use jk_io::Bytes;
 use std::alloc::Global;
@@ -17,6 +17,9 @@ use std::alloc::Global;
 pub fn decode_reply(alloc: Global, payload: &[u8]) -> Result<Message, DecodeError>
     ensures found { IfOk result (λ message. Spells message payload.now) }
     ensures none { IfErr result (λ error. error ≢ DecodeError.NoMemory → (message : Message) → Spells message payload.now → ⊥) }
+
+    // What was read can be written again.
+    ensures written { IfOk result IsMessage }
 
     // The place of a refusal is the first that can't be read, and its kind is that of the field there.
     ensures refused { IfErr result (λ error. IsRefused IsSpelled payload.now error) }
@@ -49,7 +52,7 @@ fn head(alloc: Global, rest: &[u8]) -> Result<Message, NotRead>
 {
     let (status, rest) = next_int(rest)?;
     let (message, rest) = next_text(alloc, true, rest)?;
-    let (headers, rest) = next_headers(alloc, &REPLY_NAMES, true, rest)?;
+    let (headers, rest) = next_headers(alloc, reply_names(), true, rest)?;
     let parts = ReplyParts {
         status,
         message,

@@ -2,10 +2,10 @@
 
 ghost use Rattle.std.specs.Prelude.{◌≡◌, ◌+◌, ◌≤◌, ◌++◌, List, ℕ, length, IfOk, OnOk, IfSome, IfNone, true};
 ghost use Rattle.ajp_wire.specs.Packet.{packet};
-ghost use Rattle.ajp_reply.specs.Spelling.{payload_of, FieldsFit, Fits, IsMessage};
+ghost use Rattle.ajp_reply.specs.Spelling.{Spells, payload_of, as_read, FieldsFit, Fits, IsMessage};
 
 use crate::message::{Message, ReplyParts};
-use crate::names::REPLY_NAMES;
+use crate::names::reply_names;
 use ajp_wire::{
     EncodeError, HEAD_BYTES, MAX_PAYLOAD_BYTES, MAX_STRING_BYTES, headers_len, put_head,
     put_headers, put_int, put_text,
@@ -17,6 +17,7 @@ use std::alloc::Global;
 pub fn encode_reply(alloc: Global, message: &Message, most: u32) -> Result<Bytes, EncodeError>
     requires { IsMessage message.now }
     ensures ok { IfOk result (λ bytes. bytes ≡ packet true (payload_of message.now)) }
+    ensures spelled { OnOk result (Spells (as_read message.now) (payload_of message.now)) }
     ensures fits { OnOk result (Fits most message.now) }
     ensures too_large { result ≡ Err EncodeError.TooLarge → Fits most message.now → ⊥ }
 {
@@ -67,7 +68,7 @@ fn head_len(parts: &ReplyParts) -> Option<usize>
     if parts.message.len() > MAX_STRING_BYTES {
         return None;
     }
-    match headers_len(parts.headers.as_slice(), &REPLY_NAMES) {
+    match headers_len(parts.headers.as_slice(), reply_names()) {
         Some(headers) => Some(3 + parts.message.len() + 3 + 2 + headers),
         None => None,
     }
@@ -105,5 +106,5 @@ fn put_parts(out: &mut Bytes, parts: &ReplyParts) -> Result<(), NoMemory>
     put_int(out, parts.status)?;
     put_text(out, parts.message.as_slice())?;
     put_int(out, parts.headers.len() as u16)?;
-    put_headers(out, parts.headers.as_slice(), &REPLY_NAMES)
+    put_headers(out, parts.headers.as_slice(), reply_names())
 }

@@ -22,7 +22,7 @@ pub use laws::{
     written_messages_are_read_again,
 };
 pub use message::{Message, ReplyParts};
-pub use names::REPLY_NAMES;
+pub use names::reply_names;
 
 #[cfg(test)]
 mod tests;

@@ -1,7 +1,10 @@
 //! The names of reply headers that have a code.
 
+ghost use Rattle.std.specs.Prelude.{◌≡◌, ◌<◌, length, map};
+ghost use Rattle.ajp_reply.specs.Spelling.{reply_names as names_of_replies};
+
 /// In the order of their codes, from A001 on.
-pub static REPLY_NAMES: [&[u8]; 11] = [
+static REPLY_NAMES: [&[u8]; 11] = [
     b"Content-Type",
     b"Content-Language",
     b"Content-Length",
@@ -14,3 +17,11 @@ pub static REPLY_NAMES: [&[u8]; 11] = [
     b"Status",
     b"WWW-Authenticate",
 ];
+
+/// The table of the names of headers.
+pub fn reply_names() -> &'static [&'static [u8]]
+    ensures names { map (λ name. name.now) result.now ≡ names_of_replies }
+    ensures few { length result.now < 100 }
+{
+    &REPLY_NAMES
+}

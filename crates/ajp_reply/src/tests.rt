@@ -132,7 +132,7 @@ fn packets_are_those_of_the_reference(rt: HostRuntime) -> Result<(), Fail> {
 fn each_coded_name_goes_as_its_code_in_either_case(rt: HostRuntime) -> Result<(), Fail> {
     let alloc = rt.alloc();
     let mut code = 1u8;
-    for name in &REPLY_NAMES {
+    for name in reply_names() {
         let wanted = [4, 0, 200, 0, 0, 0, 0, 1, 0xA0, code, 0, 1, b'v', 0];
         let spelled = format!(in alloc; "{:?}", head(alloc, b"", name, b"v", 1)?)?;
         let read = format!(in alloc; "{:?}", decode_reply(alloc, &wanted)?)?;
