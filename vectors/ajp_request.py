@@ -200,9 +200,13 @@ def write_rows():
     yield payload_of(255, attributes=[b"\x0d" + string(b"M"), b"\x0d" + string(b"GET"), b"\x0d" + string(b"N")])
     yield payload_of(255, attributes=[b"\x01" + string(b"c"), b"\x0d" + string(b"M"), b"\x05" + string(b"q"), b"\x0d" + string(b"N")])
     yield payload_of(255, attributes=[b"\x0d" + string(b"")])
+    for code in sorted(PLAIN):
+        yield payload_of(2, attributes=[bytes([code]) + string(b"v")])
+    yield payload_of(2, attributes=[b"\x0a" + string(b"") + string(b"")])
+    yield payload_of(2, attributes=[b"\x0b\xff\xff"])
 
 
 for payload in read_rows():
-    print("read", payload.hex() or "-", shown(payload))
+    print("read", payload.hex(), shown(payload))
 for payload in write_rows():
     print("write", payload.hex(), packet(read(payload)).hex())
