@@ -198,3 +198,9 @@ kept-wider v o h now kept early added c r c' r' is wider wider' = record {
   returns_room = omega (arith, is.returns_room, wider');
   counted = is.counted;
 }
+
+-- The same tables under other names, with more room.
+pub kept-moved : (v : ℕ) (o : Opening) (h xs : List Entry) (now : Present) (kept ys early : List (Option ℕ)) (added c r c' r' : ℕ)
+    → IsKept v o h now kept early added c r → xs ≡ h → ys ≡ kept → c ≤ c' → r ≤ r' → IsKept v o xs now ys early added c' r'
+kept-moved v o h xs now kept ys early added c r c' r' is same same' wider wider' =
+    rw (same, same') (kept-wider v o h now kept early added c r c' r' is wider wider')

@@ -1,8 +1,13 @@
+pub mod AdminLaws
+pub mod CallLaws
 pub mod ChoiceLaws
+pub mod CommandLaws
 pub mod KeptLaws
 pub mod LeastLaws
+pub mod MaintainLaws
 pub mod NowLaws
 pub mod OpenedLaws
 pub mod ReturnLaws
+pub mod SegmentLaws
 pub mod SpotLaws
 pub mod StepLaws

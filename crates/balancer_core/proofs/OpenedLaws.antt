@@ -40,7 +40,7 @@ load-opened Method.Session running load unit is = omega arith
 load-opened Method.Traffic running load unit is = omega arith
 load-opened Method.Busyness running load unit is = is
 
-target-within : (n m : ℕ) (redirect : Option ℕ) → redirects_within n m redirect ≡ true → IfSome redirect (λ t. t < n)
+pub target-within : (n m : ℕ) (redirect : Option ℕ) → redirects_within n m redirect ≡ true → IfSome redirect (λ t. t < n)
 target-within n m None is = tt
 target-within n m (Some t) is = ltb-true t n (and_parts (nat_lt t n) (not (t == m)) is).0
 

@@ -11,6 +11,7 @@ use Rattle.jk_model.specs.declared.journal.Call.{Call}
 use Rattle.jk_model.specs.declared.journal.Entry.{Entry}
 use Rattle.jk_model.specs.declared.view.MemberRow.{MemberRow}
 use Rattle.jk_model.specs.declared.opening.Opening.{Opening}
+use Rattle.jk_model.specs.declared.segment.Segment.{Segment}
 use Rattle.jk_model.specs.declared.refusal.FullMark.{FullMark}
 use Rattle.jk_model.specs.declared.refusal.RoomError.{RoomError}
 use Rattle.jk_model.specs.declared.refusal.RoomError.TheVariants as Room
@@ -37,6 +38,12 @@ tickets_out b = length (out b.opening (past_of b))
 abbrev pub IsSound : Journal → Type 0
 IsSound b = IsLegal b.rules b.opening b.entries
 
+-- The segment of a Book: its rules, its opening and the kept entries.
+pub record IsSegmentOf (b : Journal) (s : Segment) : Type 0 where
+  pub rules : s.rules ≡ b.rules
+  pub opening : s.opening ≡ b.opening
+  pub entries : s.entries ≡ b.entries
+
 -- The call of a session at a moment added e, and nothing else. The entry's moment is never before the last one.
 pub record AddsEntry (old new : Journal) (session at : ℕ) (call : Call) (e : Entry) : Type 0 where
   pub number : e.seq ≡ next_number old
@@ -46,10 +53,14 @@ pub record AddsEntry (old new : Journal) (session at : ℕ) (call : Call) (e : E
   pub grown : new ≡ record old { entries = old.entries ++ e ∷ []; added = old.added + 1 }
   pub newest : past_of new ≡ e ∷ past_of old
 
+-- A refusal's mark has these numbers.
+abbrev pub IsMarked : (next out : ℕ) → FullMark → Type 0
+IsMarked next out mark = (mark.next ≡ next) × (mark.out ≡ out)
+
 -- A refusal for want of numbers comes exactly where `more` beside those of the tickets out are too many.
 abbrev pub IsFullUnless : {T : Type 0} → (next out more : ℕ) → Result T (RoomError FullMark) → Type 0
 IsFullUnless next out more (Ok value) = next + out + more ≤ 2 ^ 48
-IsFullUnless next out more (Err (Room.Full mark)) = (2 ^ 48 < next + out + more) × (mark.next ≡ next) × (mark.out ≡ out)
+IsFullUnless next out more (Err (Room.Full mark)) = (2 ^ 48 < next + out + more) × IsMarked next out mark
 IsFullUnless next out more (Err Room.NoMemory) = next + out + more ≤ 2 ^ 48
 
 -- The number of the kept entry that returned the ticket, if there is one.

@@ -9,3 +9,7 @@ pub mod Rows
 pub mod Revived
 pub mod Spots
 pub mod Shown
+pub mod Maintained
+pub mod Stepped
+pub mod Commanded
+pub mod Due

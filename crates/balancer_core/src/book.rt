@@ -2,7 +2,11 @@
 
 ghost use Rattle.std.specs.Prelude.{◌≡◌, ◌+◌, ◌<◌, ◌≤◌, ◌^◌, ◌↔◌, true, length, IfOk, IfErr, OnOk, OnErr, IsOk};
 
+mod admin;
+mod maintain;
+
 use crate::choice::pick;
+use crate::copies::copy_opening;
 use crate::opened::{common_of, none_returned, opening_rows, start_rows};
 use crate::present::Present;
 use crate::rules::Rules;
@@ -10,8 +14,8 @@ use crate::shown::shown_rows;
 use crate::tickets::{locate, note_return};
 use jk_io::NoMemory;
 use jk_model::{
-    Answer, Ask, Call, Entry, FullMark, LbConfig, Opening, Outcome, RoomError, RowList, Stray,
-    TicketList, View,
+    Answer, Ask, Call, Entry, EntryList, FullMark, LbConfig, Opening, Outcome, RoomError, RowList,
+    Segment, Stray, TicketList, View,
 };
 use std::alloc::Global;
 use std::marker::Model;
@@ -98,12 +102,14 @@ impl Book {
     ghost use Rattle.jk_model.specs.Legal.{IsNext, KnowsTerms};
     ghost use Rattle.jk_model.specs.Present.{IsPresent};
     ghost use Rattle.jk_model.specs.Tickets.{is_out};
+    ghost use Rattle.jk_model.specs.Segments.{AreRules};
     ghost use Rattle.jk_model.specs.Validity.{IsOpening};
     ghost use Rattle.balancer_core.specs.RuleNumbers.{rules_number};
     ghost use Rattle.balancer_core.specs.Journal.{
       AddsEntry,
       IsFullUnless,
       IsReturnedAt,
+      IsSegmentOf,
       IsSound,
       IsStart,
       next_number,
@@ -130,6 +136,17 @@ impl Book {
             chosen: None,
         };
         Book::open(alloc, opening, Rules::Two)
+    }
+
+    /// A balancer that goes on from an opening, by rules 1 or 2.
+    pub fn resume(opening: Opening, rules: u8) -> Result<Book, NoMemory>
+        requires valid { IsOpening opening }
+        requires versions { AreRules rules }
+        ensures resumed { IfOk result (λ book. book ≡ record { rules = rules; opening = opening; entries = []; added = 0 }) }
+        ensures sound { IfOk result IsSound }
+    {
+        let alloc = opening.config.members.allocator();
+        Book::open(alloc, opening, Rules::of(rules))
     }
 
     // A Book with this opening and no entry, and the room for the Returns of its tickets.
@@ -316,6 +333,21 @@ impl Book {
             next: self.opening.next + self.entries.len() as u64,
             at: self.present.at,
             rows: RowList::from_vec(rows),
+        })
+    }
+
+    /// The opening and the kept entries.
+    pub fn segment(&self) -> Result<Segment, NoMemory>
+        ensures whole { IfOk result (IsSegmentOf self.now) }
+        ensures sound { IsSound self.now }
+    {
+        let opening = copy_opening(&self.opening)?;
+        let alloc = self.opening.config.members.allocator();
+        let entries = Vec::from_slice(alloc, self.entries.as_slice())?;
+        Ok(Segment {
+            rules: self.rules.number(),
+            opening,
+            entries: EntryList::from_vec(entries),
         })
     }
 }

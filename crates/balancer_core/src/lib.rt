@@ -11,7 +11,10 @@
 mod among;
 mod book;
 mod choice;
+mod commanded;
+mod copies;
 mod least;
+mod maintenance;
 mod opened;
 mod present;
 mod rules;

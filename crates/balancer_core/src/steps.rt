@@ -9,14 +9,21 @@ use jk_model::{Method, Outcome};
 use lb_methods::{gain_return, gain_select};
 use member_state::{Touch, next_state};
 
-// The load of a row: the sum of its gains, but by Busyness what runs now.
-fn load_by(method: Method, unit: u32, busy: u32, gains: u128) -> u128
-    ensures { result ≡ load_by method (busy * unit) gains }
+/// The load by the method: what is kept, but by Busyness what runs now.
+pub(crate) fn by_method(method: Method, running: u128, kept: u128) -> u128
+    ensures { result ≡ load_by method running kept }
 {
     match method {
-        Method::Busyness => u128::from(busy) * u128::from(unit),
-        Method::Request | Method::Session | Method::Traffic => gains,
+        Method::Busyness => running,
+        Method::Request | Method::Session | Method::Traffic => kept,
     }
+}
+
+/// The load of a row: the sum of its gains, but by Busyness what runs now.
+pub(crate) fn load_by(method: Method, unit: u32, busy: u32, gains: u128) -> u128
+    ensures { result ≡ load_by method (busy * unit) gains }
+{
+    by_method(method, u128::from(busy) * u128::from(unit), gains)
 }
 
 /// The row of the member that a Select chose under `ticket`.

@@ -1,0 +1,172 @@
+use Rattle.std.proofs.Common.{◌≡◌, ◌+◌, ◌≤◌, ◌<◌, ℕ, List, [], ◌∷◌, ◌++◌, length, reverse, get_or, None, Ok, Err, refl, sym, subst, arith}
+use Rattle.std.specs.Prelude.{vec_capacity}
+use Rattle.std.proofs.lemmas.List.{length-reverse}
+use Rattle.jk_model.specs.Legal.{IsDoable, IsNext}
+use Rattle.jk_model.specs.Settings.{common_after}
+use Rattle.jk_model.specs.Tickets.{out}
+use Rattle.jk_model.specs.declared.journal.Call.{Call}
+use Rattle.jk_model.specs.declared.journal.Entry.{Entry}
+use Rattle.jk_model.specs.declared.opening.Opening.{Opening}
+use Rattle.jk_model.specs.declared.refusal.AdminError.TheVariants as Admin
+use Rattle.balancer_core.specs.declared.standing.Standing.{Standing}
+use Rattle.balancer_core.specs.Commanded.{IsCommanded}
+use Rattle.balancer_core.specs.Journal.{Journal, past_of}
+use Rattle.balancer_core.specs.RuleNumbers.{rules_number}
+use Rattle.balancer_core.specs.Kept.{IsKept, IsNow}
+use Rattle.balancer_core.proofs.AdminLaws.{commanded_by, judged_common, judged_doable, judged_full, judged_refused, judged_room}
+use Rattle.balancer_core.proofs.CallLaws.{kept-called}
+use Rattle.balancer_core.proofs.CommandLaws.{admin_entry, factors_commanded, factors_divide, factors_now, next_commanded, now-commanded}
+use Rattle.balancer_core.proofs.KeptLaws.{kept-moved}
+use Rattle.balancer_core.proofs.book.Book.admin.Goals as goal
+
+pub judge-requires-clause-some : goal.judge-requires-clause-some
+judge-requires-clause-some c =
+    subst (λ (rows : List Standing). (m : ℕ) (d : Standing) → m < length rows → 0 < (get_or rows m d).factor) (sym c.as_slice.ensures.value)
+    (factors_now (rules_number c.self.inside.rules) c.self.inside.opening (reverse c.self.inside.entries.items) c.self.inside.present
+    c.self.invariant.present c.self.invariant.legal)
+
+pub returns-in_err-common-clause-commanded : goal.returns-in_err-common-clause-commanded
+returns-in_err-common-clause-commanded c =
+    commanded_by c.args.self.now c.args.command.now c.from_residual.result c.in_err-common.field-0.0 c.from_residual.ensures.0 c.from_residual.ensures.1
+    (subst (λ (b : Journal). IsCommanded b c.args.command.now (Err c.in_err-common.field-0.0)) c.self.view_is
+    (judged_refused (rules_number c.self.inside.rules) c.self.inside.opening c.self.inside.entries.items c.self.inside.present
+    c.self.inside.returned.items c.self.inside.early.items c.self.inside.added (vec_capacity c.self.inside.entries)
+    (vec_capacity c.self.inside.returned) c.self.invariant c.args.command.now (c.self.inside.opening.next + c.len.result)
+    (omega (arith, c.len.ensures, c.self.inside.entries.ok.0)) c.as_slice.result.now c.as_slice.ensures.value c.in_err-common.field-0.0 c.in_err-common.ensures))
+
+pub returns-then-next-out-gt-MOST_NUMBERS-clause-commanded :
+    goal.returns-then-next-out-gt-MOST_NUMBERS-clause-commanded
+returns-then-next-out-gt-MOST_NUMBERS-clause-commanded c =
+    subst (λ (b : Journal). IsCommanded b c.args.command.now (Err (Admin.Full (record { next = c.self.inside.opening.next + c.len.result; out = c.self.inside.present.out }))))
+    c.self.view_is
+    (judged_full (rules_number c.self.inside.rules) c.self.inside.opening c.self.inside.entries.items c.self.inside.present
+    c.self.inside.returned.items c.self.inside.early.items c.self.inside.added (vec_capacity c.self.inside.entries)
+    (vec_capacity c.self.inside.returned) c.self.invariant c.args.command.now (c.self.inside.opening.next + c.len.result)
+    (omega (arith, c.len.ensures, c.self.inside.entries.ok.0)) c.as_slice.result.now c.as_slice.ensures.value c.in_ok-common.common
+    c.in_ok-common.ensures (omega (arith, c.if-next-out-gt-MOST_NUMBERS.true)))
+
+pub returns-in_err-reserve-clause-commanded : goal.returns-in_err-reserve-clause-commanded
+returns-in_err-reserve-clause-commanded c =
+    commanded_by c.args.self.now c.args.command.now c.from_residual-in_err-reserve.result Admin.NoMemory
+    c.from_residual-in_err-reserve.ensures.0 c.from_residual-in_err-reserve.ensures.1
+    (subst (λ (b : Journal). IsCommanded b c.args.command.now (Err Admin.NoMemory)) c.self.view_is
+    (judged_room (rules_number c.self.inside.rules) c.self.inside.opening c.self.inside.entries.items c.self.inside.present
+    c.self.inside.returned.items c.self.inside.early.items c.self.inside.added (vec_capacity c.self.inside.entries)
+    (vec_capacity c.self.inside.returned) c.self.invariant c.args.command.now (c.self.inside.opening.next + c.len.result)
+    (omega (arith, c.len.ensures, c.self.inside.entries.ok.0)) c.as_slice.result.now c.as_slice.ensures.value c.in_ok-common.common
+    c.in_ok-common.ensures (omega (arith, c.if-next-out-gt-MOST_NUMBERS.false))))
+
+pub returns-in_err-reserve-2-clause-commanded : goal.returns-in_err-reserve-2-clause-commanded
+returns-in_err-reserve-2-clause-commanded c =
+    commanded_by c.args.self.now c.args.command.now c.from_residual-in_err-reserve-2.result Admin.NoMemory
+    c.from_residual-in_err-reserve-2.ensures.0 c.from_residual-in_err-reserve-2.ensures.1
+    (subst (λ (b : Journal). IsCommanded b c.args.command.now (Err Admin.NoMemory)) c.self.view_is
+    (judged_room (rules_number c.self.inside.rules) c.self.inside.opening c.self.inside.entries.items c.self.inside.present
+    c.self.inside.returned.items c.self.inside.early.items c.self.inside.added (vec_capacity c.self.inside.entries)
+    (vec_capacity c.self.inside.returned) c.self.invariant c.args.command.now (c.self.inside.opening.next + c.len.result)
+    (omega (arith, c.len.ensures, c.self.inside.entries.ok.0)) c.as_slice.result.now c.as_slice.ensures.value c.in_ok-common.common
+    c.in_ok-common.ensures (omega (arith, c.if-next-out-gt-MOST_NUMBERS.false))))
+
+pub command-requires-clause-some : goal.command-requires-clause-some
+command-requires-clause-some c =
+    let doable : IsDoable c.self.inside.opening (reverse c.self.inside.entries.items) c.args.command.now = judged_doable (rules_number c.self.inside.rules) c.self.inside.opening c.self.inside.entries.items c.self.inside.present
+    c.self.inside.returned.items c.self.inside.early.items c.self.inside.added (vec_capacity c.self.inside.entries)
+    (vec_capacity c.self.inside.returned) c.self.invariant c.args.command.now (c.self.inside.opening.next + c.len.result)
+    (omega (arith, c.len.ensures, c.self.inside.entries.ok.0)) c.as_slice.result.now c.as_slice.ensures.value c.in_ok-common.common
+    c.in_ok-common.ensures in
+    factors_commanded (rules_number c.self.inside.rules) c.self.inside.opening (reverse c.self.inside.entries.items) c.self.inside.present
+    c.self.invariant.present c.args.command.now doable.values c.self.invariant.legal
+
+pub command-requires-clause-divides : goal.command-requires-clause-divides
+command-requires-clause-divides c =
+    factors_divide (rules_number c.self.inside.rules) c.self.inside.opening (reverse c.self.inside.entries.items) c.self.inside.present
+    c.self.invariant.present c.args.command.now c.in_ok-common.common
+    (judged_common (rules_number c.self.inside.rules) c.self.inside.opening c.self.inside.entries.items c.self.inside.present
+    c.self.inside.returned.items c.self.inside.early.items c.self.inside.added (vec_capacity c.self.inside.entries)
+    (vec_capacity c.self.inside.returned) c.self.invariant c.args.command.now (c.self.inside.opening.next + c.len.result)
+    (omega (arith, c.len.ensures, c.self.inside.entries.ok.0)) c.as_slice.result.now c.as_slice.ensures.value c.in_ok-common.common
+    c.in_ok-common.ensures)
+
+pub returns-clause-next : goal.returns-clause-next
+returns-clause-next c =
+    let next : IsNext (rules_number c.self.inside.rules) c.self.inside.opening (reverse c.self.inside.entries.items)
+    (admin_entry (c.self.inside.opening.next + c.len.result) c.args.session c.max.result c.args.command.now) =
+    next_commanded (rules_number c.self.inside.rules) c.self.inside.opening c.self.inside.entries.items c.self.inside.present
+    (c.self.inside.opening.next + c.len.result) c.args.session c.max.result c.args.command.now c.self.invariant.present
+    (omega (arith, c.len.ensures, c.self.inside.entries.ok.0)) (omega (arith, c.max.ensures))
+    (omega (arith, c.if-next-out-gt-MOST_NUMBERS.false))
+    (judged_doable (rules_number c.self.inside.rules) c.self.inside.opening c.self.inside.entries.items c.self.inside.present
+    c.self.inside.returned.items c.self.inside.early.items c.self.inside.added (vec_capacity c.self.inside.entries)
+    (vec_capacity c.self.inside.returned) c.self.invariant c.args.command.now (c.self.inside.opening.next + c.len.result)
+    (omega (arith, c.len.ensures, c.self.inside.entries.ok.0)) c.as_slice.result.now c.as_slice.ensures.value c.in_ok-common.common
+    c.in_ok-common.ensures) in
+    subst (λ (b : Journal). IsNext b.rules b.opening (past_of b)
+    (admin_entry (c.self.inside.opening.next + c.len.result) c.args.session c.max.result c.args.command.now)) c.self.view_is next
+
+pub invariant_of-self-2 : goal.invariant_of-self-2
+invariant_of-self-2 c =
+    let v : ℕ = rules_number c.self.inside.rules in
+    let o : Opening = c.self.inside.opening in
+    let h : List Entry = c.self.inside.entries.items in
+    let seq : ℕ = c.self.inside.opening.next + c.len.result in
+    let e : Entry = admin_entry seq c.args.session c.max.result c.args.command.now in
+    let number : seq ≡ c.self.inside.opening.next + length h = omega (arith, c.len.ensures, c.self.inside.entries.ok.0) in
+    let items : c.push.new.self.items ≡ h ++ e ∷ [] = grind arith in
+    let places : c.push-2.new.self.items ≡ c.self.inside.returned.items ++ None ∷ [] = grind arith in
+    let fits : length h + (length (out o (reverse h)) + 1) ≤ vec_capacity c.push.new.self =
+    omega (arith, c.in_ok-reserve.ensures.ok, c.push.ensures.capacity, c.self.invariant.present.tickets, c.self.inside.entries.ok.0) in
+    let fits_too : length h + (length (out o (reverse h)) + 1) ≤ vec_capacity c.push-2.new.self =
+    omega (
+      arith,
+      c.in_ok-reserve-2.ensures.ok,
+      c.push-2.ensures.capacity,
+      c.self.invariant.present.tickets,
+      c.self.inside.returned.ok.0,
+      c.self.invariant.returns.whole,
+      length-reverse h,
+    ) in
+    let doable : IsDoable o (reverse h) c.args.command.now = judged_doable (rules_number c.self.inside.rules) c.self.inside.opening c.self.inside.entries.items c.self.inside.present
+    c.self.inside.returned.items c.self.inside.early.items c.self.inside.added (vec_capacity c.self.inside.entries)
+    (vec_capacity c.self.inside.returned) c.self.invariant c.args.command.now (c.self.inside.opening.next + c.len.result)
+    (omega (arith, c.len.ensures, c.self.inside.entries.ok.0)) c.as_slice.result.now c.as_slice.ensures.value c.in_ok-common.common
+    c.in_ok-common.ensures in
+    let common_is : c.in_ok-common.common ≡ common_after o (reverse h) (Call.Admin c.args.command.now) =
+    judged_common (rules_number c.self.inside.rules) c.self.inside.opening c.self.inside.entries.items c.self.inside.present
+    c.self.inside.returned.items c.self.inside.early.items c.self.inside.added (vec_capacity c.self.inside.entries)
+    (vec_capacity c.self.inside.returned) c.self.invariant c.args.command.now (c.self.inside.opening.next + c.len.result)
+    (omega (arith, c.len.ensures, c.self.inside.entries.ok.0)) c.as_slice.result.now c.as_slice.ensures.value c.in_ok-common.common
+    c.in_ok-common.ensures in
+    let next : IsNext v o (reverse h) e =
+    next_commanded v o h c.self.inside.present seq c.args.session c.max.result c.args.command.now c.self.invariant.present number
+    (omega (arith, c.max.ensures)) (omega (arith, c.if-next-out-gt-MOST_NUMBERS.false)) doable in
+    let present : IsNow v o (e ∷ reverse h) c.command.new.self =
+    now-commanded v o (reverse h) c.self.inside.present c.command.new.self seq c.args.session c.max.result c.args.command.now
+    c.in_ok-common.common c.self.invariant.present c.self.invariant.legal next common_is (omega (arith, common_is, doable.narrow))
+    (record {
+      rows = c.command.ensures.rows;
+      tickets = c.command.ensures.tickets;
+      moment = c.command.ensures.moment;
+      maintained = c.command.ensures.maintained;
+      chosen = c.command.ensures.chosen;
+    }) in
+    let kept : IsKept v o (h ++ e ∷ []) c.command.new.self (c.self.inside.returned.items ++ None ∷ []) c.self.inside.early.items
+    (c.self.inside.added + 1) (vec_capacity c.push.new.self) (vec_capacity c.push-2.new.self) =
+    kept-called v o h c.self.inside.present c.command.new.self c.self.inside.returned.items c.self.inside.early.items c.self.inside.added
+    (vec_capacity c.self.inside.entries) (vec_capacity c.self.inside.returned) (vec_capacity c.push.new.self) (vec_capacity c.push-2.new.self)
+    e c.self.invariant next present refl (λ t. refl) fits fits_too in
+    kept-moved v o (h ++ e ∷ []) c.push.new.self.items c.command.new.self (c.self.inside.returned.items ++ None ∷ []) c.push-2.new.self.items
+    c.self.inside.early.items (c.self.inside.added + 1) (vec_capacity c.push.new.self) (vec_capacity c.push-2.new.self)
+    (vec_capacity c.push.new.self) (vec_capacity c.push-2.new.self) kept items places (omega arith) (omega arith)
+
+pub returns-clause-sound : goal.returns-clause-sound
+returns-clause-sound c = (invariant_of-self-2 c).legal
+
+pub returns-clause-commanded : goal.returns-clause-commanded
+returns-clause-commanded c =
+    subst (λ (b : Journal). IsCommanded b c.args.command.now (Ok (admin_entry (c.self.inside.opening.next + c.len.result) c.args.session c.max.result c.args.command.now)))
+    c.self.view_is
+    (judged_room (rules_number c.self.inside.rules) c.self.inside.opening c.self.inside.entries.items c.self.inside.present
+    c.self.inside.returned.items c.self.inside.early.items c.self.inside.added (vec_capacity c.self.inside.entries)
+    (vec_capacity c.self.inside.returned) c.self.invariant c.args.command.now (c.self.inside.opening.next + c.len.result)
+    (omega (arith, c.len.ensures, c.self.inside.entries.ok.0)) c.as_slice.result.now c.as_slice.ensures.value c.in_ok-common.common
+    c.in_ok-common.ensures (omega (arith, c.if-next-out-gt-MOST_NUMBERS.false)))

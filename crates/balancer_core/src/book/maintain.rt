@@ -1,0 +1,53 @@
+//! The call of a Book that does a maintenance where one is due.
+
+use super::{Book, MOST_NUMBERS};
+use jk_model::{Answer, Call, Entry, FullMark, RoomError};
+
+impl Book {
+    ghost use Rattle.std.specs.Prelude.{◌≡◌, IfOk, IfSome, MatchOption, OnErr};
+    ghost use Rattle.jk_model.specs.Legal.{IsNext};
+    ghost use Rattle.balancer_core.specs.Due.{IsMaintenance};
+    ghost use Rattle.balancer_core.specs.Journal.{AddsEntry, IsSound, past_of};
+
+    /// Halves the loads and ends the errors that are over, where that is due: at least the maintenance time after the
+    /// last time. It goes over the members once, however long the journal is.
+    pub fn maintain_if_due(
+        &mut self,
+        session: u32,
+        at: u64,
+    ) -> Result<Option<Entry>, RoomError<FullMark>>
+        ensures ok { IfOk result (λ found.
+            MatchOption found (self.new ≡ self.old) (λ e. AddsEntry self.old self.new session at Call.Maintain e)) }
+        ensures done { IfOk result (λ found. IfSome found (λ e. e.answer ≡ Answer.Done)) }
+        ensures next { IfOk result (λ found. IfSome found (λ e. IsNext self.old.rules self.old.opening (past_of self.old) e)) }
+        ensures sound { IsSound self.new }
+
+        // None is done exactly where none is due, and none is refused there.
+        ensures due { IsMaintenance self.old at result }
+        ensures err { OnErr result (self.new ≡ self.old) }
+    {
+        let moment = at.max(self.present.at);
+        if !self.present.is_due(&self.opening.config, moment) {
+            return Ok(None);
+        }
+        let next = self.opening.next + self.entries.len() as u64;
+        let out = self.present.out;
+        if next + out + 1 > MOST_NUMBERS {
+            return Err(RoomError::Full(FullMark { next, out }));
+        }
+        self.entries.reserve(out as usize + 1)?;
+        self.returned.reserve(out as usize + 1)?;
+        let entry = Entry {
+            seq: next,
+            session,
+            at: moment,
+            call: Call::Maintain,
+            answer: Answer::Done,
+        };
+        self.present.maintain(&self.opening.config, moment);
+        self.entries.push(entry).unwrap();
+        self.returned.push(None).unwrap();
+        self.added += 1;
+        Ok(Some(entry))
+    }
+}
