@@ -2,6 +2,8 @@ pub mod AdminLaws
 pub mod CallLaws
 pub mod ChoiceLaws
 pub mod CommandLaws
+pub mod EndedLaws
+pub mod EndingLaws
 pub mod KeptLaws
 pub mod LeastLaws
 pub mod MaintainLaws

@@ -195,7 +195,7 @@ spot_returned o p h kept early t m (Spot.Entry place) same are is =
     subst (λ (k : ℕ). IsReturnedAt p k (get_or kept place None)) (sym is.1) (are.own place (omega (arith, are.whole, placed)))
 spot_returned o p h kept early t m (Spot.Opening place) same are is = are.older place (t, m) is
 
-any-returned : (t n : ℕ) (p : List Entry) → list_any (λ (e : Entry). e.seq == n && gives_back t e.call) p ≡ true → is_returned t p ≡ true
+pub any-returned : (t n : ℕ) (p : List Entry) → list_any (λ (e : Entry). e.seq == n && gives_back t e.call) p ≡ true → is_returned t p ≡ true
 any-returned t n [] is = is
 any-returned t n (e ∷ q) is =
     elim (or_cases (e.seq == n && gives_back t e.call) (list_any (λ (x : Entry). x.seq == n && gives_back t x.call) q) is) [

@@ -13,3 +13,4 @@ pub mod Maintained
 pub mod Stepped
 pub mod Commanded
 pub mod Due
+pub mod Ending

@@ -3,10 +3,10 @@
 ghost use Rattle.std.specs.Prelude.{◌≡◌, ◌+◌, ◌<◌, ◌≤◌, ◌^◌, ◌↔◌, true, length, IfOk, IfErr, OnOk, OnErr, IsOk};
 
 mod admin;
+mod cut;
 mod maintain;
 
 use crate::choice::pick;
-use crate::copies::copy_opening;
 use crate::opened::{common_of, none_returned, opening_rows, start_rows};
 use crate::present::Present;
 use crate::rules::Rules;
@@ -14,8 +14,8 @@ use crate::shown::shown_rows;
 use crate::tickets::{locate, note_return};
 use jk_io::NoMemory;
 use jk_model::{
-    Answer, Ask, Call, Entry, EntryList, FullMark, LbConfig, Opening, Outcome, RoomError, RowList,
-    Segment, Stray, TicketList, View,
+    Answer, Ask, Call, Entry, FullMark, LbConfig, Opening, Outcome, RoomError, RowList, Stray,
+    TicketList, View,
 };
 use std::alloc::Global;
 use std::marker::Model;
@@ -109,7 +109,6 @@ impl Book {
       AddsEntry,
       IsFullUnless,
       IsReturnedAt,
-      IsSegmentOf,
       IsSound,
       IsStart,
       next_number,
@@ -333,21 +332,6 @@ impl Book {
             next: self.opening.next + self.entries.len() as u64,
             at: self.present.at,
             rows: RowList::from_vec(rows),
-        })
-    }
-
-    /// The opening and the kept entries.
-    pub fn segment(&self) -> Result<Segment, NoMemory>
-        ensures whole { IfOk result (IsSegmentOf self.now) }
-        ensures sound { IsSound self.now }
-    {
-        let opening = copy_opening(&self.opening)?;
-        let alloc = self.opening.config.members.allocator();
-        let entries = Vec::from_slice(alloc, self.entries.as_slice())?;
-        Ok(Segment {
-            rules: self.rules.number(),
-            opening,
-            entries: EntryList::from_vec(entries),
         })
     }
 }

@@ -13,6 +13,7 @@ mod book;
 mod choice;
 mod commanded;
 mod copies;
+mod ending;
 mod least;
 mod maintenance;
 mod opened;
