@@ -374,7 +374,7 @@ def make(seed, lines, form):
     return script
 
 
-LONG = [(1, 80, "first"), (2, 100, "calls"), (3, 100, "calls")]
+LONG = [(1, 80, "first"), (2, 100, "calls"), (3, 100, "calls")] + [(seed, 400, "whole") for seed in (11, 12, 13)]
 
 
 def consts():

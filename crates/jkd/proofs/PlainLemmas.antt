@@ -1,7 +1,7 @@
 -- Inputs that are too long, and the statuses.
-use Rattle.std.proofs.Common.{ℕ, ◌≡◌, ◌<◌, ◌+◌, List, ◌++◌, length, Option, Some, None, refl, sym, subst, ap, inl, arith, length-append}
+use Rattle.std.proofs.Common.{ℕ, ◌≡◌, ◌<◌, List, ◌++◌, length, Option, Some, None, refl, sym, subst, arith, length-append}
 use Rattle.jk_io.specs.Told.{prepended}
-use Rattle.jkd.specs.Plain.{IsInput, Plain, ReadsPlain}
+use Rattle.jkd.specs.Plain.{IsInput}
 
 input_of : (bytes : List ℕ) (now : Option (List ℕ)) → 67108864 < length bytes → (input : List ℕ) × IsInput (prepended bytes now) input × (67108864 < length input)
 input_of bytes None long = (bytes, tt, long)

@@ -1,11 +1,11 @@
 -- What an entry of the Book means for a script.
-use Rattle.std.proofs.Common.{ℕ, ◌+◌, ◌^◌, ◌≡◌, ◌≤◌, ◌<◌, List, [], ◌∷◌, ◌++◌, length, reverse, refl, sym, ap, ◌∙◌, subst, arith, append_assoc, length-append, inl, inr, true, false}
+use Rattle.std.proofs.Common.{ℕ, ◌+◌, ◌^◌, ◌≡◌, ◌≤◌, ◌<◌, List, [], ◌∷◌, ◌++◌, length, reverse, refl, sym, ap, ◌∙◌, subst, arith, append_assoc, length-append, inl, inr}
 use Rattle.std.proofs.lemmas.List.{length-reverse, append-nil}
 use Rattle.jk_model.specs.declared.journal.Call.{Call}
 use Rattle.jk_model.specs.declared.journal.Entry.{Entry}
 use Rattle.jk_model.specs.declared.opening.Opening.{Opening}
 use Rattle.jk_model.specs.Tickets.{out}
-use Rattle.jk_model.specs.Legal.{IsNext, IsLegalPast}
+use Rattle.jk_model.specs.Legal.{IsLegalPast}
 use Rattle.jk_model.proofs.OutFacts.{out_one_more, out-opening}
 use Rattle.balancer_core.specs.Journal.{Journal, IsSound, AddsEntry, past_of, next_number, tickets_out}
 use Rattle.std.proofs.lemmas.Bool.{cases_Bool, MatchBool-at_true, MatchBool-at_false}
@@ -14,7 +14,7 @@ use Rattle.play_script.specs.declared.printed.Refusal.{Refusal}
 use Rattle.play_script.specs.Printed.{refusal_line}
 use Rattle.play_script.specs.Steps.{step_of}
 use Rattle.play_script.proofs.PlayLemmas.{runs_skipped, runs_said, runs_stopped}
-use Rattle.jkd.specs.Turns.{IsPlayed, Keeps, Turns, Taken, Refuses, AppendsRun}
+use Rattle.jkd.specs.Turns.{IsPlayed, Keeps, Maintains, Asked, Turns, Taken, Refuses, AppendsRun}
 
 -- no more tickets are out than there are entries
 out_within : (o : Opening) (p : List Entry) → o.out ≡ [] → length (out o p) ≤ length p
@@ -122,3 +122,22 @@ module _ (names : List (List ℕ)) (b0 b : Journal) (n0 a0 number at : ℕ) (ls0
         (runs_stopped names b.opening line lines number at (past_of b) reason (refusal_line number reason) 3 refuses.full refuses.refused
         (record { printed = refl; ended = refl }));
   }
+
+-- A maintenance was asked for: it was done, or none was due.
+pub maintained_asks : (names : List (List ℕ)) (old new : Journal) (at : ℕ) (out : List ℕ) → IsPlayed old → Maintains at old new
+    → Asked names at Call.Maintain old new out out
+maintained_asks names old new at out played maintains =
+    elim maintains [
+      | inl done ↦ record {
+        part = [];
+        asks = inl (done.entry, done.adds, refl, done.past);
+        put = sym (append-nil out);
+        keeps = done.keeps;
+      }
+      | inr none ↦ record {
+        part = [];
+        asks = inr (none.0, refl, ap past_of none.1);
+        put = sym (append-nil out);
+        keeps = subst (λ (b : Journal). Keeps old b) (sym none.1) (record { played = played; opening = refl; few = omega arith });
+      }
+    ]

@@ -1,16 +1,17 @@
 -- What a line of a script does with the Book.
-use Rattle.std.specs.Prelude.{◌≡◌, ℕ, ◌+◌, ◌≤◌, Bool, false, List, [], ◌∷◌, ◌++◌, length, Option, Some, None}
+use Rattle.std.specs.Prelude.{◌≡◌, ℕ, ◌+◌, ◌<◌, ◌≤◌, max, ◌⊎◌, false, List, [], ◌∷◌, ◌++◌, length, Some}
 use Rattle.std.specs.Bool.{MatchBool}
 use Rattle.balancer_core.specs.Journal.{Journal, IsSound, past_of}
 use Rattle.jk_model.specs.declared.journal.Call.{Call}
+use Rattle.jk_model.specs.declared.journal.Call.TheVariants as call
 use Rattle.jk_model.specs.declared.journal.Entry.{Entry}
-use Rattle.jk_model.specs.Journal.{members}
+use Rattle.jk_model.specs.Journal.{maintained_of, members, moment_of}
 use Rattle.jk_model.specs.Present.{ArePresentRows}
 use Rattle.jk_model.specs.declared.view.MemberRow.{MemberRow}
 use Rattle.play_script.specs.Printed.{row_lines}
 use Rattle.play_script.specs.declared.printed.Refusal.{Refusal}
 use Rattle.play_script.specs.declared.step.Step.{Step}
-use Rattle.play_script.specs.Play.{is_skipped, AddsCall, AsksFor, Says, SaysLine, IsRefusedLine, IsAskRefused, Runs}
+use Rattle.play_script.specs.Play.{is_skipped, AddsCall, AsksFor, Says, SaysLine, IsRefusedLine, Runs}
 use Rattle.play_script.specs.Steps.{step_of}
 use Rattle.jkd.specs.declared.turn.Stop.{Stop}
 use Rattle.jkd.specs.declared.turn.Stop.TheVariants as stop
@@ -34,6 +35,12 @@ pub record Adds (at : ℕ) (asked : Call) (old new : Journal) : Type 0 where
   pub adds : AddsCall old.opening at (past_of old) asked entry
   pub past : past_of new ≡ entry ∷ past_of old
   pub keeps : Keeps old new
+
+-- A maintenance was done, or none was due and nothing changed.
+abbrev pub Maintains : (at : ℕ) (old new : Journal) → Type 0
+Maintains at old new =
+    Adds at call.Maintain old new
+    ⊎ ((max at (moment_of old.opening (past_of old)) < maintained_of old.opening (past_of old) + old.opening.config.maintain) × (new ≡ old))
 
 -- A call was answered, and printed its part.
 pub record Asked (names : List (List ℕ)) (at : ℕ) (asked : Call) (old new : Journal) (before after : List ℕ) : Type 0 where

@@ -58,7 +58,7 @@ fn play_all(rt: &impl Abort, alloc: Global, rows: &[(&str, &str, &str, u8)]) -> 
     Ok(())
 }
 
-static SCRIPTS: [(&str, &str, &str, u8); 22] = [
+static SCRIPTS: [(&str, &str, &str, u8); 35] = [
     (
         "two weights",
         "member a 1\nmember b 2\nselect\nselect\nselect\nselect\nselect\nselect\n",
@@ -162,6 +162,84 @@ static SCRIPTS: [(&str, &str, &str, u8); 22] = [
         "the last rules count",
         "lb R 1 1 60 60\nmember a 1\nlb B 1 0 60 60\nmember b 1\nselect\nshow\n",
         "0 a\na ok 1 1\nb ok 0 0\n",
+        0,
+    ),
+    (
+        "traffic is halved once for each interval",
+        "lb T 1 0 60 60\nmember a 1\nmember b 1\nselect\ndone 0 13\nat 180\nmaintain\nshow\nselect\n",
+        "0 a\na ok 1 0\nb ok 0 0\n3 b\n",
+        0,
+    ),
+    (
+        "a member that recovers has the greatest load",
+        "at 99\nmember a 1\nmember b 1\nselect\nat 100\nfailed 0\nselect\nselect\nselect\nselect\nat 159\nmaintain\nshow\nat 219\nmaintain\nshow\n",
+        "0 a\n2 b\n3 b\n4 b\n5 b\na error 0 0\nb ok 2 4\na recover 1 0\nb ok 1 4\n",
+        0,
+    ),
+    (
+        "a trial that the client left",
+        "member a 1\nmember b 1\nselect\nfailed 0\nat 60\nmaintain\nselect\nselect\nselect\nselect\ngone 4\nshow\nselect\n",
+        "0 a\n3 b\n4 a probe\n5 b\n6 b\na recover 1 0\nb ok 3 3\n8 a probe\n",
+        0,
+    ),
+    (
+        "a maintenance that is not due",
+        "member a 1\nat 59\nmaintain\nselect\n",
+        "0 a\n",
+        0,
+    ),
+    (
+        "a factor of 0",
+        "member a 1\nselect\nupdate a factor=0\n",
+        "0 a\nline 3: refused 2\n",
+        3,
+    ),
+    (
+        "a redirect to itself",
+        "member a 1\nupdate a redirect=a\n",
+        "line 2: refused 2\n",
+        3,
+    ),
+    (
+        "factors with too great a multiple",
+        "member a 65535\nmember b 65534\nmember c 1\nupdate c factor=65533\n",
+        "line 4: refused 3\n",
+        3,
+    ),
+    (
+        "a recovery of a member without an error",
+        "member a 1\nrecover a\nselect\nshow\n",
+        "1 a\na ok 1 1\n",
+        0,
+    ),
+    (
+        "a recovery",
+        "member a 1\nmember b 1\nselect\nfailed 0\nrecover a\nselect\nselect\n",
+        "0 a\n3 b\n4 a probe\n",
+        0,
+    ),
+    (
+        "a reset",
+        "member a 1\nmember b 1\nselect\nfailed 0\nreset a\nshow\n",
+        "0 a\na ok 0 0\nb ok 0 0\n",
+        0,
+    ),
+    (
+        "an update of activation and redirect",
+        "member a 1\nmember b 1\nupdate a activation=D\nselect\nselect route=a\nupdate a activation=S redirect=b\nselect route=a\n",
+        "1 b\n2 a sticky\n4 b redirect\n",
+        0,
+    ),
+    (
+        "an update of a factor",
+        "member a 1\nmember b 1\nselect\nselect\nupdate b factor=3\nselect\nselect\nshow\n",
+        "0 a\n1 b\n3 a\n4 b\na ok 4 2\nb ok 2 2\n",
+        0,
+    ),
+    (
+        "busyness under an update",
+        "lb B 1 0 60 60\nmember a 1\nmember b 1\nselect\nselect\nupdate a factor=2\nshow\nat 60\nmaintain\nshow\n",
+        "0 a\n1 b\na ok 1 1\nb ok 2 1\na ok 1 1\nb ok 2 1\n",
         0,
     ),
     (

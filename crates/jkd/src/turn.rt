@@ -1,13 +1,13 @@
 //! One line of a script, on the Book.
 ghost use Rattle.std.specs.Prelude.{◌≡◌, ◌+◌, ◌<◌, ◌≤◌, ◌^◌, length, IfOk, IfErr, OnOk};
 ghost use Rattle.balancer_core.specs.Journal.{past_of};
-ghost use Rattle.play_script.specs.Play.{IsAskRefused};
+ghost use Rattle.play_script.specs.Play.{IsAskRefused, IsCommandRefused};
 ghost use Rattle.play_script.specs.Steps.{HasSmallBytes, IsSmall};
-ghost use Rattle.jkd.specs.Turns.{IsPlayed, Adds, Asked, Said, Shown, Taken, Tells, Refuses, RefusesStep};
+ghost use Rattle.jkd.specs.Turns.{IsPlayed, Adds, Asked, Maintains, Said, Shown, Taken, Tells, Refuses, RefusesStep};
 
 use balancer_core::{Book, Picked};
 use jk_io::{Bytes, NoMemory};
-use jk_model::{Ask, Call, Outcome, RoomError};
+use jk_model::{AdminError, Ask, Call, Command, Outcome, RoomError};
 use play_script::{NameList, Refusal, Step, is_skipped, put_answer, put_rows, step_of};
 
 /// Whose calls a script makes.
@@ -67,6 +67,34 @@ fn give_back(book: &mut Book, at: u64, ticket: u64, outcome: Outcome) -> Result<
     }
 }
 
+fn maintain(book: &mut Book, at: u64) -> Result<(), NoMemory>
+    requires played { IsPlayed book.old }
+    requires few { length book.old.entries < 2 ^ 40 }
+    ensures { OnOk result (Maintains at book.old book.new) }
+{
+    match book.maintain_if_due(SESSION, at) {
+        Ok(_) => Ok(()),
+        Err(RoomError::NoMemory) => Err(NoMemory),
+        Err(RoomError::Full(_)) => unreachable!(),
+    }
+}
+
+fn admin(book: &mut Book, at: u64, command: &Command) -> Result<(), Stop>
+    requires played { IsPlayed book.old }
+    requires few { length book.old.entries < 2 ^ 40 }
+    ensures ok { OnOk result (Adds at (Call.Admin command.now) book.old book.new) }
+    ensures refused { IfErr result (λ stop. Tells stop (IsCommandRefused book.old.opening (past_of book.old) command.now)) }
+{
+    match book.admin(SESSION, at, command) {
+        Ok(_) => Ok(()),
+        Err(AdminError::UnknownMember) => Err(Stop::Refused(Refusal::Refused(1))),
+        Err(AdminError::BadValue) => Err(Stop::Refused(Refusal::Refused(2))),
+        Err(AdminError::TooWide(_)) => Err(Stop::Refused(Refusal::Refused(3))),
+        Err(AdminError::Full(_)) => unreachable!(),
+        Err(AdminError::NoMemory) => Err(Stop::NoMemory),
+    }
+}
+
 fn show(book: &Book, out: &mut Bytes) -> Result<(), NoMemory>
     requires { IsPlayed book.now }
     ensures { OnOk result (Shown book.now out.old out.new) }
@@ -89,8 +117,8 @@ fn ask(names: &NameList, book: &mut Book, at: u64, call: &Call, out: &mut Bytes)
             Ok(()) => Ok(()),
             Err(reason) => Err(Stop::Refused(reason)),
         },
-        Call::Maintain => Err(Stop::Refused(Refusal::BadLine)),
-        Call::Admin(_) => Err(Stop::Refused(Refusal::BadLine)),
+        Call::Maintain => Ok(maintain(book, at)?),
+        Call::Admin(command) => admin(book, at, command),
     }
 }
 

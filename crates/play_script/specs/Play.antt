@@ -1,12 +1,14 @@
 -- What a script prints, line by line, and the status with which `play` ends.
 -- Everywhere `p` is the past: the entries so far, the newest first; `at` is the moment, and `number` that of the line.
-use Rattle.std.specs.Prelude.{◌≡◌, ℕ, ◌+◌, ◌==◌, max, Bool, true, false, ◌⊎◌, List, [], ◌∷◌, ◌++◌, Option, Some, None}
+use Rattle.std.specs.Prelude.{◌≡◌, ℕ, ◌+◌, ◌^◌, ◌<◌, ◌≤◌, ◌==◌, max, Bool, true, false, ◌⊎◌, List, [], ◌∷◌, ◌++◌, Option, Some, None}
 use Rattle.std.specs.Bool.{MatchBool}
 use Rattle.std.specs.Option.{MatchOption}
-use Rattle.jk_model.specs.Journal.{members, moment_of}
-use Rattle.jk_model.specs.Legal.{IsNext}
+use Rattle.jk_model.specs.Journal.{maintained_of, members, moment_of}
+use Rattle.jk_model.specs.Legal.{HasValues, IsNext, TargetExists, subject_of}
 use Rattle.jk_model.specs.Present.{ArePresentRows}
+use Rattle.jk_model.specs.Settings.{common_after}
 use Rattle.jk_model.specs.Tickets.{is_out}
+use Rattle.jk_model.specs.declared.change.Command.{Command}
 use Rattle.jk_model.specs.declared.journal.Call.{Call}
 use Rattle.jk_model.specs.declared.journal.Call.TheVariants as call
 use Rattle.jk_model.specs.declared.journal.Entry.{Entry}
@@ -45,15 +47,32 @@ AsksFor names o at p (call.Select ask) printed q =
     (e : Entry) × AddsCall o at p (call.Select ask) e × (printed ≡ answer_line names e.answer) × (q ≡ e ∷ p)
 AsksFor names o at p (call.Return ticket outcome) printed q =
     (e : Entry) × AddsCall o at p (call.Return ticket outcome) e × (printed ≡ []) × (q ≡ e ∷ p)
-AsksFor names o at p call.Maintain printed q = ⊥
-AsksFor names o at p (call.Admin command) printed q = ⊥
+AsksFor names o at p call.Maintain printed q =
+    ((e : Entry) × AddsCall o at p call.Maintain e × (printed ≡ []) × (q ≡ e ∷ p))
+    ⊎ ((max at (moment_of o p) < maintained_of o p + o.config.maintain) × (printed ≡ []) × (q ≡ p))
+AsksFor names o at p (call.Admin command) printed q =
+    (e : Entry) × AddsCall o at p (call.Admin command) e × (printed ≡ []) × (q ≡ e ∷ p)
+
+-- The members that a command names exist.
+abbrev pub IsKnown : Opening → Command → Type 0
+IsKnown o c = (subject_of c < members o) × TargetExists (members o) c
+
+-- A command that is refused, with the number of the first reason.
+abbrev pub IsCommandRefused : Opening → List Entry → Command → Refusal → Type 0
+IsCommandRefused o p c refusal.BadLine = ⊥
+IsCommandRefused o p c (refusal.NotOpen ticket) = ⊥
+IsCommandRefused o p c (refusal.Refused code) =
+    ((code ≡ 1) × ¬ IsKnown o c)
+    ⊎ (((code ≡ 2) × IsKnown o c × ¬ HasValues c)
+    ⊎ ((code ≡ 3) × IsKnown o c × HasValues c × (2 ^ 32 ≤ common_after o p (call.Admin c))))
+IsCommandRefused o p c refusal.BadBalancer = ⊥
 
 -- A call that is refused.
 abbrev pub IsAskRefused : Opening → List Entry → Call → Refusal → Type 0
 IsAskRefused o p (call.Select ask) reason = ⊥
 IsAskRefused o p (call.Return ticket outcome) reason = (is_out o p ticket ≡ false) × (reason ≡ refusal.NotOpen ticket)
-IsAskRefused o p call.Maintain reason = reason ≡ refusal.BadLine
-IsAskRefused o p (call.Admin command) reason = reason ≡ refusal.BadLine
+IsAskRefused o p call.Maintain reason = ⊥
+IsAskRefused o p (call.Admin command) reason = IsCommandRefused o p command reason
 
 -- What a line prints, and the moment and the entries after it.
 abbrev pub Says : List (List ℕ) → Opening → (at : ℕ) → List Entry → Step → (printed : List ℕ) → (moment : ℕ) → List Entry → Type 0

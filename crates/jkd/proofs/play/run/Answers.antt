@@ -1,4 +1,4 @@
-use Rattle.std.proofs.Common.{ℕ, suc, ◌+◌, ◌<◌, ◌≤◌, ◌≡◌, ◌^◌, ◌++◌, ◌∷◌, List, length, sym, subst, ap, arith}
+use Rattle.std.proofs.Common.{suc, ◌+◌, ◌≡◌, ◌++◌, ◌∷◌, length, sym, subst, ap, arith}
 use Rattle.balancer_core.specs.Journal.{past_of}
 use Rattle.play_script.specs.Play.{Runs}
 use Rattle.jkd.proofs.TurnLemmas.{goes_on, goes_on_runs, comes_to_end, comes_to_stop}

@@ -1,4 +1,4 @@
-use Rattle.std.proofs.Common.{arith, ◌≤◌, ◌+◌, ◌^◌}
+use Rattle.std.proofs.Common.{arith}
 use Rattle.jkd.proofs.TurnLemmas.{room_left}
 use Rattle.jkd.proofs.turn.select.Goals as goal
 
