@@ -1,5 +1,5 @@
 -- The opening that goes on where a history ends: it is valid, and nothing changes with it.
-use Rattle.std.proofs.Common.{◌≡◌, ℕ, zero, suc, ◌+◌, ◌-◌, ◌*◌, ◌/◌, ◌^◌, ◌<◌, ◌≤◌, Bool, true, false, ◌&&◌, not, cond, List, [], ◌∷◌, ◌++◌, ◌⊎◌, length, reverse, take, map, get_or, Option, Some, None, refl, sym, subst, ap, ◌∙◌, inl, inr, arith, add-one}
+use Rattle.std.proofs.Common.{◌≡◌, ℕ, ◌+◌, ◌*◌, ◌/◌, ◌^◌, ◌<◌, ◌≤◌, Bool, true, false, ◌&&◌, not, cond, List, [], ◌∷◌, ◌++◌, ◌⊎◌, length, reverse, get_or, Option, Some, None, refl, sym, subst, ap, ◌∙◌, inl, inr, arith}
 use Rattle.std.specs.Prelude.{◌==◌, ◌↔◌, slice_get, if◌then◌else◌}
 use Rattle.std.specs.List.{cons_option, count_by, filter, filter_map, list_any}
 use Rattle.std.proofs.lemmas.Bool.{cases_Bool}
@@ -7,7 +7,7 @@ use Rattle.std.proofs.lemmas.List.{append-nil, length-reverse, reverse-append, r
 use Rattle.std.proofs.lemmas.List.Elements.{filter-append, filter_map-append}
 use Rattle.std.proofs.lemmas.Option.{slice_get_cases, slice_get_within, slice_get-get_or, get_or_from_slice_get}
 use Rattle.jk_model.specs.Journal.{chosen_in, each, is_maintain, last_chosen, maintained_of, members, moment_of, newest_chosen, next_of}
-use Rattle.jk_model.specs.Legal.{IsAnswered, IsLegal, IsLegalPast}
+use Rattle.jk_model.specs.Legal.{IsLegalPast}
 use Rattle.jk_model.specs.Loads.{base_of, gain_of, load_by, load_in, load_of}
 use Rattle.jk_model.specs.Multiple.{multiple_of}
 use Rattle.jk_model.specs.Present.{ArePresentRows, IsEnding, IsPresent, IsPresentMember, IsPresentRow}
@@ -17,11 +17,10 @@ use Rattle.jk_model.specs.StateRows.{chosen_state, is_over, left_state, maintain
 use Rattle.jk_model.specs.States.{is_revived_in, state_after, state_commanded, state_in, state_of}
 use Rattle.jk_model.specs.Tickets.{Ticket, busy_of, is_on, is_returned, made, out, ticket_in}
 use Rattle.jk_model.specs.Validity.{AreTickets, IsOpening, IsOpeningRow, IsOpeningState, IsRunning, IsWithin}
-use Rattle.jk_model.proofs.BoundFacts.{HasRow, has_row, busy_within, busy-opening, is_out_on, trial_out}
-use Rattle.jk_model.proofs.ListFacts.{count_by-reverse, list_any-reverse, reverse_snoc}
-use Rattle.jk_model.proofs.OutFacts.{chosen_member, legal_opening, legal_room, out-opening, out_tickets}
+use Rattle.jk_model.proofs.BoundFacts.{HasRow, has_row, busy_within, busy-opening, trial_out}
+use Rattle.jk_model.proofs.ListFacts.{count_by-reverse, list_any-reverse}
+use Rattle.jk_model.proofs.OutFacts.{chosen_member, legal_room, out_tickets}
 use Rattle.jk_model.proofs.SettingFacts.{IsSetting, common-opening, common_narrow, setting_in_range}
-use Rattle.jk_model.specs.declared.ask.Ask.{Ask}
 use Rattle.jk_model.specs.declared.change.Command.{Command}
 use Rattle.jk_model.specs.declared.change.Command.TheVariants as command
 use Rattle.jk_model.specs.declared.config.LbConfig.{LbConfig}

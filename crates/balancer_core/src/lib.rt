@@ -4,8 +4,10 @@
 //! Own rules: what a Book keeps beside its journal, and that a ticket is a lease which must be spent.
 //! Shapes: a Book is in contracts its rules, its opening, its kept entries and their count (specs/Journal.antt).
 //! Contract: `Book::select`, clauses `ok`, `pick` and `full`; `Book::return_ticket`, clauses `found` and `returned`;
-//! each call's `sound`: the journal, replayed from its opening, gives each answer. Read first: specs/Journal.antt.
-//! Errors: `RoomError` and `Stray` of jk_model. After one the Book is as it was.
+//! `Book::maintain_if_due`, clause `due`; `Book::admin`, clause `commanded`; `Book::cut`, clause `cut`; each call's `sound`:
+//! the journal, replayed from its opening, gives each answer. Read first: specs/Journal.antt, then specs/Due.antt,
+//! Commanded.antt and Ending.antt.
+//! Errors: `RoomError`, `AdminError` and `Stray` of jk_model. After one the Book is as it was.
 #![tactic(auto)]
 
 mod among;

@@ -1,4 +1,4 @@
-use Rattle.std.proofs.Common.{◌≡◌, ◌++◌, ℕ, List, not, reverse, sym, ap, ◌∙◌, arith}
+use Rattle.std.proofs.Common.{◌++◌, List, not, reverse, ap, ◌∙◌}
 use Rattle.std.specs.List.{filter, filter_map}
 use Rattle.jk_model.specs.Tickets.{Ticket, is_returned, ticket_in}
 use Rattle.jk_model.specs.declared.journal.Entry.{Entry}

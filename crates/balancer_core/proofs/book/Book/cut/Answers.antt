@@ -1,10 +1,9 @@
-use Rattle.std.proofs.Common.{◌≡◌, ◌+◌, ◌≤◌, ℕ, List, [], length, reverse, refl, sym, ◌∙◌, ap, subst, arith}
+use Rattle.std.proofs.Common.{◌≡◌, ℕ, List, [], reverse, sym, ◌∙◌, ap, subst, arith}
 use Rattle.std.proofs.lemmas.List.{length-reverse}
 use Rattle.jk_model.specs.Present.{IsEnding}
 use Rattle.jk_model.specs.Segments.{AreKeptEntries}
 use Rattle.jk_model.proofs.OutFacts.{legal_opening}
 use Rattle.jk_model.specs.declared.journal.Entry.{Entry}
-use Rattle.jk_model.specs.declared.opening.Opening.{Opening}
 use Rattle.balancer_core.specs.Ending.{IsCut}
 use Rattle.balancer_core.specs.Journal.{Journal}
 use Rattle.balancer_core.specs.RuleNumbers.{rules_number}
