@@ -98,7 +98,7 @@ impl BodyIn {
                 Ok(piece.bytes)
             }
             Err(fault) => {
-                self.failed = Some(fault);
+                self.break_off(fault);
                 Err(fault)
             }
         }
@@ -138,10 +138,17 @@ impl BodyIn {
                 Ok(())
             }
             Err(fault) => {
-                self.failed = Some(fault);
+                self.break_off(fault);
                 Err(fault)
             }
         }
+    }
+
+    /// Notes the first fault, which each later call answers again.
+    fn break_off(&mut self, fault: BodyFault)
+        ensures { self.new ≡ record self.old { failed = Some fault } }
+    {
+        self.failed = Some(fault);
     }
 }
 
