@@ -1,3 +1,5 @@
 pub mod BodyLemmas
+pub mod ChunkedLemmas
+pub mod SpelledLemmas
 pub mod TakeLemmas
 pub mod WalkLemmas

@@ -1,4 +1,5 @@
 pub mod Body
+pub mod Chunked
 pub mod Falls
 pub mod Faults
 pub mod Places

@@ -11,10 +11,12 @@
 #![tactic(auto)]
 
 mod body;
+mod body_laws;
 mod fault;
 mod place;
 mod walk;
 
 pub use body::BodyIn;
+pub use body_laws::{chunked_bodies_are_read_whole, only_chunked_bodies_are_read_whole};
 pub use fault::BodyFault;
 pub use place::Place;

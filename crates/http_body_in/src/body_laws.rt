@@ -1,0 +1,12 @@
+//! Laws: the places that a reader goes through are those of the chunked coding's grammar.
+ghost use Rattle.http_body_in.specs.Chunked.{ReadsSpelled, ReadsOnlySpelled};
+
+/// Law: what the grammar spells is read as just its data, and as whole, and no byte behind it is used.
+pub fn chunked_bodies_are_read_whole()
+    ensures { ReadsSpelled }
+{}
+
+/// Law: what is read as a whole body is spelled by the grammar.
+pub fn only_chunked_bodies_are_read_whole()
+    ensures { ReadsOnlySpelled }
+{}
