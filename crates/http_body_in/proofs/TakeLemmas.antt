@@ -5,7 +5,7 @@ use Rattle.std.proofs.lemmas.List.{drop_all}
 use Rattle.jk_io.specs.Told.{prepended, IsEmpty}
 use Rattle.http_body_in.specs.Body.{Data, Uses, is_over, behind, ended_at, data_from, place_behind, data_of, reaches, dropped}
 use Rattle.http_body_in.specs.Places.{step, is_whole, is_bad, is_limited}
-use Rattle.http_body_in.specs.Walks.{Walks, Fails, Passes, Breaks, is_reached, counted}
+use Rattle.http_body_in.specs.Walks.{Walks, Fails, Passes, Breaks, IsUnder, is_reached, counted}
 use Rattle.http_body_in.specs.declared.fault.BodyFault.{BodyFault}
 use Rattle.http_body_in.specs.declared.fault.BodyFault.TheVariants as fault
 use Rattle.http_body_in.specs.declared.place.Place.{Place}
@@ -23,7 +23,7 @@ told-data before ys start place d uses =
     ∙ ap Some (data_from-append uses.gone ys start place uses.own ∙ ap (λ (l : List ℕ). behind l (data_from ys place)) uses.brings)
 
 -- behind the end no data stands
-over-data : (ys : List ℕ) (place : Place) → is_over place ≡ true → data_from ys place ≡ ended_at place
+pub over-data : (ys : List ℕ) (place : Place) → is_over place ≡ true → data_from ys place ≡ ended_at place
 over-data [] place over = refl
 over-data (b ∷ ys) place over = cond-true _ _ _ over
 
@@ -74,34 +74,37 @@ takes-left most taken n before (Some ys) start place piece walks =
     ap (λ (l : List ℕ). Some (record { bytes = l; whole = d.whole; bad = d.bad })) (left-facts n piece d (is_whole place) walks.within walks.all (whole-end ys place))
     ∙ sym (ap (dropped n) (told-data before ys start place piece walks.uses))
 
+under-nil : (most taken : ℕ) (start : Place) (front : List ℕ) → IsUnder most taken start front → IsUnder most taken start (front ++ [])
+under-nil most taken start front under limited = omega (arith, under limited, ap (λ (l : List ℕ). length l) (append-nil front))
+
 -- the bytes end within the body
 pub ends-short : (most taken n : ℕ) (before now : Option (List ℕ)) (start : Place) → Fails most taken n before now start fault.Truncated
-    → IfSome (data_of start before) (λ d. (reaches n d ≡ false) × (d.bad ≡ false))
+    → IfSome (data_of start before) (λ d. (reaches n d ≡ false) × (d.bad ≡ false) × IsUnder most taken start d.bytes)
 ends-short most taken n before None start fails =
-    let P : Option Data → Type 0 = λ o. IfSome o (λ d. (reaches n d ≡ false) × (d.bad ≡ false)) in
+    let P : Option Data → Type 0 = λ o. IfSome o (λ d. (reaches n d ≡ false) × (d.bad ≡ false) × IsUnder most taken start d.bytes) in
     subst P (sym (untold-data before start fails.breaks.place fails.breaks.data' fails.breaks.uses)) tt
 ends-short most taken n before (Some ys) start fails =
     let place = fails.breaks.place in
     let front = fails.breaks.data' in
     let parts = or_parts (is_whole place) (is_bad place) fails.breaks.meets.0 in
     let none : data_from ys place ≡ ended_at place = ap (λ (l : List ℕ). data_from l place) fails.breaks.meets.1 in
-    let P : Option Data → Type 0 = λ o. IfSome o (λ d. (reaches n d ≡ false) × (d.bad ≡ false)) in
+    let P : Option Data → Type 0 = λ o. IfSome o (λ d. (reaches n d ≡ false) × (d.bad ≡ false) × IsUnder most taken start d.bytes) in
     let few : length (front ++ []) < n = omega (arith, fails.below, ap (λ (l : List ℕ). length l) (append-nil front)) in
-    subst P (sym (told-data before ys start place front fails.breaks.uses ∙ ap (λ (d : Data). Some (behind front d)) none)) (or_from _ _ (lt-leb n (length (front ++ [])) few) parts.0, parts.1)
+    subst P (sym (told-data before ys start place front fails.breaks.uses ∙ ap (λ (d : Data). Some (behind front d)) none)) (or_from _ _ (lt-leb n (length (front ++ [])) few) parts.0, parts.1, under-nil most taken start front fails.breaks.stays)
 
 -- a bad chunk line stands in the body
 pub breaks-badly : (most taken n : ℕ) (before now : Option (List ℕ)) (start : Place) → Fails most taken n before now start fault.BadChunk
-    → IfSome (data_of start before) (λ d. (reaches n d ≡ false) × (d.bad ≡ true))
+    → IfSome (data_of start before) (λ d. (reaches n d ≡ false) × (d.bad ≡ true) × IsUnder most taken start d.bytes)
 breaks-badly most taken n before None start fails =
-    let P : Option Data → Type 0 = λ o. IfSome o (λ d. (reaches n d ≡ false) × (d.bad ≡ true)) in
+    let P : Option Data → Type 0 = λ o. IfSome o (λ d. (reaches n d ≡ false) × (d.bad ≡ true) × IsUnder most taken start d.bytes) in
     subst P (sym (untold-data before start fails.breaks.place fails.breaks.data' fails.breaks.uses)) tt
 breaks-badly most taken n before (Some ys) start fails =
     let place = fails.breaks.place in
     let front = fails.breaks.data' in
     let none : data_from ys place ≡ ended_at at.Bad = ap (data_from ys) fails.breaks.meets ∙ over-data ys at.Bad refl in
-    let P : Option Data → Type 0 = λ o. IfSome o (λ d. (reaches n d ≡ false) × (d.bad ≡ true)) in
+    let P : Option Data → Type 0 = λ o. IfSome o (λ d. (reaches n d ≡ false) × (d.bad ≡ true) × IsUnder most taken start d.bytes) in
     let few : length (front ++ []) < n = omega (arith, fails.below, ap (λ (l : List ℕ). length l) (append-nil front)) in
-    subst P (sym (told-data before ys start place front fails.breaks.uses ∙ ap (λ (d : Data). Some (behind front d)) none)) (or_from _ _ (lt-leb n (length (front ++ [])) few) refl, refl)
+    subst P (sym (told-data before ys start place front fails.breaks.uses ∙ ap (λ (d : Data). Some (behind front d)) none)) (or_from _ _ (lt-leb n (length (front ++ [])) few) refl, refl, under-nil most taken start front fails.breaks.stays)
 
 -- a chunked body was one from its start
 limited-step : (p : Place) (b : ℕ) → is_limited (step p b) ≡ true → is_limited p ≡ true
@@ -155,25 +158,25 @@ passes-data most taken before (Some ys) start place sum passes =
     subst P (sym (told-data before ys start place passes.data' passes.uses)) (left.1, passes.counts ∙ ap (λ (l : List ℕ). counted taken (length l)) (sym same))
 
 pub skips-short : (most taken : ℕ) (before now : Option (List ℕ)) (start : Place) → Breaks most taken before now start fault.Truncated
-    → IfSome (data_of start before) (λ d. (d.whole ≡ false) × (d.bad ≡ false))
+    → IfSome (data_of start before) (λ d. (d.whole ≡ false) × (d.bad ≡ false) × IsUnder most taken start d.bytes)
 skips-short most taken before None start breaks =
-    let P : Option Data → Type 0 = λ o. IfSome o (λ d. (d.whole ≡ false) × (d.bad ≡ false)) in
+    let P : Option Data → Type 0 = λ o. IfSome o (λ d. (d.whole ≡ false) × (d.bad ≡ false) × IsUnder most taken start d.bytes) in
     subst P (sym (untold-data before start breaks.place breaks.data' breaks.uses)) tt
 skips-short most taken before (Some ys) start breaks =
     let parts = or_parts (is_whole breaks.place) (is_bad breaks.place) breaks.meets.0 in
     let none : data_from ys breaks.place ≡ ended_at breaks.place = ap (λ (l : List ℕ). data_from l breaks.place) breaks.meets.1 in
-    let P : Option Data → Type 0 = λ o. IfSome o (λ d. (d.whole ≡ false) × (d.bad ≡ false)) in
-    subst P (sym (told-data before ys start breaks.place breaks.data' breaks.uses ∙ ap (λ (d : Data). Some (behind breaks.data' d)) none)) parts
+    let P : Option Data → Type 0 = λ o. IfSome o (λ d. (d.whole ≡ false) × (d.bad ≡ false) × IsUnder most taken start d.bytes) in
+    subst P (sym (told-data before ys start breaks.place breaks.data' breaks.uses ∙ ap (λ (d : Data). Some (behind breaks.data' d)) none)) (parts.0, parts.1, under-nil most taken start breaks.data' breaks.stays)
 
 pub skips-badly : (most taken : ℕ) (before now : Option (List ℕ)) (start : Place) → Breaks most taken before now start fault.BadChunk
-    → IfSome (data_of start before) (λ d. (d.whole ≡ false) × (d.bad ≡ true))
+    → IfSome (data_of start before) (λ d. (d.whole ≡ false) × (d.bad ≡ true) × IsUnder most taken start d.bytes)
 skips-badly most taken before None start breaks =
-    let P : Option Data → Type 0 = λ o. IfSome o (λ d. (d.whole ≡ false) × (d.bad ≡ true)) in
+    let P : Option Data → Type 0 = λ o. IfSome o (λ d. (d.whole ≡ false) × (d.bad ≡ true) × IsUnder most taken start d.bytes) in
     subst P (sym (untold-data before start breaks.place breaks.data' breaks.uses)) tt
 skips-badly most taken before (Some ys) start breaks =
     let none : data_from ys breaks.place ≡ ended_at at.Bad = ap (data_from ys) breaks.meets ∙ over-data ys at.Bad refl in
-    let P : Option Data → Type 0 = λ o. IfSome o (λ d. (d.whole ≡ false) × (d.bad ≡ true)) in
-    subst P (sym (told-data before ys start breaks.place breaks.data' breaks.uses ∙ ap (λ (d : Data). Some (behind breaks.data' d)) none)) (refl, refl)
+    let P : Option Data → Type 0 = λ o. IfSome o (λ d. (d.whole ≡ false) × (d.bad ≡ true) × IsUnder most taken start d.bytes) in
+    subst P (sym (told-data before ys start breaks.place breaks.data' breaks.uses ∙ ap (λ (d : Data). Some (behind breaks.data' d)) none)) (refl, refl, under-nil most taken start breaks.data' breaks.stays)
 
 pub skips-long : (most taken : ℕ) (before now : Option (List ℕ)) (start : Place) → Breaks most taken before now start fault.TooLong
     → (is_limited start ≡ true) × IfSome (data_of start before) (λ d. most ≤ taken + length d.bytes)
@@ -187,14 +190,14 @@ skips-long most taken before (Some ys) start breaks =
 
 -- the same of the fault that a call answers
 pub take-short : {T : Type 0} (most taken n : ℕ) (before now : Option (List ℕ)) (start : Place) (why : BodyFault) → ◌≡◌ {A = Result T BodyFault} (Err why) (Err fault.Truncated) → Fails most taken n before now start why
-    → IfSome (data_of start before) (λ d. (reaches n d ≡ false) × (d.bad ≡ false))
+    → IfSome (data_of start before) (λ d. (reaches n d ≡ false) × (d.bad ≡ false) × IsUnder most taken start d.bytes)
 take-short most taken n before now start why is fails =
     let same : why ≡ fault.Truncated = cc in
     let P : BodyFault → Type 0 = λ e. Fails most taken n before now start e in
     ends-short most taken n before now start (subst P same fails)
 
 pub take-bad : {T : Type 0} (most taken n : ℕ) (before now : Option (List ℕ)) (start : Place) (why : BodyFault) → ◌≡◌ {A = Result T BodyFault} (Err why) (Err fault.BadChunk) → Fails most taken n before now start why
-    → IfSome (data_of start before) (λ d. (reaches n d ≡ false) × (d.bad ≡ true))
+    → IfSome (data_of start before) (λ d. (reaches n d ≡ false) × (d.bad ≡ true) × IsUnder most taken start d.bytes)
 take-bad most taken n before now start why is fails =
     let same : why ≡ fault.BadChunk = cc in
     let P : BodyFault → Type 0 = λ e. Fails most taken n before now start e in
@@ -208,14 +211,14 @@ take-long most taken n before now start why is fails =
     too-long most taken n before now start (subst P same fails)
 
 pub skip-short : {T : Type 0} (most taken : ℕ) (before now : Option (List ℕ)) (start : Place) (why : BodyFault) → ◌≡◌ {A = Result T BodyFault} (Err why) (Err fault.Truncated) → Breaks most taken before now start why
-    → IfSome (data_of start before) (λ d. (d.whole ≡ false) × (d.bad ≡ false))
+    → IfSome (data_of start before) (λ d. (d.whole ≡ false) × (d.bad ≡ false) × IsUnder most taken start d.bytes)
 skip-short most taken before now start why is breaks =
     let same : why ≡ fault.Truncated = cc in
     let P : BodyFault → Type 0 = λ e. Breaks most taken before now start e in
     skips-short most taken before now start (subst P same breaks)
 
 pub skip-bad : {T : Type 0} (most taken : ℕ) (before now : Option (List ℕ)) (start : Place) (why : BodyFault) → ◌≡◌ {A = Result T BodyFault} (Err why) (Err fault.BadChunk) → Breaks most taken before now start why
-    → IfSome (data_of start before) (λ d. (d.whole ≡ false) × (d.bad ≡ true))
+    → IfSome (data_of start before) (λ d. (d.whole ≡ false) × (d.bad ≡ true) × IsUnder most taken start d.bytes)
 skip-bad most taken before now start why is breaks =
     let same : why ≡ fault.BadChunk = cc in
     let P : BodyFault → Type 0 = λ e. Breaks most taken before now start e in

@@ -1,6 +1,6 @@
 -- The exits of a walk, over plain values.
-use Rattle.std.proofs.Common.{◌≡◌, ◌≢◌, ℕ, zero, suc, ◌+◌, ◌-◌, ◌*◌, ◌≤◌, ◌<◌, ◌||◌, ◌==◌, min, Bool, true, false, List, [], ◌++◌, Option, Some, None, length, take, refl, sym, ap, subst, ◌∙◌, arith, append-nil, drop, length-append, length-take, length-drop}
-use Rattle.std.proofs.lemmas.Bool.{false≢true, leb-false}
+use Rattle.std.proofs.Common.{◌≡◌, ◌≢◌, ℕ, zero, suc, ◌+◌, ◌-◌, ◌*◌, ◌≤◌, ◌<◌, ◌&&◌, ◌||◌, ◌==◌, min, Bool, true, false, List, [], ◌++◌, Option, Some, None, length, take, inl, inr, refl, sym, ap, subst, ◌∙◌, arith, append-nil, drop, length-append, length-take, length-drop}
+use Rattle.std.proofs.lemmas.Bool.{false≢true, leb-false, cases_Bool}
 use Rattle.std.proofs.lemmas.List.{length-take-le}
 use borrow.Rule.Slice.PartMut.{put_mid, post_of}
 use Rattle.jk_io.specs.Told.{prepended, IsEmpty}
@@ -10,7 +10,7 @@ use Rattle.jk_io.specs.declared.failures.IoError.{IoError}
 use Rattle.jk_io.specs.declared.failures.IoError.TheVariants as io
 use Rattle.http_body_in.specs.Falls.{framing_left, exact_left}
 use Rattle.http_body_in.specs.Faults.{fault_of}
-use Rattle.http_body_in.specs.Places.{data_left, data_step, is_whole, is_bad}
+use Rattle.http_body_in.specs.Places.{data_left, data_step, is_whole, is_bad, is_limited}
 use Rattle.http_body_in.specs.Walks.{Walks, Fails, Passes, Breaks, is_reached, counted}
 use Rattle.http_body_in.specs.declared.fault.BodyFault.{BodyFault}
 use Rattle.http_body_in.specs.declared.fault.BodyFault.TheVariants as fault
@@ -76,57 +76,36 @@ uses-data before mid now p q piece part count k came within fits left uses gave 
       brings = run.1;
     }))
 
--- the walk filled the piece, or came to the end of the body
-pub walks-made : (most taken sum count : ℕ) (before now : Option (List ℕ)) (start place : Place) (piece : List ℕ) → count ≤ length piece → Uses before now start place (take count piece)
-    → (count == length piece || is_whole place) ≡ true → sum ≡ counted taken count → is_reached place most sum ≡ false → Walks most taken (length piece) before now start place (take count piece)
-walks-made most taken sum count before now start place piece within uses all counts under =
-    let len : length (take count piece) ≡ count = length-take-le count piece within in
-    let reached : is_reached place most (counted taken (length (take count piece))) ≡ is_reached place most sum = ap (λ (n : ℕ). is_reached place most (counted taken n)) len ∙ ap (is_reached place most) (sym counts) in
-    record {
-      uses = uses;
-      within = omega (arith, len, within);
-      all = ap (λ (n : ℕ). n == length piece || is_whole place) len ∙ all;
-      under = reached ∙ under;
-    }
-
 -- the limit was reached
 pub fails-long : (most taken sum count : ℕ) (before now : Option (List ℕ)) (start place : Place) (piece : List ℕ) → count ≤ length piece → Uses before now start place (take count piece)
     → sum ≡ counted taken count → is_reached place most sum ≡ true → Fails most taken (length piece) before now start fault.TooLong
 fails-long most taken sum count before now start place piece within uses counts over =
     let len : length (take count piece) ≡ count = length-take-le count piece within in
     let reached : is_reached place most (counted taken (length (take count piece))) ≡ is_reached place most sum = ap (λ (n : ℕ). is_reached place most (counted taken n)) len ∙ ap (is_reached place most) (sym counts) in
-    record { breaks = record { place = place; data' = take count piece; uses = uses; meets = reached ∙ over }; below = omega (arith, len, within) }
+    record { breaks = record { place = place; data' = take count piece; uses = uses; meets = reached ∙ over; stays = tt }; below = omega (arith, len, within) }
 
 -- a bad chunk line stands there
 pub fails-bad : (most taken count : ℕ) (before now : Option (List ℕ)) (start place : Place) (piece : List ℕ) → count < length piece → Uses before now start place (take count piece)
-    → is_bad place ≡ true → Fails most taken (length piece) before now start fault.BadChunk
-fails-bad most taken count before now start place piece within uses bad =
+    → is_bad place ≡ true → (is_limited start ≡ true → taken + count < most) → Fails most taken (length piece) before now start fault.BadChunk
+fails-bad most taken count before now start place piece within uses bad limit =
     let len : length (take count piece) ≡ count = length-take-le count piece (omega (arith, within)) in
-    record { breaks = record { place = place; data' = take count piece; uses = uses; meets = bad-place place bad }; below = omega (arith, len, within) }
+    record { breaks = record { place = place; data' = take count piece; uses = uses; meets = bad-place place bad; stays = λ limited. omega (arith, len, limit limited) }; below = omega (arith, len, within) }
 
 -- a read came to the end or was refused, and no byte moved
 pub fails-read : (most taken count : ℕ) (before now after : Option (List ℕ)) (start place : Place) (piece : List ℕ) (why : BodyFault) → count < length piece → Uses before now start place (take count piece)
-    → after ≡ now → is_over place ≡ false → (why ≡ fault.Truncated → IsEmpty after) → why ≢ fault.BadChunk → why ≢ fault.TooLong → Fails most taken (length piece) before after start why
-fails-read most taken count before now after start place piece fault.Truncated within uses same open_end end bad long =
+    → after ≡ now → is_over place ≡ false → (why ≡ fault.Truncated → IsEmpty after) → why ≢ fault.BadChunk → why ≢ fault.TooLong
+    → (is_limited start ≡ true → taken + count < most) → Fails most taken (length piece) before after start why
+fails-read most taken count before now after start place piece fault.Truncated within uses same open_end end bad long limit =
     let len : length (take count piece) ≡ count = length-take-le count piece (omega (arith, within)) in
-    record { breaks = record { place = place; data' = take count piece; uses = Uses-kept before now after start place _ same uses; meets = (open_end, end refl) }; below = omega (arith, len, within) }
-fails-read most taken count before now after start place piece fault.BadChunk within uses same open_end end bad long = absurd (bad refl)
-fails-read most taken count before now after start place piece fault.TooLong within uses same open_end end bad long = absurd (long refl)
-fails-read most taken count before now after start place piece fault.Fault within uses same open_end end bad long =
+    record { breaks = record { place = place; data' = take count piece; uses = Uses-kept before now after start place _ same uses; meets = (open_end, end refl); stays = λ limited. omega (arith, len, limit limited) }; below = omega (arith, len, within) }
+fails-read most taken count before now after start place piece fault.BadChunk within uses same open_end end bad long limit = absurd (bad refl)
+fails-read most taken count before now after start place piece fault.TooLong within uses same open_end end bad long limit = absurd (long refl)
+fails-read most taken count before now after start place piece fault.Fault within uses same open_end end bad long limit =
     let len : length (take count piece) ≡ count = length-take-le count piece (omega (arith, within)) in
-    record { breaks = record { place = place; data' = take count piece; uses = Uses-kept before now after start place _ same uses; meets = tt }; below = omega (arith, len, within) }
-fails-read most taken count before now after start place piece fault.NoMemory within uses same open_end end bad long =
+    record { breaks = record { place = place; data' = take count piece; uses = Uses-kept before now after start place _ same uses; meets = tt; stays = tt }; below = omega (arith, len, within) }
+fails-read most taken count before now after start place piece fault.NoMemory within uses same open_end end bad long limit =
     let len : length (take count piece) ≡ count = length-take-le count piece (omega (arith, within)) in
-    record { breaks = record { place = place; data' = take count piece; uses = Uses-kept before now after start place _ same uses; meets = tt }; below = omega (arith, len, within) }
-
--- the same exits of a walk that drops the data
-pub breaks-read : (most taken : ℕ) (before now after : Option (List ℕ)) (start place : Place) (passed : List ℕ) (why : BodyFault) → Uses before now start place passed
-    → after ≡ now → is_over place ≡ false → (why ≡ fault.Truncated → IsEmpty after) → why ≢ fault.BadChunk → why ≢ fault.TooLong → Breaks most taken before after start why
-breaks-read most taken before now after start place passed fault.Truncated uses same open_end end bad long = record { place = place; data' = passed; uses = Uses-kept before now after start place _ same uses; meets = (open_end, end refl) }
-breaks-read most taken before now after start place passed fault.BadChunk uses same open_end end bad long = absurd (bad refl)
-breaks-read most taken before now after start place passed fault.TooLong uses same open_end end bad long = absurd (long refl)
-breaks-read most taken before now after start place passed fault.Fault uses same open_end end bad long = record { place = place; data' = passed; uses = Uses-kept before now after start place _ same uses; meets = tt }
-breaks-read most taken before now after start place passed fault.NoMemory uses same open_end end bad long = record { place = place; data' = passed; uses = Uses-kept before now after start place _ same uses; meets = tt }
+    record { breaks = record { place = place; data' = take count piece; uses = Uses-kept before now after start place _ same uses; meets = tt; stays = tt }; below = omega (arith, len, within) }
 
 -- data was dropped
 pub uses-dropped : (before mid now : Option (List ℕ)) (p q : Place) (passed gone : List ℕ) (count : ℕ) → length gone ≡ count → count ≤ data_left q → Uses before mid p q passed
@@ -162,3 +141,45 @@ drop-smaller (at.TrailerLineFeed l) k most sum next some left under counts small
 drop-smaller at.TrailerFeed k most sum next some left under counts small = absurd (omega arith)
 drop-smaller at.Done k most sum next some left under counts small = absurd (omega arith)
 drop-smaller at.Bad k most sum next some left under counts small = absurd (omega arith)
+
+and-true : (x y : Bool) → x ≡ true → (x && y) ≡ y
+and-true true y e = refl
+and-true false y e = absurd (false≢true e)
+
+-- behind the look at the limit, a body that was chunked from its start is below it
+pub under-now : (start place : Place) (most taken count sum : ℕ) → sum ≡ counted taken count → is_reached place most sum ≡ false
+    → (is_limited place ≡ false → is_limited start ≡ true → sum < most) → most ≤ 18446744073709551615 → is_limited start ≡ true → (sum < most) × (taken + count < most)
+under-now start place most taken count sum counts under before small limited =
+    elim (cases_Bool (is_limited place)) [
+      | inl chunks ↦ (let less : sum < most = leb-false most sum (sym (and-true _ _ chunks) ∙ under) in (less, omega (arith, less, counts, small)))
+      | inr out ↦ (let less : sum < most = before out limited in (less, omega (arith, less, counts, small)))
+    ]
+
+pub start-exact : (start : Place) → is_limited start ≡ true → exact_left start ≡ 0
+start-exact (at.Exact n) e = absurd (false≢true e)
+start-exact (at.Digits c s) e = refl
+start-exact (at.Extension s c) e = refl
+start-exact (at.LineFeed s) e = refl
+start-exact (at.Chunk l) e = refl
+start-exact at.DataFeed e = refl
+start-exact (at.Trailer l) e = refl
+start-exact (at.TrailerLine l) e = refl
+start-exact (at.TrailerLineFeed l) e = refl
+start-exact at.TrailerFeed e = refl
+start-exact at.Done e = refl
+start-exact at.Bad e = refl
+
+-- within its chunks a body stays behind data
+pub data-chunks : (p : Place) (k : ℕ) → 0 < data_left p → exact_left p ≡ 0 → (is_limited (data_step p k) ≡ true) × (exact_left (data_step p k) ≡ 0)
+data-chunks (at.Exact n) k some none = absurd (omega (arith, some, none))
+data-chunks (at.Chunk n) k some none = (refl, refl)
+data-chunks (at.Digits c s) k some none = absurd (omega arith)
+data-chunks (at.Extension s c) k some none = absurd (omega arith)
+data-chunks (at.LineFeed s) k some none = absurd (omega arith)
+data-chunks at.DataFeed k some none = absurd (omega arith)
+data-chunks (at.Trailer l) k some none = absurd (omega arith)
+data-chunks (at.TrailerLine l) k some none = absurd (omega arith)
+data-chunks (at.TrailerLineFeed l) k some none = absurd (omega arith)
+data-chunks at.TrailerFeed k some none = absurd (omega arith)
+data-chunks at.Done k some none = absurd (omega arith)
+data-chunks at.Bad k some none = absurd (omega arith)

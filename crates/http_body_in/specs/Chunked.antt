@@ -4,7 +4,7 @@
 --     last-chunk   = 1*"0" [ chunk-ext ] CRLF
 -- The profile: a size has at most 10 digits; an extension is `;` and at most 256 bytes; the lines of the trailer have
 -- at most 16,384 bytes with their ends; no CR and no LF stands in an extension or a line of the trailer.
-use Rattle.std.specs.Prelude.{ℕ, ◌≡◌, ◌<◌, ◌≤◌, ◌+◌, ◌*◌, ◌==◌, ◌&&◌, not, Bool, true, false, List, [], ◌∷◌, ◌++◌, length, Option, Some, None, ⊤}
+use Rattle.std.specs.Prelude.{ℕ, ◌≡◌, ◌<◌, ◌≤◌, ◌+◌, ◌*◌, ◌==◌, ◌↔◌, ◌&&◌, not, Bool, true, false, List, [], ◌∷◌, ◌++◌, length, Option, Some, None, ⊤}
 use Rattle.std.specs.Char.{is_digit, digit_value}
 use Rattle.std.specs.List.{AllByRecursion, flat_map, list_all}
 use Rattle.http_body_in.specs.Body.{Uses, data_from, place_behind}
@@ -104,3 +104,8 @@ ReadsSpelled = (b : ChunkedBody) (rest : List ℕ) → IsChunkedBody b
 abbrev pub ReadsOnlySpelled : Type 0
 ReadsOnlySpelled = (bytes : List ℕ) (place : Place) → place_behind bytes (start_of plan.Chunked) ≡ Some place → is_whole place ≡ true
     → (b : ChunkedBody) × IsChunkedBody b × (bytes ≡ spelled b)
+
+-- a bad chunk line is met exactly where nothing that begins with the bytes begins with a body that the grammar spells
+abbrev pub RefusesUnspelled : Type 0
+RefusesUnspelled = (bytes : List ℕ) → ((data_from bytes (start_of plan.Chunked)).bad ≡ true)
+    ↔ ((more rest : List ℕ) (b : ChunkedBody) → IsChunkedBody b → bytes ++ more ≡ spelled b ++ rest → ⊥)

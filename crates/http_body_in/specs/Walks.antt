@@ -16,6 +16,18 @@ is_reached place most taken = is_limited place && nat_le most taken
 abbrev pub counted : ℕ → ℕ → ℕ
 counted taken more = min (taken + more) 18446744073709551615
 
+-- with this data more a chunked body stays below its limit
+abbrev pub IsUnder : ℕ → ℕ → Place → List ℕ → Type 0
+IsUnder most taken start data' = is_limited start ≡ true → taken + length data' < most
+
+-- before the bytes ended or a bad chunk line stood, the limit was not reached
+abbrev pub StaysUnder : ℕ → ℕ → Place → List ℕ → BodyFault → Type 0
+StaysUnder most taken start data' fault.Truncated = IsUnder most taken start data'
+StaysUnder most taken start data' fault.BadChunk = IsUnder most taken start data'
+StaysUnder most taken start data' fault.TooLong = Unit {0}
+StaysUnder most taken start data' fault.Fault = Unit {0}
+StaysUnder most taken start data' fault.NoMemory = Unit {0}
+
 -- what a walk met behind the data that it used
 abbrev pub Meets : ℕ → ℕ → Option (List ℕ) → Place → List ℕ → BodyFault → Type 0
 Meets most taken now place data' fault.Truncated = (is_over place ≡ false) × IsEmpty now
@@ -38,6 +50,7 @@ pub record Breaks (most taken : ℕ) (before now : Option (List ℕ)) (start : P
   pub data' : List ℕ
   pub uses : Uses before now start place data'
   pub meets : Meets most taken now place data' why
+  pub stays : StaysUnder most taken start data' why
 
 -- the walk for n bytes of data came to a fault
 pub record Fails (most taken n : ℕ) (before now : Option (List ℕ)) (start : Place) (why : BodyFault) : Type 0 where
@@ -50,6 +63,7 @@ pub record Walks (most taken n : ℕ) (before now : Option (List ℕ)) (start pl
   pub within : length data' ≤ n
   pub all : (length data' == n || is_whole place) ≡ true
   pub under : is_reached place most (counted taken (length data')) ≡ false
+  pub limit : IsUnder most taken start data'
 
 -- the walk used the whole body
 pub record Passes (most taken : ℕ) (before now : Option (List ℕ)) (start place : Place) (sum : ℕ) : Type 0 where
@@ -58,3 +72,4 @@ pub record Passes (most taken : ℕ) (before now : Option (List ℕ)) (start pla
   pub whole : is_whole place ≡ true
   pub counts : sum ≡ counted taken (length data')
   pub under : is_reached place most sum ≡ false
+  pub limit : is_limited start ≡ true → sum < most

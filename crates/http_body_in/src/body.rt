@@ -5,7 +5,7 @@ ghost use Rattle.http_front.specs.Unread.{unread};
 ghost use Rattle.http_body_in.specs.Body.{Data, Uses, reaches, dropped};
 ghost use Rattle.http_body_in.specs.Places.{start_of, is_whole, is_limited};
 ghost use Rattle.http_body_in.specs.State.{place_of, taken_of, most_of, failed_of, data_left_of};
-ghost use Rattle.http_body_in.specs.Walks.{Walks, Fails, counted, is_reached};
+ghost use Rattle.http_body_in.specs.Walks.{Walks, Fails, IsUnder, counted, is_reached};
 
 use crate::fault::BodyFault;
 use crate::place::{Place, start_of};
@@ -67,6 +67,7 @@ impl BodyIn {
         ensures length { IfOk result (λ piece. length piece ≤ n) }
         ensures left { OnOk result (data_left_of self.new (unread inbox.new (C.incoming client.new)) ≡ dropped n (data_left_of self.old (unread inbox.old (C.incoming client.old)))) }
         ensures taken { IfOk result (λ piece. taken_of self.new ≡ counted (taken_of self.old) (length piece)) }
+        ensures limit { IfOk result (IsUnder (most_of self.old) (taken_of self.old) (place_of self.old)) }
         ensures under { IfOk result (λ piece. is_reached (place_of self.new) (most_of self.old) (taken_of self.new) ≡ false) }
         ensures used { IfOk result (λ piece. Uses (unread inbox.old (C.incoming client.old)) (unread inbox.new (C.incoming client.new)) (place_of self.old) (place_of self.new) piece) }
         ensures going { OnOk result ((failed_of self.old ≡ None) × (failed_of self.new ≡ None)) }
@@ -75,9 +76,9 @@ impl BodyIn {
         ensures failed { IfErr result (λ fault. failed_of self.new ≡ Some fault) }
         ensures again { IfSome (failed_of self.old) (λ fault. result ≡ Err fault) }
         ensures truncated { IsErrOf result BodyFault.Truncated → failed_of self.old ≡ None
-            → IfSome (data_left_of self.old (unread inbox.old (C.incoming client.old))) (λ d. (reaches n d ≡ false) × (d.bad ≡ false)) }
+            → IfSome (data_left_of self.old (unread inbox.old (C.incoming client.old))) (λ d. (reaches n d ≡ false) × (d.bad ≡ false) × IsUnder (most_of self.old) (taken_of self.old) (place_of self.old) d.bytes) }
         ensures bad { IsErrOf result BodyFault.BadChunk → failed_of self.old ≡ None
-            → IfSome (data_left_of self.old (unread inbox.old (C.incoming client.old))) (λ d. (reaches n d ≡ false) × (d.bad ≡ true)) }
+            → IfSome (data_left_of self.old (unread inbox.old (C.incoming client.old))) (λ d. (reaches n d ≡ false) × (d.bad ≡ true) × IsUnder (most_of self.old) (taken_of self.old) (place_of self.old) d.bytes) }
         ensures too_long { IsErrOf result BodyFault.TooLong → failed_of self.old ≡ None → (is_limited (place_of self.old) ≡ true)
             × IfSome (data_left_of self.old (unread inbox.old (C.incoming client.old))) (λ d. most_of self.old ≤ taken_of self.old + length (take n d.bytes)) }
         ensures fault { IsErrOf result BodyFault.Fault → failed_of self.old ≡ None → Rose (C.faults client.old) (C.faults client.new) }
@@ -108,6 +109,7 @@ impl BodyIn {
     pub fn skip_rest<C: Link>(&mut self, inbox: &mut Inbox, client: &mut C) -> Result<(), BodyFault>
         ensures whole { OnOk result (is_whole (place_of self.new) ≡ true) }
         ensures left { OnOk result (IfSome (data_left_of self.old (unread inbox.old (C.incoming client.old))) (λ d. (d.whole ≡ true) × (taken_of self.new ≡ counted (taken_of self.old) (length d.bytes)))) }
+        ensures limit { OnOk result (is_limited (place_of self.old) ≡ true → taken_of self.new < most_of self.old) }
         ensures used { OnOk result ((skipped : List ℕ) × Uses (unread inbox.old (C.incoming client.old)) (unread inbox.new (C.incoming client.new)) (place_of self.old) (place_of self.new) skipped) }
         ensures going { OnOk result ((failed_of self.old ≡ None) × (failed_of self.new ≡ None)) }
 
@@ -115,9 +117,9 @@ impl BodyIn {
         ensures failed { IfErr result (λ fault. failed_of self.new ≡ Some fault) }
         ensures again { IfSome (failed_of self.old) (λ fault. result ≡ Err fault) }
         ensures truncated { IsErrOf result BodyFault.Truncated → failed_of self.old ≡ None
-            → IfSome (data_left_of self.old (unread inbox.old (C.incoming client.old))) (λ d. (d.whole ≡ false) × (d.bad ≡ false)) }
+            → IfSome (data_left_of self.old (unread inbox.old (C.incoming client.old))) (λ d. (d.whole ≡ false) × (d.bad ≡ false) × IsUnder (most_of self.old) (taken_of self.old) (place_of self.old) d.bytes) }
         ensures bad { IsErrOf result BodyFault.BadChunk → failed_of self.old ≡ None
-            → IfSome (data_left_of self.old (unread inbox.old (C.incoming client.old))) (λ d. (d.whole ≡ false) × (d.bad ≡ true)) }
+            → IfSome (data_left_of self.old (unread inbox.old (C.incoming client.old))) (λ d. (d.whole ≡ false) × (d.bad ≡ true) × IsUnder (most_of self.old) (taken_of self.old) (place_of self.old) d.bytes) }
         ensures too_long { IsErrOf result BodyFault.TooLong → failed_of self.old ≡ None → (is_limited (place_of self.old) ≡ true)
             × IfSome (data_left_of self.old (unread inbox.old (C.incoming client.old))) (λ d. most_of self.old ≤ taken_of self.old + length d.bytes) }
         ensures fault { IsErrOf result BodyFault.Fault → failed_of self.old ≡ None → Rose (C.faults client.old) (C.faults client.new) }

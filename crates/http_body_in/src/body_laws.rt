@@ -1,5 +1,5 @@
 //! Laws: the places that a reader goes through are those of the chunked coding's grammar.
-ghost use Rattle.http_body_in.specs.Chunked.{ReadsSpelled, ReadsOnlySpelled};
+ghost use Rattle.http_body_in.specs.Chunked.{ReadsSpelled, ReadsOnlySpelled, RefusesUnspelled};
 
 /// Law: what the grammar spells is read as just its data, and as whole, and no byte behind it is used.
 pub fn chunked_bodies_are_read_whole()
@@ -9,4 +9,9 @@ pub fn chunked_bodies_are_read_whole()
 /// Law: what is read as a whole body is spelled by the grammar.
 pub fn only_chunked_bodies_are_read_whole()
     ensures { ReadsOnlySpelled }
+{}
+
+/// Law: a bad chunk line is met exactly where no body of the grammar goes on from the bytes, or ends within them.
+pub fn bad_lines_are_what_no_body_has()
+    ensures { RefusesUnspelled }
 {}

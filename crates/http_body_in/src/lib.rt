@@ -6,7 +6,8 @@
 //! grammar. No parser stands behind them.
 //! Shapes: a place is where a reader stands between two bytes; the data of bytes from a place on is whole, or
 //! goes to where the bytes end, or to a bad chunk line (specs/Body.antt).
-//! Contract: `BodyIn::take`, clauses `piece`, `left`, `used`. Read first: specs/Body.antt, then specs/Places.antt.
+//! Contract: `BodyIn::take`, clauses `piece`, `left`, `used`. Read first: specs/Body.antt, then specs/Places.antt;
+//! specs/Chunked.antt has the grammar of chunks, and the laws that tie the places to it.
 //! Errors: `BodyFault`. The first of a body is answered again by each later call.
 #![tactic(auto)]
 
@@ -17,6 +18,9 @@ mod place;
 mod walk;
 
 pub use body::BodyIn;
-pub use body_laws::{chunked_bodies_are_read_whole, only_chunked_bodies_are_read_whole};
+pub use body_laws::{
+    bad_lines_are_what_no_body_has, chunked_bodies_are_read_whole,
+    only_chunked_bodies_are_read_whole,
+};
 pub use fault::BodyFault;
 pub use place::Place;

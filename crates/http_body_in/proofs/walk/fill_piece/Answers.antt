@@ -1,16 +1,18 @@
 -- Each exit of the walk, and its two steps.
-use Rattle.std.proofs.Common.{◌≡◌, ℕ, ◌+◌, ◌-◌, ◌≤◌, List, Option, Err, length, take, arith, subst, sym, ap, ◌∙◌}
-use Rattle.std.proofs.lemmas.Bool.{or_from}
+use Rattle.std.proofs.Common.{◌≡◌, ℕ, ◌+◌, ◌-◌, ◌≤◌, ◌<◌, List, Option, Err, length, take, arith, subst, sym, ap, ◌∙◌}
+use Rattle.std.proofs.lemmas.Bool.{or_from, true≢false}
 use Rattle.std.proofs.lemmas.Grind.{common_steps}
 use borrow.Rule.Slice.PartMut.{put_mid}
 use Rattle.jk_io.specs.Told.{prepended}
 use Rattle.jk_io.proofs.ToldLaws.{prepended-nil}
 use Rattle.http_body_in.specs.Body.{Uses}
+use Rattle.http_body_in.specs.Falls.{exact_left}
+use Rattle.http_body_in.specs.Places.{data_left, is_limited}
 use Rattle.http_body_in.specs.Walks.{Fails}
 use Rattle.http_body_in.specs.declared.fault.BodyFault.{BodyFault}
 use Rattle.http_body_in.specs.declared.fault.BodyFault.TheVariants as fault
 use Rattle.http_body_in.specs.declared.place.Place.{Place}
-use Rattle.http_body_in.proofs.WalkLemmas.{fails-long, fails-bad, fails-read, fault_of-kind, uses-framing, uses-data, length-put_mid}
+use Rattle.http_body_in.proofs.WalkLemmas.{fails-long, fails-bad, fails-read, fault_of-kind, uses-framing, uses-data, length-put_mid, under-now, data-chunks}
 use Rattle.http_body_in.proofs.walk.fill_piece.Goals as goal
 
 pub returns-then-is_reached-clause-err : goal.returns-then-is_reached-clause-err
@@ -20,6 +22,7 @@ returns-then-is_reached-clause-err g c =
 pub returns-then-is_bad-clause-err : goal.returns-then-is_bad-clause-err
 returns-then-is_bad-clause-err g c =
     fails-bad c.args.most c.args.taken c.walk.count _ _ c.args.start c.walk.place c.walk.piece (omega (arith, c.walk.invariant.within, c.if-count-piece.false)) c.walk.invariant.uses (sym c.is_bad.ensures ∙ c.if-is_bad.true)
+    (λ limited. (under-now c.args.start c.walk.place c.args.most c.args.taken c.walk.count c.saturating_add.result c.saturating_add.ensures (sym c.is_reached.ensures ∙ c.if-is_reached.false) (λ out chunks. omega (arith, c.walk.invariant.under out chunks, c.saturating_add.ensures)) (omega (arith, c.ranges.most)) limited).1)
 
 pub returns-in-Err-clause-err : goal.returns-in-Err-clause-err
 returns-in-Err-clause-err g c =
@@ -27,6 +30,7 @@ returns-in-Err-clause-err g c =
     fails-read c.args.most c.args.taken c.walk.count _ _ _ c.args.start c.walk.place c.walk.piece c.in-Err.fault (omega (arith, c.walk.invariant.within, c.if-count-piece.false)) c.walk.invariant.uses e.err
     (or_from _ _ (sym c.is_whole.ensures ∙ c.if-is_whole.false) (sym c.is_bad.ensures ∙ c.if-is_bad.false))
     (λ is. e.end (ap Err is)) (λ is. e.kind.0 (ap Err is)) (λ is. e.kind.1 (ap Err is))
+    (λ limited. (under-now c.args.start c.walk.place c.args.most c.args.taken c.walk.count c.saturating_add.result c.saturating_add.ensures (sym c.is_reached.ensures ∙ c.if-is_reached.false) (λ out chunks. omega (arith, c.walk.invariant.under out chunks, c.saturating_add.ensures)) (omega (arith, c.ranges.most)) limited).1)
 
 pub walk-preserved-then-left-eq0 : goal.walk-preserved-then-left-eq0
 walk-preserved-then-left-eq0 g c =
@@ -34,6 +38,8 @@ walk-preserved-then-left-eq0 g c =
     let e = c.in-Ok.ensures in
     record {
       within = I.within;
+      under = λ out limited. omega (arith, (under-now c.args.start c.walk.place c.args.most c.args.taken c.walk.count c.saturating_add.result c.saturating_add.ensures (sym c.is_reached.ensures ∙ c.if-is_reached.false) (λ gone chunks. omega (arith, I.under gone chunks, c.saturating_add.ensures)) (omega (arith, c.ranges.most)) limited).0, c.saturating_add.ensures);
+      exact = λ limited. e.chunked;
       uses = uses-framing _ _ _ c.args.start c.walk.place c.in-Ok.next (take c.walk.count c.walk.piece) I.uses e.ok;
       sent = e.same.0 ∙ I.sent;
       beside = e.same.1 ∙ I.beside;
@@ -47,7 +53,8 @@ returns-in-Ok-eq0-clause-err g c =
     let same = sym (e.came ∙ ap (λ (n : ℕ). prepended (take n c.next_data.new.buf) now) c.in-Ok-eq0.field-0-test ∙ prepended-nil now) in
     let fails = fails-read c.args.most c.args.taken c.walk.count _ _ _ c.args.start c.walk.place c.walk.piece fault.Truncated (omega (arith, c.walk.invariant.within, c.if-count-piece.false)) c.walk.invariant.uses same
     (or_from _ _ (sym c.is_whole.ensures ∙ c.if-is_whole.false) (sym c.is_bad.ensures ∙ c.if-is_bad.false))
-    (λ is. e.end c.in-Ok-eq0.field-0-test) (λ is. cc) (λ is. cc) in
+    (λ is. e.end c.in-Ok-eq0.field-0-test) (λ is. cc) (λ is. cc)
+    (λ limited. (under-now c.args.start c.walk.place c.args.most c.args.taken c.walk.count c.saturating_add.result c.saturating_add.ensures (sym c.is_reached.ensures ∙ c.if-is_reached.false) (λ out chunks. omega (arith, c.walk.invariant.under out chunks, c.saturating_add.ensures)) (omega (arith, c.ranges.most)) limited).1) in
     let k = c.walk.count + c.count_of-want.result - c.walk.count in
     let fits : c.walk.count + k ≤ length c.walk.piece = omega (arith, c.count_of-want.ensures, c.walk.invariant.within) in
     let len : length c.next_data.new.buf ≡ k = grind (arith, common_steps, c.next_data.auto.buf, fits) in
@@ -60,7 +67,8 @@ returns-in-Err-next_data-clause-err g c =
     let now = prepended c.next_data.new.inbox (g.C.Meanings.incoming c.next_data.new.client) in
     let fails = fails-read c.args.most c.args.taken c.walk.count _ _ _ c.args.start c.walk.place c.walk.piece c.fault_of.result (omega (arith, c.walk.invariant.within, c.if-count-piece.false)) c.walk.invariant.uses c.in-Err-next_data.ensures.err
     (or_from _ _ (sym c.is_whole.ensures ∙ c.if-is_whole.false) (sym c.is_bad.ensures ∙ c.if-is_bad.false))
-    (λ is. absurd (kind.0 (sym c.fault_of.ensures ∙ is))) (λ is. kind.1 (sym c.fault_of.ensures ∙ is)) (λ is. kind.2 (sym c.fault_of.ensures ∙ is)) in
+    (λ is. absurd (kind.0 (sym c.fault_of.ensures ∙ is))) (λ is. kind.1 (sym c.fault_of.ensures ∙ is)) (λ is. kind.2 (sym c.fault_of.ensures ∙ is))
+    (λ limited. (under-now c.args.start c.walk.place c.args.most c.args.taken c.walk.count c.saturating_add.result c.saturating_add.ensures (sym c.is_reached.ensures ∙ c.if-is_reached.false) (λ out chunks. omega (arith, c.walk.invariant.under out chunks, c.saturating_add.ensures)) (omega (arith, c.ranges.most)) limited).1) in
     let k = c.walk.count + c.count_of-want.result - c.walk.count in
     let fits : c.walk.count + k ≤ length c.walk.piece = omega (arith, c.count_of-want.ensures, c.walk.invariant.within) in
     let len : length c.next_data.new.buf ≡ k = grind (arith, common_steps, c.next_data.auto.buf, fits) in
@@ -76,9 +84,12 @@ walk-preserved g c =
     let fits : c.walk.count + k ≤ length c.walk.piece = omega (arith, c.count_of-want.ensures, I.within) in
     let len : length c.next_data.new.buf ≡ k = grind (arith, common_steps, c.next_data.auto.buf, fits) in
     let long = length-put_mid c.walk.count k c.walk.piece c.next_data.new.buf I.within fits len in
+    let some : 0 < data_left c.walk.place = omega (arith, c.data_left-left.ensures, c.if-left-eq0.false) in
     let P : Place → Type 0 = λ p. Uses (prepended c.args.inbox.now (g.C.Meanings.incoming c.args.client.now)) (prepended c.next_data.new.inbox (g.C.Meanings.incoming c.next_data.new.client)) c.args.start p (take (c.walk.count + came) (put_mid c.walk.count k c.walk.piece c.next_data.new.buf)) in
     record {
       within = omega (arith, long, fits, len, e.count);
+      under = λ out limited. absurd (true≢false (sym (ap is_limited c.data_step-place.ensures ∙ (data-chunks c.walk.place came some (I.exact limited)).0) ∙ out));
+      exact = λ limited. ap exact_left c.data_step-place.ensures ∙ (data-chunks c.walk.place came some (I.exact limited)).1;
       uses = subst P (sym c.data_step-place.ensures) (uses-data _ _ _ c.args.start c.walk.place c.walk.piece c.next_data.new.buf c.walk.count k came I.within e.count (omega (arith, e.count, len, c.count_of-want.ensures, c.data_left-left.ensures)) I.uses e.came);
       sent = e.same.0 ∙ I.sent;
       beside = e.same.1 ∙ I.beside;

@@ -1,7 +1,8 @@
-use Rattle.std.proofs.Common.{◌≡◌, ◌≤◌, ◌+◌, ◌-◌, ◌*◌, ℕ, List, length}
+use Rattle.std.proofs.Common.{◌≡◌, ◌≤◌, ◌<◌, false, true, ◌+◌, ◌-◌, ◌*◌, ℕ, List, length}
 use Rattle.http_front.specs.Unread.{unread}
 use Rattle.http_body_in.specs.Body.{Uses}
 use Rattle.http_body_in.specs.Falls.{framing_left, exact_left}
+use Rattle.http_body_in.specs.Places.{is_limited}
 use Rattle.http_body_in.specs.Walks.{counted}
 use Rattle.http_body_in.proofs.walk.pass_body.Given as goal
 
@@ -9,6 +10,8 @@ use Rattle.http_body_in.proofs.walk.pass_body.Given as goal
 abbrev pub invariant-walk : goal.invariant-walk
 invariant-walk g l = record {
   passed : List ℕ;
+  under : is_limited l.place ≡ false → is_limited l.fn.start ≡ true → l.sum < l.fn.most;
+  exact : is_limited l.fn.start ≡ true → exact_left l.place ≡ 0;
   uses : Uses (unread l.initial.inbox (g.C.Meanings.incoming l.initial.client)) (unread l.inbox (g.C.Meanings.incoming l.client)) l.fn.start l.place passed;
   counts : l.sum ≡ counted l.fn.taken (length passed);
   sent : g.C.Meanings.sent l.client ≡ g.C.Meanings.sent l.initial.client;
