@@ -24,3 +24,6 @@ pub use body_laws::{
 };
 pub use fault::BodyFault;
 pub use place::Place;
+
+#[cfg(test)]
+mod tests;
