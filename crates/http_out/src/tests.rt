@@ -29,7 +29,7 @@ struct Case {
     end: Result<(), OutError>,
 }
 
-const CASES: [Case; 22] = [
+static CASES: [Case; 24] = [
     Case {
         shows: "a length",
         asked: GET,
@@ -172,6 +172,24 @@ const CASES: [Case; 22] = [
         end: Err(OutError::Disagree),
     },
     Case {
+        shows: "a body that was cut off",
+        asked: GET,
+        status: 200,
+        lines: &[(b"Content-Length", b"10")],
+        chunks: &[b"xyz"],
+        sent: b"HTTP/1.1 200 OK\r\nContent-Length: 10\r\n\r\nxyz",
+        end: Err(OutError::Disagree),
+    },
+    Case {
+        shows: "HEAD without a length on the last reply",
+        asked: (false, true, true),
+        status: 200,
+        lines: &[],
+        chunks: &[b"hi"],
+        sent: b"HTTP/1.1 200 OK\r\nConnection: close\r\n\r\n",
+        end: Ok(()),
+    },
+    Case {
         shows: "two lengths",
         asked: GET,
         status: 200,
@@ -236,6 +254,10 @@ const CASES: [Case; 22] = [
     },
 ];
 
+fn cases() -> &'static [Case] {
+    &CASES
+}
+
 fn head_of(alloc: Global, case: &Case) -> Result<ReplyHead, NoMemory> {
     let mut headers = HeadLines::new(alloc);
     for (name, value) in case.lines {
@@ -289,12 +311,44 @@ fn silent_client(alloc: Global) -> MemLink {
 
 #[test]
 fn replies_go_out_framed(rt: HostRuntime) {
-    for case in &CASES {
+    for case in cases() {
         let mut client = silent_client(rt.alloc());
         let end = pass(rt.alloc(), case, &mut client);
         assert_eq!(rt; client.sent(), case.sent, "{}", case.shows);
         assert_eq!(rt; end, case.end, "{}", case.shows);
     }
+}
+
+/// What a head with this message is answered.
+fn judged(alloc: Global, message: &[u8]) -> Result<(), OutError> {
+    let mut writer = ReplyWriter::new(alloc, false, false, false);
+    writer.headers(ReplyHead {
+        status: 200,
+        message: Bytes::from_slice(alloc, message)?,
+        headers: HeadLines::new(alloc),
+    })
+}
+
+#[test]
+fn no_control_byte_but_tab_passes_in_a_message(rt: HostRuntime) {
+    for message in [b"".as_slice(), b"Fine", b"a\tb", b"\xe9t\xe9"] {
+        assert_eq!(rt; judged(rt.alloc(), message), Ok(()), "{message:?}");
+    }
+    for message in [b"\0".as_slice(), b"O\0K", b"a\r\nB: c", b"a\n", b"\x7f"] {
+        assert_eq!(rt;
+            judged(rt.alloc(), message),
+            Err(OutError::BadReply),
+            "{message:?}"
+        );
+    }
+}
+
+/// Passes a chunk on, whatever became of those before it.
+fn pass_on(writer: &mut ReplyWriter, chunk: &[u8], client: &mut MemLink) -> Result<(), OutError>
+    requires { IsOpen writer.old }
+    ensures { IsOpen writer.new }
+{
+    writer.chunk(chunk, client)
 }
 
 #[test]
@@ -308,18 +362,49 @@ fn nothing_follows_a_fault(rt: HostRuntime) -> Result<(), Fail> {
         writes,
     )?;
     let mut writer = opened(rt.alloc(), &CASES[0])?;
-    assert_eq!(rt; writer.chunk(b"h", &mut client), Err(OutError::Fault));
-    assert_eq!(rt; client.sent(), b"HTTP/1.1 200 OK\r\nCon".as_slice());
+    assert_eq!(rt;
+        pass_on(&mut writer, b"h", &mut client),
+        Err(OutError::Fault)
+    );
     assert!(rt; writer.passed());
+    assert_eq!(rt; pass_on(&mut writer, b"i", &mut client), Ok(()));
+    assert_eq!(rt;
+        pass_on(&mut writer, b"j", &mut client),
+        Err(OutError::Disagree)
+    );
+    assert_eq!(rt; writer.end(&mut client), Ok(()));
+    assert_eq!(rt; client.sent(), b"HTTP/1.1 200 OK\r\nCon".as_slice());
     Ok(())
 }
 
+fn reason_of(status: u16) -> &'static str {
+    match status {
+        400 => "Bad Request",
+        403 => "Forbidden",
+        404 => "Not Found",
+        413 => "Content Too Large",
+        431 => "Request Header Fields Too Large",
+        500 => "Internal Server Error",
+        501 => "Not Implemented",
+        502 => "Bad Gateway",
+        503 => "Service Unavailable",
+        _ => "",
+    }
+}
+
+/// The head of an answer of the connector's own, and the body.
+fn own_texts(alloc: Global, status: u16, length: usize) -> Result<(String, String), Fail> {
+    let reason = reason_of(status);
+    Ok((
+        format!(in alloc;
+            "HTTP/1.1 {status} {reason}\r\nContent-Type: text/plain\r\nContent-Length: {length}\r\nConnection: close\r\n\r\n"
+        )?,
+        format!(in alloc; "{status} {reason}\n")?,
+    ))
+}
+
 #[test]
-fn own_answers_have_the_status_twice(rt: HostRuntime) {
-    let bad_gateway =
-        b"HTTP/1.1 502 Bad Gateway\r\nContent-Type: text/plain\r\nContent-Length: 16\r\nConnection: close\r\n\r\n502 Bad Gateway\n";
-    assert_eq!(rt; own_answer(502, false), bad_gateway.as_slice());
-    assert_eq!(rt; own_answer(502, true).len(), bad_gateway.len() - 16);
+fn own_answers_have_the_status_twice(rt: HostRuntime) -> Result<(), Fail> {
     for (status, length) in [
         (400, 16),
         (403, 14),
@@ -331,10 +416,13 @@ fn own_answers_have_the_status_twice(rt: HostRuntime) {
         (502, 16),
         (503, 24),
     ] {
-        assert_eq!(rt;
-            own_answer(status, false).len() - own_answer(status, true).len(),
-            length,
-            "{status}"
-        );
+        let head_only = own_answer(status, true);
+        let whole = own_answer(status, false);
+        let (head, body) = own_texts(rt.alloc(), status, length)?;
+        assert_eq!(rt; head_only, head.as_bytes(), "{status}");
+        assert!(rt; whole.starts_with(head_only), "{status}");
+        assert!(rt; whole.ends_with(body.as_bytes()), "{status}");
+        assert_eq!(rt; whole.len(), head.len() + body.len(), "{status}");
     }
+    Ok(())
 }
