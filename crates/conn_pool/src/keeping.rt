@@ -1,0 +1,79 @@
+//! One pool for each balancer and member.
+ghost use Rattle.std.specs.Prelude.{◌≡◌, ◌^◌, ◌<◌, ◌≤◌, length, IfOk};
+ghost use Rattle.conn_pool.specs.Idle.{HasMember};
+
+use crate::pool::{LinkList, Pool};
+use crate::row::{Row, pool_at};
+use jk_io::{NoMemory, SizeTable};
+use std::alloc::Global;
+use std::marker::Model;
+use std::sync::Wait;
+
+/// One pool behind a lock for each balancer and member. A contract sees their sizes.
+#[derive(Drop)]
+pub struct Pools<'r, L, R> {
+    rt: &'r R,
+    rows: Vec<Row<L>>,
+}
+
+impl<'r, L, R> Model for Pools<'r, L, R> {
+    ghost use Rattle.std.specs.Prelude.{List, ℕ, map};
+
+    ghost Value = { List (List ℕ) };
+
+    ghost view = { λ p. map (λ row. row.sizes.items) p.rows.items };
+}
+
+impl<'r, L: Drop, R> Pools<'r, L, R> {
+    /// Empty pools of these sizes.
+    pub fn new(rt: &'r R, alloc: Global, sizes: &SizeTable) -> Result<Pools<'r, L, R>, NoMemory>
+        ensures { IfOk result (λ pools. pools ≡ sizes.now) }
+    {
+        let mut rows = Vec::with_capacity(alloc, sizes.len())?;
+        for row in sizes.as_slice() {
+            rows.push(Row::new(alloc, row)?)?;
+        }
+        Ok(Pools { rt, rows })
+    }
+}
+
+impl<'r, L: Drop, R: Wait> Pools<'r, L, R> {
+    /// The link that was put last for a member, in one hold of its lock.
+    pub fn take(&self, lb: u32, member: u32) -> Option<L>
+        requires { HasMember self.now lb member }
+    {
+        pool_at(self.rows.as_slice(), lb, member)
+            .lock(self.rt)
+            .take()
+    }
+
+    /// Puts a link for a member, in one hold of its lock; it comes back where the pool is full.
+    pub fn put(&self, lb: u32, member: u32, link: L) -> Option<L>
+        requires { HasMember self.now lb member }
+    {
+        pool_at(self.rows.as_slice(), lb, member)
+            .lock(self.rt)
+            .put(link)
+    }
+
+    /// Takes all idle links of a member, in one hold of its lock.
+    pub fn take_all(&self, alloc: Global, lb: u32, member: u32) -> Result<LinkList<L>, NoMemory>
+        requires { HasMember self.now lb member }
+    {
+        pool_at(self.rows.as_slice(), lb, member)
+            .lock(self.rt)
+            .take_all(alloc)
+    }
+
+    /// Puts links for a member in their order while there is room, in one hold of its lock, closes the others, and
+    /// answers how many it closed.
+    pub fn put_all(&self, lb: u32, member: u32, links: LinkList<L>) -> u32
+        requires known { HasMember self.now lb member }
+        requires few { length links < 2 ^ 32 }
+        ensures { result ≤ length links }
+    {
+        pool_at(self.rows.as_slice(), lb, member)
+            .lock(self.rt)
+            .put_all(links)
+    }
+}

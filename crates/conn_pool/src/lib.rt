@@ -1,0 +1,21 @@
+//! Links to members that are kept idle between talks, and the reach that takes them from there.
+//!
+//! Source: Tomcat Connectors reference, workers.properties, connection_pool_size.
+//! Own rule: the link put last is taken first, and a link of which a call failed in its talk is never put back.
+//! Contract: `PooledReach` is a `Reach`; `Pool::put` and `Pool::take`. Read first: specs/Idle.antt.
+//! Errors: those of the dial and the links; want of memory.
+#![tactic(auto)]
+
+mod keeping;
+mod lent;
+mod pool;
+mod pooled;
+mod row;
+mod tape;
+#[cfg(test)]
+mod tests;
+
+pub use keeping::Pools;
+pub use pool::{LinkList, Pool};
+pub use pooled::PooledReach;
+pub use tape::{MemTape, NoTape, Tape};
