@@ -48,6 +48,15 @@ fn packets_to_either_side_are_those_of_the_reference(rt: HostRuntime) -> Result<
 }
 
 #[test]
+fn a_piece_of_8186_bytes_fills_a_packet_of_8192(rt: HostRuntime) -> Result<(), Fail> {
+    let packet = body_packet(rt.alloc(), zeros(rt.alloc(), 8_186)?.as_slice())?;
+    assert_eq!(rt; packet.len(), 8_192);
+    let head = packet.as_slice().get(..6).unwrap_or(&[]);
+    assert_eq!(rt; head, b"\x12\x34\x1f\xfc\x1f\xfa".as_slice());
+    Ok(())
+}
+
+#[test]
 fn lengths_are_refused_just_above_their_limits(rt: HostRuntime) -> Result<(), Fail> {
     let alloc = rt.alloc();
     for (len, fits) in [(65_534, true), (65_535, false)] {
