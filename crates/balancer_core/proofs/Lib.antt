@@ -13,3 +13,6 @@ pub mod ReturnLaws
 pub mod SegmentLaws
 pub mod SpotLaws
 pub mod StepLaws
+pub mod DeskLaws
+pub mod PlainLaws
+pub mod HoldLaws

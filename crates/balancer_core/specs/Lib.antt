@@ -14,3 +14,7 @@ pub mod Stepped
 pub mod Commanded
 pub mod Due
 pub mod Ending
+pub mod Desks
+pub mod PlainDesks
+pub mod PlainLeases
+pub mod Refused

@@ -80,6 +80,13 @@ impl Lease {
         self.member
     }
 
+    /// The ticket's number.
+    pub fn ticket(&self) -> u64
+        ensures { result ≡ self.now.ticket }
+    {
+        self.ticket
+    }
+
     /// Spends the lease and gives its ticket, for callers that name tickets by number.
     pub fn into_ticket(self) -> u64
         ensures { result ≡ self.ticket }

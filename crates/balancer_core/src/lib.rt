@@ -7,6 +7,8 @@
 //! `Book::maintain_if_due`, clause `due`; `Book::admin`, clause `commanded`; `Book::cut`, clause `cut`; each call's `sound`:
 //! the journal, replayed from its opening, gives each answer. Read first: specs/Journal.antt, then specs/Due.antt,
 //! Commanded.antt and Ending.antt.
+//! `Desk` is what a session asks, with the meanings of specs/Desks.antt; `PlainDesk` is one over Books that it owns,
+//! whose refusals are told by specs/Refused.antt.
 //! Errors: `RoomError`, `AdminError` and `Stray` of jk_model. After one the Book is as it was.
 #![tactic(auto)]
 
@@ -15,11 +17,16 @@ mod book;
 mod choice;
 mod commanded;
 mod copies;
+pub mod desk;
 mod ending;
+mod hold_at;
+mod holds;
 mod least;
 mod maintenance;
 mod opened;
+mod plain_desk;
 mod present;
+mod receipt;
 mod rules;
 mod shown;
 mod standing;
@@ -29,4 +36,7 @@ mod tests;
 mod tickets;
 
 pub use book::{Book, Lease, Picked};
+pub use desk::Desk;
 pub use jk_model::{Opening, Segment};
+pub use plain_desk::{BookList, PlainDesk, PlainLease};
+pub use receipt::{Receipt, ReceiptList};

@@ -1,0 +1,32 @@
+-- How one exchange over a desk ends.
+use Rattle.std.specs.Prelude.{◌≡◌, ℕ, ◌+◌, ◌<◌, false, List, [], ◌∷◌, ◌++◌, length, slice_index}
+use Rattle.jk_io.specs.Told.{Rose}
+use Rattle.jk_model.specs.Free.{is_in}
+use Rattle.jk_model.specs.declared.ask.Ask.{Ask}
+use Rattle.jk_model.specs.declared.journal.Call.TheVariants as call
+use Rattle.jk_model.specs.declared.journal.Outcome.{Outcome}
+use Rattle.jk_model.specs.declared.refusal.RoomError.TheVariants as room
+use Rattle.balancer_core.specs.Desks.{DeskState}
+use Rattle.balancer_core.specs.declared.receipt.Receipt.{Receipt}
+use Rattle.balancer_checks.specs.declared.callers.Once.{Once}
+use Rattle.balancer_checks.specs.declared.callers.Once.TheVariants as once
+
+-- Each entry that was added has its receipt.
+abbrev pub GainsAsMany : DeskState → DeskState → Type 0
+GainsAsMany old new = new.added + length old.receipts ≡ old.added + length new.receipts
+
+-- The last two entries are the choice and the Return of its ticket with this outcome.
+pub record Returns (old new : DeskState) (lb : ℕ) (ask : Ask) (outcome : Outcome) : Type 0 where
+  pub before : List Receipt
+  pub chosen : Receipt
+  pub back : Receipt
+  pub gained : new.receipts ≡ old.receipts ++ before ++ chosen ∷ back ∷ []
+  pub asked : chosen.entry.call ≡ call.Select ask
+  pub returned : back.entry.call ≡ call.Return chosen.entry.seq outcome
+
+abbrev pub Ends : {M : Type 0} → (old new : DeskState) → (lb : ℕ) → Ask → Outcome → Once M → Type 0
+Ends old new lb ask outcome (once.Returned m) =
+    Returns old new lb ask outcome × (m < slice_index old.sizes lb) × (is_in ask.tried m ≡ false)
+Ends old new lb ask outcome once.Unchosen = (new.strays ≡ old.strays) × (new.fulls ≡ old.fulls)
+Ends old new lb ask outcome (once.Refused error) = (new.strays ≡ old.strays) × (error ≡ room.NoMemory → new.fulls ≡ old.fulls)
+Ends old new lb ask outcome (once.Stray stray) = Rose old.strays new.strays

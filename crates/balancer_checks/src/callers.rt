@@ -1,0 +1,68 @@
+//! Small callers of a desk, proved from its trait alone.
+ghost use Rattle.std.specs.Prelude.{◌≡◌, ◌+◌, ◌<◌, ◌≤◌, ◌^◌, true, length, IfSome, IfOk, IfErr, OnErr};
+ghost use Rattle.jk_io.specs.Told.{Rose};
+ghost use Rattle.balancer_core.specs.Desks.{Commands, DeskState, KeepsDesk, Shows};
+ghost use Rattle.balancer_checks.specs.Once.{Ends, GainsAsMany};
+
+use balancer_core::Desk;
+use balancer_core::desk::Choice;
+use jk_model::{AdminError, Ask, Command, Outcome, RoomError, Stray};
+
+/// How one exchange ended.
+#[derive(Debug, PartialEq, Eq, Drop)]
+pub enum Once<M> {
+    /// This member was chosen, and its ticket came back.
+    Returned { member: u32 },
+    Unchosen,
+    Refused(RoomError<M>),
+    Stray(Stray),
+}
+
+/// Asks for a member and hands its lease back.
+pub fn one_exchange<D: Desk>(
+    desk: &mut D,
+    lb: u32,
+    session: u32,
+    at: u64,
+    ask: &Ask,
+    outcome: Outcome,
+) -> Once<D::Mark>
+    requires known { lb < length (D.state desk.old).sizes }
+    requires caller { IfSome (D.state desk.old).caller (λ n. session ≡ n) }
+    requires bytes { outcome.bytes ≤ 2 ^ 44 }
+    ensures held { (D.state desk.new).held ≡ (D.state desk.old).held }
+    ensures ends { Ends (D.state desk.old) (D.state desk.new) lb ask.now outcome result }
+    ensures added { GainsAsMany (D.state desk.old) (D.state desk.new) }
+    ensures kept { KeepsDesk (D.state desk.old) (D.state desk.new) }
+{
+    match desk.choose(lb, session, at, ask) {
+        Ok(Choice::Chosen { member, lease }) => {
+            match desk.hand_back(session, at, lease, outcome) {
+                Ok(()) => Once::Returned { member },
+                Err(stray) => Once::Stray(stray),
+            }
+        }
+        Ok(Choice::NoMember | Choice::Forced) => Once::Unchosen,
+        Err(error) => Once::Refused(error),
+    }
+}
+
+/// Does a command and looks at its balancer.
+pub fn change_and_look<D: Desk>(
+    desk: &mut D,
+    lb: u32,
+    session: u32,
+    at: u64,
+    command: &Command,
+) -> Result<D::Shown, AdminError<D::Mark>>
+    requires known { lb < length (D.state desk.old).sizes }
+    requires caller { IfSome (D.state desk.old).caller (λ n. session ≡ n) }
+    ensures page { IfOk result (λ shown. Commands (D.state desk.old) (D.state desk.new) lb session at command.now
+        × Shows (D.state desk.new) lb (D.view shown)) }
+    ensures held { (D.state desk.new).held ≡ (D.state desk.old).held }
+    ensures added { GainsAsMany (D.state desk.old) (D.state desk.new) }
+    ensures kept { KeepsDesk (D.state desk.old) (D.state desk.new) }
+{
+    desk.command(lb, session, at, command)?;
+    Ok(desk.look(lb)?)
+}

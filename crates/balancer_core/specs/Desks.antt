@@ -1,0 +1,188 @@
+-- What is told of a desk, and what its calls do with it.
+use Rattle.std.specs.Prelude.{◌≡◌, ℕ, ◌+◌, ◌<◌, ◌≤◌, ◌==◌, ◌&&◌, Bool, false, not, List, [], ◌∷◌, ◌++◌, length, map, Option, Some, None, IfSome, slice_get, slice_index, slice_set, if◌then◌else◌}
+use Rattle.std.specs.List.{All, list_any}
+use Rattle.jk_io.specs.Told.{Rose}
+use Rattle.jk_model.specs.Free.{is_in}
+use Rattle.jk_model.specs.Legal.{HasValues}
+use Rattle.jk_model.specs.Present.{IsPresent}
+use Rattle.jk_model.specs.declared.ask.Ask.{Ask}
+use Rattle.jk_model.specs.declared.change.Command.{Command}
+use Rattle.jk_model.specs.declared.journal.Answer.TheVariants as answer
+use Rattle.jk_model.specs.declared.journal.Call.TheVariants as call
+use Rattle.jk_model.specs.declared.journal.Entry.{Entry}
+use Rattle.jk_model.specs.declared.journal.How.{How}
+use Rattle.jk_model.specs.declared.journal.Outcome.{Outcome}
+use Rattle.jk_model.specs.declared.refusal.AdminError.{AdminError}
+use Rattle.jk_model.specs.declared.refusal.AdminError.TheVariants as admin
+use Rattle.jk_model.specs.declared.refusal.RoomError.{RoomError}
+use Rattle.jk_model.specs.declared.refusal.RoomError.TheVariants as room
+use Rattle.jk_model.specs.declared.refusal.Stray.{Stray}
+use Rattle.jk_model.specs.declared.view.View.{View}
+use Rattle.balancer_core.specs.Commanded.{IsKnown}
+use Rattle.balancer_core.specs.Journal.{Journal, past_of}
+use Rattle.balancer_core.specs.declared.desk.Choice.{Choice}
+use Rattle.balancer_core.specs.declared.desk.Choice.TheVariants as choice
+use Rattle.balancer_core.specs.declared.receipt.Receipt.{Receipt}
+
+-- A desk: the receipts of its calls, the tickets that it holds, how many entries it ever added, the number of its
+-- caller where that is fixed, the number of members of each balancer, the parts of its share where it has one, how
+-- often a ticket was a stray, a journal was full and a command too wide, and its Books where it tells them.
+pub record DeskState : Type 0 where
+  pub receipts : List Receipt
+  pub held : List (ℕ × ℕ)
+  pub added : ℕ
+  pub caller : Option ℕ
+  pub sizes : List ℕ
+  pub parts : Option ℕ
+  pub strays : ℕ
+  pub fulls : ℕ
+  pub wides : ℕ
+  pub books : Option (List Journal)
+
+-- What a lease names.
+pub record LeaseNote : Type 0 where
+  pub lb : ℕ
+  pub member : ℕ
+  pub ticket : ℕ
+
+-- A lease's pair among the tickets held.
+abbrev pub pair_of : LeaseNote → ℕ × ℕ
+pair_of note = (note.lb, note.ticket)
+
+abbrev pub is_pair : ℕ × ℕ → ℕ × ℕ → Bool
+is_pair a b = (a.0 == b.0) && (a.1 == b.1)
+
+abbrev pub holds : List (ℕ × ℕ) → ℕ × ℕ → Bool
+holds held pair = list_any (is_pair pair) held
+
+-- The pairs without the last one that is this.
+abbrev pub without_last : List (ℕ × ℕ) → ℕ × ℕ → List (ℕ × ℕ)
+without_last [] pair = []
+without_last (x ∷ xs) pair = (if is_pair pair x && not (holds xs pair) then xs else x ∷ without_last xs pair)
+
+-- The receipt is one of a call of this session at this moment, on this balancer.
+pub record IsOwn (lb session at : ℕ) (r : Receipt) : Type 0 where
+  pub balancer : r.lb ≡ lb
+  pub given : r.given ≡ at
+  pub caller : r.entry.session ≡ session
+
+-- The Book with the entries of these receipts at its end.
+abbrev pub grown_by : Journal → List Receipt → Journal
+grown_by b gained = record b {
+  entries = b.entries ++ map (λ r. r.entry) gained;
+  added = b.added + length gained;
+}
+
+-- The entries of the receipts were added to the journal of that balancer, and to no other.
+abbrev pub BooksGrow : (lb : ℕ) → List Receipt → Option (List Journal) → Option (List Journal) → Type 0
+BooksGrow lb gained None now = now ≡ None
+BooksGrow lb gained (Some books) now =
+    (b : Journal) → slice_get books lb ≡ Some b → now ≡ Some (slice_set books lb (grown_by b gained))
+
+-- What never changes, and the counts that never fall.
+pub record KeepsDesk (old new : DeskState) : Type 0 where
+  pub caller : new.caller ≡ old.caller
+  pub sizes : new.sizes ≡ old.sizes
+  pub parts : new.parts ≡ old.parts
+  pub strays : old.strays ≤ new.strays
+  pub fulls : old.fulls ≤ new.fulls
+  pub wides : old.wides ≤ new.wides
+
+-- The call of a session at a moment on a balancer added just the entries of these receipts.
+pub record Gains (old new : DeskState) (lb session at : ℕ) (gained : List Receipt) : Type 0 where
+  pub receipts : new.receipts ≡ old.receipts ++ gained
+  pub own : All (IsOwn lb session at) gained
+  pub added : new.added ≡ old.added + length gained
+  pub books : BooksGrow lb gained old.books new.books
+
+-- At most one receipt, of a Maintain.
+abbrev pub IsDue : List Receipt → Type 0
+IsDue [] = Unit {0}
+IsDue (r ∷ []) = r.entry.call ≡ call.Maintain
+IsDue (r ∷ s ∷ rest) = ⊥
+
+-- A Maintain where it was due, and nothing else.
+pub record GainsDue (old new : DeskState) (lb session at : ℕ) : Type 0 where
+  pub due : List Receipt
+  pub is_due : IsDue due
+  pub gains : Gains old new lb session at due
+
+-- A Maintain where it was due, and then the entry of this receipt.
+pub record GainsLast (old new : DeskState) (lb session at : ℕ) (last : Receipt) : Type 0 where
+  pub due : List Receipt
+  pub is_due : IsDue due
+  pub gains : Gains old new lb session at (due ++ last ∷ [])
+
+-- The desk chose as the entry says; a member that was tried is chosen by none.
+abbrev pub IsChoice : {T : Type 0} → (T → LeaseNote) → DeskState → DeskState → (lb : ℕ) → Ask → Entry → Choice T → Type 0
+IsChoice note old new lb ask e (choice.Chosen m lease) =
+    (how : How) × (probe : Bool) × (e.answer ≡ answer.Chosen m e.seq how probe)
+    × (note lease ≡ record { lb = lb; member = m; ticket = e.seq })
+    × (new.held ≡ old.held ++ (lb, e.seq) ∷ [])
+    × (m < slice_index old.sizes lb) × (is_in ask.tried m ≡ false)
+IsChoice note old new lb ask e choice.NoMember = (e.answer ≡ answer.NoMember) × (new.held ≡ old.held)
+IsChoice note old new lb ask e choice.Forced = (e.answer ≡ answer.Forced) × (new.held ≡ old.held)
+
+-- The select's entry is the last one that was added, and its ask is this one.
+pub record Chooses {T : Type 0} (note : T → LeaseNote) (old new : DeskState) (lb session at : ℕ) (ask : Ask) (c : Choice T) : Type 0 where
+  pub last : Receipt
+  pub gains : GainsLast old new lb session at last
+  pub asked : last.entry.call ≡ call.Select ask
+  pub answered : IsChoice note old new lb ask last.entry c
+  pub full : new.fulls ≡ old.fulls
+  pub stray : new.strays ≡ old.strays
+  pub wide : new.wides ≡ old.wides
+
+-- A select was refused: no ticket is held more, and Full comes only where the count of fulls rose.
+pub record RefusesChoice {M : Type 0} (old new : DeskState) (lb session at : ℕ) (error : RoomError M) : Type 0 where
+  pub gains : GainsDue old new lb session at
+  pub held : new.held ≡ old.held
+  pub full : (mark : M) → error ≡ room.Full mark → Rose old.fulls new.fulls
+  pub wanted : error ≡ room.NoMemory → new.fulls ≡ old.fulls
+  pub stray : new.strays ≡ old.strays
+  pub wide : new.wides ≡ old.wides
+
+-- The ticket of the lease came back: its Return is the one new entry, and its pair is held no more.
+pub record TakesBack (old new : DeskState) (session at : ℕ) (lease : LeaseNote) (outcome : Outcome) : Type 0 where
+  pub last : Receipt
+  pub gains : Gains old new lease.lb session at (last ∷ [])
+  pub returned : last.entry.call ≡ call.Return lease.ticket outcome
+  pub stray : new.strays ≡ old.strays
+
+-- The ticket of the lease was none that is out: nothing was added.
+pub record MeetsStray (old new : DeskState) (lease : LeaseNote) (stray : Stray) : Type 0 where
+  pub ticket : stray.ticket ≡ lease.ticket
+  pub receipts : new.receipts ≡ old.receipts
+  pub added : new.added ≡ old.added
+  pub books : new.books ≡ old.books
+  pub rose : Rose old.strays new.strays
+
+-- The command was done: its entry is the last one that was added.
+pub record Commands (old new : DeskState) (lb session at : ℕ) (command : Command) : Type 0 where
+  pub last : Receipt
+  pub gains : GainsLast old new lb session at last
+  pub commanded : last.entry.call ≡ call.Admin command
+  pub named : IsKnown (slice_index old.sizes lb) command
+  pub values : HasValues command
+  pub full : new.fulls ≡ old.fulls
+  pub wide : new.wides ≡ old.wides
+
+-- The causes of a command's refusal. Full may be that of the Maintain that was due, whatever the command is.
+abbrev pub IsRefusal : {M : Type 0} → (size : ℕ) → DeskState → DeskState → Command → AdminError M → Type 0
+IsRefusal size old new command admin.UnknownMember = (IsKnown size command → ⊥) × (new.fulls ≡ old.fulls) × (new.wides ≡ old.wides)
+IsRefusal size old new command admin.BadValue =
+    IsKnown size command × (HasValues command → ⊥) × (new.fulls ≡ old.fulls) × (new.wides ≡ old.wides)
+IsRefusal size old new command (admin.TooWide mark) =
+    IsKnown size command × HasValues command × (new.fulls ≡ old.fulls) × Rose old.wides new.wides
+IsRefusal size old new command (admin.Full mark) = Rose old.fulls new.fulls × (new.wides ≡ old.wides)
+IsRefusal size old new command admin.NoMemory = (new.fulls ≡ old.fulls) × (new.wides ≡ old.wides)
+
+pub record RefusesCommand {M : Type 0} (old new : DeskState) (lb session at : ℕ) (command : Command) (error : AdminError M) : Type 0 where
+  pub gains : GainsDue old new lb session at
+  pub cause : IsRefusal (slice_index old.sizes lb) old new command error
+
+-- The view is one of balancer lb: it has its members, and where the Books are told it is the present one.
+pub record Shows (desk : DeskState) (lb : ℕ) (view : View) : Type 0 where
+  pub rows : length view.rows ≡ slice_index desk.sizes lb
+  pub present : IfSome desk.books (λ books. (b : Journal) → slice_get books lb ≡ Some b
+      → IsPresent b.rules b.opening (past_of b) view)

@@ -1,0 +1,123 @@
+-- What a desk of one thread keeps, and what one hold of a Book adds to it.
+use Rattle.std.specs.Prelude.{◌≡◌, ℕ, ◌+◌, ◌<◌, ◌≤◌, false, true, List, [], ◌∷◌, ◌++◌, length, map, Option, Some, None, slice_get, slice_index, Result, Ok, Err}
+use Rattle.std.specs.List.{All}
+use Rattle.jk_io.specs.Told.{Rose}
+use Rattle.jk_model.specs.Free.{is_in}
+use Rattle.jk_model.specs.Journal.{members}
+use Rattle.jk_model.specs.Tickets.{is_out}
+use Rattle.jk_model.specs.declared.ask.Ask.{Ask}
+use Rattle.jk_model.specs.Legal.{HasValues}
+use Rattle.jk_model.specs.declared.change.Command.{Command}
+use Rattle.jk_model.specs.declared.journal.Answer.{Answer}
+use Rattle.jk_model.specs.declared.journal.Answer.TheVariants as answer
+use Rattle.jk_model.specs.declared.refusal.AdminError.{AdminError}
+use Rattle.jk_model.specs.declared.refusal.AdminError.TheVariants as admin
+use Rattle.jk_model.specs.declared.refusal.FullMark.{FullMark}
+use Rattle.jk_model.specs.declared.refusal.RoomError.{RoomError}
+use Rattle.jk_model.specs.declared.refusal.RoomError.TheVariants as room
+use Rattle.balancer_core.specs.Commanded.{IsKnown}
+use Rattle.balancer_core.specs.Desks.{DeskState, IsDue, IsOwn, grown_by, holds}
+use Rattle.balancer_core.specs.Journal.{Journal, past_of}
+use Rattle.balancer_core.specs.declared.receipt.Receipt.{Receipt}
+
+-- The numbers of members of these Books.
+abbrev pub sizes_of : List Journal → List ℕ
+sizes_of books = map (λ b. members b.opening) books
+
+-- Each Book has rules 2.
+abbrev pub AreModern : List Journal → Type 0
+AreModern books = (lb : ℕ) (b : Journal) → slice_get books lb ≡ Some b → b.rules ≡ 2
+
+-- The pair's ticket is out in its Book.
+pub record IsOutAt (books : List Journal) (pair : ℕ × ℕ) : Type 0 where
+  pub book : Journal
+  pub found : slice_get books pair.0 ≡ Some book
+  pub is_out : is_out book.opening (past_of book) pair.1 ≡ true
+
+-- Each pair's ticket is out, and no pair is held twice.
+abbrev pub AreHeld : List Journal → List (ℕ × ℕ) → Type 0
+AreHeld books [] = Unit {0}
+AreHeld books (x ∷ xs) = IsOutAt books x × (holds xs x ≡ false) × AreHeld books xs
+
+-- The fields of a desk: it has the room for the receipts of the Returns to come.
+pub record IsPlain (books : List Journal) (receipts : List Receipt) (held : List (ℕ × ℕ)) (room : ℕ) : Type 0 where
+  pub modern : AreModern books
+  pub held_out : AreHeld books held
+  pub roomy : length receipts + length held ≤ room
+
+-- What is told of a desk that has its Books to itself.
+abbrev pub plain_state : List Journal → List Receipt → List (ℕ × ℕ) → (strays fulls wides : ℕ) → DeskState
+plain_state books receipts held strays fulls wides = record {
+  receipts = receipts;
+  held = held;
+  added = length receipts;
+  caller = None;
+  sizes = sizes_of books;
+  parts = None;
+  strays = strays;
+  fulls = fulls;
+  wides = wides;
+  books = Some books;
+}
+
+-- A hold of one Book added the entries of these receipts. No ticket that is out was returned by it.
+pub record BookGains (old new : Journal) (before now : List Receipt) (lb session at : ℕ) (gained : List Receipt) : Type 0 where
+  pub receipts : now ≡ before ++ gained
+  pub own : All (IsOwn lb session at) gained
+  pub grown : new ≡ grown_by old gained
+  pub stay : (t : ℕ) → is_out old.opening (past_of old) t ≡ true → is_out new.opening (past_of new) t ≡ true
+
+-- It added a Maintain where one was due.
+pub record BookGainsDue (old new : Journal) (before now : List Receipt) (lb session at : ℕ) : Type 0 where
+  pub due : List Receipt
+  pub is_due : IsDue due
+  pub gains : BookGains old new before now lb session at due
+
+-- And then the entry of this receipt.
+pub record BookGainsLast (old new : Journal) (before now : List Receipt) (lb session at : ℕ) (last : Receipt) : Type 0 where
+  pub due : List Receipt
+  pub is_due : IsDue due
+  pub gains : BookGains old new before now lb session at (due ++ last ∷ [])
+
+-- A chosen member exists and wasn't tried, and its ticket, the entry's number, was not out before and is out now.
+pub record IsNewTicket (old new : Journal) (ask : Ask) (m seq : ℕ) : Type 0 where
+  pub member : m < members old.opening
+  pub untried : is_in ask.tried m ≡ false
+  pub before : is_out old.opening (past_of old) seq ≡ false
+  pub after : is_out new.opening (past_of new) seq ≡ true
+
+-- What a Select's answer means for the tickets.
+abbrev pub Picks : (old new : Journal) → Ask → (seq : ℕ) → Answer → Type 0
+Picks old new ask seq (answer.Chosen m t how probe) = (t ≡ seq) × IsNewTicket old new ask m seq
+Picks old new ask seq answer.NoMember = Unit {0}
+Picks old new ask seq answer.Forced = Unit {0}
+Picks old new ask seq answer.Done = ⊥
+
+-- What the sizes and the command decide. Full may be that of the Maintain before it.
+abbrev pub Judges : {T M : Type 0} → (n : ℕ) → Command → Result T (AdminError M) → Type 0
+Judges n c (Ok done) = IsKnown n c × HasValues c
+Judges n c (Err admin.UnknownMember) = IsKnown n c → ⊥
+Judges n c (Err admin.BadValue) = IsKnown n c × (HasValues c → ⊥)
+Judges n c (Err (admin.TooWide mark)) = IsKnown n c × HasValues c
+Judges n c (Err (admin.Full mark)) = Unit {0}
+Judges n c (Err admin.NoMemory) = Unit {0}
+
+-- A count that rose by one, or stood at its last value.
+pub record Counts (before now : ℕ) : Type 0 where
+  pub rose : Rose before now
+  pub no_fewer : before ≤ now
+
+-- Just a Full is counted.
+abbrev pub CountsFull : {T : Type 0} → (before now : ℕ) → Result T (RoomError FullMark) → Type 0
+CountsFull before now (Ok done) = now ≡ before
+CountsFull before now (Err (room.Full mark)) = Counts before now
+CountsFull before now (Err room.NoMemory) = now ≡ before
+
+-- Just a Full and a TooWide are counted, each by its own count.
+abbrev pub CountsRefusal : {T : Type 0} → (fulls fulls' wides wides' : ℕ) → Result T (AdminError FullMark) → Type 0
+CountsRefusal fulls fulls' wides wides' (Ok done) = (fulls' ≡ fulls) × (wides' ≡ wides)
+CountsRefusal fulls fulls' wides wides' (Err admin.UnknownMember) = (fulls' ≡ fulls) × (wides' ≡ wides)
+CountsRefusal fulls fulls' wides wides' (Err admin.BadValue) = (fulls' ≡ fulls) × (wides' ≡ wides)
+CountsRefusal fulls fulls' wides wides' (Err (admin.TooWide mark)) = (fulls' ≡ fulls) × Counts wides wides'
+CountsRefusal fulls fulls' wides wides' (Err (admin.Full mark)) = Counts fulls fulls' × (wides' ≡ wides)
+CountsRefusal fulls fulls' wides wides' (Err admin.NoMemory) = (fulls' ≡ fulls) × (wides' ≡ wides)

@@ -1,0 +1,115 @@
+//! A desk: what a session asks for members, and hands leases back to.
+ghost use Rattle.std.specs.Prelude.{◌≡◌, ◌≤◌, ◌<◌, ◌^◌, true, false, length, Some, IfSome, IfOk, IfErr, OnErr};
+ghost use Rattle.jk_model.specs.declared.view.View.{View};
+
+use jk_io::NoMemory;
+use jk_model::{AdminError, Ask, Command, Outcome, RoomError, Stray, View};
+
+/// What a desk answered to an ask. A lease must be spent.
+#[derive(Debug, PartialEq, Eq)]
+pub enum Choice<E> {
+    /// This member, for as long as the lease isn't handed back.
+    Chosen { member: u32, lease: E },
+    /// No member may be chosen.
+    NoMember,
+    /// The session's member doesn't serve, and the balancer forces sessions to stay.
+    Forced,
+}
+
+/// Balancers that a caller asks, over one thread as over a lock. A balancer is named by its place `lb`.
+pub trait Desk {
+    ghost use Rattle.std.specs.Prelude.{◌≡◌, ◌≤◌, ◌<◌, ◌^◌, true, length, IfSome, IfOk, IfErr, OnErr};
+    ghost use Rattle.balancer_core.specs.Desks.{
+      Chooses,
+      Commands,
+      DeskState,
+      KeepsDesk,
+      LeaseNote,
+      MeetsStray,
+      RefusesChoice,
+      RefusesCommand,
+      Shows,
+      TakesBack,
+      holds,
+      pair_of,
+      without_last,
+    };
+    ghost use Rattle.jk_model.specs.declared.refusal.FullMark.{FullMark};
+    ghost use Rattle.jk_model.specs.declared.view.View.{View};
+
+    /// A ticket that is out. Only `choose` makes one, and only `hand_back` spends one.
+    type Lease;
+
+    /// The numbers of a Book that refused.
+    type Mark;
+
+    /// A balancer as it was looked at.
+    type Shown;
+
+    // the receipts, the tickets held and all that is told beside them
+    ghost state: { Self → DeskState };
+
+    ghost note: { Self.Lease → LeaseNote };
+
+    ghost numbers: { Self.Mark → FullMark };
+
+    ghost view: { Self.Shown → View };
+
+    /// Asks for a member, after a Maintain where one is due.
+    fn choose(
+        &mut self,
+        lb: u32,
+        session: u32,
+        at: u64,
+        ask: &Ask,
+    ) -> Result<Choice<Self::Lease>, RoomError<Self::Mark>>
+        requires known { lb < length (state self.old).sizes }
+        requires caller { IfSome (state self.old).caller (λ n. session ≡ n) }
+        ensures ok { IfOk result (λ c. Chooses note (state self.old) (state self.new) lb session at ask.now c) }
+        ensures err { IfErr result (λ e. RefusesChoice (state self.old) (state self.new) lb session at e) }
+        ensures kept { KeepsDesk (state self.old) (state self.new) };
+
+    /// Hands a lease back, with how its exchange ended. The lease is spent also where its ticket is a stray. It takes
+    /// no memory.
+    fn hand_back(
+        &mut self,
+        session: u32,
+        at: u64,
+        lease: Self::Lease,
+        outcome: Outcome,
+    ) -> Result<(), Stray>
+        requires caller { IfSome (state self.old).caller (λ n. session ≡ n) }
+        requires held { holds (state self.old).held (pair_of (note lease)) ≡ true }
+        requires bytes { outcome.bytes ≤ 2 ^ 44 }
+        ensures ok { IfOk result (λ _. TakesBack (state self.old) (state self.new) session at (note lease) outcome) }
+        ensures err { IfErr result (λ stray. MeetsStray (state self.old) (state self.new) (note lease) stray) }
+        ensures held { (state self.new).held ≡ without_last (state self.old).held (pair_of (note lease)) }
+        ensures same { ((state self.new).fulls ≡ (state self.old).fulls) × ((state self.new).wides ≡ (state self.old).wides) }
+        ensures kept { KeepsDesk (state self.old) (state self.new) };
+
+    /// Does a command, after a Maintain where one is due.
+    fn command(
+        &mut self,
+        lb: u32,
+        session: u32,
+        at: u64,
+        command: &Command,
+    ) -> Result<(), AdminError<Self::Mark>>
+        requires known { lb < length (state self.old).sizes }
+        requires caller { IfSome (state self.old).caller (λ n. session ≡ n) }
+        ensures ok { IfOk result (λ _. Commands (state self.old) (state self.new) lb session at command.now) }
+        ensures err { IfErr result (λ e. RefusesCommand (state self.old) (state self.new) lb session at command.now e) }
+        ensures held { (state self.new).held ≡ (state self.old).held }
+        ensures stray { (state self.new).strays ≡ (state self.old).strays }
+        ensures kept { KeepsDesk (state self.old) (state self.new) };
+
+    /// Looks at a balancer. Nothing of what is told changes.
+    fn look(&mut self, lb: u32) -> Result<Self::Shown, NoMemory>
+        requires known { lb < length (state self.old).sizes }
+        ensures shown { IfOk result (λ shown. Shows (state self.old) lb (view shown)) }
+        ensures same { state self.new ≡ state self.old };
+
+    /// The view that a look gave.
+    fn shown(shown: &Self::Shown) -> &View
+        ensures { result.now ≡ view shown.now };
+}

@@ -1,0 +1,94 @@
+//! One hold of a Book: a Maintain where one is due, and then a call, each entry with its receipt.
+ghost use Rattle.std.specs.Prelude.{◌≡◌, ◌+◌, ◌≤◌, ◌<◌, ◌∷◌, [], ◌++◌, length, vec_len, vec_capacity, IfOk, IfErr, OnOk, OnErr};
+ghost use Rattle.jk_model.specs.Journal.{members};
+ghost use Rattle.jk_model.specs.declared.journal.Call.{Call};
+ghost use Rattle.balancer_core.specs.Leases.{IsLeaseOf};
+ghost use Rattle.balancer_core.specs.Journal.{tickets_out};
+ghost use Rattle.balancer_core.specs.Refused.{IsCommandRoom, IsNoRoom, IsSelectRoom};
+ghost use Rattle.balancer_core.specs.PlainDesks.{BookGainsDue, BookGainsLast, Judges, Picks};
+
+use crate::book::{Book, Picked};
+use crate::receipt::Receipt;
+use jk_model::{AdminError, Ask, Command, Entry, FullMark, RoomError};
+
+/// Adds the receipt of an entry.
+pub(crate) fn note(receipts: &mut Vec<Receipt>, lb: u32, given: u64, entry: Entry)
+    requires { vec_len receipts.old < vec_capacity receipts.old }
+    ensures added { receipts.new.items ≡ receipts.old.items ++ record { lb = lb; given = given; entry = entry } ∷ [] }
+    ensures room { vec_capacity receipts.old ≤ vec_capacity receipts.new }
+{
+    receipts.push(Receipt { lb, given, entry }).unwrap();
+}
+
+/// Does a Maintain where one is due.
+pub(crate) fn maintain_first(
+    book: &mut Book,
+    receipts: &mut Vec<Receipt>,
+    lb: u32,
+    session: u32,
+    at: u64,
+) -> Result<(), RoomError<FullMark>>
+    requires { vec_len receipts.old < vec_capacity receipts.old }
+    ensures due { BookGainsDue book.old book.new receipts.old.items receipts.new.items lb session at }
+    ensures out { tickets_out book.new ≡ tickets_out book.old }
+    ensures full { IfErr result (IsNoRoom 1 book.new) }
+    ensures room { vec_capacity receipts.old ≤ vec_capacity receipts.new }
+{
+    if let Some(entry) = book.maintain_if_due(session, at)? {
+        note(receipts, lb, at, entry);
+    }
+    Ok(())
+}
+
+/// Does a Maintain where one is due, and then a Select.
+pub(crate) fn select_after(
+    book: &mut Book,
+    receipts: &mut Vec<Receipt>,
+    lb: u32,
+    session: u32,
+    at: u64,
+    ask: &Ask,
+) -> Result<Picked, RoomError<FullMark>>
+    requires modern { book.old.rules ≡ 2 }
+    requires room { vec_len receipts.old + 2 ≤ vec_capacity receipts.old }
+    ensures ok { IfOk result (λ picked. BookGainsLast book.old book.new receipts.old.items receipts.new.items lb session at
+        (record { lb = lb; given = at; entry = picked.entry })) }
+    ensures asked { IfOk result (λ picked. picked.entry.call ≡ Call.Select ask.now) }
+    ensures lease { IfOk result (λ picked. IsLeaseOf picked.entry.answer picked.lease) }
+    ensures picks { IfOk result (λ picked. Picks book.old book.new ask.now picked.entry.seq picked.entry.answer) }
+    ensures err { OnErr result (BookGainsDue book.old book.new receipts.old.items receipts.new.items lb session at) }
+    ensures full { IsSelectRoom book.old book.new result }
+    ensures room { vec_capacity receipts.old ≤ vec_capacity receipts.new }
+{
+    maintain_first(book, receipts, lb, session, at)?;
+    let picked = book.select(session, at, ask)?;
+    note(receipts, lb, at, picked.entry);
+    Ok(picked)
+}
+
+/// Does a Maintain where one is due, and then a command.
+pub(crate) fn command_after(
+    book: &mut Book,
+    receipts: &mut Vec<Receipt>,
+    lb: u32,
+    session: u32,
+    at: u64,
+    command: &Command,
+) -> Result<(), AdminError<FullMark>>
+    requires room { vec_len receipts.old + 2 ≤ vec_capacity receipts.old }
+    ensures ok { OnOk result ((e : Entry) × (e.call ≡ Call.Admin command.now)
+        × BookGainsLast book.old book.new receipts.old.items receipts.new.items lb session at (record { lb = lb; given = at; entry = e })) }
+    ensures judged { Judges (members book.old.opening) command.now result }
+    ensures err { OnErr result (BookGainsDue book.old book.new receipts.old.items receipts.new.items lb session at) }
+    ensures full { IsCommandRoom book.old book.new command.now result }
+    ensures room { vec_capacity receipts.old ≤ vec_capacity receipts.new }
+{
+    match maintain_first(book, receipts, lb, session, at) {
+        Ok(()) => {}
+        Err(RoomError::Full(mark)) => return Err(AdminError::Full(mark)),
+        Err(RoomError::NoMemory) => return Err(AdminError::NoMemory),
+    }
+    let entry = book.admin(session, at, command)?;
+    note(receipts, lb, at, entry);
+    Ok(())
+}
