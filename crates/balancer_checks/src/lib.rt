@@ -1,13 +1,18 @@
-//! What stands beside the balancer: callers that are proved from the trait of a desk alone.
+//! What stands beside the balancer: callers of a desk and of a Book that are proved from their clauses alone.
 //!
-//! A caller here is generic over the desk. So its contract, which says that tickets are held as before and which
-//! entries were added, shows that the clauses of the trait suffice for the crates above.
+//! A caller in callers.rt is generic over the desk. So its contract, which says that tickets are held as before and
+//! which entries were added, shows that the clauses of the trait suffice for the crates above. One in lawful.rt cites
+//! the laws of jk_model for what a call of a Book returned, so each law's premises are met by every Book.
 //! Contract: `one_exchange`, clauses `held` and `ends`; `change_and_look`, clause `page`; of both `added` and `kept`.
-//! Errors: those of the trait.
+//! Errors: those of the trait and of a Book.
 #![tactic(auto)]
 
 mod callers;
+mod lawful;
 #[cfg(test)]
 mod tests;
 
 pub use callers::{Once, change_and_look, one_exchange};
+pub use lawful::{
+    cite_bounds, maintain_lawfully, reset_lawfully, return_lawfully, select_lawfully,
+};

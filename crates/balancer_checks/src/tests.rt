@@ -57,12 +57,7 @@ fn desk_from(alloc: Global, first: u64) -> Result<PlainDesk, Fail>
 }
 
 // An exchange at a moment ends so.
-fn ends(
-    rt: &impl Abort,
-    desk: &mut PlainDesk,
-    at: u64,
-    want: Once<FullMark>,
-) -> Result<(), Fail>
+fn ends(rt: &impl Abort, desk: &mut PlainDesk, at: u64, want: Once<FullMark>) -> Result<(), Fail>
     requires one { length desk.old.sizes ≡ 1 }
     requires anyone { desk.old.caller ≡ None }
     ensures one { length desk.new.sizes ≡ 1 }

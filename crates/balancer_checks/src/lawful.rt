@@ -1,0 +1,121 @@
+//! Callers that meet the premises of each law of the balancer's definitions, over every Book of rules 2.
+//!
+//! Each takes the segment of a Book before a call, does the call, and cites the laws of what it saw. That they are
+//! proved shows that no premise of a law is one that no history meets.
+ghost use Rattle.std.specs.Prelude.{◌≡◌, ◌≤◌, ◌<◌, ◌∷◌, ◌^◌, reverse, IfOk};
+ghost use Rattle.jk_model.specs.Choice.{IsPick};
+ghost use Rattle.jk_model.specs.Legal.{IsLegalPast};
+ghost use Rattle.jk_model.specs.declared.journal.Call.{Call};
+
+#[cfg(test)]
+mod tests;
+
+use balancer_core::{Book, Picked};
+use jk_io::NoMemory;
+use jk_model::laws::{
+    choice_is_good, epoch_adds_up, history_is_bounded, maintenance_halves, state_is_the_last_touch,
+    ticket_begins, ticket_ends,
+};
+use jk_model::{
+    AdminError, Answer, Ask, Command, Entry, FullMark, Method, Outcome, RoomError, Segment, Stray,
+};
+
+/// Selects. A choice is a good one, and begins its ticket.
+pub fn select_lawfully(book: &mut Book, at: u64, ask: &Ask) -> Result<Picked, RoomError<FullMark>>
+    requires { book.old.rules ≡ 2 }
+    ensures rules { book.new.rules ≡ 2 }
+{
+    let before = book.segment()?;
+    let picked = book.select(0, at, ask)?;
+    cite_choice(&before, ask, &picked.entry);
+    Ok(picked)
+}
+
+fn cite_choice(before: &Segment, ask: &Ask, entry: &Entry)
+    requires pick { IsPick before.now.rules before.now.opening (reverse before.now.entries) ask.now entry.now.answer }
+    requires legal { IsLegalPast before.now.rules before.now.opening (entry.now ∷ reverse before.now.entries) }
+{
+    let Answer::Chosen {
+        member,
+        ticket,
+        how,
+        probe,
+    } = entry.answer
+    else {
+        return;
+    };
+    let past = before.entries.as_slice();
+    let (rules, opening) = (before.rules, &before.opening);
+    choice_is_good(rules, opening, past, ask, member, ticket, how, probe);
+    ticket_begins(rules, opening, past, entry, member, ticket, how, probe);
+}
+
+/// Returns a ticket, which then is out no longer.
+pub fn return_lawfully(
+    book: &mut Book,
+    at: u64,
+    ticket: u64,
+    outcome: Outcome,
+) -> Result<Result<Entry, Stray>, NoMemory>
+    requires bytes { outcome.bytes ≤ 2 ^ 44 }
+    requires rules { book.old.rules ≡ 2 }
+    ensures rules { book.new.rules ≡ 2 }
+{
+    let before = book.segment()?;
+    let answer = book.return_ticket(0, at, ticket, outcome);
+    if let Ok(entry) = &answer {
+        ticket_ends(
+            &before.opening,
+            before.entries.as_slice(),
+            entry,
+            &[],
+            ticket,
+        );
+    }
+    Ok(answer)
+}
+
+/// Does a Maintain where one is due: it halves the loads, but for Busyness.
+pub fn maintain_lawfully(book: &mut Book, at: u64) -> Result<Option<Entry>, RoomError<FullMark>>
+    requires { book.old.rules ≡ 2 }
+    ensures rules { book.new.rules ≡ 2 }
+{
+    let before = book.segment()?;
+    let done = book.maintain_if_due(0, at)?;
+    if let Some(entry) = &done {
+        cite_maintenance(&before, entry);
+    }
+    Ok(done)
+}
+
+fn cite_maintenance(before: &Segment, entry: &Entry)
+    requires { entry.now.call ≡ Call.Maintain }
+{
+    if before.opening.config.method != Method::Busyness {
+        let past = before.entries.as_slice();
+        maintenance_halves(before.rules, &before.opening, past, entry);
+    }
+}
+
+/// Resets a member, whose state is what this last entry that touches it gives.
+pub fn reset_lawfully(book: &mut Book, at: u64, member: u32) -> Result<Entry, AdminError<FullMark>>
+    requires { book.old.rules ≡ 2 }
+    ensures rules { book.new.rules ≡ 2 }
+{
+    let before = book.segment()?;
+    let entry = book.admin(0, at, &Command::Reset { member })?;
+    let past = before.entries.as_slice();
+    state_is_the_last_touch(before.rules, &before.opening, past, &entry, &[], member);
+    Ok(entry)
+}
+
+/// The bounds and the sums of a Book's history, for each member.
+pub fn cite_bounds(book: &Book) -> Result<(), NoMemory> {
+    let kept = book.segment()?;
+    let past = kept.entries.as_slice();
+    for member in 0..kept.opening.config.members.len() {
+        history_is_bounded(kept.rules, &kept.opening, past, member as u32);
+        epoch_adds_up(kept.rules, &kept.opening, past, member as u32);
+    }
+    Ok(())
+}
