@@ -4,11 +4,11 @@ mod schedules;
 
 ghost use Rattle.std.specs.Prelude.{◌≡◌, ◌≤◌, ◌^◌, IfOk};
 
-use crate::{Book, Picked};
+use crate::{Book, Picked, Segment};
 use jk_io::Bytes;
 use jk_model::{
-    Answer, Ask, FullMark, How, Kind, LbConfig, MemberConfig, MemberList, Method, Outcome,
-    RoomError, Stray,
+    AdminError, Answer, Ask, Command, FullMark, How, Kind, LbConfig, MemberConfig, MemberList,
+    Method, Outcome, RoomError, Stray,
 };
 use schedules::{Given, SCHEDULES, Schedule, Step};
 use std::alloc::Global;
@@ -175,5 +175,44 @@ fn the_last_numbers_are_kept_for_a_ticket_and_its_return(rt: HostRuntime) -> Res
             assert!(rt; false, "there was no number left");
         }
     }
+    Ok(())
+}
+
+#[test]
+fn a_ticket_of_a_cut_journal_comes_back(rt: HostRuntime) -> Result<(), Fail> {
+    let mut book = book_of(rt.alloc(), &SCHEDULES[0], 0)?;
+    ask(&rt, &mut book, &schedules::NEW)?;
+    let handed_out = book.cut()?;
+    assert_eq!(rt; handed_out.entries.len(), 1);
+    assert_eq!(rt; (book.kept(), book.next(), book.added()), (0, 1, 1));
+    assert_eq!(rt; book.return_ticket(0, 0, 0, DONE)?.seq, 1);
+    assert_eq!(rt; book.added(), 2);
+    Ok(())
+}
+
+#[test]
+fn a_book_goes_on_from_an_opening(rt: HostRuntime) -> Result<(), Fail> {
+    let mut book = book_of(rt.alloc(), &SCHEDULES[0], 0)?;
+    ask(&rt, &mut book, &schedules::NEW)?;
+    let _handed_out = book.cut()?;
+    let Segment { opening, .. } = book.segment()?;
+    let valid = opening.is_valid();
+    assert!(rt; valid);
+    let mut resumed = Book::resume(opening, 2)?;
+    assert_eq!(rt; resumed.return_ticket(0, 0, 0, DONE)?.seq, 1);
+    Ok(())
+}
+
+#[test]
+fn no_number_is_left_for_a_maintenance_or_a_command(rt: HostRuntime) -> Result<(), Fail> {
+    let last = 1u64 << 48;
+    let mut book = book_of(rt.alloc(), &SCHEDULES[0], last)?;
+    let mark = FullMark { next: last, out: 0 };
+    assert_eq!(rt; book.maintain_if_due(0, 59), Ok(None));
+    assert_eq!(rt; book.maintain_if_due(0, 60), Err(RoomError::Full(mark)));
+    let reset = Command::Reset { member: 1 };
+    assert_eq!(rt; book.admin(0, 0, &reset), Err(AdminError::Full(mark)));
+    let nobody = Command::Reset { member: 2 };
+    assert_eq!(rt; book.admin(0, 0, &nobody), Err(AdminError::UnknownMember));
     Ok(())
 }
