@@ -23,6 +23,3 @@ pub use laws::{
 };
 pub use message::{Message, ReplyParts};
 pub use names::reply_names;
-
-#[cfg(test)]
-mod tests;

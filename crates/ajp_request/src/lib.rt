@@ -24,6 +24,3 @@ pub use decoding::decode_forward;
 pub use encoding::encode_forward;
 pub use forward::Forward;
 pub use laws::{one_request_a_payload, written_requests_are_read_again};
-
-#[cfg(test)]
-mod tests;

@@ -32,6 +32,3 @@ pub use writing::{
     HEAD_BYTES, MAX_PAYLOAD_BYTES, MAX_STRING_BYTES, body_packet, put_head, put_int, put_string,
     put_text, seal,
 };
-
-#[cfg(test)]
-mod tests;

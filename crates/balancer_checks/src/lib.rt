@@ -10,6 +10,8 @@
 mod callers;
 mod lawful;
 #[cfg(test)]
+mod model;
+#[cfg(test)]
 mod tests;
 
 pub use callers::{Once, change_and_look, one_exchange};

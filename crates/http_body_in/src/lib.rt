@@ -24,6 +24,3 @@ pub use body_laws::{
 };
 pub use fault::BodyFault;
 pub use place::Place;
-
-#[cfg(test)]
-mod tests;

@@ -30,6 +30,3 @@ pub use inbox::{Inbox, MAX_HEAD_BYTES};
 pub use laws::{a_head_is_lines, one_answer};
 pub use path::clean_path;
 pub use reading::read_head;
-
-#[cfg(test)]
-mod tests;

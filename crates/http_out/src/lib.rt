@@ -16,8 +16,6 @@ mod pieces;
 mod reply_head;
 mod reply_laws;
 mod reply_writer;
-#[cfg(test)]
-mod tests;
 
 pub use framing::RequestKind;
 pub use own_answers::own_answer;

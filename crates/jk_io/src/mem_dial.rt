@@ -1,5 +1,5 @@
 //! A dial in memory.
-ghost use Rattle.std.specs.Prelude.{◌≡◌, [], IfOk, IsErr};
+ghost use Rattle.std.specs.Prelude.{◌≡◌, [], IfOk, IsOk, IsErr};
 ghost use Rattle.jk_io.specs.Told.{HasCause};
 ghost use Rattle.jk_io.specs.Memory.{DialledNext};
 
@@ -63,6 +63,7 @@ impl Dial for MemDial {
     fn dial(&mut self, alloc: Global, _host: &Bytes, _port: u16) -> Result<MemLink, IoError>
         ensures next { IfOk result (λ link. DialledNext self.old.links link self.new.links) }
         ensures failed { IsErr result → self.new.links ≡ self.old.links }
+        ensures clean { IsOk result → self.new.faults ≡ self.old.faults }
         ensures cause { HasCause self.old.faults self.new.faults result }
         ensures same { self.new.failing ≡ self.old.failing }
         ensures steady { self.old.failing ≡ [] → self.new.faults ≡ self.old.faults }

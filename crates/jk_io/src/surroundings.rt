@@ -1,5 +1,5 @@
 //! Files, a clock, what dials and what accepts.
-ghost use Rattle.std.specs.Prelude.{◌≡◌, ◌≢◌, ℕ, ◌+◌, ◌<◌, ◌≤◌, List, [], ◌∷◌, Option, Some, None, IfSome, IfNone, IsSomeAnd, IfOk, OnErr, IsErrOf, length};
+ghost use Rattle.std.specs.Prelude.{◌≡◌, ◌≢◌, ℕ, ◌+◌, ◌<◌, ◌≤◌, List, [], ◌∷◌, Option, Some, None, IfSome, IfNone, IsSomeAnd, IfOk, IsOk, OnErr, IsErrOf, length};
 ghost use Rattle.jk_io.specs.Told.{appended, prepended, IsEmpty, Rose, HasCause};
 ghost use Rattle.jk_io.specs.Answers.{Answers};
 ghost use Rattle.jk_io.specs.Stored.{content_of};
@@ -49,6 +49,7 @@ pub trait Dial {
     ghost faults: { Self → ℕ };
 
     fn dial(&mut self, alloc: Global, host: &Bytes, port: u16) -> Result<Self::L, IoError>
+        ensures clean { IsOk result → faults self.new ≡ faults self.old }
         ensures cause { HasCause (faults self.old) (faults self.new) result };
 }
 

@@ -21,8 +21,6 @@ mod refusal;
 mod segment;
 mod served;
 mod state;
-#[cfg(test)]
-mod tests;
 mod validity;
 mod view;
 

@@ -26,6 +26,3 @@ pub use names::{NameList, index_of};
 pub use parts::Parts;
 pub use printed::{Refusal, put_answer, put_refusal, put_rows};
 pub use step::{Step, step_of};
-
-#[cfg(test)]
-mod tests;

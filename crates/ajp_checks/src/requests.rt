@@ -3,7 +3,7 @@
 ghost use Rattle.std.specs.Prelude.{IfOk};
 ghost use Rattle.ajp_request.specs.Writing.{IsForward};
 
-use super::*;
+use ajp_request::{Forward, decode_forward, encode_forward};
 use ajp_wire::{HEAD_BYTES, HeadPairs, MAX_HEADERS};
 use jk_io::{Bytes, NoMemory};
 use std::alloc::Global;

@@ -2,8 +2,8 @@
 ghost use Rattle.std.specs.Prelude.{IfOk, OnOk};
 ghost use Rattle.http_out.specs.Writer.{IsOpen};
 
-use crate::{OutError, ReplyHead, ReplyWriter, own_answer};
 use http_front::HeadLines;
+use http_out::{OutError, ReplyHead, ReplyWriter, own_answer};
 use jk_io::{Bytes, MemLink, NoMemory, NumberList};
 use std::alloc::Global;
 use std::test::Fail;

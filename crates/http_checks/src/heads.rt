@@ -3,7 +3,7 @@ mod heads;
 mod limits;
 mod paths;
 
-use crate::{BodyPlan, Head, HeadError, HeadGot, Inbox, PathError, clean_path, read_head};
+use http_front::{BodyPlan, Head, HeadError, HeadGot, Inbox, PathError, clean_path, read_head};
 use jk_io::{Bytes, MemLink, NumberList};
 use std::alloc::Global;
 use std::test::Fail;

@@ -2,7 +2,7 @@
 ghost use Rattle.std.specs.Prelude.{◌≡◌, ◌<◌, codes};
 ghost use Rattle.http_body_in.specs.Chunked.{ChunkedBody, IsChunkedBody, spelled, data_in};
 
-use crate::{
+use http_body_in::{
     BodyFault, BodyIn, bad_lines_are_what_no_body_has, chunked_bodies_are_read_whole,
     only_chunked_bodies_are_read_whole,
 };

@@ -1,8 +1,8 @@
-use crate::{
+use jk_io::{Bytes, ListOf, NoMemory};
+use jk_model::{
     Activation, ConfigError, FailList, LbConfig, MemberConfig, MemberList, MemberRow, MemberState,
     Method, Opening, RowList, Terms, TicketList, View, halve, lcm_of,
 };
-use jk_io::{Bytes, ListOf, NoMemory};
 use std::alloc::Global;
 use std::process::Abort;
 use std::test::Fail;

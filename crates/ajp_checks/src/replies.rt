@@ -1,6 +1,6 @@
 //! Worked payloads and packets, limits, and each coded name both ways.
 
-use super::*;
+use ajp_reply::{Message, ReplyParts, decode_reply, encode_reply, reply_names};
 use ajp_wire::{EncodeError, HeadPairs, MAX_HEADERS};
 use jk_io::{Bytes, NoMemory};
 use std::alloc::Global;

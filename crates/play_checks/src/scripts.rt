@@ -1,9 +1,11 @@
 //! What no clause says: that the calls succeed, and that lines read as they are meant.
-use crate::*;
 use jk_io::{Bytes, ListOf};
 use jk_model::{
     Activation, Answer, Ask, Call, Change, Command, How, Kind, MemberRow, MemberState, Method,
     Outcome, Redirect,
+};
+use play_script::{
+    NameList, Parts, Refusal, Step, begin, put_answer, put_refusal, put_rows, step_of,
 };
 use std::alloc::Global;
 use std::test::Fail;

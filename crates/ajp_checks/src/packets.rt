@@ -1,6 +1,9 @@
 //! Worked packets each way, reads that end or fail at each place, fields, and limits.
 
-use super::*;
+use ajp_wire::{
+    Refusal, body_packet, code_of, next_headers, put_string, read_packet, seal, take_int,
+    take_string,
+};
 use jk_io::{Bytes, ListOf, MemLink, NumberList};
 use std::alloc::Global;
 use std::test::Fail;
