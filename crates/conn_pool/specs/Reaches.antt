@@ -1,14 +1,87 @@
--- What contracts see of a pooled reach.
-use Rattle.std.specs.Prelude.{ℕ, List, None, Bool}
+-- What contracts see of a pooled reach and of the link of its running talk, and what a read and a write make of them.
+use Rattle.std.specs.Prelude.{◌≡◌, ℕ, List, take, Option, Some, None, IfSome, Bool, true, false, Result, IsOk, IfOk, OnOk, OnErr, IsErrOf, is_some}
+use Rattle.jk_io.specs.Told.{appended, prepended, IsEmpty, HasCause}
+use Rattle.jk_io.specs.declared.failures.IoError.{IoError}
+use Rattle.jk_io.specs.declared.failures.IoError.TheVariants.{Failed}
 use Rattle.jk_io.specs.declared.reaching.Begun.{Begun}
+use Rattle.jk_io.specs.declared.reaching.Beside.{Beside}
+use Rattle.jk_io.specs.declared.reaching.Talk.{Talk}
 
--- its dial and tape, whether a talk runs, the number of members of each balancer, and how many calls failed
+-- what a link tells, and how often a call of it failed
+pub record LinkTold : Type 0 where
+  pub incoming : Option (List ℕ)
+  pub received : Option (List ℕ)
+  pub sent : Option (List ℕ)
+  pub faults : ℕ
+
+abbrev pub told_by : {L : Type 0} → (incoming received sent : L → Option (List ℕ)) (faults : L → ℕ) → L → LinkTold
+told_by incoming received sent faults link = record {
+  incoming = incoming link;
+  received = received link;
+  sent = sent link;
+  faults = faults link;
+}
+
+-- the link of a running talk: whose it is, its count of faults when the talk began, and whether a call of it was
+-- refused in the talk
+pub record LentState : Type 0 where
+  pub lb : ℕ
+  pub member : ℕ
+  pub link : LinkTold
+  pub began : ℕ
+  pub faulty : Bool
+
+-- a reach's dial and tape, the link of the running talk, the link that the last finish handed to a pool, the number of
+-- members of each balancer, and how many calls failed
 pub record PooledState (D T : Type 0) : Type 0 where
   pub dial : D
   pub tape : T
-  pub runs : Bool
+  pub lent : Option LentState
+  pub back : Option LinkTold
   pub sizes : List ℕ
   pub faults : ℕ
+
+-- a read put the next bytes at the front of `buf` and answered how many, 0 at the end; or it was refused and gave none
+pub record ReadsLink (before after : LinkTold) (buf : List ℕ) (result : Result ℕ IoError) : Type 0 where
+  pub gave : IfOk result (λ n. before.incoming ≡ prepended (take n buf) after.incoming)
+  pub got : IfOk result (λ n. after.received ≡ appended before.received (take n buf))
+  pub end : IfOk result (λ n. n ≡ 0 → IsEmpty after.incoming)
+  pub kept_on_error : OnErr result ((after.incoming ≡ before.incoming) × (after.received ≡ before.received))
+  pub same : after.sent ≡ before.sent
+  pub cause : HasCause before.faults after.faults result
+  pub steady : IsOk result → after.faults ≡ before.faults
+
+-- a write took bytes from the front of `piece` and answered how many; or it was refused and took none
+pub record WritesLink (before after : LinkTold) (piece : List ℕ) (result : Result ℕ IoError) : Type 0 where
+  pub put : IfOk result (λ n. after.sent ≡ appended before.sent (take n piece))
+  pub kept_on_error : OnErr result (after.sent ≡ before.sent)
+  pub same : (after.incoming ≡ before.incoming) × (after.received ≡ before.received)
+  pub cause : HasCause before.faults after.faults result
+  pub steady : IsOk result → after.faults ≡ before.faults
+
+-- a call within a talk: the link stays whose it is, and is marked where the call failed
+pub record StaysLent (before after : LentState) (result : Result ℕ IoError) : Type 0 where
+  pub same : after ≡ record before { link = after.link; faulty = after.faulty }
+  pub ok : OnOk result (after.faulty ≡ before.faulty)
+  pub failed : IsErrOf result Failed → after.faulty ≡ true
+  pub marked : before.faulty ≡ true → after.faulty ≡ true
+
+-- at the end of its talk a link goes back to its pool where it is to be kept and none of its calls was refused, and so
+-- only where its count of faults is still that of the talk's begin; else it is closed
+pub record GoesBack (lent : LentState) (keep : Bool) (back : Option LinkTold) : Type 0 where
+  pub kept : keep ≡ true → lent.faulty ≡ false → back ≡ Some lent.link
+  pub closed : keep ≡ false → back ≡ None
+  pub refused : lent.faulty ≡ true → back ≡ None
+  pub sound : IfSome back (λ link. link.faults ≡ lent.began)
+
+-- what no read and no write of a reach changes, with what its tape tells of the running talk and of those that ended
+abbrev pub beside_of : {D T : Type 0} → (T → Option Begun) → (T → Option (List Talk)) → PooledState D T → Beside
+beside_of begun talks reach = record {
+  runs = is_some reach.lent;
+  sizes = reach.sizes;
+  begun = begun reach.tape;
+  talks = talks reach.tape;
+}
 
 -- what a tape is told of a talk; it isn't told what the link had to come
 abbrev pub told_begun : ℕ → ℕ → List ℕ → ℕ → Bool → Bool → Begun

@@ -1,9 +1,11 @@
 //! A reach whose links are dialled, or taken from the pools.
-ghost use Rattle.std.specs.Prelude.{◌≡◌, ◌<◌, ◌≤◌, [], ◌∷◌, true, false, None, Ok, IsOk, IsErr, IsErrOf, IfOk, IfSome, OnOk, OnErr, is_ok, length, take, slice_index};
+ghost use Rattle.std.specs.Prelude.{◌≡◌, ◌<◌, ◌≤◌, [], ◌∷◌, true, false, None, Ok, IsOk, IsErr, IsErrOf, IfOk, IfSome, IsSomeAnd, OnOk, OnErr, is_ok, is_some, length, take, slice_index};
+ghost use Rattle.std.specs.Option.{option_map};
 ghost use Rattle.jk_io.specs.Told.{appended, IsEmpty, Rose, HasCause};
-ghost use Rattle.jk_io.specs.Talks.{failed_talk};
+ghost use Rattle.jk_io.specs.Talks.{failed_talk, IsNoteOf};
+ghost use Rattle.jk_io.specs.declared.reaching.Talk.{Talk};
 ghost use Rattle.conn_pool.specs.Idle.{HasMember, counts};
-ghost use Rattle.conn_pool.specs.Reaches.{told_begun};
+ghost use Rattle.conn_pool.specs.Reaches.{beside_of, told_begun, told_by, GoesBack, ReadsLink, WritesLink, StaysLent};
 
 use crate::keeping::Pools;
 use crate::lent::Lent;
@@ -11,6 +13,7 @@ use crate::tape::Tape;
 use jk_io::{Beside, Bytes, Dial, IoError, Link, Meanings, NoMemory, Reach, Sink, Source};
 use std::alloc::Global;
 use std::marker::Model;
+use std::snapshot::Snapshot;
 use std::sync::Wait;
 
 /// Talks over pooled links. A talk takes an idle link of its member unless a fresh one is asked for, and dials where
@@ -20,21 +23,31 @@ pub struct PooledReach<'p, 'r, D: Dial, T: Tape, R> {
     pools: &'p Pools<'r, D::L, R>,
     dial: D,
     tape: T,
-    running: Option<Lent<D::L>>,
+    lent: Option<Lent<D::L>>,
+    /// The link that the last finish handed to a pool, as it was then.
+    back: Option<Snapshot<D::L>>,
     failed: u64,
 }
 
 impl<'p, 'r, D: Dial, T: Tape, R> Model for PooledReach<'p, 'r, D, T, R> {
-    ghost use Rattle.std.specs.Prelude.{◌<◌, is_some, MatchOption, slice_index};
+    ghost use Rattle.std.specs.Prelude.{◌<◌, MatchOption, slice_index};
+    ghost use Rattle.std.specs.Option.{option_map};
     ghost use Rattle.jk_io.specs.Told.{IsEmpty};
     ghost use Rattle.conn_pool.specs.Idle.{counts};
-    ghost use Rattle.conn_pool.specs.Reaches.{PooledState};
+    ghost use Rattle.conn_pool.specs.Reaches.{PooledState, told_by};
 
     ghost Value = { PooledState D T };
 
-    ghost view = { λ r. record { dial = r.dial; tape = r.tape; runs = is_some r.running; sizes = counts r.pools.now; faults = r.failed } };
+    ghost view = { λ r. record {
+      dial = r.dial;
+      tape = r.tape;
+      lent = r.lent;
+      back = option_map (λ b. told_by D.L.incoming D.L.received D.L.sent D.L.faults b.value) r.back;
+      sizes = counts r.pools.now;
+      faults = r.failed;
+    } };
 
-    ghost invariant = { λ r. MatchOption r.running
+    ghost invariant = { λ r. MatchOption r.lent
         (T.is_idle r.tape × IsEmpty (T.sent r.tape) × IsEmpty (T.received r.tape))
         (λ lent. T.is_running r.tape × (lent.member < slice_index (counts r.pools.now) lent.lb)) };
 }
@@ -43,27 +56,29 @@ impl<'p, 'r, D: Dial, T: Tape, R> PooledReach<'p, 'r, D, T, R> {
     /// A reach over these pools.
     pub fn new(pools: &'p Pools<'r, D::L, R>, dial: D, tape: T) -> PooledReach<'p, 'r, D, T, R>
         requires { T.is_idle tape }
-        ensures { result ≡ record { dial = dial; tape = tape; runs = false; sizes = counts pools.now; faults = 0 } }
+        ensures { result ≡ record { dial = dial; tape = tape; lent = None; back = None; sizes = counts pools.now; faults = 0 } }
     {
         PooledReach {
             pools,
             dial,
             tape,
-            running: None,
+            lent: None,
+            back: None,
             failed: 0,
         }
     }
 
     /// Ends the reach, and gives back its dial and tape.
     pub fn into_parts(self) -> (D, T)
-        requires { self.runs ≡ false }
+        requires { is_some self.lent ≡ false }
         ensures { result ≡ (self.entry.dial, self.entry.tape) }
     {
         let PooledReach {
             pools: _,
             dial,
             tape,
-            running: _,
+            lent: _,
+            back: _,
             failed: _,
         } = self;
         (dial, tape)
@@ -72,6 +87,7 @@ impl<'p, 'r, D: Dial, T: Tape, R> PooledReach<'p, 'r, D, T, R> {
 
 impl<'p, 'r, D: Dial, T: Tape, R> Meanings for PooledReach<'p, 'r, D, T, R> {
     ghost use Rattle.std.specs.Prelude.{None};
+    ghost use Rattle.conn_pool.specs.Reaches.{beside_of};
 
     type Beside = Beside;
 
@@ -81,14 +97,35 @@ impl<'p, 'r, D: Dial, T: Tape, R> Meanings for PooledReach<'p, 'r, D, T, R> {
 
     ghost sent = { λ r. T.sent r.tape };
 
-    ghost beside = { λ r. record { runs = r.runs; sizes = r.sizes; begun = T.begun r.tape; talks = T.talks r.tape } };
+    ghost beside = { λ r. beside_of T.begun T.talks r };
 
     ghost faults = { λ r. r.faults };
 }
 
 impl<'p, 'r, D: Dial, T: Tape, R> Source for PooledReach<'p, 'r, D, T, R> {
-    fn read(&mut self, buf: &mut [u8]) -> Result<usize, IoError> {
-        let Some(lent) = &mut self.running else {
+    fn read(&mut self, buf: &mut [u8]) -> Result<usize, IoError>
+        requires { 0 < length buf.old }
+
+        // In a talk it is a read of the talk's link.
+        ensures talk { IfSome self.old.lent (λ before. IsSomeAnd self.new.lent (λ after.
+            ReadsLink before.link after.link buf.new result × StaysLent before after result)) }
+        ensures same_others { (self.new.dial ≡ self.old.dial) × (self.new.back ≡ self.old.back) }
+
+        // Where no talk runs it fails, and nothing but the count of faults changes.
+        ensures outside { self.old.lent ≡ None → IsErrOf result IoError.Failed × (buf.new ≡ buf.old)
+            × (self.new ≡ record self.old { faults = self.new.faults }) }
+
+        // What is told of the talk, and what each source says.
+        ensures count { IfOk result (λ n. n ≤ length buf.new) }
+        ensures got { IfOk result (λ n. T.received self.new.tape ≡ appended (T.received self.old.tape) (take n buf.new)) }
+        ensures kept_on_error { OnErr result (T.received self.new.tape ≡ T.received self.old.tape) }
+        ensures same { (T.sent self.new.tape ≡ T.sent self.old.tape)
+            × (beside_of T.begun T.talks self.new ≡ beside_of T.begun T.talks self.old) }
+        ensures cause { HasCause self.old.faults self.new.faults result }
+        ensures steady { IsOk result → self.new.faults ≡ self.old.faults }
+        ensures wanted { IsErrOf result IoError.NoMemory → self.new.faults ≡ self.old.faults }
+    {
+        let Some(lent) = &mut self.lent else {
             return counted(Err(IoError::Failed), &mut self.failed);
         };
         read_lent(lent, &mut self.tape, &mut self.failed, buf)
@@ -124,8 +161,9 @@ fn read_lent<L: Link + Drop, T: Tape>(
     ensures same { (T.talks tape.new ≡ T.talks tape.old) × (T.begun tape.new ≡ T.begun tape.old) × (T.sent tape.new ≡ T.sent tape.old) }
     ensures cause { HasCause failed.old failed.new result }
     ensures steady { IsOk result → failed.new ≡ failed.old }
+    ensures wanted { IsErrOf result IoError.NoMemory → failed.new ≡ failed.old }
     ensures running { T.is_running tape.new }
-    ensures whose { (lent.new.lb ≡ lent.old.lb) × (lent.new.member ≡ lent.old.member) }
+    ensures talk { ReadsLink lent.old.link lent.new.link buf.new result × StaysLent lent.old lent.new result }
 {
     tape.room(buf.len())?;
     let n = counted(lent.read(buf), failed)?;
@@ -134,8 +172,28 @@ fn read_lent<L: Link + Drop, T: Tape>(
 }
 
 impl<'p, 'r, D: Dial, T: Tape, R> Sink for PooledReach<'p, 'r, D, T, R> {
-    fn write(&mut self, piece: &[u8]) -> Result<usize, IoError> {
-        let Some(lent) = &mut self.running else {
+    fn write(&mut self, piece: &[u8]) -> Result<usize, IoError>
+        requires { 0 < length piece.now }
+
+        // In a talk it is a write to the talk's link.
+        ensures talk { IfSome self.old.lent (λ before. IsSomeAnd self.new.lent (λ after.
+            WritesLink before.link after.link piece.now result × StaysLent before after result)) }
+        ensures same_others { (self.new.dial ≡ self.old.dial) × (self.new.back ≡ self.old.back) }
+
+        // Where no talk runs it fails, and nothing but the count of faults changes.
+        ensures outside { self.old.lent ≡ None → IsErrOf result IoError.Failed × (self.new ≡ record self.old { faults = self.new.faults }) }
+
+        // What is told of the talk, and what each sink says.
+        ensures count { IfOk result (λ n. (0 < n) × (n ≤ length piece.now)) }
+        ensures put { IfOk result (λ n. T.sent self.new.tape ≡ appended (T.sent self.old.tape) (take n piece.now)) }
+        ensures kept_on_error { OnErr result (T.sent self.new.tape ≡ T.sent self.old.tape) }
+        ensures same { (T.received self.new.tape ≡ T.received self.old.tape)
+            × (beside_of T.begun T.talks self.new ≡ beside_of T.begun T.talks self.old) }
+        ensures cause { HasCause self.old.faults self.new.faults result }
+        ensures steady { IsOk result → self.new.faults ≡ self.old.faults }
+        ensures wanted { IsErrOf result IoError.NoMemory → self.new.faults ≡ self.old.faults }
+    {
+        let Some(lent) = &mut self.lent else {
             return counted(Err(IoError::Failed), &mut self.failed);
         };
         write_lent(lent, &mut self.tape, &mut self.failed, piece)
@@ -158,8 +216,9 @@ fn write_lent<L: Link + Drop, T: Tape>(
     ensures same { (T.talks tape.new ≡ T.talks tape.old) × (T.begun tape.new ≡ T.begun tape.old) × (T.received tape.new ≡ T.received tape.old) }
     ensures cause { HasCause failed.old failed.new result }
     ensures steady { IsOk result → failed.new ≡ failed.old }
+    ensures wanted { IsErrOf result IoError.NoMemory → failed.new ≡ failed.old }
     ensures running { T.is_running tape.new }
-    ensures whose { (lent.new.lb ≡ lent.old.lb) × (lent.new.member ≡ lent.old.member) }
+    ensures talk { WritesLink lent.old.link lent.new.link piece.now result × StaysLent lent.old lent.new result }
 {
     tape.room(piece.len())?;
     let n = counted(lent.write(piece), failed)?;
@@ -179,16 +238,20 @@ impl<'p, 'r, D: Dial, T: Tape, R: Wait> Reach for PooledReach<'p, 'r, D, T, R> {
         port: u16,
         fresh: bool,
     ) -> Result<bool, IoError>
-        requires idle { self.old.runs ≡ false }
+        requires idle { is_some self.old.lent ≡ false }
         requires known { member < slice_index self.old.sizes lb }
 
-        ensures runs { self.new.runs ≡ is_ok result }
+        // The talk has a link of this member, of which no call was made in it.
+        ensures runs { is_some self.new.lent ≡ is_ok result }
+        ensures whose { IfSome self.new.lent (λ lent. (lent.lb ≡ lb) × (lent.member ≡ member)) }
+        ensures begins { IfSome self.new.lent (λ lent. (lent.began ≡ lent.link.faults) × (lent.faulty ≡ false)) }
         ensures new_link { IfOk result (λ dialled. fresh ≡ true → dialled ≡ true) }
         ensures begun { IfOk result (λ dialled. IfSome (T.begun self.new.tape) (λ b. b ≡ told_begun lb member host.now port fresh dialled)) }
         ensures nothing_yet { IsEmpty (T.sent self.new.tape) × IsEmpty (T.received self.new.tape) }
 
-        // Over an idle link the dial isn't asked, and a begin fails only where its dial did.
+        // Over an idle link the dial isn't asked. Where the dial failed there is no talk, and a begin fails only there.
         ensures idle { IfOk result (λ dialled. dialled ≡ false → self.new.dial ≡ self.old.dial) }
+        ensures dialled { IsOk result → D.faults self.new.dial ≡ D.faults self.old.dial }
         ensures dial_failed { IsErrOf result IoError.Failed → Rose (D.faults self.old.dial) (D.faults self.new.dial) }
 
         // A begin that failed is a talk, one that wanted memory is none.
@@ -197,16 +260,18 @@ impl<'p, 'r, D: Dial, T: Tape, R: Wait> Reach for PooledReach<'p, 'r, D, T, R> {
             → T.talks self.new.tape ≡ appended (T.talks self.old.tape) (failed_talk lb member host.now port fresh ∷ []) }
         ensures wanted { IsErrOf result IoError.NoMemory → T.talks self.new.tape ≡ T.talks self.old.tape }
         ensures same_sizes { self.new.sizes ≡ self.old.sizes }
+        ensures same_back { self.new.back ≡ self.old.back }
         ensures cause { HasCause self.old.faults self.new.faults result }
         ensures steady { IsOk result → self.new.faults ≡ self.old.faults }
+        ensures wanted_memory { IsErrOf result IoError.NoMemory → self.new.faults ≡ self.old.faults }
     {
         if let Some(link) = idle_link(self.pools, lb, member, fresh) {
             let lent = Lent::new(lb, member, link);
             if let Err(error) = self.tape.begin(lb, member, host, port, fresh, false) {
-                put_back(self.pools, lent, true);
+                let _ = put_back(self.pools, lent, true);
                 return Err(error.into());
             }
-            self.running = Some(lent);
+            self.lent = Some(lent);
             return Ok(false);
         }
         let answer = self.dial.dial(alloc, host, port);
@@ -215,16 +280,29 @@ impl<'p, 'r, D: Dial, T: Tape, R: Wait> Reach for PooledReach<'p, 'r, D, T, R> {
         }
         let link = counted(answer, &mut self.failed)?;
         self.tape.begin(lb, member, host, port, fresh, true)?;
-        self.running = Some(Lent::new(lb, member, link));
+        self.lent = Some(Lent::new(lb, member, link));
         Ok(true)
     }
 
-    fn finish(&mut self, keep: bool) {
-        let Some(lent) = self.running.take() else {
+    fn finish(&mut self, keep: bool)
+        requires { is_some self.old.lent ≡ true }
+
+        // A link of which a call was refused is closed, even where it was to be kept.
+        ensures back { IfSome self.old.lent (λ lent. GoesBack lent keep self.new.back) }
+        ensures same_dial { self.new.dial ≡ self.old.dial }
+
+        ensures ended { self.new.lent ≡ None }
+        ensures nothing_left { IsEmpty (T.sent self.new.tape) × IsEmpty (T.received self.new.tape) }
+        ensures noted { (note : Talk) → IsNoteOf (T.begun self.old.tape) (T.sent self.old.tape) (T.received self.old.tape) keep note
+            → T.talks self.new.tape ≡ appended (T.talks self.old.tape) (note ∷ []) }
+        ensures same_sizes { self.new.sizes ≡ self.old.sizes }
+        ensures same_faults { self.new.faults ≡ self.old.faults }
+    {
+        let Some(lent) = self.lent.take() else {
             unreachable!()
         };
         self.tape.finish(keep);
-        put_back(self.pools, lent, keep);
+        self.back = put_back(self.pools, lent, keep);
     }
 }
 
@@ -241,14 +319,21 @@ fn idle_link<L: Drop, R: Wait>(
     if fresh { None } else { pools.take(lb, member) }
 }
 
-// Puts a lent link back where it is to be kept and may be; it is closed where its pool is full.
-fn put_back<L: Link + Drop, R: Wait>(pools: &Pools<'_, L, R>, lent: Lent<L>, keep: bool)
+// Hands a lent link to the pool of its member where it is to be kept and may be, and answers it as it was then. Where
+// the pool is full it is closed.
+fn put_back<L: Link + Drop, R: Wait>(
+    pools: &Pools<'_, L, R>,
+    lent: Lent<L>,
+    keep: bool,
+) -> Option<Snapshot<L>>
     requires { HasMember pools.now lent.lb lent.member }
+    ensures { GoesBack lent keep (option_map (λ b. told_by L.incoming L.received L.sent L.faults b.value) result) }
 {
-    let (lb, member) = (lent.lb, lent.member);
-    if let Some(link) = lent.kept(keep) {
-        let _ = pools.put(lb, member, link);
-    }
+    let (lb, member) = lent.whose();
+    let link = lent.kept(keep)?;
+    let back = Snapshot::of(&link);
+    let _ = pools.put(lb, member, link);
+    Some(back)
 }
 
 // Notes a talk that never began, since its dial failed.
