@@ -2,12 +2,14 @@
 //!
 //! Source: Tomcat Connectors reference, workers.properties, connection_pool_size.
 //! Own rule: the link put last is taken first, and a link of which a call failed in its talk is never put back.
-//! Contract: `PooledReach` is a `Reach`; `Pool::put` and `Pool::take`. Read first: specs/Idle.antt.
+//! Contract: `PooledReach` is a `Reach`, with what its link tells; `Pool::put` and `Pool::take`.
+//! Read first: specs/Idle.antt, specs/Reaches.antt.
 //! Errors: those of the dial and the links; want of memory.
 #![tactic(auto)]
 
 mod keeping;
 mod lent;
+mod noted;
 mod pool;
 mod pooled;
 mod row;

@@ -9,6 +9,7 @@ ghost use Rattle.conn_pool.specs.Reaches.{beside_of, told_begun, told_by, GoesBa
 
 use crate::keeping::Pools;
 use crate::lent::Lent;
+use crate::noted::{counted, outside_talk, read_lent, write_lent};
 use crate::tape::Tape;
 use jk_io::{Beside, Bytes, Dial, IoError, Link, Meanings, NoMemory, Reach, Sink, Source};
 use std::alloc::Global;
@@ -123,52 +124,13 @@ impl<'p, 'r, D: Dial, T: Tape, R> Source for PooledReach<'p, 'r, D, T, R> {
             × (beside_of T.begun T.talks self.new ≡ beside_of T.begun T.talks self.old) }
         ensures cause { HasCause self.old.faults self.new.faults result }
         ensures steady { IsOk result → self.new.faults ≡ self.old.faults }
-        ensures wanted { IsErrOf result IoError.NoMemory → self.new.faults ≡ self.old.faults }
+        ensures want_of_memory { IsErrOf result IoError.NoMemory → self.new.faults ≡ self.old.faults }
     {
         let Some(lent) = &mut self.lent else {
-            return counted(Err(IoError::Failed), &mut self.failed);
+            return outside_talk(&mut self.failed);
         };
         read_lent(lent, &mut self.tape, &mut self.failed, buf)
     }
-}
-
-// Counts an answer that is Failed, and hands it on.
-fn counted<T>(answer: Result<T, IoError>, failed: &mut u64) -> Result<T, IoError>
-    ensures same { result ≡ answer }
-    ensures cause { HasCause failed.old failed.new result }
-    ensures steady { IsOk result → failed.new ≡ failed.old }
-    ensures wanted { IsErrOf result IoError.NoMemory → failed.new ≡ failed.old }
-{
-    if let Err(IoError::Failed) = answer {
-        *failed = failed.saturating_add(1);
-    }
-    answer
-}
-
-// One read of the running talk's link, noted.
-fn read_lent<L: Link + Drop, T: Tape>(
-    lent: &mut Lent<L>,
-    tape: &mut T,
-    failed: &mut u64,
-    buf: &mut [u8],
-) -> Result<usize, IoError>
-    requires some { 0 < length buf.old }
-    requires running { T.is_running tape.old }
-
-    ensures count { IfOk result (λ n. n ≤ length buf.new) }
-    ensures got { IfOk result (λ n. T.received tape.new ≡ appended (T.received tape.old) (take n buf.new)) }
-    ensures kept_on_error { OnErr result (T.received tape.new ≡ T.received tape.old) }
-    ensures same { (T.talks tape.new ≡ T.talks tape.old) × (T.begun tape.new ≡ T.begun tape.old) × (T.sent tape.new ≡ T.sent tape.old) }
-    ensures cause { HasCause failed.old failed.new result }
-    ensures steady { IsOk result → failed.new ≡ failed.old }
-    ensures wanted { IsErrOf result IoError.NoMemory → failed.new ≡ failed.old }
-    ensures running { T.is_running tape.new }
-    ensures talk { ReadsLink lent.old.link lent.new.link buf.new result × StaysLent lent.old lent.new result }
-{
-    tape.room(buf.len())?;
-    let n = counted(lent.read(buf), failed)?;
-    tape.received(&buf[..n]);
-    Ok(n)
 }
 
 impl<'p, 'r, D: Dial, T: Tape, R> Sink for PooledReach<'p, 'r, D, T, R> {
@@ -191,39 +153,13 @@ impl<'p, 'r, D: Dial, T: Tape, R> Sink for PooledReach<'p, 'r, D, T, R> {
             × (beside_of T.begun T.talks self.new ≡ beside_of T.begun T.talks self.old) }
         ensures cause { HasCause self.old.faults self.new.faults result }
         ensures steady { IsOk result → self.new.faults ≡ self.old.faults }
-        ensures wanted { IsErrOf result IoError.NoMemory → self.new.faults ≡ self.old.faults }
+        ensures want_of_memory { IsErrOf result IoError.NoMemory → self.new.faults ≡ self.old.faults }
     {
         let Some(lent) = &mut self.lent else {
-            return counted(Err(IoError::Failed), &mut self.failed);
+            return outside_talk(&mut self.failed);
         };
         write_lent(lent, &mut self.tape, &mut self.failed, piece)
     }
-}
-
-// One write to the running talk's link, noted.
-fn write_lent<L: Link + Drop, T: Tape>(
-    lent: &mut Lent<L>,
-    tape: &mut T,
-    failed: &mut u64,
-    piece: &[u8],
-) -> Result<usize, IoError>
-    requires some { 0 < length piece.now }
-    requires running { T.is_running tape.old }
-
-    ensures count { IfOk result (λ n. (0 < n) × (n ≤ length piece.now)) }
-    ensures put { IfOk result (λ n. T.sent tape.new ≡ appended (T.sent tape.old) (take n piece.now)) }
-    ensures kept_on_error { OnErr result (T.sent tape.new ≡ T.sent tape.old) }
-    ensures same { (T.talks tape.new ≡ T.talks tape.old) × (T.begun tape.new ≡ T.begun tape.old) × (T.received tape.new ≡ T.received tape.old) }
-    ensures cause { HasCause failed.old failed.new result }
-    ensures steady { IsOk result → failed.new ≡ failed.old }
-    ensures wanted { IsErrOf result IoError.NoMemory → failed.new ≡ failed.old }
-    ensures running { T.is_running tape.new }
-    ensures talk { WritesLink lent.old.link lent.new.link piece.now result × StaysLent lent.old lent.new result }
-{
-    tape.room(piece.len())?;
-    let n = counted(lent.write(piece), failed)?;
-    tape.sent(&piece[..n]);
-    Ok(n)
 }
 
 impl<'p, 'r, D: Dial, T: Tape, R> Link for PooledReach<'p, 'r, D, T, R> {}
@@ -251,7 +187,7 @@ impl<'p, 'r, D: Dial, T: Tape, R: Wait> Reach for PooledReach<'p, 'r, D, T, R> {
 
         // Over an idle link the dial isn't asked. Where the dial failed there is no talk, and a begin fails only there.
         ensures idle { IfOk result (λ dialled. dialled ≡ false → self.new.dial ≡ self.old.dial) }
-        ensures dialled { IsOk result → D.faults self.new.dial ≡ D.faults self.old.dial }
+        ensures clean { IsOk result → D.faults self.new.dial ≡ D.faults self.old.dial }
         ensures dial_failed { IsErrOf result IoError.Failed → Rose (D.faults self.old.dial) (D.faults self.new.dial) }
 
         // A begin that failed is a talk, one that wanted memory is none.
@@ -263,7 +199,7 @@ impl<'p, 'r, D: Dial, T: Tape, R: Wait> Reach for PooledReach<'p, 'r, D, T, R> {
         ensures same_back { self.new.back ≡ self.old.back }
         ensures cause { HasCause self.old.faults self.new.faults result }
         ensures steady { IsOk result → self.new.faults ≡ self.old.faults }
-        ensures wanted_memory { IsErrOf result IoError.NoMemory → self.new.faults ≡ self.old.faults }
+        ensures want_of_memory { IsErrOf result IoError.NoMemory → self.new.faults ≡ self.old.faults }
     {
         if let Some(link) = idle_link(self.pools, lb, member, fresh) {
             let lent = Lent::new(lb, member, link);

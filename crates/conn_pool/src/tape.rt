@@ -6,6 +6,7 @@ ghost use Rattle.conn_pool.specs.Reaches.{told_begun};
 
 use jk_io::{Begun, Bytes, NoMemory, Talk, TalkBook};
 use std::alloc::Global;
+use std::marker::Model;
 
 /// Notes talks, or nothing.
 pub trait Tape {
@@ -90,9 +91,18 @@ pub struct MemTape {
     book: TalkBook,
 }
 
+impl Model for MemTape {
+    ghost use Rattle.jk_io.specs.TalkBooks.{TalkBookState};
+
+    ghost Value = { TalkBookState };
+
+    ghost view = { λ t. t.book };
+}
+
 impl MemTape {
+    /// A tape with no talk on it.
     pub fn new(alloc: Global) -> MemTape
-        ensures { (result.book.begun ≡ None) × (result.book.talks ≡ []) × (result.book.sent ≡ []) × (result.book.received ≡ []) }
+        ensures { result ≡ record { talks = []; begun = None; sent = []; received = []; room = 0 } }
     {
         MemTape {
             book: TalkBook::new(alloc),
@@ -101,7 +111,7 @@ impl MemTape {
 
     /// The talks that ended, in order.
     pub fn talks(&self) -> &[Talk]
-        ensures { result.now ≡ self.now.book.talks }
+        ensures { result.now ≡ self.now.talks }
     {
         self.book.talks()
     }
@@ -110,19 +120,19 @@ impl MemTape {
 impl Tape for MemTape {
     ghost use Rattle.std.specs.Prelude.{◌≡◌, ◌≤◌, [], Some, None, IsSome};
 
-    ghost talks = { λ t. Some t.book.talks };
+    ghost talks = { λ t. Some t.talks };
 
-    ghost begun = { λ t. t.book.begun };
+    ghost begun = { λ t. t.begun };
 
-    ghost sent = { λ t. Some t.book.sent };
+    ghost sent = { λ t. Some t.sent };
 
-    ghost received = { λ t. Some t.book.received };
+    ghost received = { λ t. Some t.received };
 
-    ghost is_idle = { λ t. (t.book.begun ≡ None) × (t.book.sent ≡ []) × (t.book.received ≡ []) };
+    ghost is_idle = { λ t. (t.begun ≡ None) × (t.sent ≡ []) × (t.received ≡ []) };
 
-    ghost is_running = { λ t. IsSome t.book.begun };
+    ghost is_running = { λ t. IsSome t.begun };
 
-    ghost has_room = { λ t n. n ≤ t.book.room };
+    ghost has_room = { λ t n. n ≤ t.room };
 
     fn begin(
         &mut self,

@@ -1,0 +1,81 @@
+//! Calls of the link of a running talk, counted where they fail and noted on the tape.
+ghost use Rattle.std.specs.Prelude.{◌≡◌, ◌<◌, ◌≤◌, IsOk, IsErrOf, IfOk, OnErr, length, take};
+ghost use Rattle.jk_io.specs.Told.{appended, HasCause};
+ghost use Rattle.conn_pool.specs.Reaches.{ReadsLink, WritesLink, StaysLent};
+
+use crate::lent::Lent;
+use crate::tape::Tape;
+use jk_io::{IoError, Link};
+
+/// Counts an answer that is Failed, and hands it on.
+pub(crate) fn counted<T>(answer: Result<T, IoError>, failed: &mut u64) -> Result<T, IoError>
+    ensures same { result ≡ answer }
+    ensures cause { HasCause failed.old failed.new result }
+    ensures steady { IsOk result → failed.new ≡ failed.old }
+    ensures wanted { IsErrOf result IoError.NoMemory → failed.new ≡ failed.old }
+{
+    if let Err(IoError::Failed) = answer {
+        *failed = failed.saturating_add(1);
+    }
+    answer
+}
+
+/// The answer of a read or a write where no talk runs.
+pub(crate) fn outside_talk(failed: &mut u64) -> Result<usize, IoError>
+    ensures failed { IsErrOf result IoError.Failed }
+    ensures cause { HasCause failed.old failed.new result }
+{
+    counted(Err(IoError::Failed), failed)
+}
+
+/// One read of the running talk's link, noted.
+pub(crate) fn read_lent<L: Link + Drop, T: Tape>(
+    lent: &mut Lent<L>,
+    tape: &mut T,
+    failed: &mut u64,
+    buf: &mut [u8],
+) -> Result<usize, IoError>
+    requires some { 0 < length buf.old }
+    requires running { T.is_running tape.old }
+
+    ensures count { IfOk result (λ n. n ≤ length buf.new) }
+    ensures got { IfOk result (λ n. T.received tape.new ≡ appended (T.received tape.old) (take n buf.new)) }
+    ensures kept_on_error { OnErr result (T.received tape.new ≡ T.received tape.old) }
+    ensures same { (T.talks tape.new ≡ T.talks tape.old) × (T.begun tape.new ≡ T.begun tape.old) × (T.sent tape.new ≡ T.sent tape.old) }
+    ensures cause { HasCause failed.old failed.new result }
+    ensures steady { IsOk result → failed.new ≡ failed.old }
+    ensures wanted { IsErrOf result IoError.NoMemory → failed.new ≡ failed.old }
+    ensures running { T.is_running tape.new }
+    ensures talk { ReadsLink lent.old.link lent.new.link buf.new result × StaysLent lent.old lent.new result }
+{
+    tape.room(buf.len())?;
+    let n = counted(lent.read(buf), failed)?;
+    tape.received(&buf[..n]);
+    Ok(n)
+}
+
+/// One write to the running talk's link, noted.
+pub(crate) fn write_lent<L: Link + Drop, T: Tape>(
+    lent: &mut Lent<L>,
+    tape: &mut T,
+    failed: &mut u64,
+    piece: &[u8],
+) -> Result<usize, IoError>
+    requires some { 0 < length piece.now }
+    requires running { T.is_running tape.old }
+
+    ensures count { IfOk result (λ n. (0 < n) × (n ≤ length piece.now)) }
+    ensures put { IfOk result (λ n. T.sent tape.new ≡ appended (T.sent tape.old) (take n piece.now)) }
+    ensures kept_on_error { OnErr result (T.sent tape.new ≡ T.sent tape.old) }
+    ensures same { (T.talks tape.new ≡ T.talks tape.old) × (T.begun tape.new ≡ T.begun tape.old) × (T.received tape.new ≡ T.received tape.old) }
+    ensures cause { HasCause failed.old failed.new result }
+    ensures steady { IsOk result → failed.new ≡ failed.old }
+    ensures wanted { IsErrOf result IoError.NoMemory → failed.new ≡ failed.old }
+    ensures running { T.is_running tape.new }
+    ensures talk { WritesLink lent.old.link lent.new.link piece.now result × StaysLent lent.old lent.new result }
+{
+    tape.room(piece.len())?;
+    let n = counted(lent.write(piece), failed)?;
+    tape.sent(&piece[..n]);
+    Ok(n)
+}
