@@ -14,6 +14,7 @@ pub record LinkTold : Type 0 where
   pub sent : Option (List ℕ)
   pub faults : ℕ
 
+-- what a link tells, by the meanings of its type
 abbrev pub told_by : {L : Type 0} → (incoming received sent : L → Option (List ℕ)) (faults : L → ℕ) → L → LinkTold
 told_by incoming received sent faults link = record {
   incoming = incoming link;

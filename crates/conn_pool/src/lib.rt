@@ -1,7 +1,7 @@
 //! Links to members that are kept idle between talks, and the reach that takes them from there.
 //!
 //! Source: Tomcat Connectors reference, workers.properties, connection_pool_size.
-//! Own rule: the link put last is taken first, and a link of which a call failed in its talk is never put back.
+//! Own rule: the link put last is taken first, and a link of which a call was refused in its talk is never put back.
 //! Contract: `PooledReach` is a `Reach`, with what its link tells; `Pool::put` and `Pool::take`.
 //! Read first: specs/Idle.antt, specs/Reaches.antt.
 //! Errors: those of the dial and the links; want of memory.
@@ -14,8 +14,6 @@ mod pool;
 mod pooled;
 mod row;
 mod tape;
-#[cfg(test)]
-mod tests;
 
 pub use keeping::Pools;
 pub use pool::{LinkList, Pool};
