@@ -1,0 +1,24 @@
+//! The words of the command line: which of them are a command, and what it is asked for.
+//!
+//! Source: own rules, in the usual form of long options: `--name VALUE`, `--name=VALUE`, and `--` before words that
+//! may begin with `-`.
+//! Shapes: a word is bytes; a line of words is read as a list of parts, each a word by its place or an option.
+//! Contract: `read_words`, clauses `ok` and `bad`. Read first: specs/Orders.antt, from its end upwards, then
+//! specs/Parts.antt.
+//! Errors: `WordsError`. `Bad` comes by the words alone, before any memory is taken.
+#![tactic(auto)]
+
+mod help;
+mod name;
+mod order;
+mod part;
+mod places;
+mod plan;
+mod plans;
+mod reading;
+mod values;
+
+pub use help::command;
+pub use name::CommandName;
+pub use order::{Order, WordsError};
+pub use reading::{command_of, read_words};

@@ -1,0 +1,28 @@
+//! The order that words are.
+ghost use Rattle.std.specs.Prelude.{◌≡◌, ◌↔◌, Some, None, IfOk, Err};
+ghost use Rattle.jk_cli.specs.Orders.{order_of, command_of};
+
+use crate::name::CommandName;
+use crate::order::{Order, WordsError};
+use crate::plans::plan_of;
+use jk_io::Bytes;
+use std::alloc::Global;
+
+/// The command that the words are, with its words and options. It takes no memory.
+pub fn command_of(words: &[Bytes]) -> Option<CommandName>
+    ensures { result ≡ command_of words.now }
+{
+    let plan = plan_of(words)?;
+    Some(plan.command())
+}
+
+/// The order that the words behind the program's name are.
+pub fn read_words(alloc: Global, words: &[Bytes]) -> Result<Order, WordsError>
+    ensures ok { IfOk result (λ order. order_of words.now ≡ Some order) }
+    ensures bad { (result ≡ Err WordsError.Bad) ↔ (order_of words.now ≡ None) }
+{
+    match plan_of(words) {
+        None => Err(WordsError::Bad),
+        Some(plan) => Ok(plan.order(alloc)?),
+    }
+}

@@ -1,0 +1,111 @@
+//! The values of words and options: numbers of a range, and the options of `serve`.
+ghost use Rattle.std.specs.Prelude.{◌≡◌, ◌≤◌, IfSome, option_map, codes};
+ghost use Rattle.std.specs.Option.{option_copied};
+ghost use Rattle.jk_cli.specs.Parts.{parts_of};
+ghost use Rattle.jk_cli.specs.Orders.{number_in, number_given, number_option, threads_of, clients_of, options_given, are_together, serve_options};
+ghost use Rattle.jk_cli.specs.Plans.{options_in};
+
+use crate::places::option_in;
+use crate::plan::Options;
+use jk_io::{Bytes, parse_decimal};
+
+/// The most threads of a program.
+const MOST_THREADS: u64 = 64;
+
+/// The most seconds from one look through the idle links to the next: a day.
+const MOST_WATCH_SECONDS: u64 = 86_400;
+
+/// The most looks before an idle link is closed.
+const MOST_IDLE_ROUNDS: u64 = 1_000_000;
+
+/// A decimal number of a range.
+pub(crate) fn number_in(least: u64, most: u64, text: &[u8]) -> Option<u64>
+    ensures value { result ≡ number_in least most text.now }
+    ensures small { IfSome result (λ n. n ≤ most) }
+{
+    let number = parse_decimal(text)?;
+    if least <= number && number <= most {
+        Some(number)
+    } else {
+        None
+    }
+}
+
+fn number_given(least: u64, most: u64, text: Option<&[u8]>) -> Option<Option<u64>>
+    ensures value { result ≡ number_given least most (option_copied text.entry) }
+    ensures small { IfSome result (λ given. IfSome given (λ n. n ≤ most)) }
+{
+    match text {
+        None => Some(None),
+        Some(text) => Some(Some(number_in(least, most, text)?)),
+    }
+}
+
+fn number_option(words: &[Bytes], name: &[u8], least: u64, most: u64) -> Option<Option<u64>>
+    ensures value { result ≡ number_option name.now least most (parts_of words.now) }
+    ensures small { IfSome result (λ given. IfSome given (λ n. n ≤ most)) }
+{
+    number_given(least, most, option_in(words, name)?)
+}
+
+/// A number of threads.
+pub(crate) fn threads_of(text: &[u8]) -> Option<u32>
+    ensures { result ≡ threads_of text.now }
+{
+    let threads = number_in(1, MOST_THREADS, text)?;
+    Some(threads as u32)
+}
+
+/// The option `--clients`.
+pub(crate) fn clients_of(words: &[Bytes]) -> Option<Option<u64>>
+    ensures { result ≡ clients_of (parts_of words.now) }
+{
+    number_option(words, b"clients", 0, u64::MAX)
+}
+
+fn idle_of(words: &[Bytes]) -> Option<Option<u32>>
+    ensures { result ≡ number_option (codes "idle") 1 1000000 (parts_of words.now) }
+{
+    match number_option(words, b"idle", 1, MOST_IDLE_ROUNDS)? {
+        None => Some(None),
+        Some(rounds) => Some(Some(rounds as u32)),
+    }
+}
+
+fn options_given<'a>(words: &'a [Bytes]) -> Option<Options<'a>>
+    ensures { option_map options_in result ≡ options_given (parts_of words.now) }
+{
+    let clients = clients_of(words)?;
+    let journal = option_in(words, b"journal")?;
+    let watch = number_option(words, b"watch", 1, MOST_WATCH_SECONDS)?;
+    let idle = idle_of(words)?;
+    let log = option_in(words, b"log")?;
+    let format = option_in(words, b"format")?;
+    Some(Options {
+        clients,
+        journal,
+        watch,
+        idle,
+        log,
+        format,
+    })
+}
+
+fn are_together(given: &Options) -> bool
+    ensures { result ≡ are_together (options_in given.now) }
+{
+    (given.idle.is_none() || given.watch.is_some())
+        && (given.format.is_none() || given.log.is_some())
+}
+
+/// The options of `serve`.
+pub(crate) fn serve_options<'a>(words: &'a [Bytes]) -> Option<Options<'a>>
+    ensures { option_map options_in result ≡ serve_options (parts_of words.now) }
+{
+    let given = options_given(words)?;
+    if are_together(&given) {
+        Some(given)
+    } else {
+        None
+    }
+}
