@@ -1,0 +1,5 @@
+pub mod CutLemmas
+pub mod DirectiveLemmas
+pub mod LineLemmas
+pub mod StatusLemmas
+pub mod WordLemmas

@@ -1,0 +1,82 @@
+//! The first pass: each line by itself, from the top.
+ghost use Rattle.std.specs.Prelude.{◌≡◌, ◌≤◌, length, map, IfOk};
+ghost use Rattle.std.specs.Option.{option_map, option_to_list};
+ghost use Rattle.property_lines.specs.Entries.{as_property, as_properties};
+ghost use Rattle.property_lines.specs.Refusals.{Gives, code_of};
+ghost use Rattle.property_lines.specs.Properties.{is_silent, judged, property_of, said, read_text, fault_of};
+ghost use Rattle.property_lines.specs.Cut.{cut_at};
+
+use crate::cut::cut_at;
+use crate::entry::Entry;
+use crate::error::{PropsError, Reason, refused};
+use crate::judge::fault_of;
+use crate::lines::first_line;
+use crate::property::Fault;
+use jk_io::trim;
+use std::alloc::Global;
+
+/// Whether a trimmed line is blank or a comment.
+fn is_silent(text: &[u8]) -> bool
+    ensures { result ≡ is_silent text.now }
+{
+    text.is_empty() || text[0] == b'#'
+}
+
+/// The property, unless its fault is to be refused: a bad value is where `values` is on.
+fn judged<'t>(
+    values: bool,
+    entry: Entry<'t>,
+    fault: Option<Fault>,
+) -> Result<Option<Entry<'t>>, PropsError>
+    ensures { Gives (option_map as_property) result (judged values (as_property entry.entry) fault) }
+{
+    match fault {
+        None => Ok(Some(entry)),
+        Some(Fault::Name) => Err(refused(entry.line, Reason::BadName)),
+        Some(Fault::Value) => {
+            if values {
+                Err(refused(entry.line, Reason::BadValue))
+            } else {
+                Ok(Some(entry))
+            }
+        }
+    }
+}
+
+/// What a trimmed line says.
+fn said(values: bool, line: u32, text: &[u8]) -> Result<Option<Entry<'_>>, PropsError>
+    ensures { Gives (option_map as_property) result (said values line text.now) }
+{
+    if is_silent(text) {
+        return Ok(None);
+    }
+    match cut_at(text, b'=') {
+        None => Err(refused(line, Reason::NoEquals)),
+        Some((key, value)) => {
+            let entry = Entry {
+                line,
+                key: trim(key),
+                value: trim(value),
+            };
+            judged(values, entry, fault_of(entry.key, entry.value))
+        }
+    }
+}
+
+/// The properties of a text, or the first line that is refused. Bad values are refused where `values` is on.
+pub fn read_entries(alloc: Global, values: bool, text: &[u8]) -> Result<Vec<Entry<'_>>, PropsError>
+    requires { length text.now ≤ 67108864 }
+    ensures { Gives (λ v. as_properties v.items) result (read_text values text.now) }
+{
+    let mut entries = Vec::new(alloc);
+    let mut number: u32 = 0;
+    let mut rest = text;
+    while let Some((line, behind)) = first_line(rest) {
+        number += 1;
+        if let Some(entry) = said(values, number, trim(line))? {
+            entries.push(entry)?;
+        }
+        rest = behind;
+    }
+    Ok(entries)
+}

@@ -1,0 +1,38 @@
+//! The lines of a site's files: keys and values, directives and what is wrong with one by itself.
+//!
+//! Source: Apache Tomcat Connectors reference, "workers.properties".
+//! Own rules: the ranges, the numbers of the refusals, how lists are spelled (docs/DECISIONS.md).
+//! Shapes: a line ends with LF or CR LF; a property is a line number, a key and a value without outer blanks.
+//! Contract: `read_properties`. Read first: specs/Properties.antt, then specs/Values.antt.
+//! Errors: `PropsError`.
+#![tactic(auto)]
+
+mod cut;
+mod directive;
+mod entry;
+mod error;
+mod first_pass;
+mod judge;
+mod lines;
+mod names;
+mod properties;
+mod property;
+mod statuses;
+mod values;
+
+pub use cut::{cut_at, cut_at_separator, is_separator};
+pub use directive::{
+    DIRECTIVES, Directive, behind_worker, directive_of, is_list_key, is_maintain_key, worker_part,
+};
+pub use entry::Entry;
+pub use error::{PropsError, Reason, refused};
+pub use first_pass::read_entries;
+pub use judge::fault_of;
+pub use lines::first_line;
+pub use names::{is_name, push_words};
+pub use properties::read_properties;
+pub use property::{Fault, Property, PropertyList};
+pub use statuses::{Statuses, status_of, statuses_of};
+pub use values::{
+    Kind, activation_of, is_ping, is_value, kind_of, method_of, number_in, pings, truth_of,
+};

@@ -1,0 +1,28 @@
+//! The properties of a workers.properties.
+ghost use Rattle.std.specs.Prelude.{◌≡◌, ◌≤◌, false, length};
+ghost use Rattle.property_lines.specs.Refusals.{Gives};
+ghost use Rattle.property_lines.specs.Properties.{read_text};
+
+use crate::error::PropsError;
+use crate::first_pass::read_entries;
+use crate::property::{Property, PropertyList};
+use jk_io::{Bytes, ListOf};
+use std::alloc::Global;
+
+/// The lines of a text that give a key its value, or the first refusal of 1 and 2. A name is judged by itself, a value
+/// isn't.
+pub fn read_properties(alloc: Global, text: &[u8]) -> Result<PropertyList, PropsError>
+    requires { length text.now ≤ 67108864 }
+    ensures { Gives (λ properties. properties) result (read_text false text.now) }
+{
+    let entries = read_entries(alloc, false, text)?;
+    let mut properties = Vec::with_capacity(alloc, entries.len())?;
+    for entry in entries.iter() {
+        properties.push(Property {
+            line: entry.line,
+            key: Bytes::from_slice(alloc, entry.key)?,
+            value: Bytes::from_slice(alloc, entry.value)?,
+        })?;
+    }
+    Ok(ListOf::from_vec(properties))
+}

@@ -1,0 +1,21 @@
+//! The properties of a workers.properties, line by line, and what is wrong with one.
+use jk_io::{Bytes, ListOf};
+
+/// A line that gives a key its value, both without outer blanks.
+#[derive(Debug, Drop)]
+pub struct Property {
+    /// From 1.
+    pub line: u32,
+    pub key: Bytes,
+    pub value: Bytes,
+}
+
+/// Properties in the order of their lines.
+pub type PropertyList = ListOf<Property>;
+
+/// What is wrong with a property by itself.
+#[derive(Clone, Copy, Debug, PartialEq, Eq)]
+pub enum Fault {
+    Name,
+    Value,
+}

@@ -1,0 +1,15 @@
+//! The configuration of a site: its balancers, how each member is reached, and its status workers.
+//!
+//! Source: Apache Tomcat Connectors reference, "workers.properties".
+//! Own rules: the ranges of all values, which the types keep.
+//! Contract: the types; `Config::find`. Read first: src/config.rt.
+//! Errors: none.
+#![tactic(auto)]
+
+mod balancer;
+mod config;
+mod endpoint;
+
+pub use balancer::{Lb, LbList};
+pub use config::{Config, IgnoredList, Named, NamedList, Status, StatusList};
+pub use endpoint::{EndList, Endpoint};

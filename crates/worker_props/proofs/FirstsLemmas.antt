@@ -1,0 +1,70 @@
+-- Names, each where it stands first.
+use Rattle.std.proofs.Common.{◌≡◌, ℕ, ◌+◌, ◌<◌, ◌≤◌, Bool, true, false, List, [], ◌∷◌, ◌++◌, length, take, drop, get_or, refl, sym, ◌∙◌, ap, subst, cond, suc, zero, arith, append_assoc, length-append}
+use Rattle.std.proofs.lemmas.Bool.{false≢true, false_from_ne_true}
+use Rattle.std.proofs.lemmas.List.{take_more, map-append, take_at, take-append-drop, append-nil, take_all}
+use Rattle.std.proofs.lemmas.Slice.Eq.{bytes_eq-Decides}
+use Rattle.std.specs.Str.{bytes_eq}
+use Rattle.worker_props.specs.Lists.{Listing, is_named, drop_name, firsts}
+
+-- dropping a name that isn't there
+drop_name-append : (name : List ℕ) (xs ys : List Listing) → drop_name name (xs ++ ys) ≡ drop_name name xs ++ drop_name name ys
+drop_name-append name [] ys = refl
+drop_name-append name (x ∷ xs) ys = by_test (bytes_eq x.name name) (drop_name-append name xs ys)
+  where
+    by_test : (t : Bool) → drop_name name (xs ++ ys) ≡ drop_name name xs ++ drop_name name ys → cond t (drop_name name (xs ++ ys)) (x ∷ drop_name name (xs ++ ys)) ≡ cond t (drop_name name xs) (x ∷ drop_name name xs) ++ drop_name name ys
+    by_test true rest = rest
+    by_test false rest = ap (λ (zs : List Listing). x ∷ zs) rest
+
+-- the first places of a list that goes on are those of its front, and some of what follows
+pub firsts-append : (xs ys : List Listing) → (more : List Listing) × (firsts (xs ++ ys) ≡ firsts xs ++ more)
+firsts-append [] ys = (firsts ys, refl)
+firsts-append (x ∷ xs) ys =
+    let rest = firsts-append xs ys in
+    (drop_name x.name rest.0, ap (λ (zs : List Listing). x ∷ zs) (ap (drop_name x.name) rest.1 ∙ drop_name-append x.name (firsts xs) rest.0))
+
+same_name : (a b : List ℕ) → bytes_eq a b ≡ true → a ≡ b
+same_name a b e = (bytes_eq-Decides a b).0 e
+
+-- a name that another one's drop leaves
+named_dropped : (name other : List ℕ) (xs : List Listing) → bytes_eq other name ≡ false → is_named name (drop_name other xs) ≡ is_named name xs
+named_dropped name other [] e = refl
+named_dropped name other (x ∷ xs) e = by_test (bytes_eq x.name other) refl (named_dropped name other xs e)
+  where
+    by_test : (t : Bool) → bytes_eq x.name other ≡ t → is_named name (drop_name other xs) ≡ is_named name xs → is_named name (cond t (drop_name other xs) (x ∷ drop_name other xs)) ≡ cond (bytes_eq x.name name) true (is_named name xs)
+    by_test true same rest =
+        let one : x.name ≡ other = same_name x.name other same in
+        let nay : bytes_eq x.name name ≡ false = rw one e in
+        rw nay rest
+    by_test false apart rest = ap (cond (bytes_eq x.name name) true) rest
+
+-- the first places have the names of the list
+pub named_firsts : (name : List ℕ) (xs : List Listing) → is_named name (firsts xs) ≡ is_named name xs
+named_firsts name [] = refl
+named_firsts name (x ∷ xs) = by_test (bytes_eq x.name name) refl (named_firsts name xs)
+  where
+    by_test : (t : Bool) → bytes_eq x.name name ≡ t → is_named name (firsts xs) ≡ is_named name xs → cond t true (is_named name (drop_name x.name (firsts xs))) ≡ cond t true (is_named name xs)
+    by_test true e rest = refl
+    by_test false e rest = named_dropped name x.name (firsts xs) e ∙ rest
+
+drop_none : (name : List ℕ) (xs : List Listing) (l : Listing) → bytes_eq l.name name ≡ true → drop_name name (xs ++ l ∷ []) ≡ drop_name name xs
+drop_none name xs l e = drop_name-append name xs (l ∷ []) ∙ rw e (append-nil (drop_name name xs))
+
+drop_other : (name : List ℕ) (xs : List Listing) (l : Listing) → bytes_eq l.name name ≡ false → drop_name name (xs ++ l ∷ []) ≡ drop_name name xs ++ l ∷ []
+drop_other name xs l e = drop_name-append name xs (l ∷ []) ∙ rw e refl
+
+flip : (a b : List ℕ) → bytes_eq a b ≡ true → bytes_eq b a ≡ true
+flip a b e = (bytes_eq-Decides b a).1 (sym (same_name a b e))
+
+-- one name more: it counts unless it is there
+pub firsts-snoc : (xs : List Listing) (l : Listing) → firsts (xs ++ l ∷ []) ≡ cond (is_named l.name xs) (firsts xs) (firsts xs ++ l ∷ [])
+firsts-snoc [] l = refl
+firsts-snoc (x ∷ xs) l = by_test (bytes_eq x.name l.name) refl (is_named l.name xs) refl (firsts-snoc xs l)
+  where
+    by_test : (t : Bool) → bytes_eq x.name l.name ≡ t → (u : Bool) → is_named l.name xs ≡ u → firsts (xs ++ l ∷ []) ≡ cond (is_named l.name xs) (firsts xs) (firsts xs ++ l ∷ []) → x ∷ drop_name x.name (firsts (xs ++ l ∷ [])) ≡ cond (cond t true (is_named l.name xs)) (x ∷ drop_name x.name (firsts xs)) ((x ∷ drop_name x.name (firsts xs)) ++ l ∷ [])
+    by_test true e true n rest = rw (rest, n) refl
+    by_test true e false n rest = rw (rest, n) (ap (λ (zs : List Listing). x ∷ zs) (drop_none x.name (firsts xs) l (flip x.name l.name e)))
+    by_test false e true n rest = rw (rest, n) refl
+    by_test false e false n rest = rw (rest, n) (ap (λ (zs : List Listing). x ∷ zs) (drop_other x.name (firsts xs) l (apart e)))
+      where
+        apart : bytes_eq x.name l.name ≡ false → bytes_eq l.name x.name ≡ false
+        apart e = false_from_ne_true _ (λ same. false≢true (sym e ∙ flip l.name x.name same))

@@ -1,0 +1,10 @@
+use Rattle.std.proofs.Common.{◌≡◌, ◌<◌, length, arith, sym, ◌∙◌, ap, get_or, set}
+use Rattle.worker_props.specs.Ways.{passed_row}
+use Rattle.worker_props.specs.Rows.{adjusted}
+use Rattle.worker_props.proofs.RowLemmas.{adjusted_set}
+use Rattle.worker_props.proofs.reference.pass.Goals as goal
+
+pub returns : goal.returns
+returns c =
+    let rows = c.args.rows.now.items in
+    rw (c.passed.ensures, c.index-row.ensures) (adjusted_set passed_row rows c.args.number _ (omega arith))

@@ -1,0 +1,10 @@
+use Rattle.std.proofs.Common.{◌≡◌, [], None, sym}
+use Rattle.property_lines.specs.Entries.{as_properties}
+use Rattle.worker_props.proofs.ChainLemmas.{unknown_chain}
+use Rattle.worker_props.proofs.WayLemmas.{number_none}
+use Rattle.worker_props.proofs.site.check_reference.Goals as goal
+
+pub returns-in-None-clause-ok : goal.returns-in-None-clause-ok
+returns-in-None-clause-ok c =
+    let ps = as_properties c.args.entries.now in
+    ([], unknown_chain ps c.args.listing.now.name.now (number_none ps c.args.names.now c.args.listing.now.name.now c.requires.known (sym c.in-None.ensures)))

@@ -1,0 +1,12 @@
+pub mod Building
+pub mod Built
+pub mod Checks
+pub mod Given
+pub mod Listings
+pub mod Lists
+pub mod Numbers
+pub mod Rows
+pub mod Settings
+pub mod Site
+pub mod Table
+pub mod Ways

@@ -1,0 +1,211 @@
+-- The configuration of a workers.properties, or its first refusal.
+use Rattle.std.specs.Prelude.{◌≡◌, ℕ, ◌+◌, ◌<◌, ◌≤◌, ◌^◌, Bool, true, false, List, [], ◌∷◌, ◌++◌, Option, Some, None, Result, Ok, Err, ◌⊎◌, ◌≢◌, if◌then◌else◌, not, length, map, filter, codes}
+use Rattle.std.specs.Option.{is_some, option_map}
+use Rattle.std.specs.Str.{bytes_eq}
+use Rattle.jk_model.specs.Multiple.{multiple_of}
+use Rattle.jk_model.specs.Ranges.{factors_in}
+use Rattle.jk_model.specs.declared.member.MemberConfig.{MemberConfig}
+use Rattle.jk_model.specs.declared.member.Method.TheVariants as method
+use Rattle.property_lines.specs.declared.property.Property.{Property}
+use Rattle.property_lines.specs.declared.values.Kind.{Kind}
+use Rattle.property_lines.specs.declared.values.Kind.TheVariants as kind
+use Rattle.property_lines.specs.declared.directive.Directive.{Directive}
+use Rattle.property_lines.specs.declared.directive.Directive.TheVariants as directive
+use Rattle.property_lines.specs.declared.error.Reason.TheVariants as reason
+use Rattle.site_config.specs.declared.endpoint.Endpoint.{Endpoint}
+use Rattle.site_config.specs.declared.balancer.Lb.{Lb}
+use Rattle.site_config.specs.declared.config.Status.{Status}
+use Rattle.site_config.specs.declared.config.Config.{Config}
+use Rattle.worker_props.specs.declared.draft.Draft.{Draft}
+use Rattle.site_config.specs.declared.config.Named.{Named}
+use Rattle.site_config.specs.declared.config.Named.TheVariants as named
+use Rattle.property_lines.specs.Refusals.{Refusal, refusal}
+use Rattle.property_lines.specs.Directives.{directive_of, worker_part, list_key, maintain_key}
+use Rattle.property_lines.specs.Properties.{read_text}
+use Rattle.worker_props.specs.Given.{IsChain, in_force, is_given, last_of, BreaksAt}
+use Rattle.worker_props.specs.Lists.{Listing, lists_members, firsts, site_list, members_in}
+use Rattle.worker_props.specs.Table.{IsNameOfGiven}
+use Rattle.worker_props.specs.Settings.{IsEndpoint, IsMember, kind_in, method_in, truth_or, number_or, filled_or}
+
+-- the members of these names, from place i on, with how each is reached
+abbrev pub AreMembers : List Property → List (List ℕ) → ℕ → List Listing → List MemberConfig → List Endpoint → Type 0
+AreMembers ps routes i [] [] [] = Unit {0}
+AreMembers ps routes i (l ∷ ls) (m ∷ ms) (e ∷ es) =
+    ((more : List (List ℕ)) × IsChain ps l.name more × IsMember (in_force ps l.name more) l.name routes i m × IsEndpoint (in_force ps l.name more) e)
+    × AreMembers ps routes (i + 1) ls ms es
+AreMembers ps routes i ls ms es = ⊥
+
+abbrev pub routes_of : List MemberConfig → List (List ℕ)
+routes_of ms = map (λ m. m.route) ms
+
+-- a balancer of these members, with the directives in force
+pub record IsLb (ps : List Property) (v : Directive → Option Property) (maintain : ℕ) (name : List ℕ) (ls : List Listing) (lb : Lb) : Type 0 where
+  pub named : lb.name ≡ name
+  pub method : lb.book.method ≡ method_in (v directive.Method)
+  pub sticky : lb.book.sticky ≡ truth_or true (v directive.Sticky)
+  pub force : lb.book.force ≡ truth_or false (v directive.Force)
+  pub indirect : lb.book.direct ≡ false
+  pub period : lb.book.maintain ≡ maintain
+  pub recover : lb.book.recover ≡ number_or 1 86400 60 (v directive.RecoverTime)
+  pub members : AreMembers ps (routes_of lb.book.members) 0 ls lb.book.members lb.ends
+  pub cookie : lb.cookie ≡ filled_or (codes "JSESSIONID") (v directive.Cookie)
+  pub path : lb.path ≡ filled_or (codes ";jsessionid") (v directive.Path)
+
+-- the balancer of one worker that is listed itself: the defaults, not sticky, direct
+pub record IsDirect (ps : List Property) (maintain : ℕ) (l : Listing) (lb : Lb) : Type 0 where
+  pub named : lb.name ≡ l.name
+  pub method : lb.book.method ≡ method.Request
+  pub sticky : lb.book.sticky ≡ false
+  pub force : lb.book.force ≡ false
+  pub direct : lb.book.direct ≡ true
+  pub period : lb.book.maintain ≡ maintain
+  pub recover : lb.book.recover ≡ 60
+  pub members : AreMembers ps (routes_of lb.book.members) 0 (l ∷ []) lb.book.members lb.ends
+  pub cookie : lb.cookie ≡ codes "JSESSIONID"
+  pub path : lb.path ≡ codes ";jsessionid"
+
+-- what holds of each
+abbrev pub Each : (Listing → Type 0) → List Listing → Type 0
+Each fine [] = Unit {0}
+Each fine (l ∷ ls) = fine l × Each fine ls
+
+-- the first that isn't fine is refused
+abbrev pub FirstBad : (Listing → Type 0) → (Listing → Refusal → Type 0) → List Listing → Refusal → Type 0
+FirstBad fine bad [] r = ⊥
+FirstBad fine bad (l ∷ ls) r = bad l r ⊎ (fine l × FirstBad fine bad ls r)
+
+abbrev pub HasChain : List Property → List ℕ → Type 0
+HasChain ps name = (more : List (List ℕ)) × IsChain ps name more
+
+-- the worker's type
+abbrev pub HasKind : List Property → List ℕ → Kind → Type 0
+HasKind ps name k = (more : List (List ℕ)) × IsChain ps name more × (kind_in (in_force ps name more directive.Kind) ≡ k)
+
+abbrev pub Breaks : List Property → Listing → Refusal → Type 0
+Breaks ps l r = (line : ℕ) × BreaksAt ps l.name line × (r ≡ refusal line reason.BadReference)
+
+abbrev pub IsUnknown : List Property → Listing → Refusal → Type 0
+IsUnknown ps l r = (is_given ps l.name ≡ false) × (r ≡ refusal l.line reason.UnknownWorker)
+
+abbrev pub IsNoAjp13 : List Property → Listing → Refusal → Type 0
+IsNoAjp13 ps l r = ((k : Kind) × (k ≢ kind.Ajp13) × HasKind ps l.name k) × (r ≡ refusal l.line reason.BadValue)
+
+-- the lists' names so far: those of the lb's members pass when their references lead on, they have a directive, and
+-- their type is ajp13
+abbrev pub Chained : List Property → Listing → Type 0
+Chained ps l = HasChain ps l.name
+
+abbrev pub Known : List Property → Listing → Type 0
+Known ps l = is_given ps l.name ≡ true
+
+abbrev pub IsAjp13 : List Property → Listing → Type 0
+IsAjp13 ps l = HasKind ps l.name kind.Ajp13
+
+-- the refusals of a balancer's members themselves: none, more than 64, factors that are too wide
+abbrev pub RefusesBook : List Property → ℕ → List Listing → Refusal → Type 0
+RefusesBook ps line members r =
+    ((length members ≡ 0) × (r ≡ refusal line reason.NoMembers))
+    ⊎ (((64 < length members) × (r ≡ refusal line reason.TooManyMembers))
+    ⊎ ((ms : List MemberConfig) × (es : List Endpoint) × (1 ≤ length members) × (length members ≤ 64)
+    × AreMembers ps (routes_of ms) 0 members ms es × (2 ^ 32 ≤ multiple_of (factors_in ms)) × (r ≡ refusal line reason.TooWide)))
+
+abbrev pub line_in : Option Property → ℕ
+line_in None = 0
+line_in (Some p) = p.line
+
+-- the refusals of an lb after `count` balancers, each after those before it
+abbrev pub RefusesLb : List Property → ℕ → Listing → (Directive → Option Property) → List Listing → Refusal → Type 0
+RefusesLb ps count l v members r =
+    FirstBad (Chained ps) (Breaks ps) members r
+    ⊎ ((Each (Chained ps) members × FirstBad (Known ps) (IsUnknown ps) members r)
+    ⊎ ((Each (Chained ps) members × Each (Known ps) members × (1024 ≤ count) × (r ≡ refusal l.line reason.BadValue))
+    ⊎ ((Each (Chained ps) members × Each (Known ps) members × (count < 1024) × FirstBad (IsAjp13 ps) (IsNoAjp13 ps) members r)
+    ⊎ (Each (Known ps) members × (count < 1024) × Each (IsAjp13 ps) members × RefusesBook ps (line_in (v directive.Kind)) (firsts members) r))))
+
+abbrev pub RefusesKind : List Property → ℕ → Listing → (Directive → Option Property) → Kind → Refusal → Type 0
+RefusesKind ps count l v kind.Status r = ⊥
+RefusesKind ps count l v kind.Ajp13 r = (1024 ≤ count) × (r ≡ refusal l.line reason.BadValue)
+RefusesKind ps count l v kind.Lb r = RefusesLb ps count l v (members_in ps (v directive.BalanceWorkers)) r
+
+-- the refusals of a listed worker after `count` balancers
+abbrev pub Refuses : List Property → ℕ → Listing → Refusal → Type 0
+Refuses ps count l r =
+    Breaks ps l r
+    ⊎ (IsUnknown ps l r
+    ⊎ (Known ps l × (more : List (List ℕ)) × IsChain ps l.name more
+    × RefusesKind ps count l (in_force ps l.name more) (kind_in (in_force ps l.name more directive.Kind)) r))
+
+-- a balancer, or a status worker, and its name at the end of those so far
+abbrev pub with_lb : Draft → List ℕ → Lb → Draft
+with_lb d name lb = record { lbs = d.lbs ++ lb ∷ []; statuses = d.statuses; listed = d.listed ++ (name, named.Balancer (length d.lbs)) ∷ [] }
+
+abbrev pub with_status : Draft → List ℕ → Status → Draft
+with_status d name s = record { lbs = d.lbs; statuses = d.statuses ++ s ∷ []; listed = d.listed ++ (name, named.Status (length d.statuses)) ∷ [] }
+
+-- what an accepted worker of this type adds
+abbrev pub AddsKind : List Property → ℕ → Listing → (Directive → Option Property) → Kind → Draft → Draft → Type 0
+AddsKind ps maintain l v kind.Status old new =
+    (s : Status) × (s.name ≡ l.name) × (s.read_only ≡ truth_or false (v directive.ReadOnly)) × (new ≡ with_status old l.name s)
+AddsKind ps maintain l v kind.Ajp13 old new =
+    (length old.lbs < 1024) × (lb : Lb) × IsDirect ps maintain l lb × (new ≡ with_lb old l.name lb)
+AddsKind ps maintain l v kind.Lb old new =
+    let members = members_in ps (v directive.BalanceWorkers) in
+    (length old.lbs < 1024) × Each (Known ps) members × Each (IsAjp13 ps) members
+    × (lb : Lb) × IsLb ps v maintain l.name (firsts members) lb × (new ≡ with_lb old l.name lb)
+
+abbrev pub Adds : List Property → ℕ → Listing → Draft → Draft → Type 0
+Adds ps maintain l old new =
+    Known ps l × (more : List (List ℕ)) × IsChain ps l.name more
+    × AddsKind ps maintain l (in_force ps l.name more) (kind_in (in_force ps l.name more directive.Kind)) old new
+
+-- the listed workers, in order, all accepted
+abbrev pub Builds : List Property → ℕ → List Listing → Draft → Draft → Type 0
+Builds ps maintain [] old new = new ≡ old
+Builds ps maintain (l ∷ ls) old new = (mid : Draft) × Adds ps maintain l old mid × Builds ps maintain ls mid new
+
+-- the listed workers, in order, up to the first that is refused
+abbrev pub Stops : List Property → ℕ → List Listing → Draft → Refusal → Type 0
+Stops ps maintain [] old r = ⊥
+Stops ps maintain (l ∷ ls) old r = Refuses ps (length old.lbs) l r ⊎ ((mid : Draft) × Adds ps maintain l old mid × Stops ps maintain ls mid r)
+
+-- the seconds between two maintenances
+abbrev pub is_maintain_line : Property → Bool
+is_maintain_line p = bytes_eq p.key maintain_key
+
+abbrev pub maintain_of : List Property → ℕ
+maintain_of ps = number_or 1 86400 60 (last_of is_maintain_line ps)
+
+-- whether a key has an effect
+abbrev pub is_built_part : Option (List ℕ × List ℕ) → List ℕ → Bool
+is_built_part None key = if bytes_eq key list_key then true else bytes_eq key maintain_key
+is_built_part (Some parts) key = is_some (directive_of parts.1)
+
+abbrev pub is_built : List ℕ → Bool
+is_built key = is_built_part (worker_part key) key
+
+abbrev pub ignored_of : List Property → List (ℕ × List ℕ)
+ignored_of ps = map (λ p. (p.line, p.key)) (filter (λ p. not (is_built p.key)) ps)
+
+abbrev pub no_workers : Draft
+no_workers = record { lbs = []; statuses = []; listed = [] }
+
+abbrev pub draft_of : Config → Draft
+draft_of c = record { lbs = c.lbs; statuses = c.statuses; listed = c.listed }
+
+-- the configuration of a text
+pub record IsConfig (text : List ℕ) (c : Config) : Type 0 where
+  pub properties : List Property
+  pub read : read_text true text ≡ Ok properties
+  pub maintain : c.maintain ≡ maintain_of properties
+  pub workers : Builds properties (maintain_of properties) (firsts (site_list properties)) no_workers (draft_of c)
+  pub ignored : c.ignored ≡ ignored_of properties
+
+-- the first refusal of a text
+abbrev pub IsRefused : List ℕ → Refusal → Type 0
+IsRefused text r =
+    (read_text true text ≡ Err r)
+    ⊎ ((ps : List Property) × (read_text true text ≡ Ok ps) × Stops ps (maintain_of ps) (firsts (site_list ps)) no_workers r)
+
+-- what a text's lines and names are kept as
+abbrev pub IsIndexed : List Property → List Property → List (List ℕ) → Type 0
+IsIndexed ps lines names = IsNameOfGiven ps names × (lines ≡ filter lists_members ps)

@@ -1,0 +1,31 @@
+//! workers.properties: the configuration that a text gives, or its first refusal.
+//!
+//! Source: Apache Tomcat Connectors reference, "workers.properties" and "LoadBalancer HowTo".
+//! Own rules: the ranges, the numbers of the refusals and their order, how lists are spelled (docs/DECISIONS.md).
+//! Contract: `read_workers`, clauses `ok` and `refused`. Read first: specs/Site.antt, then specs/Given.antt,
+//! specs/Settings.antt, specs/Properties.antt.
+//! Errors: `PropsError`.
+#![tactic(auto)]
+
+mod books;
+mod draft;
+mod firsts;
+mod listing;
+mod member;
+mod members;
+mod name_table;
+mod reference;
+mod row;
+mod settings;
+mod site;
+mod table;
+#[cfg(test)]
+mod tests;
+mod whole;
+mod workers;
+
+pub use property_lines::{Property, PropertyList, PropsError, read_properties};
+pub use site_config::{
+    Config, EndList, Endpoint, IgnoredList, Lb, LbList, Named, NamedList, Status, StatusList,
+};
+pub use workers::read_workers;

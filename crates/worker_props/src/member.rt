@@ -1,0 +1,111 @@
+//! A member of a balancer.
+ghost use Rattle.std.specs.Prelude.{◌≡◌, ◌<◌, ◌+◌, map, IfOk, length, None};
+ghost use Rattle.std.specs.Option.{option_map};
+ghost use Rattle.property_lines.specs.Entries.{as_properties};
+ghost use Rattle.worker_props.specs.Rows.{property_at};
+ghost use Rattle.worker_props.specs.Settings.{IsEndpoint, IsMember, redirect_in, other_at, statuses_in, text_in};
+
+use crate::row::Row;
+use crate::settings::{activation, number_or, text, text_or};
+use jk_io::{Bytes, ListOf, NoMemory};
+use jk_model::{FailList, MemberConfig};
+use property_lines::{Directive, Entry, pings, statuses_of};
+use site_config::Endpoint;
+use std::alloc::Global;
+
+fn copied(alloc: Global, text: Option<&[u8]>) -> Result<Option<Bytes>, NoMemory>
+    ensures { IfOk result (λ b. b ≡ option_map (λ t. t.now) text.entry) }
+{
+    match text {
+        Some(text) => Ok(Some(Bytes::from_slice(alloc, text)?)),
+        None => Ok(None),
+    }
+}
+
+/// The statuses that count as a failure.
+fn fail_list(alloc: Global, entries: &[Entry<'_>], row: &Row) -> Result<FailList, NoMemory>
+    ensures { IfOk result (λ l. l ≡ statuses_in (property_at (as_properties entries.now) row.now Directive.FailOnStatus)) }
+{
+    match text(entries, row, Directive::FailOnStatus) {
+        Some(text) => match statuses_of(text) {
+            Some(statuses) => Ok(ListOf::from_vec(Vec::from_slice(alloc, statuses.as_slice())?)),
+            None => Ok(ListOf::new(alloc)),
+        },
+        None => Ok(ListOf::new(alloc)),
+    }
+}
+
+/// How the worker of this row is reached.
+pub(crate) fn endpoint_of<'t>(
+    alloc: Global,
+    entries: &[Entry<'t>],
+    row: &Row,
+) -> Result<Endpoint, NoMemory>
+    ensures { IfOk result (IsEndpoint (property_at (as_properties entries.now) row.now)) }
+{
+    let localhost: &'t [u8] = b"localhost";
+    let host = text_or(entries, row, Directive::Host, localhost);
+    let secret = text(entries, row, Directive::Secret);
+    let no_pings: &'t [u8] = b"";
+    let ping = text_or(entries, row, Directive::PingMode, no_pings);
+    Ok(Endpoint {
+        host: Bytes::from_slice(alloc, host)?,
+        port: number_or(entries, row, Directive::Port, 1, 65535, 8009) as u16,
+        retries: number_or(entries, row, Directive::Retries, 1, 10, 2) as u32,
+        packet: number_or(entries, row, Directive::PacketSize, 8192, 65536, 8192) as u32,
+        secret: copied(alloc, secret)?,
+        recovery: number_or(entries, row, Directive::RecoveryOptions, 0, 31, 0) as u8,
+        ping_new: pings(b'c', ping),
+        ping_each: pings(b'p', ping),
+        ping_idle: pings(b'i', ping),
+        fail_on: fail_list(alloc, entries, row)?,
+    })
+}
+
+/// The first place from `from` on, but `index`, whose route is the text.
+fn other_at(index: usize, text: &[u8], routes: &[&[u8]]) -> Option<u32>
+    requires { length routes.now < 65 }
+    ensures { result ≡ other_at index text.now 0 (map (λ r. r.now) routes.now) }
+{
+    for (i, route) in routes.iter().enumerate() {
+        if *route == text && i != index {
+            return Some(i as u32);
+        }
+    }
+    None
+}
+
+fn redirect(index: usize, text: Option<&[u8]>, routes: &[&[u8]]) -> Option<u32>
+    requires { length routes.now < 65 }
+    ensures { result ≡ redirect_in (map (λ r. r.now) routes.now) index (option_map (λ t. t.now) text.entry) }
+{
+    match text {
+        Some(text) => other_at(index, text, routes),
+        None => None,
+    }
+}
+
+/// The member at this place of a balancer whose members have these routes.
+pub(crate) fn member_of<'t>(
+    alloc: Global,
+    entries: &[Entry<'t>],
+    row: &Row,
+    name: &'t [u8],
+    routes: &[&[u8]],
+    index: usize,
+) -> Result<MemberConfig, NoMemory>
+    requires { length routes.now < 65 }
+    ensures { IfOk result (IsMember (property_at (as_properties entries.now) row.now) name.now (map (λ r. r.now) routes.now) index) }
+{
+    let route = text_or(entries, row, Directive::Route, name);
+    let redirected = text(entries, row, Directive::Redirect);
+    Ok(MemberConfig {
+        name: Bytes::from_slice(alloc, name)?,
+        route: Bytes::from_slice(alloc, route)?,
+        factor: number_or(entries, row, Directive::Factor, 1, 65535, 1) as u32,
+        distance: number_or(entries, row, Directive::Distance, 0, 65535, 0) as u32,
+        activation: activation(entries, row),
+        redirect: redirect(index, redirected, routes),
+        pool: number_or(entries, row, Directive::PoolSize, 1, 1024, 64) as u32,
+    })
+}

@@ -1,0 +1,183 @@
+//! The members of an lb worker: what is refused of them, and what is made of them.
+ghost use Rattle.std.specs.Prelude.{◌≡◌, ◌≤◌, ◌<◌, [], length, map, IfOk, IfErr, OnOk};
+ghost use Rattle.std.specs.Option.{option_map};
+ghost use Rattle.jk_model.specs.Ranges.{AreInRange};
+ghost use Rattle.worker_props.specs.Built.{HaveForce, AreBuilt, routes_at};
+ghost use Rattle.property_lines.specs.Entries.{as_properties};
+ghost use Rattle.worker_props.specs.Listings.{as_listing, as_listings};
+ghost use Rattle.property_lines.specs.Refusals.{IsRefusal};
+ghost use Rattle.worker_props.specs.Site.{AreMembers, Breaks, Chained, Each, FirstBad, IsAjp13, IsNoAjp13, IsUnknown, Known, routes_of};
+ghost use Rattle.worker_props.specs.Table.{IsNameOfGiven};
+ghost use Rattle.worker_props.specs.Ways.{AreOnWay};
+
+use crate::listing::Listing;
+use crate::member::{endpoint_of, member_of};
+use crate::name_table::NameTable;
+use crate::row::Row;
+use crate::settings::text_or;
+use crate::site::{check_ajp13, check_known, check_reference, force_of};
+use jk_model::MemberConfig;
+use property_lines::{Directive, Entry, PropsError};
+use site_config::Endpoint;
+use std::alloc::Global;
+
+/// Whether the references of each member lead on.
+pub(crate) fn check_references<'t>(
+    alloc: Global,
+    entries: &[Entry<'t>],
+    names: &NameTable<'t>,
+    rows: &mut Vec<Row>,
+    members: &[Listing<'t>],
+) -> Result<(), PropsError>
+    requires known { IsNameOfGiven (as_properties entries.now) names.now }
+    requires rows { AreOnWay (as_properties entries.now) [] names.now rows.old.items }
+    ensures rows { OnOk result (AreOnWay (as_properties entries.now) [] names.now rows.new.items) }
+    ensures ok { OnOk result (Each (Chained (as_properties entries.now)) (as_listings members.now)) }
+    ensures broken { IfErr result (IsRefusal (FirstBad (Chained (as_properties entries.now))
+        (Breaks (as_properties entries.now)) (as_listings members.now))) }
+{
+    for listing in members {
+        check_reference(alloc, entries, names, rows, listing)?;
+    }
+    Ok(())
+}
+
+/// Whether each member has a directive.
+pub(crate) fn check_members_known(
+    entries: &[Entry<'_>],
+    names: &NameTable<'_>,
+    members: &[Listing<'_>],
+) -> Result<(), PropsError>
+    requires { IsNameOfGiven (as_properties entries.now) names.now }
+    ensures ok { OnOk result (Each (Known (as_properties entries.now)) (as_listings members.now)) }
+    ensures unknown { IfErr result (IsRefusal (FirstBad (Known (as_properties entries.now))
+        (IsUnknown (as_properties entries.now)) (as_listings members.now))) }
+{
+    for listing in members {
+        check_known(entries, names, listing)?;
+    }
+    Ok(())
+}
+
+/// Whether each member is of type ajp13.
+pub(crate) fn check_types<'t>(
+    alloc: Global,
+    entries: &[Entry<'t>],
+    names: &NameTable<'t>,
+    rows: &mut Vec<Row>,
+    members: &[Listing<'t>],
+) -> Result<(), PropsError>
+    requires known { IsNameOfGiven (as_properties entries.now) names.now }
+    requires rows { AreOnWay (as_properties entries.now) [] names.now rows.old.items }
+    requires given { Each (Known (as_properties entries.now)) (as_listings members.now) }
+    requires chained { Each (Chained (as_properties entries.now)) (as_listings members.now) }
+    ensures rows { OnOk result (AreOnWay (as_properties entries.now) [] names.now rows.new.items) }
+    ensures ok { OnOk result (Each (IsAjp13 (as_properties entries.now)) (as_listings members.now)) }
+    ensures other { IfErr result (IsRefusal (FirstBad (IsAjp13 (as_properties entries.now))
+        (IsNoAjp13 (as_properties entries.now)) (as_listings members.now))) }
+{
+    for listing in members {
+        check_ajp13(alloc, entries, names, rows, listing)?;
+    }
+    Ok(())
+}
+
+/// The rows that are in force for these members.
+fn rows_of<'t>(
+    alloc: Global,
+    entries: &[Entry<'t>],
+    names: &NameTable<'t>,
+    rows: &mut Vec<Row>,
+    members: &[Listing<'t>],
+) -> Result<Vec<Row>, PropsError>
+    requires known { IsNameOfGiven (as_properties entries.now) names.now }
+    requires rows { AreOnWay (as_properties entries.now) [] names.now rows.old.items }
+    requires given { Each (Known (as_properties entries.now)) (as_listings members.now) }
+    requires chained { Each (Chained (as_properties entries.now)) (as_listings members.now) }
+    ensures rows { OnOk result (AreOnWay (as_properties entries.now) [] names.now rows.new.items) }
+    ensures force { IfOk result (λ v. HaveForce (as_properties entries.now) (as_listings members.now) v.items) }
+    ensures memory { IfErr result (λ e. e ≡ PropsError.NoMemory) }
+{
+    let mut out = Vec::new(alloc);
+    for listing in members {
+        out.push(force_of(alloc, entries, names, rows, listing.name)?)?;
+    }
+    Ok(out)
+}
+
+/// The routes of these members.
+fn routes_of<'t>(
+    alloc: Global,
+    entries: &[Entry<'t>],
+    rows: &[Row],
+    members: &[Listing<'t>],
+) -> Result<Vec<&'t [u8]>, PropsError>
+    requires { length rows.now ≡ length members.now }
+    ensures routes { IfOk result (λ v. map (λ r. r.now) v.items
+        ≡ routes_at (as_properties entries.now) (as_listings members.now) rows.now) }
+    ensures memory { IfErr result (λ e. e ≡ PropsError.NoMemory) }
+{
+    let mut out = Vec::new(alloc);
+    for (i, listing) in members.iter().enumerate() {
+        let row = rows[i];
+        out.push(text_or(entries, &row, Directive::Route, listing.name))?;
+    }
+    Ok(out)
+}
+
+/// The members of a balancer, by index, with how each is reached.
+#[derive(Drop)]
+pub(crate) struct Members {
+    pub(crate) configs: Vec<MemberConfig>,
+    pub(crate) ends: Vec<Endpoint>,
+}
+
+fn built<'t>(
+    alloc: Global,
+    entries: &[Entry<'t>],
+    rows: &[Row],
+    members: &[Listing<'t>],
+    routes: &[&[u8]],
+) -> Result<Members, PropsError>
+    requires rows { length rows.now ≡ length members.now }
+    requires routes { length routes.now < 65 }
+    ensures built { IfOk result (λ b. AreBuilt (as_properties entries.now) (map (λ r. r.now) routes.now) 0
+        (as_listings members.now) rows.now b.configs.items b.ends.items) }
+    ensures memory { IfErr result (λ e. e ≡ PropsError.NoMemory) }
+{
+    let mut configs = Vec::new(alloc);
+    let mut ends = Vec::new(alloc);
+    for (i, listing) in members.iter().enumerate() {
+        let row = rows[i];
+        let member = member_of(alloc, entries, &row, listing.name, routes, i)?;
+        let end = endpoint_of(alloc, entries, &row)?;
+        configs.push(member)?;
+        ends.push(end)?;
+    }
+    Ok(Members { configs, ends })
+}
+
+/// The members of these names, at most 64.
+pub(crate) fn members_of<'t>(
+    alloc: Global,
+    entries: &[Entry<'t>],
+    names: &NameTable<'t>,
+    rows: &mut Vec<Row>,
+    members: &[Listing<'t>],
+) -> Result<Members, PropsError>
+    requires known { IsNameOfGiven (as_properties entries.now) names.now }
+    requires rows { AreOnWay (as_properties entries.now) [] names.now rows.old.items }
+    requires given { Each (Known (as_properties entries.now)) (as_listings members.now) }
+    requires chained { Each (Chained (as_properties entries.now)) (as_listings members.now) }
+    requires few { length members.now ≤ 64 }
+    ensures rows { OnOk result (AreOnWay (as_properties entries.now) [] names.now rows.new.items) }
+    ensures members { IfOk result (λ b. AreMembers (as_properties entries.now) (routes_of b.configs.items) 0
+        (as_listings members.now) b.configs.items b.ends.items) }
+    ensures ranges { IfOk result (λ b. AreInRange b.configs.items) }
+    ensures count { IfOk result (λ b. (length b.configs.items ≡ length members.now) × (length b.ends.items ≡ length members.now)) }
+    ensures memory { IfErr result (λ e. e ≡ PropsError.NoMemory) }
+{
+    let own = rows_of(alloc, entries, names, rows, members)?;
+    let routes = routes_of(alloc, entries, own.as_slice(), members)?;
+    built(alloc, entries, own.as_slice(), members, routes.as_slice())
+}

@@ -1,0 +1,152 @@
+//! References: a worker's directives hold for another that has none of its own.
+ghost use Rattle.std.specs.Prelude.{◌≡◌, ◌<◌, ◌≤◌, ℕ, List, length, map, reverse, IfOk, IfErr, OnOk, true, false, if◌then◌else◌, slice_get, slice_index_or, Some, None, []};
+ghost use Rattle.std.specs.Option.{option_map};
+ghost use Rattle.property_lines.specs.Entries.{as_property, as_properties};
+ghost use Rattle.worker_props.specs.Given.{is_given, or_else, target_name};
+ghost use Rattle.worker_props.specs.Numbers.{number_of};
+ghost use Rattle.worker_props.specs.Rows.{adjusted};
+ghost use Rattle.worker_props.specs.Table.{IsNameOfGiven};
+ghost use Rattle.worker_props.specs.Ways.{AreOnWay, IsWay, IsBroken, IsSettled, Inherits, is_open, passed_row, row_of_target};
+
+use crate::name_table::NameTable;
+use crate::row::{Progress, Row, picked};
+use property_lines::{Directive, Entry, PropsError, Reason, behind_worker, refused};
+use std::alloc::Global;
+
+/// The worker that a reference names.
+fn target_of<'t>(entry: &Entry<'t>) -> &'t [u8]
+    ensures { result.now ≡ target_name (as_property entry.now) }
+{
+    match behind_worker(entry.value) {
+        Some(name) => name,
+        None => b"",
+    }
+}
+
+/// The row of the worker that the row's reference names.
+fn target_row(entries: &[Entry<'_>], names: &NameTable<'_>, rows: &[Row], row: &Row) -> Option<Row>
+    ensures { result ≡ row_of_target (as_properties entries.now) names.now rows.now row.now }
+{
+    let entry = picked(entries, row, Directive::Reference)?;
+    let number = names.find(target_of(&entry))?;
+    rows.get(number).copied()
+}
+
+fn or_else(own: Option<u32>, other: Option<u32>) -> Option<u32>
+    ensures { result ≡ or_else own other }
+{
+    match own {
+        None => other,
+        Some(place) => Some(place),
+    }
+}
+
+/// The places of a row, and those of another where it has none.
+fn inherited(own: &[Option<u32>; 24], from: &[Option<u32>; 24]) -> [Option<u32>; 24]
+    ensures wide { length result ≡ 24 }
+    ensures each { (k : ℕ) → k < 24 → slice_index_or result k None
+        ≡ or_else (slice_index_or own.now k None) (slice_index_or from.now k None) }
+{
+    let mut places = *own;
+    for (i, place) in from.iter().enumerate() {
+        places[i] = or_else(places[i], *place);
+    }
+    places
+}
+
+/// The row with the lines of another where it has none, whole.
+fn whole_row(row: &Row, from: Option<Row>) -> Row
+    ensures { Inherits row.now from result }
+{
+    let places = match from {
+        None => row.places,
+        Some(from) => inherited(&row.places, &from.places),
+    };
+    Row {
+        places,
+        progress: Progress::Whole,
+    }
+}
+
+/// Notes that a walk has passed the worker of this number.
+fn pass(rows: &mut Vec<Row>, number: usize)
+    requires { number < length rows.old.items }
+    ensures { rows.new.items ≡ adjusted passed_row rows.old.items number }
+{
+    let row = rows[number];
+    rows[number] = row.passed();
+}
+
+/// The worker that a reference names, where it has a directive and wasn't passed.
+fn next_on_way<'t>(names: &NameTable<'_>, rows: &[Row], entry: &Entry<'t>) -> Option<&'t [u8]>
+    ensures { option_map (λ t. t.now) result ≡ (if is_open names.now rows.now (target_name (as_property entry.now))
+        then Some (target_name (as_property entry.now)) else None) }
+{
+    let target = target_of(entry);
+    let number = names.find(target)?;
+    match rows.get(number) {
+        Some(row) if row.progress == Progress::Passed => None,
+        _ => Some(target),
+    }
+}
+
+/// Walks along references from a worker, up to one without, or one whose row is whole. The workers that it passed, in
+/// order, or the line of the first reference to a worker without a directive or to one that was passed before.
+fn walk<'t>(
+    alloc: Global,
+    entries: &[Entry<'t>],
+    names: &NameTable<'t>,
+    rows: &mut Vec<Row>,
+    start: &'t [u8],
+) -> Result<Vec<&'t [u8]>, PropsError>
+    requires known { IsNameOfGiven (as_properties entries.now) names.now }
+    requires given { is_given (as_properties entries.now) start.now ≡ true }
+    requires rows { AreOnWay (as_properties entries.now) [] names.now rows.old.items }
+    ensures way { IfOk result (λ path. IsWay (as_properties entries.now) start.now names.now rows.new.items
+        (reverse (map (λ n. n.now) path.items))) }
+    ensures broken { IfErr result (IsBroken (as_properties entries.now) start.now) }
+{
+    let mut path = Vec::new(alloc);
+    let mut at = start;
+    loop {
+        let number = names.find(at).unwrap();
+        let row = rows[number];
+        if row.is_whole() {
+            return Ok(path);
+        }
+        pass(rows, number);
+        path.push(at)?;
+        match picked(entries, &row, Directive::Reference) {
+            None => return Ok(path),
+            Some(entry) => match next_on_way(names, rows.as_slice(), &entry) {
+                Some(next) => at = next,
+                None => return Err(refused(entry.line, Reason::BadReference)),
+            },
+        }
+    }
+}
+
+/// Makes the row of a worker whole, and those of the workers to which its references lead.
+pub(crate) fn resolve<'t>(
+    alloc: Global,
+    entries: &[Entry<'t>],
+    names: &NameTable<'t>,
+    rows: &mut Vec<Row>,
+    start: &'t [u8],
+) -> Result<(), PropsError>
+    requires known { IsNameOfGiven (as_properties entries.now) names.now }
+    requires given { is_given (as_properties entries.now) start.now ≡ true }
+    requires rows { AreOnWay (as_properties entries.now) [] names.now rows.old.items }
+    ensures rows { OnOk result (AreOnWay (as_properties entries.now) [] names.now rows.new.items) }
+    ensures settled { OnOk result (IsSettled names.now rows.new.items start.now) }
+    ensures broken { IfErr result (IsBroken (as_properties entries.now) start.now) }
+{
+    let mut path = walk(alloc, entries, names, rows, start)?;
+    while let Some(name) = path.pop() {
+        let number = names.find(name).unwrap();
+        let row = rows[number];
+        let from = target_row(entries, names, rows.as_slice(), &row);
+        rows[number] = whole_row(&row, from);
+    }
+    Ok(())
+}

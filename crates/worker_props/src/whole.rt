@@ -1,0 +1,63 @@
+//! What a text says of the site as a whole.
+ghost use Rattle.std.specs.Prelude.{◌≡◌, ◌≤◌, IfOk};
+ghost use Rattle.std.specs.Option.{option_map};
+ghost use Rattle.property_lines.specs.Directives.{worker_part};
+ghost use Rattle.property_lines.specs.Entries.{as_property, as_properties};
+ghost use Rattle.worker_props.specs.Site.{ignored_of, is_built, is_maintain_line, maintain_of};
+ghost use Rattle.worker_props.specs.Given.{last_of};
+
+use jk_io::{Bytes, ListOf, NoMemory};
+use property_lines::{Entry, directive_of, is_list_key, is_maintain_key, number_in, worker_part};
+use site_config::IgnoredList;
+use std::alloc::Global;
+
+/// The last line that gives the seconds between two maintenances.
+fn maintain_line<'t>(entries: &[Entry<'t>]) -> Option<Entry<'t>>
+    ensures { option_map as_property result ≡ last_of is_maintain_line (as_properties entries.now) }
+{
+    let mut last = None;
+    for entry in entries {
+        if is_maintain_key(entry.key) {
+            last = Some(*entry);
+        }
+    }
+    last
+}
+
+/// The seconds between two maintenances.
+pub(crate) fn maintain_of(entries: &[Entry<'_>]) -> u64
+    ensures value { result ≡ maintain_of (as_properties entries.now) }
+    ensures above { 1 ≤ result }
+    ensures below { result ≤ 86400 }
+{
+    match maintain_line(entries) {
+        Some(entry) => match number_in(1, 86400, entry.value) {
+            Some(seconds) => seconds,
+            None => 60,
+        },
+        None => 60,
+    }
+}
+
+/// Whether a key has an effect.
+fn is_built(key: &[u8]) -> bool
+    ensures { result ≡ is_built key.now }
+{
+    match worker_part(key) {
+        None => is_list_key(key) || is_maintain_key(key),
+        Some((_, text)) => directive_of(text).is_some(),
+    }
+}
+
+/// The lines whose keys have no effect.
+pub(crate) fn ignored_of(alloc: Global, entries: &[Entry<'_>]) -> Result<IgnoredList, NoMemory>
+    ensures { IfOk result (λ l. l ≡ ignored_of (as_properties entries.now)) }
+{
+    let mut ignored = Vec::new(alloc);
+    for entry in entries {
+        if !is_built(entry.key) {
+            ignored.push((entry.line, Bytes::from_slice(alloc, entry.key)?))?;
+        }
+    }
+    Ok(ListOf::from_vec(ignored))
+}
