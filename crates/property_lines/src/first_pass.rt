@@ -1,5 +1,5 @@
 //! The first pass: each line by itself, from the top.
-ghost use Rattle.std.specs.Prelude.{◌≡◌, ◌≤◌, length, map, IfOk};
+ghost use Rattle.std.specs.Prelude.{◌≡◌, ◌≤◌, length, map, vec_len, IfOk};
 ghost use Rattle.std.specs.Option.{option_map, option_to_list};
 ghost use Rattle.property_lines.specs.Entries.{as_property, as_properties};
 ghost use Rattle.property_lines.specs.Refusals.{Gives, code_of};
@@ -66,7 +66,8 @@ fn said(values: bool, line: u32, text: &[u8]) -> Result<Option<Entry<'_>>, Props
 /// The properties of a text, or the first line that is refused. Bad values are refused where `values` is on.
 pub fn read_entries(alloc: Global, values: bool, text: &[u8]) -> Result<Vec<Entry<'_>>, PropsError>
     requires { length text.now ≤ 67108864 }
-    ensures { Gives (λ v. as_properties v.items) result (read_text values text.now) }
+    ensures entries { Gives (λ v. as_properties v.items) result (read_text values text.now) }
+    ensures few { IfOk result (λ v. vec_len v ≤ length text.now) }
 {
     let mut entries = Vec::new(alloc);
     let mut number: u32 = 0;

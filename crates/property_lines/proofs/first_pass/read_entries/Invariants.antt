@@ -1,4 +1,4 @@
-use Rattle.std.proofs.Common.{◌≡◌, ◌+◌, ◌≤◌, length}
+use Rattle.std.proofs.Common.{◌≡◌, ◌+◌, ◌≤◌, length, vec_len}
 use Rattle.property_lines.specs.Entries.{as_properties}
 use Rattle.property_lines.specs.Lines.{lines}
 use Rattle.property_lines.specs.Properties.{read_lines, read_text, with_properties}
@@ -7,6 +7,7 @@ use Rattle.property_lines.proofs.first_pass.read_entries.Given as goal
 -- the properties so far, in front of those that the rest gives
 abbrev pub invariant-loop-line : goal.invariant-loop-line
 invariant-loop-line l = record {
+  few : vec_len l.entries ≤ l.number;
   count : l.number + length l.rest ≤ length l.text;
   read : with_properties (as_properties l.entries.items) (read_lines l.values (l.number + 1) (lines l.rest)) ≡ read_text l.values l.text;
 }
