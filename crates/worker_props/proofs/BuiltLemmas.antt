@@ -1,9 +1,9 @@
 -- Members made of rows, one after another.
-use Rattle.std.proofs.Common.{◌≡◌, ◌≢◌, ℕ, ◌+◌, ◌<◌, ◌≤◌, Bool, true, false, List, [], ◌∷◌, ◌++◌, length, take, map, get_or, Option, Some, None, refl, sym, ◌∙◌, ap, subst, cond, suc, zero, arith, eqb, nat_lt, nat_le, ◌&&◌, not}
-use Rattle.std.proofs.lemmas.Bool.{and_parts, false≢true, eqb-true}
-use Rattle.std.proofs.lemmas.List.{take_more, map-append}
+use Rattle.std.proofs.Common.{◌≡◌, ℕ, ◌+◌, ◌<◌, ◌≤◌, Bool, true, false, List, [], ◌∷◌, ◌++◌, length, take, get_or, Option, Some, None, refl, sym, ◌∙◌, ap, subst, cond, suc, zero, arith, eqb, nat_lt, nat_le, ◌&&◌, not}
+use Rattle.std.proofs.lemmas.Bool.{and_parts, false≢true}
+use Rattle.std.proofs.lemmas.List.{take_more, map-append, length-take, length-map}
 use Rattle.std.proofs.lemmas.Option.{same_Some, none-some}
-use Rattle.std.specs.Option.{option_and_then, unwrap_or}
+use Rattle.std.specs.Option.{unwrap_or}
 use Rattle.std.specs.List.{slice_get}
 use Rattle.std.specs.Str.{bytes_eq}
 use Rattle.jk_io.specs.Decimals.{decimal_of}
@@ -19,10 +19,10 @@ use Rattle.worker_props.specs.Built.{HaveForce, routes_at, AreBuilt}
 use Rattle.worker_props.specs.Given.{in_force}
 use Rattle.worker_props.specs.Lists.{Listing}
 use Rattle.worker_props.specs.Listings.{as_listing, as_listings}
-use Rattle.worker_props.specs.Rows.{HasForce, HasLines, property_at}
+use Rattle.worker_props.specs.Rows.{HasForce, property_at}
 use Rattle.worker_props.specs.Settings.{IsEndpoint, IsMember, number_or, other_at, redirect_in, text_in, text_or}
 use Rattle.worker_props.specs.Site.{AreMembers, routes_of}
-use Rattle.property_lines.specs.Values.{number_in, within}
+use Rattle.property_lines.specs.Values.{within}
 
 -- the listings so far, after one more
 pub listings_more : (ls : List declared.Listing) (i : ℕ) (d : declared.Listing) → i < length ls → as_listings (take (i + 1) ls) ≡ as_listings (take i ls) ++ as_listing (get_or ls i d) ∷ []
@@ -58,6 +58,24 @@ AreBuilt-snoc ps routes i (x ∷ ls) (r ∷ rows) (y ∷ ms) (z ∷ es) l row m 
     let here : i + length (x ∷ ls) ≡ i + 1 + length ls = omega arith in
     (h.0, h.1, AreBuilt-snoc ps routes (i + 1) ls rows ms es l row m e h.2 (subst (λ (k : ℕ). IsMember (property_at ps row) l.name routes k m) here is) ends)
 AreBuilt-snoc ps routes i ls rows ms es l row m e h is ends = absurd h
+
+front_lengths : (ms : List declared.Listing) (rows : List Row) (i : ℕ) → length rows ≡ length ms → length (take i rows) ≡ length (as_listings (take i ms))
+front_lengths ms rows i same = rw (length-map, length-take i rows, length-take i ms, same) refl
+
+-- one member's route, row or configuration more
+pub routes_more : (ps : List Property) (ms : List declared.Listing) (rows : List Row) (i : ℕ) (d : declared.Listing) (r : Row) → i < length ms → length rows ≡ length ms → routes_at ps (as_listings (take (i + 1) ms)) (take (i + 1) rows) ≡ routes_at ps (as_listings (take i ms)) (take i rows) ++ text_or (get_or ms i d).name.now (property_at ps (get_or rows i r) directive.Route) ∷ []
+routes_more ps ms rows i d r h same =
+    let within : i < length rows = omega arith in
+    rw (listings_more ms i d h, take_more rows i r within) (routes_at-snoc ps (as_listings (take i ms)) (take i rows) (as_listing (get_or ms i d)) (get_or rows i r) (front_lengths ms rows i same))
+
+pub force_more : (ps : List Property) (ms : List declared.Listing) (rows : List Row) (i : ℕ) (d : declared.Listing) (row : Row) → i < length ms → HaveForce ps (as_listings (take i ms)) rows → HasForce ps (get_or ms i d).name.now row → HaveForce ps (as_listings (take (i + 1) ms)) (rows ++ row ∷ [])
+force_more ps ms rows i d row h so_far force = rw (listings_more ms i d h) (HaveForce-snoc ps (as_listings (take i ms)) rows (as_listing (get_or ms i d)) row so_far force)
+
+pub built_more : (ps : List Property) (routes : List (List ℕ)) (ms : List declared.Listing) (rows : List Row) (cs : List MemberConfig) (es : List Endpoint) (i : ℕ) (d : declared.Listing) (r : Row) (m : MemberConfig) (e : Endpoint) → i < length ms → length rows ≡ length ms → AreBuilt ps routes 0 (as_listings (take i ms)) (take i rows) cs es → IsMember (property_at ps (get_or rows i r)) (get_or ms i d).name.now routes i m → IsEndpoint (property_at ps (get_or rows i r)) e → AreBuilt ps routes 0 (as_listings (take (i + 1) ms)) (take (i + 1) rows) (cs ++ m ∷ []) (es ++ e ∷ [])
+built_more ps routes ms rows cs es i d r m e h same so_far member end =
+    let within : i < length rows = omega arith in
+    let index : i ≡ 0 + length (as_listings (take i ms)) = rw length-map (omega (arith, length-take i ms)) in
+    rw (listings_more ms i d h, take_more rows i r within) (AreBuilt-snoc ps routes 0 (as_listings (take i ms)) (take i rows) cs es (as_listing (get_or ms i d)) (get_or rows i r) m e so_far (subst (λ (k : ℕ). IsMember (property_at ps (get_or rows i r)) (get_or ms i d).name.now routes k m) index member) end)
 
 -- members made of the rows in force are those of the definition
 same_lines : (ps : List Property) (v w : Directive → Option Property) → ((d : Directive) → v d ≡ w d) → v ≡ w
@@ -114,6 +132,10 @@ number_or-high : (low high default : ℕ) (p : Option Property) → default ≤ 
 number_or-high low high default None h = h
 number_or-high low high default (Some p) h = within_high low high default (decimal_of p.value) h
 
+not_true : (b : Bool) → not b ≡ true → b ≡ false
+not_true true h = absurd (false≢true h)
+not_true false h = refl
+
 -- a redirect is another member's place
 other_within : (i : ℕ) (text : List ℕ) (j : ℕ) (routes : List (List ℕ)) (t : ℕ) → other_at i text j routes ≡ Some t → (t < j + length routes) × (eqb t i ≡ false)
 other_within i text j [] t e = absurd (none-some t e)
@@ -125,10 +147,6 @@ other_within i text j (route ∷ routes) t e = by_test (other_within i text (j +
         let apart = (and_parts (bytes_eq route text) (not (eqb j i)) yea).1 in
         (omega arith, subst (λ (k : ℕ). eqb k i ≡ false) one (not_true (eqb j i) apart))
     by_test rest false nay e = let found = rest e in (omega (arith, found.0), found.1)
-
-    not_true : (b : Bool) → not b ≡ true → b ≡ false
-    not_true true h = absurd (false≢true h)
-    not_true false h = refl
 
 redirect_within : (n i : ℕ) (routes : List (List ℕ)) (o : Option (List ℕ)) (r : Option ℕ) → length routes ≡ n → redirect_in routes i o ≡ r → redirects_within n i r ≡ true
 redirect_within n i routes o None h e = refl
@@ -165,3 +183,23 @@ pub built_ranges : (ps : List Property) (routes : List (List ℕ)) (ls : List Li
 built_ranges ps routes ls rows ms es len h = record {
   at = λ j m e. let zero_more : 0 + j ≡ j = omega arith in subst (λ (k : ℕ). IsInRange (length ms) k m) zero_more (built_at ps routes (length ms) 0 ls rows ms es j m len h e);
 }
+
+-- what was made of the rows in force of these members
+pub force_lengths : (ps : List Property) (ms : List declared.Listing) (rows : List Row) → HaveForce ps (as_listings ms) rows → length rows ≡ length ms
+force_lengths ps ms rows h = length-HaveForce ps (as_listings ms) rows h ∙ length-map ms as_listing
+
+pub route_lengths : (ps : List Property) (ms : List declared.Listing) (rows : List Row) (routes : List (List ℕ)) → length rows ≡ length ms → routes ≡ routes_at ps (as_listings ms) rows → length routes ≡ length ms
+route_lengths ps ms rows routes same are = ap length are ∙ length-routes_at ps (as_listings ms) rows (same ∙ sym (length-map ms as_listing)) ∙ length-map ms as_listing
+
+pub made_members : (ps : List Property) (routes : List (List ℕ)) (ls : List Listing) (rows : List Row) (ms : List MemberConfig) (es : List Endpoint) → HaveForce ps ls rows → routes ≡ routes_at ps ls rows → AreBuilt ps routes 0 ls rows ms es → AreMembers ps (routes_of ms) 0 ls ms es
+made_members ps routes ls rows ms es force are h = subst (λ (rs : List (List ℕ)). AreMembers ps rs 0 ls ms es) (are ∙ built_routes ps routes 0 ls rows ms es h) (built_members ps routes 0 ls rows ms es force h)
+
+pub made_ranges : (ps : List Property) (routes : List (List ℕ)) (ls : List Listing) (rows : List Row) (ms : List MemberConfig) (es : List Endpoint) → HaveForce ps ls rows → routes ≡ routes_at ps ls rows → AreBuilt ps routes 0 ls rows ms es → AreInRange ms
+made_ranges ps routes ls rows ms es force are h =
+    let count : length routes ≡ length ms = ap length are ∙ length-routes_at ps ls rows (length-HaveForce ps ls rows force) ∙ sym (built_lengths ps routes 0 ls rows ms es h).0 in
+    built_ranges ps routes ls rows ms es count h
+
+pub made_count : (ps : List Property) (routes : List (List ℕ)) (ls : List declared.Listing) (rows : List Row) (ms : List MemberConfig) (es : List Endpoint) → AreBuilt ps routes 0 (as_listings ls) rows ms es → (length ms ≡ length ls) × (length es ≡ length ls)
+made_count ps routes ls rows ms es h =
+    let both = built_lengths ps routes 0 (as_listings ls) rows ms es h in
+    (both.0 ∙ length-map ls as_listing, both.1 ∙ length-map ls as_listing)

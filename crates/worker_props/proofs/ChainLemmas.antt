@@ -1,5 +1,5 @@
 -- A chain of references that ends doesn't break.
-use Rattle.std.proofs.Common.{◌≡◌, ◌≢◌, ℕ, ◌+◌, ◌<◌, ◌≤◌, Bool, true, false, List, [], ◌∷◌, length, Option, Some, None, refl, sym, ◌∙◌, ap, subst, cond, suc, arith, ⊎_elim, ◌&&◌, ◌||◌}
+use Rattle.std.proofs.Common.{◌≡◌, ℕ, ◌≤◌, Bool, true, false, List, [], ◌∷◌, length, Option, Some, None, refl, sym, ◌∙◌, ap, subst, cond, suc, arith, ⊎_elim, ◌&&◌, ◌||◌}
 use Rattle.std.proofs.lemmas.Bool.{false≢true, or_cases}
 use Rattle.std.proofs.lemmas.Option.{same_Some, none-some}
 use Rattle.std.proofs.lemmas.Slice.Eq.{bytes_eq-Decides}
@@ -102,3 +102,7 @@ unknown_chain ps name e = ap target_in (none_given ps name directive.Reference e
 pub not_broken : (ps : List Property) (name : List ℕ) (more : List (List ℕ)) (so : Refusal → Type 0) (e : PropsError) → IsChain ps name more → IsBroken ps name e → IsRefusal so e
 not_broken ps name more so (errors.Refused line code) chain broken = absurd (chain_or_break ps name more line chain broken.0)
 not_broken ps name more so errors.NoMemory chain broken = tt
+
+pub only_memory : (ps : List Property) (name : List ℕ) (more : List (List ℕ)) (e : PropsError) → IsChain ps name more → IsBroken ps name e → e ≡ errors.NoMemory
+only_memory ps name more (errors.Refused line code) chain broken = absurd (chain_or_break ps name more line chain broken.0)
+only_memory ps name more errors.NoMemory chain broken = refl

@@ -1,5 +1,5 @@
 -- Checking a list from the front.
-use Rattle.std.proofs.Common.{◌≡◌, ℕ, ◌+◌, ◌<◌, List, [], ◌∷◌, length, drop, get_or, map, refl, sym, ◌∙◌, ap, subst, inl, inr, ⊎_elim, suc, zero, arith}
+use Rattle.std.proofs.Common.{◌≡◌, ℕ, ◌+◌, ◌<◌, List, [], ◌∷◌, length, drop, get_or, refl, sym, subst, inl, inr, suc, zero, arith}
 use Rattle.std.proofs.lemmas.List.{drop_more}
 use Rattle.worker_props.specs.declared.listing.Listing as declared
 use Rattle.property_lines.specs.declared.error.PropsError.{PropsError}

@@ -1,10 +1,17 @@
 -- Names, each where it stands first.
-use Rattle.std.proofs.Common.{◌≡◌, ℕ, ◌+◌, ◌<◌, ◌≤◌, Bool, true, false, List, [], ◌∷◌, ◌++◌, length, take, drop, get_or, refl, sym, ◌∙◌, ap, subst, cond, suc, zero, arith, append_assoc, length-append}
+use Rattle.std.proofs.Common.{◌≡◌, ℕ, ◌+◌, ◌<◌, Bool, true, false, ◌||◌, List, [], ◌∷◌, ◌++◌, length, take, get_or, refl, sym, ◌∙◌, ap, subst, cond}
 use Rattle.std.proofs.lemmas.Bool.{false≢true, false_from_ne_true}
-use Rattle.std.proofs.lemmas.List.{take_more, map-append, take_at, take-append-drop, append-nil, take_all}
+use Rattle.std.proofs.lemmas.List.{map-append, append-nil}
 use Rattle.std.proofs.lemmas.Slice.Eq.{bytes_eq-Decides}
 use Rattle.std.specs.Str.{bytes_eq}
+use Rattle.std.proofs.Math.Bool.{or-false}
+use Rattle.std.specs.Option.{is_some}
+use Rattle.worker_props.specs.declared.listing.Listing as declared
 use Rattle.worker_props.specs.Lists.{Listing, is_named, drop_name, firsts}
+use Rattle.worker_props.specs.Listings.{as_listing, as_listings}
+use Rattle.worker_props.specs.Numbers.{number_of}
+use Rattle.worker_props.proofs.BuiltLemmas.{listings_more}
+use Rattle.worker_props.proofs.TableLemmas.{known_snoc}
 
 -- dropping a name that isn't there
 drop_name-append : (name : List ℕ) (xs ys : List Listing) → drop_name name (xs ++ ys) ≡ drop_name name xs ++ drop_name name ys
@@ -68,3 +75,47 @@ firsts-snoc (x ∷ xs) l = by_test (bytes_eq x.name l.name) refl (is_named l.nam
       where
         apart : bytes_eq x.name l.name ≡ false → bytes_eq l.name x.name ≡ false
         apart e = false_from_ne_true _ (λ same. false≢true (sym e ∙ flip l.name x.name same))
+
+pub named-snoc : (name : List ℕ) (xs : List Listing) (l : Listing) → is_named name (xs ++ l ∷ []) ≡ (is_named name xs || bytes_eq l.name name)
+named-snoc name [] l = by_test (bytes_eq l.name name)
+  where
+    by_test : (t : Bool) → cond t true false ≡ (false || t)
+    by_test true = refl
+    by_test false = refl
+named-snoc name (x ∷ xs) l = by_test (bytes_eq x.name name) (named-snoc name xs l)
+  where
+    by_test : (t : Bool) → is_named name (xs ++ l ∷ []) ≡ (is_named name xs || bytes_eq l.name name) → cond t true (is_named name (xs ++ l ∷ [])) ≡ (cond t true (is_named name xs) || bytes_eq l.name name)
+    by_test true rest = refl
+    by_test false rest = rest
+
+-- the names that were seen are those of the list
+abbrev pub AreSeen : List (List ℕ) → List Listing → Type 0
+AreSeen seen ls = (name : List ℕ) → is_some (number_of name seen) ≡ is_named name ls
+
+-- a name that wasn't seen counts
+pub firsts_new : (ls : List declared.Listing) (i : ℕ) (d : declared.Listing) (out : List declared.Listing) (seen : List (List ℕ)) → i < length ls → as_listings out ≡ firsts (as_listings (take i ls)) → AreSeen seen (as_listings (take i ls)) → is_some (number_of (get_or ls i d).name.now seen) ≡ false → (as_listings (out ++ get_or ls i d ∷ []) ≡ firsts (as_listings (take (i + 1) ls))) × AreSeen (seen ++ (get_or ls i d).name.now ∷ []) (as_listings (take (i + 1) ls))
+firsts_new ls i d out seen h so_far are none =
+    let l = as_listing (get_or ls i d) in
+    let xs = as_listings (take i ls) in
+    let more : as_listings (take (i + 1) ls) ≡ xs ++ l ∷ [] = listings_more ls i d h in
+    let unnamed : is_named l.name xs ≡ false = sym (are l.name) ∙ none in
+    (rw (map-append, so_far, more, firsts-snoc xs l, unnamed) refl, λ name. rw (known_snoc name seen l.name, more, named-snoc name xs l, are name) refl)
+
+-- a further name that is there already
+absorbed : (one name : List ℕ) (xs : List Listing) → is_named one xs ≡ true → is_named name xs ≡ (is_named name xs || bytes_eq one name)
+absorbed one name xs named = by_test (bytes_eq one name) refl
+  where
+    by_test : (t : Bool) → bytes_eq one name ≡ t → is_named name xs ≡ (is_named name xs || t)
+    by_test false e = sym (or-false (is_named name xs))
+    by_test true e =
+        let yes : is_named name xs ≡ true = subst (λ (n : List ℕ). is_named n xs ≡ true) (same_name one name e) named in
+        rw yes refl
+
+-- a name that was seen changes nothing
+pub firsts_again : (ls : List declared.Listing) (i : ℕ) (d : declared.Listing) (out : List declared.Listing) (seen : List (List ℕ)) → i < length ls → as_listings out ≡ firsts (as_listings (take i ls)) → AreSeen seen (as_listings (take i ls)) → is_some (number_of (get_or ls i d).name.now seen) ≡ true → (as_listings out ≡ firsts (as_listings (take (i + 1) ls))) × AreSeen seen (as_listings (take (i + 1) ls))
+firsts_again ls i d out seen h so_far are there =
+    let l = as_listing (get_or ls i d) in
+    let xs = as_listings (take i ls) in
+    let more : as_listings (take (i + 1) ls) ≡ xs ++ l ∷ [] = listings_more ls i d h in
+    let named : is_named l.name xs ≡ true = sym (are l.name) ∙ there in
+    (rw (more, firsts-snoc xs l, named) so_far, λ name. rw (more, named-snoc name xs l) (are name ∙ absorbed l.name name xs named))

@@ -1,6 +1,8 @@
+pub mod BookLemmas
 pub mod BuiltLemmas
-pub mod CheckLemmas
 pub mod ChainLemmas
+pub mod CheckLemmas
+pub mod DraftLemmas
 pub mod FirstsLemmas
 pub mod RowLemmas
 pub mod TableLemmas

@@ -1,20 +1,22 @@
 -- The rows of the workers, after one line more.
-use Rattle.std.proofs.Common.{◌≡◌, ◌≢◌, ℕ, ◌+◌, ◌<◌, ◌≤◌, Bool, true, false, List, [], ◌∷◌, ◌++◌, length, take, get_or, set, Option, Some, None, refl, sym, ◌∙◌, ap, subst, cond, suc, zero, arith, inl, inr, ⊎_elim, ◌&&◌}
+use Rattle.std.proofs.Common.{◌≡◌, ◌≢◌, ℕ, ◌+◌, ◌<◌, Bool, true, false, List, [], ◌∷◌, ◌++◌, length, take, get_or, set, Option, Some, None, refl, sym, ◌∙◌, ap, subst, cond, suc, zero, arith, ⊎_elim}
 use Rattle.std.proofs.lemmas.Bool.{false_from_ne_true, cases_eq}
-use Rattle.std.proofs.lemmas.List.{take_more, get_or-set_same, get_or-set_other, length-set}
+use Rattle.std.proofs.lemmas.List.{take_more, map-append, get_or-set_same, get_or-set_other, length-set}
 use Rattle.std.proofs.lemmas.Option.{same_Some, none-some, slice_get-get_or}
 use Rattle.std.proofs.Math.Bool.{and-false}
 use Rattle.std.proofs.lemmas.Slice.Eq.{bytes_eq-Decides}
-use Rattle.std.specs.Option.{option_map, is_some}
+use Rattle.std.specs.Option.{option_map}
 use Rattle.std.specs.Str.{bytes_eq}
 use Rattle.std.specs.List.{slice_get}
 use Rattle.property_lines.specs.declared.property.Property.{Property}
 use Rattle.property_lines.specs.declared.directive.Directive.{Directive}
+use Rattle.property_lines.specs.declared.entry.Entry.{Entry}
+use Rattle.property_lines.specs.Entries.{as_property, as_properties}
 use Rattle.worker_props.specs.declared.row.Row.{Row}
 use Rattle.property_lines.specs.Directives.{name_of, slot_of, directive_of, worker_part}
 use Rattle.worker_props.specs.Given.{last_of, last_given, gives, names_both, or_else}
 use Rattle.worker_props.specs.Numbers.{number_of}
-use Rattle.worker_props.specs.Rows.{place_at, picked, property_at, HasLines, HasOwn, AreRows, row_with, adjusted, rows_for, rows_at, rows_after}
+use Rattle.worker_props.specs.Rows.{place_at, HasLines, HasOwn, AreRows, row_with, adjusted, rows_for, rows_at, rows_after}
 use Rattle.property_lines.proofs.DirectiveLemmas.{name_of-none, name_of-other, name_of-same, same_slot, slot_of-within}
 
 -- of the lines that pass, the last: the one at the end, if it does
@@ -25,6 +27,16 @@ last_of-snoc passes (q ∷ ps) p = rw (last_of-snoc passes ps p) (by_test (passe
     by_test : (t : Bool) → or_else (cond t (Some p) (last_of passes ps)) (cond (passes q) (Some q) None) ≡ cond t (Some p) (or_else (last_of passes ps) (cond (passes q) (Some q) None))
     by_test true = refl
     by_test false = refl
+
+last_more : (passes : Property → Bool) (es : List Entry) (i : ℕ) (d : Entry) → i < length es → last_of passes (as_properties (take (i + 1) es)) ≡ cond (passes (as_property (get_or es i d))) (Some (as_property (get_or es i d))) (last_of passes (as_properties (take i es)))
+last_more passes es i d h = rw (take_more es i d h, map-append) (last_of-snoc passes (as_properties (take i es)) (as_property (get_or es i d)))
+
+-- the last line so far, after one that passes and after one that doesn't
+pub last_put : (passes : Property → Bool) (es : List Entry) (i : ℕ) (d : Entry) → i < length es → passes (as_property (get_or es i d)) ≡ true → Some (as_property (get_or es i d)) ≡ last_of passes (as_properties (take (i + 1) es))
+last_put passes es i d h yea = rw (last_more passes es i d h, yea) refl
+
+pub last_kept : (passes : Property → Bool) (es : List Entry) (i : ℕ) (d : Entry) (last : Option Property) → i < length es → passes (as_property (get_or es i d)) ≡ false → last ≡ last_of passes (as_properties (take i es)) → last ≡ last_of passes (as_properties (take (i + 1) es))
+last_kept passes es i d last h nay so_far = rw (last_more passes es i d h, nay) so_far
 
 -- a name's place has the name
 number_deeper : (o : Option ℕ) (i : ℕ) → option_map suc o ≡ Some i → (j : ℕ) × (o ≡ Some j) × (i ≡ suc j)

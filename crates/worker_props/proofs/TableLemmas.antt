@@ -1,11 +1,11 @@
 -- A name more in a table.
-use Rattle.std.proofs.Common.{◌≡◌, ℕ, ◌+◌, ◌<◌, ◌≤◌, Bool, true, false, ◌||◌, List, [], ◌∷◌, ◌++◌, length, take, get_or, Option, Some, None, refl, cond, suc, sym, ◌∙◌, ap, arith, length-append}
+use Rattle.std.proofs.Common.{◌≡◌, ℕ, ◌+◌, ◌<◌, Bool, true, false, ◌||◌, List, [], ◌∷◌, ◌++◌, length, take, get_or, Option, Some, None, refl, cond, suc, sym, ◌∙◌, ap}
 use Rattle.std.proofs.Math.Bool.{or-false}
 use Rattle.std.proofs.lemmas.List.{take_more}
 use Rattle.std.proofs.lemmas.List.Folds.{list_any-append}
 use Rattle.property_lines.specs.declared.property.Property.{Property}
 use Rattle.property_lines.specs.Directives.{worker_part}
-use Rattle.worker_props.specs.Given.{names_worker, concerns}
+use Rattle.worker_props.specs.Given.{names_worker}
 use Rattle.worker_props.specs.Table.{with_name, names_with, IsNameOfGiven}
 use Rattle.std.specs.Option.{option_map, is_some}
 use Rattle.std.specs.Str.{bytes_eq}
@@ -51,6 +51,10 @@ some_last : (o : Option ℕ) (same : Bool) (n : ℕ) → is_some (else_last o sa
 some_last None true n = refl
 some_last None false n = refl
 some_last (Some i) same n = refl
+
+-- the names after one more at the end
+pub known_snoc : (n : List ℕ) (names : List (List ℕ)) (x : List ℕ) → is_some (number_of n (names ++ x ∷ [])) ≡ (is_some (number_of n names) || bytes_eq x n)
+known_snoc n names x = rw (number_of-snoc n names x) (some_last (number_of n names) (bytes_eq x n) (length names))
 
 -- the names after a name more: the same, and that one
 pub known_more : (name n : List ℕ) (names : List (List ℕ)) → is_some (number_of n (with_name name names)) ≡ (is_some (number_of n names) || bytes_eq name n)

@@ -1,24 +1,23 @@
 -- Walks along references: their steps, their ends, and the rows on the way back.
-use Rattle.std.proofs.Common.{◌≡◌, ◌≢◌, ℕ, ◌+◌, ◌<◌, ◌≤◌, Bool, true, false, List, [], ◌∷◌, ◌++◌, length, take, get_or, set, Option, Some, None, refl, sym, ◌∙◌, ap, subst, cond, suc, zero, arith, inl, inr, ⊎_elim, ◌&&◌, ◌||◌, IsSome, map, reverse, Bor}
+use Rattle.std.proofs.Common.{◌≡◌, ◌≢◌, ℕ, ◌<◌, Bool, true, false, List, [], ◌∷◌, ◌++◌, length, take, get_or, Option, Some, None, refl, sym, ◌∙◌, ap, subst, cond, suc, zero, arith, ⊎_elim, ◌&&◌, map, reverse, Bor}
 use Rattle.std.proofs.lemmas.Bool.{false_from_ne_true, cases_eq, false≢true}
 use Rattle.std.proofs.lemmas.Option.{same_Some, none-some, slice_get-get_or, slice_get_within}
 use Rattle.std.proofs.Math.Bool.{and-false}
 use Rattle.std.proofs.lemmas.Slice.Eq.{bytes_eq-Decides}
-use Rattle.std.specs.Option.{option_map, option_and_then, is_some}
+use Rattle.std.specs.Option.{is_some}
 use Rattle.std.proofs.lemmas.List.{map-append, reverse-append, take_all}
 use Rattle.std.specs.Str.{bytes_eq}
-use Rattle.std.specs.List.{slice_get, list_any}
+use Rattle.std.specs.List.{slice_get}
 use Rattle.property_lines.specs.declared.property.Property.{Property}
-use Rattle.property_lines.specs.declared.directive.Directive.{Directive}
 use Rattle.property_lines.specs.declared.directive.Directive.TheVariants as directive
 use Rattle.worker_props.specs.declared.row.Row.{Row}
 use Rattle.worker_props.specs.declared.row.Progress.{Progress}
 use Rattle.worker_props.specs.declared.row.Progress.TheVariants as progress
-use Rattle.worker_props.specs.Given.{last_given, in_force, IsChain, is_given, is_among, target_at, target_in, target_name, not_passed, Walks, BreaksAt, or_else}
+use Rattle.worker_props.specs.Given.{last_given, in_force, is_given, is_among, target_at, target_in, target_name, not_passed, Walks, BreaksAt, or_else}
 use Rattle.worker_props.specs.Numbers.{number_of}
 use Rattle.worker_props.specs.Table.{IsNameOfGiven}
 use Rattle.worker_props.specs.Rows.{place_at, picked, property_at, HasLines, HasOwn, HasForce, AreRows, adjusted}
-use Rattle.worker_props.specs.Ways.{was_passed, was_settled, is_own, is_passed, is_whole, fresh_in, passed_row, IsOnWay, AreOnWay, IsAt, IsSettled, EndsWell, LeadsOn, IsWay, row_of_target, place_or, Inherits, is_open, is_open_number, is_open_row}
+use Rattle.worker_props.specs.Ways.{was_passed, was_settled, is_own, is_passed, is_whole, fresh_in, passed_row, IsOnWay, AreOnWay, IsAt, IsSettled, EndsWell, LeadsOn, IsWay, row_of_target, Inherits, is_open, is_open_number, is_open_row}
 use Rattle.worker_props.proofs.RowLemmas.{number_of-same, number_of-named, adjusted_here, adjusted_there, length-adjusted}
 
 equals : (a b : List ℕ) → a ≡ b → bytes_eq a b ≡ true

@@ -1,12 +1,11 @@
 -- The second pass: lists, refusals, and workers one after another.
-use Rattle.std.proofs.Common.{◌≡◌, ℕ, ◌+◌, ◌<◌, ◌≤◌, Bool, true, false, List, [], ◌∷◌, length, drop, get_or, filter, map, Option, Some, None, refl, sym, ◌∙◌, ap, subst, cond, inl, inr, arith, ◌*◌, ◌/◌, ◌%◌, fold}
+use Rattle.std.proofs.Common.{◌≡◌, ℕ, ◌+◌, ◌<◌, Bool, true, false, List, [], ◌∷◌, length, drop, get_or, filter, Option, Some, None, Result, Ok, Err, OnOk, refl, sym, ◌∙◌, ap, subst, cond, inl, inr, arith, ◌%◌}
 use Rattle.std.proofs.lemmas.Bool.{and_parts, false≢true}
 use Rattle.std.proofs.lemmas.List.{drop_more}
 use Rattle.std.proofs.lemmas.Nat.Gcd.{IsGcd-from_zero, IsGcd-from_mod, IsGcd-swap}
-use Rattle.std.specs.Option.{option_map}
 use Rattle.std.specs.List.{flat_map}
 use Rattle.std.specs.Str.{bytes_eq}
-use Rattle.jk_model.specs.Multiple.{multiple_of, multiple_of_two}
+use Rattle.jk_model.specs.Multiple.{multiple_of}
 use Rattle.jk_model.proofs.MultipleFacts.{multiple_of_two-by}
 use Rattle.property_lines.specs.declared.property.Property.{Property}
 use Rattle.property_lines.specs.declared.directive.Directive.{Directive}
@@ -18,13 +17,14 @@ use Rattle.worker_props.specs.declared.listing.Listing as declared
 use Rattle.worker_props.specs.declared.row.Row.{Row}
 use Rattle.worker_props.specs.Building.{IsBuilding}
 use Rattle.property_lines.specs.Directives.{name_of, worker_part}
-use Rattle.worker_props.specs.Given.{IsChain, gives, in_force, names_both}
-use Rattle.worker_props.specs.Lists.{Listing, drop_name, firsts, listings_of, lists_for, lists_members, members_in, name_part, own_members}
+use Rattle.worker_props.specs.Given.{gives, in_force, names_both}
+use Rattle.worker_props.specs.Lists.{Listing, drop_name, firsts, listings_of, lists_for, lists_members, members_in, name_part}
 use Rattle.worker_props.specs.Listings.{as_listing, as_listings}
 use Rattle.property_lines.specs.Refusals.{Refusal, IsRefusal}
 use Rattle.worker_props.specs.Rows.{HasForce, property_at}
 use Rattle.worker_props.specs.Settings.{kind_in}
-use Rattle.worker_props.specs.Site.{Adds, AddsKind, Builds, Each, Known, Refuses, RefusesKind, Stops}
+use Rattle.property_lines.specs.declared.values.Kind.TheVariants as kind
+use Rattle.worker_props.specs.Site.{Adds, AddsKind, Builds, Each, Known, Refuses, RefusesKind, RefusesLb, Stops}
 
 -- a line that gives a worker members lists members
 gives_lists : (name : List ℕ) (o : Option (List ℕ × List ℕ)) → names_both name (name_of directive.BalanceWorkers) o ≡ true → lists_for o ≡ true
@@ -48,6 +48,9 @@ members_same ps (Some p) =
     let owner = name_part (worker_part p.key) in
     ap (flat_map listings_of) (filter_implied (gives owner directive.BalanceWorkers) lists_members ps (λ x e. gives_lists owner (worker_part x.key) e))
 
+pub members_from : (ps lines : List Property) (given at : Option Property) (ms : List Listing) → lines ≡ filter lists_members ps → given ≡ at → ms ≡ members_in lines given → ms ≡ members_in ps at
+members_from ps lines given at ms are same h = h ∙ ap (λ (xs : List Property). members_in xs given) are ∙ members_same ps given ∙ ap (members_in ps) same
+
 -- what holds of each name holds of each first place
 each_drop : (fine : Listing → Type 0) (name : List ℕ) (ls : List Listing) → Each fine ls → Each fine (drop_name name ls)
 each_drop fine name [] e = tt
@@ -65,6 +68,18 @@ each_firsts fine (l ∷ ls) e = (e.0, each_drop fine l.name (firsts ls) (each_fi
 pub refusal_weaker : (p q : Refusal → Type 0) (e : PropsError) → ((r : Refusal) → p r → q r) → IsRefusal p e → IsRefusal q e
 refusal_weaker p q (errors.Refused line code) h r = h (record { line = line; code = code }) r
 refusal_weaker p q errors.NoMemory h r = tt
+
+-- what a call makes at Ok is what its caller means
+pub on_ok : {T E : Type 0} (r : Result T E) (P Q : Type 0) → OnOk r P → (P → Q) → OnOk r Q
+on_ok (Ok x) P Q h f = f h
+on_ok (Err e) P Q h f = tt
+
+-- a refusal of an lb's members is one of the lb
+pub lb_refusal : (ps : List Property) (count : ℕ) (l : Listing) (v : Directive → Option Property) (ms : List Listing) (P : Refusal → Type 0) (e : PropsError) → ms ≡ members_in ps (v directive.BalanceWorkers) → IsRefusal P e → ((r : Refusal) → P r → RefusesLb ps count l v ms r) → IsRefusal (RefusesKind ps count l v kind.Lb) e
+lb_refusal ps count l v ms P (errors.Refused line code) are h f =
+    let r : Refusal = record { line = line; code = code } in
+    subst (λ (xs : List Listing). RefusesLb ps count l v xs r) are (f r h)
+lb_refusal ps count l v ms P errors.NoMemory are h f = tt
 
 -- want of memory is no refusal
 pub memory_free : (q : Refusal → Type 0) (e : PropsError) → e ≡ errors.NoMemory → IsRefusal q e

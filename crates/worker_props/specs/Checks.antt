@@ -1,5 +1,5 @@
 -- A loop that checks a list, as far as it has come: what is left decides the whole.
-use Rattle.std.specs.Prelude.{ℕ, List, drop}
+use Rattle.std.specs.Prelude.{List}
 use Rattle.worker_props.specs.Lists.{Listing}
 use Rattle.property_lines.specs.Refusals.{Refusal}
 use Rattle.worker_props.specs.Site.{Each, FirstBad}

@@ -1,13 +1,12 @@
 -- What the lines of a workers.properties give a worker: of each directive the last line, and where there is none, the
 -- line that holds for the worker that its reference names.
-use Rattle.std.specs.Prelude.{◌≡◌, ℕ, Bool, true, false, List, [], ◌∷◌, Option, Some, None, Result, if◌then◌else◌, ◌&&◌, ◌||◌, unwrap_or, filter}
-use Rattle.std.specs.Option.{option_map, is_some}
-use Rattle.std.specs.List.{list_any, list_all}
+use Rattle.std.specs.Prelude.{◌≡◌, ℕ, Bool, true, false, List, [], ◌∷◌, Option, Some, None, if◌then◌else◌, ◌&&◌, unwrap_or}
+use Rattle.std.specs.List.{list_any}
 use Rattle.std.specs.Str.{bytes_eq}
 use Rattle.property_lines.specs.declared.property.Property.{Property}
 use Rattle.property_lines.specs.declared.directive.Directive.{Directive}
 use Rattle.property_lines.specs.declared.directive.Directive.TheVariants as directive
-use Rattle.property_lines.specs.Directives.{name_of, worker_part, list_key, maintain_key, directive_of}
+use Rattle.property_lines.specs.Directives.{name_of, worker_part}
 use Rattle.property_lines.specs.Values.{target_of}
 
 -- a key's parts are those of this worker, and of this directive

@@ -1,6 +1,6 @@
 -- Rows of places, and the lines at them.
 use Rattle.std.specs.Prelude.{◌≡◌, ℕ, List, Option, Some, None, [], ◌∷◌, zero, suc, slice_index_or, slice_get, slice_set, take, length}
-use Rattle.std.specs.Option.{is_some, option_and_then}
+use Rattle.std.specs.Option.{is_some}
 use Rattle.property_lines.specs.declared.property.Property.{Property}
 use Rattle.property_lines.specs.declared.directive.Directive.{Directive}
 use Rattle.worker_props.specs.declared.row.Row.{Row}

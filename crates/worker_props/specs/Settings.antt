@@ -1,6 +1,6 @@
 -- What the directives in force make of a worker.
-use Rattle.std.specs.Prelude.{◌≡◌, ℕ, ◌+◌, Bool, true, false, List, [], ◌∷◌, Option, Some, None, if◌then◌else◌, ◌==◌, ◌&&◌, not, unwrap_or, length, codes, map, nat_lt}
-use Rattle.std.specs.Option.{option_map, option_and_then}
+use Rattle.std.specs.Prelude.{◌≡◌, ℕ, ◌+◌, Bool, List, [], ◌∷◌, Option, Some, None, if◌then◌else◌, ◌==◌, ◌&&◌, not, unwrap_or, length, codes, nat_lt}
+use Rattle.std.specs.Option.{option_and_then}
 use Rattle.std.specs.Str.{bytes_eq}
 use Rattle.jk_model.specs.declared.member.Activation.{Activation}
 use Rattle.jk_model.specs.declared.member.Activation.TheVariants as activation

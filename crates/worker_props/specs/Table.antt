@@ -1,6 +1,6 @@
 -- Names with their numbers.
-use Rattle.std.specs.Prelude.{◌≡◌, ℕ, List, [], ◌∷◌, Option, Some, None, if◌then◌else◌, ◌++◌, suc}
-use Rattle.std.specs.Option.{option_map, is_some}
+use Rattle.std.specs.Prelude.{◌≡◌, ℕ, List, [], ◌∷◌, Option, Some, None, if◌then◌else◌, ◌++◌}
+use Rattle.std.specs.Option.{is_some}
 use Rattle.property_lines.specs.declared.property.Property.{Property}
 use Rattle.worker_props.specs.Given.{is_given}
 use Rattle.worker_props.specs.Numbers.{number_of}

@@ -10,7 +10,7 @@ use Rattle.worker_props.specs.declared.row.Progress.TheVariants as progress
 use Rattle.property_lines.specs.declared.error.PropsError.{PropsError}
 use Rattle.property_lines.specs.declared.error.PropsError.TheVariants as errors
 use Rattle.worker_props.specs.Numbers.{number_of}
-use Rattle.worker_props.specs.Given.{last_given, IsChain, in_force, is_given, is_among, target_at, target_in, Walks, BreaksAt, or_else}
+use Rattle.worker_props.specs.Given.{last_given, is_given, is_among, target_at, target_in, Walks, BreaksAt, or_else}
 use Rattle.worker_props.specs.Rows.{place_at, property_at, HasLines, HasForce, AreRows}
 
 abbrev pub was_passed : Progress → Bool

@@ -19,8 +19,6 @@ mod row;
 mod settings;
 mod site;
 mod table;
-#[cfg(test)]
-mod tests;
 mod whole;
 mod workers;
 

@@ -177,7 +177,9 @@ pub(crate) fn members_of<'t>(
     ensures count { IfOk result (λ b. (length b.configs.items ≡ length members.now) × (length b.ends.items ≡ length members.now)) }
     ensures memory { IfErr result (λ e. e ≡ PropsError.NoMemory) }
 {
-    let own = rows_of(alloc, entries, names, rows, members)?;
-    let routes = routes_of(alloc, entries, own.as_slice(), members)?;
-    built(alloc, entries, own.as_slice(), members, routes.as_slice())
+    let rows_in_force = rows_of(alloc, entries, names, rows, members)?;
+    let own = rows_in_force.as_slice();
+    let routes_in_force = routes_of(alloc, entries, own, members)?;
+    let routes = routes_in_force.as_slice();
+    built(alloc, entries, own, members, routes)
 }

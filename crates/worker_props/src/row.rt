@@ -39,11 +39,16 @@ impl Row {
         }
     }
 
-    /// Puts a line in the place of the one that gave the directive.
-    pub(crate) fn set_place(&mut self, directive: Directive, place: u32)
-        ensures { self.new ≡ row_with directive place self.old }
+    /// The row with a line in the place of the one that gave the directive.
+    pub(crate) fn with_place(self, directive: Directive, place: u32) -> Row
+        ensures { result ≡ row_with directive place self }
     {
-        self.places[directive.slot()] = Some(place);
+        let mut places = self.places;
+        places[directive.slot()] = Some(place);
+        Row {
+            places,
+            progress: self.progress,
+        }
     }
 
     /// The row, passed by a walk.

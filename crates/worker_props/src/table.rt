@@ -1,5 +1,5 @@
 //! The workers that have directives, each with the lines that give them.
-ghost use Rattle.std.specs.Prelude.{◌≡◌, ◌<◌, ◌^◌, ℕ, List, length, IfOk, OnOk, is_some, take, slice_set};
+ghost use Rattle.std.specs.Prelude.{◌≡◌, ◌<◌, ◌^◌, ℕ, List, length, IfOk, OnOk, is_some, take, slice_set, vec_len};
 ghost use Rattle.property_lines.specs.Directives.{worker_part};
 ghost use Rattle.property_lines.specs.Entries.{as_property, as_properties};
 ghost use Rattle.worker_props.specs.Numbers.{number_of};
@@ -8,11 +8,12 @@ ghost use Rattle.worker_props.specs.Rows.{HasOwn, AreRows, rows_after};
 
 use crate::name_table::NameTable;
 use crate::row::Row;
-use property_lines::{Entry, PropsError, directive_of, worker_part};
+use jk_io::NoMemory;
+use property_lines::{Entry, directive_of, worker_part};
 use std::alloc::Global;
 
 /// Adds the name, unless it is there.
-fn add_name<'t>(names: &mut NameTable<'t>, name: &'t [u8]) -> Result<(), PropsError>
+fn add_name<'t>(names: &mut NameTable<'t>, name: &'t [u8]) -> Result<(), NoMemory>
     ensures { OnOk result (names.new ≡ with_name name.now names.old) }
 {
     if names.find(name).is_none() {
@@ -22,7 +23,7 @@ fn add_name<'t>(names: &mut NameTable<'t>, name: &'t [u8]) -> Result<(), PropsEr
 }
 
 /// Adds the name of the worker to which the line gives a directive.
-fn add_worker<'t>(names: &mut NameTable<'t>, entry: &Entry<'t>) -> Result<(), PropsError>
+fn add_worker<'t>(names: &mut NameTable<'t>, entry: &Entry<'t>) -> Result<(), NoMemory>
     ensures { OnOk result (names.new ≡ names_with (worker_part entry.now.key.now) names.old) }
 {
     match worker_part(entry.key) {
@@ -32,11 +33,7 @@ fn add_worker<'t>(names: &mut NameTable<'t>, entry: &Entry<'t>) -> Result<(), Pr
 }
 
 /// The names of the workers that have a directive.
-pub(crate) fn names_of<'t>(
-    alloc: Global,
-    entries: &[Entry<'t>],
-) -> Result<NameTable<'t>, PropsError>
-    requires { length entries.now < 2 ^ 32 }
+pub(crate) fn names_of<'t>(alloc: Global, entries: &[Entry<'t>]) -> Result<NameTable<'t>, NoMemory>
     ensures { IfOk result (IsNameOfGiven (as_properties entries.now)) }
 {
     let mut names = NameTable::new(alloc);
@@ -47,9 +44,9 @@ pub(crate) fn names_of<'t>(
 }
 
 /// Puts the line at this place into the row of its worker.
-fn put(names: &NameTable<'_>, rows: &mut [Row], entry: &Entry<'_>, place: u32)
-    requires { length rows.old ≡ length names.now }
-    ensures { rows.new ≡ rows_after names.now (as_property entry.now) place rows.old }
+fn put(names: &NameTable<'_>, rows: &mut Vec<Row>, entry: &Entry<'_>, place: u32)
+    requires { vec_len rows.old ≡ length names.now }
+    ensures { rows.new.items ≡ rows_after names.now (as_property entry.now) place rows.old.items }
 {
     let Some((name, text)) = worker_part(entry.key) else {
         return;
@@ -60,7 +57,8 @@ fn put(names: &NameTable<'_>, rows: &mut [Row], entry: &Entry<'_>, place: u32)
     let Some(directive) = directive_of(text) else {
         return;
     };
-    rows[number].set_place(directive, place);
+    let row = rows[number];
+    rows[number] = row.with_place(directive, place);
 }
 
 /// Each worker's own lines.
@@ -68,13 +66,13 @@ pub(crate) fn rows_of(
     alloc: Global,
     names: &NameTable<'_>,
     entries: &[Entry<'_>],
-) -> Result<Vec<Row>, PropsError>
+) -> Result<Vec<Row>, NoMemory>
     requires { length entries.now < 2 ^ 32 }
     ensures { IfOk result (λ v. AreRows (HasOwn (as_properties entries.now) (length entries.now)) names.now v.items) }
 {
     let mut rows = vec![in alloc; Row::new(); names.len()]?;
     for (i, entry) in entries.iter().enumerate() {
-        put(names, rows.as_mut_slice(), entry, i as u32);
+        put(names, &mut rows, entry, i as u32);
     }
     Ok(rows)
 }

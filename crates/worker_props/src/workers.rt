@@ -53,18 +53,16 @@ fn add_lb<'t>(
     ensures refused { IfErr result (IsRefusal (RefusesKind (as_properties entries.now) (length draft.old.lbs)
         (as_listing listing.now) (property_at (as_properties entries.now) row.now) Kind.Lb)) }
 {
-    let members = members_in(
-        alloc,
-        lines,
-        picked(entries, row, Directive::BalanceWorkers),
-    )?;
-    check_references(alloc, entries, names, rows, members.as_slice())?;
-    check_members_known(entries, names, members.as_slice())?;
+    let given = picked(entries, row, Directive::BalanceWorkers);
+    let in_force = members_in(alloc, lines, given)?;
+    let members = in_force.as_slice();
+    check_references(alloc, entries, names, rows, members)?;
+    check_members_known(entries, names, members)?;
     if draft.lbs.len() >= MAX_BALANCERS {
         return Err(refused(listing.line, Reason::BadValue));
     }
-    check_types(alloc, entries, names, rows, members.as_slice())?;
-    let distinct = firsts(alloc, members.as_slice())?;
+    check_types(alloc, entries, names, rows, members)?;
+    let distinct = firsts(alloc, members)?;
     let lb = balanced(
         alloc,
         entries,
@@ -192,23 +190,24 @@ pub fn read_workers(alloc: Global, text: &[u8]) -> Result<Config, PropsError>
     ensures ok { IfOk result (IsConfig text.now) }
     ensures refused { IfErr result (IsRefusal (IsRefused text.now)) }
 {
-    let entries = read_entries(alloc, true, text)?;
-    let names = names_of(alloc, entries.as_slice())?;
-    let mut rows = rows_of(alloc, &names, entries.as_slice())?;
-    let lines = member_lines(alloc, entries.as_slice())?;
-    let all = site_list(alloc, entries.as_slice())?;
+    let properties = read_entries(alloc, true, text)?;
+    let entries = properties.as_slice();
+    let names = names_of(alloc, entries)?;
+    let mut rows = rows_of(alloc, &names, entries)?;
+    let lines = member_lines(alloc, entries)?;
+    let all = site_list(alloc, entries)?;
     let listings = firsts(alloc, all.as_slice())?;
-    let maintain = maintain_of(entries.as_slice());
+    let maintain = maintain_of(entries);
     let draft = add_workers(
         alloc,
-        entries.as_slice(),
+        entries,
         lines.as_slice(),
         &names,
         &mut rows,
         listings.as_slice(),
         maintain,
     )?;
-    let ignored = ignored_of(alloc, entries.as_slice())?;
+    let ignored = ignored_of(alloc, entries)?;
     let Draft {
         lbs,
         statuses,

@@ -1,5 +1,5 @@
 use Rattle.std.proofs.Common.{◌≡◌, ◌++◌, ℕ, List, map, take, Bor}
-use Rattle.worker_props.specs.Lists.{Listing, listing_at}
+use Rattle.worker_props.specs.Lists.{listing_at}
 use Rattle.worker_props.specs.Listings.{as_listings}
 use Rattle.worker_props.proofs.listing.push_listings.Given as goal
 

@@ -1,8 +1,7 @@
-use Rattle.std.proofs.Common.{drop, []}
+use Rattle.std.proofs.Common.{drop}
 use Rattle.property_lines.specs.Entries.{as_properties}
 use Rattle.worker_props.specs.Listings.{as_listings}
 use Rattle.worker_props.specs.Checks.{Checked}
-use Rattle.worker_props.specs.Ways.{AreOnWay}
 use Rattle.worker_props.specs.Site.{Known, IsUnknown}
 use Rattle.worker_props.proofs.members.check_members_known.Given as goal
 

@@ -1,4 +1,4 @@
-use Rattle.std.proofs.Common.{◌<◌, arith}
+use Rattle.std.proofs.Common.{arith}
 use Rattle.property_lines.specs.Entries.{as_properties}
 use Rattle.worker_props.specs.Site.{Known, Chained}
 use Rattle.worker_props.proofs.CheckLemmas.{each_at}

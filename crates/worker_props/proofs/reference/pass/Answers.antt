@@ -1,6 +1,5 @@
-use Rattle.std.proofs.Common.{◌≡◌, ◌<◌, length, arith, sym, ◌∙◌, ap, get_or, set}
+use Rattle.std.proofs.Common.{arith}
 use Rattle.worker_props.specs.Ways.{passed_row}
-use Rattle.worker_props.specs.Rows.{adjusted}
 use Rattle.worker_props.proofs.RowLemmas.{adjusted_set}
 use Rattle.worker_props.proofs.reference.pass.Goals as goal
 

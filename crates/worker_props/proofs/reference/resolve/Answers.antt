@@ -1,10 +1,9 @@
-use Rattle.std.proofs.Common.{◌≡◌, ◌<◌, ◌∷◌, [], ◌++◌, ℕ, List, length, map, reverse, get_or, set, arith, sym, ◌∙◌, ap, subst, Some, Option, Bor, refl}
+use Rattle.std.proofs.Common.{◌≡◌, ◌<◌, ◌∷◌, ℕ, List, length, map, reverse, arith, sym, ◌∙◌, subst, Some, Option, Bor, refl}
 use Rattle.std.proofs.lemmas.Option.{slice_get_read}
 use Rattle.std.specs.List.{slice_get}
 use Rattle.worker_props.specs.declared.row.Row.{Row}
 use Rattle.property_lines.specs.Entries.{as_properties}
 use Rattle.worker_props.specs.Numbers.{number_of}
-use Rattle.worker_props.specs.Rows.{adjusted}
 use Rattle.worker_props.specs.Ways.{IsWay, Inherits, row_of_target}
 use Rattle.worker_props.proofs.RowLemmas.{adjusted_set}
 use Rattle.worker_props.proofs.WayLemmas.{row_within, path_more, way_back}

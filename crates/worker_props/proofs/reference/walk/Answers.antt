@@ -1,15 +1,12 @@
-use Rattle.std.proofs.Common.{◌≡◌, ◌<◌, ◌∷◌, [], ◌++◌, ℕ, Bool, true, false, List, length, map, reverse, get_or, arith, sym, ◌∙◌, ap, subst, Some, None, Option, Bor, refl, cond}
+use Rattle.std.proofs.Common.{◌≡◌, ◌<◌, ◌∷◌, [], ◌++◌, ℕ, Bool, true, false, List, length, map, reverse, arith, sym, ◌∙◌, ap, subst, Some, None, Bor, refl, cond}
 use Rattle.std.proofs.lemmas.Option.{slice_get_read, same_Some, none-some}
-use Rattle.std.specs.Option.{option_map}
 use Rattle.std.specs.List.{slice_get}
-use Rattle.worker_props.specs.declared.row.Row.{Row}
 use Rattle.property_lines.specs.declared.directive.Directive.TheVariants as directive
-use Rattle.property_lines.specs.declared.property.Property.{Property}
 use Rattle.property_lines.specs.Entries.{as_property, as_properties}
-use Rattle.worker_props.specs.Given.{target_in, target_name, target_at, last_given, BreaksAt}
+use Rattle.worker_props.specs.Given.{target_in, target_name, last_given}
 use Rattle.worker_props.specs.Numbers.{number_of}
 use Rattle.worker_props.specs.Rows.{property_at, adjusted}
-use Rattle.worker_props.specs.Ways.{IsAt, IsWay, IsBroken, is_whole, is_open, passed_row, fresh_in}
+use Rattle.worker_props.specs.Ways.{IsAt, is_whole, is_open, passed_row, fresh_in}
 use Rattle.worker_props.proofs.WayLemmas.{row_within, path_more, way_meets, way_ends, way_breaks, at_next, at_own, at_lines, fresh_less}
 use Rattle.worker_props.proofs.reference.walk.Goals as goal
 

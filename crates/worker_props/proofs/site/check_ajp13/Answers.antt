@@ -1,4 +1,3 @@
-use Rattle.std.proofs.Common.{◌≡◌, sym}
 use Rattle.std.proofs.lemmas.Result.{err_from_is_err_and}
 use Rattle.property_lines.specs.Entries.{as_properties}
 use Rattle.worker_props.specs.Listings.{as_listing}

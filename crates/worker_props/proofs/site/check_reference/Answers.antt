@@ -1,4 +1,4 @@
-use Rattle.std.proofs.Common.{◌≡◌, [], None, sym}
+use Rattle.std.proofs.Common.{[], sym}
 use Rattle.property_lines.specs.Entries.{as_properties}
 use Rattle.worker_props.proofs.ChainLemmas.{unknown_chain}
 use Rattle.worker_props.proofs.WayLemmas.{number_none}

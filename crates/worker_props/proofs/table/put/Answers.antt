@@ -1,4 +1,4 @@
-use Rattle.std.proofs.Common.{◌≡◌, ◌<◌, length, arith, sym, ◌∙◌, ap, Some}
+use Rattle.std.proofs.Common.{◌≡◌, arith, sym, Some}
 use Rattle.std.proofs.lemmas.Option.{slice_get_within}
 use Rattle.worker_props.specs.Numbers.{number_of}
 use Rattle.property_lines.specs.Directives.{worker_part, directive_of}
@@ -6,16 +6,22 @@ use Rattle.worker_props.specs.Rows.{row_with}
 use Rattle.worker_props.proofs.RowLemmas.{number_of-named, adjusted_set}
 use Rattle.worker_props.proofs.table.put.Goals as goal
 
-pub bounds-rows-number : goal.bounds-rows-number
-bounds-rows-number c =
-    let found : number_of c.in-Some.name.now c.args.names.now ≡ Some c.in-Some-find.number = sym c.in-Some-find.ensures in
-    let within = slice_get_within c.args.names.now c.in-Some-find.number c.in-Some.name.now (number_of-named c.in-Some.name.now c.args.names.now c.in-Some-find.number found) in
-    omega arith
-
 pub returns : goal.returns
 returns c =
     let parts : worker_part c.args.entry.now.key.now ≡ Some (c.in-Some.name.now, c.in-Some.text.now) = sym c.in-Some.ensures in
     let found : number_of c.in-Some.name.now c.args.names.now ≡ Some c.in-Some-find.number = sym c.in-Some-find.ensures in
     let given : directive_of c.in-Some.text.now ≡ Some c.in-Some-directive_of.directive = sym c.in-Some-directive_of.ensures in
     let within = slice_get_within c.args.names.now c.in-Some-find.number c.in-Some.name.now (number_of-named c.in-Some.name.now c.args.names.now c.in-Some-find.number found) in
-    rw (c.set_place.ensures, parts, found, given) (adjusted_set (row_with c.in-Some-directive_of.directive c.args.place) c.args.rows.now c.in-Some-find.number _ (omega arith))
+    rw (c.with_place.ensures, c.index-row.ensures, parts, found, given) (adjusted_set (row_with c.in-Some-directive_of.directive c.args.place) c.args.rows.now.items c.in-Some-find.number _ (omega arith))
+
+pub index-row-requires : goal.index-row-requires
+index-row-requires c =
+    let found : number_of c.in-Some.name.now c.args.names.now ≡ Some c.in-Some-find.number = sym c.in-Some-find.ensures in
+    let within = slice_get_within c.args.names.now c.in-Some-find.number c.in-Some.name.now (number_of-named c.in-Some.name.now c.args.names.now c.in-Some-find.number found) in
+    omega arith
+
+pub index_mut-requires : goal.index_mut-requires
+index_mut-requires c =
+    let found : number_of c.in-Some.name.now c.args.names.now ≡ Some c.in-Some-find.number = sym c.in-Some-find.ensures in
+    let within = slice_get_within c.args.names.now c.in-Some-find.number c.in-Some.name.now (number_of-named c.in-Some.name.now c.args.names.now c.in-Some-find.number found) in
+    omega arith

@@ -1,5 +1,5 @@
-use Rattle.std.proofs.Common.{◌≡◌, ◌+◌, ◌<◌, ℕ, List, length, get_or, take, drop, ◌++◌, arith, sym, ◌∙◌, ap, subst}
-use Rattle.std.proofs.lemmas.List.{length-map, get_or-map, take_at}
+use Rattle.std.proofs.Common.{◌≡◌, ◌+◌, ◌<◌, ℕ, List, length, get_or, arith, sym, subst}
+use Rattle.std.proofs.lemmas.List.{length-map, get_or-map}
 use Rattle.property_lines.specs.Entries.{as_property, as_properties}
 use Rattle.worker_props.specs.Rows.{AreRows, HasOwn, rows_after}
 use Rattle.property_lines.specs.declared.entry.Entry.{Entry}
@@ -14,6 +14,9 @@ one_more es i d names rows within h =
 
 pub loop-i-preserved : goal.loop-i-preserved
 loop-i-preserved c =
-    let next = one_more c.args.entries.now c.loop-i.i _ c.args.names.now c.loop-i.rows.items (omega arith) c.loop-i.invariant in
-    let whole = take_at c.put.new.rows (drop (length c.put.new.rows) c.loop-i.rows.items) c.loop-i.rows.len (omega arith) in
-    rw (whole, c.put.ensures, c.as_mut_slice.ensures.value) next
+    rw c.put.ensures (one_more c.args.entries.now c.loop-i.i _ c.args.names.now c.loop-i.rows.items (omega arith) c.loop-i.invariant)
+
+pub returns : goal.returns
+returns c =
+    let end : c.loop-i.i ≡ length c.args.entries.now = omega arith in
+    subst (λ (n : ℕ). AreRows (HasOwn (as_properties c.args.entries.now) n) c.args.names.now c.loop-i.rows.items) end c.loop-i.invariant
