@@ -1,0 +1,3 @@
+pub mod BestLemmas
+pub mod MatchLemmas
+pub mod SiteLemmas
