@@ -1,6 +1,13 @@
+pub mod Lines
+pub mod Members
 pub mod Mounts
+pub mod PartViews
+pub mod Parts
 pub mod Patterns
 pub mod Pieces
+pub mod Refusals
 pub mod Roles
 pub mod Search
+pub mod Sides
 pub mod Sites
+pub mod Workers

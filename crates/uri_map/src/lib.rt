@@ -2,16 +2,24 @@
 //!
 //! Source: Apache Tomcat Connectors reference, "uriworkermap.properties".
 //! Own rules: the order of the rules that match a path, and the refusals' numbers.
-//! Contract: `read_map`, `UriMap::mount`, `UriMap::terms`. Read first: specs/Patterns.antt, then specs/Mounts.antt.
+//! Contract: `read_map`, `UriMap::mount`, `UriMap::terms`. Read first: specs/Patterns.antt, Mounts.antt, then Lines.antt.
 //! Errors: `MapError`.
 #![tactic(auto)]
 
+mod error;
+mod lines;
 mod matching;
+mod members;
+mod parts;
 mod pattern;
+mod role;
 mod rule;
+mod side;
 mod uri_map;
+mod workers;
 
-pub use matching::matches;
+pub use error::{MapError, Reason};
+pub use lines::read_map;
 pub use pattern::Pattern;
 pub use rule::{Mount, Role, Rule};
-pub use uri_map::{RuleList, UriMap};
+pub use uri_map::UriMap;

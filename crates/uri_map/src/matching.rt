@@ -74,7 +74,7 @@ fn end_matches(pattern: &[u8], path: &[u8]) -> bool
 }
 
 /// Whether the pattern matches the whole path.
-pub fn matches(pattern: &[u8], path: &[u8]) -> bool
+pub(crate) fn matches(pattern: &[u8], path: &[u8]) -> bool
     ensures { result ≡ matches pattern.now path.now }
 {
     let Some((front, more)) = cut_at(pattern, b'*') else {

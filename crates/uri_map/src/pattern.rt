@@ -31,7 +31,7 @@ fn has_wildcard(text: &[u8]) -> bool
 }
 
 impl Pattern {
-    pub fn new(text: Bytes) -> Pattern
+    pub(crate) fn new(text: Bytes) -> Pattern
         ensures { result ≡ text }
     {
         let wild = has_wildcard(text.as_slice());
@@ -39,21 +39,21 @@ impl Pattern {
     }
 
     /// Its bytes.
-    pub fn len(&self) -> usize
+    pub(crate) fn len(&self) -> usize
         ensures { result ≡ length self.now }
     {
         self.text.len()
     }
 
     /// Whether it has a `*` or `?`.
-    pub fn is_wild(&self) -> bool
+    pub(crate) fn is_wild(&self) -> bool
         ensures { result ≡ has_wildcard self.now }
     {
         self.wild
     }
 
     /// Whether it matches the whole path.
-    pub fn matches(&self, path: &[u8]) -> bool
+    pub(crate) fn matches(&self, path: &[u8]) -> bool
         ensures { result ≡ matches self.now path.now }
     {
         if self.wild {

@@ -34,7 +34,7 @@ pub struct Rule {
 
 impl Role {
     /// Where the rule mounts, unless it is an exclusion.
-    pub fn mount(self) -> Option<Mount>
+    pub(crate) fn mount(self) -> Option<Mount>
         ensures { result ≡ mount_of self }
     {
         match self {
@@ -44,7 +44,7 @@ impl Role {
     }
 
     /// Whether it is an exclusion of the worker, or of every one.
-    pub fn excludes(self, worker: Named) -> bool
+    pub(crate) fn excludes(self, worker: Named) -> bool
         ensures { result ≡ excludes self worker }
     {
         match self {
@@ -57,7 +57,7 @@ impl Role {
 
 impl Rule {
     /// Whether the rule isn't an exclusion, and matches.
-    pub fn mounts(&self, path: &[u8]) -> bool
+    pub(crate) fn mounts(&self, path: &[u8]) -> bool
         ensures { result ≡ mounts path.now self.now }
     {
         self.role.mount().is_some() && self.pattern.matches(path)
@@ -73,7 +73,7 @@ impl Rule {
     }
 
     /// Whether the rule goes before the other one where both mount a path.
-    pub fn is_before(&self, other: &Rule) -> bool
+    pub(crate) fn is_before(&self, other: &Rule) -> bool
         ensures { result ≡ is_before self.now other.now }
     {
         match (self.pattern.is_wild(), other.pattern.is_wild()) {

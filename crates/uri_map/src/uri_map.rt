@@ -1,5 +1,5 @@
 //! The map of a site: the rules, and the mount of a path.
-ghost use Rattle.std.specs.Prelude.{◌≡◌, IfSome, true};
+ghost use Rattle.std.specs.Prelude.{◌≡◌, ◌<◌, ◌^◌, length, IfSome, true};
 ghost use Rattle.std.specs.Option.{option_copied};
 ghost use Rattle.site_config.specs.declared.config.Config.{Config};
 ghost use Rattle.uri_map.specs.Mounts.{best, is_excluded, line_count, mount, mounts, is_before, taken, terms, no_terms};
@@ -13,13 +13,10 @@ use jk_model::Terms;
 use site_config::Named;
 use std::marker::Model;
 
-/// Rules in the order of their lines.
-pub type RuleList = ListOf<Rule>;
-
 /// The rules of a uriworkermap.properties that are in force, in the order of their lines. A contract sees the list.
 #[derive(Debug, Drop)]
 pub struct UriMap {
-    rules: RuleList,
+    rules: ListOf<Rule>,
 }
 
 impl Model for UriMap {
@@ -79,6 +76,15 @@ fn taken(rules: &[Rule], path: &[u8]) -> Option<Mount>
 }
 
 impl UriMap {
+    pub(crate) fn from_vec(rules: Vec<Rule>) -> UriMap
+        requires { length rules.items < 2 ^ 32 }
+        ensures { result ≡ rules.items }
+    {
+        UriMap {
+            rules: ListOf::from_vec(rules),
+        }
+    }
+
     /// The worker at which a cleaned path is mounted. It takes no memory.
     pub fn mount(&self, path: &[u8]) -> Option<Named>
         ensures value { result ≡ mount self.now path.now }
