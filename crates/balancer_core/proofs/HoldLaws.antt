@@ -1,6 +1,6 @@
 -- One call on the Book at a place, told of a desk of one thread.
-use Rattle.std.proofs.Common.{◌≡◌, ℕ, ◌+◌, ◌<◌, ◌≤◌, Bool, true, false, not, List, [], ◌∷◌, ◌++◌, length, get_or, Option, Some, None, refl, sym, ap, ◌∙◌, subst, arith}
-use Rattle.std.specs.Prelude.{slice_get, slice_set, slice_index, Result, Ok, Err, IfOk, IfErr, OnOk, OnErr}
+use Rattle.std.proofs.Common.{◌≡◌, ℕ, ◌+◌, ◌<◌, ◌≤◌, false, List, [], ◌∷◌, ◌++◌, length, Some, refl, sym, ap, ◌∙◌, subst, inl, inr, arith}
+use Rattle.std.specs.Prelude.{slice_get, slice_set, slice_index, Result, Ok, Err, IfErr, IsErrAnd, OnOk}
 use Rattle.std.proofs.lemmas.List.{append-nil}
 use Rattle.jk_model.specs.declared.ask.Ask.{Ask}
 use Rattle.jk_model.specs.declared.change.Command.{Command}
@@ -12,28 +12,31 @@ use Rattle.jk_model.specs.declared.journal.Outcome.{Outcome}
 use Rattle.jk_model.specs.declared.refusal.AdminError.{AdminError}
 use Rattle.jk_model.specs.declared.refusal.AdminError.TheVariants as admin
 use Rattle.jk_model.specs.declared.refusal.FullMark.{FullMark}
-use Rattle.jk_model.specs.declared.refusal.RoomError.{RoomError}
 use Rattle.jk_model.specs.declared.refusal.RoomError.TheVariants as room
 use Rattle.jk_model.specs.Free.{is_in}
 use Rattle.jk_model.specs.Journal.{members}
+use Rattle.jk_model.specs.Legal.{HasValues, IsNext}
 use Rattle.balancer_core.specs.Commanded.{IsKnown}
-use Rattle.balancer_core.specs.Journal.{AddsEntry, Journal}
-use Rattle.balancer_core.specs.Desks.{Chooses, Commands, DeskState, GainsDue, IsChoice, IsRefusal, KeepsDesk, LeaseNote, RefusesChoice, RefusesCommand, TakesBack, holds, without_last}
-use Rattle.balancer_core.specs.PlainDesks.{AreHeld, BookGainsDue, BookGainsLast, Counts, CountsFull, CountsRefusal, IsPlain, Judges, Picks, plain_state, sizes_of}
+use Rattle.balancer_core.specs.Journal.{AddsEntry, Journal, past_of}
+use Rattle.balancer_core.specs.Desks.{Chooses, Commands, GainsDue, IsAskRefusal, IsChoice, IsCommandRefusal, TakesBack}
+use Rattle.balancer_core.specs.PlainDesks.{BookGainsDue, BookGainsLast, IsPlain, Picks, RefusesAdmin, plain_state}
+use Rattle.balancer_core.specs.ToldBooks.{sizes_of}
 use Rattle.balancer_core.specs.PlainLeases.{IsChosenFor, note_of, pairs_in}
 use Rattle.balancer_core.specs.declared.desk.Choice.{Choice}
 use Rattle.balancer_core.specs.declared.desk.Choice.TheVariants as choice
 use Rattle.balancer_core.specs.declared.plain_desk.PlainLease.{PlainLease}
 use Rattle.balancer_core.specs.declared.receipt.Receipt.{Receipt}
-use Rattle.balancer_core.proofs.PlainLaws.{due-hold, gains-hold, last-hold, own_one, plain-due, plain-last, size-at, sizes-hold, without, without-last}
+use Rattle.balancer_core.proofs.ToldLaws.{at_place}
+use Rattle.balancer_core.proofs.PlainLaws.{ask_refusal, command_refusal, due-hold, due_or_not, gains-hold, last-hold, own_one, plain-due, plain-last, size-at, sizes-hold}
 
-pub on_err : {T E P : Type 0} (r : Result T E) → P → OnErr r P
-on_err (Ok x) p = tt
-on_err (Err e) p = p
+-- What holds of the only error that there may be.
+pub of_error : {T E : Type 0} (r : Result T E) (only : E) (P : E → Type 0) → IsErrAnd r (λ e. e ≡ only) → P only → IfErr r P
+of_error (Ok x) only P is p = tt
+of_error (Err e) only P is p = subst P (sym is) p
 
-pub sizes-due : (books : List Journal) (lb : ℕ) (old new : Journal) (before now : List Receipt) (session at : ℕ) → slice_get books lb ≡ Some old
-    → BookGainsDue old new before now lb session at → sizes_of (slice_set books lb new) ≡ sizes_of books
-sizes-due books lb old new before now session at here due =
+pub sizes-due : (books : List Journal) (lb : ℕ) (old new : Journal) (before now : List Receipt) (session at : ℕ)
+    (account : List Receipt → Type 0) → slice_get books lb ≡ Some old → BookGainsDue old new before now lb session at account → sizes_of (slice_set books lb new) ≡ sizes_of books
+sizes-due books lb old new before now session at account here due =
     sizes-hold books lb old new here (ap (λ (b : Journal). b.opening) due.gains.grown)
 
 pub sizes-last : (books : List Journal) (lb : ℕ) (old new : Journal) (before now : List Receipt) (session at : ℕ) (r : Receipt) → slice_get books lb ≡ Some old
@@ -86,57 +89,76 @@ chooses books lb old new before now held held' session at ask e c here last aske
 }
 
 -- A command.
-pub command_plain : {T E : Type 0} (r : Result T E) (books : List Journal) (lb : ℕ) (old new : Journal) (before now : List Receipt) (held : List (ℕ × ℕ)) (session at room room' : ℕ) (command : Command)
+pub command_plain : {T E : Type 0} (r : Result T E) (account : E → List Receipt → Type 0) (books : List Journal) (lb : ℕ) (old new : Journal) (before now : List Receipt) (held : List (ℕ × ℕ)) (session at room room' : ℕ) (command : Command)
     → IsPlain books before held room → slice_get books lb ≡ Some old
     → OnOk r ((e : Entry) × (e.call ≡ call.Admin command) × BookGainsLast old new before now lb session at (record { lb = lb; given = at; entry = e }))
-    → OnErr r (BookGainsDue old new before now lb session at)
+    → IfErr r (λ e. BookGainsDue old new before now lb session at (account e))
     → length before + length held + 2 ≤ room' → IsPlain (slice_set books lb new) now held room'
-command_plain (Ok x) books lb old new before now held session at room room' command is here ok err fits =
+command_plain (Ok x) account books lb old new before now held session at room room' command is here ok err fits =
     plain-last books lb old new before now held held session at room room' (record { lb = lb; given = at; entry = ok.0 }) is here ok.2 refl fits
-command_plain (Err e) books lb old new before now held session at room room' command is here ok err fits =
-    plain-due books lb old new before now held held session at room room' is here err refl (omega arith)
+command_plain (Err e) account books lb old new before now held session at room room' command is here ok err fits =
+    plain-due books lb old new before now held held session at room room' (account e) is here err refl (omega arith)
 
-pub command_sizes : {T E : Type 0} (r : Result T E) (books : List Journal) (lb : ℕ) (old new : Journal) (before now : List Receipt) (session at : ℕ) (command : Command)
+pub command_sizes : {T E : Type 0} (r : Result T E) (account : E → List Receipt → Type 0) (books : List Journal) (lb : ℕ) (old new : Journal) (before now : List Receipt) (session at : ℕ) (command : Command)
     → slice_get books lb ≡ Some old
     → OnOk r ((e : Entry) × (e.call ≡ call.Admin command) × BookGainsLast old new before now lb session at (record { lb = lb; given = at; entry = e }))
-    → OnErr r (BookGainsDue old new before now lb session at)
+    → IfErr r (λ e. BookGainsDue old new before now lb session at (account e))
     → sizes_of (slice_set books lb new) ≡ sizes_of books
-command_sizes (Ok x) books lb old new before now session at command here ok err =
+command_sizes (Ok x) account books lb old new before now session at command here ok err =
     sizes-last books lb old new before now session at (record { lb = lb; given = at; entry = ok.0 }) here ok.2
-command_sizes (Err e) books lb old new before now session at command here ok err = sizes-due books lb old new before now session at here err
+command_sizes (Err e) account books lb old new before now session at command here ok err = sizes-due books lb old new before now session at (account e) here err
 
-pub command_ok : {T M : Type 0} (r : Result T (AdminError M)) (books : List Journal) (lb : ℕ) (old new : Journal) (before now : List Receipt) (held : List (ℕ × ℕ)) (session at : ℕ) (command : Command)
+pub command_ok : {T E : Type 0} (r : Result T E) (books : List Journal) (lb : ℕ) (old new : Journal) (before now : List Receipt) (held : List (ℕ × ℕ)) (session at : ℕ) (command : Command)
     → slice_get books lb ≡ Some old
     → OnOk r ((e : Entry) × (e.call ≡ call.Admin command) × BookGainsLast old new before now lb session at (record { lb = lb; given = at; entry = e }))
-    → Judges (members old.opening) command r
+    → OnOk r (IsKnown (members old.opening) command × HasValues command)
     → OnOk r ((f w : ℕ) → Commands (plain_state books before held 0 f w) (plain_state (slice_set books lb new) now held 0 f w) lb session at command)
-command_ok (Ok x) books lb old new before now held session at command here ok judged = λ f w. record {
+command_ok (Ok x) books lb old new before now held session at command here ok named = λ f w. record {
   last = record { lb = lb; given = at; entry = ok.0 };
   gains = last-hold books lb old new before now held held session at f w f w (record { lb = lb; given = at; entry = ok.0 }) here ok.2;
   commanded = ok.1;
-  named = subst (λ (n : ℕ). IsKnown n command) (sym (size-at books lb old here)) judged.0;
-  values = judged.1;
+  named = subst (λ (n : ℕ). IsKnown n command) (sym (size-at books lb old here)) named.0;
+  values = named.1;
   full = refl;
   wide = refl;
 }
-command_ok (Err e) books lb old new before now held session at command here ok judged = tt
+command_ok (Err e) books lb old new before now held session at command here ok named = tt
 
-pub command_err : {T E : Type 0} (r : Result T E) (books : List Journal) (lb : ℕ) (old new : Journal) (before now : List Receipt) (held : List (ℕ × ℕ)) (session at : ℕ)
-    → slice_get books lb ≡ Some old → OnErr r (BookGainsDue old new before now lb session at)
-    → OnErr r ((f w f' w' : ℕ) → GainsDue (plain_state books before held 0 f w) (plain_state (slice_set books lb new) now held 0 f' w') lb session at)
-command_err (Ok x) books lb old new before now held session at here err = tt
-command_err (Err e) books lb old new before now held session at here err =
-    λ f w f' w'. due-hold books lb old new before now held held session at f w f' w' here err
+pub command_err : {T : Type 0} (r : Result T (AdminError FullMark)) (books : List Journal) (lb : ℕ) (old new : Journal) (before now : List Receipt) (held : List (ℕ × ℕ)) (session at : ℕ) (command : Command)
+    → slice_get books lb ≡ Some old → IfErr r (λ e. BookGainsDue old new before now lb session at (RefusesAdmin (members old.opening) old at command e))
+    → IfErr r (λ e. (f w f' w' : ℕ) → GainsDue (plain_state books before held 0 f w) (plain_state (slice_set books lb new) now held 0 f' w') lb session at
+    (IsCommandRefusal (plain_state books before held 0 f w) lb at command e))
+command_err (Ok x) books lb old new before now held session at command here err = tt
+command_err (Err e) books lb old new before now held session at command here err =
+    λ f w f' w'. due-hold books lb old new before now held held session at f w f' w' (RefusesAdmin (members old.opening) old at command e)
+    (IsCommandRefusal (plain_state books before held 0 f w) lb at command e) here
+    (command_refusal books lb old before held f w at command e here) err
+
+-- Memory that is wanting before a hold: nothing was done.
+pub ask_wanting : (books : List Journal) (lb : ℕ) (receipts : List Receipt) (held : List (ℕ × ℕ)) (f w at : ℕ)
+    → lb < length books → IsAskRefusal {M = FullMark} (plain_state books receipts held 0 f w) lb at room.NoMemory []
+ask_wanting books lb receipts held f w at within =
+    let old : (b : Journal) × (slice_get books lb ≡ Some b) = at_place books lb within in
+    ask_refusal books lb old.0 receipts held f w at room.NoMemory old.1 []
+    (elim (due_or_not old.0 at) [ inl none ↦ inl none | inr due ↦ inr (refl, due) ])
+
+pub command_wanting : (books : List Journal) (lb : ℕ) (receipts : List Receipt) (held : List (ℕ × ℕ)) (f w at : ℕ) (command : Command)
+    → lb < length books → IsCommandRefusal {M = FullMark} (plain_state books receipts held 0 f w) lb at command admin.NoMemory []
+command_wanting books lb receipts held f w at command within =
+    let old : (b : Journal) × (slice_get books lb ≡ Some b) = at_place books lb within in
+    command_refusal books lb old.0 receipts held f w at command admin.NoMemory old.1 []
+    (elim (due_or_not old.0 at) [ inl none ↦ inl (none, tt) | inr due ↦ inr (room.NoMemory, refl, (refl, due)) ])
 
 -- A Return.
 pub takes_back : (books : List Journal) (lb : ℕ) (old new : Journal) (before now : List Receipt) (held held' : List (ℕ × ℕ)) (session at t : ℕ) (outcome : Outcome) (e : Entry)
-    → slice_get books lb ≡ Some old → AddsEntry old new session at (call.Return t outcome) e
+    → slice_get books lb ≡ Some old → AddsEntry old new session at (call.Return t outcome) e → IsNext old.rules old.opening (past_of old) e
     → now ≡ before ++ record { lb = lb; given = at; entry = e } ∷ [] → (m f w : ℕ)
     → TakesBack (plain_state books before held 0 f w) (plain_state (slice_set books lb new) now held' 0 f w) session at (record { lb = lb; member = m; ticket = t }) outcome
-takes_back books lb old new before now held held' session at t outcome e here adds noted m f w = record {
+takes_back books lb old new before now held held' session at t outcome e here adds next noted m f w = record {
   last = record { lb = lb; given = at; entry = e };
   gains = gains-hold books lb old new before now held held' session at (record { lb = lb; given = at; entry = e } ∷ []) 0 f w 0 f w here noted
-      (own_one lb session at (record { lb = lb; given = at; entry = e }) (record { balancer = refl; given = refl; caller = adds.caller })) adds.grown;
+      (own_one lb session at (record { lb = lb; given = at; entry = e }) (record { balancer = refl; given = refl; caller = adds.caller })) adds.grown
+      (record { next = next; moment = adds.moment }, tt);
   returned = adds.asked;
   stray = refl;
 }

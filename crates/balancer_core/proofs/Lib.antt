@@ -13,6 +13,7 @@ pub mod ReturnLaws
 pub mod SegmentLaws
 pub mod SpotLaws
 pub mod StepLaws
+pub mod ToldLaws
 pub mod DeskLaws
 pub mod PlainLaws
 pub mod HoldLaws

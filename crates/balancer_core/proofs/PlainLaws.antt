@@ -1,22 +1,22 @@
 -- What a hold of one Book makes of a desk of one thread.
-use Rattle.std.proofs.Common.{◌≡◌, ℕ, zero, suc, ◌+◌, ◌<◌, ◌≤◌, Bool, true, false, ◌&&◌, ◌||◌, not, List, [], ◌∷◌, ◌++◌, length, map, get_or, Option, Some, None, refl, sym, ap, ◌∙◌, subst, inl, inr, arith}
-use Rattle.std.specs.Prelude.{◌==◌, filter, slice_get, slice_set, slice_index, Result, Ok, Err, IfOk, IfErr, OnOk, OnErr}
-use Rattle.std.specs.List.{All, list_any}
-use Rattle.std.proofs.lemmas.Bool.{and_parts, cases_Bool, eq-eqb, eqb-true}
-use Rattle.std.proofs.lemmas.List.{append-nil, append_assoc, length-append, map-append}
+use Rattle.std.proofs.Common.{◌≡◌, ℕ, zero, suc, ◌+◌, ◌<◌, ◌≤◌, ◌⊎◌, true, false, not, List, [], ◌∷◌, ◌++◌, length, Some, refl, sym, ap, ◌∙◌, subst, inl, inr, arith}
+use Rattle.std.specs.Prelude.{◌==◌, filter, slice_get, slice_set, slice_index}
+use Rattle.std.specs.List.{All}
+use Rattle.std.proofs.lemmas.Bool.{and_parts, cases_Bool, cases_lt, eq-eqb, eqb-true}
+use Rattle.std.proofs.lemmas.List.{append-nil, append_assoc, length-append}
 use Rattle.std.proofs.lemmas.List.Elements.{All-append, All-from_recursion, All-nil}
 use Rattle.std.proofs.lemmas.List.Folds.{list_any-append}
-use Rattle.std.proofs.lemmas.List.{set-get_or}
 use Rattle.std.proofs.lemmas.Option.{get_or_from_slice_get, slice_get_within}
 use Rattle.std.proofs.Math.Seq.{map-set_same}
 use Rattle.jk_model.specs.Journal.{members}
 use Rattle.jk_model.specs.Tickets.{gives_back, is_out}
 use Rattle.jk_model.specs.Choice.{IsPick}
-use Rattle.jk_model.specs.Legal.{IsLegalPast}
+use Rattle.jk_model.specs.Legal.{IsLegalPast, IsNext}
 use Rattle.jk_model.proofs.ChoiceFacts.{chosen_roomy}
 use Rattle.jk_model.proofs.OutFacts.{chosen_member}
 use Rattle.jk_model.proofs.TicketLaws.{not_out_before, out_after, stays_out}
 use Rattle.jk_model.specs.declared.ask.Ask.{Ask}
+use Rattle.jk_model.specs.declared.change.Command.{Command}
 use Rattle.jk_model.specs.declared.journal.Answer.{Answer}
 use Rattle.jk_model.specs.declared.journal.Answer.TheVariants as answer
 use Rattle.jk_model.specs.declared.journal.Call.{Call}
@@ -24,31 +24,18 @@ use Rattle.jk_model.specs.declared.journal.Call.TheVariants as call
 use Rattle.jk_model.specs.declared.journal.Outcome.{Outcome}
 use Rattle.jk_model.specs.declared.journal.Entry.{Entry}
 use Rattle.jk_model.specs.declared.opening.Opening.{Opening}
+use Rattle.jk_model.specs.declared.refusal.AdminError.{AdminError}
+use Rattle.jk_model.specs.declared.refusal.FullMark.{FullMark}
+use Rattle.jk_model.specs.declared.refusal.RoomError.{RoomError}
+use Rattle.balancer_core.specs.Due.{due_moment, entry_moment}
 use Rattle.balancer_core.specs.Journal.{AddsEntry, IsSound, Journal, past_of}
-use Rattle.balancer_core.specs.Desks.{Gains, GainsDue, GainsLast, IsDue, IsOwn, grown_by, holds, is_pair, without_last}
-use Rattle.balancer_core.specs.PlainDesks.{AreHeld, AreModern, BookGains, BookGainsDue, BookGainsLast, IsNewTicket, IsOutAt, IsPlain, Picks, plain_state, sizes_of}
+use Rattle.balancer_core.specs.Desks.{Gains, GainsDue, GainsLast, IsAskRefusal, IsCommandRefusal, IsDue, IsOwn, IsRefusal, holds, is_pair, without_last}
+use Rattle.balancer_core.specs.PlainDesks.{AreHeld, AreLegal, AreModern, BookGains, BookGainsDue, BookGainsLast, IsDueDone, IsOutAt, IsPlain, Picks, RefusesAdmin, RefusesPick, plain_state}
+use Rattle.balancer_core.specs.ToldBooks.{AreNextAt, RefusesDue, grown_by, sizes_of}
 use Rattle.balancer_core.specs.PlainLeases.{pairs_in}
 use Rattle.balancer_core.specs.declared.receipt.Receipt.{Receipt}
 use Rattle.balancer_core.proofs.DeskLaws.{is_pair-same}
-
--- Items of a list of which one is replaced.
-some_is : {A : Type 0} (x y : A) → Some x ≡ Some y → x ≡ y
-some_is x y same = cc
-
-set-found : {A : Type 0} (xs : List A) (i : ℕ) (x : A) → slice_get xs i ≡ Some x → slice_set xs i x ≡ xs
-set-found xs i x at = subst (λ (y : _). slice_set xs i y ≡ xs) (get_or_from_slice_get xs i x x at) (set-get_or xs i x)
-
-get-set : {A : Type 0} (xs : List A) (i : ℕ) (y : A) → i < length xs → slice_get (slice_set xs i y) i ≡ Some y
-get-set [] i y lt = absurd (omega arith)
-get-set (x ∷ xs) zero y lt = refl
-get-set (x ∷ xs) (suc i) y lt = get-set xs i y (omega arith)
-
-get-set_other : {A : Type 0} (xs : List A) (i j : ℕ) (y : A) → (i ≡ j → ⊥) → slice_get (slice_set xs i y) j ≡ slice_get xs j
-get-set_other [] i j y other = refl
-get-set_other (x ∷ xs) zero zero y other = absurd (other refl)
-get-set_other (x ∷ xs) zero (suc j) y other = refl
-get-set_other (x ∷ xs) (suc i) zero y other = refl
-get-set_other (x ∷ xs) (suc i) (suc j) y other = get-set_other xs i j y (λ same. other (ap (λ (k : ℕ). suc k) same))
+use Rattle.balancer_core.proofs.ToldLaws.{get-set, get-set_other, grown-nil, grown-twice, next_more, set-found, some_is, sound_grown, where_told}
 
 differs : (i j : ℕ) → (i == j) ≡ false → i ≡ j → ⊥
 differs i j other same =
@@ -85,6 +72,18 @@ modern-hold books lb old new modern at rules k b found =
       | inr other ↦ modern k b (sym (get-set_other books lb k new (differs lb k other)) ∙ found)
     ]
 
+pub legal-hold : (books : List Journal) (lb : ℕ) (old new : Journal) → AreLegal books → slice_get books lb ≡ Some old
+    → IsSound new → AreLegal (slice_set books lb new)
+legal-hold books lb old new legal at sound k b found =
+    elim (cases_Bool (lb == k)) [
+      | inl this ↦
+          let here : slice_get (slice_set books lb new) k ≡ Some new =
+          subst (λ (j : ℕ). slice_get (slice_set books lb new) j ≡ Some new) (eqb-true lb k this)
+          (get-set books lb new (slice_get_within books lb old at)) in
+          subst (λ (x : Journal). IsSound x) (some_is new b (sym here ∙ found)) sound
+      | inr other ↦ legal k b (sym (get-set_other books lb k new (differs lb k other)) ∙ found)
+    ]
+
 pub sizes-hold : (books : List Journal) (lb : ℕ) (old new : Journal) → slice_get books lb ≡ Some old → new.opening ≡ old.opening
     → sizes_of (slice_set books lb new) ≡ sizes_of books
 sizes-hold books lb old new at opening =
@@ -100,9 +99,9 @@ size-at (b ∷ books) (suc lb) old at = size-at books lb old at
 -- What a hold adds is added to the desk.
 pub gains-hold : (books : List Journal) (lb : ℕ) (old new : Journal) (before now : List Receipt) (held held' : List (ℕ × ℕ))
     (session at : ℕ) (gained : List Receipt) (s f w s' f' w' : ℕ) → slice_get books lb ≡ Some old → now ≡ before ++ gained
-    → All (IsOwn lb session at) gained → new ≡ grown_by old gained
+    → All (IsOwn lb session at) gained → new ≡ grown_by old gained → AreNextAt old at gained
     → Gains (plain_state books before held s f w) (plain_state (slice_set books lb new) now held' s' f' w') lb session at gained
-gains-hold books lb old new before now held held' session at gained s f w s' f' w' here receipts own grown = record {
+gains-hold books lb old new before now held held' session at gained s f w s' f' w' here receipts own grown next = record {
   receipts = receipts;
   own = own;
   added = ap (λ (xs : List Receipt). length xs) receipts ∙ length-append before gained;
@@ -110,38 +109,71 @@ gains-hold books lb old new before now held held' session at gained s f w s' f' 
       let same : b ≡ old = some_is b old (sym found ∙ here) in
       let step : new ≡ grown_by b gained = subst (λ (x : Journal). new ≡ grown_by x gained) (sym same) grown in
       ap (λ (x : Journal). Some (slice_set books lb x)) step;
+  next = where_told books lb old (λ x. AreNextAt x at gained) here next;
 }
 
-grown-nil : (b : Journal) → b ≡ grown_by b []
-grown-nil b =
-    let same : b.added + 0 ≡ b.added = omega arith in
-    sym (
-    ap (λ (n : ℕ). record b { entries = b.entries ++ []; added = n }) same
-    ∙ ap (λ (xs : List Entry). record b { entries = xs }) (append-nil b.entries)
-    )
-
-pub due_none : (books : List Journal) (before now : List Receipt) (held held' : List (ℕ × ℕ)) (lb session at : ℕ) (f w f' w' : ℕ) → now ≡ before
-    → GainsDue (plain_state books before held 0 f w) (plain_state books now held' 0 f' w') lb session at
-due_none books before now held held' lb session at f w f' w' same = record {
+-- Nothing was added.
+pub due_none : (books : List Journal) (before now : List Receipt) (held held' : List (ℕ × ℕ)) (lb session at : ℕ) (f w f' w' : ℕ)
+    (account : List Receipt → Type 0) → now ≡ before → account []
+    → GainsDue (plain_state books before held 0 f w) (plain_state books now held' 0 f' w') lb session at account
+due_none books before now held held' lb session at f w f' w' account same none = record {
   due = [];
   is_due = tt;
   gains = record {
     receipts = same ∙ sym (append-nil before);
     own = All-nil (IsOwn lb session at);
-    added = let none : length before + 0 ≡ length before = omega arith in ap (λ (xs : List Receipt). length xs) same ∙ sym none;
+    added = let no_more : length before + 0 ≡ length before = omega arith in ap (λ (xs : List Receipt). length xs) same ∙ sym no_more;
     books = λ b found. ap (λ (xs : List Journal). Some xs)
         (sym (set-found books lb b found) ∙ ap (λ (x : Journal). slice_set books lb x) (grown-nil b));
+    next = λ b found. tt;
   };
+  account = none;
 }
 
 pub due-hold : (books : List Journal) (lb : ℕ) (old new : Journal) (before now : List Receipt) (held held' : List (ℕ × ℕ))
-    (session at : ℕ) (f w f' w' : ℕ) → slice_get books lb ≡ Some old → BookGainsDue old new before now lb session at
-    → GainsDue (plain_state books before held 0 f w) (plain_state (slice_set books lb new) now held' 0 f' w') lb session at
-due-hold books lb old new before now held held' session at f w f' w' here due = record {
+    (session at : ℕ) (f w f' w' : ℕ) (own account : List Receipt → Type 0) → slice_get books lb ≡ Some old
+    → ((due : List Receipt) → own due → account due) → BookGainsDue old new before now lb session at own
+    → GainsDue (plain_state books before held 0 f w) (plain_state (slice_set books lb new) now held' 0 f' w') lb session at account
+due-hold books lb old new before now held held' session at f w f' w' own account here told due = record {
   due = due.due;
   is_due = due.is_due;
-  gains = gains-hold books lb old new before now held held' session at due.due 0 f w 0 f' w' here due.gains.receipts due.gains.own due.gains.grown;
+  gains = gains-hold books lb old new before now held held' session at due.due 0 f w 0 f' w' here due.gains.receipts due.gains.own due.gains.grown due.gains.next;
+  account = told due.due due.account;
 }
+
+-- The accounts of a Maintain before a refusal.
+pub ask_refusal : (books : List Journal) (lb : ℕ) (old : Journal) (receipts : List Receipt) (held : List (ℕ × ℕ)) (f w at : ℕ) (error : RoomError FullMark)
+    → slice_get books lb ≡ Some old → (due : List Receipt) → RefusesPick old at error due
+    → IsAskRefusal (plain_state books receipts held 0 f w) lb at error due
+ask_refusal books lb old receipts held f w at error here due why =
+    elim why [
+      | inl done ↦ inl (where_told books lb old (λ x. IsDueDone x at due) here done)
+      | inr lacks ↦ inr (lacks.0, where_told books lb old (λ x. RefusesDue x at error) here lacks.1)
+    ]
+
+pub command_refusal : (books : List Journal) (lb : ℕ) (old : Journal) (receipts : List Receipt) (held : List (ℕ × ℕ)) (f w at : ℕ) (command : Command) (error : AdminError FullMark)
+    → slice_get books lb ≡ Some old → (due : List Receipt) → RefusesAdmin (members old.opening) old at command error due
+    → IsCommandRefusal (plain_state books receipts held 0 f w) lb at command error due
+command_refusal books lb old receipts held f w at command error here due why =
+    elim why [
+      | inl own ↦ inl (
+        where_told books lb old (λ x. IsDueDone x at due) here own.0,
+        subst (λ (n : ℕ). IsRefusal n command error) (sym (size-at books lb old here)) own.1,
+      )
+      | inr first ↦ inr (
+        first.0,
+        first.1,
+        (first.2.0, where_told books lb old (λ x. RefusesDue x at first.0) here first.2.1),
+      )
+    ]
+
+-- Before anything is done, a Maintain is due or isn't.
+pub due_or_not : (old : Journal) (at : ℕ) → IsDueDone old at [] ⊎ (due_moment old ≤ entry_moment old at)
+due_or_not old at =
+    elim (cases_lt (entry_moment old at) (due_moment old)) [
+      | inl none ↦ inl (λ same. none, λ same. refl)
+      | inr due ↦ inr due
+    ]
 
 pub last-hold : (books : List Journal) (lb : ℕ) (old new : Journal) (before now : List Receipt) (held held' : List (ℕ × ℕ))
     (session at : ℕ) (f w f' w' : ℕ) (r : Receipt) → slice_get books lb ≡ Some old → BookGainsLast old new before now lb session at r
@@ -149,25 +181,18 @@ pub last-hold : (books : List Journal) (lb : ℕ) (old new : Journal) (before no
 last-hold books lb old new before now held held' session at f w f' w' r here last = record {
   due = last.due;
   is_due = last.is_due;
-  gains = gains-hold books lb old new before now held held' session at (last.due ++ r ∷ []) 0 f w 0 f' w' here last.gains.receipts last.gains.own last.gains.grown;
+  gains = gains-hold books lb old new before now held held' session at (last.due ++ r ∷ []) 0 f w 0 f' w' here last.gains.receipts last.gains.own last.gains.grown last.gains.next;
+  maintained = where_told books lb old (λ x. IsDueDone x at last.due) here last.done;
 }
 
 -- Two calls of one hold.
-grown-twice : (b : Journal) (g h : List Receipt) → grown_by (grown_by b g) h ≡ grown_by b (g ++ h)
-grown-twice b g h =
-    let entries : b.entries ++ map (λ (r : Receipt). r.entry) g ++ map (λ (r : Receipt). r.entry) h ≡ b.entries ++ map (λ (r : Receipt). r.entry) (g ++ h) =
-    append_assoc b.entries (map (λ (r : Receipt). r.entry) g) (map (λ (r : Receipt). r.entry) h)
-    ∙ ap (λ (xs : List Entry). b.entries ++ xs) (sym (map-append (λ (r : Receipt). r.entry) g h)) in
-    let added : b.added + length g + length h ≡ b.added + length (g ++ h) = omega (arith, length-append g h) in
-    ap (λ (xs : List Entry). record b { entries = xs; added = b.added + length g + length h }) entries
-    ∙ ap (λ (n : ℕ). record b { entries = b.entries ++ map (λ (r : Receipt). r.entry) (g ++ h); added = n }) added
-
 gains_more : (a b c : Journal) (r0 r1 r2 : List Receipt) (lb session at : ℕ) (g h : List Receipt) → BookGains a b r0 r1 lb session at g
     → BookGains b c r1 r2 lb session at h → BookGains a c r0 r2 lb session at (g ++ h)
 gains_more a b c r0 r1 r2 lb session at g h first second = record {
   receipts = second.receipts ∙ ap (λ (xs : List Receipt). xs ++ h) first.receipts ∙ append_assoc r0 g h;
   own = All-append (IsOwn lb session at) g h first.own second.own;
   grown = second.grown ∙ ap (λ (x : Journal). grown_by x h) first.grown ∙ grown-twice a g h;
+  next = next_more a at g h first.next (subst (λ (x : Journal). AreNextAt x at h) first.grown second.next);
   stay = λ t is. second.stay t (first.stay t is);
 }
 
@@ -184,24 +209,27 @@ stay-called old new session at c e t adds is other =
     (subst (λ (p : List Entry). is_out old.opening p t ≡ true) (sym adds.newest) kept)
 
 gains_one : (old new : Journal) (before now : List Receipt) (lb session at : ℕ) (c : Call) (e : Entry) → AddsEntry old new session at c e
-    → now ≡ before ++ record { lb = lb; given = at; entry = e } ∷ [] → ((t : ℕ) → gives_back t c ≡ false)
+    → IsNext old.rules old.opening (past_of old) e → now ≡ before ++ record { lb = lb; given = at; entry = e } ∷ [] → ((t : ℕ) → gives_back t c ≡ false)
     → BookGains old new before now lb session at (record { lb = lb; given = at; entry = e } ∷ [])
-gains_one old new before now lb session at c e adds noted none = record {
+gains_one old new before now lb session at c e adds next noted none = record {
   receipts = noted;
   own = own_one lb session at (record { lb = lb; given = at; entry = e }) (record { balancer = refl; given = refl; caller = adds.caller });
   grown = adds.grown;
+  next = (record { next = next; moment = adds.moment }, tt);
   stay = λ t is. stay-called old new session at c e t adds is (none t);
 }
 
 pub gains_last : (old mid new : Journal) (before between now : List Receipt) (lb session at : ℕ) (c : Call) (e : Entry)
-    → BookGainsDue old mid before between lb session at → AddsEntry mid new session at c e
+    → BookGainsDue old mid before between lb session at (IsDueDone old at) → AddsEntry mid new session at c e
+    → IsNext mid.rules mid.opening (past_of mid) e
     → now ≡ between ++ record { lb = lb; given = at; entry = e } ∷ [] → ((t : ℕ) → gives_back t c ≡ false)
     → BookGainsLast old new before now lb session at (record { lb = lb; given = at; entry = e })
-gains_last old mid new before between now lb session at c e due adds noted none = record {
+gains_last old mid new before between now lb session at c e due adds next noted none = record {
   due = due.due;
   is_due = due.is_due;
   gains = gains_more old mid new before between now lb session at due.due (record { lb = lb; given = at; entry = e } ∷ []) due.gains
-      (gains_one mid new between now lb session at c e adds noted none);
+      (gains_one mid new between now lb session at c e adds next noted none);
+  done = due.account;
 }
 
 -- Held tickets.
@@ -406,14 +434,20 @@ picks_by old new session at ask e answer.Forced is adds sound pick = tt
 picks_by old new session at ask e answer.Done is adds sound pick = pick
 
 -- A Select after a Maintain that was due.
-pub picks_due : (old mid new : Journal) (before between : List Receipt) (lb session at : ℕ) (ask : Ask) (e : Entry)
-    → BookGainsDue old mid before between lb session at → AddsEntry mid new session at (call.Select ask) e → IsSound new
+pub picks_due : (old mid new : Journal) (before between : List Receipt) (lb session at : ℕ) (account : List Receipt → Type 0) (ask : Ask) (e : Entry)
+    → BookGainsDue old mid before between lb session at account → AddsEntry mid new session at (call.Select ask) e → IsSound new
     → IsPick mid.rules mid.opening (past_of mid) ask e.answer → Picks old new ask e.seq e.answer
-picks_due old mid new before between lb session at ask e due adds sound pick =
+picks_due old mid new before between lb session at account ask e due adds sound pick =
     picks-after old mid new ask e.seq e.answer (ap (λ (b : Journal). members b.opening) due.gains.grown) due.gains.stay
     (picks_by mid new session at ask e e.answer refl adds sound pick)
 
 -- What a desk keeps.
+sound-gains : (books : List Journal) (lb : ℕ) (old new : Journal) (before now : List Receipt) (session at : ℕ) (gained : List Receipt)
+    → AreLegal books → slice_get books lb ≡ Some old → BookGains old new before now lb session at gained → AreLegal (slice_set books lb new)
+sound-gains books lb old new before now session at gained legal here gains =
+    legal-hold books lb old new legal here
+    (subst (λ (b : Journal). IsSound b) (sym gains.grown) (sound_grown old at gained (legal lb old here) gains.next))
+
 due_length : (due : List Receipt) → IsDue due → length due ≤ 1
 due_length [] is = omega arith
 due_length (r ∷ []) is = omega arith
@@ -426,15 +460,17 @@ pub plain-none : (books : List Journal) (before now : List Receipt) (held held' 
     → IsPlain books before held room → now ≡ before → held' ≡ held → room ≤ room' → IsPlain books now held' room'
 plain-none books before now held held' room room' is receipts tickets more = record {
   modern = is.modern;
+  legal = is.legal;
   held_out = subst (λ (xs : List (ℕ × ℕ)). AreHeld books xs) (sym tickets) is.held_out;
   roomy = rw (receipts, tickets) (omega (arith, is.roomy, more));
 }
 
-pub plain-due : (books : List Journal) (lb : ℕ) (old new : Journal) (before now : List Receipt) (held held' : List (ℕ × ℕ)) (session at room room' : ℕ)
-    → IsPlain books before held room → slice_get books lb ≡ Some old → BookGainsDue old new before now lb session at → held' ≡ held
+pub plain-due : (books : List Journal) (lb : ℕ) (old new : Journal) (before now : List Receipt) (held held' : List (ℕ × ℕ)) (session at room room' : ℕ) (account : List Receipt → Type 0)
+    → IsPlain books before held room → slice_get books lb ≡ Some old → BookGainsDue old new before now lb session at account → held' ≡ held
     → length before + length held + 1 ≤ room' → IsPlain (slice_set books lb new) now held' room'
-plain-due books lb old new before now held held' session at room room' is here due tickets more = record {
+plain-due books lb old new before now held held' session at room room' account is here due tickets more = record {
   modern = modern-hold books lb old new is.modern here (rules-grown old new due.due due.gains.grown);
+  legal = sound-gains books lb old new before now session at due.due is.legal here due.gains;
   held_out = subst (λ (xs : List (ℕ × ℕ)). AreHeld (slice_set books lb new) xs) (sym tickets)
       (held-hold books lb old new held here due.gains.stay is.held_out);
   roomy =
@@ -450,6 +486,7 @@ pub plain-last : (books : List Journal) (lb : ℕ) (old new : Journal) (before n
     → length before + length held + 2 ≤ room' → IsPlain (slice_set books lb new) now held' room'
 plain-last books lb old new before now held held' session at room room' r is here last tickets more = record {
   modern = modern-hold books lb old new is.modern here (rules-grown old new (last.due ++ r ∷ []) last.gains.grown);
+  legal = sound-gains books lb old new before now session at (last.due ++ r ∷ []) is.legal here last.gains;
   held_out = subst (λ (xs : List (ℕ × ℕ)). AreHeld (slice_set books lb new) xs) (sym tickets)
       (held-hold books lb old new held here last.gains.stay is.held_out);
   roomy =
@@ -487,6 +524,7 @@ pub plain-picked : (books : List Journal) (lb : ℕ) (old new : Journal) (before
     → length before + length held + 3 ≤ room' → IsPlain (slice_set books lb new) now held' room'
 plain-picked books lb old new before now held held' session at room room' r ask seq a is here last picks tickets more = record {
   modern = modern-hold books lb old new is.modern here (rules-grown old new (last.due ++ r ∷ []) last.gains.grown);
+  legal = sound-gains books lb old new before now session at (last.due ++ r ∷ []) is.legal here last.gains;
   held_out = subst (λ (xs : List (ℕ × ℕ)). AreHeld (slice_set books lb new) xs) (sym tickets)
       (held-picked books lb old new held ask seq a here last.gains.stay picks is.held_out);
   roomy =
@@ -497,11 +535,12 @@ plain-picked books lb old new before now held held' session at room room' r ask 
 }
 
 pub plain-return : (books : List Journal) (lb : ℕ) (old new : Journal) (before now : List Receipt) (held held' : List (ℕ × ℕ)) (session at room room' t : ℕ) (outcome : Outcome) (e : Entry)
-    → IsPlain books before held room → slice_get books lb ≡ Some old → AddsEntry old new session at (call.Return t outcome) e
+    → IsPlain books before held room → slice_get books lb ≡ Some old → AddsEntry old new session at (call.Return t outcome) e → IsSound new
     → now ≡ before ++ record { lb = lb; given = at; entry = e } ∷ [] → holds held (lb, t) ≡ true → held' ≡ without held (lb, t)
     → room ≤ room' → IsPlain (slice_set books lb new) now held' room'
-plain-return books lb old new before now held held' session at room room' t outcome e is here adds noted had tickets more = record {
+plain-return books lb old new before now held held' session at room room' t outcome e is here adds sound noted had tickets more = record {
   modern = modern-hold books lb old new is.modern here (ap (λ (b : Journal). b.rules) adds.grown);
+  legal = legal-hold books lb old new is.legal here sound;
   held_out = subst (λ (xs : List (ℕ × ℕ)). AreHeld (slice_set books lb new) xs) (sym tickets)
       (held-return books lb old new held t here (λ u other out. stay-called old new session at (call.Return t outcome) e u adds out other) is.held_out);
   roomy =

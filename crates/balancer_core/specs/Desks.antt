@@ -1,10 +1,11 @@
 -- What is told of a desk, and what its calls do with it.
-use Rattle.std.specs.Prelude.{◌≡◌, ℕ, ◌+◌, ◌<◌, ◌≤◌, ◌==◌, ◌&&◌, Bool, false, not, List, [], ◌∷◌, ◌++◌, length, map, Option, Some, None, IfSome, slice_get, slice_index, slice_set, if◌then◌else◌}
+use Rattle.std.specs.Prelude.{◌≡◌, ℕ, ◌+◌, ◌<◌, ◌≤◌, ◌==◌, ◌&&◌, ◌↔◌, ◌⊎◌, Bool, false, not, List, [], ◌∷◌, ◌++◌, length, Option, Some, None, slice_get, slice_index, slice_set, if◌then◌else◌}
 use Rattle.std.specs.List.{All, list_any}
 use Rattle.jk_io.specs.Told.{Rose}
 use Rattle.jk_model.specs.Free.{is_in}
 use Rattle.jk_model.specs.Legal.{HasValues}
 use Rattle.jk_model.specs.Present.{IsPresent}
+use Rattle.jk_model.specs.Tickets.{is_out}
 use Rattle.jk_model.specs.declared.ask.Ask.{Ask}
 use Rattle.jk_model.specs.declared.change.Command.{Command}
 use Rattle.jk_model.specs.declared.journal.Answer.TheVariants as answer
@@ -19,7 +20,8 @@ use Rattle.jk_model.specs.declared.refusal.RoomError.TheVariants as room
 use Rattle.jk_model.specs.declared.refusal.Stray.{Stray}
 use Rattle.jk_model.specs.declared.view.View.{View}
 use Rattle.balancer_core.specs.Commanded.{IsKnown}
-use Rattle.balancer_core.specs.Journal.{Journal, past_of}
+use Rattle.balancer_core.specs.Journal.{IsReturnedAt, Journal, past_of}
+use Rattle.balancer_core.specs.ToldBooks.{AreNextAt, AreSound, IsNoneDue, RefusesDue, WhereTold, grown_by}
 use Rattle.balancer_core.specs.declared.desk.Choice.{Choice}
 use Rattle.balancer_core.specs.declared.desk.Choice.TheVariants as choice
 use Rattle.balancer_core.specs.declared.receipt.Receipt.{Receipt}
@@ -66,20 +68,13 @@ pub record IsOwn (lb session at : ℕ) (r : Receipt) : Type 0 where
   pub given : r.given ≡ at
   pub caller : r.entry.session ≡ session
 
--- The Book with the entries of these receipts at its end.
-abbrev pub grown_by : Journal → List Receipt → Journal
-grown_by b gained = record b {
-  entries = b.entries ++ map (λ r. r.entry) gained;
-  added = b.added + length gained;
-}
-
 -- The entries of the receipts were added to the journal of that balancer, and to no other.
 abbrev pub BooksGrow : (lb : ℕ) → List Receipt → Option (List Journal) → Option (List Journal) → Type 0
 BooksGrow lb gained None now = now ≡ None
 BooksGrow lb gained (Some books) now =
     (b : Journal) → slice_get books lb ≡ Some b → now ≡ Some (slice_set books lb (grown_by b gained))
 
--- What never changes, and the counts that never fall.
+-- What never changes, and the counts that never fall. Told Books are sound, before a call as after it.
 pub record KeepsDesk (old new : DeskState) : Type 0 where
   pub caller : new.caller ≡ old.caller
   pub sizes : new.sizes ≡ old.sizes
@@ -87,13 +82,17 @@ pub record KeepsDesk (old new : DeskState) : Type 0 where
   pub strays : old.strays ≤ new.strays
   pub fulls : old.fulls ≤ new.fulls
   pub wides : old.wides ≤ new.wides
+  pub sound_before : AreSound old.sizes old.books
+  pub sound : AreSound new.sizes new.books
 
--- The call of a session at a moment on a balancer added just the entries of these receipts.
+-- The call of a session at a moment on a balancer added just the entries of these receipts. Each may follow the one
+-- before it, and has the greater of this moment and that one's.
 pub record Gains (old new : DeskState) (lb session at : ℕ) (gained : List Receipt) : Type 0 where
   pub receipts : new.receipts ≡ old.receipts ++ gained
   pub own : All (IsOwn lb session at) gained
   pub added : new.added ≡ old.added + length gained
   pub books : BooksGrow lb gained old.books new.books
+  pub next : WhereTold old.books lb (λ b. AreNextAt b at gained)
 
 -- At most one receipt, of a Maintain.
 abbrev pub IsDue : List Receipt → Type 0
@@ -101,17 +100,27 @@ IsDue [] = Unit {0}
 IsDue (r ∷ []) = r.entry.call ≡ call.Maintain
 IsDue (r ∷ s ∷ rest) = ⊥
 
--- A Maintain where it was due, and nothing else.
-pub record GainsDue (old new : DeskState) (lb session at : ℕ) : Type 0 where
+-- A Maintain was done exactly where one was due.
+abbrev pub IsMaintained : DeskState → (lb at : ℕ) → List Receipt → Type 0
+IsMaintained old lb at due = WhereTold old.books lb (λ b. (due ≡ []) ↔ IsNoneDue b at)
+
+-- The Maintain that was due was itself refused, so that nothing was added.
+abbrev pub LacksMaintain : {M : Type 0} → DeskState → (lb at : ℕ) → RoomError M → List Receipt → Type 0
+LacksMaintain old lb at error due = (due ≡ []) × WhereTold old.books lb (λ b. RefusesDue b at error)
+
+-- A Maintain or nothing, by this account of it.
+pub record GainsDue (old new : DeskState) (lb session at : ℕ) (Account : List Receipt → Type 0) : Type 0 where
   pub due : List Receipt
   pub is_due : IsDue due
   pub gains : Gains old new lb session at due
+  pub account : Account due
 
--- A Maintain where it was due, and then the entry of this receipt.
+-- A Maintain exactly where one was due, and then the entry of this receipt.
 pub record GainsLast (old new : DeskState) (lb session at : ℕ) (last : Receipt) : Type 0 where
   pub due : List Receipt
   pub is_due : IsDue due
   pub gains : Gains old new lb session at (due ++ last ∷ [])
+  pub maintained : IsMaintained old lb at due
 
 -- The desk chose as the entry says; a member that was tried is chosen by none.
 abbrev pub IsChoice : {T : Type 0} → (T → LeaseNote) → DeskState → DeskState → (lb : ℕ) → Ask → Entry → Choice T → Type 0
@@ -133,9 +142,13 @@ pub record Chooses {T : Type 0} (note : T → LeaseNote) (old new : DeskState) (
   pub stray : new.strays ≡ old.strays
   pub wide : new.wides ≡ old.wides
 
+-- A refusal of the ask after the Maintain that was due, or of that Maintain.
+abbrev pub IsAskRefusal : {M : Type 0} → DeskState → (lb at : ℕ) → RoomError M → List Receipt → Type 0
+IsAskRefusal old lb at error due = IsMaintained old lb at due ⊎ LacksMaintain old lb at error due
+
 -- A select was refused: no ticket is held more, and Full comes only where the count of fulls rose.
 pub record RefusesChoice {M : Type 0} (old new : DeskState) (lb session at : ℕ) (error : RoomError M) : Type 0 where
-  pub gains : GainsDue old new lb session at
+  pub gains : GainsDue old new lb session at (IsAskRefusal old lb at error)
   pub held : new.held ≡ old.held
   pub full : (mark : M) → error ≡ room.Full mark → Rose old.fulls new.fulls
   pub wanted : error ≡ room.NoMemory → new.fulls ≡ old.fulls
@@ -149,13 +162,15 @@ pub record TakesBack (old new : DeskState) (session at : ℕ) (lease : LeaseNote
   pub returned : last.entry.call ≡ call.Return lease.ticket outcome
   pub stray : new.strays ≡ old.strays
 
--- The ticket of the lease was none that is out: nothing was added.
+-- The ticket of the lease was none that is out, for it came back by this number's entry or never was: nothing was added.
 pub record MeetsStray (old new : DeskState) (lease : LeaseNote) (stray : Stray) : Type 0 where
   pub ticket : stray.ticket ≡ lease.ticket
   pub receipts : new.receipts ≡ old.receipts
   pub added : new.added ≡ old.added
   pub books : new.books ≡ old.books
   pub rose : Rose old.strays new.strays
+  pub not_out : WhereTold old.books lease.lb (λ b. is_out b.opening (past_of b) lease.ticket ≡ false)
+  pub returned : WhereTold old.books lease.lb (λ b. IsReturnedAt (past_of b) lease.ticket stray.returned_at)
 
 -- The command was done: its entry is the last one that was added.
 pub record Commands (old new : DeskState) (lb session at : ℕ) (command : Command) : Type 0 where
@@ -167,22 +182,39 @@ pub record Commands (old new : DeskState) (lb session at : ℕ) (command : Comma
   pub full : new.fulls ≡ old.fulls
   pub wide : new.wides ≡ old.wides
 
--- The causes of a command's refusal. Full may be that of the Maintain that was due, whatever the command is.
-abbrev pub IsRefusal : {M : Type 0} → (size : ℕ) → DeskState → DeskState → Command → AdminError M → Type 0
-IsRefusal size old new command admin.UnknownMember = (IsKnown size command → ⊥) × (new.fulls ≡ old.fulls) × (new.wides ≡ old.wides)
-IsRefusal size old new command admin.BadValue =
-    IsKnown size command × (HasValues command → ⊥) × (new.fulls ≡ old.fulls) × (new.wides ≡ old.wides)
-IsRefusal size old new command (admin.TooWide mark) =
-    IsKnown size command × HasValues command × (new.fulls ≡ old.fulls) × Rose old.wides new.wides
-IsRefusal size old new command (admin.Full mark) = Rose old.fulls new.fulls × (new.wides ≡ old.wides)
-IsRefusal size old new command admin.NoMemory = (new.fulls ≡ old.fulls) × (new.wides ≡ old.wides)
+-- The causes of a command's refusal. Want of memory needs none.
+abbrev pub IsRefusal : {M : Type 0} → (size : ℕ) → Command → AdminError M → Type 0
+IsRefusal size command admin.UnknownMember = IsKnown size command → ⊥
+IsRefusal size command admin.BadValue = IsKnown size command × (HasValues command → ⊥)
+IsRefusal size command (admin.TooWide mark) = IsKnown size command × HasValues command
+IsRefusal size command (admin.Full mark) = IsKnown size command × HasValues command
+IsRefusal size command admin.NoMemory = Unit {0}
+
+-- The answer to a command whose Maintain was refused.
+abbrev pub refused_first : {M : Type 0} → RoomError M → AdminError M
+refused_first (room.Full mark) = admin.Full mark
+refused_first room.NoMemory = admin.NoMemory
+
+-- A refusal of the command after the Maintain that was due, or of that Maintain.
+abbrev pub IsCommandRefusal : {M : Type 0} → DeskState → (lb at : ℕ) → Command → AdminError M → List Receipt → Type 0
+IsCommandRefusal {M} old lb at command error due =
+    (IsMaintained old lb at due × IsRefusal (slice_index old.sizes lb) command error)
+    ⊎ ((first : RoomError M) × (error ≡ refused_first first) × LacksMaintain old lb at first due)
+
+-- Full and TooWide come only where their counts rose, and no other refusal is counted.
+abbrev pub IsCounted : {M : Type 0} → DeskState → DeskState → AdminError M → Type 0
+IsCounted old new admin.UnknownMember = (new.fulls ≡ old.fulls) × (new.wides ≡ old.wides)
+IsCounted old new admin.BadValue = (new.fulls ≡ old.fulls) × (new.wides ≡ old.wides)
+IsCounted old new (admin.TooWide mark) = (new.fulls ≡ old.fulls) × Rose old.wides new.wides
+IsCounted old new (admin.Full mark) = Rose old.fulls new.fulls × (new.wides ≡ old.wides)
+IsCounted old new admin.NoMemory = (new.fulls ≡ old.fulls) × (new.wides ≡ old.wides)
 
 pub record RefusesCommand {M : Type 0} (old new : DeskState) (lb session at : ℕ) (command : Command) (error : AdminError M) : Type 0 where
-  pub gains : GainsDue old new lb session at
-  pub cause : IsRefusal (slice_index old.sizes lb) old new command error
+  pub gains : GainsDue old new lb session at (IsCommandRefusal old lb at command error)
+  pub counted : IsCounted old new error
 
--- The view is one of balancer lb: it has its members, and where the Books are told it is the present one.
+-- The view is one of balancer lb: it has its members, and where the Books are told it is the present one of a sound Book.
 pub record Shows (desk : DeskState) (lb : ℕ) (view : View) : Type 0 where
   pub rows : length view.rows ≡ slice_index desk.sizes lb
-  pub present : IfSome desk.books (λ books. (b : Journal) → slice_get books lb ≡ Some b
-      → IsPresent b.rules b.opening (past_of b) view)
+  pub present : WhereTold desk.books lb (λ b. IsPresent b.rules b.opening (past_of b) view)
+  pub sound : AreSound desk.sizes desk.books

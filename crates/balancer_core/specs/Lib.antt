@@ -13,6 +13,7 @@ pub mod Maintained
 pub mod Stepped
 pub mod Commanded
 pub mod Due
+pub mod ToldBooks
 pub mod Ending
 pub mod Desks
 pub mod PlainDesks

@@ -1,12 +1,11 @@
 -- What a desk of one thread keeps, and what one hold of a Book adds to it.
-use Rattle.std.specs.Prelude.{◌≡◌, ℕ, ◌+◌, ◌<◌, ◌≤◌, false, true, List, [], ◌∷◌, ◌++◌, length, map, Option, Some, None, slice_get, slice_index, Result, Ok, Err}
+use Rattle.std.specs.Prelude.{◌≡◌, ℕ, ◌+◌, ◌<◌, ◌≤◌, ◌↔◌, ◌⊎◌, false, true, List, [], ◌∷◌, ◌++◌, length, Some, None, slice_get, Result, Ok, Err}
 use Rattle.std.specs.List.{All}
 use Rattle.jk_io.specs.Told.{Rose}
 use Rattle.jk_model.specs.Free.{is_in}
 use Rattle.jk_model.specs.Journal.{members}
 use Rattle.jk_model.specs.Tickets.{is_out}
 use Rattle.jk_model.specs.declared.ask.Ask.{Ask}
-use Rattle.jk_model.specs.Legal.{HasValues}
 use Rattle.jk_model.specs.declared.change.Command.{Command}
 use Rattle.jk_model.specs.declared.journal.Answer.{Answer}
 use Rattle.jk_model.specs.declared.journal.Answer.TheVariants as answer
@@ -15,18 +14,18 @@ use Rattle.jk_model.specs.declared.refusal.AdminError.TheVariants as admin
 use Rattle.jk_model.specs.declared.refusal.FullMark.{FullMark}
 use Rattle.jk_model.specs.declared.refusal.RoomError.{RoomError}
 use Rattle.jk_model.specs.declared.refusal.RoomError.TheVariants as room
-use Rattle.balancer_core.specs.Commanded.{IsKnown}
-use Rattle.balancer_core.specs.Desks.{DeskState, IsDue, IsOwn, grown_by, holds}
-use Rattle.balancer_core.specs.Journal.{Journal, past_of}
+use Rattle.balancer_core.specs.Desks.{DeskState, IsDue, IsOwn, IsRefusal, holds, refused_first}
+use Rattle.balancer_core.specs.Journal.{IsSound, Journal, past_of}
+use Rattle.balancer_core.specs.ToldBooks.{AreNextAt, IsNoneDue, RefusesDue, grown_by, sizes_of}
 use Rattle.balancer_core.specs.declared.receipt.Receipt.{Receipt}
-
--- The numbers of members of these Books.
-abbrev pub sizes_of : List Journal → List ℕ
-sizes_of books = map (λ b. members b.opening) books
 
 -- Each Book has rules 2.
 abbrev pub AreModern : List Journal → Type 0
 AreModern books = (lb : ℕ) (b : Journal) → slice_get books lb ≡ Some b → b.rules ≡ 2
+
+-- Each Book is sound.
+abbrev pub AreLegal : List Journal → Type 0
+AreLegal books = (lb : ℕ) (b : Journal) → slice_get books lb ≡ Some b → IsSound b
 
 -- The pair's ticket is out in its Book.
 pub record IsOutAt (books : List Journal) (pair : ℕ × ℕ) : Type 0 where
@@ -42,6 +41,7 @@ AreHeld books (x ∷ xs) = IsOutAt books x × (holds xs x ≡ false) × AreHeld 
 -- The fields of a desk: it has the room for the receipts of the Returns to come.
 pub record IsPlain (books : List Journal) (receipts : List Receipt) (held : List (ℕ × ℕ)) (room : ℕ) : Type 0 where
   pub modern : AreModern books
+  pub legal : AreLegal books
   pub held_out : AreHeld books held
   pub roomy : length receipts + length held ≤ room
 
@@ -65,19 +65,39 @@ pub record BookGains (old new : Journal) (before now : List Receipt) (lb session
   pub receipts : now ≡ before ++ gained
   pub own : All (IsOwn lb session at) gained
   pub grown : new ≡ grown_by old gained
+  pub next : AreNextAt old at gained
   pub stay : (t : ℕ) → is_out old.opening (past_of old) t ≡ true → is_out new.opening (past_of new) t ≡ true
 
--- It added a Maintain where one was due.
-pub record BookGainsDue (old new : Journal) (before now : List Receipt) (lb session at : ℕ) : Type 0 where
+-- A Maintain was done exactly where one was due.
+abbrev pub IsDueDone : Journal → (at : ℕ) → List Receipt → Type 0
+IsDueDone old at due = (due ≡ []) ↔ IsNoneDue old at
+
+-- The Maintain that was due was itself refused, so that nothing was added.
+abbrev pub LacksDue : Journal → (at : ℕ) → RoomError FullMark → List Receipt → Type 0
+LacksDue old at error due = (due ≡ []) × RefusesDue old at error
+
+-- A refusal of the ask after the Maintain that was due, or of that Maintain; and so of a command, over n members.
+abbrev pub RefusesPick : Journal → (at : ℕ) → RoomError FullMark → List Receipt → Type 0
+RefusesPick old at error due = IsDueDone old at due ⊎ LacksDue old at error due
+
+abbrev pub RefusesAdmin : (n : ℕ) → Journal → (at : ℕ) → Command → AdminError FullMark → List Receipt → Type 0
+RefusesAdmin n old at command error due =
+    (IsDueDone old at due × IsRefusal n command error)
+    ⊎ ((first : RoomError FullMark) × (error ≡ refused_first first) × LacksDue old at first due)
+
+-- A hold added a Maintain or nothing, by this account of it.
+pub record BookGainsDue (old new : Journal) (before now : List Receipt) (lb session at : ℕ) (Account : List Receipt → Type 0) : Type 0 where
   pub due : List Receipt
   pub is_due : IsDue due
   pub gains : BookGains old new before now lb session at due
+  pub account : Account due
 
--- And then the entry of this receipt.
+-- It added a Maintain exactly where one was due, and then the entry of this receipt.
 pub record BookGainsLast (old new : Journal) (before now : List Receipt) (lb session at : ℕ) (last : Receipt) : Type 0 where
   pub due : List Receipt
   pub is_due : IsDue due
   pub gains : BookGains old new before now lb session at (due ++ last ∷ [])
+  pub done : IsDueDone old at due
 
 -- A chosen member exists and wasn't tried, and its ticket, the entry's number, was not out before and is out now.
 pub record IsNewTicket (old new : Journal) (ask : Ask) (m seq : ℕ) : Type 0 where
@@ -92,15 +112,6 @@ Picks old new ask seq (answer.Chosen m t how probe) = (t ≡ seq) × IsNewTicket
 Picks old new ask seq answer.NoMember = Unit {0}
 Picks old new ask seq answer.Forced = Unit {0}
 Picks old new ask seq answer.Done = ⊥
-
--- What the sizes and the command decide. Full may be that of the Maintain before it.
-abbrev pub Judges : {T M : Type 0} → (n : ℕ) → Command → Result T (AdminError M) → Type 0
-Judges n c (Ok done) = IsKnown n c × HasValues c
-Judges n c (Err admin.UnknownMember) = IsKnown n c → ⊥
-Judges n c (Err admin.BadValue) = IsKnown n c × (HasValues c → ⊥)
-Judges n c (Err (admin.TooWide mark)) = IsKnown n c × HasValues c
-Judges n c (Err (admin.Full mark)) = Unit {0}
-Judges n c (Err admin.NoMemory) = Unit {0}
 
 -- A count that rose by one, or stood at its last value.
 pub record Counts (before now : ℕ) : Type 0 where

@@ -1,5 +1,5 @@
 -- What the refusals of a hold say of its Book: `old` is the Book before the hold, and `new` the Book after it.
-use Rattle.std.specs.Prelude.{ℕ, ◌+◌, ◌^◌, ◌<◌, ◌≤◌, List, Option, Some, None, slice_get, Result, Ok, Err}
+use Rattle.std.specs.Prelude.{ℕ, ◌+◌, ◌^◌, ◌<◌, ◌≤◌, Result, Ok, Err}
 use Rattle.jk_model.specs.Settings.{common_after, common_of}
 use Rattle.jk_model.specs.declared.change.Command.{Command}
 use Rattle.jk_model.specs.declared.journal.Call.TheVariants as call
@@ -9,11 +9,6 @@ use Rattle.jk_model.specs.declared.refusal.FullMark.{FullMark}
 use Rattle.jk_model.specs.declared.refusal.RoomError.{RoomError}
 use Rattle.jk_model.specs.declared.refusal.RoomError.TheVariants as room
 use Rattle.balancer_core.specs.Journal.{IsMarked, Journal, next_number, past_of, tickets_out}
-
--- The Book of balancer lb, where it is told.
-abbrev pub book_in : Option (List Journal) → (lb : ℕ) → Option Journal
-book_in None lb = None
-book_in (Some books) lb = slice_get books lb
 
 -- Full is told with the Book's numbers, and only where `more` numbers are no longer left.
 abbrev pub IsFullAt : (more : ℕ) → Journal → FullMark → Type 0

@@ -17,6 +17,9 @@ pub enum Choice<E> {
 }
 
 /// Balancers that a caller asks, over one thread as over a lock. A balancer is named by its place `lb`.
+///
+/// Where a desk tells its Books, they are sound before each call and after it, and each entry of a call may follow those
+/// before it. A desk over a lock tells none, and then the clauses say nothing of them.
 pub trait Desk {
     ghost use Rattle.std.specs.Prelude.{◌≡◌, ◌≤◌, ◌<◌, ◌^◌, true, length, IfSome, IfOk, IfErr, OnErr};
     ghost use Rattle.balancer_core.specs.Desks.{
@@ -55,7 +58,7 @@ pub trait Desk {
 
     ghost view: { Self.Shown → View };
 
-    /// Asks for a member, after a Maintain where one is due.
+    /// Asks for a member, after a Maintain exactly where one is due. A refusal is that of the ask, or of that Maintain.
     fn choose(
         &mut self,
         lb: u32,
@@ -87,7 +90,8 @@ pub trait Desk {
         ensures same { ((state self.new).fulls ≡ (state self.old).fulls) × ((state self.new).wides ≡ (state self.old).wides) }
         ensures kept { KeepsDesk (state self.old) (state self.new) };
 
-    /// Does a command, after a Maintain where one is due.
+    /// Does a command, after a Maintain exactly where one is due. A Maintain that is refused is the answer; else the
+    /// sizes and the command decide.
     fn command(
         &mut self,
         lb: u32,

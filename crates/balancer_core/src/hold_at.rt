@@ -1,9 +1,20 @@
 //! One hold of the Book at a place, over the lists that a desk of one thread keeps.
 ghost use Rattle.std.specs.Prelude.{◌≡◌, ◌≤◌, ◌<◌, ◌^◌, ℕ, true, not, filter, length, slice_get, slice_index, Some, vec_len, vec_capacity, IfOk, IfErr, OnOk, OnErr};
-ghost use Rattle.balancer_core.specs.Desks.{Chooses, Commands, GainsDue, TakesBack, holds, is_pair, without_last};
+ghost use Rattle.balancer_core.specs.Desks.{
+  Chooses,
+  Commands,
+  GainsDue,
+  IsAskRefusal,
+  IsCommandRefusal,
+  TakesBack,
+  holds,
+  is_pair,
+  without_last,
+};
 ghost use Rattle.balancer_core.specs.Journal.{Journal};
 ghost use Rattle.balancer_core.specs.Refused.{IsCommandRoom, IsSelectRoom};
-ghost use Rattle.balancer_core.specs.PlainDesks.{IsPlain, Judges, plain_state, sizes_of};
+ghost use Rattle.balancer_core.specs.PlainDesks.{IsPlain, plain_state};
+ghost use Rattle.balancer_core.specs.ToldBooks.{sizes_of};
 ghost use Rattle.balancer_core.specs.PlainLeases.{note_of};
 
 use crate::book::Book;
@@ -29,8 +40,9 @@ pub(crate) fn select_at(
     ensures plain { IsPlain books.new receipts.new.items held.new.items (vec_capacity receipts.new) }
     ensures ok { IfOk result (λ c. (f w : ℕ) → Chooses note_of (plain_state books.old receipts.old.items held.old.items 0 f w)
         (plain_state books.new receipts.new.items held.new.items 0 f w) lb session at ask.now c) }
-    ensures err { OnErr result ((f w f' w' : ℕ) → GainsDue (plain_state books.old receipts.old.items held.old.items 0 f w)
-        (plain_state books.new receipts.new.items held.new.items 0 f' w') lb session at) }
+    ensures err { IfErr result (λ e. (f w f' w' : ℕ) → GainsDue (plain_state books.old receipts.old.items held.old.items 0 f w)
+        (plain_state books.new receipts.new.items held.new.items 0 f' w') lb session at
+        (IsAskRefusal (plain_state books.old receipts.old.items held.old.items 0 f w) lb at e)) }
     ensures held { OnErr result (held.new.items ≡ held.old.items) }
     ensures full { (old new : Journal) → slice_get books.old lb ≡ Some old → slice_get books.new lb ≡ Some new → IsSelectRoom old new result }
     ensures sizes { sizes_of books.new ≡ sizes_of books.old }
@@ -85,9 +97,9 @@ pub(crate) fn command_at(
     ensures plain { IsPlain books.new receipts.new.items held.now (vec_capacity receipts.new) }
     ensures ok { OnOk result ((f w : ℕ) → Commands (plain_state books.old receipts.old.items held.now 0 f w)
         (plain_state books.new receipts.new.items held.now 0 f w) lb session at command.now) }
-    ensures judged { Judges (slice_index (sizes_of books.old) lb) command.now result }
-    ensures err { OnErr result ((f w f' w' : ℕ) → GainsDue (plain_state books.old receipts.old.items held.now 0 f w)
-        (plain_state books.new receipts.new.items held.now 0 f' w') lb session at) }
+    ensures err { IfErr result (λ e. (f w f' w' : ℕ) → GainsDue (plain_state books.old receipts.old.items held.now 0 f w)
+        (plain_state books.new receipts.new.items held.now 0 f' w') lb session at
+        (IsCommandRefusal (plain_state books.old receipts.old.items held.now 0 f w) lb at command.now e)) }
     ensures full { (old new : Journal) → slice_get books.old lb ≡ Some old → slice_get books.new lb ≡ Some new
         → IsCommandRoom old new command.now result }
     ensures sizes { sizes_of books.new ≡ sizes_of books.old }

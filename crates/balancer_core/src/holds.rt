@@ -1,11 +1,14 @@
 //! One hold of a Book: a Maintain where one is due, and then a call, each entry with its receipt.
 ghost use Rattle.std.specs.Prelude.{◌≡◌, ◌+◌, ◌≤◌, ◌<◌, ◌∷◌, [], ◌++◌, length, vec_len, vec_capacity, IfOk, IfErr, OnOk, OnErr};
 ghost use Rattle.jk_model.specs.Journal.{members};
+ghost use Rattle.jk_model.specs.Legal.{HasValues};
 ghost use Rattle.jk_model.specs.declared.journal.Call.{Call};
+ghost use Rattle.balancer_core.specs.Commanded.{IsKnown};
 ghost use Rattle.balancer_core.specs.Leases.{IsLeaseOf};
 ghost use Rattle.balancer_core.specs.Journal.{tickets_out};
 ghost use Rattle.balancer_core.specs.Refused.{IsCommandRoom, IsNoRoom, IsSelectRoom};
-ghost use Rattle.balancer_core.specs.PlainDesks.{BookGainsDue, BookGainsLast, Judges, Picks};
+ghost use Rattle.balancer_core.specs.Desks.{IsRefusal};
+ghost use Rattle.balancer_core.specs.PlainDesks.{BookGainsDue, BookGainsLast, IsDueDone, LacksDue, Picks, RefusesAdmin, RefusesPick};
 
 use crate::book::{Book, Picked};
 use crate::receipt::Receipt;
@@ -29,7 +32,8 @@ pub(crate) fn maintain_first(
     at: u64,
 ) -> Result<(), RoomError<FullMark>>
     requires { vec_len receipts.old < vec_capacity receipts.old }
-    ensures due { BookGainsDue book.old book.new receipts.old.items receipts.new.items lb session at }
+    ensures due { OnOk result (BookGainsDue book.old book.new receipts.old.items receipts.new.items lb session at (IsDueDone book.old at)) }
+    ensures err { IfErr result (λ e. BookGainsDue book.old book.new receipts.old.items receipts.new.items lb session at (LacksDue book.old at e)) }
     ensures out { tickets_out book.new ≡ tickets_out book.old }
     ensures full { IfErr result (IsNoRoom 1 book.new) }
     ensures room { vec_capacity receipts.old ≤ vec_capacity receipts.new }
@@ -56,7 +60,7 @@ pub(crate) fn select_after(
     ensures asked { IfOk result (λ picked. picked.entry.call ≡ Call.Select ask.now) }
     ensures lease { IfOk result (λ picked. IsLeaseOf picked.entry.answer picked.lease) }
     ensures picks { IfOk result (λ picked. Picks book.old book.new ask.now picked.entry.seq picked.entry.answer) }
-    ensures err { OnErr result (BookGainsDue book.old book.new receipts.old.items receipts.new.items lb session at) }
+    ensures err { IfErr result (λ e. BookGainsDue book.old book.new receipts.old.items receipts.new.items lb session at (RefusesPick book.old at e)) }
     ensures full { IsSelectRoom book.old book.new result }
     ensures room { vec_capacity receipts.old ≤ vec_capacity receipts.new }
 {
@@ -78,8 +82,9 @@ pub(crate) fn command_after(
     requires room { vec_len receipts.old + 2 ≤ vec_capacity receipts.old }
     ensures ok { OnOk result ((e : Entry) × (e.call ≡ Call.Admin command.now)
         × BookGainsLast book.old book.new receipts.old.items receipts.new.items lb session at (record { lb = lb; given = at; entry = e })) }
-    ensures judged { Judges (members book.old.opening) command.now result }
-    ensures err { OnErr result (BookGainsDue book.old book.new receipts.old.items receipts.new.items lb session at) }
+    ensures named { OnOk result (IsKnown (members book.old.opening) command.now × HasValues command.now) }
+    ensures err { IfErr result (λ e. BookGainsDue book.old book.new receipts.old.items receipts.new.items lb session at
+        (RefusesAdmin (members book.old.opening) book.old at command.now e)) }
     ensures full { IsCommandRoom book.old book.new command.now result }
     ensures room { vec_capacity receipts.old ≤ vec_capacity receipts.new }
 {

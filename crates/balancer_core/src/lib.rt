@@ -7,8 +7,9 @@
 //! `Book::maintain_if_due`, clause `due`; `Book::admin`, clause `commanded`; `Book::cut`, clause `cut`; each call's `sound`:
 //! the journal, replayed from its opening, gives each answer. Read first: specs/Journal.antt, then specs/Due.antt,
 //! Commanded.antt and Ending.antt.
-//! `Desk` is what a session asks, with the meanings of specs/Desks.antt; `PlainDesk` is one over Books that it owns,
-//! whose refusals are told by specs/Refused.antt.
+//! `Desk` is what a session asks, with the meanings of specs/Desks.antt; what its clauses say of Books that it tells
+//! stands in specs/ToldBooks.antt. `PlainDesk` is one over Books that it owns, whose refusals are told by
+//! specs/Refused.antt.
 //! Errors: `RoomError`, `AdminError` and `Stray` of jk_model. After one the Book is as it was.
 #![tactic(auto)]
 

@@ -2,7 +2,7 @@
 ghost use Rattle.std.specs.Prelude.{◌≡◌, ◌≢◌, ◌≤◌, ◌<◌, ◌++◌, [], length, vec_len, vec_capacity};
 ghost use Rattle.jk_model.specs.declared.journal.Answer.{Answer};
 ghost use Rattle.balancer_core.specs.Leases.{IsLeaseOf};
-ghost use Rattle.balancer_core.specs.PlainDesks.{AreModern, CountsFull, CountsRefusal, plain_state};
+ghost use Rattle.balancer_core.specs.PlainDesks.{AreLegal, AreModern, CountsFull, CountsRefusal, plain_state};
 ghost use Rattle.balancer_core.specs.PlainLeases.{IsChosenFor, pairs_in};
 
 use crate::book::{Book, Lease, Picked};
@@ -53,8 +53,10 @@ impl PlainDesk {
         requires modern { AreModern books }
         ensures { result ≡ plain_state books [] [] 0 0 0 }
     {
+        let books = books.into_vec();
+        vouch(books.as_slice());
         PlainDesk {
-            books: books.into_vec(),
+            books,
             receipts: Vec::new(alloc),
             held: Vec::new(alloc),
             fulls: 0,
@@ -80,7 +82,8 @@ impl Desk for PlainDesk {
     };
     ghost use Rattle.balancer_core.specs.Journal.{Journal};
     ghost use Rattle.balancer_core.specs.PlainLeases.{note_of};
-    ghost use Rattle.balancer_core.specs.Refused.{IsCommandRoom, IsSelectRoom, book_in};
+    ghost use Rattle.balancer_core.specs.Refused.{IsCommandRoom, IsSelectRoom};
+    ghost use Rattle.balancer_core.specs.ToldBooks.{book_in};
 
     type Lease = PlainLease;
 
@@ -197,6 +200,15 @@ impl Desk for PlainDesk {
 
     fn shown(shown: &View) -> &View {
         shown
+    }
+}
+
+// That each journal is sound, which the type of each Book keeps, said of all of them: it reads a number of each.
+fn vouch(books: &[Book])
+    ensures { AreLegal books.now }
+{
+    for book in books {
+        book.kept();
     }
 }
 

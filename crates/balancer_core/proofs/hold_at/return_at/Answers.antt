@@ -1,8 +1,7 @@
-use Rattle.std.proofs.Common.{◌≡◌, ◌≤◌, ◌∙◌, ℕ, Some, get_or, true, ap, arith}
-use Rattle.std.specs.Prelude.{slice_get, vec_capacity}
+use Rattle.std.proofs.Common.{◌∙◌, get_or, ap}
+use Rattle.std.specs.Prelude.{vec_capacity}
 use Rattle.std.proofs.lemmas.Option.{slice_get-get_or}
-use Rattle.jk_model.specs.Tickets.{is_out}
-use Rattle.balancer_core.specs.Journal.{Journal, past_of}
+use Rattle.balancer_core.specs.Journal.{Journal}
 use Rattle.balancer_core.proofs.PlainLaws.{held_is_out, plain-return, sizes-hold, without-last}
 use Rattle.balancer_core.proofs.HoldLaws.{takes_back}
 use Rattle.balancer_core.proofs.hold_at.return_at.Goals as goal
@@ -19,7 +18,7 @@ returns-clause-plain c =
     plain-return c.args.books.now c.args.lb (get_or c.args.books.now c.args.lb c.index-books-lb.result) c.return_ticket-returned.new.self
     c.args.receipts.now.items c.note.new.receipts.items c.args.held.now.items c.take_out.new.held.items c.args.session c.args.at
     (vec_capacity c.args.receipts.now) (vec_capacity c.note.new.receipts) c.args.ticket c.args.outcome c.in-Ok.entry c.requires.plain
-    (slice_get-get_or c.args.books.now c.args.lb c.index-books-lb.result c.requires.known) c.in-Ok.ensures.ok c.note.ensures.added c.requires.held
+    (slice_get-get_or c.args.books.now c.args.lb c.index-books-lb.result c.requires.known) c.in-Ok.ensures.ok c.in-Ok.ensures.sound c.note.ensures.added c.requires.held
     c.take_out.ensures c.note.ensures.room
 
 pub returns-clause-back : goal.returns-clause-back
@@ -27,7 +26,7 @@ returns-clause-back c = λ m f w.
     takes_back c.args.books.now c.args.lb (get_or c.args.books.now c.args.lb c.index-books-lb.result) c.return_ticket-returned.new.self
     c.args.receipts.now.items c.note.new.receipts.items c.args.held.now.items c.take_out.new.held.items c.args.session c.args.at
     c.args.ticket c.args.outcome c.in-Ok.entry (slice_get-get_or c.args.books.now c.args.lb c.index-books-lb.result c.requires.known)
-    c.in-Ok.ensures.ok c.note.ensures.added m f w
+    c.in-Ok.ensures.ok c.in-Ok.ensures.next c.note.ensures.added m f w
 
 pub returns-clause-held : goal.returns-clause-held
 returns-clause-held c =

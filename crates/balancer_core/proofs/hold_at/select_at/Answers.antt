@@ -1,46 +1,54 @@
-use Rattle.std.proofs.Common.{◌≡◌, ◌+◌, ◌≤◌, ◌++◌, ◌∙◌, ℕ, List, length, Some, get_or, refl, ap, sym, subst, arith}
-use Rattle.std.specs.Prelude.{slice_get, slice_set, vec_capacity}
+use Rattle.std.proofs.Common.{◌≡◌, ◌++◌, ◌∙◌, ℕ, List, Some, get_or, ap, subst, arith}
+use Rattle.std.specs.Prelude.{slice_get, vec_capacity}
 use Rattle.std.proofs.lemmas.Option.{slice_get-get_or}
-use Rattle.balancer_core.specs.Desks.{Chooses, GainsDue}
-use Rattle.balancer_core.specs.PlainDesks.{BookGainsDue, BookGainsLast, IsPlain, plain_state}
-use Rattle.balancer_core.specs.PlainLeases.{note_of, pairs_in}
+use Rattle.jk_model.specs.declared.refusal.RoomError.TheVariants as room
+use Rattle.balancer_core.specs.PlainDesks.{BookGainsDue, BookGainsLast, RefusesPick}
+use Rattle.balancer_core.specs.PlainLeases.{pairs_in}
 use Rattle.balancer_core.specs.declared.receipt.Receipt.{Receipt}
-use Rattle.balancer_core.proofs.PlainLaws.{due_none, due-hold, plain-due, plain-picked}
-use Rattle.balancer_core.proofs.HoldLaws.{chooses, on_err, sizes-due, sizes-last}
+use Rattle.balancer_core.proofs.PlainLaws.{ask_refusal, due_none, due-hold, plain-due, plain-picked}
+use Rattle.balancer_core.proofs.HoldLaws.{ask_wanting, chooses, of_error, sizes-due, sizes-last}
 use Rattle.balancer_core.proofs.hold_at.select_at.Goals as goal
 
 pub returns-in_err-reserve-clause-err : goal.returns-in_err-reserve-clause-err
 returns-in_err-reserve-clause-err c =
-    on_err c.from_residual.result (λ f w f' w'. due_none _ _ _ _ _ _ _ _ f w f' w' c.reserve.ensures.items)
+    of_error c.from_residual.result room.NoMemory _ c.from_residual.ensures.1
+    (λ f w f' w'. due_none _ _ _ _ _ _ _ _ f w f' w' _ c.reserve.ensures.items (ask_wanting c.args.books.now c.args.lb c.args.receipts.now.items c.args.held.now.items f w c.args.at c.requires.known))
 
 pub returns-in_err-reserve-2-clause-err : goal.returns-in_err-reserve-2-clause-err
 returns-in_err-reserve-2-clause-err c =
-    on_err c.from_residual-in_err-reserve-2.result (λ f w f' w'. due_none _ _ _ _ _ _ _ _ f w f' w' c.reserve.ensures.items)
+    of_error c.from_residual-in_err-reserve-2.result room.NoMemory _ c.from_residual-in_err-reserve-2.ensures.1
+    (λ f w f' w'. due_none _ _ _ _ _ _ _ _ f w f' w' _ c.reserve.ensures.items (ask_wanting c.args.books.now c.args.lb c.args.receipts.now.items c.args.held.now.items f w c.args.at c.requires.known))
 
 pub select_after-requires-clause-modern : goal.select_after-requires-clause-modern
 select_after-requires-clause-modern c =
     c.requires.plain.modern c.args.lb _ (slice_get-get_or c.args.books.now c.args.lb c.index-books-lb.result c.requires.known)
 
+-- The hold of the Book, over the receipts before the room was taken.
 pub returns-in_err-picked-clause-plain : goal.returns-in_err-picked-clause-plain
 returns-in_err-picked-clause-plain c =
-    let due = subst (λ (rs : List Receipt). BookGainsDue (get_or c.args.books.now c.args.lb c.index-books-lb.result) c.select_after.new.book rs
-    c.select_after.new.receipts.items c.args.lb c.args.session c.args.at) c.reserve.ensures.items c.in_err-picked.ensures.err in
+    let due = subst (λ (rs : List Receipt). BookGainsDue (get_or c.args.books.now c.args.lb c.index-books-lb.result) c.select_after.new.book rs c.select_after.new.receipts.items
+    c.args.lb c.args.session c.args.at (RefusesPick (get_or c.args.books.now c.args.lb c.index-books-lb.result) c.args.at c.in_err-picked.field-0.0)) c.reserve.ensures.items c.in_err-picked.ensures.err in
     plain-due c.args.books.now c.args.lb (get_or c.args.books.now c.args.lb c.index-books-lb.result) c.select_after.new.book c.args.receipts.now.items
     c.select_after.new.receipts.items c.args.held.now.items c.reserve-2.new.self.items c.args.session c.args.at (vec_capacity c.args.receipts.now)
-    (vec_capacity c.select_after.new.receipts) c.requires.plain
+    (vec_capacity c.select_after.new.receipts) (RefusesPick (get_or c.args.books.now c.args.lb c.index-books-lb.result) c.args.at c.in_err-picked.field-0.0) c.requires.plain
     (slice_get-get_or c.args.books.now c.args.lb c.index-books-lb.result c.requires.known) due c.reserve-2.ensures.items
     (omega (arith, c.in_ok-reserve.ensures.ok, c.select_after.ensures.room, c.args.receipts.now.ok.0, c.args.held.now.ok.0, c.reserve.ensures.len, c.len.ensures))
 
 pub returns-in_err-picked-clause-err : goal.returns-in_err-picked-clause-err
 returns-in_err-picked-clause-err c =
-    let due = subst (λ (rs : List Receipt). BookGainsDue (get_or c.args.books.now c.args.lb c.index-books-lb.result) c.select_after.new.book rs
-    c.select_after.new.receipts.items c.args.lb c.args.session c.args.at) c.reserve.ensures.items c.in_err-picked.ensures.err in
-    on_err c.from_residual-in_err-picked.result (λ f w f' w'. due-hold _ _ _ _ _ _ _ _ _ _ f w f' w'
-    (slice_get-get_or c.args.books.now c.args.lb c.index-books-lb.result c.requires.known) due)
+    let here : slice_get c.args.books.now c.args.lb ≡ Some (get_or c.args.books.now c.args.lb c.index-books-lb.result) =
+    slice_get-get_or c.args.books.now c.args.lb c.index-books-lb.result c.requires.known in
+    let due = subst (λ (rs : List Receipt). BookGainsDue (get_or c.args.books.now c.args.lb c.index-books-lb.result) c.select_after.new.book rs c.select_after.new.receipts.items
+    c.args.lb c.args.session c.args.at (RefusesPick (get_or c.args.books.now c.args.lb c.index-books-lb.result) c.args.at c.in_err-picked.field-0.0)) c.reserve.ensures.items c.in_err-picked.ensures.err in
+    of_error c.from_residual-in_err-picked.result c.in_err-picked.field-0.0 _ c.from_residual-in_err-picked.ensures.1
+    (λ f w f' w'. due-hold c.args.books.now c.args.lb (get_or c.args.books.now c.args.lb c.index-books-lb.result) c.select_after.new.book c.args.receipts.now.items c.select_after.new.receipts.items
+    c.args.held.now.items c.reserve-2.new.self.items c.args.session c.args.at f w f' w' (RefusesPick (get_or c.args.books.now c.args.lb c.index-books-lb.result) c.args.at c.in_err-picked.field-0.0) _ here
+    (ask_refusal c.args.books.now c.args.lb (get_or c.args.books.now c.args.lb c.index-books-lb.result) c.args.receipts.now.items c.args.held.now.items f w c.args.at c.in_err-picked.field-0.0 here) due)
 
 pub returns-in_err-picked-clause-sizes : goal.returns-in_err-picked-clause-sizes
 returns-in_err-picked-clause-sizes c =
-    sizes-due _ _ _ _ _ _ _ _ (slice_get-get_or c.args.books.now c.args.lb c.index-books-lb.result c.requires.known) c.in_err-picked.ensures.err
+    sizes-due _ _ _ _ _ _ _ _ (RefusesPick (get_or c.args.books.now c.args.lb c.index-books-lb.result) c.args.at c.in_err-picked.field-0.0)
+    (slice_get-get_or c.args.books.now c.args.lb c.index-books-lb.result c.requires.known) c.in_err-picked.ensures.err
 
 pub returns-clause-plain : goal.returns-clause-plain
 returns-clause-plain c =

@@ -7,5 +7,5 @@ pub returns-clause-ok : goal.returns-clause-ok
 returns-clause-ok c = (
   c.in_ok-entry.entry,
   c.in_ok-entry.ensures.ok.asked,
-  gains_last _ _ _ _ _ _ _ _ _ _ _ c.in-Ok.ensures.due c.in_ok-entry.ensures.ok c.note.ensures.added (λ t. refl),
+  gains_last _ _ _ _ _ _ _ _ _ _ _ c.in-Ok.ensures.due c.in_ok-entry.ensures.ok c.in_ok-entry.ensures.next c.note.ensures.added (λ t. refl),
 )

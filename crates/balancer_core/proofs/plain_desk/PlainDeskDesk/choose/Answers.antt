@@ -1,10 +1,10 @@
 -- The Book that is told is the one that was held.
-use Rattle.std.proofs.Common.{◌≡◌, ◌∙◌, ℕ, List, length, Some, sym, subst, ap, arith}
+use Rattle.std.proofs.Common.{◌≡◌, List, length, Some, sym, subst, ap, arith}
 use Rattle.std.specs.Prelude.{slice_get}
 use Rattle.std.proofs.lemmas.List.{with_items_is}
 use Rattle.balancer_core.specs.Desks.{DeskState}
 use Rattle.balancer_core.specs.Journal.{Journal}
-use Rattle.balancer_core.specs.Refused.{book_in}
+use Rattle.balancer_core.specs.ToldBooks.{book_in}
 use Rattle.balancer_core.proofs.plain_desk.PlainDeskDesk.choose.Goals as goal
 
 pub returns-clause-full : goal.returns-clause-full

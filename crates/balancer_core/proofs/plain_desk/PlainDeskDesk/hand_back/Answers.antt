@@ -1,5 +1,5 @@
 -- A lease that is held is of a Book that is there.
-use Rattle.std.proofs.Common.{◌≡◌, ◌<◌, ℕ, true, List, length, sym, subst}
+use Rattle.std.proofs.Common.{◌≡◌, ◌<◌, true, List, length, sym, subst}
 use Rattle.balancer_core.specs.Desks.{DeskState, holds}
 use Rattle.balancer_core.specs.Journal.{Journal}
 use Rattle.balancer_core.proofs.PlainLaws.{held_within}
