@@ -7,6 +7,7 @@ use Rattle.jk_model.specs.declared.journal.Call.TheVariants as call
 use Rattle.jk_model.specs.declared.journal.Outcome.{Outcome}
 use Rattle.jk_model.specs.declared.refusal.RoomError.TheVariants as room
 use Rattle.balancer_core.specs.Desks.{DeskState}
+use Rattle.balancer_core.specs.ToldBooks.{IsNoneDue, WhereTold}
 use Rattle.balancer_core.specs.declared.receipt.Receipt.{Receipt}
 use Rattle.balancer_checks.specs.declared.callers.Once.{Once}
 use Rattle.balancer_checks.specs.declared.callers.Once.TheVariants as once
@@ -30,3 +31,14 @@ Ends old new lb ask outcome (once.Returned m) =
 Ends old new lb ask outcome once.Unchosen = (new.strays ≡ old.strays) × (new.fulls ≡ old.fulls)
 Ends old new lb ask outcome (once.Refused error) = (new.strays ≡ old.strays) × (error ≡ room.NoMemory → new.fulls ≡ old.fulls)
 Ends old new lb ask outcome (once.Stray stray) = Rose old.strays new.strays
+
+-- No Maintain is due for a call on balancer lb at this moment, where its Book is told.
+abbrev pub IsUpToDate : DeskState → (lb at : ℕ) → Type 0
+IsUpToDate desk lb at = WhereTold desk.books lb (λ b. IsNoneDue b at)
+
+-- So it is after an exchange that was not refused.
+abbrev pub LeavesNoneDue : {M : Type 0} → DeskState → (lb at : ℕ) → Once M → Type 0
+LeavesNoneDue new lb at (once.Returned m) = IsUpToDate new lb at
+LeavesNoneDue new lb at once.Unchosen = IsUpToDate new lb at
+LeavesNoneDue new lb at (once.Refused error) = Unit {0}
+LeavesNoneDue new lb at (once.Stray stray) = IsUpToDate new lb at

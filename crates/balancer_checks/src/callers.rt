@@ -1,8 +1,8 @@
 //! Small callers of a desk, proved from its trait alone.
-ghost use Rattle.std.specs.Prelude.{◌≡◌, ◌+◌, ◌<◌, ◌≤◌, ◌^◌, true, length, IfSome, IfOk, IfErr, OnErr};
+ghost use Rattle.std.specs.Prelude.{◌≡◌, ◌+◌, ◌<◌, ◌≤◌, ◌^◌, true, length, IfSome, IfOk, IfErr, OnOk, OnErr};
 ghost use Rattle.jk_io.specs.Told.{Rose};
 ghost use Rattle.balancer_core.specs.Desks.{Commands, DeskState, KeepsDesk, Shows};
-ghost use Rattle.balancer_checks.specs.Once.{Ends, GainsAsMany};
+ghost use Rattle.balancer_checks.specs.Once.{Ends, GainsAsMany, IsUpToDate, LeavesNoneDue};
 
 use balancer_core::Desk;
 use balancer_core::desk::Choice;
@@ -32,6 +32,7 @@ pub fn one_exchange<D: Desk>(
     requires bytes { outcome.bytes ≤ 2 ^ 44 }
     ensures held { (D.state desk.new).held ≡ (D.state desk.old).held }
     ensures ends { Ends (D.state desk.old) (D.state desk.new) lb ask.now outcome result }
+    ensures due { LeavesNoneDue (D.state desk.new) lb at result }
     ensures added { GainsAsMany (D.state desk.old) (D.state desk.new) }
     ensures kept { KeepsDesk (D.state desk.old) (D.state desk.new) }
 {
@@ -59,6 +60,7 @@ pub fn change_and_look<D: Desk>(
     requires caller { IfSome (D.state desk.old).caller (λ n. session ≡ n) }
     ensures page { IfOk result (λ shown. Commands (D.state desk.old) (D.state desk.new) lb session at command.now
         × Shows (D.state desk.new) lb (D.view shown)) }
+    ensures due { OnOk result (IsUpToDate (D.state desk.new) lb at) }
     ensures held { (D.state desk.new).held ≡ (D.state desk.old).held }
     ensures added { GainsAsMany (D.state desk.old) (D.state desk.new) }
     ensures kept { KeepsDesk (D.state desk.old) (D.state desk.new) }
