@@ -17,3 +17,5 @@ pub mod ToldLaws
 pub mod DeskLaws
 pub mod PlainLaws
 pub mod HoldLaws
+pub mod BoundLaws
+pub mod WeightLaws

@@ -162,7 +162,7 @@ pub record TakesBack (old new : DeskState) (session at : ℕ) (lease : LeaseNote
   pub returned : last.entry.call ≡ call.Return lease.ticket outcome
   pub stray : new.strays ≡ old.strays
 
--- The ticket of the lease was none that is out, for it came back by this number's entry or never was: nothing was added.
+-- The ticket of the lease was not out: nothing was added.
 pub record MeetsStray (old new : DeskState) (lease : LeaseNote) (stray : Stray) : Type 0 where
   pub ticket : stray.ticket ≡ lease.ticket
   pub receipts : new.receipts ≡ old.receipts

@@ -19,3 +19,5 @@ pub mod Desks
 pub mod PlainDesks
 pub mod PlainLeases
 pub mod Refused
+pub mod Bounds
+pub mod Weights

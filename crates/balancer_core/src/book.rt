@@ -123,6 +123,8 @@ impl Book {
       tickets_out,
     };
     ghost use Rattle.balancer_core.specs.Leases.{IsLeaseOf};
+    ghost use Rattle.balancer_core.specs.Bounds.{ChoseWell, IsBounded};
+    ghost use Rattle.balancer_core.specs.Weights.{AreLevel, IsEvenEpoch};
 
     /// A balancer that starts at moment `at`: every member Ok, nothing loaded, no ticket out. `first` is the number
     /// of its first entry.
@@ -331,6 +333,13 @@ impl Book {
     pub fn view(&self) -> Result<View, NoMemory>
         ensures present { IfOk result (λ view. IsPresent self.now.rules self.now.opening (past_of self.now) view) }
         ensures sound { IsSound self.now }
+
+        // Bounds of every Book: pools, trials, and the states in which members were chosen.
+        ensures bounded { IfOk result (λ view. IsBounded self.now view) }
+        ensures choices { ChoseWell self.now }
+
+        // Loads stay level through an epoch by Request that began level, and whose asks all members could have.
+        ensures weights { IfOk result (λ view. IsEvenEpoch self.now.rules self.now.opening (past_of self.now) → AreLevel self.now view) }
     {
         let members = self.opening.config.members.as_slice();
         let alloc = self.opening.config.members.allocator();

@@ -5,8 +5,11 @@ use Rattle.jk_model.specs.Rows.{HaveRedirectsWithin}
 use Rattle.jk_model.specs.declared.view.MemberRow.{MemberRow}
 use Rattle.balancer_core.specs.RuleNumbers.{rules_number}
 use Rattle.balancer_core.specs.Shown.{AreShown}
+use Rattle.balancer_core.specs.Journal.{IsSound, Journal}
+use Rattle.balancer_core.proofs.BoundLaws.{chose_well, view_bounded}
 use Rattle.balancer_core.proofs.KeptLaws.{next_is}
 use Rattle.balancer_core.proofs.OpenedLaws.{rows_present, redirects_shown, view_present}
+use Rattle.balancer_core.proofs.WeightLaws.{view_level}
 use Rattle.balancer_core.proofs.book.Book.view.Goals as goal
 
 pub invariant_of-result : goal.invariant_of-result
@@ -32,3 +35,17 @@ returns-clause-present c =
     (reverse c.self.inside.entries.items) (members c.self.inside.opening) rows) (sym c.from_vec.ensures)
     (rows_present (rules_number c.self.inside.rules) c.self.inside.opening (reverse c.self.inside.entries.items)
     c.self.inside.present c.self.invariant.present c.in_ok-rows.rows.items are))
+
+pub returns-clause-bounded : goal.returns-clause-bounded
+returns-clause-bounded c =
+    view_bounded c.args.self.now _ (subst (λ (b : Journal). IsSound b) c.self.view_is c.self.invariant.legal) (returns-clause-present c)
+
+pub returns-clause-choices : goal.returns-clause-choices
+returns-clause-choices c = chose_well c.args.self.now (subst (λ (b : Journal). IsSound b) c.self.view_is c.self.invariant.legal)
+
+pub returns-in_err-rows-clause-choices : goal.returns-in_err-rows-clause-choices
+returns-in_err-rows-clause-choices c = chose_well c.args.self.now (subst (λ (b : Journal). IsSound b) c.self.view_is c.self.invariant.legal)
+
+pub returns-clause-weights : goal.returns-clause-weights
+returns-clause-weights c =
+    view_level c.args.self.now _ (subst (λ (b : Journal). IsSound b) c.self.view_is c.self.invariant.legal) (returns-clause-present c)
