@@ -16,7 +16,7 @@ use Rattle.jk_model.specs.declared.journal.Answer.{Answer}
 use Rattle.jk_model.specs.declared.journal.Entry.{Entry}
 use Rattle.jk_model.specs.declared.member.MemberConfig.{MemberConfig}
 use Rattle.jk_model.specs.declared.opening.Opening.{Opening}
-use Rattle.balancer_core.specs.declared.standing.Standing.{Standing}
+use Rattle.choice_index.specs.declared.standing.Standing.{Standing}
 use Rattle.balancer_core.specs.Ending.{AreEarly, AreOwn, AreSettled, ending_member, still_out}
 use Rattle.balancer_core.specs.Journal.{IsReturnedAt}
 use Rattle.balancer_core.specs.Kept.{AreReturns}

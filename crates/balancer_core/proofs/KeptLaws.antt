@@ -17,10 +17,10 @@ use Rattle.jk_model.specs.declared.journal.Kind.TheVariants as Kind
 use Rattle.jk_model.specs.declared.journal.Outcome.{Outcome}
 use Rattle.jk_model.specs.declared.journal.Entry.{Entry}
 use Rattle.jk_model.specs.declared.opening.Opening.{Opening}
-use Rattle.balancer_core.specs.declared.standing.Standing.{Standing}
+use Rattle.choice_index.specs.declared.standing.Standing.{Standing}
 use Rattle.balancer_core.specs.declared.present.Present.{Present}
 use Rattle.balancer_core.specs.declared.tickets.Spot.{Spot}
-use Rattle.balancer_core.specs.Rows.{HasRoomFor, revives_at}
+use Rattle.choice_index.specs.Picks.{HasRoomFor, revives_at}
 use Rattle.balancer_core.specs.Kept.{IsNow, AreReturns, IsKept}
 use Rattle.balancer_core.specs.Spots.{AreRising, IsSpot, IsPlaced, kept_noted, early_noted}
 use Rattle.balancer_core.proofs.ChoiceLaws.{nobody}

@@ -5,7 +5,6 @@ pub mod CommandLaws
 pub mod EndedLaws
 pub mod EndingLaws
 pub mod KeptLaws
-pub mod LeastLaws
 pub mod MaintainLaws
 pub mod NowLaws
 pub mod OpenedLaws

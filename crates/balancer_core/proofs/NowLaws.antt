@@ -2,11 +2,10 @@
 use Rattle.std.proofs.Common.{◌≡◌, ℕ, suc, ◌+◌, ◌^◌, ◌<◌, ◌≤◌, Bool, true, false, ◌&&◌, not, cond, List, ◌∷◌, length, Some, None, get_or, refl, sym, ◌∙◌, ap, subst, inl, inr, arith}
 use Rattle.std.specs.Prelude.{◌==◌}
 use Rattle.std.proofs.lemmas.Bool.{cases_Bool, cases_eq, eqb-true, eq-eqb}
-use Rattle.jk_model.specs.Journal.{members, any_of, chose, chosen_in, newest_chosen, next_of}
+use Rattle.jk_model.specs.Journal.{chose, chosen_in, newest_chosen, next_of}
 use Rattle.jk_model.specs.States.{is_balanced}
 use Rattle.jk_model.specs.Tickets.{Ticket, busy_of, is_on, is_out, out, ticket_in}
 use Rattle.jk_model.specs.Legal.{IsLegalPast}
-use Rattle.jk_model.specs.Choice.{is_usable}
 use Rattle.jk_model.proofs.OutFacts.{busy-chosen, out-chosen, out-kept, length-returned, on_one}
 use Rattle.std.specs.List.{count_by}
 use Rattle.jk_model.specs.declared.ask.Ask.{Ask}
@@ -15,24 +14,20 @@ use Rattle.jk_model.specs.declared.journal.How.{How}
 use Rattle.jk_model.specs.declared.journal.Outcome.{Outcome}
 use Rattle.jk_model.specs.declared.journal.Entry.{Entry}
 use Rattle.jk_model.specs.declared.opening.Opening.{Opening}
-use Rattle.balancer_core.specs.declared.standing.Standing.{Standing}
+use Rattle.choice_index.specs.declared.standing.Standing.{Standing}
 use Rattle.balancer_core.specs.declared.present.Present.{Present}
-use Rattle.balancer_core.specs.declared.among.Among.TheVariants as Among
-use Rattle.balancer_core.specs.Rows.{HasRoomFor, revives_at, passes_at}
+use Rattle.choice_index.specs.Picks.{HasRoomFor, revives_at}
 use Rattle.balancer_core.specs.Steps.{returned_row}
 use Rattle.balancer_core.specs.Revived.{row_selected, tickets_after}
 use Rattle.balancer_core.specs.Kept.{IsStanding, IsNow}
-use Rattle.balancer_core.proofs.ChoiceLaws.{nobody, any_of-agree, usable-same}
+use Rattle.balancer_core.proofs.ChoiceLaws.{nobody, any_usable_now}
 use Rattle.balancer_core.proofs.StepLaws.{select_entry, return_entry, is_reviving, standing-chosen, standing-other, standing-returned, standing-kept}
 
 -- Whether an answer revives is told by the rows.
 pub reviving-now : (v : ℕ) (o : Opening) (p : List Entry) (now : Present) → IsNow v o p now → (ask : Ask) (a : Answer)
     → revives_at v now.rows.items nobody ask a ≡ is_reviving v o p ask a
 reviving-now v o p now h ask a =
-    ap (λ (n : ℕ). (v == 2) && (is_balanced a && not (any_of n (passes_at Among.Usable now.rows.items nobody ask)))) h.whole
-    ∙ ap (λ (b : Bool). (v == 2) && (is_balanced a && not b))
-    (any_of-agree (members o) (passes_at Among.Usable now.rows.items nobody ask) (λ j. is_usable v o p ask j)
-    (λ j lt. usable-same v o p now h ask j nobody lt))
+    ap (λ (b : Bool). (v == 2) && (is_balanced a && not b)) (any_usable_now v o p now h ask nobody)
 
 -- A row that a choice of member j leaves.
 module _ (v : ℕ) (o : Opening) (p : List Entry) (m : ℕ) (row : Standing) (h : IsStanding v o p m row)

@@ -27,7 +27,7 @@ use Rattle.jk_model.specs.declared.journal.Entry.{Entry}
 use Rattle.jk_model.specs.declared.view.MemberRow.{MemberRow}
 use Rattle.jk_model.specs.declared.view.View.{View}
 use Rattle.jk_model.specs.declared.opening.Opening.{Opening}
-use Rattle.balancer_core.specs.declared.standing.Standing.{Standing}
+use Rattle.choice_index.specs.declared.standing.Standing.{Standing}
 use Rattle.balancer_core.specs.declared.present.Present.{Present}
 use Rattle.balancer_core.specs.Journal.{Journal, past_of}
 use Rattle.balancer_core.specs.Shown.{AreShown, shown_row, AreOpened, opening_row}

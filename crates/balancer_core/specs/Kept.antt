@@ -8,7 +8,7 @@ use Rattle.jk_model.specs.Loads.{load_of}
 use Rattle.jk_model.specs.Legal.{IsLegal}
 use Rattle.jk_model.specs.declared.journal.Entry.{Entry}
 use Rattle.jk_model.specs.declared.opening.Opening.{Opening}
-use Rattle.balancer_core.specs.declared.standing.Standing.{Standing}
+use Rattle.choice_index.specs.declared.standing.Standing.{Standing}
 use Rattle.balancer_core.specs.declared.present.Present.{Present}
 use Rattle.balancer_core.specs.Journal.{IsReturnedAt}
 

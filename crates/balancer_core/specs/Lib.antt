@@ -1,11 +1,7 @@
-pub mod Standings
-pub mod Least
 pub mod Steps
 pub mod Journal
 pub mod Leases
 pub mod Kept
-pub mod RuleNumbers
-pub mod Rows
 pub mod Revived
 pub mod Spots
 pub mod Shown

@@ -3,7 +3,7 @@ use Rattle.std.specs.Prelude.{ℕ, List, length, slice_index_or, if◌then◌els
 use Rattle.jk_model.specs.Loads.{greatest, halved, load_by}
 use Rattle.jk_model.specs.StateRows.{is_over, maintained_state}
 use Rattle.jk_model.specs.declared.member.Method.{Method}
-use Rattle.balancer_core.specs.declared.standing.Standing.{Standing}
+use Rattle.choice_index.specs.declared.standing.Standing.{Standing}
 
 -- The greatest of the loads after so many halvings; d stands where there is no row.
 abbrev pub greatest_halved : List Standing → Standing → (times : ℕ) → ℕ

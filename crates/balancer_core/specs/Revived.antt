@@ -4,9 +4,9 @@ use Rattle.jk_model.specs.Journal.{chose}
 use Rattle.jk_model.specs.declared.ask.Ask.{Ask}
 use Rattle.jk_model.specs.declared.member.Method.{Method}
 use Rattle.jk_model.specs.declared.journal.Answer.{Answer}
-use Rattle.balancer_core.specs.declared.standing.Standing.{Standing}
-use Rattle.balancer_core.specs.declared.among.Among.TheVariants as Among
-use Rattle.balancer_core.specs.Standings.{passes}
+use Rattle.choice_index.specs.declared.standing.Standing.{Standing}
+use Rattle.choice_index.specs.declared.among.Among.TheVariants as Among
+use Rattle.choice_index.specs.Standings.{passes}
 use Rattle.balancer_core.specs.Steps.{revived_row, chosen_row}
 
 -- Row m after a revival of all that may be revived.

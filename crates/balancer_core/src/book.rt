@@ -6,12 +6,11 @@ mod admin;
 mod cut;
 mod maintain;
 
-use crate::choice::pick;
 use crate::opened::{common_of, none_returned, opening_rows, start_rows};
 use crate::present::Present;
-use crate::rules::Rules;
 use crate::shown::shown_rows;
 use crate::tickets::{locate, note_return};
+use choice_index::Rules;
 use jk_io::NoMemory;
 use jk_model::{
     Answer, Ask, Call, Entry, FullMark, LbConfig, Opening, Outcome, RoomError, RowList, Stray,
@@ -41,7 +40,7 @@ pub struct Book {
 impl Model for Book {
     ghost use Rattle.std.specs.Prelude.{vec_capacity};
     ghost use Rattle.balancer_core.specs.Journal.{Journal};
-    ghost use Rattle.balancer_core.specs.RuleNumbers.{rules_number};
+    ghost use Rattle.choice_index.specs.RuleNumbers.{rules_number};
     ghost use Rattle.balancer_core.specs.Kept.{IsKept};
 
     ghost Value = { Journal };
@@ -111,7 +110,7 @@ impl Book {
     ghost use Rattle.jk_model.specs.Tickets.{is_out};
     ghost use Rattle.jk_model.specs.Segments.{AreRules};
     ghost use Rattle.jk_model.specs.Validity.{IsOpening};
-    ghost use Rattle.balancer_core.specs.RuleNumbers.{rules_number};
+    ghost use Rattle.choice_index.specs.RuleNumbers.{rules_number};
     ghost use Rattle.balancer_core.specs.Journal.{
       AddsEntry,
       IsFullUnless,
@@ -235,7 +234,7 @@ impl Book {
         }
         self.entries.reserve(out as usize + 2)?;
         self.returned.reserve(out as usize + 2)?;
-        let choice = pick(&self.opening, &self.present, self.rules, ask, next);
+        let choice = self.present.pick(&self.opening, self.rules, ask, next);
         let entry = Entry {
             seq: next,
             session,

@@ -18,11 +18,11 @@ ghost use Rattle.balancer_core.specs.Commanded.{
   settled_row,
 };
 ghost use Rattle.balancer_core.specs.Stepped.{AreStepped};
-ghost use Rattle.balancer_core.specs.declared.standing.Standing.{Standing};
+ghost use Rattle.choice_index.specs.declared.standing.Standing.{Standing};
 
 use crate::present::Present;
-use crate::standing::Standing;
 use crate::steps::{by_method, load_by};
+use choice_index::Standing;
 use jk_model::{AdminError, Change, Command, FullMark, LbConfig, Method, Redirect, lcm_of};
 use lb_methods::unit_of;
 use member_state::{Touch, next_state};

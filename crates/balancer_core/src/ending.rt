@@ -12,11 +12,11 @@ ghost use Rattle.jk_model.specs.Tickets.{is_returned, out, ticket_in};
 ghost use Rattle.jk_model.specs.declared.member.MemberConfig.{MemberConfig};
 ghost use Rattle.balancer_core.specs.Ending.{AreEarly, AreOwn, AreSettled, IsSettled, ending_member, still_out};
 ghost use Rattle.balancer_core.specs.Kept.{AreReturns, IsNow};
-ghost use Rattle.balancer_core.specs.declared.standing.Standing.{Standing};
+ghost use Rattle.choice_index.specs.declared.standing.Standing.{Standing};
 
 use crate::present::Present;
 use crate::shown::shown_rows;
-use crate::standing::Standing;
+use choice_index::Standing;
 use jk_io::NoMemory;
 use jk_model::{Answer, Entry, LbConfig, MemberConfig, MemberList, Opening, RowList, TicketList};
 use std::alloc::Global;

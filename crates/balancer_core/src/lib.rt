@@ -13,24 +13,19 @@
 //! Errors: `RoomError`, `AdminError` and `Stray` of jk_model. After one the Book is as it was.
 #![tactic(auto)]
 
-mod among;
 mod book;
-mod choice;
 mod commanded;
 mod copies;
 pub mod desk;
 mod ending;
 mod hold_at;
 mod holds;
-mod least;
 mod maintenance;
 mod opened;
 mod plain_desk;
 mod present;
 mod receipt;
-mod rules;
 mod shown;
-mod standing;
 mod steps;
 #[cfg(test)]
 mod tests;

@@ -5,11 +5,11 @@ ghost use Rattle.jk_model.specs.Loads.{halved};
 ghost use Rattle.jk_model.specs.StateRows.{is_over};
 ghost use Rattle.balancer_core.specs.Maintained.{greatest_halved, maintained_load, maintained_row};
 ghost use Rattle.balancer_core.specs.Stepped.{AreStepped};
-ghost use Rattle.balancer_core.specs.declared.standing.Standing.{Standing};
+ghost use Rattle.choice_index.specs.declared.standing.Standing.{Standing};
 
 use crate::present::Present;
-use crate::standing::Standing;
 use crate::steps::by_method;
+use choice_index::Standing;
 use jk_model::{LbConfig, MemberState, Method, halve};
 use member_state::{Touch, next_state};
 

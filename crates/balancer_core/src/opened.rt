@@ -7,7 +7,7 @@ ghost use Rattle.jk_model.specs.Ranges.{factors_in};
 ghost use Rattle.balancer_core.specs.Journal.{start_row};
 ghost use Rattle.balancer_core.specs.Shown.{AreOpened, opening_row};
 
-use crate::standing::Standing;
+use choice_index::Standing;
 use jk_io::NoMemory;
 use jk_model::{MemberConfig, MemberRow, MemberState, lcm_of};
 use lb_methods::unit_of;

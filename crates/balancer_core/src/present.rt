@@ -1,16 +1,15 @@
 //! The balancer as its journal leaves it, and what an entry makes of it.
 
-ghost use Rattle.std.specs.Prelude.{◌≡◌, ℕ, ◌+◌, ◌<◌, ◌≤◌, ◌^◌, List, length, false, slice_index_or, vec_len, None};
+ghost use Rattle.std.specs.Prelude.{◌≡◌, ℕ, ◌+◌, ◌<◌, ◌≤◌, ◌^◌, List, length, false, slice_index_or, vec_len, IfSome, None};
 ghost use Rattle.jk_model.specs.Journal.{chosen_in, newest_chosen};
 ghost use Rattle.balancer_core.specs.Revived.{AreOthersRevived, row_selected, tickets_after};
-ghost use Rattle.balancer_core.specs.Rows.{HasRoomFor};
+ghost use Rattle.choice_index.specs.Picks.{HasRoomFor};
 ghost use Rattle.balancer_core.specs.Steps.{returned_row};
-ghost use Rattle.balancer_core.specs.declared.standing.Standing.{Standing};
+ghost use Rattle.choice_index.specs.declared.standing.Standing.{Standing};
 
-use crate::among::{Among, passes};
-use crate::standing::Standing;
 use crate::steps::{chosen_row, returned_row, revived_row};
-use jk_model::{Answer, Ask, LbConfig, Outcome};
+use choice_index::{Among, Choice, Rules, Standing, passes, pick};
+use jk_model::{Answer, Ask, LbConfig, Opening, Outcome};
 
 /// The balancer as its journal leaves it.
 #[derive(Debug, Drop)]
@@ -40,6 +39,27 @@ fn revive_others(rows: &mut Vec<Standing>, ask: &Ask, except: usize, direct: boo
 }
 
 impl Present {
+    ghost use Rattle.jk_model.specs.Journal.{members, next_of};
+    ghost use Rattle.jk_model.specs.Choice.{IsPick};
+    ghost use Rattle.jk_model.specs.declared.journal.Entry.{Entry};
+    ghost use Rattle.choice_index.specs.RuleNumbers.{rules_number};
+    ghost use Rattle.choice_index.specs.Picks.{revives_at};
+    ghost use Rattle.balancer_core.specs.Kept.{IsNow};
+
+    /// The answer to `ask` under the number `next`: by the rows, and so by every history that leaves them.
+    pub(crate) fn pick(&self, opening: &Opening, rules: Rules, ask: &Ask, next: u64) -> Choice
+        requires whole { length self.now.rows.items ≡ members opening.now }
+        requires targets { (m : ℕ) (d : Standing) → m < length self.now.rows.items → IfSome (slice_index_or self.now.rows.items m d).redirect (λ r. r < length self.now.rows.items) }
+        ensures pick { (p : List Entry) → IsNow (rules_number rules) opening.now p self.now → next ≡ next_of opening.now p
+            → IsPick (rules_number rules) opening.now p ask.now result.answer }
+        ensures revives { (d : Standing) → result.revives
+            ≡ revives_at (rules_number rules) self.now.rows.items d ask.now result.answer }
+        ensures room { HasRoomFor self.now.rows.items result.answer }
+    {
+        let rows = self.rows.as_slice();
+        pick(rules, &opening.config, rows, self.chosen, ask, next)
+    }
+
     /// After a Select with this number, moment and answer, which revives or doesn't.
     pub(crate) fn select(
         &mut self,

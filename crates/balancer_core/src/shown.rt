@@ -3,7 +3,7 @@
 ghost use Rattle.std.specs.Prelude.{◌≡◌, ℕ, List, length, IfOk};
 ghost use Rattle.balancer_core.specs.Shown.{AreShown, shown_row};
 
-use crate::standing::Standing;
+use choice_index::Standing;
 use jk_io::NoMemory;
 use jk_model::{MemberConfig, MemberRow};
 use std::alloc::Global;

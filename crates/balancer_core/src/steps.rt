@@ -4,7 +4,7 @@ ghost use Rattle.std.specs.Prelude.{◌≡◌, ◌+◌, ◌*◌, ◌<◌, ◌≤
 ghost use Rattle.jk_model.specs.Loads.{load_by};
 ghost use Rattle.balancer_core.specs.Steps.{chosen_row, returned_row, revived_row};
 
-use crate::standing::Standing;
+use choice_index::Standing;
 use jk_model::{Method, Outcome};
 use lb_methods::{gain_return, gain_select};
 use member_state::{Touch, next_state};

@@ -5,7 +5,7 @@ use Rattle.jk_model.specs.Legal.{IsNext}
 use Rattle.jk_model.specs.Tickets.{out}
 use Rattle.jk_model.specs.declared.journal.Entry.{Entry}
 use Rattle.jk_model.specs.declared.opening.Opening.{Opening}
-use Rattle.balancer_core.specs.RuleNumbers.{rules_number}
+use Rattle.choice_index.specs.RuleNumbers.{rules_number}
 use Rattle.balancer_core.specs.Kept.{IsKept, IsNow}
 use Rattle.balancer_core.proofs.CallLaws.{kept-called}
 use Rattle.balancer_core.proofs.KeptLaws.{kept-moved}

@@ -5,7 +5,7 @@ use Rattle.jk_model.specs.Ranges.{factors_in}
 use Rattle.jk_model.specs.declared.member.MemberConfig.{MemberConfig}
 use Rattle.jk_model.specs.declared.view.MemberRow.{MemberRow}
 use Rattle.balancer_core.specs.declared.present.Present.{Present}
-use Rattle.balancer_core.specs.RuleNumbers.{rules_number}
+use Rattle.choice_index.specs.RuleNumbers.{rules_number}
 use Rattle.balancer_core.specs.Shown.{AreOpened}
 use Rattle.balancer_core.proofs.OpenedLaws.{all_factors_above, row_factors_above, row_factors_divide, kept_opened}
 use Rattle.balancer_core.proofs.book.Book.open.Goals as goal

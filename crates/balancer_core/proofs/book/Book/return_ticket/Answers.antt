@@ -6,7 +6,7 @@ use Rattle.jk_model.specs.Tickets.{is_out}
 use Rattle.jk_model.specs.declared.journal.Entry.{Entry}
 use Rattle.balancer_core.specs.Journal.{Journal, IsReturnedAt, past_of}
 use Rattle.balancer_core.specs.Kept.{IsKept}
-use Rattle.balancer_core.specs.RuleNumbers.{rules_number}
+use Rattle.choice_index.specs.RuleNumbers.{rules_number}
 use Rattle.balancer_core.specs.Spots.{kept_noted, early_noted}
 use Rattle.balancer_core.proofs.KeptLaws.{IsLocated, kept_rising, kept_located, kept-returned, kept-wider, next_returned}
 use Rattle.balancer_core.proofs.StepLaws.{return_entry}

@@ -5,9 +5,10 @@ use Rattle.jk_model.specs.Tickets.{out}
 use Rattle.jk_model.specs.Legal.{KnowsTerms}
 use Rattle.jk_model.specs.declared.journal.Entry.{Entry}
 use Rattle.balancer_core.specs.Journal.{Journal}
-use Rattle.balancer_core.specs.RuleNumbers.{rules_number}
+use Rattle.choice_index.specs.RuleNumbers.{rules_number}
 use Rattle.balancer_core.specs.Kept.{IsKept}
-use Rattle.balancer_core.proofs.ChoiceLaws.{nobody, revives-none}
+use Rattle.choice_index.proofs.PickLaws.{revives-none}
+use Rattle.balancer_core.proofs.ChoiceLaws.{nobody}
 use Rattle.balancer_core.proofs.KeptLaws.{next_is, kept-selected}
 use Rattle.balancer_core.proofs.StepLaws.{select_entry}
 use Rattle.balancer_core.proofs.book.Book.select.Goals as goal
@@ -15,7 +16,7 @@ use Rattle.balancer_core.proofs.book.Book.select.Goals as goal
 pub select-requires-clause-revival : goal.select-requires-clause-revival
 select-requires-clause-revival c = λ none_chosen.
     c.pick-choice.ensures.revives nobody
-    ∙ revives-none c.self.inside.present.rows.items c.args.ask.now 0 (rules_number c.self.inside.rules) nobody
+    ∙ revives-none c.self.inside.present.rows.items c.args.ask.now (rules_number c.self.inside.rules) nobody
     c.pick-choice.result.answer none_chosen
 
 pub invariant_of-self-2 : goal.invariant_of-self-2

@@ -3,8 +3,8 @@
 ghost use Rattle.std.specs.Prelude.{◌≡◌, ◌+◌, ◌<◌, ◌≤◌, ◌^◌, length};
 ghost use Rattle.std.specs.Option.{ForSome};
 ghost use Rattle.jk_model.specs.Choice.{is_before_by, place_from};
-ghost use Rattle.balancer_core.specs.Least.{IsLeastOf, improves};
-ghost use Rattle.balancer_core.specs.declared.standing.Standing.{Standing};
+ghost use Rattle.choice_index.specs.Least.{IsLeastOf, improves};
+ghost use Rattle.choice_index.specs.declared.standing.Standing.{Standing};
 
 use crate::among::{Among, passes};
 use crate::standing::Standing;

@@ -2,25 +2,25 @@
 
 ghost use Rattle.std.specs.Prelude.{◌≡◌, ◌<◌};
 ghost use Rattle.jk_model.specs.Segments.{AreRules};
-ghost use Rattle.balancer_core.specs.RuleNumbers.{rules_number};
+ghost use Rattle.choice_index.specs.RuleNumbers.{rules_number};
 
 /// By which rules a Book chooses. Those of version 1 revive nobody, and are there for old texts.
 #[derive(Clone, Copy, Debug, PartialEq, Eq)]
-pub(crate) enum Rules {
+pub enum Rules {
     One,
     Two,
 }
 
 impl Rules {
     /// The rules with this number.
-    pub(crate) fn of(number: u8) -> Rules
+    pub fn of(number: u8) -> Rules
         requires { AreRules number }
         ensures { rules_number result ≡ number }
     {
         if number == 1 { Rules::One } else { Rules::Two }
     }
 
-    pub(crate) fn number(self) -> u8
+    pub fn number(self) -> u8
         ensures { result ≡ rules_number self }
     {
         match self {

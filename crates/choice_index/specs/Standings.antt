@@ -3,8 +3,8 @@ use Rattle.std.specs.Prelude.{ℕ, Bool}
 use Rattle.jk_model.specs.Free.{is_in, counts_as, is_usable_by, serves_by, is_revivable_by}
 use Rattle.jk_model.specs.declared.ask.Ask.{Ask}
 use Rattle.jk_model.specs.declared.member.Activation.{Activation}
-use Rattle.balancer_core.specs.declared.standing.Standing.{Standing}
-use Rattle.balancer_core.specs.declared.among.Among.{Among}
+use Rattle.choice_index.specs.declared.standing.Standing.{Standing}
+use Rattle.choice_index.specs.declared.among.Among.{Among}
 
 -- What the member counts as for this ask.
 abbrev pub counted_row : Ask → ℕ → Standing → Activation

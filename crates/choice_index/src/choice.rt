@@ -1,29 +1,25 @@
 //! What a Select answers.
 
-ghost use Rattle.std.specs.Prelude.{◌≡◌, ◌+◌, ◌<◌, ◌≤◌, ◌^◌, ℕ, List, length, IfSome, slice_index_or, is_some, ◌&&◌};
+ghost use Rattle.std.specs.Prelude.{◌≡◌, ℕ, ◌<◌, ◌≤◌, length, IfSome, slice_index_or, is_some, ◌&&◌};
 ghost use Rattle.std.specs.Option.{ForSome};
-ghost use Rattle.jk_model.specs.Journal.{members, next_of};
-ghost use Rattle.jk_model.specs.Choice.{begin_after, begins_trial, member_within, redirected, routed_member, IsOpen, IsPick};
-ghost use Rattle.jk_model.specs.declared.journal.Entry.{Entry};
-ghost use Rattle.jk_model.specs.declared.opening.Opening.{Opening};
-ghost use Rattle.balancer_core.specs.declared.standing.Standing.{Standing};
-ghost use Rattle.balancer_core.specs.RuleNumbers.{rules_number};
-ghost use Rattle.balancer_core.specs.Rows.{serves_at, routed_at, revives_at, HasRoomAt, HasRoomFor};
-ghost use Rattle.balancer_core.specs.Least.{IsRevivalOf};
-ghost use Rattle.balancer_core.specs.Kept.{IsNow};
+ghost use Rattle.jk_model.specs.Choice.{begin_after, begins_trial, member_within, redirected};
+ghost use Rattle.jk_model.specs.declared.config.LbConfig.{LbConfig};
+ghost use Rattle.choice_index.specs.declared.standing.Standing.{Standing};
+ghost use Rattle.choice_index.specs.RuleNumbers.{rules_number};
+ghost use Rattle.choice_index.specs.Picks.{home_of, serves_at, routed_at, revives_at, HasRoomAt, HasRoomFor, IsOpenAt, IsPickAt};
+ghost use Rattle.choice_index.specs.Least.{IsRevivalOf};
 
 use crate::among::{Among, serves};
 use crate::least::least;
-use crate::present::Present;
 use crate::rules::Rules;
 use crate::standing::Standing;
-use jk_model::{Answer, Ask, How, MemberState, Opening};
+use jk_model::{Answer, Ask, How, LbConfig, MemberState};
 
 /// The answer to an ask, and whether it turns those members from Error to Recover that may be revived.
 #[derive(Clone, Copy, Debug, PartialEq, Eq)]
-pub(crate) struct Choice {
-    pub(crate) answer: Answer,
-    pub(crate) revives: bool,
+pub struct Choice {
+    pub answer: Answer,
+    pub revives: bool,
 }
 
 fn member_within(count: usize, routed: Option<u32>) -> Option<u32>
@@ -36,21 +32,21 @@ fn member_within(count: usize, routed: Option<u32>) -> Option<u32>
 }
 
 // The member that the ask is routed to.
-fn routed_member(opening: &Opening, ask: &Ask) -> Option<u32>
-    ensures { result ≡ routed_member opening.now ask.now }
+fn home_of(config: &LbConfig, ask: &Ask) -> Option<u32>
+    ensures { result ≡ home_of config.now ask.now }
 {
-    if opening.config.sticky {
-        member_within(opening.config.members.len(), ask.routed)
+    if config.sticky {
+        member_within(config.members.len(), ask.routed)
     } else {
         None
     }
 }
 
 // Force is on, and the ask is routed.
-fn is_forced(opening: &Opening, ask: &Ask) -> bool
-    ensures { result ≡ (opening.now.config.force && is_some (routed_member opening.now ask.now)) }
+fn is_forced(config: &LbConfig, ask: &Ask) -> bool
+    ensures { result ≡ (config.now.force && is_some (home_of config.now ask.now)) }
 {
-    opening.config.force && routed_member(opening, ask).is_some()
+    config.force && home_of(config, ask).is_some()
 }
 
 // The redirect where it serves.
@@ -69,14 +65,14 @@ fn redirected(rows: &[Standing], ask: &Ask, redirect: Option<u32>) -> Option<(u3
 }
 
 // The session's member where it serves, else its redirect where that serves.
-fn routed(opening: &Opening, rows: &[Standing], ask: &Ask) -> Option<(u32, How)>
+fn routed(config: &LbConfig, rows: &[Standing], ask: &Ask) -> Option<(u32, How)>
     requires few { length rows.now ≤ 64 }
-    requires whole { length rows.now ≡ members opening.now }
+    requires whole { length rows.now ≡ length config.now.members }
     requires targets { (m : ℕ) (d : Standing) → m < length rows.now → IfSome (slice_index_or rows.now m d).redirect (λ r. r < length rows.now) }
-    ensures value { (d : Standing) → result ≡ routed_at opening.now rows.now d ask.now }
+    ensures value { (d : Standing) → result ≡ routed_at config.now rows.now d ask.now }
     ensures room { IfSome result (λ x. HasRoomAt rows.now x.0) }
 {
-    let member = routed_member(opening, ask)?;
+    let member = home_of(config, ask)?;
     let row = &rows[member as usize];
     if serves(row, ask, member as usize) {
         return Some((member, How::Sticky));
@@ -128,17 +124,14 @@ fn least_revivable(rules: Rules, rows: &[Standing], ask: &Ask, begin: usize) -> 
 }
 
 // The least of the usable members; where there is none, under rules 2, of those that may be revived.
-fn balanced(present: &Present, rules: Rules, ask: &Ask, next: u64) -> Choice
-    requires few { length present.now.rows.items ≤ 64 }
-    ensures pick { (o : Opening) (p : List Entry) → IsNow (rules_number rules) o p present.now
-        → IsOpen (rules_number rules) o p ask.now → next ≡ next_of o p
-        → IsPick (rules_number rules) o p ask.now result.answer }
-    ensures revives { (d : Standing) → result.revives
-        ≡ revives_at (rules_number rules) present.now.rows.items d ask.now result.answer }
-    ensures room { HasRoomFor present.now.rows.items result.answer }
+fn balanced(rules: Rules, rows: &[Standing], last: Option<u32>, ask: &Ask, next: u64) -> Choice
+    requires few { length rows.now ≤ 64 }
+    ensures pick { (config : LbConfig) (d : Standing) → IsOpenAt config rows.now d ask.now
+        → IsPickAt (rules_number rules) config rows.now d last next ask.now result.answer }
+    ensures revives { (d : Standing) → result.revives ≡ revives_at (rules_number rules) rows.now d ask.now result.answer }
+    ensures room { HasRoomFor rows.now result.answer }
 {
-    let rows = present.rows.as_slice();
-    let begin = begin_after(present.chosen);
+    let begin = begin_after(last);
     if let Some(member) = least(Among::Usable, rows, ask, begin) {
         return chosen(&rows[member], member as u32, How::Balanced, next, false);
     }
@@ -151,31 +144,29 @@ fn balanced(present: &Present, rules: Rules, ask: &Ask, next: u64) -> Choice
     }
 }
 
-/// The answer to `ask` under the number `next`.
-pub(crate) fn pick(
-    opening: &Opening,
-    present: &Present,
+/// The answer to `ask` under the number `next`, where `last` is the member that was chosen last.
+pub fn pick(
     rules: Rules,
+    config: &LbConfig,
+    rows: &[Standing],
+    last: Option<u32>,
     ask: &Ask,
     next: u64,
 ) -> Choice
-    requires few { length present.now.rows.items ≤ 64 }
-    requires whole { length present.now.rows.items ≡ members opening.now }
-    requires targets { (m : ℕ) (d : Standing) → m < length present.now.rows.items → IfSome (slice_index_or present.now.rows.items m d).redirect (λ r. r < length present.now.rows.items) }
-    ensures pick { (p : List Entry) → IsNow (rules_number rules) opening.now p present.now → next ≡ next_of opening.now p
-        → IsPick (rules_number rules) opening.now p ask.now result.answer }
-    ensures revives { (d : Standing) → result.revives
-        ≡ revives_at (rules_number rules) present.now.rows.items d ask.now result.answer }
-    ensures room { HasRoomFor present.now.rows.items result.answer }
+    requires whole { length rows.now ≡ length config.now.members }
+    requires targets { (m : ℕ) (d : Standing) → m < length rows.now → IfSome (slice_index_or rows.now m d).redirect (λ r. r < length rows.now) }
+    ensures pick { (d : Standing) → IsPickAt (rules_number rules) config.now rows.now d last next ask.now result.answer }
+    ensures revives { (d : Standing) → result.revives ≡ revives_at (rules_number rules) rows.now d ask.now result.answer }
+    ensures room { HasRoomFor rows.now result.answer }
 {
-    if let Some((member, how)) = routed(opening, present.rows.as_slice(), ask) {
-        return chosen(&present.rows[member as usize], member, how, next, false);
+    if let Some((member, how)) = routed(config, rows, ask) {
+        return chosen(&rows[member as usize], member, how, next, false);
     }
-    if is_forced(opening, ask) {
+    if is_forced(config, ask) {
         return Choice {
             answer: Answer::Forced,
             revives: false,
         };
     }
-    balanced(present, rules, ask, next)
+    balanced(rules, rows, last, ask, next)
 }

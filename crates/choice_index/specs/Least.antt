@@ -1,9 +1,9 @@
 -- The least of the rows that pass.
 use Rattle.std.specs.Prelude.{◌≡◌, ℕ, ◌<◌, Bool, true, false, List, length, Option, None, Some, slice_index_or}
 use Rattle.jk_model.specs.declared.ask.Ask.{Ask}
-use Rattle.balancer_core.specs.declared.standing.Standing.{Standing}
-use Rattle.balancer_core.specs.declared.among.Among.{Among}
-use Rattle.balancer_core.specs.Standings.{passes}
+use Rattle.choice_index.specs.declared.standing.Standing.{Standing}
+use Rattle.choice_index.specs.declared.among.Among.{Among}
+use Rattle.choice_index.specs.Standings.{passes}
 use Rattle.jk_model.specs.Choice.{is_before_by, place_from}
 
 -- row a, at place i of n, goes before row b, at place j

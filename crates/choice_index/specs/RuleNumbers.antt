@@ -1,6 +1,6 @@
 -- The number of each version of the rules.
 use Rattle.std.specs.Prelude.{ℕ}
-use Rattle.balancer_core.specs.declared.rules.Rules.{Rules}
+use Rattle.choice_index.specs.declared.rules.Rules.{Rules}
 
 abbrev pub rules_number : Rules → ℕ
 rules_number Rules.One = 1

@@ -2,14 +2,14 @@
 
 ghost use Rattle.std.specs.Prelude.{◌≡◌, ◌<◌};
 ghost use Rattle.jk_model.specs.Free.{is_in, is_ready, is_error, has_room};
-ghost use Rattle.balancer_core.specs.Standings.{counted_row, passes, serves_row};
+ghost use Rattle.choice_index.specs.Standings.{counted_row, passes, serves_row};
 
 use crate::standing::Standing;
 use jk_model::{Activation, Ask, MemberState};
 
 /// Among which members the least one is taken.
 #[derive(Clone, Copy, Debug, PartialEq, Eq)]
-pub(crate) enum Among {
+pub enum Among {
     Usable,
     Revivable,
 }
@@ -67,7 +67,7 @@ pub(crate) fn serves(row: &Standing, ask: &Ask, member: usize) -> bool
     (is_ready(row.state) && has_room(row, ask, member)) && activation != Activation::Stopped
 }
 
-pub(crate) fn passes(among: Among, row: &Standing, ask: &Ask, member: usize) -> bool
+pub fn passes(among: Among, row: &Standing, ask: &Ask, member: usize) -> bool
     requires { member < 64 }
     ensures { result ≡ passes among ask.now member row.now }
 {

@@ -4,11 +4,11 @@ use Rattle.std.proofs.lemmas.Bool.{true≢false}
 use Rattle.std.proofs.lemmas.List.{get_or_default}
 use Rattle.std.proofs.lemmas.Bool.Decides.{nat_tests}
 use Rattle.jk_model.specs.declared.ask.Ask.{Ask}
-use Rattle.balancer_core.specs.declared.standing.Standing.{Standing}
-use Rattle.balancer_core.specs.declared.among.Among.{Among}
-use Rattle.balancer_core.specs.Standings.{passes}
+use Rattle.choice_index.specs.declared.standing.Standing.{Standing}
+use Rattle.choice_index.specs.declared.among.Among.{Among}
+use Rattle.choice_index.specs.Standings.{passes}
 use Rattle.jk_model.specs.Choice.{is_before_by, place_from}
-use Rattle.balancer_core.specs.Least.{row_before, improves, IsLeastRow, IsLeastOf}
+use Rattle.choice_index.specs.Least.{row_before, improves, IsLeastRow, IsLeastOf}
 
 -- what goes before a new best goes before the old one
 pub before-trans : (d l t d' l' t' e m u : ℕ)

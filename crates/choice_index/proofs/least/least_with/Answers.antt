@@ -1,6 +1,6 @@
 use Rattle.std.proofs.Common.{sym, ◌∙◌}
-use Rattle.balancer_core.proofs.LeastLaws.{least_skip, least_keep, least_take}
-use Rattle.balancer_core.proofs.least.least_with.Goals as goal
+use Rattle.choice_index.proofs.LeastLaws.{least_skip, least_keep, least_take}
+use Rattle.choice_index.proofs.least.least_with.Goals as goal
 
 pub returns-then-not-passes : goal.returns-then-not-passes
 returns-then-not-passes c =

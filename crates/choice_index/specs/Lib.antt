@@ -1,0 +1,4 @@
+pub mod Standings
+pub mod Least
+pub mod RuleNumbers
+pub mod Picks
