@@ -4,7 +4,7 @@ ghost use Rattle.std.specs.Prelude.{◌≡◌, ◌<◌};
 ghost use Rattle.jk_model.specs.Segments.{AreRules};
 ghost use Rattle.choice_index.specs.RuleNumbers.{rules_number};
 
-/// By which rules a Book chooses. Those of version 1 revive nobody, and are there for old texts.
+/// By which rules a member is chosen. Those of version 1 revive nobody, and are there for old texts.
 #[derive(Clone, Copy, Debug, PartialEq, Eq)]
 pub enum Rules {
     One,
