@@ -3,10 +3,13 @@
 //! A caller in callers.rt is generic over the desk. So its contract, which says that tickets are held as before and
 //! which entries were added, shows that the clauses of the trait suffice for the crates above. One in lawful.rt cites
 //! the laws of jk_model for what a call of a Book returned, so each law's premises are met by every Book.
+//! The tests of a Book and of jk_model stand here too, since a crate with tests is proved with them and without.
 //! Contract: `one_exchange`, clauses `held` and `ends`; `change_and_look`, clause `page`; of both `added` and `kept`.
 //! Errors: those of the trait and of a Book.
 #![tactic(auto)]
 
+#[cfg(test)]
+mod books;
 mod callers;
 mod lawful;
 #[cfg(test)]

@@ -27,8 +27,6 @@ mod present;
 mod receipt;
 mod shown;
 mod steps;
-#[cfg(test)]
-mod tests;
 mod tickets;
 
 pub use book::{Book, Lease, Picked};

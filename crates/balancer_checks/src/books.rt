@@ -4,7 +4,7 @@ mod schedules;
 
 ghost use Rattle.std.specs.Prelude.{◌≡◌, ◌≤◌, ◌^◌, IfOk};
 
-use crate::{Book, Picked, Segment};
+use balancer_core::{Book, Picked, Segment};
 use jk_io::Bytes;
 use jk_model::{
     AdminError, Answer, Ask, Command, FullMark, How, Kind, LbConfig, MemberConfig, MemberList,
