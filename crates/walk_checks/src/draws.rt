@@ -1,20 +1,13 @@
 //! What a walk asks, commands and gives back, drawn by dice.
-ghost use Rattle.std.specs.Prelude.{◌≡◌, ◌≤◌, ◌^◌};
-ghost use Rattle.jk_model.specs.Legal.{KnowsTerms};
-
 use crate::dice::Dice;
-use jk_model::{Activation, Ask, Change, Command, Kind, Outcome, Redirect};
+use jk_model::{Activation, Ask, Call, Change, Command, Kind, Outcome, Redirect};
 
 // The asks of rules 1 know no mount terms.
-fn terms(dice: &mut Dice, rules: u8) -> u64
-    ensures { rules ≡ 1 → result ≡ 0 }
-{
+fn terms(dice: &mut Dice, rules: u8) -> u64 {
     if rules == 1 { 0 } else { dice.set() }
 }
 
-pub(crate) fn ask(dice: &mut Dice, rules: u8, members: u32) -> Ask
-    ensures { KnowsTerms rules result }
-{
+fn ask(dice: &mut Dice, rules: u8, members: u32) -> Ask {
     let is_routed = dice.is_one_in(2);
     let route = dice.below(members.saturating_add(1));
     Ask {
@@ -26,9 +19,7 @@ pub(crate) fn ask(dice: &mut Dice, rules: u8, members: u32) -> Ask
     }
 }
 
-pub(crate) fn outcome(dice: &mut Dice) -> Outcome
-    ensures { result.bytes ≤ 2 ^ 44 }
-{
+fn outcome(dice: &mut Dice) -> Outcome {
     let kind = match dice.below(4) {
         0 => Kind::Failed,
         1 => Kind::Gone,
@@ -75,7 +66,7 @@ fn redirect(dice: &mut Dice, members: u32) -> Redirect {
     }
 }
 
-pub(crate) fn command(dice: &mut Dice, members: u32) -> Command {
+fn command(dice: &mut Dice, members: u32) -> Command {
     let member = dice.below(members.saturating_add(1));
     match dice.below(4) {
         0 => Command::Reset { member },
@@ -89,5 +80,18 @@ pub(crate) fn command(dice: &mut Dice, members: u32) -> Command {
                 redirect: redirect(dice, members),
             },
         },
+    }
+}
+
+/// A call by these rules, which gives `ticket` back where it is a Return.
+pub(crate) fn call(dice: &mut Dice, rules: u8, members: u32, ticket: u64) -> Call {
+    match dice.below(10) {
+        0 => Call::Maintain,
+        1 => Call::Admin(command(dice, members)),
+        2 | 3 | 4 => Call::Return {
+            ticket,
+            outcome: outcome(dice),
+        },
+        _ => Call::Select(ask(dice, rules, members)),
     }
 }

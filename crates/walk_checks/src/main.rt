@@ -1,47 +1,57 @@
 //! Random walks of a Book, each call beside the plain program of the balancer.
 //!
-//! From a number come a configuration and calls of every kind, by both rules. Each Select gets what `pick` says of
-//! the entries before it, a maintenance is done where it is due, a ticket is taken where it is out, and after each call
-//! the view is what `present` says of all entries. At the end of a walk the Book is cut, and it and a Book that is
-//! resumed from there answer a further ask as the whole one.
-//! Without a word it makes ten walks. With two numbers it makes those from the first to the second, without this, and
-//! tells how many calls of each kind found something to do.
+//! From a number come a configuration and calls of every kind, with every command and set of members. A walk begins with
+//! the opening that the former one ended with, by the other of both rules. Each call adds the entry that the plain
+//! program says, or none, and then the view is the plain program's: of a Book that is cut again and again, over whose
+//! entries it looks back, and of one that keeps the whole walk. At the end of a walk a Book that is resumed from the
+//! opening of its segment makes its entries again; that one, the whole one after a cut, and one that is resumed from
+//! there go on alike.
+//! Without a word it makes a hundred walks, ten from each number. With two numbers it makes those from the first to the
+//! second, without this, and tells how many calls of each kind found something to do.
 //! Errors: the number of the walk, and its first difference.
 #![tactic(auto)]
 
 mod dice;
 mod draws;
+mod plain;
 mod same;
 mod setup;
+mod told;
 mod walk;
 
-use crate::walk::take_walk;
+use crate::walk::Walk;
 use anyhow::{Context, Result, bail};
 use std::alloc::Global;
 use std::env;
 
-/// How many members the balancer of a walk has, by the last digit of the walk's number.
+/// How many members the balancer of a number has, by its last digit.
 static MEMBERS: [u32; 10] = [1, 2, 3, 4, 5, 2, 3, 8, 12, 64];
 
-fn one_walk(rt: &impl Print, alloc: Global, number: u64, tells: bool) -> Result<()> {
-    let members = MEMBERS[(number % 10) as usize];
-    let calls = if members > 12 { 16 } else { 50 };
-    let rules = if number % 20 < 10 { 2 } else { 1 };
-    match take_walk(alloc, number, members, rules, calls) {
-        Ok(counts) if tells => {
-            println!(rt; "walk {number}: rules {rules}, members {members}, {counts:?}")?;
-            Ok(())
-        },
-        Ok(_) => Ok(()),
-        Err(error) => bail!("walk {number}: {error}"),
+/// How many walks come from a number, one after the other.
+const WALKS: u32 = 10;
+
+/// How many calls a walk makes before its end.
+const CALLS: u32 = 200;
+
+fn walks_of(alloc: Global, number: u64) -> Result<Walk> {
+    let mut walk = Walk::new(alloc, number, MEMBERS[(number % 10) as usize])?;
+    for turn in 0..WALKS {
+        let rules = if turn % 2 == 0 { 2 } else { 1 };
+        if let Err(error) = walk.go(rules, CALLS) {
+            bail!("walk {turn} of {number}: {error}");
+        }
     }
+    Ok(walk)
 }
 
 fn walks(rt: &impl Print, alloc: Global, first: u64, last: u64, tells: bool) -> Result<()> {
     for number in first..last {
-        one_walk(rt, alloc, number, tells)?;
+        let walk = walks_of(alloc, number)?;
+        if tells {
+            println!(rt; "number {number}: {:?}", walk.counts())?;
+        }
     }
-    let count = last.saturating_sub(first);
+    let count = u128::from(last.saturating_sub(first)) * u128::from(WALKS);
     println!(rt; "{count} walks: each answer and each view is what looking back gives")?;
     Ok(())
 }

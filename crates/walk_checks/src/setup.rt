@@ -1,9 +1,6 @@
 //! The balancers that walks begin with.
-ghost use Rattle.std.specs.Prelude.{◌≤◌, IfOk};
-ghost use Rattle.jk_model.specs.Segments.{AreRules};
-
 use crate::dice::Dice;
-use anyhow::{Context, Result, bail};
+use anyhow::{Context, Result};
 use balancer_core::Book;
 use jk_io::Bytes;
 use jk_model::{Activation, LbConfig, MemberConfig, MemberList, Method};
@@ -61,15 +58,8 @@ fn config(alloc: Global, dice: &mut Dice, members: u32) -> Result<LbConfig> {
     Ok(LbConfig::new(method(dice), sticky, force, direct, maintain, recover, list)?)
 }
 
-/// A balancer of so many members, by rules 1 or 2.
-pub(crate) fn book(alloc: Global, dice: &mut Dice, members: u32, rules: u8) -> Result<Book>
-    requires { AreRules rules }
-{
+/// A balancer of so many members at its start.
+pub(crate) fn book(alloc: Global, dice: &mut Dice, members: u32) -> Result<Book> {
     let config = config(alloc, dice, members)?;
-    let first = Book::start(alloc, config, 0, 0)?;
-    let opening = first.segment()?.opening;
-    if !opening.is_valid() {
-        bail!("the opening of a Book isn't valid");
-    }
-    Ok(Book::resume(opening, rules)?)
+    Ok(Book::start(alloc, config, 0, 0)?)
 }

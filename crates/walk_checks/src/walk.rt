@@ -1,15 +1,15 @@
 //! A walk of a Book: calls of every kind, and after each of them the plain program's word on it.
-ghost use Rattle.std.specs.Prelude.{◌≡◌, ◌≤◌, ◌^◌, IfOk};
-ghost use Rattle.jk_model.specs.Legal.{IsLegal, KnowsTerms};
+ghost use Rattle.std.specs.Prelude.{◌≡◌};
 ghost use Rattle.jk_model.specs.Segments.{AreRules};
+ghost use Rattle.jk_model.specs.Validity.{IsOpening};
 
 use crate::dice::Dice;
 use crate::same::are_same;
-use crate::{draws, setup};
+use crate::told::{segment, told};
+use crate::{draws, plain, setup};
 use anyhow::{Context, Result, bail};
-use balancer_core::{Book, Picked};
-use jk_model::{Answer, Ask, Segment};
-use plain_rules::{maintained_of, moment_of, pick, present};
+use balancer_core::Book;
+use jk_model::{Answer, Call, Entry, Opening, View};
 use std::alloc::Global;
 
 /// How many calls of each kind found something to do.
@@ -21,77 +21,86 @@ pub(crate) struct Counts {
     pub(crate) commands: u64,
 }
 
-/// A Book on its way, with the tickets that it gave out and not back.
+impl Counts {
+    // One more of its kind, where it isn't an ask that nobody got.
+    fn count(&mut self, entry: &Entry) {
+        match entry.call {
+            Call::Select(_) => {
+                let is_chosen = matches!(entry.answer, Answer::Chosen { .. });
+                self.choices = self.choices.saturating_add(u64::from(is_chosen));
+            },
+            Call::Return { .. } => self.returns = self.returns.saturating_add(1),
+            Call::Maintain => self.maintenances = self.maintenances.saturating_add(1),
+            Call::Admin(_) => self.commands = self.commands.saturating_add(1),
+        }
+    }
+}
+
+/// Books on their way, with the tickets that they gave out and not back.
 #[derive(Debug, Drop)]
-struct Walk {
+pub(crate) struct Walk {
     alloc: Global,
     dice: Dice,
+    rules: u8,
     members: u32,
-    book: Book,
+    /// The one over whose entries the plain program looks back.
+    near: Book,
+    /// After how many calls `near` is cut, since looking back is slow.
+    span: u32,
+    /// What `near` shows by the plain program.
+    shown: View,
+    /// Those that have to tell and show the same; the first keeps the whole walk.
+    others: Vec<Book>,
     tickets: Vec<u64>,
     at: u64,
     counts: Counts,
 }
 
-fn segment(book: &Book) -> Result<Segment>
-    ensures legal { IfOk result (λ s. IsLegal s.rules s.opening s.entries) }
-    ensures rules { IfOk result (λ s. s.rules ≡ book.now.rules) }
+// A Book that goes on from an opening.
+fn resumed(opening: Opening, rules: u8) -> Result<Book>
+    requires { AreRules rules }
 {
-    Ok(book.segment()?)
-}
-
-// What an ask gets after a segment.
-fn expected(alloc: Global, before: &Segment, ask: &Ask) -> Result<Answer>
-    requires { IsLegal before.now.rules before.now.opening before.now.entries }
-{
-    let entries = before.entries.as_slice();
-    Ok(pick(alloc, before.rules, &before.opening, entries, ask)?)
-}
-
-// Whether a maintenance at this moment is due after a segment.
-fn is_due(before: &Segment, at: u64) -> bool {
-    let entries = before.entries.as_slice();
-    let moment = at.max(moment_of(&before.opening, entries));
-    let last = maintained_of(&before.opening, entries);
-    u128::from(moment) >= u128::from(last) + u128::from(before.opening.config.maintain)
-}
-
-fn shows_the_present(alloc: Global, book: &Book) -> Result<bool> {
-    let now = segment(book)?;
-    let plain = present(alloc, now.rules, &now.opening, now.entries.as_slice())?;
-    Ok(are_same(&book.view()?, &plain))
-}
-
-fn answer(book: &mut Book, at: u64, ask: &Ask) -> Result<Answer>
-    requires { KnowsTerms book.old.rules ask.now }
-{
-    let Picked { entry, lease } = book.select(0, at, ask)?;
-    if let Some(lease) = lease {
-        let _ticket = lease.into_ticket();
+    if !opening.is_valid() {
+        bail!("the opening isn't valid");
     }
-    Ok(entry.answer)
+    Ok(Book::resume(opening, rules)?)
 }
 
 impl Walk {
-    fn select(&mut self) -> Result<()> {
-        let before = segment(&self.book)?;
-        let ask = draws::ask(&mut self.dice, before.rules, self.members);
-        let plain = expected(self.alloc, &before, &ask)?;
-        let Picked { entry, lease } = self.book.select(0, self.at, &ask)?;
-        if let Some(lease) = lease {
-            self.tickets
-                .push(lease.into_ticket())
-                .ok()
-                .context("no memory")?;
-            self.counts.choices = self.counts.choices.saturating_add(1);
-        }
-        if entry.answer != plain {
-            bail!(
-                "{ask:?} got {:?}, and by the plain program {plain:?}",
-                entry.answer
-            );
-        }
-        Ok(())
+    /// Begins the first walk, with a balancer of so many members that comes from a number.
+    pub(crate) fn new(alloc: Global, number: u64, members: u32) -> Result<Walk> {
+        let mut dice = Dice::new(number);
+        let near = setup::book(alloc, &mut dice, members)?;
+        let shown = plain::shown(alloc, &near)?;
+        Ok(Walk {
+            alloc,
+            dice,
+            rules: 2,
+            members,
+            near,
+            span: if members > 12 { 4 } else { 16 },
+            shown,
+            others: Vec::new(alloc),
+            tickets: Vec::new(alloc),
+            at: 0,
+            counts: Counts {
+                choices: 0,
+                returns: 0,
+                maintenances: 0,
+                commands: 0,
+            },
+        })
+    }
+
+    /// What was done so far.
+    pub(crate) fn counts(&self) -> Counts {
+        self.counts
+    }
+
+    // The state that the journal of `near` ends with.
+    fn cut_near(&mut self) -> Result<Opening> {
+        let _handed_out = self.near.cut()?;
+        Ok(segment(&self.near)?.opening)
     }
 
     // A ticket that is out, or now and then any number.
@@ -105,38 +114,42 @@ impl Walk {
         }
     }
 
-    fn give_back(&mut self) -> Result<()> {
-        let ticket = self.some_ticket();
-        let outcome = draws::outcome(&mut self.dice);
-        let is_out = self.tickets.as_slice().contains(&ticket);
-        let is_taken = self.book.return_ticket(0, self.at, ticket, outcome).is_ok();
-        if is_taken != is_out {
-            bail!("ticket {ticket}: out {is_out}, taken {is_taken}");
+    // Keeps the tickets that are out, and counts.
+    fn note(&mut self, entry: &Entry) -> Result<()> {
+        self.counts.count(entry);
+        if let Answer::Chosen { ticket, .. } = entry.answer {
+            self.tickets.push(ticket).ok().context("no memory")?;
         }
-        if is_taken {
+        if let Call::Return { ticket, outcome: _ } = entry.call {
             self.tickets.retain(|other| *other != ticket);
-            self.counts.returns = self.counts.returns.saturating_add(1);
         }
         Ok(())
     }
 
-    fn maintain(&mut self) -> Result<()> {
-        let before = segment(&self.book)?;
-        let is_due = is_due(&before, self.at);
-        let is_done = self.book.maintain_if_due(0, self.at)?.is_some();
-        if is_done != is_due {
-            bail!("a maintenance: due {is_due}, done {is_done}");
+    // Every Book tells of the call what the plain program says.
+    fn tells(&mut self, call: &Call, said: Option<Entry>) -> Result<()> {
+        let near = told(&mut self.near, self.at, call)?;
+        if near != said {
+            bail!("{call:?} got {near:?}, and by the plain program {said:?}");
         }
-        if is_done {
-            self.counts.maintenances = self.counts.maintenances.saturating_add(1);
+        for book in self.others.as_mut_slice() {
+            let other = told(book, self.at, call)?;
+            if other != said {
+                bail!("{call:?} got {other:?}, and by the plain program {said:?}");
+            }
         }
         Ok(())
     }
 
-    fn command(&mut self) -> Result<()> {
-        let command = draws::command(&mut self.dice, self.members);
-        if self.book.admin(0, self.at, &command).is_ok() {
-            self.counts.commands = self.counts.commands.saturating_add(1);
+    // Every Book shows what the plain program shows.
+    fn shows(&self) -> Result<()> {
+        if !are_same(&self.near.view()?, &self.shown) {
+            bail!("the view isn't the plain program's");
+        }
+        for book in self.others.as_slice() {
+            if !are_same(&book.view()?, &self.shown) {
+                bail!("the view isn't the plain program's");
+            }
         }
         Ok(())
     }
@@ -144,67 +157,64 @@ impl Walk {
     fn step(&mut self) -> Result<()> {
         let later = self.dice.below(20);
         self.at = self.at.saturating_add(u64::from(later));
-        match self.dice.below(10) {
-            0 => self.maintain()?,
-            1 => self.command()?,
-            2 | 3 | 4 => self.give_back()?,
-            _ => self.select()?,
+        let ticket = self.some_ticket();
+        let call = draws::call(&mut self.dice, self.rules, self.members, ticket);
+        let is_out = self.tickets.as_slice().contains(&ticket);
+        let before = segment(&self.near)?;
+        let said = plain::expected(self.alloc, &before, &self.shown, self.at, &call, is_out)?;
+        self.tells(&call, said)?;
+        if let Some(entry) = said {
+            self.note(&entry)?;
         }
-        if !shows_the_present(self.alloc, &self.book)? {
-            bail!("the view isn't the plain program's");
+        self.shown = plain::shown(self.alloc, &self.near)?;
+        self.shows()
+    }
+
+    fn steps(&mut self, calls: u32) -> Result<()> {
+        for call in 0..calls {
+            if call % self.span.max(1) == 0 {
+                let _opening = self.cut_near()?;
+            }
+            self.step()?;
         }
         Ok(())
     }
 
-    // A Book that was cut, and one that was resumed where it was cut, answer a further ask as the whole one.
-    fn go_on(&mut self) -> Result<()> {
-        let whole = segment(&self.book)?;
-        let ask = draws::ask(&mut self.dice, whole.rules, self.members);
-        let plain = expected(self.alloc, &whole, &ask)?;
-        let cut = self.book.cut()?;
-        let opening = segment(&self.book)?.opening;
-        if !opening.is_valid() {
-            bail!("the opening of a Book that was cut isn't valid");
+    // A Book that begins as the first of the others did, and to which the same calls are made.
+    fn replayed(&self, rules: u8) -> Result<Book>
+        requires { AreRules rules }
+    {
+        let whole = segment(self.others.as_slice().first().context("no Book")?)?;
+        let mut again = resumed(whole.opening, rules)?;
+        for entry in whole.entries.as_slice() {
+            if told(&mut again, entry.at, &entry.call)? != Some(*entry) {
+                bail!("{entry:?} isn't made again");
+            }
         }
-        let mut resumed = Book::resume(opening, cut.rules)?;
-        let again = answer(&mut resumed, self.at, &ask)?;
-        let onward = answer(&mut self.book, self.at, &ask)?;
-        if again != plain || onward != plain {
-            bail!("cut {onward:?}, resumed {again:?}, and by the plain program {plain:?}");
-        }
-        Ok(())
+        Ok(again)
     }
-}
 
-/// A walk of so many calls of a Book with so many members, or the first difference.
-pub(crate) fn take_walk(
-    alloc: Global,
-    number: u64,
-    members: u32,
-    rules: u8,
-    calls: u32,
-) -> Result<Counts>
-    requires { AreRules rules }
-{
-    let mut dice = Dice::new(number);
-    let book = setup::book(alloc, &mut dice, members, rules)?;
-    let mut walk = Walk {
-        alloc,
-        dice,
-        members,
-        book,
-        tickets: Vec::new(alloc),
-        at: 0,
-        counts: Counts {
-            choices: 0,
-            returns: 0,
-            maintenances: 0,
-            commands: 0,
-        },
-    };
-    for _ in 0..calls {
-        walk.step()?;
+    /// A walk by these rules, from the opening that the former ended with. At its end a Book that was resumed from the
+    /// opening of its segment, one that was cut, and one that was resumed from there tell and show the same.
+    pub(crate) fn go(&mut self, rules: u8, calls: u32) -> Result<()>
+        requires { AreRules rules }
+    {
+        self.rules = rules;
+        let opening = self.cut_near()?;
+        self.near = resumed(opening, rules)?;
+        let opening = segment(&self.near)?.opening;
+        self.others = vec![in self.alloc; resumed(opening, rules)?]?;
+        self.steps(calls)?;
+        let again = self.replayed(rules)?;
+        let place = self.others.as_mut_slice().first_mut().context("no Book")?;
+        let _handed_out = place.cut()?;
+        let onward = segment(place)?.opening;
+        self.others.push(again).ok().context("no memory")?;
+        self.others
+            .push(resumed(onward, rules)?)
+            .ok()
+            .context("no memory")?;
+        self.shows()?;
+        self.steps(8)
     }
-    walk.go_on()?;
-    Ok(walk.counts)
 }
