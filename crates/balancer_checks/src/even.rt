@@ -1,0 +1,52 @@
+//! Callers that meet the premises of the law of weights: a Book that starts, and each call that keeps them.
+ghost use Rattle.std.specs.Prelude.{◌≡◌, ◌≤◌, ◌<◌, ◌^◌, ℕ, true, IfOk};
+ghost use Rattle.jk_model.specs.Choice.{is_usable};
+ghost use Rattle.jk_model.specs.Journal.{members};
+ghost use Rattle.jk_model.specs.Legal.{KnowsTerms};
+ghost use Rattle.jk_model.specs.Settings.{distance_of};
+ghost use Rattle.jk_model.specs.States.{is_balanced};
+ghost use Rattle.jk_model.specs.declared.member.Method.{Method};
+ghost use Rattle.balancer_core.specs.Journal.{past_of};
+ghost use Rattle.balancer_core.specs.Weights.{IsEvenEpoch};
+
+#[cfg(test)]
+mod tests;
+
+use balancer_core::{Book, Picked};
+use jk_io::NoMemory;
+use jk_model::{Ask, Entry, FullMark, LbConfig, Outcome, RoomError, Stray};
+use std::alloc::Global;
+
+/// A balancer by Request, whose loads are equal at its start.
+pub fn start_evenly(alloc: Global, config: LbConfig, at: u64) -> Result<Book, NoMemory>
+    requires { config.method ≡ Method.Request }
+    ensures { IfOk result (λ book. IsEvenEpoch book.rules book.opening (past_of book)) }
+{
+    Book::start(alloc, config, at, 0)
+}
+
+/// Selects for an ask that every member could have.
+pub fn select_evenly(book: &mut Book, at: u64, ask: &Ask) -> Result<Picked, RoomError<FullMark>>
+    requires terms { KnowsTerms book.old.rules ask.now }
+    requires even { IsEvenEpoch book.old.rules book.old.opening (past_of book.old) }
+    requires usable { (m : ℕ) → m < members book.old.opening → is_usable book.old.rules book.old.opening (past_of book.old) ask.now m ≡ true }
+    requires near { (i j : ℕ) → i < members book.old.opening → j < members book.old.opening
+        → distance_of book.old.opening (past_of book.old) i ≡ distance_of book.old.opening (past_of book.old) j }
+    ensures { IfOk result (λ picked. is_balanced picked.entry.answer ≡ true → IsEvenEpoch book.new.rules book.new.opening (past_of book.new)) }
+{
+    book.select(0, at, ask)
+}
+
+/// Returns a ticket, which changes no load.
+pub fn return_evenly(
+    book: &mut Book,
+    at: u64,
+    ticket: u64,
+    outcome: Outcome,
+) -> Result<Entry, Stray>
+    requires bytes { outcome.bytes ≤ 2 ^ 44 }
+    requires even { IsEvenEpoch book.old.rules book.old.opening (past_of book.old) }
+    ensures { IsEvenEpoch book.new.rules book.new.opening (past_of book.new) }
+{
+    book.return_ticket(0, at, ticket, outcome)
+}
