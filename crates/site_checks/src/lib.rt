@@ -1,8 +1,9 @@
-//! What no clause says of a site's files: that texts as sites have them are read as they are meant.
+//! What no clause says of a site's two files: texts, as sites have them, against tables worked out by hand.
 //!
-//! The calls stand in the crates named in the uses; a crate with tests is proved once with them and once without, so
-//! they stand here.
+//! The readers stand in crates below; a crate with tests is proved once with them and once without, so they stand here.
 #![tactic(auto)]
 
+#[cfg(test)]
+mod map;
 #[cfg(test)]
 mod workers;
