@@ -19,6 +19,6 @@ mod reading;
 mod values;
 
 pub use help::command;
-pub use name::CommandName;
+pub use name::{CommandName, name_of};
 pub use order::{Order, WordsError};
 pub use reading::{command_of, read_words};

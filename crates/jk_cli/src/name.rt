@@ -23,7 +23,7 @@ pub enum CommandName {
 }
 
 /// The command that a word names.
-pub(crate) fn name_of(word: &[u8]) -> Option<CommandName>
+pub fn name_of(word: &[u8]) -> Option<CommandName>
     ensures { result ≡ name_of word.now }
 {
     if is(word, b"play") {
