@@ -2,6 +2,7 @@
 use Rattle.std.specs.Prelude.{◌≡◌, ℕ, true, false, ◌⊎◌, List, Option}
 use Rattle.jk_io.specs.Told.{appended, PutsFront, Rose}
 use Rattle.jkd.specs.Plain.{is_plain, Prints, PrintsFront}
+use Rattle.jkd.specs.Readings.{Outside}
 use Rattle.jkd.specs.declared.play.Ending.{Ending}
 use Rattle.jkd.specs.declared.play.Ending.TheVariants as ending
 use Rattle.jkd.specs.declared.plain.PlainEnd.{PlainEnd}
@@ -29,18 +30,26 @@ Writes faults faults_now sent sent_now text answered end.InputFault = ⊥
 Writes faults faults_now sent sent_now text answered end.OutputFault = Rose faults faults_now × PutsFront sent sent_now text
 Writes faults faults_now sent sent_now text answered end.NoMemory = PutsFront sent sent_now text
 
+-- The faults of what a command reads, before and after it, and those of its output.
+pub record Faults : Type 0 where
+  pub files : ℕ
+  pub input : ℕ
+  pub output : ℕ
+
+-- A read failed only where the faults of the files or of the input rose.
+abbrev pub ReadFails : (old new : Faults) → Type 0
+ReadFails old new = Rose old.files new.files ⊎ Rose old.input new.input
+
+-- What each end says of a command that is built.
+abbrev pub AnswersSo : (words : List (List ℕ)) → Outside → (sent sent_now : Option (List ℕ)) → (old new : Faults) → PlainEnd → Type 0
+AnswersSo words outside sent sent_now old new end.Done = Prints words outside sent sent_now 0
+AnswersSo words outside sent sent_now old new end.NoCommand = ⊥
+AnswersSo words outside sent sent_now old new end.Refused = Prints words outside sent sent_now 3
+AnswersSo words outside sent sent_now old new end.InputFault = (sent_now ≡ sent) × ReadFails old new
+AnswersSo words outside sent sent_now old new end.OutputFault = PrintsFront words outside sent sent_now × Rose old.output new.output
+AnswersSo words outside sent sent_now old new end.NoMemory = (sent_now ≡ sent) ⊎ PrintsFront words outside sent sent_now
+
 -- What each end says.
-abbrev pub EndsSo : (words : List (List ℕ)) (incoming : Option (List ℕ)) (in_faults in_faults_now : ℕ)
-    (sent sent_now : Option (List ℕ)) (out_faults out_faults_now : ℕ) → PlainEnd → Type 0
-EndsSo words incoming in_faults in_faults_now sent sent_now out_faults out_faults_now end.Done =
-    (is_plain words ≡ true) × Prints incoming sent sent_now 0
-EndsSo words incoming in_faults in_faults_now sent sent_now out_faults out_faults_now end.NoCommand =
-    (is_plain words ≡ false) × (sent_now ≡ sent)
-EndsSo words incoming in_faults in_faults_now sent sent_now out_faults out_faults_now end.Refused =
-    (is_plain words ≡ true) × Prints incoming sent sent_now 3
-EndsSo words incoming in_faults in_faults_now sent sent_now out_faults out_faults_now end.InputFault =
-    (is_plain words ≡ true) × (sent_now ≡ sent) × Rose in_faults in_faults_now
-EndsSo words incoming in_faults in_faults_now sent sent_now out_faults out_faults_now end.OutputFault =
-    (is_plain words ≡ true) × PrintsFront incoming sent sent_now × Rose out_faults out_faults_now
-EndsSo words incoming in_faults in_faults_now sent sent_now out_faults out_faults_now end.NoMemory =
-    (is_plain words ≡ true) × ((sent_now ≡ sent) ⊎ PrintsFront incoming sent sent_now)
+abbrev pub EndsSo : (words : List (List ℕ)) → Outside → (sent sent_now : Option (List ℕ)) → (old new : Faults) → PlainEnd → Type 0
+EndsSo words outside sent sent_now old new end.NoCommand = (is_plain words ≡ false) × (sent_now ≡ sent)
+EndsSo words outside sent sent_now old new ended = (is_plain words ≡ true) × AnswersSo words outside sent sent_now old new ended

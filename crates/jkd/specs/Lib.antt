@@ -1,3 +1,4 @@
-pub mod Plain
-pub mod Turns
 pub mod Endings
+pub mod Plain
+pub mod Readings
+pub mod Turns

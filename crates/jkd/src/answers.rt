@@ -1,19 +1,52 @@
-use jk_io::Bytes;
+//! The texts that are printed where the words are no command, and those that words ask for.
+use clap::error::ErrorKind;
+use jk_cli::{command, name_of};
+use jk_io::{Bytes, NoMemory};
+use std::alloc::Global;
+use std::str;
 
 /// What is printed where the words are no command.
-pub(crate) const USAGE: &str = "usage: jkd play < SCRIPT\n";
+pub(crate) const USAGE: &str = "usage: jkd COMMAND WORDS\njkd --help shows the commands.\n";
 
-const HELP: &[u8] = b"jkd: a connector that balances requests over servlet containers\n
-usage: jkd play < SCRIPT\n
-play reads a script of a balancer from standard input, and prints a line for each select.\n";
+/// What stands below each help.
+const BUILT: &str =
+    "\nThis jkd does `play`, `config` and `match`; the other commands end with status 2.\n";
 
-const VERSION: &[u8] = b"jkd 0.1.0\n";
+fn is(word: &Bytes, text: &[u8]) -> bool {
+    word.as_slice() == text
+}
 
-/// The text that `--help` or `--version`, alone, asks for.
-pub(crate) fn asked_text(words: &[Bytes]) -> Option<&'static [u8]> {
+/// Whether the words ask for a text: `--help`, `--version`, or `COMMAND --help`.
+fn ask_for_text(words: &[Bytes]) -> bool {
     match words {
-        [word] if word.as_slice() == b"--help".as_slice() => Some(HELP),
-        [word] if word.as_slice() == b"--version".as_slice() => Some(VERSION),
-        _ => None,
+        [word] => is(word, b"--help") || is(word, b"--version"),
+        [name, word] => name_of(name.as_slice()).is_some() && is(word, b"--help"),
+        _ => false,
+    }
+}
+
+// The text that `clap` answers to such words.
+fn text_of(alloc: Global, words: &[Bytes]) -> Result<String, NoMemory> {
+    let mut line = Vec::new(alloc);
+    line.push("jkd")?;
+    for word in words {
+        line.push(str::from_utf8(word.as_slice()).unwrap_or(""))?;
+    }
+    let Err(shown) = command(alloc)?.try_get_matches_from(line.as_slice()) else {
+        return Ok(String::new(alloc));
+    };
+    match shown.kind() {
+        ErrorKind::OutOfMemory => Err(NoMemory),
+        ErrorKind::DisplayHelp => Ok(format!(in alloc; "{shown}{BUILT}")?),
+        _ => Ok(format!(in alloc; "{shown}")?),
+    }
+}
+
+/// The text that the words ask for, where they ask for one.
+pub(crate) fn asked_text(alloc: Global, words: &[Bytes]) -> Result<Option<String>, NoMemory> {
+    if ask_for_text(words) {
+        Ok(Some(text_of(alloc, words)?))
+    } else {
+        Ok(None)
     }
 }

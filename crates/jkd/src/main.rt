@@ -1,22 +1,28 @@
-//! jkd: a connector that balances requests over servlet containers. So far it plays scripts of a balancer.
+//! jkd: a connector that balances requests over servlet containers. So far it plays scripts of a balancer, and shows how
+//! a site's two files are understood.
 //!
-//! Source: own rules for the commands and their statuses; what `play` prints is in play_script's specs/Play.antt.
-//! Contract: `run_plain`, a clause for each status. Read first: specs/Plain.antt.
+//! Source: own rules for the commands and their statuses; what `play` prints is in play_script's specs/Play.antt, what
+//! `config` and `match` print in site_reports' specs/Reports.antt.
+//! Contract: `run_plain`, a clause for each status. Read first: specs/Plain.antt, then specs/Readings.antt.
 //! Errors: the statuses 2 to 6, each with its cause.
 #![tactic(auto)]
 
 mod answers;
+mod commands;
 #[cfg(test)]
 mod long;
 mod plain;
 mod play;
 #[cfg(test)]
+mod site_tests;
+#[cfg(test)]
 mod tests;
+mod texts;
 mod turn;
 mod words;
 
 use answers::{USAGE, asked_text};
-use jk_io::{Bytes, IoError, RealFiles, Sink, StdIn, StdOut, write_all};
+use jk_io::{Bytes, IoError, NoMemory, RealFiles, Sink, StdIn, StdOut, write_all};
 use plain::run_plain;
 use std::alloc::Global;
 use std::process::ExitCode;
@@ -41,8 +47,10 @@ fn print_text<O: Sink>(out: &mut O, text: &[u8]) -> u8 {
 
 fn do_command<R: Files + Print + Input + AllocGlobal>(rt: &R, words: &[Bytes]) -> u8 {
     let mut out = StdOut::new(rt);
-    if let Some(text) = asked_text(words) {
-        return print_text(&mut out, text);
+    match asked_text(rt.alloc(), words) {
+        Ok(None) => {}
+        Ok(Some(text)) => return print_text(&mut out, text.as_bytes()),
+        Err(NoMemory) => return NO_MEMORY,
     }
     let mut files = RealFiles::new(rt);
     let mut input = StdIn::new(rt.reader());

@@ -1,12 +1,15 @@
 //! The plain commands: those that wait for nobody but their files, input and output.
-ghost use Rattle.std.specs.Prelude.{◌≡◌, ◌↔◌, ◌⊎◌, false, codes, IfOk};
-ghost use Rattle.jk_io.specs.Told.{HasCause, Rose};
-ghost use Rattle.jkd.specs.Endings.{status_of, number_of, EndsSo, Writes};
-ghost use Rattle.jkd.specs.Plain.{is_plain, Prints, PrintsFront, ReadsPlain};
-ghost use Rattle.jkd.specs.declared.play.Ending.TheVariants as Ends;
+ghost use Rattle.std.specs.Prelude.{◌≡◌, ◌↔◌, ◌⊎◌, ℕ, List, Some, true, false};
+ghost use Rattle.jk_cli.specs.Names.{command_in};
+ghost use Rattle.jk_cli.specs.Orders.{order_of};
+ghost use Rattle.jk_io.specs.Told.{Rose};
+ghost use Rattle.jkd.specs.Endings.{number_of, AnswersSo, EndsSo, Writes};
+ghost use Rattle.jkd.specs.Plain.{is_built, is_plain, Prints, PrintsFront};
 
-use crate::play::{Ending, Output, play};
-use jk_io::{Bytes, FileError, Files, IoError, NoMemory, Sink, Source, read_whole, write_all};
+use crate::commands::answer;
+use crate::play::{Ending, Output};
+use jk_cli::{CommandName, Order, command_of, read_words};
+use jk_io::{Bytes, Files, IoError, Sink, Source, write_all};
 use std::alloc::Global;
 
 /// How a plain command ends.
@@ -36,38 +39,23 @@ impl PlainEnd {
     }
 }
 
-/// Whether the words are a plain command.
-fn is_plain(words: &[Bytes]) -> bool
-    ensures { result ≡ is_plain words.now }
+// Whether a command is a plain one that is built.
+fn is_built(command: CommandName) -> bool
+    ensures { result ≡ is_built command }
 {
-    match words {
-        [word] => word.as_slice() == b"play".as_slice(),
+    match command {
+        CommandName::Play | CommandName::Config | CommandName::Match => true,
         _ => false,
     }
 }
 
-// The answer to an input beyond the limit.
-fn too_long(alloc: Global) -> Result<Output, NoMemory>
-    ensures text { IfOk result (λ o. o.text ≡ codes "too long\n") }
-    ensures ending { IfOk result (λ o. o.ending ≡ Ends.Refused) }
+/// Whether the words are a plain command that is built.
+fn is_plain(words: &[Bytes]) -> bool
+    ensures { result ≡ is_plain words.now }
 {
-    let text = Bytes::from_slice(alloc, b"too long\n")?;
-    Ok(Output {
-        text,
-        ending: Ending::Refused,
-    })
-}
-
-// What `play` prints of all that a source gives.
-fn play_input<S: Source>(alloc: Global, input: &mut S) -> Result<Output, IoError>
-    ensures ok { IfOk result (λ o. ReadsPlain (S.incoming input.old) o.text (status_of o.ending)) }
-    ensures cause { HasCause (S.faults input.old) (S.faults input.new) result }
-{
-    match read_whole(alloc, input) {
-        Ok(script) => Ok(play(alloc, script.as_slice())?),
-        Err(FileError::TooLong) => Ok(too_long(alloc)?),
-        Err(FileError::Failed) => Err(IoError::Failed),
-        Err(FileError::NoMemory) => Err(IoError::NoMemory),
+    match command_of(words) {
+        None => false,
+        Some(command) => is_built(command),
     }
 }
 
@@ -85,22 +73,44 @@ fn finish<O: Sink>(out: &mut O, output: &Output) -> PlainEnd
     }
 }
 
-fn end_of<S: Source, O: Sink>(
+// Does a command that is built.
+fn answer_end<F: Files, S: Source, O: Sink>(
     alloc: Global,
-    words: &[Bytes],
+    order: &Order,
+    files: &mut F,
     input: &mut S,
     out: &mut O,
 ) -> PlainEnd
-    ensures { EndsSo words.now (S.incoming input.old) (S.faults input.old) (S.faults input.new)
-        (O.sent out.old) (O.sent out.new) (O.faults out.old) (O.faults out.new) result }
+    requires built { is_built (command_in order.now) ≡ true }
+    ensures { (words : List (List ℕ)) → order_of words ≡ Some order.now
+        → AnswersSo words (record { files = F.files files.old; incoming = S.incoming input.old }) (O.sent out.old) (O.sent out.new)
+        (record { files = F.faults files.old; input = S.faults input.old; output = O.faults out.old })
+        (record { files = F.faults files.new; input = S.faults input.new; output = O.faults out.new }) result }
+{
+    match answer(alloc, order, files, input) {
+        Ok(output) => finish(out, &output),
+        Err(IoError::Failed) => PlainEnd::InputFault,
+        Err(IoError::NoMemory) => PlainEnd::NoMemory,
+    }
+}
+
+fn end_of<F: Files, S: Source, O: Sink>(
+    alloc: Global,
+    words: &[Bytes],
+    files: &mut F,
+    input: &mut S,
+    out: &mut O,
+) -> PlainEnd
+    ensures { EndsSo words.now (record { files = F.files files.old; incoming = S.incoming input.old }) (O.sent out.old) (O.sent out.new)
+        (record { files = F.faults files.old; input = S.faults input.old; output = O.faults out.old })
+        (record { files = F.faults files.new; input = S.faults input.new; output = O.faults out.new }) result }
 {
     if !is_plain(words) {
         return PlainEnd::NoCommand;
     }
-    match play_input(alloc, input) {
-        Ok(output) => finish(out, &output),
-        Err(IoError::Failed) => PlainEnd::InputFault,
-        Err(IoError::NoMemory) => PlainEnd::NoMemory,
+    match read_words(alloc, words) {
+        Ok(order) => answer_end(alloc, &order, files, input, out),
+        Err(_) => PlainEnd::NoMemory,
     }
 }
 
@@ -108,30 +118,34 @@ fn end_of<S: Source, O: Sink>(
 pub fn run_plain<F: Files, S: Source, O: Sink>(
     alloc: Global,
     words: &[Bytes],
-    _files: &mut F,
+    files: &mut F,
     input: &mut S,
     out: &mut O,
 ) -> u8
     ensures statuses { (result ≡ 0) ⊎ (result ≡ 2) ⊎ (result ≡ 3) ⊎ (result ≡ 4) ⊎ (result ≡ 5) ⊎ (result ≡ 6) }
 
-    // Done, or an input that is refused: just what the command prints was written.
-    ensures done { result ≡ 0 → Prints (S.incoming input.old) (O.sent out.old) (O.sent out.new) 0 }
-    ensures refused { result ≡ 3 → Prints (S.incoming input.old) (O.sent out.old) (O.sent out.new) 3 }
+    // Done, or a file or an input that is refused: just what the command prints was written.
+    ensures done { result ≡ 0 → Prints words.now (record { files = F.files files.old; incoming = S.incoming input.old })
+        (O.sent out.old) (O.sent out.new) 0 }
+    ensures refused { result ≡ 3 → Prints words.now (record { files = F.files files.old; incoming = S.incoming input.old })
+        (O.sent out.old) (O.sent out.new) 3 }
 
-    // No plain command, exactly by the words.
+    // No plain command that is built (`play`, `config` and `match`), exactly by the words.
     ensures no_command { (result ≡ 2) ↔ (is_plain words.now ≡ false) }
     ensures no_words { result ≡ 2 → O.sent out.new ≡ O.sent out.old }
 
-    // Only where the input's faults rose.
-    ensures input_fault { result ≡ 4 → Rose (S.faults input.old) (S.faults input.new) }
+    // Only where the faults of the files or of the input rose.
+    ensures input_fault { result ≡ 4 → Rose (F.faults files.old) (F.faults files.new) ⊎ Rose (S.faults input.old) (S.faults input.new) }
     ensures nothing { result ≡ 4 → O.sent out.new ≡ O.sent out.old }
 
     // Only where the output's faults rose.
     ensures output_fault { result ≡ 5 → Rose (O.faults out.old) (O.faults out.new) }
-    ensures part { result ≡ 5 → PrintsFront (S.incoming input.old) (O.sent out.old) (O.sent out.new) }
+    ensures part { result ≡ 5 → PrintsFront words.now (record { files = F.files files.old; incoming = S.incoming input.old })
+        (O.sent out.old) (O.sent out.new) }
 
     // Want of memory, before anything was written or in a write.
-    ensures wanting { result ≡ 6 → (O.sent out.new ≡ O.sent out.old) ⊎ PrintsFront (S.incoming input.old) (O.sent out.old) (O.sent out.new) }
+    ensures wanting { result ≡ 6 → (O.sent out.new ≡ O.sent out.old)
+        ⊎ PrintsFront words.now (record { files = F.files files.old; incoming = S.incoming input.old }) (O.sent out.old) (O.sent out.new) }
 {
-    end_of(alloc, words, input, out).status()
+    end_of(alloc, words, files, input, out).status()
 }

@@ -7,15 +7,15 @@ use std::alloc::Global;
 use std::process::Abort;
 use std::test::Fail;
 
-fn no_numbers(alloc: Global) -> NumberList {
+pub(crate) fn no_numbers(alloc: Global) -> NumberList {
     NumberList::new(alloc)
 }
 
-fn numbers(alloc: Global, list: &[u64]) -> Result<NumberList, Fail> {
+pub(crate) fn numbers(alloc: Global, list: &[u64]) -> Result<NumberList, Fail> {
     Ok(ListOf::from_vec(Vec::from_slice(alloc, list)?))
 }
 
-fn words(alloc: Global, list: &[&str]) -> Result<Vec<Bytes>, Fail> {
+pub(crate) fn words(alloc: Global, list: &[&str]) -> Result<Vec<Bytes>, Fail> {
     let mut words = Vec::new(alloc);
     for word in list {
         words.push(Bytes::from_slice(alloc, word.as_bytes())?)?;
@@ -30,7 +30,7 @@ fn done(alloc: Global, list: &[&str], input: &mut MemLink, out: &mut MemLink) ->
     Ok(run_plain(alloc, words.as_slice(), &mut files, input, out))
 }
 
-fn link(alloc: Global, bytes: &[u8]) -> Result<MemLink, Fail> {
+pub(crate) fn link(alloc: Global, bytes: &[u8]) -> Result<MemLink, Fail> {
     Ok(MemLink::new(alloc, Bytes::from_slice(alloc, bytes)?, no_numbers(alloc)))
 }
 
@@ -447,13 +447,39 @@ fn words_that_are_no_command_have_status_2(rt: HostRuntime) -> Result<(), Fail> 
     no_command(&rt, alloc, &["--help"])
 }
 
+// The text that the words ask for.
+fn asked(alloc: Global, list: &[&str]) -> Result<Option<String>, Fail> {
+    Ok(asked_text(alloc, words(alloc, list)?.as_slice())?)
+}
+
+const PLAY_HELP: &str = "\
+Play a script of a balancer, read from the input
+
+Usage: jkd play < SCRIPT
+
+Options:
+      --help  Print this text
+
+Example: jkd play < script.txt
+
+This jkd does `play`, `config` and `match`; the other commands end with status 2.
+";
+
 #[test]
 fn help_and_version_are_asked_for_alone(rt: HostRuntime) -> Result<(), Fail> {
     let alloc = rt.alloc();
-    let version = asked_text(&words(alloc, &["--version"])?).ok_or("no version")?;
-    assert_eq!(rt; version, b"jkd 0.1.0\n".as_slice());
-    assert!(rt; asked_text(&words(alloc, &["--help"])?).is_some());
-    assert!(rt; asked_text(&words(alloc, &["play"])?).is_none());
-    assert!(rt; asked_text(&words(alloc, &["--help", "play"])?).is_none());
+    let version = asked(alloc, &["--version"])?.ok_or("no version")?;
+    assert_eq!(&rt; version.as_str(), "jkd 0.1.0\n");
+    let help = asked(alloc, &["--help"])?.ok_or("no help")?;
+    assert!(&rt;
+        help.as_str()
+            .contains("\n  jkd match WORKERS MAP < PATHS\n"),
+        "{help}"
+    );
+    let play = asked(alloc, &["play", "--help"])?.ok_or("no help of play")?;
+    assert_eq!(&rt; play.as_str(), PLAY_HELP);
+    assert!(&rt; asked(alloc, &["play"])?.is_none());
+    assert!(&rt; asked(alloc, &["plays", "--help"])?.is_none());
+    assert!(&rt; asked(alloc, &["--help", "play"])?.is_none());
     Ok(())
 }

@@ -1,0 +1,42 @@
+//! Reading the texts of a command, each whole.
+ghost use Rattle.std.specs.Prelude.{◌≡◌, ◌<◌, ◌≤◌, Some, length, IfOk, IfSome, IfNone, IsSomeAnd};
+ghost use Rattle.jk_io.specs.Stored.{content_of};
+ghost use Rattle.jk_io.specs.Told.{HasCause};
+
+use jk_io::{Bytes, FileError, Files, IoError, Source, read_whole};
+use std::alloc::Global;
+
+/// A file's text; none where it has more than 67,108,864 bytes.
+pub(crate) fn read_text<F: Files>(
+    alloc: Global,
+    files: &mut F,
+    name: &Bytes,
+) -> Result<Option<Bytes>, IoError>
+    ensures there { IfOk result (λ read. IfSome read (λ text. IfSome (F.files files.old) (λ all. content_of all name.now ≡ Some text))) }
+    ensures short { IfOk result (λ read. IfSome read (λ text. length text ≤ 67108864)) }
+    ensures long { IfOk result (λ read. IfNone read (IfSome (F.files files.old) (λ all. IsSomeAnd (content_of all name.now) (λ text. 67108864 < length text)))) }
+    ensures cause { HasCause (F.faults files.old) (F.faults files.new) result }
+    ensures same { F.files files.new ≡ F.files files.old }
+{
+    match files.read_file(alloc, name) {
+        Ok(text) => Ok(Some(text)),
+        Err(FileError::TooLong) => Ok(None),
+        Err(FileError::Failed) => Err(IoError::Failed),
+        Err(FileError::NoMemory) => Err(IoError::NoMemory),
+    }
+}
+
+/// All of an input; none where it has more than 67,108,864 bytes.
+pub(crate) fn read_input<S: Source>(alloc: Global, input: &mut S) -> Result<Option<Bytes>, IoError>
+    ensures there { IfOk result (λ read. IfSome read (λ text. IfSome (S.incoming input.old) (λ all. text ≡ all))) }
+    ensures short { IfOk result (λ read. IfSome read (λ text. length text ≤ 67108864)) }
+    ensures long { IfOk result (λ read. IfNone read (IfSome (S.incoming input.old) (λ all. 67108864 < length all))) }
+    ensures cause { HasCause (S.faults input.old) (S.faults input.new) result }
+{
+    match read_whole(alloc, input) {
+        Ok(text) => Ok(Some(text)),
+        Err(FileError::TooLong) => Ok(None),
+        Err(FileError::Failed) => Err(IoError::Failed),
+        Err(FileError::NoMemory) => Err(IoError::NoMemory),
+    }
+}

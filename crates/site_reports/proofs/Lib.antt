@@ -1,0 +1,2 @@
+pub mod PathLineLemmas
+pub mod ReportLemmas

@@ -1,0 +1,20 @@
+use Rattle.std.proofs.Common.{◌≡◌, ◌==◌, ◌<◌, ℕ, length, arith, sym, Some}
+use Rattle.std.proofs.lemmas.List.{take_rest, drop_all}
+use Rattle.property_lines.specs.Cut.{cut_at}
+use Rattle.property_lines.proofs.CutLemmas.{cut_shorter}
+use Rattle.site_reports.proofs.PathLineLemmas.{lines_cut, lines_one}
+use Rattle.site_reports.proofs.path_lines.first_line.Goals as goal
+
+pub returns-in-Some-clause-some : goal.returns-in-Some-clause-some
+returns-in-Some-clause-some c =
+    lines_cut c.args.text.now c.in-Some.line.now c.in-Some.rest.now (sym c.in-Some.ensures)
+
+pub returns-in-Some-clause-shorter : goal.returns-in-Some-clause-shorter
+returns-in-Some-clause-shorter c =
+    cut_shorter (λ (b : ℕ). b == 10) c.args.text.now c.in-Some.line.now c.in-Some.rest.now (sym c.in-Some.ensures)
+
+pub returns-in-None-clause-some : goal.returns-in-None-clause-some
+returns-in-None-clause-some c =
+    let text = c.args.text.now in
+    let some : 0 < length text = grind arith in
+    rw (take_rest text (length text), drop_all (length text) text (omega arith)) (lines_one text some (sym c.in-None.ensures))

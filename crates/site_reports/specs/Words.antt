@@ -1,0 +1,20 @@
+-- How single values are printed.
+use Rattle.std.specs.Prelude.{ℕ, Bool, List, [], ◌∷◌, ◌++◌, Option, Some, None, codes, decimal, slice_index_or, if◌then◌else◌}
+use Rattle.jk_model.specs.declared.member.Activation.{Activation}
+use Rattle.jk_model.specs.declared.member.Activation.TheVariants as activation
+use Rattle.jk_model.specs.declared.member.Method.{Method}
+use Rattle.jk_model.specs.declared.member.Method.TheVariants as method
+
+abbrev pub method_letter : Method → List ℕ
+method_letter method.Request = codes "R"
+method_letter method.Session = codes "S"
+method_letter method.Traffic = codes "T"
+method_letter method.Busyness = codes "B"
+
+abbrev pub activation_words : Activation → List ℕ
+activation_words activation.Active = codes " activation A"
+activation_words activation.Disabled = codes " activation D"
+activation_words activation.Stopped = codes " activation S"
+
+abbrev pub truth_digit : Bool → List ℕ
+truth_digit b = if b then codes "1" else codes "0"

@@ -1,0 +1,18 @@
+//! What a site's files are understood as, in lines of text.
+//!
+//! Source: own rules for the lines (docs/FORMATS.md, "config" and "match").
+//! Contract: `put_config`, which adds `config_text`, and `put_matches`, which adds `match_text`. Read first:
+//! specs/ConfigText.antt, specs/Matches.antt.
+//! Errors: want of memory alone.
+#![tactic(auto)]
+
+mod config_text;
+mod match_text;
+mod member_line;
+mod path_lines;
+mod report;
+mod words;
+
+pub use config_text::put_config;
+pub use match_text::put_matches;
+pub use report::{Report, report_config, report_matches, report_site};
