@@ -12,7 +12,7 @@ use uri_map::{MapError, UriMap, read_map};
 
 const LB: Option<Named> = Some(Named::Balancer(0));
 
-const W1: Option<Named> = Some(Named::Balancer(1));
+const LISTED: Option<Named> = Some(Named::Balancer(1));
 
 const STATUS: Option<Named> = Some(Named::Status(0));
 
@@ -136,10 +136,10 @@ fn a_path_goes_to_the_worker_of_its_best_rule(rt: HostRuntime) -> Result<(), Fai
         (b"/a/b=lb\n/a/?=w1", b"/a/b", LB),
         (b"/a/b*=lb\n/a/*=w1", b"/a/b", LB),
         (b"/a/*=w1\n/a/b*=lb", b"/a/b", LB),
-        (b"/a/*=lb\n/a/*=w1", b"/a/b", W1),
+        (b"/a/*=lb\n/a/*=w1", b"/a/b", LISTED),
         (b"/a/*=w1\n/a/*=jkstatus", b"/a/b", STATUS),
         // an exclusion is of the best rule's worker alone
-        (b"/a/*=lb\n/a/b/*=w1\n!/a/b/*=lb", b"/a/b/c", W1),
+        (b"/a/*=lb\n/a/b/*=w1\n!/a/b/*=lb", b"/a/b/c", LISTED),
         (b"/a/*=lb\n/a/b/*=w1\n!/a/b/*=w1", b"/a/b/c", None),
         (b"!/a/b=lb;x\n/a/*=lb", b"/a/b", None),
         // rules that are turned off
