@@ -175,6 +175,7 @@ static ROWS: [Row; 12] = [
         words: MATCH,
         workers: WORKERS,
         map: MAP,
+        printed: "",
         ..EMPTY
     },
     Row {
