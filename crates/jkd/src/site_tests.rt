@@ -1,9 +1,8 @@
 //! What no clause says: that `config` and `match` succeed, and worked files of a site.
 use crate::plain::run_plain;
-use crate::tests::{link, no_numbers, numbers, words};
-use jk_io::{Bytes, FileList, ListOf, MemFiles};
+use crate::tests::{link, numbers, words};
+use jk_io::{Bytes, FileList, MemFiles};
 use std::alloc::Global;
-use std::process::Abort;
 use std::test::Fail;
 
 /// A command over the files `w` and `m` and an input, what it prints, and its status.
@@ -247,5 +246,17 @@ fn a_file_that_cannot_be_read_ends_with_status_4(rt: HostRuntime) -> Result<(), 
         assert_eq!(&rt; status, 4, "{list:?} {failing}");
         assert_eq!(&rt; printed.as_slice(), b"".as_slice());
     }
+    Ok(())
+}
+
+#[test]
+fn a_file_beyond_the_limit_is_too_long(rt: HostRuntime) -> Result<(), Fail> {
+    let alloc = rt.alloc();
+    let text = Bytes::from_vec(vec![in alloc; b'#'; 67_108_865]?);
+    let mut files = FileList::new(alloc);
+    files.push((Bytes::from_slice(alloc, b"w")?, text))?;
+    let (status, printed) = ended(alloc, CONFIG, files, &[], b"")?;
+    assert_eq!(&rt; status, 3);
+    assert_eq!(&rt; printed.as_slice(), b"too long\n".as_slice());
     Ok(())
 }

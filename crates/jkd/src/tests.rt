@@ -7,7 +7,7 @@ use std::alloc::Global;
 use std::process::Abort;
 use std::test::Fail;
 
-pub(crate) fn no_numbers(alloc: Global) -> NumberList {
+fn no_numbers(alloc: Global) -> NumberList {
     NumberList::new(alloc)
 }
 
