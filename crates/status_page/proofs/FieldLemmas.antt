@@ -1,5 +1,5 @@
 -- The parts of a query, one after the other.
-use Rattle.std.proofs.Common.{ℕ, ◌+◌, ◌≡◌, Bool, true, false, not, List, [], ◌∷◌, ◌++◌, length, take, drop, Option, None, Some, inl, inr, refl, sym, ap, ◌∙◌, ◌==◌, arith, nat_lt, append_assoc, append-nil}
+use Rattle.std.proofs.Common.{ℕ, ◌+◌, ◌<◌, ◌≡◌, Bool, true, false, not, List, [], ◌∷◌, ◌++◌, length, take, drop, Option, None, Some, inl, inr, refl, sym, ap, ◌∙◌, ◌==◌, arith, nat_lt, append_assoc, append-nil}
 use Rattle.std.specs.List.{slice_split, position, position_or_len}
 use Rattle.std.specs.Option.{option_map}
 use Rattle.std.proofs.lemmas.Bool.{cases_lt, lt-ltb, not-true, cond-true}
@@ -48,10 +48,13 @@ parts_cut text part others found = first (position (λ b. b == 38) text) refl fo
         rw (same.0, same.1) (split_cut (λ b. b == 38) text at is)
 
 -- a part that isn't empty has a field, or can't be read
-fields_in-cons : (b : ℕ) (bs : List ℕ) (parts : List (List ℕ)) → fields_in ((b ∷ bs) ∷ parts) ≡ in_front (field_of (b ∷ bs)) (fields_in parts)
-fields_in-cons b bs parts =
-    let there : nat_lt 0 (length (b ∷ bs)) ≡ true = lt-ltb 0 (length (b ∷ bs)) (omega arith) in
+pub fields_in-part : (part : List ℕ) (parts : List (List ℕ)) → 0 < length part → fields_in (part ∷ parts) ≡ in_front (field_of part) (fields_in parts)
+fields_in-part part parts some =
+    let there : nat_lt 0 (length part) ≡ true = lt-ltb 0 (length part) some in
     rw there refl
+
+fields_in-cons : (b : ℕ) (bs : List ℕ) (parts : List (List ℕ)) → fields_in ((b ∷ bs) ∷ parts) ≡ in_front (field_of (b ∷ bs)) (fields_in parts)
+fields_in-cons b bs parts = fields_in-part (b ∷ bs) parts (omega arith)
 
 -- a part that can't be read leaves none readable
 pub fields_in_none : (part : List ℕ) (parts : List (List ℕ)) → fields_in (part ∷ []) ≡ None → fields_in (part ∷ parts) ≡ None

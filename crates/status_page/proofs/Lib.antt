@@ -1,1 +1,3 @@
+mod CommandLaws
 mod FieldLemmas
+mod WrittenLaws

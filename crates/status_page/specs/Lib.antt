@@ -5,3 +5,6 @@ pub mod Values
 pub mod Meaning
 pub mod Words
 pub mod Page
+pub mod Targets
+pub mod Written
+pub mod Commands
