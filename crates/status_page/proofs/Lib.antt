@@ -1,3 +1,6 @@
+mod AskingLaws
 mod CommandLaws
 mod FieldLemmas
+mod PageLaws
+mod PartLaws
 mod WrittenLaws

@@ -8,3 +8,5 @@ pub mod Page
 pub mod Targets
 pub mod Written
 pub mod Commands
+pub mod Lines
+pub mod Asking
