@@ -14,7 +14,7 @@ use Rattle.status_page.specs.Values.{activation_of, short_number, given, has_cha
 
 -- the values of the fields of that name, in order
 abbrev pub values_of : List Field → Name → List (List ℕ)
-values_of fields name = map (λ field. field.value) (filter (has_name name) fields)
+values_of fields n = map (λ field. field.value) (filter (has_name n) fields)
 
 -- each known name has just this value, or none
 pub record AreGiven (fields : List Field) (t : Texts) : Type 0 where

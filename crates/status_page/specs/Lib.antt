@@ -10,3 +10,5 @@ pub mod Written
 pub mod Commands
 pub mod Lines
 pub mod Asking
+pub mod BookCommands
+pub mod Effects

@@ -9,6 +9,7 @@ use Rattle.status_page.specs.declared.name.Name.TheVariants as name
 use Rattle.status_page.specs.declared.texts.ChangeTexts.{ChangeTexts}
 use Rattle.status_page.specs.declared.texts.Texts.{Texts}
 
+-- a name as it stands in a query
 abbrev pub text_of : Name → List ℕ
 text_of name.Command = codes "cmd"
 text_of name.Worker = codes "w"
@@ -18,15 +19,16 @@ text_of name.Factor = codes "vwf"
 text_of name.Distance = codes "vwd"
 text_of name.Redirect = codes "vwr"
 
+-- the known names
 abbrev pub names : List Name
 names = name.Command ∷ name.Worker ∷ name.Member ∷ name.Activation ∷ name.Factor ∷ name.Distance ∷ name.Redirect ∷ []
 
 abbrev pub has_name : Name → Field → Bool
-has_name name field = bytes_eq field.name (text_of name)
+has_name n field = bytes_eq field.name (text_of n)
 
 -- at most one field has the name
 abbrev pub is_lone : List Field → Name → Bool
-is_lone fields name = nat_le (count_by (has_name name) fields) 1
+is_lone fields n = nat_le (count_by (has_name n) fields) 1
 
 -- no known name stands twice
 abbrev pub are_lone : List Field → Bool
@@ -34,7 +36,7 @@ are_lone fields = list_all (is_lone fields) names
 
 -- the value of the first field of that name
 abbrev pub value_of : List Field → Name → Option (List ℕ)
-value_of fields name = option_map (λ field. field.value) (find (has_name name) fields)
+value_of fields n = option_map (λ field. field.value) (find (has_name n) fields)
 
 -- the values that an update changes
 abbrev pub change_texts_of : List Field → ChangeTexts

@@ -43,3 +43,33 @@ pub enum StatusCommand {
         sw: Bytes,
     },
 }
+
+impl StatusCommand {
+    ghost use Rattle.std.specs.Prelude.{◌≡◌};
+    ghost use Rattle.std.specs.Option.{option_copied};
+    ghost use Rattle.status_page.specs.Effects.{is_change, worker_of};
+
+    /// Whether it changes a balancer: such a command is refused with 403 where the status worker is read_only.
+    pub fn is_change(&self) -> bool
+        ensures { result ≡ is_change self.now }
+    {
+        match self {
+            StatusCommand::List { .. } => false,
+            StatusCommand::Update { .. }
+            | StatusCommand::Reset { .. }
+            | StatusCommand::Recover { .. } => true,
+        }
+    }
+
+    /// The name of the balancer that it is about, whose page is the answer; none where that is the page of all.
+    pub fn worker(&self) -> Option<&Bytes>
+        ensures { option_copied result ≡ worker_of self.now }
+    {
+        match self {
+            StatusCommand::List { w } => w.as_ref(),
+            StatusCommand::Update { w, .. }
+            | StatusCommand::Reset { w, .. }
+            | StatusCommand::Recover { w, .. } => Some(w),
+        }
+    }
+}

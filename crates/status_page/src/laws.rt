@@ -1,5 +1,6 @@
 //! What the definitions mean, as functions without a body whose contracts are laws.
 ghost use Rattle.std.specs.Prelude.{◌≡◌, ℕ, ◌+◌, ◌<◌, false, List, [], ◌∷◌, ◌++◌, length, None, Some, All, codes, count_by, sum_by};
+ghost use Rattle.std.specs.List.{join_with_byte};
 ghost use Rattle.percent_encoding.specs.declared.ascii_set.AsciiSet.{AsciiSet};
 ghost use Rattle.status_page.specs.declared.command.StatusCommand.{StatusCommand};
 ghost use Rattle.status_page.specs.declared.field.Field.{Field};
@@ -15,9 +16,11 @@ ghost use Rattle.status_page.specs.Names.{has_name, texts_of};
 ghost use Rattle.status_page.specs.Page.{page_of};
 ghost use Rattle.status_page.specs.Written.{written, EscapesMarks, HasBytes};
 
-/// A query that is written for fields has these fields, whichever bytes beside `%`, `&` and `=` are escaped.
+/// A query that is written for fields has these fields, whichever bytes beside `%`, `&` and `=` are escaped; and a query
+/// is its parts with `&` between them.
 pub fn written_fields_are_read()
-    ensures { (set : AsciiSet) (fields : List Field) → EscapesMarks set → All HasBytes fields → fields_of (written set fields) ≡ Some fields }
+    ensures read { (set : AsciiSet) (fields : List Field) → EscapesMarks set → All HasBytes fields → fields_of (written set fields) ≡ Some fields }
+    ensures joined { (query : List ℕ) → join_with_byte 38 (parts_of query) ≡ query }
 {}
 
 /// Each command that a query can ask for is asked for by its fields: so a query that is written for them means it.

@@ -10,6 +10,7 @@
 #![tactic(auto)]
 
 mod balancer_lines;
+mod book_commands;
 mod command;
 mod error;
 mod escapes;
@@ -26,6 +27,7 @@ mod values;
 mod verb;
 mod words;
 
+pub use book_commands::{CommandList, commands_for};
 pub use command::{NamedChange, NamedRedirect, StatusCommand};
 pub use error::StatusError;
 pub use meaning::read_command;
