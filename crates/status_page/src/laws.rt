@@ -16,10 +16,13 @@ ghost use Rattle.status_page.specs.Names.{has_name, texts_of};
 ghost use Rattle.status_page.specs.Page.{page_of};
 ghost use Rattle.status_page.specs.Written.{written, EscapesMarks, HasBytes};
 
+use percent_encoding::NON_ALPHANUMERIC;
+
 /// A query that is written for fields has these fields, whichever bytes beside `%`, `&` and `=` are escaped; and a query
 /// is its parts with `&` between them.
 pub fn written_fields_are_read()
     ensures read { (set : AsciiSet) (fields : List Field) → EscapesMarks set → All HasBytes fields → fields_of (written set fields) ≡ Some fields }
+    ensures met { EscapesMarks NON_ALPHANUMERIC }
     ensures joined { (query : List ℕ) → join_with_byte 38 (parts_of query) ≡ query }
 {}
 
