@@ -54,11 +54,11 @@ count_is_length name fields =
     sym (length-filter (has_name name) fields) ∙ sym (length-map (filter (has_name name) fields) (λ field. field.value))
 
 given_value : (name : Name) (fields : List Field) (o : Option (List ℕ)) → values_of fields name ≡ option_to_list o → value_of fields name ≡ o
-given_value name fields o given = value_is_first name fields ∙ ap first_of given ∙ first_of-option o
+given_value name fields o is = value_is_first name fields ∙ ap first_of is ∙ first_of-option o
 
 given_lone : (name : Name) (fields : List Field) (o : Option (List ℕ)) → values_of fields name ≡ option_to_list o → is_lone fields name ≡ true
-given_lone name fields o given =
-    le-leb (count_by (has_name name) fields) 1 (omega (arith, count_is_length name fields, ap length given, few-option o))
+given_lone name fields o is =
+    le-leb (count_by (has_name name) fields) 1 (omega (arith, count_is_length name fields, ap length is, few-option o))
 
 lone_given : (name : Name) (fields : List Field) → is_lone fields name ≡ true → values_of fields name ≡ option_to_list (value_of fields name)
 lone_given name fields lone =
@@ -80,15 +80,15 @@ texts_given fields t one =
     rw (command, worker, member, activation, factor, distance, redirect) refl
 
 all_lone : (fields : List Field) (t : Texts) → AreGiven fields t → are_lone fields ≡ true
-all_lone fields t given =
+all_lone fields t one =
     rw (
-      given_lone name.Command fields t.command given.command,
-      given_lone name.Worker fields t.worker given.worker,
-      given_lone name.Member fields t.member given.member,
-      given_lone name.Activation fields t.change.activation given.activation,
-      given_lone name.Factor fields t.change.factor given.factor,
-      given_lone name.Distance fields t.change.distance given.distance,
-      given_lone name.Redirect fields t.change.redirect given.redirect,
+      given_lone name.Command fields t.command one.command,
+      given_lone name.Worker fields t.worker one.worker,
+      given_lone name.Member fields t.member one.member,
+      given_lone name.Activation fields t.change.activation one.activation,
+      given_lone name.Factor fields t.change.factor one.factor,
+      given_lone name.Distance fields t.change.distance one.distance,
+      given_lone name.Redirect fields t.change.redirect one.redirect,
     )
     refl
 
@@ -143,9 +143,9 @@ asked_read t c (recover {w} {sw} is worker member) =
     ∙ ap (option_map (command.Recover w)) member
 
 pub command_read : (fields : List Field) (t : Texts) (c : StatusCommand) → AreGiven fields t → Asks t c → command_in fields ≡ Some c
-command_read fields t c given asks =
-    cond-true (are_lone fields) (command_of (texts_of fields)) None (all_lone fields t given)
-    ∙ ap command_of (texts_given fields t given) ∙ asked_read t c asks
+command_read fields t c one asks =
+    cond-true (are_lone fields) (command_of (texts_of fields)) None (all_lone fields t one)
+    ∙ ap command_of (texts_given fields t one) ∙ asked_read t c asks
 
 -- ---- nothing else is
 
@@ -239,7 +239,7 @@ read_command_asked fields c means =
     both false h = cc
 
 pub one_command : (fields : List Field) (t u : Texts) (c d : StatusCommand) → AreGiven fields t → Asks t c → AreGiven fields u → Asks u d → c ≡ d
-one_command fields t u c d given asks too also =
-    let first = command_read fields t c given asks in
-    let second = command_read fields u d too also in
+one_command fields t u c d one asks two also =
+    let first = command_read fields t c one asks in
+    let second = command_read fields u d two also in
     cc (first, second)

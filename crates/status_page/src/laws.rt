@@ -21,7 +21,8 @@ use percent_encoding::NON_ALPHANUMERIC;
 /// A query that is written for fields has these fields, whichever bytes beside `%`, `&` and `=` are escaped; and a query
 /// is its parts with `&` between them.
 pub fn written_fields_are_read()
-    ensures read { (set : AsciiSet) (fields : List Field) → EscapesMarks set → All HasBytes fields → fields_of (written set fields) ≡ Some fields }
+    ensures read { (set : AsciiSet) (fields : List Field) → EscapesMarks set → All HasBytes fields
+        → fields_of (written set fields) ≡ Some fields }
     ensures met { EscapesMarks NON_ALPHANUMERIC }
     ensures joined { (query : List ℕ) → join_with_byte 38 (parts_of query) ≡ query }
 {}
@@ -36,7 +37,8 @@ pub fn asked_commands_are_read()
 /// The fields of a query mean a command exactly where each known name has at most one value, and the table of commands
 /// has the command for these values; so they mean no other command.
 pub fn commands_are_those_of_the_table()
-    ensures read { (fields : List Field) (t : Texts) (c : StatusCommand) → AreGiven fields t → Asks t c → command_in fields ≡ Some c }
+    ensures read { (fields : List Field) (t : Texts) (c : StatusCommand)
+        → AreGiven fields t → Asks t c → command_in fields ≡ Some c }
     ensures only { (fields : List Field) (c : StatusCommand) → command_in fields ≡ Some c
         → AreGiven fields (texts_of fields) × Asks (texts_of fields) c }
     ensures one { (fields : List Field) (t u : Texts) (c d : StatusCommand)
@@ -60,6 +62,7 @@ pub fn other_names_and_order_mean_nothing()
 
 /// A page has its first line, and a line for each balancer and each member. The page of no balancer is its first line.
 pub fn pages_have_a_line_for_each()
-    ensures lines { (parts : List PagePart) → All IsShownPart parts → line_count (page_of parts) ≡ 1 + sum_by lines_of_part parts }
+    ensures lines { (parts : List PagePart) → All IsShownPart parts
+        → line_count (page_of parts) ≡ 1 + sum_by lines_of_part parts }
     ensures none { page_of [] ≡ codes "jk status\n" }
 {}
