@@ -1,0 +1,4 @@
+pub mod RequestLaws
+pub mod CutLaws
+pub mod AnswerLaws
+pub mod FitLaws

@@ -1,0 +1,36 @@
+//! What follows from the definitions alone, whatever the calls do.
+ghost use Rattle.std.specs.Prelude.{ℕ, ◌-◌, ◌^◌, ◌<◌, List, Bool, length, not, IsTrue};
+ghost use Rattle.std.specs.List.{AllByRecursion};
+ghost use Rattle.ajp_request.specs.declared.forward.Forward.{Forward};
+ghost use Rattle.mini_container.specs.declared.app_config.AppConfig.{AppConfig};
+ghost use Rattle.mini_container.specs.declared.page.Page.{Page};
+ghost use Rattle.mini_container.specs.Applications.{drops};
+ghost use Rattle.mini_container.specs.Request.{application_of};
+ghost use Rattle.mini_container.specs.Answer.{cut, messages_of, answer_of, IsSendable};
+ghost use Rattle.mini_container.specs.Reply.{IsCut, IsReply, NeverEnds};
+
+/// The chunks of a body joined are the body, none is empty, and each but the last is as long as a packet allows.
+pub fn a_body_is_its_chunks()
+    ensures { (size : ℕ) (body : List ℕ) → 0 < size → IsCut size body (cut size body) }
+{}
+
+/// A page is sent as one head, its body in chunks, and End Response. Its Content-Length is the length of the chunks
+/// together.
+pub fn a_page_is_a_reply()
+    ensures { (packet : ℕ) (page : Page) → 8 < packet
+        → IsReply (packet - 8) page.status page.counted page.body (messages_of packet page) }
+{}
+
+/// Every request is answered by a whole reply, but for one of `/drop`, whose answer has no End Response.
+pub fn an_answer_is_whole_or_dropped()
+    ensures whole { (app : AppConfig) (forward : Forward) (body : List ℕ) → IsTrue (not (drops (application_of app forward)))
+        → (status : ℕ) × (counted : Bool) × (text : List ℕ) × IsReply (app.packet - 8) status counted text (answer_of app forward body) }
+    ensures dropped { (app : AppConfig) (forward : Forward) (body : List ℕ) → IsTrue (drops (application_of app forward))
+        → NeverEnds (answer_of app forward body) }
+{}
+
+/// Each message of an answer fits the container's packet.
+pub fn answers_fit_their_packets()
+    ensures { (app : AppConfig) (forward : Forward) (body : List ℕ) → length body < 2 ^ 64
+        → AllByRecursion (IsSendable app.packet) (answer_of app forward body) }
+{}
