@@ -3,3 +3,6 @@ pub mod Request
 pub mod Pages
 pub mod Answer
 pub mod Reply
+pub mod Turns
+pub mod Ends
+pub mod Steps

@@ -1,23 +1,32 @@
 //! A container of a few applications, at the other end of a link that speaks AJPv1.3.
 //!
-//! Source: AJPv1.3 reference, "Request Packet Structure", "Response Packet Structure" and "Get Body Chunk".
-//! Own rules: the applications, the secret of a request, when a body is asked for (docs/DECISIONS.md).
-//! Shapes: a packet's size counts its 4 bytes of head. Names of headers are looked up in either case.
-//! Contract: `app_answer`, clause `answer`. Read first: specs/Pages.antt, then specs/Answer.antt.
-//! Errors: `NoMemory` alone.
+//! Source: AJPv1.3 reference, "Request Packet Structure", "Response Packet Structure", "Get Body Chunk", "CPing".
+//! Own rules: the applications, the secret of a request, when a body is asked for, what ends a talk (docs/DECISIONS.md).
+//! Shapes: a packet's size counts its 4 bytes of head. Names of headers are looked up in either case. Lists of turns and
+//! of answers to asks have the newest first.
+//! Contract: `serve_ajp`, clause `talk`; `app_answer`, clause `answer`. Read first: specs/Pages.antt and specs/Answer.antt,
+//! then specs/Turns.antt and specs/Ends.antt.
+//! Errors: `ContainerEnd` tells how a talk ended; after each of its variants nothing more is read or written.
 #![tactic(auto)]
 
 mod answering;
 mod app_config;
 mod application;
+mod body;
 mod cutting;
+mod ends;
 mod laws;
+mod packets;
 mod page;
 mod request;
+mod sending;
+mod serving;
 
 pub use answering::{MessageList, app_answer};
 pub use app_config::AppConfig;
+pub use ends::ContainerEnd;
 pub use laws::{
     a_body_is_its_chunks, a_page_is_a_reply, an_answer_is_whole_or_dropped,
     answers_fit_their_packets,
 };
+pub use serving::serve_ajp;

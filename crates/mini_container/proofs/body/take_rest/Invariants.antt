@@ -1,0 +1,16 @@
+use Rattle.std.proofs.Common.{◌≡◌, ◌-◌, ◌^◌, length}
+use Rattle.mini_container.specs.Ends.{moment}
+use Rattle.mini_container.proofs.BodyLaws.{AsksOn}
+use Rattle.mini_container.proofs.body.take_rest.Given as goal
+
+-- what was asked for so far, and that no answer was the empty body packet
+abbrev pub invariant-asks : goal.invariant-asks
+invariant-asks g l = record {
+  asked : AsksOn l.app l.forward l.initial.body l.body
+      (moment g.L.Meanings.incoming g.L.Meanings.received g.L.Meanings.sent g.L.Meanings.faults l.initial.link)
+      (moment g.L.Meanings.incoming g.L.Meanings.received g.L.Meanings.sent g.L.Meanings.faults l.link);
+  same : g.L.Meanings.beside l.link ≡ g.L.Meanings.beside l.initial.link;
+}
+
+abbrev pub decreases-asks : goal.decreases-asks
+decreases-asks g l = 2 ^ 64 - length l.body

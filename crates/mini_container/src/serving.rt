@@ -1,0 +1,148 @@
+//! A talk with a connector, turn by turn.
+ghost use Rattle.std.specs.Prelude.{◌≡◌, ◌≤◌, [], ◌∷◌};
+ghost use Rattle.jk_io.specs.Told.{Rose};
+ghost use Rattle.ajp_reply.specs.declared.message.Message.TheVariants.{Pong};
+ghost use Rattle.mini_container.specs.Answer.{bytes_of};
+ghost use Rattle.mini_container.specs.Ends.{moment, IsTalk};
+ghost use Rattle.mini_container.specs.Steps.{Sends, Serves, Reads, IsBegun, TakesTurn, requests_of, stop_of};
+
+use crate::answering::app_answer;
+use crate::app_config::AppConfig;
+use crate::application::is_drop;
+use crate::body::take_body;
+use crate::ends::{BadPacket, ContainerEnd, Stopped, end_of};
+use crate::packets::take_packet;
+use crate::request::application_of;
+use crate::sending::send;
+use ajp_reply::Message;
+use ajp_request::{Forward, decode_forward};
+use ajp_wire::DecodeError;
+use jk_io::Link;
+use std::alloc::Global;
+
+/// What a turn is.
+#[derive(Clone, Copy, Debug)]
+pub enum TurnKind {
+    Ping,
+    Request,
+}
+
+/// Serves a connector on its link until the bytes end, or the talk can't go on. After 2^64 - 1 turns it ends as for want
+/// of memory.
+pub fn serve_ajp<L: Link>(alloc: Global, link: &mut L, app: &AppConfig) -> ContainerEnd
+    ensures talk { IsTalk app.now
+        (moment L.incoming L.received L.sent L.faults link.old) (moment L.incoming L.received L.sent L.faults link.new) result }
+    ensures fault { result ≡ ContainerEnd.LinkFault → Rose (L.faults link.old) (L.faults link.new) }
+    ensures no_fewer { L.faults link.old ≤ L.faults link.new }
+    ensures same { L.beside link.new ≡ L.beside link.old }
+{
+    let mut requests = 0;
+    'turns: for _ in 0..u64::MAX {
+        let kind = match serve_turn(alloc, link, app) {
+            Ok(kind) => kind,
+            Err(stopped) => return end_of(requests, stopped),
+        };
+        requests += requests_of(kind);
+    }
+    ContainerEnd::NoMemory
+}
+
+/// How many requests a turn is.
+fn requests_of(kind: TurnKind) -> u64
+    ensures value { result ≡ requests_of kind }
+    ensures most { result ≤ 1 }
+{
+    match kind {
+        TurnKind::Ping => 0,
+        TurnKind::Request => 1,
+    }
+}
+
+/// Serves one turn: a CPing, or a request with its body.
+fn serve_turn<L: Link>(alloc: Global, link: &mut L, app: &AppConfig) -> Result<TurnKind, Stopped>
+    ensures took { TakesTurn app.now
+        (moment L.incoming L.received L.sent L.faults link.old) (moment L.incoming L.received L.sent L.faults link.new) result }
+    ensures no_fewer { L.faults link.old ≤ L.faults link.new }
+    ensures same { L.beside link.new ≡ L.beside link.old }
+{
+    let payload = take_packet(alloc, link, app.packet)?;
+    match turn_of(payload.as_slice()) {
+        Some(TurnKind::Ping) => {
+            pong(alloc, link, app)?;
+            Ok(TurnKind::Ping)
+        }
+        Some(TurnKind::Request) => {
+            let forward = read_request(alloc, payload.as_slice())?;
+            serve_request(alloc, link, app, &forward)?;
+            Ok(TurnKind::Request)
+        }
+        None => Err(Stopped::Bad(BadPacket::Code)),
+    }
+}
+
+/// Which turn a payload begins: a CPing is the byte 0A alone, and a Forward Request begins with 02.
+fn turn_of(payload: &[u8]) -> Option<TurnKind>
+    ensures { IsBegun payload.now result }
+{
+    match payload {
+        [0x0A] => Some(TurnKind::Ping),
+        [0x02, ..] => Some(TurnKind::Request),
+        [] | [_, ..] => None,
+    }
+}
+
+/// Answers a CPing.
+fn pong<L: Link>(alloc: Global, link: &mut L, app: &AppConfig) -> Result<(), Stopped>
+    ensures sent { Sends (bytes_of (Pong ∷ []))
+        (moment L.incoming L.received L.sent L.faults link.old) (moment L.incoming L.received L.sent L.faults link.new) result }
+    ensures no_fewer { L.faults link.old ≤ L.faults link.new }
+    ensures same { L.beside link.new ≡ L.beside link.old }
+{
+    let messages = [Message::Pong];
+    send(alloc, link, &messages, app.packet)
+}
+
+fn read_request(alloc: Global, payload: &[u8]) -> Result<Forward, Stopped>
+    ensures { Reads payload.now result }
+{
+    match decode_forward(alloc, payload) {
+        Ok(forward) => Ok(forward),
+        Err(error) => Err(stopped_by(error)),
+    }
+}
+
+fn stopped_by(error: DecodeError) -> Stopped
+    ensures { result ≡ stop_of error }
+{
+    match error {
+        DecodeError::NoMemory => Stopped::NoMemory,
+        DecodeError::Short { .. }
+        | DecodeError::BadCode { .. }
+        | DecodeError::BadMark { .. }
+        | DecodeError::BadBoolean { .. }
+        | DecodeError::Extra { .. }
+        | DecodeError::TooMany { .. }
+        | DecodeError::Absent { .. } => Stopped::Bad(BadPacket::Request),
+    }
+}
+
+/// Serves a request behind its Forward Request.
+fn serve_request<L: Link>(
+    alloc: Global,
+    link: &mut L,
+    app: &AppConfig,
+    forward: &Forward,
+) -> Result<(), Stopped>
+    ensures served { Serves app.now forward.now
+        (moment L.incoming L.received L.sent L.faults link.old) (moment L.incoming L.received L.sent L.faults link.new) result }
+    ensures no_fewer { L.faults link.old ≤ L.faults link.new }
+    ensures same { L.beside link.new ≡ L.beside link.old }
+{
+    let body = take_body(alloc, link, app, forward)?;
+    let messages = app_answer(alloc, app, forward, body)?;
+    send(alloc, link, messages.as_slice(), app.packet)?;
+    if is_drop(application_of(app, forward)) {
+        return Err(Stopped::Dropped);
+    }
+    Ok(())
+}
