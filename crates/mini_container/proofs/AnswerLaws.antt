@@ -1,25 +1,19 @@
 -- Answers are replies that fit their packets.
-use Rattle.std.proofs.Common.{◌≡◌, ◌≢◌, ℕ, ◌+◌, ◌-◌, ◌^◌, ◌<◌, ◌≤◌, Bool, true, false, IsTrue, List, [], ◌∷◌, ◌++◌, length, map, Option, Some, None, refl, sym, ap, subst, ◌∙◌, append_assoc, arith, inl, inr, length-append}
-use Rattle.std.specs.Prelude.{codes, decimal, not, if◌then◌else◌}
-use Rattle.std.specs.List.{concat, AllByRecursion}
-use Rattle.std.proofs.lemmas.Fmt.{length-decimal-le}
-use Rattle.ajp_wire.specs.Spelling.{int, string}
-use Rattle.ajp_wire.specs.Names.{headers_bytes, FitsHeaders}
-use Rattle.ajp_wire.specs.Packet.{FitsPacket}
+use Rattle.std.proofs.Common.{◌≡◌, ℕ, ◌-◌, ◌<◌, Bool, true, false, IsTrue, List, ◌++◌, Option, Some, None, refl, sym, ap, arith}
+use Rattle.std.specs.Prelude.{codes, not}
+use Rattle.std.specs.List.{concat}
 use Rattle.ajp_request.specs.declared.forward.Forward.{Forward}
 use Rattle.ajp_reply.specs.declared.message.Message.{Message}
-use Rattle.ajp_reply.specs.declared.message.Message.TheVariants.{Headers, Chunk, End}
-use Rattle.ajp_reply.specs.Spelling.{reply_names, payload_of, Fits, IsMessage}
 use Rattle.mini_container.specs.declared.app_config.AppConfig.{AppConfig}
 use Rattle.mini_container.specs.declared.page.Page.{Page}
 use Rattle.mini_container.specs.declared.application.Application.{Application}
 use Rattle.mini_container.specs.declared.application.Application.TheVariants.{Forbidden, Who, Echo, Size, Status, Session, DropAtOnce, DropBehindHead, DropBehindChunk, Unknown}
 use Rattle.mini_container.specs.Applications.{drops}
-use Rattle.mini_container.specs.Request.{application_of, value_named}
+use Rattle.mini_container.specs.Request.{value_named}
 use Rattle.mini_container.specs.Pages.{who, echo, sized, empty, session, unknown}
-use Rattle.mini_container.specs.Answer.{cut, length_line, cookie_line, head_of, messages_of, answer_by, answer_of, IsSendable}
+use Rattle.mini_container.specs.Answer.{cut, length_line, cookie_line, head_of, messages_of, answer_by}
 use Rattle.mini_container.specs.Reply.{IsReply, NeverEnds, length_told}
-use Rattle.mini_container.proofs.CutLaws.{cut-is, cut-short}
+use Rattle.mini_container.proofs.CutLaws.{cut-is}
 
 length-found : (counted : Bool) (body text : List ℕ) (cookie : Option (List ℕ)) → text ≡ body
     → value_named (codes "Content-Length") (length_line counted body ++ cookie_line cookie) ≡ length_told counted text

@@ -1,5 +1,5 @@
 -- How a body is taken: its first packet, and the answers to asks.
-use Rattle.std.proofs.Common.{◌≡◌, ◌≢◌, ℕ, zero, suc, ◌+◌, ◌<◌, ◌≤◌, Bool, true, false, IsTrue, List, [], ◌∷◌, ◌++◌, length, Option, Some, None, Result, Ok, Err, refl, sym, ap, subst, ◌∙◌, append_assoc, add-one, arith, inl, inr, ◌⊎◌, length-append}
+use Rattle.std.proofs.Common.{◌≡◌, ◌≢◌, ℕ, Bool, true, false, IsTrue, List, [], ◌∷◌, ◌++◌, length, Result, Ok, Err, refl, sym, ap, subst, ◌∙◌, append_assoc, add-one, arith}
 use Rattle.std.specs.Prelude.{replicate, not, ◌&&◌, if◌then◌else◌}
 use Rattle.std.proofs.lemmas.List.{append-nil, replicate_more}
 use Rattle.ajp_wire.specs.Packet.{packet}
@@ -11,8 +11,8 @@ use Rattle.mini_container.specs.declared.ends.Stopped.{Stopped}
 use Rattle.mini_container.specs.Applications.{drops}
 use Rattle.mini_container.specs.Request.{application_of, content_length, has_first, asks_body}
 use Rattle.mini_container.specs.Answer.{answer_of, bytes_of}
-use Rattle.mini_container.specs.Turns.{Body, Awaited, Taken, Turn, Idle, Ping, Request, CameFirst, CameTaken, data_of, has_ended, is_enough, asks_on, AskedFor, ask, next, owed_for, awaits}
-use Rattle.mini_container.specs.Ends.{Moment, Goes, ComesBetween, Place, Between, Within, Stops, StopsWithin, drops_at}
+use Rattle.mini_container.specs.Turns.{Awaited, Taken, data_of, has_ended, is_enough, asks_on, ask}
+use Rattle.mini_container.specs.Ends.{Moment, Goes, ComesBetween, Within, Stops, StopsWithin, drops_at}
 use Rattle.mini_container.specs.Steps.{NotTaken, TookPiece, NotSent, TookFirst, asks, Asked, TookRest, StopsAsking, TakesRest, TookBody, TakesBody}
 use Rattle.mini_container.proofs.StepLaws.{comes-then, goes-none, goes-then, stops-then, stops-reading, stops-sending}
 

@@ -1,5 +1,5 @@
 -- Each message of an answer fits the container's packet.
-use Rattle.std.proofs.Common.{◌≡◌, ℕ, ◌+◌, ◌-◌, ◌^◌, ◌<◌, ◌≤◌, Bool, true, false, IsTrue, List, [], ◌∷◌, ◌++◌, length, map, Option, Some, None, refl, sym, ap, subst, ◌∙◌, append_assoc, arith, inl, inr, ◌⊎◌, length-append}
+use Rattle.std.proofs.Common.{◌≡◌, ℕ, ◌+◌, ◌-◌, ◌^◌, ◌<◌, ◌≤◌, Bool, true, false, IsTrue, List, [], ◌∷◌, ◌++◌, length, map, Option, Some, None, refl, arith, inl, inr, length-append}
 use Rattle.std.specs.Prelude.{codes, decimal, replicate, nat_le, ◌&&◌, ◌==◌, if◌then◌else◌}
 use Rattle.std.specs.List.{AllByRecursion}
 use Rattle.std.specs.Str.{bytes_eq}
@@ -11,8 +11,7 @@ use Rattle.ajp_wire.specs.Names.{headers_bytes, header_bytes, FitsHeaders}
 use Rattle.ajp_request.specs.declared.forward.Forward.{Forward}
 use Rattle.ajp_reply.specs.declared.message.Message.{Message}
 use Rattle.ajp_reply.specs.declared.message.Message.TheVariants.{Headers, Chunk, End}
-use Rattle.ajp_reply.specs.declared.message.ReplyParts.{ReplyParts}
-use Rattle.ajp_reply.specs.Spelling.{reply_names, payload_of, Fits, IsMessage}
+use Rattle.ajp_reply.specs.Spelling.{reply_names}
 use Rattle.mini_container.specs.declared.app_config.AppConfig.{AppConfig}
 use Rattle.mini_container.specs.declared.page.Page.{Page}
 use Rattle.mini_container.specs.declared.application.Application.{Application}

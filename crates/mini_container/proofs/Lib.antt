@@ -5,3 +5,4 @@ pub mod FitLaws
 pub mod StepLaws
 pub mod BodyLaws
 pub mod TurnLaws
+pub mod SentLaws

@@ -1,18 +1,13 @@
 -- How the steps of a turn follow one another, over what is told of the link at each moment.
-use Rattle.std.proofs.Common.{◌≡◌, ℕ, ◌≤◌, Bool, true, false, IsTrue, List, [], ◌∷◌, ◌++◌, length, Option, Some, None, Result, Ok, Err, refl, sym, ap, subst, ◌∙◌, append_assoc, arith, inl, inr, ◌⊎◌, length-append}
-use Rattle.std.proofs.lemmas.List.{append-nil}
-use Rattle.jk_io.specs.Told.{appended, prepended, IsEmpty, Rose, PutsFront}
-use Rattle.jk_io.proofs.ToldLaws.{appended-appended, appended-nil, prepended-prepended, prepended-nil, none_put, all_put, then_put, Rose-within}
-use Rattle.ajp_wire.specs.Packet.{HasCome, IsPacket, IsPart}
-use Rattle.mini_container.specs.declared.ends.BadPacket.{BadPacket}
-use Rattle.mini_container.specs.declared.ends.BadPacket.TheVariants.{Magic, TooLong, Code, Request as BadRequest, Piece}
+use Rattle.std.proofs.Common.{◌≡◌, ℕ, ◌≤◌, Bool, true, List, [], ◌++◌, length, Option, refl, sym, ap, ◌∙◌, arith, inl, inr}
+use Rattle.jk_io.specs.Told.{appended, prepended}
+use Rattle.jk_io.proofs.ToldLaws.{appended-appended, appended-nil, prepended-prepended, prepended-nil, none_put, then_put, Rose-within}
+use Rattle.mini_container.specs.declared.ends.BadPacket.TheVariants.{Piece}
 use Rattle.mini_container.specs.declared.ends.Stopped.{Stopped}
 use Rattle.mini_container.specs.declared.ends.Stopped.TheVariants.{Closed, Dropped, LinkFault, Truncated, Bad, NoMemory}
-use Rattle.ajp_request.specs.declared.forward.Forward.{Forward}
-use Rattle.mini_container.specs.declared.app_config.AppConfig.{AppConfig}
-use Rattle.mini_container.specs.Turns.{SpellsPiece, has_ended, data_of}
-use Rattle.mini_container.specs.Ends.{Moment, Goes, ComesBetween, Place, Between, Within, EndsReading, EndsSending, StopsReading, StopsSending, StopsDropped, Stops}
-use Rattle.mini_container.specs.Steps.{TookPacket, NotTaken, TookPiece, NotSent, Asked}
+use Rattle.mini_container.specs.Turns.{SpellsPiece}
+use Rattle.mini_container.specs.Ends.{Moment, Goes, ComesBetween, Place, Within, EndsReading, EndsSending, Stops}
+use Rattle.mini_container.specs.Steps.{TookPacket, NotTaken, TookPiece, NotSent}
 
 -- ---- body packets
 

@@ -1,5 +1,5 @@
 -- How a turn is served, and how turns make a talk.
-use Rattle.std.proofs.Common.{◌≡◌, ◌≢◌, ℕ, ◌+◌, ◌<◌, ◌≤◌, Bool, true, false, IsTrue, List, [], ◌∷◌, ◌++◌, length, Option, Some, None, Result, Ok, Err, refl, sym, ap, subst, ◌∙◌, append_assoc, arith, inl, inr, ◌⊎◌, length-append}
+use Rattle.std.proofs.Common.{◌≡◌, ◌≢◌, ℕ, ◌+◌, ◌<◌, Bool, true, false, IsTrue, List, [], ◌∷◌, ◌++◌, length, Err, refl, sym, ap, subst, ◌∙◌, append_assoc, arith, inl, inr, ◌⊎◌}
 use Rattle.std.specs.Prelude.{not, ◌&&◌, if◌then◌else◌, ◌^◌, All}
 use Rattle.std.proofs.lemmas.List.Elements.{All-from_recursion}
 use Rattle.std.proofs.lemmas.List.{append-nil}
@@ -23,8 +23,8 @@ use Rattle.mini_container.specs.declared.serving.TurnKind.TheVariants as kinds
 use Rattle.mini_container.specs.Applications.{drops}
 use Rattle.mini_container.specs.Request.{application_of}
 use Rattle.mini_container.specs.Answer.{answer_of, bytes_of, IsSendable}
-use Rattle.mini_container.specs.Turns.{Body, Awaited, Taken, Turn, Idle, Ping, Request, Turns, data_of, asks_on, ask, owed_for, owed, awaits, is_over, requests_in}
-use Rattle.mini_container.specs.Ends.{Moment, Goes, ComesBetween, Place, Between, Within, IsRefused, EndsReading, EndsSending, Stops, StopsWithin, StopsInTurn, IsTalk, end_of}
+use Rattle.mini_container.specs.Turns.{Taken, Turn, Idle, Ping, Request, Turns, data_of, asks_on, ask, owed_for, owed, requests_in}
+use Rattle.mini_container.specs.Ends.{Moment, Goes, ComesBetween, Place, Between, Within, IsRefused, Stops, StopsWithin, StopsInTurn, IsTalk, end_of}
 use Rattle.mini_container.specs.Steps.{TookPacket, NotTaken, NotSent, TookBody, asks, Served, TookTurn, Reads, is_request, kind_of, requests_of, stop_of}
 use Rattle.mini_container.proofs.StepLaws.{packet-unkept, comes-none, comes-then, goes-none, goes-then, stops-then, stops-reading, stops-sending, stops-wanting}
 use Rattle.mini_container.proofs.FitLaws.{answer-sendable}

@@ -1,5 +1,5 @@
 -- The answer to a request, as the messages that the container sends.
-use Rattle.std.specs.Prelude.{◌≡◌, ℕ, zero, suc, ◌-◌, ◌==◌, ◌<◌, ◌≤◌, Bool, true, false, List, [], ◌∷◌, ◌++◌, length, take, drop, map, codes, decimal, Option, Some, None, if◌then◌else◌}
+use Rattle.std.specs.Prelude.{ℕ, zero, suc, ◌-◌, ◌==◌, Bool, true, false, List, [], ◌∷◌, ◌++◌, length, take, drop, map, codes, decimal, Option, Some, None, if◌then◌else◌}
 use Rattle.ajp_wire.specs.Packet.{packet}
 use Rattle.ajp_request.specs.declared.forward.Forward.{Forward}
 use Rattle.ajp_reply.specs.declared.message.Message.{Message}

@@ -1,6 +1,6 @@
 -- Why the container stops where it does, and how the talk ends by that.
-use Rattle.std.specs.Prelude.{◌≡◌, ◌≢◌, ℕ, ◌<◌, ◌≤◌, ◌⊎◌, Bool, true, false, IsTrue, List, [], ◌∷◌, ◌++◌, length, Option, Result, Ok, Err}
-use Rattle.jk_io.specs.Told.{appended, prepended, IsEmpty, Rose, PutsFront}
+use Rattle.std.specs.Prelude.{◌≡◌, ◌≢◌, ℕ, ◌<◌, ◌≤◌, ◌⊎◌, Bool, false, IsTrue, List, [], ◌∷◌, ◌++◌, length, Option}
+use Rattle.jk_io.specs.Told.{appended, IsEmpty, Rose, PutsFront}
 use Rattle.ajp_wire.specs.Packet.{IsPacket, IsPart, IsBad, IsTooLong, HasCome}
 use Rattle.ajp_request.specs.declared.forward.Forward.{Forward}
 use Rattle.ajp_request.specs.Spelling.{SpellsForward}
@@ -12,7 +12,7 @@ use Rattle.mini_container.specs.declared.ends.BadPacket.TheVariants.{Magic, TooL
 use Rattle.mini_container.specs.declared.ends.Stopped.{Stopped}
 use Rattle.mini_container.specs.declared.ends.Stopped.TheVariants.{Closed, Dropped, LinkFault, Truncated, Bad, NoMemory}
 use Rattle.mini_container.specs.Answer.{bytes_of}
-use Rattle.mini_container.specs.Turns.{Body, Turn, Idle, Ping, Request, SpellsPiece, CameBody, Came, owed_for, owed, awaits, waits, is_dropped, is_over, Turns, requests_in}
+use Rattle.mini_container.specs.Turns.{Body, Turn, Idle, Ping, Request, SpellsPiece, CameBody, Came, owed_for, owed, awaits, waits, is_dropped, Turns, requests_in}
 
 abbrev pub code_of : BadPacket → ℕ
 code_of Magic = 1

@@ -1,5 +1,5 @@
 -- What each application answers.
-use Rattle.std.specs.Prelude.{ℕ, Bool, true, false, is_some, List, [], ◌∷◌, ◌++◌, codes, replicate, Option, Some, None, if◌then◌else◌}
+use Rattle.std.specs.Prelude.{ℕ, true, is_some, List, [], ◌∷◌, ◌++◌, codes, replicate, Some, None, if◌then◌else◌}
 use Rattle.ajp_request.specs.declared.forward.Forward.{Forward}
 use Rattle.mini_container.specs.declared.app_config.AppConfig.{AppConfig}
 use Rattle.mini_container.specs.declared.page.Page.{Page}

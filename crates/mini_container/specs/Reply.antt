@@ -1,11 +1,11 @@
 -- What an answer is, in the words of one who reads it: a head, a body in pieces, and End Response.
-use Rattle.std.specs.Prelude.{◌≡◌, ◌≢◌, ℕ, ◌<◌, ◌≤◌, Bool, true, false, List, [], ◌∷◌, ◌++◌, length, map, codes, decimal, Option, Some, None}
+use Rattle.std.specs.Prelude.{◌≡◌, ◌≢◌, ℕ, ◌^◌, ◌<◌, ◌≤◌, ◌⊎◌, Bool, true, false, List, [], ◌∷◌, ◌++◌, length, map, codes, decimal, Option, Some, None}
 use Rattle.std.specs.List.{concat, AllByRecursion}
 use Rattle.ajp_reply.specs.declared.message.Message.{Message}
 use Rattle.ajp_reply.specs.declared.message.Message.TheVariants.{Headers, Chunk, End}
 use Rattle.ajp_reply.specs.declared.message.ReplyParts.{ReplyParts}
-use Rattle.mini_container.specs.declared.page.Page.{Page}
 use Rattle.mini_container.specs.Request.{value_named}
+use Rattle.mini_container.specs.Turns.{Turn, Idle, Ping, Request, Awaited, Taken, data_of}
 
 -- Each piece has `size` bytes, but for the last, which has one at least and no more.
 abbrev pub AreFull : ℕ → List (List ℕ) → Type 0
@@ -35,3 +35,15 @@ pub record IsReply (size status : ℕ) (counted : Bool) (body : List ℕ) (messa
 -- No message is End Response.
 abbrev pub NeverEnds : List Message → Type 0
 NeverEnds messages = AllByRecursion (λ message. (reuse : Bool) → message ≢ End reuse) messages
+
+-- A body is as long as a list in memory can be.
+abbrev pub IsShortTurn : Turn → Type 0
+IsShortTurn Idle = Unit {0}
+IsShortTurn Ping = Unit {0}
+IsShortTurn (Request forward Awaited) = Unit {0}
+IsShortTurn (Request forward (Taken first past)) = length (data_of first past) < 2 ^ 64
+
+-- The last ask was answered by the empty body packet, or the data have the length that the request names.
+abbrev pub HasAll : Option ℕ → List ℕ → List (List ℕ) → Type 0
+HasAll named first past =
+    ((before : List (List ℕ)) × (past ≡ [] ∷ before)) ⊎ ((n : ℕ) × (named ≡ Some n) × (n ≤ length (data_of first past)))

@@ -1,6 +1,6 @@
 -- The steps of a turn: a packet that is taken, messages that are sent, a body that is read.
 use Rattle.std.specs.Prelude.{◌≡◌, ℕ, ◌⊎◌, Bool, true, false, IsTrue, List, [], ◌∷◌, ◌++◌, length, replicate, Option, Some, None, Result, Ok, Err}
-use Rattle.jk_io.specs.Told.{appended, PutsFront}
+use Rattle.jk_io.specs.Told.{PutsFront}
 use Rattle.ajp_wire.specs.Packet.{IsPacket}
 use Rattle.ajp_wire.specs.declared.errors.DecodeError.{DecodeError}
 use Rattle.ajp_wire.specs.declared.errors.DecodeError.TheVariants as errors
@@ -15,8 +15,8 @@ use Rattle.mini_container.specs.declared.serving.TurnKind.{TurnKind}
 use Rattle.mini_container.specs.declared.serving.TurnKind.TheVariants as kinds
 use Rattle.mini_container.specs.Request.{has_first}
 use Rattle.mini_container.specs.Answer.{bytes_of}
-use Rattle.mini_container.specs.Turns.{Body, Awaited, Taken, Turn, Idle, Ping, Request, SpellsPiece, IsPacketOf, CameAnswers, AskedFor, CameFirst, CameTaken, CameBody, Came, data_of, asks_on, ask, next, owed_for, owed, awaits, is_over}
-use Rattle.mini_container.specs.Ends.{Moment, Goes, ComesBetween, Place, Between, Within, IsRefused, EndsReading, EndsSending, Stops, StopsWithin, StopsInTurn, drops_at}
+use Rattle.mini_container.specs.Turns.{Body, Turn, Idle, Ping, Request, SpellsPiece, IsPacketOf, CameAnswers, AskedFor, CameFirst, CameTaken, CameBody, Came, data_of, asks_on, ask, owed_for, owed, is_over}
+use Rattle.mini_container.specs.Ends.{Moment, Goes, ComesBetween, Place, Between, Within, IsRefused, EndsReading, EndsSending, Stops, StopsWithin, StopsInTurn}
 
 -- A packet was taken.
 pub record TookPacket (most : ℕ) (before after : Moment) (payload : List ℕ) : Type 0 where

@@ -1,5 +1,5 @@
 -- A talk as the container sees it: turn by turn, what came and what is owed for it.
-use Rattle.std.specs.Prelude.{◌≡◌, ℕ, ◌+◌, ◌-◌, ◌<◌, ◌⊎◌, ◌&&◌, not, nat_le, Bool, true, false, IsTrue, List, [], ◌∷◌, ◌++◌, length, map, replicate, Option, Some, None, if◌then◌else◌}
+use Rattle.std.specs.Prelude.{◌≡◌, ℕ, ◌+◌, ◌-◌, ◌<◌, ◌⊎◌, ◌&&◌, not, nat_le, Bool, true, false, IsTrue, List, [], ◌∷◌, ◌++◌, length, replicate, Option, Some, None, if◌then◌else◌}
 use Rattle.ajp_wire.specs.Spelling.{int}
 use Rattle.ajp_wire.specs.Packet.{packet, IsPacket}
 use Rattle.ajp_request.specs.declared.forward.Forward.{Forward}

@@ -1,13 +1,15 @@
 //! What follows from the definitions alone, whatever the calls do.
-ghost use Rattle.std.specs.Prelude.{ℕ, ◌-◌, ◌^◌, ◌<◌, List, Bool, length, not, IsTrue};
+ghost use Rattle.std.specs.Prelude.{◌≡◌, ℕ, ◌-◌, ◌^◌, ◌<◌, List, [], Bool, false, length, reverse, not, IsTrue};
 ghost use Rattle.std.specs.List.{AllByRecursion};
+ghost use Rattle.ajp_reply.specs.Stream.{Spelled};
 ghost use Rattle.ajp_request.specs.declared.forward.Forward.{Forward};
 ghost use Rattle.mini_container.specs.declared.app_config.AppConfig.{AppConfig};
 ghost use Rattle.mini_container.specs.declared.page.Page.{Page};
 ghost use Rattle.mini_container.specs.Applications.{drops};
-ghost use Rattle.mini_container.specs.Request.{application_of};
-ghost use Rattle.mini_container.specs.Answer.{cut, messages_of, answer_of, IsSendable};
-ghost use Rattle.mini_container.specs.Reply.{IsCut, IsReply, NeverEnds};
+ghost use Rattle.mini_container.specs.Request.{application_of, content_length, asks_body};
+ghost use Rattle.mini_container.specs.Answer.{cut, messages_of, answer_of, bytes_of, IsSendable};
+ghost use Rattle.mini_container.specs.Reply.{IsCut, IsReply, NeverEnds, IsShortTurn, HasAll};
+ghost use Rattle.mini_container.specs.Turns.{Turn, asks_on, AskedFor, owed};
 
 /// The chunks of a body joined are the body, none is empty, and each but the last is as long as a packet allows.
 pub fn a_body_is_its_chunks()
@@ -33,4 +35,18 @@ pub fn an_answer_is_whole_or_dropped()
 pub fn answers_fit_their_packets()
     ensures { (app : AppConfig) (forward : Forward) (body : List ℕ) → length body < 2 ^ 64
         → AllByRecursion (IsSendable app.packet) (answer_of app forward body) }
+{}
+
+/// What is sent for a turn spells its messages, the newest first in the list, and nothing else.
+pub fn what_is_sent_is_spelled()
+    ensures { (app : AppConfig) (turn : Turn) → IsShortTurn turn → Spelled app.packet (reverse (owed app turn)) (bytes_of (owed app turn)) }
+{}
+
+/// A body is asked for only where it is the answer, and then until the last ask is answered by no data, or there are as
+/// many as the request names.
+pub fn a_body_is_asked_for_to_its_end()
+    ensures all { (app : AppConfig) (forward : Forward) (first : List ℕ) (past : List (List ℕ)) → IsTrue (asks_body app forward)
+        → asks_on app forward first past ≡ false → HasAll (content_length forward) first past }
+    ensures none { (app : AppConfig) (forward : Forward) (first : List ℕ) (past : List (List ℕ)) → asks_body app forward ≡ false
+        → AskedFor app forward first past → past ≡ [] }
 {}

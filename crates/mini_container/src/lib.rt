@@ -26,7 +26,7 @@ pub use answering::{MessageList, app_answer};
 pub use app_config::AppConfig;
 pub use ends::ContainerEnd;
 pub use laws::{
-    a_body_is_its_chunks, a_page_is_a_reply, an_answer_is_whole_or_dropped,
-    answers_fit_their_packets,
+    a_body_is_asked_for_to_its_end, a_body_is_its_chunks, a_page_is_a_reply,
+    an_answer_is_whole_or_dropped, answers_fit_their_packets, what_is_sent_is_spelled,
 };
 pub use serving::serve_ajp;

@@ -1,4 +1,4 @@
-use Rattle.std.proofs.Common.{refl, sym, ◌∙◌, arith}
+use Rattle.std.proofs.Common.{refl, sym, ◌∙◌}
 use Rattle.std.proofs.lemmas.Result.{err_from_is_err_and}
 use Rattle.mini_container.proofs.BodyLaws.{asks-started, ask-failed, piece-failed, piece-added, body-ended}
 use Rattle.mini_container.proofs.body.take_rest.Goals as goal

@@ -1,5 +1,5 @@
 use Rattle.std.proofs.Common.{◌<◌, length, arith, ◌∙◌}
-use Rattle.std.proofs.lemmas.List.{take_min, drop_min, nil_from_length}
+use Rattle.std.proofs.lemmas.List.{take_min, drop_min}
 use Rattle.mini_container.proofs.CutLaws.{chunks-step}
 use Rattle.mini_container.proofs.cutting.put_chunks.Goals as goal
 

@@ -1,7 +1,5 @@
-use Rattle.std.proofs.Common.{◌∙◌, ap, sym}
 use Rattle.std.proofs.lemmas.Result.{err_from_is_err_and}
 use Rattle.mini_container.specs.Ends.{Between}
-use Rattle.mini_container.specs.Steps.{IsBegun, Reads}
 use Rattle.mini_container.proofs.TurnLaws.{turn-untaken, turn-strange, turn-unread, ping-failed, ping-served, request-stops, request-served}
 use Rattle.mini_container.proofs.serving.serve_turn.Goals as goal
 

@@ -1,0 +1,8 @@
+use Rattle.mini_container.proofs.SentLaws.{body-has_all, none-asked}
+use Rattle.mini_container.proofs.laws.a_body_is_asked_for_to_its_end.Goals as goal
+
+pub returns-clause-all : goal.returns-clause-all
+returns-clause-all c = body-has_all
+
+pub returns-clause-none : goal.returns-clause-none
+returns-clause-none c = none-asked
