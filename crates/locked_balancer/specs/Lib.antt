@@ -1,0 +1,4 @@
+pub mod Notes
+pub mod Shelves
+pub mod SiteAnswers
+pub mod Sites

@@ -1,0 +1,55 @@
+-- When a Site refuses a call, and with which mark: what the Book at the place says, told of its balancer.
+use Rattle.std.specs.Prelude.{◌≡◌, ℕ, ◌+◌, ◌^◌, ◌<◌, ◌≤◌, Option, Some, None, Result, Ok, Err}
+use Rattle.jk_model.specs.Journal.{members}
+use Rattle.jk_model.specs.Legal.{HasValues, IsDoable}
+use Rattle.jk_model.specs.Settings.{common_after}
+use Rattle.jk_model.specs.declared.change.Command.{Command}
+use Rattle.jk_model.specs.declared.journal.Call.TheVariants as call
+use Rattle.jk_model.specs.declared.refusal.AdminError.{AdminError}
+use Rattle.jk_model.specs.declared.refusal.AdminError.TheVariants as admin
+use Rattle.jk_model.specs.declared.refusal.RoomError.{RoomError}
+use Rattle.jk_model.specs.declared.refusal.RoomError.TheVariants as room
+use Rattle.balancer_core.specs.Commanded.{IsKnown}
+use Rattle.balancer_core.specs.Due.{due_moment, entry_moment}
+use Rattle.balancer_core.specs.Journal.{Journal, next_number, past_of, tickets_out}
+use Rattle.locked_balancer.specs.Notes.{MarkNote}
+use Rattle.locked_balancer.specs.declared.site.Refusal.{Refusal}
+use Rattle.locked_balancer.specs.declared.site.Refusal.TheVariants as refusal
+
+-- The mark is of this refusal of balancer lb, and has the numbers of its Book.
+pub record IsMarkOf (lb : ℕ) (why : Refusal) (b : Journal) (mark : MarkNote) : Type 0 where
+  pub of : mark.lb ≡ lb
+  pub refusal : mark.refusal ≡ why
+  pub next : mark.numbers.next ≡ next_number b
+  pub out : mark.numbers.out ≡ tickets_out b
+
+-- So many numbers are left beside those of the Returns to come.
+abbrev pub HasRoom : (more : ℕ) → Journal → Type 0
+HasRoom more b = next_number b + tickets_out b + more ≤ 2 ^ 48
+
+abbrev pub IsFullAt : (lb more : ℕ) → Journal → MarkNote → Type 0
+IsFullAt lb more b mark = (2 ^ 48 < next_number b + tickets_out b + more) × IsMarkOf lb refusal.Full b mark
+
+-- Full comes exactly where so many numbers aren't left.
+abbrev pub IsRoomAt : {T : Type 0} → (lb more : ℕ) → Journal → Result T (RoomError MarkNote) → Type 0
+IsRoomAt lb more b (Ok done) = HasRoom more b
+IsRoomAt lb more b (Err (room.Full mark)) = IsFullAt lb more b mark
+IsRoomAt lb more b (Err room.NoMemory) = HasRoom more b
+
+-- Nothing is done exactly where no maintenance is due, and none is refused there.
+abbrev pub IsMaintenanceAt : {T : Type 0} → (lb : ℕ) → Journal → (at : ℕ) → Result (Option T) (RoomError MarkNote) → Type 0
+IsMaintenanceAt lb b at (Ok None) = entry_moment b at < due_moment b
+IsMaintenanceAt lb b at (Ok (Some done)) = (due_moment b ≤ entry_moment b at) × HasRoom 1 b
+IsMaintenanceAt lb b at (Err (room.Full mark)) = (due_moment b ≤ entry_moment b at) × IsFullAt lb 1 b mark
+IsMaintenanceAt lb b at (Err room.NoMemory) = (due_moment b ≤ entry_moment b at) × HasRoom 1 b
+
+-- What is answered to a command, by what holds of it: each refusal after those before it.
+abbrev pub IsCommandedAt : {T : Type 0} → (lb : ℕ) → Journal → Command → Result T (AdminError MarkNote) → Type 0
+IsCommandedAt lb b c (Ok done) = IsDoable b.opening (past_of b) c × HasRoom 1 b
+IsCommandedAt lb b c (Err admin.UnknownMember) = ¬ IsKnown (members b.opening) c
+IsCommandedAt lb b c (Err admin.BadValue) = IsKnown (members b.opening) c × ¬ HasValues c
+IsCommandedAt lb b c (Err (admin.TooWide mark)) =
+    IsKnown (members b.opening) c × HasValues c × (2 ^ 32 ≤ common_after b.opening (past_of b) (call.Admin c))
+    × IsMarkOf lb refusal.TooWide b mark
+IsCommandedAt lb b c (Err (admin.Full mark)) = IsDoable b.opening (past_of b) c × IsFullAt lb 1 b mark
+IsCommandedAt lb b c (Err admin.NoMemory) = IsDoable b.opening (past_of b) c × HasRoom 1 b

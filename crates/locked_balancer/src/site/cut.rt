@@ -1,0 +1,61 @@
+//! The call of a Site that cuts a journal, and where its segment goes.
+
+use super::{Site, SiteName};
+use crate::shelf::Shelf;
+use jk_io::{IoError, NoMemory};
+use jk_model::Segment;
+use std::marker::{Model, PhantomData};
+
+/// A segment that this Site cut off the journal of a balancer. It must be spent, and only `keep_in` spends it.
+#[derive(Debug)]
+pub struct SiteSegment<L> {
+    lb: u32,
+    segment: Segment,
+    of: PhantomData<L>,
+}
+
+impl<L> Model for SiteSegment<L> {
+    ghost use Rattle.std.specs.Prelude.{ℕ};
+    ghost use Rattle.jk_model.specs.declared.segment.Segment.{Segment};
+
+    ghost Value = { ℕ × Segment };
+
+    ghost view = { λ s. (s.lb, s.segment) };
+}
+
+impl<L> SiteSegment<L> {
+    ghost use Rattle.std.specs.Prelude.{◌≡◌, [], ◌∷◌, OnErr, OnOk};
+    ghost use Rattle.jk_io.specs.Told.{HasCause, appended};
+
+    /// Puts the segment on a shelf, by one `keep` of it there, whose answer this is.
+    pub fn keep_in<S: Shelf>(self, shelf: &mut S) -> Result<(), IoError>
+        ensures kept { OnOk result (S.shelved shelf.new ≡ appended (S.shelved shelf.old) (self ∷ [])) }
+        ensures refused { OnErr result (S.shelved shelf.new ≡ S.shelved shelf.old) }
+        ensures cause { HasCause (S.faults shelf.old) (S.faults shelf.new) result }
+    {
+        let SiteSegment { lb, segment, of: _ } = self;
+        shelf.keep(lb, segment)
+    }
+}
+
+impl<L: SiteName> Site<L> {
+    ghost use Rattle.std.specs.Prelude.{◌≡◌, ◌<◌, length, IfOk, OnErr};
+    ghost use Rattle.balancer_core.specs.Journal.{IsSound};
+    ghost use Rattle.locked_balancer.specs.Shelves.{CutsAt};
+    ghost use Rattle.locked_balancer.specs.Sites.{At};
+
+    /// Cuts the journal of a balancer: hands out its opening and its kept entries, and goes on from where they end.
+    pub fn cut(&mut self, lb: u32) -> Result<SiteSegment<L>, NoMemory>
+        requires lb { lb < length self.old }
+        ensures cut { IfOk result (CutsAt self.old self.new lb) }
+        ensures sound { At self.new lb IsSound }
+        ensures err { OnErr result (self.new ≡ self.old) }
+    {
+        let segment = self.books[lb as usize].cut()?;
+        Ok(SiteSegment {
+            lb,
+            segment,
+            of: PhantomData,
+        })
+    }
+}
