@@ -1,1 +1,4 @@
+pub mod HoldLaws
+pub mod LockLaws
+pub mod PoolLaws
 pub mod SiteLaws

@@ -1,3 +1,4 @@
+pub mod Holds
 pub mod Notes
 pub mod Shelves
 pub mod SiteAnswers

@@ -9,13 +9,15 @@
 //! and the share are as they were.
 #![tactic(auto)]
 
+mod holds;
+mod locked;
 mod mem_shelf;
+mod shared_site;
 mod shelf;
 mod site;
-#[cfg(test)]
-mod tests;
 
 pub use mem_shelf::{KeptList, MemShelf};
+pub use shared_site::SharedSite;
 pub use shelf::Shelf;
 pub use site::{
     Refusal, Site, SiteLease, SiteMark, SiteName, SitePicked, SiteReceipt, SiteReceiptList,

@@ -1,0 +1,32 @@
+-- The Maintain that was due, and then the command.
+use Rattle.std.proofs.Common.{◌≡◌, ◌<◌, Some, length, arith}
+use Rattle.std.specs.Prelude.{slice_get}
+use Rattle.balancer_core.specs.Journal.{Journal}
+use Rattle.balancer_core.proofs.HoldLaws.{of_error}
+use Rattle.balancer_core.proofs.ToldLaws.{at_place}
+use Rattle.locked_balancer.specs.Holds.{held}
+use Rattle.locked_balancer.proofs.HoldLaws.{admin_mark, commands, refuses}
+use Rattle.locked_balancer.proofs.holds.command_in.Goals as goal
+
+pub returns-clause-ok : goal.returns-clause-ok
+returns-clause-ok g c =
+    commands g.L.SiteName.sizes g.L.SiteName.firsts (held c.args.site.now c.args.receipts.now.items c.args.share.now.amount)
+    (held c.maintain_first.new.site c.maintain_first.new.receipts.items c.maintain_first.new.share.amount)
+    (held c.admin.new.self c.note.new.receipts.items c.admin.new.share.amount) c.args.lb c.args.session c.args.at c.args.command.now
+    c.in_ok-receipt.receipt (c.in-Ok.ensures.due) c.count.ensures.named c.in_ok-receipt.ensures.ok c.note.ensures.items c.in_ok-receipt.ensures.amount c.in_ok-receipt.ensures.commanded
+
+pub returns-in_err-receipt-clause-err : goal.returns-in_err-receipt-clause-err
+returns-in_err-receipt-clause-err g c =
+    let within : c.args.lb < length c.maintain_first.new.site = omega (arith, c.in-Ok.ensures.len, c.requires.lb) in
+    of_error c.from_residual.result c.in_err-receipt.field-0.0 _ c.from_residual.ensures.1
+    (refuses g.L.SiteName.sizes g.L.SiteName.firsts (held c.args.site.now c.args.receipts.now.items c.args.share.now.amount)
+    (held c.maintain_first.new.site c.maintain_first.new.receipts.items c.maintain_first.new.share.amount) c.admin.new.self c.admin.new.share.amount
+    c.args.lb c.args.session c.args.at c.args.command.now c.in_err-receipt.field-0.0 c.in-Ok.ensures.due c.count.ensures.named
+    c.in_err-receipt.ensures.err c.in_err-receipt.ensures.amount c.in_err-receipt.ensures.commanded within)
+
+pub returns-in_err-receipt-clause-mark : goal.returns-in_err-receipt-clause-mark
+returns-in_err-receipt-clause-mark g c =
+    let within : c.args.lb < length c.maintain_first.new.site = omega (arith, c.in-Ok.ensures.len, c.requires.lb) in
+    let here : (b : Journal) × (slice_get c.maintain_first.new.site c.args.lb ≡ Some b) = at_place c.maintain_first.new.site c.args.lb within in
+    of_error c.from_residual.result c.in_err-receipt.field-0.0 _ c.from_residual.ensures.1
+    (admin_mark c.args.lb here.0 c.args.command.now c.in_err-receipt.field-0.0 (c.in_err-receipt.ensures.commanded here.0 here.1))

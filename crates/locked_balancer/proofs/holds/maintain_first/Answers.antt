@@ -1,0 +1,27 @@
+-- A Maintain where one is due.
+use Rattle.std.proofs.Common.{◌≡◌, Some, refl}
+use Rattle.std.specs.Prelude.{slice_get}
+use Rattle.balancer_core.specs.Journal.{Journal}
+use Rattle.balancer_core.proofs.HoldLaws.{of_error}
+use Rattle.balancer_core.proofs.ToldLaws.{at_place}
+use Rattle.locked_balancer.specs.Holds.{HoldGainsDue, IsRoomMark, held}
+use Rattle.locked_balancer.proofs.HoldLaws.{due_mark, due_none, maintains}
+use Rattle.locked_balancer.proofs.holds.maintain_first.Goals as goal
+
+pub returns-in_err-found-clause-due_err : goal.returns-in_err-found-clause-due_err
+returns-in_err-found-clause-due_err g c =
+    of_error c.from_residual.result c.in_err-found.field-0.0 _ c.from_residual.ensures.1
+    (due_none c.args.site.now c.maintain_if_due.new.self c.args.receipts.now.items c.args.share.now.amount c.maintain_if_due.new.share.amount c.args.lb c.args.session c.args.at
+    c.in_err-found.ensures.err c.in_err-found.ensures.amount c.requires.lb)
+
+pub returns-in_err-found-clause-mark : goal.returns-in_err-found-clause-mark
+returns-in_err-found-clause-mark g c =
+    let here : (b : Journal) × (slice_get c.args.site.now c.args.lb ≡ Some b) = at_place c.args.site.now c.args.lb c.requires.lb in
+    of_error c.from_residual.result c.in_err-found.field-0.0 _ c.from_residual.ensures.1
+    (due_mark c.args.lb here.0 c.args.at c.in_err-found.field-0.0 (c.in_err-found.ensures.due here.0 here.1))
+
+pub returns-clause-due : goal.returns-clause-due
+returns-clause-due g c =
+    maintains c.in_ok-found.found c.args.site.now c.maintain_if_due.new.self c.args.receipts.now.items c.note_some.new.receipts.items
+    c.args.share.now.amount c.maintain_if_due.new.share.amount c.args.lb c.args.session c.args.at c.requires.lb
+    c.in_ok-found.ensures.ok c.in_ok-found.ensures.due c.in_ok-found.ensures.amount c.note_some.ensures.items

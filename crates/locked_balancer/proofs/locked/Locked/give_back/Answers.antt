@@ -1,0 +1,29 @@
+-- The Return of one hold.
+use Rattle.std.proofs.Common.{◌≡◌, ◌∙◌, List, sym, ap, subst}
+use Rattle.jk_model.specs.declared.journal.Call.TheVariants as call
+use Rattle.balancer_core.specs.Journal.{Journal}
+use Rattle.locked_balancer.specs.Holds.{AreShort, LockedState, held}
+use Rattle.locked_balancer.specs.Sites.{AddsAt}
+use Rattle.locked_balancer.proofs.HoldLaws.{gains_one}
+use Rattle.locked_balancer.proofs.LockLaws.{short_back}
+use Rattle.locked_balancer.proofs.locked.Locked.give_back.Goals as goal
+
+pub invariant_of-self-2 : goal.invariant_of-self-2
+invariant_of-self-2 g c =
+    subst (λ (xs : List Journal). AreShort c.self.inside.cut_at xs) (sym c.audit.ensures.same)
+    (short_back c.self.inside.cut_at c.self.inside.site c.give_back-done.new.self c.args.lease.lb c.args.session c.args.at c.args.lease.ticket c.args.outcome c.give_back-done.result
+    c.self.invariant c.give_back-done.ensures.ok c.give_back-done.ensures.err c.count.ensures.named.sound)
+
+pub returns-clause-ok : goal.returns-clause-ok
+returns-clause-ok g c =
+    let books_is = ap (λ (s : LockedState). s.books) c.self.view_is in
+    let after = subst (λ (xs : List Journal). AddsAt c.self.inside.site xs c.args.lease.lb c.args.session c.args.at (call.Return c.args.lease.ticket c.args.outcome) c.in_ok-done.field-0)
+    (sym c.audit.ensures.same) c.in_ok-done.ensures.ok in
+    let adds = subst (λ (xs : List Journal). AddsAt xs c.audit.new.self c.args.lease.lb c.args.session c.args.at (call.Return c.args.lease.ticket c.args.outcome) c.in_ok-done.field-0)
+    books_is after in (
+      c.in_ok-done.field-0,
+      adds.called,
+      gains_one (held c.args.self.now.books c.args.receipts.now.items c.args.share.now.amount) (held c.audit.new.self c.note.new.receipts.items c.audit.new.share.amount)
+          c.args.lease.lb c.args.session c.args.at (call.Return c.args.lease.ticket c.args.outcome) c.in_ok-done.field-0 adds c.note.ensures.items
+          (c.audit.ensures.amount ∙ c.in_ok-done.ensures.amount),
+    )

@@ -1,0 +1,150 @@
+-- What one hold of the lock does: a Maintain where one is due, and then a call, on one Book.
+use Rattle.std.specs.Prelude.{◌≡◌, ℕ, ◌+◌, ◌^◌, ◌<◌, ◌≤◌, ◌⊎◌, Bool, false, List, [], ◌∷◌, ◌++◌, length, sum_by, Option, Some, None, slice_get, slice_index, slice_set}
+use Rattle.std.specs.List.{All}
+use Rattle.jk_model.specs.Free.{is_in}
+use Rattle.jk_model.specs.Legal.{HasValues}
+use Rattle.jk_model.specs.declared.ask.Ask.{Ask}
+use Rattle.jk_model.specs.declared.change.Command.{Command}
+use Rattle.jk_model.specs.declared.journal.Answer.{Answer}
+use Rattle.jk_model.specs.declared.journal.Answer.TheVariants as answer
+use Rattle.jk_model.specs.declared.journal.Call.TheVariants as call
+use Rattle.jk_model.specs.declared.journal.Entry.{Entry}
+use Rattle.jk_model.specs.declared.journal.How.{How}
+use Rattle.jk_model.specs.declared.refusal.AdminError.{AdminError}
+use Rattle.jk_model.specs.declared.refusal.AdminError.TheVariants as admin
+use Rattle.jk_model.specs.declared.refusal.RoomError.{RoomError}
+use Rattle.jk_model.specs.declared.refusal.RoomError.TheVariants as room
+use Rattle.jk_model.specs.declared.segment.Segment.{Segment}
+use Rattle.balancer_core.specs.Commanded.{IsKnown}
+use Rattle.balancer_core.specs.Desks.{IsDue, IsOwn, IsRefusal, LeaseNote, refused_first}
+use Rattle.balancer_core.specs.Journal.{Journal, tickets_out}
+use Rattle.balancer_core.specs.PlainDesks.{IsDueDone}
+use Rattle.balancer_core.specs.ToldBooks.{AreNextAt, grown_by}
+use Rattle.balancer_core.specs.declared.desk.Choice.{Choice}
+use Rattle.balancer_core.specs.declared.desk.Choice.TheVariants as choice
+use Rattle.balancer_core.specs.declared.receipt.Receipt.{Receipt}
+use Rattle.locked_balancer.specs.Notes.{MarkNote}
+use Rattle.locked_balancer.specs.Shelves.{CutsAt}
+use Rattle.locked_balancer.specs.Sites.{At}
+use Rattle.locked_balancer.specs.declared.site.Refusal.{Refusal}
+use Rattle.locked_balancer.specs.declared.site.Refusal.TheVariants as refusal
+
+-- How many tickets may be out in a Book at a time.
+abbrev pub pools_of : Journal → ℕ
+pools_of b = sum_by (λ c. c.pool) b.opening.config.members
+
+-- The value behind the lock: the Books, and the number of kept entries at which a journal is cut; 0 is never.
+pub record LockedState : Type 0 where
+  pub books : List Journal
+  pub cut_at : ℕ
+
+-- Where journals are cut, none is much longer than where it is cut.
+abbrev pub AreShort : (cut_at : ℕ) → List Journal → Type 0
+AreShort cut_at books =
+    0 < cut_at → (lb : ℕ) → At books lb (λ b. length b.entries + tickets_out b ≤ cut_at + 1 + pools_of b)
+
+-- What a hold changes: the Books, the receipts of the desk that has the lock, and the amount of its share.
+pub record Held : Type 0 where
+  pub books : List Journal
+  pub receipts : List Receipt
+  pub amount : ℕ
+
+abbrev pub held : List Journal → List Receipt → (amount : ℕ) → Held
+held books receipts amount = record { books = books; receipts = receipts; amount = amount }
+
+-- What there is, as a list.
+abbrev pub listed : Option Receipt → List Receipt
+listed None = []
+listed (Some r) = r ∷ []
+
+-- The call of a session at a moment added just the entries of these receipts, to the Book of balancer lb.
+pub record HoldGains (old new : Held) (lb session at : ℕ) (gained : List Receipt) : Type 0 where
+  pub book : Journal
+  pub found : slice_get old.books lb ≡ Some book
+  pub grown : new.books ≡ slice_set old.books lb (grown_by book gained)
+  pub next : AreNextAt book at gained
+  pub receipts : new.receipts ≡ old.receipts ++ gained
+  pub own : All (IsOwn lb session at) gained
+  pub amount : new.amount ≡ old.amount + length gained
+
+-- A Maintain or nothing.
+pub record HoldGainsDue (old new : Held) (lb session at : ℕ) : Type 0 where
+  pub due : List Receipt
+  pub is_due : IsDue due
+  pub gains : HoldGains old new lb session at due
+
+-- A Maintain exactly where one was due.
+pub record HoldMaintains (old new : Held) (lb session at : ℕ) : Type 0 where
+  pub due : List Receipt
+  pub is_due : IsDue due
+  pub gains : HoldGains old new lb session at due
+  pub maintained : IsDueDone gains.book at due
+
+-- So, and then the entry of this receipt.
+pub record HoldGainsLast (old new : Held) (lb session at : ℕ) (last : Receipt) : Type 0 where
+  pub due : List Receipt
+  pub is_due : IsDue due
+  pub gains : HoldGains old new lb session at (due ++ last ∷ [])
+  pub maintained : IsDueDone gains.book at due
+
+-- What an answer of balancer lb says.
+abbrev pub IsSiteChoice : (lb : ℕ) → Answer → Choice LeaseNote → Type 0
+IsSiteChoice lb (answer.Chosen m t how probe) c = c ≡ choice.Chosen m (record { lb = lb; member = m; ticket = t })
+IsSiteChoice lb answer.NoMember c = c ≡ choice.NoMember
+IsSiteChoice lb answer.Forced c = c ≡ choice.Forced
+IsSiteChoice lb answer.Done c = ⊥
+
+-- The choice is what the entry says; a member that was tried is chosen by none.
+abbrev pub IsHoldChoice : (sizes : List ℕ) (lb : ℕ) → Ask → Entry → Choice LeaseNote → Type 0
+IsHoldChoice sizes lb ask e (choice.Chosen m lease) =
+    (how : How) × (probe : Bool) × (e.answer ≡ answer.Chosen m e.seq how probe)
+    × (lease ≡ record { lb = lb; member = m; ticket = e.seq }) × (m < slice_index sizes lb) × (is_in ask.tried m ≡ false)
+IsHoldChoice sizes lb ask e choice.NoMember = e.answer ≡ answer.NoMember
+IsHoldChoice sizes lb ask e choice.Forced = e.answer ≡ answer.Forced
+
+-- A hold that chose: its last entry is the Select of this ask.
+pub record HoldChooses (sizes : List ℕ) (old new : Held) (lb session at : ℕ) (ask : Ask) (c : Choice LeaseNote) : Type 0 where
+  pub last : Receipt
+  pub gains : HoldGainsLast old new lb session at last
+  pub asked : last.entry.call ≡ call.Select ask
+  pub answered : IsHoldChoice sizes lb ask last.entry c
+
+-- A hold that did a command: its last entry is that of the command.
+pub record HoldCommands (sizes : List ℕ) (old new : Held) (lb session at : ℕ) (command : Command) : Type 0 where
+  pub last : Receipt
+  pub gains : HoldGainsLast old new lb session at last
+  pub commanded : last.entry.call ≡ call.Admin command
+  pub named : IsKnown (slice_index sizes lb) command
+  pub values : HasValues command
+
+-- A hold that refused a command, or the Maintain before it.
+pub record HoldRefuses (sizes : List ℕ) (old new : Held) (lb session at : ℕ) (command : Command) (error : AdminError MarkNote) : Type 0 where
+  pub due : List Receipt
+  pub is_due : IsDue due
+  pub gains : HoldGains old new lb session at due
+  pub why : IsRefusal (slice_index sizes lb) command error
+      ⊎ ((first : RoomError MarkNote) × (error ≡ refused_first first) × (due ≡ []))
+
+-- The journal of balancer lb was cut before, where there is a segment.
+abbrev pub CutsFirst : (old mid : List Journal) (lb : ℕ) → Option (ℕ × Segment) → Type 0
+CutsFirst old mid lb None = mid ≡ old
+CutsFirst old mid lb (Some segment) = CutsAt old mid lb segment
+
+-- A mark of this refusal of balancer lb; that of a Full has the numbers of a Book without so many left.
+pub record IsMark (lb : ℕ) (why : Refusal) (mark : MarkNote) : Type 0 where
+  pub of : mark.lb ≡ lb
+  pub refusal : mark.refusal ≡ why
+
+abbrev pub IsFullMark : (lb more : ℕ) → MarkNote → Type 0
+IsFullMark lb more mark = IsMark lb refusal.Full mark × (2 ^ 48 < mark.numbers.next + mark.numbers.out + more)
+
+abbrev pub IsRoomMark : (lb more : ℕ) → RoomError MarkNote → Type 0
+IsRoomMark lb more (room.Full mark) = IsFullMark lb more mark
+IsRoomMark lb more room.NoMemory = Unit {0}
+
+abbrev pub IsAdminMark : (lb : ℕ) → AdminError MarkNote → Type 0
+IsAdminMark lb admin.UnknownMember = Unit {0}
+IsAdminMark lb admin.BadValue = Unit {0}
+IsAdminMark lb (admin.TooWide mark) = IsMark lb refusal.TooWide mark
+IsAdminMark lb (admin.Full mark) = IsFullMark lb 1 mark
+IsAdminMark lb admin.NoMemory = Unit {0}

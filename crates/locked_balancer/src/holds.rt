@@ -1,0 +1,147 @@
+//! What is done under the lock, on one Book: a Maintain where one is due, and then a call, each entry with its receipt.
+ghost use Rattle.std.specs.Prelude.{◌≡◌, ◌≢◌, [], ◌∷◌, ◌++◌, ◌+◌, ◌<◌, ◌≤◌, length, slice_index, vec_len, vec_capacity, IfOk, IfErr, OnOk, OnErr};
+ghost use Rattle.jk_model.specs.declared.journal.Answer.{Answer};
+ghost use Rattle.balancer_core.specs.ToldBooks.{IsNoneDue};
+ghost use Rattle.locked_balancer.specs.Holds.{
+  HoldChooses,
+  HoldCommands,
+  HoldGainsDue,
+  HoldMaintains,
+  HoldRefuses,
+  IsAdminMark,
+  IsRoomMark,
+  IsSiteChoice,
+  held,
+  listed,
+};
+ghost use Rattle.locked_balancer.specs.Notes.{lease_of};
+ghost use Rattle.locked_balancer.specs.Sites.{At};
+
+use crate::site::{Site, SiteLease, SiteMark, SiteName, SitePicked, SiteReceipt};
+use balancer_core::desk::Choice;
+use jk_model::{AdminError, Answer, Ask, Command, RoomError};
+use std::sync::ledger::Share;
+
+// Does a Maintain where one is due.
+fn maintain_first<L: SiteName>(
+    site: &mut Site<L>,
+    lb: u32,
+    session: u32,
+    at: u64,
+    share: &mut Share<L>,
+    receipts: &mut Vec<SiteReceipt<L>>,
+) -> Result<(), RoomError<SiteMark<L>>>
+    requires lb { lb < length site.old }
+    requires part { 0 < share.old.parts }
+    requires room { vec_len receipts.old < vec_capacity receipts.old }
+    ensures due { OnOk result (HoldMaintains (held site.old receipts.old.items share.old.amount)
+        (held site.new receipts.new.items share.new.amount) lb session at) }
+    ensures up_to_date { OnOk result (At site.new lb (λ b. IsNoneDue b at)) }
+    ensures due_err { IfErr result (λ _. HoldGainsDue (held site.old receipts.old.items share.old.amount)
+        (held site.new receipts.new.items share.new.amount) lb session at) }
+    ensures err { OnErr result (held site.new receipts.new.items share.new.amount ≡ held site.old receipts.old.items share.old.amount) }
+    ensures mark { IfErr result (IsRoomMark lb 1) }
+    ensures len { length site.new ≡ length site.old }
+    ensures parts { share.new.parts ≡ share.old.parts }
+    ensures room { vec_capacity receipts.old ≤ vec_capacity receipts.new }
+{
+    let found = site.maintain_if_due(lb, session, at, share)?;
+    note_some(receipts, found);
+    Ok(())
+}
+
+// Notes a receipt, where there is one.
+fn note_some<L>(receipts: &mut Vec<SiteReceipt<L>>, found: Option<SiteReceipt<L>>)
+    requires { vec_len receipts.old < vec_capacity receipts.old }
+    ensures items { receipts.new.items ≡ receipts.old.items ++ listed found }
+    ensures room { vec_capacity receipts.old ≤ vec_capacity receipts.new }
+{
+    if let Some(receipt) = found {
+        note(receipts, receipt);
+    }
+}
+
+/// Notes a receipt.
+pub(crate) fn note<L>(receipts: &mut Vec<SiteReceipt<L>>, receipt: SiteReceipt<L>)
+    requires { vec_len receipts.old < vec_capacity receipts.old }
+    ensures items { receipts.new.items ≡ receipts.old.items ++ receipt ∷ [] }
+    ensures room { vec_capacity receipts.old ≤ vec_capacity receipts.new }
+{
+    receipts.push(receipt).unwrap();
+}
+
+/// Does a Maintain where one is due, and then a Select.
+pub(crate) fn choose_in<L: SiteName>(
+    site: &mut Site<L>,
+    lb: u32,
+    session: u32,
+    at: u64,
+    ask: &Ask,
+    share: &mut Share<L>,
+    receipts: &mut Vec<SiteReceipt<L>>,
+) -> Result<Choice<SiteLease<L>>, RoomError<SiteMark<L>>>
+    requires lb { lb < length site.old }
+    requires part { 0 < share.old.parts }
+    requires room { vec_len receipts.old + 2 ≤ vec_capacity receipts.old }
+    ensures ok { IfOk result (λ c. HoldChooses L.sizes (held site.old receipts.old.items share.old.amount)
+        (held site.new receipts.new.items share.new.amount) lb session at ask.now c) }
+    ensures err { OnErr result (HoldGainsDue (held site.old receipts.old.items share.old.amount)
+        (held site.new receipts.new.items share.new.amount) lb session at) }
+    ensures mark { IfErr result (IsRoomMark lb 2) }
+    ensures parts { share.new.parts ≡ share.old.parts }
+    ensures room { vec_capacity receipts.old ≤ vec_capacity receipts.new }
+{
+    maintain_first(site, lb, session, at, share, receipts)?;
+    let SitePicked { receipt, lease } = site.select(lb, session, at, ask, share)?;
+    let answer = receipt.receipt().entry.answer;
+    note(receipts, receipt);
+    Ok(choice_of(lb, answer, lease))
+}
+
+// What an answer of balancer lb says, with its lease.
+fn choice_of<L>(lb: u32, answer: Answer, lease: Option<SiteLease<L>>) -> Choice<SiteLease<L>>
+    requires lease { lease ≡ lease_of lb answer }
+    requires select { answer ≢ Answer.Done }
+    ensures { IsSiteChoice lb answer result }
+{
+    match lease {
+        Some(lease) => Choice::Chosen {
+            member: lease.member(),
+            lease,
+        },
+        None if answer == Answer::Forced => Choice::Forced,
+        None => Choice::NoMember,
+    }
+}
+
+/// Does a Maintain where one is due, and then a command.
+pub(crate) fn command_in<L: SiteName>(
+    site: &mut Site<L>,
+    lb: u32,
+    session: u32,
+    at: u64,
+    command: &Command,
+    share: &mut Share<L>,
+    receipts: &mut Vec<SiteReceipt<L>>,
+) -> Result<(), AdminError<SiteMark<L>>>
+    requires lb { lb < length site.old }
+    requires part { 0 < share.old.parts }
+    requires room { vec_len receipts.old + 2 ≤ vec_capacity receipts.old }
+    ensures ok { OnOk result (HoldCommands L.sizes (held site.old receipts.old.items share.old.amount)
+        (held site.new receipts.new.items share.new.amount) lb session at command.now) }
+    ensures err { IfErr result (HoldRefuses L.sizes (held site.old receipts.old.items share.old.amount)
+        (held site.new receipts.new.items share.new.amount) lb session at command.now) }
+    ensures mark { IfErr result (IsAdminMark lb) }
+    ensures parts { share.new.parts ≡ share.old.parts }
+    ensures room { vec_capacity receipts.old ≤ vec_capacity receipts.new }
+{
+    match maintain_first(site, lb, session, at, share, receipts) {
+        Ok(()) => {}
+        Err(RoomError::Full(mark)) => return Err(AdminError::Full(mark)),
+        Err(RoomError::NoMemory) => return Err(AdminError::NoMemory),
+    }
+    site.count();
+    let receipt = site.admin(lb, session, at, command, share)?;
+    note(receipts, receipt);
+    Ok(())
+}

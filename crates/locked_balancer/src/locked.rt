@@ -1,0 +1,193 @@
+//! What stands behind the lock: the Site, and the calls of one hold of it.
+
+use crate::holds::{choose_in, command_in, note};
+use crate::site::{
+    Site, SiteLease, SiteMark, SiteName, SiteReceipt, SiteSegment, SiteStray, SiteView,
+};
+use balancer_core::desk::Choice;
+use jk_io::NoMemory;
+use jk_model::{AdminError, Ask, Command, Outcome, RoomError};
+use std::marker::Model;
+use std::sync::ledger::Share;
+
+/// What a hold that may cut answered, with the segment that it cut.
+pub(crate) type Cut<L, T> = (Option<SiteSegment<L>>, T);
+
+/// A Site whose journals are cut before they grow long.
+#[derive(Drop)]
+pub(crate) struct Locked<L: SiteName> {
+    site: Site<L>,
+    /// The number of kept entries from which on a journal is cut; 0 is never.
+    cut_at: u32,
+}
+
+impl<L: SiteName> Model for Locked<L> {
+    ghost use Rattle.locked_balancer.specs.Holds.{AreShort, LockedState};
+
+    ghost Value = { LockedState };
+
+    ghost view = { λ l. record { books = l.site; cut_at = l.cut_at } };
+
+    ghost invariant = { λ l. AreShort l.cut_at l.site };
+}
+
+impl<L: SiteName> Locked<L> {
+    ghost use Rattle.std.specs.Prelude.{◌≡◌, ℕ, ◌+◌, ◌<◌, ◌≤◌, ◌^◌, ◌↔◌, [], ◌∷◌, ◌++◌, length, slice_index, vec_len, vec_capacity, IfOk, IfErr, IsSome, OnOk, OnErr};
+    ghost use Rattle.std.specs.Prelude.{List};
+    ghost use Rattle.jk_model.specs.declared.journal.Call.{Call};
+    ghost use Rattle.balancer_core.specs.Journal.{Journal};
+    ghost use Rattle.balancer_core.specs.declared.receipt.Receipt.{Receipt};
+    ghost use Rattle.locked_balancer.specs.Holds.{
+      CutsFirst,
+      HoldChooses,
+      HoldCommands,
+      HoldGains,
+      HoldGainsDue,
+      HoldRefuses,
+      IsAdminMark,
+      IsRoomMark,
+      held,
+    };
+    ghost use Rattle.locked_balancer.specs.Sites.{AreSited, At, added_in};
+
+    pub(crate) fn new(site: Site<L>, cut_at: u32) -> Locked<L>
+        requires uncut { 0 < cut_at → (lb : ℕ) → At site lb (λ b. b.entries ≡ []) }
+        ensures { result ≡ record { books = site; cut_at = cut_at } }
+    {
+        site.count();
+        Locked { site, cut_at }
+    }
+
+    pub(crate) fn into_site(self) -> Site<L>
+        ensures { result ≡ self.books }
+    {
+        self.site
+    }
+
+    // Cuts a journal that has come to the length at which it is cut.
+    fn cut_first(&mut self, lb: u32) -> Result<Option<SiteSegment<L>>, NoMemory>
+        requires lb { lb < length self.old.books }
+        ensures ok { IfOk result (CutsFirst self.old.books self.new.books lb) }
+        ensures when { IfOk result (λ s. At self.old.books lb (λ b. IsSome s ↔ ((0 < self.old.cut_at) × (self.old.cut_at ≤ length b.entries)))) }
+        ensures short { OnOk result (0 < self.new.cut_at → At self.new.books lb (λ b. length b.entries < self.new.cut_at)) }
+        ensures err { OnErr result (self.new ≡ self.old) }
+        ensures same { self.new.cut_at ≡ self.old.cut_at }
+    {
+        if self.cut_at == 0 || self.site.kept(lb) < self.cut_at as u64 {
+            return Ok(None);
+        }
+        Ok(Some(self.site.cut(lb)?))
+    }
+
+    /// Cuts where that is due, does a Maintain where one is due, and then a Select.
+    pub(crate) fn choose(
+        &mut self,
+        lb: u32,
+        session: u32,
+        at: u64,
+        ask: &Ask,
+        share: &mut Share<L>,
+        receipts: &mut Vec<SiteReceipt<L>>,
+    ) -> Cut<L, Result<Choice<SiteLease<L>>, RoomError<SiteMark<L>>>>
+        requires lb { lb < length L.sizes }
+        requires part { 0 < share.old.parts }
+        requires room { vec_len receipts.old + 2 ≤ vec_capacity receipts.old }
+        ensures ok { IfOk result.1 (λ c. (mid : List Journal) × CutsFirst self.old.books mid lb result.0
+            × HoldChooses L.sizes (held mid receipts.old.items share.old.amount)
+            (held self.new.books receipts.new.items share.new.amount) lb session at ask.now c) }
+        ensures err { OnErr result.1 ((mid : List Journal) × CutsFirst self.old.books mid lb result.0
+            × HoldGainsDue (held mid receipts.old.items share.old.amount)
+            (held self.new.books receipts.new.items share.new.amount) lb session at) }
+        ensures mark { IfErr result.1 (IsRoomMark lb 2) }
+        ensures few { share.new.amount ≤ 2 ^ 58 }
+        ensures parts { share.new.parts ≡ share.old.parts }
+        ensures room { vec_capacity receipts.old ≤ vec_capacity receipts.new }
+    {
+        self.site.audit(share);
+        let segment = match self.cut_first(lb) {
+            Ok(segment) => segment,
+            Err(NoMemory) => return (None, Err(RoomError::NoMemory)),
+        };
+        let done = choose_in(&mut self.site, lb, session, at, ask, share, receipts);
+        self.site.audit(share);
+        (segment, done)
+    }
+
+    /// Cuts where that is due, does a Maintain where one is due, and then a command.
+    pub(crate) fn command(
+        &mut self,
+        lb: u32,
+        session: u32,
+        at: u64,
+        command: &Command,
+        share: &mut Share<L>,
+        receipts: &mut Vec<SiteReceipt<L>>,
+    ) -> Cut<L, Result<(), AdminError<SiteMark<L>>>>
+        requires lb { lb < length L.sizes }
+        requires part { 0 < share.old.parts }
+        requires room { vec_len receipts.old + 2 ≤ vec_capacity receipts.old }
+        ensures ok { OnOk result.1 ((mid : List Journal) × CutsFirst self.old.books mid lb result.0
+            × HoldCommands L.sizes (held mid receipts.old.items share.old.amount)
+            (held self.new.books receipts.new.items share.new.amount) lb session at command.now) }
+        ensures err { IfErr result.1 (λ e. (mid : List Journal) × CutsFirst self.old.books mid lb result.0
+            × HoldRefuses L.sizes (held mid receipts.old.items share.old.amount)
+            (held self.new.books receipts.new.items share.new.amount) lb session at command.now e) }
+        ensures mark { IfErr result.1 (IsAdminMark lb) }
+        ensures few { share.new.amount ≤ 2 ^ 58 }
+        ensures parts { share.new.parts ≡ share.old.parts }
+        ensures room { vec_capacity receipts.old ≤ vec_capacity receipts.new }
+    {
+        self.site.audit(share);
+        let segment = match self.cut_first(lb) {
+            Ok(segment) => segment,
+            Err(NoMemory) => return (None, Err(AdminError::NoMemory)),
+        };
+        let done = command_in(&mut self.site, lb, session, at, command, share, receipts);
+        self.site.audit(share);
+        (segment, done)
+    }
+
+    /// Takes a lease back. It takes no memory.
+    pub(crate) fn give_back(
+        &mut self,
+        session: u32,
+        at: u64,
+        lease: SiteLease<L>,
+        outcome: Outcome,
+        share: &mut Share<L>,
+        receipts: &mut Vec<SiteReceipt<L>>,
+    ) -> Result<(), SiteStray<L>>
+        requires lb { lease.lb < length L.sizes }
+        requires bytes { outcome.bytes ≤ 2 ^ 44 }
+        requires part { 0 < share.old.parts }
+        requires room { vec_len receipts.old < vec_capacity receipts.old }
+        ensures ok { OnOk result ((r : Receipt) × (r.entry.call ≡ Call.Return lease.ticket outcome)
+            × HoldGains (held self.old.books receipts.old.items share.old.amount)
+            (held self.new.books receipts.new.items share.new.amount) lease.lb session at (r ∷ [])) }
+        ensures stray { IfErr result (λ s. (s.lb ≡ lease.lb) × (s.stray.ticket ≡ lease.ticket)) }
+        ensures err { OnErr result (held self.new.books receipts.new.items share.new.amount ≡ held self.old.books receipts.old.items share.old.amount) }
+        ensures few { share.new.amount ≤ 2 ^ 58 }
+        ensures parts { share.new.parts ≡ share.old.parts }
+        ensures room { vec_capacity receipts.old ≤ vec_capacity receipts.new }
+    {
+        self.site.count();
+        let done = self.site.give_back(session, at, lease, outcome, share);
+        self.site.audit(share);
+        note(receipts, done?);
+        Ok(())
+    }
+
+    /// The balancer as it is now.
+    pub(crate) fn look(&mut self, lb: u32, share: &mut Share<L>) -> Result<SiteView<L>, NoMemory>
+        requires lb { lb < length L.sizes }
+        ensures lb { IfOk result (λ v. v.lb ≡ lb) }
+        ensures rows { IfOk result (λ v. length v.view.rows ≡ slice_index L.sizes lb) }
+        ensures next { IfOk result (λ v. length L.sizes ≡ 1 → slice_index L.firsts lb + share.old.amount ≤ v.view.next) }
+        ensures same { self.new ≡ self.old }
+        ensures amount { share.new.amount ≡ share.old.amount }
+        ensures parts { share.new.parts ≡ share.old.parts }
+    {
+        self.site.audit(share);
+        self.site.view(lb)
+    }
+}
