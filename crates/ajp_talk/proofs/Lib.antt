@@ -1,0 +1,12 @@
+pub mod MessageLaws
+pub mod ReplyLaws
+pub mod AskLaws
+pub mod CourseLaws
+pub mod TurnLaws
+pub mod HearingLaws
+pub mod EndLaws
+pub mod SendingLaws
+pub mod LostLaws
+pub mod GreetingLaws
+pub mod DrainLaws
+pub mod CompleteLaws

@@ -1,0 +1,265 @@
+-- A client that is gone, and what is read of the reply behind that.
+use Rattle.std.proofs.Common.{◌≡◌, ℕ, ◌+◌, ◌-◌, ◌≤◌, ◌<◌, Bool, true, false, ◌&&◌, not, List, [], ◌∷◌, ◌++◌, length, refl, sym, ap, subst, ◌∙◌, arith, append-nil, Option, Some, IfSome, is_some, inl, inr, unwrap_or}
+use Rattle.std.proofs.lemmas.Bool.{and_parts, ltb-false, not-true}
+use Rattle.jk_io.specs.Told.{Rose}
+use Rattle.ajp_reply.specs.declared.message.Message.{Message}
+use Rattle.ajp_reply.specs.declared.message.Message.TheVariants.{Headers, Chunk, End, Ask, Pong}
+use Rattle.ajp_reply.specs.declared.message.ReplyParts.{ReplyParts}
+use Rattle.ajp_reply.specs.Stream.{Spelled, IsFront, head_of}
+use Rattle.ajp_reply.proofs.StreamLaws.{spelled-behind}
+use Rattle.http_out.specs.declared.framing.Framing.{Framing}
+use Rattle.http_out.specs.declared.framing.Framing.TheVariants as By
+use Rattle.http_out.specs.Framing.{spent}
+use Rattle.http_out.specs.Writer.{Writer, IsOpen, framing_now, framing_after}
+use Rattle.http_out.specs.Writer.{counted as counted_chunk}
+use Rattle.ajp_talk.specs.Moments.{LineAt, BodyAt, Moment, Traffic, IsUsed}
+use Rattle.ajp_talk.specs.Replies.{is_good, kind_of, chunks_of, sum_of, framing_in, exceeds, agrees, IsReply}
+use Rattle.ajp_talk.specs.Owed.{pong_of}
+use Rattle.ajp_talk.specs.Talk.{IsGone, IsBrokenOff, HasWanted}
+use Rattle.ajp_talk.specs.Turns.{IsHeard, Acts, IsTurn}
+use Rattle.ajp_talk.specs.Drains.{IsLostCourse, chunk_messages, IsTail, IsDropped, Drains}
+use Rattle.ajp_talk.specs.Ends.{IsPlan, bytes_end}
+use Rattle.ajp_talk.specs.declared.plan.TalkPlan.{TalkPlan}
+use Rattle.ajp_talk.specs.declared.course.Course.{Course}
+use Rattle.ajp_talk.specs.declared.turn.Turn.TheVariants as turn_is
+use Rattle.ajp_talk.proofs.ReplyLaws.{framing_after-due, framing_after-none, framing_after-closing, framing_after-chunks, writer_for, some-of, same-equals}
+use Rattle.ajp_talk.proofs.AskLaws.{traffic-came, untaken-same}
+use Rattle.ajp_talk.proofs.CourseLaws.{At, Next, next, longer, chunk-sum, end-sum}
+use Rattle.ajp_talk.proofs.TurnLaws.{bytes-are, few-sent}
+use Rattle.ajp_talk.proofs.EndLaws.{no_turn, chunk_broken, end_broken}
+
+-- A write to the client failed behind a head: what had been accepted by then, and what was due of the body.
+pub record LostAt (plan : TalkPlan) (s n : Moment) (c : Course) : Type 0 where
+  pub past : List Message
+  pub came : List ℕ
+  pub put : List ℕ
+  pub broken : IsBrokenOff plan s n past came [] put
+  pub front : IsFront is_good past
+  pub rose : Rose s.client.faults n.client.faults
+  pub sent : c.sent ≡ length put
+  pub received : c.received ≡ length (pong_of plan ++ came)
+  pub below : c.received < plan.most
+  pub few : length put < 4611686018427387904
+  pub parts : ReplyParts
+  pub head : head_of past ≡ Some parts
+  pub within : exceeds (framing_in plan parts) (sum_of (chunks_of past)) ≡ false
+  pub framing : framing_now c.writer ≡ framing_after (framing_in plan parts) (chunks_of past)
+  pub lost : IsLostCourse c
+
+-- what is due of a length agrees with what comes exactly where all of it agrees
+pub agrees-later : (f : Framing) (chunks : List (List ℕ)) (n : ℕ) → exceeds f (sum_of chunks) ≡ false → agrees (framing_after f chunks) n ≡ agrees f (sum_of chunks + n)
+agrees-later By.NoBody chunks n w = ap (λ (f : Framing). agrees f n) (framing_after-none chunks)
+agrees-later (By.Length due) chunks n w =
+    let within = ltb-false due (sum_of chunks) w in
+    ap (λ (f : Framing). agrees f n) (framing_after-due due chunks)
+    ∙ same-equals (due - sum_of chunks) n due (sum_of chunks + n) (λ h. omega arith) (λ h. omega arith)
+agrees-later By.Closing chunks n w = ap (λ (f : Framing). agrees f n) (framing_after-closing chunks)
+agrees-later By.Chunks chunks n w = ap (λ (f : Framing). agrees f n) (framing_after-chunks chunks)
+
+-- ---- chunks behind other messages
+
+head-behind : (chunks : List (List ℕ)) (past : List Message) → head_of (chunk_messages chunks ++ past) ≡ head_of past
+head-behind [] past = refl
+head-behind (chunk ∷ chunks) past = head-behind chunks past
+
+front-chunks : (chunks : List (List ℕ)) (past : List Message) → is_some (head_of past) ≡ true → IsFront is_good past → IsFront is_good (chunk_messages chunks ++ past)
+front-chunks [] past some front = front
+front-chunks (chunk ∷ chunks) past some front = (ap is_some (head-behind chunks past) ∙ some, front-chunks chunks past some front)
+
+chunks-behind : (chunks : List (List ℕ)) (past : List Message) → chunks_of (chunk_messages chunks ++ past) ≡ chunks ++ chunks_of past
+chunks-behind [] past = refl
+chunks-behind (chunk ∷ chunks) past = ap (λ (l : List (List ℕ)). chunk ∷ l) (chunks-behind chunks past)
+
+sum-behind : (chunks past : List (List ℕ)) → sum_of (chunks ++ past) ≡ sum_of past + sum_of chunks
+sum-behind [] past = omega arith
+sum-behind (chunk ∷ chunks) past = omega (arith, sum-behind chunks past)
+
+-- the messages so far and an end that agrees with what was due are a reply
+pub lost_reply : (plan : TalkPlan) (s n : Moment) (c : Course) (a : LostAt plan s n c) (bytes : List ℕ) (t : IsTail plan c bytes)
+    → IsReply plan (End true ∷ (chunk_messages t.chunks ++ a.past)) (a.came ++ bytes)
+lost_reply plan s n c a bytes t =
+    let some : is_some (head_of a.past) ≡ true = ap is_some a.head in
+    let f = framing_in plan a.parts in
+    let sum : agrees f (sum_of (chunks_of (chunk_messages t.chunks ++ a.past))) ≡ true =
+    ap (λ (l : List (List ℕ)). agrees f (sum_of l)) (chunks-behind t.chunks a.past)
+    ∙ ap (agrees f) (sum-behind t.chunks (chunks_of a.past))
+    ∙ sym (agrees-later f (chunks_of a.past) (sum_of t.chunks) a.within)
+    ∙ ap (λ (g : Framing). agrees g (sum_of t.chunks)) (sym a.framing)
+    ∙ t.sum in
+    record {
+      spelled = spelled-behind plan.packet a.past (End true ∷ chunk_messages t.chunks) a.came bytes a.broken.spelled t.spelled;
+      form = (ap is_some (head-behind t.chunks a.past) ∙ some, front-chunks t.chunks a.past some a.front);
+      sum = subst (λ (o : Option ReplyParts). IfSome o (λ parts. agrees (framing_in plan parts) (sum_of (chunks_of (chunk_messages t.chunks ++ a.past))) ≡ true))
+          (sym (head-behind t.chunks a.past ∙ a.head)) sum;
+    }
+
+spent-now : (w w' : Writer) (chunk : List ℕ) → w'.framing ≡ (counted_chunk w chunk).framing → framing_now w' ≡ spent (framing_now w) (length chunk)
+spent-now w w' chunk e = ap (λ (o : Option Framing). unwrap_or o By.NoBody) e
+
+open-spent : (w w' : Writer) (chunk : List ℕ) → w'.framing ≡ (counted_chunk w chunk).framing → w'.ended ≡ w.ended → w.ended ≡ false → IsOpen w'
+open-spent w w' chunk e ended going = record { framing = spent (framing_now w) (length chunk); given = e; goes_on = ended ∙ going }
+
+module _ (plan : TalkPlan) (s m n : Moment) (c c' : Course) where
+  abbrev read_to : ℕ → Course
+  read_to count = record c { received = count }
+
+  lost_chunk : (a : At plan s m c) (chunk : List ℕ) (mid : LineAt) (count : ℕ) → IsPlan plan → s.client.faults ≤ m.client.faults
+      → IsHeard plan.packet plan.most m.line mid c.received count (Chunk chunk)
+      → Acts plan (Chunk chunk) (read_to count) c' mid n.line m.client n.client m.body n.body turn_is.Lost → LostAt plan s n c'
+  lost_chunk a chunk mid count fit faults h acts =
+      let st = a.stands in
+      let nx = next plan s m mid c count (Chunk chunk) a.past a.came a.put fit st h in
+      let here = subst (λ (l : LineAt). Next plan s l c count (Chunk chunk) a.past a.came a.put h.bytes) (sym acts.1) nx in
+      let lost = acts.0.2 in
+      let some = sym st.headers ∙ acts.0.0 in
+      let head = some-of (head_of a.past) some in
+      let received : c'.received ≡ count = ap (λ (x : Course). x.received) lost.rest in
+      let sent : c'.sent ≡ c.sent = ap (λ (x : Course). x.sent) lost.rest in
+      let headers : c'.headers ≡ c.headers = ap (λ (x : Course). x.headers) lost.rest in
+      let writer : c.writer ≡ writer_for (kind_of plan) (Some head.0) (chunks_of a.past) =
+      st.writer ∙ ap (λ (o : Option ReplyParts). writer_for (kind_of plan) o (chunks_of a.past)) head.1 in
+      let sum = chunk-sum (kind_of plan) (head_of a.past) (chunks_of a.past) c.writer (length chunk) false st.writer some st.accepts.within acts.0.1 in
+      record {
+        past = Chunk chunk ∷ a.past;
+        came = a.came ++ h.bytes;
+        put = a.put;
+        broken = chunk_broken plan s m n c c' a chunk count h.bytes here acts.0.0 lost.puts (untaken-same m.body n.body acts.2);
+        front = (some, st.accepts.front);
+        rose = omega (arith, acts.0.3, faults);
+        sent = sent ∙ st.sent;
+        received = received ∙ nx.counts;
+        below = omega (arith, received, nx.below);
+        few = few-sent plan s m c a.past a.came a.put fit st;
+        parts = head.0;
+        head = head.1;
+        within = subst (λ (o : Option ReplyParts). IfSome o (λ parts. exceeds (framing_in plan parts) (sum_of (chunks_of a.past) + length chunk) ≡ false)) head.1 sum;
+        framing = spent-now c.writer c'.writer chunk lost.writer.framing ∙ ap (λ (w : Writer). spent (framing_now w) (length chunk)) writer;
+        lost = record {
+          headers = headers ∙ acts.0.0;
+          opened = open-spent c.writer c'.writer chunk lost.writer.framing lost.writer.ended (ap (λ (w : Writer). w.ended) writer);
+          failed = lost.writer.failed;
+        };
+      }
+
+  lost_message : (a : At plan s m c) (message : Message) (mid : LineAt) (count : ℕ) → IsPlan plan → s.client.faults ≤ m.client.faults
+      → IsHeard plan.packet plan.most m.line mid c.received count message
+      → Acts plan message (read_to count) c' mid n.line m.client n.client m.body n.body turn_is.Lost → LostAt plan s n c'
+  lost_message a (Headers parts) mid count fit faults h acts = absurd acts.0
+  lost_message a (Chunk chunk) mid count fit faults h acts = lost_chunk a chunk mid count fit faults h acts
+  lost_message a (End reuse) mid count fit faults h acts = absurd acts.0
+  lost_message a (Ask ask) mid count fit faults h acts = absurd acts.0
+  lost_message a Pong mid count fit faults h acts = absurd (let e = acts.0 in cc)
+
+  pub lost : (a : At plan s m c) → IsPlan plan → s.client.faults ≤ m.client.faults → IsTurn plan m n c c' turn_is.Lost → LostAt plan s n c'
+  lost a fit faults (inl t) = absurd (no_turn t.why turn_is.Lost t.turn_is (λ cause e. absurd cc) (λ e. absurd cc))
+  lost a fit faults (inr t) = lost_message a t.message t.mid t.count fit faults t.heard t.acts
+
+  -- ---- the last write failed
+
+  end_message : (a : At plan s m c) (reuse keep : Bool) (message : Message) (mid : LineAt) (count : ℕ) → IsPlan plan → s.client.faults ≤ m.client.faults
+      → keep ≡ (reuse && not plan.close_on_client)
+      → IsHeard plan.packet plan.most m.line mid c.received count message
+      → Acts plan message (read_to count) c' mid n.line m.client n.client m.body n.body (turn_is.LostAtEnd reuse) → IsGone plan s n false keep (bytes_end c')
+  end_message a reuse keep (Headers parts) mid count fit faults e h acts = absurd acts.0
+  end_message a reuse keep (Chunk chunk) mid count fit faults e h acts = absurd acts.0
+  end_message a reuse keep (End again) mid count fit faults e h acts =
+      let st = a.stands in
+      let nx = next plan s m mid c count (End again) a.past a.came a.put fit st h in
+      let here = subst (λ (l : LineAt). Next plan s l c count (End again) a.past a.came a.put h.bytes) (sym acts.1) nx in
+      let is = acts.0.5 in
+      let some = sym st.headers ∙ acts.0.1 in
+      let received : c'.received ≡ count = ap (λ (x : Course). x.received) is in
+      let sent : c'.sent ≡ c.sent = ap (λ (x : Course). x.sent) is in
+      let all : (a.came ++ h.bytes) ++ [] ≡ a.came ++ h.bytes = append-nil (a.came ++ h.bytes) in
+      record {
+        past = End again ∷ a.past;
+        came = a.came ++ h.bytes;
+        rest = [];
+        put = a.put;
+        broken = end_broken plan s m n c c' a again count h.bytes here acts.0.1 acts.0.3 (untaken-same m.body n.body acts.2);
+        counted = subst (λ (x : List ℕ). bytes_end c' ≡ length a.put + length (pong_of plan ++ x)) (sym all)
+            (bytes-are c' a.put (pong_of plan ++ (a.came ++ h.bytes)) (sent ∙ st.sent) (received ∙ nx.counts) (few-sent plan s m c a.past a.came a.put fit st) (omega (arith, received, nx.below, fit.most)));
+        ended = λ f. absurd cc;
+        failed = λ f. omega (arith, acts.0.4, faults);
+        kept = λ f.
+            let both = and_parts reuse (not plan.close_on_client) (sym e ∙ f) in
+            let lets : again ≡ true = sym acts.0.0 ∙ both.0 in (
+              not-true plan.close_on_client both.1,
+              (
+                a.past,
+                subst (λ (x : List ℕ). IsReply plan (End true ∷ a.past) x) (sym all) (record {
+                  spelled = subst (λ (r : Bool). Spelled plan.packet (End r ∷ a.past) (a.came ++ h.bytes)) lets nx.spelled;
+                  form = (some, st.accepts.front);
+                  sum = end-sum (kind_of plan) (head_of a.past) (chunks_of a.past) c.writer true st.writer some st.accepts.within acts.0.2;
+                }),
+                subst (λ (x : List ℕ). length (pong_of plan ++ x) < plan.most) (sym all) (omega (arith, nx.counts, nx.below)),
+              ),
+            );
+      }
+  end_message a reuse keep (Ask ask) mid count fit faults e h acts = absurd acts.0
+  end_message a reuse keep Pong mid count fit faults e h acts = absurd (let f = acts.0 in cc)
+
+  pub lost_at_end : (a : At plan s m c) (reuse keep : Bool) → IsPlan plan → s.client.faults ≤ m.client.faults → keep ≡ (reuse && not plan.close_on_client)
+      → IsTurn plan m n c c' (turn_is.LostAtEnd reuse) → IsGone plan s n false keep (bytes_end c')
+  lost_at_end a reuse keep fit faults e (inl t) = absurd (no_turn t.why (turn_is.LostAtEnd reuse) t.turn_is (λ cause e'. absurd cc) (λ e'. absurd cc))
+  lost_at_end a reuse keep fit faults e (inr t) = end_message a reuse keep t.message t.mid t.count fit faults e t.heard t.acts
+
+-- ---- the link is closed, or the rest is read
+
+pub lost_gone : (plan : TalkPlan) (s n : Moment) (c : Course) → IsPlan plan → LostAt plan s n c → IsGone plan s n false false (bytes_end c)
+lost_gone plan s n c fit a = record {
+  past = a.past;
+  came = a.came;
+  rest = [];
+  put = a.put;
+  broken = a.broken;
+  counted = subst (λ (x : List ℕ). bytes_end c ≡ length a.put + length (pong_of plan ++ x)) (sym (append-nil a.came))
+      (bytes-are c a.put (pong_of plan ++ a.came) a.sent a.received a.few (omega (arith, a.below, fit.most)));
+  ended = λ e. absurd cc;
+  failed = λ e. a.rose;
+  kept = λ e. absurd cc;
+}
+
+-- what was broken off, and what came behind it
+broken-behind : (plan : TalkPlan) (s n p : Moment) (past : List Message) (came put bytes : List ℕ) → IsBrokenOff plan s n past came [] put
+    → IsDropped n.line p.line n.client p.client bytes → p.body ≡ n.body → IsBrokenOff plan s p past came bytes put
+broken-behind plan s n p past came put bytes b d body =
+    let before : Traffic s.line n.line (pong_of plan ++ came) put = subst (λ (x : List ℕ). Traffic s.line n.line (pong_of plan ++ x) put) (append-nil came) b.traffic in
+    record {
+      spelled = b.spelled;
+      front = b.front;
+      traffic = traffic-came s.line n.line p.line (pong_of plan) came bytes put before d.came d.sent;
+      sent = b.sent;
+      written = record { front = b.written.front; rest = b.written.rest; whole = b.written.whole; put = d.written ∙ b.written.put };
+      body = subst (λ (x : BodyAt). IsUsed s.body x) (sym body) b.body;
+    }
+
+pub lost_drained : (plan : TalkPlan) (s n p : Moment) (c c' : Course) (keep : Bool) → IsPlan plan → LostAt plan s n c
+    → Drains plan n.line p.line n.client p.client c c' keep → plan.close_on_client ≡ false → p.body ≡ n.body → n.client.faults ≤ p.client.faults
+    → IsGone plan s p false keep (bytes_end c')
+lost_drained plan s n p c c' keep fit a d closes body faults =
+    let received : c'.received ≡ length (pong_of plan ++ (a.came ++ d.bytes)) = omega (arith, d.counts, a.received, longer (pong_of plan) a.came d.bytes) in
+    record {
+      past = a.past;
+      came = a.came;
+      rest = d.bytes;
+      put = a.put;
+      broken = broken-behind plan s n p a.past a.came a.put d.bytes a.broken d.dropped body;
+      counted = bytes-are c' a.put (pong_of plan ++ (a.came ++ d.bytes)) (d.same ∙ a.sent) received a.few (omega (arith, d.small, fit.most));
+      ended = λ e. absurd cc;
+      failed = λ e. omega (arith, a.rose, faults);
+      kept = λ e. (
+        closes,
+        (chunk_messages (d.kept e).0.chunks ++ a.past, lost_reply plan s n c a d.bytes (d.kept e).0, omega (arith, received, (d.kept e).1)),
+      );
+    }
+
+pub lost_wanted : (plan : TalkPlan) (s n p : Moment) (c : Course) (bytes : List ℕ) → LostAt plan s n c → IsDropped n.line p.line n.client p.client bytes → p.body ≡ n.body
+    → HasWanted plan s p
+lost_wanted plan s n p c bytes a d body = record {
+  past = a.past;
+  came = a.came;
+  rest = bytes;
+  put = a.put;
+  broken = broken-behind plan s n p a.past a.came a.put bytes a.broken d body;
+}

@@ -1,0 +1,73 @@
+-- Each way out of the draining, from what came since the client was gone.
+use Rattle.std.proofs.Common.{refl, ◌∙◌, arith}
+use Rattle.ajp_talk.specs.declared.turn.Unheard.TheVariants as unheard_is
+use Rattle.ajp_talk.proofs.DrainLaws.{drains-first, drains-more, drained_end, chunk_wanted, chunk_over, end_wanted, end_over, other_over, silent_over, silent_wanted}
+use Rattle.ajp_talk.proofs.draining.drain.Goals as goal
+
+pub loop-bytes-init : goal.loop-bytes-init
+loop-bytes-init g c = record {
+  draining = drains-first c.args.plan.now _ _ c.args.course.now c.requires.lost c.requires.below;
+  incoming = refl;
+  line_beside = refl;
+  client_beside = refl;
+  line_faults = omega arith;
+  client_faults = omega arith;
+}
+
+pub loop-bytes-preserved : goal.loop-bytes-preserved
+loop-bytes-preserved g c =
+    let i = c.loop-bytes.invariant in
+    let heard = rw c.in-Ok-Chunk.field-0-is at c.in-Ok-Chunk.ensures.heard in
+    let turn = rw c.as_slice.ensures at c.in-On.ensures.turn in
+    record {
+      draining = drains-more c.args.plan.now _ _ _ _ _ _ c.args.course.now c.loop-bytes.course c.take_chunk.new.self c.receive.new.count c.requires.plan i.draining c.in-Ok-Chunk.bytes heard turn;
+      incoming = c.take_chunk.ensures.same.0 ∙ i.incoming;
+      line_beside = c.receive.ensures.beside ∙ i.line_beside;
+      client_beside = c.take_chunk.ensures.same.2 ∙ i.client_beside;
+      line_faults = omega (arith, c.receive.ensures.no_fewer, i.line_faults);
+      client_faults = omega (arith, c.take_chunk.ensures.no_fewer, i.client_faults);
+    }
+
+pub returns-in-NoMemory-clause-drained : goal.returns-in-NoMemory-clause-drained
+returns-in-NoMemory-clause-drained g c =
+    let heard = rw c.in-Ok-Chunk.field-0-is at c.in-Ok-Chunk.ensures.heard in
+    let turn = rw c.as_slice.ensures at c.in-NoMemory.ensures.turn in
+    chunk_wanted c.args.plan.now _ _ _ _ _ _ c.args.course.now c.loop-bytes.course c.take_chunk.new.self c.receive.new.count c.loop-bytes.invariant.draining c.in-Ok-Chunk.bytes heard turn
+
+pub returns-in_default-clause-drained : goal.returns-in_default-clause-drained
+returns-in_default-clause-drained g c =
+    let heard = rw c.in-Ok-Chunk.field-0-is at c.in-Ok-Chunk.ensures.heard in
+    let turn = rw c.as_slice.ensures at c.take_chunk.ensures.turn in
+    chunk_over c.args.plan.now _ _ _ _ _ _ c.args.course.now c.loop-bytes.course c.take_chunk.new.self c.receive.new.count c.requires.plan c.loop-bytes.invariant.draining c.in-Ok-Chunk.bytes
+    c.take_chunk.result c.in_default.not-NoMemory heard turn
+
+pub returns-in-Done-clause-drained : goal.returns-in-Done-clause-drained
+returns-in-Done-clause-drained g c =
+    let heard = rw c.in-Ok-End.field-0-is at c.in-Ok-End.ensures.heard in
+    drained_end c.args.plan.now _ _ _ _ _ _ c.args.course.now c.loop-bytes.course c.finish.new.self c.receive.new.count c.requires.plan c.loop-bytes.invariant.draining c.in-Ok-End.reuse c.in-Done.reuse
+    heard c.in-Done.ensures.turn
+
+pub returns-in-NoMemory-finish-clause-drained : goal.returns-in-NoMemory-finish-clause-drained
+returns-in-NoMemory-finish-clause-drained g c =
+    let heard = rw c.in-Ok-End.field-0-is at c.in-Ok-End.ensures.heard in
+    end_wanted c.args.plan.now _ _ _ _ _ _ c.args.course.now c.loop-bytes.course c.finish.new.self c.receive.new.count c.loop-bytes.invariant.draining c.in-Ok-End.reuse
+    heard c.in-NoMemory-finish.ensures.turn
+
+pub returns-in_default-finish-clause-drained : goal.returns-in_default-finish-clause-drained
+returns-in_default-finish-clause-drained g c =
+    let heard = rw c.in-Ok-End.field-0-is at c.in-Ok-End.ensures.heard in
+    end_over c.args.plan.now _ _ _ _ _ _ c.args.course.now c.loop-bytes.course c.finish.new.self c.receive.new.count c.requires.plan c.loop-bytes.invariant.draining c.in-Ok-End.reuse
+    c.finish.result c.in_default-finish.not-NoMemory heard c.finish.ensures.turn
+
+pub returns-in-Ok-clause-drained : goal.returns-in-Ok-clause-drained
+returns-in-Ok-clause-drained g c =
+    other_over c.args.plan.now _ _ _ _ _ c.args.course.now c.loop-bytes.course c.receive.new.count c.requires.plan c.loop-bytes.invariant.draining c.in-Ok.field-0 c.in-Ok.ensures.heard
+
+pub returns-in-Err-NoMemory-clause-drained : goal.returns-in-Err-NoMemory-clause-drained
+returns-in-Err-NoMemory-clause-drained g c =
+    silent_wanted c.args.plan.now _ _ _ _ _ c.args.course.now c.loop-bytes.course c.receive.new.count c.loop-bytes.invariant.draining unheard_is.NoMemory
+    (rw c.in-Err-NoMemory.field-0-is at c.in-Err-NoMemory.ensures.unheard)
+
+pub returns-in-Err-clause-drained : goal.returns-in-Err-clause-drained
+returns-in-Err-clause-drained g c =
+    silent_over c.args.plan.now _ _ _ _ _ c.args.course.now c.loop-bytes.course c.receive.new.count c.requires.plan c.loop-bytes.invariant.draining c.in-Err.field-0 c.in-Err.ensures.unheard

@@ -1,0 +1,46 @@
+-- What is read of a reply behind a client that is gone.
+use Rattle.std.specs.Prelude.{◌≡◌, ℕ, ◌+◌, ◌<◌, Bool, true, List, [], ◌∷◌, length, Result, Ok, Err}
+use Rattle.jk_io.specs.declared.failures.NoMemory.{NoMemory}
+use Rattle.ajp_wire.specs.Packet.{HasCome}
+use Rattle.ajp_reply.specs.declared.message.Message.{Message}
+use Rattle.ajp_reply.specs.declared.message.Message.TheVariants.{Chunk, End}
+use Rattle.ajp_reply.specs.Stream.{Spelled}
+use Rattle.http_out.specs.Writer.{IsOpen, framing_now}
+use Rattle.ajp_talk.specs.Moments.{LineAt, ClientAt}
+use Rattle.ajp_talk.specs.Replies.{sum_of, agrees}
+use Rattle.ajp_talk.specs.declared.plan.TalkPlan.{TalkPlan}
+use Rattle.ajp_talk.specs.declared.course.Course.{Course}
+
+-- a head was passed, and a write failed behind it
+pub record IsLostCourse (c : Course) : Type 0 where
+  pub headers : c.headers ≡ true
+  pub opened : IsOpen c.writer
+  pub failed : c.writer.failed ≡ true
+
+abbrev pub chunk_messages : List (List ℕ) → List Message
+chunk_messages [] = []
+chunk_messages (chunk ∷ past) = Chunk chunk ∷ chunk_messages past
+
+-- the bytes end the reply: chunks whose sum agrees with what was due, and End Response that lets the link serve again
+pub record IsTail (plan : TalkPlan) (c : Course) (bytes : List ℕ) : Type 0 where
+  pub chunks : List (List ℕ)
+  pub spelled : Spelled plan.packet (End true ∷ chunk_messages chunks) bytes
+  pub sum : agrees (framing_now c.writer) (sum_of chunks) ≡ true
+
+-- bytes came, nothing was sent, and nothing was written
+pub record IsDropped (l l' : LineAt) (w w' : ClientAt) (bytes : List ℕ) : Type 0 where
+  pub came : HasCome l.incoming l.received l'.incoming l'.received bytes
+  pub sent : l'.sent ≡ l.sent
+  pub written : w'.written ≡ w.written
+
+pub record Drains (plan : TalkPlan) (l l' : LineAt) (w w' : ClientAt) (c c' : Course) (keep : Bool) : Type 0 where
+  pub bytes : List ℕ
+  pub dropped : IsDropped l l' w w' bytes
+  pub counts : c'.received ≡ c.received + length bytes
+  pub small : c'.received < plan.most + 4294967400
+  pub same : c'.sent ≡ c.sent
+  pub kept : keep ≡ true → IsTail plan c bytes × (c'.received < plan.most)
+
+abbrev pub IsDrained : TalkPlan → LineAt → LineAt → ClientAt → ClientAt → Course → Course → Result Bool NoMemory → Type 0
+IsDrained plan l l' w w' c c' (Ok keep) = Drains plan l l' w w' c c' keep
+IsDrained plan l l' w w' c c' (Err e) = (bytes : List ℕ) × IsDropped l l' w w' bytes

@@ -1,0 +1,9 @@
+pub mod Moments
+pub mod Replies
+pub mod Owed
+pub mod Talk
+pub mod Turns
+pub mod Hearing
+pub mod Ends
+pub mod Drains
+pub mod Complete

@@ -1,0 +1,232 @@
+-- What a talk is: how it ended, by the bytes that came and went. Read this first.
+use Rattle.std.specs.Prelude.{◌≡◌, ℕ, ◌+◌, ◌<◌, ◌≤◌, ◌↔◌, ◌⊎◌, Bool, true, false, nat_le, nat_lt, List, ◌∷◌, ◌++◌, length, Option, Some, None, IfSome, is_some, Result, Ok, Err}
+use Rattle.jk_io.specs.Told.{appended, PutsFront, Rose, IsEmpty}
+use Rattle.jk_io.specs.declared.failures.NoMemory.{NoMemory}
+use Rattle.ajp_wire.specs.Packet.{IsPart, IsPacket}
+use Rattle.ajp_reply.specs.declared.message.Message.{Message}
+use Rattle.ajp_reply.specs.declared.message.Message.TheVariants.{Headers, Chunk, End, Ask, Pong}
+use Rattle.ajp_reply.specs.declared.message.ReplyParts.{ReplyParts}
+use Rattle.ajp_reply.specs.Stream.{Spelled, IsPacketOf, IsFront, IsForm, NoReply, BeginsNoMessage, head_of}
+use Rattle.http_body_in.specs.Body.{dropped, reaches}
+use Rattle.http_body_in.specs.State.{taken_of, most_of}
+use Rattle.ajp_talk.specs.Moments.{BodyAt, Moment, data_at, Traffic, Takes, IsUsed, IsFrontOf}
+use Rattle.ajp_talk.specs.Replies.{is_good, is_listed, kind_of, chunks_of, sum_of, framing_in, exceeds, agrees, IsWithin, IsUnlisted, IsReply, so_far_of_talk, reply_of_talk, bytes_for, told_by, passed_of, told_of_talk}
+use Rattle.ajp_talk.specs.Owed.{asked, ping_of, pong_of, opening, owed}
+use Rattle.ajp_talk.specs.declared.plan.TalkPlan.{TalkPlan}
+use Rattle.ajp_talk.specs.declared.ending.Stage.{Stage}
+use Rattle.ajp_talk.specs.declared.ending.Told.{Told}
+use Rattle.ajp_talk.specs.declared.ending.Cause.{Cause}
+use Rattle.ajp_talk.specs.declared.ending.Cause.TheVariants as cause_is
+use Rattle.ajp_talk.specs.declared.ending.TalkEnd.{TalkEnd}
+use Rattle.ajp_talk.specs.declared.ending.TalkEnd.TheVariants as ends
+
+-- The messages that a talk accepted, the newest first, and their bytes: they begin a reply, its status isn't listed as
+-- a failure, and no more than the announced length came.
+pub record Accepts (plan : TalkPlan) (past : List Message) (came : List ℕ) : Type 0 where
+  pub spelled : Spelled plan.packet past came
+  pub front : IsFront is_good past
+  pub unlisted : IsUnlisted plan past
+  pub within : IsWithin plan past
+
+-- ---- a failed talk
+
+-- A message that breaks the rule of the sum: a chunk beyond the announced length, or an end before it.
+abbrev pub BreaksSum : TalkPlan → List Message → Message → Type 0
+BreaksSum plan past (Headers parts) = ⊥
+BreaksSum plan past (Chunk bytes) = (parts : ReplyParts) × (head_of past ≡ Some parts) × (exceeds (framing_in plan parts) (sum_of (chunks_of past) + length bytes) ≡ true)
+BreaksSum plan past (End reuse) = (parts : ReplyParts) × (head_of past ≡ Some parts) × (agrees (framing_in plan parts) (sum_of (chunks_of past)) ≡ false)
+BreaksSum plan past (Ask n) = ⊥
+BreaksSum plan past Pong = ⊥
+
+-- What came behind the accepted messages leaves the grammar of a reply: it begins no message, or a message that may not
+-- stand there.
+abbrev pub IsWrong : TalkPlan → List Message → List ℕ → Option Message → Type 0
+IsWrong plan past rest None = BeginsNoMessage plan.packet rest
+IsWrong plan past rest (Some message) =
+    IsPacketOf plan.packet message rest × (IsFront is_good (message ∷ past) → ⊥) × (IsForm is_good (message ∷ past) → ⊥)
+
+-- no more than one packet
+abbrev pub IsNext : ℕ → List ℕ → Type 0
+IsNext most rest = ((payload : List ℕ) × IsPacket true most payload rest) ⊎ (IsPart true most rest ⊎ BeginsNoMessage most rest)
+
+-- Why it failed. The message behind the accepted ones, where one was read and refused, is the option.
+abbrev pub IsCause : TalkPlan → Moment → Moment → List Message → List ℕ → List ℕ → Option Message → Cause → Type 0
+IsCause plan s n past came rest refused cause_is.NoLink = ⊥
+IsCause plan s n past came rest refused cause_is.Line = (refused ≡ None) × IsPart true plan.packet rest × Rose s.line.faults n.line.faults
+IsCause plan s n past came rest refused cause_is.Ended = (refused ≡ None) × IsPart true plan.packet rest × IsEmpty n.line.incoming
+IsCause plan s n past came rest refused cause_is.BadReply = IsWrong plan past rest refused × NoReply is_good plan.packet (came ++ rest)
+IsCause plan s n past came rest refused cause_is.Disagree =
+    (message : Message) × (refused ≡ Some message) × IsPacketOf plan.packet message rest × BreaksSum plan past message
+IsCause plan s n past came rest refused cause_is.TooLong = (refused ≡ None) × IsNext plan.packet rest
+IsCause plan s n past came rest refused (cause_is.Status status) =
+    (parts : ReplyParts) × (refused ≡ Some (Headers parts)) × IsPacketOf plan.packet (Headers parts) rest × (head_of past ≡ None)
+    × (is_good parts ≡ true) × (status ≡ parts.status) × (is_listed plan.fail_on status ≡ true)
+
+-- where the link failed a front of what was owed was sent, else all of it
+abbrev pub SentFor : Cause → List ℕ → List ℕ → Type 0
+SentFor cause_is.NoLink put owed = ⊥
+SentFor cause_is.Line put owed = IsFrontOf put owed
+SentFor cause_is.Ended put owed = put ≡ owed
+SentFor cause_is.BadReply put owed = put ≡ owed
+SentFor cause_is.Disagree put owed = put ≡ owed
+SentFor cause_is.TooLong put owed = put ≡ owed
+SentFor (cause_is.Status status) put owed = put ≡ owed
+
+-- the messages with the one that was refused
+abbrev pub with_refused : Option Message → List Message → List Message
+with_refused None past = past
+with_refused (Some message) past = message ∷ past
+
+-- How far it had come: all of the request was sent; a head came; a byte was written to the client; data behind the first
+-- piece was taken.
+abbrev pub stage_of : TalkPlan → Moment → Moment → List Message → Option Message → List ℕ → Stage
+stage_of plan s n past refused put = record {
+  got = nat_le (length (opening plan)) (length put);
+  headers = is_some (head_of (with_refused refused past));
+  passed = passed_of plan past;
+  beyond = nat_lt (taken_of s.body.body) (taken_of n.body.body);
+}
+
+-- A talk that failed behind its CPong. The messages are the accepted ones, and the rest is what came behind them. The
+-- client has what they make so far, and no call of the body was refused; where nothing of it was taken its data is as before.
+pub record HasFailed (plan : TalkPlan) (s n : Moment) (stage : Stage) (cause : Cause) (told : Option Told) (bytes : ℕ) : Type 0 where
+  pub past : List Message
+  pub came : List ℕ
+  pub rest : List ℕ
+  pub put : List ℕ
+  pub refused : Option Message
+  pub accepts : Accepts plan past came
+  pub traffic : Traffic s.line n.line (pong_of plan ++ (came ++ rest)) put
+  pub why : IsCause plan s n past came rest refused cause
+  pub too_long : (cause ≡ cause_is.TooLong) ↔ (plan.most ≤ length (pong_of plan ++ (came ++ rest)))
+  pub sent : IfSome (data_at s.body) (λ d. SentFor cause put (owed plan d past))
+  pub written : n.client.written ≡ appended s.client.written (so_far_of_talk plan past)
+  pub stage_is : stage ≡ stage_of plan s n past refused put
+  pub told_is : told ≡ told_of_talk plan past
+  pub counted : bytes ≡ length put + length (pong_of plan ++ (came ++ rest))
+  pub taken : List ℕ
+  pub takes : Takes s.body n.body taken
+  pub again : taken_of n.body.body ≡ taken_of s.body.body → data_at n.body ≡ data_at s.body
+
+-- no CPong stands at the front, however the bytes go on
+abbrev pub BeginsNoPong : ℕ → List ℕ → Type 0
+BeginsNoPong most bytes = (more first behind : List ℕ) → IsPacketOf most Pong first → bytes ++ more ≡ first ++ behind → ⊥
+
+abbrev pub IsPingCause : TalkPlan → Moment → Moment → List ℕ → Cause → Type 0
+IsPingCause plan s n rest cause_is.NoLink = ⊥
+IsPingCause plan s n rest cause_is.Line = IsPart true plan.packet rest × Rose s.line.faults n.line.faults
+IsPingCause plan s n rest cause_is.Ended = IsPart true plan.packet rest × IsEmpty n.line.incoming
+IsPingCause plan s n rest cause_is.BadReply = BeginsNoPong plan.packet rest
+IsPingCause plan s n rest cause_is.Disagree = ⊥
+IsPingCause plan s n rest cause_is.TooLong = IsNext plan.packet rest
+IsPingCause plan s n rest (cause_is.Status status) = ⊥
+
+-- A talk that failed before a CPong came: nothing but CPing was sent, and nothing was written or taken.
+pub record HasNoPong (plan : TalkPlan) (s n : Moment) (stage : Stage) (cause : Cause) (told : Option Told) (bytes : ℕ) : Type 0 where
+  pub rest : List ℕ
+  pub put : List ℕ
+  pub pings : plan.ping ≡ true
+  pub traffic : Traffic s.line n.line rest put
+  pub why : IsPingCause plan s n rest cause
+  pub too_long : (cause ≡ cause_is.TooLong) ↔ (plan.most ≤ length rest)
+  pub sent : SentFor cause put (ping_of plan)
+  pub stage_is : stage ≡ record { got = false; headers = false; passed = false; beyond = false }
+  pub told_is : told ≡ None
+  pub counted : bytes ≡ length put + length rest
+  pub client : n.client ≡ s.client
+  pub body : n.body ≡ s.body
+
+-- ---- the other ends
+
+-- A whole reply came, all that was owed was sent, and the client has the reply whole.
+pub record IsDone (plan : TalkPlan) (s n : Moment) (told : Told) (reuse : Bool) (bytes : ℕ) : Type 0 where
+  pub past : List Message
+  pub came : List ℕ
+  pub put : List ℕ
+  pub reply : IsReply plan (End reuse ∷ past) came
+  pub unlisted : IsUnlisted plan past
+  pub traffic : Traffic s.line n.line (pong_of plan ++ came) put
+  pub below : length (pong_of plan ++ came) < plan.most
+  pub sent : IfSome (data_at s.body) (λ d. put ≡ owed plan d past)
+  pub written : n.client.written ≡ appended s.client.written (reply_of_talk plan past)
+  pub told_is : IfSome (head_of past) (λ parts. told ≡ told_by (kind_of plan) parts (chunks_of past))
+  pub counted : bytes ≡ length put + length (pong_of plan ++ came)
+  pub taken : List ℕ
+  pub takes : Takes s.body n.body taken
+  pub left : data_at n.body ≡ dropped (asked plan.piece past) (data_at s.body)
+
+-- the accepted messages begin a reply, or are one
+abbrev pub IsFrontOrForm : List Message → Type 0
+IsFrontOrForm past = IsFront is_good past ⊎ IsForm is_good past
+
+-- A front of what was owed was sent, and a front of the reply was written.
+pub record IsBrokenOff (plan : TalkPlan) (s n : Moment) (past : List Message) (came rest put : List ℕ) : Type 0 where
+  pub spelled : Spelled plan.packet past came
+  pub front : IsFrontOrForm past
+  pub traffic : Traffic s.line n.line (pong_of plan ++ (came ++ rest)) put
+  pub sent : IfSome (data_at s.body) (λ d. IsFrontOf put (owed plan d past))
+  pub written : PutsFront s.client.written n.client.written (bytes_for plan past)
+  pub body : IsUsed s.body n.body
+
+-- The client is gone: its bytes ended within the body at an ask, or a read or a write of it failed. The link is kept
+-- only where the bytes that came are a whole reply that lets it serve again, and only if it isn't to be closed then.
+pub record IsGone (plan : TalkPlan) (s n : Moment) (truncated keep : Bool) (bytes : ℕ) : Type 0 where
+  pub past : List Message
+  pub came : List ℕ
+  pub rest : List ℕ
+  pub put : List ℕ
+  pub broken : IsBrokenOff plan s n past came rest put
+  pub counted : bytes ≡ length put + length (pong_of plan ++ (came ++ rest))
+  pub ended : truncated ≡ true → (keep ≡ false) × (n.client.written ≡ appended s.client.written (so_far_of_talk plan past))
+      × IfSome (data_at s.body) (λ d. (reaches (asked plan.piece past) d ≡ false) × (d.bad ≡ false))
+  pub failed : truncated ≡ false → Rose s.client.faults n.client.faults
+  pub kept : keep ≡ true → (plan.close_on_client ≡ false)
+      × ((all : List Message) × IsReply plan (End true ∷ all) (came ++ rest) × (length (pong_of plan ++ (came ++ rest)) < plan.most))
+
+-- why a body is bad: a bad chunk line stands in its data, or its data reached the limit
+abbrev pub IsBad : BodyAt → ℕ → ℕ → Type 0
+IsBad b n status =
+    ((status ≡ 400) × IfSome (data_at b) (λ d. (reaches n d ≡ false) × (d.bad ≡ true)))
+    ⊎ ((status ≡ 413) × IfSome (data_at b) (λ d. most_of b.body ≤ taken_of b.body + length d.bytes))
+
+-- The body was found bad at an ask, the newest message. All that was owed before it was sent.
+pub record HasBadBody (plan : TalkPlan) (s n : Moment) (status : ℕ) (told : Option Told) (passed : Bool) (bytes : ℕ) : Type 0 where
+  pub ask : ℕ
+  pub past : List Message
+  pub came : List ℕ
+  pub put : List ℕ
+  pub accepts : Accepts plan (Ask ask ∷ past) came
+  pub traffic : Traffic s.line n.line (pong_of plan ++ came) put
+  pub below : length (pong_of plan ++ came) < plan.most
+  pub sent : IfSome (data_at s.body) (λ d. put ≡ owed plan d past)
+  pub written : n.client.written ≡ appended s.client.written (so_far_of_talk plan past)
+  pub why : IsBad s.body (asked plan.piece (Ask ask ∷ past)) status
+  pub told_is : told ≡ told_of_talk plan past
+  pub passed_is : passed ≡ passed_of plan past
+  pub counted : bytes ≡ length put + length (pong_of plan ++ came)
+  pub body : IsUsed s.body n.body
+
+-- Memory was wanted.
+pub record HasWanted (plan : TalkPlan) (s n : Moment) : Type 0 where
+  pub past : List Message
+  pub came : List ℕ
+  pub rest : List ℕ
+  pub put : List ℕ
+  pub broken : IsBrokenOff plan s n past came rest put
+
+-- Memory was wanted before a CPong came.
+pub record HasWantedEarly (plan : TalkPlan) (s n : Moment) : Type 0 where
+  pub rest : List ℕ
+  pub put : List ℕ
+  pub traffic : Traffic s.line n.line rest put
+  pub sent : IsFrontOf put (ping_of plan)
+  pub client : n.client ≡ s.client
+  pub body : n.body ≡ s.body
+
+-- What a talk's answer says, from the moment of its call to the moment of its return.
+abbrev pub IsTalk : TalkPlan → Moment → Moment → Result TalkEnd NoMemory → Type 0
+IsTalk plan s n (Ok (ends.Done told reuse bytes)) = IsDone plan s n told reuse bytes
+IsTalk plan s n (Ok (ends.Failed stage cause told bytes)) = HasFailed plan s n stage cause told bytes ⊎ HasNoPong plan s n stage cause told bytes
+IsTalk plan s n (Ok (ends.ClientGone truncated keep bytes)) = IsGone plan s n truncated keep bytes
+IsTalk plan s n (Ok (ends.BadBody status told passed bytes)) = HasBadBody plan s n status told passed bytes
+IsTalk plan s n (Err e) = HasWanted plan s n ⊎ HasWantedEarly plan s n

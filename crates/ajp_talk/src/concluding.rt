@@ -1,0 +1,139 @@
+//! The ends of a talk, from how far it had come.
+
+ghost use Rattle.std.specs.Prelude.{◌≡◌, ◌≤◌, ◌<◌, ◌^◌, ◌&&◌, not, length};
+ghost use Rattle.ajp_talk.specs.Owed.{opening, ping_of, first_packet};
+ghost use Rattle.ajp_talk.specs.Ends.{IsPlan, stage_end, told_end, bytes_end, failed_end, done_end, gone_end, bad_end, unanswered_end};
+
+use crate::course::Course;
+use crate::ending::{Cause, Stage, TalkEnd, Told};
+use crate::plan::TalkPlan;
+use crate::turn::Unheard;
+use jk_io::NoMemory;
+
+impl Course {
+    /// The client has the whole reply.
+    pub(crate) fn done(&self, reuse: bool) -> TalkEnd
+        ensures { result ≡ done_end self.now reuse }
+    {
+        TalkEnd::Done {
+            told: self.told,
+            reuse,
+            bytes: self.bytes(),
+        }
+    }
+
+    /// The talk failed. `taken` is how much of the body was taken, the first piece among it.
+    pub(crate) fn failed(&self, plan: &TalkPlan, taken: u64, cause: Cause) -> TalkEnd
+        requires { IsPlan plan.now }
+        ensures { result ≡ failed_end plan.now self.now taken cause }
+    {
+        TalkEnd::Failed {
+            stage: Stage {
+                got: opening_len(plan) <= self.sent,
+                headers: self.headers,
+                passed: self.writer.passed(),
+                beyond: (plan.first.len() as u64) < taken,
+            },
+            cause,
+            told: self.told_if_passed(),
+            bytes: self.bytes(),
+        }
+    }
+
+    /// The client is gone.
+    pub(crate) fn gone(&self, truncated: bool, keep: bool) -> TalkEnd
+        ensures { result ≡ gone_end self.now truncated keep }
+    {
+        TalkEnd::ClientGone {
+            truncated,
+            keep,
+            bytes: self.bytes(),
+        }
+    }
+
+    /// The body is bad.
+    pub(crate) fn bad(&self, status: u16) -> TalkEnd
+        ensures { result ≡ bad_end self.now status }
+    {
+        TalkEnd::BadBody {
+            status,
+            told: self.told_if_passed(),
+            passed: self.writer.passed(),
+            bytes: self.bytes(),
+        }
+    }
+
+    fn told_if_passed(&self) -> Option<Told>
+        ensures { result ≡ told_end self.now }
+    {
+        if self.writer.passed() {
+            Some(self.told)
+        } else {
+            None
+        }
+    }
+
+    fn bytes(&self) -> u64
+        ensures { result ≡ bytes_end self.now }
+    {
+        self.sent.saturating_add(self.received)
+    }
+}
+
+/// The end of a talk in which no CPong came.
+pub(crate) fn unanswered(sent: u64, received: u64, why: Unheard) -> Result<TalkEnd, NoMemory>
+    ensures { result ≡ unanswered_end (record {}) sent received why }
+{
+    let cause = match why {
+        Unheard::Line => Cause::Line,
+        Unheard::Ended => Cause::Ended,
+        Unheard::Wrong => Cause::BadReply,
+        Unheard::TooLong => Cause::TooLong,
+        Unheard::NoMemory => return Err(NoMemory),
+    };
+    Ok(TalkEnd::Failed {
+        stage: Stage {
+            got: false,
+            headers: false,
+            passed: false,
+            beyond: false,
+        },
+        cause,
+        told: None,
+        bytes: sent.saturating_add(received),
+    })
+}
+
+/// A link behind a client that was gone at the end is kept where the end lets it serve again, unless it is to be closed.
+pub(crate) fn is_kept(plan: &TalkPlan, reuse: bool) -> bool
+    ensures { result ≡ (reuse && not plan.now.close_on_client) }
+{
+    reuse && !plan.close_on_client
+}
+
+/// How many bytes go out before anything of a reply.
+fn opening_len(plan: &TalkPlan) -> u64
+    requires forward { length plan.now.forward < 2 ^ 32 }
+    requires first { length plan.now.first ≤ 65530 }
+    ensures { result ≡ length (opening plan.now) }
+{
+    ping_len(plan) + (plan.forward.len() as u64 + first_len(plan))
+}
+
+fn ping_len(plan: &TalkPlan) -> u64
+    ensures value { result ≡ length (ping_of plan.now) }
+    ensures small { result ≤ 5 }
+{
+    if plan.ping { 5 } else { 0 }
+}
+
+fn first_len(plan: &TalkPlan) -> u64
+    requires { length plan.now.first ≤ 65530 }
+    ensures value { result ≡ length (first_packet plan.now.first) }
+    ensures small { result ≤ 65536 }
+{
+    match plan.first.as_slice() {
+        [] => 0,
+        [_, rest @ ..] => rest.len() as u64 + 7,
+    }
+}

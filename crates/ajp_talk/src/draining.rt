@@ -1,0 +1,57 @@
+//! What comes of a reply behind a client that is gone.
+
+ghost use Rattle.std.specs.Prelude.{◌≡◌, ◌≤◌, ◌<◌};
+ghost use Rattle.ajp_talk.specs.Ends.{IsPlan};
+ghost use Rattle.ajp_talk.specs.Drains.{IsLostCourse, IsDrained};
+
+use crate::course::Course;
+use crate::hearing::receive;
+use crate::plan::TalkPlan;
+use crate::turn::{Turn, Unheard};
+use ajp_reply::Message;
+use jk_io::{Link, NoMemory, Sink};
+use std::alloc::Global;
+
+/// Reads on to the end of the reply and drops what it reads. True where the reply came whole and lets the link serve
+/// again; false at a failure or an ask.
+pub(crate) fn drain<L: Link, C: Sink>(
+    alloc: Global,
+    plan: &TalkPlan,
+    course: &mut Course,
+    line: &mut L,
+    client: &mut C,
+) -> Result<bool, NoMemory>
+    requires plan { IsPlan plan.now }
+    requires lost { IsLostCourse course.old }
+    requires below { course.old.received < plan.now.most }
+    ensures drained { IsDrained plan.now
+        (record { received = L.received line.old; incoming = L.incoming line.old; sent = L.sent line.old; faults = L.faults line.old })
+        (record { received = L.received line.new; incoming = L.incoming line.new; sent = L.sent line.new; faults = L.faults line.new })
+        (record { written = C.sent client.old; faults = C.faults client.old }) (record { written = C.sent client.new; faults = C.faults client.new })
+        course.old course.new result }
+    ensures incoming { C.incoming client.new ≡ C.incoming client.old }
+    ensures beside { (L.beside line.new ≡ L.beside line.old) × (C.beside client.new ≡ C.beside client.old) }
+    ensures no_fewer { (L.faults line.old ≤ L.faults line.new) × (C.faults client.old ≤ C.faults client.new) }
+{
+    loop {
+        match receive(alloc, line, plan.packet, plan.most, &mut course.received) {
+            Ok(Message::Chunk(bytes)) => {
+                match course.take_chunk(plan, bytes.as_slice(), client) {
+                    Turn::On => {}
+                    Turn::NoMemory => return Err(NoMemory),
+                    _ => return Ok(false),
+                }
+            }
+            Ok(Message::End { reuse }) => {
+                return match course.finish(reuse, client) {
+                    Turn::Done { .. } => Ok(reuse),
+                    Turn::NoMemory => Err(NoMemory),
+                    _ => Ok(false),
+                };
+            }
+            Ok(_) => return Ok(false),
+            Err(Unheard::NoMemory) => return Err(NoMemory),
+            Err(_) => return Ok(false),
+        }
+    }
+}

@@ -1,0 +1,59 @@
+//! CPing, and CPong that must answer it.
+
+ghost use Rattle.std.specs.Prelude.{◌≡◌, ◌<◌, ◌≤◌};
+ghost use Rattle.ajp_talk.specs.Turns.{IsGreeting, pong_only as pong_only_of};
+
+use crate::hearing::receive;
+use crate::plan::TalkPlan;
+use crate::sending::send;
+use crate::turn::Unheard;
+use ajp_reply::Message;
+use jk_io::{IoError, Link};
+use std::alloc::Global;
+
+/// The packet of CPing.
+const CPING: [u8; 5] = [0x12, 0x34, 0x00, 0x01, 0x0a];
+
+/// Sends CPing, where the plan wants it, and reads CPong. The counts are those of the talk, which begins here.
+pub(crate) fn greet<L: Link>(
+    alloc: Global,
+    plan: &TalkPlan,
+    line: &mut L,
+    sent: &mut u64,
+    received: &mut u64,
+) -> Result<(), Unheard>
+    requires some { 0 < plan.now.most }
+    requires none_sent { sent.old ≡ 0 }
+    requires none_received { received.old ≡ 0 }
+    ensures greeting { IsGreeting plan.now
+        (record { received = L.received line.old; incoming = L.incoming line.old; sent = L.sent line.old; faults = L.faults line.old })
+        (record { received = L.received line.new; incoming = L.incoming line.new; sent = L.sent line.new; faults = L.faults line.new })
+        sent.new received.new result }
+    ensures beside { L.beside line.new ≡ L.beside line.old }
+    ensures no_fewer { L.faults line.old ≤ L.faults line.new }
+{
+    if !plan.ping {
+        return Ok(());
+    }
+    match send(line, &CPING, sent) {
+        Ok(()) => {}
+        Err(IoError::Failed) => return Err(Unheard::Line),
+        Err(IoError::NoMemory) => return Err(Unheard::NoMemory),
+    }
+    match receive(alloc, line, plan.packet, plan.most, received) {
+        Ok(message) => pong_only(message),
+        Err(why) => Err(why),
+    }
+}
+
+/// The message must be CPong.
+fn pong_only(message: Message) -> Result<(), Unheard>
+    ensures { result ≡ pong_only_of message }
+{
+    match message {
+        Message::Pong => Ok(()),
+        Message::Headers(_) | Message::Chunk(_) | Message::End { .. } | Message::Ask(_) => {
+            Err(Unheard::Wrong)
+        }
+    }
+}

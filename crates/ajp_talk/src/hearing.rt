@@ -1,0 +1,90 @@
+//! The next message from a link.
+
+ghost use Rattle.std.specs.Prelude.{◌≡◌, ◌<◌, ◌≤◌, IfOk, IfErr, length};
+ghost use Rattle.ajp_wire.specs.Packet.{count_of};
+ghost use Rattle.ajp_talk.specs.Hearing.{undecoded as undecoded_as, unheard as unheard_as};
+ghost use Rattle.ajp_talk.specs.Turns.{IsHeard, IsUnheard};
+
+use crate::turn::Unheard;
+use ajp_reply::{Message, decode_reply};
+use ajp_wire::{DecodeError, PacketError, read_packet};
+use jk_io::{Bytes, Link};
+use std::alloc::Global;
+
+/// Reads one message, and adds the bytes that came to `count`. Where the count reaches `most` nothing else is looked at.
+pub(crate) fn receive<L: Link>(
+    alloc: Global,
+    line: &mut L,
+    packet: u32,
+    most: u64,
+    count: &mut u64,
+) -> Result<Message, Unheard>
+    ensures heard { IfOk result (IsHeard packet most
+        (record { received = L.received line.old; incoming = L.incoming line.old; sent = L.sent line.old; faults = L.faults line.old })
+        (record { received = L.received line.new; incoming = L.incoming line.new; sent = L.sent line.new; faults = L.faults line.new })
+        count.old count.new) }
+    ensures unheard { IfErr result (IsUnheard packet most
+        (record { received = L.received line.old; incoming = L.incoming line.old; sent = L.sent line.old; faults = L.faults line.old })
+        (record { received = L.received line.new; incoming = L.incoming line.new; sent = L.sent line.new; faults = L.faults line.new })
+        count.old count.new) }
+    ensures beside { L.beside line.new ≡ L.beside line.old }
+    ensures no_fewer { L.faults line.old ≤ L.faults line.new }
+{
+    let answer = read_packet(alloc, line, true, packet);
+    *count = count.saturating_add(bytes_read(&answer));
+    if *count >= most {
+        return Err(Unheard::TooLong);
+    }
+    match answer {
+        Ok(payload) => match decode_reply(alloc, payload.as_slice()) {
+            Ok(message) => Ok(message),
+            Err(error) => Err(undecoded(error)),
+        },
+        Err(error) => Err(unheard(error)),
+    }
+}
+
+/// How many bytes came in the read of a packet.
+fn bytes_read(answer: &Result<Bytes, PacketError>) -> u64
+    requires { IfOk answer.now (λ payload. length payload < 65536) }
+    ensures value { result ≡ count_of answer.now }
+    ensures small { result < 4294967400 }
+{
+    match answer {
+        Ok(payload) => payload.len() as u64 + 4,
+        Err(
+            PacketError::End { read }
+            | PacketError::Short { read }
+            | PacketError::BadMagic { read }
+            | PacketError::TooLong { read }
+            | PacketError::Fault { read }
+            | PacketError::NoMemory { read },
+        ) => u64::from(*read),
+    }
+}
+
+fn unheard(error: PacketError) -> Unheard
+    ensures { result ≡ unheard_as error }
+{
+    match error {
+        PacketError::End { .. } | PacketError::Short { .. } => Unheard::Ended,
+        PacketError::BadMagic { .. } | PacketError::TooLong { .. } => Unheard::Wrong,
+        PacketError::Fault { .. } => Unheard::Line,
+        PacketError::NoMemory { .. } => Unheard::NoMemory,
+    }
+}
+
+fn undecoded(error: DecodeError) -> Unheard
+    ensures { result ≡ undecoded_as error }
+{
+    match error {
+        DecodeError::NoMemory => Unheard::NoMemory,
+        DecodeError::Short { .. }
+        | DecodeError::BadCode { .. }
+        | DecodeError::BadMark { .. }
+        | DecodeError::BadBoolean { .. }
+        | DecodeError::Extra { .. }
+        | DecodeError::TooMany { .. }
+        | DecodeError::Absent { .. } => Unheard::Wrong,
+    }
+}

@@ -1,0 +1,31 @@
+//! `TalkPlan`: what a talk is told before it begins.
+
+use jk_io::Bytes;
+use jk_model::FailList;
+
+/// What a talk sends first, and by which rules it goes.
+#[derive(Debug, Drop)]
+pub struct TalkPlan {
+    /// The packet of the Forward Request.
+    pub forward: Bytes,
+    /// The first piece of the request's body, which is sent right after it; no bytes where there is none.
+    pub first: Bytes,
+    /// The most bytes of a piece, 1 to 65,530.
+    pub piece: u32,
+    /// The most bytes of a packet of the container.
+    pub packet: u32,
+    /// The talk begins with CPing, which CPong must answer.
+    pub ping: bool,
+    /// At so many received bytes the talk fails, 1 to 2^40.
+    pub most: u64,
+    /// The request is one of HTTP/1.0.
+    pub old: bool,
+    /// Its method is HEAD.
+    pub head_only: bool,
+    /// No request follows it on the client's connection.
+    pub last: bool,
+    /// The link is closed as soon as a write to the client fails.
+    pub close_on_client: bool,
+    /// The statuses that count as a failure of the member.
+    pub fail_on: FailList,
+}
