@@ -1,6 +1,8 @@
 -- The values that a line can hold: each is one of its field's type, and an entry is one that a segment keeps.
 use Rattle.std.specs.Prelude.{◌≡◌, ℕ, ◌^◌, ◌<◌, ◌≤◌, ◌==◌, All, List, Option, Some, None}
 use Rattle.std.specs.Bool.{MatchBool}
+use Rattle.jk_model.specs.Legal.{KnowsTerms}
+use Rattle.jk_model.specs.Segments.{AreRules}
 use Rattle.jk_model.specs.declared.ask.Ask.{Ask}
 use Rattle.jk_model.specs.declared.change.Change.{Change}
 use Rattle.jk_model.specs.declared.change.Command.{Command}
@@ -111,3 +113,23 @@ FitsLine rules (line.Lease ticket member) = IsLong ticket × IsShort member
 FitsLine rules (line.From beginning) = FitsBeginning beginning
 FitsLine rules (line.Entry entry) = FitsEntry rules entry
 FitsLine rules (line.End count) = IsLong count
+
+-- the ticket of a choice is the entry's number
+abbrev pub HasTicket : (seq : ℕ) → Answer → Type 0
+HasTicket seq (answer.Chosen member ticket how probe) = ticket ≡ seq
+HasTicket seq answer.NoMember = Unit {0}
+HasTicket seq answer.Forced = Unit {0}
+HasTicket seq answer.Done = Unit {0}
+
+-- a Return moves at most 2^44 bytes, and under rules 1 an ask knows no mount terms
+abbrev pub IsKeptCall : (rules : ℕ) → Call → Type 0
+IsKeptCall rules (call.Select ask) = KnowsTerms rules ask
+IsKeptCall rules (call.Return ticket outcome) = outcome.bytes ≤ 2 ^ 44
+IsKeptCall rules call.Maintain = Unit {0}
+IsKeptCall rules (call.Admin c) = Unit {0}
+
+-- what a segment keeps of a line: rules are 1 or 2, and an entry is one of the segment's rules
+abbrev pub IsKeptLine : (rules : ℕ) → Line → Type 0
+IsKeptLine rules (line.Rules version) = AreRules version
+IsKeptLine rules (line.Entry e) = HasTicket e.seq e.answer × IsKeptCall rules e.call
+IsKeptLine rules other = Unit {0}

@@ -1,7 +1,8 @@
 //! A line of a journal's text, read.
-ghost use Rattle.std.specs.Prelude.{◌≡◌, IfOk, IfSome};
+ghost use Rattle.std.specs.Prelude.{◌≡◌, ℕ, IfOk, IfSome};
 ghost use Rattle.journal_lines.specs.Lines.{line_text};
 ghost use Rattle.journal_lines.specs.Readings.{balancer_line, line_by, line_of, member_line, said};
+ghost use Rattle.journal_lines.specs.Ranges.{IsKeptLine};
 
 use crate::line::Line;
 use crate::names::name_of;
@@ -13,7 +14,8 @@ use play_script::Parts;
 use std::alloc::Global;
 
 fn balancer_line(alloc: Global, words: &mut Parts) -> Result<Option<Line>, NoMemory>
-    ensures { IfOk result (λ found. found ≡ balancer_line words.old) }
+    ensures value { IfOk result (λ found. found ≡ balancer_line words.old) }
+    ensures kept { IfOk result (λ found. (rules : ℕ) → IfSome found (IsKeptLine rules)) }
 {
     let Some(name) = words.next() else {
         return Ok(None);
@@ -26,7 +28,8 @@ fn balancer_line(alloc: Global, words: &mut Parts) -> Result<Option<Line>, NoMem
 }
 
 fn member_line(alloc: Global, words: &mut Parts) -> Result<Option<Line>, NoMemory>
-    ensures { IfOk result (λ found. found ≡ member_line words.old) }
+    ensures value { IfOk result (λ found. found ≡ member_line words.old) }
+    ensures kept { IfOk result (λ found. (rules : ℕ) → IfSome found (IsKeptLine rules)) }
 {
     let Some(name) = words.next() else {
         return Ok(None);
@@ -52,7 +55,8 @@ fn line_by(
     verb: &[u8],
     words: &mut Parts,
 ) -> Result<Option<Line>, NoMemory>
-    ensures { IfOk result (λ found. found ≡ line_by rules verb.now words.old) }
+    ensures value { IfOk result (λ found. found ≡ line_by rules verb.now words.old) }
+    ensures kept { IfOk result (λ found. IfSome found (IsKeptLine rules)) }
 {
     if is(verb, b"member") {
         member_line(alloc, words)
@@ -65,7 +69,8 @@ fn line_by(
 
 #[tactic(auto, unfolding(crate::specs::Readings::said))]
 fn said(alloc: Global, rules: u8, words: &mut Parts) -> Result<Option<Line>, NoMemory>
-    ensures { IfOk result (λ found. found ≡ said rules words.old) }
+    ensures value { IfOk result (λ found. found ≡ said rules words.old) }
+    ensures kept { IfOk result (λ found. IfSome found (IsKeptLine rules)) }
 {
     match words.next() {
         None => Ok(None),
@@ -78,6 +83,7 @@ fn said(alloc: Global, rules: u8, words: &mut Parts) -> Result<Option<Line>, NoM
 pub fn read_line(alloc: Global, rules: u8, text: &[u8]) -> Result<Option<Line>, NoMemory>
     ensures value { IfOk result (λ found. found ≡ line_of rules text.now) }
     ensures spelled { IfOk result (λ found. IfSome found (λ line. text.now ≡ line_text rules line)) }
+    ensures kept { IfOk result (λ found. IfSome found (IsKeptLine rules)) }
 {
     let mut words = Parts::of(b' ', text);
     let Some(line) = said(alloc, rules, &mut words)? else {

@@ -1,6 +1,8 @@
 //! What the words of a line say, read off from the first one on.
-ghost use Rattle.std.specs.Prelude.{◌≡◌, ◌-◌, ◌==◌, IfOk, IfSome, if◌then◌else◌};
+ghost use Rattle.std.specs.Prelude.{◌≡◌, ℕ, ◌-◌, ◌==◌, IfOk, IfSome, if◌then◌else◌};
 ghost use Rattle.journal_lines.specs.Readings.{answer_by, answer_of, ask_after, ask_of, balancer_after, balancer_of, beginning_of, call_by, call_of, call_size, change_of, chosen_of, command_of, command_size, end_line, entry_after, entry_of, lease_line, member_after, member_of, past, plain_line, return_of, rules_line, update_of};
+ghost use Rattle.jk_model.specs.Legal.{KnowsTerms};
+ghost use Rattle.journal_lines.specs.Ranges.{HasTicket, IsKeptCall, IsKeptLine};
 
 use crate::line::{BalancerValues, Beginning, Line, MemberValues};
 use crate::reading::{
@@ -20,6 +22,7 @@ fn ask_after(
 ) -> Option<Ask>
     ensures value { result ≡ ask_after rules routed fresh tried words.old }
     ensures past { IfSome result (λ _. words.new ≡ past (if rules == 1 then 0 else 2) words.old) }
+    ensures kept { IfSome result (KnowsTerms rules) }
 {
     let mut ask = Ask {
         routed,
@@ -38,6 +41,7 @@ fn ask_after(
 fn ask_of(rules: u8, words: &mut Parts) -> Option<Ask>
     ensures value { result ≡ ask_of rules words.old }
     ensures past { IfSome result (λ _. words.new ≡ past (if rules == 1 then 3 else 5) words.old) }
+    ensures kept { IfSome result (KnowsTerms rules) }
 {
     let routed = given_in(words)?;
     let fresh = flag_in(words)?;
@@ -48,6 +52,7 @@ fn ask_of(rules: u8, words: &mut Parts) -> Option<Ask>
 fn return_of(words: &mut Parts) -> Option<Call>
     ensures value { result ≡ return_of words.old }
     ensures past { IfSome result (λ _. words.new ≡ past 3 words.old) }
+    ensures kept { (rules : ℕ) → IfSome result (IsKeptCall rules) }
 {
     let ticket = long_in(words)?;
     let kind = kind_in(words)?;
@@ -104,6 +109,7 @@ fn command_of(verb: &[u8], words: &mut Parts) -> Option<Command>
 fn call_by(rules: u8, verb: &[u8], words: &mut Parts) -> Option<Call>
     ensures value { result ≡ call_by rules verb.now words.old }
     ensures past { IfSome result (λ c. words.new ≡ past (call_size rules c - 1) words.old) }
+    ensures kept { IfSome result (IsKeptCall rules) }
 {
     if is(verb, b"select") {
         Some(Call::Select(ask_of(rules, words)?))
@@ -120,6 +126,7 @@ fn call_by(rules: u8, verb: &[u8], words: &mut Parts) -> Option<Call>
 fn call_of(rules: u8, words: &mut Parts) -> Option<Call>
     ensures value { result ≡ call_of rules words.old }
     ensures past { IfSome result (λ c. words.new ≡ past (call_size rules c) words.old) }
+    ensures kept { IfSome result (IsKeptCall rules) }
 {
     let verb = words.next()?;
     call_by(rules, verb, words)
@@ -127,6 +134,7 @@ fn call_of(rules: u8, words: &mut Parts) -> Option<Call>
 
 fn chosen_of(seq: u64, words: &mut Parts) -> Option<Answer>
     ensures value { result ≡ chosen_of seq words.old }
+    ensures kept { IfSome result (HasTicket seq) }
 {
     let member = short_in(words)?;
     let how = how_in(words)?;
@@ -142,6 +150,7 @@ fn chosen_of(seq: u64, words: &mut Parts) -> Option<Answer>
 
 fn answer_by(seq: u64, verb: &[u8], words: &mut Parts) -> Option<Answer>
     ensures value { result ≡ answer_by seq verb.now words.old }
+    ensures kept { IfSome result (HasTicket seq) }
 {
     if is(verb, b"chosen") {
         return chosen_of(seq, words);
@@ -161,6 +170,7 @@ fn answer_by(seq: u64, verb: &[u8], words: &mut Parts) -> Option<Answer>
 #[tactic(auto, unfolding(crate::specs::Readings::answer_of))]
 fn answer_of(seq: u64, words: &mut Parts) -> Option<Answer>
     ensures value { result ≡ answer_of seq words.old }
+    ensures kept { IfSome result (HasTicket seq) }
 {
     let verb = words.next()?;
     answer_by(seq, verb, words)
@@ -169,6 +179,7 @@ fn answer_of(seq: u64, words: &mut Parts) -> Option<Answer>
 #[tactic(auto, unfolding(crate::specs::Readings::entry_after))]
 fn entry_after(rules: u8, seq: u64, session: u32, at: u64, words: &mut Parts) -> Option<Entry>
     ensures value { result ≡ entry_after rules seq session at words.old }
+    ensures kept { IfSome result (λ e. IsKeptLine rules (Line.Entry e)) }
 {
     let call = call_of(rules, words)?;
     let answer = answer_of(seq, words)?;
@@ -183,6 +194,7 @@ fn entry_after(rules: u8, seq: u64, session: u32, at: u64, words: &mut Parts) ->
 
 fn entry_of(rules: u8, words: &mut Parts) -> Option<Entry>
     ensures value { result ≡ entry_of rules words.old }
+    ensures kept { IfSome result (λ e. IsKeptLine rules (Line.Entry e)) }
 {
     let seq = long_in(words)?;
     let session = short_in(words)?;
@@ -279,6 +291,7 @@ fn beginning_of(words: &mut Parts) -> Option<Beginning>
 
 fn rules_line(words: &mut Parts) -> Option<Line>
     ensures value { result ≡ rules_line words.old }
+    ensures kept { (rules : ℕ) → IfSome result (IsKeptLine rules) }
 {
     let version = version_in(words)?;
     end(words)?;
@@ -287,6 +300,7 @@ fn rules_line(words: &mut Parts) -> Option<Line>
 
 fn lease_line(words: &mut Parts) -> Option<Line>
     ensures value { result ≡ lease_line words.old }
+    ensures kept { (rules : ℕ) → IfSome result (IsKeptLine rules) }
 {
     let ticket = long_in(words)?;
     let member = short_in(words)?;
@@ -296,6 +310,7 @@ fn lease_line(words: &mut Parts) -> Option<Line>
 
 fn end_line(words: &mut Parts) -> Option<Line>
     ensures value { result ≡ end_line words.old }
+    ensures kept { (rules : ℕ) → IfSome result (IsKeptLine rules) }
 {
     let count = long_in(words)?;
     end(words)?;
@@ -305,6 +320,7 @@ fn end_line(words: &mut Parts) -> Option<Line>
 /// The lines that hold no name.
 pub(crate) fn plain_line(rules: u8, verb: &[u8], words: &mut Parts) -> Option<Line>
     ensures value { result ≡ plain_line rules verb.now words.old }
+    ensures kept { IfSome result (IsKeptLine rules) }
 {
     if is(verb, b"e") {
         Some(Line::Entry(entry_of(rules, words)?))

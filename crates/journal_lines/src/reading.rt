@@ -2,6 +2,7 @@
 ghost use Rattle.std.specs.Prelude.{◌≡◌, ◌≤◌, ◌^◌, IfSome};
 ghost use Rattle.std.specs.Str.{bytes_eq};
 ghost use Rattle.jk_io.specs.Decimals.{decimal_of};
+ghost use Rattle.jk_model.specs.Segments.{AreRules};
 ghost use Rattle.play_script.specs.Values.{byte_count, flag_of, method_of, number_up_to, short_number};
 ghost use Rattle.journal_lines.specs.Readings.{activation_of, ended, first, given, how_of, keyed, kind_of, later, redirect_of, state_of, version_of};
 ghost use Rattle.journal_lines.specs.Wide.{wide_number};
@@ -263,7 +264,8 @@ pub(crate) fn redirect_in(words: &mut Parts) -> Option<Redirect>
 }
 
 fn version_of(word: &[u8]) -> Option<u8>
-    ensures { result ≡ version_of word.now }
+    ensures value { result ≡ version_of word.now }
+    ensures kept { IfSome result AreRules }
 {
     if is(word, b"1") {
         Some(1)
@@ -277,6 +279,7 @@ fn version_of(word: &[u8]) -> Option<u8>
 pub(crate) fn version_in(words: &mut Parts) -> Option<u8>
     ensures value { result ≡ first version_of words.old }
     ensures past { words.new ≡ later words.old }
+    ensures kept { IfSome result AreRules }
 {
     version_of(words.next()?)
 }

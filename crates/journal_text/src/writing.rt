@@ -1,0 +1,146 @@
+//! A segment, written.
+ghost use Rattle.std.specs.Prelude.{◌≡◌, ◌∷◌, [], ◌++◌, IfOk, OnOk, length};
+ghost use Rattle.jk_model.specs.declared.opening.Opening.{Opening};
+ghost use Rattle.journal_lines.specs.Lines.{lines_text};
+ghost use Rattle.journal_lines.specs.declared.line.Line.TheVariants as line;
+ghost use Rattle.journal_text.specs.SegmentText.{balancer_values, beginning, entry_lines, lease_lines, member_line, member_lines, member_values, opening_lines, segment_text};
+
+use jk_io::{Bytes, NoMemory};
+use jk_model::{Entry, LbConfig, MemberConfig, MemberRow, Opening, Segment};
+use journal_lines::{
+    BalancerValues, Beginning, MemberValues, put_balancer, put_beginning, put_end, put_entry,
+    put_lease, put_member, put_rules,
+};
+
+fn balancer_values(config: &LbConfig) -> BalancerValues
+    ensures { result ≡ balancer_values config.now }
+{
+    BalancerValues {
+        method: config.method,
+        sticky: config.sticky,
+        force: config.force,
+        direct: config.direct,
+        maintain: config.maintain,
+        recover: config.recover,
+        members: config.members.len() as u32,
+    }
+}
+
+fn member_values(member: &MemberConfig, row: &MemberRow) -> MemberValues
+    ensures { result ≡ member_values member.now row.now }
+{
+    MemberValues {
+        factor: member.factor,
+        distance: member.distance,
+        activation: member.activation,
+        redirect: member.redirect,
+        pool: member.pool,
+        state: row.state,
+        load: row.load,
+    }
+}
+
+fn beginning(opening: &Opening) -> Beginning
+    ensures { result ≡ beginning opening.now }
+{
+    Beginning {
+        next: opening.next,
+        at: opening.at,
+        maintained: opening.maintained,
+        chosen: opening.chosen,
+    }
+}
+
+fn put_balancer_line(
+    out: &mut Bytes,
+    rules: u8,
+    name: &[u8],
+    config: &LbConfig,
+) -> Result<(), NoMemory>
+    ensures { OnOk result (out.new ≡ out.old ++ lines_text rules (line.Balancer name.now (balancer_values config.now) ∷ [])) }
+{
+    put_balancer(out, name, &balancer_values(config))?;
+    out.push(b'\n')
+}
+
+fn put_member_line(
+    out: &mut Bytes,
+    rules: u8,
+    member: &MemberConfig,
+    row: &MemberRow,
+) -> Result<(), NoMemory>
+    ensures { OnOk result (out.new ≡ out.old ++ lines_text rules (member_line member.now row.now ∷ [])) }
+{
+    put_member(
+        out,
+        member.name.as_slice(),
+        member.route.as_slice(),
+        &member_values(member, row),
+    )?;
+    out.push(b'\n')
+}
+
+fn put_members(
+    out: &mut Bytes,
+    rules: u8,
+    members: &[MemberConfig],
+    rows: &[MemberRow],
+) -> Result<(), NoMemory>
+    requires { length rows.now ≡ length members.now }
+    ensures { OnOk result (out.new ≡ out.old ++ lines_text rules (member_lines members.now rows.now)) }
+{
+    for i in 0..members.len() {
+        put_member_line(out, rules, &members[i], &rows[i])?;
+    }
+    Ok(())
+}
+
+fn put_leases(out: &mut Bytes, rules: u8, tickets: &[(u64, u32)]) -> Result<(), NoMemory>
+    ensures { OnOk result (out.new ≡ out.old ++ lines_text rules (lease_lines tickets.now)) }
+{
+    for (ticket, member) in tickets {
+        put_lease(out, *ticket, *member)?;
+        out.push(b'\n')?;
+    }
+    Ok(())
+}
+
+fn put_opening(out: &mut Bytes, rules: u8, name: &[u8], opening: &Opening) -> Result<(), NoMemory>
+    requires { length opening.now.rows ≡ length opening.now.config.members }
+    ensures { OnOk result (out.new ≡ out.old ++ lines_text rules (opening_lines name.now opening.now)) }
+{
+    put_balancer_line(out, rules, name, &opening.config)?;
+    put_members(
+        out,
+        rules,
+        opening.config.members.as_slice(),
+        opening.rows.as_slice(),
+    )?;
+    put_leases(out, rules, opening.out.as_slice())?;
+    put_beginning(out, &beginning(opening))?;
+    out.push(b'\n')
+}
+
+fn put_entries(out: &mut Bytes, rules: u8, entries: &[Entry]) -> Result<(), NoMemory>
+    ensures { OnOk result (out.new ≡ out.old ++ lines_text rules (entry_lines entries.now)) }
+{
+    for entry in entries {
+        put_entry(out, rules, entry)?;
+        out.push(b'\n')?;
+    }
+    Ok(())
+}
+
+/// The text of a segment of the balancer with this name.
+pub fn write_segment(name: &[u8], segment: &Segment) -> Result<Bytes, NoMemory>
+    ensures { IfOk result (λ text. text ≡ segment_text name.now segment.now) }
+{
+    let mut text = Bytes::new(segment.entries.allocator());
+    put_rules(&mut text, segment.rules)?;
+    text.push(b'\n')?;
+    put_opening(&mut text, segment.rules, name, &segment.opening)?;
+    put_entries(&mut text, segment.rules, segment.entries.as_slice())?;
+    put_end(&mut text, segment.entries.len() as u64)?;
+    text.push(b'\n')?;
+    Ok(text)
+}
