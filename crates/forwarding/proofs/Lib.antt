@@ -1,0 +1,3 @@
+pub mod AttributeLaws
+pub mod ForwardLaws
+pub mod FirstPieceLaws

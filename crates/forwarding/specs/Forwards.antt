@@ -1,0 +1,71 @@
+-- The Forward Request that a request becomes for a member.
+use Rattle.std.specs.Prelude.{ℕ, Bool, false, List, [], ◌∷◌, ◌++◌, map, codes, Option, Some, None, if◌then◌else◌}
+use Rattle.jk_io.specs.Decimals.{trimmed}
+use Rattle.jk_model.specs.declared.member.MemberConfig.{MemberConfig}
+use Rattle.ajp_wire.specs.Packet.{packet}
+use Rattle.ajp_wire.specs.Spelling.{string}
+use Rattle.ajp_request.specs.Tables.{method_code}
+use Rattle.ajp_request.specs.Writing.{payload_of}
+use Rattle.ajp_request.specs.declared.attribute.Attribute.{Attribute}
+use Rattle.ajp_request.specs.declared.attribute.Attribute.TheVariants.{Plain}
+use Rattle.ajp_request.specs.declared.forward.Forward.{Forward}
+use Rattle.http_front.specs.Fields.{Line}
+use Rattle.http_front.specs.declared.head.Head.{Head}
+use Rattle.site_config.specs.declared.endpoint.Endpoint.{Endpoint}
+
+-- the protocol, as the client wrote it
+abbrev pub protocol_of : Bool → List ℕ
+protocol_of old = if old then codes "HTTP/1.0" else codes "HTTP/1.1"
+
+-- a header goes on under its name, with its value without outer spaces and tabs
+abbrev pub line_for : Line → List ℕ × List ℕ
+line_for line = (line.0, trimmed line.1)
+
+-- the route of a member is told where a balancer chose it
+abbrev pub route_for : (direct : Bool) → MemberConfig → Option (List ℕ)
+route_for direct member = if direct then None else Some member.route
+
+-- an attribute of this code, where there is something to tell
+abbrev pub attribute_for : ℕ → Option (List ℕ) → List Attribute
+attribute_for code None = []
+attribute_for code (Some text) = Plain code text ∷ []
+
+-- 05 the query, 06 the route, 0C the secret, in this order
+abbrev pub attributes_for : (query route secret : Option (List ℕ)) → List Attribute
+attributes_for query route secret = attribute_for 5 query ++ (attribute_for 6 route ++ attribute_for 12 secret)
+
+-- The Forward Request of a request from a peer, for a member that is reached by an endpoint. In a balancer that stands
+-- for one worker no route is told.
+abbrev pub forward_for : Head → (peer : List ℕ) → (direct : Bool) → MemberConfig → Endpoint → Forward
+forward_for head peer direct member endpoint = record {
+  method = head.method;
+  protocol = protocol_of head.old;
+  uri = head.path;
+  remote_addr = peer;
+  remote_host = peer;
+  server = head.server;
+  port = head.port;
+  ssl = false;
+  headers = map line_for head.headers;
+  attributes = attributes_for head.query (route_for direct member) endpoint.secret;
+}
+
+-- its packet
+abbrev pub packet_for : Head → (peer : List ℕ) → (direct : Bool) → MemberConfig → Endpoint → List ℕ
+packet_for head peer direct member endpoint = packet false (payload_of (forward_for head peer direct member endpoint))
+
+-- an attribute as it is written: its code and its string
+abbrev pub attribute_part : ℕ → Option (List ℕ) → List ℕ
+attribute_part code None = []
+attribute_part code (Some text) = code ∷ string text
+
+-- a method without a code is told by an attribute
+abbrev pub method_told : Option ℕ → List ℕ → Option (List ℕ)
+method_told (Some code) method = None
+method_told None method = Some method
+
+-- the attributes as they are written: 05 the query, 06 the route, 0C the secret, 0D the method
+abbrev pub attribute_parts : Head → (direct : Bool) → MemberConfig → Endpoint → List ℕ
+attribute_parts head direct member endpoint =
+    attribute_part 5 head.query ++ (attribute_part 6 (route_for direct member)
+    ++ (attribute_part 12 endpoint.secret ++ attribute_part 13 (method_told (method_code head.method) head.method)))
