@@ -1,4 +1,5 @@
 pub mod HoldLaws
 pub mod LockLaws
 pub mod PoolLaws
+pub mod SharedLaws
 pub mod SiteLaws

@@ -1,5 +1,6 @@
 pub mod Holds
 pub mod Notes
+pub mod SharedDesks
 pub mod Shelves
 pub mod SiteAnswers
 pub mod Sites

@@ -1,22 +1,27 @@
 //! Balancers behind one lock: their Books, counted by one ledger, and a desk for each thread that asks them.
 //!
 //! Source: Tomcat Connectors reference, LoadBalancer HowTo; that one lock stands round all balancers is an own rule.
-//! Shapes: a `Site` is in contracts the list of its Books' journals; a share of its ledger has as its amount the
-//! number of entries that were added through it.
-//! Contract: each call of a `Site`, clauses `ok`, `amount` and `err`; `Site::close`, clause `counted`.
-//! Read first: specs/Sites.antt.
-//! Errors: `RoomError`, `AdminError` and `SiteStray`, whose marks only the refusals of a Site make. After one the Site
-//! and the share are as they were.
+//! Shapes: a `Site` is in contracts the list of its Books' journals; the amount of a share of its ledger is the number
+//! of entries that were added through it. Receipts, leases, marks, views, strays and segments name the Site in their type.
+//! Contract: each call of a `Site`, clauses `ok`, `amount` and `err`; `Site::close`, clause `counted`; `SharedDesk` is a
+//! `Desk`, with `hand_back`, clause `counted`, and `leave`, clause `counted`. What stands behind the lock keeps that no
+//! journal grows much longer than where it is cut (specs/Holds.antt, `AreShort`).
+//! Read first: specs/Sites.antt, then specs/SiteAnswers.antt, Holds.antt and SharedDesks.antt.
+//! Errors: `RoomError`, `AdminError` and strays, whose marks only a Site makes. After a refusal of a Site it and the share
+//! are as they were; a segment that a refused hold cut goes to the shelf all the same.
 #![tactic(auto)]
 
+mod at_site;
 mod holds;
 mod locked;
 mod mem_shelf;
+mod shared_desk;
 mod shared_site;
 mod shelf;
 mod site;
 
 pub use mem_shelf::{KeptList, MemShelf};
+pub use shared_desk::{Leaving, SharedDesk};
 pub use shared_site::SharedSite;
 pub use shelf::Shelf;
 pub use site::{

@@ -1,0 +1,537 @@
+-- What a hold of the lock is for the desk that has it.
+use Rattle.std.proofs.Common.{◌≡◌, ℕ, zero, suc, ◌+◌, ◌^◌, ◌<◌, ◌≤◌, Bool, true, false, not, List, [], ◌∷◌, ◌++◌, length, take, drop, get_or, Option, Some, None, refl, sym, ap, ◌∙◌, subst, inl, inr, arith, add-one}
+use Rattle.std.specs.Prelude.{◌==◌, ◌&&◌, IfErr, IfOk, IfSome, OnErr, OnOk, Result, Ok, Err, slice_index}
+use Rattle.std.specs.List.{All, AllByRecursion as ByRecursion}
+use Rattle.std.proofs.lemmas.Bool.{cases_Bool, eqb-true}
+use Rattle.std.proofs.lemmas.List.{append-nil, drop_all, length-append}
+use Rattle.std.proofs.lemmas.List.Elements.{All-append, All-from_recursion, All-nil, recursion_from_All}
+use Rattle.jk_model.specs.declared.ask.Ask.{Ask}
+use Rattle.jk_model.specs.declared.change.Command.{Command}
+use Rattle.jk_model.specs.declared.journal.Call.TheVariants as call
+use Rattle.jk_model.specs.declared.journal.Entry.{Entry}
+use Rattle.jk_model.specs.declared.journal.Outcome.{Outcome}
+use Rattle.jk_model.specs.declared.refusal.AdminError.{AdminError}
+use Rattle.jk_model.specs.declared.refusal.AdminError.TheVariants as admin
+use Rattle.jk_model.specs.declared.refusal.RoomError.{RoomError}
+use Rattle.jk_model.specs.declared.refusal.RoomError.TheVariants as room
+use Rattle.jk_model.specs.declared.segment.Segment.{Segment}
+use Rattle.balancer_core.specs.Desks.{Chooses, Commands, DeskState, KeepsDesk, MeetsStray, RefusesChoice, RefusesCommand, Gains, GainsDue, GainsLast, IsAskRefusal, IsChoice, IsCommandRefusal, IsDue, IsOwn, LeaseNote, TakesBack, holds, is_pair, without_last}
+use Rattle.balancer_core.specs.Journal.{Journal}
+use Rattle.balancer_core.specs.ToldBooks.{AreNextAt, AreSound, WhereTold, book_in}
+use Rattle.balancer_core.specs.declared.desk.Choice.{Choice}
+use Rattle.balancer_core.specs.declared.desk.Choice.TheVariants as choice
+use Rattle.balancer_core.specs.declared.receipt.Receipt.{Receipt}
+use Rattle.balancer_core.proofs.PlainLaws.{pair_is}
+use Rattle.locked_balancer.specs.Holds.{CutsFirst, Held, HoldChooses, HoldCommands, HoldGains, HoldGainsDue, HoldGainsLast, HoldRefuses, IsHoldChoice, held}
+use Rattle.locked_balancer.specs.Notes.{MarkNote}
+use Rattle.locked_balancer.specs.SharedDesks.{AreKnown, CountsFull, CountsRefusal, IsShared, pairs_of, shared_desk}
+
+-- Of Books that aren't told nothing is said.
+pub untold : (lb : ℕ) (P : Journal → Type 0) → WhereTold None lb P
+untold lb P b found = absurd cc
+
+pub none_sound : (sizes : List ℕ) → AreSound sizes None
+none_sound sizes = record {
+  sound = λ lb b found. absurd cc;
+  sized = λ told is. absurd cc;
+}
+
+module _ (sizes : List ℕ) (parts : ℕ) (old new : Held) (held held' : List (ℕ × ℕ)) (s f w s' f' w' : ℕ) (lb session at : ℕ) where
+  pub gains_desk : (gained : List Receipt) → HoldGains old new lb session at gained
+      → Gains (shared_desk sizes parts old.receipts held old.amount s f w) (shared_desk sizes parts new.receipts held' new.amount s' f' w') lb session at gained
+  gains_desk gained gains = record {
+    receipts = gains.receipts;
+    own = gains.own;
+    added = gains.amount;
+    books = refl;
+    next = untold lb (λ b. AreNextAt b at gained);
+  }
+
+  pub last_desk : (last : Receipt) → HoldGainsLast old new lb session at last
+      → GainsLast (shared_desk sizes parts old.receipts held old.amount s f w) (shared_desk sizes parts new.receipts held' new.amount s' f' w') lb session at last
+  last_desk last gains = record {
+    due = gains.due;
+    is_due = gains.is_due;
+    gains = gains_desk (gains.due ++ last ∷ []) gains.gains;
+    maintained = λ b found. absurd cc;
+  }
+
+  pub due_desk : {M : Type 0} (error : RoomError M) → HoldGainsDue old new lb session at
+      → GainsDue (shared_desk sizes parts old.receipts held old.amount s f w) (shared_desk sizes parts new.receipts held' new.amount s' f' w') lb session at
+      (IsAskRefusal (shared_desk sizes parts old.receipts held old.amount s f w) lb at error)
+  due_desk error gains = record {
+    due = gains.due;
+    is_due = gains.is_due;
+    gains = gains_desk gains.due gains.gains;
+    account = inl (λ b found. absurd cc);
+  }
+
+  pub refused_desk : (command : Command) (error : AdminError MarkNote) → HoldRefuses sizes old new lb session at command error
+      → GainsDue (shared_desk sizes parts old.receipts held old.amount s f w) (shared_desk sizes parts new.receipts held' new.amount s' f' w') lb session at
+      (IsCommandRefusal (shared_desk sizes parts old.receipts held old.amount s f w) lb at command error)
+  refused_desk command error refuses = record {
+    due = refuses.due;
+    is_due = refuses.is_due;
+    gains = gains_desk refuses.due refuses.gains;
+    account = elim refuses.why [
+      | inl own ↦ inl (λ b found. absurd cc, own)
+      | inr first ↦ inr (first.0, first.1, (first.2, λ b found. absurd cc))
+    ];
+  }
+
+-- A choice, with the pair that is held for it.
+choice_desk : (old new : DeskState) (lb : ℕ) (ask : Ask) (e : Entry) (c : Choice LeaseNote) → IsHoldChoice old.sizes lb ask e c
+    → new.held ≡ old.held ++ pairs_of lb c → IsChoice (λ lease. lease) old new lb ask e c
+choice_desk old new lb ask e (choice.Chosen m lease) is tickets = (
+  is.0,
+  is.1,
+  is.2,
+  is.3,
+  tickets ∙ ap (λ (x : LeaseNote). old.held ++ (lb, x.ticket) ∷ []) is.3,
+  is.4,
+  is.5,
+)
+choice_desk old new lb ask e choice.NoMember is tickets = (is, tickets ∙ append-nil old.held)
+choice_desk old new lb ask e choice.Forced is tickets = (is, tickets ∙ append-nil old.held)
+
+pub chooses_desk : (sizes : List ℕ) (parts : ℕ) (old new : Held) (held held' : List (ℕ × ℕ)) (s f w : ℕ) (lb session at : ℕ) (ask : Ask) (c : Choice LeaseNote)
+    → HoldChooses sizes old new lb session at ask c → held' ≡ held ++ pairs_of lb c
+    → Chooses (λ lease. lease) (shared_desk sizes parts old.receipts held old.amount s f w) (shared_desk sizes parts new.receipts held' new.amount s f w) lb session at ask c
+chooses_desk sizes parts old new held held' s f w lb session at ask c chose tickets = record {
+  last = chose.last;
+  gains = last_desk sizes parts old new held held' s f w s f w lb session at chose.last chose.gains;
+  asked = chose.asked;
+  answered = choice_desk (shared_desk sizes parts old.receipts held old.amount s f w) (shared_desk sizes parts new.receipts held' new.amount s f w)
+      lb ask chose.last.entry c chose.answered tickets;
+  full = refl;
+  stray = refl;
+  wide = refl;
+}
+
+pub commands_desk : (sizes : List ℕ) (parts : ℕ) (old new : Held) (held : List (ℕ × ℕ)) (s f w : ℕ) (lb session at : ℕ) (command : Command)
+    → HoldCommands sizes old new lb session at command
+    → Commands (shared_desk sizes parts old.receipts held old.amount s f w) (shared_desk sizes parts new.receipts held new.amount s f w) lb session at command
+commands_desk sizes parts old new held s f w lb session at command done = record {
+  last = done.last;
+  gains = last_desk sizes parts old new held held s f w s f w lb session at done.last done.gains;
+  commanded = done.commanded;
+  named = done.named;
+  values = done.values;
+  full = refl;
+  wide = refl;
+}
+
+pub takes_back_desk : (sizes : List ℕ) (parts : ℕ) (old new : Held) (held held' : List (ℕ × ℕ)) (s f w : ℕ) (session at : ℕ) (lease : LeaseNote) (outcome : Outcome) (r : Receipt)
+    → r.entry.call ≡ call.Return lease.ticket outcome → HoldGains old new lease.lb session at (r ∷ [])
+    → TakesBack (shared_desk sizes parts old.receipts held old.amount s f w) (shared_desk sizes parts new.receipts held' new.amount s f w) session at lease outcome
+takes_back_desk sizes parts old new held held' s f w session at lease outcome r returned gains = record {
+  last = r;
+  gains = gains_desk sizes parts old new held held' s f w s f w lease.lb session at (r ∷ []) gains;
+  returned = returned;
+  stray = refl;
+}
+
+-- What a desk keeps.
+pub shared_more : (n : ℕ) (receipts receipts' : List Receipt) (held held' : List (ℕ × ℕ)) (parts parts' amount amount' forgotten room room' : ℕ) (gained : List Receipt)
+    → IsShared n receipts held parts amount forgotten room → receipts' ≡ receipts ++ gained → amount' ≡ amount + length gained → amount' ≤ 2 ^ 58
+    → parts' ≡ parts → AreKnown n held' → length receipts' + length held' ≤ room' → IsShared n receipts' held' parts' amount' forgotten room'
+shared_more n receipts receipts' held held' parts parts' amount amount' forgotten room room' gained is more counted few same known roomy = record {
+  part = let part : 0 < parts = is.part in omega arith;
+  counted = let all : length receipts' ≡ length receipts + length gained = ap (λ (rs : List Receipt). length rs) more ∙ length-append receipts gained in
+      let was : amount ≡ length receipts + forgotten = is.counted in
+      omega arith;
+  few = few;
+  known = known;
+  roomy = roomy;
+}
+
+pub known-more : (n : ℕ) (held : List (ℕ × ℕ)) (lb : ℕ) (c : Choice LeaseNote) → lb < n → AreKnown n held → AreKnown n (held ++ pairs_of lb c)
+known-more n held lb (choice.Chosen m lease) within known =
+    All-append (λ (x : ℕ × ℕ). x.0 < n) held ((lb, lease.ticket) ∷ []) known
+    (All-from_recursion (λ (x : ℕ × ℕ). x.0 < n) ((lb, lease.ticket) ∷ []) (within, tt))
+known-more n held lb choice.NoMember within known = subst (λ (xs : List (ℕ × ℕ)). AreKnown n xs) (sym (append-nil held)) known
+known-more n held lb choice.Forced within known = subst (λ (xs : List (ℕ × ℕ)). AreKnown n xs) (sym (append-nil held)) known
+
+pub pairs-length : (lb : ℕ) (c : Choice LeaseNote) → length (pairs_of lb c) ≤ 1
+pairs-length lb (choice.Chosen m lease) = omega arith
+pairs-length lb choice.NoMember = omega arith
+pairs-length lb choice.Forced = omega arith
+
+-- A pair that is held.
+known_rec : (n : ℕ) (held : List (ℕ × ℕ)) (p : ℕ × ℕ) → ByRecursion (λ x. x.0 < n) held → holds held p ≡ true → p.0 < n
+known_rec n [] p known is = absurd cc
+known_rec n (x ∷ xs) p known is =
+    elim (cases_Bool (is_pair p x)) [
+      | inl this ↦ subst (λ (y : ℕ × ℕ). y.0 < n) (sym (pair_is p x this)) known.0
+      | inr other ↦ known_rec n xs p known.1 (sym (rw other refl) ∙ is)
+    ]
+
+pub known_held : (n : ℕ) (held : List (ℕ × ℕ)) (p : ℕ × ℕ) → AreKnown n held → holds held p ≡ true → p.0 < n
+known_held n held p known is = known_rec n held p (recursion_from_All (λ (x : ℕ × ℕ). x.0 < n) held known) is
+
+pub held-some : (held : List (ℕ × ℕ)) (p : ℕ × ℕ) → holds held p ≡ true → 0 < length held
+held-some [] p is = absurd cc
+held-some (x ∷ xs) p is = omega arith
+
+-- Without the last pair that is this.
+pub without_last-less : (held : List (ℕ × ℕ)) (p : ℕ × ℕ) → length (without_last held p) ≤ length held
+without_last-less [] p = omega arith
+without_last-less (x ∷ xs) p =
+    let rest : length (without_last xs p) ≤ length xs = without_last-less xs p in
+    elim (cases_Bool (is_pair p x && not (holds xs p))) [
+      | inl this ↦ rw this (omega arith)
+      | inr other ↦ rw other (omega arith)
+    ]
+
+pub without_last-one : (held : List (ℕ × ℕ)) (p : ℕ × ℕ) → holds held p ≡ true → length (without_last held p) + 1 ≤ length held
+without_last-one [] p is = absurd cc
+without_last-one (x ∷ xs) p is =
+    elim (cases_Bool (holds xs p)) [
+      | inl later ↦
+          let rest : length (without_last xs p) + 1 ≤ length xs = without_last-one xs p later in
+          elim (cases_Bool (is_pair p x)) [
+            | inl this ↦ rw (later, this) (omega arith)
+            | inr other ↦ rw (later, other) (omega arith)
+          ]
+      | inr none ↦
+          elim (cases_Bool (is_pair p x)) [
+            | inl this ↦ rw (none, this) (omega arith)
+            | inr other ↦ let is_false : holds (x ∷ xs) p ≡ false = rw (other, none) refl in absurd cc
+          ]
+    ]
+
+without_rec : (n : ℕ) (held : List (ℕ × ℕ)) (p : ℕ × ℕ) → ByRecursion (λ x. x.0 < n) held → ByRecursion (λ x. x.0 < n) (without_last held p)
+without_rec n [] p known = tt
+without_rec n (x ∷ xs) p known =
+    elim (cases_Bool (is_pair p x && not (holds xs p))) [
+      | inl this ↦ rw this known.1
+      | inr other ↦ rw other (known.0, without_rec n xs p known.1)
+    ]
+
+pub known-without : (n : ℕ) (held : List (ℕ × ℕ)) (p : ℕ × ℕ) → AreKnown n held → AreKnown n (without_last held p)
+known-without n held p known =
+    All-from_recursion (λ (x : ℕ × ℕ). x.0 < n) (without_last held p)
+    (without_rec n held p (recursion_from_All (λ (x : ℕ × ℕ). x.0 < n) held known))
+
+-- The place at which the last one stands.
+pub held_at : (held : List (ℕ × ℕ)) (p d : ℕ × ℕ) (i : ℕ) → i < length held → is_pair p (get_or held i d) ≡ true → holds held p ≡ true
+held_at [] p d i lt is = absurd (omega arith)
+held_at (x ∷ xs) p d zero lt is = rw is refl
+held_at (x ∷ xs) p d (suc i) lt is =
+    let rest : holds xs p ≡ true = held_at xs p d i (omega arith) is in
+    elim (cases_Bool (is_pair p x)) [
+      | inl this ↦ rw this refl
+      | inr other ↦ rw other rest
+    ]
+
+pub without_last-at : (held : List (ℕ × ℕ)) (p d : ℕ × ℕ) (i : ℕ) → i < length held → is_pair p (get_or held i d) ≡ true → holds (drop (suc i) held) p ≡ false
+    → without_last held p ≡ take i held ++ drop (suc i) held
+without_last-at [] p d i lt is none = absurd (omega arith)
+without_last-at (x ∷ xs) p d zero lt is none = rw (none, is) refl
+without_last-at (x ∷ xs) p d (suc i) lt is none =
+    let later : holds xs p ≡ true = held_at xs p d i (omega arith) is in
+    let rest : x ∷ without_last xs p ≡ x ∷ (take i xs ++ drop (suc i) xs) = ap (λ (ys : List (ℕ × ℕ)). x ∷ ys) (without_last-at xs p d i (omega arith) is none) in
+    elim (cases_Bool (is_pair p x)) [
+      | inl this ↦ rw (later, this) rest
+      | inr other ↦ rw (later, other) rest
+    ]
+
+pub without_last-none : (held : List (ℕ × ℕ)) (p : ℕ × ℕ) → holds held p ≡ false → without_last held p ≡ held
+without_last-none [] p none = refl
+without_last-none (x ∷ xs) p none =
+    elim (cases_Bool (is_pair p x)) [
+      | inl this ↦ let yes_held : holds (x ∷ xs) p ≡ true = rw this refl in absurd cc
+      | inr other ↦
+          let rest : holds xs p ≡ false = sym (rw other refl) ∙ none in
+          rw other (ap (λ (ys : List (ℕ × ℕ)). x ∷ ys) (without_last-none xs p rest))
+    ]
+
+pub holds_drop : (held : List (ℕ × ℕ)) (p d : ℕ × ℕ) (i : ℕ) → i < length held → is_pair p (get_or held i d) ≡ false → holds (drop (suc i) held) p ≡ false → holds (drop i held) p ≡ false
+holds_drop [] p d i lt other none = absurd (omega arith)
+holds_drop (x ∷ xs) p d zero lt other none = rw (other, none) refl
+holds_drop (x ∷ xs) p d (suc i) lt other none = holds_drop xs p d i (omega arith) other none
+
+-- What the hold of a desk gained, by its result.
+abbrev pub Gained : (rs rs' : List Receipt) (a a' : ℕ) → Type 0
+Gained rs rs' a a' = (gained : List Receipt) × (rs' ≡ rs ++ gained) × (a' ≡ a + length gained) × (length gained ≤ 2)
+
+due_length : (due : List Receipt) → IsDue due → length due ≤ 1
+due_length [] is = omega arith
+due_length (r ∷ []) is = omega arith
+due_length (r ∷ s ∷ rest) is = absurd is
+
+gained_last : (old new : Held) (lb session at : ℕ) (last : Receipt) → HoldGainsLast old new lb session at last → Gained old.receipts new.receipts old.amount new.amount
+gained_last old new lb session at last gains =
+    let one : length gains.due ≤ 1 = due_length gains.due gains.is_due in
+    let all : length (gains.due ++ last ∷ []) ≡ length gains.due + 1 = length-append gains.due (last ∷ []) in
+    (gains.due ++ last ∷ [], gains.gains.receipts, gains.gains.amount, omega arith)
+
+gained_due : (old new : Held) (lb session at : ℕ) (due : List Receipt) → IsDue due → HoldGains old new lb session at due → Gained old.receipts new.receipts old.amount new.amount
+gained_due old new lb session at due is gains =
+    let one : length due ≤ 1 = due_length due is in
+    (due, gains.receipts, gains.amount, omega arith)
+
+module _ (sizes : List ℕ) (before after : List Journal) (cut : Option (ℕ × Segment)) (rs rs' : List Receipt) (a a' : ℕ) (lb session at : ℕ) where
+  -- What the locked value's choice says, and its command.
+  abbrev pub ChoseOk : Ask → Choice LeaseNote → Type 0
+  ChoseOk ask c = (mid : List Journal) × CutsFirst before mid lb cut × HoldChooses sizes (held mid rs a) (held after rs' a') lb session at ask c
+
+  abbrev pub ChoseErr : Type 0
+  ChoseErr = (mid : List Journal) × CutsFirst before mid lb cut × HoldGainsDue (held mid rs a) (held after rs' a') lb session at
+
+  abbrev pub DidOk : Command → Type 0
+  DidOk command = (mid : List Journal) × CutsFirst before mid lb cut × HoldCommands sizes (held mid rs a) (held after rs' a') lb session at command
+
+  abbrev pub DidErr : Command → AdminError MarkNote → Type 0
+  DidErr command e = (mid : List Journal) × CutsFirst before mid lb cut × HoldRefuses sizes (held mid rs a) (held after rs' a') lb session at command e
+
+  pub gained_choose : (ask : Ask) (r : Result (Choice LeaseNote) (RoomError MarkNote)) → IfOk r (λ c. ChoseOk ask c) → OnErr r ChoseErr → Gained rs rs' a a'
+  gained_choose ask (Ok c) ok err = gained_last (held ok.0 rs a) (held after rs' a') lb session at ok.2.last ok.2.gains
+  gained_choose ask (Err e) ok err = gained_due (held err.0 rs a) (held after rs' a') lb session at err.2.due err.2.is_due err.2.gains
+
+  pub gained_command : {T : Type 0} (command : Command) (r : Result T (AdminError MarkNote)) → OnOk r (DidOk command) → IfErr r (λ e. DidErr command e) → Gained rs rs' a a'
+  gained_command command (Ok c) ok err = gained_last (held ok.0 rs a) (held after rs' a') lb session at ok.2.last ok.2.gains
+  gained_command command (Err e) ok err = gained_due (held err.0 rs a) (held after rs' a') lb session at err.2.due err.2.is_due err.2.gains
+
+  cut_first : (mid : List Journal) (c : Option (ℕ × Segment)) → CutsFirst before mid lb c → IfSome c (λ x. x.0 ≡ lb)
+  cut_first mid None is = tt
+  cut_first mid (Some x) is = is.balancer
+
+  pub cut_choose : (ask : Ask) (r : Result (Choice LeaseNote) (RoomError MarkNote)) → IfOk r (λ c. ChoseOk ask c) → OnErr r ChoseErr → IfSome cut (λ x. x.0 ≡ lb)
+  cut_choose ask (Ok c) ok err = cut_first ok.0 cut ok.1
+  cut_choose ask (Err e) ok err = cut_first err.0 cut err.1
+
+  pub cut_command : {T : Type 0} (command : Command) (r : Result T (AdminError MarkNote)) → OnOk r (DidOk command) → IfErr r (λ e. DidErr command e) → IfSome cut (λ x. x.0 ≡ lb)
+  cut_command command (Ok c) ok err = cut_first ok.0 cut ok.1
+  cut_command command (Err e) ok err = cut_first err.0 cut err.1
+
+  module _ (parts parts' : ℕ) (h h' : List (ℕ × ℕ)) where
+    pub ok_choose : (ask : Ask) (r : Result (Choice LeaseNote) (RoomError MarkNote)) → parts' ≡ parts → IfOk r (λ c. ChoseOk ask c) → IfOk r (λ c. h' ≡ h ++ pairs_of lb c)
+        → IfOk r (λ c. (s f w : ℕ) → Chooses (λ lease. lease) (shared_desk sizes parts rs h a s f w) (shared_desk sizes parts' rs' h' a' s f w) lb session at ask c)
+    ok_choose ask (Ok c) same ok tickets = λ s f w.
+        subst (λ (n : ℕ). Chooses (λ lease. lease) (shared_desk sizes parts rs h a s f w) (shared_desk sizes n rs' h' a' s f w) lb session at ask c) (sym same)
+        (chooses_desk sizes parts (held ok.0 rs a) (held after rs' a') h h' s f w lb session at ask c ok.2 tickets)
+    ok_choose ask (Err e) same ok tickets = tt
+
+    pub err_choose : (r : Result (Choice LeaseNote) (RoomError MarkNote)) → parts' ≡ parts → OnErr r ChoseErr
+        → IfErr r (λ e. (s f w f' w' : ℕ) → GainsDue (shared_desk sizes parts rs h a s f w) (shared_desk sizes parts' rs' h' a' s f' w') lb session at
+        (IsAskRefusal (shared_desk sizes parts rs h a s f w) lb at e))
+    err_choose (Ok c) same err = tt
+    err_choose (Err e) same err = λ s f w f' w'.
+        subst (λ (n : ℕ). GainsDue (shared_desk sizes parts rs h a s f w) (shared_desk sizes n rs' h' a' s f' w') lb session at (IsAskRefusal (shared_desk sizes parts rs h a s f w) lb at e)) (sym same)
+        (due_desk sizes parts (held err.0 rs a) (held after rs' a') h h' s f w s f' w' lb session at e err.2)
+
+    pub ok_command : {T : Type 0} (command : Command) (r : Result T (AdminError MarkNote)) → parts' ≡ parts → OnOk r (DidOk command)
+        → OnOk r ((s f w : ℕ) → Commands (shared_desk sizes parts rs h a s f w) (shared_desk sizes parts' rs' h a' s f w) lb session at command)
+    ok_command command (Ok c) same ok = λ s f w.
+        subst (λ (n : ℕ). Commands (shared_desk sizes parts rs h a s f w) (shared_desk sizes n rs' h a' s f w) lb session at command) (sym same)
+        (commands_desk sizes parts (held ok.0 rs a) (held after rs' a') h s f w lb session at command ok.2)
+    ok_command command (Err e) same ok = tt
+
+    pub err_command : {T : Type 0} (command : Command) (r : Result T (AdminError MarkNote)) → parts' ≡ parts → IfErr r (λ e. DidErr command e)
+        → IfErr r (λ e. (s f w f' w' : ℕ) → GainsDue (shared_desk sizes parts rs h a s f w) (shared_desk sizes parts' rs' h' a' s f' w') lb session at
+        (IsCommandRefusal (shared_desk sizes parts rs h a s f w) lb at command e))
+    err_command command (Ok c) same err = tt
+    err_command command (Err e) same err = λ s f w f' w'.
+        subst (λ (n : ℕ). GainsDue (shared_desk sizes parts rs h a s f w) (shared_desk sizes n rs' h' a' s f' w') lb session at (IsCommandRefusal (shared_desk sizes parts rs h a s f w) lb at command e)) (sym same)
+        (refused_desk sizes parts (held err.0 rs a) (held after rs' a') h h' s f w s f' w' lb session at command e err.2)
+
+-- What a desk keeps after a choice, and after a command.
+pub kept_choose : (n lb : ℕ) (rs rs' : List Receipt) (h h' : List (ℕ × ℕ)) (parts parts' a a' room room' : ℕ) (r : Result (Choice LeaseNote) (RoomError MarkNote)) → lb < n
+    → Gained rs rs' a a' → IfOk r (λ c. h' ≡ h ++ pairs_of lb c) → OnErr r (h' ≡ h) → a' ≤ 2 ^ 58 → parts' ≡ parts → length rs + length h + 3 ≤ room'
+    → (f : ℕ) → IsShared n rs h parts a f room → IsShared n rs' h' parts' a' f room'
+kept_choose n lb rs rs' h h' parts parts' a a' room room' (Ok c) within gained ok err few same roomy f is =
+    let all : length rs' ≡ length rs + length gained.0 = ap (λ (xs : List Receipt). length xs) gained.1 ∙ length-append rs gained.0 in
+    let tickets : length h' ≡ length h + length (pairs_of lb c) = ap (λ (xs : List (ℕ × ℕ)). length xs) ok ∙ length-append h (pairs_of lb c) in
+    let one : length (pairs_of lb c) ≤ 1 = pairs-length lb c in
+    let two : length gained.0 ≤ 2 = gained.3 in
+    shared_more n rs rs' h h' parts parts' a a' f room room' gained.0 is gained.1 gained.2 few same
+    (subst (λ (xs : List (ℕ × ℕ)). AreKnown n xs) (sym ok) (known-more n h lb c within is.known)) (omega arith)
+kept_choose n lb rs rs' h h' parts parts' a a' room room' (Err e) within gained ok err few same roomy f is =
+    let all : length rs' ≡ length rs + length gained.0 = ap (λ (xs : List Receipt). length xs) gained.1 ∙ length-append rs gained.0 in
+    let tickets : length h' ≡ length h = ap (λ (xs : List (ℕ × ℕ)). length xs) err in
+    let two : length gained.0 ≤ 2 = gained.3 in
+    shared_more n rs rs' h h' parts parts' a a' f room room' gained.0 is gained.1 gained.2 few same
+    (subst (λ (xs : List (ℕ × ℕ)). AreKnown n xs) (sym err) is.known) (omega arith)
+
+pub kept_command : (n : ℕ) (rs rs' : List Receipt) (h : List (ℕ × ℕ)) (parts parts' a a' room room' : ℕ) → Gained rs rs' a a' → a' ≤ 2 ^ 58 → parts' ≡ parts
+    → length rs + length h + 2 ≤ room' → (f : ℕ) → IsShared n rs h parts a f room → IsShared n rs' h parts' a' f room'
+kept_command n rs rs' h parts parts' a a' room room' gained few same roomy f is =
+    let all : length rs' ≡ length rs + length gained.0 = ap (λ (xs : List Receipt). length xs) gained.1 ∙ length-append rs gained.0 in
+    let two : length gained.0 ≤ 2 = gained.3 in
+    shared_more n rs rs' h h parts parts' a a' f room room' gained.0 is gained.1 gained.2 few same is.known (omega arith)
+
+-- Nothing was done.
+pub shared_none : (n : ℕ) (rs rs' : List Receipt) (h h' : List (ℕ × ℕ)) (parts a f room room' : ℕ) → rs' ≡ rs → h' ≡ h → room ≤ room' → IsShared n rs h parts a f room
+    → IsShared n rs' h' parts a f room'
+shared_none n rs rs' h h' parts a f room room' same same_held more is =
+    subst (λ (xs : List Receipt). IsShared n xs h' parts a f room') (sym same)
+    (subst (λ (xs : List (ℕ × ℕ)). IsShared n rs xs parts a f room') (sym same_held)
+    (record {
+      part = is.part;
+      counted = is.counted;
+      few = is.few;
+      known = is.known;
+      roomy = let roomy : length rs + length h ≤ room = is.roomy in omega arith;
+    }))
+
+pub none_desk : (sizes : List ℕ) (parts : ℕ) (rs rs' : List Receipt) (h h' : List (ℕ × ℕ)) (a s f w f' w' lb session at : ℕ) (account : List Receipt → Type 0) → rs' ≡ rs → account []
+    → GainsDue (shared_desk sizes parts rs h a s f w) (shared_desk sizes parts rs' h' a s f' w') lb session at account
+none_desk sizes parts rs rs' h h' a s f w f' w' lb session at account same none = record {
+  due = [];
+  is_due = tt;
+  gains = record {
+    receipts = same ∙ sym (append-nil rs);
+    own = All-nil (IsOwn lb session at);
+    added = omega arith;
+    books = refl;
+    next = untold lb (λ b. AreNextAt b at []);
+  };
+  account = none;
+}
+
+-- A Return.
+pub back_ok : {E : Type 0} (sizes : List ℕ) (before after : List Journal) (rs rs' : List Receipt) (parts parts' a a' session at : ℕ) (lease : LeaseNote) (outcome : Outcome) (r : Result (Unit {0}) E)
+    → parts' ≡ parts → OnOk r ((x : Receipt) × (x.entry.call ≡ call.Return lease.ticket outcome) × HoldGains (held before rs a) (held after rs' a') lease.lb session at (x ∷ []))
+    → OnOk r ((s f w : ℕ) (h h' : List (ℕ × ℕ)) → TakesBack (shared_desk sizes parts rs h a s f w) (shared_desk sizes parts' rs' h' a' s f w) session at lease outcome)
+back_ok sizes before after rs rs' parts parts' a a' session at lease outcome (Ok x) same ok = λ s f w h h'.
+    subst (λ (n : ℕ). TakesBack (shared_desk sizes parts rs h a s f w) (shared_desk sizes n rs' h' a' s f w) session at lease outcome) (sym same)
+    (takes_back_desk sizes parts (held before rs a) (held after rs' a') h h' s f w session at lease outcome ok.0 ok.1 ok.2)
+back_ok sizes before after rs rs' parts parts' a a' session at lease outcome (Err e) same ok = tt
+
+pub back_length : {E : Type 0} (before after : List Journal) (rs rs' : List Receipt) (a a' session at : ℕ) (lease : LeaseNote) (outcome : Outcome) (r : Result (Unit {0}) E)
+    → OnOk r ((x : Receipt) × (x.entry.call ≡ call.Return lease.ticket outcome) × HoldGains (held before rs a) (held after rs' a') lease.lb session at (x ∷ []))
+    → OnOk r (length rs' ≡ length rs + 1)
+back_length before after rs rs' a a' session at lease outcome (Ok x) ok =
+    ap (λ (xs : List Receipt). length xs) ok.2.receipts ∙ length-append rs (ok.0 ∷ [])
+back_length before after rs rs' a a' session at lease outcome (Err e) ok = tt
+
+pub back_amount : {E : Type 0} (before after : List Journal) (rs rs' : List Receipt) (a a' session at : ℕ) (lease : LeaseNote) (outcome : Outcome) (r : Result (Unit {0}) E)
+    → OnOk r ((x : Receipt) × (x.entry.call ≡ call.Return lease.ticket outcome) × HoldGains (held before rs a) (held after rs' a') lease.lb session at (x ∷ []))
+    → OnOk r (a' ≡ a + 1)
+back_amount before after rs rs' a a' session at lease outcome (Ok x) ok = ok.2.amount
+back_amount before after rs rs' a a' session at lease outcome (Err e) ok = tt
+
+pub back_err : {T E : Type 0} (before after : List Journal) (rs rs' : List Receipt) (a a' : ℕ) (r : Result T E) → OnErr r (held after rs' a' ≡ held before rs a)
+    → OnErr r ((rs' ≡ rs) × (a' ≡ a))
+back_err before after rs rs' a a' (Ok x) err = tt
+back_err before after rs rs' a a' (Err e) err = (ap (λ (x : Held). x.receipts) err, ap (λ (x : Held). x.amount) err)
+
+pub holds_all : (held : List (ℕ × ℕ)) (p : ℕ × ℕ) (n : ℕ) → length held ≤ n → holds (drop n held) p ≡ false
+holds_all held p n all = rw (drop_all n held all) refl
+
+-- A choice and a command with what they count.
+full_more : {T : Type 0} (f f' : ℕ) (r : Result T (RoomError MarkNote)) → CountsFull f f' r → f ≤ f'
+full_more f f' (Ok c) counts = omega arith
+full_more f f' (Err (room.Full mark)) counts = counts.no_fewer
+full_more f f' (Err room.NoMemory) counts = omega arith
+
+refusal_more : {T : Type 0} (f f' w w' : ℕ) (r : Result T (AdminError MarkNote)) → CountsRefusal f f' w w' r → (f ≤ f') × (w ≤ w')
+refusal_more f f' w w' (Ok c) counts = (let x = counts.0 in omega arith, let y = counts.1 in omega arith)
+refusal_more f f' w w' (Err admin.UnknownMember) counts = (let x = counts.0 in omega arith, let y = counts.1 in omega arith)
+refusal_more f f' w w' (Err admin.BadValue) counts = (let x = counts.0 in omega arith, let y = counts.1 in omega arith)
+refusal_more f f' w w' (Err (admin.TooWide mark)) counts = (let x = counts.0 in omega arith, counts.1.no_fewer)
+refusal_more f f' w w' (Err (admin.Full mark)) counts = (counts.0.no_fewer, let y = counts.1 in omega arith)
+refusal_more f f' w w' (Err admin.NoMemory) counts = (let x = counts.0 in omega arith, let y = counts.1 in omega arith)
+
+module _ (sizes : List ℕ) (parts parts' : ℕ) (rs rs' : List Receipt) (h h' : List (ℕ × ℕ)) (a a' s f f' w w' lb session at : ℕ) where
+  pub final_ok : (ask : Ask) (r : Result (Choice LeaseNote) (RoomError MarkNote)) → CountsFull f f' r
+      → IfOk r (λ c. (s f w : ℕ) → Chooses (λ lease. lease) (shared_desk sizes parts rs h a s f w) (shared_desk sizes parts' rs' h' a' s f w) lb session at ask c)
+      → IfOk r (λ c. Chooses (λ lease. lease) (shared_desk sizes parts rs h a s f w) (shared_desk sizes parts' rs' h' a' s f' w) lb session at ask c)
+  final_ok ask (Ok c) counts ok =
+      subst (λ (n : ℕ). Chooses (λ lease. lease) (shared_desk sizes parts rs h a s f w) (shared_desk sizes parts' rs' h' a' s n w) lb session at ask c) (sym counts) (ok s f w)
+  final_ok ask (Err e) counts ok = tt
+
+  pub final_err : (r : Result (Choice LeaseNote) (RoomError MarkNote)) → CountsFull f f' r → OnErr r (h' ≡ h)
+      → IfErr r (λ e. (s f w f' w' : ℕ) → GainsDue (shared_desk sizes parts rs h a s f w) (shared_desk sizes parts' rs' h' a' s f' w') lb session at
+      (IsAskRefusal (shared_desk sizes parts rs h a s f w) lb at e))
+      → IfErr r (λ e. RefusesChoice (shared_desk sizes parts rs h a s f w) (shared_desk sizes parts' rs' h' a' s f' w) lb session at e)
+  final_err (Ok c) counts same err = tt
+  final_err (Err (room.Full mark)) counts same err = record {
+    gains = err s f w f' w;
+    held = same;
+    full = λ m is. counts.rose;
+    wanted = λ is. absurd cc;
+    stray = refl;
+    wide = refl;
+  }
+  final_err (Err room.NoMemory) counts same err = record {
+    gains = err s f w f' w;
+    held = same;
+    full = λ m is. absurd cc;
+    wanted = λ is. counts;
+    stray = refl;
+    wide = refl;
+  }
+
+  pub full_kept : {T : Type 0} (r : Result T (RoomError MarkNote)) → parts' ≡ parts → CountsFull f f' r
+      → KeepsDesk (shared_desk sizes parts rs h a s f w) (shared_desk sizes parts' rs' h' a' s f' w)
+  full_kept r same counts = record {
+    caller = refl;
+    sizes = refl;
+    parts = ap (λ (n : ℕ). Some n) same;
+    strays = omega arith;
+    fulls = full_more f f' r counts;
+    wides = omega arith;
+    sound_before = none_sound sizes;
+    sound = none_sound sizes;
+  }
+
+  pub final_done : {T : Type 0} (command : Command) (r : Result T (AdminError MarkNote)) → CountsRefusal f f' w w' r
+      → OnOk r ((s f w : ℕ) → Commands (shared_desk sizes parts rs h a s f w) (shared_desk sizes parts' rs' h' a' s f w) lb session at command)
+      → OnOk r (Commands (shared_desk sizes parts rs h a s f w) (shared_desk sizes parts' rs' h' a' s f' w') lb session at command)
+  final_done command (Ok c) counts ok =
+      subst (λ (n : ℕ). Commands (shared_desk sizes parts rs h a s f w) (shared_desk sizes parts' rs' h' a' s n w') lb session at command) (sym counts.0)
+      (subst (λ (n : ℕ). Commands (shared_desk sizes parts rs h a s f w) (shared_desk sizes parts' rs' h' a' s f n) lb session at command) (sym counts.1) (ok s f w))
+  final_done command (Err e) counts ok = tt
+
+  pub final_refused : {T : Type 0} (command : Command) (r : Result T (AdminError MarkNote)) → CountsRefusal f f' w w' r
+      → IfErr r (λ e. (s f w f' w' : ℕ) → GainsDue (shared_desk sizes parts rs h a s f w) (shared_desk sizes parts' rs' h' a' s f' w') lb session at
+      (IsCommandRefusal (shared_desk sizes parts rs h a s f w) lb at command e))
+      → IfErr r (λ e. RefusesCommand (shared_desk sizes parts rs h a s f w) (shared_desk sizes parts' rs' h' a' s f' w') lb session at command e)
+  final_refused command (Ok c) counts err = tt
+  final_refused command (Err admin.UnknownMember) counts err = record { gains = err s f w f' w'; counted = counts }
+  final_refused command (Err admin.BadValue) counts err = record { gains = err s f w f' w'; counted = counts }
+  final_refused command (Err (admin.TooWide mark)) counts err = record { gains = err s f w f' w'; counted = (counts.0, counts.1.rose) }
+  final_refused command (Err (admin.Full mark)) counts err = record { gains = err s f w f' w'; counted = (counts.0.rose, counts.1) }
+  final_refused command (Err admin.NoMemory) counts err = record { gains = err s f w f' w'; counted = counts }
+
+  pub refusal_kept : {T : Type 0} (r : Result T (AdminError MarkNote)) → parts' ≡ parts → CountsRefusal f f' w w' r
+      → KeepsDesk (shared_desk sizes parts rs h a s f w) (shared_desk sizes parts' rs' h' a' s f' w')
+  refusal_kept r same counts = record {
+    caller = refl;
+    sizes = refl;
+    parts = ap (λ (n : ℕ). Some n) same;
+    strays = omega arith;
+    fulls = (refusal_more f f' w w' r counts).0;
+    wides = (refusal_more f f' w w' r counts).1;
+    sound_before = none_sound sizes;
+    sound = none_sound sizes;
+  }
+
+-- After a Return, and after a stray.
+pub shared_back : (n : ℕ) (rs rs' : List Receipt) (h h' : List (ℕ × ℕ)) (p : ℕ × ℕ) (parts parts' a a' f room room' : ℕ) → IsShared n rs h parts a f room → holds h p ≡ true
+    → length rs' ≡ length rs + 1 → a' ≡ a + 1 → a' ≤ 2 ^ 58 → parts' ≡ parts → h' ≡ without_last h p → room ≤ room' → IsShared n rs' h' parts' a' f room'
+shared_back n rs rs' h h' p parts parts' a a' f room room' is had one counted few same without more =
+    let less : length h' + 1 ≤ length h =
+    subst (λ (xs : List (ℕ × ℕ)). length xs + 1 ≤ length h) (sym without) (without_last-one h p had) in
+    record {
+      part = let part : 0 < parts = is.part in omega arith;
+      counted = let was : a ≡ length rs + f = is.counted in omega arith;
+      few = few;
+      known = subst (λ (xs : List (ℕ × ℕ)). AreKnown n xs) (sym without) (known-without n h p is.known);
+      roomy = let roomy : length rs + length h ≤ room = is.roomy in omega arith;
+    }
+
+pub shared_stray : (n : ℕ) (rs rs' : List Receipt) (h h' : List (ℕ × ℕ)) (p : ℕ × ℕ) (parts parts' a a' f room room' : ℕ) → IsShared n rs h parts a f room
+    → rs' ≡ rs → a' ≡ a → parts' ≡ parts → h' ≡ without_last h p → room ≤ room' → IsShared n rs' h' parts' a' f room'
+shared_stray n rs rs' h h' p parts parts' a a' f room room' is same_receipts same_amount same without more =
+    let less : length h' ≤ length h = subst (λ (xs : List (ℕ × ℕ)). length xs ≤ length h) (sym without) (without_last-less h p) in
+    let all : length rs' ≡ length rs = ap (λ (xs : List Receipt). length xs) same_receipts in
+    record {
+      part = let part : 0 < parts = is.part in omega arith;
+      counted = let was : a ≡ length rs + f = is.counted in omega arith;
+      few = let few : a ≤ 2 ^ 58 = is.few in omega arith;
+      known = subst (λ (xs : List (ℕ × ℕ)). AreKnown n xs) (sym without) (known-without n h p is.known);
+      roomy = let roomy : length rs + length h ≤ room = is.roomy in omega arith;
+    }

@@ -1,0 +1,38 @@
+-- What a call of a shared desk tells.
+use Rattle.std.proofs.Common.{◌≡◌, ℕ, List, length, refl, ap, subst}
+use Rattle.std.specs.Prelude.{IfErr, IfOk, OnOk}
+use Rattle.balancer_core.specs.Desks.{Chooses, DeskState, KeepsDesk, RefusesChoice}
+use Rattle.locked_balancer.specs.SharedDesks.{PutsAwayOf, SharedState, shared_desk}
+use Rattle.locked_balancer.proofs.SharedLaws.{final_err, final_ok, full_kept}
+use Rattle.locked_balancer.proofs.shared_desk.SharedDeskDesk.choose.Goals as goal
+
+pub invariant_of-self : goal.invariant_of-self
+invariant_of-self g c = c.choose_at-segment.ensures.kept c.self.inside.forgotten c.self.invariant
+
+pub returns-clause-ok : goal.returns-clause-ok
+returns-clause-ok g c =
+    let desk_is = ap (λ (st : SharedState _). st.desk) c.self.view_is in
+    subst (λ (d : DeskState). IfOk c.choose_at-segment.result.1 (λ x. Chooses (λ lease. lease) d (shared_desk g.L.SiteName.sizes c.choose_at-segment.new.share.parts c.choose_at-segment.new.receipts.items c.choose_at-segment.new.held.items c.choose_at-segment.new.share.amount c.self.inside.strays c.count_full.new.fulls c.self.inside.wides) c.args.lb c.args.session c.args.at c.args.ask.now x)) desk_is
+    (final_ok g.L.SiteName.sizes c.self.inside.share.parts c.choose_at-segment.new.share.parts c.self.inside.receipts.items c.choose_at-segment.new.receipts.items c.self.inside.held.items c.choose_at-segment.new.held.items c.self.inside.share.amount c.choose_at-segment.new.share.amount c.self.inside.strays c.self.inside.fulls c.count_full.new.fulls c.self.inside.wides c.self.inside.wides c.args.lb c.args.session c.args.at c.args.ask.now c.choose_at-segment.result.1 c.count_full.ensures c.choose_at-segment.ensures.ok)
+
+pub returns-clause-err : goal.returns-clause-err
+returns-clause-err g c =
+    let desk_is = ap (λ (st : SharedState _). st.desk) c.self.view_is in
+    subst (λ (d : DeskState). IfErr c.choose_at-segment.result.1 (λ e. RefusesChoice d (shared_desk g.L.SiteName.sizes c.choose_at-segment.new.share.parts c.choose_at-segment.new.receipts.items c.choose_at-segment.new.held.items c.choose_at-segment.new.share.amount c.self.inside.strays c.count_full.new.fulls c.self.inside.wides) c.args.lb c.args.session c.args.at e)) desk_is
+    (final_err g.L.SiteName.sizes c.self.inside.share.parts c.choose_at-segment.new.share.parts c.self.inside.receipts.items c.choose_at-segment.new.receipts.items c.self.inside.held.items c.choose_at-segment.new.held.items c.self.inside.share.amount c.choose_at-segment.new.share.amount c.self.inside.strays c.self.inside.fulls c.count_full.new.fulls c.self.inside.wides c.self.inside.wides c.args.lb c.args.session c.args.at c.choose_at-segment.result.1 c.count_full.ensures c.choose_at-segment.ensures.held c.choose_at-segment.ensures.err)
+
+pub returns-clause-kept : goal.returns-clause-kept
+returns-clause-kept g c =
+    let desk_is = ap (λ (st : SharedState _). st.desk) c.self.view_is in
+    subst (λ (d : DeskState). KeepsDesk d (shared_desk g.L.SiteName.sizes c.choose_at-segment.new.share.parts c.choose_at-segment.new.receipts.items c.choose_at-segment.new.held.items c.choose_at-segment.new.share.amount c.self.inside.strays c.count_full.new.fulls c.self.inside.wides)) desk_is
+    (full_kept g.L.SiteName.sizes c.self.inside.share.parts c.choose_at-segment.new.share.parts c.self.inside.receipts.items c.choose_at-segment.new.receipts.items c.self.inside.held.items c.choose_at-segment.new.held.items c.self.inside.share.amount c.choose_at-segment.new.share.amount c.self.inside.strays c.self.inside.fulls c.count_full.new.fulls c.self.inside.wides c.self.inside.wides c.args.lb c.args.session c.args.at c.choose_at-segment.result.1 c.choose_at-segment.ensures.parts c.count_full.ensures)
+
+pub returns-clause-shelf : goal.returns-clause-shelf
+returns-clause-shelf g c =
+    subst (λ (st : SharedState _). PutsAwayOf g.S.Shelf.shelved g.S.Shelf.faults c.args.lb st (record { desk = shared_desk g.L.SiteName.sizes c.choose_at-segment.new.share.parts c.choose_at-segment.new.receipts.items c.choose_at-segment.new.held.items c.choose_at-segment.new.share.amount c.self.inside.strays c.count_full.new.fulls c.self.inside.wides; shelf = c.put_away.new.shelf; forgotten = c.self.inside.forgotten; wants = c.put_away.new.wants; met = c.self.inside.met })) c.self.view_is (record {
+      cut = c.choose_at-segment.result.0;
+      of = c.choose_at-segment.ensures.cut;
+      put = c.put_away.ensures;
+      forgotten = refl;
+      met = refl;
+    })

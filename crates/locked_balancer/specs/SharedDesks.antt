@@ -1,0 +1,105 @@
+-- What is told of a desk over a Site that is shared, and what it keeps.
+use Rattle.std.specs.Prelude.{◌≡◌, ℕ, suc, true, false, drop, slice_index_or, ◌+◌, ◌^◌, ◌<◌, ◌≤◌, ◌⊎◌, List, [], ◌∷◌, length, Option, Some, None, IfSome, Result, Ok, Err}
+use Rattle.std.specs.List.{All}
+use Rattle.jk_io.specs.Told.{Rose, appended}
+use Rattle.jk_model.specs.declared.refusal.AdminError.{AdminError}
+use Rattle.jk_model.specs.declared.refusal.AdminError.TheVariants as admin
+use Rattle.jk_model.specs.declared.refusal.RoomError.{RoomError}
+use Rattle.jk_model.specs.declared.refusal.RoomError.TheVariants as room
+use Rattle.jk_model.specs.declared.segment.Segment.{Segment}
+use Rattle.balancer_core.specs.Desks.{DeskState, LeaseNote, holds, is_pair}
+use Rattle.balancer_core.specs.declared.desk.Choice.{Choice}
+use Rattle.balancer_core.specs.declared.desk.Choice.TheVariants as choice
+use Rattle.balancer_core.specs.declared.receipt.Receipt.{Receipt}
+use Rattle.locked_balancer.specs.Notes.{MarkNote, StrayNote}
+
+-- A desk over a shared Site: what each desk tells, its shelf, how many receipts it forgot, for how many segments the
+-- shelf wanted memory, and the stray that it met first since the last was taken.
+pub record SharedState (S : Type 0) : Type 0 where
+  pub desk : DeskState
+  pub shelf : S
+  pub forgotten : ℕ
+  pub wants : ℕ
+  pub met : Option StrayNote
+
+-- What is told as of each desk. The Books behind the lock aren't told.
+abbrev pub shared_desk : (sizes : List ℕ) (parts : ℕ) → List Receipt → (held : List (ℕ × ℕ)) → (amount strays fulls wides : ℕ) → DeskState
+shared_desk sizes parts receipts held amount strays fulls wides = record {
+  receipts = receipts;
+  held = held;
+  added = amount;
+  caller = None;
+  sizes = sizes;
+  parts = Some parts;
+  strays = strays;
+  fulls = fulls;
+  wides = wides;
+  books = None;
+}
+
+-- A count that rose by one, or stood at its last value.
+pub record CountsOne (before now : ℕ) : Type 0 where
+  pub rose : Rose before now
+  pub no_fewer : before ≤ now
+
+-- The pair of the ticket that a choice of balancer lb made.
+abbrev pub pairs_of : (lb : ℕ) → Choice LeaseNote → List (ℕ × ℕ)
+pairs_of lb (choice.Chosen m lease) = (lb, lease.ticket) ∷ []
+pairs_of lb choice.NoMember = []
+pairs_of lb choice.Forced = []
+
+-- Where a segment that was cut went: it was kept, or the shelf failed, or it wanted memory, which is counted.
+pub record IsPutAway {S : Type 0} (shelved : S → Option (List (ℕ × Segment))) (faults : S → ℕ) (old new : S) (wants wants' : ℕ) (cut : ℕ × Segment) : Type 0 where
+  pub went : ((shelved new ≡ appended (shelved old) (cut ∷ [])) × (wants' ≡ wants))
+      ⊎ ((shelved new ≡ shelved old) × ((Rose (faults old) (faults new) × (wants' ≡ wants)) ⊎ CountsOne wants wants'))
+  pub no_fewer : faults old ≤ faults new
+
+abbrev pub PutsAway : {S : Type 0} → (S → Option (List (ℕ × Segment))) → (S → ℕ) → (old new : S) → (wants wants' : ℕ) → Option (ℕ × Segment) → Type 0
+PutsAway shelved faults old new wants wants' None = (new ≡ old) × (wants' ≡ wants)
+PutsAway shelved faults old new wants wants' (Some cut) = IsPutAway shelved faults old new wants wants' cut
+
+-- At most one segment of balancer lb was put away, and nothing else changed beside what each desk tells.
+pub record PutsAwayOf {S : Type 0} (shelved : S → Option (List (ℕ × Segment))) (faults : S → ℕ) (lb : ℕ) (old new : SharedState S) : Type 0 where
+  pub cut : Option (ℕ × Segment)
+  pub of : IfSome cut (λ s. s.0 ≡ lb)
+  pub put : PutsAway shelved faults old.shelf new.shelf old.wants new.wants cut
+  pub forgotten : new.forgotten ≡ old.forgotten
+  pub met : new.met ≡ old.met
+
+-- The place of the last pair that is this, if there is one.
+abbrev pub IsLastPlace : List (ℕ × ℕ) → ℕ × ℕ → Option ℕ → Type 0
+IsLastPlace held pair None = holds held pair ≡ false
+IsLastPlace held pair (Some i) = (i < length held) × (is_pair pair (slice_index_or held i (0, 0)) ≡ true) × (holds (drop (suc i) held) pair ≡ false)
+
+-- A pair's balancer is one of n.
+abbrev pub AreKnown : (n : ℕ) → List (ℕ × ℕ) → Type 0
+AreKnown n held = All (λ x. x.0 < n) held
+
+-- The fields of a desk: its share counts its receipts and those that it forgot, and it has the room for the receipts of
+-- the Returns to come.
+pub record IsShared (n : ℕ) (receipts : List Receipt) (held : List (ℕ × ℕ)) (parts amount forgotten room : ℕ) : Type 0 where
+  pub part : 0 < parts
+  pub counted : amount ≡ length receipts + forgotten
+  pub few : amount ≤ 2 ^ 58
+  pub known : AreKnown n held
+  pub roomy : length receipts + length held ≤ room
+
+-- Just a Full is counted.
+abbrev pub CountsFull : {T : Type 0} → (before now : ℕ) → Result T (RoomError MarkNote) → Type 0
+CountsFull before now (Ok done) = now ≡ before
+CountsFull before now (Err (room.Full mark)) = CountsOne before now
+CountsFull before now (Err room.NoMemory) = now ≡ before
+
+-- Just a Full and a TooWide are counted, each by its own count.
+abbrev pub CountsRefusal : {T : Type 0} → (fulls fulls' wides wides' : ℕ) → Result T (AdminError MarkNote) → Type 0
+CountsRefusal fulls fulls' wides wides' (Ok done) = (fulls' ≡ fulls) × (wides' ≡ wides)
+CountsRefusal fulls fulls' wides wides' (Err admin.UnknownMember) = (fulls' ≡ fulls) × (wides' ≡ wides)
+CountsRefusal fulls fulls' wides wides' (Err admin.BadValue) = (fulls' ≡ fulls) × (wides' ≡ wides)
+CountsRefusal fulls fulls' wides wides' (Err (admin.TooWide mark)) = (fulls' ≡ fulls) × CountsOne wides wides'
+CountsRefusal fulls fulls' wides wides' (Err (admin.Full mark)) = CountsOne fulls fulls' × (wides' ≡ wides)
+CountsRefusal fulls fulls' wides wides' (Err admin.NoMemory) = (fulls' ≡ fulls) × (wides' ≡ wides)
+
+-- The first stray stays until it is taken.
+abbrev pub first_met : Option StrayNote → StrayNote → Option StrayNote
+first_met None stray = Some stray
+first_met (Some before) stray = Some before

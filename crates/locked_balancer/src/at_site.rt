@@ -1,0 +1,208 @@
+//! One hold of the lock, over what a desk keeps: its receipts, the pairs that it holds, and its share.
+ghost use Rattle.std.specs.Prelude.{◌≡◌, ℕ, List, ◌++◌, ◌+◌, ◌<◌, ◌≤◌, ◌^◌, true, length, slice_index, vec_len, vec_capacity, IfOk, IfErr, IfSome, OnOk, OnErr};
+ghost use Rattle.balancer_core.specs.Desks.{
+  Chooses,
+  Commands,
+  GainsDue,
+  IsAskRefusal,
+  IsCommandRefusal,
+  TakesBack,
+  is_pair,
+  without_last,
+};
+ghost use Rattle.locked_balancer.specs.Holds.{IsAdminMark, IsRoomMark};
+ghost use Rattle.locked_balancer.specs.SharedDesks.{IsLastPlace, IsShared, pairs_of, shared_desk};
+
+use crate::locked::Cut;
+use crate::shared_site::SharedSite;
+use crate::site::{SiteLease, SiteMark, SiteName, SiteReceipt, SiteStray, SiteView};
+use balancer_core::desk::Choice;
+use jk_io::NoMemory;
+use jk_model::{AdminError, Ask, Command, Outcome, RoomError};
+use std::sync::Wait;
+use std::sync::ledger::Share;
+
+/// A Maintain where one is due, and a Select. The room is taken before the hold: for both receipts, for that of the
+/// ticket's Return, and for the ticket.
+pub(crate) fn choose_at<'r, L: SiteName, R: Wait>(
+    site: &SharedSite<'r, L, R>,
+    share: &mut Share<L>,
+    receipts: &mut Vec<SiteReceipt<L>>,
+    held: &mut Vec<(u32, u64)>,
+    lb: u32,
+    session: u32,
+    at: u64,
+    ask: &Ask,
+) -> Cut<L, Result<Choice<SiteLease<L>>, RoomError<SiteMark<L>>>>
+    requires known { lb < length L.sizes }
+    requires part { 0 < share.old.parts }
+    ensures kept { (n : ℕ) → IsShared (length L.sizes) receipts.old.items held.old.items share.old.parts share.old.amount n (vec_capacity receipts.old)
+        → IsShared (length L.sizes) receipts.new.items held.new.items share.new.parts share.new.amount n (vec_capacity receipts.new) }
+    ensures ok { IfOk result.1 (λ c. (s f w : ℕ) → Chooses (λ lease. lease)
+        (shared_desk L.sizes share.old.parts receipts.old.items held.old.items share.old.amount s f w)
+        (shared_desk L.sizes share.new.parts receipts.new.items held.new.items share.new.amount s f w) lb session at ask.now c) }
+    ensures err { IfErr result.1 (λ e. (s f w f' w' : ℕ) → GainsDue
+        (shared_desk L.sizes share.old.parts receipts.old.items held.old.items share.old.amount s f w)
+        (shared_desk L.sizes share.new.parts receipts.new.items held.new.items share.new.amount s f' w') lb session at
+        (IsAskRefusal (shared_desk L.sizes share.old.parts receipts.old.items held.old.items share.old.amount s f w) lb at e)) }
+    ensures held { OnErr result.1 (held.new.items ≡ held.old.items) }
+    ensures mark { IfErr result.1 (IsRoomMark lb 2) }
+    ensures cut { IfSome result.0 (λ s. s.0 ≡ lb) }
+    ensures parts { share.new.parts ≡ share.old.parts }
+{
+    match take_room(receipts, held) {
+        Ok(()) => {}
+        Err(NoMemory) => return (None, Err(RoomError::NoMemory)),
+    }
+    let (segment, done) = site
+        .locked
+        .lock(site.rt)
+        .choose(lb, session, at, ask, share, receipts);
+    hold_pair(held, lb, &done);
+    (segment, done)
+}
+
+// The room for the receipts of a choosing hold and of the Returns to come, and for a ticket.
+fn take_room<L>(
+    receipts: &mut Vec<SiteReceipt<L>>,
+    held: &mut Vec<(u32, u64)>,
+) -> Result<(), NoMemory>
+    ensures receipts { receipts.new.items ≡ receipts.old.items }
+    ensures held { held.new.items ≡ held.old.items }
+    ensures room { OnOk result (vec_len receipts.old + vec_len held.old + 3 ≤ vec_capacity receipts.new) }
+    ensures one { OnOk result (vec_len held.old < vec_capacity held.new) }
+    ensures no_less { vec_capacity receipts.old ≤ vec_capacity receipts.new }
+{
+    receipts.reserve(held.len() + 3)?;
+    held.reserve(1)?;
+    Ok(())
+}
+
+// Notes the ticket of a choice, where there is one.
+fn hold_pair<L>(
+    held: &mut Vec<(u32, u64)>,
+    lb: u32,
+    done: &Result<Choice<SiteLease<L>>, RoomError<SiteMark<L>>>,
+)
+    requires { vec_len held.old < vec_capacity held.old }
+    ensures ok { IfOk done.now (λ c. held.new.items ≡ held.old.items ++ pairs_of lb c) }
+    ensures err { OnErr done.now (held.new.items ≡ held.old.items) }
+{
+    if let Ok(Choice::Chosen { lease, .. }) = done {
+        held.push((lb, lease.ticket())).unwrap();
+    }
+}
+
+/// A Maintain where one is due, and a command. The room for the receipts is taken before the hold.
+pub(crate) fn command_at<'r, L: SiteName, R: Wait>(
+    site: &SharedSite<'r, L, R>,
+    share: &mut Share<L>,
+    receipts: &mut Vec<SiteReceipt<L>>,
+    held: &[(u32, u64)],
+    lb: u32,
+    session: u32,
+    at: u64,
+    command: &Command,
+) -> Cut<L, Result<(), AdminError<SiteMark<L>>>>
+    requires known { lb < length L.sizes }
+    requires part { 0 < share.old.parts }
+    ensures kept { (n : ℕ) → IsShared (length L.sizes) receipts.old.items held.now share.old.parts share.old.amount n (vec_capacity receipts.old)
+        → IsShared (length L.sizes) receipts.new.items held.now share.new.parts share.new.amount n (vec_capacity receipts.new) }
+    ensures ok { OnOk result.1 ((s f w : ℕ) → Commands
+        (shared_desk L.sizes share.old.parts receipts.old.items held.now share.old.amount s f w)
+        (shared_desk L.sizes share.new.parts receipts.new.items held.now share.new.amount s f w) lb session at command.now) }
+    ensures err { IfErr result.1 (λ e. (s f w f' w' : ℕ) → GainsDue
+        (shared_desk L.sizes share.old.parts receipts.old.items held.now share.old.amount s f w)
+        (shared_desk L.sizes share.new.parts receipts.new.items held.now share.new.amount s f' w') lb session at
+        (IsCommandRefusal (shared_desk L.sizes share.old.parts receipts.old.items held.now share.old.amount s f w) lb at command.now e)) }
+    ensures mark { IfErr result.1 (IsAdminMark lb) }
+    ensures cut { IfSome result.0 (λ s. s.0 ≡ lb) }
+    ensures parts { share.new.parts ≡ share.old.parts }
+{
+    match receipts.reserve(held.len() + 2) {
+        Ok(()) => {}
+        Err(_) => return (None, Err(AdminError::NoMemory)),
+    }
+    site.locked
+        .lock(site.rt)
+        .command(lb, session, at, command, share, receipts)
+}
+
+/// A Return of a lease. It takes no memory.
+pub(crate) fn give_back_at<'r, L: SiteName, R: Wait>(
+    site: &SharedSite<'r, L, R>,
+    share: &mut Share<L>,
+    receipts: &mut Vec<SiteReceipt<L>>,
+    session: u32,
+    at: u64,
+    lease: SiteLease<L>,
+    outcome: Outcome,
+) -> Result<(), SiteStray<L>>
+    requires known { lease.lb < length L.sizes }
+    requires part { 0 < share.old.parts }
+    requires room { vec_len receipts.old < vec_capacity receipts.old }
+    requires bytes { outcome.bytes ≤ 2 ^ 44 }
+    ensures ok { OnOk result ((s f w : ℕ) (before after : List (ℕ × ℕ)) → TakesBack
+        (shared_desk L.sizes share.old.parts receipts.old.items before share.old.amount s f w)
+        (shared_desk L.sizes share.new.parts receipts.new.items after share.new.amount s f w) session at lease outcome) }
+    ensures length { OnOk result (length receipts.new.items ≡ length receipts.old.items + 1) }
+    ensures amount { OnOk result (share.new.amount ≡ share.old.amount + 1) }
+    ensures stray { IfErr result (λ s. (s.lb ≡ lease.lb) × (s.stray.ticket ≡ lease.ticket)) }
+    ensures err { OnErr result ((receipts.new.items ≡ receipts.old.items) × (share.new.amount ≡ share.old.amount)) }
+    ensures few { share.new.amount ≤ 2 ^ 58 }
+    ensures parts { share.new.parts ≡ share.old.parts }
+    ensures room { vec_capacity receipts.old ≤ vec_capacity receipts.new }
+{
+    site.locked
+        .lock(site.rt)
+        .give_back(session, at, lease, outcome, share, receipts)
+}
+
+/// A balancer as this hold finds it.
+pub(crate) fn look_at<'r, L: SiteName, R: Wait>(
+    site: &SharedSite<'r, L, R>,
+    share: &mut Share<L>,
+    lb: u32,
+) -> Result<SiteView<L>, NoMemory>
+    requires known { lb < length L.sizes }
+    ensures lb { IfOk result (λ v. v.lb ≡ lb) }
+    ensures rows { IfOk result (λ v. length v.view.rows ≡ slice_index L.sizes lb) }
+    ensures next { IfOk result (λ v. length L.sizes ≡ 1 → slice_index L.firsts lb + share.old.amount ≤ v.view.next) }
+    ensures amount { share.new.amount ≡ share.old.amount }
+    ensures parts { share.new.parts ≡ share.old.parts }
+{
+    site.locked.lock(site.rt).look(lb, share)
+}
+
+// Whether two pairs are the same.
+fn is_pair(a: (u32, u64), b: (u32, u64)) -> bool
+    ensures { result ≡ is_pair a b }
+{
+    a.0 == b.0 && a.1 == b.1
+}
+
+/// Takes out the last pair that is this, where there is one.
+pub(crate) fn take_last(held: &mut Vec<(u32, u64)>, pair: (u32, u64))
+    ensures held { held.new.items ≡ without_last held.old.items pair }
+    ensures room { vec_capacity held.old ≤ vec_capacity held.new }
+{
+    match last_place(held.as_slice(), pair) {
+        Some(place) => {
+            held.remove(place);
+        }
+        None => {}
+    }
+}
+
+// The place of the last pair that is this.
+fn last_place(held: &[(u32, u64)], pair: (u32, u64)) -> Option<usize>
+    ensures { IsLastPlace held.now pair result }
+{
+    for back in 0..held.len() {
+        let place = held.len() - 1 - back;
+        if is_pair(pair, held[place]) {
+            return Some(place);
+        }
+    }
+    None
+}

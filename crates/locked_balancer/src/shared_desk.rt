@@ -1,0 +1,378 @@
+//! A desk of one thread over the Site that all threads share.
+ghost use Rattle.std.specs.Prelude.{◌≡◌};
+ghost use Rattle.locked_balancer.specs.SharedDesks.{CountsFull, CountsRefusal, IsPutAway, PutsAway, first_met};
+
+use crate::at_site::{choose_at, command_at, give_back_at, look_at, take_last};
+use crate::shared_site::SharedSite;
+use crate::shelf::Shelf;
+use crate::site::{
+    SiteLease, SiteMark, SiteName, SiteReceipt, SiteReceiptList, SiteSegment, SiteStray, SiteView,
+};
+use balancer_core::Desk;
+use balancer_core::desk::Choice;
+use jk_io::{IoError, NoMemory};
+use jk_model::{AdminError, Ask, Command, Outcome, RoomError, Stray, View};
+use std::alloc::Global;
+use std::marker::Model;
+use std::sync::Wait;
+use std::sync::ledger::Share;
+
+/// A desk over a shared Site. Each call is one hold of the lock; a segment that it cut goes to the shelf after the hold.
+#[derive(Drop)]
+pub struct SharedDesk<'s, 'r, L: SiteName, S: Shelf, R> {
+    site: &'s SharedSite<'r, L, R>,
+    share: Share<L>,
+    receipts: Vec<SiteReceipt<L>>,
+    /// Balancer and ticket of each lease that is out, in the order of the choices.
+    held: Vec<(u32, u64)>,
+    shelf: S,
+    /// The stray that was met first since the last was taken.
+    met: Option<SiteStray<L>>,
+    strays: u64,
+    fulls: u64,
+    wides: u64,
+    wants: u64,
+    forgotten: u64,
+}
+
+impl<'s, 'r, L: SiteName, S: Shelf, R> Model for SharedDesk<'s, 'r, L, S, R> {
+    ghost use Rattle.std.specs.Prelude.{length, vec_capacity};
+    ghost use Rattle.locked_balancer.specs.SharedDesks.{IsShared, SharedState, shared_desk};
+
+    ghost Value = { SharedState S };
+
+    ghost view = { λ d. record {
+      desk = shared_desk L.sizes d.share.parts d.receipts.items d.held.items d.share.amount d.strays d.fulls d.wides;
+      shelf = d.shelf;
+      forgotten = d.forgotten;
+      wants = d.wants;
+      met = d.met;
+    } };
+
+    ghost invariant = { λ d. IsShared (length L.sizes) d.receipts.items d.held.items d.share.parts d.share.amount d.forgotten
+        (vec_capacity d.receipts) };
+}
+
+/// What a desk leaves: its share, the receipts that it has, how many it forgot, and its shelf.
+#[derive(Drop)]
+pub struct Leaving<L: SiteName, S> {
+    pub share: Share<L>,
+    pub receipts: SiteReceiptList<L>,
+    pub forgotten: u64,
+    pub shelf: S,
+}
+
+impl<'s, 'r, L: SiteName, S: Shelf, R> SharedDesk<'s, 'r, L, S, R> {
+    ghost use Rattle.std.specs.Prelude.{◌≡◌, ◌+◌, ◌<◌, [], None, length};
+    ghost use Rattle.locked_balancer.specs.SharedDesks.{SharedState, shared_desk};
+
+    /// A desk with a part of the ledger, without a receipt or a ticket. It takes no memory.
+    pub fn new(
+        alloc: Global,
+        site: &'s SharedSite<'r, L, R>,
+        share: Share<L>,
+        shelf: S,
+    ) -> SharedDesk<'s, 'r, L, S, R>
+        requires part { 0 < share.parts }
+        requires amount { share.amount ≡ 0 }
+        ensures desk { result.desk ≡ shared_desk L.sizes share.parts [] [] 0 0 0 0 }
+        ensures shelf { result.shelf ≡ shelf }
+        ensures none { (result.forgotten ≡ 0) × (result.wants ≡ 0) × (result.met ≡ None) }
+    {
+        SharedDesk {
+            site,
+            share,
+            receipts: Vec::new(alloc),
+            held: Vec::new(alloc),
+            shelf,
+            met: None,
+            strays: 0,
+            fulls: 0,
+            wides: 0,
+            wants: 0,
+            forgotten: 0,
+        }
+    }
+
+    /// Drops the receipts, which stay counted. The room for those of the Returns to come stays. It takes no memory.
+    pub fn forget(&mut self)
+        ensures receipts { self.new.desk ≡ record self.old.desk { receipts = [] } }
+        ensures forgotten { self.new.forgotten ≡ self.old.forgotten + length self.old.desk.receipts }
+        ensures same { (self.new.shelf ≡ self.old.shelf) × (self.new.wants ≡ self.old.wants) × (self.new.met ≡ self.old.met) }
+    {
+        self.forgotten += self.receipts.len() as u64;
+        self.receipts.clear();
+    }
+
+    /// The first stray that was met since the last such call; there is one exactly where one was met since then.
+    pub fn take_stray(&mut self) -> Option<SiteStray<L>>
+        ensures met { result ≡ self.old.met }
+        ensures taken { self.new ≡ record self.old { met = None } }
+    {
+        self.met.take()
+    }
+
+    /// The shelf's count of faults.
+    pub fn shelf_faults(&self) -> u64
+        ensures { result ≡ S.faults self.now.shelf }
+    {
+        self.shelf.failed()
+    }
+
+    /// For how many segments the shelf wanted memory.
+    pub fn shelf_wants(&self) -> u64
+        ensures { result ≡ self.now.wants }
+    {
+        self.wants
+    }
+
+    /// Ends the desk. The share's amount is the number of the receipts and of those that were forgotten. It takes no
+    /// memory.
+    pub fn leave(self) -> Leaving<L, S>
+        requires none_held { self.desk.held ≡ [] }
+        ensures receipts { result.receipts ≡ self.entry.desk.receipts }
+        ensures forgotten { result.forgotten ≡ self.entry.forgotten }
+        ensures shelf { result.shelf ≡ self.entry.shelf }
+        ensures amount { result.share.amount ≡ self.entry.desk.added }
+        ensures counted { result.share.amount ≡ length result.receipts + result.forgotten }
+        ensures parts { self.entry.desk.parts ≡ Some result.share.parts }
+        ensures part { 0 < result.share.parts }
+    {
+        let SharedDesk {
+            site: _,
+            share,
+            receipts,
+            held: _,
+            shelf,
+            met: _,
+            strays: _,
+            fulls: _,
+            wides: _,
+            wants: _,
+            forgotten,
+        } = self;
+        Leaving {
+            share,
+            receipts: SiteReceiptList::from_vec(receipts),
+            forgotten,
+            shelf,
+        }
+    }
+}
+
+impl<'s, 'r, L: SiteName, S: Shelf, R: Wait> Desk for SharedDesk<'s, 'r, L, S, R> {
+    ghost use Rattle.std.specs.Prelude.{◌≡◌, ◌+◌, ◌<◌, ◌≤◌, ◌^◌, ◌↔◌, true, length, slice_index, IfSome, IfOk, IfErr, IsOk, OnOk};
+    ghost use Rattle.jk_io.specs.Told.{Rose};
+    ghost use Rattle.balancer_core.specs.Desks.{
+      Chooses,
+      Commands,
+      KeepsDesk,
+      LeaseNote,
+      MeetsStray,
+      RefusesChoice,
+      RefusesCommand,
+      Shows,
+      TakesBack,
+      holds,
+      pair_of,
+      without_last,
+    };
+    ghost use Rattle.locked_balancer.specs.Holds.{IsAdminMark, IsRoomMark};
+    ghost use Rattle.locked_balancer.specs.SharedDesks.{PutsAwayOf, first_met};
+
+    type Lease = SiteLease<L>;
+
+    type Mark = SiteMark<L>;
+
+    type Shown = SiteView<L>;
+
+    ghost state = { λ d. d.desk };
+
+    ghost note = { λ lease. lease };
+
+    ghost numbers = { λ mark. mark.numbers };
+
+    ghost view = { λ view. view.view };
+
+    fn choose(
+        &mut self,
+        lb: u32,
+        session: u32,
+        at: u64,
+        ask: &Ask,
+    ) -> Result<Choice<SiteLease<L>>, RoomError<SiteMark<L>>>
+        requires known { lb < length self.old.desk.sizes }
+        requires caller { IfSome self.old.desk.caller (λ n. session ≡ n) }
+        ensures ok { IfOk result (λ c. Chooses (λ lease. lease) self.old.desk self.new.desk lb session at ask.now c) }
+        ensures err { IfErr result (λ e. RefusesChoice self.old.desk self.new.desk lb session at e) }
+        ensures kept { KeepsDesk self.old.desk self.new.desk }
+
+        // Full comes only with a mark of this balancer, whose numbers leave no room for the entry and its Return.
+        ensures mark { IfErr result (IsRoomMark lb 2) }
+
+        // A segment that the hold cut is put away after it.
+        ensures shelf { PutsAwayOf S.shelved S.faults lb self.old self.new }
+    {
+        let (segment, done) = choose_at(
+            self.site,
+            &mut self.share,
+            &mut self.receipts,
+            &mut self.held,
+            lb,
+            session,
+            at,
+            ask,
+        );
+        put_away(&mut self.shelf, &mut self.wants, segment);
+        count_full(&mut self.fulls, &done);
+        done
+    }
+
+    fn hand_back(
+        &mut self,
+        session: u32,
+        at: u64,
+        lease: SiteLease<L>,
+        outcome: Outcome,
+    ) -> Result<(), Stray>
+        requires caller { IfSome self.old.desk.caller (λ n. session ≡ n) }
+        requires held { holds self.old.desk.held (pair_of lease) ≡ true }
+        requires bytes { outcome.bytes ≤ 2 ^ 44 }
+        ensures ok { IfOk result (λ _. TakesBack self.old.desk self.new.desk session at lease outcome) }
+        ensures err { IfErr result (λ stray. MeetsStray self.old.desk self.new.desk lease stray) }
+        ensures held { self.new.desk.held ≡ without_last self.old.desk.held (pair_of lease) }
+        ensures same { (self.new.desk.fulls ≡ self.old.desk.fulls) × (self.new.desk.wides ≡ self.old.desk.wides) }
+        ensures kept { KeepsDesk self.old.desk self.new.desk }
+
+        // It is Ok exactly where an entry was counted.
+        ensures counted { IsOk result ↔ (self.new.desk.added ≡ self.old.desk.added + 1) }
+
+        ensures shelf { (self.new.shelf ≡ self.old.shelf) × (self.new.wants ≡ self.old.wants) × (self.new.forgotten ≡ self.old.forgotten) }
+
+        // A stray is kept until it is taken, the first one of several.
+        ensures none_met { OnOk result (self.new.met ≡ self.old.met) }
+        ensures met { IfErr result (λ stray. self.new.met ≡ first_met self.old.met (record { lb = lease.lb; stray = stray })) }
+    {
+        let (lb, ticket) = (lease.lb(), lease.ticket());
+        let done = give_back_at(
+            self.site,
+            &mut self.share,
+            &mut self.receipts,
+            session,
+            at,
+            lease,
+            outcome,
+        );
+        take_last(&mut self.held, (lb, ticket));
+        match done {
+            Ok(()) => Ok(()),
+            Err(stray) => {
+                let told = stray.stray();
+                meet(&mut self.met, stray);
+                self.strays = self.strays.saturating_add(1);
+                Err(told)
+            }
+        }
+    }
+
+    fn command(
+        &mut self,
+        lb: u32,
+        session: u32,
+        at: u64,
+        command: &Command,
+    ) -> Result<(), AdminError<SiteMark<L>>>
+        requires known { lb < length self.old.desk.sizes }
+        requires caller { IfSome self.old.desk.caller (λ n. session ≡ n) }
+        ensures ok { IfOk result (λ _. Commands self.old.desk self.new.desk lb session at command.now) }
+        ensures err { IfErr result (λ e. RefusesCommand self.old.desk self.new.desk lb session at command.now e) }
+        ensures held { self.new.desk.held ≡ self.old.desk.held }
+        ensures stray { self.new.desk.strays ≡ self.old.desk.strays }
+        ensures kept { KeepsDesk self.old.desk self.new.desk }
+
+        // Full and TooWide come only with a mark of this balancer.
+        ensures mark { IfErr result (IsAdminMark lb) }
+        ensures shelf { PutsAwayOf S.shelved S.faults lb self.old self.new }
+    {
+        let (segment, done) = command_at(
+            self.site,
+            &mut self.share,
+            &mut self.receipts,
+            self.held.as_slice(),
+            lb,
+            session,
+            at,
+            command,
+        );
+        put_away(&mut self.shelf, &mut self.wants, segment);
+        count_refusal(&mut self.fulls, &mut self.wides, &done);
+        done
+    }
+
+    fn look(&mut self, lb: u32) -> Result<SiteView<L>, NoMemory>
+        requires known { lb < length self.old.desk.sizes }
+        ensures shown { IfOk result (λ shown. Shows self.old.desk lb shown.view) }
+        ensures same { self.new ≡ self.old }
+
+        // Where there is one balancer, all entries of the desk come before the next one.
+        ensures next { IfOk result (λ shown. length self.old.desk.sizes ≡ 1
+            → slice_index L.firsts lb + self.old.desk.added ≤ shown.view.next) }
+        ensures lb { IfOk result (λ shown. shown.lb ≡ lb) }
+    {
+        look_at(self.site, &mut self.share, lb)
+    }
+
+    fn shown(shown: &SiteView<L>) -> &View {
+        shown.view()
+    }
+}
+
+// Puts a segment away, where there is one.
+fn put_away<L, S: Shelf>(shelf: &mut S, wants: &mut u64, segment: Option<SiteSegment<L>>)
+    ensures { PutsAway S.shelved S.faults shelf.old shelf.new wants.old wants.new segment }
+{
+    match segment {
+        Some(segment) => put_one(shelf, wants, segment),
+        None => {}
+    }
+}
+
+// Puts a segment on a shelf, and counts the want of memory there.
+fn put_one<L, S: Shelf>(shelf: &mut S, wants: &mut u64, segment: SiteSegment<L>)
+    ensures { IsPutAway S.shelved S.faults shelf.old shelf.new wants.old wants.new segment }
+{
+    match segment.keep_in(shelf) {
+        Ok(()) => {}
+        Err(IoError::Failed) => {}
+        Err(IoError::NoMemory) => *wants = wants.saturating_add(1),
+    }
+}
+
+// Keeps a stray, unless there is one already.
+fn meet<L>(met: &mut Option<SiteStray<L>>, stray: SiteStray<L>)
+    ensures { met.new ≡ first_met met.old stray }
+{
+    if met.is_none() {
+        *met = Some(stray);
+    }
+}
+
+// Counts a Full.
+fn count_full<L>(fulls: &mut u64, done: &Result<Choice<SiteLease<L>>, RoomError<SiteMark<L>>>)
+    ensures { CountsFull fulls.old fulls.new done.now }
+{
+    if let Err(RoomError::Full(_)) = done {
+        *fulls = fulls.saturating_add(1);
+    }
+}
+
+// Counts a Full or a TooWide.
+fn count_refusal<L>(fulls: &mut u64, wides: &mut u64, done: &Result<(), AdminError<SiteMark<L>>>)
+    ensures { CountsRefusal fulls.old fulls.new wides.old wides.new done.now }
+{
+    match done {
+        Err(AdminError::Full(_)) => *fulls = fulls.saturating_add(1),
+        Err(AdminError::TooWide(_)) => *wides = wides.saturating_add(1),
+        _ => {}
+    }
+}
