@@ -1,19 +1,21 @@
 -- How the draining of a reply goes on.
-use Rattle.std.proofs.Common.{◌≡◌, ℕ, ◌+◌, ◌<◌, Bool, true, false, ◌&&◌, not, List, [], ◌∷◌, ◌++◌, length, refl, sym, ap, subst, ◌∙◌, arith, length-append, Option}
-use Rattle.std.proofs.lemmas.Bool.{cond-false}
+use Rattle.ajp_talk.specs.declared.ending.Cause.{Cause}
+use Rattle.ajp_wire.specs.Packet.{IsPart}
+use Rattle.std.proofs.Common.{◌≡◌, ℕ, ◌+◌, ◌<◌, Bool, true, false, ◌&&◌, not, List, [], ◌∷◌, ◌++◌, length, refl, sym, ap, subst, ◌∙◌, arith, length-append, Option, append-nil}
+use Rattle.std.proofs.lemmas.Bool.{cond-false, not-true}
 use Rattle.jk_io.specs.Told.{appended, prepended, PutsFront}
 use Rattle.jk_io.proofs.ToldLaws.{appended-appended, appended-nil, prepended-prepended, prepended-nil}
 use Rattle.ajp_reply.specs.declared.message.Message.{Message}
 use Rattle.ajp_reply.specs.declared.message.Message.TheVariants.{Chunk, End}
-use Rattle.ajp_reply.specs.Stream.{IsPacketOf, Spelled}
+use Rattle.ajp_reply.specs.Stream.{IsPacketOf, Spelled, BeginsNoMessage}
 use Rattle.http_out.specs.declared.framing.Framing.{Framing}
 use Rattle.http_out.specs.Framing.{is_beyond, is_complete, is_passed, spent, framed}
 use Rattle.http_out.specs.Writer.{Writer, framing_now, framing_after, after_chunk, writes_chunk, chunk_bytes, end_bytes}
 use Rattle.http_out.specs.Writer.{counted as counted_chunk}
 use Rattle.ajp_talk.specs.Moments.{LineAt, ClientAt}
-use Rattle.ajp_talk.specs.Replies.{sum_of, exceeds}
-use Rattle.ajp_talk.specs.Turns.{Came, IsHeard, IsUnheard, IsOnCourse, IsChunkTurn, IsEndTurn}
-use Rattle.ajp_talk.specs.Drains.{IsLostCourse, chunk_messages, IsDropped, Drains}
+use Rattle.ajp_talk.specs.Replies.{sum_of, exceeds, chunks_of, agrees}
+use Rattle.ajp_talk.specs.Turns.{Came, IsHeard, IsUnheard, IsOnCourse, IsChunkTurn, IsEndTurn, CameUnheard, IsChunkFailure}
+use Rattle.ajp_talk.specs.Drains.{IsLostCourse, chunk_messages, IsDropped, Drains, IsNoTail, closed_by, IsDrained}
 use Rattle.ajp_talk.specs.Ends.{IsPlan}
 use Rattle.ajp_talk.specs.declared.plan.TalkPlan.{TalkPlan}
 use Rattle.ajp_talk.specs.declared.course.Course.{Course}
@@ -21,7 +23,10 @@ use Rattle.ajp_talk.specs.declared.ending.Cause.TheVariants as cause_is
 use Rattle.ajp_talk.specs.declared.turn.Turn.{Turn}
 use Rattle.ajp_talk.specs.declared.turn.Turn.TheVariants as turn_is
 use Rattle.ajp_talk.specs.declared.turn.Unheard.{Unheard}
-use Rattle.ajp_talk.proofs.MessageLaws.{some-bytes}
+use Rattle.ajp_talk.specs.declared.turn.Unheard.TheVariants as unheard_is
+use Rattle.jk_io.specs.declared.failures.NoMemory.{NoMemory}
+use Rattle.ajp_reply.proofs.StreamLaws.{one_reading, one_stream, goes_on, first_of_all}
+use Rattle.ajp_talk.proofs.MessageLaws.{some-bytes, part-nil}
 use Rattle.ajp_talk.proofs.ReplyLaws.{beyond-exceeds, complete-agrees, none-exceeds}
 
 -- chunks came since the client was gone, and nothing was written
@@ -80,6 +85,53 @@ put-nothing before now p = p.put ∙ ap (appended before) (empty p.front p.rest 
     empty : (front rest : List ℕ) → [] ≡ front ++ rest → front ≡ []
     empty [] rest e = refl
     empty (x ∷ front) rest e = absurd cc
+
+-- ---- bytes that don't end a reply
+
+chunks-alone : (chunks : List (List ℕ)) → chunks_of (chunk_messages chunks) ≡ chunks
+chunks-alone [] = refl
+chunks-alone (chunk ∷ chunks) = ap (λ (l : List (List ℕ)). chunk ∷ l) (chunks-alone chunks)
+
+no-end-behind : (chunks : List (List ℕ)) (later : List Message) → chunk_messages chunks ≡ End true ∷ later → ⊥
+no-end-behind [] later e = absurd cc
+no-end-behind (chunk ∷ chunks) later e = absurd cc
+
+no_tail-message : (plan : TalkPlan) (c : Course) (chunks : List (List ℕ)) (message : Message) (bytes : List ℕ) → Spelled plan.packet (message ∷ chunk_messages chunks) bytes
+    → (message ≡ End true → agrees (framing_now c.writer) (sum_of chunks) ≡ true → ⊥) → IsNoTail plan c bytes
+no_tail-message plan c chunks message bytes s no_end = λ later t sum.
+    let same : message ∷ chunk_messages chunks ≡ End true ∷ later = one_reading plan.packet (message ∷ chunk_messages chunks) (End true ∷ later) bytes s t in
+    let head : message ≡ End true = cc in
+    let rest : later ≡ chunk_messages chunks = cc in
+    let all : chunks_of later ≡ chunks = ap chunks_of rest ∙ chunks-alone chunks in
+    no_end head (ap (λ (l : List (List ℕ)). agrees (framing_now c.writer) (sum_of l)) (sym all) ∙ sum)
+
+no_tail-part : (plan : TalkPlan) (c : Course) (chunks : List (List ℕ)) (bytes rest : List ℕ) → Spelled plan.packet (chunk_messages chunks) bytes → IsPart true plan.packet rest
+    → IsNoTail plan c (bytes ++ rest)
+no_tail-part plan c chunks bytes rest s part = λ later t sum.
+    no-end-behind chunks later (one_stream plan.packet (chunk_messages chunks) (End true ∷ later) (bytes ++ rest) rest []
+    (record { came = bytes; messages = s; part = part; whole = refl })
+    (record { came = bytes ++ rest; messages = t; part = part-nil plan.packet; whole = sym (append-nil (bytes ++ rest)) })).0
+
+no_tail-none : (plan : TalkPlan) (c : Course) (chunks : List (List ℕ)) (bytes rest : List ℕ) → Spelled plan.packet (chunk_messages chunks) bytes → BeginsNoMessage plan.packet rest
+    → IsNoTail plan c (bytes ++ rest)
+no_tail-none plan c chunks bytes rest s none = λ later t sum.
+    let on = goes_on plan.packet (chunk_messages chunks) (End true ∷ later) bytes rest s t in
+    of on.0 later on.1 on.2
+  where
+    of : (behind later : List Message) → End true ∷ later ≡ behind ++ chunk_messages chunks → Spelled plan.packet behind rest → ⊥
+    of [] later e t = no-end-behind chunks later (sym e)
+    of (m ∷ behind) later e t =
+        let f = first_of_all plan.packet m behind rest t in
+        none [] f.1 f.2 f.0 f.3 (append-nil rest ∙ f.4)
+
+-- where no message came, and the limit isn't reached
+no_tail-silent : (plan : TalkPlan) (c : Course) (chunks : List (List ℕ)) (bytes rest : List ℕ) (l l' : LineAt) (count : ℕ) (why : Unheard) → (why ≡ unheard_is.NoMemory → ⊥)
+    → Spelled plan.packet (chunk_messages chunks) bytes → CameUnheard plan.packet plan.most count l l' rest why → count < plan.most → IsNoTail plan c (bytes ++ rest)
+no_tail-silent plan c chunks bytes rest l l' count unheard_is.Line other s h below = no_tail-part plan c chunks bytes rest s h.1
+no_tail-silent plan c chunks bytes rest l l' count unheard_is.Ended other s h below = no_tail-part plan c chunks bytes rest s h.1
+no_tail-silent plan c chunks bytes rest l l' count unheard_is.Wrong other s h below = no_tail-none plan c chunks bytes rest s h.1
+no_tail-silent plan c chunks bytes rest l l' count unheard_is.TooLong other s h below = absurd (let reached = h.0 in omega arith)
+no_tail-silent plan c chunks bytes rest l l' count unheard_is.NoMemory other s h below = absurd (other refl)
 
 module _ (plan : TalkPlan) (l m n : LineAt) (w v u : ClientAt) (c d e : Course) (count : ℕ) where
   abbrev read_to : Course
@@ -186,9 +238,10 @@ module _ (plan : TalkPlan) (l m n : LineAt) (w v u : ClientAt) (c d e : Course) 
       }
 
   -- it ended at a message
-  pub drained : IsPlan plan → Draining plan l m w v c d → (message : Message) (keep : Bool) → IsHeard plan.packet plan.most m n d.received count message
-      → u.written ≡ v.written → (e.received ≡ count) × (e.sent ≡ d.sent) → (keep ≡ true → ⊥) → Drains plan l n w u c e keep
-  drained fit a message keep h same counts none =
+  pub drained : IsPlan plan → (a : Draining plan l m w v c d) → (message : Message) (keep : Bool) → IsHeard plan.packet plan.most m n d.received count message
+      → u.written ≡ v.written → (e.received ≡ count) × (e.sent ≡ d.sent) → (keep ≡ true → ⊥)
+      → (message ≡ End true → agrees (framing_now c.writer) (sum_of a.chunks) ≡ true → ⊥) → Drains plan l n w u c e keep
+  drained fit a message keep h same counts none no_end =
       let some = some-bytes plan.packet message h.bytes h.is in
       let exact : count ≡ d.received + length h.bytes = omega (arith, h.came.counts, some.1, a.below, fit.most) in
       record {
@@ -198,12 +251,13 @@ module _ (plan : TalkPlan) (l m n : LineAt) (w v u : ClientAt) (c d e : Course) 
         small = omega (arith, counts.0, h.below);
         same = counts.1 ∙ a.same;
         kept = λ keeps. absurd (none keeps);
+        closed = λ f below. no_tail-message plan c a.chunks message (a.bytes ++ h.bytes) (a.bytes, h.bytes, a.spelled, h.is, refl) no_end;
       }
 
   -- it ended where no message came
   pub drained_silent : IsPlan plan → Draining plan l m w v c d → (why : Unheard) → IsUnheard plan.packet plan.most m n d.received count why
-      → u.written ≡ v.written → (e.received ≡ count) × (e.sent ≡ d.sent) → Drains plan l n w u c e false
-  drained_silent fit a why h same counts =
+      → (why ≡ unheard_is.NoMemory → ⊥) → u.written ≡ v.written → (e.received ≡ count) × (e.sent ≡ d.sent) → Drains plan l n w u c e false
+  drained_silent fit a why h other same counts =
       let exact : count ≡ d.received + length h.bytes = omega (arith, h.came.counts, h.came.small, a.below, fit.most) in
       record {
         bytes = a.bytes ++ h.bytes;
@@ -212,30 +266,56 @@ module _ (plan : TalkPlan) (l m n : LineAt) (w v u : ClientAt) (c d e : Course) 
         small = omega (arith, counts.0, exact, h.came.small, a.below);
         same = counts.1 ∙ a.same;
         kept = λ keeps. absurd cc;
+        closed = λ f below. no_tail-silent plan c a.chunks a.bytes h.bytes m n count why other a.spelled h.as_said (omega (arith, counts.0, below));
       }
 
   -- the reply ended
-  pub drained_end : IsPlan plan → Draining plan l m w v c d → (reuse again : Bool) → IsHeard plan.packet plan.most m n d.received count (End reuse)
-      → IsEndTurn reuse read_to e v u (turn_is.Done again) → Drains plan l n w u c e reuse
-  drained_end fit a reuse again h t =
+  ended_whole : IsPlan plan → (a : Draining plan l m w v c d) → (reuse : Bool) → IsHeard plan.packet plan.most m n d.received count (End reuse)
+      → u.written ≡ v.written → (e.received ≡ count) × (e.sent ≡ d.sent) → is_complete (framing_now d.writer) ≡ true → Drains plan l n w u c e reuse
+  ended_whole fit a reuse h same counts complete =
       let some = some-bytes plan.packet (End reuse) h.bytes h.is in
       let exact : count ≡ d.received + length h.bytes = omega (arith, h.came.counts, some.1, a.below, fit.most) in
-      let received : e.received ≡ count = ap (λ (x : Course). x.received) t.3 in
       record {
         bytes = a.bytes ++ h.bytes;
-        dropped = dropped-more l m n w v u a.bytes h.bytes d.received count a.dropped h.came (end-silent reuse (turn_is.Done again) a.lost.failed t);
-        counts = omega (arith, received, exact, a.counts, length-append a.bytes h.bytes);
-        small = omega (arith, received, h.below);
-        same = ap (λ (x : Course). x.sent) t.3 ∙ a.same;
+        dropped = dropped-more l m n w v u a.bytes h.bytes d.received count a.dropped h.came same;
+        counts = omega (arith, counts.0, exact, a.counts, length-append a.bytes h.bytes);
+        small = omega (arith, counts.0, h.below);
+        same = counts.1 ∙ a.same;
         kept = λ keeps. (
           record {
             chunks = a.chunks;
             spelled = (a.bytes, h.bytes, a.spelled, subst (λ (r : Bool). IsPacketOf plan.packet (End r) h.bytes) keeps h.is, refl);
-            sum = sym (complete-agrees (framing_now c.writer) a.chunks a.within) ∙ ap is_complete (sym a.framing) ∙ t.2;
+            sum = sym (complete-agrees (framing_now c.writer) a.chunks a.within) ∙ ap is_complete (sym a.framing) ∙ complete;
           },
-          omega (arith, received, h.below),
+          omega (arith, counts.0, h.below),
         );
+        closed = λ closes below. no_tail-message plan c a.chunks (End reuse) (a.bytes ++ h.bytes) (a.bytes, h.bytes, a.spelled, h.is, refl)
+            (λ is sum. let lets : reuse ≡ true = cc in absurd (let stays = closes in cc));
       }
+
+  pub drained_end : IsPlan plan → Draining plan l m w v c d → (reuse again : Bool) → IsHeard plan.packet plan.most m n d.received count (End reuse)
+      → IsEndTurn reuse read_to e v u (turn_is.Done again) → Drains plan l n w u c e reuse
+  drained_end fit a reuse again h t =
+      ended_whole fit a reuse h (end-silent reuse (turn_is.Done again) a.lost.failed t) (end-counts reuse (turn_is.Done again) (λ is. absurd cc) t) t.2
+
+  pub drained_lost_end : IsPlan plan → Draining plan l m w v c d → (reuse again : Bool) → IsHeard plan.packet plan.most m n d.received count (End reuse)
+      → IsEndTurn reuse read_to e v u (turn_is.LostAtEnd again) → Drains plan l n w u c e reuse
+  drained_lost_end fit a reuse again h t =
+      ended_whole fit a reuse h (end-silent reuse (turn_is.LostAtEnd again) a.lost.failed t) (end-counts reuse (turn_is.LostAtEnd again) (λ is. absurd cc) t) t.2
+
+  -- an end that was refused doesn't agree with what was due
+  not_agreed : (a : Draining plan l m w v c d) (why : Cause) → IsChunkFailure read_to e v u (not (is_complete (framing_now d.writer))) why
+      → agrees (framing_now c.writer) (sum_of a.chunks) ≡ true → ⊥
+  not_agreed a cause_is.NoLink h sum = h
+  not_agreed a cause_is.Line h sum = h
+  not_agreed a cause_is.Ended h sum = h
+  not_agreed a cause_is.BadReply h sum = (let none = h.0 in let some = a.lost.headers in absurd cc)
+  not_agreed a cause_is.Disagree h sum =
+      let short : is_complete (framing_now d.writer) ≡ false = not-true (is_complete (framing_now d.writer)) h.1 in
+      let whole : is_complete (framing_now d.writer) ≡ true = ap is_complete a.framing ∙ complete-agrees (framing_now c.writer) a.chunks a.within ∙ sum in
+      absurd cc
+  not_agreed a cause_is.TooLong h sum = h
+  not_agreed a (cause_is.Status status) h sum = h
 
   -- memory was wanted at a message
   pub drained_wanted : Draining plan l m w v c d → (message : Message) → IsHeard plan.packet plan.most m n d.received count message → u.written ≡ v.written
@@ -254,29 +334,32 @@ module _ (plan : TalkPlan) (l m n : LineAt) (w v u : ClientAt) (c d e : Course) 
 
   pub chunk_over : IsPlan plan → Draining plan l m w v c d → (chunk : List ℕ) (turn : Turn) → (turn ≡ turn_is.NoMemory → ⊥)
       → IsHeard plan.packet plan.most m n d.received count (Chunk chunk) → IsChunkTurn plan chunk read_to e v u turn → Drains plan l n w u c e false
-  chunk_over fit a chunk turn other h t = drained fit a (Chunk chunk) false h (chunk-silent chunk turn a.lost.failed t) (chunk-counts chunk turn other t) (λ keeps. absurd cc)
+  chunk_over fit a chunk turn other h t = drained fit a (Chunk chunk) false h (chunk-silent chunk turn a.lost.failed t) (chunk-counts chunk turn other t) (λ keeps. absurd cc) (λ is sum. absurd cc)
 
   pub end_wanted : Draining plan l m w v c d → (reuse : Bool) → IsHeard plan.packet plan.most m n d.received count (End reuse) → IsEndTurn reuse read_to e v u turn_is.NoMemory
       → (bytes : List ℕ) × IsDropped l n w u bytes
   end_wanted a reuse h t = drained_wanted a (End reuse) h (end-silent reuse turn_is.NoMemory a.lost.failed t)
 
-  pub end_over : IsPlan plan → Draining plan l m w v c d → (reuse : Bool) (turn : Turn) → (turn ≡ turn_is.NoMemory → ⊥)
-      → IsHeard plan.packet plan.most m n d.received count (End reuse) → IsEndTurn reuse read_to e v u turn → Drains plan l n w u c e false
-  end_over fit a reuse turn other h t = drained fit a (End reuse) false h (end-silent reuse turn a.lost.failed t) (end-counts reuse turn other t) (λ keeps. absurd cc)
+  pub end_over : IsPlan plan → Draining plan l m w v c d → (reuse : Bool) (why : Cause)
+      → IsHeard plan.packet plan.most m n d.received count (End reuse) → IsEndTurn reuse read_to e v u (turn_is.Failed why) → Drains plan l n w u c e false
+  end_over fit a reuse why h t =
+      drained fit a (End reuse) false h (end-silent reuse (turn_is.Failed why) a.lost.failed t) (end-counts reuse (turn_is.Failed why) (λ is. absurd cc) t) (λ keeps. absurd cc)
+      (λ is sum. not_agreed a why t sum)
 
 -- a message that is no part of the rest of a reply, and none at all: the client is as it was
 module _ (plan : TalkPlan) (l m n : LineAt) (w v : ClientAt) (c d : Course) (count : ℕ) where
-  pub other_over : IsPlan plan → Draining plan l m w v c d → (message : Message) → IsHeard plan.packet plan.most m n d.received count message
+  pub other_over : IsPlan plan → Draining plan l m w v c d → (message : Message) → (message ≡ End true → ⊥) → IsHeard plan.packet plan.most m n d.received count message
       → Drains plan l n w v c (record d { received = count }) false
-  other_over fit a message h = drained plan l m n w v v c d (record d { received = count }) count fit a message false h refl (refl, refl) (λ keeps. absurd cc)
+  other_over fit a message other h =
+      drained plan l m n w v v c d (record d { received = count }) count fit a message false h refl (refl, refl) (λ keeps. absurd cc) (λ is sum. other is)
 
-  pub silent_over : IsPlan plan → Draining plan l m w v c d → (why : Unheard) → IsUnheard plan.packet plan.most m n d.received count why
-      → Drains plan l n w v c (record d { received = count }) false
-  silent_over fit a why h = drained_silent plan l m n w v v c d (record d { received = count }) count fit a why h refl (refl, refl)
-
-  pub silent_wanted : Draining plan l m w v c d → (why : Unheard) → IsUnheard plan.packet plan.most m n d.received count why
-      → (bytes : List ℕ) × IsDropped l n w v bytes
-  silent_wanted a why h = drained_silent_wanted plan l m n w v v c d (record d { received = count }) count a why h refl
+  pub silent_over : IsPlan plan → Draining plan l m w v c d → (want : NoMemory) (why : Unheard) → IsUnheard plan.packet plan.most m n d.received count why
+      → IsDrained plan l n w v c (record d { received = count }) (closed_by want why)
+  silent_over fit a want unheard_is.Line h = drained_silent plan l m n w v v c d (record d { received = count }) count fit a unheard_is.Line h (λ is. absurd cc) refl (refl, refl)
+  silent_over fit a want unheard_is.Ended h = drained_silent plan l m n w v v c d (record d { received = count }) count fit a unheard_is.Ended h (λ is. absurd cc) refl (refl, refl)
+  silent_over fit a want unheard_is.Wrong h = drained_silent plan l m n w v v c d (record d { received = count }) count fit a unheard_is.Wrong h (λ is. absurd cc) refl (refl, refl)
+  silent_over fit a want unheard_is.TooLong h = drained_silent plan l m n w v v c d (record d { received = count }) count fit a unheard_is.TooLong h (λ is. absurd cc) refl (refl, refl)
+  silent_over fit a want unheard_is.NoMemory h = drained_silent_wanted plan l m n w v v c d (record d { received = count }) count a unheard_is.NoMemory h refl
 
 pub course-of : (c : Course) → IsLostCourse c → IsOnCourse c
 course-of c lost = record { opened = λ e. lost.opened; fresh = λ e. absurd (let some = lost.headers in cc) }

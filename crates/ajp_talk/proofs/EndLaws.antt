@@ -1,4 +1,5 @@
 -- How a talk goes on, and how it ends otherwise than by a failure, from how it stood and from what its last turn was.
+use Rattle.ajp_reply.proofs.StreamLaws.{one_reading}
 use Rattle.std.proofs.Common.{◌≡◌, ℕ, ◌+◌, ◌≤◌, ◌<◌, Bool, true, false, List, [], ◌∷◌, ◌++◌, length, take, refl, sym, ap, subst, ◌∙◌, arith, append-nil, length-append, length-take, Option, Some, None, IfSome, inl, inr, ◌⊎◌}
 use Rattle.std.proofs.lemmas.Option.{IfSome_then}
 use Rattle.jk_io.specs.Told.{appended, PutsFront}
@@ -6,14 +7,14 @@ use Rattle.jk_io.proofs.ToldLaws.{appended-appended, all_put, then_put}
 use Rattle.ajp_wire.specs.Packet.{body_packet}
 use Rattle.ajp_reply.specs.declared.message.Message.{Message}
 use Rattle.ajp_reply.specs.declared.message.Message.TheVariants.{Headers, Chunk, End, Ask, Pong}
-use Rattle.ajp_reply.specs.Stream.{IsFront, IsForm, head_of}
+use Rattle.ajp_reply.specs.Stream.{IsFront, IsForm, head_of, Spelled}
 use Rattle.http_body_in.specs.Body.{Data, reaches, behind}
 use Rattle.http_body_in.specs.State.{taken_of, most_of}
 use Rattle.http_out.specs.Writer.{Writer, IsOpen, chunk_bytes, end_bytes}
 use Rattle.ajp_talk.specs.Moments.{LineAt, ClientAt, BodyAt, Moment, data_at, Traffic, Takes, IsUsed, IsFrontOf}
 use Rattle.ajp_talk.specs.Replies.{is_good, kind_of, chunks_of, so_far_of_talk, bytes_for, told_by}
 use Rattle.ajp_talk.specs.Owed.{want, asked, answer, behind_first, pong_of, owed}
-use Rattle.ajp_talk.specs.Talk.{IsDone, IsGone, IsBrokenOff, HasBadBody, IsBad, HasWanted}
+use Rattle.ajp_talk.specs.Talk.{IsDone, IsGone, IsBrokenOff, HasBadBody, IsBad, HasWanted, IsNoEnd}
 use Rattle.ajp_talk.specs.Turns.{IsHeard, IsUnheard, Sends, Gives, IsBadAt, IsEndTurn, Acts, IsTurn, IsUntaken, IsOnCourse, turn_of}
 use Rattle.ajp_talk.specs.Ends.{IsPlan, told_end, bytes_end}
 use Rattle.ajp_talk.specs.declared.plan.TalkPlan.{TalkPlan}
@@ -37,6 +38,12 @@ no_turn unheard_is.Ended turn e failed want = failed cause_is.Ended e
 no_turn unheard_is.Wrong turn e failed want = failed cause_is.BadReply e
 no_turn unheard_is.TooLong turn e failed want = failed cause_is.TooLong e
 no_turn unheard_is.NoMemory turn e failed want = want e
+
+-- where an ask came last no reply ended
+no_end-ask : (plan : TalkPlan) (ask : ℕ) (past : List Message) (bytes : List ℕ) → Spelled plan.packet (Ask ask ∷ past) bytes → IsNoEnd plan bytes
+no_end-ask plan ask past bytes s = λ all r below.
+    let same : Ask ask ∷ past ≡ End true ∷ all = one_reading plan.packet (Ask ask ∷ past) (End true ∷ all) bytes s r.spelled in
+    absurd cc
 
 module _ (plan : TalkPlan) (s m n : Moment) (c c' : Course) where
   abbrev read_to : ℕ → Course
@@ -239,6 +246,7 @@ module _ (plan : TalkPlan) (s m n : Moment) (c c' : Course) where
         ended = λ e. (refl, acts.2 ∙ a.stands.written, asked-of a ask false fit acts.0.2);
         failed = λ e. absurd cc;
         kept = λ e. absurd cc;
+        closed = λ e. inr (no_end-ask plan ask a.past ((a.came ++ h.bytes) ++ []) (subst (Spelled plan.packet (Ask ask ∷ a.past)) (sym (append-nil (a.came ++ h.bytes))) nx.spelled));
       }
   cut_message a Pong mid count fit h acts = absurd (let e = acts.0 in cc)
 
@@ -265,6 +273,7 @@ module _ (plan : TalkPlan) (s m n : Moment) (c c' : Course) where
         ended = λ e. absurd cc;
         failed = λ e. omega (arith, acts.0.2, faults);
         kept = λ e. absurd cc;
+        closed = λ e. inr (no_end-ask plan ask a.past ((a.came ++ h.bytes) ++ []) (subst (Spelled plan.packet (Ask ask ∷ a.past)) (sym (append-nil (a.came ++ h.bytes))) nx.spelled));
       }
   unread_message a Pong mid count fit faults h acts = absurd (let e = acts.0 in cc)
 

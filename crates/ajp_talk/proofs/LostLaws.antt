@@ -1,12 +1,12 @@
 -- A client that is gone, and what is read of the reply behind that.
-use Rattle.std.proofs.Common.{◌≡◌, ℕ, ◌+◌, ◌-◌, ◌≤◌, ◌<◌, Bool, true, false, ◌&&◌, not, List, [], ◌∷◌, ◌++◌, length, refl, sym, ap, subst, ◌∙◌, arith, append-nil, Option, Some, IfSome, is_some, inl, inr, unwrap_or}
-use Rattle.std.proofs.lemmas.Bool.{and_parts, ltb-false, not-true}
+use Rattle.std.proofs.Common.{◌≡◌, ℕ, ◌+◌, ◌-◌, ◌≤◌, ◌<◌, Bool, true, false, ◌&&◌, not, List, [], ◌∷◌, ◌++◌, length, refl, sym, ap, subst, ◌∙◌, arith, append-nil, Option, Some, IfSome, is_some, inl, inr, unwrap_or, ◌⊎◌}
+use Rattle.std.proofs.lemmas.Bool.{and_parts, ltb-false, not-true, and_cases, not-false}
 use Rattle.jk_io.specs.Told.{Rose}
 use Rattle.ajp_reply.specs.declared.message.Message.{Message}
 use Rattle.ajp_reply.specs.declared.message.Message.TheVariants.{Headers, Chunk, End, Ask, Pong}
 use Rattle.ajp_reply.specs.declared.message.ReplyParts.{ReplyParts}
 use Rattle.ajp_reply.specs.Stream.{Spelled, IsFront, head_of}
-use Rattle.ajp_reply.proofs.StreamLaws.{spelled-behind}
+use Rattle.ajp_reply.proofs.StreamLaws.{spelled-behind, one_reading, goes_on}
 use Rattle.http_out.specs.declared.framing.Framing.{Framing}
 use Rattle.http_out.specs.declared.framing.Framing.TheVariants as By
 use Rattle.http_out.specs.Framing.{spent}
@@ -15,9 +15,9 @@ use Rattle.http_out.specs.Writer.{counted as counted_chunk}
 use Rattle.ajp_talk.specs.Moments.{LineAt, BodyAt, Moment, Traffic, IsUsed}
 use Rattle.ajp_talk.specs.Replies.{is_good, kind_of, chunks_of, sum_of, framing_in, exceeds, agrees, IsReply}
 use Rattle.ajp_talk.specs.Owed.{pong_of}
-use Rattle.ajp_talk.specs.Talk.{IsGone, IsBrokenOff, HasWanted}
+use Rattle.ajp_talk.specs.Talk.{IsGone, IsBrokenOff, HasWanted, IsNoEnd}
 use Rattle.ajp_talk.specs.Turns.{IsHeard, Acts, IsTurn}
-use Rattle.ajp_talk.specs.Drains.{IsLostCourse, chunk_messages, IsTail, IsDropped, Drains}
+use Rattle.ajp_talk.specs.Drains.{IsLostCourse, chunk_messages, IsTail, IsDropped, Drains, IsNoTail}
 use Rattle.ajp_talk.specs.Ends.{IsPlan, bytes_end}
 use Rattle.ajp_talk.specs.declared.plan.TalkPlan.{TalkPlan}
 use Rattle.ajp_talk.specs.declared.course.Course.{Course}
@@ -92,6 +92,67 @@ lost_reply plan s n c a bytes t =
       sum = subst (λ (o : Option ReplyParts). IfSome o (λ parts. agrees (framing_in plan parts) (sum_of (chunks_of (chunk_messages t.chunks ++ a.past))) ≡ true))
           (sym (head-behind t.chunks a.past ∙ a.head)) sum;
     }
+
+-- where the link isn't kept at an end, the end doesn't let it serve again, or it is to be closed
+not_kept : (plan : TalkPlan) (reuse : Bool) (past : List Message) (bytes : List ℕ) → Spelled plan.packet (End reuse ∷ past) bytes → (reuse && not plan.close_on_client) ≡ false
+    → (plan.close_on_client ≡ true) ⊎ IsNoEnd plan bytes
+not_kept plan reuse past bytes s e = elim (and_cases reuse (not plan.close_on_client) e) [
+  | inl stays ↦ inr (λ all r below.
+      let same : End reuse ∷ past ≡ End true ∷ all = one_reading plan.packet (End reuse ∷ past) (End true ∷ all) bytes s r.spelled in
+      absurd (let lets : reuse ≡ true = cc in cc))
+  | inr closes ↦ inl (not-false plan.close_on_client closes)
+]
+
+sum-later : (later past : List Message) → sum_of (chunks_of (later ++ past)) ≡ sum_of (chunks_of past) + sum_of (chunks_of later)
+sum-later [] past = omega arith
+sum-later (Headers parts ∷ later) past = sum-later later past
+sum-later (Chunk chunk ∷ later) past = omega (arith, sum-later later past)
+sum-later (End reuse ∷ later) past = sum-later later past
+sum-later (Ask ask ∷ later) past = sum-later later past
+sum-later (Pong ∷ later) past = sum-later later past
+
+no-end-front : (past all : List Message) → End true ∷ all ≡ past → IsFront is_good past → ⊥
+no-end-front [] all e front = absurd cc
+no-end-front (Headers parts ∷ past) all e front = absurd cc
+no-end-front (Chunk chunk ∷ past) all e front = absurd cc
+no-end-front (End reuse ∷ past) all e front = front
+no-end-front (Ask ask ∷ past) all e front = absurd cc
+no-end-front (Pong ∷ past) all e front = absurd cc
+
+-- the head of a reply is that of a front of it
+head-later : (later past : List Message) (parts : ReplyParts) → head_of past ≡ Some parts → IsFront is_good (later ++ past) → head_of (later ++ past) ≡ Some parts
+head-later [] past parts h f = h
+head-later (Headers other ∷ later) past parts h f =
+    let some = head-later later past parts h f.2 in
+    let none = f.0 in
+    absurd (let is : is_some (head_of (later ++ past)) ≡ true = ap is_some some in cc)
+head-later (Chunk bytes ∷ later) past parts h f = head-later later past parts h f.1
+head-later (End reuse ∷ later) past parts h f = absurd f
+head-later (Ask most ∷ later) past parts h f = head-later later past parts h f
+head-later (Pong ∷ later) past parts h f = absurd f
+
+-- what came behind the accepted messages doesn't end the reply
+pub no_end-from : (plan : TalkPlan) (s n : Moment) (c c' : Course) (a : LostAt plan s n c) (bytes : List ℕ) → (c'.received < plan.most → IsNoTail plan c bytes)
+    → c'.received ≡ length (pong_of plan ++ (a.came ++ bytes)) → IsNoEnd plan (a.came ++ bytes)
+no_end-from plan s n c c' a bytes none received = λ all r below.
+    let on = goes_on plan.packet a.past (End true ∷ all) a.came bytes a.broken.spelled r.spelled in
+    of on.0 all on.1 on.2 r (none (omega (arith, received, below)))
+  where
+    of : (later all : List Message) → End true ∷ all ≡ later ++ a.past → Spelled plan.packet later bytes → IsReply plan (End true ∷ all) (a.came ++ bytes) → IsNoTail plan c bytes → ⊥
+    of [] all split s r none = no-end-front a.past all split a.front
+    of (message ∷ later) all split s r none =
+        let first : message ≡ End true = cc in
+        let rest : all ≡ later ++ a.past = cc in
+        let f = framing_in plan a.parts in
+        let front : IsFront is_good (later ++ a.past) = subst (IsFront is_good) rest r.form.1 in
+        let head : head_of all ≡ Some a.parts = ap head_of rest ∙ head-later later a.past a.parts a.head front in
+        let total : agrees f (sum_of (chunks_of all)) ≡ true = subst (λ (o : Option ReplyParts). IfSome o (λ parts. agrees (framing_in plan parts) (sum_of (chunks_of all)) ≡ true)) head r.sum in
+        let due : agrees (framing_now c.writer) (sum_of (chunks_of later)) ≡ true =
+        ap (λ (g : Framing). agrees g (sum_of (chunks_of later))) a.framing
+        ∙ agrees-later f (chunks_of a.past) (sum_of (chunks_of later)) a.within
+        ∙ ap (agrees f) (sym (ap (λ (l : List Message). sum_of (chunks_of l)) rest ∙ sum-later later a.past))
+        ∙ total in
+        none later (subst (λ (x : Message). Spelled plan.packet (x ∷ later) bytes) first s) due
 
 spent-now : (w w' : Writer) (chunk : List ℕ) → w'.framing ≡ (counted_chunk w chunk).framing → framing_now w' ≡ spent (framing_now w) (length chunk)
 spent-now w w' chunk e = ap (λ (o : Option Framing). unwrap_or o By.NoBody) e
@@ -195,6 +256,8 @@ module _ (plan : TalkPlan) (s m n : Moment) (c c' : Course) where
                 subst (λ (x : List ℕ). length (pong_of plan ++ x) < plan.most) (sym all) (omega (arith, nx.counts, nx.below)),
               ),
             );
+        closed = λ f. not_kept plan again a.past ((a.came ++ h.bytes) ++ []) (subst (Spelled plan.packet (End again ∷ a.past)) (sym all) nx.spelled)
+            (subst (λ (r : Bool). (r && not plan.close_on_client) ≡ false) acts.0.0 (sym e ∙ f));
       }
   end_message a reuse keep (Ask ask) mid count fit faults e h acts = absurd acts.0
   end_message a reuse keep Pong mid count fit faults e h acts = absurd (let f = acts.0 in cc)
@@ -206,8 +269,8 @@ module _ (plan : TalkPlan) (s m n : Moment) (c c' : Course) where
 
 -- ---- the link is closed, or the rest is read
 
-pub lost_gone : (plan : TalkPlan) (s n : Moment) (c : Course) → IsPlan plan → LostAt plan s n c → IsGone plan s n false false (bytes_end c)
-lost_gone plan s n c fit a = record {
+pub lost_gone : (plan : TalkPlan) (s n : Moment) (c : Course) → IsPlan plan → plan.close_on_client ≡ true → LostAt plan s n c → IsGone plan s n false false (bytes_end c)
+lost_gone plan s n c fit closes a = record {
   past = a.past;
   came = a.came;
   rest = [];
@@ -218,6 +281,7 @@ lost_gone plan s n c fit a = record {
   ended = λ e. absurd cc;
   failed = λ e. a.rose;
   kept = λ e. absurd cc;
+  closed = λ e. inl closes;
 }
 
 -- what was broken off, and what came behind it
@@ -252,6 +316,7 @@ lost_drained plan s n p c c' keep fit a d closes body faults =
         closes,
         (chunk_messages (d.kept e).0.chunks ++ a.past, lost_reply plan s n c a d.bytes (d.kept e).0, omega (arith, received, (d.kept e).1)),
       );
+      closed = λ e. inr (no_end-from plan s n c c' a d.bytes (d.closed e) received);
     }
 
 pub lost_wanted : (plan : TalkPlan) (s n p : Moment) (c : Course) (bytes : List ℕ) → LostAt plan s n c → IsDropped n.line p.line n.client p.client bytes → p.body ≡ n.body

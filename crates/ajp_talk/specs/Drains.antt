@@ -1,5 +1,5 @@
 -- What is read of a reply behind a client that is gone.
-use Rattle.std.specs.Prelude.{◌≡◌, ℕ, ◌+◌, ◌<◌, Bool, true, List, [], ◌∷◌, length, Result, Ok, Err}
+use Rattle.std.specs.Prelude.{◌≡◌, ℕ, ◌+◌, ◌<◌, Bool, true, List, [], ◌∷◌, length, Result, Ok, Err, false}
 use Rattle.jk_io.specs.declared.failures.NoMemory.{NoMemory}
 use Rattle.ajp_wire.specs.Packet.{HasCome}
 use Rattle.ajp_reply.specs.declared.message.Message.{Message}
@@ -7,9 +7,11 @@ use Rattle.ajp_reply.specs.declared.message.Message.TheVariants.{Chunk, End}
 use Rattle.ajp_reply.specs.Stream.{Spelled}
 use Rattle.http_out.specs.Writer.{IsOpen, framing_now}
 use Rattle.ajp_talk.specs.Moments.{LineAt, ClientAt}
-use Rattle.ajp_talk.specs.Replies.{sum_of, agrees}
+use Rattle.ajp_talk.specs.Replies.{chunks_of, sum_of, agrees}
 use Rattle.ajp_talk.specs.declared.plan.TalkPlan.{TalkPlan}
 use Rattle.ajp_talk.specs.declared.course.Course.{Course}
+use Rattle.ajp_talk.specs.declared.turn.Unheard.{Unheard}
+use Rattle.ajp_talk.specs.declared.turn.Unheard.TheVariants as unheard_is
 
 -- a head was passed, and a write failed behind it
 pub record IsLostCourse (c : Course) : Type 0 where
@@ -27,6 +29,11 @@ pub record IsTail (plan : TalkPlan) (c : Course) (bytes : List ℕ) : Type 0 whe
   pub spelled : Spelled plan.packet (End true ∷ chunk_messages chunks) bytes
   pub sum : agrees (framing_now c.writer) (sum_of chunks) ≡ true
 
+-- the bytes are no such end
+abbrev pub IsNoTail : TalkPlan → Course → List ℕ → Type 0
+IsNoTail plan c bytes =
+    (later : List Message) → Spelled plan.packet (End true ∷ later) bytes → agrees (framing_now c.writer) (sum_of (chunks_of later)) ≡ true → ⊥
+
 -- bytes came, nothing was sent, and nothing was written
 pub record IsDropped (l l' : LineAt) (w w' : ClientAt) (bytes : List ℕ) : Type 0 where
   pub came : HasCome l.incoming l.received l'.incoming l'.received bytes
@@ -40,7 +47,16 @@ pub record Drains (plan : TalkPlan) (l l' : LineAt) (w w' : ClientAt) (c c' : Co
   pub small : c'.received < plan.most + 4294967400
   pub same : c'.sent ≡ c.sent
   pub kept : keep ≡ true → IsTail plan c bytes × (c'.received < plan.most)
+  pub closed : keep ≡ false → c'.received < plan.most → IsNoTail plan c bytes
 
 abbrev pub IsDrained : TalkPlan → LineAt → LineAt → ClientAt → ClientAt → Course → Course → Result Bool NoMemory → Type 0
 IsDrained plan l l' w w' c c' (Ok keep) = Drains plan l l' w w' c c' keep
 IsDrained plan l l' w w' c c' (Err e) = (bytes : List ℕ) × IsDropped l l' w w' bytes
+
+-- the answer where no message came
+abbrev pub closed_by : NoMemory → Unheard → Result Bool NoMemory
+closed_by want unheard_is.Line = Ok false
+closed_by want unheard_is.Ended = Ok false
+closed_by want unheard_is.Wrong = Ok false
+closed_by want unheard_is.TooLong = Ok false
+closed_by want unheard_is.NoMemory = Err want

@@ -168,8 +168,12 @@ pub record IsBrokenOff (plan : TalkPlan) (s n : Moment) (past : List Message) (c
   pub written : PutsFront s.client.written n.client.written (bytes_for plan past)
   pub body : IsUsed s.body n.body
 
+-- The bytes behind CPong are no whole reply below the limit that lets the link serve again.
+abbrev pub IsNoEnd : TalkPlan → List ℕ → Type 0
+IsNoEnd plan bytes = (all : List Message) → IsReply plan (End true ∷ all) bytes → length (pong_of plan ++ bytes) < plan.most → ⊥
+
 -- The client is gone: its bytes ended within the body at an ask, or a read or a write of it failed. The link is kept
--- only where the bytes that came are a whole reply that lets it serve again, and only if it isn't to be closed then.
+-- exactly where the bytes that came are a whole reply that lets it serve again, and it isn't to be closed then.
 pub record IsGone (plan : TalkPlan) (s n : Moment) (truncated keep : Bool) (bytes : ℕ) : Type 0 where
   pub past : List Message
   pub came : List ℕ
@@ -182,6 +186,7 @@ pub record IsGone (plan : TalkPlan) (s n : Moment) (truncated keep : Bool) (byte
   pub failed : truncated ≡ false → Rose s.client.faults n.client.faults
   pub kept : keep ≡ true → (plan.close_on_client ≡ false)
       × ((all : List Message) × IsReply plan (End true ∷ all) (came ++ rest) × (length (pong_of plan ++ (came ++ rest)) < plan.most))
+  pub closed : keep ≡ false → (plan.close_on_client ≡ true) ⊎ IsNoEnd plan (came ++ rest)
 
 -- why a body is bad: a bad chunk line stands in its data, or its data reached the limit
 abbrev pub IsBad : BodyAt → ℕ → ℕ → Type 0

@@ -2,7 +2,7 @@
 
 ghost use Rattle.std.specs.Prelude.{◌≡◌, ◌≤◌, ◌<◌};
 ghost use Rattle.ajp_talk.specs.Ends.{IsPlan};
-ghost use Rattle.ajp_talk.specs.Drains.{IsLostCourse, IsDrained};
+ghost use Rattle.ajp_talk.specs.Drains.{IsLostCourse, IsDrained, closed_by as closed_by_of};
 
 use crate::course::Course;
 use crate::hearing::receive;
@@ -45,13 +45,28 @@ pub(crate) fn drain<L: Link, C: Sink>(
             Ok(Message::End { reuse }) => {
                 return match course.finish(reuse, client) {
                     Turn::Done { .. } => Ok(reuse),
+                    Turn::LostAtEnd { .. } => Ok(reuse),
+                    Turn::Failed(_) => Ok(false),
                     Turn::NoMemory => Err(NoMemory),
-                    _ => Ok(false),
+                    Turn::On | Turn::Lost | Turn::Unread | Turn::Cut | Turn::Bad { .. } => {
+                        unreachable!()
+                    }
                 };
             }
-            Ok(_) => return Ok(false),
-            Err(Unheard::NoMemory) => return Err(NoMemory),
-            Err(_) => return Ok(false),
+            Ok(Message::Headers(_parts)) => return Ok(false),
+            Ok(Message::Ask(_most)) => return Ok(false),
+            Ok(Message::Pong) => return Ok(false),
+            Err(why) => return closed_by(why),
         }
+    }
+}
+
+/// Where no message came the link is to be closed.
+fn closed_by(why: Unheard) -> Result<bool, NoMemory>
+    ensures { result ≡ closed_by_of (record {}) why }
+{
+    match why {
+        Unheard::Line | Unheard::Ended | Unheard::Wrong | Unheard::TooLong => Ok(false),
+        Unheard::NoMemory => Err(NoMemory),
     }
 }

@@ -85,7 +85,7 @@ pub returns-then-plan-clause-talk : goal.returns-then-plan-clause-talk
 returns-then-plan-clause-talk g c =
     let i = c.loop-reuse.invariant in
     rw c.gone.ensures
-    (lost_gone c.args.plan.now _ _ c.step.new.course c.requires.plan
+    (lost_gone c.args.plan.now _ _ c.step.new.course c.requires.plan c.if-plan.true
     (lost c.args.plan.now _ _ _ c.loop-reuse.course c.step.new.course i.stands c.requires.plan i.client_faults c.in-Lost.ensures.turn))
 
 pub returns-in-Err-drain-clause-talk : goal.returns-in-Err-drain-clause-talk

@@ -1,7 +1,7 @@
 -- Each way out of the draining, from what came since the client was gone.
 use Rattle.std.proofs.Common.{refl, ◌∙◌, arith}
-use Rattle.ajp_talk.specs.declared.turn.Unheard.TheVariants as unheard_is
-use Rattle.ajp_talk.proofs.DrainLaws.{drains-first, drains-more, drained_end, chunk_wanted, chunk_over, end_wanted, end_over, other_over, silent_over, silent_wanted}
+use Rattle.ajp_reply.specs.declared.message.Message.TheVariants.{Headers, Ask, Pong}
+use Rattle.ajp_talk.proofs.DrainLaws.{drains-first, drains-more, drained_end, drained_lost_end, chunk_wanted, chunk_over, end_wanted, end_over, other_over, silent_over}
 use Rattle.ajp_talk.proofs.draining.drain.Goals as goal
 
 pub loop-bytes-init : goal.loop-bytes-init
@@ -53,21 +53,34 @@ returns-in-NoMemory-finish-clause-drained g c =
     end_wanted c.args.plan.now _ _ _ _ _ _ c.args.course.now c.loop-bytes.course c.finish.new.self c.receive.new.count c.loop-bytes.invariant.draining c.in-Ok-End.reuse
     heard c.in-NoMemory-finish.ensures.turn
 
-pub returns-in_default-finish-clause-drained : goal.returns-in_default-finish-clause-drained
-returns-in_default-finish-clause-drained g c =
+pub returns-in-LostAtEnd-clause-drained : goal.returns-in-LostAtEnd-clause-drained
+returns-in-LostAtEnd-clause-drained g c =
+    let heard = rw c.in-Ok-End.field-0-is at c.in-Ok-End.ensures.heard in
+    drained_lost_end c.args.plan.now _ _ _ _ _ _ c.args.course.now c.loop-bytes.course c.finish.new.self c.receive.new.count c.requires.plan c.loop-bytes.invariant.draining c.in-Ok-End.reuse c.in-LostAtEnd.reuse
+    heard c.in-LostAtEnd.ensures.turn
+
+pub returns-in-Failed-clause-drained : goal.returns-in-Failed-clause-drained
+returns-in-Failed-clause-drained g c =
     let heard = rw c.in-Ok-End.field-0-is at c.in-Ok-End.ensures.heard in
     end_over c.args.plan.now _ _ _ _ _ _ c.args.course.now c.loop-bytes.course c.finish.new.self c.receive.new.count c.requires.plan c.loop-bytes.invariant.draining c.in-Ok-End.reuse
-    c.finish.result c.in_default-finish.not-NoMemory heard c.finish.ensures.turn
+    c.in-Failed.field-0 heard c.in-Failed.ensures.turn
 
-pub returns-in-Ok-clause-drained : goal.returns-in-Ok-clause-drained
-returns-in-Ok-clause-drained g c =
-    other_over c.args.plan.now _ _ _ _ _ c.args.course.now c.loop-bytes.course c.receive.new.count c.requires.plan c.loop-bytes.invariant.draining c.in-Ok.field-0 c.in-Ok.ensures.heard
+pub returns-in-Ok-Headers-clause-drained : goal.returns-in-Ok-Headers-clause-drained
+returns-in-Ok-Headers-clause-drained g c =
+    let heard = rw c.in-Ok-Headers.field-0-is at c.in-Ok-Headers.ensures.heard in
+    other_over c.args.plan.now _ _ _ _ _ c.args.course.now c.loop-bytes.course c.receive.new.count c.requires.plan c.loop-bytes.invariant.draining (Headers c.in-Ok-Headers._parts) (λ is. absurd cc) heard
 
-pub returns-in-Err-NoMemory-clause-drained : goal.returns-in-Err-NoMemory-clause-drained
-returns-in-Err-NoMemory-clause-drained g c =
-    silent_wanted c.args.plan.now _ _ _ _ _ c.args.course.now c.loop-bytes.course c.receive.new.count c.loop-bytes.invariant.draining unheard_is.NoMemory
-    (rw c.in-Err-NoMemory.field-0-is at c.in-Err-NoMemory.ensures.unheard)
+pub returns-in-Ok-Ask-clause-drained : goal.returns-in-Ok-Ask-clause-drained
+returns-in-Ok-Ask-clause-drained g c =
+    let heard = rw c.in-Ok-Ask.field-0-is at c.in-Ok-Ask.ensures.heard in
+    other_over c.args.plan.now _ _ _ _ _ c.args.course.now c.loop-bytes.course c.receive.new.count c.requires.plan c.loop-bytes.invariant.draining (Ask c.in-Ok-Ask._most) (λ is. absurd cc) heard
+
+pub returns-in-Ok-Pong-clause-drained : goal.returns-in-Ok-Pong-clause-drained
+returns-in-Ok-Pong-clause-drained g c =
+    let heard = rw c.in-Ok-Pong.field-0-is at c.in-Ok-Pong.ensures.heard in
+    other_over c.args.plan.now _ _ _ _ _ c.args.course.now c.loop-bytes.course c.receive.new.count c.requires.plan c.loop-bytes.invariant.draining Pong (λ is. absurd cc) heard
 
 pub returns-in-Err-clause-drained : goal.returns-in-Err-clause-drained
 returns-in-Err-clause-drained g c =
-    silent_over c.args.plan.now _ _ _ _ _ c.args.course.now c.loop-bytes.course c.receive.new.count c.requires.plan c.loop-bytes.invariant.draining c.in-Err.field-0 c.in-Err.ensures.unheard
+    rw c.closed_by.ensures
+    (silent_over c.args.plan.now _ _ _ _ _ c.args.course.now c.loop-bytes.course c.receive.new.count c.requires.plan c.loop-bytes.invariant.draining (record {}) c.in-Err.why c.in-Err.ensures.unheard)
