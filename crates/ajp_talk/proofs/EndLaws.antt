@@ -242,6 +242,7 @@ module _ (plan : TalkPlan) (s m n : Moment) (c c' : Course) where
         rest = [];
         put = a.put;
         broken = unsent_broken a ask count mid h.bytes nx acts.0.0 acts.0.1 acts.2;
+        below = omega (arith, u.2, u.3);
         counted = unsent-bytes a ask h.bytes fit u;
         ended = λ e. (refl, acts.2 ∙ a.stands.written, asked-of a ask false fit acts.0.2);
         failed = λ e. absurd cc;
@@ -269,6 +270,7 @@ module _ (plan : TalkPlan) (s m n : Moment) (c c' : Course) where
         rest = [];
         put = a.put;
         broken = unsent_broken a ask count mid h.bytes nx acts.0.0 acts.0.1 acts.2;
+        below = omega (arith, u.2, u.3);
         counted = unsent-bytes a ask h.bytes fit u;
         ended = λ e. absurd cc;
         failed = λ e. omega (arith, acts.0.2, faults);

@@ -237,6 +237,7 @@ module _ (plan : TalkPlan) (s m n : Moment) (c c' : Course) where
         came = a.came ++ h.bytes;
         rest = [];
         put = a.put;
+        below = omega (arith, nx.counts, nx.below);
         broken = end_broken plan s m n c c' a again count h.bytes here acts.0.1 acts.0.3 (untaken-same m.body n.body acts.2);
         counted = subst (λ (x : List ℕ). bytes_end c' ≡ length a.put + length (pong_of plan ++ x)) (sym all)
             (bytes-are c' a.put (pong_of plan ++ (a.came ++ h.bytes)) (sent ∙ st.sent) (received ∙ nx.counts) (few-sent plan s m c a.past a.came a.put fit st) (omega (arith, received, nx.below, fit.most)));
@@ -276,6 +277,7 @@ lost_gone plan s n c fit closes a = record {
   rest = [];
   put = a.put;
   broken = a.broken;
+  below = omega (arith, a.received, a.below);
   counted = subst (λ (x : List ℕ). bytes_end c ≡ length a.put + length (pong_of plan ++ x)) (sym (append-nil a.came))
       (bytes-are c a.put (pong_of plan ++ a.came) a.sent a.received a.few (omega (arith, a.below, fit.most)));
   ended = λ e. absurd cc;
@@ -309,6 +311,7 @@ lost_drained plan s n p c c' keep fit a d closes body faults =
       rest = d.bytes;
       put = a.put;
       broken = broken-behind plan s n p a.past a.came a.put d.bytes a.broken d.dropped body;
+      below = omega (arith, a.received, a.below);
       counted = bytes-are c' a.put (pong_of plan ++ (a.came ++ d.bytes)) (d.same ∙ a.sent) received a.few (omega (arith, d.small, fit.most));
       ended = λ e. absurd cc;
       failed = λ e. omega (arith, a.rose, faults);

@@ -173,13 +173,15 @@ abbrev pub IsNoEnd : TalkPlan → List ℕ → Type 0
 IsNoEnd plan bytes = (all : List Message) → IsReply plan (End true ∷ all) bytes → length (pong_of plan ++ bytes) < plan.most → ⊥
 
 -- The client is gone: its bytes ended within the body at an ask, or a read or a write of it failed. The link is kept
--- exactly where the bytes that came are a whole reply that lets it serve again, and it isn't to be closed then.
+-- exactly where the bytes that came are a whole reply that lets it serve again, and it isn't to be closed then. The
+-- limit wasn't reached by what had come when it was gone.
 pub record IsGone (plan : TalkPlan) (s n : Moment) (truncated keep : Bool) (bytes : ℕ) : Type 0 where
   pub past : List Message
   pub came : List ℕ
   pub rest : List ℕ
   pub put : List ℕ
   pub broken : IsBrokenOff plan s n past came rest put
+  pub below : length (pong_of plan ++ came) < plan.most
   pub counted : bytes ≡ length put + length (pong_of plan ++ (came ++ rest))
   pub ended : truncated ≡ true → (keep ≡ false) × (n.client.written ≡ appended s.client.written (so_far_of_talk plan past))
       × IfSome (data_at s.body) (λ d. (reaches (asked plan.piece past) d ≡ false) × (d.bad ≡ false))
