@@ -1,11 +1,22 @@
-//! The text of a journal: segments written as lines.
+//! The text of a journal: segments written as lines, and read again.
 //!
 //! Source: own rules (docs/FORMATS.md, "Journal text").
 //! Shapes: a segment is the line of its rules, the lines of its opening, one line for each entry, and its count.
-//! Contract: `write_segment`. Read first: specs/SegmentText.antt.
-//! Errors: want of memory alone.
+//! Contract: `write_segment`, `read_segments` and the laws of `laws`. Read first: specs/SegmentText.antt, then
+//! specs/Reading.antt.
+//! Errors: `TextError`: the first line that can't be read, or want of memory.
 #![tactic(auto)]
 
+mod counted;
+mod draft;
+pub mod laws;
+mod reader;
+mod reading;
+mod segments;
+mod text_error;
 mod writing;
 
+pub use counted::SegmentList;
+pub use segments::read_segments;
+pub use text_error::TextError;
 pub use writing::write_segment;

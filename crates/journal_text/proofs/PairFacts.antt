@@ -1,0 +1,35 @@
+-- Segments that are taken off the end of a list, one by one.
+use Rattle.std.proofs.Common.{◌≡◌, List, [], ◌∷◌, ◌++◌, ℕ, reverse, All, sym, ap, subst, ◌∙◌, append_assoc, length-append, arith}
+use Rattle.std.proofs.lemmas.List.{get_or_append_left}
+use Rattle.jk_model.proofs.ListFacts.{reverse_snoc}
+use Rattle.jk_model.specs.declared.segment.Segment.{Segment}
+use Rattle.journal_text.specs.Kept.{IsKept}
+use Rattle.journal_text.specs.Pairs.{ArePairsOf, IsPairOf}
+use Rattle.journal_text.specs.declared.counted.Counted.{Counted}
+
+-- those that are left, and those that were taken off, whose pairs stand newest first
+pub record IsSplit (all left : List Counted) (pairs : List (List ℕ × Segment)) : Type 0 where
+  pub taken : List Counted
+  pub whole : all ≡ left ++ taken
+  pub paired : ArePairsOf taken (reverse pairs)
+
+pub split_none : (all : List Counted) → all ≡ all ++ [] → IsSplit all all []
+split_none all h = record { taken = []; whole = h; paired = tt }
+
+pub split_more : (all left further : List Counted) (c : Counted) (pairs : List (List ℕ × Segment)) (p : List ℕ × Segment)
+    → IsSplit all left pairs → left ≡ further ++ c ∷ [] → IsPairOf c p → IsSplit all further (pairs ++ p ∷ [])
+split_more all left further c pairs p h last pair = record {
+  taken = c ∷ h.taken;
+  whole = h.whole ∙ ap (λ x. x ++ h.taken) last ∙ append_assoc further (c ∷ []) h.taken;
+  paired = subst (λ ps. ArePairsOf (c ∷ h.taken) ps) (sym (reverse_snoc pairs p)) (pair, h.paired);
+}
+
+pub split_all : (all left : List Counted) (pairs : List (List ℕ × Segment)) → IsSplit all left pairs → left ≡ [] → ArePairsOf all (reverse pairs)
+split_all all left pairs h none =
+    subst (λ cs. ArePairsOf cs (reverse pairs)) (sym (h.whole ∙ ap (λ x. x ++ h.taken) none)) h.paired
+
+-- what is kept of all is kept of all but the last one
+pub kept_left : (all left : List Counted) (c : Counted) → all ≡ left ++ c ∷ [] → All IsKept all → All IsKept left
+kept_left all left c last h = λ k d inside.
+    subst IsKept (get_or_append_left left (c ∷ []) d k inside)
+    (subst (All IsKept) last h k d (omega (arith, inside, length-append left (c ∷ []))))

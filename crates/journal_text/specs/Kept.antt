@@ -1,0 +1,23 @@
+-- What the reader of a text keeps of what it has read, so that it can be made segments.
+use Rattle.std.specs.Prelude.{ℕ, All}
+use Rattle.jk_model.specs.Segments.{AreKeptEntries, AreRules}
+use Rattle.jk_model.specs.Validity.{IsOpening}
+use Rattle.journal_text.specs.declared.counted.Counted.{Counted}
+use Rattle.journal_text.specs.declared.reader.Place.{Place}
+use Rattle.journal_text.specs.declared.reader.Place.TheVariants as place
+use Rattle.journal_text.specs.declared.reader.Reader.{Reader}
+
+-- it can be a segment
+pub record IsKept (c : Counted) : Type 0 where
+  pub versions : AreRules c.rules
+  pub valid : IsOpening c.opening
+  pub entries : AreKeptEntries c.rules c.entries
+
+abbrev pub IsKeptAt : (rules : ℕ) → Place → Type 0
+IsKeptAt rules (place.Body name o entries) = IsOpening o × AreKeptEntries rules entries
+IsKeptAt rules other = Unit {0}
+
+pub record IsSound (r : Reader) : Type 0 where
+  pub versions : AreRules r.rules
+  pub present : IsKeptAt r.rules r.place
+  pub done : All IsKept r.done

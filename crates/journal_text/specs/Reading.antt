@@ -1,0 +1,138 @@
+-- How a text is read, line by line: where its reader stands, and what each line makes of that.
+use Rattle.std.specs.Prelude.{◌≡◌, ℕ, ◌+◌, ◌==◌, ◌&&◌, Bool, true, false, nat_le, nat_lt, List, [], ◌∷◌, ◌++◌, length, Option, Some, None, Result, Ok, Err, MatchOption, if◌then◌else◌}
+use Rattle.jk_model.specs.declared.journal.Entry.{Entry}
+use Rattle.jk_model.specs.declared.opening.Opening.{Opening}
+use Rattle.jk_model.specs.Validity.{IsOpening}
+use Rattle.play_script.specs.Parts.{parts_of}
+use Rattle.journal_lines.specs.Readings.{line_of}
+use Rattle.journal_lines.specs.declared.line.Beginning.{Beginning}
+use Rattle.journal_lines.specs.declared.line.Line.{Line}
+use Rattle.journal_lines.specs.declared.line.Line.TheVariants as line
+use Rattle.journal_lines.specs.declared.line.MemberValues.{MemberValues}
+use Rattle.journal_text.specs.Openings.{IsOpened, config_of, row_of}
+use Rattle.journal_text.specs.declared.counted.Counted.{Counted}
+use Rattle.journal_text.specs.declared.draft.Draft.{Draft}
+use Rattle.journal_text.specs.declared.reader.Place.{Place}
+use Rattle.journal_text.specs.declared.reader.Place.TheVariants as place
+use Rattle.journal_text.specs.declared.reader.Reader.{Reader}
+use Rattle.journal_text.specs.declared.text_error.TextError.{TextError}
+use Rattle.journal_text.specs.declared.text_error.TextError.TheVariants as error
+
+-- Between segments: one of rules 1 doesn't follow one of rules 2.
+abbrev pub begun : Reader → Line → Option Reader
+begun r (line.Rules v) = if nat_le r.rules v then Some (record { rules = v; place = place.Ruled; done = r.done }) else None
+begun r other = None
+
+-- Behind the line of the rules: the balancer.
+abbrev pub named : Reader → Line → Option Reader
+named r (line.Balancer name values) =
+    Some (record { rules = r.rules; place = place.Heading (record { name = name; values = values; members = []; rows = []; out = [] }); done = r.done })
+named r other = None
+
+abbrev pub with_member : Draft → (name route : List ℕ) → MemberValues → Draft
+with_member d name route v = record {
+  name = d.name;
+  values = d.values;
+  members = d.members ++ config_of name route v ∷ [];
+  rows = d.rows ++ row_of name v ∷ [];
+  out = d.out;
+}
+
+abbrev pub with_ticket : Draft → (ticket member : ℕ) → Draft
+with_ticket d ticket member = record {
+  name = d.name;
+  values = d.values;
+  members = d.members;
+  rows = d.rows;
+  out = d.out ++ (ticket, member) ∷ [];
+}
+
+abbrev pub headed : Reader → Draft → Reader
+headed r d = record { rules = r.rules; place = place.Heading d; done = r.done }
+
+-- As many members as the balancer's line says, and then the tickets that are out.
+abbrev pub is_full : Draft → Bool
+is_full d = length d.members == d.values.members
+
+-- A segment whose entries are still to come.
+abbrev pub opened : Reader → (name : List ℕ) → Opening → Reader
+opened r name o = record { rules = r.rules; place = place.Body name o []; done = r.done }
+
+-- The opening is whole: a segment begins where it may begin so.
+abbrev pub Opens : Reader → Draft → Beginning → Option Reader → Type 0
+Opens r d b found =
+    MatchOption found
+    (is_full d ≡ true → (o : Opening) → IsOpened d b o → ¬ IsOpening o)
+    (λ q. (is_full d ≡ true) × (o : Opening) × IsOpened d b o × IsOpening o × (q ≡ opened r d.name o))
+
+-- In an opening.
+abbrev pub Heads : Reader → Draft → Line → Option Reader → Type 0
+Heads r d (line.Member name route v) found = found ≡ (if is_full d then None else Some (headed r (with_member d name route v)))
+Heads r d (line.Lease ticket member) found = found ≡ (if is_full d then Some (headed r (with_ticket d ticket member)) else None)
+Heads r d (line.From b) found = Opens r d b found
+Heads r d other found = found ≡ None
+
+-- Among the entries.
+abbrev pub continued : Reader → (name : List ℕ) → Opening → List Entry → Line → Option Reader
+continued r name o entries (line.Entry e) =
+    Some (record { rules = r.rules; place = place.Body name o (entries ++ e ∷ []); done = r.done })
+continued r name o entries (line.End count) = Some (record {
+  rules = r.rules;
+  place = place.Outside;
+  done = r.done ++ record { name = name; rules = r.rules; opening = o; entries = entries; count = count } ∷ [];
+})
+continued r name o entries other = None
+
+-- What a line makes of where the reader stands; none where it is out of its place.
+abbrev pub TakesAt : Reader → Place → Line → Option Reader → Type 0
+TakesAt r place.Outside l found = found ≡ begun r l
+TakesAt r place.Ruled l found = found ≡ named r l
+TakesAt r (place.Heading d) l found = Heads r d l found
+TakesAt r (place.Body name o entries) l found = found ≡ continued r name o entries l
+
+-- What a line's text makes of it; none where it isn't of the form of a line, or is out of its place.
+abbrev pub TakesText : Reader → (text : List ℕ) → Option Reader → Type 0
+TakesText r text found = MatchOption (line_of r.rules text) (found ≡ None) (λ l. TakesAt r r.place l found)
+
+-- A text is read as segments, each with the count of its last line, or can't be read at a line.
+pub data Outcome : Type 0 where
+  readable : List Counted → Outcome
+  unreadable : (number : ℕ) → Outcome
+
+abbrev pub is_outside : Place → Bool
+is_outside place.Outside = true
+is_outside other = false
+
+-- How many members and tickets the reader holds.
+abbrev pub held : Place → ℕ
+held (place.Heading d) = length d.rows + length d.out
+held other = 0
+
+-- At the end of the text `last` is what stands behind the last LF.
+abbrev pub is_end : Reader → (last : List ℕ) → Bool
+is_end r last = (length last == 0) && (is_outside r.place && nat_lt 0 (length r.done))
+
+abbrev pub ended : Reader → (number : ℕ) → (last : List ℕ) → Outcome
+ended r number last = if is_end r last then readable r.done else unreadable number
+
+-- How the lines are read from here on, the first of which has the number.
+abbrev pub Reads : Reader → (number : ℕ) → List (List ℕ) → Outcome → Type 0
+Reads r number [] outcome = ⊥
+Reads r number (last ∷ []) outcome = outcome ≡ ended r number last
+Reads r number (text ∷ next ∷ lines) outcome =
+    (found : Option Reader) × TakesText r text found
+    × MatchOption found (outcome ≡ unreadable number) (λ q. Reads q (number + 1) (next ∷ lines) outcome)
+
+-- Before the first line; the first segment may have either rules.
+abbrev pub at_start : Reader
+at_start = record { rules = 1; place = place.Outside; done = [] }
+
+-- How a text is read.
+abbrev pub ReadsText : (text : List ℕ) → Outcome → Type 0
+ReadsText text outcome = Reads at_start 1 (parts_of 10 text) outcome
+
+-- An answer says what the text is read as; want of memory says nothing.
+abbrev pub Tells : Result (List Counted) TextError → (Outcome → Type 0) → Type 0
+Tells (Ok done) Says = Says (readable done)
+Tells (Err (error.Unreadable line)) Says = Says (unreadable line)
+Tells (Err error.NoMemory) Says = Unit {0}

@@ -1,0 +1,21 @@
+use jk_io::{Bytes, ListOf};
+use jk_model::{EntryList, Opening, Segment};
+
+/// A segment as a text has it.
+#[derive(Debug, Drop)]
+pub(crate) struct Counted {
+    /// The name of its balancer.
+    pub(crate) name: Bytes,
+    /// Its rules, 1 or 2.
+    pub(crate) rules: u8,
+    pub(crate) opening: Opening,
+    pub(crate) entries: EntryList,
+    /// What its last line says is the count of its entries.
+    pub(crate) count: u64,
+}
+
+/// The segments of a text, in order.
+pub(crate) type CountedList = ListOf<Counted>;
+
+/// Segments, each with the name of its balancer.
+pub type SegmentList = ListOf<(Bytes, Segment)>;

@@ -1,0 +1,146 @@
+//! An opening, as its lines are read.
+ghost use Rattle.std.specs.Prelude.{◌≡◌, ℕ, ◌∷◌, [], ◌++◌, ◌<◌, ◌≤◌, ◌^◌, ◌==◌, length, count_by, IfOk, MatchOption, IsTrue, ◌↔◌};
+ghost use Rattle.jk_model.specs.declared.opening.Opening.{Opening};
+ghost use Rattle.jk_model.specs.Validity.{IsOpening};
+ghost use Rattle.journal_text.specs.Openings.{AreCounted, IsOpened, config_of, row_of};
+ghost use Rattle.journal_text.specs.Reading.{is_full, with_member, with_ticket};
+
+use jk_io::{Bytes, NoMemory};
+use jk_model::{LbConfig, MemberConfig, MemberList, MemberRow, Opening, RowList, TicketList};
+use journal_lines::{BalancerValues, Beginning, MemberValues};
+
+/// An opening as far as its lines are read.
+#[derive(Debug, Drop)]
+pub(crate) struct Draft {
+    pub(crate) name: Bytes,
+    pub(crate) values: BalancerValues,
+    pub(crate) members: MemberList,
+    /// One for each member, without its tickets.
+    pub(crate) rows: RowList,
+    pub(crate) out: TicketList,
+}
+
+fn config_of(name: Bytes, route: Bytes, values: &MemberValues) -> MemberConfig
+    ensures { result ≡ config_of name route values.now }
+{
+    MemberConfig {
+        name,
+        route,
+        factor: values.factor,
+        distance: values.distance,
+        activation: values.activation,
+        redirect: values.redirect,
+        pool: values.pool,
+    }
+}
+
+fn row_of(name: Bytes, values: &MemberValues) -> MemberRow
+    ensures { result ≡ row_of name values.now }
+{
+    MemberRow {
+        name,
+        state: values.state,
+        load: values.load,
+        busy: 0,
+        activation: values.activation,
+        factor: values.factor,
+        distance: values.distance,
+        redirect: values.redirect,
+    }
+}
+
+fn count_on(out: &[(u64, u32)], member: u32) -> usize
+    ensures value { result ≡ count_by (λ x. x.1 == member) out.now }
+    ensures few { result ≤ length out.now }
+{
+    out.iter().filter(|x| x.1 == member).count()
+}
+
+// Counts the tickets on each row's member.
+fn count_tickets(rows: &mut Vec<MemberRow>, out: &[(u64, u32)])
+    requires members { length rows.old.items < 2 ^ 32 }
+    requires tickets { length out.now < 2 ^ 32 }
+    ensures { AreCounted out.now (length rows.old.items) rows.old.items rows.new.items }
+{
+    for i in 0..rows.len() {
+        rows[i].busy = count_on(out, i as u32) as u32;
+    }
+}
+
+impl Draft {
+    /// Whether each member of the balancer's line was read.
+    pub(crate) fn is_full(&self) -> bool
+        ensures { result ≡ is_full self.now }
+    {
+        self.members.len() == self.values.members as usize
+    }
+
+    /// With a further member.
+    pub(crate) fn with_member(
+        self,
+        name: Bytes,
+        route: Bytes,
+        values: MemberValues,
+    ) -> Result<Draft, NoMemory>
+        ensures { IfOk result (λ d. d ≡ with_member self name route values) }
+    {
+        let mut draft = self;
+        draft.rows.push(row_of(name.copy()?, &values))?;
+        draft.members.push(config_of(name, route, &values))?;
+        Ok(draft)
+    }
+
+    /// With a further ticket that is out.
+    pub(crate) fn with_ticket(self, ticket: u64, member: u32) -> Result<Draft, NoMemory>
+        ensures { IfOk result (λ d. d ≡ with_ticket self ticket member) }
+    {
+        let mut draft = self;
+        draft.out.push((ticket, member))?;
+        Ok(draft)
+    }
+
+    /// The name and the opening, where a segment may begin so.
+    pub(crate) fn open(self, beginning: &Beginning) -> Option<(Bytes, Opening)>
+        requires members { length self.rows < 2 ^ 32 }
+        requires tickets { length self.out < 2 ^ 32 }
+        ensures { MatchOption result
+            ((o : Opening) → IsOpened self beginning.now o → ¬ IsOpening o)
+            (λ found. (found.0 ≡ self.name) × IsOpened self beginning.now found.1 × IsOpening found.1) }
+    {
+        let Draft {
+            name,
+            values,
+            members,
+            rows,
+            out,
+        } = self;
+        let mut rows = rows.into_vec();
+        count_tickets(&mut rows, out.as_slice());
+        let config = match LbConfig::new(
+            values.method,
+            values.sticky,
+            values.force,
+            values.direct,
+            values.maintain,
+            values.recover,
+            members,
+        ) {
+            Ok(config) => config,
+            Err(_) => return None,
+        };
+        let opening = Opening {
+            config,
+            rows: RowList::from_vec(rows),
+            out,
+            next: beginning.next,
+            at: beginning.at,
+            maintained: beginning.maintained,
+            chosen: beginning.chosen,
+        };
+        if opening.is_valid() {
+            Some((name, opening))
+        } else {
+            None
+        }
+    }
+}

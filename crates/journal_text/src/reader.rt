@@ -1,0 +1,290 @@
+//! The reader of a text: where it stands, and what each line makes of that.
+ghost use Rattle.std.specs.Prelude.{◌≡◌, [], ◌∷◌, ◌++◌, ◌+◌, ◌≤◌, ◌<◌, ◌^◌, true, false, All, length, IfOk, IfSome, MatchOption};
+ghost use Rattle.jk_model.specs.Segments.{AreRules};
+ghost use Rattle.journal_lines.specs.Ranges.{IsKeptLine};
+ghost use Rattle.jk_model.specs.Segments.{AreKeptEntries};
+ghost use Rattle.jk_model.specs.Validity.{IsOpening};
+ghost use Rattle.journal_text.specs.Kept.{IsKept, IsSound};
+ghost use Rattle.journal_text.specs.Reading.{Heads, Opens, TakesAt, TakesText, at_start, begun, continued, held, is_end, named, opened};
+
+use crate::counted::{Counted, CountedList};
+use crate::draft::Draft;
+use jk_io::{Bytes, NoMemory};
+use jk_model::{Entry, EntryList, MemberList, Opening, RowList, TicketList};
+use journal_lines::{Beginning, Line, read_line};
+use std::alloc::Global;
+
+/// Where a text is read.
+#[derive(Debug, Drop)]
+pub(crate) enum Place {
+    /// Between segments.
+    Outside,
+    /// Behind the line of a segment's rules.
+    Ruled,
+    /// In an opening, behind its balancer's line.
+    Heading(Draft),
+    /// Among the entries of a segment.
+    Body {
+        name: Bytes,
+        opening: Opening,
+        entries: EntryList,
+    },
+}
+
+/// The reader of a text.
+#[derive(Debug, Drop)]
+pub(crate) struct Reader {
+    /// Those of the present segment, or of the last one.
+    rules: u8,
+    place: Place,
+    /// The segments that were read.
+    done: CountedList,
+}
+
+fn begun(rules: u8, done: CountedList, line: Line) -> Option<Reader>
+    requires kept { IsKeptLine rules line }
+    requires sound { All IsKept done }
+    ensures sound { IfSome result IsSound }
+    ensures takes { result ≡ begun (record { rules = rules; place = Place.Outside; done = done }) line }
+{
+    match line {
+        Line::Rules(version) if rules <= version => Some(Reader {
+            rules: version,
+            place: Place::Ruled,
+            done,
+        }),
+        _ => None,
+    }
+}
+
+fn named(alloc: Global, rules: u8, done: CountedList, line: Line) -> Option<Reader>
+    requires versions { AreRules rules }
+    requires sound { All IsKept done }
+    ensures sound { IfSome result IsSound }
+    ensures takes { result ≡ named (record { rules = rules; place = Place.Ruled; done = done }) line }
+{
+    let Line::Balancer { name, values } = line else {
+        return None;
+    };
+    let draft = Draft {
+        name,
+        values,
+        members: MemberList::new(alloc),
+        rows: RowList::new(alloc),
+        out: TicketList::new(alloc),
+    };
+    Some(Reader {
+        rules,
+        place: Place::Heading(draft),
+        done,
+    })
+}
+
+fn opened(
+    alloc: Global,
+    rules: u8,
+    done: CountedList,
+    draft: Draft,
+    beginning: &Beginning,
+) -> Option<Reader>
+    requires versions { AreRules rules }
+    requires few { length draft.rows + length draft.out < 2 ^ 32 }
+    requires sound { All IsKept done }
+    ensures sound { IfSome result IsSound }
+    ensures takes { Opens (record { rules = rules; place = Place.Heading draft; done = done }) draft beginning.now result }
+{
+    if !draft.is_full() {
+        return None;
+    }
+    let (name, opening) = draft.open(beginning)?;
+    Some(Reader {
+        rules,
+        place: Place::Body {
+            name,
+            opening,
+            entries: EntryList::new(alloc),
+        },
+        done,
+    })
+}
+
+fn headed(
+    alloc: Global,
+    rules: u8,
+    done: CountedList,
+    draft: Draft,
+    line: Line,
+) -> Result<Option<Reader>, NoMemory>
+    requires versions { AreRules rules }
+    requires few { length draft.rows + length draft.out < 2 ^ 32 }
+    requires sound { All IsKept done }
+    ensures sound { IfOk result (λ found. IfSome found IsSound) }
+    ensures takes { IfOk result (Heads (record { rules = rules; place = Place.Heading draft; done = done }) draft line) }
+    ensures grown { IfOk result (λ found. IfSome found (λ q. held q.place ≤ length draft.rows + length draft.out + 1)) }
+{
+    let full = draft.is_full();
+    let further = match line {
+        Line::Member {
+            name,
+            route,
+            values,
+        } if !full => draft.with_member(name, route, values)?,
+        Line::Lease { ticket, member } if full => draft.with_ticket(ticket, member)?,
+        Line::From(beginning) => return Ok(opened(alloc, rules, done, draft, &beginning)),
+        _ => return Ok(None),
+    };
+    Ok(Some(Reader {
+        rules,
+        place: Place::Heading(further),
+        done,
+    }))
+}
+
+// With a further entry.
+fn with_entry(
+    rules: u8,
+    done: CountedList,
+    name: Bytes,
+    opening: Opening,
+    entries: EntryList,
+    entry: Entry,
+) -> Result<Reader, NoMemory>
+    requires versions { AreRules rules }
+    requires valid { IsOpening opening }
+    requires entries { AreKeptEntries rules entries }
+    requires kept { IsKeptLine rules (Line.Entry entry) }
+    requires sound { All IsKept done }
+    ensures sound { IfOk result IsSound }
+    ensures value { IfOk result (λ q. q ≡ record { rules = rules; place = Place.Body name opening (entries ++ entry ∷ []); done = done }) }
+{
+    let mut entries = entries;
+    entries.push(entry)?;
+    let place = Place::Body {
+        name,
+        opening,
+        entries,
+    };
+    Ok(Reader { rules, place, done })
+}
+
+// Behind a further segment.
+fn with_segment(rules: u8, done: CountedList, segment: Counted) -> Result<Reader, NoMemory>
+    requires versions { AreRules rules }
+    requires kept { IsKept segment }
+    requires sound { All IsKept done }
+    ensures sound { IfOk result IsSound }
+    ensures value { IfOk result (λ q. q ≡ record { rules = rules; place = Place.Outside; done = done ++ segment ∷ [] }) }
+{
+    let mut done = done;
+    done.push(segment)?;
+    Ok(Reader {
+        rules,
+        place: Place::Outside,
+        done,
+    })
+}
+
+fn continued(
+    rules: u8,
+    done: CountedList,
+    name: Bytes,
+    opening: Opening,
+    entries: EntryList,
+    line: Line,
+) -> Result<Option<Reader>, NoMemory>
+    requires versions { AreRules rules }
+    requires valid { IsOpening opening }
+    requires entries { AreKeptEntries rules entries }
+    requires kept { IsKeptLine rules line }
+    requires sound { All IsKept done }
+    ensures sound { IfOk result (λ found. IfSome found IsSound) }
+    ensures takes { IfOk result (λ found. found
+        ≡ continued (record { rules = rules; place = Place.Body name opening entries; done = done }) name opening entries line) }
+    ensures grown { IfOk result (λ found. IfSome found (λ q. held q.place ≡ 0)) }
+{
+    match line {
+        Line::Entry(entry) => {
+            let further = with_entry(rules, done, name, opening, entries, entry)?;
+            Ok(Some(further))
+        }
+        Line::End(count) => {
+            let segment = Counted {
+                name,
+                rules,
+                opening,
+                entries,
+                count,
+            };
+            let further = with_segment(rules, done, segment)?;
+            Ok(Some(further))
+        }
+        _ => Ok(None),
+    }
+}
+
+impl Reader {
+    /// Before the first line.
+    pub(crate) fn new(alloc: Global) -> Reader
+        ensures value { result ≡ at_start }
+        ensures sound { IsSound result }
+    {
+        Reader {
+            rules: 1,
+            place: Place::Outside,
+            done: CountedList::new(alloc),
+        }
+    }
+
+    fn take(self, alloc: Global, line: Line) -> Result<Option<Reader>, NoMemory>
+        requires few { held self.place < 2 ^ 32 }
+        requires kept { IsKeptLine self.rules line }
+        requires sound { IsSound self }
+        ensures sound { IfOk result (λ found. IfSome found IsSound) }
+        ensures takes { IfOk result (TakesAt self self.place line) }
+        ensures grown { IfOk result (λ found. IfSome found (λ q. held q.place ≤ held self.place + 1)) }
+    {
+        let Reader { rules, place, done } = self;
+        match place {
+            Place::Outside => Ok(begun(rules, done, line)),
+            Place::Ruled => Ok(named(alloc, rules, done, line)),
+            Place::Heading(draft) => headed(alloc, rules, done, draft, line),
+            Place::Body {
+                name,
+                opening,
+                entries,
+            } => continued(rules, done, name, opening, entries, line),
+        }
+    }
+
+    /// Takes the text of a line, without its LF. `None`: it can't be read there.
+    pub(crate) fn take_text(self, alloc: Global, text: &[u8]) -> Result<Option<Reader>, NoMemory>
+        requires few { held self.place < 2 ^ 32 }
+        requires sound { IsSound self }
+        ensures sound { IfOk result (λ found. IfSome found IsSound) }
+        ensures takes { IfOk result (TakesText self text.now) }
+        ensures grown { IfOk result (λ found. IfSome found (λ q. held q.place ≤ held self.place + 1)) }
+    {
+        match read_line(alloc, self.rules, text)? {
+            None => Ok(None),
+            Some(line) => self.take(alloc, line),
+        }
+    }
+
+    /// The segments that were read, where a text may end here; `last` is what stands behind its last LF.
+    pub(crate) fn end(self, last: &[u8]) -> Option<CountedList>
+        requires sound { IsSound self }
+        ensures sound { IfSome result (All IsKept) }
+        ensures value { MatchOption result (is_end self last.now ≡ false) (λ done. (is_end self last.now ≡ true) × (done ≡ self.done)) }
+    {
+        let Reader {
+            rules: _,
+            place,
+            done,
+        } = self;
+        if last.is_empty() && matches!(&place, Place::Outside) && !done.is_empty() {
+            Some(done)
+        } else {
+            None
+        }
+    }
+}

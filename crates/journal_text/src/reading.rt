@@ -1,0 +1,37 @@
+//! A text, read as segments.
+ghost use Rattle.std.specs.Prelude.{◌≤◌, All, length, IfOk};
+ghost use Rattle.journal_text.specs.Kept.{IsKept};
+ghost use Rattle.journal_text.specs.Reading.{ReadsText, Tells};
+
+use crate::counted::CountedList;
+use crate::reader::Reader;
+use crate::text_error::TextError;
+use play_script::Parts;
+use std::alloc::Global;
+
+/// The segments of a text, each with the count of its last line.
+pub(crate) fn read_counted(alloc: Global, text: &[u8]) -> Result<CountedList, TextError>
+    requires { length text.now ≤ 67108864 }
+    ensures value { Tells result (ReadsText text.now) }
+    ensures sound { IfOk result (All IsKept) }
+{
+    let mut lines = Parts::of(b'\n', text);
+    let mut reader = Reader::new(alloc);
+    let mut number: u32 = 1;
+    let mut line = match lines.next() {
+        Some(first) => first,
+        None => return Err(TextError::Unreadable { line: 1 }),
+    };
+    'lines: while let Some(next) = lines.next() {
+        reader = match reader.take_text(alloc, line)? {
+            Some(further) => further,
+            None => return Err(TextError::Unreadable { line: number }),
+        };
+        number += 1;
+        line = next;
+    }
+    match reader.end(line) {
+        Some(done) => Ok(done),
+        None => Err(TextError::Unreadable { line: number }),
+    }
+}
