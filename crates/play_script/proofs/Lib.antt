@@ -2,3 +2,4 @@ pub mod PartsLemmas
 pub mod DraftLemmas
 pub mod PlayLemmas
 pub mod FormLaws
+pub mod OnlyForms

@@ -1,5 +1,5 @@
 -- The lines after the balancer's own, as a table: which words say what.
-use Rattle.std.specs.Prelude.{◌≡◌, ℕ, ◌≤◌, ◌^◌, false, true, List, [], ◌∷◌, ◌++◌, Option, Some, None, codes, option_map}
+use Rattle.std.specs.Prelude.{◌≡◌, ℕ, false, true, List, [], ◌∷◌, ◌++◌, Option, Some, None, codes}
 use Rattle.jk_io.specs.Decimals.{decimal_of}
 use Rattle.jk_model.specs.declared.change.Change.{Change}
 use Rattle.jk_model.specs.declared.change.Command.TheVariants as command
@@ -8,7 +8,6 @@ use Rattle.jk_model.specs.declared.change.Redirect.TheVariants as redirect
 use Rattle.jk_model.specs.declared.journal.Call.TheVariants as call
 use Rattle.jk_model.specs.declared.journal.Kind.{Kind}
 use Rattle.jk_model.specs.declared.journal.Kind.TheVariants as kind
-use Rattle.jk_model.specs.declared.member.Activation.{Activation}
 use Rattle.play_script.specs.declared.step.Step.{Step}
 use Rattle.play_script.specs.declared.step.Step.TheVariants as step
 use Rattle.play_script.specs.Names.{index_of}

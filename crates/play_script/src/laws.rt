@@ -12,3 +12,9 @@ pub fn each_form_is_read()
     ensures read { (names words : List (List ℕ)) (said : Step) → Form names words said → step_from names words ≡ Some said }
     ensures joined { (line : List ℕ) → join_with_byte 32 (parts_of 32 line) ≡ line }
 {}
+
+/// Words that say something have one of the forms, and say what the table says of them: no other line asks the Book
+/// for anything.
+pub fn no_other_line_is_read()
+    ensures form { (names words : List (List ℕ)) (said : Step) → step_from names words ≡ Some said → Form names words said }
+{}
