@@ -4,6 +4,8 @@ pub mod ChainLemmas
 pub mod CheckLemmas
 pub mod DraftLemmas
 pub mod FirstsLemmas
+pub mod OneConfig
+pub mod OneRefusal
 pub mod RowLemmas
 pub mod TableLemmas
 pub mod WayLemmas

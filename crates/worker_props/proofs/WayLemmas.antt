@@ -17,7 +17,7 @@ use Rattle.worker_props.specs.Given.{last_given, in_force, is_given, is_among, t
 use Rattle.worker_props.specs.Numbers.{number_of}
 use Rattle.worker_props.specs.Table.{IsNameOfGiven}
 use Rattle.worker_props.specs.Rows.{place_at, picked, property_at, HasLines, HasOwn, HasForce, AreRows, adjusted}
-use Rattle.worker_props.specs.Ways.{was_passed, was_settled, is_own, is_passed, is_whole, fresh_in, passed_row, IsOnWay, AreOnWay, IsAt, IsSettled, EndsWell, LeadsOn, IsWay, row_of_target, Inherits, is_open, is_open_number, is_open_row}
+use Rattle.worker_props.specs.Ways.{was_passed, was_settled, is_own, is_passed, is_whole, fresh_in, passed_row, IsOnWay, AreOnWay, IsAt, EndsWell, LeadsOn, IsWay, row_of_target, Inherits, is_open, is_open_number, is_open_row}
 use Rattle.worker_props.proofs.RowLemmas.{number_of-same, number_of-named, adjusted_here, adjusted_there, length-adjusted}
 
 equals : (a b : List ℕ) → a ≡ b → bytes_eq a b ≡ true
@@ -37,9 +37,6 @@ among_there name other past h = rw (differs other name h) refl
 some_number : (o : Option ℕ) → is_some o ≡ true → (i : ℕ) × (o ≡ Some i)
 some_number None e = absurd (false≢true e)
 some_number (Some i) e = (i, refl)
-
-pub given_number : (ps : List Property) (names : List (List ℕ)) (name : List ℕ) → IsNameOfGiven ps names → is_given ps name ≡ true → (i : ℕ) × (number_of name names ≡ Some i)
-given_number ps names name known given = some_number (number_of name names) (known name ∙ given)
 
 pub number_given : (ps : List Property) (names : List (List ℕ)) (name : List ℕ) (i : ℕ) → IsNameOfGiven ps names → number_of name names ≡ Some i → is_given ps name ≡ true
 number_given ps names name i known e = sym (known name) ∙ ap is_some e
@@ -287,10 +284,6 @@ way_back ps start names rows past name i row new known h num got inherits =
     set_here [] i row new e = absurd (none-some row e)
     set_here (r ∷ rows) zero row new e = refl
     set_here (r ∷ rows) (suc i) row new e = set_here rows i row new e
-
--- at the end of the way back its start is settled
-pub way_done : (ps : List Property) (start : List ℕ) (names : List (List ℕ)) (rows : List Row) → IsWay ps start names rows [] → IsSettled names rows start
-way_done ps start names rows h = subst (EndsWell names rows) h.leads h.ends
 
 -- a name's number is that of a row
 pub row_within : {fits : List ℕ → Row → Type 0} (names : List (List ℕ)) (rows : List Row) (name : List ℕ) (i : ℕ) → AreRows fits names rows → number_of name names ≡ Some i → i < length rows

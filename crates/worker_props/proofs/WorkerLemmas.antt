@@ -1,5 +1,5 @@
 -- The second pass: lists, refusals, and workers one after another.
-use Rattle.std.proofs.Common.{◌≡◌, ℕ, ◌+◌, ◌<◌, Bool, true, false, List, [], ◌∷◌, length, drop, get_or, filter, Option, Some, None, Result, Ok, Err, OnOk, refl, sym, ◌∙◌, ap, subst, cond, inl, inr, arith, ◌%◌}
+use Rattle.std.proofs.Common.{◌≡◌, ℕ, ◌+◌, ◌<◌, Bool, true, false, List, [], ◌∷◌, length, drop, get_or, filter, Option, Some, None, Result, Ok, Err, OnOk, refl, sym, ◌∙◌, ap, subst, cond, inr, arith, ◌%◌}
 use Rattle.std.proofs.lemmas.Bool.{and_parts, false≢true}
 use Rattle.std.proofs.lemmas.List.{drop_more}
 use Rattle.std.proofs.lemmas.Nat.Gcd.{IsGcd-from_zero, IsGcd-from_mod, IsGcd-swap}
@@ -24,7 +24,7 @@ use Rattle.property_lines.specs.Refusals.{Refusal, IsRefusal}
 use Rattle.worker_props.specs.Rows.{HasForce, property_at}
 use Rattle.worker_props.specs.Settings.{kind_in}
 use Rattle.property_lines.specs.declared.values.Kind.TheVariants as kind
-use Rattle.worker_props.specs.Site.{Adds, AddsKind, Builds, Each, Known, Refuses, RefusesKind, RefusesLb, Stops}
+use Rattle.worker_props.specs.Site.{Adds, AddsKind, Builds, Each, Known, RefusesKind, RefusesLb, Stops}
 
 -- a line that gives a worker members lists members
 gives_lists : (name : List ℕ) (o : Option (List ℕ × List ℕ)) → names_both name (name_of directive.BalanceWorkers) o ≡ true → lists_for o ≡ true
@@ -64,11 +64,6 @@ pub each_firsts : (fine : Listing → Type 0) (ls : List Listing) → Each fine 
 each_firsts fine [] e = tt
 each_firsts fine (l ∷ ls) e = (e.0, each_drop fine l.name (firsts ls) (each_firsts fine ls e.1))
 
--- a refusal for one cause is one for another
-pub refusal_weaker : (p q : Refusal → Type 0) (e : PropsError) → ((r : Refusal) → p r → q r) → IsRefusal p e → IsRefusal q e
-refusal_weaker p q (errors.Refused line code) h r = h (record { line = line; code = code }) r
-refusal_weaker p q errors.NoMemory h r = tt
-
 -- what a call makes at Ok is what its caller means
 pub on_ok : {T E : Type 0} (r : Result T E) (P Q : Type 0) → OnOk r P → (P → Q) → OnOk r Q
 on_ok (Ok x) P Q h f = f h
@@ -80,10 +75,6 @@ lb_refusal ps count l v ms P (errors.Refused line code) are h f =
     let r : Refusal = record { line = line; code = code } in
     subst (λ (xs : List Listing). RefusesLb ps count l v xs r) are (f r h)
 lb_refusal ps count l v ms P errors.NoMemory are h f = tt
-
--- want of memory is no refusal
-pub memory_free : (q : Refusal → Type 0) (e : PropsError) → e ≡ errors.NoMemory → IsRefusal q e
-memory_free q e same = rw same tt
 
 -- the least common multiple of one factor
 pub one_factor : (f : ℕ) → multiple_of (f ∷ []) ≡ f
@@ -99,23 +90,12 @@ force_lines ps name row h = λ i d. h.2.lines_are d i
 pub adds_kind : (ps : List Property) (maintain : ℕ) (l : Listing) (row : Row) (old new : Draft) → Known ps l → HasForce ps l.name row → AddsKind ps maintain l (property_at ps row) (kind_in (property_at ps row directive.Kind)) old new → Adds ps maintain l old new
 adds_kind ps maintain l row old new known h a = (known, h.0, h.1, subst (λ (v : Directive → Option Property). AddsKind ps maintain l v (kind_in (v directive.Kind)) old new) (force_lines ps l.name row h) a)
 
-pub refuses_kind : (ps : List Property) (count : ℕ) (l : Listing) (row : Row) (r : Refusal) → Known ps l → HasForce ps l.name row → RefusesKind ps count l (property_at ps row) (kind_in (property_at ps row directive.Kind)) r → Refuses ps count l r
-refuses_kind ps count l row r known h a = inr (inr (known, h.0, h.1, subst (λ (v : Directive → Option Property). RefusesKind ps count l v (kind_in (v directive.Kind)) r) (force_lines ps l.name row h) a))
-
 -- one worker more
 left_at : (ls : List declared.Listing) (i : ℕ) (d : declared.Listing) → i < length ls → as_listings (drop i ls) ≡ as_listing (get_or ls i d) ∷ as_listings (drop (i + 1) ls)
 left_at ls i d h = rw (drop_more ls i d h) refl
-
-pub building_start : (ps : List Property) (maintain : ℕ) (all : List Listing) (start : Draft) → IsBuilding ps maintain all start all start
-building_start ps maintain all start = record { builds = λ new b. b; stops = λ r s. s }
 
 pub building_more : (ps : List Property) (maintain : ℕ) (ls : List declared.Listing) (start now next : Draft) (i : ℕ) (d : declared.Listing) → i < length ls → Adds ps maintain (as_listing (get_or ls i d)) now next → IsBuilding ps maintain (as_listings ls) start (as_listings (drop i ls)) now → IsBuilding ps maintain (as_listings ls) start (as_listings (drop (i + 1) ls)) next
 building_more ps maintain ls start now next i d h adds b = record {
   builds = λ new rest. b.builds new (subst (λ (xs : List Listing). Builds ps maintain xs now new) (sym (left_at ls i d h)) (next, adds, rest));
   stops = λ r rest. b.stops r (subst (λ (xs : List Listing). Stops ps maintain xs now r) (sym (left_at ls i d h)) (inr (next, adds, rest)));
 }
-
-pub building_stops : (ps : List Property) (maintain : ℕ) (ls : List declared.Listing) (start now : Draft) (i : ℕ) (d : declared.Listing) (e : PropsError) → i < length ls → IsRefusal (Refuses ps (length now.lbs) (as_listing (get_or ls i d))) e → IsBuilding ps maintain (as_listings ls) start (as_listings (drop i ls)) now → IsRefusal (Stops ps maintain (as_listings ls) start) e
-building_stops ps maintain ls start now i d (errors.Refused line code) h refused b =
-    b.stops (record { line = line; code = code }) (subst (λ (xs : List Listing). Stops ps maintain xs now (record { line = line; code = code })) (sym (left_at ls i d h)) (inl refused))
-building_stops ps maintain ls start now i d errors.NoMemory h refused b = tt

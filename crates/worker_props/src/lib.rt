@@ -10,6 +10,7 @@
 mod books;
 mod draft;
 mod firsts;
+pub mod laws;
 mod listing;
 mod member;
 mod members;

@@ -1,5 +1,5 @@
 //! The second pass: the workers of `worker.list`, in order.
-ghost use Rattle.std.specs.Prelude.{◌≡◌, ◌≤◌, [], length, filter, IfOk, IfErr, OnOk};
+ghost use Rattle.std.specs.Prelude.{◌≡◌, ◌≤◌, ℕ, [], length, filter, IfOk, IfErr, OnOk};
 ghost use Rattle.jk_model.specs.Ranges.{IsPeriod};
 ghost use Rattle.property_lines.specs.Directives.{slot_of};
 ghost use Rattle.property_lines.specs.Entries.{as_properties};
@@ -112,13 +112,11 @@ fn add_status(
     draft: &mut Draft,
     row: &Row,
     listing: &Listing<'_>,
-    maintain: u64,
 ) -> Result<(), PropsError>
-    ensures ok { OnOk result (AddsKind (as_properties entries.now) maintain (as_listing listing.now)
+    ensures ok { (maintain : ℕ) → OnOk result (AddsKind (as_properties entries.now) maintain (as_listing listing.now)
         (property_at (as_properties entries.now) row.now) Kind.Status draft.old draft.new) }
     ensures memory { IfErr result (λ e. e ≡ PropsError.NoMemory) }
 {
-    let _ = maintain;
     let read_only = truth_or(entries, row, Directive::ReadOnly, false);
     let status = Status {
         name: Bytes::from_slice(alloc, listing.name)?,
@@ -153,7 +151,7 @@ fn add_worker<'t>(
         Kind::Lb => add_lb(
             alloc, entries, lines, names, rows, draft, &row, listing, maintain,
         ),
-        Kind::Status => add_status(alloc, entries, draft, &row, listing, maintain),
+        Kind::Status => add_status(alloc, entries, draft, &row, listing),
     }
 }
 
