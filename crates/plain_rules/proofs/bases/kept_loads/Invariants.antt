@@ -1,7 +1,0 @@
-use Rattle.std.proofs.Common.{◌≡◌, ◌+◌, reverse}
-use Rattle.jk_model.specs.Journal.{each}
-use Rattle.jk_model.specs.Loads.{base_of, gain_of}
-use Rattle.plain_rules.proofs.bases.kept_loads.Given as goal
-
-abbrev pub invariant-loop-member : goal.invariant-loop-member
-invariant-loop-member l = l.table.items ≡ each l.member (λ j. base_of l.rules l.opening (reverse l.past) j + gain_of l.opening (reverse l.past) j)
