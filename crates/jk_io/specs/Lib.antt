@@ -1,9 +1,10 @@
 pub mod Answers
 pub mod Decimals
 pub mod Inputs
-pub mod Memory
 pub mod MemDoors
 pub mod MemReaches
+pub mod Memory
+pub mod Moments
 pub mod Stored
 pub mod TalkBooks
 pub mod Talks
