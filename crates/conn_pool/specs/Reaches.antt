@@ -1,49 +1,45 @@
 -- What contracts see of a pooled reach and of the link of its running talk, and what a read and a write make of them.
-use Rattle.std.specs.Prelude.{◌≡◌, ℕ, List, take, Option, Some, None, IfSome, Bool, true, false, Result, IsOk, IfOk, OnOk, OnErr, IsErrOf, is_some}
+use Rattle.std.specs.Prelude.{◌≡◌, ℕ, List, take, Option, None, IsSome, IfSome, Bool, true, false, Result, IsOk, IfOk, OnOk, OnErr, IsErrOf, is_some}
 use Rattle.jk_io.specs.Told.{appended, prepended, IsEmpty, HasCause}
+use Rattle.jk_io.specs.Moments.{Moment}
+use Rattle.jk_io.specs.Talks.{begun_with}
 use Rattle.jk_io.specs.declared.failures.IoError.{IoError}
 use Rattle.jk_io.specs.declared.failures.IoError.TheVariants.{Failed}
 use Rattle.jk_io.specs.declared.reaching.Begun.{Begun}
 use Rattle.jk_io.specs.declared.reaching.Beside.{Beside}
 use Rattle.jk_io.specs.declared.reaching.Talk.{Talk}
 
--- what a link tells, and how often a call of it failed
-pub record LinkTold : Type 0 where
-  pub incoming : Option (List ℕ)
-  pub received : Option (List ℕ)
-  pub sent : Option (List ℕ)
-  pub faults : ℕ
-
--- what a link tells, by the meanings of its type
-abbrev pub told_by : {L : Type 0} → (incoming received sent : L → Option (List ℕ)) (faults : L → ℕ) → L → LinkTold
-told_by incoming received sent faults link = record {
-  incoming = incoming link;
-  received = received link;
-  sent = sent link;
-  faults = faults link;
-}
-
--- the link of a running talk: whose it is, its count of faults when the talk began, and whether a call of it was
--- refused in the talk
-pub record LentState : Type 0 where
+-- the link of a running talk: whose it is, whether this talk's begin dialled it, the link as the talk got it, what it
+-- tells now, its count of faults when the talk began, and whether a call of it was refused in the talk
+pub record LentState (L : Type 0) : Type 0 where
   pub lb : ℕ
   pub member : ℕ
-  pub link : LinkTold
+  pub dialled : Bool
+  pub given : L
+  pub link : Moment
   pub began : ℕ
   pub faulty : Bool
 
+-- a link that was handed to a pool: whose it is, what it told then, and whether it is idle there; else it was closed,
+-- since the pool was full
+pub record BackState : Type 0 where
+  pub lb : ℕ
+  pub member : ℕ
+  pub link : Moment
+  pub idle : Bool
+
 -- a reach's dial and tape, the link of the running talk, the link that the last finish handed to a pool, the number of
 -- members of each balancer, and how many calls failed
-pub record PooledState (D T : Type 0) : Type 0 where
+pub record PooledState (D T L : Type 0) : Type 0 where
   pub dial : D
   pub tape : T
-  pub lent : Option LentState
-  pub back : Option LinkTold
+  pub lent : Option (LentState L)
+  pub back : Option BackState
   pub sizes : List ℕ
   pub faults : ℕ
 
 -- a read put the next bytes at the front of `buf` and answered how many, 0 at the end; or it was refused and gave none
-pub record ReadsLink (before after : LinkTold) (buf : List ℕ) (result : Result ℕ IoError) : Type 0 where
+pub record ReadsLink (before after : Moment) (buf : List ℕ) (result : Result ℕ IoError) : Type 0 where
   pub gave : IfOk result (λ n. before.incoming ≡ prepended (take n buf) after.incoming)
   pub got : IfOk result (λ n. after.received ≡ appended before.received (take n buf))
   pub end : IfOk result (λ n. n ≡ 0 → IsEmpty after.incoming)
@@ -53,7 +49,7 @@ pub record ReadsLink (before after : LinkTold) (buf : List ℕ) (result : Result
   pub steady : IsOk result → after.faults ≡ before.faults
 
 -- a write took bytes from the front of `piece` and answered how many; or it was refused and took none
-pub record WritesLink (before after : LinkTold) (piece : List ℕ) (result : Result ℕ IoError) : Type 0 where
+pub record WritesLink (before after : Moment) (piece : List ℕ) (result : Result ℕ IoError) : Type 0 where
   pub put : IfOk result (λ n. after.sent ≡ appended before.sent (take n piece))
   pub kept_on_error : OnErr result (after.sent ≡ before.sent)
   pub same : (after.incoming ≡ before.incoming) × (after.received ≡ before.received)
@@ -61,22 +57,24 @@ pub record WritesLink (before after : LinkTold) (piece : List ℕ) (result : Res
   pub steady : IsOk result → after.faults ≡ before.faults
 
 -- a call within a talk: the link stays whose it is, and is marked where the call failed
-pub record StaysLent (before after : LentState) (result : Result ℕ IoError) : Type 0 where
+pub record StaysLent {L : Type 0} (before after : LentState L) (result : Result ℕ IoError) : Type 0 where
   pub same : after ≡ record before { link = after.link; faulty = after.faulty }
   pub ok : OnOk result (after.faulty ≡ before.faulty)
   pub failed : IsErrOf result Failed → after.faulty ≡ true
   pub marked : before.faulty ≡ true → after.faulty ≡ true
 
--- at the end of its talk a link goes back to its pool where it is to be kept and none of its calls was refused, and so
--- only where its count of faults is still that of the talk's begin; else it is closed
-pub record GoesBack (lent : LentState) (keep : Bool) (back : Option LinkTold) : Type 0 where
-  pub kept : keep ≡ true → lent.faulty ≡ false → back ≡ Some lent.link
+-- at the end of its talk a link is handed to the pool of its member where it is to be kept and none of its calls was
+-- refused, and so only where its count of faults is still that of the talk's begin; else it is closed
+pub record GoesBack {L : Type 0} (lent : LentState L) (keep : Bool) (back : Option BackState) : Type 0 where
+  pub kept : keep ≡ true → lent.faulty ≡ false → IsSome back
   pub closed : keep ≡ false → back ≡ None
   pub refused : lent.faulty ≡ true → back ≡ None
-  pub sound : IfSome back (λ link. link.faults ≡ lent.began)
+  pub whose : IfSome back (λ b. (b.lb ≡ lent.lb) × (b.member ≡ lent.member))
+  pub same : IfSome back (λ b. b.link ≡ lent.link)
+  pub sound : IfSome back (λ b. b.link.faults ≡ lent.began)
 
 -- what no read and no write of a reach changes, with what its tape tells of the running talk and of those that ended
-abbrev pub beside_of : {D T : Type 0} → (T → Option Begun) → (T → Option (List Talk)) → PooledState D T → Beside
+abbrev pub beside_of : {D T L : Type 0} → (T → Option Begun) → (T → Option (List Talk)) → PooledState D T L → Beside
 beside_of begun talks reach = record {
   runs = is_some reach.lent;
   sizes = reach.sizes;
@@ -86,12 +84,4 @@ beside_of begun talks reach = record {
 
 -- what a tape is told of a talk; it isn't told what the link had to come
 abbrev pub told_begun : ℕ → ℕ → List ℕ → ℕ → Bool → Bool → Begun
-told_begun lb member host port fresh dialled = record {
-  lb = lb;
-  member = member;
-  host = host;
-  port = port;
-  fresh = fresh;
-  dialled = dialled;
-  came = None;
-}
+told_begun lb member host port fresh dialled = begun_with lb member host port fresh dialled None

@@ -1,8 +1,8 @@
 //! One pool for each balancer and member.
-ghost use Rattle.std.specs.Prelude.{◌≡◌, ◌^◌, ◌<◌, ◌≤◌, length, IfOk};
+ghost use Rattle.std.specs.Prelude.{◌≡◌, ◌^◌, ◌<◌, ◌≤◌, length, IfSome, IfOk};
 ghost use Rattle.conn_pool.specs.Idle.{HasMember};
 
-use crate::pool::{LinkList, Pool};
+use crate::pool::{HandedIn, LinkList};
 use crate::row::{Row, pool_at};
 use jk_io::{NoMemory, SizeTable};
 use std::alloc::Global;
@@ -38,7 +38,7 @@ impl<'r, L: Drop, R> Pools<'r, L, R> {
 }
 
 impl<'r, L: Drop, R: Wait> Pools<'r, L, R> {
-    /// The link that was put last for a member, in one hold of its lock.
+    /// The link that was put last for a member, in one hold of its lock. A lock says nothing of what lies behind it.
     pub fn take(&self, lb: u32, member: u32) -> Option<L>
         requires { HasMember self.now lb member }
     {
@@ -50,15 +50,27 @@ impl<'r, L: Drop, R: Wait> Pools<'r, L, R> {
     /// Puts a link for a member, in one hold of its lock; it comes back where the pool is full.
     pub fn put(&self, lb: u32, member: u32, link: L) -> Option<L>
         requires { HasMember self.now lb member }
+        ensures { IfSome result (λ back. back ≡ link) }
     {
         pool_at(self.rows.as_slice(), lb, member)
             .lock(self.rt)
             .put(link)
     }
 
+    /// Puts a link for a member, in one hold of its lock, and closes it where the pool is full.
+    pub fn hand_in(&self, lb: u32, member: u32, link: L) -> HandedIn<L>
+        requires { HasMember self.now lb member }
+        ensures { result.link.value ≡ link }
+    {
+        pool_at(self.rows.as_slice(), lb, member)
+            .lock(self.rt)
+            .hand_in(link)
+    }
+
     /// Takes all idle links of a member, in one hold of its lock.
     pub fn take_all(&self, alloc: Global, lb: u32, member: u32) -> Result<LinkList<L>, NoMemory>
         requires { HasMember self.now lb member }
+        ensures few { IfOk result (λ links. length links < 2 ^ 32) }
     {
         pool_at(self.rows.as_slice(), lb, member)
             .lock(self.rt)

@@ -1,16 +1,36 @@
-//! The link of a running talk.
-ghost use Rattle.std.specs.Prelude.{◌≡◌, ◌<◌, ◌≤◌, true, false, None, IsSome, IfOk, IfSome, OnOk, OnErr, length};
-ghost use Rattle.conn_pool.specs.Reaches.{told_by, ReadsLink, WritesLink};
+//! The link of a running talk, and an idle link between its talks. Each says whose it is.
+ghost use Rattle.std.specs.Prelude.{◌≡◌, ◌<◌, ◌≤◌, ◌↔◌, true, false, None, IsSome, IsTrue, IfOk, IfSome, OnOk, OnErr, length};
+ghost use Rattle.jk_io.specs.Moments.{moment};
+ghost use Rattle.conn_pool.specs.Reaches.{ReadsLink, WritesLink};
 
 use jk_io::{IoError, Link};
 use std::marker::Model;
 use std::snapshot::Snapshot;
+
+/// A link between its talks, and the balancer and member whose it is. A talk that ends makes one, and no other call.
+#[derive(Drop)]
+pub struct Idle<L> {
+    pub(crate) lb: u32,
+    pub(crate) member: u32,
+    link: L,
+}
+
+impl<L> Idle<L> {
+    /// Whether the link is one of this member.
+    pub(crate) fn is_of(&self, lb: u32, member: u32) -> bool
+        ensures { IsTrue result ↔ (self.now.lb ≡ lb) × (self.now.member ≡ member) }
+    {
+        self.lb == lb && self.member == member
+    }
+}
 
 /// A link while a talk runs over it, and whose it is. The link comes out by `kept` alone.
 #[derive(Drop)]
 pub(crate) struct Lent<L: Link + Drop> {
     lb: u32,
     member: u32,
+    /// The talk's begin dialled it.
+    dialled: bool,
     link: L,
     /// A call of the link was refused in this talk.
     faulty: bool,
@@ -20,14 +40,17 @@ pub(crate) struct Lent<L: Link + Drop> {
 
 impl<L: Link + Drop> Model for Lent<L> {
     ghost use Rattle.std.specs.Prelude.{◌≡◌, false};
-    ghost use Rattle.conn_pool.specs.Reaches.{LentState, told_by};
+    ghost use Rattle.jk_io.specs.Moments.{moment};
+    ghost use Rattle.conn_pool.specs.Reaches.{LentState};
 
-    ghost Value = { LentState };
+    ghost Value = { LentState L };
 
     ghost view = { λ l. record {
       lb = l.lb;
       member = l.member;
-      link = told_by L.incoming L.received L.sent L.faults l.link;
+      dialled = l.dialled;
+      given = l.began.value;
+      link = moment L.incoming L.received L.sent L.faults l.link;
       began = L.faults l.began.value;
       faulty = l.faulty;
     } };
@@ -36,15 +59,35 @@ impl<L: Link + Drop> Model for Lent<L> {
 }
 
 impl<L: Link + Drop> Lent<L> {
-    pub(crate) fn new(lb: u32, member: u32, link: L) -> Lent<L>
+    /// A link that this talk's begin dialled for a member.
+    pub(crate) fn over_new(lb: u32, member: u32, link: L) -> Lent<L>
         ensures whose { (result.lb ≡ lb) × (result.member ≡ member) }
-        ensures link { result.link ≡ told_by L.incoming L.received L.sent L.faults link }
-        ensures begins { (result.began ≡ L.faults link) × (result.faulty ≡ false) }
+        ensures link { (result.dialled ≡ true) × (result.given ≡ link) }
+        ensures begins { (result.link.faults ≡ result.began) × (result.faulty ≡ false) }
+    {
+        Lent::over(lb, member, true, link)
+    }
+
+    /// A link that was idle.
+    pub(crate) fn over_idle(idle: Idle<L>) -> Lent<L>
+        ensures whose { (result.lb ≡ idle.lb) × (result.member ≡ idle.member) }
+        ensures link { (result.dialled ≡ false) × (result.given ≡ idle.link) }
+        ensures begins { (result.link.faults ≡ result.began) × (result.faulty ≡ false) }
+    {
+        let Idle { lb, member, link } = idle;
+        Lent::over(lb, member, false, link)
+    }
+
+    fn over(lb: u32, member: u32, dialled: bool, link: L) -> Lent<L>
+        ensures whose { (result.lb ≡ lb) × (result.member ≡ member) }
+        ensures link { (result.dialled ≡ dialled) × (result.given ≡ link) }
+        ensures begins { (result.link.faults ≡ result.began) × (result.faulty ≡ false) }
     {
         let began = Snapshot::of(&link);
         Lent {
             lb,
             member,
+            dialled,
             link,
             faulty: false,
             began,
@@ -90,15 +133,20 @@ impl<L: Link + Drop> Lent<L> {
 
     /// Ends the loan. The link comes out exactly where it is to be kept and none of its calls was refused, so a link
     /// whose count of faults rose in the talk is closed.
-    pub(crate) fn kept(self, keep: bool) -> Option<L>
+    pub(crate) fn kept(self, keep: bool) -> Option<Idle<L>>
         ensures kept { keep ≡ true → self.faulty ≡ false → IsSome result }
         ensures closed { keep ≡ false → result ≡ None }
         ensures faulty { self.faulty ≡ true → result ≡ None }
-        ensures same { IfSome result (λ link. told_by L.incoming L.received L.sent L.faults link ≡ self.link) }
-        ensures sound { IfSome result (λ link. L.faults link ≡ self.began) }
+        ensures whose { IfSome result (λ idle. (idle.lb ≡ self.lb) × (idle.member ≡ self.member)) }
+        ensures same { IfSome result (λ idle. moment L.incoming L.received L.sent L.faults idle.link ≡ self.link) }
+        ensures sound { IfSome result (λ idle. L.faults idle.link ≡ self.began) }
     {
         if keep && !self.faulty {
-            return Some(self.link);
+            return Some(Idle {
+                lb: self.lb,
+                member: self.member,
+                link: self.link,
+            });
         }
         None
     }

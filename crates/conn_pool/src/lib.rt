@@ -16,6 +16,7 @@ mod row;
 mod tape;
 
 pub use keeping::Pools;
-pub use pool::{LinkList, Pool};
+pub use lent::Idle;
+pub use pool::{HandedIn, LinkList, Pool};
 pub use pooled::PooledReach;
 pub use tape::{MemTape, NoTape, Tape};

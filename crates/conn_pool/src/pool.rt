@@ -1,11 +1,12 @@
 //! The idle links of one member.
-ghost use Rattle.std.specs.Prelude.{◌≡◌, ◌+◌, ◌-◌, ◌^◌, ◌<◌, ◌≤◌, [], ◌∷◌, ◌++◌, None, Some, length, take, IfOk, IfSome, IfNone, OnOk, OnErr};
+ghost use Rattle.std.specs.Prelude.{◌≡◌, ◌+◌, ◌-◌, ◌^◌, ◌<◌, ◌≤◌, [], ◌∷◌, ◌++◌, true, false, None, Some, length, take, IfOk, IfSome, IfNone, OnOk, OnErr};
 ghost use Rattle.conn_pool.specs.Idle.{PoolState};
 
 use jk_io::{ListOf, NoMemory};
 use std::alloc::Global;
 use std::marker::Model;
 use std::mem;
+use std::snapshot::Snapshot;
 
 /// Links in the order in which they were put.
 pub type LinkList<L> = ListOf<L>;
@@ -26,6 +27,13 @@ impl<L> Model for Pool<L> {
     ghost view = { λ p. record { idle = p.idle.items; size = p.size } };
 
     ghost invariant = { λ p. (vec_len p.idle ≤ p.size) × (p.size ≤ vec_capacity p.idle) };
+}
+
+/// That a link was handed to a pool: it is idle there, or it was closed since the pool was full. A pool alone makes one.
+#[derive(Drop)]
+pub struct HandedIn<L> {
+    pub(crate) link: Snapshot<L>,
+    idle: bool,
 }
 
 impl<L: Drop> Pool<L> {
@@ -71,9 +79,26 @@ impl<L: Drop> Pool<L> {
         None
     }
 
+    /// Puts a link, and closes it where `size` are idle. It says which of the two it did.
+    pub fn hand_in(&mut self, link: L) -> HandedIn<L>
+        ensures link { result.link.value ≡ link }
+        ensures room { length self.old.idle < self.old.size → (result.idle ≡ true) × (self.new.idle ≡ self.old.idle ++ link ∷ []) }
+        ensures full { length self.old.idle ≡ self.old.size → (result.idle ≡ false) × (self.new.idle ≡ self.old.idle) }
+        ensures within { length self.old.idle ≤ self.old.size }
+        ensures same { self.new.size ≡ self.old.size }
+    {
+        let handed = Snapshot::of(&link);
+        let back = self.put(link);
+        HandedIn {
+            link: handed,
+            idle: back.is_none(),
+        }
+    }
+
     /// Takes all idle links, and leaves the pool empty; after a refusal it is as before.
     pub fn take_all(&mut self, alloc: Global) -> Result<LinkList<L>, NoMemory>
         ensures all { IfOk result (λ links. links ≡ self.old.idle) }
+        ensures few { IfOk result (λ links. length links < 2 ^ 32) }
         ensures empty { OnOk result (self.new.idle ≡ []) }
         ensures err { OnErr result (self.new.idle ≡ self.old.idle) }
         ensures same { self.new.size ≡ self.old.size }

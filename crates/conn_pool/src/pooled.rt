@@ -5,28 +5,29 @@ ghost use Rattle.jk_io.specs.Told.{appended, IsEmpty, Rose, HasCause};
 ghost use Rattle.jk_io.specs.Talks.{failed_talk, IsNoteOf};
 ghost use Rattle.jk_io.specs.declared.reaching.Talk.{Talk};
 ghost use Rattle.conn_pool.specs.Idle.{HasMember, counts};
-ghost use Rattle.conn_pool.specs.Reaches.{beside_of, told_begun, told_by, GoesBack, ReadsLink, WritesLink, StaysLent};
+ghost use Rattle.jk_io.specs.Moments.{moment};
+ghost use Rattle.conn_pool.specs.Reaches.{beside_of, told_begun, BackState, GoesBack, ReadsLink, WritesLink, StaysLent};
 
 use crate::keeping::Pools;
-use crate::lent::Lent;
+use crate::lent::{Idle, Lent};
 use crate::noted::{counted, outside_talk, read_lent, write_lent};
+use crate::pool::HandedIn;
 use crate::tape::Tape;
 use jk_io::{Beside, Bytes, Dial, IoError, Link, Meanings, NoMemory, Reach, Sink, Source};
 use std::alloc::Global;
 use std::marker::Model;
-use std::snapshot::Snapshot;
 use std::sync::Wait;
 
 /// Talks over pooled links. A talk takes an idle link of its member unless a fresh one is asked for, and dials where
 /// there is none. A link of which a call was refused in its talk is never put back.
 #[derive(Drop)]
 pub struct PooledReach<'p, 'r, D: Dial, T: Tape, R> {
-    pools: &'p Pools<'r, D::L, R>,
+    pools: &'p Pools<'r, Idle<D::L>, R>,
     dial: D,
     tape: T,
     lent: Option<Lent<D::L>>,
     /// The link that the last finish handed to a pool, as it was then.
-    back: Option<Snapshot<D::L>>,
+    back: Option<HandedIn<Idle<D::L>>>,
     failed: u64,
 }
 
@@ -35,15 +36,21 @@ impl<'p, 'r, D: Dial, T: Tape, R> Model for PooledReach<'p, 'r, D, T, R> {
     ghost use Rattle.std.specs.Option.{option_map};
     ghost use Rattle.jk_io.specs.Told.{IsEmpty};
     ghost use Rattle.conn_pool.specs.Idle.{counts};
-    ghost use Rattle.conn_pool.specs.Reaches.{PooledState, told_by};
+    ghost use Rattle.jk_io.specs.Moments.{moment};
+    ghost use Rattle.conn_pool.specs.Reaches.{PooledState, BackState};
 
-    ghost Value = { PooledState D T };
+    ghost Value = { PooledState D T D.L };
 
     ghost view = { λ r. record {
       dial = r.dial;
       tape = r.tape;
       lent = r.lent;
-      back = option_map (λ b. told_by D.L.incoming D.L.received D.L.sent D.L.faults b.value) r.back;
+      back = option_map (λ b. record {
+        lb = b.link.value.lb;
+        member = b.link.value.member;
+        link = moment D.L.incoming D.L.received D.L.sent D.L.faults b.link.value.link;
+        idle = b.idle;
+      }) r.back;
       sizes = counts r.pools.now;
       faults = r.failed;
     } };
@@ -55,7 +62,11 @@ impl<'p, 'r, D: Dial, T: Tape, R> Model for PooledReach<'p, 'r, D, T, R> {
 
 impl<'p, 'r, D: Dial, T: Tape, R> PooledReach<'p, 'r, D, T, R> {
     /// A reach over these pools.
-    pub fn new(pools: &'p Pools<'r, D::L, R>, dial: D, tape: T) -> PooledReach<'p, 'r, D, T, R>
+    pub fn new(
+        pools: &'p Pools<'r, Idle<D::L>, R>,
+        dial: D,
+        tape: T,
+    ) -> PooledReach<'p, 'r, D, T, R>
         requires { T.is_idle tape }
         ensures { result ≡ record { dial = dial; tape = tape; lent = None; back = None; sizes = counts pools.now; faults = 0 } }
     {
@@ -87,7 +98,7 @@ impl<'p, 'r, D: Dial, T: Tape, R> PooledReach<'p, 'r, D, T, R> {
 }
 
 impl<'p, 'r, D: Dial, T: Tape, R> Meanings for PooledReach<'p, 'r, D, T, R> {
-    ghost use Rattle.std.specs.Prelude.{None};
+    ghost use Rattle.std.specs.Prelude.{None, is_some};
     ghost use Rattle.conn_pool.specs.Reaches.{beside_of};
 
     type Beside = Beside;
@@ -101,6 +112,8 @@ impl<'p, 'r, D: Dial, T: Tape, R> Meanings for PooledReach<'p, 'r, D, T, R> {
     ghost beside = { λ r. beside_of T.begun T.talks r };
 
     ghost faults = { λ r. r.faults };
+
+    ghost is_open = { λ r. is_some r.lent };
 }
 
 impl<'p, 'r, D: Dial, T: Tape, R> Source for PooledReach<'p, 'r, D, T, R> {
@@ -117,6 +130,7 @@ impl<'p, 'r, D: Dial, T: Tape, R> Source for PooledReach<'p, 'r, D, T, R> {
             × (self.new ≡ record self.old { faults = self.new.faults }) }
 
         // What is told of the talk, and what each source says.
+        ensures shut { is_some self.old.lent ≡ false → IsErrOf result IoError.Failed }
         ensures count { IfOk result (λ n. n ≤ length buf.new) }
         ensures got { IfOk result (λ n. T.received self.new.tape ≡ appended (T.received self.old.tape) (take n buf.new)) }
         ensures kept_on_error { OnErr result (T.received self.new.tape ≡ T.received self.old.tape) }
@@ -146,6 +160,7 @@ impl<'p, 'r, D: Dial, T: Tape, R> Sink for PooledReach<'p, 'r, D, T, R> {
         ensures outside { self.old.lent ≡ None → IsErrOf result IoError.Failed × (self.new ≡ record self.old { faults = self.new.faults }) }
 
         // What is told of the talk, and what each sink says.
+        ensures shut { is_some self.old.lent ≡ false → IsErrOf result IoError.Failed }
         ensures count { IfOk result (λ n. (0 < n) × (n ≤ length piece.now)) }
         ensures put { IfOk result (λ n. T.sent self.new.tape ≡ appended (T.sent self.old.tape) (take n piece.now)) }
         ensures kept_on_error { OnErr result (T.sent self.new.tape ≡ T.sent self.old.tape) }
@@ -165,6 +180,8 @@ impl<'p, 'r, D: Dial, T: Tape, R> Sink for PooledReach<'p, 'r, D, T, R> {
 impl<'p, 'r, D: Dial, T: Tape, R> Link for PooledReach<'p, 'r, D, T, R> {}
 
 impl<'p, 'r, D: Dial, T: Tape, R: Wait> Reach for PooledReach<'p, 'r, D, T, R> {
+    ghost use Rattle.std.specs.Prelude.{refl};
+
     fn begin(
         &mut self,
         alloc: Global,
@@ -182,6 +199,10 @@ impl<'p, 'r, D: Dial, T: Tape, R: Wait> Reach for PooledReach<'p, 'r, D, T, R> {
         ensures whose { IfSome self.new.lent (λ lent. (lent.lb ≡ lb) × (lent.member ≡ member)) }
         ensures begins { IfSome self.new.lent (λ lent. (lent.began ≡ lent.link.faults) × (lent.faulty ≡ false)) }
         ensures new_link { IfOk result (λ dialled. fresh ≡ true → dialled ≡ true) }
+
+        // A new link is the one that the dial gave in this begin, and no idle link is called new.
+        ensures dialled { IfOk result (λ dialled. IfSome self.new.lent (λ lent. lent.dialled ≡ dialled)) }
+        ensures given { result ≡ Ok true → IfSome self.new.lent (λ lent. D.gives self.old.dial lent.given self.new.dial) }
         ensures begun { IfOk result (λ dialled. IfSome (T.begun self.new.tape) (λ b. b ≡ told_begun lb member host.now port fresh dialled)) }
         ensures nothing_yet { IsEmpty (T.sent self.new.tape) × IsEmpty (T.received self.new.tape) }
 
@@ -201,13 +222,12 @@ impl<'p, 'r, D: Dial, T: Tape, R: Wait> Reach for PooledReach<'p, 'r, D, T, R> {
         ensures steady { IsOk result → self.new.faults ≡ self.old.faults }
         ensures want_of_memory { IsErrOf result IoError.NoMemory → self.new.faults ≡ self.old.faults }
     {
-        if let Some(link) = idle_link(self.pools, lb, member, fresh) {
-            let lent = Lent::new(lb, member, link);
+        if let Some(idle) = idle_link(self.pools, lb, member, fresh) {
             if let Err(error) = self.tape.begin(lb, member, host, port, fresh, false) {
-                let _ = put_back(self.pools, lent, true);
+                let _ = self.pools.hand_in(lb, member, idle);
                 return Err(error.into());
             }
-            self.lent = Some(lent);
+            self.lent = Some(Lent::over_idle(idle));
             return Ok(false);
         }
         let answer = self.dial.dial(alloc, host, port);
@@ -216,14 +236,14 @@ impl<'p, 'r, D: Dial, T: Tape, R: Wait> Reach for PooledReach<'p, 'r, D, T, R> {
         }
         let link = counted(answer, &mut self.failed)?;
         self.tape.begin(lb, member, host, port, fresh, true)?;
-        self.lent = Some(Lent::new(lb, member, link));
+        self.lent = Some(Lent::over_new(lb, member, link));
         Ok(true)
     }
 
     fn finish(&mut self, keep: bool)
         requires { is_some self.old.lent ≡ true }
 
-        // A link of which a call was refused is closed, even where it was to be kept.
+        // A link that is kept goes to the pool of its member. One of which a call was refused is closed all the same.
         ensures back { IfSome self.old.lent (λ lent. GoesBack lent keep self.new.back) }
         ensures same_dial { self.new.dial ≡ self.old.dial }
 
@@ -240,36 +260,50 @@ impl<'p, 'r, D: Dial, T: Tape, R: Wait> Reach for PooledReach<'p, 'r, D, T, R> {
         self.tape.finish(keep);
         self.back = put_back(self.pools, lent, keep);
     }
+
+    ghost open_in_talk = { λ r. refl };
 }
 
-// The idle link that was put last for a member, unless a fresh one is asked for.
+// The idle link that was put last for a member, unless a fresh one is asked for. A lock says nothing of what lies
+// behind it, so the link itself says whose it is.
 fn idle_link<L: Drop, R: Wait>(
-    pools: &Pools<'_, L, R>,
+    pools: &Pools<'_, Idle<L>, R>,
     lb: u32,
     member: u32,
     fresh: bool,
-) -> Option<L>
+) -> Option<Idle<L>>
     requires { HasMember pools.now lb member }
-    ensures { fresh ≡ true → result ≡ None }
+    ensures fresh { fresh ≡ true → result ≡ None }
+    ensures whose { IfSome result (λ idle. (idle.lb ≡ lb) × (idle.member ≡ member)) }
 {
-    if fresh { None } else { pools.take(lb, member) }
+    if fresh {
+        return None;
+    }
+    let idle = pools.take(lb, member)?;
+    if idle.is_of(lb, member) {
+        Some(idle)
+    } else {
+        None
+    }
 }
 
-// Hands a lent link to the pool of its member where it is to be kept and may be, and answers it as it was then. Where
-// the pool is full it is closed.
+// Hands a lent link to the pool of its member where it is to be kept and may be. Where the pool is full it is closed.
 fn put_back<L: Link + Drop, R: Wait>(
-    pools: &Pools<'_, L, R>,
+    pools: &Pools<'_, Idle<L>, R>,
     lent: Lent<L>,
     keep: bool,
-) -> Option<Snapshot<L>>
+) -> Option<HandedIn<Idle<L>>>
     requires { HasMember pools.now lent.lb lent.member }
-    ensures { GoesBack lent keep (option_map (λ b. told_by L.incoming L.received L.sent L.faults b.value) result) }
+    ensures { GoesBack lent keep (option_map (λ b. record {
+      lb = b.link.value.lb;
+      member = b.link.value.member;
+      link = moment L.incoming L.received L.sent L.faults b.link.value.link;
+      idle = b.idle;
+    }) result) }
 {
     let (lb, member) = lent.whose();
-    let link = lent.kept(keep)?;
-    let back = Snapshot::of(&link);
-    let _ = pools.put(lb, member, link);
-    Some(back)
+    let idle = lent.kept(keep)?;
+    Some(pools.hand_in(lb, member, idle))
 }
 
 // Notes a talk that never began, since its dial failed.

@@ -1,9 +1,12 @@
 //! Small callers that are proved from the traits alone.
-ghost use Rattle.std.specs.Prelude.{◌≡◌, ◌<◌, ℕ, List, [], ◌∷◌, true, false, Ok, IfOk, OnOk, length, take, slice_index};
-ghost use Rattle.jk_io.specs.declared.surroundings.Peer.{Peer};
+ghost use Rattle.std.specs.Prelude.{◌≡◌, ◌<◌, ℕ, List, [], ◌∷◌, true, false, Ok, IsOk, IfOk, OnOk, is_some, length, take, slice_index};
+ghost use Rattle.jk_io.specs.declared.traits.surroundings.Peer.{Peer};
 ghost use Rattle.jk_io.specs.Told.{appended, prepended, IsEmpty, HasCause};
+ghost use Rattle.jk_io.specs.MemReaches.{IsQuiet};
 
-use jk_io::{Bytes, Door, FileError, IoError, Link, Reach, Talk, read_whole, write_all};
+use jk_io::{
+    Bytes, Door, FileError, IoError, Link, MemReach, Reach, Source, Talk, read_whole, write_all,
+};
 use std::alloc::Global;
 
 /// Reads a link to its end and writes back what came.
@@ -53,6 +56,7 @@ pub fn ask<R: Reach>(
     ensures talk { IfOk result (λ n. (note : Talk) × ((R.beside reach.new).talks ≡ appended (R.beside reach.old).talks (note ∷ []))
         × (note.lb ≡ 0) × (note.member ≡ member) × (note.sent ≡ piece.now) × (note.received ≡ take n buf.new) × (note.keep ≡ true)) }
     ensures cause { HasCause (R.faults reach.old) (R.faults reach.new) result }
+    ensures steady { IsOk result → R.faults reach.new ≡ R.faults reach.old }
 {
     reach.begin(alloc, 0, member, host, 8009, false)?;
     match say(reach, piece, buf) {
@@ -67,12 +71,44 @@ pub fn ask<R: Reach>(
     }
 }
 
+/// Reads of a reach and writes to it between its talks, which it refuses: false says that it did.
+pub fn speaks_between_talks<R: Reach>(reach: &mut R, piece: &[u8], buf: &mut [u8]) -> bool
+    requires idle { (R.beside reach.old).runs ≡ false }
+    requires some { (0 < length piece.now) × (0 < length buf.old) }
+    ensures refused { result ≡ false }
+    ensures same { R.beside reach.new ≡ R.beside reach.old }
+{
+    reach.read(buf) != Err(IoError::Failed) || reach.write(piece) != Err(IoError::Failed)
+}
+
+/// One talk over a reach in memory of which no call is to fail: no fault is counted, and none will be.
+pub fn quiet_talk(
+    alloc: Global,
+    reach: &mut MemReach,
+    member: u32,
+    host: &Bytes,
+    buf: &mut [u8],
+) -> Result<usize, IoError>
+    requires idle { is_some reach.old.book.begun ≡ false }
+    requires known { member < slice_index reach.old.sizes 0 }
+    requires some { 0 < length buf.old }
+    requires quiet { IsQuiet reach.old }
+    ensures steady { reach.new.faults ≡ reach.old.faults }
+    ensures quiet { IsQuiet reach.new }
+{
+    reach.begin(alloc, 0, member, host, 8009, false)?;
+    let answer = reach.read(buf);
+    reach.finish(answer.is_ok());
+    answer
+}
+
 fn say<L: Link>(link: &mut L, piece: &[u8], buf: &mut [u8]) -> Result<usize, IoError>
     requires { 0 < length buf.old }
     ensures sent { OnOk result (L.sent link.new ≡ appended (L.sent link.old) piece.now) }
     ensures got { IfOk result (λ n. L.received link.new ≡ appended (L.received link.old) (take n buf.new)) }
     ensures same { L.beside link.new ≡ L.beside link.old }
     ensures cause { HasCause (L.faults link.old) (L.faults link.new) result }
+    ensures steady { IsOk result → L.faults link.new ≡ L.faults link.old }
 {
     write_all(link, piece)?;
     link.read(buf)

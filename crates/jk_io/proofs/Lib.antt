@@ -1,4 +1,5 @@
 pub mod DecimalLaws
+pub mod MemoryLaws
 pub mod PieceLaws
 pub mod ReadLaws
 pub mod TalkLaws

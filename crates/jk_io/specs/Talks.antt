@@ -15,6 +15,18 @@ begun_of talk = record {
   came = talk.came;
 }
 
+-- what a talk is begun with, the link new or not, and what it has to come where that is told
+abbrev pub begun_with : ℕ → ℕ → List ℕ → ℕ → Bool → Bool → Option (List ℕ) → Begun
+begun_with lb member host port fresh dialled came = record {
+  lb = lb;
+  member = member;
+  host = host;
+  port = port;
+  fresh = fresh;
+  dialled = dialled;
+  came = came;
+}
+
 -- the talk that a begin which failed leaves: nothing was dialled, and nothing was said
 abbrev pub failed_talk : ℕ → ℕ → List ℕ → ℕ → Bool → Talk
 failed_talk lb member host port fresh = record {

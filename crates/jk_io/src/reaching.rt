@@ -1,9 +1,6 @@
-//! A reach: talks with the members of balancers, one after another, each over a link that is dialled or kept.
+//! Talks with the members of balancers: what is told of the one that runs, and of those that ended.
 use crate::byte_list::Bytes;
-use crate::failures::{IoError, NoMemory};
 use crate::list_of::ListOf;
-use crate::streams::{Link, Meanings};
-use std::alloc::Global;
 
 /// A talk that ended, or that never began since the dial failed.
 #[derive(Debug, Drop)]
@@ -49,68 +46,4 @@ pub struct Beside {
     pub begun: Option<Begun>,
     /// The talks that ended, where they are told.
     pub talks: Option<TalkList>,
-}
-
-/// A link to the member of the running talk. Where none runs, a read or a write is refused with Failed.
-pub trait Reach: Link + Meanings<Beside = Beside> {
-    ghost use Rattle.std.specs.Prelude.{◌≡◌, ◌<◌, [], ◌∷◌, true, false, IfSome, IfOk, OnOk, IsErrOf, is_ok, slice_index};
-    ghost use Rattle.jk_io.specs.Told.{appended, IsEmpty, HasCause};
-    ghost use Rattle.jk_io.specs.Talks.{failed_talk, IsNoteOf};
-    ghost use Rattle.jk_io.specs.declared.reaching.Talk.{Talk};
-
-    /// Begins a talk with a member, and answers whether its link is new.
-    fn begin(
-        &mut self,
-        alloc: Global,
-        lb: u32,
-        member: u32,
-        host: &Bytes,
-        port: u16,
-        fresh: bool,
-    ) -> Result<bool, IoError>
-        requires idle { (Self.beside self.old).runs ≡ false }
-        requires known { member < slice_index (Self.beside self.old).sizes lb }
-
-        ensures runs { (Self.beside self.new).runs ≡ is_ok result }
-        ensures new_link { IfOk result (λ dialled. fresh ≡ true → dialled ≡ true) }
-        ensures begun { IfOk result (λ dialled. IfSome (Self.beside self.new).begun (λ b. b ≡ record {
-          lb = lb;
-          member = member;
-          host = host.now;
-          port = port;
-          fresh = fresh;
-          dialled = dialled;
-          came = Self.incoming self.new;
-        })) }
-        ensures nothing_yet { IsEmpty (Self.sent self.new) × IsEmpty (Self.received self.new) }
-
-        // A begin that failed is a talk, one that wanted memory is none.
-        ensures ok { OnOk result ((Self.beside self.new).talks ≡ (Self.beside self.old).talks) }
-        ensures failed { IsErrOf result IoError.Failed
-            → (Self.beside self.new).talks ≡ appended (Self.beside self.old).talks (failed_talk lb member host.now port fresh ∷ []) }
-        ensures wanted { IsErrOf result IoError.NoMemory → (Self.beside self.new).talks ≡ (Self.beside self.old).talks }
-        ensures same_sizes { (Self.beside self.new).sizes ≡ (Self.beside self.old).sizes }
-        ensures cause { HasCause (Self.faults self.old) (Self.faults self.new) result };
-
-    /// Ends the running talk. Its link is kept for a later one where `keep` is true and it may be.
-    fn finish(&mut self, keep: bool)
-        requires { (Self.beside self.old).runs ≡ true }
-        ensures ended { (Self.beside self.new).runs ≡ false }
-        ensures nothing_left { IsEmpty (Self.sent self.new) × IsEmpty (Self.received self.new) }
-
-        // Where the talks are told, one note alone says what is told of this one.
-        ensures noted { (note : Talk) → IsNoteOf (Self.beside self.old).begun (Self.sent self.old) (Self.received self.old) keep note
-            → (Self.beside self.new).talks ≡ appended (Self.beside self.old).talks (note ∷ []) }
-        ensures same_sizes { (Self.beside self.new).sizes ≡ (Self.beside self.old).sizes }
-        ensures same_faults { Self.faults self.new ≡ Self.faults self.old };
-
-    /// Looks after idle links between two sessions; most reaches do nothing.
-    fn rest(&mut self, _alloc: Global, _now: u64) -> Result<(), NoMemory>
-        requires { (Self.beside self.old).runs ≡ false }
-        ensures same { (Self.incoming self.new ≡ Self.incoming self.old) × (Self.received self.new ≡ Self.received self.old)
-            × (Self.sent self.new ≡ Self.sent self.old) × (Self.beside self.new ≡ Self.beside self.old) }
-        ensures same_faults { Self.faults self.new ≡ Self.faults self.old }
-    {
-        Ok(())
-    }
 }

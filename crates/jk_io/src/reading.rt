@@ -1,9 +1,9 @@
 //! Buffers that are filled from a source.
-ghost use Rattle.std.specs.Prelude.{◌≡◌, ◌≤◌, ◌↔◌, length, take};
+ghost use Rattle.std.specs.Prelude.{◌≡◌, ◌≤◌, ◌↔◌, ◌⊎◌, length, take};
 ghost use Rattle.jk_io.specs.Told.{appended, prepended, IsEmpty, Rose};
 
 use crate::failures::IoError;
-use crate::streams::Source;
+use crate::traits::streams::Source;
 
 /// Why `fill` read no further.
 #[derive(Clone, Copy, Debug, PartialEq, Eq)]
@@ -36,6 +36,7 @@ pub fn fill<S: Source>(source: &mut S, buf: &mut [u8]) -> Filled
     ensures got { S.received source.new ≡ appended (S.received source.old) (take result.count buf.new) }
     ensures same { (S.sent source.new ≡ S.sent source.old) × (S.beside source.new ≡ S.beside source.old) }
     ensures no_fewer { S.faults source.old ≤ S.faults source.new }
+    ensures steady { (result.stop ≡ Stop.Full) ⊎ (result.stop ≡ Stop.End) → S.faults source.new ≡ S.faults source.old }
 {
     let mut count = 0;
     while count < buf.len() {

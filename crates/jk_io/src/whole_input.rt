@@ -1,12 +1,12 @@
 //! Inputs that are read to their end.
-ghost use Rattle.std.specs.Prelude.{◌≡◌, ℕ, ◌<◌, ◌≤◌, List, length, IfOk, IsErrOf, OnOk, OnErr, true, false};
+ghost use Rattle.std.specs.Prelude.{◌≡◌, ℕ, ◌<◌, ◌≤◌, List, length, IsOk, IfOk, IsErrOf, OnOk, OnErr, true, false};
 ghost use Rattle.jk_io.specs.Told.{IsEmpty, Rose};
 ghost use Rattle.jk_io.specs.Inputs.{HasRead, AddsChunk};
 
 use crate::byte_list::Bytes;
 use crate::failures::{FileError, NoMemory};
 use crate::reading::{Stop, fill};
-use crate::streams::Source;
+use crate::traits::streams::Source;
 use std::alloc::Global;
 
 /// The most bytes that a file or a standard input may have.
@@ -25,6 +25,7 @@ pub fn read_whole<S: Source>(alloc: Global, source: &mut S) -> Result<Bytes, Fil
         × (IsErrOf result FileError.TooLong → MAX_INPUT_BYTES < length bytes)) }
     ensures failed { IsErrOf result FileError.Failed → Rose (S.faults source.old) (S.faults source.new) }
     ensures no_fewer { S.faults source.old ≤ S.faults source.new }
+    ensures steady { IsOk result → S.faults source.new ≡ S.faults source.old }
     ensures same { (S.sent source.new ≡ S.sent source.old) × (S.beside source.new ≡ S.beside source.old) }
 {
     let mut text = Bytes::new(alloc);
@@ -50,6 +51,7 @@ fn read_chunk<S: Source>(
     ensures ended { result ≡ Ok false → IsEmpty (S.incoming source.new) }
     ensures failed { IsErrOf result FileError.Failed → Rose (S.faults source.old) (S.faults source.new) }
     ensures no_fewer { S.faults source.old ≤ S.faults source.new }
+    ensures steady { IsOk result → S.faults source.new ≡ S.faults source.old }
     ensures same { (S.sent source.new ≡ S.sent source.old) × (S.beside source.new ≡ S.beside source.old) }
 {
     let filled = fill(source, chunk);

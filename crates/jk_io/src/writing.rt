@@ -1,9 +1,9 @@
 //! Pieces that are written whole.
-ghost use Rattle.std.specs.Prelude.{◌≡◌, ℕ, ◌+◌, ◌-◌, ◌^◌, ◌<◌, ◌≤◌, List, length, take, OnOk, OnErr};
+ghost use Rattle.std.specs.Prelude.{◌≡◌, ℕ, ◌+◌, ◌-◌, ◌^◌, ◌<◌, ◌≤◌, List, length, take, IsOk, OnOk, OnErr};
 ghost use Rattle.jk_io.specs.Told.{appended, HasCause, PutsFront};
 
 use crate::failures::IoError;
-use crate::streams::Sink;
+use crate::traits::streams::Sink;
 
 /// Writes a piece whole, and adds what was taken to `written`, also where a write was refused.
 pub fn write_counted<S: Sink>(sink: &mut S, piece: &[u8], written: &mut u64) -> Result<(), IoError>
@@ -16,6 +16,7 @@ pub fn write_counted<S: Sink>(sink: &mut S, piece: &[u8], written: &mut u64) -> 
     ensures same { (S.incoming sink.new ≡ S.incoming sink.old) × (S.received sink.new ≡ S.received sink.old)
         × (S.beside sink.new ≡ S.beside sink.old) }
     ensures cause { HasCause (S.faults sink.old) (S.faults sink.new) result }
+    ensures steady { IsOk result → S.faults sink.new ≡ S.faults sink.old }
 {
     let mut at = 0;
     while at < piece.len() {
@@ -33,6 +34,7 @@ pub fn write_all<S: Sink>(sink: &mut S, piece: &[u8]) -> Result<(), IoError>
     ensures same { (S.incoming sink.new ≡ S.incoming sink.old) × (S.received sink.new ≡ S.received sink.old)
         × (S.beside sink.new ≡ S.beside sink.old) }
     ensures cause { HasCause (S.faults sink.old) (S.faults sink.new) result }
+    ensures steady { IsOk result → S.faults sink.new ≡ S.faults sink.old }
 {
     let mut written = 0;
     write_counted(sink, piece, &mut written)

@@ -1,5 +1,5 @@
 -- A read fills the buffer on.
-use Rattle.std.proofs.Common.{◌∙◌, arith}
+use Rattle.std.proofs.Common.{◌∙◌, refl, arith}
 use Rattle.std.proofs.lemmas.Grind.{common_steps}
 use Rattle.jk_io.proofs.PieceLaws.{got_next, gave_next}
 use Rattle.jk_io.proofs.reading.fill.Goals as goal
@@ -14,5 +14,5 @@ loop-count-preserved g c =
       got = got_next _ _ _ c.loop-count.buf c.read.new.buf c.loop-count.count _ c.in-Ok.more before.within e.count before.got e.got;
       sent = e.same.0 ∙ before.sent;
       beside = e.same.1 ∙ before.beside;
-      no_fewer = omega (arith, e.cause.no_fewer);
+      steady = e.steady refl ∙ before.steady;
     }

@@ -10,7 +10,7 @@ invariant-loop-count g l = record {
   got : g.S.Meanings.received l.source ≡ appended (g.S.Meanings.received l.initial.source) (take l.count l.buf);
   sent : g.S.Meanings.sent l.source ≡ g.S.Meanings.sent l.initial.source;
   beside : g.S.Meanings.beside l.source ≡ g.S.Meanings.beside l.initial.source;
-  no_fewer : g.S.Meanings.faults l.initial.source ≤ g.S.Meanings.faults l.source;
+  steady : g.S.Meanings.faults l.source ≡ g.S.Meanings.faults l.initial.source;
 }
 
 abbrev pub decreases-loop-count : goal.decreases-loop-count

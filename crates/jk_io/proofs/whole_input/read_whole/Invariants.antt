@@ -12,7 +12,7 @@ invariant-loop-text g l = record {
   chunk : 0 < length l.chunk.items;
   sent : g.S.Meanings.sent l.source ≡ g.S.Meanings.sent l.initial.source;
   beside : g.S.Meanings.beside l.source ≡ g.S.Meanings.beside l.initial.source;
-  no_fewer : g.S.Meanings.faults l.initial.source ≤ g.S.Meanings.faults l.source;
+  steady : g.S.Meanings.faults l.source ≡ g.S.Meanings.faults l.initial.source;
 }
 
 abbrev pub decreases-loop-text : goal.decreases-loop-text

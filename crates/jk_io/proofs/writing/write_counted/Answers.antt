@@ -1,5 +1,5 @@
 -- A write takes the next bytes of the piece.
-use Rattle.std.proofs.Common.{◌∙◌, arith}
+use Rattle.std.proofs.Common.{◌∙◌, refl, arith}
 use Rattle.jk_io.proofs.PieceLaws.{put_next}
 use Rattle.jk_io.proofs.writing.write_counted.Goals as goal
 
@@ -14,5 +14,5 @@ loop-at-preserved g c =
       incoming = e.same.0 ∙ before.incoming;
       received = e.same.1 ∙ before.received;
       beside = e.same.2 ∙ before.beside;
-      no_fewer = omega (arith, e.cause.no_fewer);
+      steady = e.steady refl ∙ before.steady;
     }

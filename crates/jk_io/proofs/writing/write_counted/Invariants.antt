@@ -11,7 +11,7 @@ invariant-loop-at g l = record {
   incoming : g.S.Meanings.incoming l.sink ≡ g.S.Meanings.incoming l.initial.sink;
   received : g.S.Meanings.received l.sink ≡ g.S.Meanings.received l.initial.sink;
   beside : g.S.Meanings.beside l.sink ≡ g.S.Meanings.beside l.initial.sink;
-  no_fewer : g.S.Meanings.faults l.initial.sink ≤ g.S.Meanings.faults l.sink;
+  steady : g.S.Meanings.faults l.sink ≡ g.S.Meanings.faults l.initial.sink;
 }
 
 abbrev pub decreases-loop-at : goal.decreases-loop-at

@@ -6,6 +6,7 @@ pub write-tells : goal.write-tells
 write-tells g c = record {
   count = c.ensures.count;
   put = c.ensures.put;
+  shut = c.ensures.shut;
   kept_on_error = c.ensures.kept_on_error;
   same = (refl, c.ensures.same.0, c.ensures.same.1);
   cause = c.ensures.cause;

@@ -17,6 +17,7 @@ read-tells g c = record {
   gave = of_each c.result _ (λ n. refl);
   got = c.ensures.got;
   end = of_each c.result _ (λ n zero. tt);
+  shut = c.ensures.shut;
   kept_on_error = beside_that c.result _ _ refl c.ensures.kept_on_error;
   same = c.ensures.same;
   cause = c.ensures.cause;

@@ -1,0 +1,200 @@
+//! Dialling and accepting TCP streams.
+ghost use Rattle.std.specs.Prelude.{◌≡◌, ◌≤◌};
+ghost use Rattle.jk_io.specs.Told.{Rose};
+
+use crate::adapters::tcp_link::{TcpLink, room_ahead};
+use crate::byte_list::Bytes;
+use crate::failures::{IoError, NoMemory};
+use crate::traits::surroundings::{Dial, Door, Peer};
+use std::alloc::Global;
+use std::io::ErrorKind;
+use std::net::{IpAddr, Net, SocketAddr, TcpListener, TcpStream, ToSocketAddrs};
+use std::time::{Clock, Duration};
+use std::{io, thread};
+
+/// For so long a dial waits for each address of a host.
+pub const DIAL_SECONDS: u64 = 10;
+
+/// A client's link fails when for so long no byte came, or none was taken.
+pub const CLIENT_SECONDS: u64 = 60;
+
+/// How often an accept is tried again that failed for a passing reason.
+pub const MAX_ACCEPT_TRIES: u32 = 1_000;
+
+/// So many milliseconds lie between two such tries.
+const TRY_AGAIN_MILLIS: u64 = 10;
+
+/// The most bytes that the text of an address has.
+const MAX_ADDRESS_BYTES: usize = 45;
+
+/// Dials members over TCP, by a host's name or address.
+#[derive(Drop)]
+pub struct TcpDial<'r, R: Net<Stream = TcpStream>> {
+    rt: &'r R,
+    failed: u64,
+}
+
+impl<'r, R: Net<Stream = TcpStream>> TcpDial<'r, R> {
+    pub fn new(rt: &'r R) -> TcpDial<'r, R>
+        ensures { result.failed ≡ 0 }
+    {
+        TcpDial { rt, failed: 0 }
+    }
+}
+
+impl<'r, R: Net<Stream = TcpStream>> Dial for TcpDial<'r, R> {
+    type L = TcpLink;
+
+    ghost faults = { λ d. d.failed };
+
+    fn dial(&mut self, alloc: Global, host: &Bytes, port: u16) -> Result<TcpLink, IoError> {
+        match connect(self.rt, host, port) {
+            Some(stream) => Ok(TcpLink::new(alloc, stream)?),
+            None => {
+                self.failed = self.failed.saturating_add(1);
+                Err(IoError::Failed)
+            }
+        }
+    }
+}
+
+// Tries each address of a host in turn. A name that isn't UTF-8 is that of no host.
+fn connect<R: Net<Stream = TcpStream>>(rt: &R, host: &Bytes, port: u16) -> Option<TcpStream> {
+    let name = str::from_utf8(host.as_slice()).ok()?;
+    let wait = Duration::from_secs(DIAL_SECONDS);
+    for address in (name, port).to_socket_addrs(rt).ok()? {
+        if let Ok(stream) = TcpStream::connect_timeout(rt, &address, wait) {
+            return Some(stream);
+        }
+    }
+    None
+}
+
+/// Accepts TCP streams, at most so many where a number is given. On its links a read or a write fails that waits
+/// longer than `CLIENT_SECONDS`.
+#[derive(Drop)]
+pub struct TcpDoor<'r, R: Clock> {
+    rt: &'r R,
+    listener: TcpListener,
+    clients: Option<u64>,
+    /// How many links are out and may be left.
+    out: u64,
+    failed: u64,
+}
+
+impl<'r, R: Clock> TcpDoor<'r, R> {
+    /// No link is out, and no call failed yet.
+    pub fn new(rt: &'r R, listener: TcpListener, clients: Option<u64>) -> TcpDoor<'r, R>
+        ensures { (result.clients ≡ clients) × (result.out ≡ 0) × (result.failed ≡ 0) }
+    {
+        TcpDoor {
+            rt,
+            listener,
+            clients,
+            out: 0,
+            failed: 0,
+        }
+    }
+
+    fn fail(&mut self) -> IoError
+        ensures error { result ≡ IoError.Failed }
+        ensures rose { Rose self.old.failed self.new.failed × (self.old.failed ≤ self.new.failed) }
+        ensures same { self.new.out ≡ self.old.out }
+    {
+        self.failed = self.failed.saturating_add(1);
+        IoError::Failed
+    }
+}
+
+impl<'r, R: Clock> Door for TcpDoor<'r, R> {
+    ghost use Rattle.std.specs.Prelude.{None};
+
+    type L = TcpLink;
+
+    ghost coming = { λ _. None };
+
+    ghost left = { λ _. None };
+
+    ghost room = { λ d. d.out };
+
+    ghost faults = { λ d. d.failed };
+
+    fn accept(&mut self, alloc: Global) -> Result<Option<(TcpLink, Peer)>, IoError> {
+        let to_come = match self.clients {
+            Some(0) => return Ok(None),
+            Some(n) => Some(n - 1),
+            None => None,
+        };
+        let Some(out) = self.out.checked_add(1) else {
+            return Err(self.fail());
+        };
+        // Memory is taken first, so that want of it loses no client.
+        let room = ClientRoom::new(alloc)?;
+        let Some((stream, address)) = accept_client(self.rt, &self.listener) else {
+            return Err(self.fail());
+        };
+        self.clients = to_come;
+        self.out = out;
+        Ok(Some(room.client(stream, address.ip())))
+    }
+
+    fn leave(&mut self, _link: TcpLink) {
+        self.out -= 1;
+    }
+}
+
+// The memory of one client: the buffer of its link, and the text of its address.
+#[derive(Drop)]
+struct ClientRoom {
+    ahead: Vec<u8>,
+    address: String,
+}
+
+impl ClientRoom {
+    fn new(alloc: Global) -> Result<ClientRoom, NoMemory> {
+        Ok(ClientRoom {
+            ahead: room_ahead(alloc)?,
+            address: String::with_capacity(alloc, MAX_ADDRESS_BYTES)?,
+        })
+    }
+
+    // The room serves, so the address is written whole.
+    fn client(self, stream: TcpStream, ip: IpAddr) -> (TcpLink, Peer) {
+        let ClientRoom { ahead, mut address } = self;
+        let _ = write!(address, "{ip}");
+        let addr = Bytes::from_vec(address.into_bytes());
+        (TcpLink::over(patient(stream), ahead), Peer { addr })
+    }
+}
+
+// A stream on which a read or a write waits no longer than a client may. One that refuses this is broken.
+fn patient(stream: TcpStream) -> TcpStream {
+    let wait = Some(Duration::from_secs(CLIENT_SECONDS));
+    let _ = stream.set_read_timeout(wait);
+    let _ = stream.set_write_timeout(wait);
+    stream
+}
+
+// The next client; what fails for a passing reason is tried again after a while.
+fn accept_client<R: Clock>(rt: &R, listener: &TcpListener) -> Option<(TcpStream, SocketAddr)> {
+    for _ in 0..MAX_ACCEPT_TRIES {
+        match listener.accept() {
+            Ok(client) => return Some(client),
+            Err(error) if is_passing(&error) => {
+                thread::sleep(rt, Duration::from_millis(TRY_AGAIN_MILLIS));
+            }
+            Err(_) => return None,
+        }
+    }
+    None
+}
+
+// A client that went before it was accepted, a signal, or too many files or too little memory for a moment. The
+// numbers are those of Linux for ENFILE, EMFILE and ENOBUFS.
+fn is_passing(error: &io::Error) -> bool {
+    match error.kind() {
+        ErrorKind::ConnectionAborted | ErrorKind::ConnectionReset | ErrorKind::Interrupted => true,
+        ErrorKind::TimedOut | ErrorKind::OutOfMemory => true,
+        _ => matches!(error.raw_os_error(), Some(23 | 24 | 105)),
+    }
+}

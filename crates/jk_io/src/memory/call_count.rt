@@ -1,0 +1,49 @@
+//! Which calls of an object in memory fail.
+ghost use Rattle.std.specs.Prelude.{◌≡◌, ◌≤◌, ◌↔◌, true, false, IsTrue, Contains};
+ghost use Rattle.jk_io.specs.Told.{Rose};
+ghost use Rattle.jk_io.specs.Memory.{counted};
+
+use crate::list_of::NumberList;
+
+/// The calls that an object in memory was asked, and those of them that failed.
+#[derive(Debug, Drop)]
+pub struct CallCount {
+    pub(crate) calls: u64,
+    pub(crate) failed: u64,
+}
+
+impl CallCount {
+    pub(crate) fn new() -> CallCount
+        ensures { (result.calls ≡ 0) × (result.failed ≡ 0) }
+    {
+        CallCount {
+            calls: 0,
+            failed: 0,
+        }
+    }
+
+    /// Counts a call, and says whether it is one of those that are to fail, numbered from 0.
+    pub(crate) fn fails(&mut self, failing: &NumberList) -> bool
+        ensures counted { self.new.calls ≡ counted self.old.calls }
+        ensures planned { IsTrue result ↔ Contains failing.now self.old.calls }
+        ensures rose { result ≡ true → Rose self.old.failed self.new.failed }
+        ensures no_fewer { self.old.failed ≤ self.new.failed }
+        ensures same { result ≡ false → self.new.failed ≡ self.old.failed }
+    {
+        let fails = failing.as_slice().contains(&self.calls);
+        self.calls = self.calls.saturating_add(1);
+        if fails {
+            self.fail();
+        }
+        fails
+    }
+
+    /// Counts a call that failed.
+    pub(crate) fn fail(&mut self)
+        ensures rose { Rose self.old.failed self.new.failed }
+        ensures no_fewer { self.old.failed ≤ self.new.failed }
+        ensures same { self.new.calls ≡ self.old.calls }
+    {
+        self.failed = self.failed.saturating_add(1);
+    }
+}

@@ -1,0 +1,85 @@
+//! A dial in memory.
+ghost use Rattle.std.specs.Prelude.{◌≡◌, ◌↔◌, [], Contains, IfOk, IsOk, IsErr, IsErrOf};
+ghost use Rattle.jk_io.specs.Told.{HasCause};
+ghost use Rattle.jk_io.specs.Memory.{DialledNext, counted};
+
+use crate::byte_list::Bytes;
+use crate::failures::IoError;
+use crate::list_of::{ListOf, NumberList};
+use crate::memory::call_count::CallCount;
+use crate::memory::mem_link::MemLink;
+use crate::traits::surroundings::Dial;
+use std::alloc::Global;
+use std::marker::Model;
+
+/// Links in memory, in order.
+pub type MemLinkList = ListOf<MemLink>;
+
+/// A dial that gives its links in turn, and links with nothing to come after the last.
+#[derive(Debug, Drop)]
+pub struct MemDial {
+    /// The links to come, the next one last.
+    links: Vec<MemLink>,
+    failing: NumberList,
+    count: CallCount,
+}
+
+impl Model for MemDial {
+    ghost use Rattle.std.specs.Prelude.{reverse};
+    ghost use Rattle.jk_io.specs.Memory.{MemDialState};
+
+    ghost Value = { MemDialState };
+
+    ghost view = { λ d. record { links = reverse d.links.items; failing = d.failing; calls = d.count.calls; faults = d.count.failed } };
+}
+
+impl MemDial {
+    /// The dials of `failing`, numbered from 0, fail.
+    pub fn new(links: MemLinkList, failing: NumberList) -> MemDial
+        ensures { result ≡ record { links = links; failing = failing; calls = 0; faults = 0 } }
+    {
+        let mut links = links.into_vec();
+        links.reverse();
+        MemDial {
+            links,
+            failing,
+            count: CallCount::new(),
+        }
+    }
+
+    /// How many dials failed.
+    pub fn faults(&self) -> u64
+        ensures { result ≡ self.now.faults }
+    {
+        self.count.failed
+    }
+}
+
+impl Dial for MemDial {
+    type L = MemLink;
+
+    ghost faults = { λ d. d.faults };
+
+    ghost gives = { λ before link after. DialledNext before.links link after.links };
+
+    fn dial(&mut self, alloc: Global, _host: &Bytes, _port: u16) -> Result<MemLink, IoError>
+        ensures next { IfOk result (λ link. DialledNext self.old.links link self.new.links) }
+        ensures failed { IsErr result → self.new.links ≡ self.old.links }
+        ensures clean { IsOk result → self.new.faults ≡ self.old.faults }
+        ensures cause { HasCause self.old.faults self.new.faults result }
+        ensures same { self.new.failing ≡ self.old.failing }
+
+        // It fails exactly at the dials that it was told.
+        ensures planned { IsErrOf result IoError.Failed ↔ Contains self.old.failing self.old.calls }
+        ensures counted { self.new.calls ≡ counted self.old.calls }
+        ensures steady { self.old.failing ≡ [] → self.new.faults ≡ self.old.faults }
+    {
+        if self.count.fails(&self.failing) {
+            return Err(IoError::Failed);
+        }
+        match self.links.pop() {
+            Some(link) => Ok(link),
+            None => Ok(MemLink::new(alloc, Bytes::new(alloc), NumberList::new(alloc))),
+        }
+    }
+}

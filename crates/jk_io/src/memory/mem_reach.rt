@@ -1,0 +1,415 @@
+//! A reach in memory.
+ghost use Rattle.std.specs.Prelude.{◌≡◌, ◌<◌, ◌≤◌, ◌++◌, [], ◌∷◌, true, false, None, Some, IsSome, IfSome, IsErr, IsErrOf, IfOk, OnOk, OnErr, is_some, is_ok, Contains, length, take, reverse, slice_index};
+ghost use Rattle.std.specs.List.{HoldsAt, remove};
+ghost use Rattle.jk_io.specs.Told.{HasCause};
+ghost use Rattle.jk_io.specs.Talks.{begun_with, failed_talk, talk_of};
+ghost use Rattle.jk_io.specs.Memory.{ReadIsToFail, WriteIsToFail, DialledNext, counted, next_incoming};
+ghost use Rattle.jk_io.specs.Memory as nothing;
+ghost use Rattle.jk_io.specs.MemReaches.{IsLastOf, HasNoneOf, GivesLink, StaysInTalk};
+
+use crate::byte_list::Bytes;
+use crate::failures::{IoError, NoMemory};
+use crate::list_of::{ListOf, NumberList};
+use crate::memory::call_count::CallCount;
+use crate::memory::mem_dial::MemLinkList;
+use crate::memory::mem_link::MemLink;
+use crate::memory::member_link::MemberLink;
+use crate::memory::talk_book::TalkBook;
+use crate::reaching::{Begun, Beside, Talk};
+use crate::traits::reach::Reach;
+use crate::traits::streams::{Link, Meanings, Sink, Source};
+use std::alloc::Global;
+use std::marker::Model;
+use std::mem;
+
+/// A reach that gives its links in turn, and links with nothing to come after the last. A link that was kept for a
+/// member is given again, the one kept last first.
+#[derive(Debug, Drop)]
+pub struct MemReach {
+    alloc: Global,
+    /// The links to come, the next one last.
+    links: Vec<MemLink>,
+    kept: Vec<MemberLink>,
+    /// The link of the running talk; without one, a link with nothing to come.
+    running: MemberLink,
+    book: TalkBook,
+    sizes: ListOf<u32>,
+    failing: NumberList,
+    begins: CallCount,
+}
+
+impl Model for MemReach {
+    ghost use Rattle.std.specs.Prelude.{◌≡◌, ◌+◌, ◌≤◌, [], reverse, vec_len, vec_capacity, IfSome, IfNone};
+    ghost use Rattle.jk_io.specs.MemReaches.{MemReachState};
+
+    ghost Value = { MemReachState };
+
+    ghost view = { λ r. record {
+      links = reverse r.links.items;
+      kept = r.kept.items;
+      running = r.running;
+      book = r.book;
+      sizes = r.sizes;
+      failing = r.failing;
+      calls = r.begins.calls;
+      faults = r.begins.failed;
+    } };
+
+    ghost invariant = { λ r. IfSome r.book.begun (λ _. vec_len r.kept + 1 ≤ vec_capacity r.kept)
+        × IfNone r.book.begun ((r.book.sent ≡ []) × (r.book.received ≡ [])) };
+}
+
+impl MemReach {
+    /// A reach over balancers with so many members each. The begins of `failing`, numbered from 0, fail.
+    pub fn new(
+        alloc: Global,
+        links: MemLinkList,
+        sizes: ListOf<u32>,
+        failing: NumberList,
+    ) -> MemReach
+        ensures links { (result.links ≡ links) × (result.kept ≡ []) }
+        ensures sizes { (result.sizes ≡ sizes) × (result.failing ≡ failing) × (result.calls ≡ 0) × (result.faults ≡ 0) }
+        ensures idle { (result.book.begun ≡ None) × (result.book.talks ≡ []) × (result.book.sent ≡ []) × (result.book.received ≡ []) }
+    {
+        let mut links = links.into_vec();
+        links.reverse();
+        MemReach {
+            alloc,
+            links,
+            kept: Vec::new(alloc),
+            running: no_link(alloc),
+            book: TalkBook::new(alloc),
+            sizes,
+            failing,
+            begins: CallCount::new(),
+        }
+    }
+
+    /// The talks that ended, in order.
+    pub fn talks(&self) -> &[Talk]
+        ensures { result.now ≡ self.now.book.talks }
+    {
+        self.book.talks()
+    }
+
+    /// How many calls failed.
+    pub fn faults(&self) -> u64
+        ensures { result ≡ self.now.faults }
+    {
+        self.begins.failed
+    }
+}
+
+fn no_link(alloc: Global) -> MemberLink {
+    MemberLink {
+        lb: 0,
+        member: 0,
+        link: empty_link(alloc),
+    }
+}
+
+fn empty_link(alloc: Global) -> MemLink
+    ensures { result ≡ nothing.empty_link }
+{
+    MemLink::new(alloc, Bytes::new(alloc), NumberList::new(alloc))
+}
+
+// The place of the link that was kept last for a member, unless a fresh one is asked for.
+fn kept_place(kept: &[MemberLink], lb: u32, member: u32, fresh: bool) -> Option<usize>
+    ensures last { IfSome result (λ place. (fresh ≡ false) × IsLastOf lb member kept.now place) }
+    ensures none { result ≡ None → fresh ≡ false → HasNoneOf lb member kept.now }
+{
+    if fresh {
+        return None;
+    }
+    kept.iter().rposition(|k| k.lb == lb && k.member == member)
+}
+
+/// What a talk is asked for with.
+#[derive(Clone, Copy)]
+struct Asked<'h> {
+    lb: u32,
+    member: u32,
+    host: &'h Bytes,
+    port: u16,
+    fresh: bool,
+}
+
+// Begins the note of a talk.
+fn note_begun(
+    book: &mut TalkBook,
+    asked: Asked<'_>,
+    dialled: bool,
+    came: Option<Bytes>,
+) -> Result<(), NoMemory>
+    requires { book.old.begun ≡ None }
+    ensures ok { OnOk result (book.new ≡ record book.old { begun = Some (begun_with asked.entry.lb asked.entry.member asked.entry.host.now asked.entry.port asked.entry.fresh dialled came) }) }
+    ensures err { OnErr result (book.new ≡ book.old) }
+    ensures empty { OnOk result ((book.new.sent ≡ []) × (book.new.received ≡ [])) }
+{
+    let host = asked.host.copy()?;
+    book.begin(Begun {
+        lb: asked.lb,
+        member: asked.member,
+        host,
+        port: asked.port,
+        fresh: asked.fresh,
+        dialled,
+        came,
+    })
+}
+
+// Notes a talk that never began.
+fn note_failed(book: &mut TalkBook, asked: Asked<'_>) -> Result<(), NoMemory>
+    requires { book.old.begun ≡ None }
+    ensures ok { OnOk result (book.new.talks ≡ book.old.talks ++ failed_talk asked.entry.lb asked.entry.member asked.entry.host.now asked.entry.port asked.entry.fresh ∷ []) }
+    ensures err { OnErr result (book.new ≡ book.old) }
+    ensures ended { OnOk result ((book.new.begun ≡ None) × (book.new.sent ≡ []) × (book.new.received ≡ [])) }
+{
+    note_begun(book, asked, false, None)?;
+    book.finish(false);
+    Ok(())
+}
+
+impl MemReach {
+    // Begins a talk over the kept link at a place.
+    fn begin_over_kept(
+        &mut self,
+        alloc: Global,
+        asked: Asked<'_>,
+        place: usize,
+    ) -> Result<(), NoMemory>
+        requires idle { self.old.book.begun ≡ None }
+        requires within { place < length self.old.kept }
+        ensures taken { OnOk result (HoldsAt (λ link. link ≡ self.new.running) self.old.kept place) }
+        ensures left { OnOk result (self.new.kept ≡ remove self.old.kept place) }
+        ensures begun { OnOk result (self.new.book ≡ record self.old.book {
+          begun = Some (begun_with asked.entry.lb asked.entry.member asked.entry.host.now
+              asked.entry.port asked.entry.fresh false (Some self.new.running.link.incoming));
+        }) }
+        ensures err { OnErr result (self.new ≡ self.old) }
+        ensures same { self.new ≡ record self.old { kept = self.new.kept; running = self.new.running; book = self.new.book } }
+    {
+        let came = self.kept[place].link.to_come(alloc)?;
+        note_begun(&mut self.book, asked, false, Some(came))?;
+        self.running = self.kept.remove(place);
+        Ok(())
+    }
+
+    // Begins a talk over the next link, or an empty one after the last.
+    fn begin_over_next(&mut self, alloc: Global, asked: Asked<'_>) -> Result<(), NoMemory>
+        requires idle { self.old.book.begun ≡ None }
+        ensures next { OnOk result (DialledNext self.old.links self.new.running.link self.new.links) }
+        ensures whose { OnOk result ((self.new.running.lb ≡ asked.entry.lb) × (self.new.running.member ≡ asked.entry.member)) }
+        ensures begun { OnOk result (self.new.book ≡ record self.old.book {
+          begun = Some (begun_with asked.entry.lb asked.entry.member asked.entry.host.now
+              asked.entry.port asked.entry.fresh true (Some self.new.running.link.incoming));
+        }) }
+        ensures err { OnErr result (self.new ≡ self.old) }
+        ensures same { self.new ≡ record self.old { links = self.new.links; running = self.new.running; book = self.new.book } }
+    {
+        self.kept.reserve(1)?;
+        let came = next_to_come(self.links.as_slice(), alloc)?;
+        note_begun(&mut self.book, asked, true, Some(came))?;
+        self.running = MemberLink {
+            lb: asked.lb,
+            member: asked.member,
+            link: take_next(&mut self.links, alloc),
+        };
+        Ok(())
+    }
+}
+
+// What the next link has to come; the links stand in reverse.
+fn next_to_come(links: &[MemLink], alloc: Global) -> Result<Bytes, NoMemory>
+    ensures { IfOk result (λ came. came ≡ next_incoming (reverse links.now)) }
+{
+    match links.last() {
+        Some(link) => link.to_come(alloc),
+        None => Ok(Bytes::new(alloc)),
+    }
+}
+
+// Takes out the next link, or an empty one after the last; the links stand in reverse.
+fn take_next(links: &mut Vec<MemLink>, alloc: Global) -> MemLink
+    ensures next { DialledNext (reverse links.old.items) result (reverse links.new.items) }
+    ensures came { result.incoming ≡ next_incoming (reverse links.old.items) }
+{
+    match links.pop() {
+        Some(link) => link,
+        None => empty_link(alloc),
+    }
+}
+
+impl Meanings for MemReach {
+    ghost use Rattle.std.specs.Prelude.{Some, is_some};
+
+    type Beside = Beside;
+
+    ghost incoming = { λ r. Some r.running.link.incoming };
+
+    ghost received = { λ r. Some r.book.received };
+
+    ghost sent = { λ r. Some r.book.sent };
+
+    ghost beside = { λ r. record { runs = is_some r.book.begun; sizes = r.sizes; begun = r.book.begun; talks = Some r.book.talks } };
+
+    ghost faults = { λ r. r.faults };
+
+    ghost is_open = { λ r. is_some r.book.begun };
+}
+
+impl Source for MemReach {
+    fn read(&mut self, buf: &mut [u8]) -> Result<usize, IoError>
+        requires { 0 < length buf.old }
+
+        ensures count { IfOk result (λ n. n ≤ length buf.new) }
+        ensures gave { IfOk result (λ n. self.old.running.link.incoming ≡ take n buf.new ++ self.new.running.link.incoming) }
+        ensures got { IfOk result (λ n. self.new.book.received ≡ self.old.book.received ++ take n buf.new) }
+        ensures end { IfOk result (λ n. n ≡ 0 → self.new.running.link.incoming ≡ []) }
+        ensures kept_on_error { OnErr result ((self.new.running.link.incoming ≡ self.old.running.link.incoming)
+            × (self.new.book.received ≡ self.old.book.received)) }
+        ensures same { (self.new.book.sent ≡ self.old.book.sent) × (self.new.book.begun ≡ self.old.book.begun) × (self.new.book.talks ≡ self.old.book.talks) }
+        ensures same_others { StaysInTalk self.old self.new }
+        ensures cause { HasCause self.old.faults self.new.faults result }
+
+        // Where no talk runs it fails; in a talk it fails only where its link was told to.
+        ensures shut { is_some self.old.book.begun ≡ false → IsErrOf result IoError.Failed }
+        ensures failed { IsSome self.old.book.begun → IsErrOf result IoError.Failed → ReadIsToFail self.old.running.link }
+        ensures told { ReadIsToFail self.old.running.link → IsErr result }
+        ensures steady { (IsErrOf result IoError.Failed → ⊥) → self.new.faults ≡ self.old.faults }
+    {
+        if !self.book.runs() {
+            self.begins.fail();
+            return Err(IoError::Failed);
+        }
+        self.book.reserve(buf.len())?;
+        let answer = self.running.link.read(buf);
+        match answer {
+            Ok(n) => self.book.received(&buf[..n]),
+            Err(IoError::Failed) => self.begins.fail(),
+            Err(IoError::NoMemory) => {}
+        }
+        answer
+    }
+}
+
+impl Sink for MemReach {
+    fn write(&mut self, piece: &[u8]) -> Result<usize, IoError>
+        requires { 0 < length piece.now }
+
+        ensures count { IfOk result (λ n. (0 < n) × (n ≤ length piece.now)) }
+        ensures put { IfOk result (λ n. self.new.book.sent ≡ self.old.book.sent ++ take n piece.now) }
+        ensures kept_on_error { OnErr result (self.new.book.sent ≡ self.old.book.sent) }
+        ensures same { (self.new.running.link.incoming ≡ self.old.running.link.incoming) × (self.new.book.received ≡ self.old.book.received)
+            × (self.new.book.begun ≡ self.old.book.begun) × (self.new.book.talks ≡ self.old.book.talks) }
+        ensures same_others { StaysInTalk self.old self.new }
+        ensures cause { HasCause self.old.faults self.new.faults result }
+
+        // Where no talk runs it fails; in a talk it fails only where its link was told to.
+        ensures shut { is_some self.old.book.begun ≡ false → IsErrOf result IoError.Failed }
+        ensures failed { IsSome self.old.book.begun → IsErrOf result IoError.Failed → WriteIsToFail self.old.running.link }
+        ensures told { WriteIsToFail self.old.running.link → IsErr result }
+        ensures steady { (IsErrOf result IoError.Failed → ⊥) → self.new.faults ≡ self.old.faults }
+    {
+        if !self.book.runs() {
+            self.begins.fail();
+            return Err(IoError::Failed);
+        }
+        self.book.reserve(piece.len())?;
+        let answer = self.running.link.write(piece);
+        match answer {
+            Ok(n) => self.book.sent(&piece[..n]),
+            Err(IoError::Failed) => self.begins.fail(),
+            Err(IoError::NoMemory) => {}
+        }
+        answer
+    }
+}
+
+impl Link for MemReach {}
+
+impl Reach for MemReach {
+    ghost use Rattle.std.specs.Prelude.{refl};
+
+    fn begin(
+        &mut self,
+        alloc: Global,
+        lb: u32,
+        member: u32,
+        host: &Bytes,
+        port: u16,
+        fresh: bool,
+    ) -> Result<bool, IoError>
+        requires idle { is_some self.old.book.begun ≡ false }
+        requires known { member < slice_index self.old.sizes lb }
+
+        ensures runs { is_some self.new.book.begun ≡ is_ok result }
+        ensures new_link { IfOk result (λ dialled. fresh ≡ true → dialled ≡ true) }
+        ensures begun { IfOk result (λ dialled. self.new.book.begun
+            ≡ Some (begun_with lb member host.now port fresh dialled (Some self.new.running.link.incoming))) }
+        ensures nothing_yet { (self.new.book.sent ≡ []) × (self.new.book.received ≡ []) }
+
+        // The link that the talk gets.
+        ensures given { IfOk result (λ dialled. GivesLink lb member fresh dialled self.old self.new) }
+        ensures not_given { OnErr result ((self.new.links ≡ self.old.links) × (self.new.kept ≡ self.old.kept)) }
+
+        // A begin that failed is a talk, one that wanted memory is none.
+        ensures ok { OnOk result (self.new.book.talks ≡ self.old.book.talks) }
+        ensures failed { IsErrOf result IoError.Failed
+            → self.new.book.talks ≡ self.old.book.talks ++ failed_talk lb member host.now port fresh ∷ [] }
+        ensures wanted { IsErrOf result IoError.NoMemory → self.new.book.talks ≡ self.old.book.talks }
+        ensures same { (self.new.sizes ≡ self.old.sizes) × (self.new.failing ≡ self.old.failing) }
+
+        // It fails exactly at the begins that it was told, unless memory is wanted there.
+        ensures planned { IsErrOf result IoError.Failed → Contains self.old.failing self.old.calls }
+        ensures told { Contains self.old.failing self.old.calls → IsErr result }
+        ensures counted { self.new.calls ≡ counted self.old.calls }
+        ensures cause { HasCause self.old.faults self.new.faults result }
+        ensures steady { (Contains self.old.failing self.old.calls → ⊥) → self.new.faults ≡ self.old.faults }
+    {
+        let asked = Asked {
+            lb,
+            member,
+            host,
+            port,
+            fresh,
+        };
+        if self.begins.fails(&self.failing) {
+            note_failed(&mut self.book, asked)?;
+            return Err(IoError::Failed);
+        }
+        match kept_place(self.kept.as_slice(), lb, member, fresh) {
+            Some(place) => self.begin_over_kept(alloc, asked, place)?,
+            None => {
+                self.begin_over_next(alloc, asked)?;
+                return Ok(true);
+            }
+        }
+        Ok(false)
+    }
+
+    fn finish(&mut self, keep: bool)
+        requires { is_some self.old.book.begun ≡ true }
+        ensures ended { self.new.book.begun ≡ None }
+        ensures nothing_left { (self.new.book.sent ≡ []) × (self.new.book.received ≡ []) }
+        ensures noted { IfSome self.old.book.begun (λ b. self.new.book.talks
+            ≡ self.old.book.talks ++ talk_of b self.old.book.sent self.old.book.received keep ∷ []) }
+
+        // The link is kept where it is to be.
+        ensures kept { keep ≡ true → self.new.kept ≡ self.old.kept ++ self.old.running ∷ [] }
+        ensures closed { keep ≡ false → self.new.kept ≡ self.old.kept }
+        ensures same { (self.new.links ≡ self.old.links) × (self.new.sizes ≡ self.old.sizes) × (self.new.failing ≡ self.old.failing)
+            × (self.new.calls ≡ self.old.calls) × (self.new.faults ≡ self.old.faults) }
+    {
+        self.book.finish(keep);
+        let ended = mem::replace(&mut self.running, no_link(self.alloc));
+        if keep {
+            let Ok(()) = self.kept.push(ended) else {
+                unreachable!()
+            };
+        }
+    }
+
+    ghost open_in_talk = { λ r. refl };
+}
