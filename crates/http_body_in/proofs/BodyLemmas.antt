@@ -1,11 +1,11 @@
 -- The data of bytes in two parts, and what each step of a walk uses.
-use Rattle.std.proofs.Common.{◌≡◌, ℕ, zero, suc, ◌+◌, ◌-◌, ◌≤◌, ◌<◌, ◌||◌, ◌==◌, Bool, true, false, cond, List, [], ◌∷◌, ◌++◌, length, Option, Some, None, refl, sym, ap, subst, ◌∙◌, inl, inr, arith, append_assoc, append-nil, ne_eqb, take, drop, get_or}
+use Rattle.std.proofs.Common.{◌≡◌, ℕ, zero, suc, ◌+◌, ◌-◌, ◌≤◌, ◌<◌, false, List, [], ◌∷◌, ◌++◌, length, Option, Some, None, refl, sym, ap, subst, ◌∙◌, inl, inr, arith, append_assoc, ne_eqb, take, drop, get_or}
 use Rattle.std.proofs.lemmas.Bool.{cases_Bool, cond-true, cond-false, or_from}
 use Rattle.std.proofs.lemmas.List.{take_more, take-append-drop, nil_from_length}
 use Rattle.jk_io.specs.Told.{prepended}
 use Rattle.jk_io.proofs.ToldLaws.{prepended-prepended, prepended-nil}
-use Rattle.http_body_in.specs.Body.{Data, Uses, is_over, given, given_of, behind, ended_at, data_from, place_behind, data_of}
-use Rattle.http_body_in.specs.Places.{step, data_left, data_step, is_whole, is_bad}
+use Rattle.http_body_in.specs.Body.{Data, Uses, is_over, given, given_of, behind, ended_at, data_from, place_behind}
+use Rattle.http_body_in.specs.Places.{step, data_left, data_step}
 use Rattle.http_body_in.specs.declared.place.Place.{Place}
 use Rattle.http_body_in.specs.declared.place.Place.TheVariants as at
 

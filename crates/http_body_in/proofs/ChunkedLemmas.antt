@@ -1,9 +1,9 @@
 -- Bytes that the grammar spells, read from place to place.
-use Rattle.std.proofs.Common.{◌≡◌, ℕ, zero, suc, ◌+◌, ◌-◌, ◌*◌, ◌%◌, ◌≤◌, ◌<◌, ◌==◌, ◌&&◌, not, Bool, true, false, cond, List, [], ◌∷◌, ◌++◌, length, Option, Some, None, refl, sym, ap, subst, ◌∙◌, arith, append_assoc, append-nil, length-append, ne_eqb}
+use Rattle.std.proofs.Common.{◌≡◌, ℕ, zero, suc, ◌+◌, ◌-◌, ◌*◌, ◌%◌, ◌≤◌, ◌<◌, true, false, List, [], ◌∷◌, ◌++◌, length, Option, Some, None, refl, sym, ap, subst, ◌∙◌, arith, append-nil, length-append, ne_eqb}
 use Rattle.std.specs.Char.{digit_value}
 use Rattle.std.specs.List.{AllByRecursion, flat_map, list_all}
 use Rattle.std.proofs.lemmas.Bool.{and_parts, cond-true, cond-false, ltb-true, lt-ltb, le-ltb, not-true}
-use Rattle.http_body_in.specs.Body.{Data, Uses, is_over, behind, ended_at, data_from, place_behind}
+use Rattle.http_body_in.specs.Body.{Data, is_over, behind, ended_at, data_from, place_behind}
 use Rattle.http_body_in.specs.Chunked.{line_end, written_from, is_hexadecimal, is_inner, IsSize, extension_bytes, IsExtension, size_line, Chunk, IsChunk, chunk_bytes, trailer_line_bytes, trailer_bytes, IsTrailerLine, ChunkedBody, IsChunkedBody, spelled, data_in, ReadsSpelled}
 use Rattle.http_body_in.specs.Places.{step, data_left, chunk_of}
 use Rattle.http_body_in.specs.declared.place.Place.{Place}

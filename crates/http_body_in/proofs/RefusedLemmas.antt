@@ -1,8 +1,8 @@
 -- Where no byte was bad, the bytes go on to a body that the grammar spells.
-use Rattle.std.proofs.Common.{◌≡◌, ℕ, zero, suc, ◌+◌, ◌-◌, ◌<◌, ◌==◌, ◌||◌, ◌↔◌, Bool, true, false, cond, List, [], ◌∷◌, ◌++◌, Option, Some, None, refl, sym, ap, ◌∙◌, inl, inr, arith, append-nil, ne_eqb}
-use Rattle.std.proofs.lemmas.Bool.{cases_Bool, cond-true, cond-false, or_from, or_cases, false≢true, true≢false}
+use Rattle.std.proofs.Common.{◌≡◌, ℕ, zero, suc, ◌<◌, ◌||◌, Bool, true, false, List, [], ◌∷◌, ◌++◌, Some, refl, sym, ap, ◌∙◌, inl, inr, arith, append-nil, ne_eqb}
+use Rattle.std.proofs.lemmas.Bool.{cases_Bool, cond-false, or_from, or_cases, true≢false}
 use Rattle.http_body_in.specs.Body.{Data, is_over, given, behind, ended_at, data_from, place_behind}
-use Rattle.http_body_in.specs.Chunked.{ChunkedBody, IsChunkedBody, spelled, data_in, RefusesUnspelled}
+use Rattle.http_body_in.specs.Chunked.{ChunkedBody, IsChunkedBody, spelled, RefusesUnspelled}
 use Rattle.http_body_in.specs.Places.{step, is_whole, is_bad, chunk_of}
 use Rattle.http_body_in.specs.declared.place.Place.{Place}
 use Rattle.http_body_in.specs.declared.place.Place.TheVariants as at

@@ -1,11 +1,11 @@
 -- A body that is read as whole is one that the grammar spells: what stands behind each place.
-use Rattle.std.proofs.Common.{◌≡◌, ℕ, zero, suc, ◌+◌, ◌-◌, ◌*◌, ◌%◌, ◌≤◌, ◌<◌, ◌==◌, ◌&&◌, not, Bool, true, false, cond, List, [], ◌∷◌, ◌++◌, length, Option, Some, None, refl, sym, ap, subst, ◌∙◌, inl, inr, ◌⊎◌, arith, append_assoc, length-append}
+use Rattle.std.proofs.Common.{◌≡◌, ℕ, zero, suc, ◌+◌, ◌-◌, ◌*◌, ◌%◌, ◌≤◌, ◌<◌, ◌==◌, Bool, true, false, List, [], ◌∷◌, ◌++◌, length, Option, Some, None, refl, sym, ap, subst, ◌∙◌, inl, inr, ◌⊎◌, arith, append_assoc, length-append}
 use Rattle.std.specs.Prelude.{if◌then◌else◌, nat_lt, ⊤}
 use Rattle.std.specs.Char.{is_digit, digit_value}
 use Rattle.std.specs.List.{AllByRecursion, flat_map, list_all}
 use Rattle.std.proofs.lemmas.Bool.{and_from, ltb-true, ltb-false, eqb-true, eqb-false, false≢true}
 use Rattle.http_body_in.specs.Body.{is_over, place_behind}
-use Rattle.http_body_in.specs.Chunked.{line_end, written_from, is_hexadecimal, is_inner, IsSize, extension_bytes, IsExtension, size_line, Chunk, IsChunk, chunk_bytes, trailer_line_bytes, trailer_bytes, IsTrailerLine, ChunkedBody, IsChunkedBody, spelled, ReadsOnlySpelled}
+use Rattle.http_body_in.specs.Chunked.{line_end, written_from, is_hexadecimal, is_inner, IsSize, extension_bytes, IsExtension, size_line, Chunk, IsChunk, chunk_bytes, trailer_bytes, IsTrailerLine, ChunkedBody, IsChunkedBody, spelled, ReadsOnlySpelled}
 use Rattle.http_body_in.specs.Places.{step, is_whole, chunk_of}
 use Rattle.http_body_in.specs.declared.place.Place.{Place}
 use Rattle.http_body_in.specs.declared.place.Place.TheVariants as at

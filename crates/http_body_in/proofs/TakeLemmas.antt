@@ -1,12 +1,10 @@
 -- What a walk says of the data that is told.
-use Rattle.std.proofs.Common.{◌≡◌, ℕ, ◌+◌, ◌-◌, ◌≤◌, ◌<◌, ◌||◌, ◌==◌, min, Bool, true, false, cond, List, [], ◌∷◌, ◌++◌, Option, Some, None, Result, Err, IfSome, IsTrue, length, take, drop, option_map, refl, sym, ap, subst, ◌∙◌, inl, inr, arith, append-nil, length-append, length-take, take_at, drop_at, take_all}
-use Rattle.std.proofs.lemmas.Bool.{cases_Bool, cond-true, or_left, or_right, or_cases, or_parts, or_from, and_parts, le-leb, lt-leb, leb-true, eqb-true, false≢true}
+use Rattle.std.proofs.Common.{◌≡◌, ℕ, ◌+◌, ◌≤◌, ◌<◌, ◌||◌, ◌==◌, Bool, true, false, List, [], ◌∷◌, ◌++◌, Option, Some, None, IfSome, IsTrue, length, take, drop, refl, sym, ap, subst, ◌∙◌, inl, inr, arith, append-nil, length-append, length-take, take_at, drop_at, take_all}
+use Rattle.std.proofs.lemmas.Bool.{cond-true, or_left, or_right, or_cases, or_parts, or_from, and_parts, le-leb, lt-leb, leb-true, eqb-true}
 use Rattle.std.proofs.lemmas.List.{drop_all}
-use Rattle.jk_io.specs.Told.{prepended, IsEmpty}
 use Rattle.http_body_in.specs.Body.{Data, Uses, is_over, behind, ended_at, data_from, place_behind, data_of, reaches, dropped}
 use Rattle.http_body_in.specs.Places.{step, is_whole, is_bad, is_limited}
 use Rattle.http_body_in.specs.Walks.{Walks, Fails, Passes, Breaks, IsUnder, is_reached, counted}
-use Rattle.http_body_in.specs.declared.fault.BodyFault.{BodyFault}
 use Rattle.http_body_in.specs.declared.fault.BodyFault.TheVariants as fault
 use Rattle.http_body_in.specs.declared.place.Place.{Place}
 use Rattle.http_body_in.specs.declared.place.Place.TheVariants as at
@@ -187,46 +185,3 @@ skips-long most taken before (Some ys) start breaks =
     let limit = reaches-limit most taken before (Some ys) start breaks.place breaks.data' breaks.uses breaks.meets in
     let P : Option Data → Type 0 = λ o. IfSome o (λ x. most ≤ taken + length x.bytes) in
     (limit.0, subst P (sym (told-data before ys start breaks.place breaks.data' breaks.uses)) (omega (arith, limit.1, length-append breaks.data' (data_from ys breaks.place).bytes)))
-
--- the same of the fault that a call answers
-pub take-short : {T : Type 0} (most taken n : ℕ) (before now : Option (List ℕ)) (start : Place) (why : BodyFault) → ◌≡◌ {A = Result T BodyFault} (Err why) (Err fault.Truncated) → Fails most taken n before now start why
-    → IfSome (data_of start before) (λ d. (reaches n d ≡ false) × (d.bad ≡ false) × IsUnder most taken start d.bytes)
-take-short most taken n before now start why is fails =
-    let same : why ≡ fault.Truncated = cc in
-    let P : BodyFault → Type 0 = λ e. Fails most taken n before now start e in
-    ends-short most taken n before now start (subst P same fails)
-
-pub take-bad : {T : Type 0} (most taken n : ℕ) (before now : Option (List ℕ)) (start : Place) (why : BodyFault) → ◌≡◌ {A = Result T BodyFault} (Err why) (Err fault.BadChunk) → Fails most taken n before now start why
-    → IfSome (data_of start before) (λ d. (reaches n d ≡ false) × (d.bad ≡ true) × IsUnder most taken start d.bytes)
-take-bad most taken n before now start why is fails =
-    let same : why ≡ fault.BadChunk = cc in
-    let P : BodyFault → Type 0 = λ e. Fails most taken n before now start e in
-    breaks-badly most taken n before now start (subst P same fails)
-
-pub take-long : {T : Type 0} (most taken n : ℕ) (before now : Option (List ℕ)) (start : Place) (why : BodyFault) → ◌≡◌ {A = Result T BodyFault} (Err why) (Err fault.TooLong) → Fails most taken n before now start why
-    → (is_limited start ≡ true) × IfSome (data_of start before) (λ d. most ≤ taken + length (take n d.bytes))
-take-long most taken n before now start why is fails =
-    let same : why ≡ fault.TooLong = cc in
-    let P : BodyFault → Type 0 = λ e. Fails most taken n before now start e in
-    too-long most taken n before now start (subst P same fails)
-
-pub skip-short : {T : Type 0} (most taken : ℕ) (before now : Option (List ℕ)) (start : Place) (why : BodyFault) → ◌≡◌ {A = Result T BodyFault} (Err why) (Err fault.Truncated) → Breaks most taken before now start why
-    → IfSome (data_of start before) (λ d. (d.whole ≡ false) × (d.bad ≡ false) × IsUnder most taken start d.bytes)
-skip-short most taken before now start why is breaks =
-    let same : why ≡ fault.Truncated = cc in
-    let P : BodyFault → Type 0 = λ e. Breaks most taken before now start e in
-    skips-short most taken before now start (subst P same breaks)
-
-pub skip-bad : {T : Type 0} (most taken : ℕ) (before now : Option (List ℕ)) (start : Place) (why : BodyFault) → ◌≡◌ {A = Result T BodyFault} (Err why) (Err fault.BadChunk) → Breaks most taken before now start why
-    → IfSome (data_of start before) (λ d. (d.whole ≡ false) × (d.bad ≡ true) × IsUnder most taken start d.bytes)
-skip-bad most taken before now start why is breaks =
-    let same : why ≡ fault.BadChunk = cc in
-    let P : BodyFault → Type 0 = λ e. Breaks most taken before now start e in
-    skips-badly most taken before now start (subst P same breaks)
-
-pub skip-long : {T : Type 0} (most taken : ℕ) (before now : Option (List ℕ)) (start : Place) (why : BodyFault) → ◌≡◌ {A = Result T BodyFault} (Err why) (Err fault.TooLong) → Breaks most taken before now start why
-    → (is_limited start ≡ true) × IfSome (data_of start before) (λ d. most ≤ taken + length d.bytes)
-skip-long most taken before now start why is breaks =
-    let same : why ≡ fault.TooLong = cc in
-    let P : BodyFault → Type 0 = λ e. Breaks most taken before now start e in
-    skips-long most taken before now start (subst P same breaks)

@@ -1,5 +1,5 @@
 -- The exits of a walk, over plain values.
-use Rattle.std.proofs.Common.{◌≡◌, ◌≢◌, ℕ, zero, suc, ◌+◌, ◌-◌, ◌*◌, ◌≤◌, ◌<◌, ◌&&◌, ◌||◌, ◌==◌, min, Bool, true, false, List, [], ◌++◌, Option, Some, None, length, take, inl, inr, refl, sym, ap, subst, ◌∙◌, arith, append-nil, drop, length-append, length-take, length-drop}
+use Rattle.std.proofs.Common.{◌≡◌, ◌≢◌, ℕ, zero, suc, ◌+◌, ◌-◌, ◌*◌, ◌≤◌, ◌<◌, ◌&&◌, min, Bool, true, false, List, [], ◌++◌, Option, Some, length, take, inl, inr, refl, sym, ap, subst, ◌∙◌, arith, append-nil, drop, length-append, length-take, length-drop}
 use Rattle.std.proofs.lemmas.Bool.{false≢true, leb-false, cases_Bool}
 use Rattle.std.proofs.lemmas.List.{length-take-le}
 use borrow.Rule.Slice.PartMut.{put_mid, post_of}
@@ -10,8 +10,8 @@ use Rattle.jk_io.specs.declared.failures.IoError.{IoError}
 use Rattle.jk_io.specs.declared.failures.IoError.TheVariants as io
 use Rattle.http_body_in.specs.Falls.{framing_left, exact_left}
 use Rattle.http_body_in.specs.Faults.{fault_of}
-use Rattle.http_body_in.specs.Places.{data_left, data_step, is_whole, is_bad, is_limited}
-use Rattle.http_body_in.specs.Walks.{Walks, Fails, Passes, Breaks, is_reached, counted}
+use Rattle.http_body_in.specs.Places.{data_left, data_step, is_bad, is_limited}
+use Rattle.http_body_in.specs.Walks.{Fails, is_reached, counted}
 use Rattle.http_body_in.specs.declared.fault.BodyFault.{BodyFault}
 use Rattle.http_body_in.specs.declared.fault.BodyFault.TheVariants as fault
 use Rattle.http_body_in.specs.declared.place.Place.{Place}
@@ -102,7 +102,7 @@ fails-read most taken count before now after start place piece fault.BadChunk wi
 fails-read most taken count before now after start place piece fault.TooLong within uses same open_end end bad long limit = absurd (long refl)
 fails-read most taken count before now after start place piece fault.Fault within uses same open_end end bad long limit =
     let len : length (take count piece) ≡ count = length-take-le count piece (omega (arith, within)) in
-    record { breaks = record { place = place; data' = take count piece; uses = Uses-kept before now after start place _ same uses; meets = tt; stays = tt }; below = omega (arith, len, within) }
+    record { breaks = record { place = place; data' = take count piece; uses = Uses-kept before now after start place _ same uses; meets = open_end; stays = λ limited. omega (arith, len, limit limited) }; below = omega (arith, len, within) }
 fails-read most taken count before now after start place piece fault.NoMemory within uses same open_end end bad long limit =
     let len : length (take count piece) ≡ count = length-take-le count piece (omega (arith, within)) in
     record { breaks = record { place = place; data' = take count piece; uses = Uses-kept before now after start place _ same uses; meets = tt; stays = tt }; below = omega (arith, len, within) }

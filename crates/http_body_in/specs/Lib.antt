@@ -4,4 +4,6 @@ pub mod Falls
 pub mod Faults
 pub mod Places
 pub mod State
+pub mod Takes
 pub mod Walks
+pub mod Wants

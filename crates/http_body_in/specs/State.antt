@@ -7,15 +7,15 @@ use Rattle.http_body_in.specs.declared.place.Place.{Place}
 
 -- where it stands
 abbrev pub place_of : BodyIn → Place
-place_of body = body.place
+place_of body = body.stand.place
 
 -- how many bytes of data were taken
 abbrev pub taken_of : BodyIn → ℕ
-taken_of body = body.taken
+taken_of body = body.stand.taken
 
 -- at how many a chunked body is too long
 abbrev pub most_of : BodyIn → ℕ
-most_of body = body.most
+most_of body = body.stand.most
 
 -- the first fault
 abbrev pub failed_of : BodyIn → Option BodyFault
@@ -23,4 +23,4 @@ failed_of body = body.failed
 
 -- the data that is left, where the client's bytes are told
 abbrev pub data_left_of : BodyIn → Option (List ℕ) → Option Data
-data_left_of body told = data_of body.place told
+data_left_of body told = data_of body.stand.place told

@@ -1,6 +1,7 @@
 -- How far a walk over a body came, and why no further.
-use Rattle.std.specs.Prelude.{ℕ, ◌≡◌, ◌≤◌, ◌<◌, ◌+◌, Bool, false, true, ◌&&◌, ◌||◌, ◌==◌, nat_le, min, List, length, Option, Result, Ok, Err}
-use Rattle.jk_io.specs.Told.{IsEmpty}
+use Rattle.std.specs.Prelude.{ℕ, ◌≡◌, ◌≤◌, ◌<◌, ◌+◌, Bool, false, true, ◌&&◌, ◌||◌, ◌==◌, nat_le, min, List, ◌++◌, length, Option}
+use Rattle.jk_io.specs.Told.{prepended, IsEmpty}
+use Rattle.http_front.specs.Unread.{unread}
 use Rattle.http_body_in.specs.Body.{Uses, is_over}
 use Rattle.http_body_in.specs.Places.{is_whole, is_limited}
 use Rattle.http_body_in.specs.declared.fault.BodyFault.{BodyFault}
@@ -20,12 +21,12 @@ counted taken more = min (taken + more) 18446744073709551615
 abbrev pub IsUnder : ℕ → ℕ → Place → List ℕ → Type 0
 IsUnder most taken start data' = is_limited start ≡ true → taken + length data' < most
 
--- before the bytes ended or a bad chunk line stood, the limit was not reached
+-- before the bytes ended, a bad chunk line stood or a read failed, the limit was not reached
 abbrev pub StaysUnder : ℕ → ℕ → Place → List ℕ → BodyFault → Type 0
 StaysUnder most taken start data' fault.Truncated = IsUnder most taken start data'
 StaysUnder most taken start data' fault.BadChunk = IsUnder most taken start data'
 StaysUnder most taken start data' fault.TooLong = Unit {0}
-StaysUnder most taken start data' fault.Fault = Unit {0}
+StaysUnder most taken start data' fault.Fault = IsUnder most taken start data'
 StaysUnder most taken start data' fault.NoMemory = Unit {0}
 
 -- what a walk met behind the data that it used
@@ -33,7 +34,7 @@ abbrev pub Meets : ℕ → ℕ → Option (List ℕ) → Place → List ℕ → 
 Meets most taken now place data' fault.Truncated = (is_over place ≡ false) × IsEmpty now
 Meets most taken now place data' fault.BadChunk = place ≡ at.Bad
 Meets most taken now place data' fault.TooLong = is_reached place most (counted taken (length data')) ≡ true
-Meets most taken now place data' fault.Fault = Unit {0}
+Meets most taken now place data' fault.Fault = is_over place ≡ false
 Meets most taken now place data' fault.NoMemory = Unit {0}
 
 -- fewer than the wanted n bytes of data were there, but that the limit may be reached by all of them
@@ -41,8 +42,15 @@ abbrev pub IsBelow : ℕ → List ℕ → BodyFault → Type 0
 IsBelow n data' fault.TooLong = length data' ≤ n
 IsBelow n data' fault.Truncated = length data' < n
 IsBelow n data' fault.BadChunk = length data' < n
-IsBelow n data' fault.Fault = length data' ≤ n
+IsBelow n data' fault.Fault = length data' < n
 IsBelow n data' fault.NoMemory = length data' ≤ n
+
+-- n bytes were dropped, those of the inbox first
+pub record IsDropped (n : ℕ) (inbox inbox_now : List ℕ) (incoming incoming_now : Option (List ℕ)) : Type 0 where
+  pub gone : List ℕ
+  pub count : length gone ≡ n
+  pub used : unread inbox incoming ≡ prepended gone (unread inbox_now incoming_now)
+  pub inside : 0 < length inbox → inbox ≡ gone ++ inbox_now
 
 -- the walk came to a fault
 pub record Breaks (most taken : ℕ) (before now : Option (List ℕ)) (start : Place) (why : BodyFault) : Type 0 where
@@ -72,4 +80,5 @@ pub record Passes (most taken : ℕ) (before now : Option (List ℕ)) (start pla
   pub whole : is_whole place ≡ true
   pub counts : sum ≡ counted taken (length data')
   pub under : is_reached place most sum ≡ false
+  pub below : IsUnder most taken start data'
   pub limit : is_limited start ≡ true → sum < most

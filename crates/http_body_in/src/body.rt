@@ -1,11 +1,14 @@
 //! `BodyIn`: a client's body, taken in pieces.
-ghost use Rattle.std.specs.Prelude.{◌≡◌, ◌<◌, ◌≤◌, ◌+◌, ℕ, List, length, take, false, true, Some, None, IfOk, IfErr, IfSome, OnOk, OnErr, IsErrOf, IsTrue, Err};
-ghost use Rattle.jk_io.specs.Told.{prepended, Rose};
+ghost use Rattle.std.specs.Prelude.{◌≡◌, ◌<◌, ◌≤◌, None, Some, IfOk, IfErr, OnOk, IsErrOf, IsTrue};
+ghost use Rattle.jk_io.specs.Moments.{moment};
+ghost use Rattle.jk_io.specs.Told.{Rose};
 ghost use Rattle.http_front.specs.Unread.{unread};
-ghost use Rattle.http_body_in.specs.Body.{Data, Uses, reaches, dropped};
-ghost use Rattle.http_body_in.specs.Places.{start_of, is_whole, is_limited};
-ghost use Rattle.http_body_in.specs.State.{place_of, taken_of, most_of, failed_of, data_left_of};
-ghost use Rattle.http_body_in.specs.Walks.{Walks, Fails, IsUnder, counted, is_reached};
+ghost use Rattle.http_body_in.specs.Faults.{IsByBytes, IsCalm};
+ghost use Rattle.http_body_in.specs.Places.{start_of};
+ghost use Rattle.http_body_in.specs.State.{place_of, taken_of, most_of, failed_of};
+ghost use Rattle.http_body_in.specs.Takes.{body_at, decides, TakesPiece, PassesRest, MeetsFault};
+ghost use Rattle.http_body_in.specs.Walks.{Walks, Fails};
+ghost use Rattle.http_body_in.specs.Wants.{Next, Rest, settles};
 
 use crate::fault::BodyFault;
 use crate::place::{Place, start_of};
@@ -14,16 +17,24 @@ use http_front::{BodyPlan, Inbox};
 use jk_io::{Bytes, Link};
 use std::alloc::Global;
 
+/// How far a body was taken.
+#[derive(Clone, Copy, Debug, PartialEq, Eq)]
+struct Stand {
+    place: Place,
+    /// At how many bytes of data a chunked body is too long.
+    most: u64,
+    /// How many bytes of data were taken.
+    taken: u64,
+}
+
 /// A client's body, as far as it was taken.
 #[derive(Debug, Drop)]
 pub struct BodyIn {
-    place: Place,
-    most: u64,
-    taken: u64,
+    stand: Stand,
     failed: Option<BodyFault>,
 }
 
-/// A piece, and where the body goes on behind it.
+/// A piece, and where the body stands behind it.
 #[derive(Drop)]
 struct Piece {
     bytes: Bytes,
@@ -39,9 +50,11 @@ impl BodyIn {
         ensures failed { failed_of result ≡ None }
     {
         BodyIn {
-            place: start_of(plan),
-            most,
-            taken: 0,
+            stand: Stand {
+                place: start_of(plan),
+                most,
+                taken: 0,
+            },
             failed: None,
         }
     }
@@ -50,7 +63,7 @@ impl BodyIn {
     pub fn taken(&self) -> u64
         ensures { result ≡ taken_of self.now }
     {
-        self.taken
+        self.stand.taken
     }
 
     /// Takes the next `n` bytes of data, or all that are left: no bytes exactly at the end.
@@ -62,40 +75,22 @@ impl BodyIn {
         n: usize,
     ) -> Result<Bytes, BodyFault>
         requires { 0 < n }
+        ensures ok { let see = moment C.incoming C.received C.sent C.faults in IfOk result (TakesPiece
+            (body_at self.old inbox.old (see client.old)) (body_at self.new inbox.new (see client.new)) n) }
+        ensures err { let see = moment C.incoming C.received C.sent C.faults in IfErr result (MeetsFault
+            (body_at self.old inbox.old (see client.old)) (body_at self.new inbox.new (see client.new)) (Next n)) }
 
-        ensures piece { IfOk result (λ piece. IfSome (data_left_of self.old (unread inbox.old (C.incoming client.old))) (λ d. (piece ≡ take n d.bytes) × IsTrue (reaches n d))) }
-        ensures length { IfOk result (λ piece. length piece ≤ n) }
-        ensures left { OnOk result (data_left_of self.new (unread inbox.new (C.incoming client.new)) ≡ dropped n (data_left_of self.old (unread inbox.old (C.incoming client.old)))) }
-        ensures taken { IfOk result (λ piece. taken_of self.new ≡ counted (taken_of self.old) (length piece)) }
-        ensures limit { IfOk result (IsUnder (most_of self.old) (taken_of self.old) (place_of self.old)) }
-        ensures under { IfOk result (λ piece. is_reached (place_of self.new) (most_of self.old) (taken_of self.new) ≡ false) }
-        ensures used { IfOk result (λ piece. Uses (unread inbox.old (C.incoming client.old)) (unread inbox.new (C.incoming client.new)) (place_of self.old) (place_of self.new) piece) }
-        ensures going { OnOk result ((failed_of self.old ≡ None) × (failed_of self.new ≡ None)) }
-
-        // The first fault, and each later call answers it again.
-        ensures failed { IfErr result (λ fault. failed_of self.new ≡ Some fault) }
-        ensures again { IfSome (failed_of self.old) (λ fault. result ≡ Err fault) }
-        ensures truncated { IsErrOf result BodyFault.Truncated → failed_of self.old ≡ None
-            → IfSome (data_left_of self.old (unread inbox.old (C.incoming client.old))) (λ d. (reaches n d ≡ false) × (d.bad ≡ false) × IsUnder (most_of self.old) (taken_of self.old) (place_of self.old) d.bytes) }
-        ensures bad { IsErrOf result BodyFault.BadChunk → failed_of self.old ≡ None
-            → IfSome (data_left_of self.old (unread inbox.old (C.incoming client.old))) (λ d. (reaches n d ≡ false) × (d.bad ≡ true) × IsUnder (most_of self.old) (taken_of self.old) (place_of self.old) d.bytes) }
-        ensures too_long { IsErrOf result BodyFault.TooLong → failed_of self.old ≡ None → (is_limited (place_of self.old) ≡ true)
-            × IfSome (data_left_of self.old (unread inbox.old (C.incoming client.old))) (λ d. most_of self.old ≤ taken_of self.old + length (take n d.bytes)) }
-        ensures fault { IsErrOf result BodyFault.Fault → failed_of self.old ≡ None → Rose (C.faults client.old) (C.faults client.new) }
-        ensures err { OnErr result ((taken_of self.new ≡ taken_of self.old) × (place_of self.new ≡ place_of self.old)) }
-        ensures gone { (gone : List ℕ) × (unread inbox.old (C.incoming client.old) ≡ prepended gone (unread inbox.new (C.incoming client.new))) }
-
-        ensures most { most_of self.new ≡ most_of self.old }
-        ensures same { (C.sent client.new ≡ C.sent client.old) × (C.beside client.new ≡ C.beside client.old) }
-        ensures no_fewer { C.faults client.old ≤ C.faults client.new }
+        // The client is not touched where the inbox decides.
+        ensures unasked { IsTrue (decides (Next n) self.old inbox.old) → client.new ≡ client.old }
+        ensures beside { C.beside client.new ≡ C.beside client.old }
     {
         if let Some(fault) = self.failed {
             return Err(fault);
         }
-        match next_piece(alloc, self.place, self.most, self.taken, inbox, client, n) {
+        match next_piece(alloc, self.stand, inbox, client, n) {
             Ok(piece) => {
-                self.place = piece.place;
-                self.taken = self.taken.saturating_add(piece.bytes.len() as u64);
+                self.stand.place = piece.place;
+                self.stand.taken = self.stand.taken.saturating_add(piece.bytes.len() as u64);
                 Ok(piece.bytes)
             }
             Err(fault) => {
@@ -107,36 +102,28 @@ impl BodyIn {
 
     /// Reads to the end of the body and drops what is left of it.
     pub fn skip_rest<C: Link>(&mut self, inbox: &mut Inbox, client: &mut C) -> Result<(), BodyFault>
-        ensures whole { OnOk result (is_whole (place_of self.new) ≡ true) }
-        ensures left { OnOk result (IfSome (data_left_of self.old (unread inbox.old (C.incoming client.old))) (λ d. (d.whole ≡ true) × (taken_of self.new ≡ counted (taken_of self.old) (length d.bytes)))) }
-        ensures limit { OnOk result (is_limited (place_of self.old) ≡ true → taken_of self.new < most_of self.old) }
-        ensures used { OnOk result ((skipped : List ℕ) × Uses (unread inbox.old (C.incoming client.old)) (unread inbox.new (C.incoming client.new)) (place_of self.old) (place_of self.new) skipped) }
-        ensures going { OnOk result ((failed_of self.old ≡ None) × (failed_of self.new ≡ None)) }
+        ensures ok { let see = moment C.incoming C.received C.sent C.faults in OnOk result (PassesRest
+            (body_at self.old inbox.old (see client.old)) (body_at self.new inbox.new (see client.new))) }
+        ensures err { let see = moment C.incoming C.received C.sent C.faults in IfErr result (MeetsFault
+            (body_at self.old inbox.old (see client.old)) (body_at self.new inbox.new (see client.new)) Rest) }
 
-        // The first fault, and each later call answers it again.
-        ensures failed { IfErr result (λ fault. failed_of self.new ≡ Some fault) }
-        ensures again { IfSome (failed_of self.old) (λ fault. result ≡ Err fault) }
-        ensures truncated { IsErrOf result BodyFault.Truncated → failed_of self.old ≡ None
-            → IfSome (data_left_of self.old (unread inbox.old (C.incoming client.old))) (λ d. (d.whole ≡ false) × (d.bad ≡ false) × IsUnder (most_of self.old) (taken_of self.old) (place_of self.old) d.bytes) }
-        ensures bad { IsErrOf result BodyFault.BadChunk → failed_of self.old ≡ None
-            → IfSome (data_left_of self.old (unread inbox.old (C.incoming client.old))) (λ d. (d.whole ≡ false) × (d.bad ≡ true) × IsUnder (most_of self.old) (taken_of self.old) (place_of self.old) d.bytes) }
-        ensures too_long { IsErrOf result BodyFault.TooLong → failed_of self.old ≡ None → (is_limited (place_of self.old) ≡ true)
-            × IfSome (data_left_of self.old (unread inbox.old (C.incoming client.old))) (λ d. most_of self.old ≤ taken_of self.old + length d.bytes) }
-        ensures fault { IsErrOf result BodyFault.Fault → failed_of self.old ≡ None → Rose (C.faults client.old) (C.faults client.new) }
-        ensures err { OnErr result ((taken_of self.new ≡ taken_of self.old) × (place_of self.new ≡ place_of self.old)) }
-        ensures gone { (gone : List ℕ) × (unread inbox.old (C.incoming client.old) ≡ prepended gone (unread inbox.new (C.incoming client.new))) }
-
-        ensures most { most_of self.new ≡ most_of self.old }
-        ensures same { (C.sent client.new ≡ C.sent client.old) × (C.beside client.new ≡ C.beside client.old) }
-        ensures no_fewer { C.faults client.old ≤ C.faults client.new }
+        // The client is not touched where the inbox decides.
+        ensures unasked { IsTrue (decides Rest self.old inbox.old) → client.new ≡ client.old }
+        ensures beside { C.beside client.new ≡ C.beside client.old }
     {
         if let Some(fault) = self.failed {
             return Err(fault);
         }
-        match pass_body(self.place, self.most, self.taken, inbox, client) {
+        match pass_body(
+            self.stand.place,
+            self.stand.most,
+            self.stand.taken,
+            inbox,
+            client,
+        ) {
             Ok(passed) => {
-                self.place = passed.place;
-                self.taken = passed.taken;
+                self.stand.place = passed.place;
+                self.stand.taken = passed.taken;
                 Ok(())
             }
             Err(fault) => {
@@ -157,16 +144,18 @@ impl BodyIn {
 /// The next piece of data, in memory of its own.
 fn next_piece<C: Link>(
     alloc: Global,
-    place: Place,
-    most: u64,
-    taken: u64,
+    start: Stand,
     inbox: &mut Inbox,
     client: &mut C,
     n: usize,
 ) -> Result<Piece, BodyFault>
-    ensures ok { IfOk result (λ piece. Walks most taken n (unread inbox.old (C.incoming client.old)) (unread inbox.new (C.incoming client.new)) place piece.place piece.bytes) }
-    ensures err { IfErr result (Fails most taken n (unread inbox.old (C.incoming client.old)) (unread inbox.new (C.incoming client.new)) place) }
+    ensures ok { IfOk result (λ piece. Walks start.most start.taken n (unread inbox.old (C.incoming client.old))
+        (unread inbox.new (C.incoming client.new)) start.place piece.place piece.bytes) }
+    ensures err { IfErr result (Fails start.most start.taken n (unread inbox.old (C.incoming client.old))
+        (unread inbox.new (C.incoming client.new)) start.place) }
     ensures fault { IsErrOf result BodyFault.Fault → Rose (C.faults client.old) (C.faults client.new) }
+    ensures steady { IsCalm result → C.faults client.new ≡ C.faults client.old }
+    ensures unasked { IsTrue (settles (Next n) start.place start.most start.taken inbox.old) → client.new ≡ client.old }
     ensures same { (C.sent client.new ≡ C.sent client.old) × (C.beside client.new ≡ C.beside client.old) }
     ensures no_fewer { C.faults client.old ≤ C.faults client.new }
 {
@@ -174,14 +163,17 @@ fn next_piece<C: Link>(
         Ok(bytes) => bytes,
         Err(_) => return Err(BodyFault::NoMemory),
     };
-    match fill_piece(place, most, taken, inbox, client, bytes.as_mut_slice()) {
-        Ok(filled) => {
-            bytes.truncate(filled.count);
-            Ok(Piece {
-                bytes: Bytes::from_vec(bytes),
-                place: filled.place,
-            })
-        }
-        Err(fault) => Err(fault),
-    }
+    let filled = fill_piece(
+        start.place,
+        start.most,
+        start.taken,
+        inbox,
+        client,
+        bytes.as_mut_slice(),
+    )?;
+    bytes.truncate(filled.count);
+    Ok(Piece {
+        bytes: Bytes::from_vec(bytes),
+        place: filled.place,
+    })
 }

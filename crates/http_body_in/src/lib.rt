@@ -6,8 +6,8 @@
 //! grammar. No parser stands behind them.
 //! Shapes: a place is where a reader stands between two bytes; the data of bytes from a place on is whole, or
 //! goes to where the bytes end, or to a bad chunk line (specs/Body.antt).
-//! Contract: `BodyIn::take`, clauses `piece`, `left`, `used`. Read first: specs/Body.antt, then specs/Places.antt;
-//! specs/Chunked.antt has the grammar of chunks, and the laws that tie the places to it.
+//! Contract: `BodyIn::take`, clauses `ok`, `err`, `unasked`. Read first: specs/Takes.antt over specs/Body.antt, then
+//! specs/Places.antt; specs/Chunked.antt has the grammar of chunks, and the laws that tie the places to it.
 //! Errors: `BodyFault`. The first of a body is answered again by each later call.
 #![tactic(auto)]
 

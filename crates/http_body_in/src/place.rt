@@ -186,7 +186,7 @@ fn if_byte(byte: u8, wanted: u8, next: Place) -> Place
 /// Behind the LF of a chunk line.
 fn line_feed_step(size: u64, byte: u8) -> Place
     ensures value { result ≡ (if byte == 10 then chunk_of size else Place.Bad) }
-    ensures falls { framing_left result < 32771 }
+    ensures falls { framing_left result < framing_left (Place.LineFeed size) }
     ensures chunked { exact_left result ≡ 0 }
 {
     if byte != LF {
@@ -204,7 +204,7 @@ fn line_feed_step(size: u64, byte: u8) -> Place
 /// Behind a byte of a chunk line's digits.
 fn digits_step(count: u64, size: u64, byte: u8) -> Place
     ensures value { result ≡ digits_step count size byte }
-    ensures falls { framing_left result < 33030 + (10 - count) }
+    ensures falls { framing_left result < framing_left (Place.Digits count size) }
     ensures chunked { exact_left result ≡ 0 }
 {
     if let Some(digit) = hex_value(byte) {
@@ -238,7 +238,7 @@ fn hex_value(byte: u8) -> Option<u64>
 /// Behind a byte of an extension.
 fn extension_step(size: u64, count: u64, byte: u8) -> Place
     ensures value { result ≡ extension_step size count byte }
-    ensures falls { framing_left result < 32772 + (256 - count) }
+    ensures falls { framing_left result < framing_left (Place.Extension size count) }
     ensures chunked { exact_left result ≡ 0 }
 {
     if byte == CR {
@@ -256,7 +256,7 @@ fn extension_step(size: u64, count: u64, byte: u8) -> Place
 /// Behind a byte at the beginning of a trailer line.
 fn trailer_step(left: u64, byte: u8) -> Place
     ensures value { result ≡ trailer_step left byte }
-    ensures falls { framing_left result < 2 * left + 2 }
+    ensures falls { framing_left result < framing_left (Place.Trailer left) }
     ensures chunked { exact_left result ≡ 0 }
 {
     if byte == CR {
@@ -271,7 +271,7 @@ fn trailer_step(left: u64, byte: u8) -> Place
 /// Behind a byte within a trailer line.
 fn trailer_line_step(left: u64, byte: u8) -> Place
     ensures value { result ≡ trailer_line_step left byte }
-    ensures falls { framing_left result < 2 * left + 4 }
+    ensures falls { framing_left result < framing_left (Place.TrailerLine left) }
     ensures chunked { exact_left result ≡ 0 }
 {
     if byte == CR {

@@ -1,11 +1,13 @@
 //! The walk over a client's bytes: framing is stepped over, data is copied or dropped.
-ghost use Rattle.std.specs.Prelude.{◌≡◌, ◌≢◌, ◌<◌, ◌≤◌, ◌↔◌, ◌+◌, ℕ, List, [], length, take, min, false, IfOk, IfErr, OnOk, OnErr, IsErrOf, IsTrue, Err, Some};
+ghost use Rattle.std.specs.Prelude.{◌≡◌, ◌≢◌, ◌<◌, ◌≤◌, ◌↔◌, [], length, take, min, false, IfOk, IfErr, OnOk, OnErr, IsOk, IsErrOf, IsTrue, Err, Some};
 ghost use Rattle.jk_io.specs.Told.{prepended, IsEmpty, Rose, HasCause};
 ghost use Rattle.http_front.specs.Unread.{unread};
 ghost use Rattle.http_body_in.specs.Body.{Uses, is_over, place_behind, data_from};
 ghost use Rattle.http_body_in.specs.Places.{data_left};
 ghost use Rattle.http_body_in.specs.Falls.{framing_left, exact_left};
-ghost use Rattle.http_body_in.specs.Walks.{Walks, Fails, Passes, Breaks, is_reached};
+ghost use Rattle.http_body_in.specs.Faults.{IsCalm};
+ghost use Rattle.http_body_in.specs.Walks.{Walks, Fails, Passes, Breaks, IsDropped, is_reached};
+ghost use Rattle.http_body_in.specs.Wants.{Next, Rest, settles};
 
 use crate::fault::{BodyFault, fault_of};
 use crate::place::{Place, data_left, data_step, is_bad, is_limited, is_whole, step};
@@ -40,9 +42,14 @@ pub fn fill_piece<C: Link>(
     piece: &mut [u8],
 ) -> Result<Filled, BodyFault>
     ensures count { IfOk result (λ f. f.count ≤ length piece.new) }
-    ensures ok { IfOk result (λ f. Walks most taken (length piece.new) (unread inbox.old (C.incoming client.old)) (unread inbox.new (C.incoming client.new)) start f.place (take f.count piece.new)) }
-    ensures err { IfErr result (Fails most taken (length piece.new) (unread inbox.old (C.incoming client.old)) (unread inbox.new (C.incoming client.new)) start) }
+    ensures ok { IfOk result (λ f. Walks most taken (length piece.new) (unread inbox.old (C.incoming client.old))
+        (unread inbox.new (C.incoming client.new)) start f.place (take f.count piece.new)) }
+    ensures err { IfErr result (Fails most taken (length piece.new) (unread inbox.old (C.incoming client.old))
+        (unread inbox.new (C.incoming client.new)) start) }
     ensures fault { IsErrOf result BodyFault.Fault → Rose (C.faults client.old) (C.faults client.new) }
+    ensures steady { IsCalm result → C.faults client.new ≡ C.faults client.old }
+    ensures unasked { IsTrue (settles (Next (length piece.old)) start most taken inbox.old)
+        → client.new ≡ client.old }
     ensures same { (C.sent client.new ≡ C.sent client.old) × (C.beside client.new ≡ C.beside client.old) }
     ensures no_fewer { C.faults client.old ≤ C.faults client.new }
 {
@@ -63,10 +70,7 @@ pub fn fill_piece<C: Link>(
         }
         let left = data_left(place);
         if left == 0 {
-            place = match pass_framing(place, inbox, client) {
-                Ok(next) => next,
-                Err(fault) => return Err(fault),
-            };
+            place = pass_framing(place, inbox, client)?;
         } else {
             let want = count_of(left, piece.len() - count);
             match next_data(inbox, client, &mut piece[count..count + want]) {
@@ -89,9 +93,13 @@ pub fn pass_body<C: Link>(
     inbox: &mut Inbox,
     client: &mut C,
 ) -> Result<Passed, BodyFault>
-    ensures ok { IfOk result (λ p. Passes most taken (unread inbox.old (C.incoming client.old)) (unread inbox.new (C.incoming client.new)) start p.place p.taken) }
-    ensures err { IfErr result (Breaks most taken (unread inbox.old (C.incoming client.old)) (unread inbox.new (C.incoming client.new)) start) }
+    ensures ok { IfOk result (λ p. Passes most taken (unread inbox.old (C.incoming client.old))
+        (unread inbox.new (C.incoming client.new)) start p.place p.taken) }
+    ensures err { IfErr result (Breaks most taken (unread inbox.old (C.incoming client.old))
+        (unread inbox.new (C.incoming client.new)) start) }
     ensures fault { IsErrOf result BodyFault.Fault → Rose (C.faults client.old) (C.faults client.new) }
+    ensures steady { IsCalm result → C.faults client.new ≡ C.faults client.old }
+    ensures unasked { IsTrue (settles Rest start most taken inbox.old) → client.new ≡ client.old }
     ensures same { (C.sent client.new ≡ C.sent client.old) × (C.beside client.new ≡ C.beside client.old) }
     ensures no_fewer { C.faults client.old ≤ C.faults client.new }
 {
@@ -109,18 +117,11 @@ pub fn pass_body<C: Link>(
         }
         let left = data_left(place);
         if left == 0 {
-            place = match pass_framing(place, inbox, client) {
-                Ok(next) => next,
-                Err(fault) => return Err(fault),
-            };
+            place = pass_framing(place, inbox, client)?;
         } else {
-            match drop_data(left, inbox, client) {
-                Ok(count) => {
-                    place = data_step(place, count);
-                    sum = sum.saturating_add(count);
-                }
-                Err(fault) => return Err(fault),
-            }
+            let count = drop_data(left, inbox, client)?;
+            place = data_step(place, count);
+            sum = sum.saturating_add(count);
         }
     }
 }
@@ -173,10 +174,13 @@ fn step_framing(start: Place, bytes: &[u8]) -> (Place, usize)
 /// Sees that a byte is in the inbox.
 fn await_byte<C: Link>(inbox: &mut Inbox, client: &mut C) -> Result<(), BodyFault>
     ensures ok { OnOk result (0 < length inbox.new) }
+    ensures inside { 0 < length inbox.old → inbox.new ≡ inbox.old }
     ensures unread { unread inbox.new (C.incoming client.new) ≡ unread inbox.old (C.incoming client.old) }
     ensures end { IsErrOf result BodyFault.Truncated → IsEmpty (unread inbox.new (C.incoming client.new)) }
     ensures kind { (result ≢ Err BodyFault.BadChunk) × (result ≢ Err BodyFault.TooLong) }
     ensures fault { IsErrOf result BodyFault.Fault → Rose (C.faults client.old) (C.faults client.new) }
+    ensures steady { IsCalm result → C.faults client.new ≡ C.faults client.old }
+    ensures unasked { 0 < length inbox.old → client.new ≡ client.old }
     ensures same { (C.sent client.new ≡ C.sent client.old) × (C.beside client.new ≡ C.beside client.old) }
     ensures no_fewer { C.faults client.old ≤ C.faults client.new }
 {
@@ -186,8 +190,7 @@ fn await_byte<C: Link>(inbox: &mut Inbox, client: &mut C) -> Result<(), BodyFaul
     match inbox.read_more(client) {
         Ok(0) => Err(BodyFault::Truncated),
         Ok(_) => Ok(()),
-        Err(IoError::Failed) => Err(BodyFault::Fault),
-        Err(IoError::NoMemory) => Err(BodyFault::NoMemory),
+        Err(error) => Err(fault_of(error)),
     }
 }
 
@@ -199,57 +202,59 @@ fn pass_framing<C: Link>(
 ) -> Result<Place, BodyFault>
     requires framing { data_left place ≡ 0 }
     requires open_end { is_over place ≡ false }
-    ensures ok { IfOk result (λ next. Uses (unread inbox.old (C.incoming client.old)) (unread inbox.new (C.incoming client.new)) place next []) }
+    ensures ok { IfOk result (λ next. Uses (unread inbox.old (C.incoming client.old))
+        (unread inbox.new (C.incoming client.new)) place next []) }
+    ensures inside { 0 < length inbox.old → IfOk result (λ next. Uses (Some inbox.old) (Some inbox.new) place next []) }
     ensures falls { IfOk result (λ next. framing_left next < framing_left place) }
     ensures chunked { IfOk result (λ next. exact_left next ≡ 0) }
     ensures err { OnErr result (unread inbox.new (C.incoming client.new) ≡ unread inbox.old (C.incoming client.old)) }
     ensures end { IsErrOf result BodyFault.Truncated → IsEmpty (unread inbox.new (C.incoming client.new)) }
     ensures kind { (result ≢ Err BodyFault.BadChunk) × (result ≢ Err BodyFault.TooLong) }
     ensures fault { IsErrOf result BodyFault.Fault → Rose (C.faults client.old) (C.faults client.new) }
+    ensures steady { IsCalm result → C.faults client.new ≡ C.faults client.old }
+    ensures unasked { 0 < length inbox.old → client.new ≡ client.old }
     ensures same { (C.sent client.new ≡ C.sent client.old) × (C.beside client.new ≡ C.beside client.old) }
     ensures no_fewer { C.faults client.old ≤ C.faults client.new }
 {
-    match await_byte(inbox, client) {
-        Ok(()) => {
-            let (next, used) = step_framing(place, inbox.as_slice());
-            inbox.skip(used);
-            Ok(next)
-        }
-        Err(fault) => Err(fault),
-    }
+    await_byte(inbox, client)?;
+    let (next, used) = step_framing(place, inbox.as_slice());
+    inbox.skip(used);
+    Ok(next)
 }
 
 /// Uses up to `left` bytes of data, from the inbox or what the client has, and answers how many.
 fn drop_data<C: Link>(left: u64, inbox: &mut Inbox, client: &mut C) -> Result<u64, BodyFault>
     requires { 0 < left }
     ensures count { IfOk result (λ n. (0 < n) × (n ≤ left)) }
-    ensures gone { IfOk result (λ n. (gone : List ℕ) × (length gone ≡ n) × (unread inbox.old (C.incoming client.old) ≡ prepended gone (unread inbox.new (C.incoming client.new)))) }
+    ensures gone { IfOk result (λ n. IsDropped n inbox.old inbox.new (C.incoming client.old) (C.incoming client.new)) }
     ensures err { OnErr result (unread inbox.new (C.incoming client.new) ≡ unread inbox.old (C.incoming client.old)) }
     ensures end { IsErrOf result BodyFault.Truncated → IsEmpty (unread inbox.new (C.incoming client.new)) }
     ensures kind { (result ≢ Err BodyFault.BadChunk) × (result ≢ Err BodyFault.TooLong) }
     ensures fault { IsErrOf result BodyFault.Fault → Rose (C.faults client.old) (C.faults client.new) }
+    ensures steady { IsCalm result → C.faults client.new ≡ C.faults client.old }
+    ensures unasked { 0 < length inbox.old → client.new ≡ client.old }
     ensures same { (C.sent client.new ≡ C.sent client.old) × (C.beside client.new ≡ C.beside client.old) }
     ensures no_fewer { C.faults client.old ≤ C.faults client.new }
 {
-    match await_byte(inbox, client) {
-        Ok(()) => {
-            let count = count_of(left, inbox.len());
-            inbox.skip(count);
-            Ok(count as u64)
-        }
-        Err(fault) => Err(fault),
-    }
+    await_byte(inbox, client)?;
+    let count = count_of(left, inbox.len());
+    inbox.skip(count);
+    Ok(count as u64)
 }
 
 /// Takes bytes for the buffer: those in the inbox, or where it is empty what the client has.
 fn next_data<C: Link>(inbox: &mut Inbox, client: &mut C, buf: &mut [u8]) -> Result<usize, IoError>
     requires { 0 < length buf.old }
     ensures count { IfOk result (λ n. n ≤ length buf.new) }
-    ensures came { IfOk result (λ n. unread inbox.old (C.incoming client.old) ≡ prepended (take n buf.new) (unread inbox.new (C.incoming client.new))) }
+    ensures came { IfOk result (λ n. unread inbox.old (C.incoming client.old)
+        ≡ prepended (take n buf.new) (unread inbox.new (C.incoming client.new))) }
+    ensures inside { 0 < length inbox.old → IfOk result (λ n. Some inbox.old ≡ prepended (take n buf.new) (Some inbox.new)) }
+    ensures unasked { 0 < length inbox.old → client.new ≡ client.old }
     ensures end { IfOk result (λ n. n ≡ 0 → IsEmpty (unread inbox.new (C.incoming client.new))) }
     ensures err { OnErr result (unread inbox.new (C.incoming client.new) ≡ unread inbox.old (C.incoming client.old)) }
     ensures same { (C.sent client.new ≡ C.sent client.old) × (C.beside client.new ≡ C.beside client.old) }
     ensures cause { HasCause (C.faults client.old) (C.faults client.new) result }
+    ensures steady { IsOk result → C.faults client.new ≡ C.faults client.old }
 {
     if inbox.is_empty() {
         return client.read(buf);

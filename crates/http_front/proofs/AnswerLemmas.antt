@@ -1,12 +1,11 @@
 -- A client's bytes say one thing.
-use Rattle.std.proofs.Common.{◌≡◌, ◌≤◌, ◌<◌, ◌+◌, ◌-◌, ◌⊎◌, ℕ, List, [], ◌++◌, Option, Some, None, Ok, Err, length, take, drop, inl, inr, refl, sym, ap, subst, ◌∙◌, arith, append_assoc, append-nil, length-append, take_at, drop_at}
+use Rattle.std.proofs.Common.{◌≡◌, ◌≤◌, ◌+◌, ◌-◌, ℕ, List, [], ◌++◌, Some, Ok, Err, length, take, drop, inl, inr, refl, sym, ap, subst, ◌∙◌, arith, append_assoc, append-nil, length-append, take_at, drop_at}
 use Rattle.std.proofs.Math.Seq.{take-append-add}
 use Rattle.httparse.proofs.GrammarLemmas.{request_unique}
 use Rattle.httparse.specs.Grammar.{RequestHead}
 use Rattle.http_front.specs.Cut.{Cuts, head_len, header_lines}
-use Rattle.http_front.specs.Request.{IsHeadOf, Refuses, RefusesHead, RefusesFront, Reads, NoHead, IsOver, AreEmptyLines, EndsWithin, judged}
+use Rattle.http_front.specs.Request.{IsHeadOf, Refuses, RefusesFront, Reads, NoHead, AreEmptyLines, EndsWithin, judged}
 use Rattle.http_front.specs.declared.answers.Form.{Form}
-use Rattle.http_front.specs.declared.answers.Form.TheVariants.{TooBig, BadHead}
 use Rattle.http_front.specs.declared.head.Head.{Head}
 use Rattle.http_front.proofs.CutLemmas.{cut-blank, cut-head, head_len-two}
 

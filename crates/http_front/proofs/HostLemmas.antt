@@ -1,9 +1,9 @@
 -- The last colon of a host.
-use Rattle.std.proofs.Common.{◌≡◌, ℕ, zero, suc, ◌+◌, ◌<◌, ◌==◌, Bool, true, false, not, ◌&&◌, ◌||◌, cond, List, [], ◌∷◌, ◌++◌, length, take, drop, get_or, Option, Some, None, refl, sym, ap, ◌∙◌, append-nil, arith, eq-eqb, ne_eqb}
-use Rattle.std.proofs.lemmas.Bool.{and_from, and_left, and_right, or_from, or_left, or_right, cond-true, cond-false, not_from_true, not_from_false}
+use Rattle.std.proofs.Common.{◌≡◌, ℕ, zero, suc, ◌+◌, ◌<◌, ◌==◌, true, false, List, [], ◌∷◌, ◌++◌, length, take, drop, get_or, Some, None, ap, ◌∙◌, arith, eq-eqb, ne_eqb}
+use Rattle.std.proofs.lemmas.Bool.{and_from, and_left, and_right, or_left, or_right, cond-true, cond-false, not_from_true, not_from_false}
 use Rattle.std.proofs.lemmas.List.{at_drop_more}
 use Rattle.std.specs.List.{list_any}
-use Rattle.http_front.specs.Host.{split_port, split_or, split_here, onto_name}
+use Rattle.http_front.specs.Host.{split_port, split_or}
 
 -- a colon here, behind which nothing splits
 pub split-here : (xs : List ℕ) (i : ℕ) → i < length xs → get_or xs i 0 ≡ 58 → split_port (drop (i + 1) xs) ≡ None → list_any (λ c. c == 93) (drop (i + 1) xs) ≡ false → split_port (drop i xs) ≡ Some ([], drop (i + 1) xs)

@@ -1,5 +1,5 @@
 -- Parts of the inbox's buffer.
-use Rattle.std.proofs.Common.{◌≡◌, ℕ, ◌+◌, ◌-◌, ◌≤◌, List, ◌++◌, Option, Result, Ok, Err, IfOk, OnErr, length, take, drop, refl, sym, ap, ◌∙◌, arith, drop-drop, append-nil}
+use Rattle.std.proofs.Common.{◌≡◌, ℕ, ◌+◌, ◌-◌, ◌≤◌, List, ◌++◌, Option, Result, Ok, Err, IfOk, OnErr, length, take, drop, sym, ap, ◌∙◌, arith, drop-drop, append-nil}
 use Rattle.std.proofs.lemmas.List.{drop-take, length-take-le, drop-append-le, nil_from_length}
 use Rattle.std.proofs.lemmas.Slice.{between_is}
 use Rattle.std.specs.List.{between}

@@ -1,5 +1,5 @@
 -- A head is lines that aren't empty, and an empty line.
-use Rattle.std.proofs.Common.{◌≡◌, ◌≤◌, ◌<◌, ◌+◌, ◌-◌, ◌==◌, ◌||◌, ◌&&◌, ℕ, suc, Bool, true, false, cond, List, [], ◌∷◌, ◌++◌, Option, Some, None, option_map, length, inl, inr, refl, sym, ap, subst, ◌∙◌, arith, append_assoc, append-nil, length-append, zero-add, count_by}
+use Rattle.std.proofs.Common.{◌≡◌, ◌<◌, ◌+◌, ◌==◌, ◌&&◌, ℕ, suc, true, false, cond, List, [], ◌∷◌, ◌++◌, Some, option_map, length, inl, inr, refl, sym, ap, subst, ◌∙◌, arith, append_assoc, length-append, zero-add, count_by}
 use Rattle.std.proofs.lemmas.Bool.{or_parts, and_left, and_parts, or_cases, cond-true, cond-false, eqb-true, false_from_ne_true, false≢true}
 use Rattle.std.proofs.lemmas.List.Sums.{sum_by-append}
 use Rattle.std.specs.List.{list_any}

@@ -11,7 +11,7 @@ use Rattle.http_front.specs.Cut.{header_lines}
 use Rattle.http_front.specs.Fields.{Line}
 use Rattle.http_front.specs.Judged.{head_of}
 use Rattle.http_front.specs.Makes.{Makes, MakesOf, IsFront}
-use Rattle.http_front.specs.Request.{Reads, Refuses, RefusesFront, EndsWithin, judged}
+use Rattle.http_front.specs.Request.{Reads, Refuses, RefusesFront, EndsWithin, IsDecided, judged}
 use Rattle.http_front.specs.declared.answers.Form.{Form}
 use Rattle.http_front.specs.declared.answers.HeadError.{HeadError}
 use Rattle.http_front.specs.declared.answers.HeadError.TheVariants.{Refused, Truncated, Fault, NoMemory}
@@ -80,3 +80,14 @@ ends-made bytes blank searched part short text = record {
 
 pub same-head : (m n t u : List ℕ) (a b : Bool) (l k : List Line) → m ≡ n → t ≡ u → a ≡ b → l ≡ k → head_of m t a l ≡ head_of n u b k
 same-head m n t u a b l k p q r s = cc
+
+-- where no head has its end yet and there is room, more bytes are needed
+part-undecided : (bytes : List ℕ) (blank searched : ℕ) → IsPart bytes blank searched → length bytes < 16384 → IsDecided bytes → ⊥
+part-undecided bytes blank searched part short (inl head) = part-none bytes blank searched part head.blank head.front head.rest head.cut
+part-undecided bytes blank searched part short (inr long) = absurd (omega (arith, short, long))
+
+pub part-awaits : (bytes slice first : List ℕ) (blank searched : ℕ) → IsPart slice blank searched → slice ≡ bytes → bytes ≡ first → length bytes < 16384 → IsDecided first → ⊥
+part-awaits bytes slice first blank searched part value same short decided =
+    let P : List ℕ → Type 0 = λ l. IsPart l blank searched in
+    let Q : List ℕ → Type 0 = λ l. IsDecided l in
+    part-undecided bytes blank searched (subst P value part) short (subst Q (sym same) decided)

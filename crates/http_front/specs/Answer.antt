@@ -41,3 +41,11 @@ IfRefused (Err (Refused status form)) P = P status form
 IfRefused (Err Truncated) P = ⊤
 IfRefused (Err Fault) P = ⊤
 IfRefused (Err NoMemory) P = ⊤
+
+-- the answer is by the client's bytes alone, so that no read failed
+abbrev pub IsCalm : {T : Type 0} → Result T HeadError → Type 0
+IsCalm (Ok value) = ⊤
+IsCalm (Err (Refused status form)) = ⊤
+IsCalm (Err Truncated) = ⊤
+IsCalm (Err Fault) = ⊥
+IsCalm (Err NoMemory) = ⊥

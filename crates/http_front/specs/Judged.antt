@@ -1,5 +1,5 @@
 -- What a parsed head is, or what it is refused for: the rows behind the parser in their order.
-use Rattle.std.specs.Prelude.{ℕ, ◌==◌, Bool, List, codes, bytes_eq, Option, Some, None, Result, Ok, Err, if◌then◌else◌}
+use Rattle.std.specs.Prelude.{ℕ, Bool, List, codes, bytes_eq, Option, Some, None, Result, Ok, Err, if◌then◌else◌}
 use Rattle.http_front.specs.Fields.{Line, named, says_close, says_expect}
 use Rattle.http_front.specs.Host.{host_of}
 use Rattle.http_front.specs.Framing.{plan_of, is_long}

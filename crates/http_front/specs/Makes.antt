@@ -1,5 +1,5 @@
 -- What making a head answers, where the definition gives a head or a refusal.
-use Rattle.std.specs.Prelude.{ℕ, ◌≡◌, ◌≤◌, ◌<◌, List, Result, Ok, Err, ⊤}
+use Rattle.std.specs.Prelude.{ℕ, ◌≡◌, ◌≤◌, List, Result, Ok, Err, ⊤}
 use Rattle.http_front.specs.Cut.{header_lines}
 use Rattle.http_front.specs.Refusal.{status_of}
 use Rattle.http_front.specs.Request.{Reads, RefusesFront, judged}
@@ -8,6 +8,7 @@ use Rattle.http_front.specs.declared.answers.Form.{Form}
 use Rattle.http_front.specs.declared.answers.HeadError.{HeadError}
 use Rattle.http_front.specs.declared.answers.HeadError.TheVariants.{Refused, Truncated, Fault, NoMemory}
 use Rattle.http_front.specs.declared.head.Head.{Head}
+use Rattle.http_front.specs.declared.head_lines.TheConstants.{MAX_HEAD_LINES}
 
 -- the head or the refusal that is wanted, unless memory is wanted
 abbrev pub Makes : Result Head Form → Result Head HeadError → Type 0
@@ -19,7 +20,7 @@ Makes wanted (Err NoMemory) = ⊤
 
 -- what the bytes of a head are
 pub record IsFront (front : List ℕ) (head : Head) : Type 0 where
-  pub few : header_lines front ≤ 100
+  pub few : header_lines front ≤ MAX_HEAD_LINES
   pub parsed : RequestHead
   pub reads : Reads front parsed
   pub is : judged parsed ≡ Ok head

@@ -1,5 +1,5 @@
 -- The clean path of a raw path. Own rule; escapes by RFC 3986, section 2.1.
-use Rattle.std.specs.Prelude.{ℕ, ◌+◌, ◌*◌, Bool, false, true, not, ◌&&◌, ◌||◌, ◌==◌, List, [], ◌∷◌, map, Option, Some, None, slice_index, drop, codes, bytes_eq, if◌then◌else◌}
+use Rattle.std.specs.Prelude.{ℕ, ◌+◌, ◌*◌, Bool, true, not, ◌&&◌, ◌||◌, ◌==◌, List, [], ◌∷◌, ◌++◌, map, Option, Some, None, slice_index, drop, codes, bytes_eq, if◌then◌else◌}
 use Rattle.std.specs.List.{list_any, slice_split, before_first, join_with_byte, position}
 use Rattle.std.specs.Option.{option_map}
 use Rattle.std.specs.Char.{is_digit, digit_value}
@@ -41,13 +41,29 @@ clean_segment segment = percent_decode (before_first (λ b. b == semicolon) segm
 abbrev pub is_dots : List ℕ → Bool
 is_dots segment = bytes_eq segment (dot ∷ []) || bytes_eq segment (dot ∷ dot ∷ [])
 
--- the clean segments, joined again
+-- an empty segment that isn't the last goes
+abbrev pub kept : List (List ℕ) → List (List ℕ)
+kept [] = []
+kept (last ∷ []) = last ∷ []
+kept ([] ∷ next ∷ more) = kept (next ∷ more)
+kept ((b ∷ segment) ∷ next ∷ more) = (b ∷ segment) ∷ kept (next ∷ more)
+
+-- a segment and the slash after it, nothing where it is empty
+abbrev pub slashed : List ℕ → List ℕ
+slashed [] = []
+slashed (b ∷ segment) = (b ∷ segment) ++ slash ∷ []
+
+-- the clean segments after a slash, joined again
+abbrev pub joined : List ℕ → List ℕ
+joined path = join_with_byte slash (kept (map clean_segment (segments path)))
+
+-- the clean path of a path that begins with a slash
 abbrev pub cleaned : List ℕ → List ℕ
-cleaned path = join_with_byte slash (map clean_segment (segments path))
+cleaned path = slash ∷ joined (drop 1 path)
 
 -- a path with a bad byte, a bad escape or a dot segment isn't clean
 abbrev pub is_clean : List ℕ → Bool
-is_clean path = slice_index path 0 == slash && has_good_bytes path && not (list_any is_dots (map clean_segment (segments path)))
+is_clean path = slice_index path 0 == slash && has_good_bytes path && not (list_any is_dots (map clean_segment (segments (drop 1 path))))
 
 -- the clean path, where there is one; the path `*` is clean
 abbrev pub clean_of : List ℕ → Option (List ℕ)

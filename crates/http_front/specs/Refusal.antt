@@ -1,7 +1,11 @@
--- What a head is refused for.
+-- What a head is refused for, and what a refused read is.
 use Rattle.std.specs.Prelude.{ℕ}
 use Rattle.http_front.specs.declared.answers.Form.{Form}
 use Rattle.http_front.specs.declared.answers.Form.TheVariants.{BadHead, TooBig, BadHost, TwoFramings, BadLength, OldChunked, BadCoding, Connect, TooLong, BadPath}
+use Rattle.http_front.specs.declared.answers.HeadError.{HeadError}
+use Rattle.http_front.specs.declared.answers.HeadError.TheVariants as error
+use Rattle.jk_io.specs.declared.failures.IoError.{IoError}
+use Rattle.jk_io.specs.declared.failures.IoError.TheVariants as io
 
 -- the status of the answer
 abbrev pub status_of : Form → ℕ
@@ -15,3 +19,8 @@ status_of BadCoding = 501
 status_of Connect = 501
 status_of TooLong = 413
 status_of BadPath = 400
+
+-- the error of a read that was refused
+abbrev pub read_error : IoError → HeadError
+read_error io.Failed = error.Fault
+read_error io.NoMemory = error.NoMemory

@@ -1,6 +1,6 @@
 //! What reading a head answers, and what a head is refused for.
 use crate::head::Head;
-use jk_io::NoMemory;
+use jk_io::{IoError, NoMemory};
 use std::alloc::{AllocError, AllocFailed};
 use thiserror::Error;
 
@@ -126,5 +126,19 @@ impl From<NoMemory> for HeadError {
 
     fn from(_error: NoMemory) -> HeadError {
         HeadError::NoMemory
+    }
+}
+
+impl From<IoError> for HeadError {
+    ghost use Rattle.std.specs.Prelude.{◌≡◌};
+    ghost use Rattle.http_front.specs.Refusal.{read_error};
+
+    ghost from_gives = { λ error e. e ≡ read_error error };
+
+    fn from(error: IoError) -> HeadError {
+        match error {
+            IoError::Failed => HeadError::Fault,
+            IoError::NoMemory => HeadError::NoMemory,
+        }
     }
 }

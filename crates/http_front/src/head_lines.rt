@@ -18,12 +18,13 @@ pub struct HeadLines {
 
 impl Model for HeadLines {
     ghost use Rattle.std.specs.Prelude.{ℕ, List, length, ◌≤◌};
+    ghost use Rattle.http_front.specs.declared.head_lines.TheConstants.{MAX_HEAD_LINES};
 
     ghost Value = { List (List ℕ × List ℕ) };
 
     ghost view = { λ h. h.lines.items };
 
-    ghost invariant = { λ h. length h.lines.items ≤ 100 };
+    ghost invariant = { λ h. length h.lines.items ≤ MAX_HEAD_LINES };
 }
 
 impl HeadLines {
@@ -38,7 +39,7 @@ impl HeadLines {
 
     pub fn len(&self) -> usize
         ensures len { result ≡ length self.now }
-        ensures few { length self.now ≤ 100 }
+        ensures few { length self.now ≤ MAX_HEAD_LINES }
     {
         self.lines.len()
     }
@@ -51,7 +52,7 @@ impl HeadLines {
 
     pub fn as_slice(&self) -> &[(Bytes, Bytes)]
         ensures lines { result.now ≡ self.now }
-        ensures few { length self.now ≤ 100 }
+        ensures few { length self.now ≤ MAX_HEAD_LINES }
     {
         self.lines.as_slice()
     }
@@ -65,7 +66,7 @@ impl HeadLines {
 
     /// Adds a line at the end. Where memory is wanted the line comes back in the error.
     pub fn push(&mut self, line: (Bytes, Bytes)) -> Result<(), AllocFailed<(Bytes, Bytes)>>
-        requires { length self.old < 100 }
+        requires { length self.old < MAX_HEAD_LINES }
         ensures ok { OnOk result (self.new ≡ self.old ++ line ∷ []) }
         ensures err { OnErr result (self.new ≡ self.old) }
         ensures back { IfErr result (λ e. e.value ≡ line) }

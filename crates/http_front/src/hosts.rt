@@ -11,6 +11,8 @@ const LOCALHOST: &[u8] = b"localhost";
 
 const HTTP_PORT: u16 = 80;
 
+const MAX_PORT: u64 = 65_535;
+
 /// A server's name and port.
 #[derive(Clone, Copy)]
 pub struct Server<'a> {
@@ -70,7 +72,7 @@ fn ported<'a>(name: &'a [u8], port: &[u8]) -> Result<Server<'a>, Form>
     }
     match parse_decimal(port) {
         Some(number) => {
-            if number > 65_535 {
+            if number > MAX_PORT {
                 return Err(Form::BadHost);
             }
             Ok(Server {

@@ -1,5 +1,5 @@
 //! `Inbox`: the client's bytes that were read and not yet used.
-ghost use Rattle.std.specs.Prelude.{◌≡◌, ◌==◌, ◌+◌, ◌-◌, ◌≤◌, ◌<◌, ℕ, List, [], ◌++◌, length, drop, take, IfOk, OnErr};
+ghost use Rattle.std.specs.Prelude.{◌≡◌, ◌==◌, ◌+◌, ◌-◌, ◌≤◌, ◌<◌, ℕ, List, [], ◌++◌, length, drop, take, IsOk, IfOk, OnErr};
 ghost use Rattle.std.specs.List.{between};
 ghost use Rattle.jk_io.specs.Told.{prepended, IsEmpty, HasCause};
 ghost use Rattle.http_front.specs.Unread.{unread};
@@ -23,12 +23,13 @@ pub struct Inbox {
 impl Model for Inbox {
     ghost use Rattle.std.specs.Prelude.{ℕ, List, length, ◌≤◌, ◌≡◌, vec_items};
     ghost use Rattle.std.specs.List.{between};
+    ghost use Rattle.http_front.specs.declared.inbox.TheConstants.{MAX_HEAD_BYTES};
 
     ghost Value = { List ℕ };
 
     ghost view = { λ i. between i.start i.end i.buffer.items };
 
-    ghost invariant = { λ i. (i.start ≤ i.end) × (i.end ≤ 16384) × (length i.buffer.items ≡ 16384) };
+    ghost invariant = { λ i. (i.start ≤ i.end) × (i.end ≤ MAX_HEAD_BYTES) × (length i.buffer.items ≡ MAX_HEAD_BYTES) };
 }
 
 impl Inbox {
@@ -46,7 +47,7 @@ impl Inbox {
     /// How many bytes are there.
     pub fn len(&self) -> usize
         ensures len { result ≡ length self.now }
-        ensures few { length self.now ≤ 16384 }
+        ensures few { length self.now ≤ MAX_HEAD_BYTES }
     {
         self.end - self.start
     }
@@ -61,7 +62,7 @@ impl Inbox {
     /// The bytes, oldest first.
     pub fn as_slice(&self) -> &[u8]
         ensures value { result.now ≡ self.now }
-        ensures few { length self.now ≤ 16384 }
+        ensures few { length self.now ≤ MAX_HEAD_BYTES }
     {
         &self.buffer[self.start..self.end]
     }
@@ -76,13 +77,14 @@ impl Inbox {
 
     /// Reads what the client has into the room behind the bytes, and answers how many came; 0 is the end.
     pub fn read_more<C: Source>(&mut self, client: &mut C) -> Result<usize, IoError>
-        requires { length self.old < 16384 }
+        requires { length self.old < MAX_HEAD_BYTES }
         ensures more { IfOk result (λ n. (came : List ℕ) × (length came ≡ n) × (self.new ≡ self.old ++ came)) }
         ensures end { IfOk result (λ n. n ≡ 0 → IsEmpty (C.incoming client.new)) }
         ensures unread { unread self.new (C.incoming client.new) ≡ unread self.old (C.incoming client.old) }
         ensures err { OnErr result (self.new ≡ self.old) }
         ensures same { (C.sent client.new ≡ C.sent client.old) × (C.beside client.new ≡ C.beside client.old) }
         ensures cause { HasCause (C.faults client.old) (C.faults client.new) result }
+        ensures steady { IsOk result → C.faults client.new ≡ C.faults client.old }
     {
         let held = self.end - self.start;
         self.start = make_room(&mut self.buffer, self.start, self.end);
@@ -123,6 +125,7 @@ fn read_behind<C: Source>(client: &mut C, buffer: &mut [u8], end: usize) -> Resu
     ensures err { OnErr result ((take end buffer.new ≡ take end buffer.old) × (C.incoming client.new ≡ C.incoming client.old)) }
     ensures same { (C.sent client.new ≡ C.sent client.old) × (C.beside client.new ≡ C.beside client.old) }
     ensures cause { HasCause (C.faults client.old) (C.faults client.new) result }
+    ensures steady { IsOk result → C.faults client.new ≡ C.faults client.old }
 {
     client.read(&mut buffer[end..])
 }

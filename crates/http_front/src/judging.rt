@@ -37,14 +37,8 @@ fn judge<'a>(method: &[u8], old: bool, lines: &'a [(Bytes, Bytes)]) -> Result<As
     ensures { MatchResult result (λ asked. judged_of method.now old lines.now ≡ Ok (asked.server.name.now, asked.server.port, asked.plan))
         (λ form. judged_of method.now old lines.now ≡ Err form) }
 {
-    let server = match host_of(old, lines) {
-        Ok(server) => server,
-        Err(form) => return Err(form),
-    };
-    let plan = match plan_of(old, lines) {
-        Ok(plan) => plan,
-        Err(form) => return Err(form),
-    };
+    let server = host_of(old, lines)?;
+    let plan = plan_of(old, lines)?;
     if method == b"CONNECT".as_slice() {
         return Err(Form::Connect);
     }

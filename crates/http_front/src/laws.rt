@@ -9,8 +9,8 @@ ghost use Rattle.http_front.specs.declared.head.Head.{Head};
 /// At the front of a client's bytes stands at most one head, the bytes are refused for one form at
 /// most, and no two of the four answers hold at once.
 pub fn one_answer()
-    ensures head { (bytes used rest other left : List ℕ) (head another : Head) → bytes ≡ used ++ rest → IsHeadOf used head
-        → bytes ≡ other ++ left → IsHeadOf other another → (used ≡ other) × (head ≡ another) }
+    ensures head { (bytes used rest other left : List ℕ) (head twin : Head) → bytes ≡ used ++ rest → IsHeadOf used head
+        → bytes ≡ other ++ left → IsHeadOf other twin → (used ≡ other) × (head ≡ twin) }
     ensures form { (bytes : List ℕ) (form other : Form) → Refuses bytes form → Refuses bytes other → form ≡ other }
     ensures refused { (bytes used rest : List ℕ) (head : Head) (form : Form) → bytes ≡ used ++ rest → IsHeadOf used head → Refuses bytes form → ⊥ }
 
@@ -24,6 +24,8 @@ pub fn one_answer()
 /// Lines that aren't empty, and an empty line behind them, are the bytes of a head, whatever
 /// follows; its header lines are all of them but the first.
 pub fn a_head_is_lines()
-    ensures { (lines : List (List ℕ)) (last rest : List ℕ) → 0 < length lines → AreFullLines lines → IsEmptyLine last
-        → (head_len (ended lines ++ (last ++ rest)) ≡ Some (length (ended lines ++ last))) × (header_lines (ended lines ++ last) + 1 ≡ length lines) }
+    ensures cut { (lines : List (List ℕ)) (last rest : List ℕ) → 0 < length lines → AreFullLines lines → IsEmptyLine last
+        → head_len (ended lines ++ (last ++ rest)) ≡ Some (length (ended lines ++ last)) }
+    ensures counted { (lines : List (List ℕ)) (last : List ℕ) → 0 < length lines → AreFullLines lines → IsEmptyLine last
+        → header_lines (ended lines ++ last) + 1 ≡ length lines }
 {}

@@ -5,7 +5,7 @@
 //! clean path. What is a head of 1.0 or 1.1 is what the grammar of the parser's contract (`httparse`) reads whole.
 //! Shapes: a field line is a pair of a name and a value without outer blanks; the bytes that a client has still
 //! to be read are those in the inbox, and behind them what its link has to come (specs/Unread.antt).
-//! Contract: `read_head`, clauses `head`, `end`, `refused`, `truncated`; `clean_path`. Read first: specs/Request.antt.
+//! Contract: `read_head`, clauses `head`, `end`, `refused`, `truncated`, `unasked`; `clean_path`. Read first: specs/Request.antt.
 //! Errors: `HeadError`. After each of them no byte is used.
 #![tactic(auto)]
 

@@ -39,7 +39,7 @@ pub fn head_from(alloc: Global, front: &[u8]) -> Result<Head, HeadError>
 
 /// The parts of a head that the bytes are whole, with room for 100 fields.
 fn whole_head(front: &[u8], headers: &mut [HeaderSpan]) -> Option<RequestSpans>
-    requires { length headers.old ≡ 100 }
+    requires { length headers.old ≡ MAX_HEAD_LINES }
     ensures within { IfSome result (IsRequestWithin front.now headers.new) }
     ensures found { IfSome result (λ parts. (parsed : RequestHead) × Reads front.now parsed × IsRequestAt front.now headers.new parts parsed) }
     ensures none { IfNone result ((parsed : RequestHead) → Reads front.now parsed → ⊥) }
@@ -53,7 +53,7 @@ fn whole_head(front: &[u8], headers: &mut [HeaderSpan]) -> Option<RequestSpans>
 /// The field lines, each with memory of its own.
 fn copy_lines(alloc: Global, front: &[u8], spans: &[HeaderSpan]) -> Result<HeadLines, NoMemory>
     requires within { All (IsHeaderWithin (length front.now)) spans.now }
-    requires few { length spans.now ≤ 100 }
+    requires few { length spans.now ≤ MAX_HEAD_LINES }
     ensures { IfOk result (λ lines. lines ≡ map (header_bytes front.now) spans.now) }
 {
     let mut lines = HeadLines::new(alloc);

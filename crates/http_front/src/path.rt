@@ -2,7 +2,7 @@
 ghost use Rattle.std.specs.Prelude.{◌≡◌, ◌<◌, ◌+◌, ◌^◌, ◌==◌, ◌++◌, Some, None, SomeIff, IfSome, IfNone, IfOk, OnOk, length, IsErrOf, map, true, false};
 ghost use Rattle.std.specs.List.{before_first, list_any, position_or_len};
 ghost use Rattle.std.specs.Char.{digit_value};
-ghost use Rattle.http_front.specs.Path.{begins_escape, has_good_bytes, is_refused_byte, segments, clean_segment, is_dots, clean_of, cleaned};
+ghost use Rattle.http_front.specs.Path.{begins_escape, has_good_bytes, is_refused_byte, segments, clean_segment, is_dots, clean_of, slashed, joined};
 
 use crate::answers::PathError;
 use jk_io::Bytes;
@@ -10,8 +10,9 @@ use percent_encoding::percent_decode;
 use std::alloc::Global;
 
 /// The clean path of a raw path: in each segment the text from its first `;` on is dropped and the
-/// escapes are decoded. A path that doesn't begin with `/`, one with a `\`, a bad escape, an escape
-/// that gives `/`, `\` or zero, or a dot segment, is a bad one. The path `*` is its own clean path.
+/// escapes are decoded; then an empty segment that isn't the last goes. A path that doesn't begin with
+/// `/`, one with a `\`, a bad escape, an escape that gives `/`, `\` or zero, or a dot segment, is a bad
+/// one. The path `*` is its own clean path.
 pub fn clean_path(alloc: Global, raw: &[u8]) -> Result<Bytes, PathError>
     ensures ok { IfOk result (λ clean. clean_of raw.now ≡ Some clean) }
     ensures bad { IsErrOf result PathError.BadPath → clean_of raw.now ≡ None }
@@ -23,21 +24,22 @@ pub fn clean_path(alloc: Global, raw: &[u8]) -> Result<Bytes, PathError>
         return Err(PathError::BadPath);
     }
     let mut clean = Vec::with_capacity(alloc, raw.len())?;
-    push_segments(&mut clean, raw)?;
+    clean.push(b'/')?;
+    push_segments(&mut clean, &raw[1..])?;
     Ok(Bytes::from_vec(clean))
 }
 
-/// Adds the clean segments of a path, joined by slashes.
+/// Adds the clean segments of a path, joined by slashes, without empty ones before the last.
 fn push_segments(clean: &mut Vec<u8>, path: &[u8]) -> Result<(), PathError>
-    ensures ok { OnOk result ((clean.new.items ≡ clean.old.items ++ cleaned path.now) × (list_any is_dots (map clean_segment (segments path.now)) ≡ false)) }
+    ensures joined { OnOk result (clean.new.items ≡ clean.old.items ++ joined path.now) }
+    ensures no_dots { OnOk result (list_any is_dots (map clean_segment (segments path.now)) ≡ false) }
     ensures bad { IsErrOf result PathError.BadPath → list_any is_dots (map clean_segment (segments path.now)) ≡ true }
 {
     let mut rest = path;
     loop {
         match find_byte(rest, b'/') {
             Some(at) => {
-                push_segment(clean, &rest[..at])?;
-                clean.push(b'/')?;
+                push_directory(clean, &rest[..at])?;
                 rest = &rest[at + 1..];
             }
             None => return push_segment(clean, rest),
@@ -45,9 +47,24 @@ fn push_segments(clean: &mut Vec<u8>, path: &[u8]) -> Result<(), PathError>
     }
 }
 
+/// Adds one clean segment and a slash, or nothing where it is empty.
+fn push_directory(clean: &mut Vec<u8>, segment: &[u8]) -> Result<(), PathError>
+    ensures ok { OnOk result ((clean.new.items ≡ clean.old.items ++ slashed (clean_segment segment.now))
+        × (is_dots (clean_segment segment.now) ≡ false)) }
+    ensures bad { IsErrOf result PathError.BadPath → is_dots (clean_segment segment.now) ≡ true }
+{
+    let start = clean.len();
+    push_segment(clean, segment)?;
+    if start < clean.len() {
+        clean.push(b'/')?;
+    }
+    Ok(())
+}
+
 /// Adds one clean segment.
 fn push_segment(clean: &mut Vec<u8>, segment: &[u8]) -> Result<(), PathError>
-    ensures ok { OnOk result ((clean.new.items ≡ clean.old.items ++ clean_segment segment.now) × (is_dots (clean_segment segment.now) ≡ false)) }
+    ensures ok { OnOk result ((clean.new.items ≡ clean.old.items ++ clean_segment segment.now)
+        × (is_dots (clean_segment segment.now) ≡ false)) }
     ensures bad { IsErrOf result PathError.BadPath → is_dots (clean_segment segment.now) ≡ true }
 {
     let start = clean.len();

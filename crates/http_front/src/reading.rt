@@ -1,9 +1,9 @@
 //! `read_head`: the next head of a client's bytes.
 ghost use Rattle.std.specs.Prelude.{◌≡◌, ◌≤◌, OnErr, IsErrOf};
 ghost use Rattle.jk_io.specs.Told.{IsEmpty, Rose};
-ghost use Rattle.http_front.specs.Answer.{UsesHead, UsesEnd, IfHead, OnEnd, IfRefused};
+ghost use Rattle.http_front.specs.Answer.{UsesHead, UsesEnd, IfHead, OnEnd, IfRefused, IsCalm};
 ghost use Rattle.http_front.specs.Refusal.{status_of};
-ghost use Rattle.http_front.specs.Request.{Refuses, EndsWithin};
+ghost use Rattle.http_front.specs.Request.{Refuses, EndsWithin, IsDecided};
 ghost use Rattle.http_front.specs.Search.{IsSeen, IsLook, IsFound, HasEnded};
 ghost use Rattle.http_front.specs.Unread.{unread};
 
@@ -12,7 +12,7 @@ use crate::cut::{Search, find_end, skip_empty_lines};
 use crate::inbox::{Inbox, MAX_HEAD_BYTES};
 use crate::judging::refused;
 use crate::parsing::head_from;
-use jk_io::{IoError, Link};
+use jk_io::Link;
 use std::alloc::Global;
 
 /// What a look at the bytes in hand says.
@@ -54,6 +54,9 @@ fn find_head<C: Link>(inbox: &mut Inbox, client: &mut C) -> Result<Found, HeadEr
     ensures found { IsFound inbox.new result }
     ensures ended { HasEnded result → IsEmpty (C.incoming client.new) }
     ensures fault { IsErrOf result HeadError.Fault → Rose (C.faults client.old) (C.faults client.new) }
+    ensures awaited { IsErrOf result HeadError.Fault → IsDecided inbox.new → ⊥ }
+    ensures steady { IsCalm result → C.faults client.new ≡ C.faults client.old }
+    ensures unasked { IsDecided inbox.old → client.new ≡ client.old }
     ensures unread { unread inbox.new (C.incoming client.new) ≡ unread inbox.old (C.incoming client.old) }
     ensures same { (C.sent client.new ≡ C.sent client.old) × (C.beside client.new ≡ C.beside client.old) }
     ensures no_fewer { C.faults client.old ≤ C.faults client.new }
@@ -82,8 +85,7 @@ fn find_head<C: Link>(inbox: &mut Inbox, client: &mut C) -> Result<Found, HeadEr
                 return Err(HeadError::Truncated);
             }
             Ok(_) => {}
-            Err(IoError::Failed) => return Err(HeadError::Fault),
-            Err(IoError::NoMemory) => return Err(HeadError::NoMemory),
+            Err(error) => return Err(HeadError::from(error)),
         }
     }
 }
@@ -104,23 +106,24 @@ pub fn read_head<C: Link>(
     ensures fault { IsErrOf result HeadError.Fault → Rose (C.faults client.old) (C.faults client.new) }
     ensures err { OnErr result (unread inbox.new (C.incoming client.new) ≡ unread inbox.old (C.incoming client.old)) }
 
+    // No byte after those that decide is waited for: where the inbox decides, the client is not touched, and
+    // a read that fails was needed.
+    ensures unasked { IsDecided inbox.old → client.new ≡ client.old }
+    ensures awaited { IsErrOf result HeadError.Fault → IsDecided inbox.new → ⊥ }
+    ensures steady { IsCalm result → C.faults client.new ≡ C.faults client.old }
+
     ensures same { (C.sent client.new ≡ C.sent client.old) × (C.beside client.new ≡ C.beside client.old) }
     ensures no_fewer { C.faults client.old ≤ C.faults client.new }
 {
-    match find_head(inbox, client) {
-        Ok(Found::Head { blank, len }) => {
-            match head_from(alloc, &inbox.as_slice()[blank..blank + len]) {
-                Ok(head) => {
-                    inbox.skip(blank + len);
-                    Ok(HeadGot::Head(head))
-                }
-                Err(error) => Err(error),
-            }
+    match find_head(inbox, client)? {
+        Found::Head { blank, len } => {
+            let head = head_from(alloc, &inbox.as_slice()[blank..blank + len])?;
+            inbox.skip(blank + len);
+            Ok(HeadGot::Head(head))
         }
-        Ok(Found::End) => {
+        Found::End => {
             inbox.skip(inbox.len());
             Ok(HeadGot::End)
         }
-        Err(error) => Err(error),
     }
 }

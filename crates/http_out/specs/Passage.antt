@@ -1,5 +1,5 @@
 -- What a write to the client leaves behind.
-use Rattle.std.specs.Prelude.{◌≡◌, ℕ, Bool, true, ◌||◌, List, length, nat_lt, Option, Result, Ok, Err}
+use Rattle.std.specs.Prelude.{◌≡◌, ℕ, Bool, true, ◌||◌, List, length, nat_lt, Option, Result, Ok, Err, ⊤}
 use Rattle.jk_io.specs.Told.{appended, PutsFront}
 use Rattle.http_out.specs.declared.passage.Passage.{Passage}
 use Rattle.http_out.specs.declared.reply_head.OutError.{OutError}
@@ -19,3 +19,11 @@ IsSent piece before after sent sent_now (Err Out.Fault) = IsBroken piece before 
 IsSent piece before after sent sent_now (Err Out.NoMemory) = IsBroken piece before after sent sent_now
 IsSent piece before after sent sent_now (Err Out.BadReply) = ⊥
 IsSent piece before after sent sent_now (Err Out.Disagree) = ⊥
+
+-- no write failed, and no memory was wanted
+abbrev pub IsCalm : {T : Type 0} → Result T OutError → Type 0
+IsCalm (Ok value) = ⊤
+IsCalm (Err Out.Disagree) = ⊤
+IsCalm (Err Out.BadReply) = ⊤
+IsCalm (Err Out.Fault) = ⊥
+IsCalm (Err Out.NoMemory) = ⊥

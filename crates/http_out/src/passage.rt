@@ -1,7 +1,7 @@
 //! What has gone to the client.
 ghost use Rattle.std.specs.Prelude.{◌≡◌, ◌≤◌, ◌||◌, IsErrOf};
 ghost use Rattle.jk_io.specs.Told.{Rose};
-ghost use Rattle.http_out.specs.Passage.{IsSent};
+ghost use Rattle.http_out.specs.Passage.{IsCalm, IsSent};
 
 use crate::reply_head::OutError;
 use jk_io::{IoError, Sink, write_counted};
@@ -20,6 +20,7 @@ pub fn send<C: Sink>(client: &mut C, piece: &[u8], passage: &mut Passage) -> Res
         × (C.beside client.new ≡ C.beside client.old) }
     ensures no_fewer { C.faults client.old ≤ C.faults client.new }
     ensures cause { IsErrOf result OutError.Fault → Rose (C.faults client.old) (C.faults client.new) }
+    ensures steady { IsCalm result → C.faults client.new ≡ C.faults client.old }
 {
     let mut written = 0;
     let answer = write_counted(client, piece, &mut written);

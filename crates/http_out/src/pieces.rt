@@ -2,7 +2,7 @@
 ghost use Rattle.std.specs.Prelude.{◌≡◌, ◌≤◌, ◌++◌, [], true, IsErrOf};
 ghost use Rattle.jk_io.specs.Told.{Rose};
 ghost use Rattle.http_out.specs.Framing.{framed, closing_bytes, is_passed};
-ghost use Rattle.http_out.specs.Passage.{IsSent};
+ghost use Rattle.http_out.specs.Passage.{IsCalm, IsSent};
 
 use crate::framing::{Framing, put_closing, put_framed};
 use crate::passage::{Passage, send};
@@ -25,6 +25,7 @@ pub fn write_piece<C: Sink>(
         × (C.beside client.new ≡ C.beside client.old) }
     ensures no_fewer { C.faults client.old ≤ C.faults client.new }
     ensures cause { IsErrOf result OutError.Fault → Rose (C.faults client.old) (C.faults client.new) }
+    ensures steady { IsCalm result → C.faults client.new ≡ C.faults client.old }
 {
     if text.is_empty() && !framing.is_chunked() {
         return send(client, chunk, passage);
@@ -48,6 +49,7 @@ pub fn write_closing<C: Sink>(
         × (C.beside client.new ≡ C.beside client.old) }
     ensures no_fewer { C.faults client.old ≤ C.faults client.new }
     ensures cause { IsErrOf result OutError.Fault → Rose (C.faults client.old) (C.faults client.new) }
+    ensures steady { IsCalm result → C.faults client.new ≡ C.faults client.old }
 {
     match put_closing(text, framing) {
         Ok(()) => flush(text, client, passage),
@@ -63,6 +65,7 @@ fn flush<C: Sink>(text: &mut Bytes, client: &mut C, passage: &mut Passage) -> Re
         × (C.beside client.new ≡ C.beside client.old) }
     ensures no_fewer { C.faults client.old ≤ C.faults client.new }
     ensures cause { IsErrOf result OutError.Fault → Rose (C.faults client.old) (C.faults client.new) }
+    ensures steady { IsCalm result → C.faults client.new ≡ C.faults client.old }
 {
     let sent = send(client, text.as_slice(), passage);
     text.clear();

@@ -1,6 +1,7 @@
 //! `ReplyWriter`: a reply on its way to the client.
 ghost use Rattle.std.specs.Prelude.{◌≡◌, ◌≤◌, None, OnOk, IsErrOf};
 ghost use Rattle.jk_io.specs.Told.{Rose};
+ghost use Rattle.http_out.specs.Passage.{IsCalm};
 ghost use Rattle.http_out.specs.Writer.{new_writer, IsJudged, IsOpen, IsChunkStep, IsEndStep};
 
 use crate::framing::{Framing, RequestKind, framing_of};
@@ -85,6 +86,7 @@ impl ReplyWriter {
             × (C.beside client.new ≡ C.beside client.old) }
         ensures no_fewer { C.faults client.old ≤ C.faults client.new }
         ensures cause { IsErrOf result OutError.Fault → Rose (C.faults client.old) (C.faults client.new) }
+        ensures steady { IsCalm result → C.faults client.new ≡ C.faults client.old }
     {
         let Some(framing) = self.framing else {
             unreachable!()
@@ -109,6 +111,7 @@ impl ReplyWriter {
             × (C.beside client.new ≡ C.beside client.old) }
         ensures no_fewer { C.faults client.old ≤ C.faults client.new }
         ensures cause { IsErrOf result OutError.Fault → Rose (C.faults client.old) (C.faults client.new) }
+        ensures steady { IsCalm result → C.faults client.new ≡ C.faults client.old }
     {
         let Some(framing) = self.framing else {
             unreachable!()

@@ -1,12 +1,13 @@
-use Rattle.std.proofs.Common.{◌≡◌, ◌≤◌, ◌<◌, false, true, ◌+◌, ◌-◌, ◌*◌, length, take}
+use Rattle.std.proofs.Common.{◌≡◌, ◌≤◌, ◌<◌, Some, false, true, ◌+◌, ◌-◌, ◌*◌, length, take}
 use Rattle.http_front.specs.Unread.{unread}
 use Rattle.http_body_in.specs.Body.{Uses}
 use Rattle.http_body_in.specs.Falls.{framing_left, exact_left}
 use Rattle.http_body_in.specs.Places.{is_limited}
 use Rattle.http_body_in.specs.Walks.{counted}
+use Rattle.http_body_in.specs.Wants.{Next, settles}
 use Rattle.http_body_in.proofs.walk.fill_piece.Given as goal
 
--- the front of the piece is the data of what was used
+-- The front of the piece is the data of what was used. Where the inbox decides, the client is not touched.
 abbrev pub invariant-walk : goal.invariant-walk
 invariant-walk g l = record {
   within : l.count ≤ length l.piece;
@@ -15,7 +16,9 @@ invariant-walk g l = record {
   uses : Uses (unread l.initial.inbox (g.C.Meanings.incoming l.initial.client)) (unread l.inbox (g.C.Meanings.incoming l.client)) l.fn.start l.place (take l.count l.piece);
   sent : g.C.Meanings.sent l.client ≡ g.C.Meanings.sent l.initial.client;
   beside : g.C.Meanings.beside l.client ≡ g.C.Meanings.beside l.initial.client;
-  no_fewer : g.C.Meanings.faults l.initial.client ≤ g.C.Meanings.faults l.client;
+  steady : g.C.Meanings.faults l.client ≡ g.C.Meanings.faults l.initial.client;
+  quiet : settles (Next (length l.initial.piece)) l.fn.start l.fn.most l.fn.taken l.initial.inbox ≡ true
+      → (l.client ≡ l.initial.client) × Uses (Some l.initial.inbox) (Some l.inbox) l.fn.start l.place (take l.count l.piece);
 }
 
 abbrev pub decreases-walk : goal.decreases-walk

@@ -1,11 +1,14 @@
 -- Where the walk begins, and its two steps.
-use Rattle.std.proofs.Common.{◌≡◌, ℕ, ◌≤◌, ◌<◌, ◌+◌, ◌-◌, ◌*◌, List, [], ◌++◌, Option, length, length-append, arith, refl, subst, sym, ap, ◌∙◌}
+use Rattle.std.proofs.Common.{◌<◌, ◌+◌, ◌-◌, ◌*◌, [], ◌++◌, Some, length, length-append, arith, refl, subst, sym, ap, ◌∙◌}
 use Rattle.jk_io.specs.Told.{prepended}
-use Rattle.std.proofs.lemmas.Bool.{true≢false}
+use Rattle.std.proofs.lemmas.Bool.{true≢false, or_from}
 use Rattle.http_body_in.specs.Body.{Uses}
 use Rattle.http_body_in.specs.Falls.{framing_left, exact_left}
 use Rattle.http_body_in.specs.Places.{data_left, is_limited}
 use Rattle.http_body_in.specs.declared.place.Place.{Place}
+use Rattle.http_body_in.specs.Walks.{IsUnder}
+use Rattle.http_body_in.specs.Wants.{Rest}
+use Rattle.http_body_in.proofs.QuietLemmas.{some-left}
 use Rattle.http_body_in.proofs.BodyLemmas.{Uses-nil}
 use Rattle.http_body_in.proofs.WalkLemmas.{uses-framing, uses-dropped, drop-smaller, under-now, data-chunks, start-exact}
 use Rattle.http_body_in.proofs.walk.pass_body.Goals as goal
@@ -19,47 +22,82 @@ walk-init g c = record {
   counts = omega (arith, c.ranges.taken);
   sent = refl;
   beside = refl;
-  no_fewer = omega arith;
+  steady = refl;
+  quiet = λ decided. (refl, Uses-nil _ c.args.start);
 }
 
 pub walk-smaller-then-left-eq0 : goal.walk-smaller-then-left-eq0
-walk-smaller-then-left-eq0 g c = omega (arith, c.in-Ok.ensures.falls, c.in-Ok.ensures.chunked)
+walk-smaller-then-left-eq0 g c = omega (arith, c.in_ok-place.ensures.falls, c.in_ok-place.ensures.chunked)
 
 pub walk-preserved-then-left-eq0 : goal.walk-preserved-then-left-eq0
 walk-preserved-then-left-eq0 g c =
     let I = c.walk.invariant in
-    let e = c.in-Ok.ensures in
+    let e = c.in_ok-place.ensures in
     record {
       passed = I.passed;
       under = λ out limited. (under-now c.args.start c.walk.place c.args.most c.args.taken (length I.passed) c.walk.sum I.counts (sym c.is_reached.ensures ∙ c.if-is_reached.false) I.under (omega (arith, c.ranges.most)) limited).0;
       exact = λ limited. e.chunked;
-      uses = uses-framing _ _ _ c.args.start c.walk.place c.in-Ok.next I.passed I.uses e.ok;
+      uses = uses-framing _ _ _ c.args.start c.walk.place c.in_ok-place.place I.passed I.uses e.ok;
       counts = I.counts;
       sent = e.same.0 ∙ I.sent;
       beside = e.same.1 ∙ I.beside;
-      no_fewer = omega (arith, I.no_fewer, e.no_fewer);
+      steady = e.steady tt ∙ I.steady;
+      quiet = λ decided.
+          let q = I.quiet decided in
+          let below : IsUnder c.args.most c.args.taken c.args.start I.passed = λ limited. (under-now c.args.start c.walk.place c.args.most c.args.taken (length I.passed) c.walk.sum I.counts (sym c.is_reached.ensures ∙ c.if-is_reached.false) I.under (omega (arith, c.ranges.most)) limited).1 in
+          let more = some-left Rest _ _ c.args.inbox.now c.walk.inbox c.args.start c.walk.place I.passed q.1 (or_from _ _ (sym c.is_whole.ensures ∙ c.if-is_whole.false) (sym c.is_bad.ensures ∙ c.if-is_bad.false)) tt below decided in
+          (e.unasked more ∙ q.0, uses-framing _ _ _ c.args.start c.walk.place c.in_ok-place.place I.passed q.1 (e.inside more));
     }
 
 pub walk-preserved : goal.walk-preserved
 walk-preserved g c =
     let I = c.walk.invariant in
-    let e = c.in-Ok-drop_data.ensures in
+    let e = c.in_ok-count.ensures in
     let some : 0 < data_left c.walk.place = omega (arith, c.data_left-left.ensures, e.count) in
-    let P : Place → Type 0 = λ p. Uses (prepended c.args.inbox.now (g.C.Meanings.incoming c.args.client.now)) (prepended c.drop_data.new.inbox (g.C.Meanings.incoming c.drop_data.new.client)) c.args.start p (I.passed ++ e.gone.0) in
+    let P : Place → Type 0 = λ p. Uses (prepended c.args.inbox.now (g.C.Meanings.incoming c.args.client.now)) (prepended c.drop_data.new.inbox (g.C.Meanings.incoming c.drop_data.new.client)) c.args.start p (I.passed ++ e.gone.gone) in
     record {
-      passed = I.passed ++ e.gone.0;
-      under = λ out limited. absurd (true≢false (sym (ap is_limited c.data_step-place.ensures ∙ (data-chunks c.walk.place c.in-Ok-drop_data.count some (I.exact limited)).0) ∙ out));
-      exact = λ limited. ap exact_left c.data_step-place.ensures ∙ (data-chunks c.walk.place c.in-Ok-drop_data.count some (I.exact limited)).1;
-      uses = subst P (sym c.data_step-place.ensures) (uses-dropped _ _ _ c.args.start c.walk.place I.passed e.gone.0 c.in-Ok-drop_data.count e.gone.1 (omega (arith, e.count.1, c.data_left-left.ensures)) I.uses e.gone.2);
-      counts = omega (arith, c.saturating_add-sum.ensures, I.counts, e.gone.1, length-append I.passed e.gone.0);
+      passed = I.passed ++ e.gone.gone;
+      under = λ out limited. absurd (true≢false (sym (ap is_limited c.data_step-place.ensures ∙ (data-chunks c.walk.place c.in_ok-count.count some (I.exact limited)).0) ∙ out));
+      exact = λ limited. ap exact_left c.data_step-place.ensures ∙ (data-chunks c.walk.place c.in_ok-count.count some (I.exact limited)).1;
+      uses = subst P (sym c.data_step-place.ensures) (uses-dropped _ _ _ c.args.start c.walk.place I.passed e.gone.gone c.in_ok-count.count e.gone.count (omega (arith, e.count.1, c.data_left-left.ensures)) I.uses e.gone.used);
+      counts = omega (arith, c.saturating_add-sum.ensures, I.counts, e.gone.count, length-append I.passed e.gone.gone);
       sent = e.same.0 ∙ I.sent;
       beside = e.same.1 ∙ I.beside;
-      no_fewer = omega (arith, I.no_fewer, e.no_fewer);
+      steady = e.steady tt ∙ I.steady;
+      quiet = λ decided.
+          let q = I.quiet decided in
+          let below : IsUnder c.args.most c.args.taken c.args.start I.passed = λ limited. (under-now c.args.start c.walk.place c.args.most c.args.taken (length I.passed) c.walk.sum I.counts (sym c.is_reached.ensures ∙ c.if-is_reached.false) I.under (omega (arith, c.ranges.most)) limited).1 in
+          let more = some-left Rest _ _ c.args.inbox.now c.walk.inbox c.args.start c.walk.place I.passed q.1 (or_from _ _ (sym c.is_whole.ensures ∙ c.if-is_whole.false) (sym c.is_bad.ensures ∙ c.if-is_bad.false)) tt below decided in
+          let Q : Place → Type 0 = λ p. Uses (Some c.args.inbox.now) (Some c.drop_data.new.inbox) c.args.start p (I.passed ++ e.gone.gone) in
+          (e.unasked more ∙ q.0, subst Q (sym c.data_step-place.ensures) (uses-dropped _ _ _ c.args.start c.walk.place I.passed e.gone.gone c.in_ok-count.count e.gone.count (omega (arith, e.count.1, c.data_left-left.ensures)) q.1 (ap Some (e.gone.inside more))));
     }
 
 pub walk-smaller : goal.walk-smaller
 walk-smaller g c =
-    let e = c.in-Ok-drop_data.ensures in
-    let fall = drop-smaller c.walk.place c.in-Ok-drop_data.count c.args.most c.walk.sum c.saturating_add-sum.result e.count.0 (omega (arith, e.count.1, c.data_left-left.ensures)) (sym c.is_reached.ensures ∙ c.if-is_reached.false) c.saturating_add-sum.ensures (omega (arith, c.ranges.most)) in
+    let e = c.in_ok-count.ensures in
+    let fall = drop-smaller c.walk.place c.in_ok-count.count c.args.most c.walk.sum c.saturating_add-sum.result e.count.0 (omega (arith, e.count.1, c.data_left-left.ensures)) (sym c.is_reached.ensures ∙ c.if-is_reached.false) c.saturating_add-sum.ensures (omega (arith, c.ranges.most)) in
     let P : Place → Type 0 = λ p. 40000 * (c.args.most - c.saturating_add-sum.result + exact_left p) + framing_left p < 40000 * (c.args.most - c.walk.sum + exact_left c.walk.place) + framing_left c.walk.place in
     subst P (sym c.data_step-place.ensures) fall
+
+pub returns-then-is_reached-clause-unasked : goal.returns-then-is_reached-clause-unasked
+returns-then-is_reached-clause-unasked g c = λ decided. (c.walk.invariant.quiet decided).0
+
+pub returns-then-is_bad-clause-unasked : goal.returns-then-is_bad-clause-unasked
+returns-then-is_bad-clause-unasked g c = λ decided. (c.walk.invariant.quiet decided).0
+
+pub returns-then-is_whole-clause-unasked : goal.returns-then-is_whole-clause-unasked
+returns-then-is_whole-clause-unasked g c = λ decided. (c.walk.invariant.quiet decided).0
+
+pub returns-in_err-place-clause-unasked : goal.returns-in_err-place-clause-unasked
+returns-in_err-place-clause-unasked g c = λ decided.
+    let I = c.walk.invariant in
+    let q = I.quiet decided in
+    let below : IsUnder c.args.most c.args.taken c.args.start I.passed = λ limited. (under-now c.args.start c.walk.place c.args.most c.args.taken (length I.passed) c.walk.sum I.counts (sym c.is_reached.ensures ∙ c.if-is_reached.false) I.under (omega (arith, c.ranges.most)) limited).1 in
+    c.pass_framing.ensures.unasked (some-left Rest _ _ c.args.inbox.now c.walk.inbox c.args.start c.walk.place I.passed q.1 (or_from _ _ (sym c.is_whole.ensures ∙ c.if-is_whole.false) (sym c.is_bad.ensures ∙ c.if-is_bad.false)) tt below decided) ∙ q.0
+
+pub returns-in_err-count-clause-unasked : goal.returns-in_err-count-clause-unasked
+returns-in_err-count-clause-unasked g c = λ decided.
+    let I = c.walk.invariant in
+    let q = I.quiet decided in
+    let below : IsUnder c.args.most c.args.taken c.args.start I.passed = λ limited. (under-now c.args.start c.walk.place c.args.most c.args.taken (length I.passed) c.walk.sum I.counts (sym c.is_reached.ensures ∙ c.if-is_reached.false) I.under (omega (arith, c.ranges.most)) limited).1 in
+    c.drop_data.ensures.unasked (some-left Rest _ _ c.args.inbox.now c.walk.inbox c.args.start c.walk.place I.passed q.1 (or_from _ _ (sym c.is_whole.ensures ∙ c.if-is_whole.false) (sym c.is_bad.ensures ∙ c.if-is_bad.false)) tt below decided) ∙ q.0

@@ -1,4 +1,4 @@
-use Rattle.std.proofs.Common.{◌≡◌, ◌+◌, ◌-◌, ℕ, List, None, drop, false, sym, ap, ◌∙◌, arith, take, ◌++◌, Some, append-nil, ◌==◌, [], ◌∷◌}
+use Rattle.std.proofs.Common.{◌≡◌, ◌+◌, ◌-◌, ℕ, List, drop, ap, ◌∙◌, arith, take, Some, append-nil, ◌==◌, []}
 use Rattle.std.specs.List.{list_any}
 use Rattle.http_front.specs.Host.{split_port}
 use Rattle.http_front.proofs.HostLemmas.{split-here, split-front, none-here}

@@ -1,6 +1,5 @@
 -- The parts that were copied are those of the parsed head.
-use Rattle.std.proofs.Common.{◌≡◌, arith, ◌∙◌, ap, refl, List, ℕ, ◌==◌}
-use Rattle.http_front.specs.Judged.{head_of}
+use Rattle.std.proofs.Common.{arith, ◌∙◌, ap, ℕ, ◌==◌}
 use Rattle.http_front.proofs.MakesLemmas.{makes-front, same-head}
 use Rattle.http_front.proofs.parsing.head_from.Goals as goal
 

@@ -1,15 +1,27 @@
--- What the end of the body and a fault say of the data that is told.
-use Rattle.http_body_in.proofs.TakeLemmas.{passes-data, skip-short, skip-bad, skip-long}
+-- What the end of the body and a fault say of the moments before and after.
+use Rattle.std.proofs.Common.{ap, Err, refl, rules}
+use Rattle.http_body_in.specs.State.{place_of, taken_of, most_of, failed_of}
+use Rattle.http_body_in.specs.Wants.{Rest}
+use Rattle.http_body_in.proofs.MomentLemmas.{rest-passed, rest-failed, fault-again}
 use Rattle.http_body_in.proofs.body.BodyIn.skip_rest.Goals as goal
 
-pub returns-in-Ok-clause-left : goal.returns-in-Ok-clause-left
-returns-in-Ok-clause-left g c = passes-data _ _ _ _ _ _ _ c.in-Ok.ensures.ok
+pub returns-in-Some-clause-err : goal.returns-in-Some-clause-err
+returns-in-Some-clause-err g c = fault-again _ Rest c.in-Some.fault c.in-Some.is
 
-pub returns-in-Err-clause-truncated : goal.returns-in-Err-clause-truncated
-returns-in-Err-clause-truncated g c is going = skip-short c.args.self.now.most c.args.self.now.taken _ _ c.args.self.now.place c.in-Err.fault is c.in-Err.ensures.err
+pub returns-in-Ok-clause-ok : goal.returns-in-Ok-clause-ok
+returns-in-Ok-clause-ok g c =
+    let e = c.in-Ok.ensures in
+    rest-passed _ _ (record { going = search rules; most = refl; sent = e.same.0 }) e.ok (search rules) (e.steady tt)
 
-pub returns-in-Err-clause-bad : goal.returns-in-Err-clause-bad
-returns-in-Err-clause-bad g c is going = skip-bad c.args.self.now.most c.args.self.now.taken _ _ c.args.self.now.place c.in-Err.fault is c.in-Err.ensures.err
-
-pub returns-in-Err-clause-too_long : goal.returns-in-Err-clause-too_long
-returns-in-Err-clause-too_long g c is going = skip-long c.args.self.now.most c.args.self.now.taken _ _ c.args.self.now.place c.in-Err.fault is c.in-Err.ensures.err
+pub returns-in-Err-clause-err : goal.returns-in-Err-clause-err
+returns-in-Err-clause-err g c =
+    let e = c.in-Err.ensures in
+    rest-failed _ _ c.in-Err.fault (record {
+      keeps = record { going = search rules; most = ap most_of c.break_off.ensures; sent = e.same.0 };
+      failed = ap failed_of c.break_off.ensures;
+      taken = ap taken_of c.break_off.ensures;
+      place = ap place_of c.break_off.ensures;
+      fault = λ is. e.fault (ap Err is);
+      steady = λ calm. e.steady calm;
+      no_fewer = e.no_fewer;
+    }) e.err

@@ -1,8 +1,7 @@
 -- The bytes that came stand behind those that were there.
-use Rattle.std.proofs.Common.{◌≡◌, ℕ, ◌+◌, ◌-◌, List, ◌++◌, length, take, ap, ◌∙◌, arith, vec_len}
+use Rattle.std.proofs.Common.{ℕ, ◌+◌, ◌-◌, List, ◌++◌, take, ap, ◌∙◌, arith}
 use Rattle.std.proofs.lemmas.List.{with_items_is}
 use Rattle.std.specs.List.{between}
-use Rattle.std.specs.Vec.{with_items}
 use Rattle.jk_io.specs.Told.{prepended}
 use Rattle.http_front.proofs.InboxLemmas.{between-more, between-same, unread-more, on_err_any}
 use Rattle.http_front.proofs.inbox.Inbox.read_more.Goals as goal
