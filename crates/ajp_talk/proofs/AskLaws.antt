@@ -1,5 +1,5 @@
 -- The data that asks take, and the packets that answer them.
-use Rattle.std.proofs.Common.{◌≡◌, ℕ, ◌+◌, ◌-◌, ◌<◌, ◌||◌, Bool, List, [], ◌∷◌, ◌++◌, length, take, drop, refl, sym, ap, subst, ◌∙◌, arith, append_assoc, append-nil, length-append, length-drop, Option, Some, None, IfSome, IsTrue, inl, inr}
+use Rattle.std.proofs.Common.{◌≡◌, ℕ, ◌+◌, ◌-◌, ◌<◌, ◌||◌, Bool, true, List, [], ◌∷◌, ◌++◌, length, take, drop, refl, sym, ap, subst, ◌∙◌, arith, append_assoc, append-nil, length-append, length-drop, Option, Some, None, IfSome, IsTrue, inl, inr}
 use Rattle.std.specs.Prelude.{nat_le}
 use Rattle.std.specs.Option.{option_map}
 use Rattle.std.proofs.lemmas.Bool.{cases_Bool, cond-true, le-leb, lt-leb, leb-true, leb-false}
@@ -7,11 +7,15 @@ use Rattle.std.proofs.lemmas.List.{drop-drop}
 use Rattle.jk_io.specs.Told.{appended, prepended}
 use Rattle.jk_io.proofs.ToldLaws.{appended-appended, appended-nil, prepended-prepended, prepended-nil}
 use Rattle.ajp_wire.specs.Packet.{body_packet, HasCome}
-use Rattle.http_body_in.specs.Body.{Data, Uses, behind, data_from, data_of, dropped, reaches}
+use Rattle.http_body_in.specs.Body.{Data, Uses, behind, data_from, data_of, dropped, reaches, place_behind}
 use Rattle.http_body_in.specs.State.{place_of, taken_of, failed_of}
 use Rattle.http_body_in.specs.declared.body.BodyIn.{BodyIn}
-use Rattle.http_body_in.proofs.BodyLemmas.{Uses-nil, Uses-then, data_from-append}
-use Rattle.ajp_talk.specs.Moments.{LineAt, BodyAt, data_at, Traffic, Takes, IsUsed, IsFrontOf}
+use Rattle.http_body_in.specs.Places.{is_limited, step}
+use Rattle.http_body_in.specs.declared.place.Place.{Place}
+use Rattle.http_body_in.specs.declared.place.Place.TheVariants as at
+use Rattle.http_body_in.proofs.BodyLemmas.{Uses-nil, Uses-then, data_from-append, next-place}
+use Rattle.jk_io.specs.Moments.{Moment}
+use Rattle.ajp_talk.specs.Moments.{BodyAt, data_at, Traffic, Takes, IsUsed, IsFrontOf}
 use Rattle.ajp_talk.specs.Owed.{behind_first, answer}
 use Rattle.ajp_talk.specs.Turns.{Gives, Sends, IsUntaken}
 
@@ -62,8 +66,8 @@ front-longer xs ys more f = record { rest = f.rest ++ more; joined = ap (λ (l :
 
 -- ---- what went over the link
 
-pub traffic-came : (s m n : LineAt) (pong came bytes put : List ℕ) → Traffic s m (pong ++ came) put
-    → HasCome m.incoming m.received n.incoming n.received bytes → n.sent ≡ m.sent → Traffic s n (pong ++ (came ++ bytes)) put
+pub traffic-came : (s m n : Moment) (pong came bytes put : List ℕ) → Traffic s m (pong ++ came) put
+    → HasCome m n bytes → n.sent ≡ m.sent → Traffic s n (pong ++ (came ++ bytes)) put
 traffic-came s m n pong came bytes put t h same =
     let joined : (pong ++ came) ++ bytes ≡ pong ++ (came ++ bytes) = append_assoc pong came bytes in
     record {
@@ -76,7 +80,7 @@ traffic-came s m n pong came bytes put t h same =
       sent = same ∙ t.sent;
     }
 
-pub traffic-sent : (s m n : LineAt) (got put more : List ℕ) (before after : ℕ) → Traffic s m got put → Sends m n before after more → Traffic s n got (put ++ more)
+pub traffic-sent : (s m n : Moment) (got put more : List ℕ) (before after : ℕ) → Traffic s m got put → Sends m n before after more → Traffic s n got (put ++ more)
 traffic-sent s m n got put more before after t d = record {
   came = record {
     used = t.came.used ∙ ap (prepended got) (sym d.incoming);
@@ -85,7 +89,7 @@ traffic-sent s m n got put more before after t d = record {
   sent = d.sent ∙ ap (λ (o : Option (List ℕ)). appended o more) t.sent ∙ appended-appended s.sent put more;
 }
 
-pub traffic-none : (s : LineAt) → Traffic s s [] []
+pub traffic-none : (s : Moment) → Traffic s s [] []
 traffic-none s = record { came = record { used = sym (prepended-nil s.incoming); kept = sym (appended-nil s.received) }; sent = sym (appended-nil s.sent) }
 
 -- ---- the body
@@ -163,6 +167,24 @@ takes-data s n taken t = of s.unread n.unread t.uses
     of before None u = ap (data_of (place_of s.body)) u.used
     of before (Some ys) u = told before ys u
 
-pub map-then : (f : Data → Data) (t : Option Data) (P Q : Data → Type 0) → IfSome t P → ((d : Data) → P d → Q (f d)) → IfSome (option_map f t) Q
-map-then f None P Q h g = tt
-map-then f (Some d) P Q h g = g d h
+limited-step : (p : Place) (b : ℕ) → is_limited (step p b) ≡ true → is_limited p ≡ true
+limited-step (at.Exact n) b e = e
+limited-step (at.Digits c s) b e = refl
+limited-step (at.Extension s c) b e = refl
+limited-step (at.LineFeed s) b e = refl
+limited-step (at.Chunk l) b e = refl
+limited-step at.DataFeed b e = refl
+limited-step (at.Trailer l) b e = refl
+limited-step (at.TrailerLine l) b e = refl
+limited-step (at.TrailerLineFeed l) b e = refl
+limited-step at.TrailerFeed b e = refl
+limited-step at.Done b e = e
+limited-step at.Bad b e = e
+
+limited-start : (gone : List ℕ) (p q : Place) → place_behind gone p ≡ Some q → is_limited q ≡ true → is_limited p ≡ true
+limited-start [] p q e limited = (let same : p ≡ q = cc in ap is_limited same ∙ limited)
+limited-start (b ∷ gone) p q e limited = limited-step p b (limited-start gone (step p b) q (next-place b gone p q e).1 limited)
+
+-- a body that is chunked was so at first
+pub takes-limited : (s n : BodyAt) (taken : List ℕ) → Takes s n taken → is_limited (place_of n.body) ≡ true → is_limited (place_of s.body) ≡ true
+takes-limited s n taken t limited = limited-start t.uses.gone (place_of s.body) (place_of n.body) t.uses.own limited

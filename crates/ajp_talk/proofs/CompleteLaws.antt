@@ -1,5 +1,5 @@
 -- Where a whole reply comes and nothing fails, a talk is done.
-use Rattle.std.proofs.Common.{◌≡◌, ◌≢◌, ℕ, ◌+◌, ◌≤◌, ◌<◌, ◌↔◌, Bool, true, false, List, [], ◌∷◌, ◌++◌, length, refl, sym, ap, subst, ◌∙◌, arith, append_assoc, append-nil, length-append, Option, Some, None, IfSome, is_some, inl, inr, ◌⊎◌, Result, Ok, Err}
+use Rattle.std.proofs.Common.{◌≡◌, ◌≢◌, ℕ, ◌+◌, ◌≤◌, ◌<◌, ◌↔◌, Bool, true, false, List, [], ◌∷◌, ◌++◌, length, refl, sym, ap, subst, ◌∙◌, arith, append_assoc, append-nil, length-append, length-take, take, Option, Some, None, IfSome, is_some, inl, inr, ◌⊎◌, Result, Ok, Err}
 use Rattle.std.proofs.lemmas.Bool.{cond-true, ltb-true, eqb-true, cases_lt, or_right}
 use Rattle.jk_io.specs.Told.{appended, prepended, Rose, IsEmpty}
 use Rattle.jk_io.specs.declared.failures.NoMemory.{NoMemory}
@@ -14,7 +14,7 @@ use Rattle.http_out.specs.declared.framing.Framing.{Framing}
 use Rattle.http_out.specs.declared.framing.Framing.TheVariants as By
 use Rattle.http_body_in.specs.Body.{Data, reaches}
 use Rattle.http_body_in.specs.State.{taken_of, most_of}
-use Rattle.ajp_talk.specs.Moments.{Moment, data_at}
+use Rattle.ajp_talk.specs.Moments.{TalkMoment, data_at}
 use Rattle.ajp_talk.specs.Replies.{is_good, is_listed, chunks_of, sum_of, framing_in, exceeds, agrees, IsUnlisted, IsReply, bytes_for}
 use Rattle.ajp_talk.specs.Owed.{asked, pong_of}
 use Rattle.ajp_talk.specs.Talk.{IsTalk, HasFailed, HasNoPong, IsPingCause, IsCause, IsWrong, IsNext, BreaksSum, IsDone, IsGone, HasBadBody}
@@ -208,7 +208,7 @@ exceeding By.Chunks part all e a h = absurd cc
 some-parts : (o : Option ReplyParts) (parts : ReplyParts) (P : ReplyParts → Type 0) → o ≡ Some parts → IfSome o P → P parts
 some-parts o parts P e h = subst (λ (x : Option ReplyParts). IfSome x P) e h
 
-module _ (plan : TalkPlan) (s n : Moment) (all : List Message) (reply more : List ℕ) where
+module _ (plan : TalkPlan) (s n : TalkMoment) (all : List Message) (reply more : List ℕ) where
   -- a part of a packet, or a whole one, is no longer than the message at its place
   next-within : (rest first inc behind : List ℕ) (message : Message) → IsPacketOf plan.packet message first → IsNext plan.packet rest → rest ++ inc ≡ first ++ behind → length rest ≤ length first
   next-within rest first inc behind message p (inl (payload, whole)) e =
@@ -321,7 +321,7 @@ reached-or-other plan cause n limit = elim (cases_lt n plan.most) [
   | inr reached ↦ inl reached
 ]
 
-module _ (plan : TalkPlan) (s n : Moment) (all : List Message) (w : HasWhole plan s n all) where
+module _ (plan : TalkPlan) (s n : TalkMoment) (all : List Message) (w : HasWhole plan s n all) where
   not_failed : (stage : Stage) (cause : Cause) (told : Option Told) (bytes : ℕ) → HasFailed plan s n stage cause told bytes → ⊥
   not_failed stage cause told bytes f =
       let left = told-left (pong_of plan ++ (f.came ++ f.rest)) ((pong_of plan ++ w.reply) ++ w.more) n.line.incoming (sym w.comes ∙ f.traffic.came.used) in
@@ -378,16 +378,19 @@ module _ (plan : TalkPlan) (s n : Moment) (all : List Message) (w : HasWhole pla
   not_bad : (status : ℕ) (told : Option Told) (passed : Bool) (bytes : ℕ) → HasBadBody plan s n status told passed bytes → ⊥
   not_bad status told passed bytes b = elim b.why [
     | inl h ↦ (let short = told-data (λ d. (reaches (asked plan.piece (Ask b.ask ∷ b.past)) d ≡ false) × (d.bad ≡ true)) h.1 in reached-all (asked plan.piece (Ask b.ask ∷ b.past)) w.data' w.whole short.0)
-    | inr h ↦ (let long = told-data (λ d. most_of s.body.body ≤ taken_of s.body.body + length d.bytes) h.1 in let under = w.limit in absurd (omega arith))
+    | inr h ↦ (
+        let n = asked plan.piece (Ask b.ask ∷ b.past) in
+        let long = told-data (λ d. most_of s.body.body ≤ taken_of s.body.body + length (take n d.bytes)) h.2 in
+        let under = w.limit in absurd (omega (arith, length-take n w.data'.bytes)))
   ]
 
-  done_with : (told : Told) (reuse : Bool) (bytes : ℕ) → IsDone plan s n told reuse bytes → n.client.written ≡ appended s.client.written (bytes_for plan all)
+  done_with : (told : Told) (reuse : Bool) (bytes : ℕ) → IsDone plan s n told reuse bytes → n.client.sent ≡ appended s.client.sent (bytes_for plan all)
   done_with told reuse bytes d =
       let left = told-left (pong_of plan ++ d.came) ((pong_of plan ++ w.reply) ++ w.more) n.line.incoming (sym w.comes ∙ d.traffic.came.used) in
       let same : End reuse ∷ d.past ≡ all =
       one-reply plan.packet (End reuse ∷ d.past) all d.came w.reply left.0 w.more d.reply.spelled d.reply.form w.is.spelled w.is.form
       (at-reply (pong_of plan) w.reply w.more d.came left.0 left.2) in
-      d.written ∙ ap (λ (l : List Message). appended s.client.written (bytes_for plan l)) same
+      d.written ∙ ap (λ (l : List Message). appended s.client.sent (bytes_for plan l)) same
 
   pub completed : (result : Result TalkEnd NoMemory) → IsTalk plan s n result → IsCompleted plan s n all result
   completed (Ok (ends.Done told reuse bytes)) t = done_with told reuse bytes t

@@ -18,7 +18,8 @@ use Rattle.http_out.specs.Framing.{framing_of, has_no_body, is_beyond, is_comple
 use Rattle.http_out.specs.ReplyBytes.{so_far, so_far_of}
 use Rattle.http_out.specs.Writer.{Writer, framing_now, after_head, after_chunk, chunk_bytes, end_bytes}
 use Rattle.http_out.proofs.ReplyLaws.{grows, ends}
-use Rattle.ajp_talk.specs.Moments.{LineAt, ClientAt, BodyAt, Moment, data_at, Traffic, Takes, IsFrontOf}
+use Rattle.jk_io.specs.Moments.{Moment}
+use Rattle.ajp_talk.specs.Moments.{BodyAt, TalkMoment, data_at, Traffic, IsSteady, Takes, IsFrontOf}
 use Rattle.ajp_talk.specs.Replies.{is_good, is_listed, head_out, kind_of, chunks_of, sum_of, framing_in, exceeds, agrees, so_far_of_talk, whole_of, told_by}
 use Rattle.ajp_talk.specs.Owed.{want, asked, answer, behind_first, answers, pong_of, opening, owed}
 use Rattle.ajp_talk.specs.Talk.{Accepts}
@@ -32,10 +33,10 @@ use Rattle.ajp_talk.proofs.ReplyLaws.{beyond-exceeds, complete-agrees, none-exce
 use Rattle.ajp_talk.proofs.AskLaws.{dropped-dropped, left-then, told-answer, traffic-came, traffic-sent, takes-then}
 
 -- The messages were accepted, the client has what they make so far, and the counts are those of the bytes.
-pub record Stands (plan : TalkPlan) (s m : Moment) (c : Course) (past : List Message) (came put : List ℕ) : Type 0 where
+pub record Stands (plan : TalkPlan) (s m : TalkMoment) (c : Course) (past : List Message) (came put : List ℕ) : Type 0 where
   pub accepts : Accepts plan past came
   pub traffic : Traffic s.line m.line (pong_of plan ++ came) put
-  pub written : m.client.written ≡ appended s.client.written (so_far_of_talk plan past)
+  pub written : m.client.sent ≡ appended s.client.sent (so_far_of_talk plan past)
   pub writer : c.writer ≡ writer_for (kind_of plan) (head_of past) (chunks_of past)
   pub headers : c.headers ≡ is_some (head_of past)
   pub told : IfSome (head_of past) (λ parts. c.told ≡ told_by (kind_of plan) parts (chunks_of past))
@@ -49,15 +50,17 @@ pub record Stands (plan : TalkPlan) (s m : Moment) (c : Course) (past : List Mes
   pub little : taken_of m.body.body ≤ 65530 + 65540 * c.received
 
 -- and all that is owed was sent
-pub record At (plan : TalkPlan) (s m : Moment) (c : Course) : Type 0 where
+pub record At (plan : TalkPlan) (s m : TalkMoment) (c : Course) : Type 0 where
   pub past : List Message
   pub came : List ℕ
   pub put : List ℕ
   pub stands : Stands plan s m c past came put
   pub owed : IfSome (data_at s.body) (λ d. put ≡ owed plan d past)
+  pub opened : IsFrontOf (opening plan) put
+  pub steady : IsSteady s.line m.line
 
 -- One message more came, and nothing was done with it yet.
-pub record Next (plan : TalkPlan) (s : Moment) (l : LineAt) (c : Course) (count : ℕ) (message : Message) (past : List Message) (came put bytes : List ℕ) : Type 0 where
+pub record Next (plan : TalkPlan) (s : TalkMoment) (l : Moment) (c : Course) (count : ℕ) (message : Message) (past : List Message) (came put bytes : List ℕ) : Type 0 where
   pub traffic : Traffic s.line l (pong_of plan ++ (came ++ bytes)) put
   pub spelled : Spelled plan.packet (message ∷ past) (came ++ bytes)
   pub counts : count ≡ length (pong_of plan ++ (came ++ bytes))
@@ -65,14 +68,17 @@ pub record Next (plan : TalkPlan) (s : Moment) (l : LineAt) (c : Course) (count 
   pub more : c.received < count
   pub below : count < plan.most
   pub is : IsPacketOf plan.packet message bytes
+  pub opened : IsFrontOf (opening plan) put
+  pub steady : IsSteady s.line l
 
 pub longer : (pong came bytes : List ℕ) → length (pong ++ (came ++ bytes)) ≡ length (pong ++ came) + length bytes
 longer pong came bytes = omega (arith, length-append pong (came ++ bytes), length-append came bytes, length-append pong came)
 
-pub next : (plan : TalkPlan) (s m : Moment) (l : LineAt) (c : Course) (count : ℕ) (message : Message) (past : List Message) (came put : List ℕ) → IsPlan plan
-    → Stands plan s m c past came put → (h : IsHeard plan.packet plan.most m.line l c.received count message)
+pub next : (plan : TalkPlan) (s m : TalkMoment) (l : Moment) (c : Course) (count : ℕ) (message : Message) (past : List Message) (came put : List ℕ) → IsPlan plan
+    → Stands plan s m c past came put → IsFrontOf (opening plan) put → IsSteady s.line m.line
+    → (h : IsHeard plan.packet plan.most m.line l c.received count message)
     → Next plan s l c count message past came put h.bytes
-next plan s m l c count message past came put fit st h =
+next plan s m l c count message past came put fit st opened steady h =
     let some = some-bytes plan.packet message h.bytes h.is in
     let exact : count ≡ c.received + length h.bytes = omega (arith, h.came.counts, st.below, fit.most, some.1) in
     record {
@@ -83,6 +89,8 @@ next plan s m l c count message past came put fit st h =
       more = omega (arith, exact, some.0);
       below = h.below;
       is = h.is;
+      opened = opened;
+      steady = h.steady ∙ steady;
     }
 
 -- ---- a head
@@ -109,7 +117,7 @@ told-first kind parts chunks first =
 within-first : (plan : TalkPlan) (parts : ReplyParts) (chunks : List (List ℕ)) → chunks ≡ [] → exceeds (framing_in plan parts) (sum_of chunks) ≡ false
 within-first plan parts chunks first = rw first (none-exceeds (framing_in plan parts))
 
-pub stand_head : (plan : TalkPlan) (s m n : Moment) (c c' : Course) (count : ℕ) (parts : ReplyParts) (past : List Message) (came put bytes : List ℕ)
+pub stand_head : (plan : TalkPlan) (s m n : TalkMoment) (c c' : Course) (count : ℕ) (parts : ReplyParts) (past : List Message) (came put bytes : List ℕ)
     → Stands plan s m c past came put → Next plan s n.line c count (Headers parts) past came put bytes
     → c.headers ≡ false → is_good parts ≡ true → is_listed plan.fail_on parts.status ≡ false → c' ≡ with_head (record c { received = count }) parts
     → n.client ≡ m.client → n.body ≡ m.body → Stands plan s n c' (Headers parts ∷ past) (came ++ bytes) put
@@ -126,8 +134,8 @@ stand_head plan s m n c c' count parts past came put bytes st nx none good unlis
         within = within-first plan parts (chunks_of past) first;
       };
       traffic = nx.traffic;
-      written = ap (λ (w : ClientAt). w.written) client ∙ st.written
-          ∙ nothing-held (kind_of plan) s.client.written (head_of past) (chunks_of past) parts (none-of (head_of past) no_head) first;
+      written = ap (λ (w : Moment). w.sent) client ∙ st.written
+          ∙ nothing-held (kind_of plan) s.client.sent (head_of past) (chunks_of past) parts (none-of (head_of past) no_head) first;
       writer = ap (λ (x : Course). x.writer) is ∙ ap (λ (w : Writer). after_head w (head_out parts)) st.writer
           ∙ first-head (kind_of plan) (head_of past) (chunks_of past) parts (none-of (head_of past) no_head) first;
       headers = ap (λ (x : Course). x.headers) is;
@@ -197,10 +205,10 @@ told-chunk-if : (kind : RequestKind) (o : Option ReplyParts) (chunks : List (Lis
 told-chunk-if kind None chunks told chunk is fits = tt
 told-chunk-if kind (Some parts) chunks told chunk is fits = told-chunk kind parts chunks told chunk is fits
 
-pub stand_chunk : (plan : TalkPlan) (s m n : Moment) (c c' : Course) (count : ℕ) (chunk : List ℕ) (past : List Message) (came put bytes : List ℕ)
+pub stand_chunk : (plan : TalkPlan) (s m n : TalkMoment) (c c' : Course) (count : ℕ) (chunk : List ℕ) (past : List Message) (came put bytes : List ℕ)
     → IsPlan plan → Stands plan s m c past came put → Next plan s n.line c count (Chunk chunk) past came put bytes
     → c.headers ≡ true → is_beyond (framing_now c.writer) (length chunk) ≡ false → c' ≡ with_chunk plan (record c { received = count }) chunk
-    → n.client.written ≡ appended m.client.written (chunk_bytes c.writer chunk) → n.body ≡ m.body
+    → n.client.sent ≡ appended m.client.sent (chunk_bytes c.writer chunk) → n.body ≡ m.body
     → Stands plan s n c' (Chunk chunk ∷ past) (came ++ bytes) put
 stand_chunk plan s m n c c' count chunk past came put bytes fit st nx some within is written body =
     let has_head : is_some (head_of past) ≡ true = sym st.headers ∙ some in
@@ -219,8 +227,8 @@ stand_chunk plan s m n c c' count chunk past came put bytes fit st nx some withi
       };
       traffic = nx.traffic;
       written = written ∙ ap (λ (o : Option (List ℕ)). appended o (chunk_bytes c.writer chunk)) st.written
-          ∙ appended-appended s.client.written (so_far_of_talk plan past) (chunk_bytes c.writer chunk)
-          ∙ ap (appended s.client.written) (sym (chunk-written (kind_of plan) (head_of past) (chunks_of past) c.writer chunk st.writer has_head));
+          ∙ appended-appended s.client.sent (so_far_of_talk plan past) (chunk_bytes c.writer chunk)
+          ∙ ap (appended s.client.sent) (sym (chunk-written (kind_of plan) (head_of past) (chunks_of past) c.writer chunk st.writer has_head));
       writer = ap (λ (x : Course). x.writer) is ∙ chunk-writer (kind_of plan) (head_of past) (chunks_of past) c.writer chunk st.writer has_head;
       headers = ap (λ (x : Course). x.headers) is ∙ st.headers;
       told = subst (λ (t : Told). IfSome (head_of past) (λ parts. t ≡ told_by (kind_of plan) parts (chunk ∷ chunks_of past))) (sym (ap (λ (x : Course). x.told) is))
@@ -251,10 +259,10 @@ want-piece plan n fit =
       | inr some ↦ rw some (let above = eqb-false n 0 some in (omega (arith, fit.some_piece, above), omega (arith, fit.piece)))
     ]
 
-pub stand_ask : (plan : TalkPlan) (s m n : Moment) (l : LineAt) (c c' : Course) (count ask : ℕ) (piece more : List ℕ) (past : List Message) (came put bytes : List ℕ)
+pub stand_ask : (plan : TalkPlan) (s m n : TalkMoment) (l : Moment) (c c' : Course) (count ask : ℕ) (piece more : List ℕ) (past : List Message) (came put bytes : List ℕ)
     → IsPlan plan → Stands plan s m c past came put → Next plan s l c count (Ask ask) past came put bytes
     → Gives (want plan.piece ask) m.body n.body piece → Sends l n.line c.sent c'.sent more → IsFrontOf more (body_packet piece)
-    → c' ≡ record c { received = count; sent = c'.sent } → n.client.written ≡ m.client.written
+    → c' ≡ record c { received = count; sent = c'.sent } → n.client.sent ≡ m.client.sent
     → Stands plan s n c' (Ask ask ∷ past) (came ++ bytes) (put ++ more)
 stand_ask plan s m n l c c' count ask piece more past came put bytes fit st nx gives sends front is written =
     let received : c'.received ≡ count = ap (λ (x : Course). x.received) is in

@@ -1,7 +1,7 @@
 -- How the draining of a reply goes on.
 use Rattle.ajp_talk.specs.declared.ending.Cause.{Cause}
 use Rattle.ajp_wire.specs.Packet.{IsPart}
-use Rattle.std.proofs.Common.{◌≡◌, ℕ, ◌+◌, ◌<◌, Bool, true, false, ◌&&◌, not, List, [], ◌∷◌, ◌++◌, length, refl, sym, ap, subst, ◌∙◌, arith, length-append, Option, append-nil}
+use Rattle.std.proofs.Common.{◌≡◌, ℕ, ◌+◌, ◌<◌, Bool, true, false, ◌&&◌, not, List, [], ◌∷◌, ◌++◌, length, refl, sym, ap, subst, ◌∙◌, arith, length-append, Option, append-nil, inl, inr, unwrap_or}
 use Rattle.std.proofs.lemmas.Bool.{cond-false, not-true}
 use Rattle.jk_io.specs.Told.{appended, prepended, PutsFront}
 use Rattle.jk_io.proofs.ToldLaws.{appended-appended, appended-nil, prepended-prepended, prepended-nil}
@@ -9,13 +9,15 @@ use Rattle.ajp_reply.specs.declared.message.Message.{Message}
 use Rattle.ajp_reply.specs.declared.message.Message.TheVariants.{Chunk, End}
 use Rattle.ajp_reply.specs.Stream.{IsPacketOf, Spelled, BeginsNoMessage}
 use Rattle.http_out.specs.declared.framing.Framing.{Framing}
+use Rattle.http_out.specs.declared.framing.Framing.TheVariants as By
 use Rattle.http_out.specs.Framing.{is_beyond, is_complete, is_passed, spent, framed}
 use Rattle.http_out.specs.Writer.{Writer, framing_now, framing_after, after_chunk, writes_chunk, chunk_bytes, end_bytes}
 use Rattle.http_out.specs.Writer.{counted as counted_chunk}
-use Rattle.ajp_talk.specs.Moments.{LineAt, ClientAt}
+use Rattle.jk_io.specs.Moments.{Moment}
+use Rattle.ajp_talk.specs.Moments.{IsSteady}
 use Rattle.ajp_talk.specs.Replies.{sum_of, exceeds, chunks_of, agrees}
 use Rattle.ajp_talk.specs.Turns.{Came, IsHeard, IsUnheard, IsOnCourse, IsChunkTurn, IsEndTurn, CameUnheard, IsChunkFailure}
-use Rattle.ajp_talk.specs.Drains.{IsLostCourse, chunk_messages, IsDropped, Drains, IsNoTail, closed_by, IsDrained}
+use Rattle.ajp_talk.specs.Drains.{IsLostCourse, chunk_messages, IsDropped, Drains, IsNoTail, EndsRest, closed_by, IsDrained}
 use Rattle.ajp_talk.specs.Ends.{IsPlan}
 use Rattle.ajp_talk.specs.declared.plan.TalkPlan.{TalkPlan}
 use Rattle.ajp_talk.specs.declared.course.Course.{Course}
@@ -30,7 +32,7 @@ use Rattle.ajp_talk.proofs.MessageLaws.{some-bytes, part-nil}
 use Rattle.ajp_talk.proofs.ReplyLaws.{beyond-exceeds, complete-agrees, none-exceeds}
 
 -- chunks came since the client was gone, and nothing was written
-pub record Draining (plan : TalkPlan) (l m : LineAt) (w v : ClientAt) (c d : Course) : Type 0 where
+pub record Draining (plan : TalkPlan) (l m : Moment) (w v : Moment) (c d : Course) : Type 0 where
   pub chunks : List (List ℕ)
   pub bytes : List ℕ
   pub spelled : Spelled plan.packet (chunk_messages chunks) bytes
@@ -41,8 +43,9 @@ pub record Draining (plan : TalkPlan) (l m : LineAt) (w v : ClientAt) (c d : Cou
   pub framing : framing_now d.writer ≡ framing_after (framing_now c.writer) chunks
   pub within : exceeds (framing_now c.writer) (sum_of chunks) ≡ false
   pub lost : IsLostCourse d
+  pub steady : IsSteady l m
 
-pub drains-first : (plan : TalkPlan) (l : LineAt) (w : ClientAt) (c : Course) → IsLostCourse c → c.received < plan.most → Draining plan l l w w c c
+pub drains-first : (plan : TalkPlan) (l : Moment) (w : Moment) (c : Course) → IsLostCourse c → c.received < plan.most → Draining plan l l w w c c
 drains-first plan l w c lost below = record {
   chunks = [];
   bytes = [];
@@ -54,9 +57,10 @@ drains-first plan l w c lost below = record {
   framing = refl;
   within = none-exceeds (framing_now c.writer);
   lost = lost;
+  steady = refl;
 }
 
-dropped-more : (l m n : LineAt) (w v u : ClientAt) (a b : List ℕ) (k k' : ℕ) → IsDropped l m w v a → Came m n k k' b → u.written ≡ v.written → IsDropped l n w u (a ++ b)
+dropped-more : (l m n : Moment) (w v u : Moment) (a b : List ℕ) (k k' : ℕ) → IsDropped l m w v a → Came m n k k' b → u.sent ≡ v.sent → IsDropped l n w u (a ++ b)
 dropped-more l m n w v u a b k k' d h same = record {
   came = record {
     used = d.came.used ∙ ap (prepended a) h.came.used ∙ prepended-prepended a b n.incoming;
@@ -125,7 +129,7 @@ no_tail-none plan c chunks bytes rest s none = λ later t sum.
         none [] f.1 f.2 f.0 f.3 (append-nil rest ∙ f.4)
 
 -- where no message came, and the limit isn't reached
-no_tail-silent : (plan : TalkPlan) (c : Course) (chunks : List (List ℕ)) (bytes rest : List ℕ) (l l' : LineAt) (count : ℕ) (why : Unheard) → (why ≡ unheard_is.NoMemory → ⊥)
+no_tail-silent : (plan : TalkPlan) (c : Course) (chunks : List (List ℕ)) (bytes rest : List ℕ) (l l' : Moment) (count : ℕ) (why : Unheard) → (why ≡ unheard_is.NoMemory → ⊥)
     → Spelled plan.packet (chunk_messages chunks) bytes → CameUnheard plan.packet plan.most count l l' rest why → count < plan.most → IsNoTail plan c (bytes ++ rest)
 no_tail-silent plan c chunks bytes rest l l' count unheard_is.Line other s h below = no_tail-part plan c chunks bytes rest s h.1
 no_tail-silent plan c chunks bytes rest l l' count unheard_is.Ended other s h below = no_tail-part plan c chunks bytes rest s h.1
@@ -133,18 +137,31 @@ no_tail-silent plan c chunks bytes rest l l' count unheard_is.Wrong other s h be
 no_tail-silent plan c chunks bytes rest l l' count unheard_is.TooLong other s h below = absurd (let reached = h.0 in omega arith)
 no_tail-silent plan c chunks bytes rest l l' count unheard_is.NoMemory other s h below = absurd (other refl)
 
-module _ (plan : TalkPlan) (l m n : LineAt) (w v u : ClientAt) (c d e : Course) (count : ℕ) where
+-- what is said of the link since the last message, said since the client was gone
+came-since : (plan : TalkPlan) (l m n : Moment) (count count' : ℕ) (rest : List ℕ) (why : Unheard) → IsSteady l m → count' ≡ count
+    → CameUnheard plan.packet plan.most count m n rest why → CameUnheard plan.packet plan.most count' l n rest why
+came-since plan l m n count count' rest unheard_is.Line steady same h = (omega (arith, h.0, same), h.1, omega (arith, h.2, steady))
+came-since plan l m n count count' rest unheard_is.Ended steady same h = (omega (arith, h.0, same), h.1, h.2)
+came-since plan l m n count count' rest unheard_is.Wrong steady same h = (omega (arith, h.0, same), h.1)
+came-since plan l m n count count' rest unheard_is.TooLong steady same h = (omega (arith, h.0, same), h.1)
+came-since plan l m n count count' rest unheard_is.NoMemory steady same h = tt
+
+no-true : (b : Bool) → (b ≡ true → ⊥) → b ≡ false
+no-true true f = absurd (f refl)
+no-true false f = refl
+
+module _ (plan : TalkPlan) (l m n : Moment) (w v u : Moment) (c d e : Course) (count : ℕ) where
   abbrev read_to : Course
   read_to = record d { received = count }
 
-  same-written : (bytes : List ℕ) → bytes ≡ [] → u.written ≡ appended v.written bytes → u.written ≡ v.written
-  same-written bytes none put = put ∙ ap (appended v.written) none ∙ appended-nil v.written
+  same-written : (bytes : List ℕ) → bytes ≡ [] → u.sent ≡ appended v.sent bytes → u.sent ≡ v.sent
+  same-written bytes none put = put ∙ ap (appended v.sent) none ∙ appended-nil v.sent
 
-  same-put : (bytes : List ℕ) → bytes ≡ [] → PutsFront v.written u.written bytes → u.written ≡ v.written
-  same-put bytes none put = put-nothing v.written u.written (subst (PutsFront v.written u.written) none put)
+  same-put : (bytes : List ℕ) → bytes ≡ [] → PutsFront v.sent u.sent bytes → u.sent ≡ v.sent
+  same-put bytes none put = put-nothing v.sent u.sent (subst (PutsFront v.sent u.sent) none put)
 
   -- nothing is written for a chunk, and nothing is sent
-  pub chunk-silent : (chunk : List ℕ) (turn : Turn) → d.writer.failed ≡ true → IsChunkTurn plan chunk read_to e v u turn → u.written ≡ v.written
+  pub chunk-silent : (chunk : List ℕ) (turn : Turn) → d.writer.failed ≡ true → IsChunkTurn plan chunk read_to e v u turn → u.sent ≡ v.sent
   chunk-silent chunk turn_is.On failed h = same-written (chunk_bytes d.writer chunk) (no-chunk-bytes d.writer chunk failed) h.3
   chunk-silent chunk (turn_is.Done reuse) failed h = absurd h
   chunk-silent chunk (turn_is.Failed cause_is.NoLink) failed h = absurd h
@@ -178,7 +195,7 @@ module _ (plan : TalkPlan) (l m n : LineAt) (w v u : ClientAt) (c d e : Course) 
   chunk-counts chunk (turn_is.Bad status) other h = absurd h
   chunk-counts chunk turn_is.NoMemory other h = absurd (other refl)
 
-  pub end-silent : (reuse : Bool) (turn : Turn) → d.writer.failed ≡ true → IsEndTurn reuse read_to e v u turn → u.written ≡ v.written
+  pub end-silent : (reuse : Bool) (turn : Turn) → d.writer.failed ≡ true → IsEndTurn reuse read_to e v u turn → u.sent ≡ v.sent
   end-silent reuse turn_is.On failed h = absurd h
   end-silent reuse (turn_is.Done again) failed h = same-written (end_bytes d.writer) (no-end-bytes d.writer failed) h.4
   end-silent reuse (turn_is.Failed cause_is.NoLink) failed h = absurd h
@@ -235,13 +252,41 @@ module _ (plan : TalkPlan) (l m n : LineAt) (w v u : ClientAt) (c d e : Course) 
           opened = record { framing = spent (framing_now d.writer) (length chunk); given = ap (λ (x : Writer). x.framing) writer; goes_on = ap (λ (x : Writer). x.ended) writer ∙ a.lost.opened.goes_on };
           failed = ap (λ (x : Writer). x.failed) writer ∙ a.lost.failed;
         };
+        steady = h.steady ∙ a.steady;
+      }
+
+  -- and one more for which a write that had nothing to write was said to have failed
+  pub drains-lost : IsPlan plan → Draining plan l m w v c d → (chunk : List ℕ) → IsHeard plan.packet plan.most m n d.received count (Chunk chunk)
+      → IsChunkTurn plan chunk read_to e v u turn_is.Lost → Draining plan l n w u c e
+  drains-lost fit a chunk h t =
+      let some = some-bytes plan.packet (Chunk chunk) h.bytes h.is in
+      let exact : count ≡ d.received + length h.bytes = omega (arith, h.came.counts, some.1, a.below, fit.most) in
+      let gone = t.2 in
+      let received : e.received ≡ count = ap (λ (x : Course). x.received) gone.rest in
+      let now : framing_now e.writer ≡ spent (framing_now d.writer) (length chunk) = ap (λ (o : Option Framing). unwrap_or o By.NoBody) gone.writer.framing in
+      record {
+        chunks = chunk ∷ a.chunks;
+        bytes = a.bytes ++ h.bytes;
+        spelled = (a.bytes, h.bytes, a.spelled, h.is, refl);
+        dropped = dropped-more l m n w v u a.bytes h.bytes d.received count a.dropped h.came (chunk-silent chunk turn_is.Lost a.lost.failed t);
+        counts = omega (arith, received, exact, a.counts, length-append a.bytes h.bytes);
+        below = omega (arith, received, h.below);
+        same = ap (λ (x : Course). x.sent) gone.rest ∙ a.same;
+        framing = now ∙ ap (λ (f : Framing). spent f (length chunk)) a.framing;
+        within = sym (beyond-exceeds (framing_now c.writer) a.chunks (length chunk) a.within) ∙ ap (λ (f : Framing). is_beyond f (length chunk)) (sym a.framing) ∙ t.1;
+        lost = record {
+          headers = ap (λ (x : Course). x.headers) gone.rest ∙ a.lost.headers;
+          opened = record { framing = spent (framing_now d.writer) (length chunk); given = gone.writer.framing; goes_on = gone.writer.ended ∙ a.lost.opened.goes_on };
+          failed = gone.writer.failed;
+        };
+        steady = h.steady ∙ a.steady;
       }
 
   -- it ended at a message
   pub drained : IsPlan plan → (a : Draining plan l m w v c d) → (message : Message) (keep : Bool) → IsHeard plan.packet plan.most m n d.received count message
-      → u.written ≡ v.written → (e.received ≡ count) × (e.sent ≡ d.sent) → (keep ≡ true → ⊥)
-      → (message ≡ End true → agrees (framing_now c.writer) (sum_of a.chunks) ≡ true → ⊥) → Drains plan l n w u c e keep
-  drained fit a message keep h same counts none no_end =
+      → u.sent ≡ v.sent → (e.received ≡ count) × (e.sent ≡ d.sent) → (keep ≡ true → ⊥)
+      → (message ≡ End true → agrees (framing_now c.writer) (sum_of a.chunks) ≡ true → ⊥) → EndsRest c a.chunks message → Drains plan l n w u c e keep
+  drained fit a message keep h same counts none no_end stops =
       let some = some-bytes plan.packet message h.bytes h.is in
       let exact : count ≡ d.received + length h.bytes = omega (arith, h.came.counts, some.1, a.below, fit.most) in
       record {
@@ -252,11 +297,12 @@ module _ (plan : TalkPlan) (l m n : LineAt) (w v u : ClientAt) (c d e : Course) 
         same = counts.1 ∙ a.same;
         kept = λ keeps. absurd (none keeps);
         closed = λ f below. no_tail-message plan c a.chunks message (a.bytes ++ h.bytes) (a.bytes, h.bytes, a.spelled, h.is, refl) no_end;
+        halted = λ f. inl (record { chunks = a.chunks; message = message; spelled = (a.bytes, h.bytes, a.spelled, h.is, refl); stops = stops });
       }
 
   -- it ended where no message came
   pub drained_silent : IsPlan plan → Draining plan l m w v c d → (why : Unheard) → IsUnheard plan.packet plan.most m n d.received count why
-      → (why ≡ unheard_is.NoMemory → ⊥) → u.written ≡ v.written → (e.received ≡ count) × (e.sent ≡ d.sent) → Drains plan l n w u c e false
+      → (why ≡ unheard_is.NoMemory → ⊥) → u.sent ≡ v.sent → (e.received ≡ count) × (e.sent ≡ d.sent) → Drains plan l n w u c e false
   drained_silent fit a why h other same counts =
       let exact : count ≡ d.received + length h.bytes = omega (arith, h.came.counts, h.came.small, a.below, fit.most) in
       record {
@@ -267,11 +313,21 @@ module _ (plan : TalkPlan) (l m n : LineAt) (w v u : ClientAt) (c d e : Course) 
         same = counts.1 ∙ a.same;
         kept = λ keeps. absurd cc;
         closed = λ f below. no_tail-silent plan c a.chunks a.bytes h.bytes m n count why other a.spelled h.as_said (omega (arith, counts.0, below));
+        halted = λ f. inr (record {
+          chunks = a.chunks;
+          front = a.bytes;
+          rest = h.bytes;
+          spelled = a.spelled;
+          whole = refl;
+          why = why;
+          as_said = came-since plan l m n count e.received h.bytes why a.steady counts.0 h.as_said;
+          no_want = other;
+        });
       }
 
   -- the reply ended
   ended_whole : IsPlan plan → (a : Draining plan l m w v c d) → (reuse : Bool) → IsHeard plan.packet plan.most m n d.received count (End reuse)
-      → u.written ≡ v.written → (e.received ≡ count) × (e.sent ≡ d.sent) → is_complete (framing_now d.writer) ≡ true → Drains plan l n w u c e reuse
+      → u.sent ≡ v.sent → (e.received ≡ count) × (e.sent ≡ d.sent) → is_complete (framing_now d.writer) ≡ true → Drains plan l n w u c e reuse
   ended_whole fit a reuse h same counts complete =
       let some = some-bytes plan.packet (End reuse) h.bytes h.is in
       let exact : count ≡ d.received + length h.bytes = omega (arith, h.came.counts, some.1, a.below, fit.most) in
@@ -288,7 +344,9 @@ module _ (plan : TalkPlan) (l m n : LineAt) (w v u : ClientAt) (c d e : Course) 
             sum = sym (complete-agrees (framing_now c.writer) a.chunks a.within) ∙ ap is_complete (sym a.framing) ∙ complete;
           },
           omega (arith, counts.0, h.below),
+          h.steady ∙ a.steady,
         );
+        halted = λ closes. inl (record { chunks = a.chunks; message = End reuse; spelled = (a.bytes, h.bytes, a.spelled, h.is, refl); stops = inl closes });
         closed = λ closes below. no_tail-message plan c a.chunks (End reuse) (a.bytes ++ h.bytes) (a.bytes, h.bytes, a.spelled, h.is, refl)
             (λ is sum. let lets : reuse ≡ true = cc in absurd (let stays = closes in cc));
       }
@@ -318,11 +376,11 @@ module _ (plan : TalkPlan) (l m n : LineAt) (w v u : ClientAt) (c d e : Course) 
   not_agreed a (cause_is.Status status) h sum = h
 
   -- memory was wanted at a message
-  pub drained_wanted : Draining plan l m w v c d → (message : Message) → IsHeard plan.packet plan.most m n d.received count message → u.written ≡ v.written
+  pub drained_wanted : Draining plan l m w v c d → (message : Message) → IsHeard plan.packet plan.most m n d.received count message → u.sent ≡ v.sent
       → (bytes : List ℕ) × IsDropped l n w u bytes
   drained_wanted a message h same = (a.bytes ++ h.bytes, dropped-more l m n w v u a.bytes h.bytes d.received count a.dropped h.came same)
 
-  pub drained_silent_wanted : Draining plan l m w v c d → (why : Unheard) → IsUnheard plan.packet plan.most m n d.received count why → u.written ≡ v.written
+  pub drained_silent_wanted : Draining plan l m w v c d → (why : Unheard) → IsUnheard plan.packet plan.most m n d.received count why → u.sent ≡ v.sent
       → (bytes : List ℕ) × IsDropped l n w u bytes
   drained_silent_wanted a why h same = (a.bytes ++ h.bytes, dropped-more l m n w v u a.bytes h.bytes d.received count a.dropped h.came same)
 
@@ -332,9 +390,31 @@ module _ (plan : TalkPlan) (l m n : LineAt) (w v u : ClientAt) (c d e : Course) 
       → (bytes : List ℕ) × IsDropped l n w u bytes
   chunk_wanted a chunk h t = drained_wanted a (Chunk chunk) h (chunk-silent chunk turn_is.NoMemory a.lost.failed t)
 
-  pub chunk_over : IsPlan plan → Draining plan l m w v c d → (chunk : List ℕ) (turn : Turn) → (turn ≡ turn_is.NoMemory → ⊥)
+  -- a chunk that is refused goes beyond what was due
+  chunk-stops : (a : Draining plan l m w v c d) (chunk : List ℕ) (turn : Turn) → (turn ≡ turn_is.NoMemory → ⊥) → (turn ≡ turn_is.On → ⊥) → (turn ≡ turn_is.Lost → ⊥)
+      → IsChunkTurn plan chunk read_to e v u turn → EndsRest c a.chunks (Chunk chunk)
+  chunk-stops a chunk turn_is.On want on lost h = absurd (on refl)
+  chunk-stops a chunk (turn_is.Done reuse) want on lost h = absurd h
+  chunk-stops a chunk (turn_is.Failed cause_is.NoLink) want on lost h = absurd h
+  chunk-stops a chunk (turn_is.Failed cause_is.Line) want on lost h = absurd h
+  chunk-stops a chunk (turn_is.Failed cause_is.Ended) want on lost h = absurd h
+  chunk-stops a chunk (turn_is.Failed cause_is.BadReply) want on lost h = absurd (let none = h.0 in let some = a.lost.headers in cc)
+  chunk-stops a chunk (turn_is.Failed cause_is.Disagree) want on lost h =
+      sym (beyond-exceeds (framing_now c.writer) a.chunks (length chunk) a.within) ∙ ap (λ (f : Framing). is_beyond f (length chunk)) (sym a.framing) ∙ h.1
+  chunk-stops a chunk (turn_is.Failed cause_is.TooLong) want on lost h = absurd h
+  chunk-stops a chunk (turn_is.Failed (cause_is.Status status)) want on lost h = absurd h
+  chunk-stops a chunk turn_is.Lost want on lost h = absurd (lost refl)
+  chunk-stops a chunk (turn_is.LostAtEnd reuse) want on lost h = absurd h
+  chunk-stops a chunk turn_is.Unread want on lost h = absurd h
+  chunk-stops a chunk turn_is.Cut want on lost h = absurd h
+  chunk-stops a chunk (turn_is.Bad status) want on lost h = absurd h
+  chunk-stops a chunk turn_is.NoMemory want on lost h = absurd (want refl)
+
+  pub chunk_over : IsPlan plan → Draining plan l m w v c d → (chunk : List ℕ) (turn : Turn) → (turn ≡ turn_is.NoMemory → ⊥) → (turn ≡ turn_is.On → ⊥) → (turn ≡ turn_is.Lost → ⊥)
       → IsHeard plan.packet plan.most m n d.received count (Chunk chunk) → IsChunkTurn plan chunk read_to e v u turn → Drains plan l n w u c e false
-  chunk_over fit a chunk turn other h t = drained fit a (Chunk chunk) false h (chunk-silent chunk turn a.lost.failed t) (chunk-counts chunk turn other t) (λ keeps. absurd cc) (λ is sum. absurd cc)
+  chunk_over fit a chunk turn other on lost h t =
+      drained fit a (Chunk chunk) false h (chunk-silent chunk turn a.lost.failed t) (chunk-counts chunk turn other t) (λ keeps. absurd cc) (λ is sum. absurd cc)
+      (chunk-stops a chunk turn other on lost t)
 
   pub end_wanted : Draining plan l m w v c d → (reuse : Bool) → IsHeard plan.packet plan.most m n d.received count (End reuse) → IsEndTurn reuse read_to e v u turn_is.NoMemory
       → (bytes : List ℕ) × IsDropped l n w u bytes
@@ -344,14 +424,14 @@ module _ (plan : TalkPlan) (l m n : LineAt) (w v u : ClientAt) (c d e : Course) 
       → IsHeard plan.packet plan.most m n d.received count (End reuse) → IsEndTurn reuse read_to e v u (turn_is.Failed why) → Drains plan l n w u c e false
   end_over fit a reuse why h t =
       drained fit a (End reuse) false h (end-silent reuse (turn_is.Failed why) a.lost.failed t) (end-counts reuse (turn_is.Failed why) (λ is. absurd cc) t) (λ keeps. absurd cc)
-      (λ is sum. not_agreed a why t sum)
+      (λ is sum. not_agreed a why t sum) (inr (no-true (agrees (framing_now c.writer) (sum_of a.chunks)) (λ sum. not_agreed a why t sum)))
 
 -- a message that is no part of the rest of a reply, and none at all: the client is as it was
-module _ (plan : TalkPlan) (l m n : LineAt) (w v : ClientAt) (c d : Course) (count : ℕ) where
-  pub other_over : IsPlan plan → Draining plan l m w v c d → (message : Message) → (message ≡ End true → ⊥) → IsHeard plan.packet plan.most m n d.received count message
+module _ (plan : TalkPlan) (l m n : Moment) (w v : Moment) (c d : Course) (count : ℕ) where
+  pub other_over : IsPlan plan → (a : Draining plan l m w v c d) (message : Message) → (message ≡ End true → ⊥) → EndsRest c a.chunks message → IsHeard plan.packet plan.most m n d.received count message
       → Drains plan l n w v c (record d { received = count }) false
-  other_over fit a message other h =
-      drained plan l m n w v v c d (record d { received = count }) count fit a message false h refl (refl, refl) (λ keeps. absurd cc) (λ is sum. other is)
+  other_over fit a message other stops h =
+      drained plan l m n w v v c d (record d { received = count }) count fit a message false h refl (refl, refl) (λ keeps. absurd cc) (λ is sum. other is) stops
 
   pub silent_over : IsPlan plan → Draining plan l m w v c d → (want : NoMemory) (why : Unheard) → IsUnheard plan.packet plan.most m n d.received count why
       → IsDrained plan l n w v c (record d { received = count }) (closed_by want why)

@@ -11,7 +11,8 @@ use Rattle.http_body_in.specs.Body.{Data}
 use Rattle.http_body_in.specs.State.{taken_of, failed_of}
 use Rattle.http_body_in.specs.Walks.{counted}
 use Rattle.http_out.specs.Writer.{new_writer}
-use Rattle.ajp_talk.specs.Moments.{LineAt, ClientAt, BodyAt, Moment, data_at, Traffic, Takes, IsFrontOf}
+use Rattle.jk_io.specs.Moments.{Moment}
+use Rattle.ajp_talk.specs.Moments.{BodyAt, TalkMoment, data_at, Traffic, IsSteady, Takes, IsFrontOf}
 use Rattle.ajp_talk.specs.Replies.{kind_of}
 use Rattle.ajp_talk.specs.Owed.{ping_of, pong_of, first_packet, request_of, opening, owed, IsSealed}
 use Rattle.ajp_talk.specs.Talk.{IsTalk, HasFailed, HasNoPong, IsPingCause, HasWanted, SentFor}
@@ -42,7 +43,7 @@ ping-length plan =
     ]
 
 -- no CPing is wanted
-pub not_wanted : (plan : TalkPlan) (l : LineAt) (sent received : ℕ) → plan.ping ≡ false → 0 < plan.most → sent ≡ 0 → received ≡ 0 → IsAnswered plan l l sent received
+pub not_wanted : (plan : TalkPlan) (l : Moment) (sent received : ℕ) → plan.ping ≡ false → 0 < plan.most → sent ≡ 0 → received ≡ 0 → IsAnswered plan l l sent received
 not_wanted plan l sent received none some none_sent none_received =
     let ping : ping_of plan ≡ [] = cond-false plan.ping (packet false (10 ∷ [])) [] none in
     let pong : pong_of plan ≡ [] = cond-false plan.ping (packet true (9 ∷ [])) [] none in
@@ -50,12 +51,13 @@ not_wanted plan l sent received none some none_sent none_received =
       traffic = subst (λ (x : List ℕ). Traffic l l x (ping_of plan)) (sym pong) (subst (Traffic l l []) (sym ping) (traffic-none l));
       sent_is = none_sent ∙ sym (ap length ping);
       received_is = none_received ∙ sym (ap length pong);
+      steady = refl;
       below = omega (arith, none_received, some);
     }
 
-module _ (plan : TalkPlan) (l mid l' : LineAt) (before sent received0 received : ℕ) where
+module _ (plan : TalkPlan) (l mid l' : Moment) (before sent received0 received : ℕ) where
   -- what went over the link up to here
-  went : (put got : List ℕ) → Sends l mid before sent put → HasCome mid.incoming mid.received l'.incoming l'.received got → l'.sent ≡ mid.sent → Traffic l l' got put
+  went : (put got : List ℕ) → Sends l mid before sent put → HasCome mid l' got → l'.sent ≡ mid.sent → Traffic l l' got put
   went put got d h same = traffic-came l mid l' [] [] got put (traffic-sent l l mid [] [] put before sent (traffic-none l) d) h same
 
   pub ping_line : plan.ping ≡ true → 0 < plan.most → before ≡ 0 → received ≡ 0 → (put : List ℕ) → Sends l mid before sent put → IsFrontOf put (packet false (10 ∷ [])) → Rose l.faults mid.faults
@@ -106,19 +108,20 @@ module _ (plan : TalkPlan) (l mid l' : LineAt) (before sent received0 received :
       unanswered_with h.bytes unheard_is.Wrong wanted none_sent none_received d h.came
       (h.below, sym (ping-is plan wanted), no_pong-other plan.packet message h.bytes h.is other)
 
-  pub heard_pong : (message : Message) → plan.ping ≡ true → before ≡ 0 → received0 ≡ 0 → Sends l mid before sent (packet false (10 ∷ []))
+  pub heard_pong : (message : Message) → plan.ping ≡ true → before ≡ 0 → received0 ≡ 0 → Sends l mid before sent (packet false (10 ∷ [])) → IsSteady l mid
       → IsHeard plan.packet plan.most mid l' received0 received message → IsGreeting plan l l' sent received (pong_only message)
-  heard_pong (Headers parts) wanted none_sent none_received d h = other_message (Headers parts) wanted none_sent none_received d h (λ e. absurd cc)
-  heard_pong (Chunk bytes) wanted none_sent none_received d h = other_message (Chunk bytes) wanted none_sent none_received d h (λ e. absurd cc)
-  heard_pong (End reuse) wanted none_sent none_received d h = other_message (End reuse) wanted none_sent none_received d h (λ e. absurd cc)
-  heard_pong (Ask n) wanted none_sent none_received d h = other_message (Ask n) wanted none_sent none_received d h (λ e. absurd cc)
-  heard_pong Pong wanted none_sent none_received d h =
+  heard_pong (Headers parts) wanted none_sent none_received d steady h = other_message (Headers parts) wanted none_sent none_received d h (λ e. absurd cc)
+  heard_pong (Chunk bytes) wanted none_sent none_received d steady h = other_message (Chunk bytes) wanted none_sent none_received d h (λ e. absurd cc)
+  heard_pong (End reuse) wanted none_sent none_received d steady h = other_message (End reuse) wanted none_sent none_received d h (λ e. absurd cc)
+  heard_pong (Ask n) wanted none_sent none_received d steady h = other_message (Ask n) wanted none_sent none_received d h (λ e. absurd cc)
+  heard_pong Pong wanted none_sent none_received d steady h =
       let bytes : h.bytes ≡ pong_of plan = pong-is plan.packet h.bytes h.is ∙ sym (pong-of plan wanted) in
       record {
         traffic = subst (λ (x : List ℕ). Traffic l l' x (ping_of plan)) bytes
             (subst (Traffic l l' h.bytes) (sym (ping-is plan wanted)) (went (packet false (10 ∷ [])) h.bytes d h.came.came h.came.sent));
         sent_is = sent-ping wanted none_sent d;
         received_is = omega (arith, h.came.counts, none_received, h.came.small, ap length bytes);
+        steady = h.steady ∙ steady;
         below = h.below;
       }
 
@@ -140,7 +143,7 @@ module _ (plan : TalkPlan) (l mid l' : LineAt) (before sent received0 received :
 
 -- ---- no CPong came
 
-module _ (plan : TalkPlan) (s n : Moment) (sent received : ℕ) where
+module _ (plan : TalkPlan) (s n : TalkMoment) (sent received : ℕ) where
   no_pong : (cause : Cause) (rest put : List ℕ) → plan.ping ≡ true → Traffic s.line n.line rest put → sent ≡ length put → received ≡ length rest → received < 8589934592 → length put ≤ 5
       → IsPingCause plan s n rest cause → ((cause ≡ cause_is.TooLong) ↔ (plan.most ≤ received)) → SentFor cause put (ping_of plan)
       → n.client ≡ s.client → n.body ≡ s.body → HasNoPong plan s n (record { got = false; headers = false; passed = false; beyond = false }) cause None (counted sent received)
@@ -201,7 +204,7 @@ request-length plan fit =
 abbrev pub fresh : TalkPlan → ℕ → ℕ → Course
 fresh plan sent received = record { writer = new_writer (kind_of plan); headers = false; told = record { status = 0; body = 0 }; sent = sent; received = received }
 
-module _ (plan : TalkPlan) (s n : Moment) (mid : LineAt) (before sent received : ℕ) where
+module _ (plan : TalkPlan) (s n : TalkMoment) (mid : Moment) (before sent received : ℕ) where
   pub stand_begun : (put : List ℕ) → IsPlan plan → taken_of s.body.body ≡ length plan.first → failed_of s.body.body ≡ None → IsAnswered plan s.line mid before received
       → Sends mid n.line before sent put → IsFrontOf put (request_of plan) → n.client ≡ s.client → n.body ≡ s.body
       → Stands plan s n (fresh plan sent received) [] [] (ping_of plan ++ put)
@@ -214,7 +217,7 @@ module _ (plan : TalkPlan) (s n : Moment) (mid : LineAt) (before sent received :
       record {
         accepts = record { spelled = refl; front = tt; unlisted = tt; within = tt };
         traffic = subst (λ (x : List ℕ). Traffic s.line n.line x (ping_of plan ++ put)) (sym none) traffic;
-        written = ap (λ (w : ClientAt). w.written) client ∙ sym (appended-nil s.client.written);
+        written = ap (λ (w : Moment). w.sent) client ∙ sym (appended-nil s.client.sent);
         writer = refl;
         headers = refl;
         told = tt;
@@ -237,13 +240,15 @@ module _ (plan : TalkPlan) (s n : Moment) (mid : LineAt) (before sent received :
   front-owed put (Some d) front = subst (IsFrontOf (ping_of plan ++ put)) (sym (append-nil (opening plan))) (front-behind (ping_of plan) put (request_of plan) front)
 
   pub begun : IsPlan plan → taken_of s.body.body ≡ length plan.first → failed_of s.body.body ≡ None → IsAnswered plan s.line mid before received
-      → Sends mid n.line before sent (request_of plan) → n.client ≡ s.client → n.body ≡ s.body → At plan s n (fresh plan sent received)
-  begun fit first going h d client body = record {
+      → Sends mid n.line before sent (request_of plan) → IsSteady mid n.line → n.client ≡ s.client → n.body ≡ s.body → At plan s n (fresh plan sent received)
+  begun fit first going h d steady client body = record {
     past = [];
     came = [];
     put = ping_of plan ++ request_of plan;
     stands = stand_begun (request_of plan) fit first going h d (front-all (request_of plan)) client body;
     owed = all-owed (data_at s.body);
+    opened = front-all (opening plan);
+    steady = steady ∙ h.steady;
   }
 
   pub request_failed : (put : List ℕ) → IsPlan plan → taken_of s.body.body ≡ length plan.first → failed_of s.body.body ≡ None → IsAnswered plan s.line mid before received
@@ -254,7 +259,7 @@ module _ (plan : TalkPlan) (s n : Moment) (mid : LineAt) (before sent received :
       failed_with plan s n n (fresh plan sent received) (fresh plan sent received) [] [] (ping_of plan ++ put) [] None cause_is.Line fit first st st.traffic
       (refl, part-nil plan.packet, omega (arith, rose, faults))
       (below-limit cause_is.Line plan.most received (λ e. absurd cc) h.below)
-      (front-owed put (data_at s.body) front) refl refl (record { sent = refl; passed = refl; told = refl }) refl st.received (omega (arith, h.below, fit.most))
+      (inl (front-behind (ping_of plan) put (request_of plan) front)) (front-owed put (data_at s.body) front) (λ some. absurd cc) refl refl (record { sent = refl; passed = refl; told = refl }) refl st.received (omega (arith, h.below, fit.most))
 
   pub request_wanted : (put : List ℕ) → IsPlan plan → taken_of s.body.body ≡ length plan.first → failed_of s.body.body ≡ None → IsAnswered plan s.line mid before received
       → Sends mid n.line before sent put → IsFrontOf put (request_of plan) → n.client ≡ s.client → n.body ≡ s.body → HasWanted plan s n
@@ -269,8 +274,9 @@ module _ (plan : TalkPlan) (s n : Moment) (mid : LineAt) (before sent received :
           spelled = refl;
           front = inl tt;
           traffic = st.traffic;
+          opened = inl (front-behind (ping_of plan) put (request_of plan) front);
           sent = front-owed put (data_at s.body) front;
-          written = all_put s.client.written n.client.written [] st.written;
+          written = all_put s.client.sent n.client.sent [] st.written;
           body = used-takes s.body n.body st.taken st.takes;
         };
       }

@@ -11,15 +11,16 @@ use Rattle.ajp_reply.specs.Spelling.{Spells, IsMessage}
 use Rattle.ajp_reply.proofs.StreamLaws.{no_packet-begins, too_long-begins, unread-begins}
 use Rattle.http_body_in.specs.Walks.{counted}
 use Rattle.ajp_talk.specs.Hearing.{unheard, undecoded}
-use Rattle.ajp_talk.specs.Moments.{LineAt}
+use Rattle.jk_io.specs.Moments.{Moment}
+use Rattle.ajp_talk.specs.Moments.{IsSteady}
 use Rattle.ajp_talk.specs.Talk.{IsNext}
 use Rattle.ajp_talk.specs.Turns.{Came, IsHeard, IsUnheard}
 use Rattle.ajp_talk.specs.declared.turn.Unheard.TheVariants as unheard_is
 use Rattle.ajp_talk.proofs.MessageLaws.{part-nil}
 
-module _ (packet : ℕ) (l l' : LineAt) where
+module _ (packet : ℕ) (l l' : Moment) where
   abbrev pub Reads : Result (List ℕ) PacketError → Type 0
-  Reads result = ReadsPacket true packet result l.incoming l.received l'.incoming l'.received
+  Reads result = ReadsPacket true packet result l l'
 
   pub narrow : (result : Result (List ℕ) PacketError) → Reads result → IfOk result (λ payload. length payload < 65536)
   narrow (Ok payload) r = r.are.fits.narrow
@@ -33,11 +34,12 @@ module _ (packet : ℕ) (l l' : LineAt) where
       record { came = r.came; sent = sent; counts = counts ∙ ap (counted count) long; small = omega (arith, small, long); no_fewer = no_fewer }
 
   pub heard-from : (most : ℕ) (payload : List ℕ) (message : Message) (count count' n : ℕ) → Reads (Ok payload) → n ≡ count_of (Ok payload) → n < 4294967400
-      → count' ≡ counted count n → l'.sent ≡ l.sent → l.faults ≤ l'.faults → count' < most → Spells message payload → IsMessage message
+      → count' ≡ counted count n → l'.sent ≡ l.sent → l.faults ≤ l'.faults → count' < most → IsSteady l l' → Spells message payload → IsMessage message
       → IsHeard packet most l l' count count' message
-  heard-from most payload message count count' n r value small counts sent no_fewer below spelled fits = record {
+  heard-from most payload message count count' n r value small counts sent no_fewer below steady spelled fits = record {
     bytes = r.bytes;
     came = came (Ok payload) count count' n r value small counts sent no_fewer;
+    steady = steady;
     is = record { payload = payload; packet = r.are; spelled = spelled };
     fits = fits;
     below = below;

@@ -1,35 +1,39 @@
 -- A client that is gone, and what is read of the reply behind that.
-use Rattle.std.proofs.Common.{◌≡◌, ℕ, ◌+◌, ◌-◌, ◌≤◌, ◌<◌, Bool, true, false, ◌&&◌, not, List, [], ◌∷◌, ◌++◌, length, refl, sym, ap, subst, ◌∙◌, arith, append-nil, Option, Some, IfSome, is_some, inl, inr, unwrap_or, ◌⊎◌}
+use Rattle.std.proofs.Common.{◌≡◌, ◌≢◌, ℕ, ◌+◌, ◌-◌, ◌≤◌, ◌<◌, Bool, true, false, ◌&&◌, not, List, [], ◌∷◌, ◌++◌, length, refl, sym, ap, subst, ◌∙◌, arith, append-nil, append_assoc, Option, Some, IfSome, is_some, inl, inr, unwrap_or, ◌⊎◌}
 use Rattle.std.proofs.lemmas.Bool.{and_parts, ltb-false, not-true, and_cases, not-false}
 use Rattle.jk_io.specs.Told.{Rose}
 use Rattle.ajp_reply.specs.declared.message.Message.{Message}
 use Rattle.ajp_reply.specs.declared.message.Message.TheVariants.{Headers, Chunk, End, Ask, Pong}
 use Rattle.ajp_reply.specs.declared.message.ReplyParts.{ReplyParts}
-use Rattle.ajp_reply.specs.Stream.{Spelled, IsFront, head_of}
-use Rattle.ajp_reply.proofs.StreamLaws.{spelled-behind, one_reading, goes_on}
+use Rattle.ajp_reply.specs.Stream.{Spelled, IsFront, IsForm, NoReply, head_of}
+use Rattle.ajp_reply.proofs.StreamLaws.{spelled-behind, one_reading, goes_on, no_reply-other, no_reply-none}
 use Rattle.http_out.specs.declared.framing.Framing.{Framing}
 use Rattle.http_out.specs.declared.framing.Framing.TheVariants as By
 use Rattle.http_out.specs.Framing.{spent}
 use Rattle.http_out.specs.Writer.{Writer, IsOpen, framing_now, framing_after}
 use Rattle.http_out.specs.Writer.{counted as counted_chunk}
-use Rattle.ajp_talk.specs.Moments.{LineAt, BodyAt, Moment, Traffic, IsUsed}
+use Rattle.jk_io.specs.Moments.{Moment}
+use Rattle.ajp_talk.specs.Moments.{BodyAt, TalkMoment, Traffic, IsSteady, IsUsed, IsFrontOf}
 use Rattle.ajp_talk.specs.Replies.{is_good, kind_of, chunks_of, sum_of, framing_in, exceeds, agrees, IsReply}
-use Rattle.ajp_talk.specs.Owed.{pong_of}
-use Rattle.ajp_talk.specs.Talk.{IsGone, IsBrokenOff, HasWanted, IsNoEnd}
-use Rattle.ajp_talk.specs.Turns.{IsHeard, Acts, IsTurn}
-use Rattle.ajp_talk.specs.Drains.{IsLostCourse, chunk_messages, IsTail, IsDropped, Drains, IsNoTail}
+use Rattle.ajp_talk.specs.Owed.{pong_of, opening}
+use Rattle.ajp_talk.specs.Talk.{IsGone, IsBrokenOff, HasWanted, IsNoEnd, Halt, IsHalted}
+use Rattle.ajp_talk.specs.Talk as halt_is
+use Rattle.ajp_talk.specs.Turns.{IsHeard, Acts, IsTurn, CameUnheard}
+use Rattle.ajp_talk.specs.Drains.{IsLostCourse, chunk_messages, IsTail, IsDropped, Drains, IsNoTail, EndsRest, IsStopped, IsCutShort}
 use Rattle.ajp_talk.specs.Ends.{IsPlan, bytes_end}
 use Rattle.ajp_talk.specs.declared.plan.TalkPlan.{TalkPlan}
 use Rattle.ajp_talk.specs.declared.course.Course.{Course}
 use Rattle.ajp_talk.specs.declared.turn.Turn.TheVariants as turn_is
-use Rattle.ajp_talk.proofs.ReplyLaws.{framing_after-due, framing_after-none, framing_after-closing, framing_after-chunks, writer_for, some-of, same-equals}
+use Rattle.ajp_talk.specs.declared.turn.Unheard.{Unheard}
+use Rattle.ajp_talk.specs.declared.turn.Unheard.TheVariants as unheard_is
+use Rattle.ajp_talk.proofs.ReplyLaws.{framing_after-due, framing_after-none, framing_after-closing, framing_after-chunks, writer_for, some-of, same-equals, same-tests}
 use Rattle.ajp_talk.proofs.AskLaws.{traffic-came, untaken-same}
 use Rattle.ajp_talk.proofs.CourseLaws.{At, Next, next, longer, chunk-sum, end-sum}
 use Rattle.ajp_talk.proofs.TurnLaws.{bytes-are, few-sent}
 use Rattle.ajp_talk.proofs.EndLaws.{no_turn, chunk_broken, end_broken}
 
 -- A write to the client failed behind a head: what had been accepted by then, and what was due of the body.
-pub record LostAt (plan : TalkPlan) (s n : Moment) (c : Course) : Type 0 where
+pub record LostAt (plan : TalkPlan) (s n : TalkMoment) (c : Course) : Type 0 where
   pub past : List Message
   pub came : List ℕ
   pub put : List ℕ
@@ -45,6 +49,8 @@ pub record LostAt (plan : TalkPlan) (s n : Moment) (c : Course) : Type 0 where
   pub within : exceeds (framing_in plan parts) (sum_of (chunks_of past)) ≡ false
   pub framing : framing_now c.writer ≡ framing_after (framing_in plan parts) (chunks_of past)
   pub lost : IsLostCourse c
+  pub opened : IsFrontOf (opening plan) put
+  pub steady : IsSteady s.line n.line
 
 -- what is due of a length agrees with what comes exactly where all of it agrees
 pub agrees-later : (f : Framing) (chunks : List (List ℕ)) (n : ℕ) → exceeds f (sum_of chunks) ≡ false → agrees (framing_after f chunks) n ≡ agrees f (sum_of chunks + n)
@@ -55,6 +61,16 @@ agrees-later (By.Length due) chunks n w =
     ∙ same-equals (due - sum_of chunks) n due (sum_of chunks + n) (λ h. omega arith) (λ h. omega arith)
 agrees-later By.Closing chunks n w = ap (λ (f : Framing). agrees f n) (framing_after-closing chunks)
 agrees-later By.Chunks chunks n w = ap (λ (f : Framing). agrees f n) (framing_after-chunks chunks)
+
+-- and goes beyond it exactly where all of it does
+exceeds-later : (f : Framing) (chunks : List (List ℕ)) (n : ℕ) → exceeds f (sum_of chunks) ≡ false → exceeds (framing_after f chunks) n ≡ exceeds f (sum_of chunks + n)
+exceeds-later By.NoBody chunks n w = ap (λ (f : Framing). exceeds f n) (framing_after-none chunks)
+exceeds-later (By.Length due) chunks n w =
+    let within = ltb-false due (sum_of chunks) w in
+    ap (λ (f : Framing). exceeds f n) (framing_after-due due chunks)
+    ∙ same-tests (due - sum_of chunks) n due (sum_of chunks + n) (λ h. omega arith) (λ h. omega arith)
+exceeds-later By.Closing chunks n w = ap (λ (f : Framing). exceeds f n) (framing_after-closing chunks)
+exceeds-later By.Chunks chunks n w = ap (λ (f : Framing). exceeds f n) (framing_after-chunks chunks)
 
 -- ---- chunks behind other messages
 
@@ -75,7 +91,7 @@ sum-behind [] past = omega arith
 sum-behind (chunk ∷ chunks) past = omega (arith, sum-behind chunks past)
 
 -- the messages so far and an end that agrees with what was due are a reply
-pub lost_reply : (plan : TalkPlan) (s n : Moment) (c : Course) (a : LostAt plan s n c) (bytes : List ℕ) (t : IsTail plan c bytes)
+pub lost_reply : (plan : TalkPlan) (s n : TalkMoment) (c : Course) (a : LostAt plan s n c) (bytes : List ℕ) (t : IsTail plan c bytes)
     → IsReply plan (End true ∷ (chunk_messages t.chunks ++ a.past)) (a.came ++ bytes)
 lost_reply plan s n c a bytes t =
     let some : is_some (head_of a.past) ≡ true = ap is_some a.head in
@@ -92,6 +108,12 @@ lost_reply plan s n c a bytes t =
       sum = subst (λ (o : Option ReplyParts). IfSome o (λ parts. agrees (framing_in plan parts) (sum_of (chunks_of (chunk_messages t.chunks ++ a.past))) ≡ true))
           (sym (head-behind t.chunks a.past ∙ a.head)) sum;
     }
+
+-- where the link isn't kept at an end though it needn't be closed, the end doesn't let it serve again
+ended-unusable : (again closes : Bool) → (again && not closes) ≡ false → closes ≡ false → again ≡ false
+ended-unusable false closes e goes = refl
+ended-unusable true true e goes = absurd cc
+ended-unusable true false e goes = absurd cc
 
 -- where the link isn't kept at an end, the end doesn't let it serve again, or it is to be closed
 not_kept : (plan : TalkPlan) (reuse : Bool) (past : List Message) (bytes : List ℕ) → Spelled plan.packet (End reuse ∷ past) bytes → (reuse && not plan.close_on_client) ≡ false
@@ -132,7 +154,7 @@ head-later (Ask most ∷ later) past parts h f = head-later later past parts h f
 head-later (Pong ∷ later) past parts h f = absurd f
 
 -- what came behind the accepted messages doesn't end the reply
-pub no_end-from : (plan : TalkPlan) (s n : Moment) (c c' : Course) (a : LostAt plan s n c) (bytes : List ℕ) → (c'.received < plan.most → IsNoTail plan c bytes)
+pub no_end-from : (plan : TalkPlan) (s n : TalkMoment) (c c' : Course) (a : LostAt plan s n c) (bytes : List ℕ) → (c'.received < plan.most → IsNoTail plan c bytes)
     → c'.received ≡ length (pong_of plan ++ (a.came ++ bytes)) → IsNoEnd plan (a.came ++ bytes)
 no_end-from plan s n c c' a bytes none received = λ all r below.
     let on = goes_on plan.packet a.past (End true ∷ all) a.came bytes a.broken.spelled r.spelled in
@@ -160,17 +182,17 @@ spent-now w w' chunk e = ap (λ (o : Option Framing). unwrap_or o By.NoBody) e
 open-spent : (w w' : Writer) (chunk : List ℕ) → w'.framing ≡ (counted_chunk w chunk).framing → w'.ended ≡ w.ended → w.ended ≡ false → IsOpen w'
 open-spent w w' chunk e ended going = record { framing = spent (framing_now w) (length chunk); given = e; goes_on = ended ∙ going }
 
-module _ (plan : TalkPlan) (s m n : Moment) (c c' : Course) where
+module _ (plan : TalkPlan) (s m n : TalkMoment) (c c' : Course) where
   abbrev read_to : ℕ → Course
   read_to count = record c { received = count }
 
-  lost_chunk : (a : At plan s m c) (chunk : List ℕ) (mid : LineAt) (count : ℕ) → IsPlan plan → s.client.faults ≤ m.client.faults
+  lost_chunk : (a : At plan s m c) (chunk : List ℕ) (mid : Moment) (count : ℕ) → IsPlan plan → s.client.faults ≤ m.client.faults
       → IsHeard plan.packet plan.most m.line mid c.received count (Chunk chunk)
       → Acts plan (Chunk chunk) (read_to count) c' mid n.line m.client n.client m.body n.body turn_is.Lost → LostAt plan s n c'
   lost_chunk a chunk mid count fit faults h acts =
       let st = a.stands in
-      let nx = next plan s m mid c count (Chunk chunk) a.past a.came a.put fit st h in
-      let here = subst (λ (l : LineAt). Next plan s l c count (Chunk chunk) a.past a.came a.put h.bytes) (sym acts.1) nx in
+      let nx = next plan s m mid c count (Chunk chunk) a.past a.came a.put fit st a.opened a.steady h in
+      let here = subst (λ (l : Moment). Next plan s l c count (Chunk chunk) a.past a.came a.put h.bytes) (sym acts.1) nx in
       let lost = acts.0.2 in
       let some = sym st.headers ∙ acts.0.0 in
       let head = some-of (head_of a.past) some in
@@ -200,9 +222,11 @@ module _ (plan : TalkPlan) (s m n : Moment) (c c' : Course) where
           opened = open-spent c.writer c'.writer chunk lost.writer.framing lost.writer.ended (ap (λ (w : Writer). w.ended) writer);
           failed = lost.writer.failed;
         };
+        opened = a.opened;
+        steady = here.steady;
       }
 
-  lost_message : (a : At plan s m c) (message : Message) (mid : LineAt) (count : ℕ) → IsPlan plan → s.client.faults ≤ m.client.faults
+  lost_message : (a : At plan s m c) (message : Message) (mid : Moment) (count : ℕ) → IsPlan plan → s.client.faults ≤ m.client.faults
       → IsHeard plan.packet plan.most m.line mid c.received count message
       → Acts plan message (read_to count) c' mid n.line m.client n.client m.body n.body turn_is.Lost → LostAt plan s n c'
   lost_message a (Headers parts) mid count fit faults h acts = absurd acts.0
@@ -217,7 +241,7 @@ module _ (plan : TalkPlan) (s m n : Moment) (c c' : Course) where
 
   -- ---- the last write failed
 
-  end_message : (a : At plan s m c) (reuse keep : Bool) (message : Message) (mid : LineAt) (count : ℕ) → IsPlan plan → s.client.faults ≤ m.client.faults
+  end_message : (a : At plan s m c) (reuse keep : Bool) (message : Message) (mid : Moment) (count : ℕ) → IsPlan plan → s.client.faults ≤ m.client.faults
       → keep ≡ (reuse && not plan.close_on_client)
       → IsHeard plan.packet plan.most m.line mid c.received count message
       → Acts plan message (read_to count) c' mid n.line m.client n.client m.body n.body (turn_is.LostAtEnd reuse) → IsGone plan s n false keep (bytes_end c')
@@ -225,8 +249,8 @@ module _ (plan : TalkPlan) (s m n : Moment) (c c' : Course) where
   end_message a reuse keep (Chunk chunk) mid count fit faults e h acts = absurd acts.0
   end_message a reuse keep (End again) mid count fit faults e h acts =
       let st = a.stands in
-      let nx = next plan s m mid c count (End again) a.past a.came a.put fit st h in
-      let here = subst (λ (l : LineAt). Next plan s l c count (End again) a.past a.came a.put h.bytes) (sym acts.1) nx in
+      let nx = next plan s m mid c count (End again) a.past a.came a.put fit st a.opened a.steady h in
+      let here = subst (λ (l : Moment). Next plan s l c count (End again) a.past a.came a.put h.bytes) (sym acts.1) nx in
       let is = acts.0.5 in
       let some = sym st.headers ∙ acts.0.1 in
       let received : c'.received ≡ count = ap (λ (x : Course). x.received) is in
@@ -237,6 +261,7 @@ module _ (plan : TalkPlan) (s m n : Moment) (c c' : Course) where
         came = a.came ++ h.bytes;
         rest = [];
         put = a.put;
+        opened = a.opened;
         below = omega (arith, nx.counts, nx.below);
         broken = end_broken plan s m n c c' a again count h.bytes here acts.0.1 acts.0.3 (untaken-same m.body n.body acts.2);
         counted = subst (λ (x : List ℕ). bytes_end c' ≡ length a.put + length (pong_of plan ++ x)) (sym all)
@@ -247,6 +272,7 @@ module _ (plan : TalkPlan) (s m n : Moment) (c c' : Course) where
             let both = and_parts reuse (not plan.close_on_client) (sym e ∙ f) in
             let lets : again ≡ true = sym acts.0.0 ∙ both.0 in (
               not-true plan.close_on_client both.1,
+              here.steady,
               (
                 a.past,
                 subst (λ (x : List ℕ). IsReply plan (End true ∷ a.past) x) (sym all) (record {
@@ -259,6 +285,12 @@ module _ (plan : TalkPlan) (s m n : Moment) (c c' : Course) where
             );
         closed = λ f. not_kept plan again a.past ((a.came ++ h.bytes) ++ []) (subst (Spelled plan.packet (End again ∷ a.past)) (sym all) nx.spelled)
             (subst (λ (r : Bool). (r && not plan.close_on_client) ≡ false) acts.0.0 (sym e ∙ f));
+        halted = λ f goes.
+            let stays : again ≡ false = ended-unusable again plan.close_on_client (subst (λ (r : Bool). (r && not plan.close_on_client) ≡ false) acts.0.0 (sym e ∙ f)) goes in (
+              halt_is.Forbidden,
+              (a.past, subst (λ (r : Bool). Spelled plan.packet (End r ∷ a.past) ((a.came ++ h.bytes) ++ [])) stays (subst (Spelled plan.packet (End again ∷ a.past)) (sym all) nx.spelled)),
+            );
+        at_once = λ f. refl;
       }
   end_message a reuse keep (Ask ask) mid count fit faults e h acts = absurd acts.0
   end_message a reuse keep Pong mid count fit faults e h acts = absurd (let f = acts.0 in cc)
@@ -270,13 +302,14 @@ module _ (plan : TalkPlan) (s m n : Moment) (c c' : Course) where
 
 -- ---- the link is closed, or the rest is read
 
-pub lost_gone : (plan : TalkPlan) (s n : Moment) (c : Course) → IsPlan plan → plan.close_on_client ≡ true → LostAt plan s n c → IsGone plan s n false false (bytes_end c)
+pub lost_gone : (plan : TalkPlan) (s n : TalkMoment) (c : Course) → IsPlan plan → plan.close_on_client ≡ true → LostAt plan s n c → IsGone plan s n false false (bytes_end c)
 lost_gone plan s n c fit closes a = record {
   past = a.past;
   came = a.came;
   rest = [];
   put = a.put;
   broken = a.broken;
+  opened = a.opened;
   below = omega (arith, a.received, a.below);
   counted = subst (λ (x : List ℕ). bytes_end c ≡ length a.put + length (pong_of plan ++ x)) (sym (append-nil a.came))
       (bytes-are c a.put (pong_of plan ++ a.came) a.sent a.received a.few (omega (arith, a.below, fit.most)));
@@ -284,10 +317,12 @@ lost_gone plan s n c fit closes a = record {
   failed = λ e. a.rose;
   kept = λ e. absurd cc;
   closed = λ e. inl closes;
+  halted = λ e goes. absurd cc;
+  at_once = λ e. refl;
 }
 
 -- what was broken off, and what came behind it
-broken-behind : (plan : TalkPlan) (s n p : Moment) (past : List Message) (came put bytes : List ℕ) → IsBrokenOff plan s n past came [] put
+broken-behind : (plan : TalkPlan) (s n p : TalkMoment) (past : List Message) (came put bytes : List ℕ) → IsBrokenOff plan s n past came [] put
     → IsDropped n.line p.line n.client p.client bytes → p.body ≡ n.body → IsBrokenOff plan s p past came bytes put
 broken-behind plan s n p past came put bytes b d body =
     let before : Traffic s.line n.line (pong_of plan ++ came) put = subst (λ (x : List ℕ). Traffic s.line n.line (pong_of plan ++ x) put) (append-nil came) b.traffic in
@@ -295,12 +330,104 @@ broken-behind plan s n p past came put bytes b d body =
       spelled = b.spelled;
       front = b.front;
       traffic = traffic-came s.line n.line p.line (pong_of plan) came bytes put before d.came d.sent;
+      opened = b.opened;
       sent = b.sent;
       written = record { front = b.written.front; rest = b.written.rest; whole = b.written.whole; put = d.written ∙ b.written.put };
       body = subst (λ (x : BodyAt). IsUsed s.body x) (sym body) b.body;
     }
 
-pub lost_drained : (plan : TalkPlan) (s n p : Moment) (c c' : Course) (keep : Bool) → IsPlan plan → LostAt plan s n c
+-- why the rest wasn't read on, as it is said of all that came behind CPong
+module _ (plan : TalkPlan) (s n p : TalkMoment) (c c' : Course) (a : LostAt plan s n c) (bytes : List ℕ) where
+  stopped : (t : IsStopped plan c bytes) (message : Message) → t.message ≡ message → EndsRest c t.chunks message → (why : Halt) × IsHalted plan s p (a.came ++ bytes) why
+  stopped t message is stops = of message (subst (λ (x : Message). Spelled plan.packet (x ∷ chunk_messages t.chunks) bytes) is t.spelled) stops
+    where
+      some : is_some (head_of a.past) ≡ true
+      some = ap is_some a.head
+
+      past : List Message
+      past = chunk_messages t.chunks ++ a.past
+
+      head : head_of past ≡ Some a.parts
+      head = head-behind t.chunks a.past ∙ a.head
+
+      f : Framing
+      f = framing_in plan a.parts
+
+      all : (m : Message) → Spelled plan.packet (m ∷ chunk_messages t.chunks) bytes → Spelled plan.packet (m ∷ past) (a.came ++ bytes)
+      all m spelled = spelled-behind plan.packet a.past (m ∷ chunk_messages t.chunks) a.came bytes a.broken.spelled spelled
+
+      sums : sum_of (chunks_of past) ≡ sum_of (chunks_of a.past) + sum_of t.chunks
+      sums = ap sum_of (chunks-behind t.chunks a.past) ∙ sum-behind t.chunks (chunks_of a.past)
+
+      hopeless : (m : Message) → Spelled plan.packet (m ∷ chunk_messages t.chunks) bytes → (IsFront is_good (m ∷ past) → ⊥) → (IsForm is_good (m ∷ past) → ⊥)
+          → NoReply is_good plan.packet (a.came ++ bytes)
+      hopeless m (before, last, spelled, is, joined) no_front no_form =
+          subst (NoReply is_good plan.packet) (append_assoc a.came before last ∙ ap (λ (x : List ℕ). a.came ++ x) (sym joined))
+          (no_reply-other is_good plan.packet past (a.came ++ before) last m (spelled-behind plan.packet a.past (chunk_messages t.chunks) a.came before a.broken.spelled spelled) is no_front no_form)
+
+      of : (m : Message) → Spelled plan.packet (m ∷ chunk_messages t.chunks) bytes → EndsRest c t.chunks m → (why : Halt) × IsHalted plan s p (a.came ++ bytes) why
+      of (Headers parts) spelled stops =
+          (halt_is.Hopeless, hopeless (Headers parts) spelled (λ front. (let none = front.0 in let more = ap is_some head in absurd cc)) (λ form. form))
+      of (Chunk chunk) spelled stops = (
+        halt_is.Uneven,
+        (
+          Chunk chunk,
+          past,
+          all (Chunk chunk) spelled,
+          (
+            a.parts,
+            head,
+            ap (λ (n : ℕ). exceeds f (n + length chunk)) sums
+                ∙ ap (exceeds f) (omega arith)
+                ∙ sym (exceeds-later f (chunks_of a.past) (sum_of t.chunks + length chunk) a.within)
+                ∙ ap (λ (g : Framing). exceeds g (sum_of t.chunks + length chunk)) (sym a.framing)
+                ∙ stops,
+          ),
+        ),
+      )
+      of (End reuse) spelled (inl forbids) = (halt_is.Forbidden, (past, subst (λ (r : Bool). Spelled plan.packet (End r ∷ past) (a.came ++ bytes)) forbids (all (End reuse) spelled)))
+      of (End reuse) spelled (inr short) = (
+        halt_is.Uneven,
+        (
+          End reuse,
+          past,
+          all (End reuse) spelled,
+          (
+            a.parts,
+            head,
+            ap (agrees f) sums
+                ∙ sym (agrees-later f (chunks_of a.past) (sum_of t.chunks) a.within)
+                ∙ ap (λ (g : Framing). agrees g (sum_of t.chunks)) (sym a.framing)
+                ∙ short,
+          ),
+        ),
+      )
+      of (Ask ask) spelled stops = (halt_is.Asked, (ask, past, all (Ask ask) spelled))
+      of Pong spelled stops = (halt_is.Hopeless, hopeless Pong spelled (λ front. front) (λ form. form))
+
+  short : (t : IsCutShort plan n.line p.line c' bytes) → c'.received ≡ length (pong_of plan ++ (a.came ++ bytes)) → (why : Halt) × IsHalted plan s p (a.came ++ bytes) why
+  short t received = of t.why t.as_said t.no_want
+    where
+      past : List Message
+      past = chunk_messages t.chunks ++ a.past
+
+      of : (why : Unheard) → CameUnheard plan.packet plan.most c'.received n.line p.line t.rest why → (why ≢ unheard_is.NoMemory) → (halt : Halt) × IsHalted plan s p (a.came ++ bytes) halt
+      of unheard_is.Line h other = (halt_is.Failed, omega (arith, h.2, a.steady))
+      of unheard_is.Ended h other = (halt_is.Ended, h.2)
+      of unheard_is.Wrong h other = (
+        halt_is.Hopeless,
+        subst (NoReply is_good plan.packet) (append_assoc a.came t.front t.rest ∙ ap (λ (x : List ℕ). a.came ++ x) (sym t.whole))
+            (no_reply-none is_good plan.packet past (a.came ++ t.front) t.rest (spelled-behind plan.packet a.past (chunk_messages t.chunks) a.came t.front a.broken.spelled t.spelled)
+            (front-chunks t.chunks a.past (ap is_some a.head) a.front) h.1),
+      )
+      of unheard_is.TooLong h other = (halt_is.Full, omega (arith, h.0, received))
+      of unheard_is.NoMemory h other = absurd (other refl)
+
+  halts : IsStopped plan c bytes ⊎ IsCutShort plan n.line p.line c' bytes → c'.received ≡ length (pong_of plan ++ (a.came ++ bytes)) → (why : Halt) × IsHalted plan s p (a.came ++ bytes) why
+  halts (inl t) received = stopped t t.message refl t.stops
+  halts (inr t) received = short t received
+
+pub lost_drained : (plan : TalkPlan) (s n p : TalkMoment) (c c' : Course) (keep : Bool) → IsPlan plan → LostAt plan s n c
     → Drains plan n.line p.line n.client p.client c c' keep → plan.close_on_client ≡ false → p.body ≡ n.body → n.client.faults ≤ p.client.faults
     → IsGone plan s p false keep (bytes_end c')
 lost_drained plan s n p c c' keep fit a d closes body faults =
@@ -311,18 +438,22 @@ lost_drained plan s n p c c' keep fit a d closes body faults =
       rest = d.bytes;
       put = a.put;
       broken = broken-behind plan s n p a.past a.came a.put d.bytes a.broken d.dropped body;
+      opened = a.opened;
       below = omega (arith, a.received, a.below);
       counted = bytes-are c' a.put (pong_of plan ++ (a.came ++ d.bytes)) (d.same ∙ a.sent) received a.few (omega (arith, d.small, fit.most));
       ended = λ e. absurd cc;
       failed = λ e. omega (arith, a.rose, faults);
       kept = λ e. (
         closes,
+        (d.kept e).2 ∙ a.steady,
         (chunk_messages (d.kept e).0.chunks ++ a.past, lost_reply plan s n c a d.bytes (d.kept e).0, omega (arith, received, (d.kept e).1)),
       );
       closed = λ e. inr (no_end-from plan s n c c' a d.bytes (d.closed e) received);
+      halted = λ e goes. halts plan s n p c c' a d.bytes (d.halted e) received;
+      at_once = λ e. absurd cc;
     }
 
-pub lost_wanted : (plan : TalkPlan) (s n p : Moment) (c : Course) (bytes : List ℕ) → LostAt plan s n c → IsDropped n.line p.line n.client p.client bytes → p.body ≡ n.body
+pub lost_wanted : (plan : TalkPlan) (s n p : TalkMoment) (c : Course) (bytes : List ℕ) → LostAt plan s n c → IsDropped n.line p.line n.client p.client bytes → p.body ≡ n.body
     → HasWanted plan s p
 lost_wanted plan s n p c bytes a d body = record {
   past = a.past;

@@ -58,7 +58,7 @@ bad-from parts h = elim (cases_Bool (is_good parts)) [ inl good ↦ absurd (h (g
 
 -- ---- the sum
 
-same-tests : (a b c d : ℕ) → (a < b → c < d) → (c < d → a < b) → nat_lt a b ≡ nat_lt c d
+pub same-tests : (a b c d : ℕ) → (a < b → c < d) → (c < d → a < b) → nat_lt a b ≡ nat_lt c d
 same-tests a b c d to from =
     elim (cases_Bool (nat_lt c d)) [
       | inl holds ↦ lt-ltb a b (from (ltb-true c d holds)) ∙ sym holds

@@ -1,16 +1,18 @@
 -- What a send leaves, and what an ask comes to where the body can't be taken further.
-use Rattle.std.proofs.Common.{◌≡◌, ℕ, ◌+◌, ◌-◌, ◌≤◌, true, false, List, [], length, take, drop, refl, sym, arith, length-take, take_all, Option, Some, None, IfSome, Result, Ok, Err, OnOk, inl, inr}
+use Rattle.std.proofs.Common.{◌≡◌, ℕ, ◌+◌, ◌-◌, ◌≤◌, true, false, List, [], length, take, drop, refl, sym, arith, length-take, take_all, Option, Some, None, IfSome, Result, Ok, Err, IsOk, OnOk, inl, inr}
 use Rattle.std.proofs.lemmas.List.{take-append-drop}
 use Rattle.jk_io.specs.Told.{appended, Rose, HasCause}
 use Rattle.jk_io.specs.declared.failures.IoError.{IoError}
 use Rattle.jk_io.specs.declared.failures.IoError.TheVariants as Io
 use Rattle.jk_io.proofs.ToldLaws.{appended-nil}
 use Rattle.http_body_in.specs.Body.{Data, reaches}
-use Rattle.http_body_in.specs.State.{taken_of, most_of}
+use Rattle.http_body_in.specs.Places.{is_limited}
+use Rattle.http_body_in.specs.State.{place_of, taken_of, most_of}
 use Rattle.http_body_in.specs.Walks.{counted}
 use Rattle.http_body_in.specs.declared.fault.BodyFault.{BodyFault}
 use Rattle.http_body_in.specs.declared.fault.BodyFault.TheVariants as fault
-use Rattle.ajp_talk.specs.Moments.{LineAt, ClientAt, BodyAt, data_at, IsUsed, IsFrontOf}
+use Rattle.jk_io.specs.Moments.{Moment}
+use Rattle.ajp_talk.specs.Moments.{BodyAt, data_at, IsSteady, IsUsed, IsFrontOf}
 use Rattle.ajp_talk.specs.Owed.{answer}
 use Rattle.ajp_talk.specs.Turns.{Sends, IsSent, IsAskTurn, fault_turn}
 use Rattle.ajp_talk.proofs.AskLaws.{front-none}
@@ -18,7 +20,7 @@ use Rattle.ajp_talk.proofs.AskLaws.{front-none}
 taken-length : (n : ℕ) (bytes : List ℕ) → n ≤ length bytes → length (take (n - 0) bytes) ≡ n
 taken-length n bytes within = omega (arith, length-take (n - 0) bytes)
 
-part-sent : (l l' : LineAt) (before after written : ℕ) (bytes : List ℕ) → written ≤ length bytes → l'.sent ≡ appended l.sent (take (written - 0) bytes)
+part-sent : (l l' : Moment) (before after written : ℕ) (bytes : List ℕ) → written ≤ length bytes → l'.sent ≡ appended l.sent (take (written - 0) bytes)
     → l'.incoming ≡ l.incoming → l'.received ≡ l.received → l.faults ≤ l'.faults → after ≡ counted before written → Sends l l' before after (take (written - 0) bytes)
 part-sent l l' before after written bytes within put incoming received no_fewer counts =
     record { sent = put; counts = λ fits. omega (arith, counts, taken-length written bytes within, fits); incoming = incoming; received = received; no_fewer = no_fewer }
@@ -26,30 +28,30 @@ part-sent l l' before after written bytes within put incoming received no_fewer 
 all-taken : (n : ℕ) (bytes : List ℕ) → n ≡ length bytes → take (n - 0) bytes ≡ bytes
 all-taken n bytes e = take_all (n - 0) bytes (omega arith)
 
-pub sent-from : (l l' : LineAt) (before after written : ℕ) (bytes : List ℕ) (r : Result Unit IoError) → OnOk r (written ≡ 0 + length bytes) → written ≤ 0 + length bytes
-    → l'.sent ≡ appended l.sent (take (written - 0) bytes) → l'.incoming ≡ l.incoming → l'.received ≡ l.received → HasCause l.faults l'.faults r
+pub sent-from : (l l' : Moment) (before after written : ℕ) (bytes : List ℕ) (r : Result Unit IoError) → OnOk r (written ≡ 0 + length bytes) → written ≤ 0 + length bytes
+    → l'.sent ≡ appended l.sent (take (written - 0) bytes) → l'.incoming ≡ l.incoming → l'.received ≡ l.received → HasCause l.faults l'.faults r → (IsOk r → IsSteady l l')
     → after ≡ counted before written → IsSent l l' before after bytes r
-sent-from l l' before after written bytes (Ok u) whole within put incoming received cause counts =
+sent-from l l' before after written bytes (Ok u) whole within put incoming received cause steady counts =
     let all = all-taken written bytes (omega (arith, whole)) in
     let same : take (written - 0) bytes ≡ bytes = all in
-    rw same at (part-sent l l' before after written bytes (omega (arith, within)) put incoming received cause.no_fewer counts)
-sent-from l l' before after written bytes (Err Io.Failed) whole within put incoming received cause counts = (
+    (rw same at (part-sent l l' before after written bytes (omega (arith, within)) put incoming received cause.no_fewer counts), steady refl)
+sent-from l l' before after written bytes (Err Io.Failed) whole within put incoming received cause steady counts = (
   take (written - 0) bytes,
   part-sent l l' before after written bytes (omega (arith, within)) put incoming received cause.no_fewer counts,
   record { rest = drop (written - 0) bytes; joined = sym (take-append-drop (written - 0) bytes) },
   cause.failed refl,
 )
-sent-from l l' before after written bytes (Err Io.NoMemory) whole within put incoming received cause counts = (
+sent-from l l' before after written bytes (Err Io.NoMemory) whole within put incoming received cause steady counts = (
   take (written - 0) bytes,
   part-sent l l' before after written bytes (omega (arith, within)) put incoming received cause.no_fewer counts,
   record { rest = drop (written - 0) bytes; joined = sym (take-append-drop (written - 0) bytes) },
 )
 
 -- nothing was sent
-pub sends-nothing : (l : LineAt) (before : ℕ) → Sends l l before before []
+pub sends-nothing : (l : Moment) (before : ℕ) → Sends l l before before []
 sends-nothing l before = record { sent = sym (appended-nil l.sent); counts = λ fits. omega arith; incoming = refl; received = refl; no_fewer = omega arith }
 
-pub unsent : (l : LineAt) (before : ℕ) (bytes : List ℕ) → (put : List ℕ) × Sends l l before before put × IsFrontOf put bytes
+pub unsent : (l : Moment) (before : ℕ) (bytes : List ℕ) → (put : List ℕ) × Sends l l before before put × IsFrontOf put bytes
 unsent l before bytes = ([], sends-nothing l before, front-none bytes)
 
 no-front : (n : ℕ) (t : Option Data) → IfSome t (λ d. IsFrontOf [] (answer n d))
@@ -57,29 +59,29 @@ no-front n None = tt
 no-front n (Some d) = front-none (answer n d)
 
 -- the body couldn't be taken further
-pub ask-refused : (n : ℕ) (l : LineAt) (before : ℕ) (w w' : ClientAt) (b b' : BodyAt) (X Y : Data → Type 0) (Z : Type 0) (why : BodyFault) → IsUsed b b'
+pub ask-refused : (n : ℕ) (l : Moment) (before : ℕ) (w w' : Moment) (b b' : BodyAt) (X Y : Data → Type 0) (why : BodyFault) → IsUsed b b'
     → (why ≡ fault.Truncated → IfSome (data_at b) (λ d. (reaches n d ≡ false) × (d.bad ≡ false) × X d))
     → (why ≡ fault.BadChunk → IfSome (data_at b) (λ d. (reaches n d ≡ false) × (d.bad ≡ true) × Y d))
-    → (why ≡ fault.TooLong → Z × IfSome (data_at b) (λ d. most_of b.body ≤ taken_of b.body + length (take n d.bytes)))
+    → (why ≡ fault.TooLong → (is_limited (place_of b.body) ≡ true) × IfSome (data_at b) (λ d. most_of b.body ≤ taken_of b.body + length (take n d.bytes)))
     → (why ≡ fault.Fault → Rose w.faults w'.faults)
-    → IsAskTurn n l l before before w w' b b' (fault_turn why)
-ask-refused n l before w w' b b' X Y Z fault.Truncated used short bad long failed =
-    (sends-nothing l before, used, two (data_at b) (short refl))
+    → IsAskTurn n (record { line = l; client = w; body = b }) (record { line = l; client = w'; body = b' }) before before (fault_turn why)
+ask-refused n l before w w' b b' X Y fault.Truncated used short bad long failed =
+    (sends-nothing l before, refl, used, two (data_at b) (short refl))
   where
     two : (t : Option Data) → IfSome t (λ d. (reaches n d ≡ false) × (d.bad ≡ false) × X d) → IfSome t (λ d. (reaches n d ≡ false) × (d.bad ≡ false))
     two None h = tt
     two (Some d) h = (h.0, h.1)
-ask-refused n l before w w' b b' X Y Z fault.BadChunk used short bad long failed =
-    (sends-nothing l before, used, inl (refl, two (data_at b) (bad refl)))
+ask-refused n l before w w' b b' X Y fault.BadChunk used short bad long failed =
+    (sends-nothing l before, refl, used, inl (refl, two (data_at b) (bad refl)))
   where
     two : (t : Option Data) → IfSome t (λ d. (reaches n d ≡ false) × (d.bad ≡ true) × Y d) → IfSome t (λ d. (reaches n d ≡ false) × (d.bad ≡ true))
     two None h = tt
     two (Some d) h = (h.0, h.1)
-ask-refused n l before w w' b b' X Y Z fault.TooLong used short bad long failed = (sends-nothing l before, used, inr (refl, (long refl).1))
-ask-refused n l before w w' b b' X Y Z fault.Fault used short bad long failed = (sends-nothing l before, used, failed refl)
-ask-refused n l before w w' b b' X Y Z fault.NoMemory used short bad long failed = ([], sends-nothing l before, used, no-front n (data_at b))
+ask-refused n l before w w' b b' X Y fault.TooLong used short bad long failed = (sends-nothing l before, refl, used, inr (refl, (long refl).0, (long refl).1))
+ask-refused n l before w w' b b' X Y fault.Fault used short bad long failed = (sends-nothing l before, used, failed refl)
+ask-refused n l before w w' b b' X Y fault.NoMemory used short bad long failed = ([], sends-nothing l before, used, no-front n (data_at b))
 
 -- memory was wanted for the packet of a piece
-pub ask-wanted : (n : ℕ) (l : LineAt) (before : ℕ) (b b' : BodyAt) → IsUsed b b'
+pub ask-wanted : (n : ℕ) (l : Moment) (before : ℕ) (b b' : BodyAt) → IsUsed b b'
     → (put : List ℕ) × Sends l l before before put × IsUsed b b' × IfSome (data_at b) (λ d. IsFrontOf put (answer n d))
 ask-wanted n l before b b' used = ([], sends-nothing l before, used, no-front n (data_at b))

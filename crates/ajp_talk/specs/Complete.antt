@@ -5,7 +5,7 @@ use Rattle.jk_io.specs.declared.failures.NoMemory.{NoMemory}
 use Rattle.ajp_reply.specs.declared.message.Message.{Message}
 use Rattle.http_body_in.specs.Body.{Data}
 use Rattle.http_body_in.specs.State.{taken_of, most_of}
-use Rattle.ajp_talk.specs.Moments.{Moment, data_at}
+use Rattle.ajp_talk.specs.Moments.{TalkMoment, data_at}
 use Rattle.ajp_talk.specs.Replies.{IsReply, IsUnlisted, bytes_for}
 use Rattle.ajp_talk.specs.Owed.{pong_of}
 use Rattle.ajp_talk.specs.declared.plan.TalkPlan.{TalkPlan}
@@ -14,7 +14,7 @@ use Rattle.ajp_talk.specs.declared.ending.TalkEnd.TheVariants as ends
 
 -- What the link has to come begins with CPong, where the talk pings, and this reply, whose status isn't listed, below the
 -- limit; the client's bytes have the body whole and below its own; and no fault rises.
-pub record HasWhole (plan : TalkPlan) (s n : Moment) (all : List Message) : Type 0 where
+pub record HasWhole (plan : TalkPlan) (s n : TalkMoment) (all : List Message) : Type 0 where
   pub reply : List ℕ
   pub more : List ℕ
   pub comes : s.line.incoming ≡ Some ((pong_of plan ++ reply) ++ more)
@@ -29,12 +29,12 @@ pub record HasWhole (plan : TalkPlan) (s n : Moment) (all : List Message) : Type
   pub client : Rose s.client.faults n.client.faults → ⊥
 
 -- the client has the whole reply, unless memory was wanted
-abbrev pub IsCompleted : TalkPlan → Moment → Moment → List Message → Result TalkEnd NoMemory → Type 0
-IsCompleted plan s n all (Ok (ends.Done told reuse bytes)) = n.client.written ≡ appended s.client.written (bytes_for plan all)
+abbrev pub IsCompleted : TalkPlan → TalkMoment → TalkMoment → List Message → Result TalkEnd NoMemory → Type 0
+IsCompleted plan s n all (Ok (ends.Done told reuse bytes)) = n.client.sent ≡ appended s.client.sent (bytes_for plan all)
 IsCompleted plan s n all (Ok (ends.Failed stage cause told bytes)) = ⊥
 IsCompleted plan s n all (Ok (ends.ClientGone truncated keep bytes)) = ⊥
 IsCompleted plan s n all (Ok (ends.BadBody status told passed bytes)) = ⊥
 IsCompleted plan s n all (Err want) = Unit {0}
 
-abbrev pub Completes : TalkPlan → Moment → Moment → Result TalkEnd NoMemory → Type 0
+abbrev pub Completes : TalkPlan → TalkMoment → TalkMoment → Result TalkEnd NoMemory → Type 0
 Completes plan s n result = (all : List Message) → HasWhole plan s n all → IsCompleted plan s n all result

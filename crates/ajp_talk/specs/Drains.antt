@@ -1,19 +1,21 @@
--- What is read of a reply behind a client that is gone.
-use Rattle.std.specs.Prelude.{◌≡◌, ℕ, ◌+◌, ◌<◌, Bool, true, List, [], ◌∷◌, length, Result, Ok, Err, false}
+-- What is read of a reply after the client is gone.
+use Rattle.std.specs.Prelude.{◌≡◌, ◌≢◌, ℕ, ◌+◌, ◌<◌, ◌⊎◌, Bool, true, List, [], ◌∷◌, ◌++◌, length, Result, Ok, Err, false}
 use Rattle.jk_io.specs.declared.failures.NoMemory.{NoMemory}
 use Rattle.ajp_wire.specs.Packet.{HasCome}
 use Rattle.ajp_reply.specs.declared.message.Message.{Message}
-use Rattle.ajp_reply.specs.declared.message.Message.TheVariants.{Chunk, End}
+use Rattle.ajp_reply.specs.declared.message.Message.TheVariants.{Headers, Chunk, End, Ask, Pong}
 use Rattle.ajp_reply.specs.Stream.{Spelled}
 use Rattle.http_out.specs.Writer.{IsOpen, framing_now}
-use Rattle.ajp_talk.specs.Moments.{LineAt, ClientAt}
-use Rattle.ajp_talk.specs.Replies.{chunks_of, sum_of, agrees}
+use Rattle.jk_io.specs.Moments.{Moment}
+use Rattle.ajp_talk.specs.Moments.{IsSteady}
+use Rattle.ajp_talk.specs.Replies.{chunks_of, sum_of, exceeds, agrees}
+use Rattle.ajp_talk.specs.Turns.{CameUnheard}
 use Rattle.ajp_talk.specs.declared.plan.TalkPlan.{TalkPlan}
 use Rattle.ajp_talk.specs.declared.course.Course.{Course}
 use Rattle.ajp_talk.specs.declared.turn.Unheard.{Unheard}
 use Rattle.ajp_talk.specs.declared.turn.Unheard.TheVariants as unheard_is
 
--- a head was passed, and a write failed behind it
+-- a head was passed, and a write failed after it
 pub record IsLostCourse (c : Course) : Type 0 where
   pub headers : c.headers ≡ true
   pub opened : IsOpen c.writer
@@ -35,21 +37,48 @@ IsNoTail plan c bytes =
     (later : List Message) → Spelled plan.packet (End true ∷ later) bytes → agrees (framing_now c.writer) (sum_of (chunks_of later)) ≡ true → ⊥
 
 -- bytes came, nothing was sent, and nothing was written
-pub record IsDropped (l l' : LineAt) (w w' : ClientAt) (bytes : List ℕ) : Type 0 where
-  pub came : HasCome l.incoming l.received l'.incoming l'.received bytes
+pub record IsDropped (l l' : Moment) (w w' : Moment) (bytes : List ℕ) : Type 0 where
+  pub came : HasCome l l' bytes
   pub sent : l'.sent ≡ l.sent
-  pub written : w'.written ≡ w.written
+  pub written : w'.sent ≡ w.sent
 
-pub record Drains (plan : TalkPlan) (l l' : LineAt) (w w' : ClientAt) (c c' : Course) (keep : Bool) : Type 0 where
+-- Which messages end the rest of a reply, or can't stand in it, where the chunks had come since the client was gone.
+abbrev pub EndsRest : Course → List (List ℕ) → Message → Type 0
+EndsRest c chunks (Headers parts) = Unit {0}
+EndsRest c chunks (Chunk bytes) = exceeds (framing_now c.writer) (sum_of chunks + length bytes) ≡ true
+EndsRest c chunks (End reuse) = (reuse ≡ false) ⊎ (agrees (framing_now c.writer) (sum_of chunks) ≡ false)
+EndsRest c chunks (Ask most) = Unit {0}
+EndsRest c chunks Pong = Unit {0}
+
+-- such a message came after chunks
+pub record IsStopped (plan : TalkPlan) (c : Course) (bytes : List ℕ) : Type 0 where
+  pub chunks : List (List ℕ)
+  pub message : Message
+  pub spelled : Spelled plan.packet (message ∷ chunk_messages chunks) bytes
+  pub stops : EndsRest c chunks message
+
+-- no message came after chunks
+pub record IsCutShort (plan : TalkPlan) (l l' : Moment) (c' : Course) (bytes : List ℕ) : Type 0 where
+  pub chunks : List (List ℕ)
+  pub front : List ℕ
+  pub rest : List ℕ
+  pub spelled : Spelled plan.packet (chunk_messages chunks) front
+  pub whole : bytes ≡ front ++ rest
+  pub why : Unheard
+  pub as_said : CameUnheard plan.packet plan.most c'.received l l' rest why
+  pub no_want : why ≢ unheard_is.NoMemory
+
+pub record Drains (plan : TalkPlan) (l l' : Moment) (w w' : Moment) (c c' : Course) (keep : Bool) : Type 0 where
   pub bytes : List ℕ
   pub dropped : IsDropped l l' w w' bytes
   pub counts : c'.received ≡ c.received + length bytes
   pub small : c'.received < plan.most + 4294967400
   pub same : c'.sent ≡ c.sent
-  pub kept : keep ≡ true → IsTail plan c bytes × (c'.received < plan.most)
+  pub kept : keep ≡ true → IsTail plan c bytes × (c'.received < plan.most) × IsSteady l l'
   pub closed : keep ≡ false → c'.received < plan.most → IsNoTail plan c bytes
+  pub halted : keep ≡ false → IsStopped plan c bytes ⊎ IsCutShort plan l l' c' bytes
 
-abbrev pub IsDrained : TalkPlan → LineAt → LineAt → ClientAt → ClientAt → Course → Course → Result Bool NoMemory → Type 0
+abbrev pub IsDrained : TalkPlan → Moment → Moment → Moment → Moment → Course → Course → Result Bool NoMemory → Type 0
 IsDrained plan l l' w w' c c' (Ok keep) = Drains plan l l' w w' c c' keep
 IsDrained plan l l' w w' c c' (Err e) = (bytes : List ℕ) × IsDropped l l' w w' bytes
 

@@ -1,40 +1,45 @@
 -- What is known of a talk at one moment: its link, its client and the request's body. An untold meaning is None.
-use Rattle.std.specs.Prelude.{ℕ, ◌≡◌, ◌+◌, List, ◌++◌, length, Option, None}
+use Rattle.std.specs.Prelude.{ℕ, ◌≡◌, ◌+◌, ◌⊎◌, List, ◌++◌, length, Option, None}
+use Rattle.jk_io.specs.Moments.{Moment}
+use Rattle.jk_io.specs.declared.traits.streams.Meanings.{Ghosts}
 use Rattle.jk_io.specs.Told.{appended, prepended}
+use Rattle.ajp_wire.specs.Moments.{link_at}
 use Rattle.ajp_wire.specs.Packet.{HasCome}
+use Rattle.http_front.specs.Unread.{unread}
 use Rattle.http_body_in.specs.Body.{Data, Uses}
 use Rattle.http_body_in.specs.State.{place_of, taken_of, most_of, failed_of, data_left_of}
 use Rattle.http_body_in.specs.declared.body.BodyIn.{BodyIn}
-
-pub record LineAt : Type 0 where
-  pub received : Option (List ℕ)
-  pub incoming : Option (List ℕ)
-  pub sent : Option (List ℕ)
-  pub faults : ℕ
-
--- what was written to the client
-pub record ClientAt : Type 0 where
-  pub written : Option (List ℕ)
-  pub faults : ℕ
 
 -- the body as far as it was taken, and the client's bytes that no one used
 pub record BodyAt : Type 0 where
   pub body : BodyIn
   pub unread : Option (List ℕ)
 
-pub record Moment : Type 0 where
-  pub line : LineAt
-  pub client : ClientAt
+pub record TalkMoment : Type 0 where
+  pub line : Moment
+  pub client : Moment
   pub body : BodyAt
+
+-- the moment of a talk, by what the types of its link and of its client tell
+abbrev pub talk_at : {L C A B : Type 0} → Ghosts L A → Ghosts C B → L → C → BodyIn → List ℕ → TalkMoment
+talk_at told_of_line told_of_client line client body inbox = record {
+  line = link_at told_of_line line;
+  client = link_at told_of_client client;
+  body = record { body = body; unread = unread inbox (told_of_client.incoming client) };
+}
 
 -- the data that is left
 abbrev pub data_at : BodyAt → Option Data
 data_at b = data_left_of b.body b.unread
 
 -- these bytes came on the link, and these were put on it
-pub record Traffic (s n : LineAt) (got put : List ℕ) : Type 0 where
-  pub came : HasCome s.incoming s.received n.incoming n.received got
+pub record Traffic (s n : Moment) (got put : List ℕ) : Type 0 where
+  pub came : HasCome s n got
   pub sent : n.sent ≡ appended s.sent put
+
+-- no call of the link failed
+abbrev pub IsSteady : Moment → Moment → Type 0
+IsSteady s n = n.faults ≡ s.faults
 
 -- this data was taken of the body, and no call of it was refused
 pub record Takes (s n : BodyAt) (taken : List ℕ) : Type 0 where
@@ -53,3 +58,7 @@ pub record IsUsed (s n : BodyAt) : Type 0 where
 pub record IsFrontOf (front whole : List ℕ) : Type 0 where
   pub rest : List ℕ
   pub joined : whole ≡ front ++ rest
+
+-- one of the two goes on where the other ends
+abbrev pub AreAlong : List ℕ → List ℕ → Type 0
+AreAlong put whole = IsFrontOf put whole ⊎ IsFrontOf whole put

@@ -1,4 +1,4 @@
--- What a talk owes its link: the bytes that it may send, by what came and by the data behind the first piece.
+-- What a talk owes its link: the bytes that it may send, by what came and by the data after the first piece.
 use Rattle.std.specs.Prelude.{◌≡◌, ℕ, ◌+◌, ◌<◌, ◌==◌, min, true, false, List, [], ◌∷◌, ◌++◌, length, take, drop, if◌then◌else◌}
 use Rattle.ajp_wire.specs.Packet.{packet, body_packet}
 use Rattle.ajp_reply.specs.declared.message.Message.{Message}
@@ -19,7 +19,7 @@ asked most (End reuse ∷ past) = asked most past
 asked most (Ask n ∷ past) = asked most past + want most n
 asked most (Pong ∷ past) = asked most past
 
--- the data behind the first n bytes
+-- the data after the first n bytes
 abbrev pub behind_first : ℕ → Data → Data
 behind_first n d = record { bytes = drop n d.bytes; whole = d.whole; bad = d.bad }
 
@@ -57,7 +57,7 @@ request_of plan = plan.forward ++ first_packet plan.first
 abbrev pub opening : TalkPlan → List ℕ
 opening plan = ping_of plan ++ request_of plan
 
--- all that may be sent where these messages came behind the CPong
+-- all that may be sent where these messages came after the CPong
 abbrev pub owed : TalkPlan → Data → List Message → List ℕ
 owed plan d past = opening plan ++ answers plan.piece d past
 

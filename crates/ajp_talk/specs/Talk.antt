@@ -1,5 +1,5 @@
 -- What a talk is: how it ended, by the bytes that came and went. Read this first.
-use Rattle.std.specs.Prelude.{◌≡◌, ℕ, ◌+◌, ◌<◌, ◌≤◌, ◌↔◌, ◌⊎◌, Bool, true, false, nat_le, nat_lt, List, ◌∷◌, ◌++◌, length, Option, Some, None, IfSome, is_some, Result, Ok, Err}
+use Rattle.std.specs.Prelude.{◌≡◌, ℕ, ◌+◌, ◌<◌, ◌≤◌, ◌↔◌, ◌⊎◌, Bool, true, false, nat_le, nat_lt, List, [], ◌∷◌, ◌++◌, length, take, Option, Some, None, IfSome, IsSome, is_some, Result, Ok, Err}
 use Rattle.jk_io.specs.Told.{appended, PutsFront, Rose, IsEmpty}
 use Rattle.jk_io.specs.declared.failures.NoMemory.{NoMemory}
 use Rattle.ajp_wire.specs.Packet.{IsPart, IsPacket}
@@ -8,8 +8,9 @@ use Rattle.ajp_reply.specs.declared.message.Message.TheVariants.{Headers, Chunk,
 use Rattle.ajp_reply.specs.declared.message.ReplyParts.{ReplyParts}
 use Rattle.ajp_reply.specs.Stream.{Spelled, IsPacketOf, IsFront, IsForm, NoReply, BeginsNoMessage, head_of}
 use Rattle.http_body_in.specs.Body.{dropped, reaches}
-use Rattle.http_body_in.specs.State.{taken_of, most_of}
-use Rattle.ajp_talk.specs.Moments.{BodyAt, Moment, data_at, Traffic, Takes, IsUsed, IsFrontOf}
+use Rattle.http_body_in.specs.Places.{is_limited}
+use Rattle.http_body_in.specs.State.{place_of, taken_of, most_of}
+use Rattle.ajp_talk.specs.Moments.{BodyAt, TalkMoment, data_at, Traffic, IsSteady, Takes, IsUsed, IsFrontOf, AreAlong}
 use Rattle.ajp_talk.specs.Replies.{is_good, is_listed, kind_of, chunks_of, sum_of, framing_in, exceeds, agrees, IsWithin, IsUnlisted, IsReply, so_far_of_talk, reply_of_talk, bytes_for, told_by, passed_of, told_of_talk}
 use Rattle.ajp_talk.specs.Owed.{asked, ping_of, pong_of, opening, owed}
 use Rattle.ajp_talk.specs.declared.plan.TalkPlan.{TalkPlan}
@@ -38,7 +39,7 @@ BreaksSum plan past (End reuse) = (parts : ReplyParts) × (head_of past ≡ Some
 BreaksSum plan past (Ask n) = ⊥
 BreaksSum plan past Pong = ⊥
 
--- What came behind the accepted messages leaves the grammar of a reply: it begins no message, or a message that may not
+-- What came after the accepted messages leaves the grammar of a reply: it begins no message, or a message that may not
 -- stand there.
 abbrev pub IsWrong : TalkPlan → List Message → List ℕ → Option Message → Type 0
 IsWrong plan past rest None = BeginsNoMessage plan.packet rest
@@ -49,8 +50,8 @@ IsWrong plan past rest (Some message) =
 abbrev pub IsNext : ℕ → List ℕ → Type 0
 IsNext most rest = ((payload : List ℕ) × IsPacket true most payload rest) ⊎ (IsPart true most rest ⊎ BeginsNoMessage most rest)
 
--- Why it failed. The message behind the accepted ones, where one was read and refused, is the option.
-abbrev pub IsCause : TalkPlan → Moment → Moment → List Message → List ℕ → List ℕ → Option Message → Cause → Type 0
+-- Why it failed. The message after the accepted ones, where one was read and refused, is the option.
+abbrev pub IsCause : TalkPlan → TalkMoment → TalkMoment → List Message → List ℕ → List ℕ → Option Message → Cause → Type 0
 IsCause plan s n past came rest refused cause_is.NoLink = ⊥
 IsCause plan s n past came rest refused cause_is.Line = (refused ≡ None) × IsPart true plan.packet rest × Rose s.line.faults n.line.faults
 IsCause plan s n past came rest refused cause_is.Ended = (refused ≡ None) × IsPart true plan.packet rest × IsEmpty n.line.incoming
@@ -61,6 +62,16 @@ IsCause plan s n past came rest refused cause_is.TooLong = (refused ≡ None) ×
 IsCause plan s n past came rest refused (cause_is.Status status) =
     (parts : ReplyParts) × (refused ≡ Some (Headers parts)) × IsPacketOf plan.packet (Headers parts) rest × (head_of past ≡ None)
     × (is_good parts ≡ true) × (status ≡ parts.status) × (is_listed plan.fail_on status ≡ true)
+
+-- The opening, which no data decide, went out first: a front of it alone where the link failed before its end, else all.
+abbrev pub OpensFor : Cause → List ℕ → List ℕ → Type 0
+OpensFor cause_is.NoLink put opens = ⊥
+OpensFor cause_is.Line put opens = AreAlong put opens
+OpensFor cause_is.Ended put opens = IsFrontOf opens put
+OpensFor cause_is.BadReply put opens = IsFrontOf opens put
+OpensFor cause_is.Disagree put opens = IsFrontOf opens put
+OpensFor cause_is.TooLong put opens = IsFrontOf opens put
+OpensFor (cause_is.Status status) put opens = IsFrontOf opens put
 
 -- where the link failed a front of what was owed was sent, else all of it
 abbrev pub SentFor : Cause → List ℕ → List ℕ → Type 0
@@ -77,9 +88,9 @@ abbrev pub with_refused : Option Message → List Message → List Message
 with_refused None past = past
 with_refused (Some message) past = message ∷ past
 
--- How far it had come: all of the request was sent; a head came; a byte was written to the client; data behind the first
+-- How far it had come: all of the request was sent; a head came; a byte was written to the client; data after the first
 -- piece was taken.
-abbrev pub stage_of : TalkPlan → Moment → Moment → List Message → Option Message → List ℕ → Stage
+abbrev pub stage_of : TalkPlan → TalkMoment → TalkMoment → List Message → Option Message → List ℕ → Stage
 stage_of plan s n past refused put = record {
   got = nat_le (length (opening plan)) (length put);
   headers = is_some (head_of (with_refused refused past));
@@ -87,9 +98,10 @@ stage_of plan s n past refused put = record {
   beyond = nat_lt (taken_of s.body.body) (taken_of n.body.body);
 }
 
--- A talk that failed behind its CPong. The messages are the accepted ones, and the rest is what came behind them. The
+-- A talk that failed after its CPong. The messages are the accepted ones, and the rest is what came after them. The
 -- client has what they make so far, and no call of the body was refused; where nothing of it was taken its data is as before.
-pub record HasFailed (plan : TalkPlan) (s n : Moment) (stage : Stage) (cause : Cause) (told : Option Told) (bytes : ℕ) : Type 0 where
+-- Where a message was refused no call of the link had failed.
+pub record HasFailed (plan : TalkPlan) (s n : TalkMoment) (stage : Stage) (cause : Cause) (told : Option Told) (bytes : ℕ) : Type 0 where
   pub past : List Message
   pub came : List ℕ
   pub rest : List ℕ
@@ -99,8 +111,10 @@ pub record HasFailed (plan : TalkPlan) (s n : Moment) (stage : Stage) (cause : C
   pub traffic : Traffic s.line n.line (pong_of plan ++ (came ++ rest)) put
   pub why : IsCause plan s n past came rest refused cause
   pub too_long : (cause ≡ cause_is.TooLong) ↔ (plan.most ≤ length (pong_of plan ++ (came ++ rest)))
+  pub opened : OpensFor cause put (opening plan)
   pub sent : IfSome (data_at s.body) (λ d. SentFor cause put (owed plan d past))
-  pub written : n.client.written ≡ appended s.client.written (so_far_of_talk plan past)
+  pub written : n.client.sent ≡ appended s.client.sent (so_far_of_talk plan past)
+  pub steady : IsSome refused → IsSteady s.line n.line
   pub stage_is : stage ≡ stage_of plan s n past refused put
   pub told_is : told ≡ told_of_talk plan past
   pub counted : bytes ≡ length put + length (pong_of plan ++ (came ++ rest))
@@ -112,7 +126,7 @@ pub record HasFailed (plan : TalkPlan) (s n : Moment) (stage : Stage) (cause : C
 abbrev pub BeginsNoPong : ℕ → List ℕ → Type 0
 BeginsNoPong most bytes = (more first behind : List ℕ) → IsPacketOf most Pong first → bytes ++ more ≡ first ++ behind → ⊥
 
-abbrev pub IsPingCause : TalkPlan → Moment → Moment → List ℕ → Cause → Type 0
+abbrev pub IsPingCause : TalkPlan → TalkMoment → TalkMoment → List ℕ → Cause → Type 0
 IsPingCause plan s n rest cause_is.NoLink = ⊥
 IsPingCause plan s n rest cause_is.Line = IsPart true plan.packet rest × Rose s.line.faults n.line.faults
 IsPingCause plan s n rest cause_is.Ended = IsPart true plan.packet rest × IsEmpty n.line.incoming
@@ -122,7 +136,7 @@ IsPingCause plan s n rest cause_is.TooLong = IsNext plan.packet rest
 IsPingCause plan s n rest (cause_is.Status status) = ⊥
 
 -- A talk that failed before a CPong came: nothing but CPing was sent, and nothing was written or taken.
-pub record HasNoPong (plan : TalkPlan) (s n : Moment) (stage : Stage) (cause : Cause) (told : Option Told) (bytes : ℕ) : Type 0 where
+pub record HasNoPong (plan : TalkPlan) (s n : TalkMoment) (stage : Stage) (cause : Cause) (told : Option Told) (bytes : ℕ) : Type 0 where
   pub rest : List ℕ
   pub put : List ℕ
   pub pings : plan.ping ≡ true
@@ -139,7 +153,7 @@ pub record HasNoPong (plan : TalkPlan) (s n : Moment) (stage : Stage) (cause : C
 -- ---- the other ends
 
 -- A whole reply came, all that was owed was sent, and the client has the reply whole.
-pub record IsDone (plan : TalkPlan) (s n : Moment) (told : Told) (reuse : Bool) (bytes : ℕ) : Type 0 where
+pub record IsDone (plan : TalkPlan) (s n : TalkMoment) (told : Told) (reuse : Bool) (bytes : ℕ) : Type 0 where
   pub past : List Message
   pub came : List ℕ
   pub put : List ℕ
@@ -147,8 +161,10 @@ pub record IsDone (plan : TalkPlan) (s n : Moment) (told : Told) (reuse : Bool) 
   pub unlisted : IsUnlisted plan past
   pub traffic : Traffic s.line n.line (pong_of plan ++ came) put
   pub below : length (pong_of plan ++ came) < plan.most
+  pub opened : IsFrontOf (opening plan) put
   pub sent : IfSome (data_at s.body) (λ d. put ≡ owed plan d past)
-  pub written : n.client.written ≡ appended s.client.written (reply_of_talk plan past)
+  pub steady : IsSteady s.line n.line
+  pub written : n.client.sent ≡ appended s.client.sent (reply_of_talk plan past)
   pub told_is : IfSome (head_of past) (λ parts. told ≡ told_by (kind_of plan) parts (chunks_of past))
   pub counted : bytes ≡ length put + length (pong_of plan ++ came)
   pub taken : List ℕ
@@ -160,44 +176,73 @@ abbrev pub IsFrontOrForm : List Message → Type 0
 IsFrontOrForm past = IsFront is_good past ⊎ IsForm is_good past
 
 -- A front of what was owed was sent, and a front of the reply was written.
-pub record IsBrokenOff (plan : TalkPlan) (s n : Moment) (past : List Message) (came rest put : List ℕ) : Type 0 where
+pub record IsBrokenOff (plan : TalkPlan) (s n : TalkMoment) (past : List Message) (came rest put : List ℕ) : Type 0 where
   pub spelled : Spelled plan.packet past came
   pub front : IsFrontOrForm past
   pub traffic : Traffic s.line n.line (pong_of plan ++ (came ++ rest)) put
+  pub opened : AreAlong put (opening plan)
   pub sent : IfSome (data_at s.body) (λ d. IsFrontOf put (owed plan d past))
-  pub written : PutsFront s.client.written n.client.written (bytes_for plan past)
+  pub written : PutsFront s.client.sent n.client.sent (bytes_for plan past)
   pub body : IsUsed s.body n.body
 
--- The bytes behind CPong are no whole reply below the limit that lets the link serve again.
+-- The bytes after CPong are no whole reply below the limit that lets the link serve again.
 abbrev pub IsNoEnd : TalkPlan → List ℕ → Type 0
 IsNoEnd plan bytes = (all : List Message) → IsReply plan (End true ∷ all) bytes → length (pong_of plan ++ bytes) < plan.most → ⊥
 
+-- Why the reading for a client that is gone stops before an end that lets the link serve again: the link failed or ended;
+-- no reply can follow; an ask came; an end came that forbids it; the sum disagrees; the limit was reached.
+pub data Halt : Type 0 where
+  Failed : Halt
+  Ended : Halt
+  Hopeless : Halt
+  Asked : Halt
+  Forbidden : Halt
+  Uneven : Halt
+  Full : Halt
+
+-- what each says of the link, and of the bytes after CPong
+abbrev pub IsHalted : TalkPlan → TalkMoment → TalkMoment → List ℕ → Halt → Type 0
+IsHalted plan s n bytes Failed = Rose s.line.faults n.line.faults
+IsHalted plan s n bytes Ended = IsEmpty n.line.incoming
+IsHalted plan s n bytes Hopeless = NoReply is_good plan.packet bytes
+IsHalted plan s n bytes Asked = (ask : ℕ) × (past : List Message) × Spelled plan.packet (Ask ask ∷ past) bytes
+IsHalted plan s n bytes Forbidden = (past : List Message) × Spelled plan.packet (End false ∷ past) bytes
+IsHalted plan s n bytes Uneven =
+    (message : Message) × (past : List Message) × Spelled plan.packet (message ∷ past) bytes × BreaksSum plan past message
+IsHalted plan s n bytes Full = plan.most ≤ length (pong_of plan ++ bytes)
+
 -- The client is gone: its bytes ended within the body at an ask, or a read or a write of it failed. The link is kept
--- exactly where the bytes that came are a whole reply that lets it serve again, and it isn't to be closed then. The
--- limit wasn't reached by what had come when it was gone.
-pub record IsGone (plan : TalkPlan) (s n : Moment) (truncated keep : Bool) (bytes : ℕ) : Type 0 where
+-- exactly where the bytes that came are a whole reply that lets it serve again, and it isn't to be closed then. Where it
+-- isn't to be closed it was read until something stopped that. The limit wasn't reached by what had come when the client
+-- was gone.
+pub record IsGone (plan : TalkPlan) (s n : TalkMoment) (truncated keep : Bool) (bytes : ℕ) : Type 0 where
   pub past : List Message
   pub came : List ℕ
   pub rest : List ℕ
   pub put : List ℕ
   pub broken : IsBrokenOff plan s n past came rest put
+  pub opened : IsFrontOf (opening plan) put
   pub below : length (pong_of plan ++ came) < plan.most
   pub counted : bytes ≡ length put + length (pong_of plan ++ (came ++ rest))
-  pub ended : truncated ≡ true → (keep ≡ false) × (n.client.written ≡ appended s.client.written (so_far_of_talk plan past))
+  pub ended : truncated ≡ true → (keep ≡ false) × (n.client.sent ≡ appended s.client.sent (so_far_of_talk plan past))
       × IfSome (data_at s.body) (λ d. (reaches (asked plan.piece past) d ≡ false) × (d.bad ≡ false))
   pub failed : truncated ≡ false → Rose s.client.faults n.client.faults
-  pub kept : keep ≡ true → (plan.close_on_client ≡ false)
+  pub kept : keep ≡ true → (plan.close_on_client ≡ false) × IsSteady s.line n.line
       × ((all : List Message) × IsReply plan (End true ∷ all) (came ++ rest) × (length (pong_of plan ++ (came ++ rest)) < plan.most))
   pub closed : keep ≡ false → (plan.close_on_client ≡ true) ⊎ IsNoEnd plan (came ++ rest)
+  pub halted : keep ≡ false → plan.close_on_client ≡ false → (why : Halt) × IsHalted plan s n (came ++ rest) why
+  pub at_once : plan.close_on_client ≡ true → rest ≡ []
 
--- why a body is bad: a bad chunk line stands in its data, or its data reached the limit
+-- Why a body is bad, where n bytes of it are wanted: a bad chunk line stands in its data, or it is chunked and the data
+-- that are wanted reach the limit.
 abbrev pub IsBad : BodyAt → ℕ → ℕ → Type 0
 IsBad b n status =
     ((status ≡ 400) × IfSome (data_at b) (λ d. (reaches n d ≡ false) × (d.bad ≡ true)))
-    ⊎ ((status ≡ 413) × IfSome (data_at b) (λ d. most_of b.body ≤ taken_of b.body + length d.bytes))
+    ⊎ ((status ≡ 413) × (is_limited (place_of b.body) ≡ true)
+    × IfSome (data_at b) (λ d. most_of b.body ≤ taken_of b.body + length (take n d.bytes)))
 
 -- The body was found bad at an ask, the newest message. All that was owed before it was sent.
-pub record HasBadBody (plan : TalkPlan) (s n : Moment) (status : ℕ) (told : Option Told) (passed : Bool) (bytes : ℕ) : Type 0 where
+pub record HasBadBody (plan : TalkPlan) (s n : TalkMoment) (status : ℕ) (told : Option Told) (passed : Bool) (bytes : ℕ) : Type 0 where
   pub ask : ℕ
   pub past : List Message
   pub came : List ℕ
@@ -205,8 +250,10 @@ pub record HasBadBody (plan : TalkPlan) (s n : Moment) (status : ℕ) (told : Op
   pub accepts : Accepts plan (Ask ask ∷ past) came
   pub traffic : Traffic s.line n.line (pong_of plan ++ came) put
   pub below : length (pong_of plan ++ came) < plan.most
+  pub opened : IsFrontOf (opening plan) put
   pub sent : IfSome (data_at s.body) (λ d. put ≡ owed plan d past)
-  pub written : n.client.written ≡ appended s.client.written (so_far_of_talk plan past)
+  pub steady : IsSteady s.line n.line
+  pub written : n.client.sent ≡ appended s.client.sent (so_far_of_talk plan past)
   pub why : IsBad s.body (asked plan.piece (Ask ask ∷ past)) status
   pub told_is : told ≡ told_of_talk plan past
   pub passed_is : passed ≡ passed_of plan past
@@ -214,7 +261,7 @@ pub record HasBadBody (plan : TalkPlan) (s n : Moment) (status : ℕ) (told : Op
   pub body : IsUsed s.body n.body
 
 -- Memory was wanted.
-pub record HasWanted (plan : TalkPlan) (s n : Moment) : Type 0 where
+pub record HasWanted (plan : TalkPlan) (s n : TalkMoment) : Type 0 where
   pub past : List Message
   pub came : List ℕ
   pub rest : List ℕ
@@ -222,7 +269,7 @@ pub record HasWanted (plan : TalkPlan) (s n : Moment) : Type 0 where
   pub broken : IsBrokenOff plan s n past came rest put
 
 -- Memory was wanted before a CPong came.
-pub record HasWantedEarly (plan : TalkPlan) (s n : Moment) : Type 0 where
+pub record HasWantedEarly (plan : TalkPlan) (s n : TalkMoment) : Type 0 where
   pub rest : List ℕ
   pub put : List ℕ
   pub traffic : Traffic s.line n.line rest put
@@ -231,7 +278,7 @@ pub record HasWantedEarly (plan : TalkPlan) (s n : Moment) : Type 0 where
   pub body : n.body ≡ s.body
 
 -- What a talk's answer says, from the moment of its call to the moment of its return.
-abbrev pub IsTalk : TalkPlan → Moment → Moment → Result TalkEnd NoMemory → Type 0
+abbrev pub IsTalk : TalkPlan → TalkMoment → TalkMoment → Result TalkEnd NoMemory → Type 0
 IsTalk plan s n (Ok (ends.Done told reuse bytes)) = IsDone plan s n told reuse bytes
 IsTalk plan s n (Ok (ends.Failed stage cause told bytes)) = HasFailed plan s n stage cause told bytes ⊎ HasNoPong plan s n stage cause told bytes
 IsTalk plan s n (Ok (ends.ClientGone truncated keep bytes)) = IsGone plan s n truncated keep bytes

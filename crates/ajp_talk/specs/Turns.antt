@@ -17,10 +17,11 @@ use Rattle.http_body_in.specs.declared.fault.BodyFault.TheVariants as fault
 use Rattle.http_out.specs.Framing.{has_no_body, is_beyond, is_complete}
 use Rattle.http_out.specs.Writer.{Writer, IsOpen, framing_now, after_head, after_chunk, after_end, chunk_bytes, end_bytes}
 use Rattle.http_out.specs.Writer.{counted as counted_chunk}
-use Rattle.ajp_talk.specs.Moments.{LineAt, ClientAt, BodyAt, Moment, data_at, Traffic, IsUsed, IsFrontOf}
+use Rattle.jk_io.specs.Moments.{Moment}
+use Rattle.ajp_talk.specs.Moments.{BodyAt, TalkMoment, data_at, Traffic, IsSteady, IsUsed, IsFrontOf}
 use Rattle.ajp_talk.specs.Owed.{want, answer, ping_of, pong_of}
 use Rattle.ajp_talk.specs.Replies.{is_good, is_listed, kind_of, head_out}
-use Rattle.ajp_talk.specs.Talk.{IsNext, BeginsNoPong}
+use Rattle.ajp_talk.specs.Talk.{IsNext, BeginsNoPong, IsBad}
 use Rattle.ajp_talk.specs.declared.plan.TalkPlan.{TalkPlan}
 use Rattle.ajp_talk.specs.declared.course.Course.{Course}
 use Rattle.ajp_talk.specs.declared.ending.Told.{Told}
@@ -48,7 +49,7 @@ fault_turn fault.NoMemory = turn_is.NoMemory
 -- ---- one message from the link
 
 -- what came, by why it is no message
-abbrev pub CameUnheard : ℕ → ℕ → ℕ → LineAt → LineAt → List ℕ → Unheard → Type 0
+abbrev pub CameUnheard : ℕ → ℕ → ℕ → Moment → Moment → List ℕ → Unheard → Type 0
 CameUnheard packet most count l l' bytes unheard_is.Line = (count < most) × IsPart true packet bytes × Rose l.faults l'.faults
 CameUnheard packet most count l l' bytes unheard_is.Ended = (count < most) × IsPart true packet bytes × IsEmpty l'.incoming
 CameUnheard packet most count l l' bytes unheard_is.Wrong = (count < most) × BeginsNoMessage packet bytes
@@ -56,21 +57,22 @@ CameUnheard packet most count l l' bytes unheard_is.TooLong = (most ≤ count) �
 CameUnheard packet most count l l' bytes unheard_is.NoMemory = Unit {0}
 
 -- bytes came, nothing was sent, and the count is that of the bytes
-pub record Came (l l' : LineAt) (count count' : ℕ) (bytes : List ℕ) : Type 0 where
-  pub came : HasCome l.incoming l.received l'.incoming l'.received bytes
+pub record Came (l l' : Moment) (count count' : ℕ) (bytes : List ℕ) : Type 0 where
+  pub came : HasCome l l' bytes
   pub sent : l'.sent ≡ l.sent
   pub counts : count' ≡ counted count (length bytes)
   pub small : length bytes < 4294967400
   pub no_fewer : l.faults ≤ l'.faults
 
-pub record IsUnheard (packet most : ℕ) (l l' : LineAt) (count count' : ℕ) (why : Unheard) : Type 0 where
+pub record IsUnheard (packet most : ℕ) (l l' : Moment) (count count' : ℕ) (why : Unheard) : Type 0 where
   pub bytes : List ℕ
   pub came : Came l l' count count' bytes
   pub as_said : CameUnheard packet most count' l l' bytes why
 
-pub record IsHeard (packet most : ℕ) (l l' : LineAt) (count count' : ℕ) (message : Message) : Type 0 where
+pub record IsHeard (packet most : ℕ) (l l' : Moment) (count count' : ℕ) (message : Message) : Type 0 where
   pub bytes : List ℕ
   pub came : Came l l' count count' bytes
+  pub steady : IsSteady l l'
   pub is : IsPacketOf packet message bytes
   pub fits : IsMessage message
   pub below : count' < most
@@ -78,7 +80,7 @@ pub record IsHeard (packet most : ℕ) (l l' : LineAt) (count count' : ℕ) (mes
 -- ---- what is sent
 
 -- these bytes were sent, and nothing came
-pub record Sends (l l' : LineAt) (before after : ℕ) (put : List ℕ) : Type 0 where
+pub record Sends (l l' : Moment) (before after : ℕ) (put : List ℕ) : Type 0 where
   pub sent : l'.sent ≡ appended l.sent put
   pub counts : before + length put < 18446744073709551616 → after ≡ before + length put
   pub incoming : l'.incoming ≡ l.incoming
@@ -86,8 +88,8 @@ pub record Sends (l l' : LineAt) (before after : ℕ) (put : List ℕ) : Type 0 
   pub no_fewer : l.faults ≤ l'.faults
 
 -- the answer to a send: all was sent, or a front of it
-abbrev pub IsSent : LineAt → LineAt → ℕ → ℕ → List ℕ → Result Unit IoError → Type 0
-IsSent l l' sent sent' bytes (Ok _) = Sends l l' sent sent' bytes
+abbrev pub IsSent : Moment → Moment → ℕ → ℕ → List ℕ → Result Unit IoError → Type 0
+IsSent l l' sent sent' bytes (Ok _) = Sends l l' sent sent' bytes × IsSteady l l'
 IsSent l l' sent sent' bytes (Err Io.Failed) = (put : List ℕ) × Sends l l' sent sent' put × IsFrontOf put bytes × Rose l.faults l'.faults
 IsSent l l' sent sent' bytes (Err Io.NoMemory) = (put : List ℕ) × Sends l l' sent sent' put × IsFrontOf put bytes
 
@@ -101,7 +103,7 @@ pong_only (End reuse) = Err unheard_is.Wrong
 pong_only (Ask most) = Err unheard_is.Wrong
 pong_only Pong = Ok tt
 
-abbrev pub IsUnanswered : TalkPlan → LineAt → LineAt → ℕ → List ℕ → List ℕ → Unheard → Type 0
+abbrev pub IsUnanswered : TalkPlan → Moment → Moment → ℕ → List ℕ → List ℕ → Unheard → Type 0
 IsUnanswered plan l l' received rest put unheard_is.Line =
     (received < plan.most) × IsFrontOf put (ping_of plan) × IsPart true plan.packet rest × Rose l.faults l'.faults
 IsUnanswered plan l l' received rest put unheard_is.Ended =
@@ -111,7 +113,7 @@ IsUnanswered plan l l' received rest put unheard_is.TooLong = (plan.most ≤ rec
 IsUnanswered plan l l' received rest put unheard_is.NoMemory = IsFrontOf put (ping_of plan)
 
 -- no CPong answered
-pub record HasNoAnswer (plan : TalkPlan) (l l' : LineAt) (sent received : ℕ) (why : Unheard) : Type 0 where
+pub record HasNoAnswer (plan : TalkPlan) (l l' : Moment) (sent received : ℕ) (why : Unheard) : Type 0 where
   pub rest : List ℕ
   pub put : List ℕ
   pub pings : plan.ping ≡ true
@@ -122,19 +124,20 @@ pub record HasNoAnswer (plan : TalkPlan) (l l' : LineAt) (sent received : ℕ) (
   pub as_said : IsUnanswered plan l l' received rest put why
 
 -- CPing was answered, or none was wanted
-pub record IsAnswered (plan : TalkPlan) (l l' : LineAt) (sent received : ℕ) : Type 0 where
+pub record IsAnswered (plan : TalkPlan) (l l' : Moment) (sent received : ℕ) : Type 0 where
   pub traffic : Traffic l l' (pong_of plan) (ping_of plan)
   pub sent_is : sent ≡ length (ping_of plan)
   pub received_is : received ≡ length (pong_of plan)
+  pub steady : IsSteady l l'
   pub below : received < plan.most
 
-abbrev pub IsGreeting : TalkPlan → LineAt → LineAt → ℕ → ℕ → Result Unit Unheard → Type 0
+abbrev pub IsGreeting : TalkPlan → Moment → Moment → ℕ → ℕ → Result Unit Unheard → Type 0
 IsGreeting plan l l' sent received (Ok _) = IsAnswered plan l l' sent received
 IsGreeting plan l l' sent received (Err why) = HasNoAnswer plan l l' sent received why
 
 -- ---- Send Headers
 
--- the writer is as the course says: open behind a head, and else without one
+-- the writer is as the course says: open after a head, and else without one
 pub record IsOnCourse (c : Course) : Type 0 where
   pub opened : c.headers ≡ true → IsOpen c.writer
   pub fresh : c.headers ≡ false → c.writer.framing ≡ None
@@ -177,13 +180,13 @@ abbrev pub with_chunk : TalkPlan → Course → List ℕ → Course
 with_chunk plan c chunk =
     record c { writer = after_chunk c.writer chunk; told = record { status = c.told.status; body = counted c.told.body (passed_length plan c.told chunk) } }
 
--- a message behind no head, or against the sum: nothing is written
-abbrev pub IsChunkFailure : Course → Course → ClientAt → ClientAt → Bool → Cause → Type 0
+-- a message before a head, or against the sum: nothing is written
+abbrev pub IsChunkFailure : Course → Course → Moment → Moment → Bool → Cause → Type 0
 IsChunkFailure c c' w w' breaks cause_is.NoLink = ⊥
 IsChunkFailure c c' w w' breaks cause_is.Line = ⊥
 IsChunkFailure c c' w w' breaks cause_is.Ended = ⊥
-IsChunkFailure c c' w w' breaks cause_is.BadReply = (c.headers ≡ false) × (c' ≡ c) × (w'.written ≡ w.written)
-IsChunkFailure c c' w w' breaks cause_is.Disagree = (c.headers ≡ true) × (breaks ≡ true) × (c' ≡ c) × (w'.written ≡ w.written)
+IsChunkFailure c c' w w' breaks cause_is.BadReply = (c.headers ≡ false) × (c' ≡ c) × (w'.sent ≡ w.sent)
+IsChunkFailure c c' w w' breaks cause_is.Disagree = (c.headers ≡ true) × (breaks ≡ true) × (c' ≡ c) × (w'.sent ≡ w.sent)
 IsChunkFailure c c' w w' breaks cause_is.TooLong = ⊥
 IsChunkFailure c c' w w' breaks (cause_is.Status status) = ⊥
 
@@ -193,15 +196,15 @@ pub record IsLostWriter (counting now : Writer) : Type 0 where
   pub failed : now.failed ≡ true
   pub ended : now.ended ≡ counting.ended
 
-pub record IsLost (c c' : Course) (w w' : ClientAt) (counting : Writer) (bytes : List ℕ) : Type 0 where
-  pub puts : PutsFront w.written w'.written bytes
+pub record IsLost (c c' : Course) (w w' : Moment) (counting : Writer) (bytes : List ℕ) : Type 0 where
+  pub puts : PutsFront w.sent w'.sent bytes
   pub writer : IsLostWriter counting c'.writer
   pub rest : c' ≡ record c { writer = c'.writer }
 
-abbrev pub IsChunkTurn : TalkPlan → List ℕ → Course → Course → ClientAt → ClientAt → Turn → Type 0
+abbrev pub IsChunkTurn : TalkPlan → List ℕ → Course → Course → Moment → Moment → Turn → Type 0
 IsChunkTurn plan chunk c c' w w' turn_is.On =
     (c.headers ≡ true) × (is_beyond (framing_now c.writer) (length chunk) ≡ false) × (c' ≡ with_chunk plan c chunk)
-    × (w'.written ≡ appended w.written (chunk_bytes c.writer chunk))
+    × (w'.sent ≡ appended w.sent (chunk_bytes c.writer chunk))
 IsChunkTurn plan chunk c c' w w' (turn_is.Done reuse) = ⊥
 IsChunkTurn plan chunk c c' w w' (turn_is.Failed why) = IsChunkFailure c c' w w' (is_beyond (framing_now c.writer) (length chunk)) why
 IsChunkTurn plan chunk c c' w w' turn_is.Lost =
@@ -212,23 +215,23 @@ IsChunkTurn plan chunk c c' w w' turn_is.Unread = ⊥
 IsChunkTurn plan chunk c c' w w' turn_is.Cut = ⊥
 IsChunkTurn plan chunk c c' w w' (turn_is.Bad status) = ⊥
 IsChunkTurn plan chunk c c' w w' turn_is.NoMemory =
-    (c.headers ≡ true) × (is_beyond (framing_now c.writer) (length chunk) ≡ false) × PutsFront w.written w'.written (chunk_bytes c.writer chunk)
+    (c.headers ≡ true) × (is_beyond (framing_now c.writer) (length chunk) ≡ false) × PutsFront w.sent w'.sent (chunk_bytes c.writer chunk)
 
-abbrev pub IsEndTurn : Bool → Course → Course → ClientAt → ClientAt → Turn → Type 0
+abbrev pub IsEndTurn : Bool → Course → Course → Moment → Moment → Turn → Type 0
 IsEndTurn reuse c c' w w' turn_is.On = ⊥
 IsEndTurn reuse c c' w w' (turn_is.Done again) =
     (again ≡ reuse) × (c.headers ≡ true) × (is_complete (framing_now c.writer) ≡ true) × (c' ≡ record c { writer = after_end c.writer })
-    × (w'.written ≡ appended w.written (end_bytes c.writer))
+    × (w'.sent ≡ appended w.sent (end_bytes c.writer))
 IsEndTurn reuse c c' w w' (turn_is.Failed why) = IsChunkFailure c c' w w' (not (is_complete (framing_now c.writer))) why
 IsEndTurn reuse c c' w w' turn_is.Lost = ⊥
 IsEndTurn reuse c c' w w' (turn_is.LostAtEnd again) =
     (again ≡ reuse) × (c.headers ≡ true) × (is_complete (framing_now c.writer) ≡ true)
-    × PutsFront w.written w'.written (end_bytes c.writer) × Rose w.faults w'.faults × (c' ≡ record c { writer = c'.writer })
+    × PutsFront w.sent w'.sent (end_bytes c.writer) × Rose w.faults w'.faults × (c' ≡ record c { writer = c'.writer })
 IsEndTurn reuse c c' w w' turn_is.Unread = ⊥
 IsEndTurn reuse c c' w w' turn_is.Cut = ⊥
 IsEndTurn reuse c c' w w' (turn_is.Bad status) = ⊥
 IsEndTurn reuse c c' w w' turn_is.NoMemory =
-    (c.headers ≡ true) × (is_complete (framing_now c.writer) ≡ true) × PutsFront w.written w'.written (end_bytes c.writer)
+    (c.headers ≡ true) × (is_complete (framing_now c.writer) ≡ true) × PutsFront w.sent w'.sent (end_bytes c.writer)
 
 -- ---- Get Body Chunk
 
@@ -242,32 +245,26 @@ pub record Gives (n : ℕ) (b b' : BodyAt) (piece : List ℕ) : Type 0 where
   pub going : failed_of b'.body ≡ None
   pub most : most_of b'.body ≡ most_of b.body
 
--- why a body can't be taken further
-abbrev pub IsBadAt : ℕ → BodyAt → ℕ → Type 0
-IsBadAt n b status =
-    ((status ≡ 400) × IfSome (data_at b) (λ d. (reaches n d ≡ false) × (d.bad ≡ true)))
-    ⊎ ((status ≡ 413) × IfSome (data_at b) (λ d. most_of b.body ≤ taken_of b.body + length (take n d.bytes)))
-
 -- the answer to an ask of n bytes
-abbrev pub IsAskTurn : ℕ → LineAt → LineAt → ℕ → ℕ → ClientAt → ClientAt → BodyAt → BodyAt → Turn → Type 0
-IsAskTurn n l l' sent sent' w w' b b' turn_is.On = (piece : List ℕ) × Gives n b b' piece × Sends l l' sent sent' (body_packet piece)
-IsAskTurn n l l' sent sent' w w' b b' (turn_is.Done reuse) = ⊥
-IsAskTurn n l l' sent sent' w w' b b' (turn_is.Failed cause_is.Line) =
-    (piece : List ℕ) × (put : List ℕ) × Gives n b b' piece × Sends l l' sent sent' put × IsFrontOf put (body_packet piece) × Rose l.faults l'.faults
-IsAskTurn n l l' sent sent' w w' b b' (turn_is.Failed cause_is.NoLink) = ⊥
-IsAskTurn n l l' sent sent' w w' b b' (turn_is.Failed cause_is.Ended) = ⊥
-IsAskTurn n l l' sent sent' w w' b b' (turn_is.Failed cause_is.BadReply) = ⊥
-IsAskTurn n l l' sent sent' w w' b b' (turn_is.Failed cause_is.Disagree) = ⊥
-IsAskTurn n l l' sent sent' w w' b b' (turn_is.Failed cause_is.TooLong) = ⊥
-IsAskTurn n l l' sent sent' w w' b b' (turn_is.Failed (cause_is.Status status)) = ⊥
-IsAskTurn n l l' sent sent' w w' b b' turn_is.Lost = ⊥
-IsAskTurn n l l' sent sent' w w' b b' (turn_is.LostAtEnd reuse) = ⊥
-IsAskTurn n l l' sent sent' w w' b b' turn_is.Unread = Sends l l' sent sent' [] × IsUsed b b' × Rose w.faults w'.faults
-IsAskTurn n l l' sent sent' w w' b b' turn_is.Cut =
-    Sends l l' sent sent' [] × IsUsed b b' × IfSome (data_at b) (λ d. (reaches n d ≡ false) × (d.bad ≡ false))
-IsAskTurn n l l' sent sent' w w' b b' (turn_is.Bad status) = Sends l l' sent sent' [] × IsUsed b b' × IsBadAt n b status
-IsAskTurn n l l' sent sent' w w' b b' turn_is.NoMemory =
-    (put : List ℕ) × Sends l l' sent sent' put × IsUsed b b' × IfSome (data_at b) (λ d. IsFrontOf put (answer n d))
+abbrev pub IsAskTurn : ℕ → TalkMoment → TalkMoment → ℕ → ℕ → Turn → Type 0
+IsAskTurn n s s' sent sent' turn_is.On = (piece : List ℕ) × Gives n s.body s'.body piece × Sends s.line s'.line sent sent' (body_packet piece) × IsSteady s.line s'.line
+IsAskTurn n s s' sent sent' (turn_is.Done reuse) = ⊥
+IsAskTurn n s s' sent sent' (turn_is.Failed cause_is.Line) =
+    (piece : List ℕ) × (put : List ℕ) × Gives n s.body s'.body piece × Sends s.line s'.line sent sent' put × IsFrontOf put (body_packet piece) × Rose s.line.faults s'.line.faults
+IsAskTurn n s s' sent sent' (turn_is.Failed cause_is.NoLink) = ⊥
+IsAskTurn n s s' sent sent' (turn_is.Failed cause_is.Ended) = ⊥
+IsAskTurn n s s' sent sent' (turn_is.Failed cause_is.BadReply) = ⊥
+IsAskTurn n s s' sent sent' (turn_is.Failed cause_is.Disagree) = ⊥
+IsAskTurn n s s' sent sent' (turn_is.Failed cause_is.TooLong) = ⊥
+IsAskTurn n s s' sent sent' (turn_is.Failed (cause_is.Status status)) = ⊥
+IsAskTurn n s s' sent sent' turn_is.Lost = ⊥
+IsAskTurn n s s' sent sent' (turn_is.LostAtEnd reuse) = ⊥
+IsAskTurn n s s' sent sent' turn_is.Unread = Sends s.line s'.line sent sent' [] × IsUsed s.body s'.body × Rose s.client.faults s'.client.faults
+IsAskTurn n s s' sent sent' turn_is.Cut =
+    Sends s.line s'.line sent sent' [] × IsSteady s.line s'.line × IsUsed s.body s'.body × IfSome (data_at s.body) (λ d. (reaches n d ≡ false) × (d.bad ≡ false))
+IsAskTurn n s s' sent sent' (turn_is.Bad status) = Sends s.line s'.line sent sent' [] × IsSteady s.line s'.line × IsUsed s.body s'.body × IsBad s.body n status
+IsAskTurn n s s' sent sent' turn_is.NoMemory =
+    (put : List ℕ) × Sends s.line s'.line sent sent' put × IsUsed s.body s'.body × IfSome (data_at s.body) (λ d. IsFrontOf put (answer n d))
 
 -- ---- one message
 
@@ -277,16 +274,17 @@ pub record IsUntaken (b b' : BodyAt) : Type 0 where
   pub unread : b'.unread ≡ b.unread
 
 -- what this message makes of the talk, from where it had been read
-abbrev pub Acts : TalkPlan → Message → Course → Course → LineAt → LineAt → ClientAt → ClientAt → BodyAt → BodyAt → Turn → Type 0
+abbrev pub Acts : TalkPlan → Message → Course → Course → Moment → Moment → Moment → Moment → BodyAt → BodyAt → Turn → Type 0
 Acts plan (Headers parts) c c' l l' w w' b b' turn = IsHeadTurn plan parts c c' turn × (l' ≡ l) × (w' ≡ w) × IsUntaken b b'
 Acts plan (Chunk chunk) c c' l l' w w' b b' turn = IsChunkTurn plan chunk c c' w w' turn × (l' ≡ l) × IsUntaken b b' × (w.faults ≤ w'.faults)
 Acts plan (End reuse) c c' l l' w w' b b' turn = IsEndTurn reuse c c' w w' turn × (l' ≡ l) × IsUntaken b b' × (w.faults ≤ w'.faults)
 Acts plan (Ask n) c c' l l' w w' b b' turn =
-    IsAskTurn (want plan.piece n) l l' c.sent c'.sent w w' b b' turn × (c' ≡ record c { sent = c'.sent }) × (w'.written ≡ w.written) × (w.faults ≤ w'.faults)
+    IsAskTurn (want plan.piece n) (record { line = l; client = w; body = b }) (record { line = l'; client = w'; body = b' }) c.sent c'.sent turn
+    × (c' ≡ record c { sent = c'.sent }) × (w'.sent ≡ w.sent) × (w.faults ≤ w'.faults)
 Acts plan Pong c c' l l' w w' b b' turn = (turn ≡ turn_is.Failed cause_is.BadReply) × (c' ≡ c) × (l' ≡ l) × (w' ≡ w) × IsUntaken b b'
 
 -- no message came
-pub record IsSilent (plan : TalkPlan) (s n : Moment) (c c' : Course) (turn : Turn) : Type 0 where
+pub record IsSilent (plan : TalkPlan) (s n : TalkMoment) (c c' : Course) (turn : Turn) : Type 0 where
   pub why : Unheard
   pub turn_is : turn ≡ turn_of why
   pub unheard : IsUnheard plan.packet plan.most s.line n.line c.received c'.received why
@@ -295,12 +293,12 @@ pub record IsSilent (plan : TalkPlan) (s n : Moment) (c c' : Course) (turn : Tur
   pub body : IsUntaken s.body n.body
 
 -- a message came, and this is what it made of the talk
-pub record IsMoved (plan : TalkPlan) (s n : Moment) (c c' : Course) (turn : Turn) : Type 0 where
+pub record IsMoved (plan : TalkPlan) (s n : TalkMoment) (c c' : Course) (turn : Turn) : Type 0 where
   pub message : Message
-  pub mid : LineAt
+  pub mid : Moment
   pub count : ℕ
   pub heard : IsHeard plan.packet plan.most s.line mid c.received count message
   pub acts : Acts plan message (record c { received = count }) c' mid n.line s.client n.client s.body n.body turn
 
-abbrev pub IsTurn : TalkPlan → Moment → Moment → Course → Course → Turn → Type 0
+abbrev pub IsTurn : TalkPlan → TalkMoment → TalkMoment → Course → Course → Turn → Type 0
 IsTurn plan s n c c' turn = IsSilent plan s n c c' turn ⊎ IsMoved plan s n c c' turn

@@ -104,7 +104,7 @@ pub(crate) fn unanswered(sent: u64, received: u64, why: Unheard) -> Result<TalkE
     })
 }
 
-/// A link behind a client that was gone at the end is kept where the end lets it serve again, unless it is to be closed.
+/// The link of a client that was gone at the end is kept where the end lets it serve again, unless it is to be closed.
 pub(crate) fn is_kept(plan: &TalkPlan, reuse: bool) -> bool
     ensures { result ≡ (reuse && not plan.now.close_on_client) }
 {

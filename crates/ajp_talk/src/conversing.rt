@@ -1,18 +1,18 @@
 //! A talk from its first byte to its end.
 
 ghost use Rattle.std.specs.Prelude.{◌≡◌, ◌≤◌, None, length};
-ghost use Rattle.http_front.specs.Unread.{unread};
 ghost use Rattle.http_body_in.specs.State.{failed_of, taken_of};
 ghost use Rattle.ajp_talk.specs.Ends.{IsPlan};
+ghost use Rattle.ajp_talk.specs.Moments.{talk_at};
 ghost use Rattle.ajp_talk.specs.Talk.{IsTalk};
 
 use crate::concluding::{is_kept, unanswered};
 use crate::course::Course;
-use crate::draining::drain;
+use crate::cping::greet;
+use crate::drain::drain;
 use crate::ending::{Cause, TalkEnd};
-use crate::greeting::greet;
 use crate::plan::TalkPlan;
-use crate::sending::send_request;
+use crate::request::send_request;
 use crate::stepping::step;
 use crate::turn::Turn;
 use http_body_in::BodyIn;
@@ -33,18 +33,8 @@ pub(crate) fn converse<L: Link, C: Link>(
     requires first { taken_of body.old ≡ length plan.now.first }
     requires going { failed_of body.old ≡ None }
 
-    ensures talk { IsTalk plan.now
-        (record {
-          line = record { received = L.received line.old; incoming = L.incoming line.old; sent = L.sent line.old; faults = L.faults line.old };
-          client = record { written = C.sent client.old; faults = C.faults client.old };
-          body = record { body = body.old; unread = unread inbox.old (C.incoming client.old) };
-        })
-        (record {
-          line = record { received = L.received line.new; incoming = L.incoming line.new; sent = L.sent line.new; faults = L.faults line.new };
-          client = record { written = C.sent client.new; faults = C.faults client.new };
-          body = record { body = body.new; unread = unread inbox.new (C.incoming client.new) };
-        })
-        result }
+    ensures talk { let at = talk_at L.Meanings C.Meanings in
+        IsTalk plan.now (at line.old client.old body.old inbox.old) (at line.new client.new body.new inbox.new) result }
 
     ensures beside { (L.beside line.new ≡ L.beside line.old) × (C.beside client.new ≡ C.beside client.old) }
     ensures no_fewer { (L.faults line.old ≤ L.faults line.new) × (C.faults client.old ≤ C.faults client.new) }
@@ -73,10 +63,7 @@ pub(crate) fn converse<L: Link, C: Link>(
                 if plan.close_on_client {
                     return Ok(course.gone(false, false));
                 }
-                let keep = match drain(alloc, plan, &mut course, line, client) {
-                    Ok(keep) => keep,
-                    Err(NoMemory) => return Err(NoMemory),
-                };
+                let keep = drain(alloc, plan, &mut course, line, client)?;
                 return Ok(course.gone(false, keep));
             }
             Turn::LostAtEnd { reuse } => return Ok(course.gone(false, is_kept(plan, reuse))),

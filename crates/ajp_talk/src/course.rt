@@ -3,13 +3,13 @@
 ghost use Rattle.std.specs.Prelude.{◌≡◌, ◌≤◌, ◌<◌, ◌↔◌, true, false, length, IfOk, IsTrue, if◌then◌else◌};
 ghost use Rattle.http_out.specs.Framing.{has_no_body};
 ghost use Rattle.http_out.specs.Writer.{new_writer};
-ghost use Rattle.ajp_talk.specs.Moments.{ClientAt};
+ghost use Rattle.ajp_wire.specs.Moments.{link_at};
 ghost use Rattle.ajp_talk.specs.Replies.{kind_of, is_listed as is_listed_in};
 ghost use Rattle.ajp_talk.specs.Turns.{IsOnCourse, IsHeadTurn, IsChunkTurn, IsEndTurn};
 
 use crate::ending::{Cause, Told};
-use crate::heads::reply_head;
 use crate::plan::TalkPlan;
+use crate::send_headers::reply_head;
 use crate::turn::Turn;
 use ajp_reply::ReplyParts;
 use http_out::{OutError, ReplyWriter};
@@ -78,8 +78,7 @@ impl Course {
         client: &mut C,
     ) -> Turn
         requires course { IsOnCourse self.old }
-        ensures turn { IsChunkTurn plan.now chunk.now self.old self.new (record { written = C.sent client.old; faults = C.faults client.old })
-            (record { written = C.sent client.new; faults = C.faults client.new }) result }
+        ensures turn { IsChunkTurn plan.now chunk.now self.old self.new (link_at C.Meanings client.old) (link_at C.Meanings client.new) result }
         ensures same { (C.incoming client.new ≡ C.incoming client.old) × (C.received client.new ≡ C.received client.old)
             × (C.beside client.new ≡ C.beside client.old) }
         ensures no_fewer { C.faults client.old ≤ C.faults client.new }
@@ -104,8 +103,7 @@ impl Course {
     /// Ends the reply to the client.
     pub(crate) fn finish<C: Sink>(&mut self, reuse: bool, client: &mut C) -> Turn
         requires course { IsOnCourse self.old }
-        ensures turn { IsEndTurn reuse self.old self.new (record { written = C.sent client.old; faults = C.faults client.old })
-            (record { written = C.sent client.new; faults = C.faults client.new }) result }
+        ensures turn { IsEndTurn reuse self.old self.new (link_at C.Meanings client.old) (link_at C.Meanings client.new) result }
         ensures same { (C.incoming client.new ≡ C.incoming client.old) × (C.received client.new ≡ C.received client.old)
             × (C.beside client.new ≡ C.beside client.old) }
         ensures no_fewer { C.faults client.old ≤ C.faults client.new }

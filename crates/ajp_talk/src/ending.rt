@@ -9,7 +9,7 @@ pub struct Stage {
     pub headers: bool,
     /// A byte of the reply was written to the client.
     pub passed: bool,
-    /// Bytes of the body behind the first piece were taken.
+    /// Bytes of the body after the first piece were taken.
     pub beyond: bool,
 }
 

@@ -1,16 +1,16 @@
 //! One message of the container, and what it asks for.
 
 ghost use Rattle.std.specs.Prelude.{◌≡◌, ◌≤◌, None};
-ghost use Rattle.http_front.specs.Unread.{unread};
 ghost use Rattle.http_body_in.specs.State.{failed_of};
 ghost use Rattle.ajp_talk.specs.Ends.{IsPlan};
+ghost use Rattle.ajp_talk.specs.Moments.{talk_at};
 ghost use Rattle.ajp_talk.specs.Turns.{IsOnCourse, IsTurn};
 
+use crate::body_piece::{answer_ask, wanted};
 use crate::course::Course;
 use crate::ending::Cause;
-use crate::hearing::receive;
+use crate::messages::receive;
 use crate::plan::TalkPlan;
-use crate::sending::{answer_ask, wanted};
 use crate::turn::{Turn, turn_of};
 use ajp_reply::Message;
 use http_body_in::BodyIn;
@@ -31,18 +31,8 @@ pub(crate) fn step<L: Link, C: Link>(
     requires plan { IsPlan plan.now }
     requires course { IsOnCourse course.old }
     requires going { failed_of body.old ≡ None }
-    ensures turn { IsTurn plan.now
-        (record {
-          line = record { received = L.received line.old; incoming = L.incoming line.old; sent = L.sent line.old; faults = L.faults line.old };
-          client = record { written = C.sent client.old; faults = C.faults client.old };
-          body = record { body = body.old; unread = unread inbox.old (C.incoming client.old) };
-        })
-        (record {
-          line = record { received = L.received line.new; incoming = L.incoming line.new; sent = L.sent line.new; faults = L.faults line.new };
-          client = record { written = C.sent client.new; faults = C.faults client.new };
-          body = record { body = body.new; unread = unread inbox.new (C.incoming client.new) };
-        })
-        course.old course.new result }
+    ensures turn { let at = talk_at L.Meanings C.Meanings in
+        IsTurn plan.now (at line.old client.old body.old inbox.old) (at line.new client.new body.new inbox.new) course.old course.new result }
     ensures beside { (L.beside line.new ≡ L.beside line.old) × (C.beside client.new ≡ C.beside client.old) }
     ensures no_fewer { (L.faults line.old ≤ L.faults line.new) × (C.faults client.old ≤ C.faults client.new) }
 {

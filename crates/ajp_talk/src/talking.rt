@@ -1,10 +1,10 @@
 //! `talk`: one try of a request on one link.
 
 ghost use Rattle.std.specs.Prelude.{◌≡◌, ◌≤◌, None, length};
-ghost use Rattle.http_front.specs.Unread.{unread};
 ghost use Rattle.http_body_in.specs.State.{failed_of, taken_of};
 ghost use Rattle.ajp_talk.specs.Complete.{Completes};
 ghost use Rattle.ajp_talk.specs.Ends.{IsPlan};
+ghost use Rattle.ajp_talk.specs.Moments.{talk_at};
 ghost use Rattle.ajp_talk.specs.Talk.{IsTalk};
 
 use crate::conversing::converse;
@@ -16,7 +16,7 @@ use jk_io::{Link, NoMemory};
 use std::alloc::Global;
 
 /// Sends the request over a link, answers the container's asks from the body, and passes its reply on to the client.
-/// `body` has just the plan's first piece behind it, and no call of it was refused.
+/// Just the plan's first piece was taken of `body`, and no call of it was refused.
 pub fn talk<L: Link, C: Link>(
     alloc: Global,
     plan: &TalkPlan,
@@ -30,32 +30,12 @@ pub fn talk<L: Link, C: Link>(
     requires going { failed_of body.old ≡ None }
 
     // How it ended, by what came and went on the link, at the client and of the body.
-    ensures talk { IsTalk plan.now
-        (record {
-          line = record { received = L.received line.old; incoming = L.incoming line.old; sent = L.sent line.old; faults = L.faults line.old };
-          client = record { written = C.sent client.old; faults = C.faults client.old };
-          body = record { body = body.old; unread = unread inbox.old (C.incoming client.old) };
-        })
-        (record {
-          line = record { received = L.received line.new; incoming = L.incoming line.new; sent = L.sent line.new; faults = L.faults line.new };
-          client = record { written = C.sent client.new; faults = C.faults client.new };
-          body = record { body = body.new; unread = unread inbox.new (C.incoming client.new) };
-        })
-        result }
+    ensures talk { let at = talk_at L.Meanings C.Meanings in
+        IsTalk plan.now (at line.old client.old body.old inbox.old) (at line.new client.new body.new inbox.new) result }
 
     // Where a whole reply comes and nothing fails, the client has it.
-    ensures complete { Completes plan.now
-        (record {
-          line = record { received = L.received line.old; incoming = L.incoming line.old; sent = L.sent line.old; faults = L.faults line.old };
-          client = record { written = C.sent client.old; faults = C.faults client.old };
-          body = record { body = body.old; unread = unread inbox.old (C.incoming client.old) };
-        })
-        (record {
-          line = record { received = L.received line.new; incoming = L.incoming line.new; sent = L.sent line.new; faults = L.faults line.new };
-          client = record { written = C.sent client.new; faults = C.faults client.new };
-          body = record { body = body.new; unread = unread inbox.new (C.incoming client.new) };
-        })
-        result }
+    ensures complete { let at = talk_at L.Meanings C.Meanings in
+        Completes plan.now (at line.old client.old body.old inbox.old) (at line.new client.new body.new inbox.new) result }
 
     ensures beside { (L.beside line.new ≡ L.beside line.old) × (C.beside client.new ≡ C.beside client.old) }
     ensures no_fewer { (L.faults line.old ≤ L.faults line.new) × (C.faults client.old ≤ C.faults client.new) }

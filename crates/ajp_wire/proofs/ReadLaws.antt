@@ -1,5 +1,6 @@
 -- A packet that is read in two parts: its head, and the payload behind it.
 use Rattle.std.proofs.Common.{◌≡◌, ℕ, ◌<◌, length, List, ◌++◌, Option, Result, Ok, Err, Bool, true, false, refl, sym, ap, ◌∙◌, arith, length-append}
+use Rattle.jk_io.specs.Moments.{Moment}
 use Rattle.jk_io.specs.Told.{appended, prepended}
 use Rattle.jk_io.proofs.ToldLaws.{appended-appended, prepended-prepended}
 use Rattle.ajp_wire.specs.declared.errors.PacketError.{PacketError}
@@ -8,10 +9,10 @@ use Rattle.ajp_wire.specs.Packet.{head, IsPart, CameAs, count_of, HasCome, Reads
 use Rattle.ajp_wire.specs.Head.{IsHead, Lacks, PayloadCameAs}
 use Rattle.ajp_wire.proofs.PacketLaws.{part-behind_head}
 
-HasCome-then : (i0 r0 i1 r1 i2 r2 : Option (List ℕ)) (x y : List ℕ) → HasCome i0 r0 i1 r1 x → HasCome i1 r1 i2 r2 y → HasCome i0 r0 i2 r2 (x ++ y)
-HasCome-then i0 r0 i1 r1 i2 r2 x y p q = record {
-  used = p.used ∙ ap (prepended x) q.used ∙ prepended-prepended x y i2;
-  kept = q.kept ∙ ap (λ (r : Option (List ℕ)). appended r y) p.kept ∙ appended-appended r0 x y;
+HasCome-then : (l m n : Moment) (x y : List ℕ) → HasCome l m x → HasCome m n y → HasCome l n (x ++ y)
+HasCome-then l m n x y p q = record {
+  used = p.used ∙ ap (prepended x) q.used ∙ prepended-prepended x y n.incoming;
+  kept = q.kept ∙ ap (λ (r : Option (List ℕ)). appended r y) p.kept ∙ appended-appended l.received x y;
 }
 
 length-head : (from_container : Bool) (size : ℕ) → length (head from_container size) ≡ 4
@@ -49,10 +50,10 @@ are-joined b most size (Err (TooLong count)) front bytes h p = absurd p
 are-joined b most size (Err (Fault count)) front bytes h p = ((some_part b most size count front bytes h p).1, counted b most size count front bytes h p)
 are-joined b most size (Err (NoMemory count)) front bytes h p = ((some_part b most size count front bytes h p).1, counted b most size count front bytes h p)
 
-pub reads-joined : (from_container : Bool) (most size : ℕ) (result : Result (List ℕ) PacketError) (i0 r0 i1 r1 i2 r2 : Option (List ℕ))
-    → ((front : List ℕ) × HasCome i0 r0 i1 r1 front × IsHead from_container most size front)
-    → ((bytes : List ℕ) × HasCome i1 r1 i2 r2 bytes × PayloadCameAs size result bytes)
-    → ReadsPacket from_container most result i0 r0 i2 r2
-reads-joined b most size result i0 r0 i1 r1 i2 r2 p q =
+pub reads-joined : (from_container : Bool) (most size : ℕ) (result : Result (List ℕ) PacketError) (l m n : Moment)
+    → ((front : List ℕ) × HasCome l m front × IsHead from_container most size front)
+    → ((bytes : List ℕ) × HasCome m n bytes × PayloadCameAs size result bytes)
+    → ReadsPacket from_container most result l n
+reads-joined b most size result l m n p q =
     let joined = are-joined b most size result p.0 q.0 p.2 q.2 in
-    record { bytes = p.0 ++ q.0; came = HasCome-then i0 r0 i1 r1 i2 r2 p.0 q.0 p.1 q.1; are = joined.0; counted = joined.1 }
+    record { bytes = p.0 ++ q.0; came = HasCome-then l m n p.0 q.0 p.1 q.1; are = joined.0; counted = joined.1 }

@@ -5,3 +5,4 @@ pub mod Head
 pub mod Places
 pub mod Reading
 pub mod FirstPlace
+pub mod Moments

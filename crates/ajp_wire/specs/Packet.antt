@@ -1,5 +1,6 @@
 -- Packets each way, and what the bytes are that a read of one packet took.
-use Rattle.std.specs.Prelude.{◌≡◌, ℕ, ◌+◌, ◌<◌, ◌≤◌, Bool, true, false, List, [], ◌∷◌, ◌++◌, length, Option, Result, Ok, Err}
+use Rattle.std.specs.Prelude.{◌≡◌, ℕ, ◌+◌, ◌<◌, ◌≤◌, Bool, true, false, List, [], ◌∷◌, ◌++◌, length, Result, Ok, Err}
+use Rattle.jk_io.specs.Moments.{Moment}
 use Rattle.jk_io.specs.Told.{appended, prepended}
 use Rattle.ajp_wire.specs.Spelling.{int}
 use Rattle.ajp_wire.specs.declared.errors.PacketError.{PacketError}
@@ -91,15 +92,14 @@ count_of (Err (Fault count)) = count
 count_of (Err (NoMemory count)) = count
 
 -- These bytes came on a link: they were the next ones to come, and are the last ones received.
-pub record HasCome (incoming received incoming_after received_after : Option (List ℕ)) (bytes : List ℕ) : Type 0 where
-  pub used : incoming ≡ prepended bytes incoming_after
-  pub kept : received_after ≡ appended received bytes
+pub record HasCome (before after : Moment) (bytes : List ℕ) : Type 0 where
+  pub used : before.incoming ≡ prepended bytes after.incoming
+  pub kept : after.received ≡ appended before.received bytes
 
 -- One read of a packet: the bytes that came, what they are, and that the answer counts them.
-pub record ReadsPacket (from_container : Bool) (most : ℕ) (result : Result (List ℕ) PacketError)
-    (incoming received incoming_after received_after : Option (List ℕ)) : Type 0 where
+pub record ReadsPacket (from_container : Bool) (most : ℕ) (result : Result (List ℕ) PacketError) (before after : Moment) : Type 0 where
   pub bytes : List ℕ
-  pub came : HasCome incoming received incoming_after received_after bytes
+  pub came : HasCome before after bytes
   pub are : CameAs from_container most result bytes
   pub counted : count_of result ≡ length bytes
 

@@ -1,6 +1,7 @@
 //! One packet at a time from a link.
 
-ghost use Rattle.std.specs.Prelude.{◌≡◌, ◌↔◌, ℕ, ◌+◌, ◌≤◌, ◌<◌, List, length, IfOk, IfErr, IsTrue};
+ghost use Rattle.std.specs.Prelude.{◌≡◌, ◌↔◌, ℕ, ◌+◌, ◌≤◌, ◌<◌, List, length, IsOk, IfOk, IfErr, IsTrue};
+ghost use Rattle.ajp_wire.specs.Moments.{link_at};
 ghost use Rattle.jk_io.specs.Told.{IsEmpty, Rose};
 ghost use Rattle.ajp_wire.specs.Packet.{HasCome, ReadsPacket, says_end, says_fault};
 ghost use Rattle.ajp_wire.specs.Head.{begins_packet as begins, HeadCameAs, PayloadCameAs};
@@ -10,7 +11,7 @@ use crate::writing::HEAD_BYTES;
 use jk_io::{Bytes, Filled, Link, Stop, fill};
 use std::alloc::Global;
 
-/// Reads one packet, and no byte behind it, and gives its payload. `most` counts the head's 4 bytes too.
+/// Reads one packet, and no byte after it, and gives its payload. `most` counts the head's 4 bytes too.
 pub fn read_packet<L: Link>(
     alloc: Global,
     line: &mut L,
@@ -18,12 +19,12 @@ pub fn read_packet<L: Link>(
     most: u32,
 ) -> Result<Bytes, PacketError>
     // Whatever the answer is: which bytes came, what they are, and that it counts them.
-    ensures packet { ReadsPacket from_container most result
-        (L.incoming line.old) (L.received line.old) (L.incoming line.new) (L.received line.new) }
+    ensures packet { ReadsPacket from_container most result (link_at L.Meanings line.old) (link_at L.Meanings line.new) }
 
     ensures end { IfErr result (λ error. IsTrue (says_end error) → IsEmpty (L.incoming line.new)) }
     ensures fault { IfErr result (λ error. IsTrue (says_fault error) → Rose (L.faults line.old) (L.faults line.new)) }
     ensures no_fewer { L.faults line.old ≤ L.faults line.new }
+    ensures steady { IsOk result → L.faults line.new ≡ L.faults line.old }
     ensures same { (L.sent line.new ≡ L.sent line.old) × (L.beside line.new ≡ L.beside line.old) }
 {
     let size = read_head(line, from_container, most)?;
@@ -32,11 +33,11 @@ pub fn read_packet<L: Link>(
 
 /// Reads the head of a packet, and gives the length of its payload.
 fn read_head<L: Link>(line: &mut L, from_container: bool, most: u32) -> Result<u16, PacketError>
-    ensures head { (bytes : List ℕ) × HasCome (L.incoming line.old) (L.received line.old) (L.incoming line.new) (L.received line.new) bytes
-        × HeadCameAs from_container most result bytes }
+    ensures head { (bytes : List ℕ) × HasCome (link_at L.Meanings line.old) (link_at L.Meanings line.new) bytes × HeadCameAs from_container most result bytes }
     ensures end { IfErr result (λ error. IsTrue (says_end error) → IsEmpty (L.incoming line.new)) }
     ensures fault { IfErr result (λ error. IsTrue (says_fault error) → Rose (L.faults line.old) (L.faults line.new)) }
     ensures no_fewer { L.faults line.old ≤ L.faults line.new }
+    ensures steady { IsOk result → L.faults line.new ≡ L.faults line.old }
     ensures same { (L.sent line.new ≡ L.sent line.old) × (L.beside line.new ≡ L.beside line.old) }
 {
     let mut head = [0u8; HEAD_BYTES];
@@ -51,6 +52,7 @@ fn judge_head(came: &[u8], stop: Stop, from_container: bool, most: u32) -> Resul
     ensures head { HeadCameAs from_container most result came.now }
     ensures end { IfErr result (λ error. IsTrue (says_end error) → stop ≡ Stop.End) }
     ensures fault { IfErr result (λ error. IsTrue (says_fault error) → stop ≡ Stop.Fault) }
+    ensures whole { IsOk result → stop ≡ Stop.Full }
 {
     let read = came.len() as u32;
     if !begins_packet(came, from_container) {
@@ -103,11 +105,11 @@ fn size_within(head: &[u8], from_container: bool, most: u32) -> Result<u16, Pack
 
 /// Reads the payload behind a head.
 fn read_payload<L: Link>(alloc: Global, line: &mut L, size: u16) -> Result<Bytes, PacketError>
-    ensures payload { (bytes : List ℕ) × HasCome (L.incoming line.old) (L.received line.old) (L.incoming line.new) (L.received line.new) bytes
-        × PayloadCameAs size result bytes }
+    ensures payload { (bytes : List ℕ) × HasCome (link_at L.Meanings line.old) (link_at L.Meanings line.new) bytes × PayloadCameAs size result bytes }
     ensures end { IfErr result (λ error. IsTrue (says_end error) → IsEmpty (L.incoming line.new)) }
     ensures fault { IfErr result (λ error. IsTrue (says_fault error) → Rose (L.faults line.old) (L.faults line.new)) }
     ensures no_fewer { L.faults line.old ≤ L.faults line.new }
+    ensures steady { IsOk result → L.faults line.new ≡ L.faults line.old }
     ensures same { (L.sent line.new ≡ L.sent line.old) × (L.beside line.new ≡ L.beside line.old) }
 {
     if size == 0 {

@@ -2,7 +2,7 @@
 use Rattle.std.proofs.Common.{◌≡◌, ◌≢◌, ℕ, Bool, true, false, IsTrue, List, [], ◌∷◌, ◌++◌, length, Result, Ok, Err, refl, sym, ap, subst, ◌∙◌, append_assoc, add-one, arith}
 use Rattle.std.specs.Prelude.{replicate, not, ◌&&◌, if◌then◌else◌}
 use Rattle.std.proofs.lemmas.List.{append-nil, replicate_more}
-use Rattle.ajp_wire.specs.Packet.{packet}
+use Rattle.ajp_wire.specs.Packet.{packet, HasCome}
 use Rattle.ajp_request.specs.declared.forward.Forward.{Forward}
 use Rattle.ajp_reply.specs.declared.message.Message.{Message}
 use Rattle.ajp_reply.specs.Spelling.{payload_of}
@@ -12,7 +12,8 @@ use Rattle.mini_container.specs.Applications.{drops}
 use Rattle.mini_container.specs.Request.{application_of, content_length, has_first, asks_body}
 use Rattle.mini_container.specs.Answer.{answer_of, bytes_of}
 use Rattle.mini_container.specs.Turns.{Awaited, Taken, data_of, has_ended, is_enough, asks_on, ask}
-use Rattle.mini_container.specs.Ends.{Moment, Goes, ComesBetween, Within, Stops, StopsWithin, drops_at}
+use Rattle.jk_io.specs.Moments.{Moment}
+use Rattle.mini_container.specs.Ends.{Goes, Within, Stops, StopsWithin, drops_at}
 use Rattle.mini_container.specs.Steps.{NotTaken, TookPiece, NotSent, TookFirst, asks, Asked, TookRest, StopsAsking, TakesRest, TookBody, TakesBody}
 use Rattle.mini_container.proofs.StepLaws.{comes-then, goes-none, goes-then, stops-then, stops-reading, stops-sending}
 
@@ -202,7 +203,7 @@ body-taken app forward m0 m1 m2 first (Err stop) t r = record {
   front = t.bytes ++ r.bytes;
   rest = r.rest;
   came = record { front = t.bytes; answers = r.bytes; begun = t.begun; answered = r.came; asked = r.asked; whole = refl };
-  comes = subst (ComesBetween m0 m2) (sym (append_assoc t.bytes r.bytes r.rest)) (comes-then m0 m1 m2 t.bytes (r.bytes ++ r.rest) t.goes.came r.comes);
+  comes = subst (HasCome m0 m2) (sym (append_assoc t.bytes r.bytes r.rest)) (comes-then m0 m1 m2 t.bytes (r.bytes ++ r.rest) t.goes.came r.comes);
   stops =
       subst (λ (b : Bool). Stops app.packet Within b (not b && drops (application_of app forward))
       (bytes_of (asks app r.past ++ (if b then ask app ∷ [] else answer_of app forward (data_of first r.past)))) m0 m2 r.rest stop) (sym r.more)

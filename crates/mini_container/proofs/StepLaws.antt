@@ -6,7 +6,9 @@ use Rattle.mini_container.specs.declared.ends.BadPacket.TheVariants.{Piece}
 use Rattle.mini_container.specs.declared.ends.Stopped.{Stopped}
 use Rattle.mini_container.specs.declared.ends.Stopped.TheVariants.{Closed, Dropped, LinkFault, Truncated, Bad, NoMemory}
 use Rattle.mini_container.specs.Turns.{SpellsPiece}
-use Rattle.mini_container.specs.Ends.{Moment, Goes, ComesBetween, Place, Within, EndsReading, EndsSending, Stops}
+use Rattle.jk_io.specs.Moments.{Moment}
+use Rattle.ajp_wire.specs.Packet.{HasCome}
+use Rattle.mini_container.specs.Ends.{Goes, Place, Within, EndsReading, EndsSending, Stops}
 use Rattle.mini_container.specs.Steps.{TookPacket, NotTaken, TookPiece, NotSent}
 
 -- ---- body packets
@@ -41,13 +43,13 @@ piece-took most m0 m1 payload piece body body_after took spelled added = record 
 
 -- ---- moments in a row
 
-pub comes-then : (m0 m1 m2 : Moment) (x y : List ℕ) → ComesBetween m0 m1 x → ComesBetween m1 m2 y → ComesBetween m0 m2 (x ++ y)
+pub comes-then : (m0 m1 m2 : Moment) (x y : List ℕ) → HasCome m0 m1 x → HasCome m1 m2 y → HasCome m0 m2 (x ++ y)
 comes-then m0 m1 m2 x y p q = record {
   used = p.used ∙ ap (prepended x) q.used ∙ prepended-prepended x y m2.incoming;
   kept = q.kept ∙ ap (λ (r : Option (List ℕ)). appended r y) p.kept ∙ appended-appended m0.received x y;
 }
 
-pub comes-none : (m : Moment) → ComesBetween m m []
+pub comes-none : (m : Moment) → HasCome m m []
 comes-none m = record { used = sym (prepended-nil m.incoming); kept = sym (appended-nil m.received) }
 
 pub goes-none : (m : Moment) → Goes m m [] []

@@ -5,7 +5,7 @@ use Rattle.std.proofs.lemmas.List.Elements.{All-from_recursion}
 use Rattle.std.proofs.lemmas.List.{append-nil}
 use Rattle.jk_io.specs.Told.{Rose}
 use Rattle.jk_io.proofs.ToldLaws.{appended-nil, Rose-within}
-use Rattle.ajp_wire.specs.Packet.{packet}
+use Rattle.ajp_wire.specs.Packet.{packet, HasCome}
 use Rattle.ajp_wire.specs.declared.errors.DecodeError.{DecodeError}
 use Rattle.ajp_wire.specs.declared.errors.DecodeError.TheVariants as errors
 use Rattle.ajp_request.specs.declared.forward.Forward.{Forward}
@@ -24,7 +24,8 @@ use Rattle.mini_container.specs.Applications.{drops}
 use Rattle.mini_container.specs.Request.{application_of}
 use Rattle.mini_container.specs.Answer.{answer_of, bytes_of, IsSendable}
 use Rattle.mini_container.specs.Turns.{Taken, Turn, Idle, Ping, Request, Turns, data_of, asks_on, ask, owed_for, owed, requests_in}
-use Rattle.mini_container.specs.Ends.{Moment, Goes, ComesBetween, Place, Between, Within, IsRefused, Stops, StopsWithin, StopsInTurn, IsTalk, end_of}
+use Rattle.jk_io.specs.Moments.{Moment}
+use Rattle.mini_container.specs.Ends.{Goes, Place, Between, Within, IsRefused, Stops, StopsWithin, StopsInTurn, IsTalk, end_of}
 use Rattle.mini_container.specs.Steps.{TookPacket, NotTaken, NotSent, TookBody, asks, Served, TookTurn, Reads, is_request, kind_of, requests_of, stop_of}
 use Rattle.mini_container.proofs.StepLaws.{packet-unkept, comes-none, comes-then, goes-none, goes-then, stops-then, stops-reading, stops-sending, stops-wanting}
 use Rattle.mini_container.proofs.FitLaws.{answer-sendable}
@@ -34,7 +35,7 @@ use Rattle.mini_container.proofs.BodyLaws.{bytes_of-append, goes-same}
 
 -- what stops behind a whole body stops within the answer
 answer-stops : (app : AppConfig) (forward : Forward) (m0 m1 m2 : Moment) (body : List ℕ) (stop : Stopped) → TookBody app forward m0 m1 body
-    → ComesBetween m1 m2 [] → Stops app.packet Within false (drops (application_of app forward)) (bytes_of (answer_of app forward body)) m1 m2 [] stop
+    → HasCome m1 m2 [] → Stops app.packet Within false (drops (application_of app forward)) (bytes_of (answer_of app forward body)) m1 m2 [] stop
     → StopsWithin app forward m0 m2 stop
 answer-stops app forward m0 m1 m2 body stop t none s = record {
   body = Taken t.first t.past;
@@ -168,7 +169,7 @@ request-stops app forward m0 m1 m2 payload stop t spelled s = record {
   front = t.bytes ++ s.front;
   rest = s.rest;
   came = (t.bytes, s.front, record { payload = payload; packet = t.packet; spelled = spelled }, s.came, refl);
-  comes = subst (ComesBetween m0 m2) (sym (append_assoc t.bytes s.front s.rest)) (comes-then m0 m1 m2 t.bytes (s.front ++ s.rest) t.goes.came s.comes);
+  comes = subst (HasCome m0 m2) (sym (append_assoc t.bytes s.front s.rest)) (comes-then m0 m1 m2 t.bytes (s.front ++ s.rest) t.goes.came s.comes);
   stops = stops-then app.packet Within _ _ m0 m1 m2 t.bytes [] (bytes_of (owed_for app forward s.body)) s.rest stop t.goes s.stops;
 }
 

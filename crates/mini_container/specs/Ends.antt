@@ -1,6 +1,7 @@
 -- Why the container stops where it does, and how the talk ends by that.
 use Rattle.std.specs.Prelude.{◌≡◌, ◌≢◌, ℕ, ◌<◌, ◌≤◌, ◌⊎◌, Bool, false, IsTrue, List, [], ◌∷◌, ◌++◌, length, Option}
 use Rattle.jk_io.specs.Told.{appended, IsEmpty, Rose, PutsFront}
+use Rattle.jk_io.specs.Moments.{Moment}
 use Rattle.ajp_wire.specs.Packet.{IsPacket, IsPart, IsBad, IsTooLong, HasCome}
 use Rattle.ajp_request.specs.declared.forward.Forward.{Forward}
 use Rattle.ajp_request.specs.Spelling.{SpellsForward}
@@ -29,23 +30,9 @@ end_of requests Truncated = ends.Truncated
 end_of requests (Bad bad) = ends.BadPacket (code_of bad)
 end_of requests NoMemory = ends.NoMemory
 
--- What is told of a link at a moment.
-pub record Moment : Type 0 where
-  pub incoming : Option (List ℕ)
-  pub received : Option (List ℕ)
-  pub sent : Option (List ℕ)
-  pub faults : ℕ
-
-abbrev pub moment : {L : Type 0} → (L → Option (List ℕ)) → (L → Option (List ℕ)) → (L → Option (List ℕ)) → (L → ℕ) → L → Moment
-moment incoming received sent faults link =
-    record { incoming = incoming link; received = received link; sent = sent link; faults = faults link }
-
-abbrev pub ComesBetween : Moment → Moment → List ℕ → Type 0
-ComesBetween before after bytes = HasCome before.incoming before.received after.incoming after.received bytes
-
 -- Between two moments some bytes came, and others were sent.
 pub record Goes (before after : Moment) (coming going : List ℕ) : Type 0 where
-  pub came : ComesBetween before after coming
+  pub came : HasCome before after coming
   pub sent : after.sent ≡ appended before.sent going
   pub no_fewer : before.faults ≤ after.faults
 
@@ -131,7 +118,7 @@ pub record StopsWithin (app : AppConfig) (forward : Forward) (before after : Mom
   pub front : List ℕ
   pub rest : List ℕ
   pub came : CameBody app forward body front
-  pub comes : ComesBetween before after (front ++ rest)
+  pub comes : HasCome before after (front ++ rest)
   pub stops : Stops app.packet Within (awaits app forward body) (drops_at app forward body) (bytes_of (owed_for app forward body)) before after rest stop
 
 abbrev pub place_of : Turn → Place
@@ -145,7 +132,7 @@ pub record StopsInTurn (app : AppConfig) (before after : Moment) (stop : Stopped
   pub front : List ℕ
   pub rest : List ℕ
   pub came : Came app turn front
-  pub comes : ComesBetween before after (front ++ rest)
+  pub comes : HasCome before after (front ++ rest)
   pub stops : Stops app.packet (place_of turn) (waits app turn) (is_dropped app turn) (bytes_of (owed app turn)) before after rest stop
 
 -- A talk: turns that are over, each with all sent that it is owed, and then a turn within which it stops.

@@ -1,7 +1,7 @@
 -- The steps of a turn: a packet that is taken, messages that are sent, a body that is read.
 use Rattle.std.specs.Prelude.{◌≡◌, ℕ, ◌⊎◌, Bool, true, false, IsTrue, List, [], ◌∷◌, ◌++◌, length, replicate, Option, Some, None, Result, Ok, Err}
 use Rattle.jk_io.specs.Told.{PutsFront}
-use Rattle.ajp_wire.specs.Packet.{IsPacket}
+use Rattle.ajp_wire.specs.Packet.{IsPacket, HasCome}
 use Rattle.ajp_wire.specs.declared.errors.DecodeError.{DecodeError}
 use Rattle.ajp_wire.specs.declared.errors.DecodeError.TheVariants as errors
 use Rattle.ajp_request.specs.declared.forward.Forward.{Forward}
@@ -16,7 +16,8 @@ use Rattle.mini_container.specs.declared.serving.TurnKind.TheVariants as kinds
 use Rattle.mini_container.specs.Request.{has_first}
 use Rattle.mini_container.specs.Answer.{bytes_of}
 use Rattle.mini_container.specs.Turns.{Body, Turn, Idle, Ping, Request, SpellsPiece, IsPacketOf, CameAnswers, AskedFor, CameFirst, CameTaken, CameBody, Came, data_of, asks_on, ask, owed_for, owed, is_over}
-use Rattle.mini_container.specs.Ends.{Moment, Goes, ComesBetween, Place, Between, Within, IsRefused, EndsReading, EndsSending, Stops, StopsWithin, StopsInTurn}
+use Rattle.jk_io.specs.Moments.{Moment}
+use Rattle.mini_container.specs.Ends.{Goes, Place, Between, Within, IsRefused, EndsReading, EndsSending, Stops, StopsWithin, StopsInTurn}
 
 -- A packet was taken.
 pub record TookPacket (most : ℕ) (before after : Moment) (payload : List ℕ) : Type 0 where
@@ -27,7 +28,7 @@ pub record TookPacket (most : ℕ) (before after : Moment) (payload : List ℕ) 
 -- None was taken.
 pub record NotTaken (most : ℕ) (place : Place) (before after : Moment) (stop : Stopped) : Type 0 where
   pub bytes : List ℕ
-  pub comes : ComesBetween before after bytes
+  pub comes : HasCome before after bytes
   pub sent : after.sent ≡ before.sent
   pub why : EndsReading most place before after bytes stop
 
@@ -50,7 +51,7 @@ TakesPiece most body before after body_after (Err stop) = NotTaken most Within b
 
 -- Not all of some bytes was sent.
 pub record NotSent (going : List ℕ) (before after : Moment) (stop : Stopped) : Type 0 where
-  pub comes : ComesBetween before after []
+  pub comes : HasCome before after []
   pub front : PutsFront before.sent after.sent going
   pub why : EndsSending before after stop
 
@@ -93,7 +94,7 @@ pub record StopsAsking (app : AppConfig) (forward : Forward) (first : List ℕ) 
   pub rest : List ℕ
   pub came : CameAnswers app.packet past bytes
   pub asked : AskedFor app forward first past
-  pub comes : ComesBetween before after (bytes ++ rest)
+  pub comes : HasCome before after (bytes ++ rest)
   pub more : asks_on app forward first past ≡ true
   pub stops : Stops app.packet Within true false (bytes_of (asks app past ++ ask app ∷ [])) before after rest stop
 

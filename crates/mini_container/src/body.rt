@@ -3,7 +3,7 @@ ghost use Rattle.std.specs.Prelude.{◌≡◌, ◌^◌, ◌<◌, ◌≤◌, [], 
 ghost use Rattle.mini_container.specs.Answer.{bytes_of};
 ghost use Rattle.mini_container.specs.Request.{asks_body as asks_body_of};
 ghost use Rattle.mini_container.specs.Turns.{is_enough as is_enough_for, ask as ask_of};
-ghost use Rattle.mini_container.specs.Ends.{moment};
+ghost use Rattle.ajp_wire.specs.Moments.{link_at};
 ghost use Rattle.mini_container.specs.Steps.{Sends, TakesFirst, TakesRest, TakesBody};
 
 use crate::app_config::AppConfig;
@@ -26,8 +26,7 @@ pub fn take_body<L: Link>(
     app: &AppConfig,
     forward: &Forward,
 ) -> Result<Bytes, Stopped>
-    ensures took { TakesBody app.now forward.now
-        (moment L.incoming L.received L.sent L.faults link.old) (moment L.incoming L.received L.sent L.faults link.new) result }
+    ensures took { TakesBody app.now forward.now (link_at L.Meanings link.old) (link_at L.Meanings link.new) result }
     ensures small { IfOk result (λ all. length all < 2 ^ 64) }
     ensures no_fewer { L.faults link.old ≤ L.faults link.new }
     ensures same { L.beside link.new ≡ L.beside link.old }
@@ -46,8 +45,7 @@ fn take_first<L: Link>(
     app: &AppConfig,
     forward: &Forward,
 ) -> Result<Bytes, Stopped>
-    ensures took { TakesFirst app.now forward.now
-        (moment L.incoming L.received L.sent L.faults link.old) (moment L.incoming L.received L.sent L.faults link.new) result }
+    ensures took { TakesFirst app.now forward.now (link_at L.Meanings link.old) (link_at L.Meanings link.new) result }
     ensures no_fewer { L.faults link.old ≤ L.faults link.new }
     ensures same { L.beside link.new ≡ L.beside link.old }
 {
@@ -67,8 +65,7 @@ fn take_rest<L: Link>(
     mut body: Bytes,
 ) -> Result<Bytes, Stopped>
     requires { IsTrue (asks_body_of app.now forward.now) }
-    ensures took { TakesRest app.now forward.now body
-        (moment L.incoming L.received L.sent L.faults link.old) (moment L.incoming L.received L.sent L.faults link.new) result }
+    ensures took { TakesRest app.now forward.now body (link_at L.Meanings link.old) (link_at L.Meanings link.new) result }
     ensures small { IfOk result (λ all. length all < 2 ^ 64) }
     ensures no_fewer { L.faults link.old ≤ L.faults link.new }
     ensures same { L.beside link.new ≡ L.beside link.old }
@@ -96,8 +93,7 @@ fn is_enough(named: Option<u64>, len: usize) -> bool
 
 /// Asks for as many bytes as a packet holds.
 fn ask<L: Link>(alloc: Global, link: &mut L, app: &AppConfig) -> Result<(), Stopped>
-    ensures sent { Sends (bytes_of (ask_of app.now ∷ []))
-        (moment L.incoming L.received L.sent L.faults link.old) (moment L.incoming L.received L.sent L.faults link.new) result }
+    ensures sent { Sends (bytes_of (ask_of app.now ∷ [])) (link_at L.Meanings link.old) (link_at L.Meanings link.new) result }
     ensures no_fewer { L.faults link.old ≤ L.faults link.new }
     ensures same { L.beside link.new ≡ L.beside link.old }
 {

@@ -3,7 +3,7 @@ ghost use Rattle.std.specs.Prelude.{◌≡◌, ◌≤◌, true, IfOk, All};
 ghost use Rattle.ajp_wire.specs.Packet.{packet};
 ghost use Rattle.ajp_reply.specs.Spelling.{payload_of};
 ghost use Rattle.mini_container.specs.Answer.{IsSendable, bytes_of};
-ghost use Rattle.mini_container.specs.Ends.{moment};
+ghost use Rattle.ajp_wire.specs.Moments.{link_at};
 ghost use Rattle.mini_container.specs.Steps.{Sends};
 
 use crate::ends::Stopped;
@@ -20,8 +20,7 @@ pub fn send<L: Link>(
     most: u32,
 ) -> Result<(), Stopped>
     requires { All (IsSendable most) messages.now }
-    ensures sent { Sends (bytes_of messages.now)
-        (moment L.incoming L.received L.sent L.faults link.old) (moment L.incoming L.received L.sent L.faults link.new) result }
+    ensures sent { Sends (bytes_of messages.now) (link_at L.Meanings link.old) (link_at L.Meanings link.new) result }
     ensures no_fewer { L.faults link.old ≤ L.faults link.new }
     ensures same { L.beside link.new ≡ L.beside link.old }
 {

@@ -3,7 +3,8 @@ ghost use Rattle.std.specs.Prelude.{◌≡◌, ◌≤◌, [], ◌∷◌};
 ghost use Rattle.jk_io.specs.Told.{Rose};
 ghost use Rattle.ajp_reply.specs.declared.message.Message.TheVariants.{Pong};
 ghost use Rattle.mini_container.specs.Answer.{bytes_of};
-ghost use Rattle.mini_container.specs.Ends.{moment, IsTalk};
+ghost use Rattle.ajp_wire.specs.Moments.{link_at};
+ghost use Rattle.mini_container.specs.Ends.{IsTalk};
 ghost use Rattle.mini_container.specs.Steps.{Sends, Serves, Reads, IsBegun, TakesTurn, requests_of, stop_of};
 
 use crate::answering::app_answer;
@@ -30,8 +31,7 @@ pub enum TurnKind {
 /// Serves a connector on its link until the bytes end, or the talk can't go on. After 2^64 - 1 turns it ends as for want
 /// of memory.
 pub fn serve_ajp<L: Link>(alloc: Global, link: &mut L, app: &AppConfig) -> ContainerEnd
-    ensures talk { IsTalk app.now
-        (moment L.incoming L.received L.sent L.faults link.old) (moment L.incoming L.received L.sent L.faults link.new) result }
+    ensures talk { IsTalk app.now (link_at L.Meanings link.old) (link_at L.Meanings link.new) result }
     ensures fault { result ≡ ContainerEnd.LinkFault → Rose (L.faults link.old) (L.faults link.new) }
     ensures no_fewer { L.faults link.old ≤ L.faults link.new }
     ensures same { L.beside link.new ≡ L.beside link.old }
@@ -60,8 +60,7 @@ fn requests_of(kind: TurnKind) -> u64
 
 /// Serves one turn: a CPing, or a request with its body.
 fn serve_turn<L: Link>(alloc: Global, link: &mut L, app: &AppConfig) -> Result<TurnKind, Stopped>
-    ensures took { TakesTurn app.now
-        (moment L.incoming L.received L.sent L.faults link.old) (moment L.incoming L.received L.sent L.faults link.new) result }
+    ensures took { TakesTurn app.now (link_at L.Meanings link.old) (link_at L.Meanings link.new) result }
     ensures no_fewer { L.faults link.old ≤ L.faults link.new }
     ensures same { L.beside link.new ≡ L.beside link.old }
 {
@@ -93,8 +92,7 @@ fn turn_of(payload: &[u8]) -> Option<TurnKind>
 
 /// Answers a CPing.
 fn pong<L: Link>(alloc: Global, link: &mut L, app: &AppConfig) -> Result<(), Stopped>
-    ensures sent { Sends (bytes_of (Pong ∷ []))
-        (moment L.incoming L.received L.sent L.faults link.old) (moment L.incoming L.received L.sent L.faults link.new) result }
+    ensures sent { Sends (bytes_of (Pong ∷ [])) (link_at L.Meanings link.old) (link_at L.Meanings link.new) result }
     ensures no_fewer { L.faults link.old ≤ L.faults link.new }
     ensures same { L.beside link.new ≡ L.beside link.old }
 {
@@ -133,8 +131,7 @@ fn serve_request<L: Link>(
     app: &AppConfig,
     forward: &Forward,
 ) -> Result<(), Stopped>
-    ensures served { Serves app.now forward.now
-        (moment L.incoming L.received L.sent L.faults link.old) (moment L.incoming L.received L.sent L.faults link.new) result }
+    ensures served { Serves app.now forward.now (link_at L.Meanings link.old) (link_at L.Meanings link.new) result }
     ensures no_fewer { L.faults link.old ≤ L.faults link.new }
     ensures same { L.beside link.new ≡ L.beside link.old }
 {

@@ -1,5 +1,6 @@
 -- Each way out of a talk, from how it stood and from its last turn.
 use Rattle.std.proofs.Common.{refl, ap, ◌∙◌, arith, inl}
+use Rattle.std.proofs.lemmas.Result.{err_from_is_err_and}
 use Rattle.http_front.specs.Unread.{unread}
 use Rattle.ajp_talk.proofs.AskLaws.{untaken-same}
 use Rattle.ajp_talk.proofs.TurnLaws.{failed}
@@ -33,7 +34,7 @@ pub loop-reuse-init : goal.loop-reuse-init
 loop-reuse-init g c = record {
   stands = rw c.new-course.ensures
       (begun c.args.plan.now _ _ _ c.greet.new.sent c.send_request.new.sent c.greet.new.received c.requires.plan c.requires.first c.requires.going
-      c.in-Ok.ensures.greeting c.in-Ok-send_request.ensures.sent refl refl);
+      c.in-Ok.ensures.greeting c.in-Ok-send_request.ensures.sent.0 c.in-Ok-send_request.ensures.sent.1 refl refl);
   line_beside = c.send_request.ensures.beside ∙ c.greet.ensures.beside;
   client_beside = refl;
   line_faults = omega (arith, c.greet.ensures.no_fewer, c.send_request.ensures.no_fewer);
@@ -88,21 +89,22 @@ returns-then-plan-clause-talk g c =
     (lost_gone c.args.plan.now _ _ c.step.new.course c.requires.plan c.if-plan.true
     (lost c.args.plan.now _ _ _ c.loop-reuse.course c.step.new.course i.stands c.requires.plan i.client_faults c.in-Lost.ensures.turn))
 
-pub returns-in-Err-drain-clause-talk : goal.returns-in-Err-drain-clause-talk
-returns-in-Err-drain-clause-talk g c =
+pub returns-in_err-keep-in-Lost-clause-talk : goal.returns-in_err-keep-in-Lost-clause-talk
+returns-in_err-keep-in-Lost-clause-talk g c =
     let i = c.loop-reuse.invariant in
-    let e = c.in-Err-drain.ensures.drained in
-    inl (lost_wanted c.args.plan.now _ _ _ c.step.new.course e.0
+    let e = c.in_err-keep-in-Lost.ensures.drained in
+    rw (err_from_is_err_and c.from_residual.result c.from_residual.ensures.1).1
+    (inl (lost_wanted c.args.plan.now _ _ _ c.step.new.course e.0
     (lost c.args.plan.now _ _ _ c.loop-reuse.course c.step.new.course i.stands c.requires.plan i.client_faults c.in-Lost.ensures.turn)
-    e.1 (untaken-same _ _ (record { body = refl; unread = ap (unread c.step.new.inbox) c.drain.ensures.incoming })))
+    e.1 (untaken-same _ _ (record { body = refl; unread = ap (unread c.step.new.inbox) c.drain.ensures.incoming }))))
 
 pub returns-in-Lost-clause-talk : goal.returns-in-Lost-clause-talk
 returns-in-Lost-clause-talk g c =
     let i = c.loop-reuse.invariant in
     rw c.gone-in-Lost.ensures
-    (lost_drained c.args.plan.now _ _ _ c.step.new.course c.drain.new.course c.in-Ok-drain.keep c.requires.plan
+    (lost_drained c.args.plan.now _ _ _ c.step.new.course c.drain.new.course c.in_ok-keep-in-Lost.keep c.requires.plan
     (lost c.args.plan.now _ _ _ c.loop-reuse.course c.step.new.course i.stands c.requires.plan i.client_faults c.in-Lost.ensures.turn)
-    c.in-Ok-drain.ensures.drained c.if-plan.false
+    c.in_ok-keep-in-Lost.ensures.drained c.if-plan.false
     (untaken-same _ _ (record { body = refl; unread = ap (unread c.step.new.inbox) c.drain.ensures.incoming })) c.drain.ensures.no_fewer.1)
 
 pub returns-in-LostAtEnd-clause-talk : goal.returns-in-LostAtEnd-clause-talk

@@ -1,5 +1,5 @@
 use Rattle.std.proofs.Common.{◌≡◌, ◌-◌, ◌^◌, length}
-use Rattle.mini_container.specs.Ends.{moment}
+use Rattle.ajp_wire.specs.Moments.{link_at}
 use Rattle.mini_container.proofs.BodyLaws.{AsksOn}
 use Rattle.mini_container.proofs.body.take_rest.Given as goal
 
@@ -7,8 +7,8 @@ use Rattle.mini_container.proofs.body.take_rest.Given as goal
 abbrev pub invariant-asks : goal.invariant-asks
 invariant-asks g l = record {
   asked : AsksOn l.app l.forward l.initial.body l.body
-      (moment g.L.Meanings.incoming g.L.Meanings.received g.L.Meanings.sent g.L.Meanings.faults l.initial.link)
-      (moment g.L.Meanings.incoming g.L.Meanings.received g.L.Meanings.sent g.L.Meanings.faults l.link);
+      (link_at g.L.Meanings l.initial.link)
+      (link_at g.L.Meanings l.link);
   same : g.L.Meanings.beside l.link ≡ g.L.Meanings.beside l.initial.link;
 }
 

@@ -1,5 +1,5 @@
 use Rattle.std.proofs.Common.{◌≡◌, ◌≤◌}
-use Rattle.mini_container.specs.Ends.{moment}
+use Rattle.ajp_wire.specs.Moments.{link_at}
 use Rattle.mini_container.proofs.TurnLaws.{TalkSoFar}
 use Rattle.mini_container.proofs.serving.serve_ajp.Given as goal
 
@@ -7,8 +7,8 @@ use Rattle.mini_container.proofs.serving.serve_ajp.Given as goal
 abbrev pub invariant-turns : goal.invariant-turns
 invariant-turns g l = record {
   so_far : TalkSoFar l.app
-      (moment g.L.Meanings.incoming g.L.Meanings.received g.L.Meanings.sent g.L.Meanings.faults l.initial.link)
-      (moment g.L.Meanings.incoming g.L.Meanings.received g.L.Meanings.sent g.L.Meanings.faults l.link) l.requests;
+      (link_at g.L.Meanings l.initial.link)
+      (link_at g.L.Meanings l.link) l.requests;
   few : l.requests ≤ l.counter;
   same : g.L.Meanings.beside l.link ≡ g.L.Meanings.beside l.initial.link;
 }

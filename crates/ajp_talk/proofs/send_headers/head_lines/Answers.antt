@@ -1,5 +1,5 @@
 use Rattle.std.proofs.Common.{arith, ap, length, length-append}
-use Rattle.ajp_talk.proofs.heads.head_lines.Goals as goal
+use Rattle.ajp_talk.proofs.send_headers.head_lines.Goals as goal
 
 pub push-requires : goal.push-requires
 push-requires c =

@@ -1,15 +1,16 @@
+use Rattle.ajp_wire.specs.Moments.{link_at}
 use Rattle.std.proofs.Common.{◌≡◌, ◌≤◌, ◌-◌}
 use Rattle.ajp_talk.proofs.DrainLaws.{Draining}
-use Rattle.ajp_talk.proofs.draining.drain.Given as goal
+use Rattle.ajp_talk.proofs.drain.drain.Given as goal
 
 -- chunks came, and nothing else
 abbrev pub invariant-loop-bytes : goal.invariant-loop-bytes
 invariant-loop-bytes g l = record {
   draining : Draining l.plan
-      (record { received = g.L.Meanings.received l.initial.line; incoming = g.L.Meanings.incoming l.initial.line; sent = g.L.Meanings.sent l.initial.line; faults = g.L.Meanings.faults l.initial.line })
-      (record { received = g.L.Meanings.received l.line; incoming = g.L.Meanings.incoming l.line; sent = g.L.Meanings.sent l.line; faults = g.L.Meanings.faults l.line })
-      (record { written = g.C.Meanings.sent l.initial.client; faults = g.C.Meanings.faults l.initial.client })
-      (record { written = g.C.Meanings.sent l.client; faults = g.C.Meanings.faults l.client })
+      (link_at g.L.Meanings l.initial.line)
+      (link_at g.L.Meanings l.line)
+      (link_at g.C.Meanings l.initial.client)
+      (link_at g.C.Meanings l.client)
       l.initial.course l.course;
   incoming : g.C.Meanings.incoming l.client ≡ g.C.Meanings.incoming l.initial.client;
   line_beside : g.L.Meanings.beside l.line ≡ g.L.Meanings.beside l.initial.line;

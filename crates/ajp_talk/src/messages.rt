@@ -1,6 +1,7 @@
 //! The next message from a link.
 
 ghost use Rattle.std.specs.Prelude.{◌≡◌, ◌<◌, ◌≤◌, IfOk, IfErr, length};
+ghost use Rattle.ajp_wire.specs.Moments.{link_at};
 ghost use Rattle.ajp_wire.specs.Packet.{count_of};
 ghost use Rattle.ajp_talk.specs.Hearing.{undecoded as undecoded_as, unheard as unheard_as};
 ghost use Rattle.ajp_talk.specs.Turns.{IsHeard, IsUnheard};
@@ -19,14 +20,8 @@ pub(crate) fn receive<L: Link>(
     most: u64,
     count: &mut u64,
 ) -> Result<Message, Unheard>
-    ensures heard { IfOk result (IsHeard packet most
-        (record { received = L.received line.old; incoming = L.incoming line.old; sent = L.sent line.old; faults = L.faults line.old })
-        (record { received = L.received line.new; incoming = L.incoming line.new; sent = L.sent line.new; faults = L.faults line.new })
-        count.old count.new) }
-    ensures unheard { IfErr result (IsUnheard packet most
-        (record { received = L.received line.old; incoming = L.incoming line.old; sent = L.sent line.old; faults = L.faults line.old })
-        (record { received = L.received line.new; incoming = L.incoming line.new; sent = L.sent line.new; faults = L.faults line.new })
-        count.old count.new) }
+    ensures heard { IfOk result (IsHeard packet most (link_at L.Meanings line.old) (link_at L.Meanings line.new) count.old count.new) }
+    ensures unheard { IfErr result (IsUnheard packet most (link_at L.Meanings line.old) (link_at L.Meanings line.new) count.old count.new) }
     ensures beside { L.beside line.new ≡ L.beside line.old }
     ensures no_fewer { L.faults line.old ≤ L.faults line.new }
 {

@@ -1,8 +1,9 @@
 -- Each way out of the draining, from what came since the client was gone.
 use Rattle.std.proofs.Common.{refl, ◌∙◌, arith}
 use Rattle.ajp_reply.specs.declared.message.Message.TheVariants.{Headers, Ask, Pong}
-use Rattle.ajp_talk.proofs.DrainLaws.{drains-first, drains-more, drained_end, drained_lost_end, chunk_wanted, chunk_over, end_wanted, end_over, other_over, silent_over}
-use Rattle.ajp_talk.proofs.draining.drain.Goals as goal
+use Rattle.ajp_talk.proofs.DrainLaws.{drains-first, drains-more, drains-lost, drained_end, drained_lost_end, chunk_wanted, chunk_over, end_wanted, end_over, other_over, silent_over}
+use Rattle.ajp_talk.proofs.drain.drain.Goals.{in-On, in-Lost}
+use Rattle.ajp_talk.proofs.drain.drain.Goals as goal
 
 pub loop-bytes-init : goal.loop-bytes-init
 loop-bytes-init g c = record {
@@ -18,9 +19,13 @@ pub loop-bytes-preserved : goal.loop-bytes-preserved
 loop-bytes-preserved g c =
     let i = c.loop-bytes.invariant in
     let heard = rw c.in-Ok-Chunk.field-0-is at c.in-Ok-Chunk.ensures.heard in
-    let turn = rw c.as_slice.ensures at c.in-On.ensures.turn in
     record {
-      draining = drains-more c.args.plan.now _ _ _ _ _ _ c.args.course.now c.loop-bytes.course c.take_chunk.new.self c.receive.new.count c.requires.plan i.draining c.in-Ok-Chunk.bytes heard turn;
+      draining = elim c.match-take_chunk.branch [
+        | in-On w ↦ (let turn = rw c.as_slice.ensures at w.in-On.ensures.turn in
+            drains-more c.args.plan.now _ _ _ _ _ _ c.args.course.now c.loop-bytes.course c.take_chunk.new.self c.receive.new.count c.requires.plan i.draining c.in-Ok-Chunk.bytes heard turn)
+        | in-Lost w ↦ (let turn = rw c.as_slice.ensures at w.in-Lost.ensures.turn in
+            drains-lost c.args.plan.now _ _ _ _ _ _ c.args.course.now c.loop-bytes.course c.take_chunk.new.self c.receive.new.count c.requires.plan i.draining c.in-Ok-Chunk.bytes heard turn)
+      ];
       incoming = c.take_chunk.ensures.same.0 ∙ i.incoming;
       line_beside = c.receive.ensures.beside ∙ i.line_beside;
       client_beside = c.take_chunk.ensures.same.2 ∙ i.client_beside;
@@ -39,7 +44,7 @@ returns-in_default-clause-drained g c =
     let heard = rw c.in-Ok-Chunk.field-0-is at c.in-Ok-Chunk.ensures.heard in
     let turn = rw c.as_slice.ensures at c.take_chunk.ensures.turn in
     chunk_over c.args.plan.now _ _ _ _ _ _ c.args.course.now c.loop-bytes.course c.take_chunk.new.self c.receive.new.count c.requires.plan c.loop-bytes.invariant.draining c.in-Ok-Chunk.bytes
-    c.take_chunk.result c.in_default.not-NoMemory heard turn
+    c.take_chunk.result c.in_default.not-NoMemory c.in_default.not-On c.in_default.not-Lost heard turn
 
 pub returns-in-Done-clause-drained : goal.returns-in-Done-clause-drained
 returns-in-Done-clause-drained g c =
@@ -68,17 +73,17 @@ returns-in-Failed-clause-drained g c =
 pub returns-in-Ok-Headers-clause-drained : goal.returns-in-Ok-Headers-clause-drained
 returns-in-Ok-Headers-clause-drained g c =
     let heard = rw c.in-Ok-Headers.field-0-is at c.in-Ok-Headers.ensures.heard in
-    other_over c.args.plan.now _ _ _ _ _ c.args.course.now c.loop-bytes.course c.receive.new.count c.requires.plan c.loop-bytes.invariant.draining (Headers c.in-Ok-Headers._parts) (λ is. absurd cc) heard
+    other_over c.args.plan.now _ _ _ _ _ c.args.course.now c.loop-bytes.course c.receive.new.count c.requires.plan c.loop-bytes.invariant.draining (Headers c.in-Ok-Headers._parts) (λ is. absurd cc) tt heard
 
 pub returns-in-Ok-Ask-clause-drained : goal.returns-in-Ok-Ask-clause-drained
 returns-in-Ok-Ask-clause-drained g c =
     let heard = rw c.in-Ok-Ask.field-0-is at c.in-Ok-Ask.ensures.heard in
-    other_over c.args.plan.now _ _ _ _ _ c.args.course.now c.loop-bytes.course c.receive.new.count c.requires.plan c.loop-bytes.invariant.draining (Ask c.in-Ok-Ask._most) (λ is. absurd cc) heard
+    other_over c.args.plan.now _ _ _ _ _ c.args.course.now c.loop-bytes.course c.receive.new.count c.requires.plan c.loop-bytes.invariant.draining (Ask c.in-Ok-Ask._most) (λ is. absurd cc) tt heard
 
 pub returns-in-Ok-Pong-clause-drained : goal.returns-in-Ok-Pong-clause-drained
 returns-in-Ok-Pong-clause-drained g c =
     let heard = rw c.in-Ok-Pong.field-0-is at c.in-Ok-Pong.ensures.heard in
-    other_over c.args.plan.now _ _ _ _ _ c.args.course.now c.loop-bytes.course c.receive.new.count c.requires.plan c.loop-bytes.invariant.draining Pong (λ is. absurd cc) heard
+    other_over c.args.plan.now _ _ _ _ _ c.args.course.now c.loop-bytes.course c.receive.new.count c.requires.plan c.loop-bytes.invariant.draining Pong (λ is. absurd cc) tt heard
 
 pub returns-in-Err-clause-drained : goal.returns-in-Err-clause-drained
 returns-in-Err-clause-drained g c =

@@ -1,5 +1,5 @@
 use Rattle.std.proofs.Common.{◌≡◌, ◌++◌}
-use Rattle.ajp_talk.proofs.heads.head_lines.Given as goal
+use Rattle.ajp_talk.proofs.send_headers.head_lines.Given as goal
 
 -- the lines so far, and behind them those that are left, are all
 abbrev pub invariant-loop-pair : goal.invariant-loop-pair

@@ -1,9 +1,10 @@
 //! CPing, and CPong that must answer it.
 
 ghost use Rattle.std.specs.Prelude.{◌≡◌, ◌<◌, ◌≤◌};
+ghost use Rattle.ajp_wire.specs.Moments.{link_at};
 ghost use Rattle.ajp_talk.specs.Turns.{IsGreeting, pong_only as pong_only_of};
 
-use crate::hearing::receive;
+use crate::messages::receive;
 use crate::plan::TalkPlan;
 use crate::sending::send;
 use crate::turn::Unheard;
@@ -25,10 +26,7 @@ pub(crate) fn greet<L: Link>(
     requires some { 0 < plan.now.most }
     requires none_sent { sent.old ≡ 0 }
     requires none_received { received.old ≡ 0 }
-    ensures greeting { IsGreeting plan.now
-        (record { received = L.received line.old; incoming = L.incoming line.old; sent = L.sent line.old; faults = L.faults line.old })
-        (record { received = L.received line.new; incoming = L.incoming line.new; sent = L.sent line.new; faults = L.faults line.new })
-        sent.new received.new result }
+    ensures greeting { IsGreeting plan.now (link_at L.Meanings line.old) (link_at L.Meanings line.new) sent.new received.new result }
     ensures beside { L.beside line.new ≡ L.beside line.old }
     ensures no_fewer { L.faults line.old ≤ L.faults line.new }
 {

@@ -1,12 +1,13 @@
 -- What came of a read is a message, or why there is none.
+use Rattle.ajp_wire.specs.Moments.{link_at}
 use Rattle.ajp_talk.proofs.HearingLaws.{narrow, undecoded-from}
-use Rattle.ajp_talk.proofs.hearing.receive.Goals as goal
+use Rattle.ajp_talk.proofs.messages.receive.Goals as goal
 
 pub bytes_read-requires : goal.bytes_read-requires
 bytes_read-requires g c =
     narrow c.args.packet
-    (record { received = g.L.Meanings.received c.args.line.now; incoming = g.L.Meanings.incoming c.args.line.now; sent = g.L.Meanings.sent c.args.line.now; faults = g.L.Meanings.faults c.args.line.now })
-    (record { received = g.L.Meanings.received c.read_packet-answer.new.line; incoming = g.L.Meanings.incoming c.read_packet-answer.new.line; sent = g.L.Meanings.sent c.read_packet-answer.new.line; faults = g.L.Meanings.faults c.read_packet-answer.new.line })
+    (link_at g.L.Meanings c.args.line.now)
+    (link_at g.L.Meanings c.read_packet-answer.new.line)
     c.read_packet-answer.result c.read_packet-answer.ensures.packet
 
 pub returns-in-Ok-clause-unheard : goal.returns-in-Ok-clause-unheard

@@ -1,11 +1,12 @@
-//! What comes of a reply behind a client that is gone.
+//! What comes of a reply after the client is gone.
 
 ghost use Rattle.std.specs.Prelude.{◌≡◌, ◌≤◌, ◌<◌};
+ghost use Rattle.ajp_wire.specs.Moments.{link_at};
 ghost use Rattle.ajp_talk.specs.Ends.{IsPlan};
 ghost use Rattle.ajp_talk.specs.Drains.{IsLostCourse, IsDrained, closed_by as closed_by_of};
 
 use crate::course::Course;
-use crate::hearing::receive;
+use crate::messages::receive;
 use crate::plan::TalkPlan;
 use crate::turn::{Turn, Unheard};
 use ajp_reply::Message;
@@ -24,11 +25,7 @@ pub(crate) fn drain<L: Link, C: Sink>(
     requires plan { IsPlan plan.now }
     requires lost { IsLostCourse course.old }
     requires below { course.old.received < plan.now.most }
-    ensures drained { IsDrained plan.now
-        (record { received = L.received line.old; incoming = L.incoming line.old; sent = L.sent line.old; faults = L.faults line.old })
-        (record { received = L.received line.new; incoming = L.incoming line.new; sent = L.sent line.new; faults = L.faults line.new })
-        (record { written = C.sent client.old; faults = C.faults client.old }) (record { written = C.sent client.new; faults = C.faults client.new })
-        course.old course.new result }
+    ensures drained { IsDrained plan.now (link_at L.Meanings line.old) (link_at L.Meanings line.new) (link_at C.Meanings client.old) (link_at C.Meanings client.new) course.old course.new result }
     ensures incoming { C.incoming client.new ≡ C.incoming client.old }
     ensures beside { (L.beside line.new ≡ L.beside line.old) × (C.beside client.new ≡ C.beside client.old) }
     ensures no_fewer { (L.faults line.old ≤ L.faults line.new) × (C.faults client.old ≤ C.faults client.new) }
@@ -38,6 +35,7 @@ pub(crate) fn drain<L: Link, C: Sink>(
             Ok(Message::Chunk(bytes)) => {
                 match course.take_chunk(plan, bytes.as_slice(), client) {
                     Turn::On => {}
+                    Turn::Lost => {}
                     Turn::NoMemory => return Err(NoMemory),
                     _ => return Ok(false),
                 }
