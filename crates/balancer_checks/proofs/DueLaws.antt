@@ -52,8 +52,11 @@ gained_last : (old new : DeskState) (lb session at : ℕ) (last : Receipt) → l
 gained_last old new lb session at last within sound gains other b found =
     let told : (x : Journal) × (book_in old.books lb ≡ Some x) × (b ≡ grown_by x (gains.due ++ last ∷ [])) =
     told_grown lb (gains.due ++ last ∷ []) old.sizes old.books new.books b within sound gains.gains.books found in
-    subst (λ (x : Journal). IsNoneDue x at) (sym told.2)
-    (after_last told.0 at gains.due last gains.is_due (gains.gains.next told.0 told.1) (gains.maintained told.0 told.1).0 other)
+    let same : told.0 ≡ gains.follows.book = gains.follows.found.told told.0 told.1 in
+    let grown : b ≡ grown_by gains.follows.book (gains.due ++ last ∷ []) =
+    told.2 ∙ ap (λ (x : Journal). grown_by x (gains.due ++ last ∷ [])) same in
+    subst (λ (x : Journal). IsNoneDue x at) (sym grown)
+    (after_last gains.follows.book at gains.due last gains.is_due gains.follows.next gains.maintained.0 other)
 
 pub chosen_up_to_date : {T : Type 0} (note : T → LeaseNote) (old new : DeskState) (lb session at : ℕ) (ask : Ask) (c : Choice T)
     → lb < length old.sizes → AreSound old.sizes old.books → Chooses note old new lb session at ask c → IsUpToDate new lb at
@@ -72,8 +75,10 @@ returned_up_to_date old new lb session at lease outcome same within sound back n
     told_grown lease.lb (back.last ∷ []) old.sizes old.books new.books b (subst (λ (n : ℕ). n < length old.sizes) (sym same) within) sound back.gains.books
     (subst (λ (n : ℕ). book_in new.books n ≡ Some b) (sym same) found) in
     let before : IsNoneDue told.0 at = none told.0 (subst (λ (n : ℕ). book_in old.books n ≡ Some told.0) same told.1) in
+    let same : told.0 ≡ back.follows.book = back.follows.found.told told.0 told.1 in
+    let next : IsNextAt told.0 at back.last.entry = subst (λ (x : Journal). IsNextAt x at back.last.entry) (sym same) back.follows.next.0 in
     subst (λ (x : Journal). IsNoneDue x at) (sym told.2)
-    (after_other told.0 at back.last (back.gains.next told.0 told.1).0 (ap (λ (x : Call). is_maintain x) back.returned) before)
+    (after_other told.0 at back.last next (ap (λ (x : Call). is_maintain x) back.returned) before)
 
 pub stray_up_to_date : (old new : DeskState) (lb at : ℕ) (lease : LeaseNote) (stray : Stray) → MeetsStray old new lease stray → IsUpToDate old lb at → IsUpToDate new lb at
 stray_up_to_date old new lb at lease stray met none b found =

@@ -1,12 +1,12 @@
 -- How one exchange over a desk ends.
-use Rattle.std.specs.Prelude.{◌≡◌, ℕ, ◌+◌, ◌<◌, false, List, [], ◌∷◌, ◌++◌, length, slice_index}
-use Rattle.jk_io.specs.Told.{Rose}
+use Rattle.std.specs.Prelude.{◌≡◌, ℕ, ◌+◌, ◌<◌, ◌⊎◌, false, true, List, [], ◌∷◌, ◌++◌, length, slice_index}
 use Rattle.jk_model.specs.Free.{is_in}
 use Rattle.jk_model.specs.declared.ask.Ask.{Ask}
+use Rattle.jk_model.specs.declared.journal.Answer.TheVariants as answer
 use Rattle.jk_model.specs.declared.journal.Call.TheVariants as call
 use Rattle.jk_model.specs.declared.journal.Outcome.{Outcome}
 use Rattle.jk_model.specs.declared.refusal.RoomError.TheVariants as room
-use Rattle.balancer_core.specs.Desks.{DeskState}
+use Rattle.balancer_core.specs.Desks.{DeskState, RisesByOne}
 use Rattle.balancer_core.specs.ToldBooks.{IsNoneDue, WhereTold}
 use Rattle.balancer_core.specs.declared.receipt.Receipt.{Receipt}
 use Rattle.balancer_checks.specs.declared.callers.Once.{Once}
@@ -24,13 +24,24 @@ pub record Returns (old new : DeskState) (lb : ℕ) (ask : Ask) (outcome : Outco
   pub gained : new.receipts ≡ old.receipts ++ before ++ chosen ∷ back ∷ []
   pub asked : chosen.entry.call ≡ call.Select ask
   pub returned : back.entry.call ≡ call.Return chosen.entry.seq outcome
+  pub done : back.entry.answer ≡ answer.Done
+
+-- The last entry is an ask that was answered without a member.
+pub record IsUnchosen (old new : DeskState) (ask : Ask) : Type 0 where
+  pub before : List Receipt
+  pub last : Receipt
+  pub gained : new.receipts ≡ old.receipts ++ before ++ last ∷ []
+  pub asked : last.entry.call ≡ call.Select ask
+  pub unchosen : (last.entry.answer ≡ answer.NoMember) ⊎ (last.entry.answer ≡ answer.Forced)
 
 abbrev pub Ends : {M : Type 0} → (old new : DeskState) → (lb : ℕ) → Ask → Outcome → Once M → Type 0
 Ends old new lb ask outcome (once.Returned m) =
     Returns old new lb ask outcome × (m < slice_index old.sizes lb) × (is_in ask.tried m ≡ false)
-Ends old new lb ask outcome once.Unchosen = (new.strays ≡ old.strays) × (new.fulls ≡ old.fulls)
-Ends old new lb ask outcome (once.Refused error) = (new.strays ≡ old.strays) × (error ≡ room.NoMemory → new.fulls ≡ old.fulls)
-Ends old new lb ask outcome (once.Stray stray) = Rose old.strays new.strays
+Ends old new lb ask outcome once.Unchosen =
+    IsUnchosen old new ask × (new.strays ≡ old.strays) × (new.met ≡ old.met) × (new.fulls ≡ old.fulls)
+Ends old new lb ask outcome (once.Refused error) =
+    (new.strays ≡ old.strays) × (new.met ≡ old.met) × (error ≡ room.NoMemory → new.fulls ≡ old.fulls)
+Ends old new lb ask outcome (once.Stray stray) = RisesByOne old.strays new.strays × (new.met ≡ true)
 
 -- No Maintain is due for a call on balancer lb at this moment, where its Book is told.
 abbrev pub IsUpToDate : DeskState → (lb at : ℕ) → Type 0

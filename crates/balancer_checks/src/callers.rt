@@ -1,6 +1,5 @@
 //! Small callers of a desk, proved from its trait alone.
 ghost use Rattle.std.specs.Prelude.{◌≡◌, ◌+◌, ◌<◌, ◌≤◌, ◌^◌, true, length, IfSome, IfOk, IfErr, OnOk, OnErr};
-ghost use Rattle.jk_io.specs.Told.{Rose};
 ghost use Rattle.balancer_core.specs.Desks.{Commands, DeskState, KeepsDesk, Shows};
 ghost use Rattle.balancer_checks.specs.Once.{Ends, GainsAsMany, IsUpToDate, LeavesNoneDue};
 

@@ -9,9 +9,6 @@ ghost use Rattle.jk_model.specs.declared.member.Method.{Method};
 ghost use Rattle.balancer_core.specs.Journal.{past_of};
 ghost use Rattle.balancer_core.specs.Weights.{IsEvenEpoch};
 
-#[cfg(test)]
-mod tests;
-
 use balancer_core::{Book, Picked};
 use jk_io::NoMemory;
 use jk_model::{Ask, Entry, FullMark, LbConfig, Outcome, RoomError, Stray};

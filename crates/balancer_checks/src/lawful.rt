@@ -7,9 +7,6 @@ ghost use Rattle.jk_model.specs.Choice.{IsPick};
 ghost use Rattle.jk_model.specs.Legal.{IsLegalPast};
 ghost use Rattle.jk_model.specs.declared.journal.Call.{Call};
 
-#[cfg(test)]
-mod tests;
-
 use balancer_core::{Book, Picked};
 use jk_io::NoMemory;
 use jk_model::laws::{

@@ -4,20 +4,14 @@
 //! which entries were added, shows that the clauses of the trait suffice for the crates above. One in lawful.rt cites
 //! the laws of jk_model for what a call of a Book returned, so each law's premises are met by every Book. Those in
 //! even.rt keep the premises of the law of weights.
-//! The tests of a Book and of jk_model stand here too, since a crate with tests is proved with them and without.
+//! `book_checks` runs them, but for those of even.rt.
 //! Contract: `one_exchange`, clauses `held` and `ends`; `change_and_look`, clause `page`; of both `added`, `due` and `kept`.
 //! Errors: those of the trait and of a Book.
 #![tactic(auto)]
 
-#[cfg(test)]
-mod books;
 mod callers;
 mod even;
 mod lawful;
-#[cfg(test)]
-mod model;
-#[cfg(test)]
-mod tests;
 
 pub use callers::{Once, change_and_look, one_exchange};
 pub use even::{return_evenly, select_evenly, start_evenly};

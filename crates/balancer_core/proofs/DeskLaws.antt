@@ -14,6 +14,10 @@ holds-last (x ∷ xs) p =
       | inr other ↦ rw other (holds-last xs p)
     ]
 
+-- The ticket that a choice made is held.
+pub held_made : (held mid : List (ℕ × ℕ)) (p q : ℕ × ℕ) → mid ≡ held ++ p ∷ [] → q ≡ p → holds mid q ≡ true
+held_made held mid p q made same = rw (made, same) (holds-last held p)
+
 pub without_last-snoc : (xs : List (ℕ × ℕ)) (p : ℕ × ℕ) → without_last (xs ++ p ∷ []) p ≡ xs
 without_last-snoc [] p = rw (is_pair-same p) refl
 without_last-snoc (x ∷ xs) p =

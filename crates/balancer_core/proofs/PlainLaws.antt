@@ -29,9 +29,9 @@ use Rattle.jk_model.specs.declared.refusal.FullMark.{FullMark}
 use Rattle.jk_model.specs.declared.refusal.RoomError.{RoomError}
 use Rattle.balancer_core.specs.Due.{due_moment, entry_moment}
 use Rattle.balancer_core.specs.Journal.{AddsEntry, IsSound, Journal, past_of}
-use Rattle.balancer_core.specs.Desks.{Gains, GainsDue, GainsLast, IsAskRefusal, IsCommandRefusal, IsDue, IsOwn, IsRefusal, holds, is_pair, without_last}
-use Rattle.balancer_core.specs.PlainDesks.{AreHeld, AreLegal, AreModern, BookGains, BookGainsDue, BookGainsLast, IsDueDone, IsOutAt, IsPlain, Picks, RefusesAdmin, RefusesPick, plain_state}
-use Rattle.balancer_core.specs.ToldBooks.{AreNextAt, RefusesDue, grown_by, sizes_of}
+use Rattle.balancer_core.specs.Desks.{Gains, GainsDue, GainsLast, IsDue, IsMaintained, IsOwn, holds, is_pair, without_last}
+use Rattle.balancer_core.specs.PlainDesks.{AreHeld, AreLegal, AreModern, BookGains, BookGainsDue, BookGainsLast, IsOutAt, IsPlain, Picks, plain_state}
+use Rattle.balancer_core.specs.ToldBooks.{AreNextAt, Follows, IsFound, grown_by, sizes_of}
 use Rattle.balancer_core.specs.PlainLeases.{pairs_in}
 use Rattle.balancer_core.specs.declared.receipt.Receipt.{Receipt}
 use Rattle.balancer_core.proofs.DeskLaws.{is_pair-same}
@@ -99,9 +99,9 @@ size-at (b ∷ books) (suc lb) old at = size-at books lb old at
 -- What a hold adds is added to the desk.
 pub gains-hold : (books : List Journal) (lb : ℕ) (old new : Journal) (before now : List Receipt) (held held' : List (ℕ × ℕ))
     (session at : ℕ) (gained : List Receipt) (s f w s' f' w' : ℕ) → slice_get books lb ≡ Some old → now ≡ before ++ gained
-    → All (IsOwn lb session at) gained → new ≡ grown_by old gained → AreNextAt old at gained
+    → All (IsOwn lb session at) gained → new ≡ grown_by old gained
     → Gains (plain_state books before held s f w) (plain_state (slice_set books lb new) now held' s' f' w') lb session at gained
-gains-hold books lb old new before now held held' session at gained s f w s' f' w' here receipts own grown next = record {
+gains-hold books lb old new before now held held' session at gained s f w s' f' w' here receipts own grown = record {
   receipts = receipts;
   own = own;
   added = ap (λ (xs : List Receipt). length xs) receipts ∙ length-append before gained;
@@ -109,14 +109,31 @@ gains-hold books lb old new before now held held' session at gained s f w s' f' 
       let same : b ≡ old = some_is b old (sym found ∙ here) in
       let step : new ≡ grown_by b gained = subst (λ (x : Journal). new ≡ grown_by x gained) (sym same) grown in
       ap (λ (x : Journal). Some (slice_set books lb x)) step;
-  next = where_told books lb old (λ x. AreNextAt x at gained) here next;
 }
 
--- Nothing was added.
+-- The Book that was held is the journal that was found.
+pub found-hold : (books : List Journal) (lb : ℕ) (old : Journal) → AreModern books → AreLegal books → slice_get books lb ≡ Some old
+    → IsFound (sizes_of books) (Some books) lb old
+found-hold books lb old modern legal here = record {
+  sound = legal lb old here;
+  rules = modern lb old here;
+  size = sym (size-at books lb old here);
+  told = λ b found. some_is b old (sym found ∙ here);
+}
+
+pub follows-hold : (books : List Journal) (lb at : ℕ) (old : Journal) (gained : List Receipt) → AreModern books → AreLegal books
+    → slice_get books lb ≡ Some old → AreNextAt old at gained → Follows (sizes_of books) (Some books) lb at gained
+follows-hold books lb at old gained modern legal here next = record {
+  book = old;
+  found = found-hold books lb old modern legal here;
+  next = next;
+}
+
+-- Nothing was added, for want of memory.
 pub due_none : (books : List Journal) (before now : List Receipt) (held held' : List (ℕ × ℕ)) (lb session at : ℕ) (f w f' w' : ℕ)
-    (account : List Receipt → Type 0) → now ≡ before → account []
-    → GainsDue (plain_state books before held 0 f w) (plain_state books now held' 0 f' w') lb session at account
-due_none books before now held held' lb session at f w f' w' account same none = record {
+    (wanting : Type 0) (account : Journal → List Receipt → Type 0) → now ≡ before → wanting
+    → GainsDue (plain_state books before held 0 f w) (plain_state books now held' 0 f' w') lb session at wanting account
+due_none books before now held held' lb session at f w f' w' wanting account same wants = record {
   due = [];
   is_due = tt;
   gains = record {
@@ -125,64 +142,33 @@ due_none books before now held held' lb session at f w f' w' account same none =
     added = let no_more : length before + 0 ≡ length before = omega arith in ap (λ (xs : List Receipt). length xs) same ∙ sym no_more;
     books = λ b found. ap (λ (xs : List Journal). Some xs)
         (sym (set-found books lb b found) ∙ ap (λ (x : Journal). slice_set books lb x) (grown-nil b));
-    next = λ b found. tt;
   };
-  account = none;
+  why = inr (refl, wants);
 }
 
 pub due-hold : (books : List Journal) (lb : ℕ) (old new : Journal) (before now : List Receipt) (held held' : List (ℕ × ℕ))
-    (session at : ℕ) (f w f' w' : ℕ) (own account : List Receipt → Type 0) → slice_get books lb ≡ Some old
-    → ((due : List Receipt) → own due → account due) → BookGainsDue old new before now lb session at own
-    → GainsDue (plain_state books before held 0 f w) (plain_state (slice_set books lb new) now held' 0 f' w') lb session at account
-due-hold books lb old new before now held held' session at f w f' w' own account here told due = record {
+    (session at : ℕ) (f w f' w' : ℕ) (wanting : Type 0) (account : Journal → List Receipt → Type 0) → AreModern books → AreLegal books
+    → slice_get books lb ≡ Some old → BookGainsDue old new before now lb session at (account old)
+    → GainsDue (plain_state books before held 0 f w) (plain_state (slice_set books lb new) now held' 0 f' w') lb session at wanting account
+unfolding follows-hold
+due-hold books lb old new before now held held' session at f w f' w' wanting account modern legal here due = record {
   due = due.due;
   is_due = due.is_due;
-  gains = gains-hold books lb old new before now held held' session at due.due 0 f w 0 f' w' here due.gains.receipts due.gains.own due.gains.grown due.gains.next;
-  account = told due.due due.account;
+  gains = gains-hold books lb old new before now held held' session at due.due 0 f w 0 f' w' here due.gains.receipts due.gains.own due.gains.grown;
+  why = inl (follows-hold books lb at old due.due modern legal here due.gains.next, due.account);
 }
 
--- The accounts of a Maintain before a refusal.
-pub ask_refusal : (books : List Journal) (lb : ℕ) (old : Journal) (receipts : List Receipt) (held : List (ℕ × ℕ)) (f w at : ℕ) (error : RoomError FullMark)
-    → slice_get books lb ≡ Some old → (due : List Receipt) → RefusesPick old at error due
-    → IsAskRefusal (plain_state books receipts held 0 f w) lb at error due
-ask_refusal books lb old receipts held f w at error here due why =
-    elim why [
-      | inl done ↦ inl (where_told books lb old (λ x. IsDueDone x at due) here done)
-      | inr lacks ↦ inr (lacks.0, where_told books lb old (λ x. RefusesDue x at error) here lacks.1)
-    ]
-
-pub command_refusal : (books : List Journal) (lb : ℕ) (old : Journal) (receipts : List Receipt) (held : List (ℕ × ℕ)) (f w at : ℕ) (command : Command) (error : AdminError FullMark)
-    → slice_get books lb ≡ Some old → (due : List Receipt) → RefusesAdmin (members old.opening) old at command error due
-    → IsCommandRefusal (plain_state books receipts held 0 f w) lb at command error due
-command_refusal books lb old receipts held f w at command error here due why =
-    elim why [
-      | inl own ↦ inl (
-        where_told books lb old (λ x. IsDueDone x at due) here own.0,
-        subst (λ (n : ℕ). IsRefusal n command error) (sym (size-at books lb old here)) own.1,
-      )
-      | inr first ↦ inr (
-        first.0,
-        first.1,
-        (first.2.0, where_told books lb old (λ x. RefusesDue x at first.0) here first.2.1),
-      )
-    ]
-
--- Before anything is done, a Maintain is due or isn't.
-pub due_or_not : (old : Journal) (at : ℕ) → IsDueDone old at [] ⊎ (due_moment old ≤ entry_moment old at)
-due_or_not old at =
-    elim (cases_lt (entry_moment old at) (due_moment old)) [
-      | inl none ↦ inl (λ same. none, λ same. refl)
-      | inr due ↦ inr due
-    ]
-
 pub last-hold : (books : List Journal) (lb : ℕ) (old new : Journal) (before now : List Receipt) (held held' : List (ℕ × ℕ))
-    (session at : ℕ) (f w f' w' : ℕ) (r : Receipt) → slice_get books lb ≡ Some old → BookGainsLast old new before now lb session at r
+    (session at : ℕ) (f w f' w' : ℕ) (r : Receipt) → AreModern books → AreLegal books → slice_get books lb ≡ Some old
+    → BookGainsLast old new before now lb session at r
     → GainsLast (plain_state books before held 0 f w) (plain_state (slice_set books lb new) now held' 0 f' w') lb session at r
-last-hold books lb old new before now held held' session at f w f' w' r here last = record {
+unfolding follows-hold
+last-hold books lb old new before now held held' session at f w f' w' r modern legal here last = record {
   due = last.due;
   is_due = last.is_due;
-  gains = gains-hold books lb old new before now held held' session at (last.due ++ r ∷ []) 0 f w 0 f' w' here last.gains.receipts last.gains.own last.gains.grown last.gains.next;
-  maintained = where_told books lb old (λ x. IsDueDone x at last.due) here last.done;
+  gains = gains-hold books lb old new before now held held' session at (last.due ++ r ∷ []) 0 f w 0 f' w' here last.gains.receipts last.gains.own last.gains.grown;
+  follows = follows-hold books lb at old (last.due ++ r ∷ []) modern legal here last.gains.next;
+  maintained = last.done;
 }
 
 -- Two calls of one hold.
@@ -220,7 +206,7 @@ gains_one old new before now lb session at c e adds next noted none = record {
 }
 
 pub gains_last : (old mid new : Journal) (before between now : List Receipt) (lb session at : ℕ) (c : Call) (e : Entry)
-    → BookGainsDue old mid before between lb session at (IsDueDone old at) → AddsEntry mid new session at c e
+    → BookGainsDue old mid before between lb session at (IsMaintained old at) → AddsEntry mid new session at c e
     → IsNext mid.rules mid.opening (past_of mid) e
     → now ≡ between ++ record { lb = lb; given = at; entry = e } ∷ [] → ((t : ℕ) → gives_back t c ≡ false)
     → BookGainsLast old new before now lb session at (record { lb = lb; given = at; entry = e })

@@ -1,7 +1,6 @@
 -- What is told of a desk, and what its calls do with it.
-use Rattle.std.specs.Prelude.{◌≡◌, ℕ, ◌+◌, ◌<◌, ◌≤◌, ◌==◌, ◌&&◌, ◌↔◌, ◌⊎◌, Bool, false, not, List, [], ◌∷◌, ◌++◌, length, Option, Some, None, slice_get, slice_index, slice_set, if◌then◌else◌}
+use Rattle.std.specs.Prelude.{◌≡◌, ℕ, ◌+◌, ◌<◌, ◌≤◌, ◌==◌, ◌&&◌, ◌↔◌, ◌⊎◌, Bool, false, true, not, min, List, [], ◌∷◌, ◌++◌, length, Option, Some, None, slice_get, slice_index, slice_set, if◌then◌else◌}
 use Rattle.std.specs.List.{All, list_any}
-use Rattle.jk_io.specs.Told.{Rose}
 use Rattle.jk_model.specs.Free.{is_in}
 use Rattle.jk_model.specs.Legal.{HasValues}
 use Rattle.jk_model.specs.Present.{IsPresent}
@@ -15,20 +14,23 @@ use Rattle.jk_model.specs.declared.journal.How.{How}
 use Rattle.jk_model.specs.declared.journal.Outcome.{Outcome}
 use Rattle.jk_model.specs.declared.refusal.AdminError.{AdminError}
 use Rattle.jk_model.specs.declared.refusal.AdminError.TheVariants as admin
+use Rattle.jk_model.specs.declared.refusal.FullMark.{FullMark}
 use Rattle.jk_model.specs.declared.refusal.RoomError.{RoomError}
 use Rattle.jk_model.specs.declared.refusal.RoomError.TheVariants as room
 use Rattle.jk_model.specs.declared.refusal.Stray.{Stray}
 use Rattle.jk_model.specs.declared.view.View.{View}
 use Rattle.balancer_core.specs.Commanded.{IsKnown}
 use Rattle.balancer_core.specs.Journal.{IsReturnedAt, Journal, past_of}
-use Rattle.balancer_core.specs.ToldBooks.{AreNextAt, AreSound, IsNoneDue, RefusesDue, WhereTold, grown_by}
+use Rattle.balancer_core.specs.Refused.{RefusesAsk, RefusesChange, RefusesMaintain}
+use Rattle.balancer_core.specs.ToldBooks.{AreSound, Follows, IsFound, IsNoneDue, grown_by}
 use Rattle.balancer_core.specs.declared.desk.Choice.{Choice}
 use Rattle.balancer_core.specs.declared.desk.Choice.TheVariants as choice
 use Rattle.balancer_core.specs.declared.receipt.Receipt.{Receipt}
 
 -- A desk: the receipts of its calls, the tickets that it holds, how many entries it ever added, the number of its
 -- caller where that is fixed, the number of members of each balancer, the parts of its share where it has one, how
--- often a ticket was a stray, a journal was full and a command too wide, and its Books where it tells them.
+-- often a ticket was a stray, a journal was full and a command too wide, whether a stray was met since it was last
+-- asked for, and its Books where it tells them.
 pub record DeskState : Type 0 where
   pub receipts : List Receipt
   pub held : List (ℕ × ℕ)
@@ -39,6 +41,7 @@ pub record DeskState : Type 0 where
   pub strays : ℕ
   pub fulls : ℕ
   pub wides : ℕ
+  pub met : Bool
   pub books : Option (List Journal)
 
 -- What a lease names.
@@ -74,7 +77,11 @@ BooksGrow lb gained None now = now ≡ None
 BooksGrow lb gained (Some books) now =
     (b : Journal) → slice_get books lb ≡ Some b → now ≡ Some (slice_set books lb (grown_by b gained))
 
--- What never changes, and the counts that never fall. Told Books are sound, before a call as after it.
+-- The count rose by one, or stood at the last value of a u64 and stands there.
+abbrev pub RisesByOne : (before now : ℕ) → Type 0
+RisesByOne before now = now ≡ min (before + 1) 18446744073709551615
+
+-- What never changes, the counts that never fall, and a stray that was met. Told Books are sound, before a call as after it.
 pub record KeepsDesk (old new : DeskState) : Type 0 where
   pub caller : new.caller ≡ old.caller
   pub sizes : new.sizes ≡ old.sizes
@@ -82,17 +89,21 @@ pub record KeepsDesk (old new : DeskState) : Type 0 where
   pub strays : old.strays ≤ new.strays
   pub fulls : old.fulls ≤ new.fulls
   pub wides : old.wides ≤ new.wides
+  pub met : old.met ≡ true → new.met ≡ true
   pub sound_before : AreSound old.sizes old.books
   pub sound : AreSound new.sizes new.books
 
--- The call of a session at a moment on a balancer added just the entries of these receipts. Each may follow the one
--- before it, and has the greater of this moment and that one's.
+-- No stray was met.
+pub record MeetsNone (old new : DeskState) : Type 0 where
+  pub strays : new.strays ≡ old.strays
+  pub met : new.met ≡ old.met
+
+-- The call of a session at a moment on a balancer added just the entries of these receipts.
 pub record Gains (old new : DeskState) (lb session at : ℕ) (gained : List Receipt) : Type 0 where
   pub receipts : new.receipts ≡ old.receipts ++ gained
   pub own : All (IsOwn lb session at) gained
   pub added : new.added ≡ old.added + length gained
   pub books : BooksGrow lb gained old.books new.books
-  pub next : WhereTold old.books lb (λ b. AreNextAt b at gained)
 
 -- At most one receipt, of a Maintain.
 abbrev pub IsDue : List Receipt → Type 0
@@ -101,26 +112,24 @@ IsDue (r ∷ []) = r.entry.call ≡ call.Maintain
 IsDue (r ∷ s ∷ rest) = ⊥
 
 -- A Maintain was done exactly where one was due.
-abbrev pub IsMaintained : DeskState → (lb at : ℕ) → List Receipt → Type 0
-IsMaintained old lb at due = WhereTold old.books lb (λ b. (due ≡ []) ↔ IsNoneDue b at)
+abbrev pub IsMaintained : Journal → (at : ℕ) → List Receipt → Type 0
+IsMaintained b at due = (due ≡ []) ↔ IsNoneDue b at
 
--- The Maintain that was due was itself refused, so that nothing was added.
-abbrev pub LacksMaintain : {M : Type 0} → DeskState → (lb at : ℕ) → RoomError M → List Receipt → Type 0
-LacksMaintain old lb at error due = (due ≡ []) × WhereTold old.books lb (λ b. RefusesDue b at error)
-
--- A Maintain or nothing, by this account of it.
-pub record GainsDue (old new : DeskState) (lb session at : ℕ) (Account : List Receipt → Type 0) : Type 0 where
+-- A Maintain or nothing was added, by this account of the journal that was found; or nothing for want of memory.
+pub record GainsDue (old new : DeskState) (lb session at : ℕ) (Wanting : Type 0) (Account : Journal → List Receipt → Type 0) : Type 0 where
   pub due : List Receipt
   pub is_due : IsDue due
   pub gains : Gains old new lb session at due
-  pub account : Account due
+  pub why : ((f : Follows old.sizes old.books lb at due) × Account f.book due) ⊎ ((due ≡ []) × Wanting)
 
--- A Maintain exactly where one was due, and then the entry of this receipt.
+-- A Maintain exactly where one was due, and then the entry of this receipt. They follow the journal that was found, each
+-- at the greater of this moment and that of the entry before it.
 pub record GainsLast (old new : DeskState) (lb session at : ℕ) (last : Receipt) : Type 0 where
   pub due : List Receipt
   pub is_due : IsDue due
   pub gains : Gains old new lb session at (due ++ last ∷ [])
-  pub maintained : IsMaintained old lb at due
+  pub follows : Follows old.sizes old.books lb at (due ++ last ∷ [])
+  pub maintained : IsMaintained follows.book at due
 
 -- The desk chose as the entry says; a member that was tried is chosen by none.
 abbrev pub IsChoice : {T : Type 0} → (T → LeaseNote) → DeskState → DeskState → (lb : ℕ) → Ask → Entry → Choice T → Type 0
@@ -141,26 +150,40 @@ pub record Chooses {T : Type 0} (note : T → LeaseNote) (old new : DeskState) (
   pub full : new.fulls ≡ old.fulls
   pub stray : new.strays ≡ old.strays
   pub wide : new.wides ≡ old.wides
+  pub met : new.met ≡ old.met
 
--- A refusal of the ask after the Maintain that was due, or of that Maintain.
-abbrev pub IsAskRefusal : {M : Type 0} → DeskState → (lb at : ℕ) → RoomError M → List Receipt → Type 0
-IsAskRefusal old lb at error due = IsMaintained old lb at due ⊎ LacksMaintain old lb at error due
+-- The refusal of an ask after the Maintain that was due, or of that Maintain.
+abbrev pub IsAskRefusal : {M : Type 0} → (M → FullMark) → (at : ℕ) → RoomError M → Journal → List Receipt → Type 0
+IsAskRefusal numbers at error b due =
+    (IsMaintained b at due × RefusesAsk numbers (grown_by b due) error)
+    ⊎ ((due ≡ []) × RefusesMaintain numbers b at error)
 
--- A select was refused: no ticket is held more, and Full comes only where the count of fulls rose.
-pub record RefusesChoice {M : Type 0} (old new : DeskState) (lb session at : ℕ) (error : RoomError M) : Type 0 where
-  pub gains : GainsDue old new lb session at (IsAskRefusal old lb at error)
+-- A select was refused: no ticket is held more. A Full, and nothing else, is counted.
+pub record RefusesChoice {M : Type 0} (numbers : M → FullMark) (old new : DeskState) (lb session at : ℕ) (error : RoomError M) : Type 0 where
+  pub gains : GainsDue old new lb session at (error ≡ room.NoMemory) (IsAskRefusal numbers at error)
   pub held : new.held ≡ old.held
-  pub full : (mark : M) → error ≡ room.Full mark → Rose old.fulls new.fulls
+  pub full : (mark : M) → error ≡ room.Full mark → RisesByOne old.fulls new.fulls
   pub wanted : error ≡ room.NoMemory → new.fulls ≡ old.fulls
   pub stray : new.strays ≡ old.strays
   pub wide : new.wides ≡ old.wides
+  pub met : new.met ≡ old.met
 
 -- The ticket of the lease came back: its Return is the one new entry, and its pair is held no more.
 pub record TakesBack (old new : DeskState) (session at : ℕ) (lease : LeaseNote) (outcome : Outcome) : Type 0 where
   pub last : Receipt
   pub gains : Gains old new lease.lb session at (last ∷ [])
+  pub follows : Follows old.sizes old.books lease.lb at (last ∷ [])
   pub returned : last.entry.call ≡ call.Return lease.ticket outcome
+  pub done : last.entry.answer ≡ answer.Done
   pub stray : new.strays ≡ old.strays
+  pub met : new.met ≡ old.met
+
+-- In the journal that was found the ticket of the lease was not out.
+pub record IsNotOut (sizes : List ℕ) (books : Option (List Journal)) (lease : LeaseNote) (stray : Stray) : Type 0 where
+  pub book : Journal
+  pub found : IsFound sizes books lease.lb book
+  pub not_out : is_out book.opening (past_of book) lease.ticket ≡ false
+  pub returned : IsReturnedAt (past_of book) lease.ticket stray.returned_at
 
 -- The ticket of the lease was not out: nothing was added.
 pub record MeetsStray (old new : DeskState) (lease : LeaseNote) (stray : Stray) : Type 0 where
@@ -168,53 +191,48 @@ pub record MeetsStray (old new : DeskState) (lease : LeaseNote) (stray : Stray) 
   pub receipts : new.receipts ≡ old.receipts
   pub added : new.added ≡ old.added
   pub books : new.books ≡ old.books
-  pub rose : Rose old.strays new.strays
-  pub not_out : WhereTold old.books lease.lb (λ b. is_out b.opening (past_of b) lease.ticket ≡ false)
-  pub returned : WhereTold old.books lease.lb (λ b. IsReturnedAt (past_of b) lease.ticket stray.returned_at)
+  pub rose : RisesByOne old.strays new.strays
+  pub met : new.met ≡ true
+  pub why : IsNotOut old.sizes old.books lease stray
 
 -- The command was done: its entry is the last one that was added.
 pub record Commands (old new : DeskState) (lb session at : ℕ) (command : Command) : Type 0 where
   pub last : Receipt
   pub gains : GainsLast old new lb session at last
   pub commanded : last.entry.call ≡ call.Admin command
+  pub done : last.entry.answer ≡ answer.Done
   pub named : IsKnown (slice_index old.sizes lb) command
   pub values : HasValues command
   pub full : new.fulls ≡ old.fulls
   pub wide : new.wides ≡ old.wides
-
--- The causes of a command's refusal. Want of memory needs none.
-abbrev pub IsRefusal : {M : Type 0} → (size : ℕ) → Command → AdminError M → Type 0
-IsRefusal size command admin.UnknownMember = IsKnown size command → ⊥
-IsRefusal size command admin.BadValue = IsKnown size command × (HasValues command → ⊥)
-IsRefusal size command (admin.TooWide mark) = IsKnown size command × HasValues command
-IsRefusal size command (admin.Full mark) = IsKnown size command × HasValues command
-IsRefusal size command admin.NoMemory = Unit {0}
 
 -- The answer to a command whose Maintain was refused.
 abbrev pub refused_first : {M : Type 0} → RoomError M → AdminError M
 refused_first (room.Full mark) = admin.Full mark
 refused_first room.NoMemory = admin.NoMemory
 
--- A refusal of the command after the Maintain that was due, or of that Maintain.
-abbrev pub IsCommandRefusal : {M : Type 0} → DeskState → (lb at : ℕ) → Command → AdminError M → List Receipt → Type 0
-IsCommandRefusal {M} old lb at command error due =
-    (IsMaintained old lb at due × IsRefusal (slice_index old.sizes lb) command error)
-    ⊎ ((first : RoomError M) × (error ≡ refused_first first) × LacksMaintain old lb at first due)
+-- The refusal of a command after the Maintain that was due, or of that Maintain.
+abbrev pub IsCommandRefusal : {M : Type 0} → (M → FullMark) → (at : ℕ) → Command → AdminError M → Journal → List Receipt → Type 0
+IsCommandRefusal {M} numbers at command error b due =
+    (IsMaintained b at due × RefusesChange numbers (grown_by b due) command error)
+    ⊎ ((first : RoomError M) × (error ≡ refused_first first) × (due ≡ []) × RefusesMaintain numbers b at first)
 
--- Full and TooWide come only where their counts rose, and no other refusal is counted.
+-- Full and TooWide are counted, each by its own count, and no other refusal is.
 abbrev pub IsCounted : {M : Type 0} → DeskState → DeskState → AdminError M → Type 0
 IsCounted old new admin.UnknownMember = (new.fulls ≡ old.fulls) × (new.wides ≡ old.wides)
 IsCounted old new admin.BadValue = (new.fulls ≡ old.fulls) × (new.wides ≡ old.wides)
-IsCounted old new (admin.TooWide mark) = (new.fulls ≡ old.fulls) × Rose old.wides new.wides
-IsCounted old new (admin.Full mark) = Rose old.fulls new.fulls × (new.wides ≡ old.wides)
+IsCounted old new (admin.TooWide mark) = (new.fulls ≡ old.fulls) × RisesByOne old.wides new.wides
+IsCounted old new (admin.Full mark) = RisesByOne old.fulls new.fulls × (new.wides ≡ old.wides)
 IsCounted old new admin.NoMemory = (new.fulls ≡ old.fulls) × (new.wides ≡ old.wides)
 
-pub record RefusesCommand {M : Type 0} (old new : DeskState) (lb session at : ℕ) (command : Command) (error : AdminError M) : Type 0 where
-  pub gains : GainsDue old new lb session at (IsCommandRefusal old lb at command error)
+pub record RefusesCommand {M : Type 0} (numbers : M → FullMark) (old new : DeskState) (lb session at : ℕ) (command : Command) (error : AdminError M) : Type 0 where
+  pub gains : GainsDue old new lb session at (error ≡ admin.NoMemory) (IsCommandRefusal numbers at command error)
   pub counted : IsCounted old new error
 
--- The view is one of balancer lb: it has its members, and where the Books are told it is the present one of a sound Book.
+-- The view is the present one of a journal that balancer lb may have.
 pub record Shows (desk : DeskState) (lb : ℕ) (view : View) : Type 0 where
+  pub book : Journal
+  pub found : IsFound desk.sizes desk.books lb book
   pub rows : length view.rows ≡ slice_index desk.sizes lb
-  pub present : WhereTold desk.books lb (λ b. IsPresent b.rules b.opening (past_of b) view)
+  pub present : IsPresent book.rules book.opening (past_of book) view
   pub sound : AreSound desk.sizes desk.books

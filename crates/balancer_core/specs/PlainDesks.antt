@@ -1,12 +1,10 @@
 -- What a desk of one thread keeps, and what one hold of a Book adds to it.
 use Rattle.std.specs.Prelude.{◌≡◌, ℕ, ◌+◌, ◌<◌, ◌≤◌, ◌↔◌, ◌⊎◌, false, true, List, [], ◌∷◌, ◌++◌, length, Some, None, slice_get, Result, Ok, Err}
 use Rattle.std.specs.List.{All}
-use Rattle.jk_io.specs.Told.{Rose}
 use Rattle.jk_model.specs.Free.{is_in}
 use Rattle.jk_model.specs.Journal.{members}
 use Rattle.jk_model.specs.Tickets.{is_out}
 use Rattle.jk_model.specs.declared.ask.Ask.{Ask}
-use Rattle.jk_model.specs.declared.change.Command.{Command}
 use Rattle.jk_model.specs.declared.journal.Answer.{Answer}
 use Rattle.jk_model.specs.declared.journal.Answer.TheVariants as answer
 use Rattle.jk_model.specs.declared.refusal.AdminError.{AdminError}
@@ -14,9 +12,9 @@ use Rattle.jk_model.specs.declared.refusal.AdminError.TheVariants as admin
 use Rattle.jk_model.specs.declared.refusal.FullMark.{FullMark}
 use Rattle.jk_model.specs.declared.refusal.RoomError.{RoomError}
 use Rattle.jk_model.specs.declared.refusal.RoomError.TheVariants as room
-use Rattle.balancer_core.specs.Desks.{DeskState, IsDue, IsOwn, IsRefusal, holds, refused_first}
+use Rattle.balancer_core.specs.Desks.{DeskState, IsDue, IsMaintained, IsOwn, RisesByOne, holds}
 use Rattle.balancer_core.specs.Journal.{IsSound, Journal, past_of}
-use Rattle.balancer_core.specs.ToldBooks.{AreNextAt, IsNoneDue, RefusesDue, grown_by, sizes_of}
+use Rattle.balancer_core.specs.ToldBooks.{AreNextAt, grown_by, sizes_of}
 use Rattle.balancer_core.specs.declared.receipt.Receipt.{Receipt}
 
 -- Each Book has rules 2.
@@ -57,6 +55,7 @@ plain_state books receipts held strays fulls wides = record {
   strays = strays;
   fulls = fulls;
   wides = wides;
+  met = false;
   books = Some books;
 }
 
@@ -67,23 +66,6 @@ pub record BookGains (old new : Journal) (before now : List Receipt) (lb session
   pub grown : new ≡ grown_by old gained
   pub next : AreNextAt old at gained
   pub stay : (t : ℕ) → is_out old.opening (past_of old) t ≡ true → is_out new.opening (past_of new) t ≡ true
-
--- A Maintain was done exactly where one was due.
-abbrev pub IsDueDone : Journal → (at : ℕ) → List Receipt → Type 0
-IsDueDone old at due = (due ≡ []) ↔ IsNoneDue old at
-
--- The Maintain that was due was itself refused, so that nothing was added.
-abbrev pub LacksDue : Journal → (at : ℕ) → RoomError FullMark → List Receipt → Type 0
-LacksDue old at error due = (due ≡ []) × RefusesDue old at error
-
--- A refusal of the ask after the Maintain that was due, or of that Maintain; and so of a command, over n members.
-abbrev pub RefusesPick : Journal → (at : ℕ) → RoomError FullMark → List Receipt → Type 0
-RefusesPick old at error due = IsDueDone old at due ⊎ LacksDue old at error due
-
-abbrev pub RefusesAdmin : (n : ℕ) → Journal → (at : ℕ) → Command → AdminError FullMark → List Receipt → Type 0
-RefusesAdmin n old at command error due =
-    (IsDueDone old at due × IsRefusal n command error)
-    ⊎ ((first : RoomError FullMark) × (error ≡ refused_first first) × LacksDue old at first due)
 
 -- A hold added a Maintain or nothing, by this account of it.
 pub record BookGainsDue (old new : Journal) (before now : List Receipt) (lb session at : ℕ) (Account : List Receipt → Type 0) : Type 0 where
@@ -97,7 +79,7 @@ pub record BookGainsLast (old new : Journal) (before now : List Receipt) (lb ses
   pub due : List Receipt
   pub is_due : IsDue due
   pub gains : BookGains old new before now lb session at (due ++ last ∷ [])
-  pub done : IsDueDone old at due
+  pub done : IsMaintained old at due
 
 -- A chosen member exists and wasn't tried, and its ticket, the entry's number, was not out before and is out now.
 pub record IsNewTicket (old new : Journal) (ask : Ask) (m seq : ℕ) : Type 0 where
@@ -113,15 +95,10 @@ Picks old new ask seq answer.NoMember = Unit {0}
 Picks old new ask seq answer.Forced = Unit {0}
 Picks old new ask seq answer.Done = ⊥
 
--- A count that rose by one, or stood at its last value.
-pub record Counts (before now : ℕ) : Type 0 where
-  pub rose : Rose before now
-  pub no_fewer : before ≤ now
-
 -- Just a Full is counted.
 abbrev pub CountsFull : {T : Type 0} → (before now : ℕ) → Result T (RoomError FullMark) → Type 0
 CountsFull before now (Ok done) = now ≡ before
-CountsFull before now (Err (room.Full mark)) = Counts before now
+CountsFull before now (Err (room.Full mark)) = RisesByOne before now
 CountsFull before now (Err room.NoMemory) = now ≡ before
 
 -- Just a Full and a TooWide are counted, each by its own count.
@@ -129,6 +106,6 @@ abbrev pub CountsRefusal : {T : Type 0} → (fulls fulls' wides wides' : ℕ) �
 CountsRefusal fulls fulls' wides wides' (Ok done) = (fulls' ≡ fulls) × (wides' ≡ wides)
 CountsRefusal fulls fulls' wides wides' (Err admin.UnknownMember) = (fulls' ≡ fulls) × (wides' ≡ wides)
 CountsRefusal fulls fulls' wides wides' (Err admin.BadValue) = (fulls' ≡ fulls) × (wides' ≡ wides)
-CountsRefusal fulls fulls' wides wides' (Err (admin.TooWide mark)) = (fulls' ≡ fulls) × Counts wides wides'
-CountsRefusal fulls fulls' wides wides' (Err (admin.Full mark)) = Counts fulls fulls' × (wides' ≡ wides)
+CountsRefusal fulls fulls' wides wides' (Err (admin.TooWide mark)) = (fulls' ≡ fulls) × RisesByOne wides wides'
+CountsRefusal fulls fulls' wides wides' (Err (admin.Full mark)) = RisesByOne fulls fulls' × (wides' ≡ wides)
 CountsRefusal fulls fulls' wides wides' (Err admin.NoMemory) = (fulls' ≡ fulls) × (wides' ≡ wides)

@@ -1,12 +1,10 @@
--- What is said of a desk's Books where it tells them. Where it doesn't, these words say nothing.
-use Rattle.std.specs.Prelude.{◌≡◌, ℕ, ◌+◌, ◌^◌, ◌<◌, ◌≤◌, List, [], ◌∷◌, ◌++◌, length, map, Option, Some, None, slice_get}
+-- The Books of a desk: what is so of them where they are told, and the journal that a call found.
+use Rattle.std.specs.Prelude.{◌≡◌, ℕ, ◌+◌, ◌^◌, ◌<◌, ◌≤◌, List, [], ◌∷◌, ◌++◌, length, map, Option, Some, None, slice_get, slice_index}
 use Rattle.jk_model.specs.Journal.{members}
 use Rattle.jk_model.specs.Legal.{IsNext}
 use Rattle.jk_model.specs.declared.journal.Entry.{Entry}
-use Rattle.jk_model.specs.declared.refusal.RoomError.{RoomError}
-use Rattle.jk_model.specs.declared.refusal.RoomError.TheVariants as room
 use Rattle.balancer_core.specs.Due.{due_moment, entry_moment}
-use Rattle.balancer_core.specs.Journal.{IsSound, Journal, next_number, past_of, tickets_out}
+use Rattle.balancer_core.specs.Journal.{IsSound, Journal, past_of}
 use Rattle.balancer_core.specs.declared.receipt.Receipt.{Receipt}
 
 -- The Book of balancer lb, where it is told.
@@ -48,7 +46,15 @@ AreNextAt b at (r ∷ rest) = IsNextAt b at r.entry × AreNextAt (grown_by b (r 
 abbrev pub IsNoneDue : Journal → (at : ℕ) → Type 0
 IsNoneDue b at = entry_moment b at < due_moment b
 
--- One is due, but is refused: as Full where no number is left for it.
-abbrev pub RefusesDue : {M : Type 0} → Journal → (at : ℕ) → RoomError M → Type 0
-RefusesDue b at (room.Full mark) = (due_moment b ≤ entry_moment b at) × (2 ^ 48 < next_number b + tickets_out b + 1)
-RefusesDue b at room.NoMemory = due_moment b ≤ entry_moment b at
+-- A journal that balancer lb may have: it is sound, of rules 2 and of the balancer's size, and the told one where one is told.
+pub record IsFound (sizes : List ℕ) (books : Option (List Journal)) (lb : ℕ) (b : Journal) : Type 0 where
+  pub sound : IsSound b
+  pub rules : b.rules ≡ 2
+  pub size : members b.opening ≡ slice_index sizes lb
+  pub told : WhereTold books lb (λ told. told ≡ b)
+
+-- There is such a journal, and the entries of these receipts follow it.
+pub record Follows (sizes : List ℕ) (books : Option (List Journal)) (lb at : ℕ) (gained : List Receipt) : Type 0 where
+  pub book : Journal
+  pub found : IsFound sizes books lb book
+  pub next : AreNextAt book at gained

@@ -18,8 +18,8 @@ pub enum Choice<E> {
 
 /// Balancers that a caller asks, over one thread as over a lock. A balancer is named by its place `lb`.
 ///
-/// Where a desk tells its Books, they are sound before each call and after it, and each entry of a call may follow those
-/// before it. A desk over a lock tells none, and then the clauses say nothing of them.
+/// Each call finds a journal that is sound and of rules 2, and its entries follow that journal. Where a desk tells its
+/// Books, it is the told one; a desk over a lock tells none, and then no more is known of it.
 pub trait Desk {
     ghost use Rattle.std.specs.Prelude.{◌≡◌, ◌≤◌, ◌<◌, ◌^◌, true, length, IfSome, IfOk, IfErr, OnErr};
     ghost use Rattle.balancer_core.specs.Desks.{
@@ -28,6 +28,7 @@ pub trait Desk {
       DeskState,
       KeepsDesk,
       LeaseNote,
+      MeetsNone,
       MeetsStray,
       RefusesChoice,
       RefusesCommand,
@@ -69,11 +70,11 @@ pub trait Desk {
         requires known { lb < length (state self.old).sizes }
         requires caller { IfSome (state self.old).caller (λ n. session ≡ n) }
         ensures ok { IfOk result (λ c. Chooses note (state self.old) (state self.new) lb session at ask.now c) }
-        ensures err { IfErr result (λ e. RefusesChoice (state self.old) (state self.new) lb session at e) }
+        ensures err { IfErr result (λ e. RefusesChoice numbers (state self.old) (state self.new) lb session at e) }
         ensures kept { KeepsDesk (state self.old) (state self.new) };
 
-    /// Hands a lease back, with how its exchange ended. The lease is spent also where its ticket is a stray. It takes
-    /// no memory.
+    /// Hands a lease back, with how its exchange ended. The lease is spent also where its ticket is a stray, which is
+    /// then met. It takes no memory.
     fn hand_back(
         &mut self,
         session: u32,
@@ -102,9 +103,9 @@ pub trait Desk {
         requires known { lb < length (state self.old).sizes }
         requires caller { IfSome (state self.old).caller (λ n. session ≡ n) }
         ensures ok { IfOk result (λ _. Commands (state self.old) (state self.new) lb session at command.now) }
-        ensures err { IfErr result (λ e. RefusesCommand (state self.old) (state self.new) lb session at command.now e) }
+        ensures err { IfErr result (λ e. RefusesCommand numbers (state self.old) (state self.new) lb session at command.now e) }
         ensures held { (state self.new).held ≡ (state self.old).held }
-        ensures stray { (state self.new).strays ≡ (state self.old).strays }
+        ensures stray { MeetsNone (state self.old) (state self.new) }
         ensures kept { KeepsDesk (state self.old) (state self.new) };
 
     /// Looks at a balancer. Nothing of what is told changes.

@@ -1,5 +1,5 @@
 //! One hold of the Book at a place, over the lists that a desk of one thread keeps.
-ghost use Rattle.std.specs.Prelude.{◌≡◌, ◌≤◌, ◌<◌, ◌^◌, ℕ, true, not, filter, length, slice_get, slice_index, Some, vec_len, vec_capacity, IfOk, IfErr, OnOk, OnErr};
+ghost use Rattle.std.specs.Prelude.{◌≡◌, ◌≤◌, ◌<◌, ◌^◌, ℕ, true, not, filter, length, slice_index, vec_len, vec_capacity, IfOk, IfErr, OnOk, OnErr};
 ghost use Rattle.balancer_core.specs.Desks.{
   Chooses,
   Commands,
@@ -11,8 +11,6 @@ ghost use Rattle.balancer_core.specs.Desks.{
   is_pair,
   without_last,
 };
-ghost use Rattle.balancer_core.specs.Journal.{Journal};
-ghost use Rattle.balancer_core.specs.Refused.{IsCommandRoom, IsSelectRoom};
 ghost use Rattle.balancer_core.specs.PlainDesks.{IsPlain, plain_state};
 ghost use Rattle.balancer_core.specs.ToldBooks.{sizes_of};
 ghost use Rattle.balancer_core.specs.PlainLeases.{note_of};
@@ -42,9 +40,8 @@ pub(crate) fn select_at(
         (plain_state books.new receipts.new.items held.new.items 0 f w) lb session at ask.now c) }
     ensures err { IfErr result (λ e. (f w f' w' : ℕ) → GainsDue (plain_state books.old receipts.old.items held.old.items 0 f w)
         (plain_state books.new receipts.new.items held.new.items 0 f' w') lb session at
-        (IsAskRefusal (plain_state books.old receipts.old.items held.old.items 0 f w) lb at e)) }
+        (e ≡ RoomError.NoMemory) (IsAskRefusal (λ mark. mark) at e)) }
     ensures held { OnErr result (held.new.items ≡ held.old.items) }
-    ensures full { (old new : Journal) → slice_get books.old lb ≡ Some old → slice_get books.new lb ≡ Some new → IsSelectRoom old new result }
     ensures sizes { sizes_of books.new ≡ sizes_of books.old }
     ensures len { length books.new ≡ length books.old }
 {
@@ -99,9 +96,7 @@ pub(crate) fn command_at(
         (plain_state books.new receipts.new.items held.now 0 f w) lb session at command.now) }
     ensures err { IfErr result (λ e. (f w f' w' : ℕ) → GainsDue (plain_state books.old receipts.old.items held.now 0 f w)
         (plain_state books.new receipts.new.items held.now 0 f' w') lb session at
-        (IsCommandRefusal (plain_state books.old receipts.old.items held.now 0 f w) lb at command.now e)) }
-    ensures full { (old new : Journal) → slice_get books.old lb ≡ Some old → slice_get books.new lb ≡ Some new
-        → IsCommandRoom old new command.now result }
+        (e ≡ AdminError.NoMemory) (IsCommandRefusal (λ mark. mark) at command.now e)) }
     ensures sizes { sizes_of books.new ≡ sizes_of books.old }
     ensures len { length books.new ≡ length books.old }
 {

@@ -2,13 +2,13 @@
 ghost use Rattle.std.specs.Prelude.{◌≡◌, ◌+◌, ◌≤◌, ◌<◌, ◌∷◌, [], ◌++◌, length, vec_len, vec_capacity, IfOk, IfErr, OnOk, OnErr};
 ghost use Rattle.jk_model.specs.Journal.{members};
 ghost use Rattle.jk_model.specs.Legal.{HasValues};
+ghost use Rattle.jk_model.specs.declared.journal.Answer.{Answer};
 ghost use Rattle.jk_model.specs.declared.journal.Call.{Call};
 ghost use Rattle.balancer_core.specs.Commanded.{IsKnown};
 ghost use Rattle.balancer_core.specs.Leases.{IsLeaseOf};
-ghost use Rattle.balancer_core.specs.Journal.{tickets_out};
-ghost use Rattle.balancer_core.specs.Refused.{IsCommandRoom, IsNoRoom, IsSelectRoom};
-ghost use Rattle.balancer_core.specs.Desks.{IsRefusal};
-ghost use Rattle.balancer_core.specs.PlainDesks.{BookGainsDue, BookGainsLast, IsDueDone, LacksDue, Picks, RefusesAdmin, RefusesPick};
+ghost use Rattle.balancer_core.specs.Refused.{RefusesMaintain};
+ghost use Rattle.balancer_core.specs.Desks.{IsAskRefusal, IsCommandRefusal, IsMaintained};
+ghost use Rattle.balancer_core.specs.PlainDesks.{BookGainsDue, BookGainsLast, Picks};
 
 use crate::book::{Book, Picked};
 use crate::receipt::Receipt;
@@ -32,10 +32,9 @@ pub(crate) fn maintain_first(
     at: u64,
 ) -> Result<(), RoomError<FullMark>>
     requires { vec_len receipts.old < vec_capacity receipts.old }
-    ensures due { OnOk result (BookGainsDue book.old book.new receipts.old.items receipts.new.items lb session at (IsDueDone book.old at)) }
-    ensures err { IfErr result (λ e. BookGainsDue book.old book.new receipts.old.items receipts.new.items lb session at (LacksDue book.old at e)) }
-    ensures out { tickets_out book.new ≡ tickets_out book.old }
-    ensures full { IfErr result (IsNoRoom 1 book.new) }
+    ensures due { OnOk result (BookGainsDue book.old book.new receipts.old.items receipts.new.items lb session at (IsMaintained book.old at)) }
+    ensures err { IfErr result (λ e. BookGainsDue book.old book.new receipts.old.items receipts.new.items lb session at
+        (λ due. (due ≡ []) × RefusesMaintain (λ mark. mark) book.old at e)) }
     ensures room { vec_capacity receipts.old ≤ vec_capacity receipts.new }
 {
     if let Some(entry) = book.maintain_if_due(session, at)? {
@@ -60,8 +59,8 @@ pub(crate) fn select_after(
     ensures asked { IfOk result (λ picked. picked.entry.call ≡ Call.Select ask.now) }
     ensures lease { IfOk result (λ picked. IsLeaseOf picked.entry.answer picked.lease) }
     ensures picks { IfOk result (λ picked. Picks book.old book.new ask.now picked.entry.seq picked.entry.answer) }
-    ensures err { IfErr result (λ e. BookGainsDue book.old book.new receipts.old.items receipts.new.items lb session at (RefusesPick book.old at e)) }
-    ensures full { IsSelectRoom book.old book.new result }
+    ensures err { IfErr result (λ e. BookGainsDue book.old book.new receipts.old.items receipts.new.items lb session at
+        (IsAskRefusal (λ mark. mark) at e book.old)) }
     ensures room { vec_capacity receipts.old ≤ vec_capacity receipts.new }
 {
     maintain_first(book, receipts, lb, session, at)?;
@@ -80,12 +79,11 @@ pub(crate) fn command_after(
     command: &Command,
 ) -> Result<(), AdminError<FullMark>>
     requires room { vec_len receipts.old + 2 ≤ vec_capacity receipts.old }
-    ensures ok { OnOk result ((e : Entry) × (e.call ≡ Call.Admin command.now)
+    ensures ok { OnOk result ((e : Entry) × (e.call ≡ Call.Admin command.now) × (e.answer ≡ Answer.Done)
         × BookGainsLast book.old book.new receipts.old.items receipts.new.items lb session at (record { lb = lb; given = at; entry = e })) }
     ensures named { OnOk result (IsKnown (members book.old.opening) command.now × HasValues command.now) }
     ensures err { IfErr result (λ e. BookGainsDue book.old book.new receipts.old.items receipts.new.items lb session at
-        (RefusesAdmin (members book.old.opening) book.old at command.now e)) }
-    ensures full { IsCommandRoom book.old book.new command.now result }
+        (IsCommandRefusal (λ mark. mark) at command.now e book.old)) }
     ensures room { vec_capacity receipts.old ≤ vec_capacity receipts.new }
 {
     match maintain_first(book, receipts, lb, session, at) {

@@ -72,6 +72,7 @@ impl Desk for PlainDesk {
       Commands,
       KeepsDesk,
       LeaseNote,
+      MeetsNone,
       MeetsStray,
       RefusesChoice,
       RefusesCommand,
@@ -80,10 +81,7 @@ impl Desk for PlainDesk {
       pair_of,
       without_last,
     };
-    ghost use Rattle.balancer_core.specs.Journal.{Journal};
     ghost use Rattle.balancer_core.specs.PlainLeases.{note_of};
-    ghost use Rattle.balancer_core.specs.Refused.{IsCommandRoom, IsSelectRoom};
-    ghost use Rattle.balancer_core.specs.ToldBooks.{book_in};
 
     type Lease = PlainLease;
 
@@ -109,12 +107,8 @@ impl Desk for PlainDesk {
         requires known { lb < length self.old.sizes }
         requires caller { IfSome self.old.caller (λ n. session ≡ n) }
         ensures ok { IfOk result (λ c. Chooses note_of self.old self.new lb session at ask.now c) }
-        ensures err { IfErr result (λ e. RefusesChoice self.old self.new lb session at e) }
+        ensures err { IfErr result (λ e. RefusesChoice (λ mark. mark) self.old self.new lb session at e) }
         ensures kept { KeepsDesk self.old self.new }
-
-        // Full comes exactly where the Book has no number left.
-        ensures full { (old new : Journal) → book_in self.old.books lb ≡ Some old → book_in self.new.books lb ≡ Some new
-            → IsSelectRoom old new result }
     {
         let done = select_at(
             self.books.as_mut_slice(),
@@ -172,14 +166,10 @@ impl Desk for PlainDesk {
         requires known { lb < length self.old.sizes }
         requires caller { IfSome self.old.caller (λ n. session ≡ n) }
         ensures ok { IfOk result (λ _. Commands self.old self.new lb session at command.now) }
-        ensures err { IfErr result (λ e. RefusesCommand self.old self.new lb session at command.now e) }
+        ensures err { IfErr result (λ e. RefusesCommand (λ mark. mark) self.old self.new lb session at command.now e) }
         ensures held { self.new.held ≡ self.old.held }
-        ensures stray { self.new.strays ≡ self.old.strays }
+        ensures stray { MeetsNone self.old self.new }
         ensures kept { KeepsDesk self.old self.new }
-
-        // Full comes exactly where the Book has no number left, and TooWide where L would be too wide.
-        ensures full { (old new : Journal) → book_in self.old.books lb ≡ Some old → book_in self.new.books lb ≡ Some new
-            → IsCommandRoom old new command.now result }
     {
         let done = command_at(
             self.books.as_mut_slice(),

@@ -7,8 +7,6 @@
 #![tactic(auto)]
 
 mod gain;
-#[cfg(test)]
-mod tests;
 mod unit;
 
 pub use gain::{gain_return, gain_select};

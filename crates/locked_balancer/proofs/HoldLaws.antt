@@ -1,14 +1,13 @@
 -- What the calls of one hold add together.
-use Rattle.std.proofs.Common.{◌≡◌, ℕ, zero, suc, ◌+◌, ◌<◌, ◌≤◌, false, List, [], ◌∷◌, ◌++◌, length, Some, refl, sym, ap, ◌∙◌, subst, inl, inr, arith}
+use Rattle.std.proofs.Common.{◌≡◌, ℕ, ◌+◌, ◌<◌, ◌≤◌, false, List, [], ◌∷◌, ◌++◌, length, Some, refl, sym, ap, ◌∙◌, subst, inl, inr, arith}
 use Rattle.std.specs.Prelude.{◌^◌, IfSome, MatchOption, Option, None, Ok, Err, slice_get, slice_index, slice_set}
-use Rattle.std.specs.List.{All}
 use Rattle.std.proofs.lemmas.List.{append-nil, append_assoc, length-append, set-set}
 use Rattle.std.proofs.lemmas.List.Elements.{All-append, All-from_recursion, All-nil}
 use Rattle.std.proofs.lemmas.Option.{slice_get_within}
 use Rattle.jk_model.specs.Choice.{IsPick}
 use Rattle.jk_model.specs.Free.{is_in}
 use Rattle.jk_model.specs.Journal.{members, next_of}
-use Rattle.jk_model.specs.Legal.{HasValues, IsDoable}
+use Rattle.jk_model.specs.Legal.{IsAnswered, IsDoable, IsNext}
 use Rattle.jk_model.specs.declared.ask.Ask.{Ask}
 use Rattle.jk_model.specs.declared.change.Command.{Command}
 use Rattle.jk_model.specs.declared.journal.Answer.{Answer}
@@ -22,17 +21,16 @@ use Rattle.jk_model.specs.declared.refusal.AdminError.TheVariants as admin
 use Rattle.jk_model.specs.declared.refusal.RoomError.{RoomError}
 use Rattle.jk_model.specs.declared.refusal.RoomError.TheVariants as room
 use Rattle.balancer_core.specs.Commanded.{IsKnown}
-use Rattle.balancer_core.specs.Desks.{IsDue, IsOwn, IsRefusal, LeaseNote, refused_first}
+use Rattle.balancer_core.specs.Desks.{IsAskRefusal, IsCommandRefusal, IsOwn, LeaseNote, refused_first}
 use Rattle.balancer_core.specs.Due.{due_moment, entry_moment}
 use Rattle.balancer_core.specs.Journal.{Journal, next_number, past_of, tickets_out}
-use Rattle.balancer_core.specs.PlainDesks.{IsDueDone}
-use Rattle.balancer_core.specs.ToldBooks.{AreNextAt, IsNoneDue, grown_by}
+use Rattle.balancer_core.specs.Refused.{RefusesAsk, RefusesChange, RefusesMaintain}
+use Rattle.balancer_core.specs.ToldBooks.{AreNextAt, IsFound, IsNoneDue, grown_by}
 use Rattle.balancer_core.specs.declared.desk.Choice.{Choice}
-use Rattle.balancer_core.specs.declared.desk.Choice.TheVariants as choice
 use Rattle.balancer_core.specs.declared.receipt.Receipt.{Receipt}
 use Rattle.balancer_core.proofs.PlainLaws.{size-at}
 use Rattle.balancer_core.proofs.ToldLaws.{at_place, get-set, grown-nil, grown-twice, next_more, set-found, some_is}
-use Rattle.locked_balancer.specs.Holds.{Held, HoldChooses, HoldCommands, HoldGains, HoldGainsDue, HoldGainsLast, HoldMaintains, HoldRefuses, IsAdminMark, IsHoldChoice, IsRoomMark, IsSiteChoice, held, listed}
+use Rattle.locked_balancer.specs.Holds.{Held, HoldChooses, HoldCommands, HoldGains, HoldGainsDue, HoldGainsLast, HoldMaintains, IsAdminMark, IsHoldChoice, IsRoomMark, IsSiteChoice, held, listed}
 use Rattle.locked_balancer.specs.Notes.{MarkNote, lease_of}
 use Rattle.locked_balancer.specs.SiteAnswers.{HasRoom, IsCommandedAt, IsMaintenanceAt, IsRoomAt}
 use Rattle.locked_balancer.specs.Sites.{AddsAt, AreSited, At}
@@ -136,14 +134,68 @@ chooses sizes a b c lb session at ask r picked due adds noted counted pick membe
       (pick adds.book adds.found) member chose;
 }
 
--- Nothing was added.
-pub due_none : (books books' : List Journal) (rs : List Receipt) (a a' : ℕ) (lb session at : ℕ) → books' ≡ books → a' ≡ a → lb < length books
-    → HoldGainsDue (held books rs a) (held books' rs a') lb session at
-due_none books books' rs a a' lb session at same_books same_amount within =
+-- Nothing was added, for want of memory.
+pub due_none : (books books' : List Journal) (rs : List Receipt) (a a' : ℕ) (lb session at : ℕ) (wanting : Type 0) (account : Journal → List Receipt → Type 0)
+    → books' ≡ books → a' ≡ a → lb < length books → wanting → HoldGainsDue (held books rs a) (held books' rs a') lb session at wanting account
+due_none books books' rs a a' lb session at wanting account same_books same_amount within wants =
     let here : (b : Journal) × (slice_get books lb ≡ Some b) = at_place books lb within in
-    subst (λ (x : List Journal). HoldGainsDue (held books rs a) (held x rs a') lb session at) (sym same_books)
-    (subst (λ (n : ℕ). HoldGainsDue (held books rs a) (held books rs n) lb session at) (sym same_amount)
-    (record { due = []; is_due = tt; gains = gains_none (held books rs a) lb session at here.0 here.1 }))
+    subst (λ (x : List Journal). HoldGainsDue (held books rs a) (held x rs a') lb session at wanting account) (sym same_books)
+    (subst (λ (n : ℕ). HoldGainsDue (held books rs a) (held books rs n) lb session at wanting account) (sym same_amount)
+    (record { due = []; is_due = tt; gains = gains_none (held books rs a) lb session at here.0 here.1; why = inr (refl, wants) }))
+
+-- The Maintain that was due was refused.
+pub denied_first : (a b : Held) (lb session at : ℕ) (wanting : Type 0) (account : Journal → List Receipt → Type 0) → b ≡ a → lb < length a.books
+    → At a.books lb (λ x. account x []) → HoldGainsDue a b lb session at wanting account
+unfolding gains_none
+denied_first a b lb session at wanting account same within why =
+    let here : (x : Journal) × (slice_get a.books lb ≡ Some x) = at_place a.books lb within in
+    subst (λ (x : Held). HoldGainsDue a x lb session at wanting account) (sym same)
+    (record { due = []; is_due = tt; gains = gains_none a lb session at here.0 here.1; why = inl (why here.0 here.1) })
+
+-- The call after it was refused.
+pub denied_after : (a b : Held) (books' : List Journal) (amount' : ℕ) (lb session at : ℕ) (wanting : Type 0) (account : Journal → List Receipt → Type 0)
+    → (due : HoldMaintains a b lb session at) → books' ≡ b.books → amount' ≡ b.amount → account due.gains.book due.due
+    → HoldGainsDue a (held books' b.receipts amount') lb session at wanting account
+denied_after a b books' amount' lb session at wanting account due same_books same_amount why =
+    subst (λ (x : List Journal). HoldGainsDue a (held x b.receipts amount') lb session at wanting account) (sym same_books)
+    (subst (λ (n : ℕ). HoldGainsDue a (held b.books b.receipts n) lb session at wanting account) (sym same_amount)
+    (record { due = due.due; is_due = due.is_due; gains = due.gains; why = inl why }))
+
+-- The Book after the Maintain.
+maintained_at : (a b : Held) (lb session at : ℕ) (due : HoldMaintains a b lb session at) → slice_get b.books lb ≡ Some (grown_by due.gains.book due.due)
+maintained_at a b lb session at due =
+    ap (λ (books : List Journal). slice_get books lb) due.gains.grown
+    ∙ get-set a.books lb (grown_by due.gains.book due.due) (slice_get_within a.books lb due.gains.book due.gains.found)
+
+-- The refusals of a Site are those of its Book.
+refused_ask : (lb : ℕ) (b : Journal) (e : RoomError MarkNote) → IsRoomAt {T = ℕ} lb 2 b (Err e) → RefusesAsk (λ mark. mark.numbers) b e
+refused_ask lb b (room.Full mark) is = (is.0, (is.1.next, is.1.out))
+refused_ask lb b room.NoMemory is = tt
+
+refused_change : (lb : ℕ) (b : Journal) (c : Command) (e : AdminError MarkNote) → IsCommandedAt {T = ℕ} lb b c (Err e) → RefusesChange (λ mark. mark.numbers) b c e
+refused_change lb b c admin.UnknownMember is = is
+refused_change lb b c admin.BadValue is = is
+refused_change lb b c (admin.TooWide mark) is = (is.0, is.1, is.2, (is.3.next, is.3.out))
+refused_change lb b c (admin.Full mark) is = (is.0, (is.1.0, (is.1.1.next, is.1.1.out)))
+refused_change lb b c admin.NoMemory is = tt
+
+pub refused_maintain : (lb : ℕ) (b : Journal) (at : ℕ) (e : RoomError MarkNote) → IsMaintenanceAt {T = ℕ} lb b at (Err e) → RefusesMaintain (λ mark. mark.numbers) b at e
+refused_maintain lb b at (room.Full mark) is = (is.0, (is.1.0, (is.1.1.next, is.1.1.out)))
+refused_maintain lb b at room.NoMemory is = is.0
+
+pub ask_account : (a b : Held) (lb session at : ℕ) (due : HoldMaintains a b lb session at) (e : RoomError MarkNote) → At b.books lb (λ x. IsRoomAt {T = ℕ} lb 2 x (Err e))
+    → IsAskRefusal (λ mark. mark.numbers) at e due.gains.book due.due
+ask_account a b lb session at due e why =
+    inl (due.maintained, refused_ask lb (grown_by due.gains.book due.due) e (why (grown_by due.gains.book due.due) (maintained_at a b lb session at due)))
+
+pub command_account : (a b : Held) (lb session at : ℕ) (due : HoldMaintains a b lb session at) (c : Command) (e : AdminError MarkNote)
+    → At b.books lb (λ x. IsCommandedAt {T = ℕ} lb x c (Err e)) → IsCommandRefusal (λ mark. mark.numbers) at c e due.gains.book due.due
+command_account a b lb session at due c e why =
+    inl (due.maintained, refused_change lb (grown_by due.gains.book due.due) c e (why (grown_by due.gains.book due.due) (maintained_at a b lb session at due)))
+
+pub command_first : (books : List Journal) (lb at : ℕ) (c : Command) (e : AdminError MarkNote) (first : RoomError MarkNote) → e ≡ refused_first first
+    → At books lb (λ b. RefusesMaintain (λ mark. mark.numbers) b at first) → At books lb (λ b. IsCommandRefusal (λ mark. mark.numbers) at c e b [])
+command_first books lb at c e first is why b found = inr (first, is, refl, why b found)
 
 -- A Maintain where one was due.
 pub maintains : (found : Option Receipt) (books books' : List Journal) (rs rs' : List Receipt) (a a' : ℕ) (lb session at : ℕ) → lb < length books
@@ -199,13 +251,12 @@ admin_mark lb b c (admin.Full mark) is = (
 )
 admin_mark lb b c admin.NoMemory is = tt
 
--- A command that was done, and one that was refused.
-pub refusal_at : (lb : ℕ) (b : Journal) (c : Command) (size : ℕ) → size ≡ members b.opening → (e : AdminError MarkNote) → IsCommandedAt {T = ℕ} lb b c (Err e) → IsRefusal size c e
-refusal_at lb b c size same admin.UnknownMember is = subst (λ (n : ℕ). IsKnown n c → ⊥) (sym same) is
-refusal_at lb b c size same admin.BadValue is = (subst (λ (n : ℕ). IsKnown n c) (sym same) is.0, is.1)
-refusal_at lb b c size same (admin.TooWide mark) is = (subst (λ (n : ℕ). IsKnown n c) (sym same) is.0, is.1)
-refusal_at lb b c size same (admin.Full mark) is = (subst (λ (n : ℕ). IsKnown n c) (sym same) (is.0.member, is.0.target), is.0.values)
-refusal_at lb b c size same admin.NoMemory is = tt
+-- A command that was done.
+admin_done : (b : Journal) (e : Entry) (c : Command) → IsNext b.rules b.opening (past_of b) e → e.call ≡ call.Admin c → e.answer ≡ answer.Done
+admin_done b e c next calls =
+    let is : IsAnswered b.rules b.opening (past_of b) e (call.Admin c) =
+    subst (λ (x : Call). IsAnswered b.rules b.opening (past_of b) e x) calls next.answered in
+    is.1
 
 size_of : (sizes firsts : List ℕ) (books : List Journal) (lb : ℕ) (b : Journal) → AreSited sizes firsts books → slice_get books lb ≡ Some b → slice_index sizes lb ≡ members b.opening
 size_of sizes firsts books lb b are here = ap (λ (ns : List ℕ). slice_index ns lb) (sym are.sized) ∙ size-at books lb b here
@@ -219,40 +270,17 @@ commands sizes firsts a b c lb session at command r due are adds noted counted d
       last = r;
       gains = gains_last a b c lb session at (call.Admin command) r due adds noted counted;
       commanded = adds.called;
+      done = admin_done adds.book r.entry command adds.next.next adds.called;
       named = subst (λ (n : ℕ). IsKnown n command) (sym (size_of sizes firsts b.books lb adds.book are adds.found)) (doable.member, doable.target);
       values = doable.values;
     }
 
-pub refuses : (sizes firsts : List ℕ) (a b : Held) (books' : List Journal) (amount' : ℕ) (lb session at : ℕ) (command : Command) (e : AdminError MarkNote) → HoldMaintains a b lb session at
-    → AreSited sizes firsts b.books → books' ≡ b.books → amount' ≡ b.amount → At b.books lb (λ x. IsCommandedAt {T = ℕ} lb x command (Err e)) → lb < length b.books
-    → HoldRefuses sizes a (held books' b.receipts amount') lb session at command e
-refuses sizes firsts a b books' amount' lb session at command e due are same_books same_amount why within =
-    let here : (x : Journal) × (slice_get b.books lb ≡ Some x) = at_place b.books lb within in
-    subst (λ (x : List Journal). HoldRefuses sizes a (held x b.receipts amount') lb session at command e) (sym same_books)
-    (subst (λ (n : ℕ). HoldRefuses sizes a (held b.books b.receipts n) lb session at command e) (sym same_amount)
-    (record {
-      due = due.due;
-      is_due = due.is_due;
-      gains = due.gains;
-      why = inl (refusal_at lb here.0 command (slice_index sizes lb) (size_of sizes firsts b.books lb here.0 are here.1) e (why here.0 here.1));
-    }))
-
-pub refuses_first : (sizes : List ℕ) (a b : Held) (lb session at : ℕ) (command : Command) (e : AdminError MarkNote) (first : RoomError MarkNote) → b ≡ a → e ≡ refused_first first
-    → lb < length a.books → HoldRefuses sizes a b lb session at command e
-refuses_first sizes a b lb session at command e first same is within =
-    let here : (x : Journal) × (slice_get a.books lb ≡ Some x) = at_place a.books lb within in
-    subst (λ (x : Held). HoldRefuses sizes a x lb session at command e) (sym same) (record {
-      due = [];
-      is_due = tt;
-      gains = gains_none a lb session at here.0 here.1;
-      why = inr (first, is, refl);
-    })
-
--- Memory was wanting before the hold.
-pub refuses_none : (sizes : List ℕ) (books books' : List Journal) (rs : List Receipt) (a a' : ℕ) (lb session at : ℕ) (command : Command) → books' ≡ books → a' ≡ a → lb < length books
-    → HoldRefuses sizes (held books rs a) (held books' rs a') lb session at command admin.NoMemory
-refuses_none sizes books books' rs a a' lb session at command same_books same_amount within =
-    let here : (b : Journal) × (slice_get books lb ≡ Some b) = at_place books lb within in
-    subst (λ (x : List Journal). HoldRefuses sizes (held books rs a) (held x rs a') lb session at command admin.NoMemory) (sym same_books)
-    (subst (λ (n : ℕ). HoldRefuses sizes (held books rs a) (held books rs n) lb session at command admin.NoMemory) (sym same_amount)
-    (record { due = []; is_due = tt; gains = gains_none (held books rs a) lb session at here.0 here.1; why = inl tt }))
+-- What was found is a journal that the balancer may have.
+pub sited_found : (sizes firsts : List ℕ) (books : List Journal) (lb : ℕ) (b : Journal) → AreSited sizes firsts books → slice_get books lb ≡ Some b
+    → IsFound sizes None lb b
+sited_found sizes firsts books lb b are here = record {
+  sound = are.sound lb b here;
+  rules = are.modern lb b here;
+  size = sym (size_of sizes firsts books lb b are here);
+  told = λ x found. absurd cc;
+}

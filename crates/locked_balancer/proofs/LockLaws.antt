@@ -1,6 +1,6 @@
 -- How long the journals behind the lock may grow.
-use Rattle.std.proofs.Common.{◌≡◌, ℕ, zero, suc, ◌+◌, ◌<◌, ◌≤◌, true, List, [], ◌∷◌, ◌++◌, length, map, Option, Some, None, refl, sym, ap, ◌∙◌, subst, inl, inr, arith}
-use Rattle.std.specs.Prelude.{◌==◌, IfErr, IfOk, OnErr, OnOk, Result, Ok, Err, slice_get, slice_index, slice_set}
+use Rattle.std.proofs.Common.{◌≡◌, ℕ, zero, suc, ◌+◌, ◌<◌, ◌≤◌, true, List, [], ◌∷◌, ◌++◌, length, map, Option, Some, None, sym, ap, ◌∙◌, subst, inl, inr, arith}
+use Rattle.std.specs.Prelude.{◌==◌, ◌↔◌, IfErr, IfOk, IsOk, IsSome, OnErr, OnOk, Result, Ok, Err, slice_get, slice_index, slice_set}
 use Rattle.std.proofs.lemmas.Bool.{cases_Bool, eqb-true}
 use Rattle.std.proofs.lemmas.List.{length-append, length-map}
 use Rattle.std.proofs.lemmas.Option.{slice_get_within}
@@ -21,18 +21,20 @@ use Rattle.jk_model.specs.declared.refusal.RoomError.{RoomError}
 use Rattle.jk_model.specs.declared.segment.Segment.{Segment}
 use Rattle.jk_model.specs.declared.view.View.{View}
 use Rattle.jk_model.proofs.OutFacts.{length-returned}
-use Rattle.balancer_core.specs.Desks.{IsDue, LeaseNote}
-use Rattle.balancer_core.specs.Journal.{IsSound, Journal, next_number, past_of, tickets_out}
+use Rattle.balancer_core.specs.Desks.{IsDue, IsNotOut, LeaseNote}
+use Rattle.balancer_core.specs.Journal.{IsReturnedAt, IsSound, Journal, next_number, past_of, tickets_out}
 use Rattle.balancer_core.specs.PlainDesks.{AreLegal}
-use Rattle.balancer_core.specs.ToldBooks.{grown_by, sizes_of}
+use Rattle.balancer_core.specs.ToldBooks.{IsFound, grown_by, sizes_of}
 use Rattle.balancer_core.specs.declared.desk.Choice.{Choice}
 use Rattle.balancer_core.specs.declared.receipt.Receipt.{Receipt}
 use Rattle.balancer_core.proofs.PlainLaws.{size-at}
 use Rattle.balancer_core.proofs.ToldLaws.{at_place, get-set, get-set_other, past-one, some_is}
-use Rattle.locked_balancer.specs.Holds.{AreShort, Held, HoldChooses, HoldCommands, HoldGains, HoldGainsDue, HoldGainsLast, HoldRefuses, pools_of}
-use Rattle.locked_balancer.specs.Notes.{MarkNote}
+use Rattle.locked_balancer.specs.Holds.{AreShort, CutsFirst, Held, HoldChooses, HoldCommands, HoldDenies, HoldGains, HoldGainsLast, HoldRefuses, held, pools_of}
+use Rattle.locked_balancer.specs.Notes.{MarkNote, StrayNote}
+use Rattle.locked_balancer.specs.SharedDesks.{CutsWhen}
 use Rattle.locked_balancer.specs.Shelves.{CutsAt}
 use Rattle.locked_balancer.specs.Sites.{AddsAt, AreSited, At, added_in}
+use Rattle.locked_balancer.proofs.HoldLaws.{sited_found}
 use Rattle.locked_balancer.proofs.PoolLaws.{out-pools}
 use Rattle.locked_balancer.proofs.SiteLaws.{differs}
 
@@ -69,7 +71,7 @@ short-empty cut_at b empty sound =
     omega arith
 
 -- A Return adds an entry and takes a ticket in.
-returned : (b : Journal) (e : Entry) (t : ℕ) (outcome : Outcome) → IsNext b.rules b.opening (past_of b) e → e.call ≡ call.Return t outcome
+pub returned : (b : Journal) (e : Entry) (t : ℕ) (outcome : Outcome) → IsNext b.rules b.opening (past_of b) e → e.call ≡ call.Return t outcome
     → (is_out b.opening (past_of b) t ≡ true) × (e.answer ≡ answer.Done)
 returned b e t outcome next calls =
     let is : IsAnswered b.rules b.opening (past_of b) e (call.Return t outcome) =
@@ -142,13 +144,13 @@ short_due cut_at old new lb session at due short shorter is gains legal =
 
 pub short_choose : (sizes : List ℕ) (cut_at : ℕ) (old new : Held) (lb session at : ℕ) (ask : Ask) (r : Result (Choice LeaseNote) (RoomError MarkNote))
     → AreShort cut_at old.books → (0 < cut_at → At old.books lb (λ b. length b.entries < cut_at)) → IfOk r (λ c. HoldChooses sizes old new lb session at ask c)
-    → OnErr r (HoldGainsDue old new lb session at) → AreLegal new.books → AreShort cut_at new.books
+    → IfErr r (λ e. HoldDenies old new lb session at e) → AreLegal new.books → AreShort cut_at new.books
 short_choose sizes cut_at old new lb session at ask (Ok c) short shorter ok err legal = short_last cut_at old new lb session at ok.last short shorter ok.gains legal
 short_choose sizes cut_at old new lb session at ask (Err e) short shorter ok err legal = short_due cut_at old new lb session at err.due short shorter err.is_due err.gains legal
 
 pub short_command : {T : Type 0} (sizes : List ℕ) (cut_at : ℕ) (old new : Held) (lb session at : ℕ) (command : Command) (r : Result T (AdminError MarkNote))
     → AreShort cut_at old.books → (0 < cut_at → At old.books lb (λ b. length b.entries < cut_at)) → OnOk r (HoldCommands sizes old new lb session at command)
-    → IfErr r (λ e. HoldRefuses sizes old new lb session at command e) → AreLegal new.books → AreShort cut_at new.books
+    → IfErr r (λ e. HoldRefuses old new lb session at command e) → AreLegal new.books → AreShort cut_at new.books
 short_command sizes cut_at old new lb session at command (Ok x) short shorter ok err legal = short_last cut_at old new lb session at ok.last short shorter ok.gains legal
 short_command sizes cut_at old new lb session at command (Err e) short shorter ok err legal = short_due cut_at old new lb session at err.due short shorter err.is_due err.gains legal
 
@@ -192,3 +194,56 @@ look_next sizes firsts books lb amount v are within most present one =
 pub if_ok : {T E : Type 0} (r : Result T E) (P Q : T → Type 0) → ((x : T) → P x → Q x) → IfOk r P → IfOk r Q
 if_ok (Ok x) P Q then is = then x is
 if_ok (Err e) P Q then is = tt
+
+-- When a hold cut.
+pub cuts_when : (sizes firsts : List ℕ) (cut_at lb : ℕ) (books books' : List Journal) (cut : Option (ℕ × Segment)) → AreSited sizes firsts books → lb < length books
+    → CutsFirst books books' lb cut → At books lb (λ b. IsSome cut ↔ ((0 < cut_at) × (cut_at ≤ length b.entries))) → CutsWhen sizes cut_at lb cut
+cuts_when sizes firsts cut_at lb books books' None are within cuts when =
+    let here : (b : Journal) × (slice_get books lb ≡ Some b) = at_place books lb within in
+    record {
+      before = here.0;
+      found = sited_found sizes firsts books lb here.0 are here.1;
+      when = when here.0 here.1;
+      whole = tt;
+      legal = tt;
+    }
+cuts_when sizes firsts cut_at lb books books' (Some cut) are within cuts when = record {
+  before = cuts.book;
+  found = sited_found sizes firsts books lb cuts.book are cuts.found;
+  when = when cuts.book cuts.found;
+  whole = cuts.whole;
+  legal = cuts.legal;
+}
+
+-- A ticket that wasn't out.
+pub not_out_at : {T : Type 0} (sizes firsts : List ℕ) (books : List Journal) (lease : LeaseNote) (r : Result T StrayNote) → AreSited sizes firsts books → lease.lb < length books
+    → At books lease.lb (λ b. IsOk r ↔ (is_out b.opening (past_of b) lease.ticket ≡ true))
+    → IfErr r (λ s. At books lease.lb (λ b. IsReturnedAt (past_of b) lease.ticket s.stray.returned_at)) → IfErr r (λ s. IsNotOut sizes None lease s.stray)
+not_out_at sizes firsts books lease (Ok x) are within found returned = tt
+not_out_at sizes firsts books lease (Err s) are within found returned =
+    let here : (b : Journal) × (slice_get books lease.lb ≡ Some b) = at_place books lease.lb within in
+    record {
+      book = here.0;
+      found = sited_found sizes firsts books lease.lb here.0 are here.1;
+      not_out = elim (cases_Bool (is_out here.0.opening (past_of here.0) lease.ticket)) [
+        | inl is ↦ let ok = (found here.0 here.1).1 is in absurd cc
+        | inr free ↦ free
+      ];
+      returned = returned here.0 here.1;
+    }
+
+-- What is looked at, in a journal that the balancer may have.
+pub look_present : (sizes firsts : List ℕ) (books : List Journal) (lb : ℕ) (v : View) → AreSited sizes firsts books → lb < length books
+    → At books lb (λ b. IsPresent b.rules b.opening (past_of b) v) → (b : Journal) × IsFound sizes None lb b × IsPresent b.rules b.opening (past_of b) v
+look_present sizes firsts books lb v are within present =
+    let here : (b : Journal) × (slice_get books lb ≡ Some b) = at_place books lb within in
+    (here.0, sited_found sizes firsts books lb here.0 are here.1, present here.0 here.1)
+
+-- What is so between the states of a hold, where they are told otherwise.
+pub held_moved : (P : Held → Held → Type 0) (mid mid' after after' : List Journal) (rs rs' : List Receipt) (a a' b b' : ℕ) → mid ≡ mid' → a ≡ a' → after ≡ after' → b ≡ b'
+    → P (held mid rs a) (held after rs' b) → P (held mid' rs a') (held after' rs' b')
+held_moved P mid mid' after after' rs rs' a a' b b' mids amounts afters amounts' is =
+    subst (λ (n : ℕ). P (held mid' rs a') (held after' rs' n)) amounts'
+    (subst (λ (xs : List Journal). P (held mid' rs a') (held xs rs' b)) afters
+    (subst (λ (n : ℕ). P (held mid' rs n) (held after rs' b)) amounts
+    (subst (λ (xs : List Journal). P (held xs rs a) (held after rs' b)) mids is)))

@@ -1,10 +1,11 @@
 -- What a hold of the lock is for the desk that has it.
-use Rattle.std.proofs.Common.{◌≡◌, ℕ, zero, suc, ◌+◌, ◌^◌, ◌<◌, ◌≤◌, Bool, true, false, not, List, [], ◌∷◌, ◌++◌, length, take, drop, get_or, Option, Some, None, refl, sym, ap, ◌∙◌, subst, inl, inr, arith, add-one}
-use Rattle.std.specs.Prelude.{◌==◌, ◌&&◌, IfErr, IfOk, IfSome, OnErr, OnOk, Result, Ok, Err, slice_index}
-use Rattle.std.specs.List.{All, AllByRecursion as ByRecursion}
-use Rattle.std.proofs.lemmas.Bool.{cases_Bool, eqb-true}
+use Rattle.std.proofs.Common.{◌≡◌, ℕ, zero, suc, ◌+◌, ◌^◌, ◌<◌, ◌≤◌, Bool, true, false, not, List, [], ◌∷◌, ◌++◌, length, take, drop, get_or, Option, Some, None, refl, sym, ap, ◌∙◌, subst, inl, inr, arith}
+use Rattle.std.specs.Prelude.{◌&&◌, IfErr, IfOk, IfSome, OnErr, OnOk, Result, Ok, Err, slice_index}
+use Rattle.std.specs.List.{AllByRecursion as ByRecursion}
+use Rattle.std.proofs.lemmas.Bool.{cases_Bool}
 use Rattle.std.proofs.lemmas.List.{append-nil, drop_all, length-append}
 use Rattle.std.proofs.lemmas.List.Elements.{All-append, All-from_recursion, All-nil, recursion_from_All}
+use Rattle.jk_model.specs.Present.{IsPresent}
 use Rattle.jk_model.specs.declared.ask.Ask.{Ask}
 use Rattle.jk_model.specs.declared.change.Command.{Command}
 use Rattle.jk_model.specs.declared.journal.Call.TheVariants as call
@@ -15,20 +16,19 @@ use Rattle.jk_model.specs.declared.refusal.AdminError.TheVariants as admin
 use Rattle.jk_model.specs.declared.refusal.RoomError.{RoomError}
 use Rattle.jk_model.specs.declared.refusal.RoomError.TheVariants as room
 use Rattle.jk_model.specs.declared.segment.Segment.{Segment}
-use Rattle.balancer_core.specs.Desks.{Chooses, Commands, DeskState, KeepsDesk, MeetsStray, RefusesChoice, RefusesCommand, Gains, GainsDue, GainsLast, IsAskRefusal, IsChoice, IsCommandRefusal, IsDue, IsOwn, LeaseNote, TakesBack, holds, is_pair, without_last}
-use Rattle.balancer_core.specs.Journal.{Journal}
-use Rattle.balancer_core.specs.ToldBooks.{AreNextAt, AreSound, WhereTold, book_in}
+use Rattle.balancer_core.specs.Desks.{Chooses, Commands, DeskState, KeepsDesk, RefusesChoice, RefusesCommand, Gains, GainsDue, GainsLast, IsAskRefusal, IsChoice, IsCommandRefusal, IsDue, IsOwn, LeaseNote, Shows, TakesBack, holds, is_pair, without_last}
+use Rattle.balancer_core.specs.Journal.{Journal, past_of}
+use Rattle.balancer_core.specs.ToldBooks.{AreSound, Follows, IsFound}
 use Rattle.balancer_core.specs.declared.desk.Choice.{Choice}
 use Rattle.balancer_core.specs.declared.desk.Choice.TheVariants as choice
 use Rattle.balancer_core.specs.declared.receipt.Receipt.{Receipt}
 use Rattle.balancer_core.proofs.PlainLaws.{pair_is}
-use Rattle.locked_balancer.specs.Holds.{CutsFirst, Held, HoldChooses, HoldCommands, HoldGains, HoldGainsDue, HoldGainsLast, HoldRefuses, IsHoldChoice, held}
-use Rattle.locked_balancer.specs.Notes.{MarkNote}
+use Rattle.locked_balancer.specs.Holds.{CutsFirst, Held, HoldChooses, HoldCommands, HoldGains, HoldDenies, HoldGainsDue, HoldGainsLast, HoldRefuses, IsHoldChoice, held}
+use Rattle.locked_balancer.specs.Notes.{MarkNote, ViewNote}
+use Rattle.locked_balancer.specs.Sites.{AreSited}
+use Rattle.locked_balancer.proofs.HoldLaws.{sited_found}
+use Rattle.locked_balancer.proofs.LockLaws.{returned as returned_done}
 use Rattle.locked_balancer.specs.SharedDesks.{AreKnown, CountsFull, CountsRefusal, IsShared, pairs_of, shared_desk}
-
--- Of Books that aren't told nothing is said.
-pub untold : (lb : ℕ) (P : Journal → Type 0) → WhereTold None lb P
-untold lb P b found = absurd cc
 
 pub none_sound : (sizes : List ℕ) → AreSound sizes None
 none_sound sizes = record {
@@ -36,46 +36,47 @@ none_sound sizes = record {
   sized = λ told is. absurd cc;
 }
 
-module _ (sizes : List ℕ) (parts : ℕ) (old new : Held) (held held' : List (ℕ × ℕ)) (s f w s' f' w' : ℕ) (lb session at : ℕ) where
-  pub gains_desk : (gained : List Receipt) → HoldGains old new lb session at gained
-      → Gains (shared_desk sizes parts old.receipts held old.amount s f w) (shared_desk sizes parts new.receipts held' new.amount s' f' w') lb session at gained
-  gains_desk gained gains = record {
-    receipts = gains.receipts;
-    own = gains.own;
-    added = gains.amount;
-    books = refl;
-    next = untold lb (λ b. AreNextAt b at gained);
-  }
+-- What a hold gained, told of the desk that had the lock.
+pub gains_desk : (sizes : List ℕ) (parts : ℕ) (old new : Held) (held held' : List (ℕ × ℕ)) (s f w s' f' w' : ℕ) (m m' : Bool) (lb session at : ℕ) (gained : List Receipt)
+    → HoldGains old new lb session at gained
+    → Gains (shared_desk sizes parts old.receipts held old.amount s f w m) (shared_desk sizes parts new.receipts held' new.amount s' f' w' m') lb session at gained
+gains_desk sizes parts old new held held' s f w s' f' w' m m' lb session at gained gains = record {
+  receipts = gains.receipts;
+  own = gains.own;
+  added = gains.amount;
+  books = refl;
+}
 
+follows_desk : (sizes firsts : List ℕ) (old new : Held) (lb session at : ℕ) (gained : List Receipt) → AreSited sizes firsts old.books → HoldGains old new lb session at gained
+    → Follows sizes None lb at gained
+follows_desk sizes firsts old new lb session at gained are gains = record {
+  book = gains.book;
+  found = sited_found sizes firsts old.books lb gains.book are gains.found;
+  next = gains.next;
+}
+
+module _ (sizes firsts : List ℕ) (parts : ℕ) (old new : Held) (are : AreSited sizes firsts old.books) (held held' : List (ℕ × ℕ)) (s f w s' f' w' : ℕ) (m : Bool) (lb session at : ℕ) where
   pub last_desk : (last : Receipt) → HoldGainsLast old new lb session at last
-      → GainsLast (shared_desk sizes parts old.receipts held old.amount s f w) (shared_desk sizes parts new.receipts held' new.amount s' f' w') lb session at last
+      → GainsLast (shared_desk sizes parts old.receipts held old.amount s f w m) (shared_desk sizes parts new.receipts held' new.amount s' f' w' m) lb session at last
+  unfolding follows_desk
   last_desk last gains = record {
     due = gains.due;
     is_due = gains.is_due;
-    gains = gains_desk (gains.due ++ last ∷ []) gains.gains;
-    maintained = λ b found. absurd cc;
+    gains = gains_desk sizes parts old new held held' s f w s' f' w' m m lb session at (gains.due ++ last ∷ []) gains.gains;
+    follows = follows_desk sizes firsts old new lb session at (gains.due ++ last ∷ []) are gains.gains;
+    maintained = gains.maintained;
   }
 
-  pub due_desk : {M : Type 0} (error : RoomError M) → HoldGainsDue old new lb session at
-      → GainsDue (shared_desk sizes parts old.receipts held old.amount s f w) (shared_desk sizes parts new.receipts held' new.amount s' f' w') lb session at
-      (IsAskRefusal (shared_desk sizes parts old.receipts held old.amount s f w) lb at error)
-  due_desk error gains = record {
+  pub due_desk : (wanting : Type 0) (account : Journal → List Receipt → Type 0) → HoldGainsDue old new lb session at wanting account
+      → GainsDue (shared_desk sizes parts old.receipts held old.amount s f w m) (shared_desk sizes parts new.receipts held' new.amount s' f' w' m) lb session at wanting account
+  unfolding follows_desk
+  due_desk wanting account gains = record {
     due = gains.due;
     is_due = gains.is_due;
-    gains = gains_desk gains.due gains.gains;
-    account = inl (λ b found. absurd cc);
-  }
-
-  pub refused_desk : (command : Command) (error : AdminError MarkNote) → HoldRefuses sizes old new lb session at command error
-      → GainsDue (shared_desk sizes parts old.receipts held old.amount s f w) (shared_desk sizes parts new.receipts held' new.amount s' f' w') lb session at
-      (IsCommandRefusal (shared_desk sizes parts old.receipts held old.amount s f w) lb at command error)
-  refused_desk command error refuses = record {
-    due = refuses.due;
-    is_due = refuses.is_due;
-    gains = gains_desk refuses.due refuses.gains;
-    account = elim refuses.why [
-      | inl own ↦ inl (λ b found. absurd cc, own)
-      | inr first ↦ inr (first.0, first.1, (first.2, λ b found. absurd cc))
+    gains = gains_desk sizes parts old new held held' s f w s' f' w' m m lb session at gains.due gains.gains;
+    why = elim gains.why [
+      | inl told ↦ inl (follows_desk sizes firsts old new lb session at gains.due are gains.gains, told)
+      | inr wants ↦ inr wants
     ];
   }
 
@@ -94,41 +95,46 @@ choice_desk old new lb ask e (choice.Chosen m lease) is tickets = (
 choice_desk old new lb ask e choice.NoMember is tickets = (is, tickets ∙ append-nil old.held)
 choice_desk old new lb ask e choice.Forced is tickets = (is, tickets ∙ append-nil old.held)
 
-pub chooses_desk : (sizes : List ℕ) (parts : ℕ) (old new : Held) (held held' : List (ℕ × ℕ)) (s f w : ℕ) (lb session at : ℕ) (ask : Ask) (c : Choice LeaseNote)
-    → HoldChooses sizes old new lb session at ask c → held' ≡ held ++ pairs_of lb c
-    → Chooses (λ lease. lease) (shared_desk sizes parts old.receipts held old.amount s f w) (shared_desk sizes parts new.receipts held' new.amount s f w) lb session at ask c
-chooses_desk sizes parts old new held held' s f w lb session at ask c chose tickets = record {
+pub chooses_desk : (sizes firsts : List ℕ) (parts : ℕ) (old new : Held) (held held' : List (ℕ × ℕ)) (s f w : ℕ) (m : Bool) (lb session at : ℕ) (ask : Ask) (c : Choice LeaseNote)
+    → AreSited sizes firsts old.books → HoldChooses sizes old new lb session at ask c → held' ≡ held ++ pairs_of lb c
+    → Chooses (λ lease. lease) (shared_desk sizes parts old.receipts held old.amount s f w m) (shared_desk sizes parts new.receipts held' new.amount s f w m) lb session at ask c
+chooses_desk sizes firsts parts old new held held' s f w m lb session at ask c are chose tickets = record {
   last = chose.last;
-  gains = last_desk sizes parts old new held held' s f w s f w lb session at chose.last chose.gains;
+  gains = last_desk sizes firsts parts old new are held held' s f w s f w m lb session at chose.last chose.gains;
   asked = chose.asked;
-  answered = choice_desk (shared_desk sizes parts old.receipts held old.amount s f w) (shared_desk sizes parts new.receipts held' new.amount s f w)
+  answered = choice_desk (shared_desk sizes parts old.receipts held old.amount s f w m) (shared_desk sizes parts new.receipts held' new.amount s f w m)
       lb ask chose.last.entry c chose.answered tickets;
   full = refl;
   stray = refl;
   wide = refl;
+  met = refl;
 }
 
-pub commands_desk : (sizes : List ℕ) (parts : ℕ) (old new : Held) (held : List (ℕ × ℕ)) (s f w : ℕ) (lb session at : ℕ) (command : Command)
-    → HoldCommands sizes old new lb session at command
-    → Commands (shared_desk sizes parts old.receipts held old.amount s f w) (shared_desk sizes parts new.receipts held new.amount s f w) lb session at command
-commands_desk sizes parts old new held s f w lb session at command done = record {
+pub commands_desk : (sizes firsts : List ℕ) (parts : ℕ) (old new : Held) (held : List (ℕ × ℕ)) (s f w : ℕ) (m : Bool) (lb session at : ℕ) (command : Command)
+    → AreSited sizes firsts old.books → HoldCommands sizes old new lb session at command
+    → Commands (shared_desk sizes parts old.receipts held old.amount s f w m) (shared_desk sizes parts new.receipts held new.amount s f w m) lb session at command
+commands_desk sizes firsts parts old new held s f w m lb session at command are done = record {
   last = done.last;
-  gains = last_desk sizes parts old new held held s f w s f w lb session at done.last done.gains;
+  gains = last_desk sizes firsts parts old new are held held s f w s f w m lb session at done.last done.gains;
   commanded = done.commanded;
+  done = done.done;
   named = done.named;
   values = done.values;
   full = refl;
   wide = refl;
 }
 
-pub takes_back_desk : (sizes : List ℕ) (parts : ℕ) (old new : Held) (held held' : List (ℕ × ℕ)) (s f w : ℕ) (session at : ℕ) (lease : LeaseNote) (outcome : Outcome) (r : Receipt)
-    → r.entry.call ≡ call.Return lease.ticket outcome → HoldGains old new lease.lb session at (r ∷ [])
-    → TakesBack (shared_desk sizes parts old.receipts held old.amount s f w) (shared_desk sizes parts new.receipts held' new.amount s f w) session at lease outcome
-takes_back_desk sizes parts old new held held' s f w session at lease outcome r returned gains = record {
+pub takes_back_desk : (sizes firsts : List ℕ) (parts : ℕ) (old new : Held) (held held' : List (ℕ × ℕ)) (s f w : ℕ) (m : Bool) (session at : ℕ) (lease : LeaseNote) (outcome : Outcome) (r : Receipt)
+    → AreSited sizes firsts old.books → r.entry.call ≡ call.Return lease.ticket outcome → HoldGains old new lease.lb session at (r ∷ [])
+    → TakesBack (shared_desk sizes parts old.receipts held old.amount s f w m) (shared_desk sizes parts new.receipts held' new.amount s f w m) session at lease outcome
+takes_back_desk sizes firsts parts old new held held' s f w m session at lease outcome r are returned gains = record {
   last = r;
-  gains = gains_desk sizes parts old new held held' s f w s f w lease.lb session at (r ∷ []) gains;
+  gains = gains_desk sizes parts old new held held' s f w s f w m m lease.lb session at (r ∷ []) gains;
+  follows = follows_desk sizes firsts old new lease.lb session at (r ∷ []) are gains;
   returned = returned;
+  done = (returned_done gains.book r.entry lease.ticket outcome gains.next.0.next returned).1;
   stray = refl;
+  met = refl;
 }
 
 -- What a desk keeps.
@@ -271,33 +277,33 @@ gained_due old new lb session at due is gains =
     let one : length due ≤ 1 = due_length due is in
     (due, gains.receipts, gains.amount, omega arith)
 
-module _ (sizes : List ℕ) (before after : List Journal) (cut : Option (ℕ × Segment)) (rs rs' : List Receipt) (a a' : ℕ) (lb session at : ℕ) where
+module _ (sizes firsts : List ℕ) (before after : List Journal) (cut : Option (ℕ × Segment)) (rs rs' : List Receipt) (a a' : ℕ) (lb session at : ℕ) where
   -- What the locked value's choice says, and its command.
   abbrev pub ChoseOk : Ask → Choice LeaseNote → Type 0
-  ChoseOk ask c = (mid : List Journal) × CutsFirst before mid lb cut × HoldChooses sizes (held mid rs a) (held after rs' a') lb session at ask c
+  ChoseOk ask c = (mid : List Journal) × CutsFirst before mid lb cut × AreSited sizes firsts mid × HoldChooses sizes (held mid rs a) (held after rs' a') lb session at ask c
 
-  abbrev pub ChoseErr : Type 0
-  ChoseErr = (mid : List Journal) × CutsFirst before mid lb cut × HoldGainsDue (held mid rs a) (held after rs' a') lb session at
+  abbrev pub ChoseErr : RoomError MarkNote → Type 0
+  ChoseErr e = (mid : List Journal) × CutsFirst before mid lb cut × AreSited sizes firsts mid × HoldDenies (held mid rs a) (held after rs' a') lb session at e
 
   abbrev pub DidOk : Command → Type 0
-  DidOk command = (mid : List Journal) × CutsFirst before mid lb cut × HoldCommands sizes (held mid rs a) (held after rs' a') lb session at command
+  DidOk command = (mid : List Journal) × CutsFirst before mid lb cut × AreSited sizes firsts mid × HoldCommands sizes (held mid rs a) (held after rs' a') lb session at command
 
   abbrev pub DidErr : Command → AdminError MarkNote → Type 0
-  DidErr command e = (mid : List Journal) × CutsFirst before mid lb cut × HoldRefuses sizes (held mid rs a) (held after rs' a') lb session at command e
+  DidErr command e = (mid : List Journal) × CutsFirst before mid lb cut × AreSited sizes firsts mid × HoldRefuses (held mid rs a) (held after rs' a') lb session at command e
 
-  pub gained_choose : (ask : Ask) (r : Result (Choice LeaseNote) (RoomError MarkNote)) → IfOk r (λ c. ChoseOk ask c) → OnErr r ChoseErr → Gained rs rs' a a'
-  gained_choose ask (Ok c) ok err = gained_last (held ok.0 rs a) (held after rs' a') lb session at ok.2.last ok.2.gains
-  gained_choose ask (Err e) ok err = gained_due (held err.0 rs a) (held after rs' a') lb session at err.2.due err.2.is_due err.2.gains
+  pub gained_choose : (ask : Ask) (r : Result (Choice LeaseNote) (RoomError MarkNote)) → IfOk r (λ c. ChoseOk ask c) → IfErr r (λ e. ChoseErr e) → Gained rs rs' a a'
+  gained_choose ask (Ok c) ok err = gained_last (held ok.0 rs a) (held after rs' a') lb session at ok.3.last ok.3.gains
+  gained_choose ask (Err e) ok err = gained_due (held err.0 rs a) (held after rs' a') lb session at err.3.due err.3.is_due err.3.gains
 
   pub gained_command : {T : Type 0} (command : Command) (r : Result T (AdminError MarkNote)) → OnOk r (DidOk command) → IfErr r (λ e. DidErr command e) → Gained rs rs' a a'
-  gained_command command (Ok c) ok err = gained_last (held ok.0 rs a) (held after rs' a') lb session at ok.2.last ok.2.gains
-  gained_command command (Err e) ok err = gained_due (held err.0 rs a) (held after rs' a') lb session at err.2.due err.2.is_due err.2.gains
+  gained_command command (Ok c) ok err = gained_last (held ok.0 rs a) (held after rs' a') lb session at ok.3.last ok.3.gains
+  gained_command command (Err e) ok err = gained_due (held err.0 rs a) (held after rs' a') lb session at err.3.due err.3.is_due err.3.gains
 
   cut_first : (mid : List Journal) (c : Option (ℕ × Segment)) → CutsFirst before mid lb c → IfSome c (λ x. x.0 ≡ lb)
   cut_first mid None is = tt
   cut_first mid (Some x) is = is.balancer
 
-  pub cut_choose : (ask : Ask) (r : Result (Choice LeaseNote) (RoomError MarkNote)) → IfOk r (λ c. ChoseOk ask c) → OnErr r ChoseErr → IfSome cut (λ x. x.0 ≡ lb)
+  pub cut_choose : (ask : Ask) (r : Result (Choice LeaseNote) (RoomError MarkNote)) → IfOk r (λ c. ChoseOk ask c) → IfErr r (λ e. ChoseErr e) → IfSome cut (λ x. x.0 ≡ lb)
   cut_choose ask (Ok c) ok err = cut_first ok.0 cut ok.1
   cut_choose ask (Err e) ok err = cut_first err.0 cut err.1
 
@@ -307,34 +313,34 @@ module _ (sizes : List ℕ) (before after : List Journal) (cut : Option (ℕ × 
 
   module _ (parts parts' : ℕ) (h h' : List (ℕ × ℕ)) where
     pub ok_choose : (ask : Ask) (r : Result (Choice LeaseNote) (RoomError MarkNote)) → parts' ≡ parts → IfOk r (λ c. ChoseOk ask c) → IfOk r (λ c. h' ≡ h ++ pairs_of lb c)
-        → IfOk r (λ c. (s f w : ℕ) → Chooses (λ lease. lease) (shared_desk sizes parts rs h a s f w) (shared_desk sizes parts' rs' h' a' s f w) lb session at ask c)
-    ok_choose ask (Ok c) same ok tickets = λ s f w.
-        subst (λ (n : ℕ). Chooses (λ lease. lease) (shared_desk sizes parts rs h a s f w) (shared_desk sizes n rs' h' a' s f w) lb session at ask c) (sym same)
-        (chooses_desk sizes parts (held ok.0 rs a) (held after rs' a') h h' s f w lb session at ask c ok.2 tickets)
+        → IfOk r (λ c. (s f w : ℕ) (m : Bool) → Chooses (λ lease. lease) (shared_desk sizes parts rs h a s f w m) (shared_desk sizes parts' rs' h' a' s f w m) lb session at ask c)
+    ok_choose ask (Ok c) same ok tickets = λ s f w m.
+        subst (λ (n : ℕ). Chooses (λ lease. lease) (shared_desk sizes parts rs h a s f w m) (shared_desk sizes n rs' h' a' s f w m) lb session at ask c) (sym same)
+        (chooses_desk sizes firsts parts (held ok.0 rs a) (held after rs' a') h h' s f w m lb session at ask c ok.2 ok.3 tickets)
     ok_choose ask (Err e) same ok tickets = tt
 
-    pub err_choose : (r : Result (Choice LeaseNote) (RoomError MarkNote)) → parts' ≡ parts → OnErr r ChoseErr
-        → IfErr r (λ e. (s f w f' w' : ℕ) → GainsDue (shared_desk sizes parts rs h a s f w) (shared_desk sizes parts' rs' h' a' s f' w') lb session at
-        (IsAskRefusal (shared_desk sizes parts rs h a s f w) lb at e))
+    pub err_choose : (r : Result (Choice LeaseNote) (RoomError MarkNote)) → parts' ≡ parts → IfErr r (λ e. ChoseErr e)
+        → IfErr r (λ e. (s f w f' w' : ℕ) (m : Bool) → GainsDue (shared_desk sizes parts rs h a s f w m) (shared_desk sizes parts' rs' h' a' s f' w' m) lb session at
+        (e ≡ room.NoMemory) (IsAskRefusal (λ mark. mark.numbers) at e))
     err_choose (Ok c) same err = tt
-    err_choose (Err e) same err = λ s f w f' w'.
-        subst (λ (n : ℕ). GainsDue (shared_desk sizes parts rs h a s f w) (shared_desk sizes n rs' h' a' s f' w') lb session at (IsAskRefusal (shared_desk sizes parts rs h a s f w) lb at e)) (sym same)
-        (due_desk sizes parts (held err.0 rs a) (held after rs' a') h h' s f w s f' w' lb session at e err.2)
+    err_choose (Err e) same err = λ s f w f' w' m.
+        subst (λ (n : ℕ). GainsDue (shared_desk sizes parts rs h a s f w m) (shared_desk sizes n rs' h' a' s f' w' m) lb session at (e ≡ room.NoMemory) (IsAskRefusal (λ mark. mark.numbers) at e)) (sym same)
+        (due_desk sizes firsts parts (held err.0 rs a) (held after rs' a') err.2 h h' s f w s f' w' m lb session at (e ≡ room.NoMemory) (IsAskRefusal (λ mark. mark.numbers) at e) err.3)
 
     pub ok_command : {T : Type 0} (command : Command) (r : Result T (AdminError MarkNote)) → parts' ≡ parts → OnOk r (DidOk command)
-        → OnOk r ((s f w : ℕ) → Commands (shared_desk sizes parts rs h a s f w) (shared_desk sizes parts' rs' h a' s f w) lb session at command)
-    ok_command command (Ok c) same ok = λ s f w.
-        subst (λ (n : ℕ). Commands (shared_desk sizes parts rs h a s f w) (shared_desk sizes n rs' h a' s f w) lb session at command) (sym same)
-        (commands_desk sizes parts (held ok.0 rs a) (held after rs' a') h s f w lb session at command ok.2)
+        → OnOk r ((s f w : ℕ) (m : Bool) → Commands (shared_desk sizes parts rs h a s f w m) (shared_desk sizes parts' rs' h a' s f w m) lb session at command)
+    ok_command command (Ok c) same ok = λ s f w m.
+        subst (λ (n : ℕ). Commands (shared_desk sizes parts rs h a s f w m) (shared_desk sizes n rs' h a' s f w m) lb session at command) (sym same)
+        (commands_desk sizes firsts parts (held ok.0 rs a) (held after rs' a') h s f w m lb session at command ok.2 ok.3)
     ok_command command (Err e) same ok = tt
 
     pub err_command : {T : Type 0} (command : Command) (r : Result T (AdminError MarkNote)) → parts' ≡ parts → IfErr r (λ e. DidErr command e)
-        → IfErr r (λ e. (s f w f' w' : ℕ) → GainsDue (shared_desk sizes parts rs h a s f w) (shared_desk sizes parts' rs' h' a' s f' w') lb session at
-        (IsCommandRefusal (shared_desk sizes parts rs h a s f w) lb at command e))
+        → IfErr r (λ e. (s f w f' w' : ℕ) (m : Bool) → GainsDue (shared_desk sizes parts rs h a s f w m) (shared_desk sizes parts' rs' h' a' s f' w' m) lb session at
+        (e ≡ admin.NoMemory) (IsCommandRefusal (λ mark. mark.numbers) at command e))
     err_command command (Ok c) same err = tt
-    err_command command (Err e) same err = λ s f w f' w'.
-        subst (λ (n : ℕ). GainsDue (shared_desk sizes parts rs h a s f w) (shared_desk sizes n rs' h' a' s f' w') lb session at (IsCommandRefusal (shared_desk sizes parts rs h a s f w) lb at command e)) (sym same)
-        (refused_desk sizes parts (held err.0 rs a) (held after rs' a') h h' s f w s f' w' lb session at command e err.2)
+    err_command command (Err e) same err = λ s f w f' w' m.
+        subst (λ (n : ℕ). GainsDue (shared_desk sizes parts rs h a s f w m) (shared_desk sizes n rs' h' a' s f' w' m) lb session at (e ≡ admin.NoMemory) (IsCommandRefusal (λ mark. mark.numbers) at command e)) (sym same)
+        (due_desk sizes firsts parts (held err.0 rs a) (held after rs' a') err.2 h h' s f w s f' w' m lb session at (e ≡ admin.NoMemory) (IsCommandRefusal (λ mark. mark.numbers) at command e) err.3)
 
 -- What a desk keeps after a choice, and after a command.
 pub kept_choose : (n lb : ℕ) (rs rs' : List Receipt) (h h' : List (ℕ × ℕ)) (parts parts' a a' room room' : ℕ) (r : Result (Choice LeaseNote) (RoomError MarkNote)) → lb < n
@@ -375,9 +381,9 @@ shared_none n rs rs' h h' parts a f room room' same same_held more is =
       roomy = let roomy : length rs + length h ≤ room = is.roomy in omega arith;
     }))
 
-pub none_desk : (sizes : List ℕ) (parts : ℕ) (rs rs' : List Receipt) (h h' : List (ℕ × ℕ)) (a s f w f' w' lb session at : ℕ) (account : List Receipt → Type 0) → rs' ≡ rs → account []
-    → GainsDue (shared_desk sizes parts rs h a s f w) (shared_desk sizes parts rs' h' a s f' w') lb session at account
-none_desk sizes parts rs rs' h h' a s f w f' w' lb session at account same none = record {
+pub none_desk : (sizes : List ℕ) (parts : ℕ) (rs rs' : List Receipt) (h h' : List (ℕ × ℕ)) (a s f w f' w' : ℕ) (m : Bool) (lb session at : ℕ) (wanting : Type 0) (account : Journal → List Receipt → Type 0)
+    → rs' ≡ rs → wanting → GainsDue (shared_desk sizes parts rs h a s f w m) (shared_desk sizes parts rs' h' a s f' w' m) lb session at wanting account
+none_desk sizes parts rs rs' h h' a s f w f' w' m lb session at wanting account same wants = record {
   due = [];
   is_due = tt;
   gains = record {
@@ -385,19 +391,18 @@ none_desk sizes parts rs rs' h h' a s f w f' w' lb session at account same none 
     own = All-nil (IsOwn lb session at);
     added = omega arith;
     books = refl;
-    next = untold lb (λ b. AreNextAt b at []);
   };
-  account = none;
+  why = inr (refl, wants);
 }
 
 -- A Return.
-pub back_ok : {E : Type 0} (sizes : List ℕ) (before after : List Journal) (rs rs' : List Receipt) (parts parts' a a' session at : ℕ) (lease : LeaseNote) (outcome : Outcome) (r : Result (Unit {0}) E)
-    → parts' ≡ parts → OnOk r ((x : Receipt) × (x.entry.call ≡ call.Return lease.ticket outcome) × HoldGains (held before rs a) (held after rs' a') lease.lb session at (x ∷ []))
-    → OnOk r ((s f w : ℕ) (h h' : List (ℕ × ℕ)) → TakesBack (shared_desk sizes parts rs h a s f w) (shared_desk sizes parts' rs' h' a' s f w) session at lease outcome)
-back_ok sizes before after rs rs' parts parts' a a' session at lease outcome (Ok x) same ok = λ s f w h h'.
-    subst (λ (n : ℕ). TakesBack (shared_desk sizes parts rs h a s f w) (shared_desk sizes n rs' h' a' s f w) session at lease outcome) (sym same)
-    (takes_back_desk sizes parts (held before rs a) (held after rs' a') h h' s f w session at lease outcome ok.0 ok.1 ok.2)
-back_ok sizes before after rs rs' parts parts' a a' session at lease outcome (Err e) same ok = tt
+pub back_ok : {E : Type 0} (sizes firsts : List ℕ) (before after : List Journal) (rs rs' : List Receipt) (parts parts' a a' session at : ℕ) (lease : LeaseNote) (outcome : Outcome) (r : Result (Unit {0}) E)
+    → parts' ≡ parts → AreSited sizes firsts before → OnOk r ((x : Receipt) × (x.entry.call ≡ call.Return lease.ticket outcome) × HoldGains (held before rs a) (held after rs' a') lease.lb session at (x ∷ []))
+    → OnOk r ((s f w : ℕ) (m : Bool) (h h' : List (ℕ × ℕ)) → TakesBack (shared_desk sizes parts rs h a s f w m) (shared_desk sizes parts' rs' h' a' s f w m) session at lease outcome)
+back_ok sizes firsts before after rs rs' parts parts' a a' session at lease outcome (Ok x) same are ok = λ s f w m h h'.
+    subst (λ (n : ℕ). TakesBack (shared_desk sizes parts rs h a s f w m) (shared_desk sizes n rs' h' a' s f w m) session at lease outcome) (sym same)
+    (takes_back_desk sizes firsts parts (held before rs a) (held after rs' a') h h' s f w m session at lease outcome ok.0 are ok.1 ok.2)
+back_ok sizes firsts before after rs rs' parts parts' a a' session at lease outcome (Err e) same are ok = tt
 
 pub back_length : {E : Type 0} (before after : List Journal) (rs rs' : List Receipt) (a a' session at : ℕ) (lease : LeaseNote) (outcome : Outcome) (r : Result (Unit {0}) E)
     → OnOk r ((x : Receipt) × (x.entry.call ≡ call.Return lease.ticket outcome) × HoldGains (held before rs a) (held after rs' a') lease.lb session at (x ∷ []))
@@ -421,90 +426,81 @@ pub holds_all : (held : List (ℕ × ℕ)) (p : ℕ × ℕ) (n : ℕ) → length
 holds_all held p n all = rw (drop_all n held all) refl
 
 -- A choice and a command with what they count.
-full_more : {T : Type 0} (f f' : ℕ) (r : Result T (RoomError MarkNote)) → CountsFull f f' r → f ≤ f'
-full_more f f' (Ok c) counts = omega arith
-full_more f f' (Err (room.Full mark)) counts = counts.no_fewer
-full_more f f' (Err room.NoMemory) counts = omega arith
-
-refusal_more : {T : Type 0} (f f' w w' : ℕ) (r : Result T (AdminError MarkNote)) → CountsRefusal f f' w w' r → (f ≤ f') × (w ≤ w')
-refusal_more f f' w w' (Ok c) counts = (let x = counts.0 in omega arith, let y = counts.1 in omega arith)
-refusal_more f f' w w' (Err admin.UnknownMember) counts = (let x = counts.0 in omega arith, let y = counts.1 in omega arith)
-refusal_more f f' w w' (Err admin.BadValue) counts = (let x = counts.0 in omega arith, let y = counts.1 in omega arith)
-refusal_more f f' w w' (Err (admin.TooWide mark)) counts = (let x = counts.0 in omega arith, counts.1.no_fewer)
-refusal_more f f' w w' (Err (admin.Full mark)) counts = (counts.0.no_fewer, let y = counts.1 in omega arith)
-refusal_more f f' w w' (Err admin.NoMemory) counts = (let x = counts.0 in omega arith, let y = counts.1 in omega arith)
-
-module _ (sizes : List ℕ) (parts parts' : ℕ) (rs rs' : List Receipt) (h h' : List (ℕ × ℕ)) (a a' s f f' w w' lb session at : ℕ) where
+module _ (sizes : List ℕ) (parts parts' : ℕ) (rs rs' : List Receipt) (h h' : List (ℕ × ℕ)) (a a' s f f' w w' : ℕ) (m : Bool) (lb session at : ℕ) where
   pub final_ok : (ask : Ask) (r : Result (Choice LeaseNote) (RoomError MarkNote)) → CountsFull f f' r
-      → IfOk r (λ c. (s f w : ℕ) → Chooses (λ lease. lease) (shared_desk sizes parts rs h a s f w) (shared_desk sizes parts' rs' h' a' s f w) lb session at ask c)
-      → IfOk r (λ c. Chooses (λ lease. lease) (shared_desk sizes parts rs h a s f w) (shared_desk sizes parts' rs' h' a' s f' w) lb session at ask c)
+      → IfOk r (λ c. (s f w : ℕ) (m : Bool) → Chooses (λ lease. lease) (shared_desk sizes parts rs h a s f w m) (shared_desk sizes parts' rs' h' a' s f w m) lb session at ask c)
+      → IfOk r (λ c. Chooses (λ lease. lease) (shared_desk sizes parts rs h a s f w m) (shared_desk sizes parts' rs' h' a' s f' w m) lb session at ask c)
   final_ok ask (Ok c) counts ok =
-      subst (λ (n : ℕ). Chooses (λ lease. lease) (shared_desk sizes parts rs h a s f w) (shared_desk sizes parts' rs' h' a' s n w) lb session at ask c) (sym counts) (ok s f w)
+      subst (λ (n : ℕ). Chooses (λ lease. lease) (shared_desk sizes parts rs h a s f w m) (shared_desk sizes parts' rs' h' a' s n w m) lb session at ask c) (sym counts) (ok s f w m)
   final_ok ask (Err e) counts ok = tt
 
   pub final_err : (r : Result (Choice LeaseNote) (RoomError MarkNote)) → CountsFull f f' r → OnErr r (h' ≡ h)
-      → IfErr r (λ e. (s f w f' w' : ℕ) → GainsDue (shared_desk sizes parts rs h a s f w) (shared_desk sizes parts' rs' h' a' s f' w') lb session at
-      (IsAskRefusal (shared_desk sizes parts rs h a s f w) lb at e))
-      → IfErr r (λ e. RefusesChoice (shared_desk sizes parts rs h a s f w) (shared_desk sizes parts' rs' h' a' s f' w) lb session at e)
+      → IfErr r (λ e. (s f w f' w' : ℕ) (m : Bool) → GainsDue (shared_desk sizes parts rs h a s f w m) (shared_desk sizes parts' rs' h' a' s f' w' m) lb session at
+      (e ≡ room.NoMemory) (IsAskRefusal (λ mark. mark.numbers) at e))
+      → IfErr r (λ e. RefusesChoice (λ mark. mark.numbers) (shared_desk sizes parts rs h a s f w m) (shared_desk sizes parts' rs' h' a' s f' w m) lb session at e)
   final_err (Ok c) counts same err = tt
   final_err (Err (room.Full mark)) counts same err = record {
-    gains = err s f w f' w;
+    gains = err s f w f' w m;
     held = same;
-    full = λ m is. counts.rose;
+    full = λ mark' is. counts;
     wanted = λ is. absurd cc;
     stray = refl;
     wide = refl;
+    met = refl;
   }
   final_err (Err room.NoMemory) counts same err = record {
-    gains = err s f w f' w;
+    gains = err s f w f' w m;
     held = same;
-    full = λ m is. absurd cc;
+    full = λ mark' is. absurd cc;
     wanted = λ is. counts;
     stray = refl;
     wide = refl;
+    met = refl;
   }
 
-  pub full_kept : {T : Type 0} (r : Result T (RoomError MarkNote)) → parts' ≡ parts → CountsFull f f' r
-      → KeepsDesk (shared_desk sizes parts rs h a s f w) (shared_desk sizes parts' rs' h' a' s f' w)
-  full_kept r same counts = record {
+  pub full_kept : parts' ≡ parts → f ≤ f'
+      → KeepsDesk (shared_desk sizes parts rs h a s f w m) (shared_desk sizes parts' rs' h' a' s f' w m)
+  full_kept same more = record {
     caller = refl;
     sizes = refl;
     parts = ap (λ (n : ℕ). Some n) same;
     strays = omega arith;
-    fulls = full_more f f' r counts;
+    fulls = more;
     wides = omega arith;
+    met = λ is. is;
     sound_before = none_sound sizes;
     sound = none_sound sizes;
   }
 
   pub final_done : {T : Type 0} (command : Command) (r : Result T (AdminError MarkNote)) → CountsRefusal f f' w w' r
-      → OnOk r ((s f w : ℕ) → Commands (shared_desk sizes parts rs h a s f w) (shared_desk sizes parts' rs' h' a' s f w) lb session at command)
-      → OnOk r (Commands (shared_desk sizes parts rs h a s f w) (shared_desk sizes parts' rs' h' a' s f' w') lb session at command)
+      → OnOk r ((s f w : ℕ) (m : Bool) → Commands (shared_desk sizes parts rs h a s f w m) (shared_desk sizes parts' rs' h' a' s f w m) lb session at command)
+      → OnOk r (Commands (shared_desk sizes parts rs h a s f w m) (shared_desk sizes parts' rs' h' a' s f' w' m) lb session at command)
   final_done command (Ok c) counts ok =
-      subst (λ (n : ℕ). Commands (shared_desk sizes parts rs h a s f w) (shared_desk sizes parts' rs' h' a' s n w') lb session at command) (sym counts.0)
-      (subst (λ (n : ℕ). Commands (shared_desk sizes parts rs h a s f w) (shared_desk sizes parts' rs' h' a' s f n) lb session at command) (sym counts.1) (ok s f w))
+      subst (λ (n : ℕ). Commands (shared_desk sizes parts rs h a s f w m) (shared_desk sizes parts' rs' h' a' s n w' m) lb session at command) (sym counts.0)
+      (subst (λ (n : ℕ). Commands (shared_desk sizes parts rs h a s f w m) (shared_desk sizes parts' rs' h' a' s f n m) lb session at command) (sym counts.1) (ok s f w m))
   final_done command (Err e) counts ok = tt
 
   pub final_refused : {T : Type 0} (command : Command) (r : Result T (AdminError MarkNote)) → CountsRefusal f f' w w' r
-      → IfErr r (λ e. (s f w f' w' : ℕ) → GainsDue (shared_desk sizes parts rs h a s f w) (shared_desk sizes parts' rs' h' a' s f' w') lb session at
-      (IsCommandRefusal (shared_desk sizes parts rs h a s f w) lb at command e))
-      → IfErr r (λ e. RefusesCommand (shared_desk sizes parts rs h a s f w) (shared_desk sizes parts' rs' h' a' s f' w') lb session at command e)
+      → IfErr r (λ e. (s f w f' w' : ℕ) (m : Bool) → GainsDue (shared_desk sizes parts rs h a s f w m) (shared_desk sizes parts' rs' h' a' s f' w' m) lb session at
+      (e ≡ admin.NoMemory) (IsCommandRefusal (λ mark. mark.numbers) at command e))
+      → IfErr r (λ e. RefusesCommand (λ mark. mark.numbers) (shared_desk sizes parts rs h a s f w m) (shared_desk sizes parts' rs' h' a' s f' w' m) lb session at command e)
   final_refused command (Ok c) counts err = tt
-  final_refused command (Err admin.UnknownMember) counts err = record { gains = err s f w f' w'; counted = counts }
-  final_refused command (Err admin.BadValue) counts err = record { gains = err s f w f' w'; counted = counts }
-  final_refused command (Err (admin.TooWide mark)) counts err = record { gains = err s f w f' w'; counted = (counts.0, counts.1.rose) }
-  final_refused command (Err (admin.Full mark)) counts err = record { gains = err s f w f' w'; counted = (counts.0.rose, counts.1) }
-  final_refused command (Err admin.NoMemory) counts err = record { gains = err s f w f' w'; counted = counts }
+  final_refused command (Err admin.UnknownMember) counts err = record { gains = err s f w f' w' m; counted = counts }
+  final_refused command (Err admin.BadValue) counts err = record { gains = err s f w f' w' m; counted = counts }
+  final_refused command (Err (admin.TooWide mark)) counts err = record { gains = err s f w f' w' m; counted = counts }
+  final_refused command (Err (admin.Full mark)) counts err = record { gains = err s f w f' w' m; counted = counts }
+  final_refused command (Err admin.NoMemory) counts err = record { gains = err s f w f' w' m; counted = counts }
 
-  pub refusal_kept : {T : Type 0} (r : Result T (AdminError MarkNote)) → parts' ≡ parts → CountsRefusal f f' w w' r
-      → KeepsDesk (shared_desk sizes parts rs h a s f w) (shared_desk sizes parts' rs' h' a' s f' w')
-  refusal_kept r same counts = record {
+  pub refusal_kept : parts' ≡ parts → f ≤ f' → w ≤ w'
+      → KeepsDesk (shared_desk sizes parts rs h a s f w m) (shared_desk sizes parts' rs' h' a' s f' w' m)
+  refusal_kept same more more' = record {
     caller = refl;
     sizes = refl;
     parts = ap (λ (n : ℕ). Some n) same;
     strays = omega arith;
-    fulls = (refusal_more f f' w w' r counts).0;
-    wides = (refusal_more f f' w w' r counts).1;
+    fulls = more;
+    wides = more';
+    met = λ is. is;
     sound_before = none_sound sizes;
     sound = none_sound sizes;
   }
@@ -535,3 +531,16 @@ shared_stray n rs rs' h h' p parts parts' a a' f room room' is same_receipts sam
       known = subst (λ (xs : List (ℕ × ℕ)). AreKnown n xs) (sym without) (known-without n h p is.known);
       roomy = let roomy : length rs + length h ≤ room = is.roomy in omega arith;
     }
+
+-- What is looked at.
+pub shows_shared : {E : Type 0} (sizes : List ℕ) (parts : ℕ) (rs : List Receipt) (h : List (ℕ × ℕ)) (a s f w : ℕ) (m : Bool) (lb : ℕ) (r : Result ViewNote E)
+    → IfOk r (λ v. (b : Journal) × IsFound sizes None lb b × IsPresent b.rules b.opening (past_of b) v.view) → IfOk r (λ v. length v.view.rows ≡ slice_index sizes lb)
+    → IfOk r (λ v. Shows (shared_desk sizes parts rs h a s f w m) lb v.view)
+shows_shared sizes parts rs h a s f w m lb (Ok v) present rows = record {
+  book = present.0;
+  found = present.1;
+  rows = rows;
+  present = present.2;
+  sound = none_sound sizes;
+}
+shows_shared sizes parts rs h a s f w m lb (Err e) present rows = tt

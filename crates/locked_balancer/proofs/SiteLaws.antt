@@ -1,6 +1,6 @@
 -- The Books of a Site after a call on one of them.
-use Rattle.std.proofs.Common.{◌≡◌, ℕ, zero, suc, ◌+◌, ◌*◌, ◌^◌, ◌<◌, ◌≤◌, true, false, cond, List, [], ◌∷◌, ◌++◌, length, Option, Some, None, get_or, refl, sym, ap, ◌∙◌, subst, inl, inr, arith}
-use Rattle.std.specs.Prelude.{◌==◌, IfSome, slice_get, slice_index, slice_set, sum_by, Result, Ok, Err}
+use Rattle.std.proofs.Common.{◌≡◌, ℕ, zero, suc, ◌+◌, ◌*◌, ◌^◌, ◌<◌, ◌≤◌, true, false, cond, List, [], ◌∷◌, length, Option, Some, None, get_or, refl, sym, ap, ◌∙◌, subst, inl, inr, arith}
+use Rattle.std.specs.Prelude.{◌==◌, IfSome, slice_get, slice_index, slice_set, Err}
 use Rattle.std.specs.List.{All, AllByRecursion as ByRecursion}
 use Rattle.std.proofs.lemmas.Bool.{cases_Bool, eq-eqb, eqb-true}
 use Rattle.std.proofs.lemmas.List.{length-set}
@@ -35,7 +35,7 @@ use Rattle.balancer_core.specs.Journal.{AddsEntry, IsFullUnless, IsSound, Journa
 use Rattle.balancer_core.specs.PlainDesks.{AreLegal, AreModern}
 use Rattle.balancer_core.specs.Leases.{IsLeaseOf}
 use Rattle.balancer_core.specs.declared.book.Lease.{Lease}
-use Rattle.balancer_core.specs.ToldBooks.{IsNextAt, IsNoneDue, grown_by, sizes_of}
+use Rattle.balancer_core.specs.ToldBooks.{IsNoneDue, grown_by, sizes_of}
 use Rattle.balancer_core.specs.declared.receipt.Receipt.{Receipt}
 use Rattle.balancer_core.proofs.PlainLaws.{legal-hold, modern-hold, size-at}
 use Rattle.balancer_core.proofs.ToldLaws.{get-set, get-set_other, past-one, set-found, some_is}

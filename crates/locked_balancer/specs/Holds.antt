@@ -16,9 +16,8 @@ use Rattle.jk_model.specs.declared.refusal.RoomError.{RoomError}
 use Rattle.jk_model.specs.declared.refusal.RoomError.TheVariants as room
 use Rattle.jk_model.specs.declared.segment.Segment.{Segment}
 use Rattle.balancer_core.specs.Commanded.{IsKnown}
-use Rattle.balancer_core.specs.Desks.{IsDue, IsOwn, IsRefusal, LeaseNote, refused_first}
+use Rattle.balancer_core.specs.Desks.{IsAskRefusal, IsCommandRefusal, IsDue, IsMaintained, IsOwn, LeaseNote}
 use Rattle.balancer_core.specs.Journal.{Journal, tickets_out}
-use Rattle.balancer_core.specs.PlainDesks.{IsDueDone}
 use Rattle.balancer_core.specs.ToldBooks.{AreNextAt, grown_by}
 use Rattle.balancer_core.specs.declared.desk.Choice.{Choice}
 use Rattle.balancer_core.specs.declared.desk.Choice.TheVariants as choice
@@ -67,25 +66,36 @@ pub record HoldGains (old new : Held) (lb session at : ℕ) (gained : List Recei
   pub own : All (IsOwn lb session at) gained
   pub amount : new.amount ≡ old.amount + length gained
 
--- A Maintain or nothing.
-pub record HoldGainsDue (old new : Held) (lb session at : ℕ) : Type 0 where
+-- A Maintain or nothing, by this account of the journal that was found; or nothing for want of memory.
+pub record HoldGainsDue (old new : Held) (lb session at : ℕ) (Wanting : Type 0) (Account : Journal → List Receipt → Type 0) : Type 0 where
   pub due : List Receipt
   pub is_due : IsDue due
   pub gains : HoldGains old new lb session at due
+  pub why : Account gains.book due ⊎ ((due ≡ []) × Wanting)
+
+-- A hold that refused an ask, or the Maintain before it.
+abbrev pub HoldDenies : (old new : Held) → (lb session at : ℕ) → RoomError MarkNote → Type 0
+HoldDenies old new lb session at error =
+    HoldGainsDue old new lb session at (error ≡ room.NoMemory) (IsAskRefusal (λ mark. mark.numbers) at error)
+
+-- A hold that refused a command, or the Maintain before it.
+abbrev pub HoldRefuses : (old new : Held) → (lb session at : ℕ) → Command → AdminError MarkNote → Type 0
+HoldRefuses old new lb session at command error =
+    HoldGainsDue old new lb session at (error ≡ admin.NoMemory) (IsCommandRefusal (λ mark. mark.numbers) at command error)
 
 -- A Maintain exactly where one was due.
 pub record HoldMaintains (old new : Held) (lb session at : ℕ) : Type 0 where
   pub due : List Receipt
   pub is_due : IsDue due
   pub gains : HoldGains old new lb session at due
-  pub maintained : IsDueDone gains.book at due
+  pub maintained : IsMaintained gains.book at due
 
 -- So, and then the entry of this receipt.
 pub record HoldGainsLast (old new : Held) (lb session at : ℕ) (last : Receipt) : Type 0 where
   pub due : List Receipt
   pub is_due : IsDue due
   pub gains : HoldGains old new lb session at (due ++ last ∷ [])
-  pub maintained : IsDueDone gains.book at due
+  pub maintained : IsMaintained gains.book at due
 
 -- What an answer of balancer lb says.
 abbrev pub IsSiteChoice : (lb : ℕ) → Answer → Choice LeaseNote → Type 0
@@ -114,16 +124,9 @@ pub record HoldCommands (sizes : List ℕ) (old new : Held) (lb session at : ℕ
   pub last : Receipt
   pub gains : HoldGainsLast old new lb session at last
   pub commanded : last.entry.call ≡ call.Admin command
+  pub done : last.entry.answer ≡ answer.Done
   pub named : IsKnown (slice_index sizes lb) command
   pub values : HasValues command
-
--- A hold that refused a command, or the Maintain before it.
-pub record HoldRefuses (sizes : List ℕ) (old new : Held) (lb session at : ℕ) (command : Command) (error : AdminError MarkNote) : Type 0 where
-  pub due : List Receipt
-  pub is_due : IsDue due
-  pub gains : HoldGains old new lb session at due
-  pub why : IsRefusal (slice_index sizes lb) command error
-      ⊎ ((first : RoomError MarkNote) × (error ≡ refused_first first) × (due ≡ []))
 
 -- The journal of balancer lb was cut before, where there is a segment.
 abbrev pub CutsFirst : (old mid : List Journal) (lb : ℕ) → Option (ℕ × Segment) → Type 0

@@ -1,13 +1,16 @@
 -- What is told of a desk over a Site that is shared, and what it keeps.
-use Rattle.std.specs.Prelude.{◌≡◌, ℕ, suc, true, false, drop, slice_index_or, ◌+◌, ◌^◌, ◌<◌, ◌≤◌, ◌⊎◌, List, [], ◌∷◌, length, Option, Some, None, IfSome, Result, Ok, Err}
+use Rattle.std.specs.Prelude.{◌≡◌, ℕ, suc, true, false, drop, slice_index_or, ◌+◌, ◌^◌, ◌<◌, ◌≤◌, ◌⊎◌, ◌↔◌, Bool, List, [], ◌∷◌, length, Option, Some, None, IfSome, IsSome, Result, Ok, Err}
 use Rattle.std.specs.List.{All}
 use Rattle.jk_io.specs.Told.{Rose, appended}
+use Rattle.jk_model.specs.Legal.{IsLegal}
 use Rattle.jk_model.specs.declared.refusal.AdminError.{AdminError}
 use Rattle.jk_model.specs.declared.refusal.AdminError.TheVariants as admin
 use Rattle.jk_model.specs.declared.refusal.RoomError.{RoomError}
 use Rattle.jk_model.specs.declared.refusal.RoomError.TheVariants as room
 use Rattle.jk_model.specs.declared.segment.Segment.{Segment}
-use Rattle.balancer_core.specs.Desks.{DeskState, LeaseNote, holds, is_pair}
+use Rattle.balancer_core.specs.Desks.{DeskState, LeaseNote, RisesByOne, holds, is_pair}
+use Rattle.balancer_core.specs.Journal.{IsSegmentOf, Journal}
+use Rattle.balancer_core.specs.ToldBooks.{IsFound}
 use Rattle.balancer_core.specs.declared.desk.Choice.{Choice}
 use Rattle.balancer_core.specs.declared.desk.Choice.TheVariants as choice
 use Rattle.balancer_core.specs.declared.receipt.Receipt.{Receipt}
@@ -23,8 +26,8 @@ pub record SharedState (S : Type 0) : Type 0 where
   pub met : Option StrayNote
 
 -- What is told as of each desk. The Books behind the lock aren't told.
-abbrev pub shared_desk : (sizes : List ℕ) (parts : ℕ) → List Receipt → (held : List (ℕ × ℕ)) → (amount strays fulls wides : ℕ) → DeskState
-shared_desk sizes parts receipts held amount strays fulls wides = record {
+abbrev pub shared_desk : (sizes : List ℕ) (parts : ℕ) → List Receipt → (held : List (ℕ × ℕ)) → (amount strays fulls wides : ℕ) → (met : Bool) → DeskState
+shared_desk sizes parts receipts held amount strays fulls wides met = record {
   receipts = receipts;
   held = held;
   added = amount;
@@ -34,13 +37,9 @@ shared_desk sizes parts receipts held amount strays fulls wides = record {
   strays = strays;
   fulls = fulls;
   wides = wides;
+  met = met;
   books = None;
 }
-
--- A count that rose by one, or stood at its last value.
-pub record CountsOne (before now : ℕ) : Type 0 where
-  pub rose : Rose before now
-  pub no_fewer : before ≤ now
 
 -- The pair of the ticket that a choice of balancer lb made.
 abbrev pub pairs_of : (lb : ℕ) → Choice LeaseNote → List (ℕ × ℕ)
@@ -51,17 +50,30 @@ pairs_of lb choice.Forced = []
 -- Where a segment that was cut went: it was kept, or the shelf failed, or it wanted memory, which is counted.
 pub record IsPutAway {S : Type 0} (shelved : S → Option (List (ℕ × Segment))) (faults : S → ℕ) (old new : S) (wants wants' : ℕ) (cut : ℕ × Segment) : Type 0 where
   pub went : ((shelved new ≡ appended (shelved old) (cut ∷ [])) × (wants' ≡ wants))
-      ⊎ ((shelved new ≡ shelved old) × ((Rose (faults old) (faults new) × (wants' ≡ wants)) ⊎ CountsOne wants wants'))
+      ⊎ ((shelved new ≡ shelved old) × ((Rose (faults old) (faults new) × (wants' ≡ wants)) ⊎ RisesByOne wants wants'))
   pub no_fewer : faults old ≤ faults new
 
 abbrev pub PutsAway : {S : Type 0} → (S → Option (List (ℕ × Segment))) → (S → ℕ) → (old new : S) → (wants wants' : ℕ) → Option (ℕ × Segment) → Type 0
 PutsAway shelved faults old new wants wants' None = (new ≡ old) × (wants' ≡ wants)
 PutsAway shelved faults old new wants wants' (Some cut) = IsPutAway shelved faults old new wants wants' cut
 
+-- The journal that a hold had at first: it was cut exactly where it had come to `cut_at` entries, and its segment is legal.
+pub record CutsWhen (sizes : List ℕ) (cut_at lb : ℕ) (cut : Option (ℕ × Segment)) : Type 0 where
+  pub before : Journal
+  pub found : IsFound sizes None lb before
+  pub when : IsSome cut ↔ ((0 < cut_at) × (cut_at ≤ length before.entries))
+  pub whole : IfSome cut (λ s. IsSegmentOf before s.1)
+  pub legal : IfSome cut (λ s. IsLegal s.1.rules s.1.opening s.1.entries)
+
+-- So, or nothing was cut for want of memory.
+abbrev pub CutsOrWants : (sizes : List ℕ) → (cut_at lb : ℕ) → Option (ℕ × Segment) → (Wanting : Type 0) → Type 0
+CutsOrWants sizes cut_at lb cut Wanting = CutsWhen sizes cut_at lb cut ⊎ ((cut ≡ None) × Wanting)
+
 -- At most one segment of balancer lb was put away, and nothing else changed beside what each desk tells.
-pub record PutsAwayOf {S : Type 0} (shelved : S → Option (List (ℕ × Segment))) (faults : S → ℕ) (lb : ℕ) (old new : SharedState S) : Type 0 where
+pub record PutsAwayOf {S : Type 0} (shelved : S → Option (List (ℕ × Segment))) (faults : S → ℕ) (sizes : List ℕ) (cut_at lb : ℕ) (old new : SharedState S) (Wanting : Type 0) : Type 0 where
   pub cut : Option (ℕ × Segment)
   pub of : IfSome cut (λ s. s.0 ≡ lb)
+  pub when : CutsOrWants sizes cut_at lb cut Wanting
   pub put : PutsAway shelved faults old.shelf new.shelf old.wants new.wants cut
   pub forgotten : new.forgotten ≡ old.forgotten
   pub met : new.met ≡ old.met
@@ -87,7 +99,7 @@ pub record IsShared (n : ℕ) (receipts : List Receipt) (held : List (ℕ × ℕ
 -- Just a Full is counted.
 abbrev pub CountsFull : {T : Type 0} → (before now : ℕ) → Result T (RoomError MarkNote) → Type 0
 CountsFull before now (Ok done) = now ≡ before
-CountsFull before now (Err (room.Full mark)) = CountsOne before now
+CountsFull before now (Err (room.Full mark)) = RisesByOne before now
 CountsFull before now (Err room.NoMemory) = now ≡ before
 
 -- Just a Full and a TooWide are counted, each by its own count.
@@ -95,8 +107,8 @@ abbrev pub CountsRefusal : {T : Type 0} → (fulls fulls' wides wides' : ℕ) �
 CountsRefusal fulls fulls' wides wides' (Ok done) = (fulls' ≡ fulls) × (wides' ≡ wides)
 CountsRefusal fulls fulls' wides wides' (Err admin.UnknownMember) = (fulls' ≡ fulls) × (wides' ≡ wides)
 CountsRefusal fulls fulls' wides wides' (Err admin.BadValue) = (fulls' ≡ fulls) × (wides' ≡ wides)
-CountsRefusal fulls fulls' wides wides' (Err (admin.TooWide mark)) = (fulls' ≡ fulls) × CountsOne wides wides'
-CountsRefusal fulls fulls' wides wides' (Err (admin.Full mark)) = CountsOne fulls fulls' × (wides' ≡ wides)
+CountsRefusal fulls fulls' wides wides' (Err (admin.TooWide mark)) = (fulls' ≡ fulls) × RisesByOne wides wides'
+CountsRefusal fulls fulls' wides wides' (Err (admin.Full mark)) = RisesByOne fulls fulls' × (wides' ≡ wides)
 CountsRefusal fulls fulls' wides wides' (Err admin.NoMemory) = (fulls' ≡ fulls) × (wides' ≡ wides)
 
 -- The first stray stays until it is taken.

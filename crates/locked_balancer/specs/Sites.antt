@@ -1,6 +1,5 @@
 -- The Books of a Site, and what its calls do with them.
 use Rattle.std.specs.Prelude.{◌≡◌, ℕ, ◌+◌, ◌≤◌, List, [], ◌∷◌, length, map, sum_by, Some, slice_get, slice_index, slice_set}
-use Rattle.std.specs.List.{All}
 use Rattle.jk_model.specs.declared.journal.Call.{Call}
 use Rattle.balancer_core.specs.Desks.{IsOwn}
 use Rattle.balancer_core.specs.Journal.{Journal, next_number}

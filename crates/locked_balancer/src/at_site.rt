@@ -1,17 +1,21 @@
 //! One hold of the lock, over what a desk keeps: its receipts, the pairs that it holds, and its share.
-ghost use Rattle.std.specs.Prelude.{◌≡◌, ℕ, List, ◌++◌, ◌+◌, ◌<◌, ◌≤◌, ◌^◌, true, length, slice_index, vec_len, vec_capacity, IfOk, IfErr, IfSome, OnOk, OnErr};
+ghost use Rattle.std.specs.Prelude.{◌≡◌, ℕ, Bool, List, None, ◌++◌, ◌+◌, ◌<◌, ◌≤◌, ◌^◌, true, length, slice_index, vec_len, vec_capacity, IfOk, IfErr, IfSome, IsErrOf, OnOk, OnErr};
+ghost use Rattle.jk_model.specs.Present.{IsPresent};
+ghost use Rattle.balancer_core.specs.Journal.{Journal, past_of};
+ghost use Rattle.balancer_core.specs.ToldBooks.{IsFound};
 ghost use Rattle.balancer_core.specs.Desks.{
   Chooses,
   Commands,
   GainsDue,
   IsAskRefusal,
   IsCommandRefusal,
+  IsNotOut,
   TakesBack,
   is_pair,
   without_last,
 };
 ghost use Rattle.locked_balancer.specs.Holds.{IsAdminMark, IsRoomMark};
-ghost use Rattle.locked_balancer.specs.SharedDesks.{IsLastPlace, IsShared, pairs_of, shared_desk};
+ghost use Rattle.locked_balancer.specs.SharedDesks.{CutsOrWants, IsLastPlace, IsShared, pairs_of, shared_desk};
 
 use crate::locked::Cut;
 use crate::shared_site::SharedSite;
@@ -38,15 +42,16 @@ pub(crate) fn choose_at<'r, L: SiteName, R: Wait>(
     requires part { 0 < share.old.parts }
     ensures kept { (n : ℕ) → IsShared (length L.sizes) receipts.old.items held.old.items share.old.parts share.old.amount n (vec_capacity receipts.old)
         → IsShared (length L.sizes) receipts.new.items held.new.items share.new.parts share.new.amount n (vec_capacity receipts.new) }
-    ensures ok { IfOk result.1 (λ c. (s f w : ℕ) → Chooses (λ lease. lease)
-        (shared_desk L.sizes share.old.parts receipts.old.items held.old.items share.old.amount s f w)
-        (shared_desk L.sizes share.new.parts receipts.new.items held.new.items share.new.amount s f w) lb session at ask.now c) }
-    ensures err { IfErr result.1 (λ e. (s f w f' w' : ℕ) → GainsDue
-        (shared_desk L.sizes share.old.parts receipts.old.items held.old.items share.old.amount s f w)
-        (shared_desk L.sizes share.new.parts receipts.new.items held.new.items share.new.amount s f' w') lb session at
-        (IsAskRefusal (shared_desk L.sizes share.old.parts receipts.old.items held.old.items share.old.amount s f w) lb at e)) }
+    ensures ok { IfOk result.1 (λ c. (s f w : ℕ) (m : Bool) → Chooses (λ lease. lease)
+        (shared_desk L.sizes share.old.parts receipts.old.items held.old.items share.old.amount s f w m)
+        (shared_desk L.sizes share.new.parts receipts.new.items held.new.items share.new.amount s f w m) lb session at ask.now c) }
+    ensures err { IfErr result.1 (λ e. (s f w f' w' : ℕ) (m : Bool) → GainsDue
+        (shared_desk L.sizes share.old.parts receipts.old.items held.old.items share.old.amount s f w m)
+        (shared_desk L.sizes share.new.parts receipts.new.items held.new.items share.new.amount s f' w' m) lb session at
+        (e ≡ RoomError.NoMemory) (IsAskRefusal (λ mark. mark.numbers) at e)) }
     ensures held { OnErr result.1 (held.new.items ≡ held.old.items) }
     ensures mark { IfErr result.1 (IsRoomMark lb 2) }
+    ensures when { CutsOrWants L.sizes L.cut_at lb result.0 (IsErrOf result.1 RoomError.NoMemory) }
     ensures cut { IfSome result.0 (λ s. s.0 ≡ lb) }
     ensures parts { share.new.parts ≡ share.old.parts }
 {
@@ -108,14 +113,15 @@ pub(crate) fn command_at<'r, L: SiteName, R: Wait>(
     requires part { 0 < share.old.parts }
     ensures kept { (n : ℕ) → IsShared (length L.sizes) receipts.old.items held.now share.old.parts share.old.amount n (vec_capacity receipts.old)
         → IsShared (length L.sizes) receipts.new.items held.now share.new.parts share.new.amount n (vec_capacity receipts.new) }
-    ensures ok { OnOk result.1 ((s f w : ℕ) → Commands
-        (shared_desk L.sizes share.old.parts receipts.old.items held.now share.old.amount s f w)
-        (shared_desk L.sizes share.new.parts receipts.new.items held.now share.new.amount s f w) lb session at command.now) }
-    ensures err { IfErr result.1 (λ e. (s f w f' w' : ℕ) → GainsDue
-        (shared_desk L.sizes share.old.parts receipts.old.items held.now share.old.amount s f w)
-        (shared_desk L.sizes share.new.parts receipts.new.items held.now share.new.amount s f' w') lb session at
-        (IsCommandRefusal (shared_desk L.sizes share.old.parts receipts.old.items held.now share.old.amount s f w) lb at command.now e)) }
+    ensures ok { OnOk result.1 ((s f w : ℕ) (m : Bool) → Commands
+        (shared_desk L.sizes share.old.parts receipts.old.items held.now share.old.amount s f w m)
+        (shared_desk L.sizes share.new.parts receipts.new.items held.now share.new.amount s f w m) lb session at command.now) }
+    ensures err { IfErr result.1 (λ e. (s f w f' w' : ℕ) (m : Bool) → GainsDue
+        (shared_desk L.sizes share.old.parts receipts.old.items held.now share.old.amount s f w m)
+        (shared_desk L.sizes share.new.parts receipts.new.items held.now share.new.amount s f' w' m) lb session at
+        (e ≡ AdminError.NoMemory) (IsCommandRefusal (λ mark. mark.numbers) at command.now e)) }
     ensures mark { IfErr result.1 (IsAdminMark lb) }
+    ensures when { CutsOrWants L.sizes L.cut_at lb result.0 (IsErrOf result.1 AdminError.NoMemory) }
     ensures cut { IfSome result.0 (λ s. s.0 ≡ lb) }
     ensures parts { share.new.parts ≡ share.old.parts }
 {
@@ -142,12 +148,13 @@ pub(crate) fn give_back_at<'r, L: SiteName, R: Wait>(
     requires part { 0 < share.old.parts }
     requires room { vec_len receipts.old < vec_capacity receipts.old }
     requires bytes { outcome.bytes ≤ 2 ^ 44 }
-    ensures ok { OnOk result ((s f w : ℕ) (before after : List (ℕ × ℕ)) → TakesBack
-        (shared_desk L.sizes share.old.parts receipts.old.items before share.old.amount s f w)
-        (shared_desk L.sizes share.new.parts receipts.new.items after share.new.amount s f w) session at lease outcome) }
+    ensures ok { OnOk result ((s f w : ℕ) (m : Bool) (before after : List (ℕ × ℕ)) → TakesBack
+        (shared_desk L.sizes share.old.parts receipts.old.items before share.old.amount s f w m)
+        (shared_desk L.sizes share.new.parts receipts.new.items after share.new.amount s f w m) session at lease outcome) }
     ensures length { OnOk result (length receipts.new.items ≡ length receipts.old.items + 1) }
     ensures amount { OnOk result (share.new.amount ≡ share.old.amount + 1) }
     ensures stray { IfErr result (λ s. (s.lb ≡ lease.lb) × (s.stray.ticket ≡ lease.ticket)) }
+    ensures why { IfErr result (λ s. IsNotOut L.sizes None lease s.stray) }
     ensures err { OnErr result ((receipts.new.items ≡ receipts.old.items) × (share.new.amount ≡ share.old.amount)) }
     ensures few { share.new.amount ≤ 2 ^ 58 }
     ensures parts { share.new.parts ≡ share.old.parts }
@@ -167,6 +174,7 @@ pub(crate) fn look_at<'r, L: SiteName, R: Wait>(
     requires known { lb < length L.sizes }
     ensures lb { IfOk result (λ v. v.lb ≡ lb) }
     ensures rows { IfOk result (λ v. length v.view.rows ≡ slice_index L.sizes lb) }
+    ensures present { IfOk result (λ v. (b : Journal) × IsFound L.sizes None lb b × IsPresent b.rules b.opening (past_of b) v.view) }
     ensures next { IfOk result (λ v. length L.sizes ≡ 1 → slice_index L.firsts lb + share.old.amount ≤ v.view.next) }
     ensures amount { share.new.amount ≡ share.old.amount }
     ensures parts { share.new.parts ≡ share.old.parts }

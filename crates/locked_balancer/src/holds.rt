@@ -1,11 +1,12 @@
 //! What is done under the lock, on one Book: a Maintain where one is due, and then a call, each entry with its receipt.
 ghost use Rattle.std.specs.Prelude.{◌≡◌, ◌≢◌, [], ◌∷◌, ◌++◌, ◌+◌, ◌<◌, ◌≤◌, length, slice_index, vec_len, vec_capacity, IfOk, IfErr, OnOk, OnErr};
 ghost use Rattle.jk_model.specs.declared.journal.Answer.{Answer};
+ghost use Rattle.balancer_core.specs.Refused.{RefusesMaintain};
 ghost use Rattle.balancer_core.specs.ToldBooks.{IsNoneDue};
 ghost use Rattle.locked_balancer.specs.Holds.{
   HoldChooses,
   HoldCommands,
-  HoldGainsDue,
+  HoldDenies,
   HoldMaintains,
   HoldRefuses,
   IsAdminMark,
@@ -37,8 +38,7 @@ fn maintain_first<L: SiteName>(
     ensures due { OnOk result (HoldMaintains (held site.old receipts.old.items share.old.amount)
         (held site.new receipts.new.items share.new.amount) lb session at) }
     ensures up_to_date { OnOk result (At site.new lb (λ b. IsNoneDue b at)) }
-    ensures due_err { IfErr result (λ _. HoldGainsDue (held site.old receipts.old.items share.old.amount)
-        (held site.new receipts.new.items share.new.amount) lb session at) }
+    ensures refused { IfErr result (λ e. At site.old lb (λ b. RefusesMaintain (λ mark. mark.numbers) b at e)) }
     ensures err { OnErr result (held site.new receipts.new.items share.new.amount ≡ held site.old receipts.old.items share.old.amount) }
     ensures mark { IfErr result (IsRoomMark lb 1) }
     ensures len { length site.new ≡ length site.old }
@@ -85,7 +85,7 @@ pub(crate) fn choose_in<L: SiteName>(
     requires room { vec_len receipts.old + 2 ≤ vec_capacity receipts.old }
     ensures ok { IfOk result (λ c. HoldChooses L.sizes (held site.old receipts.old.items share.old.amount)
         (held site.new receipts.new.items share.new.amount) lb session at ask.now c) }
-    ensures err { OnErr result (HoldGainsDue (held site.old receipts.old.items share.old.amount)
+    ensures err { IfErr result (HoldDenies (held site.old receipts.old.items share.old.amount)
         (held site.new receipts.new.items share.new.amount) lb session at) }
     ensures mark { IfErr result (IsRoomMark lb 2) }
     ensures parts { share.new.parts ≡ share.old.parts }
@@ -129,7 +129,7 @@ pub(crate) fn command_in<L: SiteName>(
     requires room { vec_len receipts.old + 2 ≤ vec_capacity receipts.old }
     ensures ok { OnOk result (HoldCommands L.sizes (held site.old receipts.old.items share.old.amount)
         (held site.new receipts.new.items share.new.amount) lb session at command.now) }
-    ensures err { IfErr result (HoldRefuses L.sizes (held site.old receipts.old.items share.old.amount)
+    ensures err { IfErr result (HoldRefuses (held site.old receipts.old.items share.old.amount)
         (held site.new receipts.new.items share.new.amount) lb session at command.now) }
     ensures mark { IfErr result (IsAdminMark lb) }
     ensures parts { share.new.parts ≡ share.old.parts }

@@ -19,6 +19,7 @@ mod shared_desk;
 mod shared_site;
 mod shelf;
 mod site;
+mod threads;
 
 pub use mem_shelf::{KeptList, MemShelf};
 pub use shared_desk::{Leaving, SharedDesk};
@@ -28,3 +29,4 @@ pub use site::{
     Refusal, Site, SiteLease, SiteMark, SiteName, SitePicked, SiteReceipt, SiteReceiptList,
     SiteSegment, SiteStray, SiteView,
 };
+pub use threads::may_cross_threads;

@@ -22,35 +22,41 @@ pub(crate) struct Locked<L: SiteName> {
 }
 
 impl<L: SiteName> Model for Locked<L> {
+    ghost use Rattle.std.specs.Prelude.{◌≡◌};
     ghost use Rattle.locked_balancer.specs.Holds.{AreShort, LockedState};
 
     ghost Value = { LockedState };
 
     ghost view = { λ l. record { books = l.site; cut_at = l.cut_at } };
 
-    ghost invariant = { λ l. AreShort l.cut_at l.site };
+    ghost invariant = { λ l. (l.cut_at ≡ L.cut_at) × AreShort l.cut_at l.site };
 }
 
 impl<L: SiteName> Locked<L> {
-    ghost use Rattle.std.specs.Prelude.{◌≡◌, ℕ, ◌+◌, ◌<◌, ◌≤◌, ◌^◌, ◌↔◌, [], ◌∷◌, ◌++◌, length, slice_index, vec_len, vec_capacity, IfOk, IfErr, IsSome, OnOk, OnErr};
+    ghost use Rattle.std.specs.Prelude.{◌≡◌, ℕ, ◌+◌, ◌<◌, ◌≤◌, ◌^◌, ◌↔◌, [], ◌∷◌, ◌++◌, length, slice_index, vec_len, vec_capacity, None, IfOk, IfErr, IsErrOf, IsSome, OnOk, OnErr};
     ghost use Rattle.std.specs.Prelude.{List};
     ghost use Rattle.jk_model.specs.declared.journal.Call.{Call};
-    ghost use Rattle.balancer_core.specs.Journal.{Journal};
+    ghost use Rattle.jk_model.specs.Present.{IsPresent};
+    ghost use Rattle.balancer_core.specs.Desks.{IsNotOut};
+    ghost use Rattle.balancer_core.specs.Journal.{Journal, past_of};
+    ghost use Rattle.balancer_core.specs.ToldBooks.{IsFound};
     ghost use Rattle.balancer_core.specs.declared.receipt.Receipt.{Receipt};
     ghost use Rattle.locked_balancer.specs.Holds.{
       CutsFirst,
       HoldChooses,
       HoldCommands,
+      HoldDenies,
       HoldGains,
-      HoldGainsDue,
       HoldRefuses,
       IsAdminMark,
       IsRoomMark,
       held,
     };
-    ghost use Rattle.locked_balancer.specs.Sites.{AreSited, At, added_in};
+    ghost use Rattle.locked_balancer.specs.SharedDesks.{CutsOrWants};
+    ghost use Rattle.locked_balancer.specs.Sites.{AreSited, At};
 
     pub(crate) fn new(site: Site<L>, cut_at: u32) -> Locked<L>
+        requires named { cut_at ≡ L.cut_at }
         requires uncut { 0 < cut_at → (lb : ℕ) → At site lb (λ b. b.entries ≡ []) }
         ensures { result ≡ record { books = site; cut_at = cut_at } }
     {
@@ -68,15 +74,19 @@ impl<L: SiteName> Locked<L> {
     fn cut_first(&mut self, lb: u32) -> Result<Option<SiteSegment<L>>, NoMemory>
         requires lb { lb < length self.old.books }
         ensures ok { IfOk result (CutsFirst self.old.books self.new.books lb) }
-        ensures when { IfOk result (λ s. At self.old.books lb (λ b. IsSome s ↔ ((0 < self.old.cut_at) × (self.old.cut_at ≤ length b.entries)))) }
+        ensures when { IfOk result (λ s. At self.old.books lb (λ b. IsSome s ↔ ((0 < L.cut_at) × (L.cut_at ≤ length b.entries)))) }
+        ensures sited { AreSited L.sizes L.firsts self.old.books × AreSited L.sizes L.firsts self.new.books }
         ensures short { OnOk result (0 < self.new.cut_at → At self.new.books lb (λ b. length b.entries < self.new.cut_at)) }
         ensures err { OnErr result (self.new ≡ self.old) }
         ensures same { self.new.cut_at ≡ self.old.cut_at }
     {
+        self.site.count();
         if self.cut_at == 0 || self.site.kept(lb) < self.cut_at as u64 {
             return Ok(None);
         }
-        Ok(Some(self.site.cut(lb)?))
+        let segment = self.site.cut(lb)?;
+        self.site.count();
+        Ok(Some(segment))
     }
 
     /// Cuts where that is due, does a Maintain where one is due, and then a Select.
@@ -93,11 +103,12 @@ impl<L: SiteName> Locked<L> {
         requires part { 0 < share.old.parts }
         requires room { vec_len receipts.old + 2 ≤ vec_capacity receipts.old }
         ensures ok { IfOk result.1 (λ c. (mid : List Journal) × CutsFirst self.old.books mid lb result.0
-            × HoldChooses L.sizes (held mid receipts.old.items share.old.amount)
+            × AreSited L.sizes L.firsts mid × HoldChooses L.sizes (held mid receipts.old.items share.old.amount)
             (held self.new.books receipts.new.items share.new.amount) lb session at ask.now c) }
-        ensures err { OnErr result.1 ((mid : List Journal) × CutsFirst self.old.books mid lb result.0
-            × HoldGainsDue (held mid receipts.old.items share.old.amount)
-            (held self.new.books receipts.new.items share.new.amount) lb session at) }
+        ensures err { IfErr result.1 (λ e. (mid : List Journal) × CutsFirst self.old.books mid lb result.0
+            × AreSited L.sizes L.firsts mid × HoldDenies (held mid receipts.old.items share.old.amount)
+            (held self.new.books receipts.new.items share.new.amount) lb session at e) }
+        ensures when { CutsOrWants L.sizes L.cut_at lb result.0 (IsErrOf result.1 RoomError.NoMemory) }
         ensures mark { IfErr result.1 (IsRoomMark lb 2) }
         ensures few { share.new.amount ≤ 2 ^ 58 }
         ensures parts { share.new.parts ≡ share.old.parts }
@@ -127,11 +138,12 @@ impl<L: SiteName> Locked<L> {
         requires part { 0 < share.old.parts }
         requires room { vec_len receipts.old + 2 ≤ vec_capacity receipts.old }
         ensures ok { OnOk result.1 ((mid : List Journal) × CutsFirst self.old.books mid lb result.0
-            × HoldCommands L.sizes (held mid receipts.old.items share.old.amount)
+            × AreSited L.sizes L.firsts mid × HoldCommands L.sizes (held mid receipts.old.items share.old.amount)
             (held self.new.books receipts.new.items share.new.amount) lb session at command.now) }
         ensures err { IfErr result.1 (λ e. (mid : List Journal) × CutsFirst self.old.books mid lb result.0
-            × HoldRefuses L.sizes (held mid receipts.old.items share.old.amount)
+            × AreSited L.sizes L.firsts mid × HoldRefuses (held mid receipts.old.items share.old.amount)
             (held self.new.books receipts.new.items share.new.amount) lb session at command.now e) }
+        ensures when { CutsOrWants L.sizes L.cut_at lb result.0 (IsErrOf result.1 AdminError.NoMemory) }
         ensures mark { IfErr result.1 (IsAdminMark lb) }
         ensures few { share.new.amount ≤ 2 ^ 58 }
         ensures parts { share.new.parts ≡ share.old.parts }
@@ -164,7 +176,9 @@ impl<L: SiteName> Locked<L> {
         ensures ok { OnOk result ((r : Receipt) × (r.entry.call ≡ Call.Return lease.ticket outcome)
             × HoldGains (held self.old.books receipts.old.items share.old.amount)
             (held self.new.books receipts.new.items share.new.amount) lease.lb session at (r ∷ [])) }
+        ensures sited { AreSited L.sizes L.firsts self.old.books }
         ensures stray { IfErr result (λ s. (s.lb ≡ lease.lb) × (s.stray.ticket ≡ lease.ticket)) }
+        ensures why { IfErr result (λ s. IsNotOut L.sizes None lease s.stray) }
         ensures err { OnErr result (held self.new.books receipts.new.items share.new.amount ≡ held self.old.books receipts.old.items share.old.amount) }
         ensures few { share.new.amount ≤ 2 ^ 58 }
         ensures parts { share.new.parts ≡ share.old.parts }
@@ -182,6 +196,7 @@ impl<L: SiteName> Locked<L> {
         requires lb { lb < length L.sizes }
         ensures lb { IfOk result (λ v. v.lb ≡ lb) }
         ensures rows { IfOk result (λ v. length v.view.rows ≡ slice_index L.sizes lb) }
+        ensures present { IfOk result (λ v. (b : Journal) × IsFound L.sizes None lb b × IsPresent b.rules b.opening (past_of b) v.view) }
         ensures next { IfOk result (λ v. length L.sizes ≡ 1 → slice_index L.firsts lb + share.old.amount ≤ v.view.next) }
         ensures same { self.new ≡ self.old }
         ensures amount { share.new.amount ≡ share.old.amount }

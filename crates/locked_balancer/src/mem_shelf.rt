@@ -50,7 +50,7 @@ impl MemShelf {
 }
 
 impl Shelf for MemShelf {
-    ghost use Rattle.std.specs.Prelude.{◌≡◌, [], ◌∷◌, Contains, IsErrOf, OnErr, OnOk, Some};
+    ghost use Rattle.std.specs.Prelude.{◌≡◌, ◌+◌, ◌-◌, ◌^◌, min, [], ◌∷◌, Contains, IsErrOf, OnErr, OnOk, Some};
     ghost use Rattle.jk_io.specs.Told.{HasCause, appended};
     ghost use Rattle.jk_io.specs.declared.failures.IoError.{IoError};
 
@@ -65,6 +65,7 @@ impl Shelf for MemShelf {
 
         // A call fails exactly where it was to fail.
         ensures planned { IsErrOf result IoError.Failed ↔ Contains self.old.failing self.old.calls }
+        ensures calls { self.new.calls ≡ min (self.old.calls + 1) (2 ^ 64 - 1) }
         ensures steady { self.old.failing ≡ [] → self.new.faults ≡ self.old.faults }
         ensures same { self.new.failing ≡ self.old.failing }
     {

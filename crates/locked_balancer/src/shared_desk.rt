@@ -1,5 +1,5 @@
 //! A desk of one thread over the Site that all threads share.
-ghost use Rattle.std.specs.Prelude.{◌≡◌};
+ghost use Rattle.std.specs.Prelude.{◌≡◌, ◌+◌, ◌<◌, ◌≤◌, length};
 ghost use Rattle.locked_balancer.specs.SharedDesks.{CountsFull, CountsRefusal, IsPutAway, PutsAway, first_met};
 
 use crate::at_site::{choose_at, command_at, give_back_at, look_at, take_last};
@@ -36,13 +36,13 @@ pub struct SharedDesk<'s, 'r, L: SiteName, S: Shelf, R> {
 }
 
 impl<'s, 'r, L: SiteName, S: Shelf, R> Model for SharedDesk<'s, 'r, L, S, R> {
-    ghost use Rattle.std.specs.Prelude.{length, vec_capacity};
+    ghost use Rattle.std.specs.Prelude.{is_some, length, vec_capacity};
     ghost use Rattle.locked_balancer.specs.SharedDesks.{IsShared, SharedState, shared_desk};
 
     ghost Value = { SharedState S };
 
     ghost view = { λ d. record {
-      desk = shared_desk L.sizes d.share.parts d.receipts.items d.held.items d.share.amount d.strays d.fulls d.wides;
+      desk = shared_desk L.sizes d.share.parts d.receipts.items d.held.items d.share.amount d.strays d.fulls d.wides (is_some d.met);
       shelf = d.shelf;
       forgotten = d.forgotten;
       wants = d.wants;
@@ -60,10 +60,12 @@ pub struct Leaving<L: SiteName, S> {
     pub receipts: SiteReceiptList<L>,
     pub forgotten: u64,
     pub shelf: S,
+    pub ghost part: { 0 < share.parts },
+    pub ghost counted: { share.amount ≡ length receipts + forgotten },
 }
 
 impl<'s, 'r, L: SiteName, S: Shelf, R> SharedDesk<'s, 'r, L, S, R> {
-    ghost use Rattle.std.specs.Prelude.{◌≡◌, ◌+◌, ◌<◌, [], None, length};
+    ghost use Rattle.std.specs.Prelude.{◌≡◌, ◌+◌, ◌<◌, ◌↔◌, [], None, false, true, length, IsSome};
     ghost use Rattle.locked_balancer.specs.SharedDesks.{SharedState, shared_desk};
 
     /// A desk with a part of the ledger, without a receipt or a ticket. It takes no memory.
@@ -75,7 +77,7 @@ impl<'s, 'r, L: SiteName, S: Shelf, R> SharedDesk<'s, 'r, L, S, R> {
     ) -> SharedDesk<'s, 'r, L, S, R>
         requires part { 0 < share.parts }
         requires amount { share.amount ≡ 0 }
-        ensures desk { result.desk ≡ shared_desk L.sizes share.parts [] [] 0 0 0 0 }
+        ensures desk { result.desk ≡ shared_desk L.sizes share.parts [] [] 0 0 0 0 false }
         ensures shelf { result.shelf ≡ shelf }
         ensures none { (result.forgotten ≡ 0) × (result.wants ≡ 0) × (result.met ≡ None) }
     {
@@ -104,10 +106,11 @@ impl<'s, 'r, L: SiteName, S: Shelf, R> SharedDesk<'s, 'r, L, S, R> {
         self.receipts.clear();
     }
 
-    /// The first stray that was met since the last such call; there is one exactly where one was met since then.
+    /// The first stray that was met since the last such call.
     pub fn take_stray(&mut self) -> Option<SiteStray<L>>
-        ensures met { result ≡ self.old.met }
-        ensures taken { self.new ≡ record self.old { met = None } }
+        ensures value { result ≡ self.old.met }
+        ensures met { IsSome result ↔ (self.old.desk.met ≡ true) }
+        ensures taken { self.new ≡ record self.old { met = None; desk = record self.old.desk { met = false } } }
     {
         self.met.take()
     }
@@ -134,9 +137,7 @@ impl<'s, 'r, L: SiteName, S: Shelf, R> SharedDesk<'s, 'r, L, S, R> {
         ensures forgotten { result.forgotten ≡ self.entry.forgotten }
         ensures shelf { result.shelf ≡ self.entry.shelf }
         ensures amount { result.share.amount ≡ self.entry.desk.added }
-        ensures counted { result.share.amount ≡ length result.receipts + result.forgotten }
         ensures parts { self.entry.desk.parts ≡ Some result.share.parts }
-        ensures part { 0 < result.share.parts }
     {
         let SharedDesk {
             site: _,
@@ -161,13 +162,13 @@ impl<'s, 'r, L: SiteName, S: Shelf, R> SharedDesk<'s, 'r, L, S, R> {
 }
 
 impl<'s, 'r, L: SiteName, S: Shelf, R: Wait> Desk for SharedDesk<'s, 'r, L, S, R> {
-    ghost use Rattle.std.specs.Prelude.{◌≡◌, ◌+◌, ◌<◌, ◌≤◌, ◌^◌, ◌↔◌, true, length, slice_index, IfSome, IfOk, IfErr, IsOk, OnOk};
-    ghost use Rattle.jk_io.specs.Told.{Rose};
+    ghost use Rattle.std.specs.Prelude.{◌≡◌, ◌+◌, ◌<◌, ◌≤◌, ◌^◌, ◌↔◌, true, length, slice_index, IfSome, IfOk, IfErr, IsErrOf, IsOk, OnOk};
     ghost use Rattle.balancer_core.specs.Desks.{
       Chooses,
       Commands,
       KeepsDesk,
       LeaseNote,
+      MeetsNone,
       MeetsStray,
       RefusesChoice,
       RefusesCommand,
@@ -204,14 +205,14 @@ impl<'s, 'r, L: SiteName, S: Shelf, R: Wait> Desk for SharedDesk<'s, 'r, L, S, R
         requires known { lb < length self.old.desk.sizes }
         requires caller { IfSome self.old.desk.caller (λ n. session ≡ n) }
         ensures ok { IfOk result (λ c. Chooses (λ lease. lease) self.old.desk self.new.desk lb session at ask.now c) }
-        ensures err { IfErr result (λ e. RefusesChoice self.old.desk self.new.desk lb session at e) }
+        ensures err { IfErr result (λ e. RefusesChoice (λ mark. mark.numbers) self.old.desk self.new.desk lb session at e) }
         ensures kept { KeepsDesk self.old.desk self.new.desk }
 
         // Full comes only with a mark of this balancer, whose numbers leave no room for the entry and its Return.
         ensures mark { IfErr result (IsRoomMark lb 2) }
 
-        // A segment that the hold cut is put away after it.
-        ensures shelf { PutsAwayOf S.shelved S.faults lb self.old self.new }
+        // A segment that the hold cut is put away after it. It cuts exactly where the journal has come to its length.
+        ensures shelf { PutsAwayOf S.shelved S.faults L.sizes L.cut_at lb self.old self.new (IsErrOf result RoomError.NoMemory) }
     {
         let (segment, done) = choose_at(
             self.site,
@@ -285,14 +286,14 @@ impl<'s, 'r, L: SiteName, S: Shelf, R: Wait> Desk for SharedDesk<'s, 'r, L, S, R
         requires known { lb < length self.old.desk.sizes }
         requires caller { IfSome self.old.desk.caller (λ n. session ≡ n) }
         ensures ok { IfOk result (λ _. Commands self.old.desk self.new.desk lb session at command.now) }
-        ensures err { IfErr result (λ e. RefusesCommand self.old.desk self.new.desk lb session at command.now e) }
+        ensures err { IfErr result (λ e. RefusesCommand (λ mark. mark.numbers) self.old.desk self.new.desk lb session at command.now e) }
         ensures held { self.new.desk.held ≡ self.old.desk.held }
-        ensures stray { self.new.desk.strays ≡ self.old.desk.strays }
+        ensures stray { MeetsNone self.old.desk self.new.desk }
         ensures kept { KeepsDesk self.old.desk self.new.desk }
 
         // Full and TooWide come only with a mark of this balancer.
         ensures mark { IfErr result (IsAdminMark lb) }
-        ensures shelf { PutsAwayOf S.shelved S.faults lb self.old self.new }
+        ensures shelf { PutsAwayOf S.shelved S.faults L.sizes L.cut_at lb self.old self.new (IsErrOf result AdminError.NoMemory) }
     {
         let (segment, done) = command_at(
             self.site,
@@ -359,7 +360,8 @@ fn meet<L>(met: &mut Option<SiteStray<L>>, stray: SiteStray<L>)
 
 // Counts a Full.
 fn count_full<L>(fulls: &mut u64, done: &Result<Choice<SiteLease<L>>, RoomError<SiteMark<L>>>)
-    ensures { CountsFull fulls.old fulls.new done.now }
+    ensures counted { CountsFull fulls.old fulls.new done.now }
+    ensures no_fewer { fulls.old ≤ fulls.new }
 {
     if let Err(RoomError::Full(_)) = done {
         *fulls = fulls.saturating_add(1);
@@ -368,7 +370,8 @@ fn count_full<L>(fulls: &mut u64, done: &Result<Choice<SiteLease<L>>, RoomError<
 
 // Counts a Full or a TooWide.
 fn count_refusal<L>(fulls: &mut u64, wides: &mut u64, done: &Result<(), AdminError<SiteMark<L>>>)
-    ensures { CountsRefusal fulls.old fulls.new wides.old wides.new done.now }
+    ensures counted { CountsRefusal fulls.old fulls.new wides.old wides.new done.now }
+    ensures no_fewer { (fulls.old ≤ fulls.new) × (wides.old ≤ wides.new) }
 {
     match done {
         Err(AdminError::Full(_)) => *fulls = fulls.saturating_add(1),

@@ -18,11 +18,18 @@ impl<'r, L: SiteName, R> SharedSite<'r, L, R> {
     /// Puts a Site behind a lock. A journal that has `cut_at` kept entries is cut before more are added by a choosing or
     /// commanding hold; 0 is never. It takes no memory.
     pub fn new(rt: &'r R, site: Site<L>, cut_at: u32) -> SharedSite<'r, L, R>
+        requires named { cut_at ≡ L.cut_at }
         requires uncut { 0 < cut_at → (lb : ℕ) → At site lb (λ b. b.entries ≡ []) }
     {
         SharedSite {
             rt,
             locked: Mutex::new(Locked::new(site, cut_at)),
         }
+    }
+
+    /// Takes the lock away, once no desk asks the Site any more. It takes no memory.
+    pub fn into_site(self) -> Site<L> {
+        let SharedSite { rt: _, locked } = self;
+        locked.into_inner().into_site()
     }
 }

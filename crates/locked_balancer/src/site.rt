@@ -21,6 +21,9 @@ pub trait SiteName: Ledger {
 
     // the number that was to come next in each Book when the Site was opened
     ghost firsts: { List ℕ };
+
+    // the number of kept entries from which on a shared journal is cut; 0 is never
+    ghost cut_at: { ℕ };
 }
 
 impl SiteName for Brand {
@@ -29,6 +32,8 @@ impl SiteName for Brand {
     ghost sizes = { [] };
 
     ghost firsts = { [] };
+
+    ghost cut_at = { 0 };
 }
 
 /// The Books of all balancers, in order. Each has rules 2, and the ledger's total is the number of entries that they

@@ -6,8 +6,6 @@
 #![tactic(auto)]
 
 mod next;
-#[cfg(test)]
-mod tests;
 mod touch;
 
 pub use next::next_state;

@@ -9,12 +9,14 @@ use std::mem::replace;
 
 impl Book {
     ghost use Rattle.std.specs.Prelude.{◌≡◌, IfOk, OnErr, OnOk};
+    ghost use Rattle.jk_model.specs.Legal.{IsLegal};
     ghost use Rattle.balancer_core.specs.Ending.{IsCut};
     ghost use Rattle.balancer_core.specs.Journal.{IsSegmentOf, IsSound};
 
     /// The opening and the kept entries.
     pub fn segment(&self) -> Result<Segment, NoMemory>
         ensures whole { IfOk result (IsSegmentOf self.now) }
+        ensures legal { IfOk result (λ s. IsLegal s.rules s.opening s.entries) }
         ensures sound { IsSound self.now }
     {
         let opening = copy_opening(&self.opening)?;
@@ -31,6 +33,7 @@ impl Book {
     /// of the tickets that are out before it changes anything.
     pub fn cut(&mut self) -> Result<Segment, NoMemory>
         ensures whole { IfOk result (IsSegmentOf self.old) }
+        ensures legal { IfOk result (λ s. IsLegal s.rules s.opening s.entries) }
         ensures cut { OnOk result (IsCut self.old self.new) }
         ensures sound { IsSound self.new }
         ensures err { OnErr result (self.new ≡ self.old) }

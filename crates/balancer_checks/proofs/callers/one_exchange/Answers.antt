@@ -1,9 +1,14 @@
 -- The ticket that the choice made is the one that came back.
 use Rattle.std.proofs.Common.{ℕ, ◌<◌, List, length, ap, subst, sym}
 use Rattle.balancer_core.specs.Desks.{LeaseNote, pair_of}
-use Rattle.balancer_core.proofs.DeskLaws.{held_again}
+use Rattle.balancer_core.proofs.DeskLaws.{held_again, held_made}
 use Rattle.balancer_checks.proofs.DueLaws.{chosen_up_to_date, returned_up_to_date, stray_up_to_date}
 use Rattle.balancer_checks.proofs.callers.one_exchange.Goals as goal
+
+pub hand_back-requires-clause-held : goal.hand_back-requires-clause-held
+hand_back-requires-clause-held g c =
+    let chose = (rw c.in-Ok-Chosen.field-0-is at c.in-Ok-Chosen.ensures.ok).answered in
+    held_made _ _ _ _ chose.4 (ap pair_of chose.3)
 
 pub returns-in-Ok-clause-held : goal.returns-in-Ok-clause-held
 returns-in-Ok-clause-held g c =

@@ -1,19 +1,18 @@
 use Rattle.std.proofs.Common.{◌≡◌, ℕ, List, Some, get_or, refl, subst, arith}
 use Rattle.std.specs.Prelude.{slice_get, slice_set, vec_capacity, IfErr, OnOk}
 use Rattle.std.proofs.lemmas.Option.{slice_get-get_or}
-use Rattle.jk_model.specs.Journal.{members}
 use Rattle.jk_model.specs.declared.refusal.AdminError.TheVariants as admin
 use Rattle.balancer_core.specs.Desks.{Commands, GainsDue, IsCommandRefusal}
-use Rattle.balancer_core.specs.PlainDesks.{IsPlain, RefusesAdmin, plain_state}
+use Rattle.balancer_core.specs.PlainDesks.{IsPlain, plain_state}
 use Rattle.balancer_core.specs.declared.receipt.Receipt.{Receipt}
 use Rattle.balancer_core.proofs.PlainLaws.{due_none, plain-none}
-use Rattle.balancer_core.proofs.HoldLaws.{command_err, command_ok, command_plain, command_sizes, command_wanting, of_error}
+use Rattle.balancer_core.proofs.HoldLaws.{command_err, command_ok, command_plain, command_sizes, of_error}
 use Rattle.balancer_core.proofs.hold_at.command_at.Goals as goal
 
 pub returns-in_err-reserve-clause-err : goal.returns-in_err-reserve-clause-err
 returns-in_err-reserve-clause-err c =
     of_error c.from_residual.result admin.NoMemory _ c.from_residual.ensures.1
-    (λ f w f' w'. due_none _ _ _ _ _ _ _ _ f w f' w' _ c.reserve.ensures.items (command_wanting c.args.books.now c.args.lb c.args.receipts.now.items c.args.held.now f w c.args.at c.args.command.now c.requires.known))
+    (λ f w f' w'. due_none _ _ _ _ _ _ _ _ f w f' w' _ _ c.reserve.ensures.items refl)
 
 pub returns-clause-plain : goal.returns-clause-plain
 returns-clause-plain c =
@@ -23,7 +22,7 @@ returns-clause-plain c =
     plain-none c.args.books.now c.args.receipts.now.items c.reserve.new.self.items c.args.held.now c.args.held.now _ _ c.requires.plain
     c.reserve.ensures.items refl (omega (arith, c.reserve.ensures.capacity)) in
     command_plain c.command_after.result
-    (λ e. RefusesAdmin (members (get_or c.args.books.now c.args.lb c.index-books-lb.result).opening) (get_or c.args.books.now c.args.lb c.index-books-lb.result) c.args.at c.args.command.now e)
+    (λ e. IsCommandRefusal (λ mark. mark) c.args.at c.args.command.now e (get_or c.args.books.now c.args.lb c.index-books-lb.result))
     c.args.books.now c.args.lb (get_or c.args.books.now c.args.lb c.index-books-lb.result) c.command_after.new.book
     c.reserve.new.self.items c.command_after.new.receipts.items c.args.held.now c.args.session c.args.at _ _ c.args.command.now is here
     c.command_after.ensures.ok c.command_after.ensures.err
@@ -36,7 +35,7 @@ returns-clause-ok c =
     subst (λ (rs : List Receipt). OnOk c.command_after.result ((f w : ℕ) → Commands (plain_state c.args.books.now rs c.args.held.now 0 f w)
     (plain_state (slice_set c.args.books.now c.args.lb c.command_after.new.book) c.command_after.new.receipts.items c.args.held.now 0 f w)
     c.args.lb c.args.session c.args.at c.args.command.now)) c.reserve.ensures.items
-    (command_ok c.command_after.result _ _ _ _ _ _ c.args.held.now _ _ _ here c.command_after.ensures.ok c.command_after.ensures.named)
+    (command_ok c.command_after.result _ _ _ _ _ _ c.args.held.now _ _ _ c.requires.plain.modern c.requires.plain.legal here c.command_after.ensures.ok c.command_after.ensures.named)
 
 pub returns-clause-err : goal.returns-clause-err
 returns-clause-err c =
@@ -45,13 +44,13 @@ returns-clause-err c =
     subst (λ (rs : List Receipt). IfErr c.command_after.result (λ e. (f w f' w' : ℕ) → GainsDue (plain_state c.args.books.now rs c.args.held.now 0 f w)
     (plain_state (slice_set c.args.books.now c.args.lb c.command_after.new.book) c.command_after.new.receipts.items c.args.held.now 0 f' w')
     c.args.lb c.args.session c.args.at
-    (IsCommandRefusal (plain_state c.args.books.now rs c.args.held.now 0 f w) c.args.lb c.args.at c.args.command.now e))) c.reserve.ensures.items
-    (command_err c.command_after.result _ _ _ _ _ _ c.args.held.now _ _ c.args.command.now here c.command_after.ensures.err)
+    (e ≡ admin.NoMemory) (IsCommandRefusal (λ mark. mark) c.args.at c.args.command.now e))) c.reserve.ensures.items
+    (command_err c.command_after.result _ _ _ _ _ _ c.args.held.now _ _ c.args.command.now c.requires.plain.modern c.requires.plain.legal here c.command_after.ensures.err)
 
 pub returns-clause-sizes : goal.returns-clause-sizes
 returns-clause-sizes c =
     let here : slice_get c.args.books.now c.args.lb ≡ Some (get_or c.args.books.now c.args.lb c.index-books-lb.result) =
     slice_get-get_or c.args.books.now c.args.lb c.index-books-lb.result c.requires.known in
     command_sizes c.command_after.result
-    (λ e. RefusesAdmin (members (get_or c.args.books.now c.args.lb c.index-books-lb.result).opening) (get_or c.args.books.now c.args.lb c.index-books-lb.result) c.args.at c.args.command.now e)
+    (λ e. IsCommandRefusal (λ mark. mark) c.args.at c.args.command.now e (get_or c.args.books.now c.args.lb c.index-books-lb.result))
     _ _ _ _ _ _ _ _ c.args.command.now here c.command_after.ensures.ok c.command_after.ensures.err

@@ -25,8 +25,8 @@ pub returns-clause-back : goal.returns-clause-back
 returns-clause-back c = λ m f w.
     takes_back c.args.books.now c.args.lb (get_or c.args.books.now c.args.lb c.index-books-lb.result) c.return_ticket-returned.new.self
     c.args.receipts.now.items c.note.new.receipts.items c.args.held.now.items c.take_out.new.held.items c.args.session c.args.at
-    c.args.ticket c.args.outcome c.in-Ok.entry (slice_get-get_or c.args.books.now c.args.lb c.index-books-lb.result c.requires.known)
-    c.in-Ok.ensures.ok c.in-Ok.ensures.next c.note.ensures.added m f w
+    c.args.ticket c.args.outcome c.in-Ok.entry c.requires.plain.modern c.requires.plain.legal (slice_get-get_or c.args.books.now c.args.lb c.index-books-lb.result c.requires.known)
+    c.in-Ok.ensures.ok c.in-Ok.ensures.done c.in-Ok.ensures.next c.note.ensures.added m f w
 
 pub returns-clause-held : goal.returns-clause-held
 returns-clause-held c =

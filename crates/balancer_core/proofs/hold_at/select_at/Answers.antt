@@ -1,23 +1,24 @@
-use Rattle.std.proofs.Common.{◌≡◌, ◌++◌, ◌∙◌, ℕ, List, Some, get_or, ap, subst, arith}
+use Rattle.std.proofs.Common.{◌≡◌, ◌++◌, ◌∙◌, ℕ, List, Some, get_or, refl, ap, subst, arith}
 use Rattle.std.specs.Prelude.{slice_get, vec_capacity}
 use Rattle.std.proofs.lemmas.Option.{slice_get-get_or}
 use Rattle.jk_model.specs.declared.refusal.RoomError.TheVariants as room
-use Rattle.balancer_core.specs.PlainDesks.{BookGainsDue, BookGainsLast, RefusesPick}
+use Rattle.balancer_core.specs.Desks.{IsAskRefusal}
+use Rattle.balancer_core.specs.PlainDesks.{BookGainsDue, BookGainsLast}
 use Rattle.balancer_core.specs.PlainLeases.{pairs_in}
 use Rattle.balancer_core.specs.declared.receipt.Receipt.{Receipt}
-use Rattle.balancer_core.proofs.PlainLaws.{ask_refusal, due_none, due-hold, plain-due, plain-picked}
-use Rattle.balancer_core.proofs.HoldLaws.{ask_wanting, chooses, of_error, sizes-due, sizes-last}
+use Rattle.balancer_core.proofs.PlainLaws.{due_none, due-hold, plain-due, plain-picked}
+use Rattle.balancer_core.proofs.HoldLaws.{chooses, of_error, sizes-due, sizes-last}
 use Rattle.balancer_core.proofs.hold_at.select_at.Goals as goal
 
 pub returns-in_err-reserve-clause-err : goal.returns-in_err-reserve-clause-err
 returns-in_err-reserve-clause-err c =
     of_error c.from_residual.result room.NoMemory _ c.from_residual.ensures.1
-    (λ f w f' w'. due_none _ _ _ _ _ _ _ _ f w f' w' _ c.reserve.ensures.items (ask_wanting c.args.books.now c.args.lb c.args.receipts.now.items c.args.held.now.items f w c.args.at c.requires.known))
+    (λ f w f' w'. due_none _ _ _ _ _ _ _ _ f w f' w' _ _ c.reserve.ensures.items refl)
 
 pub returns-in_err-reserve-2-clause-err : goal.returns-in_err-reserve-2-clause-err
 returns-in_err-reserve-2-clause-err c =
     of_error c.from_residual-in_err-reserve-2.result room.NoMemory _ c.from_residual-in_err-reserve-2.ensures.1
-    (λ f w f' w'. due_none _ _ _ _ _ _ _ _ f w f' w' _ c.reserve.ensures.items (ask_wanting c.args.books.now c.args.lb c.args.receipts.now.items c.args.held.now.items f w c.args.at c.requires.known))
+    (λ f w f' w'. due_none _ _ _ _ _ _ _ _ f w f' w' _ _ c.reserve.ensures.items refl)
 
 pub select_after-requires-clause-modern : goal.select_after-requires-clause-modern
 select_after-requires-clause-modern c =
@@ -27,10 +28,10 @@ select_after-requires-clause-modern c =
 pub returns-in_err-picked-clause-plain : goal.returns-in_err-picked-clause-plain
 returns-in_err-picked-clause-plain c =
     let due = subst (λ (rs : List Receipt). BookGainsDue (get_or c.args.books.now c.args.lb c.index-books-lb.result) c.select_after.new.book rs c.select_after.new.receipts.items
-    c.args.lb c.args.session c.args.at (RefusesPick (get_or c.args.books.now c.args.lb c.index-books-lb.result) c.args.at c.in_err-picked.field-0.0)) c.reserve.ensures.items c.in_err-picked.ensures.err in
+    c.args.lb c.args.session c.args.at (IsAskRefusal (λ mark. mark) c.args.at c.in_err-picked.field-0.0 (get_or c.args.books.now c.args.lb c.index-books-lb.result))) c.reserve.ensures.items c.in_err-picked.ensures.err in
     plain-due c.args.books.now c.args.lb (get_or c.args.books.now c.args.lb c.index-books-lb.result) c.select_after.new.book c.args.receipts.now.items
     c.select_after.new.receipts.items c.args.held.now.items c.reserve-2.new.self.items c.args.session c.args.at (vec_capacity c.args.receipts.now)
-    (vec_capacity c.select_after.new.receipts) (RefusesPick (get_or c.args.books.now c.args.lb c.index-books-lb.result) c.args.at c.in_err-picked.field-0.0) c.requires.plain
+    (vec_capacity c.select_after.new.receipts) (IsAskRefusal (λ mark. mark) c.args.at c.in_err-picked.field-0.0 (get_or c.args.books.now c.args.lb c.index-books-lb.result)) c.requires.plain
     (slice_get-get_or c.args.books.now c.args.lb c.index-books-lb.result c.requires.known) due c.reserve-2.ensures.items
     (omega (arith, c.in_ok-reserve.ensures.ok, c.select_after.ensures.room, c.args.receipts.now.ok.0, c.args.held.now.ok.0, c.reserve.ensures.len, c.len.ensures))
 
@@ -39,15 +40,14 @@ returns-in_err-picked-clause-err c =
     let here : slice_get c.args.books.now c.args.lb ≡ Some (get_or c.args.books.now c.args.lb c.index-books-lb.result) =
     slice_get-get_or c.args.books.now c.args.lb c.index-books-lb.result c.requires.known in
     let due = subst (λ (rs : List Receipt). BookGainsDue (get_or c.args.books.now c.args.lb c.index-books-lb.result) c.select_after.new.book rs c.select_after.new.receipts.items
-    c.args.lb c.args.session c.args.at (RefusesPick (get_or c.args.books.now c.args.lb c.index-books-lb.result) c.args.at c.in_err-picked.field-0.0)) c.reserve.ensures.items c.in_err-picked.ensures.err in
+    c.args.lb c.args.session c.args.at (IsAskRefusal (λ mark. mark) c.args.at c.in_err-picked.field-0.0 (get_or c.args.books.now c.args.lb c.index-books-lb.result))) c.reserve.ensures.items c.in_err-picked.ensures.err in
     of_error c.from_residual-in_err-picked.result c.in_err-picked.field-0.0 _ c.from_residual-in_err-picked.ensures.1
     (λ f w f' w'. due-hold c.args.books.now c.args.lb (get_or c.args.books.now c.args.lb c.index-books-lb.result) c.select_after.new.book c.args.receipts.now.items c.select_after.new.receipts.items
-    c.args.held.now.items c.reserve-2.new.self.items c.args.session c.args.at f w f' w' (RefusesPick (get_or c.args.books.now c.args.lb c.index-books-lb.result) c.args.at c.in_err-picked.field-0.0) _ here
-    (ask_refusal c.args.books.now c.args.lb (get_or c.args.books.now c.args.lb c.index-books-lb.result) c.args.receipts.now.items c.args.held.now.items f w c.args.at c.in_err-picked.field-0.0 here) due)
+    c.args.held.now.items c.reserve-2.new.self.items c.args.session c.args.at f w f' w' _ _ c.requires.plain.modern c.requires.plain.legal here due)
 
 pub returns-in_err-picked-clause-sizes : goal.returns-in_err-picked-clause-sizes
 returns-in_err-picked-clause-sizes c =
-    sizes-due _ _ _ _ _ _ _ _ (RefusesPick (get_or c.args.books.now c.args.lb c.index-books-lb.result) c.args.at c.in_err-picked.field-0.0)
+    sizes-due _ _ _ _ _ _ _ _ (IsAskRefusal (λ mark. mark) c.args.at c.in_err-picked.field-0.0 (get_or c.args.books.now c.args.lb c.index-books-lb.result))
     (slice_get-get_or c.args.books.now c.args.lb c.index-books-lb.result c.requires.known) c.in_err-picked.ensures.err
 
 pub returns-clause-plain : goal.returns-clause-plain
@@ -73,7 +73,7 @@ returns-clause-ok c =
     c.chosen.ensures.held ∙ ap (λ (xs : List (ℕ × ℕ)). xs ++ pairs_in c.args.lb c.in_ok-picked.picked.entry.answer) c.reserve-2.ensures.items in
     chooses c.args.books.now c.args.lb (get_or c.args.books.now c.args.lb c.index-books-lb.result) c.select_after.new.book c.args.receipts.now.items
     c.select_after.new.receipts.items c.args.held.now.items c.chosen.new.held.items c.args.session c.args.at c.args.ask.now c.in_ok-picked.picked.entry
-    c.chosen.result (slice_get-get_or c.args.books.now c.args.lb c.index-books-lb.result c.requires.known) last c.in_ok-picked.ensures.asked
+    c.chosen.result c.requires.plain.modern c.requires.plain.legal (slice_get-get_or c.args.books.now c.args.lb c.index-books-lb.result c.requires.known) last c.in_ok-picked.ensures.asked
     c.in_ok-picked.ensures.picks c.chosen.ensures.choice tickets
 
 pub returns-clause-sizes : goal.returns-clause-sizes

@@ -7,5 +7,6 @@ pub returns-clause-ok : goal.returns-clause-ok
 returns-clause-ok c = (
   c.in_ok-entry.entry,
   c.in_ok-entry.ensures.ok.asked,
+  c.in_ok-entry.ensures.done,
   gains_last _ _ _ _ _ _ _ _ _ _ _ c.in-Ok.ensures.due c.in_ok-entry.ensures.ok c.in_ok-entry.ensures.next c.note.ensures.added (λ t. refl),
 )

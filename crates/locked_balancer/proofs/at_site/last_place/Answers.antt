@@ -1,6 +1,6 @@
 -- From the end, the first place that is the pair is the last one.
-use Rattle.std.proofs.Common.{◌≡◌, ◌+◌, ◌-◌, ◌<◌, ℕ, suc, true, false, length, drop, get_or, refl, sym, ◌∙◌, subst, arith}
-use Rattle.balancer_core.specs.Desks.{holds, is_pair}
+use Rattle.std.proofs.Common.{◌≡◌, ◌+◌, ◌-◌, ◌<◌, ℕ, suc, false, length, drop, sym, ◌∙◌, subst, arith}
+use Rattle.balancer_core.specs.Desks.{holds}
 use Rattle.locked_balancer.proofs.SharedLaws.{holds_all, holds_drop}
 use Rattle.locked_balancer.proofs.at_site.last_place.Goals as goal
 

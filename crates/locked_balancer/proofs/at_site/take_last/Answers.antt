@@ -1,6 +1,6 @@
 -- Without the last pair that is this.
-use Rattle.std.proofs.Common.{◌≡◌, ℕ, List, sym, ◌∙◌, subst, ap, add-one, ◌++◌, take, drop}
-use Rattle.std.specs.Prelude.{Option, Some, None}
+use Rattle.std.proofs.Common.{ℕ, List, sym, ◌∙◌, subst, ap, add-one, ◌++◌, take, drop}
+use Rattle.std.specs.Prelude.{Some, None}
 use Rattle.locked_balancer.specs.SharedDesks.{IsLastPlace}
 use Rattle.locked_balancer.proofs.SharedLaws.{without_last-at, without_last-none}
 use Rattle.locked_balancer.proofs.at_site.take_last.Goals as goal

@@ -1,11 +1,12 @@
 -- The Maintain that was due, and then the Select.
-use Rattle.std.proofs.Common.{◌≡◌, ◌<◌, false, ap, sym, subst}
+use Rattle.std.proofs.Common.{◌≡◌, ◌<◌, false, inr, refl, subst}
 use Rattle.std.specs.Prelude.{IfSome, Option, slice_index}
 use Rattle.jk_model.specs.Free.{is_in}
 use Rattle.balancer_core.specs.Desks.{LeaseNote}
 use Rattle.balancer_core.specs.declared.receipt.Receipt.{Receipt}
+use Rattle.balancer_core.proofs.HoldLaws.{of_error}
 use Rattle.locked_balancer.specs.Holds.{IsSiteChoice, held}
-use Rattle.locked_balancer.proofs.HoldLaws.{chooses}
+use Rattle.locked_balancer.proofs.HoldLaws.{ask_account, chooses, denied_after, denied_first}
 use Rattle.locked_balancer.proofs.holds.choose_in.Goals as goal
 
 pub returns-clause-ok : goal.returns-clause-ok
@@ -18,3 +19,19 @@ returns-clause-ok g c =
     (subst (λ (l : Option LeaseNote). IfSome l (λ lease. (lease.member < slice_index g.L.SiteName.sizes c.args.lb) × (is_in c.args.ask.now.tried lease.member ≡ false)))
     c.in_ok-receipt.ensures.lease c.in_ok-receipt.ensures.member)
     (subst (λ (r : Receipt). IsSiteChoice c.args.lb r.entry.answer c.choice_of.result) c.receipt.ensures c.choice_of.ensures)
+
+pub returns-in_err-maintain_first-clause-err : goal.returns-in_err-maintain_first-clause-err
+returns-in_err-maintain_first-clause-err g c =
+    of_error c.from_residual.result c.in_err-maintain_first.field-0.0 _ c.from_residual.ensures.1
+    (denied_first (held c.args.site.now c.args.receipts.now.items c.args.share.now.amount)
+    (held c.maintain_first.new.site c.maintain_first.new.receipts.items c.maintain_first.new.share.amount) c.args.lb c.args.session c.args.at _ _
+    c.in_err-maintain_first.ensures.err c.requires.lb (λ b here. inr (refl, c.in_err-maintain_first.ensures.refused b here)))
+
+pub returns-in_err-receipt-clause-err : goal.returns-in_err-receipt-clause-err
+returns-in_err-receipt-clause-err g c =
+    let old = held c.args.site.now c.args.receipts.now.items c.args.share.now.amount in
+    let mid = held c.maintain_first.new.site c.maintain_first.new.receipts.items c.maintain_first.new.share.amount in
+    of_error c.from_residual-in_err-receipt.result c.in_err-receipt.field-0.0 _ c.from_residual-in_err-receipt.ensures.1
+    (denied_after old mid c.select.new.self c.select.new.share.amount c.args.lb c.args.session c.args.at _ _ c.in_ok-maintain_first.ensures.due
+    c.in_err-receipt.ensures.err c.in_err-receipt.ensures.amount
+    (ask_account old mid c.args.lb c.args.session c.args.at c.in_ok-maintain_first.ensures.due c.in_err-receipt.field-0.0 c.in_err-receipt.ensures.full))

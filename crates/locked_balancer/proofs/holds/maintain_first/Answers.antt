@@ -1,18 +1,16 @@
 -- A Maintain where one is due.
-use Rattle.std.proofs.Common.{◌≡◌, Some, refl}
+use Rattle.std.proofs.Common.{◌≡◌, Some}
 use Rattle.std.specs.Prelude.{slice_get}
 use Rattle.balancer_core.specs.Journal.{Journal}
 use Rattle.balancer_core.proofs.HoldLaws.{of_error}
 use Rattle.balancer_core.proofs.ToldLaws.{at_place}
-use Rattle.locked_balancer.specs.Holds.{HoldGainsDue, IsRoomMark, held}
-use Rattle.locked_balancer.proofs.HoldLaws.{due_mark, due_none, maintains}
+use Rattle.locked_balancer.proofs.HoldLaws.{due_mark, maintains, refused_maintain}
 use Rattle.locked_balancer.proofs.holds.maintain_first.Goals as goal
 
-pub returns-in_err-found-clause-due_err : goal.returns-in_err-found-clause-due_err
-returns-in_err-found-clause-due_err g c =
+pub returns-in_err-found-clause-refused : goal.returns-in_err-found-clause-refused
+returns-in_err-found-clause-refused g c =
     of_error c.from_residual.result c.in_err-found.field-0.0 _ c.from_residual.ensures.1
-    (due_none c.args.site.now c.maintain_if_due.new.self c.args.receipts.now.items c.args.share.now.amount c.maintain_if_due.new.share.amount c.args.lb c.args.session c.args.at
-    c.in_err-found.ensures.err c.in_err-found.ensures.amount c.requires.lb)
+    (λ b here. refused_maintain c.args.lb b c.args.at c.in_err-found.field-0.0 (c.in_err-found.ensures.due b here))
 
 pub returns-in_err-found-clause-mark : goal.returns-in_err-found-clause-mark
 returns-in_err-found-clause-mark g c =

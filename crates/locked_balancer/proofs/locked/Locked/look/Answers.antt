@@ -2,7 +2,7 @@
 use Rattle.std.proofs.Common.{◌≤◌, List, sym, subst}
 use Rattle.balancer_core.specs.Journal.{Journal}
 use Rattle.locked_balancer.specs.Sites.{added_in}
-use Rattle.locked_balancer.proofs.LockLaws.{if_ok, look_next, look_rows, sited_within}
+use Rattle.locked_balancer.proofs.LockLaws.{if_ok, look_next, look_present, look_rows, sited_within}
 use Rattle.locked_balancer.proofs.locked.Locked.look.Goals as goal
 
 pub returns-clause-rows : goal.returns-clause-rows
@@ -17,4 +17,11 @@ returns-clause-next g c =
     if_ok c.view.result _ _
     (λ v present. look_next g.L.SiteName.sizes g.L.SiteName.firsts c.audit.new.self c.args.lb c.args.share.now.amount v.view c.audit.ensures.named
     (sited_within g.L.SiteName.sizes g.L.SiteName.firsts c.audit.new.self c.args.lb c.audit.ensures.named c.requires.lb) most present)
+    c.view.ensures.present
+
+pub returns-clause-present : goal.returns-clause-present
+returns-clause-present g c =
+    if_ok c.view.result _ _
+    (λ v present. look_present g.L.SiteName.sizes g.L.SiteName.firsts c.audit.new.self c.args.lb v.view c.audit.ensures.named
+    (sited_within g.L.SiteName.sizes g.L.SiteName.firsts c.audit.new.self c.args.lb c.audit.ensures.named c.requires.lb) present)
     c.view.ensures.present

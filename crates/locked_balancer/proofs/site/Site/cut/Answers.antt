@@ -23,6 +23,7 @@ returns-clause-cut g c =
       found = here;
       balancer = refl;
       whole = c.in_ok-segment.ensures.whole;
+      legal = c.in_ok-segment.ensures.legal;
       is_cut = c.in_ok-segment.ensures.cut;
       others = refl;
     })

@@ -1,0 +1,2 @@
+pub mod CloseErrors
+pub mod Closings

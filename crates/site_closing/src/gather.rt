@@ -1,0 +1,111 @@
+//! What the desks of a Site brought together.
+ghost use Rattle.std.specs.Prelude.{◌≡◌, ◌+◌, ◌<◌, ◌≤◌, ◌↔◌, ◌++◌, [], ◌∷◌, false, length, map, sum_by, IfOk, OnOk, vec_len, vec_capacity};
+ghost use Rattle.std.specs.List.{All, flat_map};
+ghost use Rattle.site_closing.specs.Closings.{noted};
+
+use crate::compare::Noted;
+use jk_io::{ListOf, NoMemory};
+use locked_balancer::{Leaving, SiteName, SiteReceiptList};
+use std::alloc::Global;
+use std::sync::ledger::Share;
+
+/// What desks left, in order.
+pub type LeavingList<L, S> = ListOf<Leaving<L, S>>;
+
+/// Shelves, in order.
+pub type ShelfList<S> = ListOf<S>;
+
+/// The shares as one, the entries of the receipts, the shelves in order, and whether a desk forgot a receipt.
+#[derive(Drop)]
+pub(crate) struct Gathered<L: SiteName, S> {
+    pub(crate) share: Share<L>,
+    pub(crate) noted: Vec<Noted>,
+    pub(crate) shelves: Vec<S>,
+    pub(crate) forgot: bool,
+}
+
+/// Takes everything that desks left together.
+pub(crate) fn gather<L: SiteName, S: Drop>(
+    leaving: LeavingList<L, S>,
+) -> Result<Gathered<L, S>, NoMemory>
+    requires some { 0 < length leaving }
+    ensures parts { IfOk result (λ g. g.share.parts ≡ sum_by (λ l. l.share.parts) leaving) }
+    ensures amount { IfOk result (λ g. g.share.amount ≡ sum_by (λ l. l.share.amount) leaving) }
+    ensures noted { IfOk result (λ g. g.noted.items ≡ noted (flat_map (λ l. l.receipts) leaving)) }
+    ensures shelves { IfOk result (λ g. g.shelves.items ≡ map (λ l. l.shelf) leaving) }
+    ensures forgot { IfOk result (λ g. (g.forgot ≡ false) ↔ All (λ l. l.forgotten ≡ 0) leaving) }
+{
+    let alloc = leaving.allocator();
+    let mut leaving = leaving.into_vec();
+    let first = leaving.remove(0);
+    let mut all = begin(alloc, first, leaving.len())?;
+    for left in leaving {
+        take(&mut all, left)?;
+    }
+    Ok(all)
+}
+
+// Takes what the first desk left, and the room for `more` shelves.
+fn begin<L: SiteName, S: Drop>(
+    alloc: Global,
+    first: Leaving<L, S>,
+    more: usize,
+) -> Result<Gathered<L, S>, NoMemory>
+    ensures parts { IfOk result (λ all. all.share.parts ≡ first.share.parts) }
+    ensures amount { IfOk result (λ all. all.share.amount ≡ first.share.amount) }
+    ensures noted { IfOk result (λ all. all.noted.items ≡ noted first.receipts) }
+    ensures shelves { IfOk result (λ all. all.shelves.items ≡ first.shelf ∷ []) }
+    ensures room { IfOk result (λ all. vec_len all.shelves + more ≤ vec_capacity all.shelves) }
+    ensures forgot { IfOk result (λ all. (all.forgot ≡ false) ↔ (first.forgotten ≡ 0)) }
+{
+    let Leaving {
+        share,
+        receipts,
+        forgotten,
+        shelf,
+    } = first;
+    let mut list = Vec::new(alloc);
+    note_all(&mut list, receipts)?;
+    let mut shelves = Vec::new(alloc);
+    shelves.push(shelf)?;
+    shelves.reserve(more)?;
+    Ok(Gathered {
+        share,
+        noted: list,
+        shelves,
+        forgot: forgotten != 0,
+    })
+}
+
+// Takes what one desk left.
+fn take<L: SiteName, S: Drop>(all: &mut Gathered<L, S>, left: Leaving<L, S>) -> Result<(), NoMemory>
+    requires room { vec_len all.old.shelves < vec_capacity all.old.shelves }
+    ensures parts { all.new.share.parts ≡ all.old.share.parts + left.share.parts }
+    ensures amount { all.new.share.amount ≡ all.old.share.amount + left.share.amount }
+    ensures noted { OnOk result (all.new.noted.items ≡ all.old.noted.items ++ noted left.receipts) }
+    ensures shelves { OnOk result (all.new.shelves.items ≡ all.old.shelves.items ++ left.shelf ∷ []) }
+    ensures room { vec_capacity all.old.shelves ≤ vec_capacity all.new.shelves }
+    ensures forgot { (all.new.forgot ≡ false) ↔ ((all.old.forgot ≡ false) × (left.forgotten ≡ 0)) }
+{
+    let Leaving {
+        share,
+        receipts,
+        forgotten,
+        shelf,
+    } = left;
+    all.share.merge(share);
+    all.forgot = all.forgot || forgotten != 0;
+    note_all(&mut all.noted, receipts)?;
+    all.shelves.push(shelf).unwrap();
+    Ok(())
+}
+
+fn note_all<L>(list: &mut Vec<Noted>, receipts: SiteReceiptList<L>) -> Result<(), NoMemory>
+    ensures { OnOk result (list.new.items ≡ list.old.items ++ noted receipts) }
+{
+    for receipt in receipts.as_slice() {
+        let receipt = receipt.receipt();
+        list.push((receipt.lb, receipt.entry))?;
+    }
+    Ok(())
+}
