@@ -11,8 +11,6 @@ mod attributes;
 mod first_piece;
 mod laws;
 mod request;
-#[cfg(test)]
-mod tests;
 
 pub use first_piece::{first_len, piece_of};
 pub use laws::{

@@ -8,8 +8,6 @@
 
 mod options;
 mod rule;
-#[cfg(test)]
-mod tests;
 
 pub use options::RecoveryOption;
 pub use rule::{bytes_passed_forbid, may_retry, whole_request_goes_once};

@@ -11,8 +11,6 @@ mod cuts;
 mod ids;
 mod paths;
 mod routes;
-#[cfg(test)]
-mod tests;
 
 pub use ids::{IdList, session_ids};
 pub use routes::routed;

@@ -1,0 +1,15 @@
+-- The talk was held on the link that was begun, and the reach noted it.
+use Rattle.ajp_wire.specs.Moments.{link_at}
+use Rattle.exchange.proofs.OneTalkLaws.{was_held}
+use Rattle.exchange.proofs.one_talk.one_talk.Goals as goal
+
+pub returns-clause-talk : goal.returns-clause-talk
+returns-clause-talk g c =
+    was_held c.args.lb c.args.member c.args.endpoint.now c.args.plan.now c.args.fresh c.in-Ok.dialled _ _
+    (link_at g.R.Meanings c.begin.new.self)
+    (link_at g.R.Meanings c.talk-end.new.line)
+    c.talk-end.result (g.R.Meanings.beside c.begin.new.self) (g.R.Meanings.beside c.talk-end.new.line)
+    c.in-Ok.ensures.new_link c.begin.ensures.nothing_yet
+    (rw c.pings-plan.ensures at c.talk-end.ensures.talk) (rw c.pings-plan.ensures at c.talk-end.ensures.complete)
+    c.in-Ok.ensures.begun c.talk-end.ensures.beside.0 c.in-Ok.ensures.ok (rw c.keeps.ensures at c.finish.ensures.noted)
+    c.begin.ensures.cause.no_fewer c.talk-end.ensures.no_fewer.0 c.finish.ensures.same_faults c.talk-end.ensures.no_fewer.1

@@ -1,0 +1,168 @@
+-- What an exchange's end says of its client: what was written to it, and what was used of its bytes.
+use Rattle.std.specs.Prelude.{◌≡◌, ℕ, ◌+◌, ◌≤◌, ◌⊎◌, Bool, true, false, List, [], ◌∷◌, ◌++◌, length, take, slice_get, Some, None, IfSome, Ok}
+use Rattle.jk_io.specs.Told.{appended, PutsFront, Rose}
+use Rattle.jk_model.specs.declared.member.MemberConfig.{MemberConfig}
+use Rattle.jk_model.specs.declared.journal.Answer.{Answer}
+use Rattle.jk_model.specs.declared.journal.Answer.TheVariants as answer
+use Rattle.balancer_core.specs.Desks.{DeskState, MeetsNone, RisesByOne}
+use Rattle.balancer_core.specs.declared.receipt.Receipt.{Receipt}
+use Rattle.ajp_request.specs.Writing.{Fits}
+use Rattle.ajp_reply.specs.declared.message.Message.{Message}
+use Rattle.ajp_reply.specs.declared.message.Message.TheVariants.{End}
+use Rattle.ajp_talk.specs.Moments.{Takes, data_at}
+use Rattle.ajp_talk.specs.Replies.{IsReply, IsUnlisted, bytes_for, passed_of, reply_of_talk, so_far_of_talk}
+use Rattle.ajp_talk.specs.Talk.{Accepts, IsFrontOrForm}
+use Rattle.ajp_talk.specs.declared.ending.Cause.{Cause}
+use Rattle.ajp_talk.specs.declared.ending.Stage.{Stage}
+use Rattle.ajp_talk.specs.declared.ending.TalkEnd.{TalkEnd}
+use Rattle.ajp_talk.specs.declared.ending.TalkEnd.TheVariants as ends
+use Rattle.ajp_talk.specs.declared.ending.Told.{Told}
+use Rattle.ajp_talk.specs.declared.plan.TalkPlan.{TalkPlan}
+use Rattle.forwarding.specs.FirstPiece.{first_len}
+use Rattle.forwarding.specs.Forwards.{forward_for}
+use Rattle.http_body_in.specs.Body.{dropped}
+use Rattle.http_body_in.specs.State.{most_of, taken_of}
+use Rattle.http_out.specs.Own.{own_bytes, own_of}
+use Rattle.http_out.specs.declared.own_answers.Own.{Own}
+use Rattle.site_config.specs.declared.endpoint.Endpoint.{Endpoint}
+use Rattle.exchange.specs.Ends.{is_status}
+use Rattle.exchange.specs.OneTalk.{Around, IsHeld, IsOneTalk}
+use Rattle.exchange.specs.Requests.{Errand, allows, is_head, plan_for}
+use Rattle.exchange.specs.Rounds.{Scene}
+use Rattle.exchange.specs.declared.ending.ExchangeEnd.{ExchangeEnd}
+use Rattle.exchange.specs.declared.ending.ExchangeEnd.TheVariants as exchange_end
+
+-- The talk after which an exchange ended. Before it nothing was written to the client, and just the first piece was
+-- taken of the body.
+pub record HasLastTalk (q : Errand) (member : ℕ) (s n : Around) (end : TalkEnd) : Type 0 where
+  pub config : MemberConfig
+  pub endpoint : Endpoint
+  pub configured : slice_get q.balancer.book.members member ≡ Some config
+  pub reached : slice_get q.balancer.ends member ≡ Some endpoint
+  pub first : List ℕ
+  pub fresh : Bool
+  pub begun : Around
+  pub piece : IfSome (data_at s.body) (λ d. first ≡ take (first_len q.head.plan q.balancer.ends) d.bytes)
+  pub takes : Takes s.body begun.body first
+  pub left : data_at begun.body ≡ dropped (first_len q.head.plan q.balancer.ends) (data_at s.body)
+  pub unwritten : begun.client.sent ≡ s.client.sent
+  pub talk : IsHeld q.lb member endpoint (plan_for q first config endpoint) fresh begun n (Ok end)
+
+-- the plan of that talk
+abbrev pub plan_in : (q : Errand) (member : ℕ) (s n : Around) (end : TalkEnd) → HasLastTalk q member s n end → TalkPlan
+plan_in q member s n end last = plan_for q last.first last.config last.endpoint
+
+-- The client has the whole reply of these messages, and the body stands where it was taken to.
+pub record GetsReply (q : Errand) (member : ℕ) (told : Told) (s n : Around) : Type 0 where
+  pub reuse : Bool
+  pub moved : ℕ
+  pub last : HasLastTalk q member s n (ends.Done told reuse moved)
+  pub past : List Message
+  pub came : List ℕ
+  pub reply : IsReply (plan_in q member s n (ends.Done told reuse moved) last) (End reuse ∷ past) came
+  pub unlisted : IsUnlisted (plan_in q member s n (ends.Done told reuse moved) last) past
+  pub written : n.client.sent ≡ appended s.client.sent (reply_of_talk (plan_in q member s n (ends.Done told reuse moved) last) past)
+  pub taken : List ℕ
+  pub takes : Takes s.body n.body taken
+
+-- a member whose packets don't hold the Forward Request
+pub record IsTooLarge (q : Errand) : Type 0 where
+  pub member : ℕ
+  pub config : MemberConfig
+  pub endpoint : Endpoint
+  pub configured : slice_get q.balancer.book.members member ≡ Some config
+  pub reached : slice_get q.balancer.ends member ≡ Some endpoint
+  pub unfit : Fits endpoint.packet (forward_for q.head q.peer q.balancer.book.direct config endpoint) → ⊥
+
+-- how a talk ends that leaves a reply broken off
+abbrev pub IsBreak : TalkEnd → Told → Type 0
+IsBreak (ends.Done told reuse moved) t = ⊥
+IsBreak (ends.Failed stage cause told moved) t = told ≡ Some t
+IsBreak (ends.ClientGone truncated keep moved) t = ⊥
+IsBreak (ends.BadBody status told passed moved) t = told ≡ Some t
+
+-- The client has what the accepted messages make of a reply so far, at least a byte.
+pub record GetsCut (q : Errand) (member : ℕ) (told : Told) (s n : Around) : Type 0 where
+  pub end : TalkEnd
+  pub is_break : IsBreak end told
+  pub last : HasLastTalk q member s n end
+  pub past : List Message
+  pub came : List ℕ
+  pub accepts : Accepts (plan_in q member s n end last) past came
+  pub passed : passed_of (plan_in q member s n end last) past ≡ true
+  pub written : n.client.sent ≡ appended s.client.sent (so_far_of_talk (plan_in q member s n end last) past)
+
+-- These bytes are nothing, an own answer, or what messages make of a reply, so far or whole.
+abbrev pub IsDue : Errand → List ℕ → Type 0
+IsDue q bytes =
+    (bytes ≡ [])
+    ⊎ (((status : ℕ) × (own : Own) × (own_of status ≡ Some own) × (bytes ≡ own_bytes own (is_head q.head)))
+    ⊎ ((first : List ℕ) × (config : MemberConfig) × (endpoint : Endpoint) × (past : List Message) × IsFrontOrForm past
+    × ((bytes ≡ so_far_of_talk (plan_for q first config endpoint) past) ⊎ (bytes ≡ bytes_for (plan_for q first config endpoint) past))))
+
+-- A front of something was written that the client was to get.
+pub record GetsFront (q : Errand) (s n : Around) : Type 0 where
+  pub whole : List ℕ
+  pub is_due : IsDue q whole
+  pub written : PutsFront s.client.sent n.client.sent whole
+
+-- The receipts that were added end with one of this answer.
+pub record EndsWith (old new : DeskState) (answer' : Answer) : Type 0 where
+  pub before : List Receipt
+  pub last : Receipt
+  pub receipts : new.receipts ≡ old.receipts ++ (before ++ last ∷ [])
+  pub answered : last.entry.answer ≡ answer'
+
+-- The last talk failed by this cause, no byte was passed, and its member's options forbid another try.
+pub record GivesUp (q : Errand) (s n : Around) (cause : Cause) : Type 0 where
+  pub member : ℕ
+  pub config : MemberConfig
+  pub endpoint : Endpoint
+  pub configured : slice_get q.balancer.book.members member ≡ Some config
+  pub reached : slice_get q.balancer.ends member ≡ Some endpoint
+  pub first : List ℕ
+  pub fresh : Bool
+  pub begun : Around
+  pub over : Around
+  pub stage : Stage
+  pub moved : ℕ
+  pub talk : IsOneTalk q.lb member endpoint (plan_for q first config endpoint) fresh begun over (Ok (ends.Failed stage cause None moved))
+  pub forbidden : allows endpoint q.head stage ≡ false
+  pub rest : n ≡ record over { client = n.client }
+
+-- The client has this own answer whole. Its cause is by its status: a bad chunk line; a packet that is too large, or a body
+-- that reached its limit; a session's member that doesn't serve, or a full journal; a talk that failed, for 503 by its
+-- reply's status; or no member to choose.
+pub record GetsOwn (q : Errand) (status : ℕ) (s n : Scene) : Type 0 where
+  pub own : Own
+  pub is_own : own_of status ≡ Some own
+  pub written : n.around.client.sent ≡ appended s.around.client.sent (own_bytes own (is_head q.head))
+  pub bad_line : status ≡ 400 → IfSome (data_at s.around.body) (λ d. (d.whole ≡ false) × (d.bad ≡ true))
+  pub too_large : status ≡ 413
+      → IsTooLarge q ⊎ IfSome (data_at s.around.body) (λ d. most_of s.around.body.body ≤ taken_of s.around.body.body + length d.bytes)
+  pub internal : status ≡ 500 → EndsWith s.desk n.desk answer.Forced ⊎ Rose s.desk.fulls n.desk.fulls
+  pub gateway : status ≡ 502 → (cause : Cause) × (is_status cause ≡ false) × GivesUp q s.around n.around cause
+  pub unavailable : status ≡ 503
+      → EndsWith s.desk n.desk answer.NoMember ⊎ ((cause : Cause) × (is_status cause ≡ true) × GivesUp q s.around n.around cause)
+
+-- What the client has, by the end of the exchange. Truncated comes only where its bytes ended within the body, ClientFault
+-- only where its faults rose, and Stray only where the desk's strays rose.
+abbrev pub Gives : Errand → Scene → Scene → ExchangeEnd → Type 0
+Gives q s n (exchange_end.Done member told) = GetsReply q member told s.around n.around
+Gives q s n (exchange_end.Own status) = GetsOwn q status s n
+Gives q s n (exchange_end.Cut member told) = GetsCut q member told s.around n.around
+Gives q s n exchange_end.ClientFault = Rose s.around.client.faults n.around.client.faults × GetsFront q s.around n.around
+Gives q s n exchange_end.Truncated =
+    IfSome (data_at s.around.body) (λ d. (d.whole ≡ false) × (d.bad ≡ false)) × GetsFront q s.around n.around
+Gives q s n (exchange_end.Stray ticket returned_at) = Rose s.desk.strays n.desk.strays × GetsFront q s.around n.around
+Gives q s n exchange_end.NoMemory = GetsFront q s.around n.around
+
+-- A stray was met where the exchange ended by one, and there alone.
+abbrev pub MeetsAt : ExchangeEnd → DeskState → DeskState → Type 0
+MeetsAt (exchange_end.Done member told) old new = MeetsNone old new
+MeetsAt (exchange_end.Own status) old new = MeetsNone old new
+MeetsAt (exchange_end.Cut member told) old new = MeetsNone old new
+MeetsAt exchange_end.ClientFault old new = MeetsNone old new
+MeetsAt exchange_end.Truncated old new = MeetsNone old new
+MeetsAt (exchange_end.Stray ticket returned_at) old new = RisesByOne old.strays new.strays × (new.met ≡ true)
+MeetsAt exchange_end.NoMemory old new = MeetsNone old new

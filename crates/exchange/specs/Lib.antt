@@ -1,0 +1,11 @@
+pub mod Requests
+pub mod OneTalk
+pub mod Ends
+pub mod Talks
+pub mod Rounds
+pub mod FirstPiece
+pub mod Exchanges
+pub mod Clients
+pub mod WholeTalks
+pub mod Complete
+pub mod Steps

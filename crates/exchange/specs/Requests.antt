@@ -1,0 +1,95 @@
+-- A request as a balancer is asked for it, and as a talk is planned for a member.
+use Rattle.std.specs.Prelude.{ℕ, Bool, true, false, List, [], ◌∷◌, length, map, codes, bytes_eq, Option, None, if◌then◌else◌}
+use Rattle.ajp_talk.specs.declared.ending.Stage.{Stage}
+use Rattle.ajp_talk.specs.declared.plan.TalkPlan.{TalkPlan}
+use Rattle.forwarding.specs.FirstPiece.{piece_for}
+use Rattle.forwarding.specs.Forwards.{packet_for}
+use Rattle.http_front.specs.declared.head.Head.{Head}
+use Rattle.jk_io.specs.declared.traits.surroundings.Peer.{Peer}
+use Rattle.jk_model.specs.declared.ask.Ask.{Ask}
+use Rattle.jk_model.specs.declared.member.MemberConfig.{MemberConfig}
+use Rattle.recovery_rule.specs.Recovery.{is_on, may_retry_of}
+use Rattle.recovery_rule.specs.declared.options.RecoveryOption.TheVariants.{CloseWithClient}
+use Rattle.site_config.specs.declared.endpoint.Endpoint.{Endpoint}
+use Rattle.sticky_routes.specs.Ids.{ids_of}
+use Rattle.sticky_routes.specs.Routes.{routed_of}
+use Rattle.jk_model.specs.declared.ask.Terms.{Terms}
+use Rattle.site_config.specs.declared.balancer.Lb.{Lb}
+use Rattle.exchange.specs.declared.request.Request.{Request}
+
+-- What an exchange is to do: a client's request, and the balancer where it is mounted.
+pub record Errand : Type 0 where
+  pub head : Head
+  pub peer : List ℕ
+  pub last : Bool
+  pub session : ℕ
+  pub lb : ℕ
+  pub balancer : Lb
+  pub terms : Terms
+
+abbrev pub errand : Head → Peer → (last : Bool) → (session lb : ℕ) → Terms → Lb → Errand
+errand head peer last session lb terms balancer = record {
+  head = head;
+  peer = peer.addr;
+  last = last;
+  session = session;
+  lb = lb;
+  balancer = balancer;
+  terms = terms;
+}
+
+abbrev pub errand_of : Request → Errand
+errand_of q = errand q.head.now q.peer.now q.last q.session q.lb q.terms q.balancer.now
+
+-- the numbers of members of these balancers
+abbrev pub sizes_of : List Lb → List ℕ
+sizes_of lbs = map (λ lb. length lb.book.members) lbs
+
+abbrev pub is_get : Head → Bool
+is_get head = bytes_eq head.method (codes "GET")
+
+abbrev pub is_head : Head → Bool
+is_head head = bytes_eq head.method (codes "HEAD")
+
+-- the session ids of the request, by the balancer's cookie and path
+abbrev pub ids_in : Errand → List (List ℕ)
+ids_in q = ids_of q.head q.balancer.cookie q.balancer.path
+
+-- the member that its session names, unless the mount ignores sessions
+abbrev pub route_in : Errand → Option ℕ
+route_in q = if q.terms.sticky_ignore then None else routed_of (ids_in q) q.balancer.book.members
+
+abbrev pub is_none_there : List (List ℕ) → Bool
+is_none_there [] = true
+is_none_there (id ∷ ids) = false
+
+-- What the balancer is asked, where these members were tried: the mount's terms go with it, and a request without a
+-- session id is fresh.
+abbrev pub ask_for : Errand → ℕ → Ask
+ask_for q tried = record {
+  routed = route_in q;
+  fresh = is_none_there (ids_in q);
+  tried = tried;
+  disabled = q.terms.disabled;
+  stopped = q.terms.stopped;
+}
+
+-- how a member's talk goes, where this piece of the body was taken before
+abbrev pub plan_for : Errand → (first : List ℕ) → MemberConfig → Endpoint → TalkPlan
+plan_for q first member endpoint = record {
+  forward = packet_for q.head q.peer q.balancer.book.direct member endpoint;
+  first = first;
+  piece = piece_for endpoint;
+  packet = endpoint.packet;
+  ping = false;
+  most = 1099511627776;
+  old = q.head.old;
+  head_only = is_head q.head;
+  last = q.last;
+  close_on_client = is_on endpoint.recovery CloseWithClient;
+  fail_on = endpoint.fail_on;
+}
+
+-- the member's options allow another try after a talk that came so far
+abbrev pub allows : Endpoint → Head → Stage → Bool
+allows endpoint head stage = may_retry_of endpoint.recovery (is_head head) (is_get head) stage.got stage.headers stage.passed stage.beyond

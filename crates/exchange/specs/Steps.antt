@@ -1,0 +1,85 @@
+-- The steps that an exchange is made of: what follows a round, by how its last talk ended.
+use Rattle.std.specs.Prelude.{◌≡◌, ℕ, ◌≤◌, ◌⊎◌, Bool, true, false, List, Option, Some, None, IfSome, if◌then◌else◌}
+use Rattle.jk_io.specs.Told.{appended, PutsFront, Rose}
+use Rattle.jk_model.specs.declared.refusal.Stray.{Stray}
+use Rattle.jk_io.specs.Moments.{Moment}
+use Rattle.ajp_talk.specs.declared.ending.Cause.{Cause}
+use Rattle.ajp_talk.specs.declared.ending.TalkEnd.{TalkEnd}
+use Rattle.ajp_talk.specs.declared.ending.TalkEnd.TheVariants as ends
+use Rattle.ajp_talk.specs.declared.ending.Told.{Told}
+use Rattle.http_front.specs.declared.head.Head.{Head}
+use Rattle.http_out.specs.Own.{own_bytes, own_of}
+use Rattle.site_config.specs.declared.endpoint.Endpoint.{Endpoint}
+use Rattle.exchange.specs.Ends.{status_for}
+use Rattle.exchange.specs.Requests.{Errand, allows}
+use Rattle.exchange.specs.Rounds.{FindsNone, IsForced, IsFull, IsRound, IsUnchosen, Round, Scene, WantsMemory}
+use Rattle.exchange.specs.declared.ending.ExchangeEnd.{ExchangeEnd}
+use Rattle.exchange.specs.declared.ending.ExchangeEnd.TheVariants as exchange_end
+use Rattle.exchange.specs.declared.ending.Ran.{Ran}
+use Rattle.exchange.specs.declared.ending.Ran.TheVariants as ran_is
+use Rattle.exchange.specs.declared.ending.Verdict.{Verdict}
+use Rattle.exchange.specs.declared.ending.Verdict.TheVariants as verdict
+
+-- after a talk that failed where no other try is allowed: the client is closed where a byte was passed, else it gets 503
+-- for a status that counts as a failure, and 502 for any other cause
+abbrev pub after_failure : ℕ → Cause → Option Told → Verdict
+after_failure member cause (Some told) = verdict.End (exchange_end.Cut member told)
+after_failure member cause None = verdict.Answer (status_for cause)
+
+abbrev pub after_bad_body : ℕ → ℕ → Option Told → Verdict
+after_bad_body member status (Some told) = verdict.End (exchange_end.Cut member told)
+after_bad_body member status None = verdict.Answer status
+
+abbrev pub after_client : Bool → Verdict
+after_client true = verdict.End exchange_end.Truncated
+after_client false = verdict.End exchange_end.ClientFault
+
+-- what follows the last talk of a round
+abbrev pub after : Endpoint → Head → ℕ → TalkEnd → Verdict
+after endpoint head member (ends.Done told reuse bytes) = verdict.End (exchange_end.Done member told)
+after endpoint head member (ends.Failed stage cause told bytes) =
+    if allows endpoint head stage then verdict.Again member else after_failure member cause told
+after endpoint head member (ends.ClientGone truncated keep bytes) = after_client truncated
+after endpoint head member (ends.BadBody status told passed bytes) = after_bad_body member status told
+
+-- what follows a round: 413 where the Forward Request is too large for the member
+abbrev pub verdict_for : Endpoint → Head → ℕ → Ran → Verdict
+verdict_for endpoint head member ran_is.TooLarge = verdict.Answer 413
+verdict_for endpoint head member (ran_is.Wanted bytes) = verdict.End exchange_end.NoMemory
+verdict_for endpoint head member (ran_is.Ended end bytes) = after endpoint head member end
+
+-- The desk chose no member: 503 where none may be chosen, 500 where it is forced or full.
+abbrev pub IsNoChoice : Errand → (tried : ℕ) → Scene → Scene → Verdict → Type 0
+IsNoChoice q tried s n v =
+    ((v ≡ verdict.Answer 503) × IsUnchosen q s n (FindsNone q tried))
+    ⊎ (((v ≡ verdict.Answer 500) × IsUnchosen q s n (IsForced q tried))
+    ⊎ (((v ≡ verdict.Answer 500) × IsUnchosen q s n (IsFull q))
+    ⊎ ((v ≡ verdict.End exchange_end.NoMemory) × IsUnchosen q s n (WantsMemory q))))
+
+-- What a round comes to.
+abbrev pub IsStep : Errand → (first : List ℕ) → (tried : ℕ) → (fresh : Bool) → Scene → Scene → Verdict → Type 0
+IsStep q first tried fresh s n v =
+    IsNoChoice q tried s n v
+    ⊎ (((r : Round) × IsRound q first tried fresh s n r None × (v ≡ verdict_for r.endpoint q.head r.member r.ran))
+    ⊎ ((r : Round) × (stray : Stray) × IsRound q first tried fresh s n r (Some stray)
+    × (v ≡ verdict.End (exchange_end.Stray stray.ticket stray.returned_at))))
+
+-- An own answer was written whole; or a front of it, where the client failed or memory was wanted.
+abbrev pub IsWritten : (status : ℕ) → (head_only : Bool) → Moment → Moment → ExchangeEnd → Type 0
+IsWritten status head_only s n (exchange_end.Done member told) = ⊥
+IsWritten status head_only s n (exchange_end.Own written) =
+    (written ≡ status) × IfSome (own_of status) (λ own. n.sent ≡ appended s.sent (own_bytes own head_only))
+IsWritten status head_only s n (exchange_end.Cut member told) = ⊥
+IsWritten status head_only s n exchange_end.ClientFault =
+    Rose s.faults n.faults × IfSome (own_of status) (λ own. PutsFront s.sent n.sent (own_bytes own head_only))
+IsWritten status head_only s n exchange_end.Truncated = ⊥
+IsWritten status head_only s n (exchange_end.Stray ticket returned_at) = ⊥
+IsWritten status head_only s n exchange_end.NoMemory = IfSome (own_of status) (λ own. PutsFront s.sent n.sent (own_bytes own head_only))
+
+-- The last round's verdict: the answer is written, and nothing else done; or the exchange ended with the round.
+abbrev pub Concludes : (head_only : Bool) → Verdict → Scene → Scene → ExchangeEnd → Type 0
+Concludes head_only (verdict.Again member) s n end = ⊥
+Concludes head_only (verdict.Answer status) s n end =
+    (n ≡ record s { around = record s.around { client = n.around.client } }) × (s.around.client.faults ≤ n.around.client.faults)
+    × IsWritten status head_only s.around.client n.around.client end
+Concludes head_only (verdict.End ended) s n end = (end ≡ ended) × (n ≡ s)

@@ -1,0 +1,157 @@
+//! `exchange`: a request, from the first piece of its body to what its client has.
+ghost use Rattle.std.specs.Prelude.{◌≡◌, ◌≤◌, ◌<◌, ◌^◌, false, None, Some, length, slice_get, slice_index, IfSome};
+ghost use Rattle.http_front.specs.Unread.{unread};
+ghost use Rattle.http_body_in.specs.Places.{start_of};
+ghost use Rattle.http_body_in.specs.State.{failed_of, place_of, taken_of};
+ghost use Rattle.ajp_talk.specs.Moments.{IsUsed};
+ghost use Rattle.site_config.specs.declared.balancer.Lb.{Lb as AnyLb};
+ghost use Rattle.exchange.specs.Clients.{Gives, MeetsAt};
+ghost use Rattle.exchange.specs.Complete.{Completes};
+ghost use Rattle.exchange.specs.Exchanges.{IsExchange};
+ghost use Rattle.exchange.specs.OneTalk.{around};
+ghost use Rattle.exchange.specs.Requests.{errand, errand_of, sizes_of};
+ghost use Rattle.exchange.specs.Rounds.{IsDeskAfter, scene};
+ghost use Rattle.exchange.specs.WholeTalks.{IsWholeOnce};
+
+use crate::all_rounds::all_rounds;
+use crate::ending::ExchangeEnd;
+use crate::first_piece::take_first;
+use crate::planning::ask_of;
+use crate::request::Request;
+use balancer_core::Desk;
+use http_body_in::BodyIn;
+use http_front::{Head, Inbox};
+use jk_io::{Clock, Link, NoMemory, Peer, Reach};
+use jk_model::Terms;
+use site_config::Config;
+use std::alloc::Global;
+
+/// Sends a request to members of balancer `lb` until its client has an answer, or is to have none.
+///
+/// No talk of the reach runs before the call or after it, and the desk then holds the tickets that it held before.
+/// `body` is the body of the head's plan, and nothing was taken of it.
+pub fn exchange<B: Desk, R: Reach, C: Link, K: Clock>(
+    alloc: Global,
+    cfg: &Config,
+    lb: u32,
+    terms: &Terms,
+    session: u32,
+    peer: &Peer,
+    head: &Head,
+    last: bool,
+    body: &mut BodyIn,
+    inbox: &mut Inbox,
+    desk: &mut B,
+    reach: &mut R,
+    client: &mut C,
+    clock: &mut K,
+) -> ExchangeEnd
+where
+    B::Mark: Drop,
+    requires lb { lb < length cfg.now.lbs }
+    requires caller { IfSome (B.state desk.old).caller (λ n. session ≡ n) }
+    requires desk_sizes { (B.state desk.old).sizes ≡ sizes_of cfg.now.lbs }
+    requires reach_sizes { (R.beside reach.old).sizes ≡ sizes_of cfg.now.lbs }
+    requires idle { (R.beside reach.old).runs ≡ false }
+    requires place { place_of body.old ≡ start_of head.now.plan }
+    requires taken { taken_of body.old ≡ 0 }
+    requires going { failed_of body.old ≡ None }
+
+    // The rounds that were gone through, and how the last one ended.
+    ensures exchange { (balancer : AnyLb) → slice_get cfg.now.lbs lb ≡ Some balancer
+        → let at = scene B.state K.answers R.Meanings C.Meanings in
+        IsExchange (errand head.now peer.now last session lb terms.now balancer)
+        (at desk.old clock.old reach.old client.old body.old inbox.old) (at desk.new clock.new reach.new client.new body.new inbox.new) result }
+
+    // What the client has at each end, and that its bytes were used from the front.
+    ensures client { (balancer : AnyLb) → slice_get cfg.now.lbs lb ≡ Some balancer
+        → let at = scene B.state K.answers R.Meanings C.Meanings in
+        Gives (errand head.now peer.now last session lb terms.now balancer)
+        (at desk.old clock.old reach.old client.old body.old inbox.old) (at desk.new clock.new reach.new client.new body.new inbox.new) result }
+    ensures used { IsUsed (record { body = body.old; unread = unread inbox.old (C.incoming client.old) })
+        (record { body = body.new; unread = unread inbox.new (C.incoming client.new) }) }
+
+    // Where each member has option 1 and neither 8 nor 16, the request is sent whole at most once.
+    ensures whole_once { (balancer : AnyLb) → slice_get cfg.now.lbs lb ≡ Some balancer
+        → let at = around R.Meanings C.Meanings in
+        IsWholeOnce (errand head.now peer.now last session lb terms.now balancer)
+        (at reach.old client.old body.old inbox.old) (at reach.new client.new body.new inbox.new) }
+
+    // Where the first link has a whole reply to come and nothing fails, the client has it after that one talk.
+    ensures complete { (balancer : AnyLb) → slice_get cfg.now.lbs lb ≡ Some balancer
+        → let at = scene B.state K.answers R.Meanings C.Meanings in
+        Completes (errand head.now peer.now last session lb terms.now balancer)
+        (at desk.old clock.old reach.old client.old body.old inbox.old) (at desk.new clock.new reach.new client.new body.new inbox.new) result }
+
+    // No talk runs, and each lease went back.
+    ensures idle { (R.beside reach.new).runs ≡ false }
+    ensures held { (B.state desk.new).held ≡ (B.state desk.old).held }
+    ensures sizes { (R.beside reach.new).sizes ≡ (R.beside reach.old).sizes }
+    ensures kept { IsDeskAfter lb session (B.state desk.old) (B.state desk.new) }
+    ensures met { MeetsAt result (B.state desk.old) (B.state desk.new) }
+    ensures beside { C.beside client.new ≡ C.beside client.old }
+    ensures no_fewer { (R.faults reach.old ≤ R.faults reach.new) × (C.faults client.old ≤ C.faults client.new) }
+{
+    let request = Request {
+        head,
+        peer,
+        last,
+        session,
+        lb,
+        balancer: &cfg.lbs.as_slice()[lb as usize],
+        terms: *terms,
+    };
+    exchange_of(alloc, &request, body, inbox, desk, reach, client, clock)
+}
+
+/// The exchange of a request with its balancer.
+fn exchange_of<B: Desk, R: Reach, C: Link, K: Clock>(
+    alloc: Global,
+    request: &Request,
+    body: &mut BodyIn,
+    inbox: &mut Inbox,
+    desk: &mut B,
+    reach: &mut R,
+    client: &mut C,
+    clock: &mut K,
+) -> ExchangeEnd
+where
+    B::Mark: Drop,
+    requires lb { request.now.lb < length (B.state desk.old).sizes }
+    requires caller { IfSome (B.state desk.old).caller (λ n. request.now.session ≡ n) }
+    requires desk_size { slice_index (B.state desk.old).sizes request.now.lb ≡ length request.now.balancer.now.book.members }
+    requires reach_size { slice_index (R.beside reach.old).sizes request.now.lb ≡ length request.now.balancer.now.book.members }
+    requires idle { (R.beside reach.old).runs ≡ false }
+    requires place { place_of body.old ≡ start_of request.now.head.now.plan }
+    requires taken { taken_of body.old ≡ 0 }
+    requires going { failed_of body.old ≡ None }
+    ensures exchange { IsExchange (errand_of request.now)
+        (scene B.state K.answers R.Meanings C.Meanings desk.old clock.old reach.old client.old body.old inbox.old)
+        (scene B.state K.answers R.Meanings C.Meanings desk.new clock.new reach.new client.new body.new inbox.new)
+        result }
+    ensures idle { (R.beside reach.new).runs ≡ false }
+    ensures held { (B.state desk.new).held ≡ (B.state desk.old).held }
+    ensures sizes { (R.beside reach.new).sizes ≡ (R.beside reach.old).sizes }
+    ensures kept { IsDeskAfter request.now.lb request.now.session (B.state desk.old) (B.state desk.new) }
+    ensures beside { C.beside client.new ≡ C.beside client.old }
+    ensures no_fewer { (R.faults reach.old ≤ R.faults reach.new) × (C.faults client.old ≤ C.faults client.new) }
+{
+    let first = match take_first(
+        alloc,
+        request.head.plan,
+        &request.balancer.ends,
+        body,
+        inbox,
+        client,
+    ) {
+        Ok(first) => first,
+        Err(end) => return end,
+    };
+    let ask = match ask_of(alloc, request) {
+        Ok(ask) => ask,
+        Err(NoMemory) => return ExchangeEnd::NoMemory,
+    };
+    all_rounds(
+        alloc, request, &first, ask, body, inbox, desk, reach, client, clock,
+    )
+}

@@ -1,0 +1,60 @@
+//! The first piece of a body, which is taken before a member is chosen.
+ghost use Rattle.std.specs.Prelude.{◌≡◌, ◌≤◌, ◌<◌, None, IfOk, IfErr};
+ghost use Rattle.http_front.specs.Unread.{unread};
+ghost use Rattle.http_body_in.specs.Places.{start_of};
+ghost use Rattle.http_body_in.specs.State.{failed_of, place_of, taken_of};
+ghost use Rattle.ajp_talk.specs.Moments.{IsUsed};
+ghost use Rattle.forwarding.specs.FirstPiece.{first_len as first_length};
+ghost use Rattle.exchange.specs.FirstPiece.{IsFirstFailure, TakesFirst, end_by};
+
+use crate::ending::ExchangeEnd;
+use forwarding::first_len;
+use http_body_in::{BodyFault, BodyIn};
+use http_front::{BodyPlan, Inbox};
+use jk_io::{Bytes, Link};
+use site_config::EndList;
+use std::alloc::Global;
+
+/// Takes the first piece of a body of this plan, of which nothing was taken yet. A body by length has neither chunk
+/// lines nor a limit, so none of it is bad.
+pub(crate) fn take_first<C: Link>(
+    alloc: Global,
+    plan: BodyPlan,
+    ends: &EndList,
+    body: &mut BodyIn,
+    inbox: &mut Inbox,
+    client: &mut C,
+) -> Result<Bytes, ExchangeEnd>
+    requires place { place_of body.old ≡ start_of plan }
+    requires taken { taken_of body.old ≡ 0 }
+    requires going { failed_of body.old ≡ None }
+    ensures ok { IfOk result (TakesFirst (first_length plan ends.now)
+        (record { body = body.old; unread = unread inbox.old (C.incoming client.old) })
+        (record { body = body.new; unread = unread inbox.new (C.incoming client.new) })) }
+    ensures err { IfErr result (IsFirstFailure (first_length plan ends.now)
+        (record { body = body.old; unread = unread inbox.old (C.incoming client.old) }) (C.faults client.old) (C.faults client.new)) }
+    ensures used { IfErr result (λ _. IsUsed
+        (record { body = body.old; unread = unread inbox.old (C.incoming client.old) })
+        (record { body = body.new; unread = unread inbox.new (C.incoming client.new) })) }
+    ensures same { (C.sent client.new ≡ C.sent client.old) × (C.beside client.new ≡ C.beside client.old) }
+    ensures no_fewer { C.faults client.old ≤ C.faults client.new }
+{
+    let len = first_len(plan, ends);
+    if len == 0 {
+        return Ok(Bytes::new(alloc));
+    }
+    match body.take(alloc, inbox, client, len as usize) {
+        Ok(first) => Ok(first),
+        Err(fault) => Err(end_of(fault)),
+    }
+}
+
+fn end_of(fault: BodyFault) -> ExchangeEnd
+    ensures { result ≡ end_by fault }
+{
+    match fault {
+        BodyFault::Truncated | BodyFault::BadChunk | BodyFault::TooLong => ExchangeEnd::Truncated,
+        BodyFault::Fault => ExchangeEnd::ClientFault,
+        BodyFault::NoMemory => ExchangeEnd::NoMemory,
+    }
+}

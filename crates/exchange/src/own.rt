@@ -1,0 +1,24 @@
+//! Answers of the connector's own.
+ghost use Rattle.std.specs.Prelude.{◌≡◌, ◌≤◌, IsSome};
+ghost use Rattle.ajp_wire.specs.Moments.{link_at};
+ghost use Rattle.http_out.specs.Own.{own_of};
+ghost use Rattle.exchange.specs.Steps.{IsWritten};
+
+use crate::ending::ExchangeEnd;
+use http_out::own_answer;
+use jk_io::{IoError, Sink, write_all};
+
+/// Writes the answer with this status to the client.
+pub(crate) fn write_own<C: Sink>(status: u16, head_only: bool, client: &mut C) -> ExchangeEnd
+    requires { IsSome (own_of status) }
+    ensures written { IsWritten status head_only
+        (link_at C.Meanings client.old) (link_at C.Meanings client.new) result }
+    ensures same { (C.incoming client.new ≡ C.incoming client.old) × (C.beside client.new ≡ C.beside client.old) }
+    ensures no_fewer { C.faults client.old ≤ C.faults client.new }
+{
+    match write_all(client, own_answer(status, head_only)) {
+        Ok(()) => ExchangeEnd::Own(status),
+        Err(IoError::Failed) => ExchangeEnd::ClientFault,
+        Err(IoError::NoMemory) => ExchangeEnd::NoMemory,
+    }
+}
