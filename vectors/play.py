@@ -5,10 +5,12 @@
     play.py make SEED LINES [FORM]   prints a script of LINES lines; FORM is `first` (only the lines member, select, done and
                                      failed), `calls` (every line but maintain, update, reset and recover) or `whole`
                                      (every line in every form; the default)
-    play.py consts                   prints the long scripts of jkd's tests with their output, as crates/jkd/src/long.rt
+    play.py large SEED               prints a script of up to 2,000 calls of every kind, of up to 64 members
+    play.py rows                     prints the long and the large scripts with their output, as rows of plain_checks:
+                                     vectors/play.py rows > crates/plain_checks/data/plays.txt
 
-The output of long scripts is kept as data of jkd's tests, so that the program is compared with a second reading of the
-rules, and not with itself.
+So the program is compared with a second reading of the rules, and not with itself. A balancer that a script starts has the
+rules of version 2, and its asks have no masks, so version 1 and masks stand in no script.
 """
 import random
 import re
@@ -374,19 +376,134 @@ def make(seed, lines, form):
     return script
 
 
+class Writer:
+    """A large script in the making. It is kept legal by playing it beside."""
+
+    def __init__(self, seed):
+        self.dice, self.script, self.play, self.tickets, self.calls = random.Random(seed), [], Play(), [], 0
+
+    def add(self, text):
+        try:
+            out = self.play.line(text)
+        except Refused:
+            return
+        self.script.append(text)
+        for shown in out:
+            word = shown.split(" ")[0]
+            if text.startswith("select") and word.isdigit():
+                self.tickets.append(int(word))
+
+    def factors(self, count):
+        """Factors with a common multiple below 2^32: small ones, powers of 2, divisors of 55440, or great ones."""
+        dice = self.dice
+        form = dice.choice(["small", "small", "powers", "divisors", "great"])
+        if form == "small":
+            return [dice.randint(1, 12) for _ in range(count)]
+        if form == "powers":
+            return [2 ** dice.randint(0, 15) for _ in range(count)]
+        if form == "divisors":
+            return [dice.choice([d for d in range(1, 55441) if 55440 % d == 0]) for _ in range(count)]
+        return [dice.choice([1, 65535, 65534, 32767, 13107]) for _ in range(count)]
+
+    def head(self):
+        dice = self.dice
+        method = "RSTB"[dice.randrange(4)]
+        if dice.random() < 0.2:
+            self.add("lb R 1 0 60 60")
+        self.add(f"lb {method} {dice.choice('1110')} {dice.choice('01')} {dice.choice([1, 7, 60, 86400])} {dice.choice([1, 30, 60, 600])}")
+        self.add(f"at {dice.choice([0, 7, 1700000000, 2**40])}")
+        count = dice.choice([1, 2, 3, 4, 5, 8, 13, 21, 34, 48, 63, 64])
+        self.names = [dice.choice(["node", "n-", "A_", "x"]) + str(m) for m in range(count)]
+        for name, factor in zip(self.names, self.factors(count)):
+            text = f"member {name} {factor}"
+            text += dice.choice(["", "", "", "", " activation=D", " activation=stopped", " activation=Active"])
+            text += dice.choice(["", "", "", " distance=1", " distance=65535"])
+            other = dice.choice(self.names)
+            text += f" redirect={other}" if other != name and dice.random() < 0.4 else ""
+            text += dice.choice(["", "", " pool=1", " pool=2", " pool=1024"])
+            self.add(text)
+
+    def size(self):
+        return self.dice.choice(["", "", " 0", f" {self.dice.randint(1, 99999)}", f" {self.dice.randint(0, MOST_BYTES)}", f" {MOST_BYTES}"])
+
+    def give_back(self, kinds):
+        if self.tickets:
+            late = self.dice.random() < 0.7
+            ticket = self.tickets.pop(self.dice.randrange(len(self.tickets)) if late else -1)
+            self.add(f"{self.dice.choice(kinds)} {ticket}" + self.size())
+
+    def step_time(self):
+        now = self.play.at
+        step = self.dice.choice([1, 1, 5, 30, 59, 60, 61, 600, 100000])
+        early = self.dice.random() < 0.15
+        self.add(f"at {max(0, now - step) if early else now + step}")
+
+    def change(self):
+        dice = self.dice
+        name = dice.choice(self.names)
+        self.add(f"update {name}" + dice.choice([
+            "", f" factor={dice.randint(0, 9)}", f" factor={dice.choice([65535, 65536, 64])}",
+            f" activation={dice.choice(['A', 'd', 'Stopped'])}", f" distance={dice.choice([0, 0, 1, 65535, 65536])}",
+            f" redirect={dice.choice(self.names + ['-'])}", " activation=A factor=2 distance=0 redirect=-"]))
+
+    def call(self, mood):
+        """One call. A mood makes some kinds likelier for a while: members that fail, pools that fill, or neither."""
+        dice = self.dice
+        kinds = ["select"] * 6 + ["old", "route", "route", "at", "maintain", "update", "reset", "recover"]
+        kinds += {"calm": ["done"] * 7 + ["failed", "gone"], "failing": ["failed"] * 7 + ["gone"] * 2 + ["done"],
+                  "filling": ["select"] * 5 + ["done"]}[mood]
+        kind = dice.choice(kinds)
+        if kind in ("done", "failed", "gone"):
+            self.give_back([kind])
+        elif kind == "at":
+            self.step_time()
+        elif kind == "update":
+            self.change()
+        else:
+            name = dice.choice(self.names)
+            self.add({"select": "select", "old": "select old", "route": f"select route={name}", "maintain": "maintain",
+                      "reset": f"reset {name}", "recover": f"recover {name}"}[kind])
+        if dice.random() < 4 / (100 + 20 * len(self.names)):
+            self.add("show")
+        if dice.random() < 0.01:
+            self.add(dice.choice(["", "# a comment", "#"]))
+
+    def end(self):
+        """What stands at the end: the members, and in some scripts a line that is refused, with a select behind it."""
+        self.add("show")
+        last = self.dice.choice([None, None, f"done {self.play.book.next}", "update " + self.names[0] + " factor=0",
+                                 "select route=nobody", "member late 1"])
+        return [] if last is None else [last, "select"]
+
+
+def large(seed):
+    writer = Writer(seed)
+    writer.head()
+    dice = writer.dice
+    writer.add("select")
+    for _ in range(dice.randint(3, 12)):
+        mood = dice.choice(["calm", "calm", "failing", "filling"])
+        for _ in range(dice.randint(40, 300)):
+            if len(writer.script) < 2000:
+                writer.call(mood)
+    return writer.script + writer.end()
+
+
 LONG = [(1, 80, "first"), (2, 100, "calls"), (3, 100, "calls")] + [(seed, 400, "whole") for seed in (11, 12, 13)]
 
+LARGE = range(101, 131)
 
-def consts():
-    rows = []
-    for seed, lines, form in LONG:
-        script = "".join(text + "\n" for text in make(seed, lines, form))
-        out, status = run(script)
-        shown = "".join(text + "\n" for text in out)
-        escape = lambda text: text.replace("\n", "\\n")
-        rows.append(f'    (\n        "seed {seed}",\n        "{escape(script)}",\n        "{escape(shown)}",\n        {status},\n    ),\n')
-    head = "//! Long scripts with their output, made by vectors/play.py from the rules alone.\n\n"
-    return head + f"pub(crate) static LONG: [(&str, &str, &str, u8); {len(rows)}] = [\n" + "".join(rows) + "];"
+
+def row(name, script):
+    out, status = run("".join(text + "\n" for text in script))
+    lines = [f"row {name}", "words play", "input"] + ["|" + text for text in script] + ["output"] + ["|" + text for text in out]
+    return "\n".join(lines + ([f"status {status}"] if status else [])) + "\n"
+
+
+def rows():
+    told = ["# Long and large scripts, with what they print: vectors/play.py rows > crates/plain_checks/data/plays.txt\n"]
+    told += [row(f"long {seed}", make(seed, lines, form)) for seed, lines, form in LONG]
+    return "\n".join(told + [row(f"large {seed}", large(seed)) for seed in LARGE])
 
 
 def main(words):
@@ -394,8 +511,11 @@ def main(words):
         out, status = run(sys.stdin.read())
         sys.stdout.write("".join(text + "\n" for text in out))
         return status
-    if words == ["consts"]:
-        print(consts())
+    if words == ["rows"]:
+        print(rows(), end="")
+        return 0
+    if words[:1] == ["large"] and len(words) == 2:
+        print("\n".join(large(int(words[1]))))
         return 0
     if words[:1] == ["make"] and len(words) in (3, 4):
         form = words[3] if len(words) == 4 else "whole"

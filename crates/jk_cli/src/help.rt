@@ -217,18 +217,36 @@ fn help_flag<'a>(alloc: Global) -> Arg<'a> {
         .help("Print this text")
 }
 
-fn page_command<'a>(alloc: Global, page: &Page) -> Result<Command<'a>, AllocError> {
-    let mut command = Command::new(alloc, page.name)
-        .about(page.about)
-        .override_usage(page.usage)
-        .after_help(page.example)
-        .disable_help_flag(true);
+fn version_flag<'a>(alloc: Global) -> Arg<'a> {
+    Arg::new(alloc, "version")
+        .long("version")
+        .action(ArgAction::Version)
+        .help("Print the version")
+}
+
+/// The command with the words of a page.
+fn with_words<'a>(
+    alloc: Global,
+    command: Command<'a>,
+    page: &Page,
+) -> Result<Command<'a>, AllocError> {
+    let mut command = command;
     for (place, (name, about)) in page.words.iter().enumerate() {
         let word = Arg::new(alloc, name)
             .required(place < page.least)
             .help(about);
         command = command.arg(word)?;
     }
+    Ok(command)
+}
+
+/// The command with the options of a page.
+fn with_options<'a>(
+    alloc: Global,
+    command: Command<'a>,
+    page: &Page,
+) -> Result<Command<'a>, AllocError> {
+    let mut command = command;
     for option in page.options {
         let option = Arg::new(alloc, option.name)
             .long(option.name)
@@ -236,16 +254,22 @@ fn page_command<'a>(alloc: Global, page: &Page) -> Result<Command<'a>, AllocErro
             .help(option.about);
         command = command.arg(option)?;
     }
-    command.arg(help_flag(alloc))
+    Ok(command)
 }
 
-/// The command with its texts.
-pub fn command<'a>(alloc: Global) -> Result<Command<'a>, AllocError> {
-    let version = Arg::new(alloc, "version")
-        .long("version")
-        .action(ArgAction::Version)
-        .help("Print the version");
-    let mut command = Command::new(alloc, "jkd")
+fn page_command<'a>(alloc: Global, page: &Page) -> Result<Command<'a>, AllocError> {
+    let command = Command::new(alloc, page.name)
+        .about(page.about)
+        .override_usage(page.usage)
+        .after_help(page.example)
+        .disable_help_flag(true);
+    let command = with_words(alloc, command, page)?;
+    with_options(alloc, command, page)?.arg(help_flag(alloc))
+}
+
+/// The command with its texts alone.
+fn bare_command<'a>(alloc: Global) -> Command<'a> {
+    Command::new(alloc, "jkd")
         .version("0.1.0")
         .about("A connector that balances requests over servlet containers")
         .override_usage("jkd COMMAND WORDS")
@@ -253,8 +277,13 @@ pub fn command<'a>(alloc: Global) -> Result<Command<'a>, AllocError> {
         .disable_help_flag(true)
         .disable_version_flag(true)
         .disable_help_subcommand(true)
+}
+
+/// The command with its texts.
+pub fn command<'a>(alloc: Global) -> Result<Command<'a>, AllocError> {
+    let mut command = bare_command(alloc)
         .arg(help_flag(alloc))?
-        .arg(version)?;
+        .arg(version_flag(alloc))?;
     for page in &PAGES {
         command = command.subcommand(page_command(alloc, page)?)?;
     }

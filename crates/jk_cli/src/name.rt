@@ -8,7 +8,7 @@ use crate::part::{Part, Parts, is};
 use jk_io::Bytes;
 
 /// A command by its name.
-#[derive(Clone, Copy, Debug, PartialEq, Eq)]
+#[derive(Clone, Copy)]
 pub enum CommandName {
     Play,
     Dry,

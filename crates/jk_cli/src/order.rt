@@ -3,7 +3,7 @@ use jk_io::{Bytes, NoMemory};
 use thiserror::Error;
 
 /// What a command line asks for. Names of files are bytes as they were written.
-#[derive(Debug, Drop)]
+#[derive(Drop)]
 pub enum Order {
     /// `play`: plays a script of a balancer.
     Play,

@@ -7,7 +7,7 @@ use jk_io::Bytes;
 use std::marker::Model;
 
 /// A part of a command line.
-#[derive(Clone, Copy, Debug)]
+#[derive(Clone, Copy)]
 pub(crate) enum Part<'a> {
     /// A word that is read by its place.
     Place(&'a [u8]),

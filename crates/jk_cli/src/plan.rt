@@ -2,6 +2,7 @@
 ghost use Rattle.std.specs.Prelude.{◌≡◌, IfOk, option_map};
 ghost use Rattle.std.specs.Option.{option_copied};
 ghost use Rattle.jk_cli.specs.Names.{command_in};
+ghost use Rattle.jk_cli.specs.declared.order.Order.TheVariants as orders;
 ghost use Rattle.jk_cli.specs.Plans.{log_order, serve_order, container_order, order_in};
 
 use crate::name::CommandName;
@@ -10,7 +11,7 @@ use jk_io::{Bytes, NoMemory};
 use std::alloc::Global;
 
 /// The options of `serve`.
-#[derive(Clone, Copy, Debug)]
+#[derive(Clone, Copy)]
 pub(crate) struct Options<'a> {
     pub clients: Option<u64>,
     pub journal: Option<&'a [u8]>,
@@ -21,7 +22,7 @@ pub(crate) struct Options<'a> {
 }
 
 /// An order `log`.
-#[derive(Clone, Copy, Debug)]
+#[derive(Clone, Copy)]
 pub(crate) struct LogPlan<'a> {
     pub format: &'a [u8],
     pub request: &'a [u8],
@@ -31,7 +32,7 @@ pub(crate) struct LogPlan<'a> {
 }
 
 /// An order `serve`.
-#[derive(Clone, Copy, Debug)]
+#[derive(Clone, Copy)]
 pub(crate) struct ServePlan<'a> {
     pub workers: &'a [u8],
     pub map: &'a [u8],
@@ -41,7 +42,7 @@ pub(crate) struct ServePlan<'a> {
 }
 
 /// An order `container`.
-#[derive(Clone, Copy, Debug)]
+#[derive(Clone, Copy)]
 pub(crate) struct ContainerPlan<'a> {
     pub route: &'a [u8],
     pub address: &'a [u8],
@@ -50,7 +51,7 @@ pub(crate) struct ContainerPlan<'a> {
 }
 
 /// An order whose texts still stand in the words.
-#[derive(Clone, Copy, Debug)]
+#[derive(Clone, Copy)]
 pub(crate) enum Plan<'a> {
     Play,
     Dry {
@@ -89,6 +90,13 @@ fn own(alloc: Global, text: Option<&[u8]>) -> Result<Option<Bytes>, NoMemory>
     }
 }
 
+fn own_pair(alloc: Global, first: &[u8], second: &[u8]) -> Result<(Bytes, Bytes), NoMemory>
+    ensures { IfOk result (λ owned. (owned.0 ≡ first.now) × (owned.1 ≡ second.now)) }
+{
+    let first = Bytes::from_slice(alloc, first)?;
+    Ok((first, Bytes::from_slice(alloc, second)?))
+}
+
 fn own_both(
     alloc: Global,
     texts: Option<(&[u8], &[u8])>,
@@ -97,25 +105,80 @@ fn own_both(
 {
     match texts {
         None => Ok(None),
-        Some((first, second)) => Ok(Some((
-            Bytes::from_slice(alloc, first)?,
-            Bytes::from_slice(alloc, second)?,
-        ))),
+        Some((first, second)) => Ok(Some(own_pair(alloc, first, second)?)),
     }
+}
+
+fn dry_order(
+    alloc: Global,
+    request: &[u8],
+    reply: &[u8],
+    site: Option<(&[u8], &[u8])>,
+) -> Result<Order, NoMemory>
+    ensures { IfOk result (λ order. order ≡ orders.Dry request.now reply.now (option_map (λ s. (s.0.now, s.1.now)) site.entry)) }
+{
+    let site = own_both(alloc, site)?;
+    let (request, reply) = own_pair(alloc, request, reply)?;
+    Ok(Order::Dry {
+        request,
+        reply,
+        site,
+    })
+}
+
+fn config_order(alloc: Global, workers: &[u8], map: Option<&[u8]>) -> Result<Order, NoMemory>
+    ensures { IfOk result (λ order. order ≡ orders.Config workers.now (option_copied map.entry)) }
+{
+    let map = own(alloc, map)?;
+    Ok(Order::Config {
+        workers: Bytes::from_slice(alloc, workers)?,
+        map,
+    })
+}
+
+fn match_order(alloc: Global, workers: &[u8], map: &[u8]) -> Result<Order, NoMemory>
+    ensures { IfOk result (λ order. order ≡ orders.Match workers.now map.now) }
+{
+    let (workers, map) = own_pair(alloc, workers, map)?;
+    Ok(Order::Match { workers, map })
 }
 
 impl LogPlan<'_> {
     fn order(self, alloc: Global) -> Result<Order, NoMemory>
         ensures { IfOk result (λ order. order ≡ log_order self.entry) }
     {
+        let (request, reply) = own_pair(alloc, self.request, self.reply)?;
+        let (workers, map) = own_pair(alloc, self.workers, self.map)?;
         Ok(Order::Log {
             format: Bytes::from_slice(alloc, self.format)?,
-            request: Bytes::from_slice(alloc, self.request)?,
-            reply: Bytes::from_slice(alloc, self.reply)?,
-            workers: Bytes::from_slice(alloc, self.workers)?,
-            map: Bytes::from_slice(alloc, self.map)?,
+            request,
+            reply,
+            workers,
+            map,
         })
     }
+}
+
+/// The texts of an order `serve` that may be missing.
+#[derive(Drop)]
+struct GivenTexts {
+    journal: Option<Bytes>,
+    log: Option<Bytes>,
+    format: Option<Bytes>,
+}
+
+fn own_given(alloc: Global, given: Options<'_>) -> Result<GivenTexts, NoMemory>
+    ensures journal { IfOk result (λ texts. texts.journal ≡ option_copied given.entry.journal) }
+    ensures log { IfOk result (λ texts. texts.log ≡ option_copied given.entry.log) }
+    ensures format { IfOk result (λ texts. texts.format ≡ option_copied given.entry.format) }
+{
+    let journal = own(alloc, given.journal)?;
+    let log = own(alloc, given.log)?;
+    Ok(GivenTexts {
+        journal,
+        log,
+        format: own(alloc, given.format)?,
+    })
 }
 
 impl ServePlan<'_> {
@@ -123,17 +186,19 @@ impl ServePlan<'_> {
         ensures { IfOk result (λ order. order ≡ serve_order self.entry) }
     {
         let given = self.given;
+        let texts = own_given(alloc, given)?;
+        let (workers, map) = own_pair(alloc, self.workers, self.map)?;
         Ok(Order::Serve {
-            workers: Bytes::from_slice(alloc, self.workers)?,
-            map: Bytes::from_slice(alloc, self.map)?,
+            workers,
+            map,
             address: Bytes::from_slice(alloc, self.address)?,
             threads: self.threads,
             clients: given.clients,
-            journal: own(alloc, given.journal)?,
+            journal: texts.journal,
             watch: given.watch,
             idle: given.idle,
-            log: own(alloc, given.log)?,
-            format: own(alloc, given.format)?,
+            log: texts.log,
+            format: texts.format,
         })
     }
 }
@@ -180,19 +245,9 @@ impl Plan<'_> {
                 request,
                 reply,
                 site,
-            } => Order::Dry {
-                request: Bytes::from_slice(alloc, request)?,
-                reply: Bytes::from_slice(alloc, reply)?,
-                site: own_both(alloc, site)?,
-            },
-            Plan::Config { workers, map } => Order::Config {
-                workers: Bytes::from_slice(alloc, workers)?,
-                map: own(alloc, map)?,
-            },
-            Plan::Match { workers, map } => Order::Match {
-                workers: Bytes::from_slice(alloc, workers)?,
-                map: Bytes::from_slice(alloc, map)?,
-            },
+            } => dry_order(alloc, request, reply, site)?,
+            Plan::Config { workers, map } => config_order(alloc, workers, map)?,
+            Plan::Match { workers, map } => match_order(alloc, workers, map)?,
             Plan::Check => Order::Check,
             Plan::Log(plan) => plan.order(alloc)?,
             Plan::Follow => Order::Follow,

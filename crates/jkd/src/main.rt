@@ -1,30 +1,17 @@
 //! jkd: a connector that balances requests over servlet containers. So far it plays scripts of a balancer, and shows how
 //! a site's two files are understood.
 //!
-//! Source: own rules for the commands and their statuses; what `play` prints is in play_script's specs/Play.antt, what
-//! `config` and `match` print in site_reports' specs/Reports.antt.
-//! Contract: `run_plain`, a clause for each status. Read first: specs/Plain.antt, then specs/Readings.antt.
+//! Here stand the words of the command line and the real files, input and output alone; what is done with them is
+//! `run_plain` of plain_commands.
+//! Source: own rules for the commands and their statuses.
+//! Contract: `run_plain`, a clause for each status.
 //! Errors: the statuses 2 to 6, each with its cause.
 #![tactic(auto)]
 
-mod answers;
-mod commands;
-#[cfg(test)]
-mod long;
-mod plain;
-mod play;
-#[cfg(test)]
-mod site_tests;
-#[cfg(test)]
-mod tests;
-mod texts;
-mod turn;
 mod words;
 
-use answers::{USAGE, asked_text};
 use jk_io::{Bytes, IoError, NoMemory, RealFiles, Sink, StdIn, StdOut, write_all};
-use plain::run_plain;
-use std::alloc::Global;
+use plain_commands::{USAGE, asked_text, run_plain};
 use std::process::ExitCode;
 use std::rt::Files;
 use words::{WordsError, read_words};

@@ -11,7 +11,7 @@ use jk_io::parse_decimal;
 use jk_model::{Activation, Method};
 
 /// What an `lb` line says.
-#[derive(Clone, Copy, Debug, PartialEq, Eq)]
+#[derive(Clone, Copy)]
 pub struct Rules {
     pub method: Method,
     pub sticky: bool,
@@ -23,7 +23,7 @@ pub struct Rules {
 }
 
 /// What a `member` line says. Its redirect is a name, since that member's line may come later.
-#[derive(Clone, Copy, Debug)]
+#[derive(Clone, Copy)]
 pub struct MemberLine<'a> {
     pub name: &'a [u8],
     pub factor: u32,
@@ -34,7 +34,7 @@ pub struct MemberLine<'a> {
 }
 
 /// What a line before the balancer's start says.
-#[derive(Clone, Copy, Debug)]
+#[derive(Clone, Copy)]
 pub enum Head<'a> {
     /// The moment of what follows.
     At(u64),

@@ -6,7 +6,7 @@ use jk_io::{Bytes, NoMemory, put_decimal};
 use jk_model::{Answer, How, MemberRow, MemberState};
 
 /// Why a script ends before its last line.
-#[derive(Clone, Copy, Debug, PartialEq, Eq)]
+#[derive(Clone, Copy)]
 pub enum Refusal {
     /// The line is of no form, or not in its place.
     BadLine,

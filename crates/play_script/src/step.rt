@@ -10,7 +10,7 @@ use jk_io::parse_decimal;
 use jk_model::{Activation, Ask, Call, Change, Command, Kind, Outcome};
 
 /// What a line after the balancer's own says.
-#[derive(Clone, Copy, Debug, PartialEq, Eq)]
+#[derive(Clone, Copy, Debug)]
 pub enum Step {
     /// The moment of what follows.
     At(u64),

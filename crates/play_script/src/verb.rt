@@ -4,7 +4,7 @@ ghost use Rattle.play_script.specs.Verbs.{verb_of};
 use crate::parts::is;
 
 /// The word that a line begins with.
-#[derive(Clone, Copy, Debug, PartialEq, Eq)]
+#[derive(Clone, Copy)]
 pub(crate) enum Verb {
     Lb,
     Member,

@@ -16,7 +16,7 @@ use uri_map::{MapError, UriMap, read_map};
 use worker_props::{PropsError, read_workers};
 
 /// What a command prints, and whether that is the refusal of a file.
-#[derive(Debug, Drop)]
+#[derive(Drop)]
 pub struct Report {
     pub text: Bytes,
     pub refused: bool,

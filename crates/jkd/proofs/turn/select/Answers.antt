@@ -1,8 +1,0 @@
-use Rattle.std.proofs.Common.{arith}
-use Rattle.jkd.proofs.TurnLemmas.{room_left}
-use Rattle.jkd.proofs.turn.select.Goals as goal
-
-pub unreachable-requires : goal.unreachable-requires
-unreachable-requires c =
-    let full = rw c.in-Err-Full.field-0-is at c.in-Err-Full.ensures.full in
-    omega (arith, full.0, room_left c.args.book.now c.requires.played c.requires.few)

@@ -1,0 +1,17 @@
+use Rattle.std.proofs.Common.{ℕ, List, Option}
+use Rattle.jk_cli.specs.declared.order.Order.TheVariants as order
+use Rattle.plain_commands.specs.Endings.{status_of}
+use Rattle.plain_commands.specs.Plain.{Plain}
+use Rattle.plain_commands.specs.declared.play.Output.{Output}
+use Rattle.plain_commands.proofs.PlainLemmas.{said_of}
+use Rattle.plain_commands.proofs.commands.answer.Goals as goal
+
+pub returns-in-Play-clause-ok : goal.returns-in-Play-clause-ok
+returns-in-Play-clause-ok g c =
+    rw c.in-Play.is (said_of (λ (files : Option (List (List ℕ × List ℕ))) (o : Output). Plain (record { files = files; incoming = g.S.Meanings.incoming c.args.input.now }) order.Play o.text (status_of o.ending))
+    (g.F.Files.files c.args.files.now) c.play_input.result c.play_input.ensures.ok)
+
+pub returns-in-Config-clause-ok : goal.returns-in-Config-clause-ok
+returns-in-Config-clause-ok g c =
+    rw c.in-Config.is (said_of (λ (incoming : Option (List ℕ)) (o : Output). Plain (record { files = g.F.Files.files c.args.files.now; incoming = incoming }) (order.Config c.in-Config.workers c.in-Config.map) o.text (status_of o.ending))
+    (g.S.Meanings.incoming c.args.input.now) c.config.result c.config.ensures.ok)

@@ -1,0 +1,52 @@
+//! The texts that are printed where the words are no command, and those that words ask for.
+use clap::error::ErrorKind;
+use jk_cli::{command, name_of};
+use jk_io::{Bytes, NoMemory};
+use std::alloc::Global;
+use std::str;
+
+/// What is printed where the words are no command.
+pub const USAGE: &str = "usage: jkd COMMAND WORDS\njkd --help shows the commands.\n";
+
+/// What stands below each help.
+const BUILT: &str =
+    "\nThis jkd does `play`, `config` and `match`; the other commands end with status 2.\n";
+
+fn is(word: &Bytes, text: &[u8]) -> bool {
+    word.as_slice() == text
+}
+
+/// Whether the words ask for a text: `--help`, `--version`, or `COMMAND --help`.
+fn ask_for_text(words: &[Bytes]) -> bool {
+    match words {
+        [word] => is(word, b"--help") || is(word, b"--version"),
+        [name, word] => name_of(name.as_slice()).is_some() && is(word, b"--help"),
+        _ => false,
+    }
+}
+
+// The text that `clap` answers to such words.
+fn text_of(alloc: Global, words: &[Bytes]) -> Result<String, NoMemory> {
+    let mut line = Vec::new(alloc);
+    line.push("jkd")?;
+    for word in words {
+        line.push(str::from_utf8(word.as_slice()).unwrap_or(""))?;
+    }
+    let Err(shown) = command(alloc)?.try_get_matches_from(line.as_slice()) else {
+        return Ok(String::new(alloc));
+    };
+    match shown.kind() {
+        ErrorKind::OutOfMemory => Err(NoMemory),
+        ErrorKind::DisplayHelp => Ok(format!(in alloc; "{shown}{BUILT}")?),
+        _ => Ok(format!(in alloc; "{shown}")?),
+    }
+}
+
+/// The text that the words ask for, where they ask for one.
+pub fn asked_text(alloc: Global, words: &[Bytes]) -> Result<Option<String>, NoMemory> {
+    if ask_for_text(words) {
+        Ok(Some(text_of(alloc, words)?))
+    } else {
+        Ok(None)
+    }
+}

@@ -1,0 +1,152 @@
+//! What each plain command prints of what it reads.
+ghost use Rattle.std.specs.Prelude.{◌≡◌, ◌⊎◌, ℕ, List, Option, Some, None, true, codes, IfOk, IsErrOf};
+ghost use Rattle.jk_cli.specs.Names.{command_in};
+ghost use Rattle.jk_cli.specs.declared.order.Order.TheVariants as order;
+ghost use Rattle.jk_io.specs.Told.{HasCause, Rose};
+ghost use Rattle.plain_commands.specs.Endings.{Faults, ReadFails, status_of};
+ghost use Rattle.plain_commands.specs.Plain.{is_built, Plain, status_if};
+ghost use Rattle.plain_commands.specs.declared.play.Ending.TheVariants as Ends;
+
+use crate::play::{Ending, Output, play};
+use crate::texts::{read_input, read_text};
+use jk_cli::Order;
+use jk_io::{Bytes, Files, IoError, NoMemory, Source};
+use site_reports::{Report, report_config, report_matches, report_site};
+use std::alloc::Global;
+
+// The answer to a text beyond the limit.
+fn too_long(alloc: Global) -> Result<Output, NoMemory>
+    ensures text { IfOk result (λ o. o.text ≡ codes "too long\n") }
+    ensures ending { IfOk result (λ o. o.ending ≡ Ends.Refused) }
+{
+    let text = Bytes::from_slice(alloc, b"too long\n")?;
+    Ok(Output {
+        text,
+        ending: Ending::Refused,
+    })
+}
+
+fn output_of(report: Report) -> Output
+    ensures text { result.text ≡ report.text }
+    ensures status { status_of result.ending ≡ status_if report.refused }
+{
+    let ending = if report.refused {
+        Ending::Refused
+    } else {
+        Ending::Done
+    };
+    Output {
+        text: report.text,
+        ending,
+    }
+}
+
+// `play`
+fn play_input<S: Source>(alloc: Global, input: &mut S) -> Result<Output, IoError>
+    ensures ok { IfOk result (λ o. (files : Option (List (List ℕ × List ℕ)))
+        → Plain (record { files = files; incoming = S.incoming input.old }) order.Play o.text (status_of o.ending)) }
+    ensures cause { HasCause (S.faults input.old) (S.faults input.new) result }
+{
+    let Some(script) = read_input(alloc, input)? else {
+        return Ok(too_long(alloc)?);
+    };
+    Ok(play(alloc, script.as_slice())?)
+}
+
+// `config WORKERS`
+fn config_workers<F: Files>(
+    alloc: Global,
+    files: &mut F,
+    workers: &Bytes,
+) -> Result<Output, IoError>
+    ensures ok { IfOk result (λ o. (incoming : Option (List ℕ))
+        → Plain (record { files = F.files files.old; incoming = incoming }) (order.Config workers.now None) o.text (status_of o.ending)) }
+    ensures cause { HasCause (F.faults files.old) (F.faults files.new) result }
+{
+    let Some(workers) = read_text(alloc, files, workers)? else {
+        return Ok(too_long(alloc)?);
+    };
+    Ok(output_of(report_config(alloc, workers.as_slice())?))
+}
+
+// `config WORKERS MAP`
+fn config_site<F: Files>(
+    alloc: Global,
+    files: &mut F,
+    workers: &Bytes,
+    map: &Bytes,
+) -> Result<Output, IoError>
+    ensures ok { IfOk result (λ o. (incoming : Option (List ℕ))
+        → Plain (record { files = F.files files.old; incoming = incoming }) (order.Config workers.now (Some map.now)) o.text (status_of o.ending)) }
+    ensures cause { HasCause (F.faults files.old) (F.faults files.new) result }
+{
+    let Some(workers) = read_text(alloc, files, workers)? else {
+        return Ok(too_long(alloc)?);
+    };
+    let Some(map) = read_text(alloc, files, map)? else {
+        return Ok(too_long(alloc)?);
+    };
+    Ok(output_of(report_site(alloc, workers.as_slice(), map.as_slice())?))
+}
+
+// `config`
+fn config<F: Files>(
+    alloc: Global,
+    files: &mut F,
+    workers: &Bytes,
+    map: &Option<Bytes>,
+) -> Result<Output, IoError>
+    ensures ok { IfOk result (λ o. (incoming : Option (List ℕ))
+        → Plain (record { files = F.files files.old; incoming = incoming }) (order.Config workers.now map.now) o.text (status_of o.ending)) }
+    ensures cause { HasCause (F.faults files.old) (F.faults files.new) result }
+{
+    match map {
+        None => config_workers(alloc, files, workers),
+        Some(map) => config_site(alloc, files, workers, map),
+    }
+}
+
+// `match WORKERS MAP`
+fn match_paths<F: Files, S: Source>(
+    alloc: Global,
+    files: &mut F,
+    input: &mut S,
+    workers: &Bytes,
+    map: &Bytes,
+) -> Result<Output, IoError>
+    ensures ok { IfOk result (λ o. Plain (record { files = F.files files.old; incoming = S.incoming input.old })
+        (order.Match workers.now map.now) o.text (status_of o.ending)) }
+    ensures failed { IsErrOf result IoError.Failed → Rose (F.faults files.old) (F.faults files.new) ⊎ Rose (S.faults input.old) (S.faults input.new) }
+{
+    let Some(workers) = read_text(alloc, files, workers)? else {
+        return Ok(too_long(alloc)?);
+    };
+    let Some(map) = read_text(alloc, files, map)? else {
+        return Ok(too_long(alloc)?);
+    };
+    let Some(paths) = read_input(alloc, input)? else {
+        return Ok(too_long(alloc)?);
+    };
+    let report = report_matches(alloc, workers.as_slice(), map.as_slice(), paths.as_slice())?;
+    Ok(output_of(report))
+}
+
+/// What a plain command prints of what it reads, and how that ends.
+pub(crate) fn answer<F: Files, S: Source>(
+    alloc: Global,
+    order: &Order,
+    files: &mut F,
+    input: &mut S,
+) -> Result<Output, IoError>
+    requires built { is_built (command_in order.now) ≡ true }
+    ensures ok { IfOk result (λ o. Plain (record { files = F.files files.old; incoming = S.incoming input.old })
+        order.now o.text (status_of o.ending)) }
+    ensures failed { IsErrOf result IoError.Failed → Rose (F.faults files.old) (F.faults files.new) ⊎ Rose (S.faults input.old) (S.faults input.new) }
+{
+    match order {
+        Order::Play => play_input(alloc, input),
+        Order::Config { workers, map } => config(alloc, files, workers, map),
+        Order::Match { workers, map } => match_paths(alloc, files, input, workers, map),
+        _ => unreachable!(),
+    }
+}

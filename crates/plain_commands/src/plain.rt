@@ -1,0 +1,151 @@
+//! The plain commands: those that wait for nobody but their files, input and output.
+ghost use Rattle.std.specs.Prelude.{◌≡◌, ◌↔◌, ◌⊎◌, ℕ, List, Some, true, false};
+ghost use Rattle.jk_cli.specs.Names.{command_in};
+ghost use Rattle.jk_cli.specs.Orders.{order_of};
+ghost use Rattle.jk_io.specs.Told.{Rose};
+ghost use Rattle.plain_commands.specs.Endings.{number_of, AnswersSo, EndsSo, Writes};
+ghost use Rattle.plain_commands.specs.Plain.{is_built, is_plain, Prints, PrintsFront};
+
+use crate::commands::answer;
+use crate::play::{Ending, Output};
+use jk_cli::{CommandName, Order, command_of, read_words};
+use jk_io::{Bytes, Files, IoError, Sink, Source, write_all};
+use std::alloc::Global;
+
+/// How a plain command ends.
+#[derive(Clone, Copy, Debug, PartialEq, Eq)]
+enum PlainEnd {
+    Done,
+    NoCommand,
+    Refused,
+    InputFault,
+    OutputFault,
+    NoMemory,
+}
+
+impl PlainEnd {
+    /// The status with which the program ends.
+    fn status(self) -> u8
+        ensures { result ≡ number_of self }
+    {
+        match self {
+            PlainEnd::Done => 0,
+            PlainEnd::NoCommand => 2,
+            PlainEnd::Refused => 3,
+            PlainEnd::InputFault => 4,
+            PlainEnd::OutputFault => 5,
+            PlainEnd::NoMemory => 6,
+        }
+    }
+}
+
+// Whether a command is a plain one that is built.
+fn is_built(command: CommandName) -> bool
+    ensures { result ≡ is_built command }
+{
+    match command {
+        CommandName::Play | CommandName::Config | CommandName::Match => true,
+        _ => false,
+    }
+}
+
+/// Whether the words are a plain command that is built.
+fn is_plain(words: &[Bytes]) -> bool
+    ensures { result ≡ is_plain words.now }
+{
+    match command_of(words) {
+        None => false,
+        Some(command) => is_built(command),
+    }
+}
+
+// Writes an output.
+fn finish<O: Sink>(out: &mut O, output: &Output) -> PlainEnd
+    ensures { Writes (O.faults out.old) (O.faults out.new) (O.sent out.old) (O.sent out.new) output.now.text output.now.ending result }
+{
+    match write_all(out, output.text.as_slice()) {
+        Ok(()) => match output.ending {
+            Ending::Done => PlainEnd::Done,
+            Ending::Refused => PlainEnd::Refused,
+        },
+        Err(IoError::Failed) => PlainEnd::OutputFault,
+        Err(IoError::NoMemory) => PlainEnd::NoMemory,
+    }
+}
+
+// Does a command that is built.
+fn answer_end<F: Files, S: Source, O: Sink>(
+    alloc: Global,
+    order: &Order,
+    files: &mut F,
+    input: &mut S,
+    out: &mut O,
+) -> PlainEnd
+    requires built { is_built (command_in order.now) ≡ true }
+    ensures { (words : List (List ℕ)) → order_of words ≡ Some order.now
+        → AnswersSo words (record { files = F.files files.old; incoming = S.incoming input.old }) (O.sent out.old) (O.sent out.new)
+        (record { files = F.faults files.old; input = S.faults input.old; output = O.faults out.old })
+        (record { files = F.faults files.new; input = S.faults input.new; output = O.faults out.new }) result }
+{
+    match answer(alloc, order, files, input) {
+        Ok(output) => finish(out, &output),
+        Err(IoError::Failed) => PlainEnd::InputFault,
+        Err(IoError::NoMemory) => PlainEnd::NoMemory,
+    }
+}
+
+fn end_of<F: Files, S: Source, O: Sink>(
+    alloc: Global,
+    words: &[Bytes],
+    files: &mut F,
+    input: &mut S,
+    out: &mut O,
+) -> PlainEnd
+    ensures { EndsSo words.now (record { files = F.files files.old; incoming = S.incoming input.old }) (O.sent out.old) (O.sent out.new)
+        (record { files = F.faults files.old; input = S.faults input.old; output = O.faults out.old })
+        (record { files = F.faults files.new; input = S.faults input.new; output = O.faults out.new }) result }
+{
+    if !is_plain(words) {
+        return PlainEnd::NoCommand;
+    }
+    match read_words(alloc, words) {
+        Ok(order) => answer_end(alloc, &order, files, input, out),
+        Err(_) => PlainEnd::NoMemory,
+    }
+}
+
+/// Does a plain command, and answers its status.
+pub fn run_plain<F: Files, S: Source, O: Sink>(
+    alloc: Global,
+    words: &[Bytes],
+    files: &mut F,
+    input: &mut S,
+    out: &mut O,
+) -> u8
+    ensures statuses { (result ≡ 0) ⊎ (result ≡ 2) ⊎ (result ≡ 3) ⊎ (result ≡ 4) ⊎ (result ≡ 5) ⊎ (result ≡ 6) }
+
+    // Done, or a file or an input that is refused: just what the command prints was written.
+    ensures done { result ≡ 0 → Prints words.now (record { files = F.files files.old; incoming = S.incoming input.old })
+        (O.sent out.old) (O.sent out.new) 0 }
+    ensures refused { result ≡ 3 → Prints words.now (record { files = F.files files.old; incoming = S.incoming input.old })
+        (O.sent out.old) (O.sent out.new) 3 }
+
+    // No plain command that is built (`play`, `config` and `match`), exactly by the words.
+    ensures no_command { (result ≡ 2) ↔ (is_plain words.now ≡ false) }
+    ensures no_words { result ≡ 2 → O.sent out.new ≡ O.sent out.old }
+
+    // Only where the faults of the files or of the input rose.
+    ensures input_fault { result ≡ 4 → Rose (F.faults files.old) (F.faults files.new) ⊎ Rose (S.faults input.old) (S.faults input.new) }
+    ensures nothing { result ≡ 4 → O.sent out.new ≡ O.sent out.old }
+
+    // Only where the output's faults rose.
+    ensures output_fault { result ≡ 5 → Rose (O.faults out.old) (O.faults out.new) }
+    ensures part { result ≡ 5 → PrintsFront words.now (record { files = F.files files.old; incoming = S.incoming input.old })
+        (O.sent out.old) (O.sent out.new) }
+
+    // Want of memory, before anything was written or in a write.
+    ensures wanting { result ≡ 6 → (O.sent out.new ≡ O.sent out.old)
+        ⊎ PrintsFront words.now (record { files = F.files files.old; incoming = S.incoming input.old }) (O.sent out.old) (O.sent out.new) }
+{
+    end_of(alloc, words, files, input, out).status()
+}

@@ -1,0 +1,123 @@
+//! A whole script, from its lines to what it prints.
+ghost use Rattle.std.specs.Prelude.{◌≡◌, ℕ, ◌+◌, ◌<◌, ◌≤◌, ◌^◌, List, ◌∷◌, ◌++◌, length, IfOk, false};
+ghost use Rattle.balancer_core.specs.Journal.{past_of};
+ghost use Rattle.play_script.specs.Drafts.{names_in};
+ghost use Rattle.play_script.specs.Play.{is_skipped, Stops, Runs, Starts, PlaysScript};
+ghost use Rattle.play_script.specs.Steps.{step_of};
+ghost use Rattle.plain_commands.specs.Endings.{status_of};
+ghost use Rattle.plain_commands.specs.Turns.{IsPlayed, AppendsRun};
+
+use crate::turn::{Stop, take_line};
+use balancer_core::Book;
+use jk_io::{Bytes, NoMemory};
+use play_script::{Begun, DraftError, NameList, Parts, Refusal, begin, put_refusal, step_of};
+use std::alloc::Global;
+
+/// How a plain command ends that was read and answered.
+#[derive(Clone, Copy)]
+pub(crate) enum Ending {
+    Done,
+    /// The input was refused, and the last line says where.
+    Refused,
+}
+
+/// What a plain command prints, and how it ends.
+#[derive(Drop)]
+pub(crate) struct Output {
+    pub text: Bytes,
+    pub ending: Ending,
+}
+
+// The script ends at this line.
+fn refused(alloc: Global, number: u64, reason: Refusal) -> Result<Output, NoMemory>
+    ensures { IfOk result (λ o. Stops number reason o.text (status_of o.ending)) }
+{
+    let mut text = Bytes::new(alloc);
+    put_refusal(&mut text, number, reason)?;
+    Ok(Output {
+        text,
+        ending: Ending::Refused,
+    })
+}
+
+// The lines from the one at which the balancer starts on. The first one has the number.
+fn run(
+    names: &NameList,
+    book: &mut Book,
+    at: u64,
+    number: u64,
+    line: &[u8],
+    lines: &mut Parts,
+    out: &mut Bytes,
+) -> Result<Ending, NoMemory>
+    requires played { IsPlayed book.old }
+    requires names { length names.now < 2 ^ 32 }
+    requires few { number + length lines.old < 2 ^ 32 }
+    requires entries { length book.old.entries ≤ number }
+    ensures { IfOk result (λ ending. AppendsRun names.now book.old number at (line.now ∷ lines.old) (status_of ending) out.old out.new) }
+{
+    let mut at = at;
+    let mut number = number;
+    let mut line = line;
+    'lines: loop {
+        match take_line(names, book, at, line, out) {
+            Ok(moment) => at = moment,
+            Err(Stop::Refused(reason)) => {
+                put_refusal(out, number, reason)?;
+                return Ok(Ending::Refused);
+            }
+            Err(Stop::NoMemory) => return Err(NoMemory),
+        }
+        number += 1;
+        match lines.next() {
+            None => return Ok(Ending::Done),
+            Some(next) => line = next,
+        }
+    }
+}
+
+// The balancer starts at a line.
+fn start(alloc: Global, begun: &Begun, line: &[u8], lines: &mut Parts) -> Result<Output, NoMemory>
+    requires names { length (names_in begun.now.draft) < 2 ^ 32 }
+    requires few { begun.now.number + length lines.old < 2 ^ 32 }
+    ensures { IfOk result (λ o. Starts (step_of (names_in begun.now.draft) line.now) begun.now.draft (line.now ∷ lines.old)
+        begun.now.number begun.now.at o.text (status_of o.ending)) }
+{
+    let draft = &begun.draft;
+    if step_of(draft.names(), line).is_none() {
+        return refused(alloc, begun.number, Refusal::BadLine);
+    }
+    let config = match draft.config() {
+        Ok(config) => config,
+        Err(DraftError::NoBalancer) => return refused(alloc, begun.number, Refusal::BadBalancer),
+        Err(DraftError::NoMemory) => return Err(NoMemory),
+    };
+    let mut book = Book::start(alloc, config, begun.at, 0)?;
+    let mut text = Bytes::new(alloc);
+    let ending = run(
+        draft.names(),
+        &mut book,
+        begun.at,
+        begun.number,
+        line,
+        lines,
+        &mut text,
+    )?;
+    Ok(Output { text, ending })
+}
+
+/// What a script prints.
+pub(crate) fn play(alloc: Global, script: &[u8]) -> Result<Output, NoMemory>
+    requires { length script.now ≤ 67108864 }
+    ensures { IfOk result (λ o. PlaysScript script.now o.text (status_of o.ending)) }
+{
+    let mut lines = Parts::of(b'\n', script);
+    let begun = begin(alloc, &mut lines)?;
+    match begun.line {
+        None => Ok(Output {
+            text: Bytes::new(alloc),
+            ending: Ending::Done,
+        }),
+        Some(line) => start(alloc, &begun, line, &mut lines),
+    }
+}
