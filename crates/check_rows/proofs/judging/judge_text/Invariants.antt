@@ -1,0 +1,10 @@
+use denote.Shadow.{shadow}
+use denote.Text.{Utf8}
+use Rattle.check_rows.proofs.judging.judge_text.Given as goal
+
+-- the name so far is text
+abbrev pub invariant-loop-line : goal.invariant-loop-line
+invariant-loop-line g l =
+    (goal.iterator-loop-line g).can_next l.line-iterator ×
+    (goal.iterator-loop-line g).is_finite l.line-iterator ×
+    shadow (Utf8 l.name)

@@ -1,0 +1,111 @@
+//! Links in memory, and numbers in decimal digits.
+
+use check_rows::rows::{bytes_of, number, numbers_of};
+use check_rows::telling::{part, put_bytes, put_faults, put_plain, put_shown, put_word};
+use io_checks::echo;
+use jk_io::{
+    Bytes, IoError, MemLink, NoMemory, NumberList, Sink, Source, parse_decimal, put_decimal, trim,
+};
+use std::alloc::Global;
+
+pub fn tell(
+    alloc: Global,
+    fields: &[&str; 8],
+    bytes: &[u8],
+    out: &mut String,
+) -> Result<(), NoMemory> {
+    match fields[0] {
+        "reads" => tell_reads(&mut failing(alloc, bytes, fields[1])?, out),
+        "pieces" => tell_reads(&mut in_pieces(alloc, bytes, fields[1])?, out),
+        "writes" => tell_writes(alloc, &mut silent(alloc, fields[1])?, fields[2], out),
+        "echo" => tell_echo(alloc, &mut planned(alloc, bytes, fields[1])?, out),
+        "decimal" => put_shown(out, &parse_decimal(bytes)),
+        "digits" => tell_digits(
+            number(fields[1]),
+            number(fields[2]),
+            &mut Bytes::new(alloc),
+            out,
+        ),
+        _ => put_bytes(out, trim(bytes)),
+    }
+}
+
+fn failing(alloc: Global, bytes: &[u8], places: &str) -> Result<MemLink, NoMemory> {
+    let reads = numbers_of(alloc, places)?;
+    let incoming = Bytes::from_slice(alloc, bytes)?;
+    MemLink::failing_at(alloc, incoming, reads, NumberList::new(alloc))
+}
+
+fn in_pieces(alloc: Global, bytes: &[u8], places: &str) -> Result<MemLink, NoMemory> {
+    let cuts = numbers_of(alloc, places)?;
+    Ok(MemLink::in_pieces(alloc, Bytes::from_slice(alloc, bytes)?, cuts))
+}
+
+fn silent(alloc: Global, places: &str) -> Result<MemLink, NoMemory> {
+    let writes = numbers_of(alloc, places)?;
+    MemLink::failing_at(alloc, Bytes::new(alloc), NumberList::new(alloc), writes)
+}
+
+/// A link of which these calls fail, numbered from 0 over reads and writes.
+fn planned(alloc: Global, bytes: &[u8], calls: &str) -> Result<MemLink, NoMemory> {
+    let calls = numbers_of(alloc, calls)?;
+    Ok(MemLink::new(alloc, Bytes::from_slice(alloc, bytes)?, calls))
+}
+
+fn put_moved(out: &mut String, moved: Result<usize, IoError>) -> Result<(), NoMemory> {
+    match moved {
+        Ok(n) => put_shown(out, &n),
+        Err(error) => put_shown(out, &error),
+    }
+}
+
+/// The lengths of reads of at most eight bytes, to the end.
+fn tell_reads(link: &mut MemLink, out: &mut String) -> Result<(), NoMemory> {
+    let mut buf = [0u8; 8];
+    for _ in 0..20 {
+        let read = link.read(&mut buf);
+        put_moved(out, read)?;
+        if read == Ok(0) {
+            break;
+        }
+    }
+    put_faults(out, link.faults())
+}
+
+/// Reads to the end, and writes back what came.
+fn tell_echo(alloc: Global, link: &mut MemLink, out: &mut String) -> Result<(), NoMemory> {
+    match echo(alloc, link) {
+        Ok(()) => put_word(out, "ok")?,
+        Err(error) => put_shown(out, &error)?,
+    }
+    put_bytes(out, link.sent())?;
+    put_faults(out, link.faults())
+}
+
+fn tell_write(link: &mut MemLink, piece: &[u8], out: &mut String) -> Result<(), NoMemory> {
+    if piece.is_empty() {
+        return put_word(out, "nothing");
+    }
+    put_moved(out, link.write(piece))
+}
+
+/// What each write took, and all that was sent.
+fn tell_writes(
+    alloc: Global,
+    link: &mut MemLink,
+    pieces: &str,
+    out: &mut String,
+) -> Result<(), NoMemory> {
+    for piece in pieces.split(" & ") {
+        tell_write(link, bytes_of(alloc, piece)?.as_slice(), out)?;
+    }
+    put_bytes(out, link.sent())?;
+    put_faults(out, link.faults())
+}
+
+/// The digits of `high` times 2^64 and `low`.
+fn tell_digits(high: u64, low: u64, text: &mut Bytes, out: &mut String) -> Result<(), NoMemory> {
+    put_decimal(text, u128::from(high) << 64 | u128::from(low))?;
+    part(out)?;
+    put_plain(out, text.as_slice())
+}

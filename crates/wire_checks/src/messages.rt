@@ -1,0 +1,86 @@
+//! Messages of a container, read and written.
+
+use ajp_reply::{Message, ReplyParts, decode_reply, encode_reply};
+use ajp_wire::{EncodeError, HeadPairs, MAX_HEADERS};
+use check_rows::rows::{bytes_of, number, pair_of};
+use check_rows::telling::{put_bytes, put_count, put_shown};
+use jk_io::{Bytes, NoMemory};
+use std::alloc::Global;
+
+pub fn tell(
+    alloc: Global,
+    fields: &[&str; 8],
+    bytes: &[u8],
+    out: &mut String,
+) -> Result<(), NoMemory> {
+    if fields[0] == "payload" {
+        return put_shown(out, &decode_reply(alloc, bytes));
+    }
+    let most = u32::try_from(number(fields[1])).unwrap_or(u32::MAX);
+    let packet = packet(alloc, &message(alloc, fields)?, most);
+    put_packet(out, fields[0] == "message", &packet)
+}
+
+/// Adds a packet, or how many bytes it has, or why it isn't made.
+pub fn put_packet(
+    out: &mut String,
+    whole: bool,
+    packet: &Result<Bytes, EncodeError>,
+) -> Result<(), NoMemory> {
+    match packet {
+        Ok(packet) if whole => put_bytes(out, packet.as_slice()),
+        Ok(packet) => put_count(out, "length", packet.len() as u64),
+        Err(error) => put_shown(out, error),
+    }
+}
+
+fn message(alloc: Global, fields: &[&str; 8]) -> Result<Message, NoMemory> {
+    match fields[2] {
+        "head" => head(alloc, fields[3], fields[4], fields[5]),
+        "chunk" => Ok(Message::Chunk(bytes_of(alloc, fields[3])?)),
+        "ask" => Ok(Message::Ask(u16::try_from(number(fields[3])).unwrap_or(0))),
+        "end" => Ok(Message::End {
+            reuse: fields[3] == "true",
+        }),
+        _ => Ok(Message::Pong),
+    }
+}
+
+fn head(alloc: Global, status: &str, text: &str, pairs: &str) -> Result<Message, NoMemory> {
+    Ok(Message::Headers(ReplyParts {
+        status: u16::try_from(number(status)).unwrap_or(0),
+        message: bytes_of(alloc, text)?,
+        headers: pairs_of(alloc, pairs)?,
+    }))
+}
+
+/// The pairs of a list.
+pub fn pairs_of(alloc: Global, list: &str) -> Result<HeadPairs, NoMemory> {
+    let mut pairs = HeadPairs::new(alloc);
+    if list != "-" {
+        for item in list.split(" & ") {
+            pairs.push(pair_of(alloc, item)?)?;
+        }
+    }
+    Ok(pairs)
+}
+
+/// The packet of a message, which has no more headers than a message may have.
+fn packet(alloc: Global, message: &Message, most: u32) -> Result<Bytes, EncodeError> {
+    match message {
+        Message::Headers(parts) => {
+            let _status = parts.status;
+            if parts.headers.len() > MAX_HEADERS {
+                return Err(EncodeError::TooLarge);
+            }
+            encode_reply(alloc, message, most)
+        }
+        Message::Chunk(_) => encode_reply(alloc, message, most),
+        Message::End { .. } => encode_reply(alloc, message, most),
+        Message::Ask(wanted) => {
+            let _wanted = *wanted;
+            encode_reply(alloc, message, most)
+        }
+        Message::Pong => encode_reply(alloc, message, most),
+    }
+}

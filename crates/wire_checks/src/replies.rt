@@ -1,0 +1,199 @@
+//! Replies as a client gets them, and answers of the connector's own.
+ghost use Rattle.std.specs.Prelude.{IfOk, OnOk};
+ghost use Rattle.http_out.specs.Writer.{IsOpen};
+
+use check_rows::rows::{bytes_of, number, pair_of};
+use check_rows::telling::{put_bytes, put_shown, put_word};
+use check_rows::ways::{Way, link_of};
+use http_front::HeadLines;
+use http_out::{OutError, ReplyHead, ReplyWriter, own_answer};
+use jk_io::{Bytes, MemLink, NoMemory};
+use std::alloc::Global;
+
+pub fn tell(
+    alloc: Global,
+    fields: &[&str; 8],
+    bytes: &[u8],
+    way: Way,
+    out: &mut String,
+) -> Result<(), NoMemory> {
+    match fields[0] {
+        "own" => tell_own(number(fields[1]), out),
+        "message" => put_end(out, &judged(alloc, bytes)),
+        _ => tell_reply(alloc, fields, &mut link_of(alloc, &[], way)?, out),
+    }
+}
+
+/// The answer to HEAD, and what more the answer to another method has.
+fn tell_own(status: u64, out: &mut String) -> Result<(), NoMemory> {
+    let head = own(status, true);
+    put_bytes(out, head)?;
+    put_bytes(out, own(status, false).strip_prefix(head).unwrap_or(&[]))
+}
+
+fn own(status: u64, head_only: bool) -> &'static [u8] {
+    match status {
+        400 => own_answer(400, head_only),
+        403 => own_answer(403, head_only),
+        404 => own_answer(404, head_only),
+        413 => own_answer(413, head_only),
+        431 => own_answer(431, head_only),
+        500 => own_answer(500, head_only),
+        501 => own_answer(501, head_only),
+        502 => own_answer(502, head_only),
+        503 => own_answer(503, head_only),
+        _ => b"",
+    }
+}
+
+fn put_end(out: &mut String, end: &Result<(), OutError>) -> Result<(), NoMemory> {
+    match end {
+        Ok(()) => put_word(out, "ok"),
+        Err(error) => put_shown(out, error),
+    }
+}
+
+/// What a head with this message is answered.
+fn judged(alloc: Global, message: &[u8]) -> Result<(), OutError> {
+    let mut writer = ReplyWriter::new(alloc, false, false, false);
+    writer.headers(head_with(alloc, 200, message, "-")?)
+}
+
+fn head_with(
+    alloc: Global,
+    status: u16,
+    message: &[u8],
+    lines: &str,
+) -> Result<ReplyHead, NoMemory> {
+    Ok(ReplyHead {
+        status,
+        message: Bytes::from_slice(alloc, message)?,
+        headers: lines_of(alloc, lines)?,
+    })
+}
+
+/// The lines of a list; a head has at most a hundred.
+pub fn lines_of(alloc: Global, list: &str) -> Result<HeadLines, NoMemory> {
+    let mut lines = HeadLines::new(alloc);
+    if list != "-" {
+        for item in list.split(" & ") {
+            if lines.len() < 100 {
+                lines.push(pair_of(alloc, item)?)?;
+            }
+        }
+    }
+    Ok(lines)
+}
+
+/// What the client gets, and the answer of the last call.
+fn tell_reply(
+    alloc: Global,
+    fields: &[&str; 8],
+    client: &mut MemLink,
+    out: &mut String,
+) -> Result<(), NoMemory> {
+    let end = reply(alloc, fields, client, out);
+    put_end(out, &end)?;
+    put_bytes(out, client.sent())
+}
+
+/// After the head each chunk is passed on, and then the end, until a call is refused. Where `goes on` is asked, all calls
+/// are made, and each answer is told.
+fn reply(
+    alloc: Global,
+    fields: &[&str; 8],
+    client: &mut MemLink,
+    out: &mut String,
+) -> Result<(), OutError> {
+    let writer = &mut opened(alloc, fields)?;
+    if fields[1].ends_with("goes on") {
+        go_on(alloc, writer, fields[4], client, out)
+    } else {
+        pass(alloc, writer, fields[4], client)
+    }
+}
+
+/// A writer that has taken the row's head.
+fn opened(alloc: Global, fields: &[&str; 8]) -> Result<ReplyWriter, OutError>
+    ensures { IfOk result (λ writer. IsOpen writer) }
+{
+    let asked = fields[1];
+    let mut writer = ReplyWriter::new(
+        alloc,
+        asked.contains("1.0"),
+        asked.contains("HEAD"),
+        asked.contains("last"),
+    );
+    let status = u16::try_from(number(fields[2])).unwrap_or(0);
+    writer.headers(head_with(alloc, status, b"OK", fields[3])?)?;
+    Ok(writer)
+}
+
+fn pass_chunks(
+    alloc: Global,
+    writer: &mut ReplyWriter,
+    chunks: &str,
+    client: &mut MemLink,
+) -> Result<(), OutError>
+    requires { IsOpen writer.old }
+    ensures { OnOk result (IsOpen writer.new) }
+{
+    if chunks == "-" {
+        return Ok(());
+    }
+    for chunk in chunks.split(" & ") {
+        writer.chunk(bytes_of(alloc, chunk)?.as_slice(), client)?;
+    }
+    Ok(())
+}
+
+fn pass(
+    alloc: Global,
+    writer: &mut ReplyWriter,
+    chunks: &str,
+    client: &mut MemLink,
+) -> Result<(), OutError>
+    requires { IsOpen writer.old }
+{
+    pass_chunks(alloc, writer, chunks, client)?;
+    writer.end(client)
+}
+
+/// Passes a chunk on, whatever became of those before it.
+fn pass_on(writer: &mut ReplyWriter, chunk: &[u8], client: &mut MemLink) -> Result<(), OutError>
+    requires { IsOpen writer.old }
+    ensures { IsOpen writer.new }
+{
+    writer.chunk(chunk, client)
+}
+
+fn tell_chunks(
+    alloc: Global,
+    writer: &mut ReplyWriter,
+    chunks: &str,
+    client: &mut MemLink,
+    out: &mut String,
+) -> Result<(), NoMemory>
+    requires { IsOpen writer.old }
+    ensures { OnOk result (IsOpen writer.new) }
+{
+    for chunk in chunks.split(" & ") {
+        let end = pass_on(writer, bytes_of(alloc, chunk)?.as_slice(), client);
+        put_end(out, &end)?;
+    }
+    Ok(())
+}
+
+fn go_on(
+    alloc: Global,
+    writer: &mut ReplyWriter,
+    chunks: &str,
+    client: &mut MemLink,
+    out: &mut String,
+) -> Result<(), OutError>
+    requires { IsOpen writer.old }
+{
+    tell_chunks(alloc, writer, chunks, client, out)?;
+    put_word(out, if writer.passed() { "passed" } else { "kept" })?;
+    writer.end(client)
+}

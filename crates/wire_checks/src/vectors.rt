@@ -1,0 +1,95 @@
+//! Payloads that the scripts of vectors/ made from the AJPv1.3 reference.
+//!
+//! A row of reply.txt has a payload in hexadecimal digits, and what is read in it. In front of a row of request.txt stands
+//! `read`, or `write` where the packet stands that is written for what was read.
+
+use ajp_reply::decode_reply;
+use ajp_request::{decode_forward, encode_forward};
+use anyhow::{Context, Result};
+use std::alloc::Global;
+use std::fs;
+
+fn read_reply(alloc: Global, payload: &str) -> Result<String> {
+    let payload = hex::decode(alloc, payload)?;
+    Ok(format!(in alloc; "{:?}", decode_reply(alloc, payload.as_slice()))?)
+}
+
+fn read_request(alloc: Global, payload: &str) -> Result<String> {
+    let payload = hex::decode(alloc, payload)?;
+    Ok(format!(in alloc; "{:?}", decode_forward(alloc, payload.as_slice()))?)
+}
+
+fn rewritten(alloc: Global, payload: &[u8]) -> Result<String> {
+    let packet = encode_forward(alloc, &decode_forward(alloc, payload)?, u32::MAX)?;
+    Ok(hex::encode(alloc, packet.as_slice())?)
+}
+
+fn write_request(alloc: Global, payload: &str) -> Result<String> {
+    rewritten(alloc, hex::decode(alloc, payload)?.as_slice())
+}
+
+/// What comes out of a row of requests.
+fn request(alloc: Global, act: &str, payload: &str) -> Result<String> {
+    match act {
+        "write" => write_request(alloc, payload),
+        _ => read_request(alloc, payload),
+    }
+}
+
+/// Whether a row says what comes out. Shows it where it doesn't.
+fn fits(rt: &impl Print, line: &str, wanted: &str, told: &str) -> Result<bool> {
+    if told != wanted {
+        println!(rt; "{line}, but it gives {told}")?;
+    }
+    Ok(told == wanted)
+}
+
+fn reply_fits(rt: &HostRuntime, line: &str) -> Result<bool> {
+    let (payload, wanted) = line.split_once(' ').unwrap_or((line, ""));
+    fits(rt, line, wanted, read_reply(rt.alloc(), payload)?.as_str())
+}
+
+fn request_fits(rt: &HostRuntime, line: &str) -> Result<bool> {
+    let (act, row) = line.split_once(' ').unwrap_or((line, ""));
+    let (payload, wanted) = row.split_once(' ').unwrap_or((row, ""));
+    fits(
+        rt,
+        line,
+        wanted,
+        request(rt.alloc(), act, payload)?.as_str(),
+    )
+}
+
+fn count_replies(rt: &HostRuntime, text: &str) -> Result<u64> {
+    let mut rows = 0u64;
+    for line in text.lines() {
+        if reply_fits(rt, line)? {
+            rows = rows.saturating_add(1);
+        }
+    }
+    Ok(rows)
+}
+
+fn count_requests(rt: &HostRuntime, text: &str) -> Result<u64> {
+    let mut rows = 0u64;
+    for line in text.lines() {
+        if request_fits(rt, line)? {
+            rows = rows.saturating_add(1);
+        }
+    }
+    Ok(rows)
+}
+
+pub fn judge_replies(rt: &HostRuntime) -> Result<()> {
+    let text = fs::read_to_string(rt, "reply.txt").context("reading reply.txt")?;
+    let rows = count_replies(rt, text.as_str())?;
+    println!(rt; "{rows} payloads of the container are read as the reference says")?;
+    Ok(())
+}
+
+pub fn judge_requests(rt: &HostRuntime) -> Result<()> {
+    let text = fs::read_to_string(rt, "request.txt").context("reading request.txt")?;
+    let rows = count_requests(rt, text.as_str())?;
+    println!(rt; "{rows} rows of requests are read and written as the reference says")?;
+    Ok(())
+}
