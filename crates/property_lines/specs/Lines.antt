@@ -1,5 +1,5 @@
 -- The lines of a site's file. A line ends with LF or CR LF, and the last one may end with the text.
-use Rattle.std.specs.Prelude.{ℕ, Bool, true, false, List, [], ◌∷◌, if◌then◌else◌, ◌==◌, ◌&&◌}
+use Rattle.std.specs.Prelude.{ℕ, Bool, true, false, List, [], ◌∷◌, bytes_eq, drop, take, if◌then◌else◌, ◌==◌, ◌&&◌}
 use Rattle.std.specs.List.{onto_first}
 
 abbrev pub begins_with : ℕ → List ℕ → Bool
@@ -16,3 +16,7 @@ abbrev pub without_return : List ℕ → List ℕ
 without_return [] = []
 without_return (b ∷ []) = if b == 13 then [] else b ∷ []
 without_return (b ∷ c ∷ bs) = b ∷ without_return (c ∷ bs)
+
+-- a text without the byte-order mark EF BB BF that may stand at its very start
+abbrev pub without_mark : List ℕ → List ℕ
+without_mark text = if bytes_eq (take 3 text) (239 ∷ 187 ∷ 191 ∷ []) then drop 3 text else text

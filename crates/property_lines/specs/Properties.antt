@@ -12,7 +12,7 @@ use Rattle.property_lines.specs.declared.directive.Directive.TheVariants as dire
 use Rattle.property_lines.specs.declared.error.Reason.{Reason}
 use Rattle.property_lines.specs.declared.error.Reason.TheVariants as reason
 use Rattle.property_lines.specs.Cut.{cut_at}
-use Rattle.property_lines.specs.Lines.{lines}
+use Rattle.property_lines.specs.Lines.{lines, without_mark}
 use Rattle.property_lines.specs.Names.{is_name, words}
 use Rattle.property_lines.specs.Directives.{directive_of, worker_part, list_key, maintain_key}
 use Rattle.property_lines.specs.Values.{is_value, target_of, number_in}
@@ -88,6 +88,6 @@ abbrev pub read_lines : Bool → ℕ → List (List ℕ) → Result (List Proper
 read_lines values line [] = Ok []
 read_lines values line (l ∷ ls) = before_rest (said values line (trimmed l)) (read_lines values (line + 1) ls)
 
--- the properties of a text, or its first refusal
+-- the properties of a text, whose byte-order mark is no part of it, or its first refusal
 abbrev pub read_text : Bool → List ℕ → Result (List Property) Refusal
-read_text values text = read_lines values 1 (lines text)
+read_text values text = read_lines values 1 (lines (without_mark text))

@@ -10,7 +10,7 @@ use crate::cut::cut_at;
 use crate::entry::Entry;
 use crate::error::{PropsError, Reason, refused};
 use crate::judge::fault_of;
-use crate::lines::first_line;
+use crate::lines::{first_line, without_mark};
 use crate::property::Fault;
 use jk_io::trim;
 use std::alloc::Global;
@@ -71,7 +71,7 @@ pub fn read_entries(alloc: Global, values: bool, text: &[u8]) -> Result<Vec<Entr
 {
     let mut entries = Vec::new(alloc);
     let mut number: u32 = 0;
-    let mut rest = text;
+    let mut rest = without_mark(text);
     while let Some((line, behind)) = first_line(rest) {
         number += 1;
         if let Some(entry) = said(values, number, trim(line))? {

@@ -28,7 +28,7 @@ pub use entry::Entry;
 pub use error::{PropsError, Reason, refused};
 pub use first_pass::read_entries;
 pub use judge::fault_of;
-pub use lines::first_line;
+pub use lines::{first_line, without_mark};
 pub use names::{is_name, push_words};
 pub use properties::read_properties;
 pub use property::{Fault, Property, PropertyList};

@@ -1,8 +1,19 @@
 //! The lines of a site's file.
-ghost use Rattle.std.specs.Prelude.{◌≡◌, ◌∷◌, ◌<◌, List, ℕ, length, IfSome, IfNone};
-ghost use Rattle.property_lines.specs.Lines.{lines, without_return};
+ghost use Rattle.std.specs.Prelude.{◌≡◌, ◌∷◌, ◌<◌, List, ℕ, length, IfSome, IfNone, ◌≤◌};
+ghost use Rattle.property_lines.specs.Lines.{lines, without_mark, without_return};
 
 use crate::cut::cut_at;
+
+/// What an editor may put at the very start of a text in UTF-8. It is no part of the text.
+const BYTE_ORDER_MARK: &[u8] = b"\xEF\xBB\xBF";
+
+/// A text without the byte-order mark at its start.
+pub fn without_mark(text: &[u8]) -> &[u8]
+    ensures value { result.now ≡ without_mark text.now }
+    ensures shorter { length result.now ≤ length text.now }
+{
+    text.strip_prefix(BYTE_ORDER_MARK).unwrap_or(text)
+}
 
 /// A line without the CR at its end.
 fn without_return(line: &[u8]) -> &[u8]

@@ -9,7 +9,7 @@ use Rattle.std.specs.List.{list_all}
 use Rattle.std.specs.Str.{bytes_eq}
 use Rattle.jk_io.specs.Decimals.{trimmed}
 use Rattle.property_lines.specs.Cut.{cut_at}
-use Rattle.property_lines.specs.Lines.{lines}
+use Rattle.property_lines.specs.Lines.{lines, without_mark}
 use Rattle.property_lines.specs.Properties.{is_silent}
 use Rattle.property_lines.specs.Refusals.{Refusal}
 use Rattle.site_config.specs.declared.balancer.Lb.{Lb}
@@ -147,7 +147,7 @@ lines_stand config line (l ∷ ls) =
 -- all that the rules of a text name stands in the configuration
 pub read_stands : (config : Config) (text : List ℕ) (rules : List Rule) → read_text config text ≡ Ok rules → stands_in config rules ≡ true
 read_stands config text rules e =
-    subst (OnRead (stands_in config)) e (lines_stand config 1 (lines text))
+    subst (OnRead (stands_in config)) e (lines_stand config 1 (lines (without_mark text)))
 
 -- the rules where no line is left
 pub read_ended : (config : Config) (rules : List Rule) (line : ℕ) (text rest : List ℕ) → length rest ≡ 0 → with_rules rules (read_lines config line (lines rest)) ≡ read_text config text → read_text config text ≡ Ok rules

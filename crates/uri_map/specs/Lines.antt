@@ -5,7 +5,7 @@ use Rattle.std.specs.Str.{bytes_eq}
 use Rattle.jk_io.specs.Decimals.{trimmed}
 use Rattle.jk_model.specs.declared.ask.Terms.{Terms}
 use Rattle.property_lines.specs.Cut.{cut_at}
-use Rattle.property_lines.specs.Lines.{lines}
+use Rattle.property_lines.specs.Lines.{lines, without_mark}
 use Rattle.property_lines.specs.Properties.{is_silent}
 use Rattle.property_lines.specs.Refusals.{Refusal}
 use Rattle.site_config.specs.declared.config.Config.{Config}
@@ -102,4 +102,4 @@ read_lines config line (l ∷ ls) = before_rest (said config line (trimmed l)) (
 
 -- the rules of a text, or its first refusal
 abbrev pub read_text : Config → List ℕ → Result (List Rule) Refusal
-read_text config text = read_lines config 1 (lines text)
+read_text config text = read_lines config 1 (lines (without_mark text))

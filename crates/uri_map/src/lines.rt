@@ -15,7 +15,7 @@ use crate::side::{Patterns, left_of, patterns_of};
 use crate::uri_map::UriMap;
 use crate::workers::Workers;
 use jk_io::{Bytes, NoMemory, trim};
-use property_lines::{cut_at, first_line};
+use property_lines::{cut_at, first_line, without_mark};
 use site_config::Config;
 use std::alloc::Global;
 
@@ -119,7 +119,7 @@ pub fn read_map(alloc: Global, text: &[u8], config: &Config) -> Result<UriMap, M
     let workers = Workers::new(alloc, config)?;
     let mut rules = Vec::new(alloc);
     let mut number: u32 = 0;
-    let mut rest = text;
+    let mut rest = without_mark(text);
     while let Some((line, behind)) = first_line(rest) {
         number += 1;
         push_line(alloc, &mut rules, &workers, number, trim(line))?;
