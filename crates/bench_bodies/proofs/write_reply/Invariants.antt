@@ -1,5 +1,0 @@
-use Rattle.http_out.specs.Writer.{IsOpen}
-use Rattle.bench_bodies.proofs.write_reply.Given as goal
-
-abbrev pub invariant-loop-chunk : goal.invariant-loop-chunk
-invariant-loop-chunk l = IsOpen l.writer
