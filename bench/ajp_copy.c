@@ -1,5 +1,5 @@
 /* How many times a second so many bytes are copied by a plain loop into memory that is taken for them: what writing a
-   packet, or reading one, costs at least. Beside `bench_ajp`, whose bytes are those of its small round.
+   packet, or reading one, costs at least. Beside `bench ajp`, whose bytes are those of its small round.
 
        cc -O2 -o ajp_copy bench/ajp_copy.c && ./ajp_copy 1000000 8392 */
 #include <stdio.h>

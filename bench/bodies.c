@@ -1,5 +1,5 @@
 /* How many bytes a second a plain loop takes of bodies of 64 KiB by each framing, and writes of replies in chunks of
-   8 KiB; and how many memcpy copies. Beside `bench_bodies`.
+   8 KiB; and how many memcpy copies. Beside `bench bodies`.
 
        cc -O2 -o bodies bench/bodies.c && ./bodies 100000 */
 #include <stdio.h>

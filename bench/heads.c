@@ -1,5 +1,5 @@
 /* How many times a second a plain loop reads one head: memchr for the line ends and the colons, and a copy of each
-   part in memory of its own. It judges nothing. Beside `bench_heads`, over the same bytes.
+   part in memory of its own. It judges nothing. Beside `bench heads`, over the same bytes.
 
        cc -O2 -o heads bench/heads.c && ./heads 1000000 */
 #include <stdio.h>

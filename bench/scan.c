@@ -1,4 +1,4 @@
-/* Choices and returns a second by a plain scan of arrays: what bench_book does, without a journal.
+/* Choices and returns a second by a plain scan of arrays: what `bench book` does, without a journal.
  *
  *     cc -O2 -o scan bench/scan.c && ./scan 1000000
  *
