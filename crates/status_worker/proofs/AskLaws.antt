@@ -1,0 +1,74 @@
+-- What a query asks for, from the command that it means.
+use Rattle.std.proofs.Common.{◌≡◌, ◌<◌, ℕ, Bool, true, false, List, Option, Some, None, refl, sym, subst, inl, inr, IfSome, IfOk, IfErr, Result, Ok, Err, length, ◌&&◌, ◌⊎◌}
+use Rattle.std.proofs.lemmas.Bool.{and_parts}
+use Rattle.std.proofs.lemmas.Option.{slice_get_within}
+use Rattle.site_config.specs.declared.balancer.Lb.{Lb}
+use Rattle.site_config.specs.declared.config.Config.{Config}
+use Rattle.site_config.specs.declared.config.Status.{Status}
+use Rattle.status_page.specs.BookCommands.{commands_for}
+use Rattle.status_page.specs.Effects.{is_change}
+use Rattle.status_page.specs.Meaning.{meaning_of}
+use Rattle.status_page.specs.declared.command.StatusCommand.{StatusCommand}
+use Rattle.status_worker.specs.Asking.{IfCode, IsNamedBalancer}
+use Rattle.status_worker.specs.Commands.{Asks, IsAllowed, IsRefused, IsWorkFor, NamesNone}
+use Rattle.status_worker.specs.declared.asking.NoPage.{NoPage}
+use Rattle.status_worker.specs.declared.asking.NoPage.TheVariants as no_page
+use Rattle.status_worker.specs.declared.asking.Work.{Work}
+
+-- a change that isn't forbidden is allowed, as is what changes nothing
+pub allowed : (status : Status) (c : StatusCommand) → (is_change c && status.read_only) ≡ false → IsAllowed status c
+allowed status c is = by_tests (is_change c) status.read_only is
+  where
+    by_tests : (a b : Bool) → (a && b) ≡ false → (a ≡ false) ⊎ (b ≡ false)
+    by_tests false b e = inl refl
+    by_tests true false e = inr refl
+    by_tests true true e = absurd cc
+
+pub forbidden : (cfg : Config) (status : Status) (query : Option (List ℕ)) (c : StatusCommand) → meaning_of query ≡ Some c
+    → (is_change c && status.read_only) ≡ true → IsRefused cfg status query 403
+forbidden cfg status query c means is =
+    let both = and_parts (is_change c) status.read_only is in
+    inr (inl (c, refl, means, both.0, both.1))
+
+-- the query means no command
+pub means_none : (cfg : Config) (status : Status) (query : Option (List ℕ)) (why : NoPage)
+    → IfCode (λ code. (code ≡ 400) × (meaning_of query ≡ None)) why → IfCode (IsRefused cfg status query) why
+means_none cfg status query (no_page.Own code) bad = inl bad
+means_none cfg status query no_page.NoMemory bad = tt
+
+-- a name is nobody's
+pub names_nobody : (cfg : Config) (status : Status) (query : Option (List ℕ)) (c : StatusCommand) (why : NoPage) → meaning_of query ≡ Some c
+    → IsAllowed status c → IfCode (λ code. (code ≡ 404) × NamesNone cfg c) why → IfCode (IsRefused cfg status query) why
+names_nobody cfg status query c (no_page.Own code) means may nobody = inr (inr (c, nobody.0, means, may, nobody.1))
+names_nobody cfg status query c no_page.NoMemory means may nobody = tt
+
+pub works_for : (cfg : Config) (c : StatusCommand) (place : ℕ) (mine : Lb) (work : Work) (named : IsNamedBalancer cfg c (Some place)) → mine ≡ named.1
+    → work.only ≡ Some place → commands_for mine.book.members c ≡ Some work.commands → IsWorkFor cfg c work
+works_for cfg c place mine work named same only commands =
+    inr (named.0, place, named.1, named.2, named.3, only, subst (λ (b : Lb). commands_for b.book.members c ≡ Some work.commands) same commands)
+
+pub names_no_member : (cfg : Config) (c : StatusCommand) (place : ℕ) (mine : Lb) (named : IsNamedBalancer cfg c (Some place)) → mine ≡ named.1
+    → commands_for mine.book.members c ≡ None → NamesNone cfg c
+names_no_member cfg c place mine named same none =
+    (named.0, named.2, inr (place, named.1, named.3, subst (λ (b : Lb). commands_for b.book.members c ≡ None) same none))
+
+pub only_within : (cfg : Config) (c : StatusCommand) (work : Work) → IsWorkFor cfg c work → IfSome work.only (λ lb. lb < length cfg.lbs)
+only_within cfg c work (inl all) = subst (λ (o : Option ℕ). IfSome o (λ lb. lb < length cfg.lbs)) (sym all.1) tt
+only_within cfg c work (inr one) =
+    subst (λ (o : Option ℕ). IfSome o (λ lb. lb < length cfg.lbs)) (sym one.5) (slice_get_within cfg.lbs one.1 one.2 one.4.stands)
+
+-- what the command asks for is what the query asks for
+pub asks : (cfg : Config) (status : Status) (query : Option (List ℕ)) (c : StatusCommand) (r : Result Work NoPage) → meaning_of query ≡ Some c
+    → (is_change c && status.read_only) ≡ false → IfOk r (IsWorkFor cfg c) → IfOk r (Asks cfg status query)
+asks cfg status query c (Ok work) means may works = (c, means, allowed status c may, works)
+asks cfg status query c (Err why) means may works = tt
+
+pub all_within : (cfg : Config) (c : StatusCommand) (r : Result Work NoPage) → IfOk r (IsWorkFor cfg c)
+    → IfOk r (λ work. IfSome work.only (λ lb. lb < length cfg.lbs))
+all_within cfg c (Ok work) works = only_within cfg c work works
+all_within cfg c (Err why) works = tt
+
+pub none_named : (cfg : Config) (status : Status) (query : Option (List ℕ)) (c : StatusCommand) (r : Result Work NoPage) → meaning_of query ≡ Some c
+    → (is_change c && status.read_only) ≡ false → IfErr r (IfCode (λ code. (code ≡ 404) × NamesNone cfg c)) → IfErr r (IfCode (IsRefused cfg status query))
+none_named cfg status query c (Ok work) means may none = tt
+none_named cfg status query c (Err why) means may none = names_nobody cfg status query c why means (allowed status c may) none

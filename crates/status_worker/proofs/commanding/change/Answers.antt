@@ -1,0 +1,13 @@
+-- A command was refused.
+use Rattle.std.proofs.Common.{◌≡◌, Err}
+use Rattle.std.proofs.lemmas.Result.{err_from_is_err_and}
+use Rattle.status_worker.proofs.CommandLaws.{refused}
+use Rattle.status_worker.proofs.commanding.change.Goals as goal
+
+pub returns-in_err-do_work-clause-err : goal.returns-in_err-do_work-clause-err
+returns-in_err-do_work-clause-err g c =
+    let p = err_from_is_err_and c.from_residual-in_err-do_work.result c.from_residual-in_err-do_work.ensures.1 in
+    let why = c.in_err-do_work.field-0.0 in
+    let same : c.from_residual-in_err-do_work.result ≡ Err why = cc (p.1, p.2) in
+    rw same (refused c.args.cfg.now c.args.session c.args.status.now c.args.query.now c.in_ok-work.work _ _ why c.in_ok-work.ensures.ok
+    c.in_err-do_work.ensures.err)

@@ -1,0 +1,5 @@
+pub mod Desks
+pub mod Commands
+pub mod Pages
+pub mod Asking
+pub mod Commanding

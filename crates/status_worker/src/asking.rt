@@ -1,0 +1,112 @@
+//! What a status worker's request asks for.
+ghost use Rattle.std.specs.Prelude.{◌≡◌, ◌<◌, ◌&&◌, None, Some, length, IfOk, IfErr, IfSome};
+ghost use Rattle.status_page.specs.Effects.{is_change};
+ghost use Rattle.status_page.specs.Meaning.{meaning_of};
+ghost use Rattle.status_worker.specs.Asking.{IfCode, IsNamedBalancer};
+ghost use Rattle.status_worker.specs.Commands.{Asks, IsRefused, IsWorkFor, NamesNone};
+
+use jk_io::{Bytes, NoMemory};
+use site_config::{Config, Named, Status};
+use status_page::{CommandList, StatusCommand, StatusError, commands_for, read_command};
+use std::alloc::Global;
+
+/// Why a status worker's request gets no page.
+#[derive(Clone, Copy, Debug, PartialEq, Eq)]
+pub enum NoPage {
+    /// An own answer with this status.
+    Own(u16),
+    NoMemory,
+}
+
+impl From<NoMemory> for NoPage {
+    ghost use Rattle.std.specs.Prelude.{◌≡◌};
+    ghost use Rattle.status_worker.specs.declared.asking.NoPage.TheVariants as no_page;
+
+    ghost from_gives = { λ _ e. e ≡ no_page.NoMemory };
+
+    fn from(_error: NoMemory) -> NoPage {
+        NoPage::NoMemory
+    }
+}
+
+/// What is to be done for a request of a status worker.
+#[derive(Drop)]
+pub struct Work {
+    /// The balancer of the page; none for the page of all.
+    pub only: Option<u32>,
+    /// The commands for that balancer, in order.
+    pub commands: CommandList,
+}
+
+/// The command that a query means.
+fn read_query(alloc: Global, query: &Option<Bytes>) -> Result<StatusCommand, NoPage>
+    ensures ok { IfOk result (λ c. meaning_of query.now ≡ Some c) }
+    ensures err { IfErr result (IfCode (λ code. (code ≡ 400) × (meaning_of query.now ≡ None))) }
+{
+    let read = match query {
+        None => read_command(alloc, None),
+        Some(query) => read_command(alloc, Some(query.as_slice())),
+    };
+    match read {
+        Ok(command) => Ok(command),
+        Err(StatusError::BadQuery) => Err(NoPage::Own(400)),
+        Err(StatusError::NoMemory) => Err(NoPage::NoMemory),
+    }
+}
+
+/// The balancer that a command names; none where it names none.
+fn named_balancer(cfg: &Config, command: &StatusCommand) -> Result<Option<u32>, NoPage>
+    ensures ok { IfOk result (IsNamedBalancer cfg.now command.now) }
+    ensures err { IfErr result (IfCode (λ code. (code ≡ 404) × NamesNone cfg.now command.now)) }
+{
+    let Some(name) = command.worker() else {
+        return Ok(None);
+    };
+    match cfg.find(name.as_slice()) {
+        Some(Named::Balancer(lb)) => Ok(Some(lb)),
+        Some(Named::Status(_)) | None => Err(NoPage::Own(404)),
+    }
+}
+
+/// What a command asks for.
+fn work_for(alloc: Global, cfg: &Config, command: &StatusCommand) -> Result<Work, NoPage>
+    ensures ok { IfOk result (IsWorkFor cfg.now command.now) }
+    ensures err { IfErr result (IfCode (λ code. (code ≡ 404) × NamesNone cfg.now command.now)) }
+{
+    let only = named_balancer(cfg, command)?;
+    let Some(lb) = only else {
+        return Ok(Work {
+            only,
+            commands: CommandList::new(alloc),
+        });
+    };
+    match commands_for(alloc, &cfg.lbs.as_slice()[lb as usize].book, command)? {
+        Some(commands) => Ok(Work { only, commands }),
+        None => Err(NoPage::Own(404)),
+    }
+}
+
+/// Whether the command is a change, and the status worker may do none.
+fn is_forbidden(status: &Status, command: &StatusCommand) -> bool
+    ensures { result ≡ (is_change command.now && status.now.read_only) }
+{
+    command.is_change() && status.read_only
+}
+
+/// What a request of a status worker asks for, or the first refusal: 400, 403, 404.
+pub(crate) fn work_of(
+    alloc: Global,
+    cfg: &Config,
+    status: &Status,
+    query: &Option<Bytes>,
+) -> Result<Work, NoPage>
+    ensures ok { IfOk result (Asks cfg.now status.now query.now) }
+    ensures within { IfOk result (λ work. IfSome work.only (λ lb. lb < length cfg.now.lbs)) }
+    ensures err { IfErr result (IfCode (IsRefused cfg.now status.now query.now)) }
+{
+    let command = read_query(alloc, query)?;
+    if is_forbidden(status, &command) {
+        return Err(NoPage::Own(403));
+    }
+    work_for(alloc, cfg, &command)
+}
