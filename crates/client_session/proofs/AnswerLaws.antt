@@ -1,0 +1,115 @@
+-- What a request is answered with by its status worker.
+use Rattle.std.proofs.Common.{◌≡◌, ◌<◌, ℕ, Bool, get_or, [], ◌∷◌, Some, Ok, Err, refl, sym, subst, inr, ap, ◌∙◌, length}
+use Rattle.std.proofs.lemmas.Option.{slice_get_read}
+use Rattle.jk_model.specs.declared.served.Asked.{Asked}
+use Rattle.jk_model.specs.declared.served.Asked.TheVariants as asked
+use Rattle.jk_model.specs.declared.served.Served.{Served}
+use Rattle.http_front.specs.declared.head.Head.{Head}
+use Rattle.http_body_in.specs.declared.body.BodyIn.{BodyIn}
+use Rattle.site_config.specs.declared.config.Named.TheVariants as named
+use Rattle.site_config.specs.declared.config.Status.{Status}
+use Rattle.balancer_core.specs.Desks.{DeskState, MeetsNone}
+use Rattle.exchange.specs.Requests.{is_head}
+use Rattle.client_session.specs.Answers.{IsAnswerAt, IsAtStatus, IsStatusAnswer}
+use Rattle.client_session.specs.Concluding.{IsKnownStop, rows_of, settled_by}
+use Rattle.client_session.specs.Requests.{Visit, mounted_at}
+use Rattle.client_session.specs.Rows.{worker_row}
+use Rattle.client_session.specs.Standings.{Standing}
+use Rattle.client_session.specs.Turns.{MeetsInAnswer, RisesInAnswer}
+use Rattle.client_session.specs.declared.ending.Stop.{Stop}
+use Rattle.client_session.specs.declared.ending.Stop.TheVariants as stop
+use Rattle.client_session.specs.declared.ending.Why.TheVariants as why
+use Rattle.client_session.specs.declared.turn.Answered.TheVariants as answered
+use Rattle.client_session.specs.declared.turn.Settled.{Settled}
+
+abbrev pub line_of : Head → Asked
+line_of head = asked.Line head.method head.target head.old
+
+-- ---- a status worker's answer
+
+pub at_status : (v : Visit) (head : Head) (place : ℕ) (status : Status) → mounted_at v head ≡ Some (named.Status place) → place < length v.cfg.statuses
+    → status ≡ get_or v.cfg.statuses place status → IsAtStatus v head status
+at_status v head place status mounted within is =
+    record { place = place; mounted = mounted; stands = slice_get_read v.cfg.statuses (length v.cfg.statuses) place status refl within is }
+
+pub shown_whole : (v : Visit) (head : Head) (last : Bool) (s n : Standing) (body : BodyIn) (status : Status) (len : ℕ) (asked' : Asked) (row : Served)
+    → IsAtStatus v head status → IsStatusAnswer v status head last s n (Ok len) → asked' ≡ line_of head
+    → row ≡ worker_row asked' 200 len status.name → IsAnswerAt v head last s n body body answered.Whole (row ∷ [])
+shown_whole v head last s n body status len asked' row at answer line is =
+    inr (
+      status,
+      answer.0,
+      answer.1,
+      at,
+      answer.2,
+      answer.3,
+      refl,
+      ap (λ (r : Served). r ∷ []) (is ∙ ap (λ (a : Asked). worker_row a 200 len status.name) line
+          ∙ ap (λ (k : ℕ). worker_row (line_of head) 200 k status.name) answer.4),
+    )
+
+pub shown_stop : (v : Visit) (head : Head) (last : Bool) (s n : Standing) (body : BodyIn) (status : Status) (stop' : Stop) (asked' : Asked) (settled : Settled)
+    → IsAtStatus v head status → IsStatusAnswer v status head last s n (Err stop') → asked' ≡ line_of head
+    → settled ≡ settled_by stop' asked' (is_head head) → IsAnswerAt v head last s n body body settled.answered (rows_of settled.row)
+shown_stop v head last s n body status stop' asked' settled at answer line is =
+    subst (λ (x : Settled). IsAnswerAt v head last s n body body x.answered (rows_of x.row))
+    (sym (is ∙ ap (λ (a : Asked). settled_by stop' a (is_head head)) line)) (by_stop stop' answer)
+  where
+    by_stop : (x : Stop) → IsStatusAnswer v status head last s n (Err x)
+        → IsAnswerAt v head last s n body body (settled_by x (line_of head) (is_head head)).answered (rows_of (settled_by x (line_of head) (is_head head)).row)
+    by_stop (stop.Closed why.ByClient) a = absurd a
+    by_stop (stop.Closed why.Last) a = absurd a
+    by_stop (stop.Closed (why.Own code)) a = (refl, inr (status, at, a))
+    by_stop (stop.Closed why.Cut) a = absurd a
+    by_stop (stop.Closed why.Unread) a = absurd a
+    by_stop stop.ClientFault a = (refl, inr (status, at, a))
+    by_stop stop.Truncated a = absurd a
+    by_stop (stop.Stray ticket returned_at) a = absurd a
+    by_stop stop.NoMemory a = (refl, inr (status, at, a))
+
+pub stop_known : (v : Visit) (head : Head) (last : Bool) (s n : Standing) (status : Status) (stop' : Stop) → IsStatusAnswer v status head last s n (Err stop')
+    → IsKnownStop stop'
+stop_known v head last s n status (stop.Closed why.ByClient) answer = absurd answer
+stop_known v head last s n status (stop.Closed why.Last) answer = absurd answer
+stop_known v head last s n status (stop.Closed (why.Own code)) answer = answer.3
+stop_known v head last s n status (stop.Closed why.Cut) answer = absurd answer
+stop_known v head last s n status (stop.Closed why.Unread) answer = absurd answer
+stop_known v head last s n status stop.ClientFault answer = tt
+stop_known v head last s n status stop.Truncated answer = absurd answer
+stop_known v head last s n status (stop.Stray ticket returned_at) answer = absurd answer
+stop_known v head last s n status stop.NoMemory answer = tt
+
+pub stop_rises : (v : Visit) (head : Head) (last : Bool) (s n : Standing) (status : Status) (stop' : Stop) (asked' : Asked) (settled : Settled)
+    → IsStatusAnswer v status head last s n (Err stop') → settled ≡ settled_by stop' asked' (is_head head)
+    → RisesInAnswer settled.answered s.client.faults n.client.faults
+stop_rises v head last s n status stop' asked' settled answer is =
+    subst (λ (x : Settled). RisesInAnswer x.answered s.client.faults n.client.faults) (sym is) (by_stop stop' answer)
+  where
+    by_stop : (x : Stop) → IsStatusAnswer v status head last s n (Err x)
+        → RisesInAnswer (settled_by x asked' (is_head head)).answered s.client.faults n.client.faults
+    by_stop (stop.Closed why.ByClient) a = tt
+    by_stop (stop.Closed why.Last) a = tt
+    by_stop (stop.Closed (why.Own code)) a = tt
+    by_stop (stop.Closed why.Cut) a = tt
+    by_stop (stop.Closed why.Unread) a = tt
+    by_stop stop.ClientFault a = a.0
+    by_stop stop.Truncated a = tt
+    by_stop (stop.Stray ticket returned_at) a = tt
+    by_stop stop.NoMemory a = tt
+
+pub stop_meets : (v : Visit) (head : Head) (last : Bool) (s n : Standing) (status : Status) (stop' : Stop) (asked' : Asked) (settled : Settled) (old new : DeskState)
+    → IsStatusAnswer v status head last s n (Err stop') → settled ≡ settled_by stop' asked' (is_head head) → MeetsNone old new
+    → MeetsInAnswer settled.answered old new
+stop_meets v head last s n status stop' asked' settled old new answer is met =
+    subst (λ (x : Settled). MeetsInAnswer x.answered old new) (sym is) (by_stop stop' answer)
+  where
+    by_stop : (x : Stop) → IsStatusAnswer v status head last s n (Err x) → MeetsInAnswer (settled_by x asked' (is_head head)).answered old new
+    by_stop (stop.Closed why.ByClient) a = met
+    by_stop (stop.Closed why.Last) a = met
+    by_stop (stop.Closed (why.Own code)) a = met
+    by_stop (stop.Closed why.Cut) a = met
+    by_stop (stop.Closed why.Unread) a = met
+    by_stop stop.ClientFault a = met
+    by_stop stop.Truncated a = met
+    by_stop (stop.Stray ticket returned_at) a = absurd a
+    by_stop stop.NoMemory a = met

@@ -1,0 +1,12 @@
+pub mod DeskLaws
+pub mod ConcludeLaws
+pub mod StatusLaws
+pub mod WritingLaws
+pub mod TurnLaws
+pub mod SessionLaws
+pub mod AnswerLaws
+pub mod CauseLaws
+pub mod DecideLaws
+pub mod PartsLaws
+pub mod CompleteLaws
+pub mod WayLaws

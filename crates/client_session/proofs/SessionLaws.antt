@@ -1,0 +1,160 @@
+-- Requests one after the other, and the session's end.
+use Rattle.std.proofs.Common.{◌≡◌, ◌≤◌, ℕ, suc, ◌+◌, List, [], ◌∷◌, ◌++◌, false, refl, sym, subst, inl, inr, ap, ◌∙◌, arith, IfSome, Option}
+use Rattle.std.proofs.lemmas.List.{append_assoc, append-nil}
+use Rattle.jk_io.specs.Moments.{Moment}
+use Rattle.jk_io.specs.Told.{Rose}
+use Rattle.jk_io.specs.declared.reaching.Beside.{Beside}
+use Rattle.jk_model.specs.declared.served.Served.{Served}
+use Rattle.http_front.specs.Refusal.{status_of}
+use Rattle.http_front.specs.declared.answers.Form.{Form}
+use Rattle.balancer_core.specs.Desks.{DeskState}
+use Rattle.status_worker.specs.Desks.{KeepsTickets}
+use Rattle.client_session.specs.Ends.{RisesBy, end_of}
+use Rattle.client_session.specs.Finishing.{RefusesHead}
+use Rattle.client_session.specs.Ready.{IsReady}
+use Rattle.client_session.specs.Requests.{Visit}
+use Rattle.client_session.specs.Sessions.{EndsIn, HaveServed, IsSession, ReadsRefused, refused_row}
+use Rattle.client_session.specs.Standings.{Standing}
+use Rattle.client_session.specs.Turns.{Turns}
+use Rattle.client_session.specs.declared.ending.SessionEnd.{SessionEnd}
+use Rattle.client_session.specs.declared.ending.SessionEnd.TheVariants as session_end
+use Rattle.client_session.specs.declared.ending.Stop.{Stop}
+use Rattle.client_session.specs.declared.ending.Stop.TheVariants as stop
+use Rattle.client_session.specs.declared.ending.Why.TheVariants as why
+use Rattle.client_session.specs.declared.turn.Turn.TheVariants as turn
+
+-- ---- a refused head
+
+nothing_added : (rows rows' : List Served) → rows' ≡ rows → rows' ≡ rows ++ []
+nothing_added rows rows' is = is ∙ sym (append-nil rows)
+
+same_again : (read n : Standing) → n ≡ record read { client = n.client } → n.client ≡ read.client → n ≡ read
+same_again read n alone same = alone ∙ ap (λ (c : Moment). record read { client = c }) same
+
+rose_since : (first before now : ℕ) → before ≡ first → Rose before now → Rose first now
+rose_since first before now is rose = subst (λ (k : ℕ). Rose k now) is rose
+
+pub refuses : (v : Visit) (number : ℕ) (s read n : Standing) (form : Form) (rows rows' : List Served) (stop' : Stop) → ReadsRefused s read form
+    → n ≡ record read { client = n.client } → RefusesHead form read.client n.client rows rows' stop' → Turns v number s n rows rows' (turn.EndsAt stop')
+refuses v number s read n form rows rows' stop' reads alone (inl wanted) =
+    subst (λ (x : Stop). Turns v number s n rows rows' (turn.EndsAt x)) (sym wanted.0)
+    ([], nothing_added rows rows' wanted.2, inl (refl, inr (inr (inl (read, form, reads, same_again read n alone wanted.1)))))
+refuses v number s read n form rows rows' (stop.Closed why.ByClient) reads alone (inr written) = absurd written.0
+refuses v number s read n form rows rows' (stop.Closed why.Last) reads alone (inr written) = absurd written.0
+refuses v number s read n form rows rows' (stop.Closed (why.Own code)) reads alone (inr written) =
+    subst (λ (c : ℕ). Turns v number s n rows rows' (turn.EndsAt (stop.Closed (why.Own c)))) (sym written.0.0) (
+      refused_row (status_of form) ∷ [],
+      written.1,
+      (refl, inl (record { read = read; form = form; reads = reads; status = refl; written = record { puts = written.0.1; alone = alone } }, refl)),
+    )
+refuses v number s read n form rows rows' (stop.Closed why.Cut) reads alone (inr written) = absurd written.0
+refuses v number s read n form rows rows' (stop.Closed why.Unread) reads alone (inr written) = absurd written.0
+refuses v number s read n form rows rows' stop.ClientFault reads alone (inr written) = (
+  [],
+  nothing_added rows rows' written.1,
+  inl (
+    refl,
+    refl,
+    rose_since _ _ _ reads.on.steady written.0.0,
+    inr (inl (record { read = read; form = form; reads = reads; begun = record { puts = written.0.1; alone = alone } })),
+  ),
+)
+refuses v number s read n form rows rows' stop.Truncated reads alone (inr written) = absurd written.0
+refuses v number s read n form rows rows' (stop.Stray ticket returned_at) reads alone (inr written) = absurd written.0
+refuses v number s read n form rows rows' stop.NoMemory reads alone (inr written) = (
+  [],
+  nothing_added rows rows' written.1,
+  inl (refl, inr (inl (record { read = read; form = form; reads = reads; begun = record { puts = written.0; alone = alone } }))),
+)
+
+-- ---- one request after the other
+
+-- That number of requests was served since the beginning, and the rows are theirs.
+pub record IsUnderWay (v : Visit) (number : ℕ) (s now : Standing) (rows rows_now : List Served) : Type 0 where
+  pub before : List Served
+  pub served : HaveServed v number s now before
+  pub added : rows_now ≡ rows ++ before
+
+pub begins : (v : Visit) (s : Standing) (rows : List Served) → IsUnderWay v 0 s s rows rows
+begins v s rows = record { before = []; served = (refl, refl); added = sym (append-nil rows) }
+
+joined : (rows mid now before last : List Served) → mid ≡ rows ++ before → now ≡ mid ++ last → now ≡ rows ++ (before ++ last)
+joined rows mid now before last first second =
+    second ∙ ap (λ (xs : List Served). xs ++ last) first ∙ append_assoc rows before last
+
+one_more : (v : Visit) (number : ℕ) (s n : Standing) (rows : List Served) → HaveServed v (suc number) s n rows → HaveServed v (number + 1) s n rows
+one_more v number s n rows served =
+    let next : suc number ≡ number + 1 = omega arith in
+    subst (λ (k : ℕ). HaveServed v k s n rows) next served
+
+pub goes_on : (v : Visit) (number : ℕ) (s mid n : Standing) (rows rows_mid rows_now : List Served) → IsUnderWay v number s mid rows rows_mid
+    → Turns v number mid n rows_mid rows_now turn.Next → IsUnderWay v (number + 1) s n rows rows_now
+goes_on v number s mid n rows rows_mid rows_now way turned = record {
+  before = way.before ++ turned.0;
+  served = one_more v number s n (way.before ++ turned.0) (mid, way.before, turned.0, way.served, turned.2, refl);
+  added = joined rows rows_mid rows_now way.before turned.0 way.added turned.1;
+}
+
+pub ends : (v : Visit) (number : ℕ) (s mid n : Standing) (rows rows_mid rows_now added : List Served) (end : SessionEnd)
+    → IsUnderWay v number s mid rows rows_mid → rows_now ≡ rows_mid ++ added → EndsIn v number mid n added end
+    → (gained : List Served) × (rows_now ≡ rows ++ gained) × IsSession v s n gained end
+ends v number s mid n rows rows_mid rows_now added end way more ending = (
+  way.before ++ added,
+  joined rows rows_mid rows_now way.before added way.added more,
+  record { number = number; mid = mid; before = way.before; last = added; served = way.served; ends = ending; joined = refl },
+)
+
+-- a session that wanted memory before it read anything
+pub unbegun : (v : Visit) (s : Standing) (rows : List Served) → IsSession v s s [] session_end.NoMemory
+unbegun v s rows = record {
+  number = 0;
+  mid = s;
+  before = [];
+  last = [];
+  served = (refl, refl);
+  ends = inl (refl, inl (record { alone = refl; sent = refl; unused = refl; no_fewer = omega arith }));
+  joined = refl;
+}
+
+-- ---- what holds at each step
+
+pub ready_again : (v : Visit) (old new : DeskState) (beside beside' : Beside) → IsReady v old beside → KeepsTickets v.session old new
+    → beside'.sizes ≡ beside.sizes → beside'.runs ≡ false → IsReady v new beside'
+ready_again v old new beside beside' ready kept sizes idle = record {
+  stands = ready.stands;
+  caller = subst (λ (c : Option ℕ). IfSome c (λ n. v.session ≡ n)) (sym kept.caller) ready.caller;
+  desk_sizes = kept.sizes ∙ ready.desk_sizes;
+  reach_sizes = sizes ∙ ready.reach_sizes;
+  idle = idle;
+}
+
+rose_on : (before mid now : ℕ) → before ≤ mid → Rose mid now → Rose before now
+rose_on before mid now more rose = omega (arith, more, rose)
+
+pub rises_on : (end : SessionEnd) (before mid now : ℕ) → before ≤ mid → RisesBy end mid now → RisesBy end before now
+rises_on (session_end.Closed requests why') before mid now more rises = tt
+rises_on (session_end.ClientFault requests) before mid now more rises = rose_on before mid now more rises
+rises_on (session_end.Truncated requests) before mid now more rises = tt
+rises_on (session_end.Stray ticket returned_at) before mid now more rises = tt
+rises_on session_end.NoMemory before mid now more rises = tt
+
+risen_by : (stop' : Stop) (count before now : ℕ) → RisesBy (end_of stop' 0) before now → RisesBy (end_of stop' count) before now
+risen_by (stop.Closed why') count before now rises = rises
+risen_by stop.ClientFault count before now rises = rises
+risen_by stop.Truncated count before now rises = rises
+risen_by (stop.Stray ticket returned_at) count before now rises = rises
+risen_by stop.NoMemory count before now rises = rises
+
+pub risen_at_end : (stop' : Stop) (count : ℕ) (end : SessionEnd) (before mid now : ℕ) → end ≡ end_of stop' count → before ≤ mid
+    → RisesBy (end_of stop' 0) mid now → RisesBy end before now
+risen_at_end stop' count end before mid now is more rises =
+    subst (λ (x : SessionEnd). RisesBy x before now) (sym is) (rises_on (end_of stop' count) before mid now more (risen_by stop' count mid now rises))
+
+-- the last request's turn, as the end of the session
+pub ended : (v : Visit) (number : ℕ) (s mid n : Standing) (rows rows_mid rows_now : List Served) (stop' : Stop) (count : ℕ) (end : SessionEnd)
+    → IsUnderWay v number s mid rows rows_mid → end ≡ end_of stop' count
+    → (added : List Served) × (rows_now ≡ rows_mid ++ added) × EndsIn v number mid n added (end_of stop' count)
+    → (gained : List Served) × (rows_now ≡ rows ++ gained) × IsSession v s n gained end
+ended v number s mid n rows rows_mid rows_now stop' count end way is turned =
+    ends v number s mid n rows rows_mid rows_now turned.0 end way turned.1
+    (subst (λ (x : SessionEnd). EndsIn v number mid n turned.0 x) (sym is) turned.2)

@@ -1,0 +1,131 @@
+-- A status worker's request, from what was asked to what its client has.
+use Rattle.std.proofs.Common.{◌≡◌, ℕ, Bool, List, Option, IsSome, Ok, Err, refl, sym, subst, inl, inr}
+use Rattle.jk_io.specs.Moments.{Moment}
+use Rattle.http_front.specs.declared.head.Head.{Head}
+use Rattle.http_out.specs.Own.{own_of}
+use Rattle.site_config.specs.declared.config.Status.{Status}
+use Rattle.exchange.specs.Requests.{is_head}
+use Rattle.client_session.specs.Answers.{HasPage, IsStatusAnswer, IsStatusBegun, own_for}
+use Rattle.status_worker.specs.Commanding.{IsPageCode}
+use Rattle.status_worker.specs.Commands.{IsDone, TurnsAway}
+use Rattle.status_worker.specs.Pages.{IsPage}
+use Rattle.client_session.specs.Requests.{Visit}
+use Rattle.balancer_core.specs.Desks.{DeskState}
+use Rattle.status_worker.specs.Desks.{DeskSide}
+use Rattle.client_session.specs.Standings.{Puts, PutsPart, Standing}
+use Rattle.client_session.specs.Writing.{WritesOwn, WritesPart}
+use Rattle.client_session.specs.declared.ending.Stop.{Stop}
+use Rattle.client_session.specs.declared.ending.Stop.TheVariants as stop
+use Rattle.client_session.specs.declared.ending.Why.TheVariants as why
+use Rattle.status_worker.specs.declared.pages.Page.{Page}
+use Rattle.status_page.specs.Page.{page_of}
+
+-- each status of an own answer in a page's place has one
+pub page_code : (code : ℕ) → IsPageCode code → IsSome (own_of code)
+page_code code (inl bad) = subst (λ (n : ℕ). IsSome (own_of n)) (sym bad) refl
+page_code code (inr (inl forbidden)) = subst (λ (n : ℕ). IsSome (own_of n)) (sym forbidden) refl
+page_code code (inr (inr (inl unknown))) = subst (λ (n : ℕ). IsSome (own_of n)) (sym unknown) refl
+page_code code (inr (inr (inr full))) = subst (λ (n : ℕ). IsSome (own_of n)) (sym full) refl
+
+-- the desk's side alone went on
+abbrev asked_on : Standing → DeskSide → Standing
+asked_on s d = record s { desk = d }
+
+-- and then something was written
+abbrev written_on : Standing → DeskSide → Moment → Standing
+written_on s d w = record s { desk = d; client = w }
+
+own_begun : (v : Visit) (status : Status) (head : Head) (last : Bool) (s : Standing) (d : DeskSide) (w : Moment) (code : ℕ)
+    → TurnsAway v.cfg v.session status head.query s.desk d code → PutsPart s.client w (own_for code (is_head head))
+    → IsStatusBegun v status head last s (written_on s d w)
+own_begun v status head last s d w code turned puts =
+    inr (asked_on s d, code, record { turned = turned; alone = refl }, record { puts = puts; alone = refl })
+
+pub own_answered : (v : Visit) (status : Status) (head : Head) (last : Bool) (s : Standing) (d : DeskSide) (w : Moment) (code : ℕ) (stop' : Stop)
+    → TurnsAway v.cfg v.session status head.query s.desk d code → IsSome (own_of code) → WritesOwn code (is_head head) s.client w stop'
+    → IsStatusAnswer v status head last s (written_on s d w) (Err stop')
+own_answered v status head last s d w code (stop.Closed why.ByClient) turned known writes = absurd writes
+own_answered v status head last s d w code (stop.Closed why.Last) turned known writes = absurd writes
+own_answered v status head last s d w code (stop.Closed (why.Own other)) turned known writes =
+    subst (λ (n : ℕ). IsStatusAnswer v status head last s (written_on s d w) (Err (stop.Closed (why.Own n)))) (sym writes.0)
+    (asked_on s d, record { turned = turned; alone = refl }, record { puts = writes.1; alone = refl }, known)
+own_answered v status head last s d w code (stop.Closed why.Cut) turned known writes = absurd writes
+own_answered v status head last s d w code (stop.Closed why.Unread) turned known writes = absurd writes
+own_answered v status head last s d w code stop.ClientFault turned known writes =
+    (writes.0, own_begun v status head last s d w code turned writes.1)
+own_answered v status head last s d w code stop.Truncated turned known writes = absurd writes
+own_answered v status head last s d w code (stop.Stray ticket returned_at) turned known writes = absurd writes
+own_answered v status head last s d w code stop.NoMemory turned known writes = inl (own_begun v status head last s d w code turned writes)
+
+has_page : (v : Visit) (status : Status) (query : Option (List ℕ)) (s : Standing) (d : DeskSide) (only : Option ℕ) (head_only last : Bool) (page : Page)
+    → IsDone v.cfg v.session status query s.desk d only → (seen : IsPage v.cfg d.state only head_only last page)
+    → HasPage v status query s (asked_on s d) (page_of seen.0)
+has_page v status query s d only head_only last page done seen = record {
+  only = only;
+  done = done;
+  alone = refl;
+  parts = seen.0;
+  seen = seen.1;
+  is = refl;
+}
+
+page_answered : (v : Visit) (status : Status) (head : Head) (last : Bool) (s : Standing) (d : DeskSide) (w : Moment) (only : Option ℕ) (page : Page)
+    → IsDone v.cfg v.session status head.query s.desk d only → IsPage v.cfg d.state only (is_head head) last page → Puts s.client w page.reply
+    → IsStatusAnswer v status head last s (written_on s d w) (Ok page.len)
+page_answered v status head last s d w only page done seen puts = (
+  asked_on s d,
+  page_of seen.0,
+  has_page v status head.query s d only (is_head head) last page done seen,
+  record { puts = rw (← seen.2) puts; alone = refl },
+  seen.3,
+)
+
+page_begun : (v : Visit) (status : Status) (head : Head) (last : Bool) (s : Standing) (d : DeskSide) (w : Moment) (only : Option ℕ) (page : Page)
+    → IsDone v.cfg v.session status head.query s.desk d only → IsPage v.cfg d.state only (is_head head) last page → PutsPart s.client w page.reply
+    → IsStatusBegun v status head last s (written_on s d w)
+page_begun v status head last s d w only page done seen puts =
+    inl (
+      asked_on s d,
+      page_of seen.0,
+      has_page v status head.query s d only (is_head head) last page done seen,
+      record { puts = rw (← seen.2) puts; alone = refl },
+    )
+
+page_broken : (v : Visit) (status : Status) (head : Head) (last : Bool) (s : Standing) (d : DeskSide) (w : Moment) (only : Option ℕ) (page : Page) (stop' : Stop)
+    → IsDone v.cfg v.session status head.query s.desk d only → IsPage v.cfg d.state only (is_head head) last page
+    → WritesPart {T = Unit {0}} page.reply s.client w (Err stop') → IsStatusAnswer v status head last s (written_on s d w) (Err stop')
+page_broken v status head last s d w only page (stop.Closed why') done seen writes = absurd writes
+page_broken v status head last s d w only page stop.ClientFault done seen writes =
+    (writes.0, page_begun v status head last s d w only page done seen writes.1)
+page_broken v status head last s d w only page stop.Truncated done seen writes = absurd writes
+page_broken v status head last s d w only page (stop.Stray ticket returned_at) done seen writes = absurd writes
+page_broken v status head last s d w only page stop.NoMemory done seen writes = inl (page_begun v status head last s d w only page done seen writes)
+
+nothing_seen : (v : Visit) (status : Status) (head : Head) (last : Bool) (s : Standing) (d : DeskSide) (only : Option ℕ)
+    → IsDone v.cfg v.session status head.query s.desk d only → IsStatusAnswer v status head last s (asked_on s d) (Err stop.NoMemory)
+nothing_seen v status head last s d only done = inr (record { alone = refl; why = inr (only, done) })
+
+-- ---- the same, where looks left the desk as it was
+
+abbrev side : DeskState → Option (List ℕ) → DeskSide
+side state clock = record { state = state; clock = clock }
+
+pub unseen_at : (v : Visit) (status : Status) (head : Head) (last : Bool) (s : Standing) (seen now : DeskState) (clock : Option (List ℕ)) (only : Option ℕ) → now ≡ seen
+    → IsDone v.cfg v.session status head.query s.desk (side seen clock) only → IsStatusAnswer v status head last s (asked_on s (side now clock)) (Err stop.NoMemory)
+unseen_at v status head last s seen now clock only same done =
+    subst (λ (d : DeskState). IsStatusAnswer v status head last s (asked_on s (side d clock)) (Err stop.NoMemory)) (sym same)
+    (nothing_seen v status head last s (side seen clock) only done)
+
+pub answered_at : (v : Visit) (status : Status) (head : Head) (last : Bool) (s : Standing) (seen now : DeskState) (clock : Option (List ℕ)) (w : Moment) (only : Option ℕ) (page : Page) → now ≡ seen
+    → IsDone v.cfg v.session status head.query s.desk (side seen clock) only → IsPage v.cfg seen only (is_head head) last page → Puts s.client w page.reply
+    → IsStatusAnswer v status head last s (written_on s (side now clock) w) (Ok page.len)
+answered_at v status head last s seen now clock w only page same done is_seen puts =
+    subst (λ (d : DeskState). IsStatusAnswer v status head last s (written_on s (side d clock) w) (Ok page.len)) (sym same)
+    (page_answered v status head last s (side seen clock) w only page done is_seen puts)
+
+pub broken_at : (v : Visit) (status : Status) (head : Head) (last : Bool) (s : Standing) (seen now : DeskState) (clock : Option (List ℕ)) (w : Moment) (only : Option ℕ) (page : Page) (stop' : Stop) → now ≡ seen
+    → IsDone v.cfg v.session status head.query s.desk (side seen clock) only → IsPage v.cfg seen only (is_head head) last page
+    → WritesPart {T = Unit {0}} page.reply s.client w (Err stop') → IsStatusAnswer v status head last s (written_on s (side now clock) w) (Err stop')
+broken_at v status head last s seen now clock w only page stop' same done is_seen writes =
+    subst (λ (d : DeskState). IsStatusAnswer v status head last s (written_on s (side d clock) w) (Err stop')) (sym same)
+    (page_broken v status head last s (side seen clock) w only page stop' done is_seen writes)

@@ -1,0 +1,164 @@
+-- What a request comes to: the session goes on, or ends at it or after it.
+use Rattle.std.proofs.Common.{◌≡◌, ℕ, ◌+◌, Bool, true, false, List, [], ◌++◌, refl, sym, None, subst, inl, inr, ap, ◌∙◌}
+use Rattle.std.proofs.lemmas.List.{append-nil}
+use Rattle.jk_io.specs.Told.{Rose}
+use Rattle.jk_model.specs.declared.served.Served.{Served}
+use Rattle.http_front.specs.declared.head.Head.{Head}
+use Rattle.http_body_in.specs.State.{failed_of}
+use Rattle.http_body_in.specs.Takes.{MeetsFault, body_at}
+use Rattle.http_body_in.specs.Wants.{Rest}
+use Rattle.http_body_in.specs.declared.body.BodyIn.{BodyIn}
+use Rattle.http_body_in.specs.declared.fault.BodyFault.{BodyFault}
+use Rattle.http_body_in.specs.declared.fault.BodyFault.TheVariants as fault
+use Rattle.client_session.specs.Answers.{IsAnswer}
+use Rattle.client_session.specs.Ends.{end_of}
+use Rattle.client_session.specs.Finishing.{Finishes, stop_after}
+use Rattle.client_session.specs.Requests.{IsNewBody, Visit, is_last}
+use Rattle.client_session.specs.Sessions.{EndsIn, IsGoingOn, IsRequest, ReadsHead}
+use Rattle.client_session.specs.Standings.{IsClientAlone, Standing}
+use Rattle.client_session.specs.Turns.{GoesOn, IsTurn, RisesInAnswer, Turns}
+use Rattle.client_session.specs.declared.ending.Stop.{Stop}
+use Rattle.client_session.specs.declared.ending.Stop.TheVariants as stop
+use Rattle.client_session.specs.declared.ending.Why.TheVariants as why
+use Rattle.client_session.specs.declared.turn.Answered.{Answered}
+use Rattle.client_session.specs.declared.turn.Answered.TheVariants as answered
+use Rattle.client_session.specs.declared.turn.Turn.{Turn}
+use Rattle.client_session.specs.declared.turn.Turn.TheVariants as turn
+
+abbrev pub request : (v : Visit) (number : ℕ) (s read n : Standing) (head : Head) (fresh body : BodyIn) (a : Answered) (rows : List Served)
+    → ReadsHead s read head → IsNewBody head.plan fresh → IsAnswer v head (is_last number head) read n fresh body a rows
+    → IsRequest v number s n body a rows
+request v number s read n head fresh body a rows reads is_fresh answers =
+    record { head = head; read = read; fresh = fresh; reads = reads; is_fresh = is_fresh; answers = answers }
+
+rose_from : (first before now : ℕ) → before ≡ first → Rose before now → Rose first now
+rose_from first before now is rose = subst (λ (n : ℕ). Rose n now) is rose
+
+-- the request wasn't answered whole
+pub stops : (v : Visit) (number : ℕ) (s read n : Standing) (head : Head) (fresh body : BodyIn) (stop' : Stop) (rows : List Served)
+    → ReadsHead s read head → IsNewBody head.plan fresh → IsAnswer v head (is_last number head) read n fresh body (answered.Not stop') rows
+    → RisesInAnswer (answered.Not stop') read.client.faults n.client.faults → EndsIn v number s n rows (end_of stop' number)
+stops v number s read n head fresh body (stop.Closed why.ByClient) rows reads is_fresh answers rises =
+    elim answers [ inl early ↦ absurd early | inr later ↦ absurd later.2 ]
+stops v number s read n head fresh body (stop.Closed why.Last) rows reads is_fresh answers rises =
+    elim answers [ inl early ↦ absurd early | inr later ↦ absurd later.2 ]
+stops v number s read n head fresh body (stop.Closed (why.Own code)) rows reads is_fresh answers rises =
+    (refl, inr (body, request v number s read n head fresh body (answered.Not (stop.Closed (why.Own code))) rows reads is_fresh answers))
+stops v number s read n head fresh body (stop.Closed why.Cut) rows reads is_fresh answers rises =
+    (refl, (body, request v number s read n head fresh body (answered.Not (stop.Closed why.Cut)) rows reads is_fresh answers))
+stops v number s read n head fresh body (stop.Closed why.Unread) rows reads is_fresh answers rises =
+    elim answers [ inl early ↦ absurd early | inr later ↦ absurd later.2 ]
+stops v number s read n head fresh body stop.ClientFault rows reads is_fresh answers rises =
+    inl (
+      refl,
+      elim answers [ inl early ↦ early.0 | inr later ↦ later.2.0 ],
+      rose_from _ _ _ reads.on.steady rises,
+      inr (inr (body, request v number s read n head fresh body (answered.Not stop.ClientFault) rows reads is_fresh answers)),
+    )
+stops v number s read n head fresh body stop.Truncated rows reads is_fresh answers rises =
+    inl (
+      refl,
+      elim answers [ inl early ↦ absurd early | inr later ↦ later.2.0 ],
+      inr (body, request v number s read n head fresh body (answered.Not stop.Truncated) rows reads is_fresh answers),
+    )
+stops v number s read n head fresh body (stop.Stray ticket returned_at) rows reads is_fresh answers rises = (
+  elim answers [ inl early ↦ absurd early | inr later ↦ later.2.0 ],
+  (body, request v number s read n head fresh body (answered.Not (stop.Stray ticket returned_at)) rows reads is_fresh answers),
+)
+stops v number s read n head fresh body stop.NoMemory rows reads is_fresh answers rises =
+    inl (
+      elim answers [ inl early ↦ early.0 | inr later ↦ later.2.0 ],
+      inr (inr (inr (body, request v number s read n head fresh body (answered.Not stop.NoMemory) rows reads is_fresh answers))),
+    )
+
+-- the rest of the body came to a fault
+pub unread : (v : Visit) (number : ℕ) (s mid n : Standing) (body after : BodyIn) (rows : List Served) (why' : BodyFault)
+    → IsGoingOn v number s mid body rows → failed_of body ≡ None → IsClientAlone mid n
+    → MeetsFault (body_at body mid.inbox mid.client) (body_at after n.inbox n.client) Rest why'
+    → EndsIn v number s n rows (end_of (stop_after why') (number + 1))
+unread v number s mid n body after rows fault.Truncated going_on going alone meets =
+    inr (refl, (body, mid, going_on, record { after = after; meets = meets; going = going; alone = alone }))
+unread v number s mid n body after rows fault.BadChunk going_on going alone meets =
+    (refl, inl (body, mid, going_on, record { after = after; meets = meets; going = going; alone = alone }))
+unread v number s mid n body after rows fault.TooLong going_on going alone meets =
+    (refl, inr (body, mid, going_on, record { after = after; meets = meets; going = going; alone = alone }))
+unread v number s mid n body after rows fault.Fault going_on going alone meets =
+    inr (refl, (body, mid, going_on, record { after = after; meets = meets; going = going; alone = alone }))
+unread v number s mid n body after rows fault.NoMemory going_on going alone meets =
+    inr (body, mid, going_on, record { after = after; meets = meets; going = going; alone = alone })
+
+-- the rest of the body was read, or wasn't
+pub finishes : (v : Visit) (number : ℕ) (s mid n : Standing) (body after : BodyIn) (rows : List Served) (turn' : Turn)
+    → IsGoingOn v number s mid body rows → failed_of body ≡ None → IsClientAlone mid n
+    → Finishes (body_at body mid.inbox mid.client) (body_at after n.inbox n.client) turn' → IsTurn v number s n rows turn'
+finishes v number s mid n body after rows turn.Next going_on going alone finished =
+    record { body = body; mid = mid; going_on = going_on; skips = record { after = after; passes = finished; alone = alone } }
+finishes v number s mid n body after rows (turn.EndsAfter stop') going_on going alone finished =
+    subst (λ (x : Stop). EndsIn v number s n rows (end_of x (number + 1))) (sym finished.2)
+    (unread v number s mid n body after rows finished.0 going_on going alone finished.1)
+finishes v number s mid n body after rows (turn.EndsAt stop') going_on going alone finished = absurd finished
+
+-- ---- the turn of a request that was read
+
+put_on : (rows mid rows' added : List Served) → mid ≡ rows → rows' ≡ mid ++ added → rows' ≡ rows ++ added
+put_on rows mid rows' added same more = more ∙ ap (λ (xs : List Served). xs ++ added) same
+
+answered_as : (v : Visit) (number : ℕ) (read n : Standing) (head : Head) (fresh body : BodyIn) (a b : Answered) (last : Bool) (rows : List Served)
+    → a ≡ b → last ≡ is_last number head → IsAnswer v head last read n fresh body a rows → IsAnswer v head (is_last number head) read n fresh body b rows
+answered_as v number read n head fresh body a b last rows same is answers =
+    subst (λ (x : Answered). IsAnswer v head (is_last number head) read n fresh body x rows) same
+    (subst (λ (l : Bool). IsAnswer v head l read n fresh body a rows) is answers)
+
+-- there was no memory for its row
+pub unrowed : (v : Visit) (number : ℕ) (s read : Standing) (head : Head) (fresh : BodyIn) (rows rows' : List Served) → IsNewBody head.plan fresh
+    → rows' ≡ rows → ReadsHead s read head → Turns v number s read rows rows' (turn.EndsAt stop.NoMemory)
+unrowed v number s read head fresh rows rows' is_fresh same reads = (
+  [],
+  same ∙ sym (append-nil rows),
+  inl (refl, inr (inr (inr (fresh, request v number s read read head fresh fresh (answered.Not stop.NoMemory) [] reads is_fresh (inl (refl, inl refl)))))),
+)
+
+-- it wasn't answered whole
+pub turn_stops : (v : Visit) (number : ℕ) (s read n : Standing) (head : Head) (fresh body : BodyIn) (a : Answered) (stop' : Stop) (last : Bool) (rows mid rows' added : List Served)
+    → IsNewBody head.plan fresh → mid ≡ rows → rows' ≡ mid ++ added → a ≡ answered.Not stop' → last ≡ is_last number head
+    → IsAnswer v head last read n fresh body a added → RisesInAnswer a read.client.faults n.client.faults → ReadsHead s read head
+    → Turns v number s n rows rows' (turn.EndsAt stop')
+turn_stops v number s read n head fresh body a stop' last rows mid rows' added is_fresh same more is ends answers rises reads = (
+  added,
+  put_on rows mid rows' added same more,
+  stops v number s read n head fresh body stop' added reads is_fresh (answered_as v number read n head fresh body a (answered.Not stop') last added is ends answers)
+      (subst (λ (x : Answered). RisesInAnswer x read.client.faults n.client.faults) is rises),
+)
+
+-- it was, and is the last one
+pub turn_last : (v : Visit) (number : ℕ) (s read n : Standing) (head : Head) (fresh body : BodyIn) (a : Answered) (last : Bool) (rows mid rows' added : List Served)
+    → IsNewBody head.plan fresh → mid ≡ rows → rows' ≡ mid ++ added → a ≡ answered.Whole → last ≡ is_last number head → last ≡ true
+    → IsAnswer v head last read n fresh body a added → ReadsHead s read head → Turns v number s n rows rows' (turn.EndsAfter (stop.Closed why.Last))
+turn_last v number s read n head fresh body a last rows mid rows' added is_fresh same more is ends true' answers reads = (
+  added,
+  put_on rows mid rows' added same more,
+  (
+    refl,
+    (
+      body,
+      request v number s read n head fresh body answered.Whole added reads is_fresh (answered_as v number read n head fresh body a answered.Whole last added is ends answers),
+      sym ends ∙ true',
+    ),
+  ),
+)
+
+-- it was, and isn't the last one
+pub turn_finishes : (v : Visit) (number : ℕ) (s read m n : Standing) (head : Head) (fresh body after : BodyIn) (a : Answered) (last : Bool) (rows mid rows' added : List Served) (turn' : Turn)
+    → IsNewBody head.plan fresh → mid ≡ rows → rows' ≡ mid ++ added → a ≡ answered.Whole → last ≡ is_last number head → last ≡ false
+    → IsAnswer v head last read m fresh body a added → GoesOn a body → IsClientAlone m n
+    → Finishes (body_at body m.inbox m.client) (body_at after n.inbox n.client) turn' → ReadsHead s read head → Turns v number s n rows rows' turn'
+turn_finishes v number s read m n head fresh body after a last rows mid rows' added turn' is_fresh same more is ends false' answers going alone finished reads = (
+  added,
+  put_on rows mid rows' added same more,
+  finishes v number s m n body after added turn'
+      (record {
+        request = request v number s read m head fresh body answered.Whole added reads is_fresh (answered_as v number read m head fresh body a answered.Whole last added is ends answers);
+        more = sym ends ∙ false';
+      })
+      (subst (λ (x : Answered). GoesOn x body) is going) alone finished,
+)

@@ -1,0 +1,38 @@
+-- What all requests together were, and what holds of each way in which that may have gone.
+use Rattle.std.proofs.Common.{[], refl}
+use Rattle.client_session.specs.Requests.{visit}
+use Rattle.client_session.specs.Standings.{standing}
+use Rattle.client_session.proofs.CompleteLaws.{serves_whole}
+use Rattle.client_session.proofs.PartsLaws.{has_parts}
+use Rattle.client_session.proofs.WayLaws.{completed, decided, never_began, no_parts, owned}
+use Rattle.client_session.proofs.serving.serve_session_with.Goals as goal
+
+pub returns-in_default-clause-session : goal.returns-in_default-clause-session
+returns-in_default-clause-session g c = never_began _ _ _
+
+pub returns-in_default-clause-parts : goal.returns-in_default-clause-parts
+returns-in_default-clause-parts g c =
+    no_parts _ (standing g.B.Desk.state g.K.Clock.answers g.R.Meanings g.C.Meanings c.args.desk.now c.args.clock.now c.args.reach.now c.args.client.now []) refl
+
+pub returns-in_default-clause-served : goal.returns-in_default-clause-served
+returns-in_default-clause-served g c = λ number s n gained served. serves_whole _ number s n gained served
+
+pub returns-clause-parts : goal.returns-clause-parts
+returns-clause-parts g c =
+    has_parts (visit c.args.cfg.now c.args.map.now c.args.session c.args.peer.now)
+    (standing g.B.Desk.state g.K.Clock.answers g.R.Meanings g.C.Meanings c.args.desk.now c.args.clock.now c.args.reach.now c.args.client.now c.in-Ok.inbox)
+    (standing g.B.Desk.state g.K.Clock.answers g.R.Meanings g.C.Meanings c.serve_all-end.new.desk c.serve_all-end.new.clock c.serve_all-end.new.reach
+    c.serve_all-end.new.client c.serve_all-end.new.inbox)
+    c.serve_all-end.ensures.session.0 c.serve_all-end.result c.in-Ok.ensures c.serve_all-end.ensures.session.2
+
+pub returns-clause-own : goal.returns-clause-own
+returns-clause-own g c = λ way. owned _ _ _ _ _ _ way
+
+pub returns-clause-by_bytes : goal.returns-clause-by_bytes
+returns-clause-by_bytes g c = λ way. decided _ _ _ _ _ _ way
+
+pub returns-clause-complete : goal.returns-clause-complete
+returns-clause-complete g c = λ way. completed _ _ _ _ _ _ way
+
+pub returns-clause-served : goal.returns-clause-served
+returns-clause-served g c = λ number s n gained served. serves_whole _ number s n gained served

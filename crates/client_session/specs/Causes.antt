@@ -1,0 +1,132 @@
+-- What the client's bytes decide of a session's end, and why an own answer was given, by its status.
+use Rattle.std.specs.Prelude.{ℕ, ◌≡◌, ◌≤◌, ◌+◌, ◌⊎◌, Bool, true, false, List, ◌++◌, length, Some, None, IfSome}
+use Rattle.jk_io.specs.Told.{Rose}
+use Rattle.jk_model.specs.declared.journal.Answer.TheVariants as answer
+use Rattle.http_front.specs.Refusal.{status_of}
+use Rattle.http_front.specs.Request.{AreEmptyLines, EndsWithin, IsHeadOf, Refuses}
+use Rattle.http_front.specs.declared.answers.Form.{Form}
+use Rattle.http_front.specs.declared.head.Head.{Head}
+use Rattle.http_body_in.specs.State.{most_of, taken_of}
+use Rattle.http_body_in.specs.declared.body.BodyIn.{BodyIn}
+use Rattle.ajp_talk.specs.declared.ending.Cause.{Cause}
+use Rattle.ajp_talk.specs.Moments.{data_at}
+use Rattle.exchange.specs.Clients.{EndsWith, GivesUp, IsTooLarge}
+use Rattle.exchange.specs.Ends.{is_status}
+use Rattle.exchange.specs.declared.ending.ExchangeEnd.TheVariants as exchange_end
+use Rattle.site_config.specs.declared.config.Status.{Status}
+use Rattle.status_worker.specs.Commands.{IsRefused}
+use Rattle.client_session.specs.Answers.{IsAtStatus, IsForwarded, IsToldOn, IsTurnedAway, errand_at}
+use Rattle.client_session.specs.Requests.{Visit, is_last, mounted_at}
+use Rattle.client_session.specs.Sessions.{ReadsHead, ReadsRefused}
+use Rattle.client_session.specs.Standings.{Standing, unread_at, with_body}
+use Rattle.client_session.specs.declared.ending.SessionEnd.{SessionEnd}
+use Rattle.client_session.specs.declared.ending.SessionEnd.TheVariants as session_end
+use Rattle.client_session.specs.declared.ending.Why.TheVariants as why
+
+-- ---- what the bytes decide
+
+-- P, unless the client failed or memory was wanted
+abbrev pub Calmly : SessionEnd → Type 0 → Type 0
+Calmly (session_end.Closed requests why') P = P
+Calmly (session_end.ClientFault requests) P = Unit {0}
+Calmly (session_end.Truncated requests) P = P
+Calmly (session_end.Stray ticket returned_at) P = P
+Calmly session_end.NoMemory P = Unit {0}
+
+-- These are the bytes that no request used when `number` of them had been served, and the session ended after that many or at
+-- the next one: at empty lines alone by the client; within a head cut off; at a refused head by its own answer; at a head that
+-- is mounted nowhere by 404; and at one that a status worker refuses by that refusal.
+pub record DecidesEnd (v : Visit) (number : ℕ) (bytes : List ℕ) (end : SessionEnd) : Type 0 where
+  pub over : AreEmptyLines bytes → Calmly end (end ≡ session_end.Closed number why.ByClient)
+  pub cut : EndsWithin bytes → Calmly end (end ≡ session_end.Truncated number)
+  pub refused : (form : Form) → Refuses bytes form → Calmly end (end ≡ session_end.Closed number (why.Own (status_of form)))
+  pub unmounted : (used rest : List ℕ) (head : Head) → bytes ≡ used ++ rest → IsHeadOf used head → mounted_at v head ≡ None
+      → Calmly end (end ≡ session_end.Closed number (why.Own 404))
+  pub turned_away : (used rest : List ℕ) (head : Head) (status : Status) (code : ℕ) → bytes ≡ used ++ rest → IsHeadOf used head
+      → IsAtStatus v head status → IsRefused v.cfg status head.query code → Calmly end (end ≡ session_end.Closed number (why.Own code))
+
+-- ---- why an own answer was given
+
+-- the head is refused for a form of that status
+abbrev pub RefusesAs : Standing → (code : ℕ) → Type 0
+RefusesAs s code = (read : Standing) × (form : Form) × ReadsRefused s read form × (status_of form ≡ code)
+
+-- the head is mounted nowhere
+abbrev pub IsUnmounted : Visit → Standing → Type 0
+IsUnmounted v s = (read : Standing) × (head : Head) × ReadsHead s read head × (mounted_at v head ≡ None)
+
+-- A status worker's request got this own answer in its page's place.
+pub record HasNoPage (v : Visit) (s n : Standing) (code : ℕ) : Type 0 where
+  pub head : Head
+  pub read : Standing
+  pub reads : ReadsHead s read head
+  pub begun : Standing
+  pub told_on : IsToldOn v head read begun
+  pub status : Status
+  pub at : IsAtStatus v head status
+  pub asked : Standing
+  pub turned : IsTurnedAway v status head.query begun asked code
+  pub desk : n.desk ≡ asked.desk
+
+-- A request that was forwarded got this own answer.
+pub record HasNoReply (v : Visit) (number : ℕ) (s n : Standing) (code : ℕ) : Type 0 where
+  pub head : Head
+  pub read : Standing
+  pub reads : ReadsHead s read head
+  pub begun : Standing
+  pub told_on : IsToldOn v head read begun
+  pub body : BodyIn
+  pub body' : BodyIn
+  pub forwarded : IsForwarded v head (is_last number head) begun n body body' (exchange_end.Own code)
+
+-- Its last talk failed, with no byte passed, and the member's options forbid another try: by the status of the reply, or by
+-- another cause.
+abbrev pub GaveUp : (v : Visit) (number : ℕ) (s n : Standing) (code : ℕ) → HasNoReply v number s n code → (by_status : Bool) → Type 0
+GaveUp v number s n code r by_status =
+    (cause : Cause) × (is_status cause ≡ by_status)
+    × GivesUp (errand_at v r.head (is_last number r.head) r.forwarded.lb r.forwarded.balancer) (with_body r.begun r.body).around (with_body n r.body').around cause
+
+-- its talk, which answered an ask, came to a bad line of the body
+abbrev pub HasBadLine : (v : Visit) (number : ℕ) (s n : Standing) (code : ℕ) → HasNoReply v number s n code → Type 0
+HasBadLine v number s n code r = IfSome (data_at (with_body r.begun r.body).around.body) (λ d. (d.whole ≡ false) × (d.bad ≡ true))
+
+-- its Forward Request is too large for the member, or its body reached the limit
+abbrev pub IsTooMuch : (v : Visit) (number : ℕ) (s n : Standing) (code : ℕ) → HasNoReply v number s n code → Type 0
+IsTooMuch v number s n code r =
+    IsTooLarge (errand_at v r.head (is_last number r.head) r.forwarded.lb r.forwarded.balancer)
+    ⊎ IfSome (data_at (with_body r.begun r.body).around.body) (λ d. most_of r.body ≤ taken_of r.body + length d.bytes)
+
+-- The cause of an own answer, by its status. A standing of the request's begin and one of its end tell which receipts and
+-- counts of the desk are the request's.
+pub record HasOwnCause (v : Visit) (number : ℕ) (s n : Standing) (code : ℕ) : Type 0 where
+  pub bad_request : code ≡ 400
+      → RefusesAs s 400 ⊎ (((r : HasNoReply v number s n code) × HasBadLine v number s n code r) ⊎ HasNoPage v s n 400)
+  pub forbidden : code ≡ 403 → HasNoPage v s n 403
+  pub not_found : code ≡ 404 → IsUnmounted v s ⊎ HasNoPage v s n 404
+  pub too_large : code ≡ 413 → RefusesAs s 413 ⊎ ((r : HasNoReply v number s n code) × IsTooMuch v number s n code r)
+  pub many_fields : code ≡ 431 → RefusesAs s 431
+  pub internal : code ≡ 500 → EndsWith s.desk.state n.desk.state answer.Forced ⊎ Rose s.desk.state.fulls n.desk.state.fulls
+  pub unbuilt : code ≡ 501 → RefusesAs s 501
+  pub gateway : code ≡ 502 → (r : HasNoReply v number s n code) × GaveUp v number s n code r false
+  pub unavailable : code ≡ 503
+      → EndsWith s.desk.state n.desk.state answer.NoMember ⊎ ((r : HasNoReply v number s n code) × GaveUp v number s n code r true)
+
+-- of an end by an own answer
+abbrev pub IfOwn : SessionEnd → (ℕ → Type 0) → Type 0
+IfOwn (session_end.Closed requests why.ByClient) P = Unit {0}
+IfOwn (session_end.Closed requests why.Last) P = Unit {0}
+IfOwn (session_end.Closed requests (why.Own code)) P = P code
+IfOwn (session_end.Closed requests why.Cut) P = Unit {0}
+IfOwn (session_end.Closed requests why.Unread) P = Unit {0}
+IfOwn (session_end.ClientFault requests) P = Unit {0}
+IfOwn (session_end.Truncated requests) P = Unit {0}
+IfOwn (session_end.Stray ticket returned_at) P = Unit {0}
+IfOwn session_end.NoMemory P = Unit {0}
+
+-- an own answer at the end has its cause
+abbrev pub IsOwnCaused : Visit → SessionEnd → (number : ℕ) → (s n : Standing) → Type 0
+IsOwnCaused v end number s n = IfOwn end (HasOwnCause v number s n)
+
+-- where they are told, the bytes that no request used decide the end
+abbrev pub IsDecided : Visit → SessionEnd → (number : ℕ) → (s n : Standing) → Type 0
+IsDecided v end number s n = (bytes : List ℕ) → unread_at s ≡ Some bytes → DecidesEnd v number bytes end

@@ -1,0 +1,14 @@
+pub mod Standings
+pub mod Requests
+pub mod Answers
+pub mod Sessions
+pub mod Causes
+pub mod Ends
+pub mod Turns
+pub mod Writing
+pub mod Rows
+pub mod Concluding
+pub mod Ready
+pub mod Finishing
+pub mod Parts
+pub mod Complete

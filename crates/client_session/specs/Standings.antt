@@ -1,0 +1,105 @@
+-- What is known of a session between two of its steps, and the steps that its client alone takes part in.
+use Rattle.std.specs.Prelude.{◌≡◌, ◌≤◌, ℕ, List, Option}
+use Rattle.jk_io.specs.Moments.{Moment, moment}
+use Rattle.jk_io.specs.Told.{appended, PutsFront}
+use Rattle.jk_io.specs.declared.reaching.Beside.{Beside}
+use Rattle.jk_io.specs.declared.reaching.Talk.{Talk}
+use Rattle.jk_io.specs.declared.traits.streams.Meanings.{Ghosts}
+use Rattle.http_front.specs.Unread.{unread}
+use Rattle.http_body_in.specs.declared.body.BodyIn.{BodyIn}
+use Rattle.balancer_core.specs.Desks.{DeskState}
+use Rattle.status_worker.specs.Desks.{DeskSide, desk_side}
+use Rattle.exchange.specs.Rounds.{Scene}
+
+-- The talks that the reach noted, and its count of faults.
+pub record ReachSide : Type 0 where
+  pub talks : Option (List Talk)
+  pub faults : ℕ
+
+-- The client's link, and its bytes that were read and not yet used.
+pub record Standing : Type 0 where
+  pub desk : DeskSide
+  pub reach : ReachSide
+  pub client : Moment
+  pub inbox : List ℕ
+
+-- the moment of a client, by all that its type tells
+abbrev pub client_at : {C X : Type 0} → Ghosts C X → C → Moment
+client_at told client = moment told.incoming told.received told.sent told.faults client
+
+-- What is known then, where the reach and the inbox are these.
+abbrev pub standing_by : {B K C X : Type 0} → (B → DeskState) → (K → Option (List ℕ)) → Ghosts C X → ReachSide → List ℕ → B → K → C → Standing
+standing_by state answers told_of_client reach inbox desk clock client =
+    record { desk = desk_side state answers desk clock; reach = reach; client = client_at told_of_client client; inbox = inbox }
+
+-- What is known then, by what the types tell: `standing B.state K.answers R.Meanings C.Meanings`.
+abbrev pub standing : {B K R C X : Type 0} → (B → DeskState) → (K → Option (List ℕ)) → Ghosts R Beside → Ghosts C X
+    → B → K → R → C → List ℕ → Standing
+standing state answers told_of_reach told_of_client desk clock reach client inbox = record {
+  desk = desk_side state answers desk clock;
+  reach = record { talks = (told_of_reach.beside reach).talks; faults = told_of_reach.faults reach };
+  client = client_at told_of_client client;
+  inbox = inbox;
+}
+
+-- the client's bytes that no request used
+abbrev pub unread_at : Standing → Option (List ℕ)
+unread_at s = unread s.inbox s.client.incoming
+
+-- the scene of an exchange that is to take this body
+abbrev pub with_body : Standing → BodyIn → Scene
+with_body s body = record {
+  desk = s.desk.state;
+  clock = s.desk.clock;
+  around = record {
+    talks = s.reach.talks;
+    faults = s.reach.faults;
+    client = s.client;
+    body = record { body = body; unread = unread_at s };
+  };
+}
+
+-- ---- reading
+
+-- nothing but the client's bytes was touched
+abbrev pub IsClientAlone : Standing → Standing → Type 0
+IsClientAlone s n = n ≡ record s { client = n.client; inbox = n.inbox }
+
+-- The client's bytes were read on, and no read failed.
+pub record IsReadOn (s n : Standing) : Type 0 where
+  pub alone : IsClientAlone s n
+  pub sent : n.client.sent ≡ s.client.sent
+  pub steady : n.client.faults ≡ s.client.faults
+
+-- Bytes may have come, and none was used: a read failed, or memory was wanted.
+pub record StopsReading (s n : Standing) : Type 0 where
+  pub alone : IsClientAlone s n
+  pub sent : n.client.sent ≡ s.client.sent
+  pub unused : unread_at n ≡ unread_at s
+  pub no_fewer : s.client.faults ≤ n.client.faults
+
+-- ---- writing
+
+-- these bytes were put on the link, and no write failed
+pub record Puts (s n : Moment) (bytes : List ℕ) : Type 0 where
+  pub sent : n.sent ≡ appended s.sent bytes
+  pub steady : n.faults ≡ s.faults
+  pub incoming : n.incoming ≡ s.incoming
+  pub received : n.received ≡ s.received
+
+-- a front of them was: the whole of them or nothing, maybe
+pub record PutsPart (s n : Moment) (bytes : List ℕ) : Type 0 where
+  pub sent : PutsFront s.sent n.sent bytes
+  pub no_fewer : s.faults ≤ n.faults
+  pub incoming : n.incoming ≡ s.incoming
+  pub received : n.received ≡ s.received
+
+-- This was written to the client, and nothing else was done.
+pub record IsWritten (s n : Standing) (bytes : List ℕ) : Type 0 where
+  pub puts : Puts s.client n.client bytes
+  pub alone : n ≡ record s { client = n.client }
+
+-- Writing this broke off, and nothing else was done.
+pub record IsBegun (s n : Standing) (bytes : List ℕ) : Type 0 where
+  pub puts : PutsPart s.client n.client bytes
+  pub alone : n ≡ record s { client = n.client }

@@ -1,0 +1,37 @@
+-- Writing to the client: whole, or broken off.
+use Rattle.std.specs.Prelude.{ℕ, ◌≡◌, Bool, List, Result, Ok, Err}
+use Rattle.jk_io.specs.Moments.{Moment}
+use Rattle.jk_io.specs.Told.{Rose}
+use Rattle.jk_io.specs.declared.failures.IoError.{IoError}
+use Rattle.jk_io.specs.declared.failures.IoError.TheVariants as io
+use Rattle.client_session.specs.Answers.{own_for}
+use Rattle.client_session.specs.Standings.{Puts, PutsPart}
+use Rattle.client_session.specs.declared.ending.Stop.{Stop}
+use Rattle.client_session.specs.declared.ending.Stop.TheVariants as stop
+use Rattle.client_session.specs.declared.ending.Why.TheVariants as why
+
+-- what a write that failed makes of the session
+abbrev pub stop_by : IoError → Stop
+stop_by io.Failed = stop.ClientFault
+stop_by io.NoMemory = stop.NoMemory
+
+-- the own answer was written whole, or a front of it
+abbrev pub WritesOwn : (status : ℕ) → (head_only : Bool) → Moment → Moment → Stop → Type 0
+WritesOwn status head_only s n (stop.Closed why.ByClient) = ⊥
+WritesOwn status head_only s n (stop.Closed why.Last) = ⊥
+WritesOwn status head_only s n (stop.Closed (why.Own code)) = (code ≡ status) × Puts s n (own_for status head_only)
+WritesOwn status head_only s n (stop.Closed why.Cut) = ⊥
+WritesOwn status head_only s n (stop.Closed why.Unread) = ⊥
+WritesOwn status head_only s n stop.ClientFault = Rose s.faults n.faults × PutsPart s n (own_for status head_only)
+WritesOwn status head_only s n stop.Truncated = ⊥
+WritesOwn status head_only s n (stop.Stray ticket returned_at) = ⊥
+WritesOwn status head_only s n stop.NoMemory = PutsPart s n (own_for status head_only)
+
+-- bytes were written whole, or a front of them and the session is to end
+abbrev pub WritesPart : {T : Type 0} → List ℕ → Moment → Moment → Result T Stop → Type 0
+WritesPart bytes s n (Ok value) = Puts s n bytes
+WritesPart bytes s n (Err (stop.Closed w)) = ⊥
+WritesPart bytes s n (Err stop.ClientFault) = Rose s.faults n.faults × PutsPart s n bytes
+WritesPart bytes s n (Err stop.Truncated) = ⊥
+WritesPart bytes s n (Err (stop.Stray ticket returned_at)) = ⊥
+WritesPart bytes s n (Err stop.NoMemory) = PutsPart s n bytes

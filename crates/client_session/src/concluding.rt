@@ -1,0 +1,84 @@
+//! What an exchange's end, or a status worker's answer, means to its session.
+ghost use Rattle.std.specs.Prelude.{◌≡◌, [], vec_capacity, IsSome};
+ghost use Rattle.http_out.specs.Own.{own_of};
+ghost use Rattle.client_session.specs.Concluding.{HoldsName, IsConclusion, IsKnownStop, IsMemberRow, IsWithin, cut_settled, own_settled, settled_by};
+
+use crate::ending::{Stop, Why};
+use crate::rows::Row;
+use crate::turn::{Answered, Settled, stopped};
+use ajp_talk::Told;
+use exchange::ExchangeEnd;
+use jk_model::{MemberConfig, Served};
+
+/// The row of what a member gave.
+fn member_row(row: Row, members: &[MemberConfig], member: u32, told: Told) -> Served
+    requires named { HoldsName members.now member (vec_capacity row.name) }
+    requires unnamed { row.name.items ≡ [] }
+    ensures { IsMemberRow row.asked members.now member told result }
+{
+    let name = members[member as usize].name.as_slice();
+    row.of_worker(told.status, told.body, name)
+}
+
+/// A reply broke off after a byte of it was passed.
+fn cut(row: Served) -> Settled
+    ensures { result ≡ cut_settled row }
+{
+    Settled {
+        answered: Answered::Not(Stop::Closed(Why::Cut)),
+        row: Some(row),
+    }
+}
+
+/// What an exchange's end means to its session, and the row of its request.
+pub(crate) fn conclude(
+    end: ExchangeEnd,
+    members: &[MemberConfig],
+    head_only: bool,
+    row: Row,
+) -> Settled
+    requires within { IsWithin end members.now (vec_capacity row.name) }
+    requires unnamed { row.name.items ≡ [] }
+    ensures { IsConclusion end members.now head_only row.asked result }
+{
+    match end {
+        ExchangeEnd::Done { member, told } => Settled {
+            answered: Answered::Whole,
+            row: Some(member_row(row, members, member, told)),
+        },
+        ExchangeEnd::Own(status) => own(status, head_only, row),
+        ExchangeEnd::Cut { member, told } => cut(member_row(row, members, member, told)),
+        ExchangeEnd::ClientFault => stopped(Stop::ClientFault),
+        ExchangeEnd::Truncated => stopped(Stop::Truncated),
+        ExchangeEnd::Stray {
+            ticket,
+            returned_at,
+        } => stopped(Stop::Stray {
+            ticket,
+            returned_at,
+        }),
+        ExchangeEnd::NoMemory => stopped(Stop::NoMemory),
+    }
+}
+
+/// An own answer was written.
+fn own(status: u16, head_only: bool, row: Row) -> Settled
+    requires { IsSome (own_of status) }
+    ensures { result ≡ own_settled row.asked status head_only }
+{
+    Settled {
+        answered: Answered::Not(Stop::Closed(Why::Own(status))),
+        row: Some(row.own(status, head_only)),
+    }
+}
+
+/// No page and no reply was written: an own answer, or nothing whole.
+pub(crate) fn conclude_stop(stop: Stop, head_only: bool, row: Row) -> Settled
+    requires { IsKnownStop stop }
+    ensures { result ≡ settled_by stop row.asked head_only }
+{
+    match stop {
+        Stop::Closed(Why::Own(status)) => own(status, head_only, row),
+        stop => stopped(stop),
+    }
+}

@@ -1,0 +1,78 @@
+//! How a session ends.
+ghost use Rattle.std.specs.Prelude.{◌≡◌};
+ghost use Rattle.client_session.specs.Ends.{end_of};
+
+/// Why a session that nothing disturbed came to its end.
+#[derive(Clone, Copy, Debug, PartialEq, Eq)]
+pub enum Why {
+    /// The client's bytes ended between two requests.
+    ByClient,
+    /// The request was the last one: of HTTP/1.0, with `Connection: close`, or the 1,000th.
+    Last,
+    /// An answer of the connector's own was written, with this status.
+    Own(u16),
+    /// A talk failed, or the client's body was bad, after a byte of the reply was passed.
+    Cut,
+    /// The rest of a body, after a reply or a page, was bad or too long.
+    Unread,
+}
+
+/// How a session ended. `requests` counts the complete replies and pages.
+#[derive(Clone, Copy, Debug, PartialEq, Eq)]
+pub enum SessionEnd {
+    Closed {
+        requests: u32,
+        why: Why,
+    },
+    /// A read or a write of the client failed.
+    ClientFault {
+        requests: u32,
+    },
+    /// The client's bytes ended within a head or a body.
+    Truncated {
+        requests: u32,
+    },
+    /// A ticket that came back was not out.
+    Stray {
+        ticket: u64,
+        returned_at: Option<u64>,
+    },
+    NoMemory,
+}
+
+/// Why no further request is read.
+#[derive(Clone, Copy, Debug, PartialEq, Eq)]
+pub enum Stop {
+    Closed(Why),
+    ClientFault,
+    Truncated,
+    Stray {
+        ticket: u64,
+        returned_at: Option<u64>,
+    },
+    NoMemory,
+}
+
+impl Stop {
+    ghost use Rattle.std.specs.Prelude.{◌≡◌};
+    ghost use Rattle.client_session.specs.Ends.{end_of};
+
+    /// The session's end, after this many complete replies and pages.
+    pub(crate) fn after(self, requests: u32) -> SessionEnd
+        ensures { result ≡ end_of self requests }
+    {
+        match self {
+            Stop::Closed(why) => SessionEnd::Closed { requests, why },
+            Stop::ClientFault => SessionEnd::ClientFault { requests },
+            Stop::Truncated => SessionEnd::Truncated { requests },
+            Stop::Stray {
+                ticket,
+                returned_at,
+            } => SessionEnd::Stray {
+                ticket,
+                returned_at,
+            },
+            Stop::NoMemory => SessionEnd::NoMemory,
+        }
+    }
+}

@@ -1,0 +1,25 @@
+//! All requests of one client, one after the other, to the session's end.
+//!
+//! Source: RFC 9112, "Connection Management"; the Tomcat Connectors reference for mounts and status workers.
+//! Own rules: the causes of a session's end, the count of its requests, when 100 Continue is sent, which answers the
+//! connector makes itself (docs/DECISIONS.md).
+//! Shapes: what is known between two steps is a `Standing`; a request leads from one to the next.
+//! Contract: `serve_session_with`: `session`, all requests and the end; `parts`, the client's bytes; `own`, `by_bytes`,
+//! `complete` and `served`, what follows; `fault`, `met` and `kept`. Read first: specs/Sessions.antt, then specs/Answers.antt
+//! over specs/Standings.antt; then Parts, Causes and Complete. status_worker has what a status worker is asked.
+//! Errors: none; each end is a `SessionEnd`, and want of memory is one of them.
+#![tactic(auto)]
+
+mod answering;
+mod concluding;
+mod ending;
+mod requests;
+mod rows;
+mod serving;
+mod site;
+mod status;
+mod turn;
+mod writing;
+
+pub use ending::{SessionEnd, Why};
+pub use serving::{serve_session, serve_session_with};

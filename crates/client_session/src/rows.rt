@@ -1,0 +1,104 @@
+//! The rows of answered requests, for a log.
+ghost use Rattle.std.specs.Prelude.{◌≡◌, ◌≤◌, ◌<◌, [], ◌∷◌, ◌++◌, None, length, vec_len, vec_capacity, IfOk, IsSome};
+ghost use Rattle.http_out.specs.Own.{own_of};
+ghost use Rattle.jk_model.specs.declared.served.Asked.TheVariants as asked_is;
+ghost use Rattle.jk_model.specs.declared.served.Served.{Served as AnyServed};
+ghost use Rattle.client_session.specs.Answers.{own_len as own_length};
+ghost use Rattle.client_session.specs.Rows.{IsRowOf, own_row_by, worker_row};
+
+use http_front::Head;
+use http_out::own_answer;
+use jk_io::{Bytes, NoMemory};
+use jk_model::{Asked, Served};
+use std::alloc::Global;
+
+/// The length of an own answer's body.
+fn own_len(status: u16, head_only: bool) -> u64
+    requires { IsSome (own_of status) }
+    ensures { result ≡ own_length status head_only }
+{
+    if head_only {
+        return 0;
+    }
+    (own_answer(status, false).len() - own_answer(status, true).len()) as u64
+}
+
+/// A row under way: what was asked for, and memory for the worker's name.
+#[derive(Drop)]
+pub struct Row {
+    asked: Asked,
+    name: Vec<u8>,
+}
+
+impl Row {
+    ghost use Rattle.std.specs.Prelude.{◌≡◌, ◌≤◌, [], length, vec_capacity, IfOk, IsSome};
+    ghost use Rattle.http_out.specs.Own.{own_of};
+    ghost use Rattle.jk_model.specs.declared.served.Asked.TheVariants as asked_is;
+    ghost use Rattle.client_session.specs.Rows.{IsRowOf, own_row_by, worker_row};
+
+    /// The row of a refused head.
+    pub(crate) fn refused(alloc: Global) -> Row
+        ensures { result.asked ≡ asked_is.Refused }
+    {
+        Row {
+            asked: Asked::Refused,
+            name: Vec::new(alloc),
+        }
+    }
+
+    /// The row of a request, with memory for a worker's name of `longest` bytes.
+    pub(crate) fn of(alloc: Global, head: &Head, longest: usize) -> Result<Row, NoMemory>
+        ensures { IfOk result (IsRowOf head.now longest) }
+    {
+        Ok(Row {
+            asked: Asked::Line {
+                method: head.method.copy()?,
+                target: head.target.copy()?,
+                old: head.old,
+            },
+            name: Vec::with_capacity(alloc, longest)?,
+        })
+    }
+
+    /// The row of a reply or a page of this worker.
+    pub(crate) fn of_worker(self, status: u16, body: u64, worker: &[u8]) -> Served
+        requires room { length worker.now ≤ vec_capacity self.name }
+        requires unnamed { self.name.items ≡ [] }
+        ensures { result ≡ worker_row self.asked status body worker.now }
+    {
+        let Row { asked, mut name } = self;
+        let Ok(()) = name.extend_from_slice(worker) else {
+            unreachable!()
+        };
+        Served {
+            asked,
+            status,
+            body,
+            worker: Some(Bytes::from_vec(name)),
+        }
+    }
+
+    /// The row of an own answer.
+    pub(crate) fn own(self, status: u16, head_only: bool) -> Served
+        requires { IsSome (own_of status) }
+        ensures { result ≡ own_row_by self.asked status head_only }
+    {
+        let Row { asked, name: _ } = self;
+        Served {
+            asked,
+            status,
+            body: own_len(status, head_only),
+            worker: None,
+        }
+    }
+}
+
+/// Puts a row after the others, in the memory that was taken for it.
+pub(crate) fn put(rows: &mut Vec<Served>, row: Served)
+    requires { vec_len rows.old < vec_capacity rows.old }
+    ensures { rows.new.items ≡ rows.old.items ++ row ∷ [] }
+{
+    let Ok(()) = rows.push(row) else {
+        unreachable!()
+    };
+}

@@ -1,0 +1,338 @@
+//! `serve_session`: all requests of one client.
+ghost use Rattle.std.specs.Prelude.{◌≡◌, ℕ, ◌≤◌, ◌<◌, ◌+◌, ◌++◌, [], List, true, false, IfSome, vec_len, vec_capacity};
+ghost use Rattle.jk_model.specs.declared.served.Served.{Served as AnyServed};
+ghost use Rattle.exchange.specs.Requests.{sizes_of};
+ghost use Rattle.http_body_in.specs.Takes.{body_at};
+ghost use Rattle.status_worker.specs.Desks.{KeepsTickets};
+ghost use Rattle.uri_map.specs.Sites.{stands_in};
+ghost use Rattle.client_session.specs.Concluding.{rows_of};
+ghost use Rattle.client_session.specs.Ends.{MeetsBy, RisesBy};
+ghost use Rattle.client_session.specs.Finishing.{Finishes, RefusesHead, stop_after};
+ghost use Rattle.client_session.specs.Ready.{IsReady};
+ghost use Rattle.client_session.specs.Requests.{visit, visit_of};
+ghost use Rattle.client_session.specs.Causes.{IsDecided, IsOwnCaused};
+ghost use Rattle.client_session.specs.Complete.{EndsWhole, ServesWhole};
+ghost use Rattle.client_session.specs.Parts.{HasParts};
+ghost use Rattle.client_session.specs.Sessions.{InEachWay, IsServed, IsSession, ReadsHead, Serves};
+ghost use Rattle.client_session.specs.Standings.{Standing, client_at, standing};
+ghost use Rattle.client_session.specs.Turns.{MeetsInTurn, RisesInTurn, Turns};
+
+use crate::answering::answer;
+use crate::ending::{SessionEnd, Stop, Why};
+use crate::requests::{MAX_BODY_BYTES, MAX_REQUESTS, is_last};
+use crate::rows::{Row, put};
+use crate::site::Site;
+use crate::turn::{Answered, Settled, Turn};
+use crate::writing::write_own;
+use balancer_core::Desk;
+use http_body_in::{BodyFault, BodyIn};
+use http_front::{Form, Head, HeadError, HeadGot, Inbox, read_head};
+use jk_io::{Clock, Link, ListOf, Peer, Reach, Sink};
+use jk_model::{Served, ServedList};
+use site_config::Config;
+use std::alloc::Global;
+use std::mem;
+use uri_map::UriMap;
+
+/// What it makes of the session that the rest of a body can't be read.
+fn stop_for(fault: BodyFault) -> Stop
+    ensures { result ≡ stop_after fault }
+{
+    match fault {
+        BodyFault::Truncated => Stop::Truncated,
+        BodyFault::BadChunk | BodyFault::TooLong => Stop::Closed(Why::Unread),
+        BodyFault::Fault => Stop::ClientFault,
+        BodyFault::NoMemory => Stop::NoMemory,
+    }
+}
+
+/// Reads the rest of a body, after a whole reply or page.
+fn finish_body<C: Link>(body: &mut BodyIn, inbox: &mut Inbox, client: &mut C) -> Turn
+    ensures finished { let see = client_at C.Meanings in
+        Finishes (body_at body.old inbox.old (see client.old)) (body_at body.new inbox.new (see client.new)) result }
+    ensures beside { C.beside client.new ≡ C.beside client.old }
+{
+    match body.skip_rest(inbox, client) {
+        Ok(()) => Turn::Next,
+        Err(fault) => Turn::EndsAfter(stop_for(fault)),
+    }
+}
+
+/// Puts the row of a request that was answered; room for it was taken.
+fn put_row(rows: &mut Vec<Served>, row: Option<Served>)
+    requires { vec_len rows.old < vec_capacity rows.old }
+    ensures { rows.new.items ≡ rows.old.items ++ rows_of row }
+{
+    if let Some(row) = row {
+        put(rows, row);
+    }
+}
+
+/// Answers the request of a head, and reads what is left of its body.
+fn serve_head<B: Desk, R: Reach, C: Link, K: Clock>(
+    alloc: Global,
+    site: &Site<'_>,
+    head: &Head,
+    number: u32,
+    inbox: &mut Inbox,
+    desk: &mut B,
+    reach: &mut R,
+    client: &mut C,
+    clock: &mut K,
+    rows: &mut Vec<Served>,
+) -> Turn
+where
+    B::Mark: Drop,
+    B::Shown: Drop,
+    requires ready { IsReady (visit_of site.now) (B.state desk.old) (R.beside reach.old) }
+    requires number { number < MAX_REQUESTS }
+    ensures turn { (s : Standing) → let at = standing B.state K.answers R.Meanings C.Meanings in
+        ReadsHead s (at desk.old clock.old reach.old client.old inbox.old) head.now
+        → Turns (visit_of site.now) number s (at desk.new clock.new reach.new client.new inbox.new) rows.old.items rows.new.items result }
+    ensures more { result ≡ Turn.Next → number + 1 < MAX_REQUESTS }
+    ensures ready { IsReady (visit_of site.now) (B.state desk.new) (R.beside reach.new) }
+    ensures kept { KeepsTickets site.now.session (B.state desk.old) (B.state desk.new) }
+    ensures met { MeetsInTurn result (B.state desk.old) (B.state desk.new) }
+    ensures fault { RisesInTurn result (C.faults client.old) (C.faults client.new) }
+    ensures beside { C.beside client.new ≡ C.beside client.old }
+    ensures no_fewer { (R.faults reach.old ≤ R.faults reach.new) × (C.faults client.old ≤ C.faults client.new) }
+{
+    let mut body = BodyIn::new(head.plan, MAX_BODY_BYTES);
+    let Ok(()) = rows.reserve(1) else {
+        return Turn::EndsAt(Stop::NoMemory);
+    };
+    let last = is_last(number, head);
+    let Settled { answered, row } = answer(
+        alloc, site, head, last, &mut body, inbox, desk, reach, client, clock,
+    );
+    put_row(rows, row);
+    match answered {
+        Answered::Not(stop) => Turn::EndsAt(stop),
+        Answered::Whole if last => Turn::EndsAfter(Stop::Closed(Why::Last)),
+        Answered::Whole => finish_body(&mut body, inbox, client),
+    }
+}
+
+/// Answers a refused head.
+fn refuse<C: Sink>(alloc: Global, form: Form, client: &mut C, rows: &mut Vec<Served>) -> Stop
+    ensures refused { let see = client_at C.Meanings in
+        RefusesHead form (see client.old) (see client.new) rows.old.items rows.new.items result }
+    ensures beside { C.beside client.new ≡ C.beside client.old }
+{
+    let Ok(()) = rows.reserve(1) else {
+        return Stop::NoMemory;
+    };
+    let status = form.status();
+    let stop = write_own(status, false, client);
+    if let Stop::Closed(_) = stop {
+        put(rows, Row::refused(alloc).own(status, false));
+    }
+    stop
+}
+
+/// Reads a request and answers it.
+fn serve_one<B: Desk, R: Reach, C: Link, K: Clock>(
+    alloc: Global,
+    site: &Site<'_>,
+    number: u32,
+    inbox: &mut Inbox,
+    desk: &mut B,
+    reach: &mut R,
+    client: &mut C,
+    clock: &mut K,
+    rows: &mut Vec<Served>,
+) -> Turn
+where
+    B::Mark: Drop,
+    B::Shown: Drop,
+    requires ready { IsReady (visit_of site.now) (B.state desk.old) (R.beside reach.old) }
+    requires number { number < MAX_REQUESTS }
+    ensures turn { let at = standing B.state K.answers R.Meanings C.Meanings in
+        Turns (visit_of site.now) number (at desk.old clock.old reach.old client.old inbox.old)
+        (at desk.new clock.new reach.new client.new inbox.new) rows.old.items rows.new.items result }
+    ensures more { result ≡ Turn.Next → number + 1 < MAX_REQUESTS }
+    ensures ready { IsReady (visit_of site.now) (B.state desk.new) (R.beside reach.new) }
+    ensures kept { KeepsTickets site.now.session (B.state desk.old) (B.state desk.new) }
+    ensures met { MeetsInTurn result (B.state desk.old) (B.state desk.new) }
+    ensures fault { RisesInTurn result (C.faults client.old) (C.faults client.new) }
+    ensures beside { C.beside client.new ≡ C.beside client.old }
+    ensures no_fewer { (R.faults reach.old ≤ R.faults reach.new) × (C.faults client.old ≤ C.faults client.new) }
+{
+    match read_head(alloc, inbox, client) {
+        Ok(HeadGot::Head(head)) => serve_head(
+            alloc, site, &head, number, inbox, desk, reach, client, clock, rows,
+        ),
+        Ok(HeadGot::End) => Turn::EndsAt(Stop::Closed(Why::ByClient)),
+        Err(HeadError::Refused { status: _, form }) => {
+            Turn::EndsAt(refuse(alloc, form, client, rows))
+        }
+        Err(HeadError::Truncated) => Turn::EndsAt(Stop::Truncated),
+        Err(HeadError::Fault) => Turn::EndsAt(Stop::ClientFault),
+        Err(HeadError::NoMemory) => Turn::EndsAt(Stop::NoMemory),
+    }
+}
+
+/// Serves requests one after the other until the session ends.
+fn serve_all<B: Desk, R: Reach, C: Link, K: Clock>(
+    alloc: Global,
+    site: &Site<'_>,
+    inbox: &mut Inbox,
+    desk: &mut B,
+    reach: &mut R,
+    client: &mut C,
+    clock: &mut K,
+    rows: &mut Vec<Served>,
+) -> SessionEnd
+where
+    B::Mark: Drop,
+    B::Shown: Drop,
+    requires ready { IsReady (visit_of site.now) (B.state desk.old) (R.beside reach.old) }
+    ensures session { (gained : List AnyServed) × (rows.new.items ≡ rows.old.items ++ gained) × (let at = standing B.state K.answers R.Meanings C.Meanings in
+        IsSession (visit_of site.now) (at desk.old clock.old reach.old client.old inbox.old)
+        (at desk.new clock.new reach.new client.new inbox.new) gained result) }
+    ensures ready { IsReady (visit_of site.now) (B.state desk.new) (R.beside reach.new) }
+    ensures kept { KeepsTickets site.now.session (B.state desk.old) (B.state desk.new) }
+    ensures met { MeetsBy result (B.state desk.old) (B.state desk.new) }
+    ensures fault { RisesBy result (C.faults client.old) (C.faults client.new) }
+    ensures beside { C.beside client.new ≡ C.beside client.old }
+    ensures no_fewer { (R.faults reach.old ≤ R.faults reach.new) × (C.faults client.old ≤ C.faults client.new) }
+{
+    let mut number = 0;
+    loop {
+        match serve_one(alloc, site, number, inbox, desk, reach, client, clock, rows) {
+            Turn::Next => number += 1,
+            Turn::EndsAfter(stop) => return stop.after(number + 1),
+            Turn::EndsAt(stop) => return stop.after(number),
+        }
+    }
+}
+
+/// Serves a client's requests until the session ends, and adds a row for each one that was answered.
+///
+/// No talk of the reach runs before the call or after it.
+pub fn serve_session_with<B: Desk, R: Reach, C: Link, K: Clock>(
+    alloc: Global,
+    cfg: &Config,
+    map: &UriMap,
+    session: u32,
+    peer: &Peer,
+    desk: &mut B,
+    reach: &mut R,
+    client: &mut C,
+    clock: &mut K,
+    rows: &mut ServedList,
+) -> SessionEnd
+where
+    B::Mark: Drop,
+    B::Shown: Drop,
+    requires stands { stands_in cfg.now map.now ≡ true }
+    requires caller { IfSome (B.state desk.old).caller (λ n. session ≡ n) }
+    requires desk_sizes { (B.state desk.old).sizes ≡ sizes_of cfg.now.lbs }
+    requires reach_sizes { (R.beside reach.old).sizes ≡ sizes_of cfg.now.lbs }
+    requires idle { (R.beside reach.old).runs ≡ false }
+
+    // The requests of the client's bytes, what each gave and the row that it added, where the session ended and why.
+    ensures session { let at = standing B.state K.answers R.Meanings C.Meanings in
+        Serves (visit cfg.now map.now session peer.now) (at desk.old clock.old reach.old client.old)
+        (at desk.new clock.new reach.new client.new) rows.old rows.new result }
+
+    // What the client has: the parts of its requests joined, and what belongs to the end.
+    ensures parts { HasParts (visit cfg.now map.now session peer.now) (C.incoming client.old) (C.sent client.old) (C.sent client.new) result }
+
+    // An own answer has a cause for each status; the client's bytes decide what they can; and a request that nothing
+    // disturbs is answered with exactly its member's reply, whether the session goes on after it or not.
+    ensures own { let at = standing B.state K.answers R.Meanings C.Meanings in let v = visit cfg.now map.now session peer.now in
+        InEachWay v (at desk.old clock.old reach.old client.old) (at desk.new clock.new reach.new client.new) rows.old rows.new
+        result (IsOwnCaused v result) }
+    ensures by_bytes { let at = standing B.state K.answers R.Meanings C.Meanings in let v = visit cfg.now map.now session peer.now in
+        InEachWay v (at desk.old clock.old reach.old client.old) (at desk.new clock.new reach.new client.new) rows.old rows.new
+        result (IsDecided v result) }
+    ensures complete { let at = standing B.state K.answers R.Meanings C.Meanings in let v = visit cfg.now map.now session peer.now in
+        InEachWay v (at desk.old clock.old reach.old client.old) (at desk.new clock.new reach.new client.new) rows.old rows.new
+        result (EndsWhole v result) }
+    ensures served { let v = visit cfg.now map.now session peer.now in
+        (number : ℕ) (s n : Standing) (gained : List AnyServed) → IsServed v number s n gained → ServesWhole v number s n }
+
+    // A client's fault ends it only where its faults rose, a stray only where the desk's strays rose.
+    ensures fault { RisesBy result (C.faults client.old) (C.faults client.new) }
+    ensures met { MeetsBy result (B.state desk.old) (B.state desk.new) }
+
+    // No talk runs, and the desk holds the tickets that it held.
+    ensures idle { (R.beside reach.new).runs ≡ false }
+    ensures kept { KeepsTickets session (B.state desk.old) (B.state desk.new) }
+    ensures sizes { (R.beside reach.new).sizes ≡ (R.beside reach.old).sizes }
+    ensures beside { C.beside client.new ≡ C.beside client.old }
+    ensures no_fewer { (R.faults reach.old ≤ R.faults reach.new) × (C.faults client.old ≤ C.faults client.new) }
+{
+    let Ok(mut inbox) = Inbox::new(alloc) else {
+        return SessionEnd::NoMemory;
+    };
+    let site = Site {
+        cfg,
+        map,
+        session,
+        peer,
+    };
+    let mut served = mem::replace(rows, ListOf::new(alloc)).into_vec();
+    let end = serve_all(
+        alloc,
+        &site,
+        &mut inbox,
+        desk,
+        reach,
+        client,
+        clock,
+        &mut served,
+    );
+    *rows = ListOf::from_vec(served);
+    end
+}
+
+/// Serves a client's requests until the session ends.
+pub fn serve_session<B: Desk, R: Reach, C: Link, K: Clock>(
+    alloc: Global,
+    cfg: &Config,
+    map: &UriMap,
+    session: u32,
+    peer: &Peer,
+    desk: &mut B,
+    reach: &mut R,
+    client: &mut C,
+    clock: &mut K,
+) -> SessionEnd
+where
+    B::Mark: Drop,
+    B::Shown: Drop,
+    requires stands { stands_in cfg.now map.now ≡ true }
+    requires caller { IfSome (B.state desk.old).caller (λ n. session ≡ n) }
+    requires desk_sizes { (B.state desk.old).sizes ≡ sizes_of cfg.now.lbs }
+    requires reach_sizes { (R.beside reach.old).sizes ≡ sizes_of cfg.now.lbs }
+    requires idle { (R.beside reach.old).runs ≡ false }
+    ensures session { (rows : List AnyServed) × (let at = standing B.state K.answers R.Meanings C.Meanings in
+        Serves (visit cfg.now map.now session peer.now) (at desk.old clock.old reach.old client.old)
+        (at desk.new clock.new reach.new client.new) [] rows result) }
+    ensures parts { HasParts (visit cfg.now map.now session peer.now) (C.incoming client.old) (C.sent client.old) (C.sent client.new) result }
+    ensures own { let at = standing B.state K.answers R.Meanings C.Meanings in let v = visit cfg.now map.now session peer.now in
+        (rows : List AnyServed) → InEachWay v (at desk.old clock.old reach.old client.old) (at desk.new clock.new reach.new client.new)
+        [] rows result (IsOwnCaused v result) }
+    ensures by_bytes { let at = standing B.state K.answers R.Meanings C.Meanings in let v = visit cfg.now map.now session peer.now in
+        (rows : List AnyServed) → InEachWay v (at desk.old clock.old reach.old client.old) (at desk.new clock.new reach.new client.new)
+        [] rows result (IsDecided v result) }
+    ensures complete { let at = standing B.state K.answers R.Meanings C.Meanings in let v = visit cfg.now map.now session peer.now in
+        (rows : List AnyServed) → InEachWay v (at desk.old clock.old reach.old client.old) (at desk.new clock.new reach.new client.new)
+        [] rows result (EndsWhole v result) }
+    ensures served { let v = visit cfg.now map.now session peer.now in
+        (number : ℕ) (s n : Standing) (gained : List AnyServed) → IsServed v number s n gained → ServesWhole v number s n }
+    ensures fault { RisesBy result (C.faults client.old) (C.faults client.new) }
+    ensures met { MeetsBy result (B.state desk.old) (B.state desk.new) }
+    ensures idle { (R.beside reach.new).runs ≡ false }
+    ensures kept { KeepsTickets session (B.state desk.old) (B.state desk.new) }
+    ensures sizes { (R.beside reach.new).sizes ≡ (R.beside reach.old).sizes }
+    ensures beside { C.beside client.new ≡ C.beside client.old }
+    ensures no_fewer { (R.faults reach.old ≤ R.faults reach.new) × (C.faults client.old ≤ C.faults client.new) }
+{
+    let mut rows = ListOf::new(alloc);
+    serve_session_with(
+        alloc, cfg, map, session, peer, desk, reach, client, clock, &mut rows,
+    )
+}

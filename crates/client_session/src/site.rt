@@ -1,0 +1,15 @@
+//! What a session is served by.
+
+use jk_io::Peer;
+use site_config::Config;
+use uri_map::UriMap;
+
+/// The site, the worker that serves, and the client.
+#[derive(Clone, Copy)]
+pub struct Site<'a> {
+    pub cfg: &'a Config,
+    pub map: &'a UriMap,
+    /// The number of the worker.
+    pub session: u32,
+    pub peer: &'a Peer,
+}

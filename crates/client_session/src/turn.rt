@@ -1,0 +1,43 @@
+//! What a request comes to.
+ghost use Rattle.std.specs.Prelude.{◌≡◌, None};
+ghost use Rattle.client_session.specs.declared.turn.Answered.TheVariants as answered_is;
+
+use crate::ending::Stop;
+use jk_model::Served;
+
+/// What the client has of a request's answer.
+#[derive(Clone, Copy, Debug, PartialEq, Eq)]
+pub enum Answered {
+    /// A complete reply or page.
+    Whole,
+    /// Something else, after which the session ends.
+    Not(Stop),
+}
+
+/// How a request was answered, and the row that it adds, if any.
+#[derive(Debug, Drop)]
+pub struct Settled {
+    pub answered: Answered,
+    pub row: Option<Served>,
+}
+
+/// What follows a request.
+#[derive(Clone, Copy, Debug, PartialEq, Eq)]
+pub enum Turn {
+    /// The next request is read.
+    Next,
+    /// The session ends after this request, which had a complete reply or page.
+    EndsAfter(Stop),
+    /// The session ends, and this request had none.
+    EndsAt(Stop),
+}
+
+/// Nothing whole was written, so there is no row.
+pub(crate) fn stopped(stop: Stop) -> Settled
+    ensures { result ≡ record { answered = answered_is.Not stop; row = None } }
+{
+    Settled {
+        answered: Answered::Not(stop),
+        row: None,
+    }
+}
