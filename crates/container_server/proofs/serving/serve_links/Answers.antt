@@ -1,0 +1,17 @@
+use Rattle.container_server.proofs.ServingLaws.{begins, goes_on, lacks, wants}
+use Rattle.container_server.proofs.serving.serve_links.Goals as goal
+
+pub links-init : goal.links-init
+links-init g c = begins _ _ _
+
+pub returns-then-is_want : goal.returns-then-is_want
+returns-then-is_want g c =
+    record { served = wants _ _ _ _ _ _ _ _ _ _ c.links.invariant c.in-Client.ensures.arrives c.serve_link-end.ensures.served }
+
+pub returns-in-NoMemory : goal.returns-in-NoMemory
+returns-in-NoMemory g c = record { served = lacks _ _ _ _ _ _ c.links.invariant c.in-NoMemory.ensures.arrives }
+
+pub links-preserved : goal.links-preserved
+links-preserved g c =
+    goes_on _ _ _ _ _ _ _ _ _ _ _ c.links.invariant c.in-Client.ensures.arrives c.serve_link-end.ensures.served
+    (c.is_want.ensures.no c.if-is_want.false) c.saturating_add-links.ensures

@@ -1,0 +1,13 @@
+//! Links served as a servlet container does, by a worker thread for each door.
+//!
+//! Own rules: the causes of a worker's end (docs/DECISIONS.md).
+//! Contract: `run_container`, clause `served`. Read first: specs/Served.antt, over door_clients' specs/Doors.antt.
+//! Errors: `NoMemory` before a door was asked; after that each worker's end is a `ContainerWorker`.
+#![tactic(auto)]
+
+mod ends;
+mod serving;
+mod workers;
+
+pub use ends::{ContainerRunEnd, ContainerWorker, ContainerWorkerList, DoorList};
+pub use workers::run_container;

@@ -1,0 +1,106 @@
+//! A worker for each door.
+ghost use Rattle.std.specs.Prelude.{◌≡◌, ◌+◌, ◌<◌, ◌≤◌, ◌++◌, ℕ, [], length, map, slice_index_or, vec_capacity, vec_len, IfOk};
+ghost use Rattle.door_clients.specs.Doors.{side};
+ghost use Rattle.container_server.specs.Served.{AreEachServed, IsServedDoor};
+ghost use Rattle.container_server.specs.declared.workers.Slot.{Slot as AnySlot};
+
+use crate::ends::{ContainerRunEnd, ContainerWorker};
+use crate::serving::serve_links;
+use jk_io::{Door, ListOf, NoMemory};
+use mini_container::AppConfig;
+use std::alloc::Global;
+use std::sync::Wait;
+use std::thread::{self, Threads};
+
+/// A door, and how its worker ended.
+#[derive(Drop)]
+struct Slot<D> {
+    door: D,
+    end: ContainerWorker,
+}
+
+/// Serves each door by a worker of its own, and waits for all of them. After `NoMemory` no door was asked.
+pub fn run_container<D: Door + Drop + Send, R: Threads + Wait + Sync>(
+    rt: &R,
+    alloc: Global,
+    app: &AppConfig,
+    doors: Vec<D>,
+) -> Result<ContainerRunEnd<D>, NoMemory>
+where
+    D::L: Send,
+    ensures served { IfOk result (λ e. let at = side D.coming D.left D.faults in
+        AreEachServed app.now D.L.Meanings (map at doors.items) (map at e.doors) e.workers) }
+{
+    let count = doors.len();
+    let mut slots = Vec::with_capacity(alloc, count)?;
+    let mut workers = Vec::with_capacity(alloc, count)?;
+    let mut left = Vec::with_capacity(alloc, count)?;
+    fill_slots(&mut slots, doors);
+    serve_all(rt, alloc, app, slots.as_mut_slice());
+    empty_slots(slots, &mut workers, &mut left);
+    Ok(ContainerRunEnd {
+        workers: ListOf::from_vec(workers),
+        doors: ListOf::from_vec(left),
+    })
+}
+
+/// Puts each door into a slot.
+fn fill_slots<D: Drop>(slots: &mut Vec<Slot<D>>, doors: Vec<D>)
+    requires none { slots.old.items ≡ [] }
+    requires room { vec_len doors ≤ vec_capacity slots.old }
+    ensures { map (λ (s : AnySlot D). s.door) slots.new.items ≡ doors.items }
+{
+    'doors: for door in doors {
+        slots.push_reserved(Slot {
+            door,
+            end: ContainerWorker::NoMemory,
+        });
+    }
+}
+
+/// A worker for each slot.
+fn serve_all<D: Door + Drop + Send, R: Threads + Wait + Sync>(
+    rt: &R,
+    alloc: Global,
+    app: &AppConfig,
+    slots: &mut [Slot<D>],
+)
+where
+    D::L: Send,
+    ensures served { (i : ℕ) (d : AnySlot D) → i < length slots.old → IsServedDoor app.now D.L.Meanings
+        (side D.coming D.left D.faults (slice_index_or slots.old i d).door)
+        (side D.coming D.left D.faults (slice_index_or slots.new i d).door) (slice_index_or slots.new i d).end }
+    ensures len { length slots.new ≡ length slots.old }
+{
+    let count = slots.len().max(1);
+    thread::for_each_mut(
+        rt,
+        slots,
+        count,
+        &|_, slot| {
+            serve_slot(rt, alloc, app, slot);
+        },
+    );
+}
+
+/// The work of one worker.
+fn serve_slot<D: Door, R: Wait>(rt: &R, alloc: Global, app: &AppConfig, slot: &mut Slot<D>)
+    ensures { IsServedDoor app.now D.L.Meanings (side D.coming D.left D.faults slot.old.door)
+        (side D.coming D.left D.faults slot.new.door) slot.new.end }
+{
+    slot.end = serve_links(rt, alloc, app, &mut slot.door);
+}
+
+/// Takes slots apart.
+fn empty_slots<D: Drop>(slots: Vec<Slot<D>>, workers: &mut Vec<ContainerWorker>, left: &mut Vec<D>)
+    requires none { (workers.old.items ≡ []) × (left.old.items ≡ []) }
+    requires room { (vec_len slots ≤ vec_capacity workers.old) × (vec_len slots ≤ vec_capacity left.old) }
+    ensures workers { workers.new.items ≡ map (λ (s : AnySlot D). s.end) slots.items }
+    ensures doors { left.new.items ≡ map (λ (s : AnySlot D). s.door) slots.items }
+{
+    'slots: for slot in slots {
+        let Slot { door, end } = slot;
+        workers.push_reserved(end);
+        left.push_reserved(door);
+    }
+}
