@@ -1,0 +1,210 @@
+-- Clients that a worker has served so far, and what it makes of the door's next answer.
+use Rattle.std.proofs.Common.{ℕ, ◌≡◌, ◌≤◌, ◌+◌, min, List, [], ◌∷◌, ◌++◌, map, Option, Some, None, inl, inr, refl, sym, ap, subst, ◌∙◌, arith}
+use Rattle.std.specs.List.{All}
+use Rattle.std.proofs.lemmas.List.{length-append, map-append}
+use Rattle.std.proofs.lemmas.List.Elements.{All-nil, All-push}
+use Rattle.jk_io.specs.Told.{appended, IsEmpty, Rose}
+use Rattle.jk_io.specs.declared.reaching.Beside.{Beside}
+use Rattle.jk_io.specs.declared.traits.streams.Meanings.{Ghosts}
+use Rattle.jk_io.specs.declared.traits.surroundings.Peer.{Peer}
+use Rattle.jk_model.specs.declared.served.Served.{Served as AnyServed}
+use Rattle.door_clients.specs.Doors.{DoorSide, GaveAndGot, Gives, GivesNone}
+use Rattle.door_clients.proofs.DoorLaws.{none_came, none_more, one_more}
+use Rattle.balancer_core.specs.Desks.{DeskState}
+use Rattle.client_session.specs.Ends.{MeetsBy, RisesBy}
+use Rattle.client_session.specs.Requests.{Visit}
+use Rattle.client_session.specs.Sessions.{Serves}
+use Rattle.client_session.specs.Standings.{client_at}
+use Rattle.client_session.specs.declared.ending.SessionEnd.{SessionEnd}
+use Rattle.locked_balancer.specs.SharedDesks.{SharedState}
+use Rattle.site_config.specs.declared.config.Config.{Config}
+use Rattle.status_worker.specs.Desks.{KeepsTickets}
+use Rattle.uri_map.specs.declared.rule.Rule.{Rule}
+use Rattle.jk_server.specs.Served.{count_of, EndsAtLast, EndsBy, GoesOn, HaveRested, IsRun, IsServed, Run, ServesClient, Settles}
+use Rattle.jk_server.specs.Worker.{forgot, IsFit, Rests, standing_with, WorkerSide}
+use Rattle.jk_server.specs.declared.part.WorkerEnd.{WorkerEnd}
+use Rattle.jk_server.specs.declared.part.WorkerEnd.TheVariants as worker
+
+-- These clients were served, and the worker rested after each.
+pub record IsUnderWay {C S X : Type 0} (visit : Peer → Visit) (told : Ghosts C X) (faults : S → ℕ) (first now : DoorSide C) (s n : WorkerSide S) (count : ℕ) : Type 0 where
+  pub runs : List (Run C S)
+  pub clients : GaveAndGot first now (map (λ r. (r.link, r.peer)) runs) (map (λ r. r.back) runs)
+  pub sessions : All (IsRun visit told) runs
+  pub rested : HaveRested faults s runs n
+  pub counted : count ≡ count_of runs
+
+pub begins : {C S X : Type 0} → (visit : Peer → Visit) (told : Ghosts C X) (faults : S → ℕ) (door : DoorSide C) (s : WorkerSide S)
+    → IsUnderWay visit told faults door door s s 0
+begins visit told faults door s = record {
+  runs = [];
+  clients = none_came door;
+  sessions = All-nil (IsRun visit told);
+  rested = refl;
+  counted = refl;
+}
+
+-- one more session, after which the worker rested
+pub rested_more : {C S : Type 0} → (faults : S → ℕ) (s m n : WorkerSide S) (runs : List (Run C S)) (r : Run C S)
+    → HaveRested faults s runs m → r.from ≡ forgot m → GoesOn faults r.from.desk r.to.desk r.end → Rests r.to n
+    → HaveRested faults s (runs ++ r ∷ []) n
+rested_more {C} {S} faults s m n [] r rested from goes rests =
+    (n, from ∙ ap (λ (w : WorkerSide S). forgot w) rested, goes, rests, refl)
+rested_more faults s m n (x ∷ runs) r rested from goes rests =
+    (rested.0, rested.1, rested.2, rested.3, rested_more faults rested.0 m n runs r rested.4 from goes rests)
+
+-- the client that came, was served and was left
+abbrev run_of : {C S L X : Type 0} → (visit : Peer → Visit) (told : Ghosts C X) (faults : S → ℕ) (mid after : DoorSide C) (s n : WorkerSide S) (link : C) (peer : Peer) (end : Option (WorkerEnd L))
+    → ServesClient visit told faults mid after s n link peer end → Run C S
+run_of visit told faults mid after s n link peer end serves =
+    record { link = link; peer = peer; back = serves.back; from = forgot s; to = serves.to; end = serves.session_end }
+
+-- the clients with this one
+clients_more : {C S L X : Type 0} → (visit : Peer → Visit) (told : Ghosts C X) (faults : S → ℕ) (first before mid after : DoorSide C) (s n : WorkerSide S) (runs : List (Run C S)) (link : C) (peer : Peer) (end : Option (WorkerEnd L))
+    → GaveAndGot first before (map (λ (r : Run C S). (r.link, r.peer)) runs) (map (λ (r : Run C S). r.back) runs) → Gives before mid link peer
+    → (serves : ServesClient visit told faults mid after s n link peer end)
+    → GaveAndGot first after (map (λ (r : Run C S). (r.link, r.peer)) (runs ++ run_of visit told faults mid after s n link peer end serves ∷ []))
+    (map (λ (r : Run C S). r.back) (runs ++ run_of visit told faults mid after s n link peer end serves ∷ []))
+clients_more {C} {S} visit told faults first before mid after s n runs link peer end so_far gives serves =
+    let here = run_of visit told faults mid after s n link peer end serves in
+    let came = map-append {B = C × Peer} (λ (r : Run C S). (r.link, r.peer)) runs (here ∷ []) in
+    let back = map-append (λ (r : Run C S). r.back) runs (here ∷ []) in
+    rw (came, back) (one_more first before mid after _ _ link serves.back peer so_far gives serves.coming serves.left serves.door_faults)
+
+-- a desk that the worker went on with is as the session left it
+same_side : {S : Type 0} → (to n : WorkerSide S) → n ≡ record to { desk = n.desk } → n.desk ≡ to.desk → n ≡ to
+same_side {S} to n same desk = same ∙ ap (λ (d : SharedState S). record to { desk = d }) desk
+
+pub goes_on : {C S L X : Type 0} → (visit : Peer → Visit) (told : Ghosts C X) (faults : S → ℕ) (first before mid after : DoorSide C) (s m n k : WorkerSide S) (count next : ℕ) (link : C) (peer : Peer) (then : DoorSide C)
+    → IsUnderWay visit told faults first before s m count → Gives before mid link peer
+    → ServesClient {L = L} visit told faults mid after m n link peer None → Rests n k
+    → then ≡ after → next ≡ min (count + 1) 18446744073709551615 → IsUnderWay visit told faults first then s k next
+goes_on {C} {S} {L} visit told faults first before mid after s m n k count next link peer then way gives serves rests same more =
+    let here = run_of {L = L} visit told faults mid after m n link peer None serves in
+    let len = length-append way.runs (here ∷ []) in
+    let was = way.counted in
+    subst (λ (d : DoorSide C). IsUnderWay visit told faults first d s k next) (sym same) (record {
+      runs = way.runs ++ here ∷ [];
+      clients = clients_more {L = L} visit told faults first before mid after m n way.runs link peer None way.clients gives serves;
+      sessions = All-push (IsRun visit told) way.runs here way.sessions serves.run;
+      rested =
+          rested_more faults s m k way.runs here way.rested refl serves.settles.0
+          (subst (λ (w : WorkerSide S). Rests w k) (same_side serves.to n serves.same serves.settles.1) rests);
+      counted = omega (arith, len, was, more);
+    })
+
+-- it rested, and the reach wanted memory
+pub rest_wants : {C S L X : Type 0} → (visit : Peer → Visit) (told : Ghosts C X) (faults : S → ℕ) (first now : DoorSide C) (s n : WorkerSide S) (count : ℕ)
+    → IsUnderWay visit told faults first now s n count → IsServed {L = L} visit told faults first now s n worker.NoMemory
+rest_wants visit told faults first now s n count way =
+    record { runs = way.runs; clients = way.clients; sessions = way.sessions; why = inl way.rested }
+
+-- ---- the end right after a session
+
+ends_at_last : {C S L X : Type 0} → (visit : Peer → Visit) (told : Ghosts C X) (faults : S → ℕ) (mid after : DoorSide C) (s m n : WorkerSide S) (runs : List (Run C S)) (link : C) (peer : Peer) (end : WorkerEnd L)
+    → HaveRested faults s runs m → (serves : ServesClient visit told faults mid after m n link peer (Some end))
+    → EndsAtLast faults s n (runs ++ run_of visit told faults mid after m n link peer (Some end) serves ∷ []) end
+ends_at_last {C} {S} visit told faults mid after s m n runs link peer end rested serves = record {
+  before = runs;
+  last = run_of visit told faults mid after m n link peer (Some end) serves;
+  mid = m;
+  split = refl;
+  rested = rested;
+  begins = refl;
+  why = serves.settles.0;
+  left = serves.same ∙ ap (λ (d : SharedState S). record serves.to { desk = d }) serves.settles.1;
+}
+
+-- an end right after a session is an end
+ends_by : {C S L : Type 0} → (faults : S → ℕ) (before after : DoorSide C) (s n : WorkerSide S) (runs : List (Run C S)) (end : WorkerEnd L)
+    → EndsAtLast faults s n runs end → EndsBy faults before after s n runs end
+ends_by faults before after s n runs (worker.Closed sessions) at = absurd at.why
+ends_by faults before after s n runs worker.DoorFault at = absurd at.why
+ends_by faults before after s n runs worker.ShelfFault at = at
+ends_by faults before after s n runs worker.LogFault at = at.why
+ends_by faults before after s n runs (worker.Stray stray) at = at
+ends_by faults before after s n runs worker.NoMemory at = inr at
+
+pub ends : {C S L X : Type 0} → (visit : Peer → Visit) (told : Ghosts C X) (faults : S → ℕ) (first before mid after : DoorSide C) (s m n : WorkerSide S) (count : ℕ) (link : C) (peer : Peer) (end : WorkerEnd L)
+    → IsUnderWay visit told faults first before s m count → Gives before mid link peer
+    → ServesClient visit told faults mid after m n link peer (Some end) → IsServed visit told faults first after s n end
+ends visit told faults first before mid after s m n count link peer end way gives serves = record {
+  runs = way.runs ++ run_of visit told faults mid after m n link peer (Some end) serves ∷ [];
+  clients = clients_more visit told faults first before mid after m n way.runs link peer (Some end) way.clients gives serves;
+  sessions = All-push (IsRun visit told) way.runs _ way.sessions serves.run;
+  why = ends_by faults first after s n _ end (ends_at_last visit told faults mid after s m n way.runs link peer end way.rested serves);
+}
+
+-- ---- one client
+
+-- A session of a desk that forgot its receipts, after which the link was left, served a client.
+pub serves_client : {C S L X : Type 0} → (visit : Peer → Visit) (told : Ghosts C X) (faults : S → ℕ) (before after : DoorSide C) (s to n : WorkerSide S) (d : DeskState) (link back : C) (peer : Peer) (end : SessionEnd) (worker_end : Option (WorkerEnd L)) (rows : List AnyServed)
+    → d ≡ (forgot s).desk.desk
+    → Serves (visit peer)
+    (λ (inbox : List ℕ). record { desk = record { state = d; clock = s.clock }; reach = s.reach; client = client_at told link; inbox = inbox })
+    (standing_with to (client_at told back)) [] rows end
+    → RisesBy end (told.faults link) (told.faults back) → MeetsBy end d to.desk.desk → KeepsTickets (visit peer).session d to.desk.desk
+    → Settles faults (forgot s).desk to.desk n.desk end worker_end → n ≡ record to { desk = n.desk }
+    → after.coming ≡ before.coming → after.left ≡ appended before.left (back ∷ []) → after.faults ≡ before.faults
+    → ServesClient visit told faults before after s n link peer worker_end
+serves_client visit told faults before after s to n d link back peer end worker_end rows is session fault met kept settles same coming left door_faults = record {
+  back = back;
+  to = to;
+  session_end = end;
+  run = record {
+    rows = rows;
+    session =
+        subst (λ (x : DeskState). Serves (visit peer)
+        (λ (inbox : List ℕ). record { desk = record { state = x; clock = s.clock }; reach = s.reach; client = client_at told link; inbox = inbox })
+        (standing_with to (client_at told back)) [] rows end) is session;
+    fault = fault;
+    met = subst (λ (x : DeskState). MeetsBy end x to.desk.desk) is met;
+    kept = subst (λ (x : DeskState). KeepsTickets (visit peer).session x to.desk.desk) is kept;
+  };
+  settles = settles;
+  same = same;
+  coming = coming;
+  left = left;
+  door_faults = door_faults;
+}
+
+-- what a worker may serve with, it may serve with again
+pub fit_again : {S : Type 0} → (cfg : Config) (rules : List Rule) (d d' : SharedState S) (b b' : Beside)
+    → IsFit cfg rules d.desk b → d' ≡ d → b' ≡ b → IsFit cfg rules d'.desk b'
+fit_again cfg rules d d' b b' fit same beside = rw (same, beside) fit
+
+pub parts_again : {S : Type 0} → (d d' : SharedState S) (parts : Option ℕ) → d.desk.parts ≡ parts → d' ≡ d → d'.desk.parts ≡ parts
+parts_again d d' parts is same = rw same is
+
+-- ---- the door gives none
+
+pub closes : {C S L X : Type 0} → (visit : Peer → Visit) (told : Ghosts C X) (faults : S → ℕ) (first before after : DoorSide C) (s n : WorkerSide S) (count : ℕ)
+    → IsUnderWay visit told faults first before s n count → GivesNone before after × IsEmpty after.coming
+    → IsServed {L = L} visit told faults first after s n (worker.Closed count)
+closes visit told faults first before after s n count way none = record {
+  runs = way.runs;
+  clients = none_more first before after _ _ way.clients none.0;
+  sessions = way.sessions;
+  why = (way.counted, way.rested, none.1);
+}
+
+rose_since : (first before now : ℕ) → first ≤ before → Rose before now → Rose first now
+rose_since first before now earlier rose = omega (arith, earlier, rose)
+
+pub fails : {C S L X : Type 0} → (visit : Peer → Visit) (told : Ghosts C X) (faults : S → ℕ) (first before after : DoorSide C) (s n : WorkerSide S) (count : ℕ)
+    → IsUnderWay visit told faults first before s n count → GivesNone before after × Rose before.faults after.faults
+    → IsServed {L = L} visit told faults first after s n worker.DoorFault
+fails visit told faults first before after s n count way none = record {
+  runs = way.runs;
+  clients = none_more first before after _ _ way.clients none.0;
+  sessions = way.sessions;
+  why = (way.rested, rose_since first.faults before.faults after.faults way.clients.no_fewer none.1);
+}
+
+pub lacks : {C S L X : Type 0} → (visit : Peer → Visit) (told : Ghosts C X) (faults : S → ℕ) (first before after : DoorSide C) (s n : WorkerSide S) (count : ℕ)
+    → IsUnderWay visit told faults first before s n count → GivesNone before after → IsServed {L = L} visit told faults first after s n worker.NoMemory
+lacks visit told faults first before after s n count way none = record {
+  runs = way.runs;
+  clients = none_more first before after _ _ way.clients none;
+  sessions = way.sessions;
+  why = inl way.rested;
+}

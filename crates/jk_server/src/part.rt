@@ -1,0 +1,51 @@
+//! What a worker works with, why it ends, and what it leaves.
+
+use jk_io::{Clock, Door, ListOf, Reach};
+use locked_balancer::{Leaving, SharedDesk, Shelf, SiteName, SiteStray};
+
+/// What a worker works with.
+#[derive(Drop)]
+pub struct Part<'s, 'r, L: SiteName, D: Door, R: Reach, K: Clock, S: Shelf, W> {
+    pub door: D,
+    pub reach: R,
+    pub clock: K,
+    pub desk: SharedDesk<'s, 'r, L, S, W>,
+}
+
+/// Why a worker ended.
+#[derive(Drop)]
+pub enum WorkerEnd<L> {
+    /// No client comes any more. `sessions` counts those that were served.
+    Closed { sessions: u64 },
+    /// The door failed.
+    DoorFault,
+    /// The shelf failed to keep a segment of a journal.
+    ShelfFault,
+    /// The log failed.
+    LogFault,
+    /// A ticket that came back wasn't out.
+    Stray(SiteStray<L>),
+    NoMemory,
+}
+
+/// How the workers ended, in the order of their parts.
+pub type WorkerEndList<L> = ListOf<WorkerEnd<L>>;
+
+/// What a worker worked with, but for its desk.
+#[derive(Drop)]
+pub struct Outside<D: Door, R: Reach, K: Clock> {
+    pub door: D,
+    pub reach: R,
+    pub clock: K,
+}
+
+/// What the workers worked with, in the order of their parts.
+pub type OutsideList<D, R, K> = ListOf<Outside<D, R, K>>;
+
+/// How the workers ended and what they left, an item for each in each list, in the order of their parts.
+#[derive(Drop)]
+pub struct ServeEnd<L: SiteName, D: Door, R: Reach, K: Clock, S> {
+    pub workers: WorkerEndList<L>,
+    pub leaving: ListOf<Leaving<L, S>>,
+    pub outside: OutsideList<D, R, K>,
+}

@@ -1,0 +1,54 @@
+//! The whole work of one worker.
+ghost use Rattle.std.specs.Prelude.{◌≡◌};
+ghost use Rattle.door_clients.specs.Doors.{side};
+ghost use Rattle.client_session.specs.Requests.{visit};
+ghost use Rattle.jk_server.specs.Served.{IsServed};
+ghost use Rattle.jk_server.specs.Worker.{IsFit, worker_side};
+
+use crate::client::{Post, rest, serve_client};
+use crate::part::{Part, WorkerEnd};
+use door_clients::{Arrival, next_client};
+use jk_io::{Clock, Door, NoMemory, Reach};
+use locked_balancer::{Shelf, SiteName};
+use site_config::Config;
+use std::alloc::Global;
+use std::sync::Wait;
+use uri_map::UriMap;
+
+/// Serves the clients that the part's door gives, one after the other, until the worker ends. No talk of the reach runs,
+/// and the desk holds no ticket, before the call and after it.
+pub fn serve_part<L: SiteName, D: Door, R: Reach, K: Clock, S: Shelf, W: Wait>(
+    rt: &W,
+    alloc: Global,
+    cfg: &Config,
+    map: &UriMap,
+    number: u32,
+    part: &mut Part<'_, '_, L, D, R, K, S, W>,
+) -> WorkerEnd<L>
+    requires fit { IsFit cfg.now map.now part.old.desk.desk (R.beside part.old.reach) }
+    ensures served { let at = side D.coming D.left D.faults in let with = worker_side K.answers R.Meanings in
+        IsServed (visit cfg.now map.now number) D.L.Meanings S.faults (at part.old.door) (at part.new.door)
+        (with part.old.desk part.old.clock part.old.reach) (with part.new.desk part.new.clock part.new.reach) result }
+    ensures fit { IsFit cfg.now map.now part.new.desk.desk (R.beside part.new.reach) }
+    ensures parts { part.new.desk.desk.parts ≡ part.old.desk.desk.parts }
+{
+    let post = Post { cfg, map, number };
+    let mut sessions: u64 = 0;
+    'clients: for _ in rt.forever() {
+        match next_client(alloc, &mut part.door) {
+            Arrival::Client { link, peer } => {
+                match serve_client(alloc, post, part, link, &peer) {
+                    Some(end) => return end,
+                    None => match rest(alloc, part) {
+                        Ok(()) => sessions = sessions.saturating_add(1),
+                        Err(NoMemory) => return WorkerEnd::NoMemory,
+                    },
+                }
+            }
+            Arrival::Closed => return WorkerEnd::Closed { sessions },
+            Arrival::Fault => return WorkerEnd::DoorFault,
+            Arrival::NoMemory => return WorkerEnd::NoMemory,
+        }
+    }
+    unreachable!()
+}
