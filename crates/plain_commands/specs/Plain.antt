@@ -8,7 +8,7 @@ use Rattle.jk_cli.specs.declared.order.Order.{Order}
 use Rattle.jk_cli.specs.declared.order.Order.TheVariants as order
 use Rattle.play_script.specs.Play.{PlaysScript}
 use Rattle.site_reports.specs.Reports.{ReportsConfig, ReportsMatches, ReportsSite}
-use Rattle.plain_commands.specs.Readings.{Outside, Reading, File, Input, AreRead, StopsLong}
+use Rattle.plain_commands.specs.Readings.{Outside, Reading, File, Input, AreRead, StopsLong, has_file, has_input, before_input}
 
 -- The plain commands that are built; of the commands that are, each other one is none yet.
 abbrev pub is_built : CommandName → Bool
@@ -33,6 +33,19 @@ readings (order.Config workers (Some map)) = File workers ∷ File map ∷ []
 readings (order.Match workers map) = File workers ∷ File map ∷ Input ∷ []
 readings other = []
 
+-- A command has an input, and each of its files is there and not too long, as far as files are told: else nothing is read of it.
+abbrev pub InputIsDue : Outside → Order → Type 0
+InputIsDue outside o =
+    (has_input (readings o) ≡ true) × ((texts : List (List ℕ)) × AreRead outside (before_input (readings o)) texts)
+
+-- The words are a command whose input is due.
+abbrev pub IsInputDue : (words : List (List ℕ)) → Outside → Type 0
+IsInputDue words outside = (o : Order) × (order_of words ≡ Some o) × InputIsDue outside o
+
+-- The words are a command that reads files.
+abbrev pub AreFilesDue : (words : List (List ℕ)) → Type 0
+AreFilesDue words = (o : Order) × (order_of words ≡ Some o) × (has_file (readings o) ≡ true)
+
 -- The status of a report.
 abbrev pub status_if : (refused : Bool) → ℕ
 status_if refused = if refused then 3 else 0
@@ -41,19 +54,29 @@ status_if refused = if refused then 3 else 0
 abbrev pub Reported : (List ℕ → Bool → Type 0) → (out : List ℕ) → (status : ℕ) → Type 0
 Reported reports out status = (refused : Bool) × reports out refused × (status ≡ status_if refused)
 
+-- The paths that `match` reads, after both files.
+abbrev pub MatchesRead : (workers map : List ℕ) → (texts : List (List ℕ)) → (out : List ℕ) → (status : ℕ) → Type 0
+MatchesRead workers map (paths ∷ []) out status = Reported (ReportsMatches workers map paths) out status
+MatchesRead workers map texts out status = ⊥
+
 -- What a command prints of the texts that it read, and its status.
 abbrev pub Answers : Order → (texts : List (List ℕ)) → (out : List ℕ) → (status : ℕ) → Type 0
 Answers order.Play (script ∷ []) out status = PlaysScript script out status
 Answers (order.Config w None) (workers ∷ []) out status = Reported (ReportsConfig workers) out status
 Answers (order.Config w (Some m)) (workers ∷ map ∷ []) out status = Reported (ReportsSite workers map) out status
-Answers (order.Match w m) (workers ∷ map ∷ paths ∷ []) out status = Reported (ReportsMatches workers map paths) out status
+Answers (order.Match w m) (workers ∷ map ∷ texts) out status = MatchesRead workers map texts out status
 Answers other texts out status = ⊥
 
--- What a command prints, and its status. It reads all before it judges any, and a text that is too long is none.
+-- What is printed of texts that are read whole, and its status. All are read before one is judged, and a text that is too
+-- long is none.
+abbrev pub PrintsOf : Outside → List Reading → (List (List ℕ) → List ℕ → ℕ → Type 0) → (out : List ℕ) → (status : ℕ) → Type 0
+PrintsOf outside readings Of out status =
+    (StopsLong outside readings × (out ≡ codes "too long\n") × (status ≡ 3))
+    ⊎ ((texts : List (List ℕ)) × AreRead outside readings texts × Of texts out status)
+
+-- What a command prints, and its status.
 abbrev pub Plain : Outside → Order → (out : List ℕ) → (status : ℕ) → Type 0
-Plain outside o out status =
-    (StopsLong outside (readings o) × (out ≡ codes "too long\n") × (status ≡ 3))
-    ⊎ ((texts : List (List ℕ)) × AreRead outside (readings o) texts × Answers o texts out status)
+Plain outside o out status = PrintsOf outside (readings o) (Answers o) out status
 
 -- Just what the words' command prints was written.
 pub record Prints (words : List (List ℕ)) (outside : Outside) (sent sent_now : Option (List ℕ)) (status : ℕ) : Type 0 where

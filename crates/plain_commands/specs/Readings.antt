@@ -1,5 +1,5 @@
 -- The files and the input that a command reads whole, each of at most 67,108,864 bytes.
-use Rattle.std.specs.Prelude.{◌≡◌, ℕ, ◌<◌, ◌≤◌, ◌⊎◌, List, [], ◌∷◌, length, Option, Some, None, IfSome, IsSomeAnd}
+use Rattle.std.specs.Prelude.{◌≡◌, ℕ, Bool, true, false, ◌<◌, ◌≤◌, ◌⊎◌, List, [], ◌∷◌, length, Option, Some, None, IfSome, IsSomeAnd}
 use Rattle.jk_io.specs.Stored.{content_of}
 
 -- What a command may read: files, each a name and a content, and an input; none is told of the real ones.
@@ -12,6 +12,24 @@ pub data Reading : Type 0 where
   File : (name : List ℕ) → Reading
   -- all that the input has to come
   Input : Reading
+
+-- A file is among what is read.
+abbrev pub has_file : List Reading → Bool
+has_file [] = false
+has_file (File name ∷ readings) = true
+has_file (Input ∷ readings) = has_file readings
+
+-- The input is among what is read.
+abbrev pub has_input : List Reading → Bool
+has_input [] = false
+has_input (File name ∷ readings) = has_input readings
+has_input (Input ∷ readings) = true
+
+-- What is read before the input.
+abbrev pub before_input : List Reading → List Reading
+before_input [] = []
+before_input (File name ∷ readings) = File name ∷ before_input readings
+before_input (Input ∷ readings) = []
 
 -- The text is what is there, where that is told.
 abbrev pub IsThere : Outside → Reading → List ℕ → Type 0

@@ -1,10 +1,11 @@
 //! What each plain command prints of what it reads.
-ghost use Rattle.std.specs.Prelude.{◌≡◌, ◌⊎◌, ℕ, List, Option, Some, None, true, codes, IfOk, IsErrOf};
+ghost use Rattle.std.specs.Prelude.{◌≡◌, ◌≤◌, ◌⊎◌, ℕ, List, [], ◌∷◌, length, Option, Some, None, true, codes, IfOk, IsErrOf};
 ghost use Rattle.jk_cli.specs.Names.{command_in};
 ghost use Rattle.jk_cli.specs.declared.order.Order.TheVariants as order;
 ghost use Rattle.jk_io.specs.Told.{HasCause, Rose};
 ghost use Rattle.plain_commands.specs.Endings.{Faults, ReadFails, status_of};
-ghost use Rattle.plain_commands.specs.Plain.{is_built, Plain, status_if};
+ghost use Rattle.plain_commands.specs.Plain.{is_built, readings, InputIsDue, MatchesRead, Plain, PrintsOf, status_if};
+ghost use Rattle.plain_commands.specs.Readings.{has_file, Input};
 ghost use Rattle.plain_commands.specs.declared.play.Ending.TheVariants as Ends;
 
 use crate::play::{Ending, Output, play};
@@ -106,6 +107,25 @@ fn config<F: Files>(
     }
 }
 
+// The paths of `match`, after both files.
+fn match_input<S: Source>(
+    alloc: Global,
+    input: &mut S,
+    workers: &Bytes,
+    map: &Bytes,
+) -> Result<Output, IoError>
+    requires short { (length workers.now ≤ 67108864) × (length map.now ≤ 67108864) }
+    ensures ok { IfOk result (λ o. (files : Option (List (List ℕ × List ℕ))) → PrintsOf (record { files = files; incoming = S.incoming input.old })
+        (Input ∷ []) (MatchesRead workers.now map.now) o.text (status_of o.ending)) }
+    ensures cause { HasCause (S.faults input.old) (S.faults input.new) result }
+{
+    let Some(paths) = read_input(alloc, input)? else {
+        return Ok(too_long(alloc)?);
+    };
+    let report = report_matches(alloc, workers.as_slice(), map.as_slice(), paths.as_slice())?;
+    Ok(output_of(report))
+}
+
 // `match WORKERS MAP`
 fn match_paths<F: Files, S: Source>(
     alloc: Global,
@@ -117,6 +137,8 @@ fn match_paths<F: Files, S: Source>(
     ensures ok { IfOk result (λ o. Plain (record { files = F.files files.old; incoming = S.incoming input.old })
         (order.Match workers.now map.now) o.text (status_of o.ending)) }
     ensures failed { IsErrOf result IoError.Failed → Rose (F.faults files.old) (F.faults files.new) ⊎ Rose (S.faults input.old) (S.faults input.new) }
+    ensures input { (input.new ≡ input.old)
+        ⊎ InputIsDue (record { files = F.files files.old; incoming = S.incoming input.old }) (order.Match workers.now map.now) }
 {
     let Some(workers) = read_text(alloc, files, workers)? else {
         return Ok(too_long(alloc)?);
@@ -124,11 +146,7 @@ fn match_paths<F: Files, S: Source>(
     let Some(map) = read_text(alloc, files, map)? else {
         return Ok(too_long(alloc)?);
     };
-    let Some(paths) = read_input(alloc, input)? else {
-        return Ok(too_long(alloc)?);
-    };
-    let report = report_matches(alloc, workers.as_slice(), map.as_slice(), paths.as_slice())?;
-    Ok(output_of(report))
+    match_input(alloc, input, &workers, &map)
 }
 
 /// What a plain command prints of what it reads, and how that ends.
@@ -142,6 +160,9 @@ pub(crate) fn answer<F: Files, S: Source>(
     ensures ok { IfOk result (λ o. Plain (record { files = F.files files.old; incoming = S.incoming input.old })
         order.now o.text (status_of o.ending)) }
     ensures failed { IsErrOf result IoError.Failed → Rose (F.faults files.old) (F.faults files.new) ⊎ Rose (S.faults input.old) (S.faults input.new) }
+    ensures files { (files.new ≡ files.old) ⊎ (has_file (readings order.now) ≡ true) }
+    ensures input { (input.new ≡ input.old)
+        ⊎ InputIsDue (record { files = F.files files.old; incoming = S.incoming input.old }) order.now }
 {
     match order {
         Order::Play => play_input(alloc, input),

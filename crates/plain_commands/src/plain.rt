@@ -4,7 +4,8 @@ ghost use Rattle.jk_cli.specs.Names.{command_in};
 ghost use Rattle.jk_cli.specs.Orders.{order_of};
 ghost use Rattle.jk_io.specs.Told.{Rose};
 ghost use Rattle.plain_commands.specs.Endings.{number_of, AnswersSo, EndsSo, Writes};
-ghost use Rattle.plain_commands.specs.Plain.{is_built, is_plain, Prints, PrintsFront};
+ghost use Rattle.plain_commands.specs.Plain.{is_built, is_plain, readings, AreFilesDue, InputIsDue, IsInputDue, Prints, PrintsFront};
+ghost use Rattle.plain_commands.specs.Readings.{has_file};
 
 use crate::commands::answer;
 use crate::play::{Ending, Output};
@@ -13,7 +14,7 @@ use jk_io::{Bytes, Files, IoError, Sink, Source, write_all};
 use std::alloc::Global;
 
 /// How a plain command ends.
-#[derive(Clone, Copy, Debug, PartialEq, Eq)]
+#[derive(Clone, Copy)]
 enum PlainEnd {
     Done,
     NoCommand,
@@ -82,10 +83,13 @@ fn answer_end<F: Files, S: Source, O: Sink>(
     out: &mut O,
 ) -> PlainEnd
     requires built { is_built (command_in order.now) ≡ true }
-    ensures { (words : List (List ℕ)) → order_of words ≡ Some order.now
+    ensures answers { (words : List (List ℕ)) → order_of words ≡ Some order.now
         → AnswersSo words (record { files = F.files files.old; incoming = S.incoming input.old }) (O.sent out.old) (O.sent out.new)
         (record { files = F.faults files.old; input = S.faults input.old; output = O.faults out.old })
         (record { files = F.faults files.new; input = S.faults input.new; output = O.faults out.new }) result }
+    ensures files { (files.new ≡ files.old) ⊎ (has_file (readings order.now) ≡ true) }
+    ensures input { (input.new ≡ input.old)
+        ⊎ InputIsDue (record { files = F.files files.old; incoming = S.incoming input.old }) order.now }
 {
     match answer(alloc, order, files, input) {
         Ok(output) => finish(out, &output),
@@ -101,9 +105,12 @@ fn end_of<F: Files, S: Source, O: Sink>(
     input: &mut S,
     out: &mut O,
 ) -> PlainEnd
-    ensures { EndsSo words.now (record { files = F.files files.old; incoming = S.incoming input.old }) (O.sent out.old) (O.sent out.new)
+    ensures ends { EndsSo words.now (record { files = F.files files.old; incoming = S.incoming input.old }) (O.sent out.old) (O.sent out.new)
         (record { files = F.faults files.old; input = S.faults input.old; output = O.faults out.old })
         (record { files = F.faults files.new; input = S.faults input.new; output = O.faults out.new }) result }
+    ensures files { (files.new ≡ files.old) ⊎ AreFilesDue words.now }
+    ensures input { (input.new ≡ input.old)
+        ⊎ IsInputDue words.now (record { files = F.files files.old; incoming = S.incoming input.old }) }
 {
     if !is_plain(words) {
         return PlainEnd::NoCommand;
@@ -129,6 +136,11 @@ pub fn run_plain<F: Files, S: Source, O: Sink>(
         (O.sent out.old) (O.sent out.new) 0 }
     ensures refused { result ≡ 3 → Prints words.now (record { files = F.files files.old; incoming = S.incoming input.old })
         (O.sent out.old) (O.sent out.new) 3 }
+
+    // Files are read where the command has some, and of the input nothing unless each of its files is there and not too long.
+    ensures files { (files.new ≡ files.old) ⊎ AreFilesDue words.now }
+    ensures input { (input.new ≡ input.old)
+        ⊎ IsInputDue words.now (record { files = F.files files.old; incoming = S.incoming input.old }) }
 
     // No plain command that is built (`play`, `config` and `match`), exactly by the words.
     ensures no_command { (result ≡ 2) ↔ (is_plain words.now ≡ false) }

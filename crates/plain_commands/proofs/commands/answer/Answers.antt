@@ -1,9 +1,9 @@
-use Rattle.std.proofs.Common.{ℕ, List, Option}
+use Rattle.std.proofs.Common.{ℕ, List, Option, inr, refl}
 use Rattle.jk_cli.specs.declared.order.Order.TheVariants as order
 use Rattle.plain_commands.specs.Endings.{status_of}
 use Rattle.plain_commands.specs.Plain.{Plain}
 use Rattle.plain_commands.specs.declared.play.Output.{Output}
-use Rattle.plain_commands.proofs.PlainLemmas.{said_of}
+use Rattle.plain_commands.proofs.PlainLemmas.{config_has_file, play_due, said_of}
 use Rattle.plain_commands.proofs.commands.answer.Goals as goal
 
 pub returns-in-Play-clause-ok : goal.returns-in-Play-clause-ok
@@ -15,3 +15,16 @@ pub returns-in-Config-clause-ok : goal.returns-in-Config-clause-ok
 returns-in-Config-clause-ok g c =
     rw c.in-Config.is (said_of (λ (incoming : Option (List ℕ)) (o : Output). Plain (record { files = g.F.Files.files c.args.files.now; incoming = incoming }) (order.Config c.in-Config.workers c.in-Config.map) o.text (status_of o.ending))
     (g.S.Meanings.incoming c.args.input.now) c.config.result c.config.ensures.ok)
+
+pub returns-in-Play-clause-input : goal.returns-in-Play-clause-input
+returns-in-Play-clause-input g c =
+    inr (rw c.in-Play.is (play_due (record { files = g.F.Files.files c.args.files.now; incoming = g.S.Meanings.incoming c.args.input.now })))
+
+pub returns-in-Config-clause-files : goal.returns-in-Config-clause-files
+returns-in-Config-clause-files g c = inr (rw c.in-Config.is (config_has_file c.in-Config.workers c.in-Config.map))
+
+pub returns-in-Match-clause-files : goal.returns-in-Match-clause-files
+returns-in-Match-clause-files g c = inr (rw c.in-Match.is refl)
+
+pub returns-in-Match-clause-input : goal.returns-in-Match-clause-input
+returns-in-Match-clause-input g c = rw c.in-Match.is c.match_paths.ensures.input

@@ -1,22 +1,16 @@
-use Rattle.std.proofs.Common.{[], ◌∷◌, inr}
-use Rattle.site_reports.specs.Reports.{ReportsMatches}
-use Rattle.plain_commands.specs.Endings.{status_of}
-use Rattle.plain_commands.proofs.PlainLemmas.{reported}
+use Rattle.std.proofs.Common.{inr}
+use Rattle.plain_commands.proofs.PlainLemmas.{match_due, match_ok}
 use Rattle.plain_commands.proofs.commands.match_paths.Goals as goal
 
 pub returns-clause-ok : goal.returns-clause-ok
 returns-clause-ok g c =
-    let report = c.in_ok-report.report in
-    let out = c.output_of.result in
-    inr (
-      c.in-Some.workers ∷ c.in-Some-2.map ∷ c.in-Some-3.paths ∷ [],
-      (
-        (rw c.in-Some.is at c.in_ok-workers.ensures.there, rw c.in-Some.is at c.in_ok-workers.ensures.short),
-        (
-          (rw (c.in-Some-2.is, c.in_ok-workers.ensures.same) at c.in_ok-map.ensures.there, rw c.in-Some-2.is at c.in_ok-map.ensures.short),
-          ((rw c.in-Some-3.is at c.in_ok-paths.ensures.there, rw c.in-Some-3.is at c.in_ok-paths.ensures.short), tt),
-        ),
-      ),
-      reported (ReportsMatches c.in-Some.workers c.in-Some-2.map c.in-Some-3.paths) report.text out.text report.refused (status_of out.ending)
-          c.output_of.ensures.text c.output_of.ensures.status (rw (c.as_slice.ensures, c.as_slice-2.ensures, c.as_slice-3.ensures) at c.in_ok-report.ensures),
-    )
+    match_ok _ _ _ _ _
+    (rw c.in-Some.is at c.in_ok-workers.ensures.there, rw c.in-Some.is at c.in_ok-workers.ensures.short)
+    (rw (c.in-Some-2.is, c.in_ok-workers.ensures.same) at c.in_ok-map.ensures.there, rw c.in-Some-2.is at c.in_ok-map.ensures.short)
+    c.match_input.result c.match_input.ensures.ok
+
+pub returns-clause-input : goal.returns-clause-input
+returns-clause-input g c =
+    inr (match_due (record { files = g.F.Files.files c.args.files.now; incoming = g.S.Meanings.incoming c.args.input.now }) _ _ _ _
+    (rw c.in-Some.is at c.in_ok-workers.ensures.there, rw c.in-Some.is at c.in_ok-workers.ensures.short)
+    (rw (c.in-Some-2.is, c.in_ok-workers.ensures.same) at c.in_ok-map.ensures.there, rw c.in-Some-2.is at c.in_ok-map.ensures.short))
