@@ -1,54 +1,81 @@
 //! The plain commands over files, input and output in memory.
-use crate::case::{Case, Shown};
-use jk_io::{Bytes, FileList, MemFiles, MemLink, NoMemory, NumberList};
+use block_rows::comparing::wants;
+use block_rows::row::{Row, RowError};
+use jk_io::{Bytes, MemFiles, MemLink, NumberList};
 use plain_commands::run_plain;
 use std::alloc::Global;
-use std::mem;
 
-fn input_of(alloc: Global, case: &mut Case) -> Result<MemLink, NoMemory> {
-    let incoming = mem::replace(&mut case.input, Bytes::new(alloc));
-    let failing = mem::replace(&mut case.input_faults, NumberList::new(alloc));
-    MemLink::failing_at(alloc, incoming, failing, NumberList::new(alloc))
+/// What a command read and wrote, and its status.
+#[derive(Clone, Copy)]
+struct Shown<'s> {
+    status: u8,
+    /// How many bytes the input gave.
+    reads: usize,
+    written: &'s [u8],
+}
+
+fn wants_command(alloc: Global, row: Row<'_>, shown: Shown<'_>) -> Result<bool, RowError> {
+    let status = row.number(alloc, "status")?.unwrap_or(0);
+    let reads = row.number(alloc, "reads")?.unwrap_or(shown.reads as u64);
+    let numbers = u64::from(shown.status) == status && shown.reads as u64 == reads;
+    Ok(numbers && wants(alloc, row, shown.written)?)
 }
 
 /// An output that takes all, or what is wanted and no more.
-fn output_of(alloc: Global, case: &Case) -> Result<MemLink, NoMemory> {
+fn output_of(alloc: Global, row: Row<'_>) -> Result<MemLink, RowError> {
     let mut failing = NumberList::new(alloc);
-    if case.output_fails {
-        failing.push(case.output.len() as u64)?;
+    if row.value("output-fails").is_some() {
+        let output = row.text(alloc, "output", 0)?;
+        failing
+            .push(output.len() as u64)
+            .map_err(|_| RowError::NoMemory)?;
     }
-    MemLink::failing_at(alloc, Bytes::new(alloc), NumberList::new(alloc), failing)
+    Ok(MemLink::failing_at(alloc, Bytes::new(alloc), NumberList::new(alloc), failing)?)
+}
+
+fn input_of(alloc: Global, row: Row<'_>) -> Result<MemLink, RowError> {
+    let failing = row.numbers(alloc, "input-fails")?;
+    let input = row.text(alloc, "input", 0)?;
+    Ok(MemLink::failing_at(alloc, input, failing, NumberList::new(alloc))?)
+}
+
+fn files_of(alloc: Global, row: Row<'_>) -> Result<MemFiles, RowError> {
+    let failing = row.numbers(alloc, "file-fails")?;
+    let files = row.files(alloc)?;
+    Ok(MemFiles::new(files, failing))
 }
 
 fn over_input(
     alloc: Global,
-    case: &Case,
+    row: Row<'_>,
+    words: &[Bytes],
     files: &mut MemFiles,
     input: &mut MemLink,
-    text: &mut Bytes,
-) -> Result<Shown, NoMemory> {
-    let mut out = output_of(alloc, case)?;
-    let status = run_plain(alloc, case.words.as_slice(), files, input, &mut out);
-    text.extend(out.sent())?;
-    Ok(Shown {
-        status: u64::from(status),
-        reads: input.received().len() as u64,
-    })
+) -> Result<bool, RowError> {
+    let mut out = output_of(alloc, row)?;
+    let status = run_plain(alloc, words, files, input, &mut out);
+    let shown = Shown {
+        status,
+        reads: input.received().len(),
+        written: out.sent(),
+    };
+    wants_command(alloc, row, shown)
 }
 
 fn over_files(
     alloc: Global,
-    case: &mut Case,
+    row: Row<'_>,
+    words: &[Bytes],
     files: &mut MemFiles,
-    text: &mut Bytes,
-) -> Result<Shown, NoMemory> {
-    let mut input = input_of(alloc, case)?;
-    over_input(alloc, case, files, &mut input, text)
+) -> Result<bool, RowError> {
+    over_input(alloc, row, words, files, &mut input_of(alloc, row)?)
 }
 
-/// Does a command, and puts what it wrote.
-pub fn do_command(alloc: Global, case: &mut Case, text: &mut Bytes) -> Result<Shown, NoMemory> {
-    let files = mem::replace(&mut case.files, FileList::new(alloc));
-    let failing = mem::replace(&mut case.file_faults, NumberList::new(alloc));
-    over_files(alloc, case, &mut MemFiles::new(files, failing), text)
+fn over_words(alloc: Global, row: Row<'_>, words: &[Bytes]) -> Result<bool, RowError> {
+    over_files(alloc, row, words, &mut files_of(alloc, row)?)
+}
+
+/// Whether a command does what its row says.
+pub fn holds(alloc: Global, row: Row<'_>) -> Result<bool, RowError> {
+    over_words(alloc, row, row.words(alloc)?.as_slice())
 }

@@ -1,5 +1,4 @@
 //! A site's two files, by the calls below `config` and `match`.
-use crate::case::Case;
 use jk_io::{Bytes, MAX_INPUT_BYTES, NoMemory, put_decimal};
 use std::alloc::Global;
 use uri_map::{UriMap, read_map};
@@ -44,13 +43,18 @@ fn mount_in(
 }
 
 /// The worker of the path, and the terms of its rule.
-pub fn tell_mount(alloc: Global, case: &Case, out: &mut Bytes) -> Result<(), NoMemory> {
-    let workers = case.file(b"w");
+pub fn tell_mount(
+    alloc: Global,
+    workers: &[u8],
+    map: &[u8],
+    path: &[u8],
+    out: &mut Bytes,
+) -> Result<(), NoMemory> {
     if workers.len() > MAX_INPUT_BYTES {
         return out.extend(b"too long");
     }
     match read_workers(alloc, workers) {
-        Ok(config) => mount_in(alloc, &config, case.file(b"m"), case.input.as_slice(), out),
+        Ok(config) => mount_in(alloc, &config, map, path, out),
         Err(_) => out.extend(b"the workers are refused"),
     }
 }
@@ -77,14 +81,18 @@ fn put_found(out: &mut Bytes, config: &Config, name: &[u8]) -> Result<(), NoMemo
     }
 }
 
-/// The worker that the input names, and its members' secrets.
-pub fn tell_found(alloc: Global, case: &Case, out: &mut Bytes) -> Result<(), NoMemory> {
-    let workers = case.file(b"w");
+/// The worker of a name, and its members' secrets.
+pub fn tell_found(
+    alloc: Global,
+    workers: &[u8],
+    name: &[u8],
+    out: &mut Bytes,
+) -> Result<(), NoMemory> {
     if workers.len() > MAX_INPUT_BYTES {
         return out.extend(b"too long");
     }
     match read_workers(alloc, workers) {
-        Ok(config) => put_found(out, &config, case.input.as_slice()),
+        Ok(config) => put_found(out, &config, name),
         Err(_) => out.extend(b"the workers are refused"),
     }
 }

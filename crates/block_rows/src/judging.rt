@@ -1,0 +1,98 @@
+//! Each row of a text, done once for each of its lines `with`.
+use crate::row::{Row, RowError};
+use crate::texts::With;
+use jk_io::NoMemory;
+use std::alloc::Global;
+use std::fmt::Write;
+
+/// What rows are about.
+pub trait Area {
+    /// Whether a row comes out as it says.
+    fn holds(&self, alloc: Global, row: Row<'_>) -> Result<bool, RowError>;
+}
+
+/// How many runs there were, and how many of them came out otherwise.
+#[derive(Clone, Copy)]
+pub struct Count {
+    pub runs: u64,
+    pub others: u64,
+}
+
+/// The texts that stand for `\1` and `\2`.
+fn with_of(line: &str) -> With<'_> {
+    match line.split_once(" => ") {
+        Some((first, second)) => With { first, second },
+        None => With {
+            first: line,
+            second: "",
+        },
+    }
+}
+
+/// Whether a row comes out as it says; not, where it can't be read.
+fn is_held<A: Area>(alloc: Global, area: &A, row: Row<'_>) -> Result<bool, NoMemory> {
+    match area.holds(alloc, row) {
+        Ok(held) => Ok(held),
+        Err(RowError::Unreadable) => Ok(false),
+        Err(RowError::NoMemory) => Err(NoMemory),
+    }
+}
+
+fn show(row: Row<'_>, shown: &mut String) -> Result<(), NoMemory> {
+    let name = row.lines.lines().next().unwrap_or("");
+    write!(shown, "not as wanted: {name} {}\n", row.with.first)?;
+    Ok(())
+}
+
+/// Does a row once, and shows it where it comes out otherwise.
+fn judge<A: Area>(
+    alloc: Global,
+    area: &A,
+    row: Row<'_>,
+    count: Count,
+    shown: &mut String,
+) -> Result<Count, NoMemory> {
+    let runs = count.runs.saturating_add(1);
+    if is_held(alloc, area, row)? {
+        return Ok(Count { runs, ..count });
+    }
+    show(row, shown)?;
+    let others = count.others.saturating_add(1);
+    Ok(Count { runs, others })
+}
+
+/// Does a row once for each of its lines `with`, or once where it has none.
+fn judge_row<A: Area>(
+    alloc: Global,
+    area: &A,
+    lines: &str,
+    count: Count,
+    shown: &mut String,
+) -> Result<Count, NoMemory> {
+    let mut after = count;
+    for line in lines.lines() {
+        if let Some(line) = line.strip_prefix("with ") {
+            let with = with_of(line);
+            after = judge(alloc, area, Row { lines, with }, after, shown)?;
+        }
+    }
+    if after.runs > count.runs {
+        return Ok(after);
+    }
+    let with = with_of("");
+    judge(alloc, area, Row { lines, with }, count, shown)
+}
+
+/// Does each row of a text, shows those that come out otherwise, and counts.
+pub fn judge_rows<A: Area>(
+    alloc: Global,
+    area: &A,
+    text: &str,
+    shown: &mut String,
+) -> Result<Count, NoMemory> {
+    let mut count = Count { runs: 0, others: 0 };
+    for lines in text.split("\nrow ").skip(1) {
+        count = judge_row(alloc, area, lines, count, shown)?;
+    }
+    Ok(count)
+}
