@@ -1,0 +1,38 @@
+//! The two files of a row's site.
+ghost use Rattle.std.specs.Prelude.{◌≡◌, true, IfOk, IfSome};
+ghost use Rattle.uri_map.specs.Sites.{stands_in};
+
+use check_rows::rows::bytes_of;
+use jk_io::{MAX_INPUT_BYTES, NoMemory};
+use site_config::Config;
+use std::alloc::Global;
+use uri_map::{MapError, UriMap, read_map};
+use worker_props::{PropsError, read_workers};
+
+/// The configuration of a workers.properties; None where it is refused.
+pub fn config_of(alloc: Global, text: &str) -> Result<Option<Config>, NoMemory> {
+    let text = bytes_of(alloc, text)?;
+    if text.len() > MAX_INPUT_BYTES {
+        return Ok(None);
+    }
+    match read_workers(alloc, text.as_slice()) {
+        Ok(config) => Ok(Some(config)),
+        Err(PropsError::Refused { .. }) => Ok(None),
+        Err(PropsError::NoMemory) => Err(NoMemory),
+    }
+}
+
+/// The map of a uriworkermap.properties; None where it is refused.
+pub fn map_of(alloc: Global, text: &str, config: &Config) -> Result<Option<UriMap>, NoMemory>
+    ensures { IfOk result (λ map. IfSome map (λ m. stands_in config.now m ≡ true)) }
+{
+    let text = bytes_of(alloc, text)?;
+    if text.len() > MAX_INPUT_BYTES {
+        return Ok(None);
+    }
+    match read_map(alloc, text.as_slice(), config) {
+        Ok(map) => Ok(Some(map)),
+        Err(MapError::Refused { .. }) => Ok(None),
+        Err(MapError::NoMemory) => Err(NoMemory),
+    }
+}
