@@ -1,0 +1,17 @@
+-- What a Site of one Book keeps.
+use Rattle.std.proofs.Common.{◌≡◌, ℕ, zero, suc, List, [], ◌∷◌, length, ap, ◌∙◌, subst}
+use Rattle.std.proofs.lemmas.List.{length-set}
+use Rattle.jk_model.specs.declared.journal.Call.{Call}
+use Rattle.balancer_core.specs.Journal.{Journal}
+use Rattle.balancer_core.specs.ToldBooks.{grown_by}
+use Rattle.balancer_core.specs.declared.receipt.Receipt.{Receipt}
+use Rattle.locked_balancer.specs.Sites.{AddsAt, At}
+
+-- A call of a Site leaves as many Books as there were.
+pub adds_same : (old new : List Journal) (lb session at : ℕ) (asked : Call) (r : Receipt) → AddsAt old new lb session at asked r → length new ≡ length old
+adds_same old new lb session at asked r h = ap length h.grown ∙ length-set old lb _
+
+-- What holds of the one Book holds of each.
+pub of_the_one : (book : Journal) (P : Journal → Type 0) → P book → (lb : ℕ) → At (book ∷ []) lb P
+of_the_one book P holds zero b found = let same : book ≡ b = cc in subst P same holds
+of_the_one book P holds (suc lb) b found = absurd cc

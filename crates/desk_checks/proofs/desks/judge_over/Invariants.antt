@@ -1,0 +1,11 @@
+-- The Site's name is the Book's.
+use Rattle.std.specs.Prelude.{[], ◌∷◌}
+use Rattle.jk_model.specs.Journal.{members}
+use Rattle.balancer_core.specs.Journal.{next_number}
+use Rattle.desk_checks.proofs.desks.judge_over.Given as goal
+
+abbrev pub ghosts-judge-L-Ledger : goal.ghosts-judge-L-Ledger
+ghosts-judge-L-Ledger g a = record { name = a.blank.name; parts = a.blank.parts }
+
+abbrev pub ghosts-judge-L-SiteName : goal.ghosts-judge-L-SiteName
+ghosts-judge-L-SiteName g a = record { sizes = members a.book.opening ∷ []; firsts = next_number a.book ∷ []; cut_at = a.cut_at }

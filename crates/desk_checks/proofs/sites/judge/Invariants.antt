@@ -1,0 +1,11 @@
+-- The Site's name is the Book's.
+use Rattle.std.specs.Prelude.{[], ◌∷◌}
+use Rattle.jk_model.specs.Journal.{members}
+use Rattle.balancer_core.specs.Journal.{next_number}
+use Rattle.desk_checks.proofs.sites.judge.Given as goal
+
+abbrev pub ghosts-judge_site-L-Ledger : goal.ghosts-judge_site-L-Ledger
+ghosts-judge_site-L-Ledger g a = record { name = a.blank.name; parts = a.blank.parts }
+
+abbrev pub ghosts-judge_site-L-SiteName : goal.ghosts-judge_site-L-SiteName
+ghosts-judge_site-L-SiteName g a = record { sizes = members a.book.opening ∷ []; firsts = next_number a.book ∷ []; cut_at = 0 }
