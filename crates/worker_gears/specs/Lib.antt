@@ -1,0 +1,5 @@
+pub mod Files
+pub mod Gears
+pub mod Notices
+pub mod Real
+pub mod Worlds

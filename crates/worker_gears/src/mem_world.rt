@@ -1,0 +1,216 @@
+//! A world in memory.
+ghost use Rattle.std.specs.Prelude.{◌≡◌, ◌↔◌, ◌+◌, ◌<◌, ◌≤◌, [], ◌∷◌, ◌++◌, Contains, IfOk, IsErrOf, IsOk, IsTrue, OnErr, OnOk, drop, length, reverse, true, false};
+ghost use Rattle.jk_io.specs.Memory.{DialledNext, counted};
+ghost use Rattle.jk_io.specs.Told.{HasCause, Rose};
+ghost use Rattle.worker_gears.specs.Worlds.{gear_of, next_plan};
+
+use crate::mem_plan::{MemGear, MemPlan, MemPlanList, gear_of};
+use crate::world::World;
+use conn_pool::MemTape;
+use jk_io::{Bytes, IoError, Link, ListOf, MemDial, MemDoor, MemLink, NumberList, StepClock};
+use locked_balancer::MemShelf;
+use site_config::Config;
+use std::alloc::Global;
+use std::marker::Model;
+use std::snapshot::Snapshot;
+
+/// A world that makes its gears by plans, in turn, and keeps those that come back. After the last plan its gears are empty.
+/// Its clients come by links of type L.
+#[derive(Drop)]
+pub struct MemWorld<L> {
+    /// The plans to come, the next one last.
+    plans: Vec<MemPlan<L>>,
+    /// The logs to come, the next one last.
+    logs: Vec<MemLink>,
+    /// Each gear as it was handed out.
+    handed: Vec<Snapshot<MemGear<L>>>,
+    back: Vec<MemGear<L>>,
+    /// How many gears are out; the room for them is taken.
+    out: usize,
+    failing: NumberList,
+    calls: u64,
+    failed: u64,
+}
+
+impl<L> Model for MemWorld<L> {
+    ghost use Rattle.std.specs.Prelude.{◌≡◌, ◌+◌, ◌≤◌, map, reverse, vec_len, vec_capacity};
+    ghost use Rattle.worker_gears.specs.Worlds.{MemWorldState};
+
+    ghost Value = { MemWorldState L };
+
+    ghost view = { λ w. record {
+      plans = reverse w.plans.items;
+      logs = reverse w.logs.items;
+      handed = map (λ gear. gear.value) w.handed.items;
+      back = w.back.items;
+      out = w.out;
+      failing = w.failing;
+      calls = w.calls;
+      faults = w.failed;
+    } };
+
+    // each gear that was handed out came back or is out
+    ghost invariant = { λ w. (vec_len w.back + w.out ≤ vec_capacity w.back) × (vec_len w.handed ≡ vec_len w.back + w.out) };
+}
+
+impl<L> MemWorld<L> {
+    /// A world with these plans and logs to come, in order. The calls of `failing`, numbered from 0 over both `gear` and
+    /// `log`, fail. No memory is taken.
+    pub fn new(
+        alloc: Global,
+        plans: MemPlanList<L>,
+        logs: ListOf<MemLink>,
+        failing: NumberList,
+    ) -> MemWorld<L>
+        ensures { result ≡ record { plans = plans; logs = logs; handed = []; back = []; out = 0; failing = failing; calls = 0; faults = 0 } }
+    {
+        let mut plans = plans.into_vec();
+        plans.reverse();
+        let mut logs = logs.into_vec();
+        logs.reverse();
+        MemWorld {
+            plans,
+            logs,
+            handed: Vec::new(alloc),
+            back: Vec::new(alloc),
+            out: 0,
+            failing,
+            calls: 0,
+            failed: 0,
+        }
+    }
+
+    /// The gears that came back, in order; of those that were handed out all others are out.
+    pub fn back(&self) -> &[MemGear<L>]
+        ensures back { result.now ≡ self.now.back }
+        ensures others { length self.now.handed ≡ length result.now + self.now.out }
+    {
+        self.back.as_slice()
+    }
+
+    /// How many calls failed.
+    pub fn faults(&self) -> u64
+        ensures { result ≡ self.now.faults }
+    {
+        self.failed
+    }
+}
+
+// Counts a call, and says whether it is one of those that are to fail.
+fn fails(failing: &NumberList, calls: &mut u64, failed: &mut u64) -> bool
+    ensures counted { calls.new ≡ counted calls.old }
+    ensures planned { IsTrue result ↔ Contains failing.now calls.old }
+    ensures rose { result ≡ true → Rose failed.old failed.new }
+    ensures no_fewer { failed.old ≤ failed.new }
+    ensures same { result ≡ false → failed.new ≡ failed.old }
+{
+    let fails = failing.as_slice().contains(calls);
+    *calls = calls.saturating_add(1);
+    if fails {
+        *failed = failed.saturating_add(1);
+    }
+    fails
+}
+
+impl<L: Link + Drop + Send> World for MemWorld<L> {
+    ghost use Rattle.std.specs.Prelude.{Some};
+
+    type D = MemDoor<L>;
+
+    type G = MemDial;
+
+    type T = MemTape;
+
+    type K = StepClock;
+
+    type S = MemShelf;
+
+    type O = MemLink;
+
+    ghost handed = { λ w. Some w.handed };
+
+    ghost came_back = { λ w. Some w.back };
+
+    ghost out = { λ w. w.out };
+
+    ghost faults = { λ w. w.faults };
+
+    fn gear(
+        &mut self,
+        alloc: Global,
+        _number: u32,
+        _address: &Bytes,
+        clients: Option<u64>,
+        _journal: Option<&Bytes>,
+        _cfg: Option<&Config>,
+    ) -> Result<MemGear<L>, IoError>
+        // The plans' gears are handed out in their order.
+        ensures planned { IfOk result (λ gear. gear ≡ gear_of clients (next_plan self.old.plans)) }
+        ensures later { OnOk result (self.new.plans ≡ drop 1 self.old.plans) }
+        ensures handed { IfOk result (λ gear. self.new.handed ≡ self.old.handed ++ gear ∷ []) }
+        ensures one_more { OnOk result (self.new.out ≡ self.old.out + 1) }
+        ensures err { OnErr result ((self.new.plans ≡ self.old.plans) × (self.new.handed ≡ self.old.handed) × (self.new.out ≡ self.old.out)) }
+        ensures same { (self.new.back ≡ self.old.back) × (self.new.logs ≡ self.old.logs) × (self.new.failing ≡ self.old.failing) }
+
+        // It fails exactly at the calls that it was told.
+        ensures failed { IsErrOf result IoError.Failed ↔ Contains self.old.failing self.old.calls }
+        ensures counted { self.new.calls ≡ counted self.old.calls }
+        ensures cause { HasCause self.old.faults self.new.faults result }
+        ensures steady { self.old.failing ≡ [] → self.new.faults ≡ self.old.faults }
+    {
+        if fails(&self.failing, &mut self.calls, &mut self.failed) {
+            return Err(IoError::Failed);
+        }
+        self.back.reserve(self.out + 1)?;
+        self.handed.reserve(1)?;
+        let plan = next_plan(alloc, &mut self.plans);
+        let gear = gear_of(alloc, plan, clients);
+        self.handed.push_reserved(Snapshot::of(&gear));
+        self.out += 1;
+        Ok(gear)
+    }
+
+    fn log(&mut self, alloc: Global, _dir: &Bytes, _number: u32) -> Result<MemLink, IoError>
+        // The logs are given in their order, and ones with nothing to come after the last.
+        ensures next { IfOk result (λ log. DialledNext self.old.logs log self.new.logs) }
+        ensures err { OnErr result (self.new.logs ≡ self.old.logs) }
+        ensures same { (self.new.plans ≡ self.old.plans) × (self.new.handed ≡ self.old.handed) × (self.new.back ≡ self.old.back)
+            × (self.new.out ≡ self.old.out) × (self.new.failing ≡ self.old.failing) }
+
+        // It fails exactly at the calls that it was told.
+        ensures failed { IsErrOf result IoError.Failed ↔ Contains self.old.failing self.old.calls }
+        ensures counted { self.new.calls ≡ counted self.old.calls }
+        ensures cause { HasCause self.old.faults self.new.faults result }
+        ensures steady { self.old.failing ≡ [] → self.new.faults ≡ self.old.faults }
+    {
+        if fails(&self.failing, &mut self.calls, &mut self.failed) {
+            return Err(IoError::Failed);
+        }
+        match self.logs.pop() {
+            Some(log) => Ok(log),
+            None => Ok(MemLink::new(alloc, Bytes::new(alloc), NumberList::new(alloc))),
+        }
+    }
+
+    fn back(&mut self, gear: MemGear<L>)
+        requires out { 0 < self.old.out }
+        ensures back { self.new.back ≡ self.old.back ++ gear ∷ [] }
+        ensures one_less { self.new.out + 1 ≡ self.old.out }
+        ensures same { (self.new.plans ≡ self.old.plans) × (self.new.logs ≡ self.old.logs) × (self.new.handed ≡ self.old.handed)
+            × (self.new.failing ≡ self.old.failing) × (self.new.calls ≡ self.old.calls) × (self.new.faults ≡ self.old.faults) }
+    {
+        self.out -= 1;
+        self.back.push_reserved(gear);
+    }
+}
+
+// The next plan, and an empty one after the last.
+fn next_plan<L: Drop>(alloc: Global, plans: &mut Vec<MemPlan<L>>) -> MemPlan<L>
+    ensures next { result ≡ next_plan (reverse plans.old.items) }
+    ensures later { reverse plans.new.items ≡ drop 1 (reverse plans.old.items) }
+{
+    match plans.pop() {
+        Some(plan) => plan,
+        None => MemPlan::empty(alloc),
+    }
+}

@@ -1,0 +1,374 @@
+//! The real world: sockets, files and the system's clock.
+ghost use Rattle.std.specs.Prelude.{◌≡◌, ◌+◌, ◌<◌, ◌≤◌, ◌++◌, IfOk, IsSome, None, OnErr, OnOk, codes, decimal, map};
+ghost use Rattle.std.specs.Option.{option_copied, option_map};
+ghost use Rattle.jk_io.specs.Told.{HasCause, Rose};
+
+use crate::file_log::FileLog;
+use crate::journal_files::path_of;
+use crate::notice::notice;
+use crate::shelves::{DropShelf, FileShelf, RealShelf};
+use crate::trouble::Trouble;
+use crate::world::{Gear, World};
+use conn_pool::NoTape;
+use jk_io::{Bytes, IoError, ListOf, NoMemory, RealClock, TcpDial, TcpDoor, put_decimal};
+use site_config::{Config, Lb};
+use std::alloc::Global;
+use std::fs::{self, OpenOptions};
+use std::io::{self, ErrorKind};
+use std::net::{Net, TcpListener, TcpStream};
+use std::rt::Files;
+use std::time::Clock;
+
+/// The number with which the journals of a run begin.
+const FIRST_NUMBER: u64 = 0;
+
+/// A world of sockets and files, of which it tells nothing. All its doors accept from one socket, which is opened with
+/// the first gear.
+#[derive(Drop)]
+pub struct RealWorld<
+    'r,
+    R: Net<Stream = TcpStream, Listener = TcpListener> + Files + Clock + Eprint,
+> {
+    rt: &'r R,
+    /// How many gears are to be handed out.
+    threads: u32,
+    listener: Option<TcpListener>,
+    /// How many gears are out.
+    out: u64,
+    /// What failed first.
+    trouble: Option<Trouble>,
+    failed: u64,
+    ghost known: { trouble ≡ None → failed ≡ 0 },
+}
+
+impl<'r, R: Net<Stream = TcpStream, Listener = TcpListener> + Files + Clock + Eprint> RealWorld<
+    'r,
+    R,
+> {
+    ghost use Rattle.worker_gears.specs.Real.{IsShelfFor};
+
+    /// A world with no socket yet. With the last of `threads` gears it says on standard error where it listens.
+    pub fn new(rt: &'r R, threads: u32) -> RealWorld<'r, R>
+        ensures { (result.threads ≡ threads) × (result.out ≡ 0) × (result.failed ≡ 0) }
+    {
+        RealWorld {
+            rt,
+            threads,
+            listener: None,
+            out: 0,
+            trouble: None,
+            failed: 0,
+        }
+    }
+
+    /// What failed first, for a person to read.
+    pub fn trouble(&self) -> Option<&Trouble>
+        ensures first { option_copied result ≡ self.now.trouble }
+        ensures some { 0 < self.now.failed → IsSome result }
+    {
+        self.trouble.as_ref()
+    }
+
+    // Counts a failure, and keeps the first one's reason.
+    fn fail(&mut self, trouble: Trouble) -> IoError
+        ensures error { result ≡ IoError.Failed }
+        ensures rose { Rose self.old.failed self.new.failed × (self.old.failed ≤ self.new.failed) }
+        ensures first { IsSome self.old.trouble → self.new.trouble ≡ self.old.trouble }
+        ensures same { self.new.out ≡ self.old.out }
+    {
+        if self.trouble.is_none() {
+            self.trouble = Some(trouble);
+        }
+        self.failed = self.failed.saturating_add(1);
+        IoError::Failed
+    }
+
+    // A handle of the socket, which is opened where that isn't done.
+    fn listener(&mut self, alloc: Global, address: &Bytes) -> Result<TcpListener, IoError>
+        ensures cause { HasCause self.old.failed self.new.failed result }
+        ensures same { self.new.out ≡ self.old.out }
+    {
+        match listen(self.rt, &mut self.listener, address) {
+            Ok(listener) => Ok(listener),
+            Err(reason) => {
+                let address = shown(alloc, address)?;
+                Err(self.fail(Trouble::Listen { address, reason }))
+            }
+        }
+    }
+
+    // Looks whether the directory of a journal can be written.
+    fn try_dir(&mut self, alloc: Global, dir: &Bytes) -> Result<(), IoError>
+        ensures cause { HasCause self.old.failed self.new.failed result }
+        ensures same { self.new.out ≡ self.old.out }
+    {
+        let path = trial_path(dir)?;
+        if let Err(reason) = make_and_remove(self.rt, &path) {
+            let dir = shown(alloc, dir)?;
+            return Err(self.fail(Trouble::Journal { dir, reason }));
+        }
+        Ok(())
+    }
+
+    // Looks whether the files with which the balancers' journals begin can be new.
+    fn try_names(&mut self, alloc: Global, dir: &Bytes, lbs: &[Lb]) -> Result<(), IoError>
+        ensures cause { HasCause self.old.failed self.new.failed result }
+        ensures same { self.new.out ≡ self.old.out }
+    {
+        match taken(self.rt, dir, lbs)? {
+            None => Ok(()),
+            Some(path) => {
+                let path = shown(alloc, &path)?;
+                Err(self.fail(Trouble::Taken { path }))
+            }
+        }
+    }
+
+    // Says where clients are waited for. Standard error that can't be written is no fault.
+    fn announce(
+        &self,
+        alloc: Global,
+        address: &Bytes,
+        cfg: Option<&Config>,
+    ) -> Result<(), NoMemory> {
+        let line = notice(alloc, address, self.threads, cfg)?;
+        if let Ok(line) = str::from_utf8(line.as_slice()) {
+            let _ = eprintln!(self.rt; "{line}");
+        }
+        Ok(())
+    }
+
+    // Where the segments of a journal go.
+    fn shelf(
+        &self,
+        alloc: Global,
+        journal: Option<&Bytes>,
+        cfg: Option<&Config>,
+    ) -> Result<RealShelf<'r, R>, NoMemory>
+        ensures { IfOk result (λ shelf. IsShelfFor (option_copied journal.entry) (option_map (λ c. map (λ lb. lb.name) c.lbs) (option_copied cfg.entry)) shelf) }
+    {
+        let (Some(dir), Some(cfg)) = (journal, cfg) else {
+            return Ok(RealShelf::Dropped(DropShelf));
+        };
+        let names = names_of(alloc, cfg.lbs.as_slice())?;
+        Ok(RealShelf::Files(FileShelf::new(self.rt, dir.copy()?, names)))
+    }
+
+    // What is done once for all gears: with the first it is tried whether a journal can be written, and with the last it is
+    // said where clients are waited for.
+    fn greet(
+        &mut self,
+        alloc: Global,
+        number: u32,
+        address: &Bytes,
+        journal: Option<&Bytes>,
+        cfg: Option<&Config>,
+    ) -> Result<(), IoError>
+        ensures cause { HasCause self.old.failed self.new.failed result }
+        ensures same { self.new.out ≡ self.old.out }
+    {
+        if number == 0
+            && let (Some(dir), Some(cfg)) = (journal, cfg)
+        {
+            self.try_dir(alloc, dir)?;
+            self.try_names(alloc, dir, cfg.lbs.as_slice())?;
+        }
+        if number.checked_add(1) == Some(self.threads) {
+            self.announce(alloc, address, cfg)?;
+        }
+        Ok(())
+    }
+}
+
+// The text of bytes that are to be one.
+fn as_text(bytes: &Bytes) -> io::Result<&str> {
+    match str::from_utf8(bytes.as_slice()) {
+        Ok(text) => Ok(text),
+        Err(_) => Err(ErrorKind::InvalidInput.into()),
+    }
+}
+
+// The bytes as a person reads them.
+fn shown(alloc: Global, bytes: &Bytes) -> Result<String, NoMemory> {
+    let text = str::from_utf8(bytes.as_slice()).unwrap_or("?");
+    Ok(String::from_str(alloc, text)?)
+}
+
+// Opens the socket where that isn't done, and gives a further handle of it.
+fn listen<R: Net<Stream = TcpStream, Listener = TcpListener>>(
+    rt: &R,
+    listener: &mut Option<TcpListener>,
+    address: &Bytes,
+) -> io::Result<TcpListener> {
+    if let Some(open) = listener {
+        return open.try_clone();
+    }
+    let first = TcpListener::bind(rt, as_text(address)?)?;
+    let handle = first.try_clone()?;
+    *listener = Some(first);
+    Ok(handle)
+}
+
+// The names of the balancers, in order.
+fn names_of(alloc: Global, lbs: &[Lb]) -> Result<ListOf<Bytes>, NoMemory>
+    ensures { IfOk result (λ names. names ≡ map (λ lb. lb.name) lbs.now) }
+{
+    let mut names = ListOf::new(alloc);
+    for lb in lbs {
+        names.push(lb.name.copy()?)?;
+    }
+    Ok(names)
+}
+
+// A file by which a directory is tried.
+fn trial_path(dir: &Bytes) -> Result<Bytes, NoMemory>
+    ensures { IfOk result (λ path. path ≡ dir.now ++ codes "/.jkd-try") }
+{
+    let mut path = dir.copy()?;
+    path.extend(b"/.jkd-try")?;
+    Ok(path)
+}
+
+// Whether a file can be made: it is, and it is taken away again.
+fn make_and_remove<R: Files>(rt: &R, path: &Bytes) -> io::Result<()> {
+    let path = as_text(path)?;
+    OpenOptions::new().write(true).create(true).open(rt, path)?;
+    fs::remove_file(rt, path)
+}
+
+// The file of a worker's log.
+fn log_path(dir: &Bytes, number: u32) -> Result<Bytes, NoMemory>
+    ensures { IfOk result (λ path. path ≡ dir.now ++ codes "/worker-" ++ decimal number ++ codes ".log") }
+{
+    let mut path = dir.copy()?;
+    path.extend(b"/worker-")?;
+    put_decimal(&mut path, u128::from(number))?;
+    path.extend(b".log")?;
+    Ok(path)
+}
+
+// The file that a balancer's journal would begin with and that is there already, if there is one.
+fn taken<R: Files>(rt: &R, dir: &Bytes, lbs: &[Lb]) -> Result<Option<Bytes>, NoMemory> {
+    for lb in lbs {
+        let path = path_of(dir, lb.name.as_slice(), FIRST_NUMBER)?;
+        if is_there(rt, &path) {
+            return Ok(Some(path));
+        }
+    }
+    Ok(None)
+}
+
+// Whether a file is there. One that can't be looked at isn't.
+fn is_there<R: Files>(rt: &R, path: &Bytes) -> bool {
+    match as_text(path) {
+        Ok(path) => fs::exists(rt, path).unwrap_or(false),
+        Err(_) => false,
+    }
+}
+
+// Opens a file to write at its end, and makes it where it is missing.
+fn open_log<R: Files>(rt: &R, path: &Bytes) -> io::Result<R::File> {
+    OpenOptions::new()
+        .append(true)
+        .create(true)
+        .open(rt, as_text(path)?)
+}
+
+/// What a worker uses of the real world.
+pub type RealGear<'r, R> = Gear<
+    TcpDoor<'r, R>,
+    TcpDial<'r, R>,
+    NoTape,
+    RealClock<'r, R>,
+    RealShelf<'r, R>,
+    FileLog<<R as Files>::File>,
+>;
+
+impl<'r, R: Net<Stream = TcpStream, Listener = TcpListener> + Files + Clock + Eprint + Sync> World
+    for RealWorld<'r, R>
+where
+    R::File: Send,
+{
+    ghost use Rattle.std.specs.Prelude.{None};
+    ghost use Rattle.worker_gears.specs.Real.{IsShelfFor};
+
+    type D = TcpDoor<'r, R>;
+
+    type G = TcpDial<'r, R>;
+
+    type T = NoTape;
+
+    type K = RealClock<'r, R>;
+
+    type S = RealShelf<'r, R>;
+
+    type O = FileLog<R::File>;
+
+    ghost handed = { λ _. None };
+
+    ghost came_back = { λ _. None };
+
+    ghost out = { λ w. w.out };
+
+    ghost faults = { λ w. w.failed };
+
+    fn gear(
+        &mut self,
+        alloc: Global,
+        number: u32,
+        address: &Bytes,
+        clients: Option<u64>,
+        journal: Option<&Bytes>,
+        cfg: Option<&Config>,
+    ) -> Result<RealGear<'r, R>, IoError>
+        ensures one_more { OnOk result (self.new.out ≡ self.old.out + 1) }
+        ensures unlogged { IfOk result (λ gear. gear.log ≡ None) }
+
+        // Its door takes as many clients as it is told, and a journal that is to be kept is written.
+        ensures clients { IfOk result (λ gear. gear.door.clients ≡ clients) }
+        ensures shelf { IfOk result (λ gear. IsShelfFor (option_copied journal.entry) (option_map (λ c. map (λ lb. lb.name) c.lbs) (option_copied cfg.entry)) gear.shelf) }
+
+        ensures err { OnErr result (self.new.out ≡ self.old.out) }
+        ensures cause { HasCause self.old.failed self.new.failed result }
+    {
+        let Some(out) = self.out.checked_add(1) else {
+            return Err(self.fail(Trouble::TooMany));
+        };
+        let listener = self.listener(alloc, address)?;
+        self.greet(alloc, number, address, journal, cfg)?;
+        let shelf = self.shelf(alloc, journal, cfg)?;
+        self.out = out;
+        Ok(Gear {
+            door: TcpDoor::new(self.rt, listener, clients),
+            dial: TcpDial::new(self.rt),
+            tape: NoTape,
+            clock: RealClock::new(self.rt),
+            shelf,
+            log: None,
+        })
+    }
+
+    fn log(
+        &mut self,
+        alloc: Global,
+        dir: &Bytes,
+        number: u32,
+    ) -> Result<FileLog<R::File>, IoError> {
+        let path = log_path(dir, number)?;
+        match open_log(self.rt, &path) {
+            Ok(file) => Ok(FileLog::new(file)),
+            Err(reason) => {
+                let dir = shown(alloc, dir)?;
+                Err(self.fail(Trouble::Log { dir, reason }))
+            }
+        }
+    }
+
+    fn back(&mut self, _gear: RealGear<'r, R>)
+        requires out { 0 < self.old.out }
+        ensures one_less { self.new.out + 1 ≡ self.old.out }
+        ensures same { self.new.failed ≡ self.old.failed }
+    {
+        self.out -= 1;
+    }
+}

@@ -1,0 +1,21 @@
+//! What went wrong in the real world, for a person to read.
+
+use std::io;
+use thiserror::Error;
+
+/// What failed, and of what. The reason is the system's.
+#[derive(Debug, Drop, Error)]
+pub enum Trouble {
+    #[error("can't wait for clients at {address}: {reason}")]
+    Listen { address: String, reason: io::Error },
+    #[error("can't write a journal in {dir}: {reason}")]
+    Journal { dir: String, reason: io::Error },
+    /// A segment's file is never written over.
+    #[error("a journal is there already: {path}")]
+    Taken { path: String },
+    #[error("can't write a log in {dir}: {reason}")]
+    Log { dir: String, reason: io::Error },
+    /// There are as many as a u64 can count.
+    #[error("too many gears are out")]
+    TooMany,
+}
