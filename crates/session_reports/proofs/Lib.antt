@@ -1,0 +1,3 @@
+mod DryLemmas
+mod ReachLemmas
+mod StartLemmas

@@ -1,0 +1,5 @@
+pub mod Dry
+pub mod Lines
+pub mod Links
+pub mod Reaches
+pub mod Starts

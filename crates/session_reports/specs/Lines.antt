@@ -1,0 +1,41 @@
+-- The three lines that `dry` prints of a session that ended.
+use Rattle.std.specs.Prelude.{ℕ, List, [], ◌∷◌, ◌++◌, length, Option, Some, None, codes, decimal}
+use Rattle.std.specs.List.{flat_map}
+use Rattle.hex.specs.Hex.{encode_lower}
+use Rattle.jk_io.specs.declared.reaching.Talk.{Talk}
+use Rattle.client_session.specs.declared.ending.SessionEnd.{SessionEnd}
+use Rattle.client_session.specs.declared.ending.SessionEnd.TheVariants as session_end
+use Rattle.client_session.specs.declared.ending.Why.TheVariants as why
+
+-- each byte as two hexadecimal digits; `-` for no bytes
+abbrev pub hex_or_dash : List ℕ → List ℕ
+hex_or_dash [] = codes "-"
+hex_or_dash (byte ∷ bytes) = encode_lower (byte ∷ bytes)
+
+-- how many bytes went where, and which
+abbrev pub bytes_line : (to : List ℕ) → (bytes : List ℕ) → List ℕ
+bytes_line to bytes = to ++ decimal (length bytes) ++ codes " " ++ hex_or_dash bytes ++ codes "\n"
+
+-- all bytes that went to members, talk by talk
+abbrev pub sent_in : List Talk → List ℕ
+sent_in talks = flat_map (λ t. t.sent) talks
+
+-- why the session ended and after how many requests; none for an end that shows nothing
+abbrev pub end_words : SessionEnd → Option (List ℕ)
+end_words (session_end.Closed requests why.ByClient) = Some (codes "by-client " ++ decimal requests)
+end_words (session_end.Closed requests why.Last) = Some (codes "last " ++ decimal requests)
+end_words (session_end.Closed requests (why.Own status)) = Some (codes "own-" ++ decimal status ++ codes " " ++ decimal requests)
+end_words (session_end.Closed requests why.Cut) = Some (codes "cut " ++ decimal requests)
+end_words (session_end.Closed requests why.Unread) = Some (codes "unread " ++ decimal requests)
+end_words (session_end.ClientFault requests) = None
+end_words (session_end.Truncated requests) = Some (codes "truncated " ++ decimal requests)
+end_words (session_end.Stray ticket returned_at) = None
+end_words session_end.NoMemory = None
+
+abbrev pub end_line : (words : List ℕ) → List ℕ
+end_line words = codes "end " ++ words ++ codes "\n"
+
+-- what went to members, what went to the client, and the end
+abbrev pub dry_text : List Talk → (sent : List ℕ) → (words : List ℕ) → List ℕ
+dry_text talks sent words =
+    bytes_line (codes "to member ") (sent_in talks) ++ bytes_line (codes "to client ") sent ++ end_line words
