@@ -1,3 +1,4 @@
+pub mod DryLemmas
 pub mod TurnLemmas
 pub mod PlainLemmas
 pub mod StartLemmas

@@ -7,6 +7,7 @@ use Rattle.jk_cli.specs.declared.name.CommandName.TheVariants as name
 use Rattle.jk_cli.specs.declared.order.Order.{Order}
 use Rattle.jk_cli.specs.declared.order.Order.TheVariants as order
 use Rattle.play_script.specs.Play.{PlaysScript}
+use Rattle.session_reports.specs.Dry.{ReportsDry, default_map, default_workers}
 use Rattle.site_reports.specs.Reports.{ReportsConfig, ReportsMatches, ReportsSite}
 use Rattle.plain_commands.specs.Readings.{Outside, Reading, File, Input, AreRead, StopsLong, has_file, has_input, before_input}
 
@@ -15,6 +16,7 @@ abbrev pub is_built : CommandName → Bool
 is_built name.Play = true
 is_built name.Config = true
 is_built name.Match = true
+is_built name.Dry = true
 is_built command = false
 
 abbrev pub is_plain_command : Option CommandName → Bool
@@ -31,6 +33,8 @@ readings order.Play = Input ∷ []
 readings (order.Config workers None) = File workers ∷ []
 readings (order.Config workers (Some map)) = File workers ∷ File map ∷ []
 readings (order.Match workers map) = File workers ∷ File map ∷ Input ∷ []
+readings (order.Dry request reply None) = File request ∷ File reply ∷ []
+readings (order.Dry request reply (Some site)) = File request ∷ File reply ∷ File site.0 ∷ File site.1 ∷ []
 readings other = []
 
 -- A command has an input, and each of its files is there and not too long, as far as files are told: else nothing is read of it.
@@ -59,12 +63,20 @@ abbrev pub MatchesRead : (workers map : List ℕ) → (texts : List (List ℕ)) 
 MatchesRead workers map (paths ∷ []) out status = Reported (ReportsMatches workers map paths) out status
 MatchesRead workers map texts out status = ⊥
 
+-- The two files of a site, after those of a client and of a member.
+abbrev pub DryOver : (request reply : List ℕ) → (texts : List (List ℕ)) → (out : List ℕ) → (status : ℕ) → Type 0
+DryOver request reply (workers ∷ map ∷ []) out status = Reported (ReportsDry request reply workers map) out status
+DryOver request reply texts out status = ⊥
+
 -- What a command prints of the texts that it read, and its status.
 abbrev pub Answers : Order → (texts : List (List ℕ)) → (out : List ℕ) → (status : ℕ) → Type 0
 Answers order.Play (script ∷ []) out status = PlaysScript script out status
 Answers (order.Config w None) (workers ∷ []) out status = Reported (ReportsConfig workers) out status
 Answers (order.Config w (Some m)) (workers ∷ map ∷ []) out status = Reported (ReportsSite workers map) out status
 Answers (order.Match w m) (workers ∷ map ∷ texts) out status = MatchesRead workers map texts out status
+Answers (order.Dry q p None) (request ∷ reply ∷ []) out status =
+    Reported (ReportsDry request reply default_workers default_map) out status
+Answers (order.Dry q p (Some site)) (request ∷ reply ∷ texts) out status = DryOver request reply texts out status
 Answers other texts out status = ⊥
 
 -- What is printed of texts that are read whole, and its status. All are read before one is judged, and a text that is too

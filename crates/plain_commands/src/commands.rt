@@ -8,6 +8,7 @@ ghost use Rattle.plain_commands.specs.Plain.{is_built, readings, InputIsDue, Mat
 ghost use Rattle.plain_commands.specs.Readings.{has_file, Input};
 ghost use Rattle.plain_commands.specs.declared.play.Ending.TheVariants as Ends;
 
+use crate::dry::dry;
 use crate::play::{Ending, Output, play};
 use crate::texts::{read_input, read_text};
 use jk_cli::Order;
@@ -16,7 +17,7 @@ use site_reports::{Report, report_config, report_matches, report_site};
 use std::alloc::Global;
 
 // The answer to a text beyond the limit.
-fn too_long(alloc: Global) -> Result<Output, NoMemory>
+pub(crate) fn too_long(alloc: Global) -> Result<Output, NoMemory>
     ensures text { IfOk result (λ o. o.text ≡ codes "too long\n") }
     ensures ending { IfOk result (λ o. o.ending ≡ Ends.Refused) }
 {
@@ -27,7 +28,7 @@ fn too_long(alloc: Global) -> Result<Output, NoMemory>
     })
 }
 
-fn output_of(report: Report) -> Output
+pub(crate) fn output_of(report: Report) -> Output
     ensures text { result.text ≡ report.text }
     ensures status { status_of result.ending ≡ status_if report.refused }
 {
@@ -168,6 +169,11 @@ pub(crate) fn answer<F: Files, S: Source>(
         Order::Play => play_input(alloc, input),
         Order::Config { workers, map } => config(alloc, files, workers, map),
         Order::Match { workers, map } => match_paths(alloc, files, input, workers, map),
+        Order::Dry {
+            request,
+            reply,
+            site,
+        } => dry(alloc, files, request, reply, site),
         _ => unreachable!(),
     }
 }

@@ -45,7 +45,7 @@ fn is_built(command: CommandName) -> bool
     ensures { result ≡ is_built command }
 {
     match command {
-        CommandName::Play | CommandName::Config | CommandName::Match => true,
+        CommandName::Play | CommandName::Dry | CommandName::Config | CommandName::Match => true,
         _ => false,
     }
 }
@@ -142,7 +142,7 @@ pub fn run_plain<F: Files, S: Source, O: Sink>(
     ensures input { (input.new ≡ input.old)
         ⊎ IsInputDue words.now (record { files = F.files files.old; incoming = S.incoming input.old }) }
 
-    // No plain command that is built (`play`, `config` and `match`), exactly by the words.
+    // No plain command that is built (`play`, `dry`, `config` and `match`), exactly by the words.
     ensures no_command { (result ≡ 2) ↔ (is_plain words.now ≡ false) }
     ensures no_words { result ≡ 2 → O.sent out.new ≡ O.sent out.old }
 

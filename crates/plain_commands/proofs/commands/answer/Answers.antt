@@ -28,3 +28,8 @@ returns-in-Match-clause-files g c = inr (rw c.in-Match.is refl)
 
 pub returns-in-Match-clause-input : goal.returns-in-Match-clause-input
 returns-in-Match-clause-input g c = rw c.in-Match.is c.match_paths.ensures.input
+
+pub returns-in-Dry-clause-ok : goal.returns-in-Dry-clause-ok
+returns-in-Dry-clause-ok g c =
+    rw c.in-Dry.is (said_of (λ (incoming : Option (List ℕ)) (o : Output). Plain (record { files = g.F.Files.files c.args.files.now; incoming = incoming }) (order.Dry c.in-Dry.request c.in-Dry.reply c.in-Dry.site) o.text (status_of o.ending))
+    (g.S.Meanings.incoming c.args.input.now) c.dry.result c.dry.ensures.ok)

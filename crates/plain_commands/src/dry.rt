@@ -1,0 +1,90 @@
+//! `dry`: one session over what its files say.
+ghost use Rattle.std.specs.Prelude.{◌≡◌, ℕ, List, [], ◌∷◌, Option, IfOk, IfSome, IfNone};
+ghost use Rattle.jk_cli.specs.declared.order.Order.TheVariants as order;
+ghost use Rattle.jk_io.specs.Told.{HasCause};
+ghost use Rattle.session_reports.specs.Dry.{ReportsDry, default_map, default_workers};
+ghost use Rattle.plain_commands.specs.Endings.{status_of};
+ghost use Rattle.plain_commands.specs.Plain.{DryOver, Plain, PrintsOf, Reported};
+ghost use Rattle.plain_commands.specs.Readings.{AreRead, File, StopsLong};
+
+use crate::commands::{output_of, too_long};
+use crate::play::Output;
+use crate::texts::read_text;
+use jk_io::{Bytes, Files, IoError, NoMemory};
+use session_reports::{DEFAULT_MAP, DEFAULT_WORKERS, Wire, report_dry};
+use std::alloc::Global;
+
+// Two texts, the one read after the other; none where one has too many bytes.
+fn read_pair<F: Files>(
+    alloc: Global,
+    files: &mut F,
+    first: &Bytes,
+    second: &Bytes,
+) -> Result<Option<(Bytes, Bytes)>, IoError>
+    ensures there { (incoming : Option (List ℕ)) → IfOk result (λ read. IfSome read (λ texts.
+        AreRead (record { files = F.files files.old; incoming = incoming }) (File first.now ∷ File second.now ∷ []) (texts.0 ∷ texts.1 ∷ []))) }
+    ensures long { (incoming : Option (List ℕ)) → IfOk result (λ read. IfNone read
+        (StopsLong (record { files = F.files files.old; incoming = incoming }) (File first.now ∷ File second.now ∷ []))) }
+    ensures cause { HasCause (F.faults files.old) (F.faults files.new) result }
+    ensures same { F.files files.new ≡ F.files files.old }
+{
+    let Some(first) = read_text(alloc, files, first)? else {
+        return Ok(None);
+    };
+    let Some(second) = read_text(alloc, files, second)? else {
+        return Ok(None);
+    };
+    Ok(Some((first, second)))
+}
+
+// The session of two texts, over the site of no files.
+fn dry_alone(alloc: Global, wire: Wire<'_>) -> Result<Output, NoMemory>
+    ensures { IfOk result (λ o. Reported (ReportsDry wire.entry.request.now wire.entry.reply.now default_workers default_map) o.text (status_of o.ending)) }
+{
+    let report = report_dry(alloc, DEFAULT_WORKERS, DEFAULT_MAP, wire)?;
+    Ok(output_of(report))
+}
+
+// The session of two texts, over the site of two files.
+fn dry_site<F: Files>(
+    alloc: Global,
+    files: &mut F,
+    wire: Wire<'_>,
+    workers: &Bytes,
+    map: &Bytes,
+) -> Result<Output, IoError>
+    ensures ok { IfOk result (λ o. (incoming : Option (List ℕ)) → PrintsOf (record { files = F.files files.old; incoming = incoming })
+        (File workers.now ∷ File map.now ∷ []) (DryOver wire.entry.request.now wire.entry.reply.now) o.text (status_of o.ending)) }
+    ensures cause { HasCause (F.faults files.old) (F.faults files.new) result }
+{
+    let Some((workers, map)) = read_pair(alloc, files, workers, map)? else {
+        return Ok(too_long(alloc)?);
+    };
+    let report = report_dry(alloc, workers.as_slice(), map.as_slice(), wire)?;
+    Ok(output_of(report))
+}
+
+/// `dry`
+pub(crate) fn dry<F: Files>(
+    alloc: Global,
+    files: &mut F,
+    request: &Bytes,
+    reply: &Bytes,
+    site: &Option<(Bytes, Bytes)>,
+) -> Result<Output, IoError>
+    ensures ok { IfOk result (λ o. (incoming : Option (List ℕ))
+        → Plain (record { files = F.files files.old; incoming = incoming }) (order.Dry request.now reply.now site.now) o.text (status_of o.ending)) }
+    ensures cause { HasCause (F.faults files.old) (F.faults files.new) result }
+{
+    let Some((request, reply)) = read_pair(alloc, files, request, reply)? else {
+        return Ok(too_long(alloc)?);
+    };
+    let wire = Wire {
+        request: request.as_slice(),
+        reply: reply.as_slice(),
+    };
+    match site {
+        None => Ok(dry_alone(alloc, wire)?),
+        Some((workers, map)) => dry_site(alloc, files, wire, workers, map),
+    }
+}
