@@ -55,7 +55,7 @@ fn judge_file(rt: &HostRuntime, name: &str) -> Result<()> {
 }
 
 /// The files of rows.
-static FILES: [&str; 9] = [
+static FILES: [&str; 10] = [
     "scripts.txt",
     "refused.txt",
     "faults.txt",
@@ -65,6 +65,7 @@ static FILES: [&str; 9] = [
     "workers.txt",
     "maps.txt",
     "marks.txt",
+    "dry.txt",
 ];
 
 fn main(rt: HostRuntime) -> Result<()> {
