@@ -1,6 +1,8 @@
 -- Segments that are taken off the end of a list, one by one.
-use Rattle.std.proofs.Common.{◌≡◌, List, [], ◌∷◌, ◌++◌, ℕ, reverse, All, sym, ap, subst, ◌∙◌, append_assoc, length-append, arith}
+use Rattle.std.proofs.Common.{◌≡◌, List, [], ◌∷◌, ◌++◌, ℕ, reverse, All, Option, Some, None, sym, ap, subst, ◌∙◌, append_assoc, length-append, arith}
+use Rattle.std.specs.Prelude.{IfNone, IfSome}
 use Rattle.std.proofs.lemmas.List.{get_or_append_left}
+use Rattle.std.proofs.lemmas.List.Elements.{All-nil}
 use Rattle.jk_model.proofs.ListFacts.{reverse_snoc}
 use Rattle.jk_model.specs.declared.segment.Segment.{Segment}
 use Rattle.journal_text.specs.Kept.{IsKept}
@@ -33,3 +35,9 @@ pub kept_left : (all left : List Counted) (c : Counted) → all ≡ left ++ c �
 kept_left all left c last h = λ k d inside.
     subst IsKept (get_or_append_left left (c ∷ []) d k inside)
     (subst (All IsKept) last h k d (omega (arith, inside, length-append left (c ∷ []))))
+
+-- what is kept of all is kept of those that are left where the last one was taken off, if there was one
+pub kept_rest : (all left : List Counted) (last : Option Counted) → IfNone last ((all ≡ []) × (left ≡ [])) → IfSome last (λ c. all ≡ left ++ c ∷ [])
+    → All IsKept all → All IsKept left
+kept_rest all left None none some h = subst (All IsKept) (sym none.1) (All-nil IsKept)
+kept_rest all left (Some c) none some h = kept_left all left c some h

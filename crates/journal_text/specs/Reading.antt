@@ -108,6 +108,10 @@ abbrev pub held : Place → ℕ
 held (place.Heading d) = length d.rows + length d.out
 held other = 0
 
+-- A text may end here that has a segment; `last` is what stands after its last LF.
+abbrev pub is_over : Reader → (last : List ℕ) → Bool
+is_over r last = (length last == 0) && is_outside r.place
+
 -- At the end of the text `last` is what stands behind the last LF.
 abbrev pub is_end : Reader → (last : List ℕ) → Bool
 is_end r last = (length last == 0) && (is_outside r.place && nat_lt 0 (length r.done))

@@ -3,15 +3,15 @@ use jk_model::{EntryList, Opening, Segment};
 
 /// A segment as a text has it.
 #[derive(Debug, Drop)]
-pub(crate) struct Counted {
+pub struct Counted {
     /// The name of its balancer.
-    pub(crate) name: Bytes,
+    pub name: Bytes,
     /// Its rules, 1 or 2.
-    pub(crate) rules: u8,
-    pub(crate) opening: Opening,
-    pub(crate) entries: EntryList,
+    pub rules: u8,
+    pub opening: Opening,
+    pub entries: EntryList,
     /// What its last line says is the count of its entries.
-    pub(crate) count: u64,
+    pub count: u64,
 }
 
 /// The segments of a text, in order.

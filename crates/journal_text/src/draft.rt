@@ -11,13 +11,13 @@ use journal_lines::{BalancerValues, Beginning, MemberValues};
 
 /// An opening as far as its lines are read.
 #[derive(Debug, Drop)]
-pub(crate) struct Draft {
-    pub(crate) name: Bytes,
-    pub(crate) values: BalancerValues,
-    pub(crate) members: MemberList,
+pub struct Draft {
+    pub name: Bytes,
+    pub values: BalancerValues,
+    pub members: MemberList,
     /// One for each member, without its tickets.
-    pub(crate) rows: RowList,
-    pub(crate) out: TicketList,
+    pub rows: RowList,
+    pub out: TicketList,
 }
 
 fn config_of(name: Bytes, route: Bytes, values: &MemberValues) -> MemberConfig

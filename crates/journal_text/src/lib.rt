@@ -2,8 +2,8 @@
 //!
 //! Source: own rules (docs/FORMATS.md, "Journal text").
 //! Shapes: a segment is the line of its rules, the lines of its opening, one line for each entry, and its count.
-//! Contract: `write_segment`, `read_segments` and the laws of `laws`. Read first: specs/SegmentText.antt, then
-//! specs/Reading.antt.
+//! Contract: `write_segment`, `read_segments` and the laws of `laws`; `Reader`, for who takes the segments out one by one.
+//! Read first: specs/SegmentText.antt, then specs/Reading.antt.
 //! Errors: `TextError`: the first line that can't be read, or want of memory.
 #![tactic(auto)]
 
@@ -16,7 +16,9 @@ mod segments;
 mod text_error;
 mod writing;
 
-pub use counted::SegmentList;
+pub use counted::{Counted, SegmentList};
+pub use draft::Draft;
+pub use reader::{Place, Reader};
 pub use segments::read_segments;
 pub use text_error::TextError;
-pub use writing::write_segment;
+pub use writing::{balancer_values, beginning, member_values, write_segment};

@@ -1,11 +1,11 @@
 //! The reader of a text: where it stands, and what each line makes of that.
-ghost use Rattle.std.specs.Prelude.{◌≡◌, [], ◌∷◌, ◌++◌, ◌+◌, ◌≤◌, ◌<◌, ◌^◌, true, false, All, length, IfOk, IfSome, MatchOption};
+ghost use Rattle.std.specs.Prelude.{◌≡◌, [], ◌∷◌, ◌++◌, ◌+◌, ◌≤◌, ◌<◌, ◌^◌, true, false, All, length, IfNone, IfOk, IfSome, MatchOption};
 ghost use Rattle.jk_model.specs.Segments.{AreRules};
 ghost use Rattle.journal_lines.specs.Ranges.{IsKeptLine};
 ghost use Rattle.jk_model.specs.Segments.{AreKeptEntries};
 ghost use Rattle.jk_model.specs.Validity.{IsOpening};
 ghost use Rattle.journal_text.specs.Kept.{IsKept, IsSound};
-ghost use Rattle.journal_text.specs.Reading.{Heads, Opens, TakesAt, TakesText, at_start, begun, continued, held, is_end, named, opened};
+ghost use Rattle.journal_text.specs.Reading.{Heads, Opens, TakesAt, TakesText, at_start, begun, continued, held, is_end, is_over, named, opened};
 
 use crate::counted::{Counted, CountedList};
 use crate::draft::Draft;
@@ -16,7 +16,7 @@ use std::alloc::Global;
 
 /// Where a text is read.
 #[derive(Debug, Drop)]
-pub(crate) enum Place {
+pub enum Place {
     /// Between segments.
     Outside,
     /// Behind the line of a segment's rules.
@@ -31,9 +31,9 @@ pub(crate) enum Place {
     },
 }
 
-/// The reader of a text.
+/// The reader of a text, which takes it line by line and holds the segments that nobody took out.
 #[derive(Debug, Drop)]
-pub(crate) struct Reader {
+pub struct Reader {
     /// Those of the present segment, or of the last one.
     rules: u8,
     place: Place,
@@ -224,7 +224,7 @@ fn continued(
 
 impl Reader {
     /// Before the first line.
-    pub(crate) fn new(alloc: Global) -> Reader
+    pub fn new(alloc: Global) -> Reader
         ensures value { result ≡ at_start }
         ensures sound { IsSound result }
     {
@@ -257,7 +257,7 @@ impl Reader {
     }
 
     /// Takes the text of a line, without its LF. `None`: it can't be read there.
-    pub(crate) fn take_text(self, alloc: Global, text: &[u8]) -> Result<Option<Reader>, NoMemory>
+    pub fn take_text(self, alloc: Global, text: &[u8]) -> Result<Option<Reader>, NoMemory>
         requires few { held self.place < 2 ^ 32 }
         requires sound { IsSound self }
         ensures sound { IfOk result (λ found. IfSome found IsSound) }
@@ -286,5 +286,24 @@ impl Reader {
         } else {
             None
         }
+    }
+
+    /// Takes the last segment out that was read, where there is one.
+    pub fn take_segment(&mut self) -> Option<Counted>
+        requires sound { IsSound self.old }
+        ensures none { IfNone result ((self.old.done ≡ []) × (self.new.done ≡ [])) }
+        ensures some { IfSome result (λ c. self.old.done ≡ self.new.done ++ c ∷ []) }
+        ensures kept { IfSome result IsKept }
+        ensures same { (self.new.rules ≡ self.old.rules) × (self.new.place ≡ self.old.place) }
+        ensures sound { IsSound self.new }
+    {
+        self.done.pop()
+    }
+
+    /// Whether a text may end here that has a segment; `last` is what stands after its last LF.
+    pub fn is_over(&self, last: &[u8]) -> bool
+        ensures { result ≡ is_over self.now last.now }
+    {
+        last.is_empty() && matches!(&self.place, Place::Outside)
     }
 }

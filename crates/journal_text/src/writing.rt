@@ -12,7 +12,8 @@ use journal_lines::{
     put_lease, put_member, put_rules,
 };
 
-fn balancer_values(config: &LbConfig) -> BalancerValues
+/// What the line of a balancer says of its configuration.
+pub fn balancer_values(config: &LbConfig) -> BalancerValues
     ensures { result ≡ balancer_values config.now }
 {
     BalancerValues {
@@ -26,7 +27,8 @@ fn balancer_values(config: &LbConfig) -> BalancerValues
     }
 }
 
-fn member_values(member: &MemberConfig, row: &MemberRow) -> MemberValues
+/// What the line of a member says of its configuration and its row.
+pub fn member_values(member: &MemberConfig, row: &MemberRow) -> MemberValues
     ensures { result ≡ member_values member.now row.now }
 {
     MemberValues {
@@ -40,7 +42,8 @@ fn member_values(member: &MemberConfig, row: &MemberRow) -> MemberValues
     }
 }
 
-fn beginning(opening: &Opening) -> Beginning
+/// Where a segment with this opening begins.
+pub fn beginning(opening: &Opening) -> Beginning
     ensures { result ≡ beginning opening.now }
 {
     Beginning {
