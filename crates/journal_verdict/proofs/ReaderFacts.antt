@@ -1,0 +1,212 @@
+-- What the check of a text needs of its reader: that it doesn't look at the segments before, and how many lines it took.
+use Rattle.std.proofs.Common.{◌≡◌, ℕ, suc, ◌+◌, ◌⊎◌, inl, inr, Bool, true, false, List, [], ◌∷◌, ◌++◌, length, Option, Some, None, refl, sym, ap, subst, ◌∙◌, append_assoc, length-append, arith}
+use Rattle.std.specs.Prelude.{MatchOption, nat_le, if◌then◌else◌}
+use Rattle.std.proofs.lemmas.List.{length-map}
+use Rattle.jk_model.specs.Tickets.{Ticket}
+use Rattle.jk_model.specs.Validity.{IsOpening}
+use Rattle.jk_model.specs.declared.journal.Entry.{Entry}
+use Rattle.jk_model.specs.declared.member.MemberConfig.{MemberConfig}
+use Rattle.jk_model.specs.declared.opening.Opening.{Opening}
+use Rattle.jk_model.specs.declared.view.MemberRow.{MemberRow}
+use Rattle.journal_lines.specs.Readings.{line_of}
+use Rattle.journal_lines.specs.declared.line.Line.{Line}
+use Rattle.journal_lines.specs.declared.line.Line.TheVariants as line
+use Rattle.journal_verdict.specs.Checks.{front, lines_taken}
+use Rattle.journal_text.specs.Openings.{IsOpened, row_of}
+use Rattle.journal_text.specs.Reading.{Heads, TakesAt, TakesText, begun, continued, headed, is_full, named, with_member, with_ticket}
+use Rattle.journal_text.specs.SegmentText.{beginning, entry_lines, lease_lines, member_lines, opening_lines}
+use Rattle.journal_text.specs.Written.{lines_of}
+use Rattle.journal_text.specs.declared.counted.Counted.{Counted}
+use Rattle.journal_text.specs.declared.draft.Draft.{Draft}
+use Rattle.journal_text.specs.declared.reader.Place.{Place}
+use Rattle.journal_text.specs.declared.reader.Place.TheVariants as place
+use Rattle.journal_text.specs.declared.reader.Reader.{Reader}
+
+abbrev pub fronted : List Counted → Option Reader → Option Reader
+fronted before None = None
+fronted before (Some q) = Some (front before q)
+
+then_front : (before : List Counted) (b : Bool) (q : Reader) → fronted before (if b then Some q else None) ≡ (if b then Some (front before q) else None)
+then_front before true q = refl
+then_front before false q = refl
+
+else_front : (before : List Counted) (b : Bool) (q : Reader) → fronted before (if b then None else Some q) ≡ (if b then None else Some (front before q))
+else_front before true q = refl
+else_front before false q = refl
+
+begun_front : (before : List Counted) (r : Reader) (l : Line) → fronted before (begun r l) ≡ begun (front before r) l
+begun_front before r (line.Rules v) =
+    then_front before (nat_le r.rules v) (record { rules = v; place = place.Ruled; done = r.done })
+begun_front before r (line.Balancer name values) = refl
+begun_front before r (line.Member name route values) = refl
+begun_front before r (line.Lease ticket member) = refl
+begun_front before r (line.From b) = refl
+begun_front before r (line.Entry e) = refl
+begun_front before r (line.End count) = refl
+
+named_front : (before : List Counted) (r : Reader) (l : Line) → fronted before (named r l) ≡ named (front before r) l
+named_front before r (line.Rules v) = refl
+named_front before r (line.Balancer name values) = refl
+named_front before r (line.Member name route values) = refl
+named_front before r (line.Lease ticket member) = refl
+named_front before r (line.From b) = refl
+named_front before r (line.Entry e) = refl
+named_front before r (line.End count) = refl
+
+heads_front : (before : List Counted) (r : Reader) (d : Draft) (l : Line) (found : Option Reader)
+    → Heads r d l found → Heads (front before r) d l (fronted before found)
+heads_front before r d (line.Rules v) found h = ap (fronted before) h
+heads_front before r d (line.Balancer name values) found h = ap (fronted before) h
+heads_front before r d (line.Member name route values) found h =
+    ap (fronted before) h ∙ else_front before (is_full d) (headed r (with_member d name route values))
+heads_front before r d (line.Lease ticket member) found h =
+    ap (fronted before) h ∙ then_front before (is_full d) (headed r (with_ticket d ticket member))
+heads_front before r d (line.From b) None h = h
+heads_front before r d (line.From b) (Some q) h = (h.0, h.1, h.2, h.3, ap (front before) h.4)
+heads_front before r d (line.Entry e) found h = ap (fronted before) h
+heads_front before r d (line.End count) found h = ap (fronted before) h
+
+continued_front : (before : List Counted) (r : Reader) (name : List ℕ) (o : Opening) (entries : List Entry) (l : Line)
+    → fronted before (continued r name o entries l) ≡ continued (front before r) name o entries l
+continued_front before r name o entries (line.Rules v) = refl
+continued_front before r name o entries (line.Balancer other values) = refl
+continued_front before r name o entries (line.Member other route values) = refl
+continued_front before r name o entries (line.Lease ticket member) = refl
+continued_front before r name o entries (line.From b) = refl
+continued_front before r name o entries (line.Entry e) = refl
+continued_front before r name o entries (line.End count) =
+    let c : Counted = record { name = name; rules = r.rules; opening = o; entries = entries; count = count } in
+    ap (λ (done : List Counted). Some (record { rules = r.rules; place = place.Outside; done = done })) (sym (append_assoc before r.done (c ∷ [])))
+
+at_front : (before : List Counted) (r : Reader) (p : Place) (l : Line) (found : Option Reader)
+    → TakesAt r p l found → TakesAt (front before r) p l (fronted before found)
+at_front before r place.Outside l found h = ap (fronted before) h ∙ begun_front before r l
+at_front before r place.Ruled l found h = ap (fronted before) h ∙ named_front before r l
+at_front before r (place.Heading d) l found h = heads_front before r d l found h
+at_front before r (place.Body name o entries) l found h = ap (fronted before) h ∙ continued_front before r name o entries l
+
+line_front : (before : List Counted) (r : Reader) (o : Option Line) (found : Option Reader)
+    → MatchOption o (found ≡ None) (λ l. TakesAt r r.place l found)
+    → MatchOption o (fronted before found ≡ None) (λ l. TakesAt (front before r) r.place l (fronted before found))
+line_front before r None found h = ap (fronted before) h
+line_front before r (Some l) found h = at_front before r r.place l found h
+
+-- a line is taken alike, whatever was read before
+pub takes_front : (before : List Counted) (r : Reader) (text : List ℕ) (found : Option Reader)
+    → TakesText r text found → TakesText (front before r) text (fronted before found)
+takes_front before r text found h = line_front before r (line_of r.rules text) found h
+
+-- ---- how many lines were taken
+
+-- a line more of the segment, or its last line
+abbrev pub Stepped : (lines : ℕ) → (old new : Reader) → Type 0
+Stepped lines old new =
+    ((new.done ≡ old.done) × (lines_taken new.place ≡ lines + 1))
+    ⊎ ((c : Counted) × (new.done ≡ old.done ++ c ∷ []) × (lines_taken new.place ≡ 0) × (length (lines_of c) ≡ lines + 1))
+
+same_some : {T : Type 0} (a b : T) → Some a ≡ Some b → a ≡ b
+same_some a b h = cc
+
+then_some : (b : Bool) (q x : Reader) → Some q ≡ (if b then Some x else None) → q ≡ x
+then_some true q x h = same_some q x h
+then_some false q x h = absurd (let none : Some q ≡ None = h in cc)
+
+else_some : (b : Bool) (q x : Reader) → Some q ≡ (if b then None else Some x) → q ≡ x
+else_some true q x h = absurd (let none : Some q ≡ None = h in cc)
+else_some false q x h = same_some q x h
+
+not_some : {T : Type 0} (q : Reader) → Some q ≡ None → T
+not_some q h = absurd (let none : Some q ≡ None = h in cc)
+
+member_count : (ms : List MemberConfig) (rs : List MemberRow) → length rs ≡ length ms → length (member_lines ms rs) ≡ length rs
+member_count [] [] h = refl
+member_count [] (r ∷ rs) h = absurd (omega (arith, h))
+member_count (c ∷ ms) [] h = refl
+member_count (c ∷ ms) (r ∷ rs) h = ap suc (member_count ms rs (omega (arith, h)))
+
+pub opening_count : (name : List ℕ) (o : Opening) → length o.rows ≡ length o.config.members → length (opening_lines name o) ≡ 2 + length o.rows + length o.out
+opening_count name o h =
+    omega (
+      arith,
+      member_count o.config.members o.rows h,
+      length-append (member_lines o.config.members o.rows) (lease_lines o.out ++ line.From (beginning o) ∷ []),
+      length-append (lease_lines o.out) (line.From (beginning o) ∷ []),
+      length-map o.out (λ (x : Ticket). line.Lease x.0 x.1),
+    )
+
+stepped_by : (lines : ℕ) (r q x : Reader) → q ≡ x → Stepped lines r x → Stepped lines r q
+stepped_by lines r q x h s = subst (λ y. Stepped lines r y) (sym h) s
+
+stepped_outside : (r q : Reader) (l : Line) → Some q ≡ begun r l → Stepped 0 r q
+stepped_outside r q (line.Rules v) h =
+    let next : Reader = record { rules = v; place = place.Ruled; done = r.done } in
+    stepped_by 0 r q next (then_some (nat_le r.rules v) q next h) (inl (refl, refl))
+stepped_outside r q (line.Balancer name values) h = not_some q h
+stepped_outside r q (line.Member name route values) h = not_some q h
+stepped_outside r q (line.Lease ticket member) h = not_some q h
+stepped_outside r q (line.From b) h = not_some q h
+stepped_outside r q (line.Entry e) h = not_some q h
+stepped_outside r q (line.End count) h = not_some q h
+
+stepped_ruled : (r q : Reader) (l : Line) → Some q ≡ named r l → Stepped 1 r q
+stepped_ruled r q (line.Rules v) h = not_some q h
+stepped_ruled r q (line.Balancer name values) h = stepped_by 1 r q _ (same_some q _ h) (inl (refl, refl))
+stepped_ruled r q (line.Member name route values) h = not_some q h
+stepped_ruled r q (line.Lease ticket member) h = not_some q h
+stepped_ruled r q (line.From b) h = not_some q h
+stepped_ruled r q (line.Entry e) h = not_some q h
+stepped_ruled r q (line.End count) h = not_some q h
+
+opened_lines : (d : Draft) (o : Opening) (b : _) → IsOpened d b o → IsOpening o
+    → 1 + length (opening_lines d.name o) + 0 ≡ 2 + length d.rows + length d.out + 1
+opened_lines d o b is valid =
+    omega (arith, opening_count d.name o valid.rows.count, is.rows.whole, ap length is.out)
+
+stepped_heading : (r q : Reader) (d : Draft) (l : Line) → Heads r d l (Some q) → Stepped (2 + length d.rows + length d.out) r q
+stepped_heading r q d (line.Rules v) h = not_some q h
+stepped_heading r q d (line.Balancer name values) h = not_some q h
+stepped_heading r q d (line.Member name route values) h =
+    stepped_by _ r q _ (else_some (is_full d) q _ h) (inl (refl, omega (arith, length-append d.rows (row_of name values ∷ []))))
+stepped_heading r q d (line.Lease ticket member) h =
+    stepped_by _ r q _ (then_some (is_full d) q _ h) (inl (refl, omega (arith, length-append d.out ((ticket, member) ∷ []))))
+stepped_heading r q d (line.From b) h =
+    stepped_by _ r q _ h.4 (inl (refl, opened_lines d h.1 b h.2 h.3))
+stepped_heading r q d (line.Entry e) h = not_some q h
+stepped_heading r q d (line.End count) h = not_some q h
+
+stepped_body : (r q : Reader) (name : List ℕ) (o : Opening) (entries : List Entry) (l : Line) → Some q ≡ continued r name o entries l
+    → Stepped (1 + length (opening_lines name o) + length entries) r q
+stepped_body r q name o entries (line.Rules v) h = not_some q h
+stepped_body r q name o entries (line.Balancer other values) h = not_some q h
+stepped_body r q name o entries (line.Member other route values) h = not_some q h
+stepped_body r q name o entries (line.Lease ticket member) h = not_some q h
+stepped_body r q name o entries (line.From b) h = not_some q h
+stepped_body r q name o entries (line.Entry e) h =
+    stepped_by _ r q _ (same_some q _ h) (inl (refl, omega (arith, length-append entries (e ∷ []))))
+stepped_body r q name o entries (line.End count) h =
+    let c : Counted = record { name = name; rules = r.rules; opening = o; entries = entries; count = count } in
+    stepped_by _ r q _ (same_some q _ h) (inr (
+      c,
+      refl,
+      refl,
+      omega (
+        arith,
+        length-append (opening_lines name o) (entry_lines entries ++ line.End count ∷ []),
+        length-append (entry_lines entries) (line.End count ∷ []),
+        length-map entries (λ e. line.Entry e),
+      ),
+    ))
+
+stepped_at : (r q : Reader) (p : Place) (l : Line) → TakesAt r p l (Some q) → Stepped (lines_taken p) r q
+stepped_at r q place.Outside l h = stepped_outside r q l h
+stepped_at r q place.Ruled l h = stepped_ruled r q l h
+stepped_at r q (place.Heading d) l h = stepped_heading r q d l h
+stepped_at r q (place.Body name o entries) l h = stepped_body r q name o entries l h
+
+stepped_line : (r q : Reader) (o : Option Line) → MatchOption o (Some q ≡ None) (λ l. TakesAt r r.place l (Some q)) → Stepped (lines_taken r.place) r q
+stepped_line r q None h = not_some q h
+stepped_line r q (Some l) h = stepped_at r q r.place l h
+
+-- a line that is taken is one more of its segment, or the last one
+pub takes_stepped : (r q : Reader) (text : List ℕ) → TakesText r text (Some q) → Stepped (lines_taken r.place) r q
+takes_stepped r q text h = stepped_line r q (line_of r.rules text) h

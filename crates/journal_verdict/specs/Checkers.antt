@@ -1,0 +1,43 @@
+-- What the check of a text has, as far as the text's lines were taken.
+use Rattle.std.specs.Prelude.{◌≡◌, ℕ, ◌+◌, Bool, true, false, nat_lt, List, [], ◌∷◌, length, Some, None, Result, Ok, Err}
+use Rattle.journal_text.specs.Kept.{IsSound}
+use Rattle.journal_text.specs.Reading.{TakesText, is_end}
+use Rattle.journal_text.specs.declared.counted.Counted.{Counted}
+use Rattle.journal_text.specs.declared.text_error.TextError.{TextError}
+use Rattle.journal_text.specs.declared.text_error.TextError.TheVariants as error
+use Rattle.journal_verdict.specs.Checks.{Comes, Leads, front, lines_taken}
+use Rattle.journal_verdict.specs.Verdicts.{IsVerdict, lines_in}
+use Rattle.journal_verdict.specs.declared.checker.Checker.{Checker}
+use Rattle.journal_verdict.specs.declared.ruling.Verdict.{Verdict}
+use Rattle.journal_verdict.specs.declared.reached.Check.{Check}
+
+-- The check of a text has taken these segments, and the lines of another one that its reader has.
+pub record HasTaken (c : Checker) (done : List Counted) : Type 0 where
+  pub sound : IsSound c.reader
+  pub empty : c.reader.done ≡ []
+  pub comes : Comes done c.check
+  pub number : c.number ≡ 1 + lines_in done + lines_taken c.reader.place
+  pub some : c.some ≡ nat_lt 0 (length done)
+
+-- A line was taken, and no more is known of the text before it.
+abbrev pub Advances : Checker → (text : List ℕ) → Checker → Type 0
+Advances old text new =
+    (done : List Counted) → HasTaken old done
+    → (now : List Counted) × HasTaken new now × TakesText (front done old.reader) text (Some (front now new.reader))
+
+-- What a line that ends a segment, or doesn't, makes of what the check comes to.
+abbrev pub Judged : (ended : List Counted) → Check → (some : Bool) → Checker → Type 0
+Judged [] k some new = (new.reader.done ≡ []) × (new.check ≡ k) × (new.some ≡ some)
+Judged (c ∷ []) k some new = (new.reader.done ≡ []) × Leads k c new.check × (new.some ≡ true)
+Judged (c ∷ d ∷ cs) k some new = Unit {0}
+
+-- Why a line isn't taken. Want of memory says nothing.
+abbrev pub RefusesLine : Checker → (text : List ℕ) → TextError → Type 0
+RefusesLine c text (error.Unreadable line) = (line ≡ c.number) × TakesText c.reader text None
+RefusesLine c text error.NoMemory = Unit {0}
+
+-- What is answered at the end of a text whose segments these are; `last` is what stands after its last LF.
+abbrev pub EndsBy : (done : List Counted) → Checker → (last : List ℕ) → Result Verdict TextError → Type 0
+EndsBy done c last (Ok v) = (is_end (front done c.reader) last ≡ true) × IsVerdict done v
+EndsBy done c last (Err (error.Unreadable line)) = (line ≡ c.number) × (is_end (front done c.reader) last ≡ false)
+EndsBy done c last (Err error.NoMemory) = ⊥

@@ -1,0 +1,78 @@
+-- What segments come to, one after the other, and how many lines of a further one are read.
+use Rattle.std.specs.Prelude.{◌≡◌, ℕ, ◌+◌, ◌^◌, ◌<◌, List, ◌++◌, length, reverse, Some, None}
+use Rattle.jk_model.specs.Present.{IsEnding}
+use Rattle.jk_model.specs.Validity.{IsOpening}
+use Rattle.jk_model.specs.declared.opening.Opening.{Opening}
+use Rattle.journal_text.specs.SegmentText.{opening_lines}
+use Rattle.journal_text.specs.Written.{lines_of}
+use Rattle.journal_text.specs.declared.counted.Counted.{Counted}
+use Rattle.journal_text.specs.declared.reader.Place.{Place}
+use Rattle.journal_text.specs.declared.reader.Place.TheVariants as place
+use Rattle.journal_text.specs.declared.reader.Reader.{Reader}
+use Rattle.journal_verdict.specs.Verdicts.{AreRight, Former, IsFirstBad, IsRight, IsWrongAt, entries_in, lines_in}
+use Rattle.journal_verdict.specs.declared.ruling.Ruling.{Ruling}
+use Rattle.journal_verdict.specs.declared.ruling.Verdict.{Verdict}
+use Rattle.journal_verdict.specs.declared.ruling.Verdict.TheVariants as verdict
+use Rattle.journal_verdict.specs.declared.reached.Check.{Check}
+use Rattle.journal_verdict.specs.declared.reached.Check.TheVariants as check
+use Rattle.journal_verdict.specs.declared.reached.Reached.{Reached}
+
+abbrev pub at_first : Reached
+at_first = record { former = None; lines = 0; entries = 0 }
+
+-- What is reached after a further segment that ends so.
+abbrev pub past : Reached → Counted → Opening → Reached
+past r c ending = record {
+  former = Some (c.name, ending);
+  lines = r.lines + length (lines_of c);
+  entries = r.entries + length c.entries;
+}
+
+-- The former segment's end is an opening.
+abbrev pub IsFormer : Former → Type 0
+IsFormer None = Unit {0}
+IsFormer (Some (name, ending)) = IsOpening ending
+
+-- What a further segment leads to.
+abbrev pub After : Reached → Counted → Check → Type 0
+After r c (check.Good q) =
+    IsRight r.former c × IsFormer q.former × (ending : Opening)
+    × IsEnding c.rules c.opening (reverse c.entries) ending × (q ≡ past r c ending)
+After r c (check.Bad v) =
+    (i : ℕ) × (kept ruled : Ruling) × IsWrongAt r.former c i kept ruled × (v ≡ verdict.Bad (r.lines + i + 1) kept ruled)
+
+-- There is room for the numbers of a further segment's lines and entries.
+abbrev pub HasRoom : Check → Counted → Type 0
+HasRoom (check.Good q) c =
+    IsFormer q.former × (q.lines + length (lines_of c) < 2 ^ 32) × (q.entries + length c.entries < 2 ^ 64)
+HasRoom (check.Bad v) c = Unit {0}
+
+-- What a further segment leads to, unless one before it was wrong.
+abbrev pub Leads : Check → Counted → Check → Type 0
+Leads (check.Good q) c after = After q c after
+Leads (check.Bad v) c after = after ≡ check.Bad v
+
+-- How many lines of a segment were read.
+abbrev pub lines_taken : Place → ℕ
+lines_taken place.Outside = 0
+lines_taken place.Ruled = 1
+lines_taken (place.Heading d) = 2 + length d.rows + length d.out
+lines_taken (place.Body name o entries) = 1 + length (opening_lines name o) + length entries
+
+abbrev pub verdict_of : Check → Verdict
+verdict_of (check.Good q) = verdict.Good q.entries
+verdict_of (check.Bad v) = v
+
+-- These segments come to the verdict that a line is bad.
+abbrev pub IsBad : List Counted → Verdict → Type 0
+IsBad cs (verdict.Good entries) = ⊥
+IsBad cs (verdict.Bad line kept ruled) = IsFirstBad cs line kept ruled
+
+-- What these segments come to.
+abbrev pub Comes : List Counted → Check → Type 0
+Comes cs (check.Good q) = AreRight None cs q.former × IsFormer q.former × (q.lines ≡ lines_in cs) × (q.entries ≡ entries_in cs)
+Comes cs (check.Bad v) = IsBad cs v
+
+-- The reader, with further segments before its own.
+abbrev pub front : List Counted → Reader → Reader
+front before r = record { rules = r.rules; place = r.place; done = before ++ r.done }

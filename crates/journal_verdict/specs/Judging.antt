@@ -1,0 +1,40 @@
+-- What the Book that replays a journal has at an entry.
+use Rattle.std.specs.Prelude.{◌≡◌, ◌≤◌, List, [], ◌∷◌, ◌++◌, Option, Some, None}
+use Rattle.balancer_core.specs.Journal.{Journal, next_number, past_of}
+use Rattle.jk_model.specs.Journal.{moment_of}
+use Rattle.jk_model.specs.Legal.{IsNext}
+use Rattle.jk_model.specs.Segments.{IsKeptEntry}
+use Rattle.jk_model.specs.declared.journal.Entry.{Entry}
+use Rattle.journal_verdict.specs.Rulings.{Differs, Rules}
+use Rattle.journal_verdict.specs.declared.ruling.Ruling.{Ruling}
+use Rattle.journal_verdict.specs.declared.ruling.Ruling.TheVariants as ruling
+
+-- An entry that a segment can keep has the Book's next number and no moment before its last one.
+pub record IsInTurn (b : Journal) (e : Entry) : Type 0 where
+  pub number : e.seq ≡ next_number b
+  pub moment : moment_of b.opening (past_of b) ≤ e.at
+  pub kept : IsKeptEntry b.rules e
+
+-- The Book went on by just this entry.
+pub record GoesOn (old new : Journal) (e : Entry) : Type 0 where
+  pub rules : new.rules ≡ old.rules
+  pub opening : new.opening ≡ old.opening
+  pub entries : new.entries ≡ old.entries ++ e ∷ []
+  pub newest : past_of new ≡ e ∷ past_of old
+
+-- What is ruled on an entry; with an answer the Book went on by it.
+abbrev pub RulesOn : Entry → (old new : Journal) → Ruling → Type 0
+RulesOn e old new (ruling.Answer a) =
+    Rules old.rules old.opening (past_of old) e (ruling.Answer a) × GoesOn old new (record e { answer = a })
+RulesOn e old new other = Rules old.rules old.opening (past_of old) e other
+
+-- The entry follows, and the Book went on by it; or it differs.
+abbrev pub Follows : Entry → (old new : Journal) → Option (Ruling × Ruling) → Type 0
+Follows e old new None = IsNext old.rules old.opening (past_of old) e × GoesOn old new e
+Follows e old new (Some wrong) = Differs old.rules old.opening (past_of old) e wrong.0 wrong.1
+
+-- The Book went on by just these entries, from where it had none.
+pub record Replays (old new : Journal) (kept : List Entry) : Type 0 where
+  pub rules : new.rules ≡ old.rules
+  pub opening : new.opening ≡ old.opening
+  pub entries : new.entries ≡ kept
