@@ -1,5 +1,5 @@
-//! Makes single calls of the balancer, judges openings and reads journals' texts, row by row, and shows each line that
-//! comes out otherwise.
+//! Makes single calls of the balancer, judges openings, reads and checks journals' texts, row by row, and shows each line
+//! that comes out otherwise.
 //!
 //! What the rows of data/ want comes from the rules, worked out by hand. How a row is written stands in `check_lines`, and
 //! which lines it has at the head of each file.
@@ -10,6 +10,7 @@ mod journals;
 mod openings;
 mod states;
 mod values;
+mod verdicts;
 
 use anyhow::Result;
 use check_lines::judging::{self, judge_file};
@@ -21,12 +22,14 @@ enum Subject {
     Values,
     Openings,
     Journals,
+    Verdicts,
 }
 
-static FILES: [(&str, Subject); 3] = [
+static FILES: [(&str, Subject); 4] = [
     ("values.txt", Subject::Values),
     ("openings.txt", Subject::Openings),
     ("journals.txt", Subject::Journals),
+    ("verdicts.txt", Subject::Verdicts),
 ];
 
 impl judging::Subject for Subject {
@@ -35,6 +38,7 @@ impl judging::Subject for Subject {
             Subject::Values => values::judge(alloc, row, shown),
             Subject::Openings => openings::judge(alloc, row, shown),
             Subject::Journals => journals::judge(alloc, row, shown),
+            Subject::Verdicts => verdicts::judge(alloc, row, shown),
         }
     }
 }
