@@ -286,7 +286,7 @@ way_back ps start names rows past name i row new known h num got inherits =
     set_here (r ∷ rows) (suc i) row new e = set_here rows i row new e
 
 -- a name's number is that of a row
-pub row_within : {fits : List ℕ → Row → Type 0} (names : List (List ℕ)) (rows : List Row) (name : List ℕ) (i : ℕ) → AreRows fits names rows → number_of name names ≡ Some i → i < length rows
+pub row_within : {A : Type 0} {fits : List ℕ → A → Type 0} (names : List (List ℕ)) (rows : List A) (name : List ℕ) (i : ℕ) → AreRows fits names rows → number_of name names ≡ Some i → i < length rows
 row_within names rows name i h num = rw h.count (slice_get_within names i name (number_of-named name names i num))
 
 -- the path after one more

@@ -4,9 +4,11 @@ pub mod Checks
 pub mod Given
 pub mod Listings
 pub mod Lists
+pub mod MemberLists
 pub mod Numbers
 pub mod Rows
 pub mod Settings
 pub mod Site
 pub mod Table
+pub mod Tables
 pub mod Ways

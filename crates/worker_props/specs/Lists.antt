@@ -4,7 +4,7 @@ use Rattle.std.specs.List.{flat_map}
 use Rattle.std.specs.Str.{bytes_eq}
 use Rattle.property_lines.specs.declared.property.Property.{Property}
 use Rattle.property_lines.specs.declared.directive.Directive.TheVariants as directive
-use Rattle.property_lines.specs.Directives.{worker_part, list_key, name_of}
+use Rattle.property_lines.specs.Directives.{worker_part, list_key}
 use Rattle.property_lines.specs.Names.{words}
 use Rattle.worker_props.specs.Given.{gives}
 
@@ -28,14 +28,6 @@ is_list_line p = bytes_eq p.key list_key
 
 abbrev pub site_list : List Property → List Listing
 site_list ps = joined is_list_line ps
-
--- the line lists members of some worker
-abbrev pub lists_for : Option (List ℕ × List ℕ) → Bool
-lists_for None = false
-lists_for (Some parts) = bytes_eq parts.1 (name_of directive.BalanceWorkers)
-
-abbrev pub lists_members : Property → Bool
-lists_members p = lists_for (worker_part p.key)
 
 abbrev pub name_part : Option (List ℕ × List ℕ) → List ℕ
 name_part None = []

@@ -22,8 +22,7 @@ use Rattle.property_lines.specs.Refusals.{Refusal, refusal}
 use Rattle.property_lines.specs.Directives.{directive_of, worker_part, list_key, maintain_key}
 use Rattle.property_lines.specs.Properties.{read_text}
 use Rattle.worker_props.specs.Given.{IsChain, in_force, is_given, last_of, BreaksAt}
-use Rattle.worker_props.specs.Lists.{Listing, lists_members, firsts, site_list, members_in}
-use Rattle.worker_props.specs.Table.{IsNameOfGiven}
+use Rattle.worker_props.specs.Lists.{Listing, firsts, site_list, members_in}
 use Rattle.worker_props.specs.Settings.{IsEndpoint, IsMember, kind_in, method_in, truth_or, number_or, filled_or}
 
 -- the members of these names, from place i on, with how each is reached
@@ -204,7 +203,3 @@ abbrev pub IsRefused : List ℕ → Refusal → Type 0
 IsRefused text r =
     (read_text true text ≡ Err r)
     ⊎ ((ps : List Property) × (read_text true text ≡ Ok ps) × Stops ps (maintain_of ps) (firsts (site_list ps)) no_workers r)
-
--- what a text's lines and names are kept as
-abbrev pub IsIndexed : List Property → List Property → List (List ℕ) → Type 0
-IsIndexed ps lines names = IsNameOfGiven ps names × (lines ≡ filter lists_members ps)

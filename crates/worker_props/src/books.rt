@@ -7,12 +7,11 @@ ghost use Rattle.worker_props.specs.Listings.{as_listing, as_listings};
 ghost use Rattle.property_lines.specs.Refusals.{IsRefusal};
 ghost use Rattle.worker_props.specs.Rows.{property_at};
 ghost use Rattle.worker_props.specs.Site.{Each, IsDirect, IsLb, Known, Chained, RefusesBook, line_in};
-ghost use Rattle.worker_props.specs.Table.{IsNameOfGiven};
-ghost use Rattle.worker_props.specs.Ways.{AreOnWay};
+ghost use Rattle.worker_props.specs.Tables.{AreAtRest, lines_in};
 
+use crate::given::Given;
 use crate::listing::Listing;
 use crate::members::members_of;
-use crate::name_table::NameTable;
 use crate::row::{Row, picked};
 use crate::settings::{filled_or, method, number_or, truth_or};
 use jk_io::{Bytes, ListOf};
@@ -34,25 +33,29 @@ fn type_line(entries: &[Entry<'_>], row: &Row) -> u32
 /// The balancer of a worker that is listed itself.
 pub(crate) fn direct<'t>(
     alloc: Global,
-    entries: &[Entry<'t>],
-    names: &NameTable<'t>,
+    given: &Given<'_, 't>,
     rows: &mut Vec<Row>,
     listing: &Listing<'t>,
-    maintain: u64,
 ) -> Result<Lb, PropsError>
-    requires known { IsNameOfGiven (as_properties entries.now) names.now }
-    requires rows { AreOnWay (as_properties entries.now) [] names.now rows.old.items }
-    requires given { Known (as_properties entries.now) (as_listing listing.now) }
-    requires chained { Chained (as_properties entries.now) (as_listing listing.now) }
-    requires period { IsPeriod maintain }
-    ensures rows { OnOk result (AreOnWay (as_properties entries.now) [] names.now rows.new.items) }
-    ensures lb { IfOk result (IsDirect (as_properties entries.now) maintain (as_listing listing.now)) }
+    requires rows { AreAtRest given.now rows.old.items }
+    requires given { Known (lines_in given.now) (as_listing listing.now) }
+    requires chained { Chained (lines_in given.now) (as_listing listing.now) }
+    ensures rows { OnOk result (AreAtRest given.now rows.new.items) }
+    ensures lb { IfOk result (IsDirect (lines_in given.now) given.now.maintain (as_listing listing.now)) }
     ensures memory { IfErr result (λ e. e ≡ PropsError.NoMemory) }
 {
     let alone = [*listing];
-    let members = members_of(alloc, entries, names, rows, &alone)?;
+    let members = members_of(alloc, given, rows, &alone)?;
     let configs = ListOf::from_vec(members.configs);
-    match LbConfig::new(Method::Request, false, false, true, maintain, 60, configs) {
+    match LbConfig::new(
+        Method::Request,
+        false,
+        false,
+        true,
+        given.maintain,
+        60,
+        configs,
+    ) {
         Ok(book) => Ok(Lb {
             name: Bytes::from_slice(alloc, listing.name)?,
             book,
@@ -67,43 +70,39 @@ pub(crate) fn direct<'t>(
 /// The balancer of an lb worker with these members, 1 to 64.
 fn lb_of<'t>(
     alloc: Global,
-    entries: &[Entry<'t>],
-    names: &NameTable<'t>,
+    given: &Given<'_, 't>,
     rows: &mut Vec<Row>,
     row: &Row,
     listing: &Listing<'t>,
     members: &[Listing<'t>],
-    maintain: u64,
 ) -> Result<Lb, PropsError>
-    requires known { IsNameOfGiven (as_properties entries.now) names.now }
-    requires rows { AreOnWay (as_properties entries.now) [] names.now rows.old.items }
-    requires given { Each (Known (as_properties entries.now)) (as_listings members.now) }
-    requires chained { Each (Chained (as_properties entries.now)) (as_listings members.now) }
+    requires rows { AreAtRest given.now rows.old.items }
+    requires given { Each (Known (lines_in given.now)) (as_listings members.now) }
+    requires chained { Each (Chained (lines_in given.now)) (as_listings members.now) }
     requires some { 1 ≤ length members.now }
     requires few { length members.now ≤ 64 }
-    requires period { IsPeriod maintain }
-    ensures rows { OnOk result (AreOnWay (as_properties entries.now) [] names.now rows.new.items) }
-    ensures lb { IfOk result (IsLb (as_properties entries.now) (property_at (as_properties entries.now) row.now)
-        maintain listing.now.name.now (as_listings members.now)) }
-    ensures wide { IfErr result (IsRefusal (RefusesBook (as_properties entries.now)
-        (line_in (property_at (as_properties entries.now) row.now Directive.Kind)) (as_listings members.now))) }
+    ensures rows { OnOk result (AreAtRest given.now rows.new.items) }
+    ensures lb { IfOk result (IsLb (lines_in given.now) (property_at (lines_in given.now) row.now)
+        given.now.maintain listing.now.name.now (as_listings members.now)) }
+    ensures wide { IfErr result (IsRefusal (RefusesBook (lines_in given.now)
+        (line_in (property_at (lines_in given.now) row.now Directive.Kind)) (as_listings members.now))) }
 {
     let cookie_name: &'t [u8] = b"JSESSIONID";
     let path_name: &'t [u8] = b";jsessionid";
-    let line = type_line(entries, row);
-    let made = members_of(alloc, entries, names, rows, members)?;
+    let line = type_line(given.entries, row);
+    let made = members_of(alloc, given, rows, members)?;
     let configs = ListOf::from_vec(made.configs);
-    let sticky = truth_or(entries, row, Directive::Sticky, true);
-    let force = truth_or(entries, row, Directive::Force, false);
-    let recover = number_or(entries, row, Directive::RecoverTime, 1, 86400, 60);
-    let cookie = filled_or(entries, row, Directive::Cookie, cookie_name);
-    let path = filled_or(entries, row, Directive::Path, path_name);
+    let sticky = truth_or(given.entries, row, Directive::Sticky, true);
+    let force = truth_or(given.entries, row, Directive::Force, false);
+    let recover = number_or(given.entries, row, Directive::RecoverTime, 1, 86400, 60);
+    let cookie = filled_or(given.entries, row, Directive::Cookie, cookie_name);
+    let path = filled_or(given.entries, row, Directive::Path, path_name);
     match LbConfig::new(
-        method(entries, row),
+        method(given.entries, row),
         sticky,
         force,
         false,
-        maintain,
+        given.maintain,
         recover,
         configs,
     ) {
@@ -121,30 +120,26 @@ fn lb_of<'t>(
 /// The balancer of an lb worker with these members, each once, or the refusal of their number or of their factors.
 pub(crate) fn balanced<'t>(
     alloc: Global,
-    entries: &[Entry<'t>],
-    names: &NameTable<'t>,
+    given: &Given<'_, 't>,
     rows: &mut Vec<Row>,
     row: &Row,
     listing: &Listing<'t>,
     members: &[Listing<'t>],
-    maintain: u64,
 ) -> Result<Lb, PropsError>
-    requires known { IsNameOfGiven (as_properties entries.now) names.now }
-    requires rows { AreOnWay (as_properties entries.now) [] names.now rows.old.items }
-    requires given { Each (Known (as_properties entries.now)) (as_listings members.now) }
-    requires chained { Each (Chained (as_properties entries.now)) (as_listings members.now) }
-    requires period { IsPeriod maintain }
-    ensures rows { OnOk result (AreOnWay (as_properties entries.now) [] names.now rows.new.items) }
-    ensures lb { IfOk result (IsLb (as_properties entries.now) (property_at (as_properties entries.now) row.now)
-        maintain listing.now.name.now (as_listings members.now)) }
-    ensures refused { IfErr result (IsRefusal (RefusesBook (as_properties entries.now)
-        (line_in (property_at (as_properties entries.now) row.now Directive.Kind)) (as_listings members.now))) }
+    requires rows { AreAtRest given.now rows.old.items }
+    requires given { Each (Known (lines_in given.now)) (as_listings members.now) }
+    requires chained { Each (Chained (lines_in given.now)) (as_listings members.now) }
+    ensures rows { OnOk result (AreAtRest given.now rows.new.items) }
+    ensures lb { IfOk result (IsLb (lines_in given.now) (property_at (lines_in given.now) row.now)
+        given.now.maintain listing.now.name.now (as_listings members.now)) }
+    ensures refused { IfErr result (IsRefusal (RefusesBook (lines_in given.now)
+        (line_in (property_at (lines_in given.now) row.now Directive.Kind)) (as_listings members.now))) }
 {
     if members.is_empty() {
-        return Err(refused(type_line(entries, row), Reason::NoMembers));
+        return Err(refused(type_line(given.entries, row), Reason::NoMembers));
     }
     if members.len() > 64 {
-        return Err(refused(type_line(entries, row), Reason::TooManyMembers));
+        return Err(refused(type_line(given.entries, row), Reason::TooManyMembers));
     }
-    lb_of(alloc, entries, names, rows, row, listing, members, maintain)
+    lb_of(alloc, given, rows, row, listing, members)
 }

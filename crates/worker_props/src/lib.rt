@@ -10,9 +10,11 @@
 mod books;
 mod draft;
 mod firsts;
+mod given;
 pub mod laws;
 mod listing;
 mod member;
+mod member_lists;
 mod members;
 mod name_table;
 mod reference;
@@ -27,4 +29,4 @@ pub use property_lines::{Property, PropertyList, PropsError, read_properties};
 pub use site_config::{
     Config, EndList, Endpoint, IgnoredList, Lb, LbList, Named, NamedList, Status, StatusList,
 };
-pub use workers::read_workers;
+pub use workers::{read_workers, workers_of};

@@ -1,16 +1,12 @@
 //! The lists of workers: `worker.list` and `balance_workers`.
-ghost use Rattle.std.specs.Prelude.{◌≡◌, ◌++◌, map, IfOk, OnOk, filter};
-ghost use Rattle.std.specs.Option.{option_map};
-ghost use Rattle.std.specs.Str.{bytes_eq};
-ghost use Rattle.property_lines.specs.Cut.{cut_at};
-ghost use Rattle.property_lines.specs.Directives.{worker_part};
+ghost use Rattle.std.specs.Prelude.{◌≡◌, ◌++◌, map, IfOk, OnOk};
 ghost use Rattle.property_lines.specs.Entries.{as_property, as_properties};
-ghost use Rattle.worker_props.specs.Given.{gives};
-ghost use Rattle.worker_props.specs.Lists.{listings_of, joined, is_list_line, lists_members, members_in, own_members};
-ghost use Rattle.worker_props.specs.Listings.{as_listing, as_listings};
+ghost use Rattle.worker_props.specs.Lists.{firsts, listings_of, joined, is_list_line, site_list};
+ghost use Rattle.worker_props.specs.Listings.{as_listings};
 
-use jk_io::NoMemory;
-use property_lines::{Directive, Entry, is_list_key, push_words, worker_part};
+use crate::firsts::firsts;
+use jk_io::{ListOf, NoMemory};
+use property_lines::{Entry, is_list_key, push_words};
 use std::alloc::Global;
 
 /// A name of a list, and the line on which it stands.
@@ -20,23 +16,13 @@ pub(crate) struct Listing<'t> {
     pub(crate) line: u32,
 }
 
-/// Whether the line gives the worker this directive.
-pub(crate) fn gives(name: &[u8], directive: Directive, entry: &Entry<'_>) -> bool
-    ensures { result ≡ gives name.now directive (as_property entry.now) }
-{
-    match worker_part(entry.key) {
-        Some((worker, text)) => worker == name && text == directive.name(),
-        None => false,
-    }
-}
-
 /// Adds the names of a line.
-fn push_listings<'t>(
+pub(crate) fn push_listings<'t>(
     alloc: Global,
-    out: &mut Vec<Listing<'t>>,
+    out: &mut ListOf<Listing<'t>>,
     entry: &Entry<'t>,
 ) -> Result<(), NoMemory>
-    ensures { OnOk result (as_listings out.new.items ≡ as_listings out.old.items ++ listings_of (as_property entry.now)) }
+    ensures { OnOk result (as_listings out.new ≡ as_listings out.old ++ listings_of (as_property entry.now)) }
 {
     let mut words = Vec::new(alloc);
     push_words(&mut words, entry.value)?;
@@ -50,13 +36,10 @@ fn push_listings<'t>(
 }
 
 /// The names of `worker.list`, one line after another.
-pub(crate) fn site_list<'t>(
-    alloc: Global,
-    entries: &[Entry<'t>],
-) -> Result<Vec<Listing<'t>>, NoMemory>
-    ensures { IfOk result (λ v. as_listings v.items ≡ joined is_list_line (as_properties entries.now)) }
+fn site_list<'t>(alloc: Global, entries: &[Entry<'t>]) -> Result<ListOf<Listing<'t>>, NoMemory>
+    ensures { IfOk result (λ l. as_listings l ≡ joined is_list_line (as_properties entries.now)) }
 {
-    let mut out = Vec::new(alloc);
+    let mut out = ListOf::new(alloc);
     for entry in entries {
         if is_list_key(entry.key) {
             push_listings(alloc, &mut out, entry)?;
@@ -65,61 +48,9 @@ pub(crate) fn site_list<'t>(
     Ok(out)
 }
 
-/// The lines that list members of any worker.
-pub(crate) fn member_lines<'t>(
-    alloc: Global,
-    entries: &[Entry<'t>],
-) -> Result<Vec<Entry<'t>>, NoMemory>
-    ensures { IfOk result (λ v. as_properties v.items ≡ filter lists_members (as_properties entries.now)) }
+/// The names of `worker.list`, each where it stands first.
+pub(crate) fn listed<'t>(alloc: Global, entries: &[Entry<'t>]) -> Result<Vec<Listing<'t>>, NoMemory>
+    ensures { IfOk result (λ v. as_listings v.items ≡ firsts (site_list (as_properties entries.now))) }
 {
-    let mut out = Vec::new(alloc);
-    for entry in entries {
-        if lists_members(entry) {
-            out.push(*entry)?;
-        }
-    }
-    Ok(out)
-}
-
-fn lists_members(entry: &Entry<'_>) -> bool
-    ensures { result ≡ lists_members (as_property entry.now) }
-{
-    match worker_part(entry.key) {
-        Some((_, text)) => text == Directive::BalanceWorkers.name(),
-        None => false,
-    }
-}
-
-/// The members that a worker's own lines list, one line after another.
-pub(crate) fn own_members<'t>(
-    alloc: Global,
-    lines: &[Entry<'t>],
-    owner: &[u8],
-) -> Result<Vec<Listing<'t>>, NoMemory>
-    ensures { IfOk result (λ v. as_listings v.items ≡ own_members (as_properties lines.now) owner.now) }
-{
-    let mut out = Vec::new(alloc);
-    for entry in lines {
-        if gives(owner, Directive::BalanceWorkers, entry) {
-            push_listings(alloc, &mut out, entry)?;
-        }
-    }
-    Ok(out)
-}
-
-/// The members that are in force, by the line that gives them.
-pub(crate) fn members_in<'t>(
-    alloc: Global,
-    lines: &[Entry<'t>],
-    given: Option<Entry<'t>>,
-) -> Result<Vec<Listing<'t>>, NoMemory>
-    ensures { IfOk result (λ v. as_listings v.items ≡ members_in (as_properties lines.now) (option_map as_property given.entry)) }
-{
-    match given {
-        None => Ok(Vec::new(alloc)),
-        Some(entry) => match worker_part(entry.key) {
-            None => own_members(alloc, lines, b""),
-            Some((owner, _)) => own_members(alloc, lines, owner),
-        },
-    }
+    firsts(alloc, site_list(alloc, entries)?.as_slice())
 }

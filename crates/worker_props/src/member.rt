@@ -49,15 +49,15 @@ pub(crate) fn endpoint_of<'t>(
     let no_pings: &'t [u8] = b"";
     let ping = text_or(entries, row, Directive::PingMode, no_pings);
     Ok(Endpoint {
-        host: Bytes::from_slice(alloc, host)?,
         port: number_or(entries, row, Directive::Port, 1, 65535, 8009) as u16,
         retries: number_or(entries, row, Directive::Retries, 1, 10, 2) as u32,
         packet: number_or(entries, row, Directive::PacketSize, 8192, 65536, 8192) as u32,
-        secret: copied(alloc, secret)?,
         recovery: number_or(entries, row, Directive::RecoveryOptions, 0, 31, 0) as u8,
         ping_new: pings(b'c', ping),
         ping_each: pings(b'p', ping),
         ping_idle: pings(b'i', ping),
+        host: Bytes::from_slice(alloc, host)?,
+        secret: copied(alloc, secret)?,
         fail_on: fail_list(alloc, entries, row)?,
     })
 }
@@ -100,12 +100,12 @@ pub(crate) fn member_of<'t>(
     let route = text_or(entries, row, Directive::Route, name);
     let redirected = text(entries, row, Directive::Redirect);
     Ok(MemberConfig {
-        name: Bytes::from_slice(alloc, name)?,
-        route: Bytes::from_slice(alloc, route)?,
         factor: number_or(entries, row, Directive::Factor, 1, 65535, 1) as u32,
         distance: number_or(entries, row, Directive::Distance, 0, 65535, 0) as u32,
         activation: activation(entries, row),
         redirect: redirect(index, redirected, routes),
         pool: number_or(entries, row, Directive::PoolSize, 1, 1024, 64) as u32,
+        name: Bytes::from_slice(alloc, name)?,
+        route: Bytes::from_slice(alloc, route)?,
     })
 }

@@ -7,12 +7,11 @@ ghost use Rattle.property_lines.specs.Entries.{as_properties};
 ghost use Rattle.worker_props.specs.Listings.{as_listing, as_listings};
 ghost use Rattle.property_lines.specs.Refusals.{IsRefusal};
 ghost use Rattle.worker_props.specs.Site.{AreMembers, Breaks, Chained, Each, FirstBad, IsAjp13, IsNoAjp13, IsUnknown, Known, routes_of};
-ghost use Rattle.worker_props.specs.Table.{IsNameOfGiven};
-ghost use Rattle.worker_props.specs.Ways.{AreOnWay};
+ghost use Rattle.worker_props.specs.Tables.{AreAtRest, lines_in};
 
+use crate::given::Given;
 use crate::listing::Listing;
 use crate::member::{endpoint_of, member_of};
-use crate::name_table::NameTable;
 use crate::row::Row;
 use crate::settings::text_or;
 use crate::site::{check_ajp13, check_known, check_reference, force_of};
@@ -24,37 +23,33 @@ use std::alloc::Global;
 /// Whether the references of each member lead on.
 pub(crate) fn check_references<'t>(
     alloc: Global,
-    entries: &[Entry<'t>],
-    names: &NameTable<'t>,
+    given: &Given<'_, 't>,
     rows: &mut Vec<Row>,
     members: &[Listing<'t>],
 ) -> Result<(), PropsError>
-    requires known { IsNameOfGiven (as_properties entries.now) names.now }
-    requires rows { AreOnWay (as_properties entries.now) [] names.now rows.old.items }
-    ensures rows { OnOk result (AreOnWay (as_properties entries.now) [] names.now rows.new.items) }
-    ensures ok { OnOk result (Each (Chained (as_properties entries.now)) (as_listings members.now)) }
-    ensures broken { IfErr result (IsRefusal (FirstBad (Chained (as_properties entries.now))
-        (Breaks (as_properties entries.now)) (as_listings members.now))) }
+    requires rows { AreAtRest given.now rows.old.items }
+    ensures rows { OnOk result (AreAtRest given.now rows.new.items) }
+    ensures ok { OnOk result (Each (Chained (lines_in given.now)) (as_listings members.now)) }
+    ensures broken { IfErr result (IsRefusal (FirstBad (Chained (lines_in given.now))
+        (Breaks (lines_in given.now)) (as_listings members.now))) }
 {
     for listing in members {
-        check_reference(alloc, entries, names, rows, listing)?;
+        check_reference(alloc, given, rows, listing)?;
     }
     Ok(())
 }
 
 /// Whether each member has a directive.
 pub(crate) fn check_members_known(
-    entries: &[Entry<'_>],
-    names: &NameTable<'_>,
+    given: &Given<'_, '_>,
     members: &[Listing<'_>],
 ) -> Result<(), PropsError>
-    requires { IsNameOfGiven (as_properties entries.now) names.now }
-    ensures ok { OnOk result (Each (Known (as_properties entries.now)) (as_listings members.now)) }
-    ensures unknown { IfErr result (IsRefusal (FirstBad (Known (as_properties entries.now))
-        (IsUnknown (as_properties entries.now)) (as_listings members.now))) }
+    ensures ok { OnOk result (Each (Known (lines_in given.now)) (as_listings members.now)) }
+    ensures unknown { IfErr result (IsRefusal (FirstBad (Known (lines_in given.now))
+        (IsUnknown (lines_in given.now)) (as_listings members.now))) }
 {
     for listing in members {
-        check_known(entries, names, listing)?;
+        check_known(given, listing)?;
     }
     Ok(())
 }
@@ -62,22 +57,20 @@ pub(crate) fn check_members_known(
 /// Whether each member is of type ajp13.
 pub(crate) fn check_types<'t>(
     alloc: Global,
-    entries: &[Entry<'t>],
-    names: &NameTable<'t>,
+    given: &Given<'_, 't>,
     rows: &mut Vec<Row>,
     members: &[Listing<'t>],
 ) -> Result<(), PropsError>
-    requires known { IsNameOfGiven (as_properties entries.now) names.now }
-    requires rows { AreOnWay (as_properties entries.now) [] names.now rows.old.items }
-    requires given { Each (Known (as_properties entries.now)) (as_listings members.now) }
-    requires chained { Each (Chained (as_properties entries.now)) (as_listings members.now) }
-    ensures rows { OnOk result (AreOnWay (as_properties entries.now) [] names.now rows.new.items) }
-    ensures ok { OnOk result (Each (IsAjp13 (as_properties entries.now)) (as_listings members.now)) }
-    ensures other { IfErr result (IsRefusal (FirstBad (IsAjp13 (as_properties entries.now))
-        (IsNoAjp13 (as_properties entries.now)) (as_listings members.now))) }
+    requires rows { AreAtRest given.now rows.old.items }
+    requires given { Each (Known (lines_in given.now)) (as_listings members.now) }
+    requires chained { Each (Chained (lines_in given.now)) (as_listings members.now) }
+    ensures rows { OnOk result (AreAtRest given.now rows.new.items) }
+    ensures ok { OnOk result (Each (IsAjp13 (lines_in given.now)) (as_listings members.now)) }
+    ensures other { IfErr result (IsRefusal (FirstBad (IsAjp13 (lines_in given.now))
+        (IsNoAjp13 (lines_in given.now)) (as_listings members.now))) }
 {
     for listing in members {
-        check_ajp13(alloc, entries, names, rows, listing)?;
+        check_ajp13(alloc, given, rows, listing)?;
     }
     Ok(())
 }
@@ -85,22 +78,20 @@ pub(crate) fn check_types<'t>(
 /// The rows that are in force for these members.
 fn rows_of<'t>(
     alloc: Global,
-    entries: &[Entry<'t>],
-    names: &NameTable<'t>,
+    given: &Given<'_, 't>,
     rows: &mut Vec<Row>,
     members: &[Listing<'t>],
 ) -> Result<Vec<Row>, PropsError>
-    requires known { IsNameOfGiven (as_properties entries.now) names.now }
-    requires rows { AreOnWay (as_properties entries.now) [] names.now rows.old.items }
-    requires given { Each (Known (as_properties entries.now)) (as_listings members.now) }
-    requires chained { Each (Chained (as_properties entries.now)) (as_listings members.now) }
-    ensures rows { OnOk result (AreOnWay (as_properties entries.now) [] names.now rows.new.items) }
-    ensures force { IfOk result (λ v. HaveForce (as_properties entries.now) (as_listings members.now) v.items) }
+    requires rows { AreAtRest given.now rows.old.items }
+    requires given { Each (Known (lines_in given.now)) (as_listings members.now) }
+    requires chained { Each (Chained (lines_in given.now)) (as_listings members.now) }
+    ensures rows { OnOk result (AreAtRest given.now rows.new.items) }
+    ensures force { IfOk result (λ v. HaveForce (lines_in given.now) (as_listings members.now) v.items) }
     ensures memory { IfErr result (λ e. e ≡ PropsError.NoMemory) }
 {
     let mut out = Vec::new(alloc);
     for listing in members {
-        out.push(force_of(alloc, entries, names, rows, listing.name)?)?;
+        out.push(force_of(alloc, given, rows, listing.name)?)?;
     }
     Ok(out)
 }
@@ -160,26 +151,24 @@ fn built<'t>(
 /// The members of these names, at most 64.
 pub(crate) fn members_of<'t>(
     alloc: Global,
-    entries: &[Entry<'t>],
-    names: &NameTable<'t>,
+    given: &Given<'_, 't>,
     rows: &mut Vec<Row>,
     members: &[Listing<'t>],
 ) -> Result<Members, PropsError>
-    requires known { IsNameOfGiven (as_properties entries.now) names.now }
-    requires rows { AreOnWay (as_properties entries.now) [] names.now rows.old.items }
-    requires given { Each (Known (as_properties entries.now)) (as_listings members.now) }
-    requires chained { Each (Chained (as_properties entries.now)) (as_listings members.now) }
+    requires rows { AreAtRest given.now rows.old.items }
+    requires given { Each (Known (lines_in given.now)) (as_listings members.now) }
+    requires chained { Each (Chained (lines_in given.now)) (as_listings members.now) }
     requires few { length members.now ≤ 64 }
-    ensures rows { OnOk result (AreOnWay (as_properties entries.now) [] names.now rows.new.items) }
-    ensures members { IfOk result (λ b. AreMembers (as_properties entries.now) (routes_of b.configs.items) 0
+    ensures rows { OnOk result (AreAtRest given.now rows.new.items) }
+    ensures members { IfOk result (λ b. AreMembers (lines_in given.now) (routes_of b.configs.items) 0
         (as_listings members.now) b.configs.items b.ends.items) }
     ensures ranges { IfOk result (λ b. AreInRange b.configs.items) }
     ensures count { IfOk result (λ b. (length b.configs.items ≡ length members.now) × (length b.ends.items ≡ length members.now)) }
     ensures memory { IfErr result (λ e. e ≡ PropsError.NoMemory) }
 {
-    let rows_in_force = rows_of(alloc, entries, names, rows, members)?;
+    let rows_in_force = rows_of(alloc, given, rows, members)?;
     let own = rows_in_force.as_slice();
-    let routes_in_force = routes_of(alloc, entries, own, members)?;
+    let routes_in_force = routes_of(alloc, given.entries, own, members)?;
     let routes = routes_in_force.as_slice();
-    built(alloc, entries, own, members, routes)
+    built(alloc, given.entries, own, members, routes)
 }

@@ -5,9 +5,10 @@ ghost use Rattle.property_lines.specs.Entries.{as_property, as_properties};
 ghost use Rattle.worker_props.specs.Given.{is_given, or_else, target_name};
 ghost use Rattle.worker_props.specs.Numbers.{number_of};
 ghost use Rattle.worker_props.specs.Rows.{adjusted};
-ghost use Rattle.worker_props.specs.Table.{IsNameOfGiven};
-ghost use Rattle.worker_props.specs.Ways.{AreOnWay, IsWay, IsBroken, IsSettled, Inherits, is_open, passed_row, row_of_target};
+ghost use Rattle.worker_props.specs.Tables.{AreAtRest, lines_in};
+ghost use Rattle.worker_props.specs.Ways.{IsWay, IsBroken, IsSettled, Inherits, is_open, passed_row, row_of_target};
 
+use crate::given::Given;
 use crate::name_table::NameTable;
 use crate::row::{Progress, Row, picked};
 use property_lines::{Directive, Entry, PropsError, Reason, behind_worker, refused};
@@ -94,31 +95,29 @@ fn next_on_way<'t>(names: &NameTable<'_>, rows: &[Row], entry: &Entry<'t>) -> Op
 /// order, or the line of the first reference to a worker without a directive or to one that was passed before.
 fn walk<'t>(
     alloc: Global,
-    entries: &[Entry<'t>],
-    names: &NameTable<'t>,
+    given: &Given<'_, 't>,
     rows: &mut Vec<Row>,
     start: &'t [u8],
 ) -> Result<Vec<&'t [u8]>, PropsError>
-    requires known { IsNameOfGiven (as_properties entries.now) names.now }
-    requires given { is_given (as_properties entries.now) start.now ≡ true }
-    requires rows { AreOnWay (as_properties entries.now) [] names.now rows.old.items }
-    ensures way { IfOk result (λ path. IsWay (as_properties entries.now) start.now names.now rows.new.items
+    requires given { is_given (lines_in given.now) start.now ≡ true }
+    requires rows { AreAtRest given.now rows.old.items }
+    ensures way { IfOk result (λ path. IsWay (lines_in given.now) start.now given.now.names.now rows.new.items
         (reverse (map (λ n. n.now) path.items))) }
-    ensures broken { IfErr result (IsBroken (as_properties entries.now) start.now) }
+    ensures broken { IfErr result (IsBroken (lines_in given.now) start.now) }
 {
     let mut path = Vec::new(alloc);
     let mut at = start;
     loop {
-        let number = names.find(at).unwrap();
+        let number = given.names.find(at).unwrap();
         let row = rows[number];
         if row.is_whole() {
             return Ok(path);
         }
         pass(rows, number);
         path.push(at)?;
-        match picked(entries, &row, Directive::Reference) {
+        match picked(given.entries, &row, Directive::Reference) {
             None => return Ok(path),
-            Some(entry) => match next_on_way(names, rows.as_slice(), &entry) {
+            Some(entry) => match next_on_way(given.names, rows.as_slice(), &entry) {
                 Some(next) => at = next,
                 None => return Err(refused(entry.line, Reason::BadReference)),
             },
@@ -129,23 +128,21 @@ fn walk<'t>(
 /// Makes the row of a worker whole, and those of the workers to which its references lead.
 pub(crate) fn resolve<'t>(
     alloc: Global,
-    entries: &[Entry<'t>],
-    names: &NameTable<'t>,
+    given: &Given<'_, 't>,
     rows: &mut Vec<Row>,
     start: &'t [u8],
 ) -> Result<(), PropsError>
-    requires known { IsNameOfGiven (as_properties entries.now) names.now }
-    requires given { is_given (as_properties entries.now) start.now ≡ true }
-    requires rows { AreOnWay (as_properties entries.now) [] names.now rows.old.items }
-    ensures rows { OnOk result (AreOnWay (as_properties entries.now) [] names.now rows.new.items) }
-    ensures settled { OnOk result (IsSettled names.now rows.new.items start.now) }
-    ensures broken { IfErr result (IsBroken (as_properties entries.now) start.now) }
+    requires given { is_given (lines_in given.now) start.now ≡ true }
+    requires rows { AreAtRest given.now rows.old.items }
+    ensures rows { OnOk result (AreAtRest given.now rows.new.items) }
+    ensures settled { OnOk result (IsSettled given.now.names.now rows.new.items start.now) }
+    ensures broken { IfErr result (IsBroken (lines_in given.now) start.now) }
 {
-    let mut path = walk(alloc, entries, names, rows, start)?;
+    let mut path = walk(alloc, given, rows, start)?;
     while let Some(name) = path.pop() {
-        let number = names.find(name).unwrap();
+        let number = given.names.find(name).unwrap();
         let row = rows[number];
-        let from = target_row(entries, names, rows.as_slice(), &row);
+        let from = target_row(given.entries, given.names, rows.as_slice(), &row);
         rows[number] = whole_row(&row, from);
     }
     Ok(())

@@ -1,22 +1,22 @@
 //! The lines of a text, its workers' names, and the rows that are in force.
 ghost use Rattle.std.specs.Prelude.{◌≡◌, ◌<◌, ◌^◌, ℕ, [], Some, slice_get, length, true, IfOk, IfErr, OnOk, OnErr};
-ghost use Rattle.property_lines.specs.Entries.{as_properties};
 ghost use Rattle.worker_props.specs.Given.{is_given};
 ghost use Rattle.worker_props.specs.Lists.{Listing};
 ghost use Rattle.worker_props.specs.Listings.{as_listing, as_listings};
 ghost use Rattle.worker_props.specs.Numbers.{number_of};
 ghost use Rattle.property_lines.specs.Refusals.{IsRefusal};
 ghost use Rattle.worker_props.specs.Rows.{HasForce};
-ghost use Rattle.worker_props.specs.Site.{Breaks, Chained, Each, FirstBad, IsAjp13, IsIndexed, IsNoAjp13, IsUnknown, Known};
-ghost use Rattle.worker_props.specs.Table.{IsNameOfGiven};
-ghost use Rattle.worker_props.specs.Ways.{AreOnWay, IsBroken, IsSettled};
+ghost use Rattle.worker_props.specs.Site.{Breaks, Chained, Each, FirstBad, IsAjp13, IsNoAjp13, IsUnknown, Known};
+ghost use Rattle.worker_props.specs.Tables.{AreAtRest, lines_in};
+ghost use Rattle.worker_props.specs.Ways.{IsBroken, IsSettled};
 
+use crate::given::Given;
 use crate::listing::Listing;
 use crate::name_table::NameTable;
 use crate::reference::resolve;
 use crate::row::Row;
 use crate::settings::kind;
-use property_lines::{Entry, Kind, PropsError, Reason, refused};
+use property_lines::{Kind, PropsError, Reason, refused};
 use std::alloc::Global;
 
 /// The row of a worker whose row is whole.
@@ -31,39 +31,35 @@ fn settled_row(names: &NameTable<'_>, rows: &[Row], name: &[u8]) -> Row
 /// The row that is in force for a worker.
 pub(crate) fn force_of<'t>(
     alloc: Global,
-    entries: &[Entry<'t>],
-    names: &NameTable<'t>,
+    given: &Given<'_, 't>,
     rows: &mut Vec<Row>,
     name: &'t [u8],
 ) -> Result<Row, PropsError>
-    requires known { IsNameOfGiven (as_properties entries.now) names.now }
-    requires given { is_given (as_properties entries.now) name.now ≡ true }
-    requires rows { AreOnWay (as_properties entries.now) [] names.now rows.old.items }
-    ensures rows { OnOk result (AreOnWay (as_properties entries.now) [] names.now rows.new.items) }
-    ensures force { IfOk result (HasForce (as_properties entries.now) name.now) }
-    ensures broken { IfErr result (IsBroken (as_properties entries.now) name.now) }
+    requires given { is_given (lines_in given.now) name.now ≡ true }
+    requires rows { AreAtRest given.now rows.old.items }
+    ensures rows { OnOk result (AreAtRest given.now rows.new.items) }
+    ensures force { IfOk result (HasForce (lines_in given.now) name.now) }
+    ensures broken { IfErr result (IsBroken (lines_in given.now) name.now) }
 {
-    resolve(alloc, entries, names, rows, name)?;
-    Ok(settled_row(names, rows.as_slice(), name))
+    resolve(alloc, given, rows, name)?;
+    Ok(settled_row(given.names, rows.as_slice(), name))
 }
 
 /// Whether the references of a listed worker lead on; one without a directive has none.
 pub(crate) fn check_reference<'t>(
     alloc: Global,
-    entries: &[Entry<'t>],
-    names: &NameTable<'t>,
+    given: &Given<'_, 't>,
     rows: &mut Vec<Row>,
     listing: &Listing<'t>,
 ) -> Result<(), PropsError>
-    requires known { IsNameOfGiven (as_properties entries.now) names.now }
-    requires rows { AreOnWay (as_properties entries.now) [] names.now rows.old.items }
-    ensures rows { OnOk result (AreOnWay (as_properties entries.now) [] names.now rows.new.items) }
-    ensures ok { OnOk result (Chained (as_properties entries.now) (as_listing listing.now)) }
-    ensures broken { IfErr result (IsRefusal (Breaks (as_properties entries.now) (as_listing listing.now))) }
+    requires rows { AreAtRest given.now rows.old.items }
+    ensures rows { OnOk result (AreAtRest given.now rows.new.items) }
+    ensures ok { OnOk result (Chained (lines_in given.now) (as_listing listing.now)) }
+    ensures broken { IfErr result (IsRefusal (Breaks (lines_in given.now) (as_listing listing.now))) }
 {
-    match names.find(listing.name) {
+    match given.names.find(listing.name) {
         Some(_) => {
-            force_of(alloc, entries, names, rows, listing.name)?;
+            force_of(alloc, given, rows, listing.name)?;
             Ok(())
         }
         None => Ok(()),
@@ -71,16 +67,11 @@ pub(crate) fn check_reference<'t>(
 }
 
 /// Whether a listed worker has a directive.
-pub(crate) fn check_known(
-    entries: &[Entry<'_>],
-    names: &NameTable<'_>,
-    listing: &Listing<'_>,
-) -> Result<(), PropsError>
-    requires { IsNameOfGiven (as_properties entries.now) names.now }
-    ensures ok { OnOk result (Known (as_properties entries.now) (as_listing listing.now)) }
-    ensures unknown { IfErr result (IsRefusal (IsUnknown (as_properties entries.now) (as_listing listing.now))) }
+pub(crate) fn check_known(given: &Given<'_, '_>, listing: &Listing<'_>) -> Result<(), PropsError>
+    ensures ok { OnOk result (Known (lines_in given.now) (as_listing listing.now)) }
+    ensures unknown { IfErr result (IsRefusal (IsUnknown (lines_in given.now) (as_listing listing.now))) }
 {
-    match names.find(listing.name) {
+    match given.names.find(listing.name) {
         Some(_) => Ok(()),
         None => Err(refused(listing.line, Reason::UnknownWorker)),
     }
@@ -89,21 +80,19 @@ pub(crate) fn check_known(
 /// Whether a member is of type ajp13.
 pub(crate) fn check_ajp13<'t>(
     alloc: Global,
-    entries: &[Entry<'t>],
-    names: &NameTable<'t>,
+    given: &Given<'_, 't>,
     rows: &mut Vec<Row>,
     listing: &Listing<'t>,
 ) -> Result<(), PropsError>
-    requires known { IsNameOfGiven (as_properties entries.now) names.now }
-    requires rows { AreOnWay (as_properties entries.now) [] names.now rows.old.items }
-    requires given { Known (as_properties entries.now) (as_listing listing.now) }
-    requires chained { Chained (as_properties entries.now) (as_listing listing.now) }
-    ensures rows { OnOk result (AreOnWay (as_properties entries.now) [] names.now rows.new.items) }
-    ensures ok { OnOk result (IsAjp13 (as_properties entries.now) (as_listing listing.now)) }
-    ensures other { IfErr result (IsRefusal (IsNoAjp13 (as_properties entries.now) (as_listing listing.now))) }
+    requires rows { AreAtRest given.now rows.old.items }
+    requires given { Known (lines_in given.now) (as_listing listing.now) }
+    requires chained { Chained (lines_in given.now) (as_listing listing.now) }
+    ensures rows { OnOk result (AreAtRest given.now rows.new.items) }
+    ensures ok { OnOk result (IsAjp13 (lines_in given.now) (as_listing listing.now)) }
+    ensures other { IfErr result (IsRefusal (IsNoAjp13 (lines_in given.now) (as_listing listing.now))) }
 {
-    let row = force_of(alloc, entries, names, rows, listing.name)?;
-    match kind(entries, &row) {
+    let row = force_of(alloc, given, rows, listing.name)?;
+    match kind(given.entries, &row) {
         Kind::Ajp13 => Ok(()),
         Kind::Lb => Err(refused(listing.line, Reason::BadValue)),
         Kind::Status => Err(refused(listing.line, Reason::BadValue)),

@@ -1,29 +1,28 @@
 //! The second pass: the workers of `worker.list`, in order.
-ghost use Rattle.std.specs.Prelude.{◌≡◌, ◌≤◌, ℕ, [], length, filter, IfOk, IfErr, OnOk};
-ghost use Rattle.jk_model.specs.Ranges.{IsPeriod};
+ghost use Rattle.std.specs.Prelude.{◌≡◌, ◌≤◌, ◌<◌, ◌^◌, ℕ, length, IfOk, IfErr, OnOk};
+ghost use Rattle.jk_io.specs.declared.whole_input.TheConstants.{MAX_INPUT_BYTES};
 ghost use Rattle.property_lines.specs.Directives.{slot_of};
 ghost use Rattle.property_lines.specs.Entries.{as_properties};
-ghost use Rattle.worker_props.specs.Lists.{lists_members, members_in};
 ghost use Rattle.worker_props.specs.Listings.{as_listing, as_listings};
+ghost use Rattle.worker_props.specs.Lists.{firsts, site_list};
 ghost use Rattle.property_lines.specs.Refusals.{IsRefusal};
 ghost use Rattle.worker_props.specs.Rows.{HasForce, property_at};
 ghost use Rattle.worker_props.specs.Settings.{kind_in};
-ghost use Rattle.worker_props.specs.Site.{Adds, AddsKind, Builds, IsConfig, IsRefused, Known, Chained, Refuses, RefusesKind, Stops, no_workers};
-ghost use Rattle.worker_props.specs.Table.{IsNameOfGiven};
-ghost use Rattle.worker_props.specs.Ways.{AreOnWay};
+ghost use Rattle.worker_props.specs.Site.{Adds, AddsKind, Builds, IsConfig, IsRefused, Known, Chained, Refuses, RefusesKind, Stops, draft_of, ignored_of, maintain_of, no_workers};
+ghost use Rattle.worker_props.specs.Tables.{AreAtRest, lines_in};
 
 use crate::books::{balanced, direct};
 use crate::draft::Draft;
-use crate::firsts::firsts;
-use crate::listing::{Listing, member_lines, members_in, site_list};
+use crate::given::Given;
+use crate::listing::{Listing, listed};
+use crate::member_lists::{member_lists, members_in};
 use crate::members::{check_members_known, check_references, check_types};
-use crate::name_table::NameTable;
-use crate::row::{Row, picked};
+use crate::row::Row;
 use crate::settings::{kind, truth_or};
 use crate::site::{check_known, force_of};
 use crate::table::{names_of, rows_of};
 use crate::whole::{ignored_of, maintain_of};
-use jk_io::Bytes;
+use jk_io::{Bytes, ListOf};
 use property_lines::{Directive, Entry, Kind, PropsError, Reason, read_entries, refused};
 use site_config::{Config, Status};
 use std::alloc::Global;
@@ -34,74 +33,52 @@ const MAX_BALANCERS: usize = 1024;
 /// Adds an lb worker.
 fn add_lb<'t>(
     alloc: Global,
-    entries: &[Entry<'t>],
-    lines: &[Entry<'t>],
-    names: &NameTable<'t>,
+    given: &Given<'_, 't>,
     rows: &mut Vec<Row>,
     draft: &mut Draft,
     row: &Row,
     listing: &Listing<'t>,
-    maintain: u64,
 ) -> Result<(), PropsError>
-    requires known { IsNameOfGiven (as_properties entries.now) names.now }
-    requires lines { as_properties lines.now ≡ filter lists_members (as_properties entries.now) }
-    requires rows { AreOnWay (as_properties entries.now) [] names.now rows.old.items }
-    requires period { IsPeriod maintain }
-    ensures rows { OnOk result (AreOnWay (as_properties entries.now) [] names.now rows.new.items) }
-    ensures ok { OnOk result (AddsKind (as_properties entries.now) maintain (as_listing listing.now)
-        (property_at (as_properties entries.now) row.now) Kind.Lb draft.old draft.new) }
-    ensures refused { IfErr result (IsRefusal (RefusesKind (as_properties entries.now) (length draft.old.lbs)
-        (as_listing listing.now) (property_at (as_properties entries.now) row.now) Kind.Lb)) }
+    requires rows { AreAtRest given.now rows.old.items }
+    ensures rows { OnOk result (AreAtRest given.now rows.new.items) }
+    ensures ok { OnOk result (AddsKind (lines_in given.now) given.now.maintain (as_listing listing.now)
+        (property_at (lines_in given.now) row.now) Kind.Lb draft.old draft.new) }
+    ensures refused { IfErr result (IsRefusal (RefusesKind (lines_in given.now) (length draft.old.lbs)
+        (as_listing listing.now) (property_at (lines_in given.now) row.now) Kind.Lb)) }
 {
-    let given = picked(entries, row, Directive::BalanceWorkers);
-    let in_force = members_in(alloc, lines, given)?;
-    let members = in_force.as_slice();
-    check_references(alloc, entries, names, rows, members)?;
-    check_members_known(entries, names, members)?;
+    let members = members_in(given, row);
+    check_references(alloc, given, rows, members)?;
+    check_members_known(given, members)?;
     if draft.lbs.len() >= MAX_BALANCERS {
         return Err(refused(listing.line, Reason::BadValue));
     }
-    check_types(alloc, entries, names, rows, members)?;
-    let distinct = firsts(alloc, members)?;
-    let lb = balanced(
-        alloc,
-        entries,
-        names,
-        rows,
-        row,
-        listing,
-        distinct.as_slice(),
-        maintain,
-    )?;
+    check_types(alloc, given, rows, members)?;
+    let lb = balanced(alloc, given, rows, row, listing, members)?;
     draft.add_lb(Bytes::from_slice(alloc, listing.name)?, lb)
 }
 
 /// Adds an ajp13 worker that is listed itself.
 fn add_direct<'t>(
     alloc: Global,
-    entries: &[Entry<'t>],
-    names: &NameTable<'t>,
+    given: &Given<'_, 't>,
     rows: &mut Vec<Row>,
     draft: &mut Draft,
     row: &Row,
     listing: &Listing<'t>,
-    maintain: u64,
 ) -> Result<(), PropsError>
-    requires known { IsNameOfGiven (as_properties entries.now) names.now }
-    requires rows { AreOnWay (as_properties entries.now) [] names.now rows.old.items }
-    requires given { Known (as_properties entries.now) (as_listing listing.now) }
-    requires chained { Chained (as_properties entries.now) (as_listing listing.now) }
-    requires period { IsPeriod maintain }
-    ensures rows { OnOk result (AreOnWay (as_properties entries.now) [] names.now rows.new.items) }
-    ensures ok { OnOk result (AddsKind (as_properties entries.now) maintain (as_listing listing.now)
-        (property_at (as_properties entries.now) row.now) Kind.Ajp13 draft.old draft.new) }
-    ensures refused { IfErr result (IsRefusal (RefusesKind (as_properties entries.now) (length draft.old.lbs)
-        (as_listing listing.now) (property_at (as_properties entries.now) row.now) Kind.Ajp13)) }
+    requires rows { AreAtRest given.now rows.old.items }
+    requires given { Known (lines_in given.now) (as_listing listing.now) }
+    requires chained { Chained (lines_in given.now) (as_listing listing.now) }
+    ensures rows { OnOk result (AreAtRest given.now rows.new.items) }
+    ensures ok { OnOk result (AddsKind (lines_in given.now) given.now.maintain (as_listing listing.now)
+        (property_at (lines_in given.now) row.now) Kind.Ajp13 draft.old draft.new) }
+    ensures refused { IfErr result (IsRefusal (RefusesKind (lines_in given.now) (length draft.old.lbs)
+        (as_listing listing.now) (property_at (lines_in given.now) row.now) Kind.Ajp13)) }
 {
     if draft.lbs.len() >= MAX_BALANCERS {
         return Err(refused(listing.line, Reason::BadValue));
     }
-    let lb = direct(alloc, entries, names, rows, listing, maintain)?;
+    let lb = direct(alloc, given, rows, listing)?;
     draft.add_lb(Bytes::from_slice(alloc, listing.name)?, lb)
 }
 
@@ -128,94 +105,109 @@ fn add_status(
 /// Adds a listed worker, or refuses it.
 fn add_worker<'t>(
     alloc: Global,
-    entries: &[Entry<'t>],
-    lines: &[Entry<'t>],
-    names: &NameTable<'t>,
+    given: &Given<'_, 't>,
     rows: &mut Vec<Row>,
     draft: &mut Draft,
     listing: &Listing<'t>,
-    maintain: u64,
 ) -> Result<(), PropsError>
-    requires known { IsNameOfGiven (as_properties entries.now) names.now }
-    requires lines { as_properties lines.now ≡ filter lists_members (as_properties entries.now) }
-    requires rows { AreOnWay (as_properties entries.now) [] names.now rows.old.items }
-    requires period { IsPeriod maintain }
-    ensures rows { OnOk result (AreOnWay (as_properties entries.now) [] names.now rows.new.items) }
-    ensures ok { OnOk result (Adds (as_properties entries.now) maintain (as_listing listing.now) draft.old draft.new) }
-    ensures refused { IfErr result (IsRefusal (Refuses (as_properties entries.now) (length draft.old.lbs) (as_listing listing.now))) }
+    requires rows { AreAtRest given.now rows.old.items }
+    ensures rows { OnOk result (AreAtRest given.now rows.new.items) }
+    ensures ok { OnOk result (Adds (lines_in given.now) given.now.maintain (as_listing listing.now) draft.old draft.new) }
+    ensures refused { IfErr result (IsRefusal (Refuses (lines_in given.now) (length draft.old.lbs) (as_listing listing.now))) }
 {
-    check_known(entries, names, listing)?;
-    let row = force_of(alloc, entries, names, rows, listing.name)?;
-    match kind(entries, &row) {
-        Kind::Ajp13 => add_direct(alloc, entries, names, rows, draft, &row, listing, maintain),
-        Kind::Lb => add_lb(
-            alloc, entries, lines, names, rows, draft, &row, listing, maintain,
-        ),
-        Kind::Status => add_status(alloc, entries, draft, &row, listing),
+    check_known(given, listing)?;
+    let row = force_of(alloc, given, rows, listing.name)?;
+    match kind(given.entries, &row) {
+        Kind::Ajp13 => add_direct(alloc, given, rows, draft, &row, listing),
+        Kind::Lb => add_lb(alloc, given, rows, draft, &row, listing),
+        Kind::Status => add_status(alloc, given.entries, draft, &row, listing),
     }
 }
 
 /// Adds the listed workers, up to the first that is refused.
 fn add_workers<'t>(
     alloc: Global,
-    entries: &[Entry<'t>],
-    lines: &[Entry<'t>],
-    names: &NameTable<'t>,
+    given: &Given<'_, 't>,
     rows: &mut Vec<Row>,
     listings: &[Listing<'t>],
-    maintain: u64,
 ) -> Result<Draft, PropsError>
-    requires known { IsNameOfGiven (as_properties entries.now) names.now }
-    requires lines { as_properties lines.now ≡ filter lists_members (as_properties entries.now) }
-    requires rows { AreOnWay (as_properties entries.now) [] names.now rows.old.items }
-    requires period { IsPeriod maintain }
-    ensures ok { IfOk result (Builds (as_properties entries.now) maintain (as_listings listings.now) no_workers) }
-    ensures refused { IfErr result (IsRefusal (Stops (as_properties entries.now) maintain (as_listings listings.now) no_workers)) }
+    requires rows { AreAtRest given.now rows.old.items }
+    ensures ok { IfOk result (Builds (lines_in given.now) given.now.maintain (as_listings listings.now) no_workers) }
+    ensures refused { IfErr result (IsRefusal (Stops (lines_in given.now) given.now.maintain (as_listings listings.now) no_workers)) }
 {
     let mut draft = Draft::new(alloc);
     for listing in listings {
-        add_worker(
-            alloc, entries, lines, names, rows, &mut draft, listing, maintain,
-        )?;
+        add_worker(alloc, given, rows, &mut draft, listing)?;
     }
     Ok(draft)
+}
+
+/// The workers of `worker.list`, each name once, made into balancers and status workers.
+fn drafted(alloc: Global, given: &Given<'_, '_>) -> Result<Draft, PropsError>
+    ensures ok { IfOk result (Builds (lines_in given.now) given.now.maintain
+        (firsts (site_list (lines_in given.now))) no_workers) }
+    ensures refused { IfErr result (IsRefusal (Stops (lines_in given.now) given.now.maintain
+        (firsts (site_list (lines_in given.now))) no_workers)) }
+{
+    let mut rows = rows_of(alloc, given.names, given.entries)?;
+    let listings = listed(alloc, given.entries)?;
+    add_workers(alloc, given, &mut rows, listings.as_slice())
+}
+
+/// The configuration of the lines.
+fn config_of(alloc: Global, given: &Given<'_, '_>) -> Result<Config, PropsError>
+    ensures ok { IfOk result (λ c. Builds (lines_in given.now) given.now.maintain
+        (firsts (site_list (lines_in given.now))) no_workers (draft_of c)) }
+    ensures maintain { IfOk result (λ c. c.maintain ≡ given.now.maintain) }
+    ensures ignored { IfOk result (λ c. c.ignored ≡ ignored_of (lines_in given.now)) }
+    ensures refused { IfErr result (IsRefusal (Stops (lines_in given.now) given.now.maintain
+        (firsts (site_list (lines_in given.now))) no_workers)) }
+{
+    let ignored = ignored_of(alloc, given.entries)?;
+    let Draft {
+        lbs,
+        statuses,
+        listed,
+    } = drafted(alloc, given)?;
+    Ok(Config {
+        lbs,
+        statuses,
+        listed,
+        maintain: given.maintain,
+        ignored,
+    })
+}
+
+/// The configuration of lines that pass by themselves, as `read_entries` gives them where values count, or their first
+/// refusal.
+pub fn workers_of(alloc: Global, entries: &[Entry<'_>]) -> Result<Config, PropsError>
+    requires { length entries.now < 2 ^ 32 }
+    ensures ok { IfOk result (λ c. Builds (as_properties entries.now) (maintain_of (as_properties entries.now))
+        (firsts (site_list (as_properties entries.now))) no_workers (draft_of c)) }
+    ensures maintain { IfOk result (λ c. c.maintain ≡ maintain_of (as_properties entries.now)) }
+    ensures ignored { IfOk result (λ c. c.ignored ≡ ignored_of (as_properties entries.now)) }
+    ensures refused { IfErr result (IsRefusal (Stops (as_properties entries.now) (maintain_of (as_properties entries.now))
+        (firsts (site_list (as_properties entries.now))) no_workers)) }
+{
+    let names = names_of(alloc, entries)?;
+    let lists = member_lists(alloc, &names, entries)?;
+    let nobody = ListOf::new(alloc);
+    let given = Given {
+        entries,
+        names: &names,
+        lists: lists.as_slice(),
+        nobody: nobody.as_slice(),
+        maintain: maintain_of(entries),
+    };
+    config_of(alloc, &given)
 }
 
 /// The configuration that a workers.properties gives, or its first refusal: the first pass goes over the lines, the
 /// second over the workers of `worker.list`.
 pub fn read_workers(alloc: Global, text: &[u8]) -> Result<Config, PropsError>
-    requires { length text.now ≤ 67108864 }
+    requires { length text.now ≤ MAX_INPUT_BYTES }
     ensures ok { IfOk result (IsConfig text.now) }
     ensures refused { IfErr result (IsRefusal (IsRefused text.now)) }
 {
-    let properties = read_entries(alloc, true, text)?;
-    let entries = properties.as_slice();
-    let names = names_of(alloc, entries)?;
-    let mut rows = rows_of(alloc, &names, entries)?;
-    let lines = member_lines(alloc, entries)?;
-    let all = site_list(alloc, entries)?;
-    let listings = firsts(alloc, all.as_slice())?;
-    let maintain = maintain_of(entries);
-    let draft = add_workers(
-        alloc,
-        entries,
-        lines.as_slice(),
-        &names,
-        &mut rows,
-        listings.as_slice(),
-        maintain,
-    )?;
-    let ignored = ignored_of(alloc, entries)?;
-    let Draft {
-        lbs,
-        statuses,
-        listed,
-    } = draft;
-    Ok(Config {
-        lbs,
-        statuses,
-        listed,
-        maintain,
-        ignored,
-    })
+    workers_of(alloc, read_entries(alloc, true, text)?.as_slice())
 }

@@ -7,4 +7,4 @@ pub unreachable-requires : goal.unreachable-requires
 unreachable-requires c =
     let one : length c.from_vec-configs.result ≡ 1 = rw c.from_vec-configs.ensures c.in_ok-members.ensures.count.0 in
     let within : AreInRange c.from_vec-configs.result = rw c.from_vec-configs.ensures c.in_ok-members.ensures.ranges in
-    one_book c.args.maintain c.from_vec-configs.result _ one within c.requires.period c.in-Err.ensures.refused
+    one_book c.args.given.now.maintain c.from_vec-configs.result _ one within c.args.given.now.period c.in-Err.ensures.refused

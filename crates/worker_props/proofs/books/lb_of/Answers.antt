@@ -17,7 +17,7 @@ returns-in-Err-clause-wide c =
     let few : length c.from_vec-configs.result ≤ 64 = rw count c.requires.few in
     let within : AreInRange c.from_vec-configs.result = rw c.from_vec-configs.ensures c.in_ok-made.ensures.ranges in
     let recover : IsPeriod c.number_or-recover.result = record { above = c.number_or-recover.ensures.low; below = c.number_or-recover.ensures.high } in
-    let wide : 2 ^ 32 ≤ multiple_of (factors_in c.from_vec-configs.result) = book_refused c.args.maintain c.number_or-recover.result c.from_vec-configs.result _ some few within c.requires.period recover c.in-Err.ensures.refused in
+    let wide : 2 ^ 32 ≤ multiple_of (factors_in c.from_vec-configs.result) = book_refused c.args.given.now.maintain c.number_or-recover.result c.from_vec-configs.result _ some few within c.args.given.now.period recover c.in-Err.ensures.refused in
     let made_wide : 2 ^ 32 ≤ multiple_of (factors_in made) = rw c.from_vec-configs.ensures at wide in
     let listed_some : 1 ≤ length (as_listings members) = rw length-map c.requires.some in
     let listed_few : length (as_listings members) ≤ 64 = rw length-map c.requires.few in

@@ -14,4 +14,4 @@ pub returns : goal.returns
 returns c =
     let read : map (λ (w : Bor (List ℕ)). w.now) c.push_words.new.out.items ≡ words c.args.entry.now.value.now = rw c.new-words.ensures.items at c.in_ok-push_words.ensures in
     let whole : take c.loop-word.word-index c.deref-word-items.result.now ≡ c.push_words.new.out.items = take_all _ _ c.loop-word-test.false ∙ c.deref-word-items.ensures.value in
-    c.loop-word.invariant ∙ ap (λ (ls : List Listing). as_listings c.args.out.now.items ++ ls) (rw whole (at_line _ _) ∙ ap (λ (ws : List (List ℕ)). map (listing_at c.args.entry.now.line) ws) read)
+    c.loop-word.invariant ∙ ap (λ (ls : List Listing). as_listings c.args.out.now ++ ls) (rw whole (at_line _ _) ∙ ap (λ (ws : List (List ℕ)). map (listing_at c.args.entry.now.line) ws) read)

@@ -6,4 +6,4 @@ use Rattle.worker_props.proofs.listing.site_list.Given as goal
 
 -- the names of the lines so far
 abbrev pub invariant-loop-entry : goal.invariant-loop-entry
-invariant-loop-entry l = as_listings l.out.items ≡ joined is_list_line (as_properties (take l.entry-index l.entries))
+invariant-loop-entry l = as_listings l.out ≡ joined is_list_line (as_properties (take l.entry-index l.entries))

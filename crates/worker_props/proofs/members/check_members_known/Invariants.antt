@@ -8,5 +8,5 @@ use Rattle.worker_props.proofs.members.check_members_known.Given as goal
 -- the rest of the members decides
 abbrev pub invariant-loop-listing : goal.invariant-loop-listing
 invariant-loop-listing l = record {
-  checked : Checked (Known (as_properties l.entries)) (IsUnknown (as_properties l.entries)) (as_listings (drop l.listing-index l.members)) (as_listings l.members);
+  checked : Checked (Known (as_properties l.given.entries.now)) (IsUnknown (as_properties l.given.entries.now)) (as_listings (drop l.listing-index l.members)) (as_listings l.members);
 }

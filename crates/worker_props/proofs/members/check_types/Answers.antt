@@ -5,7 +5,7 @@ use Rattle.worker_props.proofs.CheckLemmas.{each_at}
 use Rattle.worker_props.proofs.members.check_types.Goals as goal
 
 pub check_ajp13-requires-clause-given : goal.check_ajp13-requires-clause-given
-check_ajp13-requires-clause-given c = each_at (Known (as_properties c.args.entries.now)) c.args.members.now c.loop-listing.listing-index _ (omega arith) c.requires.given
+check_ajp13-requires-clause-given c = each_at (Known (as_properties c.args.given.now.entries.now)) c.args.members.now c.loop-listing.listing-index _ (omega arith) c.requires.given
 
 pub check_ajp13-requires-clause-chained : goal.check_ajp13-requires-clause-chained
-check_ajp13-requires-clause-chained c = each_at (Chained (as_properties c.args.entries.now)) c.args.members.now c.loop-listing.listing-index _ (omega arith) c.requires.chained
+check_ajp13-requires-clause-chained c = each_at (Chained (as_properties c.args.given.now.entries.now)) c.args.members.now c.loop-listing.listing-index _ (omega arith) c.requires.chained

@@ -1,14 +1,14 @@
-use Rattle.std.proofs.Common.{drop, []}
+use Rattle.std.proofs.Common.{drop}
 use Rattle.property_lines.specs.Entries.{as_properties}
 use Rattle.worker_props.specs.Listings.{as_listings}
 use Rattle.worker_props.specs.Checks.{Checked}
-use Rattle.worker_props.specs.Ways.{AreOnWay}
+use Rattle.worker_props.specs.Tables.{AreAtRest}
 use Rattle.worker_props.specs.Site.{IsAjp13, IsNoAjp13}
 use Rattle.worker_props.proofs.members.check_types.Given as goal
 
 -- the rest of the members decides
 abbrev pub invariant-loop-listing : goal.invariant-loop-listing
 invariant-loop-listing l = record {
-  rows_are : AreOnWay (as_properties l.entries) [] l.names l.rows.items;
-  checked : Checked (IsAjp13 (as_properties l.entries)) (IsNoAjp13 (as_properties l.entries)) (as_listings (drop l.listing-index l.members)) (as_listings l.members);
+  rows_are : AreAtRest l.given l.rows.items;
+  checked : Checked (IsAjp13 (as_properties l.given.entries.now)) (IsNoAjp13 (as_properties l.given.entries.now)) (as_listings (drop l.listing-index l.members)) (as_listings l.members);
 }

@@ -9,24 +9,24 @@ use Rattle.worker_props.proofs.BuiltLemmas.{force_lengths, route_lengths, made_m
 use Rattle.worker_props.proofs.members.members_of.Goals as goal
 
 pub routes_of-requires : goal.routes_of-requires
-routes_of-requires c = rw c.as_slice-own.ensures.value (force_lengths (as_properties c.args.entries.now) c.args.members.now c.in_ok-rows_in_force.rows_in_force.items c.in_ok-rows_in_force.ensures.force)
+routes_of-requires c = rw c.as_slice-own.ensures.value (force_lengths (as_properties c.args.given.now.entries.now) c.args.members.now c.in_ok-rows_in_force.rows_in_force.items c.in_ok-rows_in_force.ensures.force)
 
 pub built-requires-clause-rows : goal.built-requires-clause-rows
-built-requires-clause-rows c = rw c.as_slice-own.ensures.value (force_lengths (as_properties c.args.entries.now) c.args.members.now c.in_ok-rows_in_force.rows_in_force.items c.in_ok-rows_in_force.ensures.force)
+built-requires-clause-rows c = rw c.as_slice-own.ensures.value (force_lengths (as_properties c.args.given.now.entries.now) c.args.members.now c.in_ok-rows_in_force.rows_in_force.items c.in_ok-rows_in_force.ensures.force)
 
 pub built-requires-clause-routes : goal.built-requires-clause-routes
 built-requires-clause-routes c =
     let own = c.as_slice-own.result.now in
     let found = map (λ (r : Bor (List ℕ)). r.now) c.as_slice-routes.result.now in
-    let same : length own ≡ length c.args.members.now = rw c.as_slice-own.ensures.value (force_lengths (as_properties c.args.entries.now) c.args.members.now c.in_ok-rows_in_force.rows_in_force.items c.in_ok-rows_in_force.ensures.force) in
-    let are : found ≡ routes_at (as_properties c.args.entries.now) (as_listings c.args.members.now) own = rw c.as_slice-routes.ensures.value c.in_ok-routes_in_force.ensures.routes in
-    let count = route_lengths (as_properties c.args.entries.now) c.args.members.now own found same are in
+    let same : length own ≡ length c.args.members.now = rw c.as_slice-own.ensures.value (force_lengths (as_properties c.args.given.now.entries.now) c.args.members.now c.in_ok-rows_in_force.rows_in_force.items c.in_ok-rows_in_force.ensures.force) in
+    let are : found ≡ routes_at (as_properties c.args.given.now.entries.now) (as_listings c.args.members.now) own = rw c.as_slice-routes.ensures.value c.in_ok-routes_in_force.ensures.routes in
+    let count = route_lengths (as_properties c.args.given.now.entries.now) c.args.members.now own found same are in
     let mapped = length-map c.as_slice-routes.result.now (λ (r : Bor (List ℕ)). r.now) in
     omega arith
 
 pub returns-clause-members : goal.returns-clause-members
 returns-clause-members c =
-    let ps = as_properties c.args.entries.now in
+    let ps = as_properties c.args.given.now.entries.now in
     let ls = as_listings c.args.members.now in
     let own = c.as_slice-own.result.now in
     let found = map (λ (r : Bor (List ℕ)). r.now) c.as_slice-routes.result.now in
@@ -36,7 +36,7 @@ returns-clause-members c =
 
 pub returns-clause-ranges : goal.returns-clause-ranges
 returns-clause-ranges c =
-    let ps = as_properties c.args.entries.now in
+    let ps = as_properties c.args.given.now.entries.now in
     let ls = as_listings c.args.members.now in
     let own = c.as_slice-own.result.now in
     let found = map (λ (r : Bor (List ℕ)). r.now) c.as_slice-routes.result.now in
@@ -46,7 +46,7 @@ returns-clause-ranges c =
 
 pub returns-clause-count : goal.returns-clause-count
 returns-clause-count c =
-    let ps = as_properties c.args.entries.now in
+    let ps = as_properties c.args.given.now.entries.now in
     let ls = as_listings c.args.members.now in
     let own = c.as_slice-own.result.now in
     let found = map (λ (r : Bor (List ℕ)). r.now) c.as_slice-routes.result.now in

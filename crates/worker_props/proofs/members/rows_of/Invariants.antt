@@ -1,13 +1,13 @@
-use Rattle.std.proofs.Common.{[], take}
+use Rattle.std.proofs.Common.{take}
 use Rattle.property_lines.specs.Entries.{as_properties}
 use Rattle.worker_props.specs.Listings.{as_listings}
 use Rattle.worker_props.specs.Built.{HaveForce}
-use Rattle.worker_props.specs.Ways.{AreOnWay}
+use Rattle.worker_props.specs.Tables.{AreAtRest}
 use Rattle.worker_props.proofs.members.rows_of.Given as goal
 
 -- the rows of the members so far
 abbrev pub invariant-loop-listing : goal.invariant-loop-listing
 invariant-loop-listing l = record {
-  rows_are : AreOnWay (as_properties l.entries) [] l.names l.rows.items;
-  force : HaveForce (as_properties l.entries) (as_listings (take l.listing-index l.members)) l.out.items;
+  rows_are : AreAtRest l.given l.rows.items;
+  force : HaveForce (as_properties l.given.entries.now) (as_listings (take l.listing-index l.members)) l.out.items;
 }

@@ -11,20 +11,20 @@ use Rattle.worker_props.proofs.reference.resolve.Goals as goal
 
 pub index-requires : goal.index-requires
 index-requires c =
-    let num : number_of c.in-Some.name.now c.args.names.now ≡ Some c.unwrap-number.result = sym c.find.ensures ∙ c.unwrap-number.ensures in
-    let within = row_within c.args.names.now c.loop-name.rows.items c.in-Some.name.now c.unwrap-number.result c.loop-name.invariant.rows_are num in
+    let num : number_of c.in-Some.name.now c.args.given.now.names.now ≡ Some c.unwrap-number.result = sym c.find.ensures ∙ c.unwrap-number.ensures in
+    let within = row_within c.args.given.now.names.now c.loop-name.rows.items c.in-Some.name.now c.unwrap-number.result c.loop-name.invariant.rows_are num in
     omega arith
 
 pub index_mut-requires : goal.index_mut-requires
 index_mut-requires c =
-    let num : number_of c.in-Some.name.now c.args.names.now ≡ Some c.unwrap-number.result = sym c.find.ensures ∙ c.unwrap-number.ensures in
-    let within = row_within c.args.names.now c.loop-name.rows.items c.in-Some.name.now c.unwrap-number.result c.loop-name.invariant.rows_are num in
+    let num : number_of c.in-Some.name.now c.args.given.now.names.now ≡ Some c.unwrap-number.result = sym c.find.ensures ∙ c.unwrap-number.ensures in
+    let within = row_within c.args.given.now.names.now c.loop-name.rows.items c.in-Some.name.now c.unwrap-number.result c.loop-name.invariant.rows_are num in
     omega arith
 
 pub loop-name-preserved : goal.loop-name-preserved
 loop-name-preserved c =
-    let ps = as_properties c.args.entries.now in
-    let names = c.args.names.now in
+    let ps = as_properties c.args.given.now.entries.now in
+    let names = c.args.given.now.names.now in
     let rows = c.loop-name.rows.items in
     let i = c.unwrap-number.result in
     let row = c.index.result.now in
@@ -36,4 +36,4 @@ loop-name-preserved c =
     let way : IsWay ps c.args.start.now names rows (c.in-Some.name.now ∷ past) = subst (IsWay ps c.args.start.now names rows) whole c.loop-name.invariant in
     let from : c.target_row-from.result ≡ row_of_target ps names rows row = rw (← c.as_slice.ensures.value) c.target_row-from.ensures in
     let inherits : Inherits row (row_of_target ps names rows row) c.whole_row.result = subst (λ (o : Option Row). Inherits row o c.whole_row.result) from c.whole_row.ensures in
-    rw (adjusted_set (λ (old : Row). c.whole_row.result) rows i row within) (way_back ps c.args.start.now names rows past c.in-Some.name.now i row c.whole_row.result c.requires.known way num got inherits)
+    rw (adjusted_set (λ (old : Row). c.whole_row.result) rows i row within) (way_back ps c.args.start.now names rows past c.in-Some.name.now i row c.whole_row.result c.args.given.now.known way num got inherits)

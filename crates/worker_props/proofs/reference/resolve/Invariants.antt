@@ -5,7 +5,7 @@ use Rattle.worker_props.proofs.reference.resolve.Given as goal
 
 -- what is left of the way back
 abbrev pub invariant-loop-name : goal.invariant-loop-name
-invariant-loop-name l = IsWay (as_properties l.entries) l.start l.names l.rows.items (reverse (map (λ (n : Bor (List ℕ)). n.now) l.path.items))
+invariant-loop-name l = IsWay (as_properties l.given.entries.now) l.start l.given.names.now l.rows.items (reverse (map (λ (n : Bor (List ℕ)). n.now) l.path.items))
 
 abbrev pub decreases-loop-name : goal.decreases-loop-name
 decreases-loop-name l = vec_len l.path

@@ -5,7 +5,7 @@ use Rattle.worker_props.proofs.reference.walk.Given as goal
 
 -- the walk stands at a worker, past those of the path
 abbrev pub invariant-loop-at : goal.invariant-loop-at
-invariant-loop-at l = IsAt (as_properties l.entries) l.start l.names l.rows.items (reverse (map (λ (n : Bor (List ℕ)). n.now) l.path.items)) l.at
+invariant-loop-at l = IsAt (as_properties l.given.entries.now) l.start l.given.names.now l.rows.items (reverse (map (λ (n : Bor (List ℕ)). n.now) l.path.items)) l.at
 
 abbrev pub decreases-loop-at : goal.decreases-loop-at
 decreases-loop-at l = fresh_in l.rows.items

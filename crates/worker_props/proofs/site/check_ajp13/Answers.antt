@@ -7,6 +7,6 @@ use Rattle.worker_props.proofs.site.check_ajp13.Goals as goal
 
 pub returns-in_err-row-clause-other : goal.returns-in_err-row-clause-other
 returns-in_err-row-clause-other c =
-    let ps = as_properties c.args.entries.now in
+    let ps = as_properties c.args.given.now.entries.now in
     let p = err_from_is_err_and c.from_residual.result c.from_residual.ensures.1 in
     rw (p.1, p.2) (not_broken ps c.args.listing.now.name.now c.requires.chained.0 (IsNoAjp13 ps (as_listing c.args.listing.now)) _ c.requires.chained.1 c.in_err-row.ensures.broken)

@@ -6,5 +6,5 @@ use Rattle.worker_props.proofs.site.check_reference.Goals as goal
 
 pub returns-in-None-clause-ok : goal.returns-in-None-clause-ok
 returns-in-None-clause-ok c =
-    let ps = as_properties c.args.entries.now in
-    ([], unknown_chain ps c.args.listing.now.name.now (number_none ps c.args.names.now c.args.listing.now.name.now c.requires.known (sym c.in-None.ensures)))
+    let ps = as_properties c.args.given.now.entries.now in
+    ([], unknown_chain ps c.args.listing.now.name.now (number_none ps c.args.given.now.names.now c.args.listing.now.name.now c.args.given.now.known (sym c.in-None.ensures)))

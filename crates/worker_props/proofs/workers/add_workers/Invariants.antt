@@ -1,14 +1,14 @@
-use Rattle.std.proofs.Common.{drop, []}
+use Rattle.std.proofs.Common.{drop}
 use Rattle.worker_props.specs.Building.{IsBuilding}
 use Rattle.property_lines.specs.Entries.{as_properties}
 use Rattle.worker_props.specs.Listings.{as_listings}
 use Rattle.worker_props.specs.Site.{no_workers}
-use Rattle.worker_props.specs.Ways.{AreOnWay}
+use Rattle.worker_props.specs.Tables.{AreAtRest}
 use Rattle.worker_props.proofs.workers.add_workers.Given as goal
 
 -- the rest of the listed workers decides
 abbrev pub invariant-loop-listing : goal.invariant-loop-listing
 invariant-loop-listing l = record {
-  rows_are : AreOnWay (as_properties l.entries) [] l.names l.rows.items;
-  building : IsBuilding (as_properties l.entries) l.maintain (as_listings l.listings) no_workers (as_listings (drop l.listing-index l.listings)) l.draft;
+  rows_are : AreAtRest l.given l.rows.items;
+  building : IsBuilding (as_properties l.given.entries.now) l.given.maintain (as_listings l.listings) no_workers (as_listings (drop l.listing-index l.listings)) l.draft;
 }

@@ -1,9 +1,0 @@
-use Rattle.std.proofs.Common.{◌≡◌, take}
-use Rattle.worker_props.specs.Lists.{own_members}
-use Rattle.worker_props.specs.Listings.{as_listings}
-use Rattle.property_lines.specs.Entries.{as_properties}
-use Rattle.worker_props.proofs.listing.own_members.Given as goal
-
--- the names of the lines so far
-abbrev pub invariant-loop-entry : goal.invariant-loop-entry
-invariant-loop-entry l = as_listings l.out.items ≡ own_members (as_properties (take l.entry-index l.lines)) l.owner
