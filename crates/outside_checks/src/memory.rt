@@ -1,99 +1,118 @@
 //! Objects in memory fail where they were told to, and nowhere else.
 
-use crate::lists::{link_of, nobody, numbers};
+use crate::lists::link_of;
+use check_rows::rows::{bytes_of, numbers_of};
+use check_rows::telling::{put_bytes, put_count, put_shown, put_word};
 use io_checks::pass_on;
 use jk_io::{
-    Bytes, ClientList, Clock, Dial, FileError, FileList, Files, IoError, MemDial, MemDoor,
-    MemFiles, MemLink, MemLinkList, NoMemory, StepClock,
+    Bytes, ClientList, Clock, Dial, FileList, Files, MemDial, MemDoor, MemFiles, MemLink,
+    MemLinkList, NoMemory, Peer, StepClock,
 };
 use std::alloc::Global;
-use std::test::Fail;
+
+pub fn tell(alloc: Global, fields: &[&str; 8], out: &mut String) -> Result<(), NoMemory> {
+    match fields[0] {
+        "door" => tell_door(alloc, &mut door_of(alloc, fields[1])?, out),
+        "files" => tell_named(alloc, fields[1], fields[2], out),
+        "clock" => tell_moments(alloc, fields[1], out),
+        _ => tell_dial(alloc, &mut dial_of(alloc, fields[1])?, out),
+    }
+}
+
+fn client(alloc: Global) -> Result<(MemLink, Peer), NoMemory> {
+    let addr = Bytes::new(alloc);
+    Ok((link_of(alloc, b"")?, Peer { addr }))
+}
 
 fn clients(alloc: Global) -> Result<ClientList<MemLink>, NoMemory> {
     let mut clients = ClientList::new(alloc);
-    clients.push((link_of(alloc, b"")?, nobody(alloc)))?;
+    clients.push(client(alloc)?)?;
     Ok(clients)
 }
 
-/// A door with one client, whose first accept fails.
-fn door(alloc: Global) -> Result<MemDoor<MemLink>, NoMemory> {
-    let clients = clients(alloc)?;
-    Ok(MemDoor::new(alloc, clients, numbers(alloc, &[0])?))
+/// A door with one client. The accepts of `failing` fail.
+fn door_of(alloc: Global, failing: &str) -> Result<MemDoor<MemLink>, NoMemory> {
+    let failing = numbers_of(alloc, failing)?;
+    Ok(MemDoor::new(alloc, clients(alloc)?, failing))
 }
 
-fn keeps_its_client(alloc: Global, door: &mut MemDoor<MemLink>) -> bool {
-    let failed = pass_on(alloc, door) == Err(IoError::Failed);
-    let passed = pass_on(alloc, door) == Ok(true);
-    let closed = pass_on(alloc, door) == Ok(false);
-    failed && passed && closed && door.left().len() == 1
+/// What three accepts answer, each of whose links is left, and how many were left.
+fn tell_door(alloc: Global, door: &mut MemDoor<MemLink>, out: &mut String) -> Result<(), NoMemory> {
+    for _ in 0..3 {
+        let passed = pass_on(alloc, door);
+        put_shown(out, &passed)?;
+    }
+    put_count(out, "left", door.left().len() as u64)
 }
 
-fn named_files(alloc: Global) -> Result<FileList, NoMemory> {
+fn named(alloc: Global, name: &[u8], text: &[u8]) -> Result<(Bytes, Bytes), NoMemory> {
+    let name = Bytes::from_slice(alloc, name)?;
+    Ok((name, Bytes::from_slice(alloc, text)?))
+}
+
+fn one_file(alloc: Global) -> Result<FileList, NoMemory> {
     let mut files = FileList::new(alloc);
-    files.push((
-        Bytes::from_slice(alloc, b"data")?,
-        Bytes::from_slice(alloc, b"kept")?,
-    ))?;
+    files.push(named(alloc, b"data", b"kept")?)?;
     Ok(files)
 }
 
-/// One file, whose second read fails.
-fn files(alloc: Global) -> Result<MemFiles, NoMemory> {
-    let files = named_files(alloc)?;
-    Ok(MemFiles::new(files, numbers(alloc, &[1])?))
+/// A file named data. The reads of `failing` fail.
+fn files_of(alloc: Global, failing: &str) -> Result<MemFiles, NoMemory> {
+    let failing = numbers_of(alloc, failing)?;
+    Ok(MemFiles::new(one_file(alloc)?, failing))
 }
 
-fn reads_file(alloc: Global, files: &mut MemFiles, name: &Bytes) -> bool {
+fn tell_named(alloc: Global, failing: &str, names: &str, out: &mut String) -> Result<(), NoMemory> {
+    tell_files(alloc, &mut files_of(alloc, failing)?, names, out)
+}
+
+/// What a read of each of these files answers.
+pub fn tell_files<F: Files>(
+    alloc: Global,
+    files: &mut F,
+    names: &str,
+    out: &mut String,
+) -> Result<(), NoMemory> {
+    for name in names.split(" & ") {
+        tell_file(alloc, files, &bytes_of(alloc, name)?, out)?;
+    }
+    Ok(())
+}
+
+fn tell_file<F: Files>(
+    alloc: Global,
+    files: &mut F,
+    name: &Bytes,
+    out: &mut String,
+) -> Result<(), NoMemory> {
     match files.read_file(alloc, name) {
-        Ok(bytes) => bytes.as_slice() == b"kept".as_slice(),
-        Err(_) => false,
+        Ok(bytes) => put_bytes(out, bytes.as_slice()),
+        Err(error) => put_shown(out, &error),
     }
 }
 
-fn fails_to_read(alloc: Global, files: &mut MemFiles, name: &Bytes) -> bool {
-    matches!(files.read_file(alloc, name), Err(FileError::Failed))
+fn tell_moments(alloc: Global, answers: &str, out: &mut String) -> Result<(), NoMemory> {
+    tell_clock(&mut StepClock::new(numbers_of(alloc, answers)?), out)
 }
 
-fn fail_where_planned(alloc: Global, files: &mut MemFiles) -> Result<bool, NoMemory> {
-    let name = Bytes::from_slice(alloc, b"data")?;
-    let first = reads_file(alloc, files, &name);
-    let second = fails_to_read(alloc, files, &name);
-    Ok(first && second && fails_to_read(alloc, files, &Bytes::new(alloc)))
+fn tell_clock(clock: &mut StepClock, out: &mut String) -> Result<(), NoMemory> {
+    for _ in 0..3 {
+        put_shown(out, &clock.now())?;
+    }
+    Ok(())
 }
 
-fn steps(clock: &mut StepClock) -> bool {
-    (clock.now(), clock.now(), clock.now()) == (5, 7, 7)
+/// A dial whose dials of `failing` fail, and whose links have nothing to come.
+fn dial_of(alloc: Global, failing: &str) -> Result<MemDial, NoMemory> {
+    Ok(MemDial::new(MemLinkList::new(alloc), numbers_of(alloc, failing)?))
 }
 
-fn dials(alloc: Global, dial: &mut MemDial) -> bool {
+/// What two dials answer.
+fn tell_dial(alloc: Global, dial: &mut MemDial, out: &mut String) -> Result<(), NoMemory> {
     let host = Bytes::new(alloc);
-    let failed = dial.dial(alloc, &host, 1).is_err();
-    failed && dial.dial(alloc, &host, 1).is_ok()
-}
-
-fn failing_dial(alloc: Global) -> Result<MemDial, NoMemory> {
-    Ok(MemDial::new(MemLinkList::new(alloc), numbers(alloc, &[0])?))
-}
-
-/// The first thing that doesn't hold.
-fn wrong(alloc: Global) -> Result<&'static str, NoMemory> {
-    if !keeps_its_client(alloc, &mut door(alloc)?) {
-        return Ok("a door keeps its client over a failed accept");
+    for _ in 0..2 {
+        let dialled = dial.dial(alloc, &host, 1).is_ok();
+        put_word(out, if dialled { "ok" } else { "failed" })?;
     }
-    if !fail_where_planned(alloc, &mut files(alloc)?)? {
-        return Ok("files fail where planned, and at unknown names");
-    }
-    if !steps(&mut StepClock::new(numbers(alloc, &[5, 7])?)) {
-        return Ok("a clock steps to its last answer");
-    }
-    if !dials(alloc, &mut failing_dial(alloc)?) {
-        return Ok("a dial fails where planned");
-    }
-    Ok("nothing")
-}
-
-#[test]
-fn objects_in_memory_do_as_they_were_told(rt: HostRuntime) -> Result<(), Fail> {
-    assert_eq!(rt; wrong(rt.alloc())?, "nothing");
     Ok(())
 }

@@ -2,46 +2,111 @@
 ghost use Rattle.std.specs.Prelude.{◌<◌};
 ghost use Rattle.conn_pool.specs.Idle.{HasMember};
 
-use crate::lists::one_member;
+use crate::lists::one_balancer;
 use conn_pool::Pools;
 use jk_io::NoMemory;
 use std::alloc::Global;
 use std::sync::Wait;
-use std::test::Fail;
-use std::thread;
+use std::thread::{self, Threads};
 
-/// Takes eight times, and adds the links that came.
-fn take_eight<R: Wait>(pools: &Pools<'_, u32, R>, has: &mut Vec<u32>) -> Result<(), NoMemory>
-    requires known { HasMember pools.now 0 0 }
-{
-    for _ in 0..8 {
-        if let Some(link) = pools.take(0, 0) {
-            has.push(link)?;
-        }
-    }
-    Ok(())
+/// The links that each of two threads has in the end.
+#[derive(Drop)]
+struct Hands {
+    even: Vec<u32>,
+    odd: Vec<u32>,
 }
 
-/// Puts 50,000 links, `first` and each second one after it, and takes eight after each eight puts: the links that it
-/// has in the end.
-fn pass_through<R: Wait>(
+fn empty_hands(alloc: Global) -> Result<Hands, NoMemory> {
+    Ok(Hands {
+        even: Vec::with_capacity(alloc, 50_000)?,
+        odd: Vec::with_capacity(alloc, 50_000)?,
+    })
+}
+
+/// Whether two threads that pass 100,000 links through one pool end with each of them once.
+pub fn pass_each_once<R: Threads + Wait + Sync>(rt: &R, alloc: Global) -> bool {
+    pass_through_one(rt, alloc) == Ok(true)
+}
+
+fn pass_through_one<R: Threads + Wait + Sync>(rt: &R, alloc: Global) -> Result<bool, NoMemory> {
+    let sizes = one_balancer(alloc, &[64])?;
+    pass_with(rt, alloc, &Pools::new(rt, alloc, &sizes)?)
+}
+
+fn pass_with<R: Threads + Wait + Sync>(
+    rt: &R,
     alloc: Global,
     pools: &Pools<'_, u32, R>,
-    first: u32,
-) -> Result<Vec<u32>, NoMemory>
+) -> Result<bool, NoMemory>
+    requires { HasMember pools.now 0 0 }
+{
+    pass_into(rt, alloc, pools, &mut empty_hands(alloc)?)
+}
+
+fn pass_into<R: Threads + Wait + Sync>(
+    rt: &R,
+    alloc: Global,
+    pools: &Pools<'_, u32, R>,
+    hands: &mut Hands,
+) -> Result<bool, NoMemory>
+    requires { HasMember pools.now 0 0 }
+{
+    let passed = pass_both(rt, pools, hands);
+    let idle = pools.take_all(alloc, 0, 0)?;
+    Ok(passed && is_each_once(alloc, hands, idle.as_slice())?)
+}
+
+fn pass_both<R: Threads + Wait + Sync>(rt: &R, pools: &Pools<'_, u32, R>, hands: &mut Hands) -> bool
+    requires { HasMember pools.now 0 0 }
+{
+    let Hands { even, odd } = hands;
+    let (first, second) = thread::join(
+        rt,
+        || -> bool
+            requires { HasMember pools.now 0 0 }
+        { pass_through(pools, 0, even) },
+        || -> bool
+            requires { HasMember pools.now 0 0 }
+        { pass_through(pools, 1, odd) },
+    );
+    first && second
+}
+
+/// Puts 50,000 links, `first` and each second one after it, and takes eight after each eight puts. False in want of
+/// memory.
+fn pass_through<R: Wait>(pools: &Pools<'_, u32, R>, first: u32, has: &mut Vec<u32>) -> bool
     requires known { HasMember pools.now 0 0 }
     requires small { first < 2 }
 {
-    let mut has = Vec::with_capacity(alloc, 50_000)?;
     for k in 0..50_000u32 {
-        if let Some(link) = pools.put(0, 0, 2 * k + first) {
-            has.push(link)?;
-        }
-        if k % 8 == 7 {
-            take_eight(pools, &mut has)?;
+        if !put_one(pools, 2 * k + first, has) || k % 8 == 7 && !take_eight(pools, has) {
+            return false;
         }
     }
-    Ok(has)
+    true
+}
+
+fn put_one<R: Wait>(pools: &Pools<'_, u32, R>, link: u32, has: &mut Vec<u32>) -> bool
+    requires known { HasMember pools.now 0 0 }
+{
+    match pools.put(0, 0, link) {
+        Some(link) => has.push(link).is_ok(),
+        None => true,
+    }
+}
+
+/// Takes eight times, and adds the links that came.
+fn take_eight<R: Wait>(pools: &Pools<'_, u32, R>, has: &mut Vec<u32>) -> bool
+    requires known { HasMember pools.now 0 0 }
+{
+    for _ in 0..8 {
+        if let Some(link) = pools.take(0, 0)
+            && has.push(link).is_err()
+        {
+            return false;
+        }
+    }
+    true
 }
 
 /// Counts each link, where it is one of the numbers that `seen` has.
@@ -53,29 +118,15 @@ fn count(seen: &mut [u8], links: &[u32]) {
     }
 }
 
-/// Whether each of 100,000 links is in one of the three lists, once.
-fn is_each_once(alloc: Global, even: &[u32], odd: &[u32], idle: &[u32]) -> Result<bool, NoMemory> {
-    let mut seen = vec![in alloc; 0u8; 100_000]?;
-    count(seen.as_mut_slice(), even);
-    count(seen.as_mut_slice(), odd);
-    count(seen.as_mut_slice(), idle);
-    Ok(seen.iter().all(|n| *n == 1))
+fn count_all(seen: &mut [u8], hands: &Hands, idle: &[u32]) -> bool {
+    count(seen, hands.even.as_slice());
+    count(seen, hands.odd.as_slice());
+    count(seen, idle);
+    seen.iter().all(|n| *n == 1)
 }
 
-#[test]
-fn two_threads_end_with_every_link_once(rt: HostRuntime) -> Result<(), Fail> {
-    let alloc = rt.alloc();
-    let pools = Pools::new(&rt, alloc, &one_member(alloc, 64)?)?;
-    let (even, odd) = thread::join(
-        &rt,
-        || -> Result<Vec<u32>, NoMemory>
-            requires { HasMember pools 0 0 }
-        { pass_through(alloc, &pools, 0) },
-        || -> Result<Vec<u32>, NoMemory>
-            requires { HasMember pools 0 0 }
-        { pass_through(alloc, &pools, 1) },
-    );
-    let idle = pools.take_all(alloc, 0, 0)?;
-    assert!(rt; is_each_once(alloc, even?.as_slice(), odd?.as_slice(), idle.as_slice())?);
-    Ok(())
+/// Whether each of 100,000 links is in one of the three lists, once.
+fn is_each_once(alloc: Global, hands: &Hands, idle: &[u32]) -> Result<bool, NoMemory> {
+    let mut seen = vec![in alloc; 0u8; 100_000]?;
+    Ok(count_all(seen.as_mut_slice(), hands, idle))
 }
