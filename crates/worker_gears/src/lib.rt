@@ -15,6 +15,7 @@ pub mod laws;
 mod mem_plan;
 mod mem_world;
 mod notice;
+mod opening;
 mod real_world;
 mod shelves;
 mod trouble;

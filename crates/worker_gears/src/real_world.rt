@@ -1,26 +1,23 @@
 //! The real world: sockets, files and the system's clock.
-ghost use Rattle.std.specs.Prelude.{◌≡◌, ◌+◌, ◌<◌, ◌≤◌, ◌++◌, IfOk, IsSome, None, OnErr, OnOk, codes, decimal, map};
+ghost use Rattle.std.specs.Prelude.{◌≡◌, ◌+◌, ◌<◌, ◌≤◌, IfOk, IsSome, None, OnErr, OnOk, map};
 ghost use Rattle.std.specs.Option.{option_copied, option_map};
 ghost use Rattle.jk_io.specs.Told.{HasCause, Rose};
 
 use crate::file_log::FileLog;
-use crate::journal_files::path_of;
 use crate::notice::notice;
+use crate::opening::{
+    listen, log_path, make_and_remove, names_of, open_log, shown, taken, trial_path,
+};
 use crate::shelves::{DropShelf, FileShelf, RealShelf};
 use crate::trouble::Trouble;
 use crate::world::{Gear, World};
 use conn_pool::NoTape;
-use jk_io::{Bytes, IoError, ListOf, NoMemory, RealClock, TcpDial, TcpDoor, put_decimal};
+use jk_io::{Bytes, IoError, NoMemory, RealClock, TcpDial, TcpDoor};
 use site_config::{Config, Lb};
 use std::alloc::Global;
-use std::fs::{self, OpenOptions};
-use std::io::{self, ErrorKind};
 use std::net::{Net, TcpListener, TcpStream};
 use std::rt::Files;
 use std::time::Clock;
-
-/// The number with which the journals of a run begin.
-const FIRST_NUMBER: u64 = 0;
 
 /// A world of sockets and files, of which it tells nothing. All its doors accept from one socket, which is opened with
 /// the first gear.
@@ -178,100 +175,6 @@ impl<'r, R: Net<Stream = TcpStream, Listener = TcpListener> + Files + Clock + Ep
         }
         Ok(())
     }
-}
-
-// The text of bytes that are to be one.
-fn as_text(bytes: &Bytes) -> io::Result<&str> {
-    match str::from_utf8(bytes.as_slice()) {
-        Ok(text) => Ok(text),
-        Err(_) => Err(ErrorKind::InvalidInput.into()),
-    }
-}
-
-// The bytes as a person reads them.
-fn shown(alloc: Global, bytes: &Bytes) -> Result<String, NoMemory> {
-    let text = str::from_utf8(bytes.as_slice()).unwrap_or("?");
-    Ok(String::from_str(alloc, text)?)
-}
-
-// Opens the socket where that isn't done, and gives a further handle of it.
-fn listen<R: Net<Stream = TcpStream, Listener = TcpListener>>(
-    rt: &R,
-    listener: &mut Option<TcpListener>,
-    address: &Bytes,
-) -> io::Result<TcpListener> {
-    if let Some(open) = listener {
-        return open.try_clone();
-    }
-    let first = TcpListener::bind(rt, as_text(address)?)?;
-    let handle = first.try_clone()?;
-    *listener = Some(first);
-    Ok(handle)
-}
-
-// The names of the balancers, in order.
-fn names_of(alloc: Global, lbs: &[Lb]) -> Result<ListOf<Bytes>, NoMemory>
-    ensures { IfOk result (λ names. names ≡ map (λ lb. lb.name) lbs.now) }
-{
-    let mut names = ListOf::new(alloc);
-    for lb in lbs {
-        names.push(lb.name.copy()?)?;
-    }
-    Ok(names)
-}
-
-// A file by which a directory is tried.
-fn trial_path(dir: &Bytes) -> Result<Bytes, NoMemory>
-    ensures { IfOk result (λ path. path ≡ dir.now ++ codes "/.jkd-try") }
-{
-    let mut path = dir.copy()?;
-    path.extend(b"/.jkd-try")?;
-    Ok(path)
-}
-
-// Whether a file can be made: it is, and it is taken away again.
-fn make_and_remove<R: Files>(rt: &R, path: &Bytes) -> io::Result<()> {
-    let path = as_text(path)?;
-    OpenOptions::new().write(true).create(true).open(rt, path)?;
-    fs::remove_file(rt, path)
-}
-
-// The file of a worker's log.
-fn log_path(dir: &Bytes, number: u32) -> Result<Bytes, NoMemory>
-    ensures { IfOk result (λ path. path ≡ dir.now ++ codes "/worker-" ++ decimal number ++ codes ".log") }
-{
-    let mut path = dir.copy()?;
-    path.extend(b"/worker-")?;
-    put_decimal(&mut path, u128::from(number))?;
-    path.extend(b".log")?;
-    Ok(path)
-}
-
-// The file that a balancer's journal would begin with and that is there already, if there is one.
-fn taken<R: Files>(rt: &R, dir: &Bytes, lbs: &[Lb]) -> Result<Option<Bytes>, NoMemory> {
-    for lb in lbs {
-        let path = path_of(dir, lb.name.as_slice(), FIRST_NUMBER)?;
-        if is_there(rt, &path) {
-            return Ok(Some(path));
-        }
-    }
-    Ok(None)
-}
-
-// Whether a file is there. One that can't be looked at isn't.
-fn is_there<R: Files>(rt: &R, path: &Bytes) -> bool {
-    match as_text(path) {
-        Ok(path) => fs::exists(rt, path).unwrap_or(false),
-        Err(_) => false,
-    }
-}
-
-// Opens a file to write at its end, and makes it where it is missing.
-fn open_log<R: Files>(rt: &R, path: &Bytes) -> io::Result<R::File> {
-    OpenOptions::new()
-        .append(true)
-        .create(true)
-        .open(rt, as_text(path)?)
 }
 
 /// What a worker uses of the real world.
