@@ -1,0 +1,101 @@
+-- Books that are cut one after another, and what that does with the first gear.
+use Rattle.std.proofs.Common.{ℕ, ◌≡◌, ◌+◌, ◌≤◌, List, [], ◌∷◌, ◌++◌, length, map, Option, Some, None, refl, sym, ap, ◌∙◌, subst, arith, append_assoc, add-one}
+use Rattle.std.proofs.lemmas.List.{append-nil}
+use Rattle.jk_io.specs.Told.{appended, Rose}
+use Rattle.jk_io.specs.declared.reaching.Talk.{Talk}
+use Rattle.jk_model.specs.Legal.{IsLegal}
+use Rattle.jk_model.specs.declared.segment.Segment.{Segment}
+use Rattle.balancer_core.specs.Journal.{IsSegmentOf, Journal}
+use Rattle.door_clients.specs.Doors.{DoorSide}
+use Rattle.exchange.specs.Requests.{sizes_of}
+use Rattle.locked_balancer.specs.Sites.{AreSited}
+use Rattle.site_config.specs.declared.balancer.Lb.{Lb}
+use Rattle.worker_gears.specs.Gears.{GearSide, gear_side}
+use Rattle.worker_gears.specs.declared.world.Gear.{Gear}
+use Rattle.gear_runs.specs.Closings.{AreCuts, Closes, firsts_of, KeepsFirst, Shelves}
+use Rattle.gear_runs.specs.declared.ends.Closing.{Closing}
+use Rattle.gear_runs.specs.Parts.{gear_with, gears_with, Tools, tools}
+use Rattle.gear_runs.specs.Shelved.{AddsCuts, ToFirst}
+use Rattle.gear_runs.proofs.GearLaws.{told_again}
+
+-- The segments so far were kept, and with those of the other Books they are those of all.
+pub record AreCutSoFar (books : List Journal) (lb : ℕ) (rest : List Journal) (old new : Option (List (ℕ × Segment))) : Type 0 where
+  pub kept : List (ℕ × Segment)
+  pub so_far : (more : List (ℕ × Segment)) → AreCuts lb rest more → AreCuts 0 books (kept ++ more)
+  pub added : new ≡ appended old kept
+
+appended_twice : {T : Type 0} (old : Option (List T)) (xs ys : List T) → appended (appended old xs) ys ≡ appended old (xs ++ ys)
+appended_twice None xs ys = refl
+appended_twice {T} (Some before) xs ys = ap (λ (all : List T). Some all) (append_assoc before xs ys)
+
+appended_none : {T : Type 0} (old : Option (List T)) → old ≡ appended old []
+appended_none None = refl
+appended_none {T} (Some before) = ap (λ (all : List T). Some all) (sym (append-nil before))
+
+pub none_cut : (books : List Journal) (old : Option (List (ℕ × Segment))) → AreCutSoFar books 0 books old old
+none_cut books old = record { kept = []; so_far = λ more cuts. cuts; added = appended_none old }
+
+pub one_cut : (books rest later : List Journal) (lb : ℕ) (old mid new : Option (List (ℕ × Segment))) (b : Journal) (s : Segment)
+    → AreCutSoFar books lb rest old mid → rest ≡ b ∷ later → IsSegmentOf b s → IsLegal s.rules s.opening s.entries
+    → new ≡ appended mid ((lb, s) ∷ []) → AreCutSoFar books (lb + 1) later old new
+one_cut books rest later lb old mid new b s cut is whole legal more_kept = record {
+  kept = cut.kept ++ (lb, s) ∷ [];
+  so_far = λ more cuts. rw append_assoc
+      (cut.so_far ((lb, s) ∷ more)
+      (rw is (refl, whole, legal, subst (λ (n : ℕ). AreCuts n later more) (add-one lb) cuts)));
+  added = more_kept ∙ ap (λ (o : Option (List (ℕ × Segment))). appended o ((lb, s) ∷ [])) cut.added ∙ appended_twice old cut.kept ((lb, s) ∷ []);
+}
+
+pub all_cut : {S : Type 0} (shelved : S → Option (List (ℕ × Segment))) (books rest : List Journal) (lb : ℕ) (old new : S)
+    → AreCutSoFar books lb rest (shelved old) (shelved new) → rest ≡ [] → AddsCuts shelved books old new
+all_cut shelved books rest lb old new cut is = (
+  cut.kept,
+  subst (λ (kept : List (ℕ × Segment)). AreCuts 0 books kept) (append-nil cut.kept) (cut.so_far [] (rw is tt)),
+  cut.added,
+)
+
+pub rose_since : (first before now : ℕ) → first ≤ before → Rose before now → Rose first now
+rose_since first before now earlier rose = omega (arith, earlier, rose)
+
+-- What was done with the first shelf, said of the gears.
+pub first_kept : {D G T K S C : Type 0} (at : D → DoorSide C) (talks : T → Option (List Talk)) (answers : K → Option (List ℕ)) (Kept : S → S → Type 0)
+    (ts : List (Tools D G T K)) (old new : List S) → length ts ≡ length old → ToFirst Kept old new
+    → KeepsFirst Kept (gears_with (gear_with at talks answers) ts old) (gears_with (gear_with at talks answers) ts new)
+first_kept at talks answers Kept ts [] new len kept = absurd kept
+first_kept at talks answers Kept ts (s ∷ old) [] len kept = absurd kept
+first_kept at talks answers Kept [] (s ∷ old) (s' ∷ new) len kept = absurd (omega (arith, len))
+first_kept {S = S} at talks answers Kept (t ∷ ts) (s ∷ old) (s' ∷ new) len kept =
+    (kept.0, refl, ap (λ (shelves : List S). gears_with (gear_with at talks answers) ts shelves) kept.1)
+
+-- The Books were those of the Site.
+pub last_kept : {S : Type 0} (shelved : S → Option (List (ℕ × Segment))) (lbs : List Lb) (books : List Journal) (old new : S)
+    → AreSited (sizes_of lbs) (firsts_of lbs) books → AddsCuts shelved books old new → Shelves shelved lbs old new
+last_kept shelved lbs books old new sited cuts = (cuts.0, (books, sited, cuts.1), cuts.2)
+
+pub first_weaker : {S : Type 0} (P Q : S → S → Type 0) (old new : List S) → ((x y : S) → P x y → Q x y) → ToFirst P old new → ToFirst Q old new
+first_weaker P Q [] new then is = absurd is
+first_weaker P Q (x ∷ old) [] then is = absurd is
+first_weaker P Q (x ∷ old) (y ∷ new) then is = (then x y is.0, is.1)
+
+-- So it is of the gears that were put together again.
+pub kept_again : {D G T K S O C : Type 0} (at : D → DoorSide C) (talks : T → Option (List Talk)) (answers : K → Option (List ℕ)) (Kept : S → S → Type 0)
+    (ts : List (Tools D G T K)) (old new : List S) (back : List (Gear D G T K S O)) → length ts ≡ length old → ToFirst Kept old new
+    → map (λ g. tools g.door g.dial g.tape g.clock) back ≡ ts → map (λ g. g.shelf) back ≡ new
+    → KeepsFirst Kept (gears_with (gear_with at talks answers) ts old) (map (gear_side at talks answers) back)
+kept_again {D} {G} {T} {K} {S} {O} {C} at talks answers Kept ts old new back len kept tools_put shelves_put =
+    subst (λ (gs : List (GearSide C S)). KeepsFirst Kept (gears_with (gear_with at talks answers) ts old) gs)
+    (sym (told_again at talks answers back
+    ∙ ap (λ (us : List (Tools D G T K)). gears_with (gear_with at talks answers) us (map (λ (g : Gear D G T K S O). g.shelf) back)) tools_put
+    ∙ ap (λ (ss : List S). gears_with (gear_with at talks answers) ts ss) shelves_put))
+    (first_kept at talks answers Kept ts old new len kept)
+
+-- What a closing says of the Books of a Site, said of the configuration.
+pub closes_told : {C S L Y : Type 0} (shelved : S → Option (List (ℕ × Segment))) (faults : S → ℕ) (lbs : List Lb) (sizes firsts : List ℕ) (books : List Journal)
+    (with : Y → S → GearSide C S) (ts : List Y) (shelves shelves' : List S) (back : List (GearSide C S)) (closing : Closing L)
+    → sizes ≡ sizes_of lbs → firsts ≡ firsts_of lbs → AreSited sizes firsts books → shelves ≡ shelves'
+    → (AreSited (sizes_of lbs) (firsts_of lbs) books → Closes shelved faults lbs (gears_with with ts shelves) back closing)
+    → Closes shelved faults lbs (gears_with with ts shelves') back closing
+closes_told {C} {S} {L} {Y} shelved faults lbs sizes firsts books with ts shelves shelves' back closing same_sizes same_firsts sited same closes =
+    subst (λ (ss : List S). Closes shelved faults lbs (gears_with with ts ss) back closing) same
+    (closes
+    (subst (λ (ns : List ℕ). AreSited ns (firsts_of lbs) books) same_sizes (subst (λ (ns : List ℕ). AreSited sizes ns books) same_firsts sited)))

@@ -1,0 +1,6 @@
+pub mod Closings
+pub mod Containers
+pub mod Parts
+pub mod Runs
+pub mod Shelved
+pub mod Started

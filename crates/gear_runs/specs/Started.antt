@@ -1,0 +1,24 @@
+-- A run from where its balancers started.
+use Rattle.std.specs.Prelude.{ℕ, List, Option}
+use Rattle.std.specs.List.{AllZip}
+use Rattle.jk_io.specs.declared.traits.streams.Meanings.{Ghosts}
+use Rattle.jk_io.specs.declared.traits.surroundings.Peer.{Peer}
+use Rattle.jk_model.specs.declared.segment.Segment.{Segment}
+use Rattle.balancer_core.specs.Journal.{IsStart, Journal}
+use Rattle.client_session.specs.Requests.{Visit}
+use Rattle.jk_server.specs.declared.part.WorkerEnd.{WorkerEnd}
+use Rattle.site_config.specs.declared.balancer.Lb.{Lb}
+use Rattle.worker_gears.specs.Gears.{GearSide}
+use Rattle.gear_runs.specs.Closings.{Closes}
+use Rattle.gear_runs.specs.Runs.{AreServedGears}
+use Rattle.gear_runs.specs.declared.ends.Closing.{Closing}
+
+-- A Book for each balancer, which starts at this moment with number 0.
+abbrev pub AreNew : List Lb → (at : ℕ) → List Journal → Type 0
+AreNew lbs at books = AllZip (λ lb b. IsStart b lb.book at 0) lbs books
+
+-- The workers served with the gears as they were then, and the closing ended so.
+pub record IsStartedRun {C S L X : Type 0} (visits : ℕ → Peer → Visit) (told : Ghosts C X) (shelved : S → Option (List (ℕ × Segment))) (faults : S → ℕ) (lbs : List Lb) (begun back : List (GearSide C S)) (ends : List (WorkerEnd L)) (closing : Closing L) : Type 0 where
+  pub left : List (GearSide C S)
+  pub served : AreServedGears visits told faults 0 begun left ends
+  pub closed : Closes shelved faults lbs left back closing

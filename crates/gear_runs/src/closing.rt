@@ -1,0 +1,188 @@
+//! The closing of a connector's run: the desks are closed, and what the journals still keep goes to the first shelf.
+ghost use Rattle.std.specs.Prelude.{◌≡◌, ◌<◌, ◌≤◌, [], List, length, map, sum_by, vec_capacity, vec_len, IsErrOf, OnOk};
+ghost use Rattle.door_clients.specs.Doors.{side};
+ghost use Rattle.exchange.specs.Requests.{sizes_of};
+ghost use Rattle.jk_io.specs.Told.{Rose};
+ghost use Rattle.locked_balancer.specs.Sites.{AreSited};
+ghost use Rattle.site_config.specs.declared.balancer.Lb.{Lb};
+ghost use Rattle.worker_gears.specs.Gears.{gear_side};
+ghost use Rattle.gear_runs.specs.Closings.{Closes, firsts_of};
+ghost use Rattle.gear_runs.specs.Parts.{gear_with, gears_with, tools};
+ghost use Rattle.gear_runs.specs.Shelved.{AddsCuts, ToFirst};
+
+use crate::ends::{Closing, SiteRun};
+use crate::parts::{Left, Ran};
+use balancer_core::BookList;
+use conn_pool::Tape;
+use jk_io::{Clock, Door, IoError};
+use locked_balancer::{SharedSite, Shelf, SiteName};
+use site_closing::{CloseError, Closed, LeavingList, close_desks};
+use worker_gears::Gear;
+
+/// Closes the desks of a run, keeps what the journals still have, and puts the gears together again.
+pub(crate) fn settle<
+    'r,
+    L: SiteName,
+    D: Door + Drop,
+    G: Drop,
+    T: Tape + Drop,
+    K: Clock + Drop,
+    S: Shelf + Drop,
+    O: Drop,
+    R,
+>(site: SharedSite<'r, L, R>, ran: Ran<L, D, G, T, K, S, O>) -> SiteRun<L, Gear<D, G, T, K, S, O>>
+    requires some { 0 < length ran.leaving }
+    requires whole { sum_by (λ l. l.share.parts) ran.leaving ≡ L.parts }
+    ensures workers { result.workers ≡ ran.workers }
+    ensures closed { (lbs : List Lb) → L.sizes ≡ sizes_of lbs → L.firsts ≡ firsts_of lbs → let at = side D.coming D.left D.faults in
+        Closes S.shelved S.faults lbs
+        (gears_with (gear_with at T.talks K.answers) (map (λ l. tools l.door l.dial l.tape l.clock) ran.left.items) (map (λ l. l.shelf) ran.leaving))
+        (map (gear_side at T.talks K.answers) result.gears.items) result.closing }
+{
+    let Ran {
+        workers,
+        leaving,
+        left,
+        back,
+    } = ran;
+    let mut gears = back;
+    let closing = close_gears(site, leaving, left, &mut gears);
+    SiteRun {
+        workers,
+        closing,
+        gears,
+    }
+}
+
+/// Closes the desks, and puts the gears together again where that is done.
+fn close_gears<
+    'r,
+    L: SiteName,
+    D: Door + Drop,
+    G: Drop,
+    T: Tape + Drop,
+    K: Clock + Drop,
+    S: Shelf + Drop,
+    O: Drop,
+    R,
+>(
+    site: SharedSite<'r, L, R>,
+    leaving: LeavingList<L, S>,
+    left: Vec<Left<D, G, T, K, O>>,
+    gears: &mut Vec<Gear<D, G, T, K, S, O>>,
+) -> Closing<L>
+    requires some { 0 < length leaving }
+    requires whole { sum_by (λ l. l.share.parts) leaving ≡ L.parts }
+    requires none { gears.old.items ≡ [] }
+    requires paired { vec_len left ≡ length leaving }
+    requires room { vec_len left ≤ vec_capacity gears.old }
+    ensures { (lbs : List Lb) → L.sizes ≡ sizes_of lbs → L.firsts ≡ firsts_of lbs → let at = side D.coming D.left D.faults in
+        Closes S.shelved S.faults lbs
+        (gears_with (gear_with at T.talks K.answers) (map (λ l. tools l.door l.dial l.tape l.clock) left.items) (map (λ l. l.shelf) leaving))
+        (map (gear_side at T.talks K.answers) gears.new.items) result }
+{
+    match close_desks(site, leaving) {
+        Ok(closed) => close_books(closed, left, gears),
+        Err(CloseError::Differs(discord)) => Closing::Differs(discord),
+        Err(CloseError::NoMemory) => Closing::NoMemory,
+    }
+}
+
+/// Keeps the last segments, and puts the gears together again.
+fn close_books<
+    L,
+    D: Door + Drop,
+    G: Drop,
+    T: Tape + Drop,
+    K: Clock + Drop,
+    S: Shelf + Drop,
+    O: Drop,
+>(
+    closed: Closed<S>,
+    left: Vec<Left<D, G, T, K, O>>,
+    gears: &mut Vec<Gear<D, G, T, K, S, O>>,
+) -> Closing<L>
+    requires some { 0 < length closed.shelves }
+    requires few { length closed.books ≤ 1024 }
+    requires none { gears.old.items ≡ [] }
+    requires paired { vec_len left ≡ length closed.shelves }
+    requires room { vec_len left ≤ vec_capacity gears.old }
+    ensures { (lbs : List Lb) → AreSited (sizes_of lbs) (firsts_of lbs) closed.books → let at = side D.coming D.left D.faults in
+        Closes S.shelved S.faults lbs
+        (gears_with (gear_with at T.talks K.answers) (map (λ l. tools l.door l.dial l.tape l.clock) left.items) closed.shelves)
+        (map (gear_side at T.talks K.answers) gears.new.items) result }
+{
+    let Closed {
+        books,
+        entries: _,
+        shelves,
+    } = closed;
+    let mut shelves = shelves.into_vec();
+    let kept = keep_on_first(books, shelves.as_mut_slice());
+    gears_again(left, shelves, gears);
+    match kept {
+        Ok(()) => Closing::Kept,
+        Err(IoError::Failed) => Closing::ShelfFault,
+        Err(IoError::NoMemory) => Closing::NoMemory,
+    }
+}
+
+/// Keeps the last segments on the first of the shelves.
+fn keep_on_first<S: Shelf>(books: BookList, shelves: &mut [S]) -> Result<(), IoError>
+    requires some { 0 < length shelves.old }
+    requires few { length books ≤ 1024 }
+    ensures kept { OnOk result (ToFirst (AddsCuts S.shelved books) shelves.old shelves.new) }
+    ensures failed { IsErrOf result IoError.Failed → ToFirst (λ old new. Rose (S.faults old) (S.faults new)) shelves.old shelves.new }
+    ensures len { length shelves.new ≡ length shelves.old }
+{
+    keep_rest(books, &mut shelves[0])
+}
+
+/// Cuts each Book once more, in order, and keeps its segment.
+fn keep_rest<S: Shelf>(books: BookList, shelf: &mut S) -> Result<(), IoError>
+    requires few { length books ≤ 1024 }
+    ensures kept { OnOk result (AddsCuts S.shelved books shelf.old shelf.new) }
+    ensures failed { IsErrOf result IoError.Failed → Rose (S.faults shelf.old) (S.faults shelf.new) }
+{
+    let mut lb: u32 = 0;
+    'books: for book in books.into_vec() {
+        let mut book = book;
+        let segment = book.cut()?;
+        shelf.keep(lb, segment)?;
+        lb += 1;
+    }
+    Ok(())
+}
+
+/// Puts what the workers left and their shelves together.
+fn gears_again<D: Drop, G: Drop, T: Drop, K: Drop, S: Drop, O: Drop>(
+    left: Vec<Left<D, G, T, K, O>>,
+    shelves: Vec<S>,
+    gears: &mut Vec<Gear<D, G, T, K, S, O>>,
+)
+    requires none { gears.old.items ≡ [] }
+    requires paired { vec_len left ≡ vec_len shelves }
+    requires room { vec_len left ≤ vec_capacity gears.old }
+    ensures tools { map (λ g. tools g.door g.dial g.tape g.clock) gears.new.items
+        ≡ map (λ l. tools l.door l.dial l.tape l.clock) left.items }
+    ensures shelves { map (λ g. g.shelf) gears.new.items ≡ shelves.items }
+    ensures logs { map (λ g. g.log) gears.new.items ≡ map (λ l. l.log) left.items }
+{
+    'left: for (left, shelf) in left.into_iter().zip(shelves) {
+        let Left {
+            door,
+            dial,
+            tape,
+            clock,
+            log,
+        } = left;
+        gears.push_reserved(Gear {
+            door,
+            dial,
+            tape,
+            clock,
+            shelf,
+            log,
+        });
+    }
+}
