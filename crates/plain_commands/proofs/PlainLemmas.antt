@@ -33,6 +33,10 @@ config_has_file workers (Some map) = refl
 pub play_due : (outside : Outside) → InputIsDue outside order.Play
 play_due outside = (refl, ([], tt))
 
+-- so of `check`
+pub check_due : (outside : Outside) → InputIsDue outside order.Check
+check_due outside = (refl, ([], tt))
+
 -- both files of `match` were read whole
 pub match_due : (outside : Outside) (workers map text rules : List ℕ) → IsRead outside (File workers) text → IsRead outside (File map) rules
     → InputIsDue outside (order.Match workers map)

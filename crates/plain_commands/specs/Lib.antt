@@ -1,3 +1,4 @@
+pub mod Checked
 pub mod Endings
 pub mod Plain
 pub mod Readings

@@ -9,6 +9,7 @@ use Rattle.jk_cli.specs.declared.order.Order.TheVariants as order
 use Rattle.play_script.specs.Play.{PlaysScript}
 use Rattle.session_reports.specs.Dry.{ReportsDry, default_map, default_workers}
 use Rattle.site_reports.specs.Reports.{ReportsConfig, ReportsMatches, ReportsSite}
+use Rattle.plain_commands.specs.Checked.{ChecksText}
 use Rattle.plain_commands.specs.Readings.{Outside, Reading, File, Input, AreRead, StopsLong, has_file, has_input, before_input}
 
 -- The plain commands that are built; of the commands that are, each other one is none yet.
@@ -17,6 +18,7 @@ is_built name.Play = true
 is_built name.Config = true
 is_built name.Match = true
 is_built name.Dry = true
+is_built name.Check = true
 is_built command = false
 
 abbrev pub is_plain_command : Option CommandName → Bool
@@ -35,6 +37,7 @@ readings (order.Config workers (Some map)) = File workers ∷ File map ∷ []
 readings (order.Match workers map) = File workers ∷ File map ∷ Input ∷ []
 readings (order.Dry request reply None) = File request ∷ File reply ∷ []
 readings (order.Dry request reply (Some site)) = File request ∷ File reply ∷ File site.0 ∷ File site.1 ∷ []
+readings order.Check = Input ∷ []
 readings other = []
 
 -- A command has an input, and each of its files is there and not too long, as far as files are told: else nothing is read of it.
@@ -77,6 +80,7 @@ Answers (order.Match w m) (workers ∷ map ∷ texts) out status = MatchesRead w
 Answers (order.Dry q p None) (request ∷ reply ∷ []) out status =
     Reported (ReportsDry request reply default_workers default_map) out status
 Answers (order.Dry q p (Some site)) (request ∷ reply ∷ texts) out status = DryOver request reply texts out status
+Answers order.Check (text ∷ []) out status = ChecksText text out status
 Answers other texts out status = ⊥
 
 -- What is printed of texts that are read whole, and its status. All are read before one is judged, and a text that is too

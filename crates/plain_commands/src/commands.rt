@@ -8,6 +8,7 @@ ghost use Rattle.plain_commands.specs.Plain.{is_built, readings, InputIsDue, Mat
 ghost use Rattle.plain_commands.specs.Readings.{has_file, Input};
 ghost use Rattle.plain_commands.specs.declared.play.Ending.TheVariants as Ends;
 
+use crate::check::check;
 use crate::dry::dry;
 use crate::play::{Ending, Output, play};
 use crate::texts::{read_input, read_text};
@@ -53,6 +54,18 @@ fn play_input<S: Source>(alloc: Global, input: &mut S) -> Result<Output, IoError
         return Ok(too_long(alloc)?);
     };
     Ok(play(alloc, script.as_slice())?)
+}
+
+// `check`
+fn check_input<S: Source>(alloc: Global, input: &mut S) -> Result<Output, IoError>
+    ensures ok { IfOk result (λ o. (files : Option (List (List ℕ × List ℕ)))
+        → Plain (record { files = files; incoming = S.incoming input.old }) order.Check o.text (status_of o.ending)) }
+    ensures cause { HasCause (S.faults input.old) (S.faults input.new) result }
+{
+    let Some(text) = read_input(alloc, input)? else {
+        return Ok(too_long(alloc)?);
+    };
+    Ok(check(alloc, text.as_slice())?)
 }
 
 // `config WORKERS`
@@ -174,6 +187,7 @@ pub(crate) fn answer<F: Files, S: Source>(
             reply,
             site,
         } => dry(alloc, files, request, reply, site),
+        Order::Check => check_input(alloc, input),
         _ => unreachable!(),
     }
 }

@@ -17,6 +17,7 @@ use std::alloc::Global;
 #[derive(Clone, Copy)]
 enum PlainEnd {
     Done,
+    Bad,
     NoCommand,
     Refused,
     InputFault,
@@ -31,6 +32,7 @@ impl PlainEnd {
     {
         match self {
             PlainEnd::Done => 0,
+            PlainEnd::Bad => 1,
             PlainEnd::NoCommand => 2,
             PlainEnd::Refused => 3,
             PlainEnd::InputFault => 4,
@@ -45,7 +47,11 @@ fn is_built(command: CommandName) -> bool
     ensures { result ≡ is_built command }
 {
     match command {
-        CommandName::Play | CommandName::Dry | CommandName::Config | CommandName::Match => true,
+        CommandName::Play
+        | CommandName::Dry
+        | CommandName::Config
+        | CommandName::Match
+        | CommandName::Check => true,
         _ => false,
     }
 }
@@ -67,6 +73,7 @@ fn finish<O: Sink>(out: &mut O, output: &Output) -> PlainEnd
     match write_all(out, output.text.as_slice()) {
         Ok(()) => match output.ending {
             Ending::Done => PlainEnd::Done,
+            Ending::Bad => PlainEnd::Bad,
             Ending::Refused => PlainEnd::Refused,
         },
         Err(IoError::Failed) => PlainEnd::OutputFault,
@@ -129,11 +136,13 @@ pub fn run_plain<F: Files, S: Source, O: Sink>(
     input: &mut S,
     out: &mut O,
 ) -> u8
-    ensures statuses { (result ≡ 0) ⊎ (result ≡ 2) ⊎ (result ≡ 3) ⊎ (result ≡ 4) ⊎ (result ≡ 5) ⊎ (result ≡ 6) }
+    ensures statuses { (result ≡ 0) ⊎ (result ≡ 1) ⊎ (result ≡ 2) ⊎ (result ≡ 3) ⊎ (result ≡ 4) ⊎ (result ≡ 5) ⊎ (result ≡ 6) }
 
-    // Done, or a file or an input that is refused: just what the command prints was written.
+    // Done, a bad line that was found, or a file or an input that is refused: just what the command prints was written.
     ensures done { result ≡ 0 → Prints words.now (record { files = F.files files.old; incoming = S.incoming input.old })
         (O.sent out.old) (O.sent out.new) 0 }
+    ensures bad { result ≡ 1 → Prints words.now (record { files = F.files files.old; incoming = S.incoming input.old })
+        (O.sent out.old) (O.sent out.new) 1 }
     ensures refused { result ≡ 3 → Prints words.now (record { files = F.files files.old; incoming = S.incoming input.old })
         (O.sent out.old) (O.sent out.new) 3 }
 
@@ -142,7 +151,7 @@ pub fn run_plain<F: Files, S: Source, O: Sink>(
     ensures input { (input.new ≡ input.old)
         ⊎ IsInputDue words.now (record { files = F.files files.old; incoming = S.incoming input.old }) }
 
-    // No plain command that is built (`play`, `dry`, `config` and `match`), exactly by the words.
+    // No plain command that is built (`play`, `dry`, `config`, `match` and `check`), exactly by the words.
     ensures no_command { (result ≡ 2) ↔ (is_plain words.now ≡ false) }
     ensures no_words { result ≡ 2 → O.sent out.new ≡ O.sent out.old }
 

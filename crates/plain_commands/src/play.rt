@@ -17,6 +17,8 @@ use std::alloc::Global;
 #[derive(Clone, Copy)]
 pub(crate) enum Ending {
     Done,
+    /// The input was read, and the line says what is wrong in it.
+    Bad,
     /// The input was refused, and the last line says where.
     Refused,
 }

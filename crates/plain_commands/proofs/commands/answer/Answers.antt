@@ -3,7 +3,7 @@ use Rattle.jk_cli.specs.declared.order.Order.TheVariants as order
 use Rattle.plain_commands.specs.Endings.{status_of}
 use Rattle.plain_commands.specs.Plain.{Plain}
 use Rattle.plain_commands.specs.declared.play.Output.{Output}
-use Rattle.plain_commands.proofs.PlainLemmas.{config_has_file, play_due, said_of}
+use Rattle.plain_commands.proofs.PlainLemmas.{check_due, config_has_file, play_due, said_of}
 use Rattle.plain_commands.proofs.commands.answer.Goals as goal
 
 pub returns-in-Play-clause-ok : goal.returns-in-Play-clause-ok
@@ -33,3 +33,12 @@ pub returns-in-Dry-clause-ok : goal.returns-in-Dry-clause-ok
 returns-in-Dry-clause-ok g c =
     rw c.in-Dry.is (said_of (λ (incoming : Option (List ℕ)) (o : Output). Plain (record { files = g.F.Files.files c.args.files.now; incoming = incoming }) (order.Dry c.in-Dry.request c.in-Dry.reply c.in-Dry.site) o.text (status_of o.ending))
     (g.S.Meanings.incoming c.args.input.now) c.dry.result c.dry.ensures.ok)
+
+pub returns-in-Check-clause-ok : goal.returns-in-Check-clause-ok
+returns-in-Check-clause-ok g c =
+    rw c.in-Check.is (said_of (λ (files : Option (List (List ℕ × List ℕ))) (o : Output). Plain (record { files = files; incoming = g.S.Meanings.incoming c.args.input.now }) order.Check o.text (status_of o.ending))
+    (g.F.Files.files c.args.files.now) c.check_input.result c.check_input.ensures.ok)
+
+pub returns-in-Check-clause-input : goal.returns-in-Check-clause-input
+returns-in-Check-clause-input g c =
+    inr (rw c.in-Check.is (check_due (record { files = g.F.Files.files c.args.files.now; incoming = g.S.Meanings.incoming c.args.input.now })))
