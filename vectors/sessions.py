@@ -554,4 +554,5 @@ def main(what):
             print(short(row.of_member() if what == "replies" else row.of_client()))
 
 
-main(sys.argv[1])
+if __name__ == "__main__":
+    main(sys.argv[1])

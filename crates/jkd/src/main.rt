@@ -1,20 +1,25 @@
-//! jkd: a connector that balances requests over servlet containers. So far it plays scripts of a balancer, and shows how
-//! a site's two files are understood.
+//! jkd: a connector that balances requests over servlet containers.
 //!
-//! Here stand the words of the command line and the real files, input and output alone; what is done with them is
-//! `run_plain` of plain_commands.
+//! Here stand the words of the command line and the real world alone; what is done with them is `run_jkd` of
+//! serving_commands.
 //! Source: own rules for the commands and their statuses.
-//! Contract: `run_plain`, a clause for each status.
-//! Errors: the statuses 2 to 6, each with its cause.
+//! Contract: `run_jkd`, a clause for each status.
+//! Errors: the statuses 1 to 7, each with its cause.
 #![tactic(auto)]
 
 mod words;
 
+use jk_cli::{Order, read_words as read_order};
 use jk_io::{Bytes, IoError, NoMemory, RealFiles, Sink, StdIn, StdOut, write_all};
-use plain_commands::{USAGE, asked_text, run_plain};
+use plain_commands::{USAGE, asked_text};
+use serving_commands::run_jkd;
+use std::net::{Net, TcpListener, TcpStream};
 use std::process::ExitCode;
-use std::rt::Files;
+use std::rt::{Clock, Files};
+use std::sync::Wait;
+use std::thread::Threads;
 use words::{WordsError, read_words};
+use worker_gears::RealWorld;
 
 /// The status of words that are no command.
 const NO_COMMAND: u8 = 2;
@@ -32,16 +37,76 @@ fn print_text<O: Sink>(out: &mut O, text: &[u8]) -> u8 {
     }
 }
 
-fn do_command<R: Files + Print + Input + AllocGlobal>(rt: &R, words: &[Bytes]) -> u8 {
-    let mut out = StdOut::new(rt);
-    match asked_text(rt.alloc(), words) {
-        Ok(None) => {}
-        Ok(Some(text)) => return print_text(&mut out, text.as_bytes()),
-        Err(NoMemory) => return NO_MEMORY,
+/// How many worker threads the words ask for.
+fn threads_of<R: AllocGlobal>(rt: &R, words: &[Bytes]) -> u32 {
+    match read_order(rt.alloc(), words) {
+        Ok(Order::Serve { threads, .. } | Order::Container { threads, .. }) => threads,
+        _ => 0,
     }
+}
+
+/// Does the command of the words over the real files, streams and sockets, and says on standard error what failed there.
+fn do_words<
+    R: Files
+        + Print
+        + Eprint
+        + Input
+        + AllocGlobal
+        + Net<Stream = TcpStream, Listener = TcpListener>
+        + Clock
+        + Threads
+        + Wait
+        + Sync,
+>(
+    rt: &R,
+    words: &[Bytes],
+) -> u8
+where
+    R::File: Send,
+{
     let mut files = RealFiles::new(rt);
     let mut input = StdIn::new(rt.reader());
-    run_plain(rt.alloc(), words, &mut files, &mut input, &mut out)
+    let mut out = StdOut::new(rt);
+    let mut world = RealWorld::new(rt, threads_of(rt, words));
+    let end = run_jkd(
+        rt,
+        rt.alloc(),
+        words,
+        &mut files,
+        &mut input,
+        &mut out,
+        &mut world,
+    );
+    if let Some(trouble) = world.trouble() {
+        let _ = eprintln!(rt; "jkd: {trouble}");
+    }
+    end.status()
+}
+
+/// Prints the text that the words ask for, or does their command.
+fn do_command<
+    R: Files
+        + Print
+        + Eprint
+        + Input
+        + AllocGlobal
+        + Net<Stream = TcpStream, Listener = TcpListener>
+        + Clock
+        + Threads
+        + Wait
+        + Sync,
+>(
+    rt: &R,
+    words: &[Bytes],
+) -> u8
+where
+    R::File: Send,
+{
+    match asked_text(rt.alloc(), words) {
+        Ok(None) => do_words(rt, words),
+        Ok(Some(text)) => print_text(&mut StdOut::new(rt), text.as_bytes()),
+        Err(NoMemory) => NO_MEMORY,
+    }
 }
 
 fn main(rt: HostRuntime) -> ExitCode {

@@ -1,0 +1,91 @@
+//! A command over files, an output and a world in memory.
+use crate::told::put_world;
+use crate::worlds::world_of;
+use block_rows::comparing::wants;
+use block_rows::row::{Row, RowError};
+use jk_io::{Bytes, MemFiles, MemLink, NumberList, put_decimal};
+use serving_commands::run_jkd;
+use std::alloc::Global;
+use std::sync::Wait;
+use std::thread::Threads;
+use worker_gears::MemWorld;
+
+/// An output that takes all, or so many bytes and no more.
+fn output_of(alloc: Global, row: Row<'_>) -> Result<MemLink, RowError> {
+    let failing = row.numbers(alloc, "output-fails")?;
+    Ok(MemLink::failing_at(alloc, Bytes::new(alloc), NumberList::new(alloc), failing)?)
+}
+
+fn files_of(alloc: Global, row: Row<'_>) -> Result<MemFiles, RowError> {
+    let failing = row.numbers(alloc, "file-fails")?;
+    let files = row.files(alloc)?;
+    Ok(MemFiles::new(files, failing))
+}
+
+fn status_of<R: Threads + Wait + Sync>(
+    rt: &R,
+    alloc: Global,
+    words: &[Bytes],
+    files: &mut MemFiles,
+    out: &mut MemLink,
+    world: &mut MemWorld,
+) -> u8 {
+    let mut input = MemLink::new(alloc, Bytes::new(alloc), NumberList::new(alloc));
+    run_jkd(rt, alloc, words, files, &mut input, out, world).status()
+}
+
+fn wants_told(
+    alloc: Global,
+    row: Row<'_>,
+    status: u8,
+    out: &MemLink,
+    world: &MemWorld,
+) -> Result<bool, RowError> {
+    let mut told = Bytes::from_slice(alloc, out.sent())?;
+    told.extend(b"status ")?;
+    put_decimal(&mut told, u128::from(status))?;
+    told.extend(b"\n")?;
+    put_world(alloc, world, &mut told)?;
+    wants(alloc, row, told.as_slice())
+}
+
+fn over_output<R: Threads + Wait + Sync>(
+    rt: &R,
+    alloc: Global,
+    row: Row<'_>,
+    words: &[Bytes],
+    files: &mut MemFiles,
+    world: &mut MemWorld,
+) -> Result<bool, RowError> {
+    let mut out = output_of(alloc, row)?;
+    let status = status_of(rt, alloc, words, files, &mut out, world);
+    wants_told(alloc, row, status, &out, world)
+}
+
+fn over_files<R: Threads + Wait + Sync>(
+    rt: &R,
+    alloc: Global,
+    row: Row<'_>,
+    words: &[Bytes],
+    files: &mut MemFiles,
+) -> Result<bool, RowError> {
+    over_output(rt, alloc, row, words, files, &mut world_of(alloc, row)?)
+}
+
+fn over_words<R: Threads + Wait + Sync>(
+    rt: &R,
+    alloc: Global,
+    row: Row<'_>,
+    words: &[Bytes],
+) -> Result<bool, RowError> {
+    over_files(rt, alloc, row, words, &mut files_of(alloc, row)?)
+}
+
+/// Whether a command does what its row says.
+pub fn holds<R: Threads + Wait + Sync>(
+    rt: &R,
+    alloc: Global,
+    row: Row<'_>,
+) -> Result<bool, RowError> {
+    over_words(rt, alloc, row, row.words(alloc)?.as_slice())
+}

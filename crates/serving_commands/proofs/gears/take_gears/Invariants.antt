@@ -1,0 +1,18 @@
+use Rattle.std.proofs.Common.{◌≡◌, ◌≤◌, []}
+use Rattle.std.specs.List.{All}
+use Rattle.std.specs.Prelude.{vec_capacity, vec_len}
+use Rattle.door_clients.specs.Doors.{side}
+use Rattle.worker_gears.specs.Gears.{gear_side}
+use Rattle.serving_commands.specs.Worlds.{HandsAndTakes, IsMade, world_side}
+use Rattle.serving_commands.proofs.gears.take_gears.Given as goal
+
+-- so many gears were handed out, each as it was asked for
+abbrev pub invariant-gears : goal.invariant-gears
+invariant-gears g l = record {
+  passed : let at = world_side g.W.World.handed g.W.World.came_back g.W.World.out g.W.World.faults in HandsAndTakes (at l.initial.world) (at l.world) l.gears.items [];
+  count : vec_len l.gears ≡ l.number;
+  end : l.number-end ≡ l.asked.threads;
+  room : l.asked.threads ≤ vec_capacity l.gears;
+  made : let at = gear_side (side g.W.D.Door.coming g.W.D.Door.left g.W.D.Door.faults) g.W.T.Tape.talks g.W.K.Clock.answers in All (λ x. IsMade l.asked.clients (at x)) l.gears.items;
+  idle : All (λ x. g.W.T.Tape.is_idle x.tape) l.gears.items;
+}

@@ -1,0 +1,145 @@
+-- What `serve` and `container` do with the outside, and how they end. Read this first; what a run does is in gear_runs'
+-- specs/Runs.antt and specs/Containers.antt, which words are which command in specs/Words.antt.
+use Rattle.std.specs.Prelude.{◌≡◌, ℕ, ◌⊎◌, List, [], length, map, Option, Some, None}
+use Rattle.std.specs.List.{All}
+use Rattle.client_session.specs.Requests.{visit}
+use Rattle.container_server.specs.declared.ends.ContainerWorker.{ContainerWorker}
+use Rattle.gear_runs.specs.Containers.{IsContainerRun}
+use Rattle.gear_runs.specs.Runs.{IsRun}
+use Rattle.gear_runs.specs.declared.ends.Closing.{Closing}
+use Rattle.jk_cli.specs.declared.order.Order.{Order}
+use Rattle.jk_cli.specs.declared.order.Order.TheVariants as order
+use Rattle.jk_io.specs.Told.{appended, PutsFront, Rose}
+use Rattle.jk_server.specs.declared.part.WorkerEnd.{WorkerEnd}
+use Rattle.mini_container.specs.declared.app_config.AppConfig.{AppConfig}
+use Rattle.plain_commands.specs.Plain.{Plain}
+use Rattle.plain_commands.specs.Readings.{Outside}
+use Rattle.site_config.specs.declared.config.Config.{Config}
+use Rattle.uri_map.specs.declared.rule.Rule.{Rule}
+use Rattle.serving_commands.specs.Ends.{end_of_container, end_of_run, returned}
+use Rattle.serving_commands.specs.Sites.{IsSite}
+use Rattle.serving_commands.specs.Worlds.{HandsAndTakes, IsMade, RefusesGear, Tells, WorldSide}
+use Rattle.serving_commands.specs.declared.ends.EndOf.{EndOf}
+use Rattle.serving_commands.specs.declared.ends.EndOf.TheVariants as end
+
+-- What is told at a moment: how often the files failed, what the output was sent and how often it failed, and the world.
+pub record CommandSide (G : Type 0) : Type 0 where
+  pub file_faults : ℕ
+  pub sent : Option (List ℕ)
+  pub output_faults : ℕ
+  pub world : WorldSide G
+
+-- a command at a moment, by what its types tell: `command_side F.faults O.sent O.faults (world_side ..) files out world`
+abbrev pub command_side : {F O W G : Type 0} → (F → ℕ) → (O → Option (List ℕ)) → (O → ℕ) → (W → WorldSide G) → F → O → W → CommandSide G
+command_side file_faults sent output_faults at files out world = record {
+  file_faults = file_faults files;
+  sent = sent out;
+  output_faults = output_faults out;
+  world = at world;
+}
+
+-- ---- with the world
+
+-- A gear was refused, and those before it came back as they were.
+pub record LacksGear {G L : Type 0} (threads : ℕ) (s n : WorldSide G) (ended : EndOf L) : Type 0 where
+  pub refused : RefusesGear threads s n
+  pub status : ended ≡ end.Status 4
+  pub cause : Rose s.faults n.faults
+
+-- Memory was wanted: the gears that were handed out came back as they were, or none did.
+pub record WantsMemory {G L : Type 0} (s n : WorldSide G) (ended : EndOf L) : Type 0 where
+  pub gears : List G
+  pub back : List G
+  pub passed : HandsAndTakes s n gears back
+  pub unserved : (back ≡ gears) ⊎ (back ≡ [])
+  pub status : ended ≡ end.Status 6
+
+-- What a command for so many workers does with the world, where its run is such a one.
+pub data Works {G L : Type 0} (threads : ℕ) (Runs : WorldSide G → WorldSide G → EndOf L → Type 0) (s n : WorldSide G) (ended : EndOf L) : Type 0 where
+  NoGear : LacksGear threads s n ended → Works threads Runs s n ended
+  NoRoom : WantsMemory s n ended → Works threads Runs s n ended
+  Ran : Runs s n ended → Works threads Runs s n ended
+
+-- The workers of a site ran: the world handed out a gear for each, in order, each just made; what one run over the site made
+-- of these gears came back, in order; and the run's end is the command's.
+pub record RunsSite {G C S X L : Type 0} (told : Tells G C S X) (cfg : Config) (rules : List Rule) (threads : ℕ) (clients : Option ℕ) (s n : WorldSide G) (ended : EndOf L) : Type 0 where
+  pub gears : List G
+  pub left : List G
+  pub count : length gears ≡ threads
+  pub made : All (λ g. IsMade clients (told.gear g)) gears
+  pub ends : List (WorkerEnd L)
+  pub closing : Closing L
+  pub run : IsRun (visit cfg rules) told.link told.shelved told.shelf_faults cfg.lbs (map told.gear gears) (map told.gear left) ends closing
+  pub passed : HandsAndTakes s n gears (returned closing left)
+  pub status : ended ≡ end_of_run ends closing
+
+-- The workers of a container ran, in the same way.
+pub record RunsContainer {G C S X L : Type 0} (told : Tells G C S X) (app : AppConfig) (threads : ℕ) (clients : Option ℕ) (s n : WorldSide G) (ended : EndOf L) : Type 0 where
+  pub gears : List G
+  pub left : List G
+  pub count : length gears ≡ threads
+  pub made : All (λ g. IsMade clients (told.gear g)) gears
+  pub ends : List ContainerWorker
+  pub run : IsContainerRun app told.link (map told.gear gears) (map told.gear left) ends
+  pub passed : HandsAndTakes s n gears left
+  pub status : ended ≡ end_of_container ends
+
+-- ---- all that a command does
+
+-- How the writing of a line that refuses ends: it was written, or a front of it.
+abbrev pub WritesLine : {L : Type 0} → (sent sent_now : Option (List ℕ)) → (faults faults_now : ℕ) → (line : List ℕ) → EndOf L → Type 0
+WritesLine sent sent_now faults faults_now line ended =
+    ((sent_now ≡ appended sent line) × (ended ≡ end.Status 3))
+    ⊎ (PutsFront sent sent_now line × (ended ≡ end.Status 5) × Rose faults faults_now)
+    ⊎ (PutsFront sent sent_now line × (ended ≡ end.Status 6))
+
+-- The files are refused, and the line that `config` prints of them was written.
+pub record RefusesFiles {G L : Type 0} (outside : Outside) (workers map : List ℕ) (s n : CommandSide G) (ended : EndOf L) : Type 0 where
+  pub line : List ℕ
+  pub plain : Plain outside (order.Config workers (Some map)) line 3
+  pub written : WritesLine s.sent n.sent s.output_faults n.output_faults line ended
+  pub world : n.world ≡ s.world
+
+-- The files couldn't be read, and nothing was done.
+pub record LacksFiles {G L : Type 0} (s n : CommandSide G) (ended : EndOf L) : Type 0 where
+  pub why : ((ended ≡ end.Status 4) × Rose s.file_faults n.file_faults) ⊎ (ended ≡ end.Status 6)
+  pub written : n.sent ≡ s.sent
+  pub world : n.world ≡ s.world
+
+-- The files are a site, for which so many workers were wanted. Nothing was written.
+pub record ServesSite {G C S X L : Type 0} (told : Tells G C S X) (outside : Outside) (workers map : List ℕ) (threads : ℕ) (clients : Option ℕ) (s n : CommandSide G) (ended : EndOf L) : Type 0 where
+  pub cfg : Config
+  pub rules : List Rule
+  pub site : IsSite outside workers map cfg rules
+  pub works : Works threads (RunsSite told cfg rules threads clients) s.world n.world ended
+  pub written : n.sent ≡ s.sent
+
+-- `serve WORKERS MAP ADDRESS THREADS`
+pub data Serves {G C S X L : Type 0} (told : Tells G C S X) (outside : Outside) (workers map : List ℕ) (threads : ℕ) (clients : Option ℕ) (s n : CommandSide G) (ended : EndOf L) : Type 0 where
+  Unread : LacksFiles s n ended → Serves told outside workers map threads clients s n ended
+  Refused : RefusesFiles outside workers map s n ended → Serves told outside workers map threads clients s n ended
+  Served : ServesSite told outside workers map threads clients s n ended → Serves told outside workers map threads clients s n ended
+
+-- The application of a container of this route: it asks for no secret, and a packet has at most 8,192 bytes.
+pub record IsAppOf (route : List ℕ) (app : AppConfig) : Type 0 where
+  pub name : app.route ≡ route
+  pub secret : app.secret ≡ None
+  pub packet : app.packet ≡ 8192
+
+-- The workers of such a container were wanted.
+pub record ContainsLinks {G C S X L : Type 0} (told : Tells G C S X) (route : List ℕ) (threads : ℕ) (clients : Option ℕ) (s n : WorldSide G) (ended : EndOf L) : Type 0 where
+  pub app : AppConfig
+  pub is : IsAppOf route app
+  pub works : Works threads (RunsContainer told app threads clients) s n ended
+
+-- `container ROUTE ADDRESS THREADS`. Nothing was written.
+pub record Contains {G C S X L : Type 0} (told : Tells G C S X) (route : List ℕ) (threads : ℕ) (clients : Option ℕ) (s n : CommandSide G) (ended : EndOf L) : Type 0 where
+  pub contained : ContainsLinks told route threads clients s.world n.world ended
+  pub written : n.sent ≡ s.sent
+
+-- What an order that asks for workers does.
+abbrev pub DoesOrder : {G C S X L : Type 0} → Tells G C S X → Outside → Order → (s n : CommandSide G) → EndOf L → Type 0
+DoesOrder told outside (order.Serve workers map address threads clients journal watch idle log format) s n ended =
+    Serves told outside workers map threads clients s n ended
+DoesOrder told outside (order.Container route address threads clients) s n ended = Contains told route threads clients s n ended
+DoesOrder told outside other s n ended = ⊥

@@ -1,0 +1,116 @@
+//! `serve`: clients served over the balancers of a site.
+ghost use Rattle.std.specs.Prelude.{◌≡◌, ◌<◌, ◌≤◌, ℕ, List, Option, [], length};
+ghost use Rattle.jk_io.specs.Told.{HasCause};
+ghost use Rattle.plain_commands.specs.Readings.{Outside};
+ghost use Rattle.serving_commands.specs.Commands.{command_side, RunsSite, Serves, Works, WritesLine, CommandSide};
+ghost use Rattle.serving_commands.specs.Ends.{end_of_run, returned};
+ghost use Rattle.serving_commands.specs.Worlds.{HandsAndTakes, tells, world_side};
+
+use crate::ends::{EndOf, JkdEnd, NO_MEMORY, OUTPUT_FAULT, REFUSED, end_by, end_of_run};
+use crate::gears::{Asked, GearOf, give_back, take_gears};
+use crate::reading::{Judged, read_site};
+use crate::site::ReadSite;
+use gear_runs::{Closing, SiteRun, serve_gears};
+use jk_io::{Bytes, Door, Files, IoError, NoMemory, Sink, write_all};
+use std::alloc::Global;
+use std::marker::Brand;
+use std::sync::Wait;
+use std::thread::Threads;
+use worker_gears::World;
+
+/// What `serve` is asked for.
+#[derive(Clone, Copy)]
+pub(crate) struct ServeOrder<'a> {
+    pub(crate) workers: &'a Bytes,
+    pub(crate) map: &'a Bytes,
+    pub(crate) asked: Asked<'a>,
+}
+
+/// Writes the line that refuses a site's files.
+fn refuse<O: Sink>(out: &mut O, line: &Bytes) -> JkdEnd
+    ensures { WritesLine (O.sent out.old) (O.sent out.new) (O.faults out.old) (O.faults out.new) line.now result }
+{
+    match write_all(out, line.as_slice()) {
+        Ok(()) => EndOf::Status(REFUSED),
+        Err(IoError::Failed) => EndOf::Status(OUTPUT_FAULT),
+        Err(IoError::NoMemory) => EndOf::Status(NO_MEMORY),
+    }
+}
+
+/// Gives the gears of a run back, unless its closing wanted memory.
+fn give_by<W: World>(world: &mut W, closing: &Closing<Brand>, gears: Vec<GearOf<W>>)
+    requires out { length (returned closing.now gears.items) ≤ W.out world.old }
+    ensures { let at = world_side W.handed W.came_back W.out W.faults in
+        HandsAndTakes (at world.old) (at world.new) [] (returned closing.now gears.items) }
+{
+    match closing {
+        Closing::NoMemory => {}
+        Closing::Kept | Closing::ShelfFault | Closing::Differs(_) => give_back(world, gears),
+    }
+}
+
+/// Gives the gears of a run back, and answers how it ended.
+fn settle<W: World>(world: &mut W, run: SiteRun<Brand, GearOf<W>>) -> JkdEnd
+    requires out { length (returned run.closing run.gears.items) ≤ W.out world.old }
+    ensures given { let at = world_side W.handed W.came_back W.out W.faults in
+        HandsAndTakes (at world.old) (at world.new) [] (returned run.closing run.gears.items) }
+    ensures ended { result ≡ end_of_run run.workers run.closing }
+{
+    let SiteRun {
+        workers,
+        closing,
+        gears,
+    } = run;
+    give_by(world, &closing, gears);
+    end_of_run(workers.into_vec(), closing)
+}
+
+/// Serves the clients of a site by a worker for each gear, and gives the gears back.
+fn serve_site<W: World, R: Threads + Wait + Sync>(
+    rt: &R,
+    alloc: Global,
+    site: &ReadSite,
+    asked: Asked<'_>,
+    world: &mut W,
+) -> JkdEnd
+where
+    <W::D as Door>::L: Send,
+    requires threads { (1 ≤ asked.threads) × (asked.threads ≤ 64) }
+    ensures { let at = world_side W.handed W.came_back W.out W.faults in
+        let told = tells W.D.coming W.D.left W.D.faults W.T.talks W.K.answers W.D.L.Meanings W.S.shelved W.S.faults in
+        Works asked.entry.threads (RunsSite told site.now.cfg site.now.map asked.entry.threads asked.entry.clients) (at world.old) (at world.new) result }
+{
+    let gears = match take_gears(alloc, world, asked, Some(&site.cfg)) {
+        Ok(gears) => gears,
+        Err(error) => return end_by(error),
+    };
+    match serve_gears(rt, alloc, &site.cfg, &site.map, gears) {
+        Ok(ran) => settle(world, ran),
+        Err(NoMemory) => EndOf::Status(NO_MEMORY),
+    }
+}
+
+/// `serve`, over the files WORKERS and MAP.
+pub(crate) fn serve<F: Files, O: Sink, W: World, R: Threads + Wait + Sync>(
+    rt: &R,
+    alloc: Global,
+    order: ServeOrder<'_>,
+    files: &mut F,
+    out: &mut O,
+    world: &mut W,
+) -> JkdEnd
+where
+    <W::D as Door>::L: Send,
+    requires threads { (1 ≤ order.asked.threads) × (order.asked.threads ≤ 64) }
+    ensures { (incoming : Option (List ℕ))
+        → let at = command_side F.faults O.sent O.faults (world_side W.handed W.came_back W.out W.faults) in
+        let told = tells W.D.coming W.D.left W.D.faults W.T.talks W.K.answers W.D.L.Meanings W.S.shelved W.S.faults in
+        Serves told (record { files = F.files files.old; incoming = incoming }) order.entry.workers.now order.entry.map.now
+        order.entry.asked.threads order.entry.asked.clients (at files.old out.old world.old) (at files.new out.new world.new) result }
+{
+    match read_site(alloc, files, order.workers, order.map) {
+        Ok(Judged::Site(site)) => serve_site(rt, alloc, &site, order.asked, world),
+        Ok(Judged::Refused(line)) => refuse(out, &line),
+        Err(error) => end_by(error),
+    }
+}

@@ -1,0 +1,145 @@
+#!/usr/bin/env python3
+"""Commands that serve, over files and a world in memory, each with what comes out of it.
+
+Written from RFC 9112, the public AJPv1.3 protocol reference, and the rules of docs/FORMATS.md and docs/DECISIONS.md, and
+apart from the program's own code: replies and packets are put together by sessions.py, journals by hand.
+
+    python3 vectors/serving.py serving > crates/serve_checks/data/serving.txt
+    python3 vectors/serving.py faults > crates/serve_checks/data/faults.txt
+    python3 vectors/serving.py words > crates/serve_checks/data/words.txt
+"""
+import sys
+
+from sessions import HI, forward, from_member, reply, request, sized
+
+SITE = "worker.list=w1\nworker.w1.retries=1\n"
+MAP = "/*=w1\n"
+WHO = request(path="/who", headers=(("Host", "h"),)) + request(path="/who", headers=(), old=True)
+WHO_REPLIES = reply(b"n1\n") + reply(b"n1\n", last=True)
+WHO_TALKS = [(forward(path="/who", headers=(("Host", "h"),), host="h"), True), (forward(path="/who", headers=(), old=True), True)]
+WHO_LINK = sized(b"n1\n") * 2
+GET = request()
+
+
+def spelled(data):
+    """A line of a text."""
+    plain = {0x0D: "\\r", 0x09: "\\t", 0x5C: "\\x5c"}
+    return "".join(plain.get(b) or (chr(b) if 0x20 <= b <= 0x7E else f"\\x{b:02x}") for b in data)
+
+
+def text(data):
+    """The lines of a text; the last one ends without a line feed."""
+    *lines, last = data.split(b"\n")
+    return [f"|{spelled(line)}" for line in lines] + ([f"+{spelled(last)}"] if last else [])
+
+
+def left(data):
+    return b"left\n" + data + b"\n"
+
+
+def talk(member, sent, kept=True):
+    return f"to 0.{member}".encode() + (b" kept" if kept else b"") + b"\n" + sent + b"\n"
+
+
+def journal(entries, name="w1", direct=1, members=("w1",)):
+    """The last segment of a balancer that began at moment 0 with number 0."""
+    lines = ["jkj 2", f"lb lb R 0 0 {direct} 60 60 {len(members)}"]
+    lines += [f"member {m} {m} 1 0 A - 64 ok 0" for m in members] + ["from 0 0 0 -"]
+    lines += [f"e {n} {entry}" for n, entry in enumerate(entries)] + [f"end {len(entries)}"]
+    return b"segment of 0\n" + ("\n".join(lines) + "\n").encode()
+
+
+def exchanges(sessions):
+    """A choice and its return for each exchange, each with its session, whether it was fresh, and the bytes of the reply."""
+    entries = []
+    for session, number in sessions:
+        ticket = len(entries)
+        entries += [f"{session} 0 select - 1 0 0 0 chosen 0 balanced 0", f"{session} 0 return {ticket} done {number} done"]
+    return entries
+
+
+class Row:
+    def __init__(self, name, words, out=b"", status=0, faults=0, gears=(), files=(), back=(), lines=(), parts=None):
+        self.name, self.words, self.out, self.status, self.faults = name, words, out, status, faults
+        self.gears, self.files, self.back, self.lines, self.parts = gears, files, back, lines, parts
+
+    def show(self):
+        lines = [f"row {self.name}", f"words {self.words}", *self.lines]
+        for clients, links in self.gears:
+            lines.append(f"gear {len(clients)} {len(links)}")
+            for bytes_ in (*clients, *links):
+                lines += ["file link", *text(bytes_)]
+        for name, content in self.files:
+            lines += [f"file {name}", *text(content.encode())]
+        if self.parts is not None:
+            for part in self.parts:
+                lines += ["part", *text(part)]
+        else:
+            told = self.out + f"status {self.status}\nfaults {self.faults}\n".encode()
+            told += b"".join(b"back\n" + gear for gear in self.back)
+            lines += ["output", *text(told)]
+        return "\n".join(lines) + "\n"
+
+
+FILES = (("w", SITE), ("m", MAP))
+SERVE = "serve w m 127.0.0.1:8080 "
+WHO_GEAR = ([WHO], [WHO_LINK])
+WHO_BACK = left(WHO_REPLIES) + b"".join(talk(0, sent, kept) for sent, kept in WHO_TALKS)
+
+
+def serving():
+    yield Row("a gear serves who comes to its door", SERVE + "1", gears=[WHO_GEAR], files=FILES,
+              back=[WHO_BACK + journal(exchanges([(0, 3), (0, 3)]))])
+    yield Row("only so many clients come", SERVE + "1 --clients 1", gears=[([GET, GET], [HI])], files=FILES,
+              back=[left(reply()) + talk(0, forward()) + journal(exchanges([(0, 2)]))])
+    one = left(reply()) + talk(0, forward()) + left(reply()) + talk(0, forward())
+    two_left = left(reply()) * 2
+    two_talks = talk(0, forward()) * 2
+    yield Row("two threads serve two clients each", SERVE + "2", gears=[([GET, GET], [HI + HI]), ([GET, GET], [HI + HI])], files=FILES,
+              parts=[b"status 0\nfaults 0\nback\n" + two_left, b"segment of 0\njkj 2\n", b"end 8\nback\n" + two_left])
+    yield Row("no client comes", SERVE + "1", gears=[([], [])], files=FILES, back=[journal([])])
+    yield Row("a site of a status worker alone keeps no journal", SERVE + "1", gears=[([], [])],
+              files=(("w", "worker.list=s\nworker.s.type=status\n"), ("m", "/=s\n")), back=[b""])
+    ping, pong = b"\x12\x34\x00\x01\x0a", from_member(b"\x09")
+    yield Row("a container answers a ping at each of two gears", "container n1 127.0.0.1:8009 2", gears=[([ping], []), ([ping, ping], [])],
+              back=[left(pong), left(pong) * 2])
+    ask = forward(path="/who", headers=(("Host", "h"),), host="h")
+    yield Row("a container tells who it is, twice", "container --clients=1 n1 127.0.0.1:8009 1", gears=[([ask + ask, ask], [])],
+              back=[left(sized(b"n1\n") * 2)])
+
+
+def faults():
+    yield Row("a gear that is refused is no run", SERVE + "1", gears=[WHO_GEAR], files=FILES, status=4, faults=1, lines=["gear-fails 0"])
+    yield Row("the gears before it come back as they were", SERVE + "3", gears=[WHO_GEAR, ([], []), ([], [])], files=FILES, status=4, faults=1,
+              lines=["gear-fails 2"], back=[b"", b""])
+    yield Row("a gear of a container is refused", "container n1 127.0.0.1:8009 2", gears=[([], []), ([], [])], status=4, faults=1,
+              lines=["gear-fails 1"], back=[b""])
+    yield Row("a door fails", SERVE + "1", gears=[([GET, GET], [HI])], files=FILES, status=4, lines=["door-fails 1"],
+              back=[left(reply()) + talk(0, forward()) + journal(exchanges([(0, 2)]))])
+    yield Row("a container's door fails", "container n1 127.0.0.1:8009 1", gears=[([], [])], status=4, lines=["door-fails 0"], back=[b""])
+    yield Row("a shelf fails in the closing", SERVE + "1", gears=[([], [])], files=FILES, status=4, lines=["shelf-fails 0"], back=[b""])
+    bad = (("w", "worker.list"), ("m", MAP))
+    yield Row("a workers file is refused", SERVE + "1", gears=[WHO_GEAR], files=bad, out=b"workers line 1: refusal 1\n", status=3)
+    yield Row("a map is refused", SERVE + "1", gears=[WHO_GEAR], files=(("w", SITE), ("m", "/*=w2\n")), out=b"map line 1: refusal 2\n", status=3)
+    yield Row("the workers file goes before the map", SERVE + "1", gears=[WHO_GEAR], files=(("w", "worker.list"), ("m", "/*=w2\n")),
+              out=b"workers line 1: refusal 1\n", status=3)
+    yield Row("a file that isn't there", SERVE + "1", gears=[WHO_GEAR], files=(("w", SITE),), status=4)
+    yield Row("both files are read before one is judged", SERVE + "1", gears=[WHO_GEAR], files=(("w", "worker.list"),), status=4)
+    yield Row("a file can't be read", SERVE + "1", gears=[WHO_GEAR], files=FILES, status=4, lines=["file-fails 1"])
+    yield Row("the output fails", SERVE + "1", gears=[WHO_GEAR], files=bad, out=b"work", status=5, lines=["output-fails 4"])
+
+
+def words():
+    for name, line in (("a word too many", "match w m x"), ("a word too few", "config"), ("an option of no command", "play --x"),
+                       ("no THREADS", "serve w m 127.0.0.1:8080"), ("no thread", SERVE + "0"), ("too many threads", SERVE + "65"),
+                       ("a container without its route", "container 127.0.0.1:8009 1"), ("a watch isn't built", SERVE + "1 --watch 5"),
+                       ("a log isn't built", SERVE + "1 --log d"), ("a log isn't built, in one word", "serve --log=d w m 127.0.0.1:8080 1"),
+                       ("an option twice", SERVE + "1 --clients 1 --clients=2")):
+        yield Row(f"{name} is no command", line, gears=[WHO_GEAR], files=FILES, status=2)
+    yield Row("behind -- a word may be a file of any name", "config -- -w", files=(("-w", ""),), out=b"maintain 60\n")
+    yield Row("a file may be named as an option", "serve --clients 0 -- --watch m 127.0.0.1:8080 1", gears=[([GET], [])],
+              files=(("--watch", SITE), ("m", MAP)), back=[journal([])])
+
+
+print(f"# Made by vectors/serving.py {sys.argv[1]}. How a row is written stands in src/main.rt.\n")
+print("\n".join(row.show() for row in {"serving": serving, "faults": faults, "words": words}[sys.argv[1]]()))
