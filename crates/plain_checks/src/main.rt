@@ -66,6 +66,7 @@ static FILES: [&str; 10] = [
     "maps.txt",
     "marks.txt",
     "dry.txt",
+    "checks.txt",
 ];
 
 fn main(rt: HostRuntime) -> Result<()> {
