@@ -18,6 +18,7 @@ WHO = request(path="/who", headers=(("Host", "h"),)) + request(path="/who", head
 WHO_REPLIES = reply(b"n1\n") + reply(b"n1\n", last=True)
 WHO_TALKS = [(forward(path="/who", headers=(("Host", "h"),), host="h"), True), (forward(path="/who", headers=(), old=True), True)]
 WHO_LINK = sized(b"n1\n") * 2
+WHO_BYTES = [(0, len(sent) + len(sized(b"n1\n"))) for sent, _ in WHO_TALKS]
 GET = request()
 
 
@@ -50,7 +51,7 @@ def journal(entries, name="w1", direct=1, members=("w1",)):
 
 
 def exchanges(sessions):
-    """A choice and its return for each exchange, each with its session, whether it was fresh, and the bytes of the reply."""
+    """A choice and its return for each exchange, each with its session, and how many bytes its talk sent and received."""
     entries = []
     for session, number in sessions:
         ticket = len(entries)
@@ -89,13 +90,12 @@ WHO_BACK = left(WHO_REPLIES) + b"".join(talk(0, sent, kept) for sent, kept in WH
 
 def serving():
     yield Row("a gear serves who comes to its door", SERVE + "1", gears=[WHO_GEAR], files=FILES,
-              back=[WHO_BACK + journal(exchanges([(0, 3), (0, 3)]))])
+              back=[WHO_BACK + journal(exchanges(WHO_BYTES))])
     yield Row("only so many clients come", SERVE + "1 --clients 1", gears=[([GET, GET], [HI])], files=FILES,
-              back=[left(reply()) + talk(0, forward()) + journal(exchanges([(0, 2)]))])
-    one = left(reply()) + talk(0, forward()) + left(reply()) + talk(0, forward())
+              back=[left(reply()) + talk(0, forward()) + journal(exchanges([(0, len(forward()) + len(HI))]))])
     two_left = left(reply()) * 2
-    two_talks = talk(0, forward()) * 2
-    yield Row("two threads serve two clients each", SERVE + "2", gears=[([GET, GET], [HI + HI]), ([GET, GET], [HI + HI])], files=FILES,
+    # either thread may take the link that the other one kept, so each link has the replies of all four talks to come
+    yield Row("two threads serve two clients each", SERVE + "2", gears=[([GET, GET], [HI * 4]), ([GET, GET], [HI * 4])], files=FILES,
               parts=[b"status 0\nfaults 0\nback\n" + two_left, b"segment of 0\njkj 2\n", b"end 8\nback\n" + two_left])
     yield Row("no client comes", SERVE + "1", gears=[([], [])], files=FILES, back=[journal([])])
     yield Row("a site of a status worker alone keeps no journal", SERVE + "1", gears=[([], [])],
@@ -115,7 +115,7 @@ def faults():
     yield Row("a gear of a container is refused", "container n1 127.0.0.1:8009 2", gears=[([], []), ([], [])], status=4, faults=1,
               lines=["gear-fails 1"], back=[b""])
     yield Row("a door fails", SERVE + "1", gears=[([GET, GET], [HI])], files=FILES, status=4, lines=["door-fails 1"],
-              back=[left(reply()) + talk(0, forward()) + journal(exchanges([(0, 2)]))])
+              back=[left(reply()) + talk(0, forward()) + journal(exchanges([(0, len(forward()) + len(HI))]))])
     yield Row("a container's door fails", "container n1 127.0.0.1:8009 1", gears=[([], [])], status=4, lines=["door-fails 0"], back=[b""])
     yield Row("a shelf fails in the closing", SERVE + "1", gears=[([], [])], files=FILES, status=4, lines=["shelf-fails 0"], back=[b""])
     bad = (("w", "worker.list"), ("m", MAP))

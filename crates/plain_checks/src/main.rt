@@ -55,7 +55,7 @@ fn judge_file(rt: &HostRuntime, name: &str) -> Result<()> {
 }
 
 /// The files of rows.
-static FILES: [&str; 10] = [
+static FILES: [&str; 11] = [
     "scripts.txt",
     "refused.txt",
     "faults.txt",

@@ -25,6 +25,7 @@ use block_rows::judging::{Area, judge_rows};
 use block_rows::row::{Row, RowError};
 use std::alloc::Global;
 use std::fs;
+use std::rt::Files;
 use std::sync::Wait;
 use std::thread::Threads;
 
@@ -43,7 +44,11 @@ impl<'r, R: Threads + Wait + Sync> Area for Commands<'r, R> {
 /// The files of rows.
 static FILES: [&str; 3] = ["words.txt", "serving.txt", "faults.txt"];
 
-fn judge_text(rt: &HostRuntime, name: &str, text: &str) -> Result<()> {
+fn judge_text<R: Threads + Wait + Sync + Print + AllocGlobal>(
+    rt: &R,
+    name: &str,
+    text: &str,
+) -> Result<()> {
     let mut shown = String::new(rt.alloc());
     let count = judge_rows(rt.alloc(), &Commands { rt }, text, &mut shown)?;
     match count.others {
@@ -56,7 +61,10 @@ fn judge_text(rt: &HostRuntime, name: &str, text: &str) -> Result<()> {
     Ok(())
 }
 
-fn judge_file(rt: &HostRuntime, name: &str) -> Result<()> {
+fn judge_file<R: Threads + Wait + Sync + Print + AllocGlobal + Files>(
+    rt: &R,
+    name: &str,
+) -> Result<()> {
     let text = fs::read_to_string(rt, name).context("reading a file of rows")?;
     judge_text(rt, name, text.as_str())
 }

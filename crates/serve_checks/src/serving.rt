@@ -28,7 +28,7 @@ fn status_of<R: Threads + Wait + Sync>(
     words: &[Bytes],
     files: &mut MemFiles,
     out: &mut MemLink,
-    world: &mut MemWorld,
+    world: &mut MemWorld<MemLink>,
 ) -> u8 {
     let mut input = MemLink::new(alloc, Bytes::new(alloc), NumberList::new(alloc));
     run_jkd(rt, alloc, words, files, &mut input, out, world).status()
@@ -39,7 +39,7 @@ fn wants_told(
     row: Row<'_>,
     status: u8,
     out: &MemLink,
-    world: &MemWorld,
+    world: &MemWorld<MemLink>,
 ) -> Result<bool, RowError> {
     let mut told = Bytes::from_slice(alloc, out.sent())?;
     told.extend(b"status ")?;
@@ -55,7 +55,7 @@ fn over_output<R: Threads + Wait + Sync>(
     row: Row<'_>,
     words: &[Bytes],
     files: &mut MemFiles,
-    world: &mut MemWorld,
+    world: &mut MemWorld<MemLink>,
 ) -> Result<bool, RowError> {
     let mut out = output_of(alloc, row)?;
     let status = status_of(rt, alloc, words, files, &mut out, world);

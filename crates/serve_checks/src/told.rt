@@ -36,7 +36,7 @@ fn put_segment(lb: u32, segment: &Segment, out: &mut Bytes) -> Result<(), NoMemo
     out.extend(text.as_slice())
 }
 
-fn put_gear(gear: &MemGear, out: &mut Bytes) -> Result<(), NoMemory> {
+fn put_gear(gear: &MemGear<MemLink>, out: &mut Bytes) -> Result<(), NoMemory> {
     out.extend(b"back\n")?;
     for link in gear.door.left() {
         put_left(link, out)?;
@@ -51,7 +51,11 @@ fn put_gear(gear: &MemGear, out: &mut Bytes) -> Result<(), NoMemory> {
 }
 
 /// Adds how often the world failed, and each gear that came back.
-pub fn put_world(_alloc: Global, world: &MemWorld, out: &mut Bytes) -> Result<(), NoMemory> {
+pub fn put_world(
+    _alloc: Global,
+    world: &MemWorld<MemLink>,
+    out: &mut Bytes,
+) -> Result<(), NoMemory> {
     put_number(out, b"faults ", world.faults())?;
     out.extend(b"\n")?;
     for gear in world.back() {

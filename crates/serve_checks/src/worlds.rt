@@ -86,7 +86,7 @@ fn plan_of(
     row: Row<'_>,
     gear: &str,
     file: &mut usize,
-) -> Result<MemPlan, RowError> {
+) -> Result<MemPlan<MemLink>, RowError> {
     let (clients, links) = counts_in(gear)?;
     let clients = clients_of(alloc, row, clients, file)?;
     let links = links_of(alloc, row, links, file)?;
@@ -104,14 +104,14 @@ fn push_plan(
     row: Row<'_>,
     gear: &str,
     file: &mut usize,
-    plans: &mut MemPlanList,
+    plans: &mut MemPlanList<MemLink>,
 ) -> Result<(), RowError> {
     let plan = plan_of(alloc, row, gear, file)?;
     plans.push(plan).map_err(|_| NoMemory)?;
     Ok(())
 }
 
-fn plans_of(alloc: Global, row: Row<'_>) -> Result<MemPlanList, RowError> {
+fn plans_of(alloc: Global, row: Row<'_>) -> Result<MemPlanList<MemLink>, RowError> {
     let mut plans = MemPlanList::new(alloc);
     let mut file = 0;
     for line in row.lines.lines() {
@@ -123,7 +123,7 @@ fn plans_of(alloc: Global, row: Row<'_>) -> Result<MemPlanList, RowError> {
 }
 
 /// The world that hands out the gears of a row.
-pub fn world_of(alloc: Global, row: Row<'_>) -> Result<MemWorld, RowError> {
+pub fn world_of(alloc: Global, row: Row<'_>) -> Result<MemWorld<MemLink>, RowError> {
     let plans = plans_of(alloc, row)?;
     let failing = row.numbers(alloc, "gear-fails")?;
     Ok(MemWorld::new(alloc, plans, ListOf::new(alloc), failing))
