@@ -57,10 +57,7 @@ fn do_words<
         + Threads
         + Wait
         + Sync,
->(
-    rt: &R,
-    words: &[Bytes],
-) -> u8
+>(rt: &R, words: &[Bytes]) -> u8
 where
     R::File: Send,
 {
@@ -95,10 +92,7 @@ fn do_command<
         + Threads
         + Wait
         + Sync,
->(
-    rt: &R,
-    words: &[Bytes],
-) -> u8
+>(rt: &R, words: &[Bytes]) -> u8
 where
     R::File: Send,
 {
