@@ -13,11 +13,7 @@ use jk_cli::{Order, read_words as read_order};
 use jk_io::{Bytes, IoError, NoMemory, RealFiles, Sink, StdIn, StdOut, write_all};
 use plain_commands::{USAGE, asked_text};
 use serving_commands::run_jkd;
-use std::net::{Net, TcpListener, TcpStream};
 use std::process::ExitCode;
-use std::rt::{Clock, Files};
-use std::sync::Wait;
-use std::thread::Threads;
 use words::{WordsError, read_words};
 use worker_gears::RealWorld;
 
@@ -45,72 +41,40 @@ fn threads_of<R: AllocGlobal>(rt: &R, words: &[Bytes]) -> u32 {
     }
 }
 
-/// Does the command of the words over the real files, streams and sockets, and says on standard error what failed there.
-fn do_words<
-    R: Files
-        + Print
-        + Eprint
-        + Input
-        + AllocGlobal
-        + Net<Stream = TcpStream, Listener = TcpListener>
-        + Clock
-        + Threads
-        + Wait
-        + Sync,
->(rt: &R, words: &[Bytes]) -> u8
-where
-    R::File: Send,
-{
-    let mut files = RealFiles::new(rt);
+// The end of the program. What it says of words that are no command goes to standard error, which may be closed.
+fn ended<R: Eprint>(rt: &R, status: u8) -> ExitCode {
+    if status == NO_COMMAND {
+        let _ = eprint!(rt; "{USAGE}");
+    }
+    ExitCode::from(status)
+}
+
+fn main(rt: HostRuntime) -> ExitCode {
+    let words = match read_words(&rt) {
+        Ok(words) => words,
+        Err(WordsError::NotText) => return ended(&rt, NO_COMMAND),
+        Err(WordsError::NoMemory) => return ended(&rt, NO_MEMORY),
+    };
+    match asked_text(rt.alloc(), words.as_slice()) {
+        Ok(None) => {}
+        Ok(Some(text)) => return ended(&rt, print_text(&mut StdOut::new(&rt), text.as_bytes())),
+        Err(NoMemory) => return ended(&rt, NO_MEMORY),
+    }
+    let mut files = RealFiles::new(&rt);
     let mut input = StdIn::new(rt.reader());
-    let mut out = StdOut::new(rt);
-    let mut world = RealWorld::new(rt, threads_of(rt, words));
+    let mut out = StdOut::new(&rt);
+    let mut world = RealWorld::new(&rt, threads_of(&rt, words.as_slice()));
     let end = run_jkd(
-        rt,
+        &rt,
         rt.alloc(),
-        words,
+        words.as_slice(),
         &mut files,
         &mut input,
         &mut out,
         &mut world,
     );
     if let Some(trouble) = world.trouble() {
-        let _ = eprintln!(rt; "jkd: {trouble}");
+        let _ = eprintln!(&rt; "jkd: {trouble}");
     }
-    end.status()
-}
-
-/// Prints the text that the words ask for, or does their command.
-fn do_command<
-    R: Files
-        + Print
-        + Eprint
-        + Input
-        + AllocGlobal
-        + Net<Stream = TcpStream, Listener = TcpListener>
-        + Clock
-        + Threads
-        + Wait
-        + Sync,
->(rt: &R, words: &[Bytes]) -> u8
-where
-    R::File: Send,
-{
-    match asked_text(rt.alloc(), words) {
-        Ok(None) => do_words(rt, words),
-        Ok(Some(text)) => print_text(&mut StdOut::new(rt), text.as_bytes()),
-        Err(NoMemory) => NO_MEMORY,
-    }
-}
-
-fn main(rt: HostRuntime) -> ExitCode {
-    let status = match read_words(&rt) {
-        Ok(words) => do_command(&rt, words.as_slice()),
-        Err(WordsError::NotText) => NO_COMMAND,
-        Err(WordsError::NoMemory) => NO_MEMORY,
-    };
-    if status == NO_COMMAND {
-        let _ = eprint!(&rt; "{USAGE}");
-    }
-    ExitCode::from(status)
+    ended(&rt, end.status())
 }
