@@ -77,3 +77,6 @@ printf '\n'
 wait "$server"
 printf 'status %s\n' $?
 ls "$work/journal"
+
+say "the journal that it wrote is checked"
+cat "$work"/journal/lb-*.jkj | "$jkd" check
