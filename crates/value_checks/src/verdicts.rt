@@ -1,4 +1,6 @@
 //! Rows of verdicts: what the check of a journal's text says, and which changes of a word leave it good.
+ghost use Rattle.std.specs.Prelude.{◌≤◌, length};
+ghost use Rattle.jk_io.specs.declared.whole_input.TheConstants.{MAX_INPUT_BYTES};
 
 use check_lines::judging::{Teller, judge_lines};
 use check_lines::texts::{first_word, long, put_line, put_number, say};
@@ -27,7 +29,9 @@ fn put_line_of(alloc: Global, verdict: &Verdict, out: &mut Bytes) -> Result<(), 
 }
 
 /// Puts what is said of a text, and answers whether it is good.
-fn tell_verdict(alloc: Global, text: &[u8], out: &mut Bytes) -> Result<bool, NoMemory> {
+fn tell_verdict(alloc: Global, text: &[u8], out: &mut Bytes) -> Result<bool, NoMemory>
+    requires short { length text.now ≤ MAX_INPUT_BYTES }
+{
     match check_journal(alloc, text) {
         Ok(verdict) => {
             put_line_of(alloc, &verdict, out)?;
