@@ -21,28 +21,71 @@ mod told;
 mod worlds;
 
 use anyhow::{Context, Result};
-use block_rows::judging::{Area, judge_rows};
 use block_rows::row::{Row, RowError};
+use block_rows::texts::With;
+use jk_io::NoMemory;
 use std::alloc::Global;
+use std::fmt::Write;
 use std::fs;
 use std::rt::Files;
 use std::sync::Wait;
 use std::thread::Threads;
 
-/// The commands, and what their workers run on.
-#[derive(Drop)]
-struct Commands<'r, R> {
-    rt: &'r R,
+/// The files of rows.
+static FILES: [&str; 3] = ["words.txt", "serving.txt", "faults.txt"];
+
+/// How many rows there were, and how many of them came out otherwise.
+#[derive(Clone, Copy)]
+struct Count {
+    runs: u64,
+    others: u64,
 }
 
-impl<'r, R: Threads + Wait + Sync> Area for Commands<'r, R> {
-    fn holds(&self, alloc: Global, row: Row<'_>) -> Result<bool, RowError> {
-        serving::holds(self.rt, alloc, row)
+/// Whether a row comes out as it says; not, where it can't be read.
+fn is_held<R: Threads + Wait + Sync>(rt: &R, alloc: Global, lines: &str) -> Result<bool, NoMemory> {
+    let with = With {
+        first: "",
+        second: "",
+    };
+    match serving::holds(rt, alloc, Row { lines, with }) {
+        Ok(held) => Ok(held),
+        Err(RowError::Unreadable) => Ok(false),
+        Err(RowError::NoMemory) => Err(NoMemory),
     }
 }
 
-/// The files of rows.
-static FILES: [&str; 3] = ["words.txt", "serving.txt", "faults.txt"];
+/// Does a row, and shows it where it comes out otherwise.
+fn judge_row<R: Threads + Wait + Sync>(
+    rt: &R,
+    alloc: Global,
+    lines: &str,
+    count: Count,
+    shown: &mut String,
+) -> Result<Count, NoMemory> {
+    let runs = count.runs.saturating_add(1);
+    if is_held(rt, alloc, lines)? {
+        return Ok(Count { runs, ..count });
+    }
+    let name = lines.lines().next().unwrap_or("");
+    write!(shown, "not as wanted: {name}\n")?;
+    let others = count.others.saturating_add(1);
+    Ok(Count { runs, others })
+}
+
+/// Does each row of a text, shows those that come out otherwise, and counts. (A trait's method knows nothing of what its
+/// threads share, so these rows aren't judged by `judge_rows` of block_rows.)
+fn judge_rows<R: Threads + Wait + Sync>(
+    rt: &R,
+    alloc: Global,
+    text: &str,
+    shown: &mut String,
+) -> Result<Count, NoMemory> {
+    let mut count = Count { runs: 0, others: 0 };
+    for lines in text.split("\nrow ").skip(1) {
+        count = judge_row(rt, alloc, lines, count, shown)?;
+    }
+    Ok(count)
+}
 
 fn judge_text<R: Threads + Wait + Sync + Print + AllocGlobal>(
     rt: &R,
@@ -50,7 +93,7 @@ fn judge_text<R: Threads + Wait + Sync + Print + AllocGlobal>(
     text: &str,
 ) -> Result<()> {
     let mut shown = String::new(rt.alloc());
-    let count = judge_rows(rt.alloc(), &Commands { rt }, text, &mut shown)?;
+    let count = judge_rows(rt, rt.alloc(), text, &mut shown)?;
     match count.others {
         0 => println!(rt; "{shown}{name}: {} rows, all as wanted", count.runs)?,
         others => println!(rt;
