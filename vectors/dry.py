@@ -360,7 +360,7 @@ def recovery():
             got = (on_a + on_b, own(503), "own-503 0") if again else (on_a, own(502), "own-502 0")
             row(name, text, reply, *got, (PAIR.format(options), EVERY))
     on_w = forward("GET", "/", HOST)
-    row("two tries on one member", get, OK_HI[:20], on_w * 2, own(503), "own-503 0", ("worker.list=w1\n", "/*=w1\n"))
+    row("two tries on one member", get, OK_HI[:20], on_w * 2, own(503), "own-503 0", ("worker.list=w1\nworker.w1.type=ajp13\n", "/*=w1\n"))
     pings = "worker.list=w1\nworker.w1.retries=1\nworker.w1.ping_mode={}\n"
     row("a new link is pinged", get * 2, from_container(b"\x09") + OK_HI * 2, to_container(b"\x0a") + on_w * 2, GOT_HI * 2,
         "by-client 2", (pings.format("C"), "/*=w1\n"))
