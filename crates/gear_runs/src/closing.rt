@@ -1,4 +1,4 @@
-//! The closing of a connector's run: the desks are closed, and what the journals still keep goes to the first shelf.
+//! The closing of a connector's run. The desks are closed, and what the journals still keep goes to the first shelf.
 ghost use Rattle.std.specs.Prelude.{◌≡◌, ◌<◌, ◌≤◌, [], List, length, map, sum_by, vec_capacity, vec_len, IsErrOf, OnOk};
 ghost use Rattle.door_clients.specs.Doors.{side};
 ghost use Rattle.exchange.specs.Requests.{sizes_of};

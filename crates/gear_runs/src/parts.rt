@@ -209,15 +209,32 @@ fn take_apart<
         ≡ map (λ o. tools o.door o.reach.dial o.reach.tape o.clock) outside.entry.items }
     ensures logs { map (λ l. l.log) left.new.items ≡ logs.items }
 {
-    'outside: for (outside, log) in outside.into_iter().zip(logs) {
-        let Outside { door, reach, clock } = outside;
-        let (dial, tape) = reach.into_parts();
-        left.push_reserved(Left {
-            door,
-            dial,
-            tape,
-            clock,
-            log,
-        });
+    let mut logs = logs.into_iter();
+    'outside: for outside in outside {
+        match logs.next() {
+            Some(log) => left.push_reserved(left_of(outside, log)),
+            None => unreachable!(),
+        }
+    }
+}
+
+/// What one worker leaves, with its log.
+fn left_of<'s, 'r, D: Door, G: Dial, T: Tape, K: Clock, O, R: Wait>(
+    outside: Outside<D, PooledReach<'s, 'r, G, T, R>, K>,
+    log: Option<O>,
+) -> Left<D, G, T, K, O>
+    requires idle { is_some outside.reach.lent ≡ false }
+    ensures tools { tools result.door result.dial result.tape result.clock
+        ≡ tools outside.entry.door outside.entry.reach.dial outside.entry.reach.tape outside.entry.clock }
+    ensures log { result.log ≡ log }
+{
+    let Outside { door, reach, clock } = outside;
+    let (dial, tape) = reach.into_parts();
+    Left {
+        door,
+        dial,
+        tape,
+        clock,
+        log,
     }
 }

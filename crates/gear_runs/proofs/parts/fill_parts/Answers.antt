@@ -12,8 +12,8 @@ gears-preserved g c =
       idle = All-rest (λ x. g.T.Tape.is_idle x.tape) _ _ _ first c.gears.invariant.idle;
       parts_left = omega (arith, c.gears.invariant.parts_left, c.split_off-mine.ensures.parts_left, ap length first);
       none_counted = omega (arith, c.gears.invariant.none_counted, c.split_off-mine.ensures.amount_left);
-      part_room = search rules;
-      log_room = search rules;
+      part_room = omega (arith, ap length first, c.gears.invariant.part_room, c.push_reserved.ensures.len, c.push_reserved.ensures.capacity);
+      log_room = omega (arith, ap length first, c.gears.invariant.log_room, c.push_reserved-in-gears.ensures.len, c.push_reserved-in-gears.ensures.capacity);
     }
 
 pub returns-clause-starts : goal.returns-clause-starts

@@ -1,14 +1,12 @@
-use Rattle.std.proofs.Common.{◌≡◌, false, ap, sym, refl, length, inl, inr, rules, arith}
+use Rattle.std.proofs.Common.{◌≡◌, false, ap, sym, length, arith, rules}
 use Rattle.std.specs.Prelude.{is_some}
-use Rattle.std.specs.Iterator.Adapters.{zip_first, zip_second}
 use Rattle.std.proofs.lemmas.List.Elements.{All-head, All-rest, All-same}
-use Rattle.gear_runs.specs.Parts.{tools}
 use Rattle.gear_runs.proofs.ListLaws.{no_more, no_more_of, one_put, one_put_as}
 use Rattle.gear_runs.proofs.parts.take_apart.Goals as goal
 
 pub outside-init : goal.outside-init
 outside-init g c =
-    let same : (zip_first c.into_iter-outside-iterator.result).rest.items ≡ c.args.outside.items = cc in
+    let same : c.into_iter-outside-iterator.result.rest.items ≡ c.args.outside.items = cc in
     record {
       tools_left = search rules;
       logs_left = search rules;
@@ -17,34 +15,29 @@ outside-init g c =
       room = search rules;
     }
 
-pub into_parts-dial-requires-after_bounds : goal.into_parts-dial-requires-after_bounds
-into_parts-dial-requires-after_bounds g c = λ κs within.
-    All-head (λ o. is_some o.reach.lent ≡ false) c.in-Some.outside (zip_first c.next.new.self).rest.items
-    (All-same (λ o. is_some o.reach.lent ≡ false) _ _ (sym c.in-Some.ensures.steps.0.0) c.outside.invariant.idle)
+pub left_of-requires-clause-idle : goal.left_of-requires-clause-idle
+left_of-requires-clause-idle g c = λ κs within.
+    All-head (λ o. is_some o.reach.lent ≡ false) c.in-Some.outside c.next.new.self.rest.items
+    (All-same (λ o. is_some o.reach.lent ≡ false) _ _ (sym c.in-Some.ensures.steps.0) c.outside.invariant.idle)
 
 pub outside-preserved : goal.outside-preserved
 outside-preserved g c =
-    let first = c.in-Some.ensures.steps.0.0 in
-    let second = c.in-Some.ensures.steps.1.0 in
+    let first = c.in-Some.ensures.steps.0 in
+    let second = c.in-Some-next.ensures.items in
     let more = c.push_reserved.ensures.items in
     record {
-      tools_left =
-          one_put _ _ _ _ _ _ _ _ _ c.outside.invariant.tools_left first more
-          (ap (λ p. tools c.in-Some.outside.door p.0 p.1 c.in-Some.outside.clock) c.into_parts-dial.ensures);
-      logs_left = one_put_as _ _ _ _ _ _ _ _ c.outside.invariant.logs_left second more refl;
+      tools_left = one_put _ _ _ _ _ _ _ _ _ c.outside.invariant.tools_left first more c.left_of.ensures.tools;
+      logs_left = one_put_as _ _ _ _ _ _ _ _ c.outside.invariant.logs_left second more c.left_of.ensures.log;
       idle = All-rest (λ o. is_some o.reach.lent ≡ false) _ _ _ first c.outside.invariant.idle;
       paired = omega (arith, c.outside.invariant.paired, ap length first, ap length second);
-      room = search rules;
+      room = omega (arith, ap length first, c.outside.invariant.room, c.push_reserved.ensures.len, c.push_reserved.ensures.capacity);
     }
 
 pub returns : goal.returns
 returns g c =
-    let none : length (zip_first c.outside.outside-iterator).rest.items ≡ 0 =
-    elim c.in-None.ensures.steps [
-      | inl w ↦ omega (arith, w.1.0, (zip_first c.outside.outside-iterator).rest.ok.0)
-      | inr w ↦ omega (arith, w.1.0, c.outside.invariant.paired, (zip_second c.outside.outside-iterator).rest.ok.0)
-    ] in
-    let none_either : length (zip_second c.outside.outside-iterator).rest.items ≡ 0 = omega (arith, c.outside.invariant.paired, none) in
+    let none : length c.outside.outside-iterator.rest.items ≡ 0 =
+    omega (arith, c.in-None.ensures.steps.0, c.outside.outside-iterator.rest.ok.0) in
+    let none_either : length c.outside.logs.rest.items ≡ 0 = omega (arith, c.outside.invariant.paired, none) in
     record {
       tools = no_more_of _ _ _ _ c.outside.invariant.tools_left none;
       logs = no_more _ _ _ c.outside.invariant.logs_left none_either;
