@@ -1,5 +1,5 @@
 //! A door in memory.
-ghost use Rattle.std.specs.Prelude.{◌≡◌, ◌↔◌, ◌+◌, ◌<◌, ◌≤◌, [], ◌∷◌, ◌++◌, Contains, IsOk, IfOk, OnErr, IsErrOf, IfSome, IfNone};
+ghost use Rattle.std.specs.Prelude.{◌≡◌, ◌↔◌, ◌+◌, ◌<◌, ◌≤◌, ◌^◌, [], ◌∷◌, ◌++◌, reverse, Contains, IsOk, IfOk, OnErr, IsErrOf, IfSome, IfNone};
 ghost use Rattle.jk_io.specs.Told.{HasCause};
 ghost use Rattle.jk_io.specs.Memory.{counted};
 
@@ -101,11 +101,7 @@ impl<L: Link + Drop> Door for MemDoor<L> {
             return Err(IoError::Failed);
         }
         self.left.reserve(self.out + 1)?;
-        let client = self.clients.pop();
-        if client.is_some() {
-            self.out += 1;
-        }
-        Ok(client)
+        Ok(next_client(&mut self.clients, &mut self.out))
     }
 
     fn leave(&mut self, link: L)
@@ -120,4 +116,18 @@ impl<L: Link + Drop> Door for MemDoor<L> {
             unreachable!()
         };
     }
+}
+
+// The next client, whose link may be left.
+fn next_client<L>(clients: &mut Vec<(L, Peer)>, out: &mut usize) -> Option<(L, Peer)>
+    requires { out.old + 1 < 2 ^ 64 }
+    ensures client { IfSome result (λ c. reverse clients.old.items ≡ c ∷ reverse clients.new.items) }
+    ensures closed { IfNone result ((reverse clients.old.items ≡ []) × (reverse clients.new.items ≡ [])) }
+    ensures one_more { IfSome result (λ _. out.new ≡ out.old + 1) }
+    ensures no_more { IfNone result (out.new ≡ out.old) }
+    ensures at_most { out.new ≤ out.old + 1 }
+{
+    let client = clients.pop()?;
+    *out += 1;
+    Some(client)
 }

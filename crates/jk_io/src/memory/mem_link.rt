@@ -1,5 +1,5 @@
 //! A link in memory.
-ghost use Rattle.std.specs.Prelude.{◌≡◌, ℕ, ◌<◌, ◌≤◌, ◌++◌, ◌↔◌, ◌==◌, List, [], length, take, drop, min, Option, Some, true, false, IsTrue, IsOk, IsErr, IsErrOf, IfOk, OnErr, if◌then◌else◌};
+ghost use Rattle.std.specs.Prelude.{◌≡◌, ℕ, ◌<◌, ◌≤◌, ◌++◌, ◌↔◌, ◌==◌, List, [], length, take, drop, min, Option, Some, true, false, IsTrue, IsOk, IsErr, IsErrOf, IfOk, OnOk, OnErr, if◌then◌else◌};
 ghost use Rattle.jk_io.specs.Told.{Rose, HasCause};
 ghost use Rattle.jk_io.specs.Memory.{MemLinkState, NeverFails, ReadIsToFail, WriteIsToFail, counted};
 
@@ -192,6 +192,43 @@ impl MemLink {
         due
     }
 
+    // Gives the next bytes, up to the next number of the plan.
+    fn give_next(&mut self, buf: &mut [u8]) -> usize
+        requires { 0 < length buf.old }
+        ensures count { result ≤ length buf.new }
+        ensures gave { self.old.incoming ≡ take result buf.new ++ self.new.incoming }
+        ensures got { self.new.received ≡ self.old.received ++ take result buf.new }
+        ensures end { result ≡ 0 → self.new.incoming ≡ [] }
+        ensures anew { self.new.reads_failed ≡ (if result == 0 then self.old.reads_failed else 0) }
+        ensures same { self.new ≡ record self.old { incoming = self.new.incoming; received = self.new.received; reads_failed = self.new.reads_failed } }
+    {
+        let given = self.at as u64;
+        let most = up_to_next(&self.plan.reads, given, buf.len());
+        let most = up_to_next(&self.plan.cuts, given, most);
+        let n = copy_front(&self.text.as_slice()[self.at..], most, buf);
+        self.at += n;
+        if n > 0 {
+            self.reads_failed = 0;
+        }
+        n
+    }
+
+    // Takes bytes from the front of a piece, up to the next number of the plan.
+    fn take_front(&mut self, piece: &[u8]) -> Result<usize, NoMemory>
+        requires { 0 < length piece.now }
+        ensures count { IfOk result (λ n. (0 < n) × (n ≤ length piece.now)) }
+        ensures put { IfOk result (λ n. self.new.sent ≡ self.old.sent ++ take n piece.now) }
+        ensures anew { OnOk result (self.new.writes_failed ≡ 0) }
+        ensures err { OnErr result (self.new ≡ self.old) }
+        ensures same { self.new ≡ record self.old { sent = self.new.sent; writes_failed = self.new.writes_failed } }
+    {
+        let taken = self.sent.len() as u64;
+        let n = up_to_next(&self.plan.writes, taken, piece.len());
+        self.sent.extend(&piece[..n])?;
+        self.writes_failed = 0;
+        Ok(n)
+    }
+
     /// How many calls failed: none where the plan lets none fail.
     pub fn faults(&self) -> u64
         ensures count { result ≡ self.now.faults }
@@ -236,18 +273,10 @@ impl Source for MemLink {
         ensures tried { IsErr result → self.new.reads_failed ≡ counted self.old.reads_failed }
         ensures anew { IfOk result (λ n. self.new.reads_failed ≡ (if n == 0 then self.old.reads_failed else 0)) }
     {
-        let given = self.at as u64;
         if self.read_fails() {
             return Err(IoError::Failed);
         }
-        let most = up_to_next(&self.plan.reads, given, buf.len());
-        let most = up_to_next(&self.plan.cuts, given, most);
-        let n = copy_front(&self.text.as_slice()[self.at..], most, buf);
-        self.at += n;
-        if n > 0 {
-            self.reads_failed = 0;
-        }
-        Ok(n)
+        Ok(self.give_next(buf))
     }
 }
 
@@ -283,11 +312,7 @@ impl Sink for MemLink {
         if self.write_fails() {
             return Err(IoError::Failed);
         }
-        let taken = self.sent.len() as u64;
-        let n = up_to_next(&self.plan.writes, taken, piece.len());
-        self.sent.extend(&piece[..n])?;
-        self.writes_failed = 0;
-        Ok(n)
+        Ok(self.take_front(piece)?)
     }
 }
 

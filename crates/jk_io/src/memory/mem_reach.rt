@@ -1,5 +1,5 @@
 //! A reach in memory.
-ghost use Rattle.std.specs.Prelude.{◌≡◌, ◌<◌, ◌≤◌, ◌++◌, [], ◌∷◌, true, false, None, Some, IsSome, IfSome, IsErr, IsErrOf, IfOk, OnOk, OnErr, is_some, is_ok, Contains, length, take, reverse, slice_index};
+ghost use Rattle.std.specs.Prelude.{◌≡◌, ◌+◌, ◌<◌, ◌≤◌, ◌++◌, [], ◌∷◌, true, false, None, Some, IsSome, IfSome, IsErr, IsErrOf, IfOk, OnOk, OnErr, is_some, is_ok, Contains, length, take, reverse, slice_index, vec_len, vec_capacity};
 ghost use Rattle.std.specs.List.{HoldsAt, remove};
 ghost use Rattle.jk_io.specs.Told.{HasCause};
 ghost use Rattle.jk_io.specs.Talks.{begun_with, failed_talk, talk_of};
@@ -159,16 +159,60 @@ fn note_begun(
     })
 }
 
-// Notes a talk that never began.
-fn note_failed(book: &mut TalkBook, asked: Asked<'_>) -> Result<(), NoMemory>
+// Begins the note of a talk over a kept link.
+fn note_kept(
+    book: &mut TalkBook,
+    alloc: Global,
+    asked: Asked<'_>,
+    link: &MemLink,
+) -> Result<(), NoMemory>
     requires { book.old.begun ≡ None }
-    ensures ok { OnOk result (book.new.talks ≡ book.old.talks ++ failed_talk asked.entry.lb asked.entry.member asked.entry.host.now asked.entry.port asked.entry.fresh ∷ []) }
+    ensures ok { OnOk result (book.new ≡ record book.old {
+      begun = Some (begun_with asked.entry.lb asked.entry.member asked.entry.host.now
+          asked.entry.port asked.entry.fresh false (Some link.now.incoming));
+    }) }
     ensures err { OnErr result (book.new ≡ book.old) }
-    ensures ended { OnOk result ((book.new.begun ≡ None) × (book.new.sent ≡ []) × (book.new.received ≡ [])) }
+    ensures empty { OnOk result ((book.new.sent ≡ []) × (book.new.received ≡ [])) }
 {
-    note_begun(book, asked, false, None)?;
-    book.finish(false);
-    Ok(())
+    let came = link.to_come(alloc)?;
+    note_begun(book, asked, false, Some(came))
+}
+
+// Begins the note of a talk over the next of these links, which stand in reverse.
+fn note_next(
+    book: &mut TalkBook,
+    alloc: Global,
+    asked: Asked<'_>,
+    links: &[MemLink],
+) -> Result<(), NoMemory>
+    requires { book.old.begun ≡ None }
+    ensures ok { OnOk result (book.new ≡ record book.old {
+      begun = Some (begun_with asked.entry.lb asked.entry.member asked.entry.host.now
+          asked.entry.port asked.entry.fresh true (Some (next_incoming (reverse links.now))));
+    }) }
+    ensures err { OnErr result (book.new ≡ book.old) }
+    ensures empty { OnOk result ((book.new.sent ≡ []) × (book.new.received ≡ [])) }
+{
+    let came = next_to_come(links, alloc)?;
+    note_begun(book, asked, true, Some(came))
+}
+
+// Notes a talk that never began, and answers how its begin is refused: with NoMemory where it could not be noted.
+fn note_failed(book: &mut TalkBook, asked: Asked<'_>) -> IoError
+    requires idle { book.old.begun ≡ None }
+    requires empty { (book.old.sent ≡ []) × (book.old.received ≡ []) }
+    ensures failed { result ≡ IoError.Failed → book.new.talks
+        ≡ book.old.talks ++ failed_talk asked.entry.lb asked.entry.member asked.entry.host.now asked.entry.port asked.entry.fresh ∷ [] }
+    ensures wanted { result ≡ IoError.NoMemory → book.new.talks ≡ book.old.talks }
+    ensures idle { (book.new.begun ≡ None) × (book.new.sent ≡ []) × (book.new.received ≡ []) }
+{
+    match note_begun(book, asked, false, None) {
+        Ok(()) => {
+            book.finish(false);
+            IoError::Failed
+        }
+        Err(NoMemory) => IoError::NoMemory,
+    }
 }
 
 impl MemReach {
@@ -190,15 +234,15 @@ impl MemReach {
         ensures err { OnErr result (self.new ≡ self.old) }
         ensures same { self.new ≡ record self.old { kept = self.new.kept; running = self.new.running; book = self.new.book } }
     {
-        let came = self.kept[place].link.to_come(alloc)?;
-        note_begun(&mut self.book, asked, false, Some(came))?;
-        self.running = self.kept.remove(place);
+        note_kept(&mut self.book, alloc, asked, &self.kept[place].link)?;
+        run_kept(&mut self.running, &mut self.kept, place);
         Ok(())
     }
 
-    // Begins a talk over the next link, or an empty one after the last.
-    fn begin_over_next(&mut self, alloc: Global, asked: Asked<'_>) -> Result<(), NoMemory>
+    // Begins a talk over the next link, or an empty one after the last, and answers that its link is new.
+    fn begin_over_next(&mut self, alloc: Global, asked: Asked<'_>) -> Result<bool, NoMemory>
         requires idle { self.old.book.begun ≡ None }
+        ensures new_link { IfOk result (λ dialled. dialled ≡ true) }
         ensures next { OnOk result (DialledNext self.old.links self.new.running.link self.new.links) }
         ensures whose { OnOk result ((self.new.running.lb ≡ asked.entry.lb) × (self.new.running.member ≡ asked.entry.member)) }
         ensures begun { OnOk result (self.new.book ≡ record self.old.book {
@@ -209,14 +253,29 @@ impl MemReach {
         ensures same { self.new ≡ record self.old { links = self.new.links; running = self.new.running; book = self.new.book } }
     {
         self.kept.reserve(1)?;
-        let came = next_to_come(self.links.as_slice(), alloc)?;
-        note_begun(&mut self.book, asked, true, Some(came))?;
-        self.running = MemberLink {
-            lb: asked.lb,
-            member: asked.member,
-            link: take_next(&mut self.links, alloc),
-        };
-        Ok(())
+        note_next(&mut self.book, alloc, asked, self.links.as_slice())?;
+        run_next(&mut self.running, alloc, asked, &mut self.links);
+        Ok(true)
+    }
+
+    // Begins a talk over the link that was kept last for its member, or over the next one, and answers whether it is new.
+    fn begin_over(&mut self, alloc: Global, asked: Asked<'_>) -> Result<bool, NoMemory>
+        requires idle { self.old.book.begun ≡ None }
+        ensures new_link { IfOk result (λ dialled. asked.entry.fresh ≡ true → dialled ≡ true) }
+        ensures given { IfOk result (λ dialled. GivesLink asked.entry.lb asked.entry.member asked.entry.fresh dialled self.old self.new) }
+        ensures begun { IfOk result (λ dialled. self.new.book ≡ record self.old.book {
+          begun = Some (begun_with asked.entry.lb asked.entry.member asked.entry.host.now
+              asked.entry.port asked.entry.fresh dialled (Some self.new.running.link.incoming));
+        }) }
+        ensures err { OnErr result (self.new ≡ self.old) }
+        ensures same { (self.new.sizes ≡ self.old.sizes) × (self.new.failing ≡ self.old.failing)
+            × (self.new.calls ≡ self.old.calls) × (self.new.faults ≡ self.old.faults) }
+    {
+        match kept_place(self.kept.as_slice(), asked.lb, asked.member, asked.fresh) {
+            Some(place) => self.begin_over_kept(alloc, asked, place)?,
+            None => return self.begin_over_next(alloc, asked),
+        }
+        Ok(false)
     }
 }
 
@@ -238,6 +297,118 @@ fn take_next(links: &mut Vec<MemLink>, alloc: Global) -> MemLink
     match links.pop() {
         Some(link) => link,
         None => empty_link(alloc),
+    }
+}
+
+// A talk runs over the kept link at a place, which is kept no more.
+fn run_kept(running: &mut MemberLink, kept: &mut Vec<MemberLink>, place: usize)
+    requires { place < length kept.old.items }
+    ensures taken { HoldsAt (λ link. link ≡ running.new) kept.old.items place }
+    ensures left { kept.new.items ≡ remove kept.old.items place }
+    ensures room { vec_capacity kept.new ≡ vec_capacity kept.old }
+{
+    *running = kept.remove(place);
+}
+
+// A talk runs over the next link, or over an empty one after the last; the links stand in reverse.
+fn run_next(running: &mut MemberLink, alloc: Global, asked: Asked<'_>, links: &mut Vec<MemLink>)
+    ensures next { DialledNext (reverse links.old.items) running.new.link (reverse links.new.items) }
+    ensures came { running.new.link.incoming ≡ next_incoming (reverse links.old.items) }
+    ensures whose { (running.new.lb ≡ asked.entry.lb) × (running.new.member ≡ asked.entry.member) }
+{
+    *running = MemberLink {
+        lb: asked.lb,
+        member: asked.member,
+        link: take_next(links, alloc),
+    };
+}
+
+// Takes the link of a talk that ended, and keeps it.
+fn keep_link(running: &mut MemberLink, alloc: Global, kept: &mut Vec<MemberLink>)
+    requires { vec_len kept.old + 1 ≤ vec_capacity kept.old }
+    ensures { kept.new.items ≡ kept.old.items ++ running.old ∷ [] }
+{
+    let ended = mem::replace(running, no_link(alloc));
+    kept.push(ended).unwrap();
+}
+
+// No talk runs any more; its link is kept where it is to be.
+fn end_run(running: &mut MemberLink, alloc: Global, kept: &mut Vec<MemberLink>, keep: bool)
+    requires { vec_len kept.old + 1 ≤ vec_capacity kept.old }
+    ensures kept { keep ≡ true → kept.new.items ≡ kept.old.items ++ running.old ∷ [] }
+    ensures closed { keep ≡ false → kept.new.items ≡ kept.old.items }
+{
+    if keep {
+        keep_link(running, alloc, kept);
+    } else {
+        *running = no_link(alloc);
+    }
+}
+
+// Takes the room to note a read or a write of at most so many bytes. Where no talk runs it is a call that failed.
+fn get_ready(book: &mut TalkBook, begins: &mut CallCount, most: usize) -> Result<(), IoError>
+    ensures shut { is_some book.old.begun ≡ false → IsErrOf result IoError.Failed }
+    ensures failed { IsErrOf result IoError.Failed → is_some book.old.begun ≡ false }
+    ensures runs { OnOk result (IsSome book.old.begun) }
+    ensures room { OnOk result (most ≤ book.new.room) }
+    ensures same { book.new ≡ record book.old { room = book.new.room } }
+    ensures calls { begins.new.calls ≡ begins.old.calls }
+    ensures cause { HasCause begins.old.failed begins.new.failed result }
+    ensures steady { (IsErrOf result IoError.Failed → ⊥) → begins.new.failed ≡ begins.old.failed }
+{
+    if !book.runs() {
+        begins.fail();
+        return Err(IoError::Failed);
+    }
+    book.reserve(most)?;
+    Ok(())
+}
+
+// Notes what a read of the running talk gave, or that it failed.
+fn note_read(
+    book: &mut TalkBook,
+    begins: &mut CallCount,
+    buf: &[u8],
+    answer: Result<usize, IoError>,
+)
+    requires runs { IsSome book.old.begun }
+    requires count { IfOk answer (λ n. n ≤ length buf.now) }
+    requires room { length buf.now ≤ book.old.room }
+    ensures got { IfOk answer (λ n. book.new.received ≡ book.old.received ++ take n buf.now) }
+    ensures err { OnErr answer (book.new.received ≡ book.old.received) }
+    ensures same { book.new ≡ record book.old { received = book.new.received; room = book.new.room } }
+    ensures calls { begins.new.calls ≡ begins.old.calls }
+    ensures cause { HasCause begins.old.failed begins.new.failed answer }
+    ensures steady { (IsErrOf answer IoError.Failed → ⊥) → begins.new.failed ≡ begins.old.failed }
+{
+    match answer {
+        Ok(n) => book.received(&buf[..n]),
+        Err(IoError::Failed) => begins.fail(),
+        Err(IoError::NoMemory) => {}
+    }
+}
+
+// Notes what a write of the running talk took, or that it failed.
+fn note_write(
+    book: &mut TalkBook,
+    begins: &mut CallCount,
+    piece: &[u8],
+    answer: Result<usize, IoError>,
+)
+    requires runs { IsSome book.old.begun }
+    requires count { IfOk answer (λ n. n ≤ length piece.now) }
+    requires room { length piece.now ≤ book.old.room }
+    ensures put { IfOk answer (λ n. book.new.sent ≡ book.old.sent ++ take n piece.now) }
+    ensures err { OnErr answer (book.new.sent ≡ book.old.sent) }
+    ensures same { book.new ≡ record book.old { sent = book.new.sent; room = book.new.room } }
+    ensures calls { begins.new.calls ≡ begins.old.calls }
+    ensures cause { HasCause begins.old.failed begins.new.failed answer }
+    ensures steady { (IsErrOf answer IoError.Failed → ⊥) → begins.new.failed ≡ begins.old.failed }
+{
+    match answer {
+        Ok(n) => book.sent(&piece[..n]),
+        Err(IoError::Failed) => begins.fail(),
+        Err(IoError::NoMemory) => {}
     }
 }
 
@@ -279,17 +450,9 @@ impl Source for MemReach {
         ensures told { ReadIsToFail self.old.running.link → IsErr result }
         ensures steady { (IsErrOf result IoError.Failed → ⊥) → self.new.faults ≡ self.old.faults }
     {
-        if !self.book.runs() {
-            self.begins.fail();
-            return Err(IoError::Failed);
-        }
-        self.book.reserve(buf.len())?;
+        get_ready(&mut self.book, &mut self.begins, buf.len())?;
         let answer = self.running.link.read(buf);
-        match answer {
-            Ok(n) => self.book.received(&buf[..n]),
-            Err(IoError::Failed) => self.begins.fail(),
-            Err(IoError::NoMemory) => {}
-        }
+        note_read(&mut self.book, &mut self.begins, buf, answer);
         answer
     }
 }
@@ -312,17 +475,9 @@ impl Sink for MemReach {
         ensures told { WriteIsToFail self.old.running.link → IsErr result }
         ensures steady { (IsErrOf result IoError.Failed → ⊥) → self.new.faults ≡ self.old.faults }
     {
-        if !self.book.runs() {
-            self.begins.fail();
-            return Err(IoError::Failed);
-        }
-        self.book.reserve(piece.len())?;
+        get_ready(&mut self.book, &mut self.begins, piece.len())?;
         let answer = self.running.link.write(piece);
-        match answer {
-            Ok(n) => self.book.sent(&piece[..n]),
-            Err(IoError::Failed) => self.begins.fail(),
-            Err(IoError::NoMemory) => {}
-        }
+        note_write(&mut self.book, &mut self.begins, piece, answer);
         answer
     }
 }
@@ -376,17 +531,9 @@ impl Reach for MemReach {
             fresh,
         };
         if self.begins.fails(&self.failing) {
-            note_failed(&mut self.book, asked)?;
-            return Err(IoError::Failed);
+            return Err(note_failed(&mut self.book, asked));
         }
-        match kept_place(self.kept.as_slice(), lb, member, fresh) {
-            Some(place) => self.begin_over_kept(alloc, asked, place)?,
-            None => {
-                self.begin_over_next(alloc, asked)?;
-                return Ok(true);
-            }
-        }
-        Ok(false)
+        Ok(self.begin_over(alloc, asked)?)
     }
 
     fn finish(&mut self, keep: bool)
@@ -403,12 +550,7 @@ impl Reach for MemReach {
             × (self.new.calls ≡ self.old.calls) × (self.new.faults ≡ self.old.faults) }
     {
         self.book.finish(keep);
-        let ended = mem::replace(&mut self.running, no_link(self.alloc));
-        if keep {
-            let Ok(()) = self.kept.push(ended) else {
-                unreachable!()
-            };
-        }
+        end_run(&mut self.running, self.alloc, &mut self.kept, keep);
     }
 
     ghost open_in_talk = { λ r. refl };

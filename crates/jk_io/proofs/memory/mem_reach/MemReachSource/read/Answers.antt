@@ -5,12 +5,12 @@ use Rattle.jk_io.specs.MemReaches.{MemReachState}
 use Rattle.jk_io.specs.declared.failures.IoError.TheVariants.{Failed}
 use Rattle.jk_io.proofs.memory.mem_reach.MemReachSource.read.Goals as goal
 
-pub returns-in-Ok-clause-told : goal.returns-in-Ok-clause-told
-returns-in-Ok-clause-told c =
+pub returns-clause-told : goal.returns-clause-told
+returns-clause-told c =
     let P : MemReachState → Type 0 = λ r. ReadIsToFail r.running.link → IsErr c.read-answer.result in
     subst P c.self.view_is (λ due. ap is_err (c.read-answer.ensures.failed.1 due))
 
-pub returns-in-Err-Failed-clause-failed : goal.returns-in-Err-Failed-clause-failed
-returns-in-Err-Failed-clause-failed c =
+pub returns-clause-failed : goal.returns-clause-failed
+returns-clause-failed c =
     let P : MemReachState → Type 0 = λ r. IsSome r.book.begun → IsErrOf c.read-answer.result Failed → ReadIsToFail r.running.link in
     subst P c.self.view_is (λ _ failed. c.read-answer.ensures.failed.0 failed)
