@@ -235,6 +235,9 @@ impl<'p, 'r, D: Dial, T: Tape, R: Wait> Reach for PooledReach<'p, 'r, D, T, R> {
             note_failed(&mut self.tape, lb, member, host, port, fresh)?;
         }
         let link = counted(answer, &mut self.failed)?;
+        if fresh {
+            close_idle(self.pools, lb, member);
+        }
         self.tape.begin(lb, member, host, port, fresh, true)?;
         self.lent = Some(Lent::over_new(lb, member, link));
         Ok(true)
@@ -285,6 +288,15 @@ fn idle_link<L: Drop, R: Wait>(
     } else {
         None
     }
+}
+
+// Closes the idle link that was put last for a member, whose place a fresh one takes: a talk of the same request has just
+// failed, so it may be dead too, and so a member never holds more links of this front than the front has threads. A
+// container that keeps a thread for each link would otherwise let the fresh one wait until an idle one is closed.
+fn close_idle<L: Drop, R: Wait>(pools: &Pools<'_, Idle<L>, R>, lb: u32, member: u32)
+    requires { HasMember pools.now lb member }
+{
+    let _ = pools.take(lb, member);
 }
 
 // Hands a lent link to the pool of its member where it is to be kept and may be. Where the pool is full it is closed.
