@@ -79,6 +79,13 @@ impl<'g, 'r, L: Link + Drop, R> GateLink<'g, 'r, L, R> {
             failed: 0,
         }
     }
+
+    /// The link that its calls go to.
+    pub fn link(&self) -> &L
+        ensures { result.now ≡ self.now.link }
+    {
+        &self.link
+    }
 }
 
 impl<'g, 'r, L: Link + Drop, R> Meanings for GateLink<'g, 'r, L, R> {
