@@ -1,0 +1,6 @@
+pub mod DataLaws
+pub mod BoundLaws
+pub mod LengthLaws
+pub mod MeetingLaws
+pub mod EchoLaws
+pub mod EndLaws

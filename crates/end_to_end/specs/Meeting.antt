@@ -1,0 +1,105 @@
+-- A talk whose other end is the container. Connector and container meet in bytes alone: what each of them says of its end
+-- stands in its own definitions, and here stands what the two ends have to do with one another. Read this first.
+use Rattle.std.specs.Prelude.{◌≡◌, ℕ, Bool, not, IsTrue, List, [], reverse, take, Option, Some}
+use Rattle.std.specs.Option.{option_map}
+use Rattle.jk_io.specs.Moments.{Moment}
+use Rattle.jk_io.specs.Told.{appended}
+use Rattle.jk_model.specs.declared.member.MemberConfig.{MemberConfig}
+use Rattle.http_front.specs.Request.{IsHeadOf}
+use Rattle.http_front.specs.declared.head.Head.{Head}
+use Rattle.http_body_in.specs.Body.{Data, data_from, dropped, reaches}
+use Rattle.http_body_in.specs.Places.{start_of}
+use Rattle.http_out.specs.declared.framing.RequestKind.{RequestKind}
+use Rattle.site_config.specs.declared.endpoint.Endpoint.{Endpoint}
+use Rattle.ajp_request.specs.Spelling.{SpellsForward}
+use Rattle.ajp_request.specs.Writing.{Fits, payload_of}
+use Rattle.ajp_request.specs.declared.forward.Forward.{Forward}
+use Rattle.ajp_reply.specs.Stream.{head_of}
+use Rattle.ajp_reply.specs.declared.message.Message.{Message}
+use Rattle.ajp_talk.specs.Moments.{BodyAt, TalkMoment, data_at}
+use Rattle.ajp_talk.specs.Replies.{chunks_of, head_out, whole_of}
+use Rattle.ajp_talk.specs.Talk.{IsDone}
+use Rattle.ajp_talk.specs.declared.ending.Told.{Told}
+use Rattle.ajp_talk.specs.declared.plan.TalkPlan.{TalkPlan}
+use Rattle.forwarding.specs.FirstPiece.{first_len}
+use Rattle.forwarding.specs.Forwards.{forward_for}
+use Rattle.exchange.specs.OneTalk.{pings}
+use Rattle.exchange.specs.Requests.{Errand, is_head, plan_for}
+use Rattle.mini_container.specs.Answer.{answer_of}
+use Rattle.mini_container.specs.Applications.{drops}
+use Rattle.mini_container.specs.Ends.{IsTalk}
+use Rattle.mini_container.specs.Request.{application_of}
+use Rattle.mini_container.specs.declared.app_config.AppConfig.{AppConfig}
+use Rattle.mini_container.specs.declared.ends.ContainerEnd.{ContainerEnd}
+
+-- A client's request: its head was read, and its own data are those that the bytes after the head bring.
+pub record IsRequest (head : Head) (own : Data) : Type 0 where
+  pub used : List ℕ
+  pub behind : List ℕ
+  pub read : IsHeadOf used head
+  pub brings : own ≡ data_from behind (start_of head.plan)
+
+-- the Forward Request of a request for a member
+abbrev pub forwarded : Errand → MemberConfig → Endpoint → Forward
+forwarded q member endpoint = forward_for q.head q.peer q.balancer.book.direct member endpoint
+
+-- how much of its data is sent right behind the Forward Request
+abbrev pub front_of : Errand → ℕ
+front_of q = first_len q.head.plan q.balancer.ends
+
+-- A request before a talk: it fits the member's packet, and just the first piece of its data was taken, whole.
+pub record IsReady (q : Errand) (member : MemberConfig) (endpoint : Endpoint) (own : Data) (first : List ℕ) (b : BodyAt) : Type 0 where
+  pub request : IsRequest q.head own
+  pub fits : Fits endpoint.packet (forwarded q member endpoint)
+  pub first_is : first ≡ take (front_of q) own.bytes
+  pub reached : IsTrue (reaches (front_of q) own)
+  pub left : data_at b ≡ dropped (front_of q) (Some own)
+
+-- how its talk goes, over a link that is newly dialled or not
+abbrev pub plan_on : Errand → (first : List ℕ) → MemberConfig → Endpoint → (dialled : Bool) → TalkPlan
+plan_on q first member endpoint dialled = record (plan_for q first member endpoint) { ping = pings endpoint dialled }
+
+-- The two ends of a link on which nothing had come or gone: what the connector sent is what the container had to come, and
+-- what the container sent is what the connector received.
+pub record Meet (s n : Moment) (before after : Moment) : Type 0 where
+  pub asked : List ℕ
+  pub answered : List ℕ
+  pub nothing_yet : (s.sent ≡ Some []) × (s.received ≡ Some [])
+  pub sent : n.sent ≡ Some asked
+  pub received : n.received ≡ Some answered
+  pub to_come : before.incoming ≡ Some asked
+  pub none_answered : before.sent ≡ Some []
+  pub answers : after.sent ≡ Some answered
+
+-- A done talk of a request with a member that has the container's packet size, and the container at the other end, whatever
+-- its end. The container reads the Forward Request as f, which isn't for `/drop`.
+pub record IsDoneWith (app : AppConfig) (q : Errand) (member : MemberConfig) (endpoint : Endpoint) (own : Data) (f : Forward) (s n : TalkMoment) : Type 0 where
+  pub first : List ℕ
+  pub dialled : Bool
+  pub told : Told
+  pub reuse : Bool
+  pub bytes : ℕ
+  pub before : Moment
+  pub after : Moment
+  pub end : ContainerEnd
+  pub size : endpoint.packet ≡ app.packet
+  pub ready : IsReady q member endpoint own first s.body
+  pub connector : IsDone (plan_on q first member endpoint dialled) s n told reuse bytes
+  pub container : IsTalk app before after end
+  pub meet : Meet s.line n.line before after
+  pub spelled : SpellsForward f (payload_of (forwarded q member endpoint))
+  pub answered : IsTrue (not (drops (application_of app f)))
+
+abbrev pub kind_for : Errand → RequestKind
+kind_for q = record { old = q.head.old; head_only = is_head q.head; last = q.last }
+
+-- the client's bytes for a whole list of a container's messages, the oldest first
+abbrev pub reply_for : Errand → List Message → List ℕ
+reply_for q messages = whole_of (kind_for q) (option_map head_out (head_of (reverse messages))) (chunks_of (reverse messages))
+
+-- End to end: the client has the reply that the application's answer to its request is, with the request's own data.
+abbrev pub EndToEnd : Type 0
+EndToEnd =
+    (app : AppConfig) (q : Errand) (member : MemberConfig) (endpoint : Endpoint) (own : Data) (f : Forward) (s n : TalkMoment)
+    → IsDoneWith app q member endpoint own f s n
+    → n.client.sent ≡ appended s.client.sent (reply_for q (answer_of app f own.bytes))
