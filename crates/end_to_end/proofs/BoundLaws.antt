@@ -1,7 +1,7 @@
 -- How many bytes a talk's messages have, and those that answer them.
-use Rattle.std.proofs.Common.{◌≡◌, ℕ, zero, suc, ◌+◌, ◌-◌, ◌*◌, ◌<◌, ◌≤◌, ◌==◌, min, Bool, true, false, List, [], ◌∷◌, ◌++◌, length, take, drop, refl, sym, ap, subst, ◌∙◌, arith, inl, inr, ◌⊎◌, length-append, length-take}
+use Rattle.std.proofs.Common.{◌≡◌, ℕ, ◌+◌, ◌*◌, ◌≤◌, ◌==◌, min, Bool, true, false, List, [], ◌∷◌, length, take, ap, ◌∙◌, arith, length-append, length-take}
 use Rattle.std.specs.Prelude.{if◌then◌else◌}
-use Rattle.ajp_wire.specs.Packet.{packet, body_packet, body_payload}
+use Rattle.ajp_wire.specs.Packet.{packet, body_packet}
 use Rattle.ajp_reply.specs.Stream.{Spelled}
 use Rattle.ajp_reply.specs.declared.message.Message.{Message}
 use Rattle.ajp_reply.specs.declared.message.Message.TheVariants.{Headers, Chunk, End, Ask, Pong}

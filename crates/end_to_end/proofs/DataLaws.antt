@@ -1,8 +1,8 @@
 -- The data of a request's body as the container took them, and what the answer rests on.
-use Rattle.std.proofs.Common.{◌≡◌, ℕ, zero, suc, ◌+◌, ◌-◌, ◌*◌, ◌<◌, ◌≤◌, Bool, true, false, not, ◌&&◌, IsTrue, List, [], ◌∷◌, ◌++◌, length, take, drop, Option, Some, None, refl, sym, ap, subst, ◌∙◌, arith, inl, inr, ◌⊎◌, append_assoc, append-nil, length-append}
+use Rattle.std.proofs.Common.{◌≡◌, ℕ, ◌+◌, ◌≤◌, Bool, true, false, List, [], ◌∷◌, ◌++◌, length, refl, sym, ap, ◌∙◌, arith, inl, inr, length-append}
 use Rattle.ajp_wire.specs.Spelling.{int}
-use Rattle.ajp_wire.specs.Packet.{packet, body_payload, body_packet}
-use Rattle.ajp_wire.proofs.PacketLaws.{int-only, packet-only}
+use Rattle.ajp_wire.specs.Packet.{body_payload}
+use Rattle.ajp_wire.proofs.PacketLaws.{int-only}
 use Rattle.ajp_request.specs.declared.forward.Forward.{Forward}
 use Rattle.mini_container.specs.Answer.{answer_by, answer_of}
 use Rattle.mini_container.specs.Applications.{is_echo}

@@ -1,5 +1,5 @@
 -- The data that the container answers with are the request's own.
-use Rattle.std.proofs.Common.{◌≡◌, ◌≢◌, ℕ, zero, suc, ◌+◌, ◌-◌, ◌<◌, ◌≤◌, ◌==◌, ◌&&◌, ◌||◌, min, nat_le, nat_lt, Bool, true, false, not, List, [], ◌∷◌, ◌++◌, length, take, drop, fold, reverse, Option, Some, None, unwrap_or, refl, sym, ap, subst, ◌∙◌, arith, inl, inr, ◌⊎◌, append_assoc, append-nil, length-append, length-take, length-drop, take-add, take-append-drop, take_all, leb-true, le-leb, lt-ltb, eqb-true, ne_eqb}
+use Rattle.std.proofs.Common.{◌≡◌, ℕ, zero, suc, ◌+◌, ◌-◌, ◌<◌, ◌≤◌, ◌==◌, ◌&&◌, ◌||◌, min, nat_le, nat_lt, Bool, true, false, not, List, [], ◌∷◌, ◌++◌, length, take, drop, fold, reverse, Option, None, unwrap_or, refl, sym, ap, subst, ◌∙◌, arith, inl, inr, ◌⊎◌, append_assoc, append-nil, length-append, length-take, length-drop, take-add, take-append-drop, take_all, leb-true, le-leb, lt-ltb, eqb-true, ne_eqb}
 use Rattle.std.specs.Prelude.{if◌then◌else◌, replicate}
 use Rattle.std.proofs.lemmas.Bool.{cases_Bool, cond-false, or_from}
 use Rattle.std.proofs.lemmas.List.{reverse-append}
@@ -20,7 +20,7 @@ use Rattle.site_config.specs.declared.endpoint.Endpoint.{Endpoint}
 use Rattle.mini_container.specs.Answer.{answer_of}
 use Rattle.mini_container.specs.Applications.{is_echo}
 use Rattle.mini_container.specs.Request.{application_of, asks_body, content_length, has_first}
-use Rattle.mini_container.specs.Turns.{CameAnswers, CameFirst, IsPacketOf, SpellsPiece, ask, asks_on, data_of, has_ended, is_enough}
+use Rattle.mini_container.specs.Turns.{CameAnswers, CameFirst, IsPacketOf, SpellsPiece, data_of, has_ended, is_enough}
 use Rattle.mini_container.specs.declared.app_config.AppConfig.{AppConfig}
 use Rattle.end_to_end.proofs.MeetingLaws.{Heard, IsPlain, reverse-asks}
 use Rattle.end_to_end.proofs.DataLaws.{answer-same, piece-only}

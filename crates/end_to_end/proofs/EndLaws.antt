@@ -1,17 +1,16 @@
 -- End to end, from a connector's end and a container's.
-use Rattle.std.proofs.Common.{◌≡◌, ℕ, ◌+◌, ◌-◌, ◌*◌, ◌^◌, ◌<◌, ◌≤◌, Bool, true, false, List, [], ◌∷◌, ◌++◌, length, reverse, take, Option, Some, None, IfSome, refl, sym, ap, subst, ◌∙◌, arith, append_assoc, length-append, length-take}
+use Rattle.std.proofs.Common.{◌≡◌, ℕ, ◌-◌, ◌^◌, ◌<◌, ◌≤◌, Bool, true, false, List, [], ◌∷◌, ◌++◌, length, reverse, take, Option, Some, None, IfSome, refl, sym, ap, subst, ◌∙◌, arith, append_assoc, length-append, length-take}
 use Rattle.std.specs.Prelude.{if◌then◌else◌, replicate}
 use Rattle.std.specs.Option.{option_map}
 use Rattle.std.proofs.lemmas.List.{reverse-append}
 use Rattle.jk_io.specs.Told.{appended}
-use Rattle.jk_model.specs.declared.member.MemberConfig.{MemberConfig}
 use Rattle.ajp_wire.specs.Packet.{packet}
 use Rattle.ajp_request.specs.Writing.{payload_of}
 use Rattle.ajp_request.specs.declared.forward.Forward.{Forward}
 use Rattle.ajp_reply.specs.Stream.{Spelled, head_of}
 use Rattle.ajp_reply.specs.declared.message.Message.{Message}
 use Rattle.ajp_reply.specs.declared.message.Message.TheVariants.{End, Ask}
-use Rattle.ajp_talk.specs.Moments.{TalkMoment, data_at}
+use Rattle.ajp_talk.specs.Moments.{data_at}
 use Rattle.ajp_talk.specs.Owed.{answers, first_packet, behind_first, owed, ping_of, pong_of}
 use Rattle.ajp_talk.specs.Replies.{chunks_of, head_out, reply_of_talk, whole_of}
 use Rattle.ajp_talk.specs.declared.plan.TalkPlan.{TalkPlan}
@@ -22,10 +21,9 @@ use Rattle.http_out.specs.declared.framing.RequestKind.{RequestKind}
 use Rattle.site_config.specs.declared.endpoint.Endpoint.{Endpoint}
 use Rattle.forwarding.specs.FirstPiece.{first_len}
 use Rattle.forwarding.proofs.FirstPieceLaws.{within_length}
-use Rattle.exchange.specs.Requests.{Errand}
 use Rattle.mini_container.specs.Answer.{answer_of}
 use Rattle.mini_container.specs.declared.app_config.AppConfig.{AppConfig}
-use Rattle.end_to_end.specs.Meeting.{EndToEnd, IsDoneWith, forwarded, front_of, kind_for, plan_on, reply_for}
+use Rattle.end_to_end.specs.Meeting.{EndToEnd, forwarded, front_of, kind_for, plan_on, reply_for}
 use Rattle.end_to_end.proofs.BoundLaws.{answers-short, few-messages, first-short}
 use Rattle.end_to_end.proofs.LengthLaws.{length_below, named_length}
 use Rattle.end_to_end.proofs.MeetingLaws.{Heard, SomeTalk, after_ping, heard, head-asks, chunks-asks, reverse-asks, some_talk, took_request}

@@ -1,5 +1,5 @@
 -- The length that a container finds in a forwarded request is the one by which the connector planned its body.
-use Rattle.std.proofs.Common.{◌≡◌, ℕ, zero, suc, ◌+◌, ◌-◌, ◌<◌, ◌≤◌, ◌^◌, ◌==◌, ◌&&◌, ◌||◌, nat_lt, nat_le, Bool, true, false, cond, not, List, [], ◌∷◌, ◌++◌, length, map, filter, reverse, Option, Some, None, Result, Ok, Err, refl, sym, ap, subst, ◌∙◌, arith, inl, inr, ◌⊎◌, codes}
+use Rattle.std.proofs.Common.{◌≡◌, ℕ, zero, suc, ◌<◌, ◌≤◌, ◌^◌, ◌==◌, ◌&&◌, nat_lt, nat_le, Bool, true, false, cond, List, [], ◌∷◌, ◌++◌, length, map, filter, reverse, Option, Some, None, Result, Ok, Err, refl, sym, ap, subst, ◌∙◌, arith, inl, inr, ◌⊎◌, codes}
 use Rattle.std.specs.Prelude.{if◌then◌else◌}
 use Rattle.std.specs.Option.{option_map, option_and_then}
 use Rattle.std.specs.Str.{bytes_eq, str_eq_ignore_ascii_case, str_to_ascii_lowercase}
@@ -20,7 +20,7 @@ use Rattle.ajp_request.proofs.SpelledLaws.{written_spells}
 use Rattle.forwarding.specs.Forwards.{forward_for, line_for}
 use Rattle.forwarding.proofs.ForwardLaws.{forward_is_one}
 use Rattle.http_front.specs.Fields.{Line, is_named, named, same_word}
-use Rattle.http_front.specs.Framing.{coding_plan, exact_plan, is_long, length_of, length_plan, plan_of}
+use Rattle.http_front.specs.Framing.{exact_plan, is_long, length_of, length_plan, plan_of}
 use Rattle.http_front.specs.Host.{host_of, numbered, parted, ported, server_of, split_port}
 use Rattle.http_front.specs.Judged.{allowed, and_then, head_of as head_by, judged_of, made}
 use Rattle.http_front.specs.Path.{clean_of, path_of}

@@ -1,32 +1,29 @@
 -- What a container makes of the bytes of one request, and that the connector on the other end has just its answer.
-use Rattle.std.proofs.Common.{◌≡◌, ℕ, zero, suc, ◌+◌, ◌^◌, ◌<◌, ◌≤◌, Bool, true, false, not, ◌&&◌, IsTrue, List, [], ◌∷◌, ◌++◌, length, map, reverse, Option, Some, None, IfSome, refl, sym, ap, subst, ◌∙◌, arith, inl, inr, ◌⊎◌, append_assoc, append-nil, length-append}
+use Rattle.std.proofs.Common.{◌≡◌, ℕ, zero, suc, ◌+◌, ◌^◌, ◌<◌, Bool, true, false, not, ◌&&◌, IsTrue, List, [], ◌∷◌, ◌++◌, length, map, reverse, Option, Some, None, refl, sym, ap, subst, ◌∙◌, arith, inl, inr, ◌⊎◌, append_assoc, append-nil, length-append}
 use Rattle.std.specs.Prelude.{replicate, if◌then◌else◌}
 use Rattle.std.proofs.lemmas.List.{reverse-append}
 use Rattle.jk_io.specs.Moments.{Moment}
 use Rattle.jk_io.specs.Told.{appended, prepended}
-use Rattle.jk_io.proofs.ToldLaws.{appended-appended}
-use Rattle.ajp_wire.specs.Packet.{packet, HasCome}
+use Rattle.ajp_wire.specs.Packet.{packet}
 use Rattle.ajp_wire.proofs.PacketLaws.{packet-only}
 use Rattle.ajp_request.specs.Spelling.{SpellsForward}
 use Rattle.ajp_request.specs.declared.forward.Forward.{Forward}
 use Rattle.ajp_request.proofs.ForwardLaws.{spells_one}
-use Rattle.ajp_reply.specs.Spelling.{payload_of as message_payload}
 use Rattle.ajp_reply.specs.Stream.{Spelled, IsFront, head_of}
 use Rattle.ajp_reply.specs.declared.message.Message.{Message}
 use Rattle.ajp_reply.specs.declared.message.Message.TheVariants.{Headers, Chunk, End, Ask, Pong}
 use Rattle.ajp_reply.specs.declared.message.ReplyParts.{ReplyParts}
 use Rattle.ajp_reply.proofs.StreamLaws.{goes_on}
-use Rattle.ajp_talk.specs.Replies.{chunks_of, head_out, whole_of, is_good}
+use Rattle.ajp_talk.specs.Replies.{chunks_of, is_good}
 use Rattle.mini_container.specs.Answer.{answer_of, bytes_of}
 use Rattle.mini_container.specs.Applications.{drops}
 use Rattle.mini_container.specs.Ends.{IsTalk, Place, Stops, place_of}
-use Rattle.mini_container.specs.Reply.{IsShortTurn}
 use Rattle.mini_container.specs.Request.{application_of}
-use Rattle.mini_container.specs.Turns.{Body, Awaited, Taken, Turn, Idle, Ping, Request, Came, CameBody, CameTaken, CameFirst, CameAnswers, IsPacketOf, SpellsPiece, Turns, ask, asks_on, data_of, is_dropped, is_over, next, owed, owed_for, waits}
+use Rattle.mini_container.specs.Turns.{Body, Awaited, Taken, Turn, Idle, Ping, Request, Came, CameBody, CameTaken, IsPacketOf, Turns, ask, asks_on, data_of, is_dropped, is_over, owed, owed_for, waits}
 use Rattle.mini_container.specs.declared.app_config.AppConfig.{AppConfig}
 use Rattle.mini_container.specs.declared.ends.ContainerEnd.{ContainerEnd}
 use Rattle.mini_container.specs.declared.ends.Stopped.{Stopped}
-use Rattle.mini_container.proofs.AnswerLaws.{IsAReply, answer-whole}
+use Rattle.mini_container.proofs.AnswerLaws.{answer-whole}
 use Rattle.mini_container.proofs.SentLaws.{owed-spelled}
 use Rattle.end_to_end.proofs.DataLaws.{taken-within}
 

@@ -1,6 +1,6 @@
 -- A talk whose other end is the container. Connector and container meet in bytes alone: what each of them says of its end
 -- stands in its own definitions, and here stands what the two ends have to do with one another. Read this first.
-use Rattle.std.specs.Prelude.{◌≡◌, ℕ, Bool, not, IsTrue, List, [], reverse, take, Option, Some}
+use Rattle.std.specs.Prelude.{◌≡◌, ℕ, Bool, not, IsTrue, List, [], reverse, take, Some}
 use Rattle.std.specs.Option.{option_map}
 use Rattle.jk_io.specs.Moments.{Moment}
 use Rattle.jk_io.specs.Told.{appended}

@@ -1,6 +1,3 @@
-use Rattle.end_to_end.proofs.MeetingLaws.{heard}
-use Rattle.end_to_end.proofs.LengthLaws.{named_length}
-use Rattle.end_to_end.proofs.EchoLaws.{same_answer}
 use Rattle.end_to_end.proofs.EndLaws.{end_to_end}
 use Rattle.end_to_end.proofs.laws.a_reply_is_the_applications_answer.Goals as goal
 
