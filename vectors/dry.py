@@ -7,6 +7,7 @@ the order of a request's attributes, and which member is asked (docs/FORMATS.md)
 
     python3 vectors/dry.py > crates/plain_checks/data/dry.txt
 """
+from sessions import READ_ONLY, STATUS
 
 METHODS = (
     "OPTIONS GET HEAD POST PUT DELETE TRACE PROPFIND PROPPATCH MKCOL COPY MOVE LOCK UNLOCK ACL REPORT VERSION-CONTROL "
@@ -422,23 +423,6 @@ def sessions():
         GOT_HI, "by-client 1", (site, EVERY))
 
 
-STATUS = """worker.list=lb,jkstatus
-worker.template.type=ajp13
-worker.template.lbfactor=1
-worker.template.socket_timeout=60
-worker.node1.reference=worker.template
-worker.node1.host=localhost
-worker.node1.port=8109
-worker.node2.reference=worker.template
-worker.node2.host=localhost
-worker.node2.port=8209
-worker.node2.activation=disabled
-worker.lb.type=lb
-worker.lb.balance_workers=node1,node2
-worker.lb.sticky_session=1
-worker.jkstatus.type=status
-worker.jkstatus.read_only=true
-"""
 PAGE = "jk status\nlb lb R 2 {}\nnode1 A ok 0 0 {} 0 -\nnode2 {} ok 0 0 1 0 -\n"
 SHOWN = "/jk=jkstatus\n"
 
@@ -447,27 +431,27 @@ def status_workers():
     def asks(name, query, got, end, site):
         row(name, request("GET", "/jk" + query, HOST), b"", b"", got, end, (site, SHOWN))
 
-    wide = STATUS.replace("worker.jkstatus.read_only=true\n", "")
+    read_only = STATUS + READ_ONLY
     assert len(PAGE.format(0, 1, "D")) == 64
     for query in ("", "?", "?cmd=list", "?cmd=list&w=lb", "?w=lb&x=y", "?%63md=list"):
-        asks(f"the page by '{query}'", query, page(PAGE.format(0, 1, "D")), "by-client 1", STATUS)
+        asks(f"the page by '{query}'", query, page(PAGE.format(0, 1, "D")), "by-client 1", read_only)
     for query, status in (
         ("?cmd=update&w=lb&sw=node1&vwf=2", 403), ("?cmd=reset&w=lb", 403), ("?cmd=recover&w=lb&sw=node1", 403),
         ("?cmd=update&w=lb&sw=node1", 400), ("?cmd=list&cmd=list", 400), ("?w=other", 404), ("?cmd=no", 400), ("?a", 400),
         ("?cmd=update&w=lb&sw=node1&vwf=x", 400), ("?cmd=list&w=%zz", 400),
     ):
-        asks(f"a read-only status worker at '{query}'", query, own(status), f"own-{status} 0", STATUS)
-    asks("an update", "?cmd=update&w=lb&sw=node1&vwf=2", page(PAGE.format(1, 2, "D")), "by-client 1", wide)
-    asks("an update of an activation", "?cmd=update&w=lb&sw=node2&vwa=a", page(PAGE.format(1, 1, "A")), "by-client 1", wide)
-    asks("a reset of all members", "?cmd=reset&w=lb", page(PAGE.format(2, 1, "D")), "by-client 1", wide)
+        asks(f"a read-only status worker at '{query}'", query, own(status), f"own-{status} 0", read_only)
+    asks("an update", "?cmd=update&w=lb&sw=node1&vwf=2", page(PAGE.format(1, 2, "D")), "by-client 1", STATUS)
+    asks("an update of an activation", "?cmd=update&w=lb&sw=node2&vwa=a", page(PAGE.format(1, 1, "A")), "by-client 1", STATUS)
+    asks("a reset of all members", "?cmd=reset&w=lb", page(PAGE.format(2, 1, "D")), "by-client 1", STATUS)
     for query, status in (
         ("?cmd=update&w=lb&sw=node9&vwf=2", 404), ("?cmd=update&w=lb&sw=node1&vwf=0", 400), ("?cmd=update&w=no&sw=node1&vwf=2", 404),
         ("?cmd=update&w=lb&sw=node1&vwr=node1", 400), ("?cmd=update&w=lb&sw=node1&vwr=no", 404),
     ):
-        asks(f"a status worker at '{query}'", query, own(status), f"own-{status} 0", wide)
+        asks(f"a status worker at '{query}'", query, own(status), f"own-{status} 0", STATUS)
     shown = PAGE.format(2, 1, "D").replace("node1 A ok 0", "node1 A ok 1")
     row("the page after a request", request("GET", "/p", HOST) + request("GET", "/jk", HOST), OK_HI,
-        forward("GET", "/p", HOST, route="node1"), GOT_HI + page(shown), "by-client 2", (STATUS, SHOWN + "/p=lb\n"))
+        forward("GET", "/p", HOST, route="node1"), GOT_HI + page(shown), "by-client 2", (read_only, SHOWN + "/p=lb\n"))
     shown = PAGE.format(1, 1, "A").replace("node1 A", "node1 S")
     row("a request after an update", request("GET", "/jk?cmd=update&w=lb&sw=node1&vwa=S", HOST) + request("GET", "/p", HOST), OK_HI,
         forward("GET", "/p", HOST, route="node2"), page(shown) + GOT_HI, "by-client 2",
@@ -478,9 +462,9 @@ def status_workers():
     )
     asks("factors that make too wide a unit", "?cmd=update&w=lb&sw=c&vwf=65497", own(400), "own-400 0", three)
     text = PAGE.format(0, 1, "D")
-    row("the page for HEAD", request("HEAD", "/jk", HOST), b"", b"", page(text, bare=True), "by-client 1", (STATUS, SHOWN))
+    row("the page for HEAD", request("HEAD", "/jk", HOST), b"", b"", page(text, bare=True), "by-client 1", (read_only, SHOWN))
     close = HOST + [("Connection", "close")]
-    row("the page is the last reply", request("GET", "/jk", close), b"", b"", page(text, last=True), "last 1", (STATUS, SHOWN))
+    row("the page is the last reply", request("GET", "/jk", close), b"", b"", page(text, last=True), "last 1", (read_only, SHOWN))
 
 
 def sites():
