@@ -4,3 +4,4 @@ pub mod LengthLaws
 pub mod MeetingLaws
 pub mod EchoLaws
 pub mod EndLaws
+pub mod FirstGetLaws

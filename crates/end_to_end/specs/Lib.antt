@@ -1,1 +1,2 @@
+pub mod FirstGet
 pub mod Meeting

@@ -7,4 +7,4 @@
 
 mod laws;
 
-pub use laws::a_reply_is_the_applications_answer;
+pub use laws::{a_first_get_is_answered, a_reply_is_the_applications_answer};
