@@ -205,6 +205,25 @@ too_many most w n d piece (next ∷ pieces) a y (before, last, came, p, is) same
     cut : past ++ here ≡ before ++ (last ++ y)
     cut = same ∙ ap (λ (b : List ℕ). b ++ y) is ∙ append_assoc before last y
 
+too_many_for : (most w n : ℕ) (d : Data) (k : ℕ) (pieces : List (List ℕ)) (a y : List ℕ) → length pieces ≡ suc k → CameAnswers most pieces a
+    → answers w d (replicate k (Ask n)) ≡ a ++ y → ⊥
+too_many_for most w n d k [] a y len came same = omega (arith, len)
+too_many_for most w n d k (piece ∷ pieces) a y len came same =
+    let one : k ≡ length pieces = omega (arith, len) in
+    too_many most w n d piece pieces a y came (subst (λ (j : ℕ). answers w d (replicate j (Ask n)) ≡ a ++ y) one same)
+
+-- a first packet before the answers
+came-behind : (most : ℕ) (first front : List ℕ) (pieces : List (List ℕ)) (a : List ℕ) → IsPacketOf (SpellsPiece first) most front → CameAnswers most pieces a
+    → CameAnswers most (pieces ++ first ∷ []) (front ++ a)
+came-behind most first front [] a p none = ([], front, refl, p, ap (λ (b : List ℕ). front ++ b) none ∙ append-nil front)
+came-behind most first front (piece ∷ pieces) a p (before, last, came, q, is) = (
+  front ++ before,
+  last,
+  came-behind most first front pieces before p came,
+  q,
+  ap (λ (b : List ℕ). front ++ b) is ∙ sym (append_assoc front before last),
+)
+
 -- asks that were all answered were all met
 all-met : (most w n : ℕ) (d : Data) (pieces : List (List ℕ)) (a y : List ℕ) → CameAnswers most pieces a
     → answers w d (replicate (length pieces) (Ask n)) ≡ a ++ y → AreMet w n d (length pieces)
@@ -231,16 +250,7 @@ exact-step b bytes n =
     let next : at.Exact (suc n - 1) ≡ at.Exact n = ap (λ (m : ℕ). at.Exact m) (omega arith) in
     cond-false _ _ _ open_end ∙ ap (λ (p : Place). behind (b ∷ []) (data_from bytes p)) next
 
--- what is whole has the length
-exact-length : (bytes : List ℕ) (n : ℕ) → (data_from bytes (at.Exact n)).whole ≡ true → length (data_from bytes (at.Exact n)).bytes ≡ n
-exact-length [] zero whole = refl
-exact-length [] (suc n) whole = let none : suc n ≡ 0 = eqb-true (suc n) 0 whole in absurd (omega (arith, none))
-exact-length (b ∷ bytes) zero whole = refl
-exact-length (b ∷ bytes) (suc n) whole =
-    let step = exact-step b bytes n in
-    ap (λ (d : Data). length d.bytes) step ∙ ap suc (exact-length bytes n (sym (ap (λ (d : Data). d.whole) step) ∙ whole))
-
--- and there is never more
+-- its data are never more than its length
 exact-within : (bytes : List ℕ) (n : ℕ) → length (data_from bytes (at.Exact n)).bytes ≤ n
 exact-within [] n = omega arith
 exact-within (b ∷ bytes) zero = omega arith
@@ -254,37 +264,16 @@ none-length : (bytes : List ℕ) → (data_from bytes at.Done).bytes ≡ []
 none-length [] = refl
 none-length (b ∷ bytes) = refl
 
--- ---- a request's first piece is there exactly where the container awaits one
+-- ---- a request has no first piece where the container awaits none
 
-min-some : (ends : List Endpoint) (n : ℕ) → 0 < n → 0 < fold (λ len endpoint. min len (piece_for endpoint)) n ends
-min-some [] n some = some
-min-some (endpoint ∷ ends) n some =
-    let above = endpoint.packet_above in
-    min-some ends (min n (piece_for endpoint)) (omega (arith, some, above))
-
-some-front : (l n : ℕ) (d : Data) → 0 < l → 0 < n → (d.whole ≡ true → length d.bytes ≡ n) → reaches l d ≡ true → take l d.bytes ≡ [] → ⊥
-some-front l n d some also whole reached none =
-    let empty : length d.bytes ≡ 0 = empty-take l d.bytes (sym none) some in
-    elim (cases_Bool d.whole) [
-      | inl is ↦ let all = whole is in absurd (omega (arith, empty, all, also))
-      | inr part ↦
-          let far : nat_le l (length d.bytes) ≡ true = or-none (nat_le l (length d.bytes)) (sym (ap (λ (b : Bool). nat_le l (length d.bytes) || b) part) ∙ reached) in
-          let within : l ≤ length d.bytes = leb-true l (length d.bytes) far in
-          absurd (omega (arith, within, empty, some))
-    ]
-
-first_is : (p : BodyPlan) (named' : Option ℕ) (ends : List Endpoint) (bytes : List ℕ) → Names p named'
-    → reaches (first_len p ends) (data_from bytes (start_of p)) ≡ true
-    → FirstIs (nat_lt 0 (unwrap_or named' 0)) (take (first_len p ends) (data_from bytes (start_of p)).bytes)
-first_is plan.None named' ends bytes (inl is) reached = rw is (record { some = λ has. absurd cc; none = λ has. refl })
-first_is plan.None named' ends bytes (inr is) reached = rw is (record { some = λ has. absurd cc; none = λ has. refl })
-first_is plan.Chunked named' ends bytes is reached = rw is (record { some = λ has. absurd cc; none = λ has. refl })
-first_is (plan.Exact n) named' ends bytes (is, some) reached =
+none-first : (p : BodyPlan) (named' : Option ℕ) (ends : List Endpoint) (bytes : List ℕ) → Names p named' → nat_lt 0 (unwrap_or named' 0) ≡ false
+    → take (first_len p ends) bytes ≡ []
+none-first plan.None named' ends bytes is none = refl
+none-first plan.Chunked named' ends bytes is none = refl
+none-first (plan.Exact n) named' ends bytes (is, some) none =
     let has : nat_lt 0 n ≡ true = lt-ltb 0 n some in
-    rw is (record {
-      some = λ _. some-front (first_len (plan.Exact n) ends) n (data_from bytes (at.Exact n)) (min-some ends n some) some (exact-length bytes n) reached;
-      none = λ no. absurd cc;
-    })
+    let not' : nat_lt 0 n ≡ false = sym (ap (λ (o : Option ℕ). nat_lt 0 (unwrap_or o 0)) is) ∙ none in
+    absurd cc
 
 -- ---- all data came
 
@@ -326,7 +315,6 @@ pub record AreOwn (f : Forward) (p : BodyPlan) (ends : List Endpoint) (own : Dat
   pub brings : own ≡ data_from bytes (start_of p)
   pub names : Names p (content_length f)
   pub first_is : first ≡ take (first_len p ends) own.bytes
-  pub reached : reaches (first_len p ends) own ≡ true
 
 -- what was sent behind the Forward Request for these messages
 abbrev pub behind_request : (w : ℕ) (p : BodyPlan) (ends : List Endpoint) (own : Data) (first : List ℕ) (past : List Message) → List ℕ
@@ -354,11 +342,6 @@ echoed app f p ends own first w past size o h echo =
     wanted : ℕ
     wanted = asked w asks
 
-    is_first : FirstIs (has_first f) first
-    is_first =
-        subst (FirstIs (has_first f)) (sym (o.first_is ∙ ap (λ (d : Data). take l d.bytes) o.brings))
-        (first_is p (content_length f) ends o.bytes o.names (subst (λ (d : Data). reaches l d ≡ true) o.brings o.reached))
-
     answers_are : answers w rest past ≡ answers w rest asks
     answers_are =
         ap (answers w rest) (h.heard ∙ ap (λ (m : List Message). reverse h.before ++ m) (reverse-asks (length h.pieces) n))
@@ -368,6 +351,18 @@ echoed app f p ends own first w past size o h echo =
     cut =
         ap (λ (b : List ℕ). first_packet first ++ b) (sym answers_are) ∙ h.whole ∙ ap (λ (b : List ℕ). b ++ h.rest) h.came.whole
         ∙ append_assoc h.came.front h.came.answers h.rest
+
+    is_first : FirstIs (has_first f) first
+    is_first = record {
+      some = λ has none.
+          too_many_for app.packet w n rest (length h.pieces) (h.pieces ++ h.first ∷ []) (h.came.front ++ h.came.answers) h.rest
+          (length-append h.pieces (h.first ∷ []) ∙ omega arith)
+          (came-behind app.packet h.first h.came.front h.pieces h.came.answers
+          (subst (λ (b : Bool). CameFirst app.packet b h.first h.came.front) has h.came.begun) h.came.answered)
+          (subst (λ (b : List ℕ). first_packet b ++ answers w rest asks ≡ h.came.front ++ (h.came.answers ++ h.rest)) none cut
+          ∙ sym (append_assoc h.came.front h.came.answers h.rest));
+      none = λ has. o.first_is ∙ none-first p (content_length f) ends own.bytes o.names has;
+    }
 
     front : IsFirst first h.first (answers w rest asks) (h.came.answers ++ h.rest)
     front = first-same app.packet (has_first f) first h.first h.came.front (answers w rest asks) (h.came.answers ++ h.rest) is_first h.came.begun cut

@@ -140,7 +140,6 @@ end_to_end app q member endpoint own f s n t = t.connector.written ∙ ap (appen
       brings = t.ready.request.brings;
       names = named_length t.ready.request.used q.head q.peer q.balancer.book.direct member endpoint f t.ready.request.read t.ready.fits.fields t.spelled;
       first_is = t.ready.first_is;
-      reached = t.ready.reached;
     }
 
     size : plan.piece ≡ app.packet - 6

@@ -349,7 +349,6 @@ first_get app balancer member endpoint body session lb terms is =
               (subst (λ (g : Forward). FitsPacket 8192 (payload_of g)) (sym same) packet-fits);
         };
         first_is = refl;
-        reached = refl;
         left = ap (λ (p : Place). Some (ended_at p)) is.no_body;
       };
       connector = connector plan body (payload_of sent_forward) answer (no_ping endpoint.ping_each endpoint.ping_new is.ping_each is.ping_new) is.packet

@@ -7,7 +7,7 @@ use Rattle.jk_io.specs.Told.{appended}
 use Rattle.jk_model.specs.declared.member.MemberConfig.{MemberConfig}
 use Rattle.http_front.specs.Request.{IsHeadOf}
 use Rattle.http_front.specs.declared.head.Head.{Head}
-use Rattle.http_body_in.specs.Body.{Data, data_from, dropped, reaches}
+use Rattle.http_body_in.specs.Body.{Data, data_from, dropped}
 use Rattle.http_body_in.specs.Places.{start_of}
 use Rattle.http_out.specs.declared.framing.RequestKind.{RequestKind}
 use Rattle.site_config.specs.declared.endpoint.Endpoint.{Endpoint}
@@ -47,12 +47,12 @@ forwarded q member endpoint = forward_for q.head q.peer q.balancer.book.direct m
 abbrev pub front_of : Errand → ℕ
 front_of q = first_len q.head.plan q.balancer.ends
 
--- A request before a talk: it fits the member's packet, and just the first piece of its data was taken, whole.
+-- A request before a talk: it fits the member's packet, and just the first piece of its data was taken. So it is before
+-- each talk of an exchange: a request that doesn't fit has none, and after a talk that took more there is no other.
 pub record IsReady (q : Errand) (member : MemberConfig) (endpoint : Endpoint) (own : Data) (first : List ℕ) (b : BodyAt) : Type 0 where
   pub request : IsRequest q.head own
   pub fits : Fits endpoint.packet (forwarded q member endpoint)
   pub first_is : first ≡ take (front_of q) own.bytes
-  pub reached : IsTrue (reaches (front_of q) own)
   pub left : data_at b ≡ dropped (front_of q) (Some own)
 
 -- how its talk goes, over a link that is newly dialled or not
