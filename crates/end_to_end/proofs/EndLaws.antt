@@ -10,11 +10,11 @@ use Rattle.ajp_request.specs.declared.forward.Forward.{Forward}
 use Rattle.ajp_reply.specs.Stream.{Spelled, head_of}
 use Rattle.ajp_reply.specs.declared.message.Message.{Message}
 use Rattle.ajp_reply.specs.declared.message.Message.TheVariants.{End, Ask}
-use Rattle.ajp_talk.specs.Moments.{data_at}
+use Rattle.ajp_talk.specs.Moments.{TalkMoment, data_at}
 use Rattle.ajp_talk.specs.Owed.{answers, first_packet, behind_first, owed, ping_of, pong_of}
 use Rattle.ajp_talk.specs.Replies.{chunks_of, head_out, reply_of_talk, whole_of}
 use Rattle.ajp_talk.specs.declared.plan.TalkPlan.{TalkPlan}
-use Rattle.http_body_in.specs.Body.{Data}
+use Rattle.http_body_in.specs.Body.{Data, dropped}
 use Rattle.http_front.specs.declared.head.BodyPlan.{BodyPlan}
 use Rattle.http_front.specs.declared.head.BodyPlan.TheVariants as plan_is
 use Rattle.http_out.specs.declared.framing.RequestKind.{RequestKind}
@@ -23,7 +23,7 @@ use Rattle.forwarding.specs.FirstPiece.{first_len}
 use Rattle.forwarding.proofs.FirstPieceLaws.{within_length}
 use Rattle.mini_container.specs.Answer.{answer_of}
 use Rattle.mini_container.specs.declared.app_config.AppConfig.{AppConfig}
-use Rattle.end_to_end.specs.Meeting.{EndToEnd, forwarded, front_of, kind_for, plan_on, reply_for}
+use Rattle.end_to_end.specs.Meeting.{EndToEnd, EndToEndOfExchange, IsDoneWith, IsExchangeWith, forwarded, front_of, kind_for, plan_on, reply_for}
 use Rattle.end_to_end.proofs.BoundLaws.{answers-short, few-messages, first-short}
 use Rattle.end_to_end.proofs.LengthLaws.{length_below, named_length}
 use Rattle.end_to_end.proofs.MeetingLaws.{Heard, SomeTalk, after_ping, heard, head-asks, chunks-asks, reverse-asks, some_talk, took_request}
@@ -149,3 +149,40 @@ end_to_end app q member endpoint own f s n t = t.connector.written ∙ ap (appen
     reply =
         same_reply (kind_for q) hears.before (length hears.pieces) (app.packet - 6) past hears.heard
         ∙ ap (reply_for q) (sym hears.answer ∙ same_answer app f q.head.plan q.balancer.ends own t.first plan.piece past size own_is hears)
+
+-- ---- the last talk of an exchange
+
+pub end_to_end_of_exchange : EndToEndOfExchange
+end_to_end_of_exchange app q member own f s n t =
+    end_to_end app q t.last.config t.last.endpoint own f begun over with_it
+    ∙ ap (λ (o : Option (List ℕ)). appended o (reply_for q (answer_of app f own.bytes))) t.last.unwritten
+  where
+    begun : TalkMoment
+    begun = record { line = t.last.talk.opened; client = t.last.begun.client; body = t.last.begun.body }
+
+    over : TalkMoment
+    over = record { line = t.last.talk.closed; client = n.client; body = n.body }
+
+    with_it : IsDoneWith app q t.last.config t.last.endpoint own f begun over
+    with_it = record {
+      first = t.last.first;
+      dialled = t.last.talk.dialled;
+      told = t.told;
+      reuse = t.reuse;
+      bytes = t.moved;
+      before = t.before;
+      after = t.after;
+      end = t.end;
+      size = t.size;
+      ready = record {
+        request = t.request;
+        fits = t.fits;
+        first_is = if-some (data_at s.body) (λ (d : Data). t.last.first ≡ take (front_of q) d.bytes) own t.last.piece t.there;
+        left = t.last.left ∙ ap (dropped (front_of q)) t.there;
+      };
+      connector = t.last.talk.talk;
+      container = t.container;
+      meet = t.meet;
+      spelled = t.spelled;
+      answered = t.answered;
+    }

@@ -19,11 +19,13 @@ use Rattle.ajp_reply.specs.declared.message.Message.{Message}
 use Rattle.ajp_talk.specs.Moments.{BodyAt, TalkMoment, data_at}
 use Rattle.ajp_talk.specs.Replies.{chunks_of, head_out, whole_of}
 use Rattle.ajp_talk.specs.Talk.{IsDone}
+use Rattle.ajp_talk.specs.declared.ending.TalkEnd.TheVariants as ends
 use Rattle.ajp_talk.specs.declared.ending.Told.{Told}
 use Rattle.ajp_talk.specs.declared.plan.TalkPlan.{TalkPlan}
 use Rattle.forwarding.specs.FirstPiece.{first_len}
 use Rattle.forwarding.specs.Forwards.{forward_for}
-use Rattle.exchange.specs.OneTalk.{pings}
+use Rattle.exchange.specs.Clients.{HasLastTalk}
+use Rattle.exchange.specs.OneTalk.{Around, pings}
 use Rattle.exchange.specs.Requests.{Errand, is_head, plan_for}
 use Rattle.mini_container.specs.Answer.{answer_of}
 use Rattle.mini_container.specs.Applications.{drops}
@@ -102,4 +104,29 @@ abbrev pub EndToEnd : Type 0
 EndToEnd =
     (app : AppConfig) (q : Errand) (member : MemberConfig) (endpoint : Endpoint) (own : Data) (f : Forward) (s n : TalkMoment)
     → IsDoneWith app q member endpoint own f s n
+    → n.client.sent ≡ appended s.client.sent (reply_for q (answer_of app f own.bytes))
+
+-- An exchange that ended with a whole reply, and the container at the other end of its last talk. The request's own data
+-- are those that were there when the exchange began.
+pub record IsExchangeWith (app : AppConfig) (q : Errand) (member : ℕ) (own : Data) (f : Forward) (s n : Around) : Type 0 where
+  pub told : Told
+  pub reuse : Bool
+  pub moved : ℕ
+  pub before : Moment
+  pub after : Moment
+  pub end : ContainerEnd
+  pub last : HasLastTalk q member s n (ends.Done told reuse moved)
+  pub request : IsRequest q.head own
+  pub there : data_at s.body ≡ Some own
+  pub size : last.endpoint.packet ≡ app.packet
+  pub fits : Fits last.endpoint.packet (forwarded q last.config last.endpoint)
+  pub container : IsTalk app before after end
+  pub meet : Meet last.talk.opened last.talk.closed before after
+  pub spelled : SpellsForward f (payload_of (forwarded q last.config last.endpoint))
+  pub answered : IsTrue (not (drops (application_of app f)))
+
+-- The same of an exchange, whatever talks failed before the last.
+abbrev pub EndToEndOfExchange : Type 0
+EndToEndOfExchange =
+    (app : AppConfig) (q : Errand) (member : ℕ) (own : Data) (f : Forward) (s n : Around) → IsExchangeWith app q member own f s n
     → n.client.sent ≡ appended s.client.sent (reply_for q (answer_of app f own.bytes))

@@ -2,9 +2,12 @@
 //!
 //! Source: own; the definitions are those of exchange, ajp_talk and mini_container, over AJPv1.3's spellings.
 //! Shapes: a talk's messages, turns and answers to asks have the newest first, an application's answer the oldest.
-//! Contract: the law of `laws`. Read first: specs/Meeting.antt.
+//! Contract: the laws of src/laws.rt. Read first: specs/Meeting.antt.
 #![tactic(auto)]
 
 mod laws;
 
-pub use laws::{a_first_get_is_answered, a_reply_is_the_applications_answer};
+pub use laws::{
+    a_first_get_is_answered, a_reply_is_the_applications_answer,
+    an_exchange_gives_the_applications_answer,
+};
