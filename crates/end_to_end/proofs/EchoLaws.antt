@@ -1,5 +1,5 @@
 -- The data that the container answers with are the request's own.
-use Rattle.std.proofs.Common.{◌≡◌, ℕ, zero, suc, ◌+◌, ◌-◌, ◌<◌, ◌≤◌, ◌==◌, ◌&&◌, ◌||◌, min, nat_le, nat_lt, Bool, true, false, not, List, [], ◌∷◌, ◌++◌, length, take, drop, fold, reverse, Option, None, unwrap_or, refl, sym, ap, subst, ◌∙◌, arith, inl, inr, ◌⊎◌, append_assoc, append-nil, length-append, length-take, length-drop, take-add, take-append-drop, take_all, leb-true, le-leb, lt-ltb, eqb-true, ne_eqb}
+use Rattle.std.proofs.Common.{◌≡◌, ℕ, zero, suc, ◌+◌, ◌-◌, ◌<◌, ◌≤◌, ◌==◌, ◌&&◌, ◌||◌, min, nat_le, nat_lt, Bool, true, false, not, List, [], ◌∷◌, ◌++◌, length, take, drop, reverse, Option, None, unwrap_or, refl, sym, ap, subst, ◌∙◌, arith, inl, inr, ◌⊎◌, append_assoc, append-nil, length-append, length-take, length-drop, take-add, take-append-drop, take_all, leb-true, le-leb, lt-ltb, ne_eqb}
 use Rattle.std.specs.Prelude.{if◌then◌else◌, replicate}
 use Rattle.std.proofs.lemmas.Bool.{cases_Bool, cond-false, or_from}
 use Rattle.std.proofs.lemmas.List.{reverse-append}
@@ -9,7 +9,7 @@ use Rattle.ajp_request.specs.declared.forward.Forward.{Forward}
 use Rattle.ajp_reply.specs.declared.message.Message.{Message}
 use Rattle.ajp_reply.specs.declared.message.Message.TheVariants.{Headers, Chunk, End, Ask, Pong}
 use Rattle.ajp_talk.specs.Owed.{answer, answers, asked, behind_first, first_packet, want}
-use Rattle.forwarding.specs.FirstPiece.{first_len, piece_for}
+use Rattle.forwarding.specs.FirstPiece.{first_len}
 use Rattle.http_body_in.specs.Body.{Data, behind, data_from, is_over, reaches}
 use Rattle.http_body_in.specs.Places.{start_of}
 use Rattle.http_body_in.specs.declared.place.Place.{Place}

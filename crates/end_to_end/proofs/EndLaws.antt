@@ -23,7 +23,7 @@ use Rattle.forwarding.specs.FirstPiece.{first_len}
 use Rattle.forwarding.proofs.FirstPieceLaws.{within_length}
 use Rattle.mini_container.specs.Answer.{answer_of}
 use Rattle.mini_container.specs.declared.app_config.AppConfig.{AppConfig}
-use Rattle.end_to_end.specs.Meeting.{EndToEnd, EndToEndOfExchange, IsDoneWith, IsExchangeWith, forwarded, front_of, kind_for, plan_on, reply_for}
+use Rattle.end_to_end.specs.Meeting.{EndToEnd, EndToEndOfExchange, IsDoneWith, forwarded, front_of, kind_for, plan_on, reply_for}
 use Rattle.end_to_end.proofs.BoundLaws.{answers-short, few-messages, first-short}
 use Rattle.end_to_end.proofs.LengthLaws.{length_below, named_length}
 use Rattle.end_to_end.proofs.MeetingLaws.{Heard, SomeTalk, after_ping, heard, head-asks, chunks-asks, reverse-asks, some_talk, took_request}

@@ -1,18 +1,16 @@
 -- A talk of which the law speaks: GET of a path where the container has no application.
-use Rattle.std.proofs.Common.{◌≡◌, ℕ, zero, suc, ◌+◌, ◌-◌, ◌^◌, ◌<◌, ◌≤◌, Bool, true, false, not, ◌&&◌, ◌||◌, IsTrue, List, [], ◌∷◌, ◌++◌, length, map, reverse, slice_index, codes, Option, Some, None, Result, Ok, IfSome, All, refl, sym, ap, subst, ◌∙◌, arith, inl, inr, append-nil, leb-true, ltb-true}
-use Rattle.std.specs.Prelude.{if◌then◌else◌}
+use Rattle.std.proofs.Common.{◌≡◌, ℕ, zero, suc, ◌+◌, ◌^◌, ◌<◌, ◌≤◌, Bool, true, false, ◌&&◌, ◌||◌, IsTrue, List, [], ◌∷◌, ◌++◌, length, reverse, slice_index, codes, Some, None, Ok, All, refl, sym, ap, subst, ◌∙◌, arith, inl, append-nil, leb-true, ltb-true}
 use Rattle.std.proofs.lemmas.List.Sums.{AllPass-from_list_all}
 use Rattle.std.proofs.lemmas.Str.{IsUtf8-from_ascii}
 use Rattle.std.specs.Fmt.{digits}
 use Rattle.percent_encoding.specs.Percent.{percent_decode}
 use Rattle.httparse.specs.Grammar.{Field, IsField, IsRequestHead, RequestHead, crlf, is_token_byte, is_uri_byte, is_value_byte, print_request, ReadsRequest, trim_ows}
 use Rattle.jk_io.specs.Moments.{Moment}
-use Rattle.jk_io.specs.Told.{appended, prepended}
 use Rattle.jk_model.specs.declared.ask.Terms.{Terms}
 use Rattle.jk_model.specs.declared.member.MemberConfig.{MemberConfig}
-use Rattle.ajp_wire.specs.Packet.{FitsPacket, HasCome, packet}
+use Rattle.ajp_wire.specs.Packet.{FitsPacket, packet}
 use Rattle.ajp_request.specs.Spelling.{SpellsForward}
-use Rattle.ajp_request.specs.Writing.{FieldsFit, Fits, IsForward, as_read, payload_of}
+use Rattle.ajp_request.specs.Writing.{FieldsFit, IsForward, as_read, payload_of}
 use Rattle.ajp_request.specs.declared.forward.Forward.{Forward}
 use Rattle.ajp_request.proofs.SpelledLaws.{written_spells}
 use Rattle.ajp_reply.specs.Stream.{Spelled}
@@ -20,38 +18,33 @@ use Rattle.ajp_reply.specs.declared.message.Message.{Message}
 use Rattle.ajp_reply.specs.declared.message.Message.TheVariants.{Headers, Chunk, End}
 use Rattle.ajp_reply.specs.declared.message.ReplyParts.{ReplyParts}
 use Rattle.ajp_talk.specs.Moments.{TalkMoment}
-use Rattle.ajp_talk.specs.Owed.{opening, owed as owed_talk, ping_of, pong_of}
-use Rattle.ajp_talk.specs.Replies.{agrees, chunks_of, framing_in, head_out, is_good, is_listed, kind_of, reply_of_talk, told_by, whole_of}
+use Rattle.ajp_talk.specs.Owed.{opening, pong_of}
+use Rattle.ajp_talk.specs.Replies.{agrees, chunks_of, head_out, is_good, is_listed, kind_of, told_by, whole_of}
 use Rattle.ajp_talk.specs.Talk.{IsDone}
 use Rattle.ajp_talk.specs.declared.plan.TalkPlan.{TalkPlan}
 use Rattle.http_front.specs.Request.{IsHeadOf, judged}
 use Rattle.http_front.specs.declared.head_lines.TheConstants.{MAX_HEAD_LINES}
 use Rattle.http_front.specs.declared.inbox.TheConstants.{MAX_HEAD_BYTES}
 use Rattle.http_front.specs.Cut.{header_lines}
-use Rattle.http_body_in.specs.Body.{Data, ended_at}
-use Rattle.http_body_in.specs.State.{failed_of, place_of, taken_of}
+use Rattle.http_body_in.specs.Body.{ended_at}
+use Rattle.http_body_in.specs.State.{failed_of, place_of}
 use Rattle.http_body_in.specs.declared.body.BodyIn.{BodyIn}
 use Rattle.http_body_in.specs.declared.place.Place.{Place}
-use Rattle.http_body_in.specs.declared.place.Place.TheVariants as at
 use Rattle.http_body_in.proofs.BodyLemmas.{Uses-nil}
 use Rattle.http_out.specs.Framing.{framing_of}
-use Rattle.http_out.specs.Head.{content_length}
 use Rattle.http_out.specs.ReplyBytes.{head_bytes}
 use Rattle.http_out.specs.declared.framing.RequestKind.{RequestKind}
 use Rattle.site_config.specs.declared.balancer.Lb.{Lb}
 use Rattle.site_config.specs.declared.endpoint.Endpoint.{Endpoint}
-use Rattle.forwarding.specs.Forwards.{attributes_for, forward_for, line_for, protocol_of, route_for}
-use Rattle.mini_container.specs.Answer.{answer_by, bytes_of, messages_of}
-use Rattle.mini_container.specs.Ends.{Goes, IsTalk, end_of}
-use Rattle.mini_container.specs.Pages.{unknown}
+use Rattle.mini_container.specs.Answer.{bytes_of}
+use Rattle.mini_container.specs.Ends.{IsTalk, end_of}
 use Rattle.mini_container.specs.Request.{application_of}
-use Rattle.mini_container.specs.Turns.{Came, Idle, Request, Taken, Turn, Turns, is_over, owed}
+use Rattle.mini_container.specs.Turns.{Came, Idle, Request, Taken, Turn, is_over, owed}
 use Rattle.mini_container.specs.declared.app_config.AppConfig.{AppConfig}
-use Rattle.mini_container.specs.declared.application.Application.{Application}
 use Rattle.mini_container.specs.declared.application.Application.TheVariants.{Unknown}
 use Rattle.mini_container.specs.declared.ends.Stopped.TheVariants.{Closed}
 use Rattle.mini_container.proofs.SentLaws.{owed-spelled}
-use Rattle.end_to_end.specs.FirstGet.{FirstGet, IsFirstGet, first_bytes, first_errand, first_head, first_reply, no_data}
+use Rattle.end_to_end.specs.FirstGet.{FirstGet, first_bytes, first_errand, first_head, first_reply, no_data}
 use Rattle.end_to_end.specs.Meeting.{IsDoneWith, IsRequest, forwarded, plan_on}
 
 -- ---- the head
