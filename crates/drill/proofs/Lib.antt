@@ -1,0 +1,6 @@
+mod AnsweredLaws
+mod RequestLaws
+mod WireLaws
+mod SlotLaws
+mod ClosingLaws
+mod SiteLaws

@@ -1,0 +1,10 @@
+-- The Site's name: the ledger of the blank, and the Book that is put under it.
+use Rattle.balancer_core.specs.ToldBooks.{sizes_of}
+use Rattle.locked_balancer.specs.Sites.{nexts_of}
+use Rattle.drill.proofs.running.drilled_book.Given as goal
+
+abbrev pub ghosts-drill_in-L-Ledger : goal.ghosts-drill_in-L-Ledger
+ghosts-drill_in-L-Ledger g a = record { name = a.blank.name; parts = a.blank.parts }
+
+abbrev pub ghosts-drill_in-L-SiteName : goal.ghosts-drill_in-L-SiteName
+ghosts-drill_in-L-SiteName g a = record { sizes = sizes_of a.books; firsts = nexts_of a.books; cut_at = 0 }

@@ -1,0 +1,36 @@
+use Rattle.std.proofs.Common.{◌≡◌, [], ◌∷◌, length, sym, ap, ◌∙◌, sum_by, arith}
+use Rattle.std.proofs.lemmas.List.{length-append}
+use Rattle.std.proofs.lemmas.List.Elements.{All-head, All-push, All-rest, All-same}
+use Rattle.std.proofs.lemmas.List.Sums.{sum_by_push}
+use Rattle.locked_balancer.specs.declared.mem_shelf.MemShelf.{MemShelf}
+use Rattle.locked_balancer.specs.declared.shared_desk.Leaving.{Leaving}
+use Rattle.drill.specs.Threads.{IsWhole}
+use Rattle.drill.specs.declared.slots.Slot.{Slot}
+use Rattle.drill.proofs.SlotLaws.{none-forgotten, one-left}
+use Rattle.drill.proofs.slots.empty_slots.Goals as goal
+
+pub slots-preserved : goal.slots-preserved
+slots-preserved g c =
+    let inv = c.slots.invariant in
+    let first = c.in-Some.ensures.steps.0 in
+    let rest = ap length first in
+    let pushed = c.push_reserved.ensures.items in
+    let more = ap length pushed in
+    let here =
+    All-head {X = Slot g.row.L.Denot g.row.R.Denot} (λ s. IsWhole (2 ∷ []) s.desk.desk) _ _
+    (All-same (λ s. IsWhole (2 ∷ []) s.desk.desk) _ _ (sym first) inv.whole) in
+    let part = one-left _ _ here.one_part c.leave.ensures.parts in
+    let forgot =
+    none-forgotten _ _ _ _ c.leave.ensures.amount (here.counted ∙ ap length (sym c.leave.ensures.receipts)) c.leave.result.counted in
+    record {
+      whole = All-rest {X = Slot g.row.L.Denot g.row.R.Denot} (λ s. IsWhole (2 ∷ []) s.desk.desk) _ _ _ first inv.whole;
+      parts =
+          let sum =
+          ap (sum_by {X = Leaving g.row.L.Denot MemShelf g.L.SiteName} (λ x. x.share.parts)) pushed
+          ∙ sum_by_push (λ x. x.share.parts) c.slots.leaving.items c.leave.result in
+          omega (arith, sum, part, rest, inv.parts);
+      count = omega (arith, more, length-append c.slots.leaving.items (c.leave.result ∷ []), rest, inv.count);
+      none_forgot =
+          All-same (λ x. x.forgotten ≡ 0) _ _ pushed (All-push (λ x. x.forgotten ≡ 0) c.slots.leaving.items c.leave.result inv.none_forgot forgot);
+      room = omega (arith, rest, inv.room, c.push_reserved.ensures.len, c.push_reserved.ensures.capacity);
+    }

@@ -1,0 +1,15 @@
+-- What the desks so far left, and room for what the others leave.
+use Rattle.std.proofs.Common.{◌≡◌, ◌+◌, ◌≤◌, [], ◌∷◌, length}
+use Rattle.std.specs.Prelude.{sum_by, vec_capacity, vec_len}
+use Rattle.std.specs.List.{All}
+use Rattle.drill.specs.Threads.{IsWhole}
+use Rattle.drill.proofs.slots.empty_slots.Given as goal
+
+abbrev pub invariant-slots : goal.invariant-slots
+invariant-slots g l = record {
+  whole : All (λ s. IsWhole (2 ∷ []) s.desk.desk) l.slot-iterator.rest.items;
+  parts : sum_by (λ x. x.share.parts) l.leaving.items + length l.slot-iterator.rest.items ≡ vec_len l.fn.slots;
+  count : length l.leaving.items + length l.slot-iterator.rest.items ≡ vec_len l.fn.slots;
+  none_forgot : All (λ x. x.forgotten ≡ 0) l.leaving.items;
+  room : vec_len l.leaving + length l.slot-iterator.rest.items ≤ vec_capacity l.leaving;
+}

@@ -1,0 +1,44 @@
+-- What a drill hands out, and why there is none.
+use Rattle.std.specs.Prelude.{◌≡◌, ℕ, Bool, true, false, List, [], ◌∷◌}
+use Rattle.jk_model.specs.Journal.{members}
+use Rattle.jk_model.specs.declared.journal.Entry.{Entry}
+use Rattle.balancer_core.specs.Journal.{IsSound, Journal, next_number}
+use Rattle.site_closing.specs.Closings.{Differs, DiscordNote}
+use Rattle.drill.specs.Drills.{IsDrilled}
+use Rattle.drill.specs.Summaries.{IsJournalText, summary_text}
+use Rattle.drill.specs.declared.drill_error.DrillError.{DrillError}
+use Rattle.drill.specs.declared.drill_error.DrillError.TheVariants as error
+
+-- A Book of rules 2 with two members that began with number 0, and whose journal, replayed, gives each recorded answer.
+pub record IsOfDrill (b : Journal) : Type 0 where
+  pub rules : b.rules ≡ 2
+  pub two : members b.opening ≡ 2
+  pub numbered : next_number b ≡ b.added
+  pub sound : IsSound b
+
+-- It has no entry yet.
+pub record IsStarted (b : Journal) : Type 0 where
+  pub rules : b.rules ≡ 2
+  pub two : members b.opening ≡ 2
+  pub first : next_number b ≡ 0
+  pub added : b.added ≡ 0
+  pub sound : IsSound b
+
+-- What a drill hands out: the summary of its Book's journal, or that journal's text, and in the journal each request of
+-- each thread was answered whole.
+pub record IsDrill (seed threads requests : ℕ) (text passes : Bool) (told : List ℕ) (b : Journal) : Type 0 where
+  pub summary : text ≡ false → told ≡ summary_text seed threads requests passes b.entries
+  pub journal : text ≡ true → IsJournalText b told
+  pub drilled : IsDrilled threads requests b.entries
+  pub book : IsOfDrill b
+
+-- Receipts of threads, in their order, and the entries that such a Book keeps, differ here first.
+abbrev pub IsFound : DiscordNote → Type 0
+IsFound d = (entries : ℕ) × (receipts : List (ℕ × Entry)) × Differs (2 ∷ []) (0 ∷ []) entries receipts d
+
+-- Why a drill has no text: a discord, which the closing alone makes; a Book whose journal lacks what it should have of
+-- some thread; or want of memory, which needs no cause.
+abbrev pub IsDrillError : (threads requests : ℕ) → DrillError → Type 0
+IsDrillError threads requests (error.Differs d) = IsFound d
+IsDrillError threads requests (error.Lost book) = IsOfDrill book × (IsDrilled threads requests book.entries → ⊥)
+IsDrillError threads requests error.NoMemory = Unit {0}

@@ -1,0 +1,36 @@
+-- The site of a drill: one balancer of two members.
+use Rattle.std.specs.Prelude.{◌≡◌, ℕ, true, List, [], ◌∷◌, None, codes}
+use Rattle.exchange.specs.Requests.{sizes_of}
+use Rattle.jk_model.specs.declared.config.LbConfig.{LbConfig}
+use Rattle.jk_model.specs.declared.member.Activation.TheVariants as activation
+use Rattle.jk_model.specs.declared.member.MemberConfig.{MemberConfig}
+use Rattle.jk_model.specs.declared.member.Method.TheVariants as method
+use Rattle.site_config.specs.declared.config.Config.{Config}
+use Rattle.uri_map.specs.Sites.{stands_in}
+use Rattle.uri_map.specs.declared.rule.Rule.{Rule}
+
+-- a member of a name and factor, with the pool of 64
+abbrev pub member_of : (name : List ℕ) → (factor : ℕ) → MemberConfig
+member_of name factor = record {
+  name = name;
+  route = name;
+  factor = factor;
+  distance = 0;
+  activation = activation.Active;
+  redirect = None;
+  pool = 64;
+}
+
+-- member a of factor 1, and member b of factor 2
+abbrev pub two_members : List MemberConfig
+two_members = member_of (codes "a") 1 ∷ member_of (codes "b") 2 ∷ []
+
+-- They are balanced by requests.
+pub record IsDrillBook (c : LbConfig) : Type 0 where
+  pub method_is : c.method ≡ method.Request
+  pub members_are : c.members ≡ two_members
+
+-- A site with one such balancer, and rules that name it alone.
+pub record IsDrillSite (cfg : Config) (rules : List Rule) : Type 0 where
+  pub stands : stands_in cfg rules ≡ true
+  pub sized : sizes_of cfg.lbs ≡ 2 ∷ []

@@ -1,0 +1,161 @@
+//! A desk for each thread of a drill, and the threads.
+ghost use Rattle.std.specs.Prelude.{◌≡◌, ◌+◌, ◌<◌, ◌≤◌, ℕ, [], ◌∷◌, length, sum_by, vec_capacity, vec_len, IfOk, OnOk, slice_index_or, true};
+ghost use Rattle.std.specs.List.{All};
+ghost use Rattle.drill.specs.Threads.{IsWhole};
+
+use crate::plan::{MAX_THREADS, Plan};
+use crate::site::DrillSite;
+use crate::thread::serve_thread;
+use jk_io::{NoMemory, NumberList};
+use locked_balancer::{KeptList, Leaving, MemShelf, SharedDesk, SharedSite, SiteName};
+use site_closing::LeavingList;
+use std::alloc::Global;
+use std::sync::Wait;
+use std::sync::ledger::Share;
+use std::thread::{self, Threads};
+
+/// A thread's desk, and whether all its requests were made.
+#[derive(Drop)]
+struct Slot<'s, 'r, L: SiteName, R> {
+    desk: SharedDesk<'s, 'r, L, MemShelf, R>,
+    made: bool,
+}
+
+// A slot with a part of the ledger.
+fn slot_of<'s, 'r, L: SiteName, R>(
+    alloc: Global,
+    shared: &'s SharedSite<'r, L, R>,
+    share: Share<L>,
+) -> Slot<'s, 'r, L, R>
+    requires part { share.parts ≡ 1 }
+    requires amount { share.amount ≡ 0 }
+    requires sizes { L.sizes ≡ 2 ∷ [] }
+    ensures { IsWhole (2 ∷ []) result.desk.desk }
+{
+    let shelf = MemShelf::new(KeptList::new(alloc), NumberList::new(alloc));
+    Slot {
+        desk: SharedDesk::new(alloc, shared, share, shelf),
+        made: false,
+    }
+}
+
+// A slot for each part of the share.
+fn fill_slots<'s, 'r, L: SiteName, R>(
+    alloc: Global,
+    slots: &mut Vec<Slot<'s, 'r, L, R>>,
+    shared: &'s SharedSite<'r, L, R>,
+    share: Share<L>,
+    threads: u32,
+)
+    requires none { slots.old.items ≡ [] }
+    requires room { threads ≤ vec_capacity slots.old }
+    requires some { 1 ≤ threads }
+    requires parts { share.parts ≡ threads }
+    requires amount { share.amount ≡ 0 }
+    requires sizes { L.sizes ≡ 2 ∷ [] }
+    ensures whole { All (λ s. IsWhole (2 ∷ []) s.desk.desk) slots.new.items }
+    ensures count { vec_len slots.new ≡ threads }
+{
+    let mut share = share;
+    'slots: for _ in 1..threads {
+        let part = share.split_off(1, 0);
+        slots.push_reserved(slot_of(alloc, shared, part));
+    }
+    slots.push_reserved(slot_of(alloc, shared, share));
+}
+
+// The work of one thread.
+fn serve_slot<L: SiteName, R: Wait>(
+    alloc: Global,
+    site: &DrillSite,
+    plan: Plan,
+    number: usize,
+    slot: &mut Slot<'_, '_, L, R>,
+)
+    requires few { number < MAX_THREADS }
+    requires whole { IsWhole (2 ∷ []) slot.old.desk.desk }
+    ensures whole { IsWhole (2 ∷ []) slot.new.desk.desk }
+{
+    let served = serve_thread(alloc, site, plan, number as u32, &mut slot.desk);
+    slot.made = served.is_ok();
+}
+
+// A thread for each slot.
+fn serve_slots<'s, 'r, L: SiteName + Send + Sync, R: Threads + Wait + Sync>(
+    rt: &R,
+    alloc: Global,
+    site: &DrillSite,
+    plan: Plan,
+    slots: &mut [Slot<'s, 'r, L, R>],
+)
+    requires few { length slots.old ≤ MAX_THREADS }
+    requires whole { All (λ s. IsWhole (2 ∷ []) s.desk.desk) slots.old }
+    ensures whole { (i : ℕ) (d : _) → i < length slots.old → IsWhole (2 ∷ []) (slice_index_or slots.new i d).desk.desk }
+    ensures len { length slots.new ≡ length slots.old }
+{
+    let count = slots.len().max(1);
+    thread::for_each_mut(
+        rt,
+        slots,
+        count,
+        &|number: usize, slot: &mut Slot<L, R>|
+            requires few { number < MAX_THREADS }
+            requires whole { IsWhole (2 ∷ []) slot.old.desk.desk }
+            ensures { IsWhole (2 ∷ []) slot.new.desk.desk }
+        {
+            serve_slot(alloc, site, plan, number, slot);
+        },
+    );
+}
+
+// Takes slots apart, and says whether each thread made all its requests.
+fn empty_slots<'s, 'r, L: SiteName, R>(
+    slots: Vec<Slot<'s, 'r, L, R>>,
+    leaving: &mut Vec<Leaving<L, MemShelf>>,
+) -> bool
+    requires whole { All (λ s. IsWhole (2 ∷ []) s.desk.desk) slots.items }
+    requires none { leaving.old.items ≡ [] }
+    requires room { vec_len slots ≤ vec_capacity leaving.old }
+    ensures parts { sum_by (λ l. l.share.parts) leaving.new.items ≡ vec_len slots.entry }
+    ensures count { length leaving.new.items ≡ vec_len slots.entry }
+    ensures none_forgot { All (λ l. l.forgotten ≡ 0) leaving.new.items }
+{
+    let mut made = true;
+    'slots: for slot in slots {
+        let Slot {
+            desk,
+            made: made_here,
+        } = slot;
+        made = made && made_here;
+        leaving.push_reserved(desk.leave());
+    }
+    made
+}
+
+/// Makes all requests, those of each thread over a desk of its own, and has the desks leave.
+pub(crate) fn serve_all<'s, 'r, L: SiteName + Send + Sync, R: Threads + Wait + Sync>(
+    rt: &R,
+    alloc: Global,
+    site: &DrillSite,
+    plan: Plan,
+    shared: &'s SharedSite<'r, L, R>,
+    share: Share<L>,
+) -> Result<LeavingList<L, MemShelf>, NoMemory>
+    requires parts { share.parts ≡ plan.threads }
+    requires amount { share.amount ≡ 0 }
+    requires sizes { L.sizes ≡ 2 ∷ [] }
+    ensures parts { IfOk result (λ left. sum_by (λ l. l.share.parts) left ≡ plan.threads) }
+    ensures some { IfOk result (λ left. 0 < length left) }
+    ensures none_forgot { IfOk result (λ left. All (λ l. l.forgotten ≡ 0) left) }
+{
+    let count = plan.threads as usize;
+    let mut slots = Vec::with_capacity(alloc, count)?;
+    let mut leaving = Vec::with_capacity(alloc, count)?;
+    fill_slots(alloc, &mut slots, shared, share, plan.threads);
+    serve_slots(rt, alloc, site, plan, slots.as_mut_slice());
+    if empty_slots(slots, &mut leaving) {
+        Ok(LeavingList::from_vec(leaving))
+    } else {
+        Err(NoMemory)
+    }
+}
