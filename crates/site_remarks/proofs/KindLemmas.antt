@@ -1,0 +1,29 @@
+-- One worker more in a table of types.
+use Rattle.std.proofs.Common.{◌≡◌, ℕ, ◌+◌, ◌<◌, Bool, true, false, List, [], ◌∷◌, ◌++◌, Bor, Option, Some, None, length, take, get_or, refl, sym, ◌∙◌, ap, cond}
+use Rattle.std.proofs.lemmas.List.{map-append, take_more}
+use Rattle.std.specs.Map.{update}
+use Rattle.std.specs.Str.{bytes_eq}
+use Rattle.property_lines.specs.declared.values.Kind.{Kind}
+use Rattle.worker_props.specs.Given.{or_else}
+use Rattle.site_remarks.specs.KindTables.{as_kinds}
+use Rattle.site_remarks.specs.Notices.{kind_among}
+
+-- the last one is found first
+kind_among-snoc : (name : List ℕ) (kinds : List (List ℕ × Kind)) (entry : List ℕ × Kind)
+    → kind_among name (kinds ++ entry ∷ []) ≡ cond (bytes_eq entry.0 name) (Some entry.1) (kind_among name kinds)
+kind_among-snoc name [] entry = refl
+kind_among-snoc name (other ∷ kinds) entry = rw (kind_among-snoc name kinds entry) (by_test (bytes_eq entry.0 name))
+  where
+    by_test : (t : Bool) → or_else (cond t (Some entry.1) (kind_among name kinds)) (cond (bytes_eq other.0 name) (Some other.1) None)
+        ≡ cond t (Some entry.1) (or_else (kind_among name kinds) (cond (bytes_eq other.0 name) (Some other.1) None))
+    by_test true = refl
+    by_test false = refl
+
+pub kind_put : (found : List ℕ → Option Kind) (name : List ℕ) (kinds : List (List ℕ × Kind)) (entry : List ℕ × Kind) → found name ≡ kind_among name kinds
+    → update bytes_eq found entry.0 (Some entry.1) name ≡ kind_among name (kinds ++ entry ∷ [])
+kind_put found name kinds entry before = ap (λ (o : Option Kind). cond (bytes_eq entry.0 name) (Some entry.1) o) before ∙ sym (kind_among-snoc name kinds entry)
+
+-- the workers up to the next one
+pub kinds_more : (kinds : List (Bor (List ℕ) × Kind)) (i : ℕ) (d : Bor (List ℕ) × Kind) → i < length kinds
+    → as_kinds (take (i + 1) kinds) ≡ as_kinds (take i kinds) ++ ((get_or kinds i d).0.now, (get_or kinds i d).1) ∷ []
+kinds_more kinds i d h = rw (take_more kinds i d h, map-append) refl

@@ -1,0 +1,7 @@
+pub mod Again
+pub mod Explained
+pub mod KindTables
+pub mod MapNotices
+pub mod Notices
+pub mod Remarks
+pub mod Wanted

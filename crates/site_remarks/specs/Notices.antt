@@ -1,0 +1,110 @@
+-- What a site of mod_jk would expect to have effect and hasn't: a line for each such line of a workers.properties.
+use Rattle.std.specs.Prelude.{ℕ, Bool, true, false, List, [], ◌∷◌, ◌++◌, Option, Some, None, codes, is_some, map, slice_get, if◌then◌else◌, ◌||◌}
+use Rattle.std.specs.List.{flat_map}
+use Rattle.std.specs.Str.{bytes_eq}
+use Rattle.property_lines.specs.declared.directive.Directive.{Directive}
+use Rattle.property_lines.specs.declared.directive.Directive.TheVariants as directive
+use Rattle.property_lines.specs.declared.property.Property.{Property}
+use Rattle.property_lines.specs.declared.values.Kind.{Kind}
+use Rattle.property_lines.specs.declared.values.Kind.TheVariants as kind
+use Rattle.property_lines.specs.Directives.{behind_worker, directive_of, list_key, maintain_key, worker_part}
+use Rattle.site_config.specs.declared.balancer.Lb.{Lb}
+use Rattle.site_config.specs.declared.config.Config.{Config}
+use Rattle.site_config.specs.declared.config.Named.{Named}
+use Rattle.site_config.specs.declared.config.Named.TheVariants as named
+use Rattle.worker_props.specs.Given.{or_else}
+use Rattle.site_remarks.specs.Again.{is_again}
+use Rattle.site_remarks.specs.Explained.{said_of}
+
+-- a balancer that was made of one listed worker is of type ajp13
+abbrev pub balancer_kind : Option Lb → Kind
+balancer_kind None = kind.Lb
+balancer_kind (Some lb) = if lb.book.direct then kind.Ajp13 else kind.Lb
+
+abbrev pub listed_kind : List Lb → Named → Kind
+listed_kind lbs (named.Status i) = kind.Status
+listed_kind lbs (named.Balancer i) = balancer_kind (slice_get lbs i)
+
+abbrev pub member_kinds : Lb → List (List ℕ × Kind)
+member_kinds lb = map (λ m. (m.name, kind.Ajp13)) lb.book.members
+
+-- the workers of a configuration with their types: the members of each balancer, then those that are listed
+abbrev pub kinds_of : Config → List (List ℕ × Kind)
+kinds_of c = flat_map member_kinds c.lbs ++ map (λ entry. (entry.0, listed_kind c.lbs entry.1)) c.listed
+
+-- the type of a worker of this name; of one that stands there twice the last one counts
+abbrev pub kind_among : List ℕ → List (List ℕ × Kind) → Option Kind
+kind_among name [] = None
+kind_among name (entry ∷ kinds) = or_else (kind_among name kinds) (if bytes_eq entry.0 name then Some entry.1 else None)
+
+-- the type of worker that a directive is of; `type` and `reference` are of each
+abbrev pub owner_of : Directive → Option Kind
+owner_of directive.Kind = None
+owner_of directive.Reference = None
+owner_of directive.BalanceWorkers = Some kind.Lb
+owner_of directive.Method = Some kind.Lb
+owner_of directive.Sticky = Some kind.Lb
+owner_of directive.Force = Some kind.Lb
+owner_of directive.RecoverTime = Some kind.Lb
+owner_of directive.Cookie = Some kind.Lb
+owner_of directive.Path = Some kind.Lb
+owner_of directive.ReadOnly = Some kind.Status
+owner_of d = Some kind.Ajp13
+
+-- what is said of a directive of the first type at a worker of the second
+abbrev pub misplaced : Kind → Kind → Option (List ℕ)
+misplaced kind.Ajp13 kind.Ajp13 = None
+misplaced kind.Lb kind.Lb = None
+misplaced kind.Status kind.Status = None
+misplaced of kind.Ajp13 = Some (codes " has no effect on a worker of type ajp13")
+misplaced of kind.Lb = Some (codes " has no effect on a worker of type lb")
+misplaced of kind.Status = Some (codes " has no effect on a worker of type status")
+
+abbrev pub misplaced_at : Option Kind → Option Kind → Option (List ℕ)
+misplaced_at None at = None
+misplaced_at (Some of) None = None
+misplaced_at (Some of) (Some at) = misplaced of at
+
+-- what is said of a directive at a worker of this type, or at one that has no part in the configuration
+abbrev pub directive_words : Option Directive → Option Kind → Option (List ℕ)
+directive_words None at = Some (codes " is not supported and has no effect")
+directive_words (Some d) at = misplaced_at (owner_of d) at
+
+-- what is said of a key that gives no worker a directive
+abbrev pub key_words : List ℕ → Option (List ℕ)
+key_words key =
+    if bytes_eq key list_key || bytes_eq key maintain_key then None
+    else (if is_some (behind_worker key) then Some (codes " names no directive and has no effect")
+    else Some (codes " does not begin with worker. and has no effect"))
+
+abbrev pub words_with : List (List ℕ × Kind) → List ℕ → Option (List ℕ × List ℕ) → Option (List ℕ)
+words_with kinds key None = key_words key
+words_with kinds key (Some parts) = directive_words (directive_of parts.1) (kind_among parts.0 kinds)
+
+-- what is said of a key, if it has no effect
+abbrev pub words_of : List (List ℕ × Kind) → List ℕ → Option (List ℕ)
+words_of kinds key = words_with kinds key (worker_part key)
+
+-- what is said of a line that a later one replaces
+abbrev pub again_words : (again : Bool) → Option (List ℕ)
+again_words true = Some (codes " has no effect, since a later line gives it again")
+again_words false = None
+
+abbrev pub or_again : Option (List ℕ) → (again : Bool) → Option (List ℕ)
+or_again None again = again_words again
+or_again (Some words) again = Some words
+
+-- what is said of one of these lines, if it has no effect
+abbrev pub words_at : List (List ℕ × Kind) → List Property → Property → Option (List ℕ)
+words_at kinds ps p = or_again (words_of kinds p.key) (is_again ps p)
+
+abbrev pub notice_with : (file : List ℕ) → ℕ → List ℕ → Option (List ℕ) → List ℕ
+notice_with file line key None = []
+notice_with file line key (Some words) = said_of file line (key ++ words)
+
+-- the notice of one of these lines
+abbrev pub notice : (file : List ℕ) → List (List ℕ × Kind) → List Property → Property → List ℕ
+notice file kinds ps p = notice_with file p.line p.key (words_at kinds ps p)
+
+abbrev pub notices : (file : List ℕ) → List (List ℕ × Kind) → List Property → List ℕ
+notices file kinds ps = flat_map (notice file kinds ps) ps

@@ -1,0 +1,57 @@
+-- What a person reads of a site's files on standard error: of the first refusal the line as it stands and what is wrong
+-- with it, and of files that are accepted, where it is asked for, what has no effect. A file is its name and its text.
+use Rattle.std.specs.Prelude.{◌≡◌, ◌≤◌, ℕ, Bool, true, false, List, [], ◌++◌, ◌⊎◌, Option, Some, None, IfSome, Result, Ok, Err, length}
+use Rattle.std.specs.Option.{option_map}
+use Rattle.jk_io.specs.declared.whole_input.TheConstants.{MAX_INPUT_BYTES}
+use Rattle.property_lines.specs.Properties as properties
+use Rattle.property_lines.specs.Refusals.{Refusal}
+use Rattle.property_lines.specs.declared.property.Property.{Property}
+use Rattle.site_config.specs.declared.config.Config.{Config}
+use Rattle.site_remarks.specs.declared.site_file.SiteFile.{SiteFile}
+use Rattle.site_remarks.specs.declared.site_file.SiteFiles.{SiteFiles}
+use Rattle.site_remarks.specs.Explained.{explained_map, explained_workers}
+use Rattle.site_remarks.specs.MapNotices.{map_notices}
+use Rattle.site_remarks.specs.Notices.{kinds_of, notices}
+use Rattle.uri_map.specs.Lines.{read_text}
+use Rattle.uri_map.specs.declared.rule.Rule.{Rule}
+use Rattle.worker_props.specs.Site.{IsConfig, IsRefused}
+
+-- of the lines of a workers.properties that gives this configuration
+abbrev pub workers_remarks : (effects : Bool) → (file : List ℕ) → Config → List Property → List ℕ
+workers_remarks true file c ps = notices file (kinds_of c) ps
+workers_remarks false file c ps = []
+
+abbrev pub rules_remarks : (effects : Bool) → Config → List ℕ × List ℕ → Result (List Rule) Refusal → List ℕ
+rules_remarks effects c map (Err r) = explained_map map.0 map.1 r
+rules_remarks true c map (Ok rules) = map_notices map.0 (kinds_of c) map.1
+rules_remarks false c map (Ok rules) = []
+
+-- of a map, where there is one
+abbrev pub map_remarks : (effects : Bool) → Config → Option (List ℕ × List ℕ) → List ℕ
+map_remarks effects c None = []
+map_remarks effects c (Some map) = rules_remarks effects c map (read_text c map.1)
+
+-- of both files: why the first that is refused is, and what of those that are accepted has no effect
+abbrev pub AreRemarks : (effects : Bool) → (workers : List ℕ × List ℕ) → (map : Option (List ℕ × List ℕ)) → (out : List ℕ) → Type 0
+AreRemarks effects workers map out =
+    ((r : Refusal) × IsRefused workers.1 r × (out ≡ explained_workers workers.0 workers.1 r))
+    ⊎ ((c : Config) × IsConfig workers.1 c × (ps : List Property) × (properties.read_text true workers.1 ≡ Ok ps)
+    × (out ≡ workers_remarks effects workers.0 c ps ++ map_remarks effects c map))
+
+-- a file's name and text
+abbrev pub as_file : SiteFile → List ℕ × List ℕ
+as_file file = (file.name.now, file.text.now)
+
+abbrev pub maps_of : SiteFiles → Option (List ℕ × List ℕ)
+maps_of files = option_map as_file files.map
+
+-- the remarks are added to what stood there
+abbrev pub AddsRemarks : (effects : Bool) → SiteFiles → (old new : List ℕ) → Type 0
+AddsRemarks effects files old new = (said : List ℕ) × (new ≡ old ++ said) × AreRemarks effects (as_file files.workers) (maps_of files) said
+
+-- the text is one that a command takes
+abbrev pub IsShort : SiteFile → Type 0
+IsShort file = length file.text.now ≤ MAX_INPUT_BYTES
+
+abbrev pub AreShort : SiteFiles → Type 0
+AreShort files = IsShort files.workers × IfSome files.map IsShort

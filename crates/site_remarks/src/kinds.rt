@@ -1,0 +1,97 @@
+//! The workers of a configuration with their types.
+ghost use Rattle.std.specs.Prelude.{◌≡◌, ◌∷◌, ◌++◌, [], ℕ, List, map, IfOk, OnOk};
+ghost use Rattle.property_lines.specs.declared.values.Kind.{Kind as AnyKind};
+ghost use Rattle.std.specs.List.{flat_map};
+ghost use Rattle.site_remarks.specs.KindTables.{as_kinds, IsKindTable};
+ghost use Rattle.site_remarks.specs.Notices.{balancer_kind, kinds_of, listed_kind, member_kinds};
+
+use jk_io::NoMemory;
+use property_lines::Kind;
+use site_config::{Config, Lb, Named};
+use std::alloc::Global;
+use std::collections::HashMap;
+
+/// Names of workers, each with its type.
+type Kinds<'c> = Vec<(&'c [u8], Kind)>;
+
+/// The same, found by name.
+pub(crate) type KindTable<'c> = HashMap<&'c [u8], Kind>;
+
+/// What a listed name is.
+fn listed_kind(lbs: &[Lb], named: Named) -> Kind
+    ensures { result ≡ listed_kind lbs.now named }
+{
+    match named {
+        Named::Status(_) => Kind::Status,
+        Named::Balancer(place) => match lbs.get(place as usize) {
+            Some(lb) if lb.book.direct => Kind::Ajp13,
+            Some(_) => Kind::Lb,
+            None => Kind::Lb,
+        },
+    }
+}
+
+fn push_listed<'c>(out: &mut Kinds<'c>, config: &'c Config) -> Result<(), NoMemory>
+    ensures { OnOk result (as_kinds out.new.items
+        ≡ as_kinds out.old.items ++ map (λ entry. (entry.0, listed_kind config.now.lbs entry.1)) config.now.listed) }
+{
+    for entry in config.listed.as_slice() {
+        let kind = listed_kind(config.lbs.as_slice(), entry.1);
+        out.push((entry.0.as_slice(), kind))?;
+    }
+    Ok(())
+}
+
+fn push_members<'c>(out: &mut Kinds<'c>, lb: &'c Lb) -> Result<(), NoMemory>
+    ensures { OnOk result (as_kinds out.new.items ≡ as_kinds out.old.items ++ member_kinds lb.now) }
+{
+    for member in lb.book.members.as_slice() {
+        out.push((member.name.as_slice(), Kind::Ajp13))?;
+    }
+    Ok(())
+}
+
+fn push_all_members<'c>(out: &mut Kinds<'c>, lbs: &'c [Lb]) -> Result<(), NoMemory>
+    ensures { OnOk result (as_kinds out.new.items ≡ as_kinds out.old.items ++ flat_map member_kinds lbs.now) }
+{
+    for lb in lbs {
+        push_members(out, lb)?;
+    }
+    Ok(())
+}
+
+fn kinds_of<'c>(alloc: Global, config: &'c Config) -> Result<Kinds<'c>, NoMemory>
+    ensures { IfOk result (λ kinds. as_kinds kinds.items ≡ kinds_of config.now) }
+{
+    let mut out = Vec::new(alloc);
+    push_all_members(&mut out, config.lbs.as_slice())?;
+    push_listed(&mut out, config)?;
+    Ok(out)
+}
+
+/// Puts a worker into the table of those before it.
+fn put_kind<'c>(table: &mut KindTable<'c>, name: &'c [u8], kind: Kind) -> Result<(), NoMemory>
+    ensures { (kinds : List (List ℕ × AnyKind)) → IsKindTable table.old kinds
+        → OnOk result (IsKindTable table.new (kinds ++ (name.now, kind) ∷ [])) }
+{
+    table.insert(name, kind)?;
+    Ok(())
+}
+
+/// The type of each name; of a name that stands there twice the last one counts.
+fn table_of<'c>(alloc: Global, kinds: &[(&'c [u8], Kind)]) -> Result<KindTable<'c>, NoMemory>
+    ensures { IfOk result (λ table. IsKindTable table (as_kinds kinds.now)) }
+{
+    let mut table = HashMap::new(alloc);
+    for entry in kinds {
+        put_kind(&mut table, entry.0, entry.1)?;
+    }
+    Ok(table)
+}
+
+/// The types of a configuration's workers, by their names.
+pub(crate) fn kind_table<'c>(alloc: Global, config: &'c Config) -> Result<KindTable<'c>, NoMemory>
+    ensures { IfOk result (λ table. IsKindTable table (kinds_of config.now)) }
+{
+    table_of(alloc, kinds_of(alloc, config)?.as_slice())
+}

@@ -1,0 +1,19 @@
+//! What a person is told of a site's files: why a line is refused, and which lines have no effect.
+//!
+//! Source: own rules (docs/FORMATS.md, "What a person is told"); which directives mod_jk has an effect for is its reference's,
+//! "workers.properties" and "uriworkermap.properties".
+//! Contract: `site_remarks`. Read first: specs/Remarks.antt, then specs/Explained.antt, Notices.antt and MapNotices.antt.
+//! Errors: want of memory alone.
+#![tactic(auto)]
+
+mod again;
+mod explain;
+mod kinds;
+mod map_notices;
+mod notices;
+mod remarks;
+mod site_file;
+mod wanted;
+
+pub use remarks::site_remarks;
+pub use site_file::{SiteFile, SiteFiles};

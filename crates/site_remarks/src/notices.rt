@@ -1,0 +1,165 @@
+//! What a site of mod_jk would expect to have effect, and hasn't.
+ghost use Rattle.std.specs.Prelude.{◌≡◌, ◌++◌, ℕ, List, OnOk};
+ghost use Rattle.std.specs.Option.{option_map};
+ghost use Rattle.std.specs.List.{flat_map};
+ghost use Rattle.property_lines.specs.declared.values.Kind.{Kind};
+ghost use Rattle.property_lines.specs.declared.property.Property.{Property};
+ghost use Rattle.property_lines.specs.Entries.{as_property, as_properties};
+ghost use Rattle.site_remarks.specs.KindTables.{AreTables, IsKindTable};
+ghost use Rattle.site_remarks.specs.Notices.{again_words, directive_words, key_words, misplaced, notice, notice_with, owner_of, words_at, words_of};
+
+use crate::again::{LineTable, is_again};
+use crate::explain::{FileLine, put_said};
+use crate::kinds::KindTable;
+use jk_io::{Bytes, NoMemory};
+use property_lines::{
+    Directive, Entry, Kind, behind_worker, directive_of, is_list_key, is_maintain_key, worker_part,
+};
+
+/// The types of a configuration's workers, and the last line of each key.
+#[derive(Clone, Copy)]
+pub(crate) struct LineTables<'a> {
+    pub(crate) kinds: &'a KindTable<'a>,
+    pub(crate) lines: &'a LineTable<'a>,
+}
+
+/// The type of worker that a directive is of; none where it is of each.
+fn owner_of(directive: Directive) -> Option<Kind>
+    ensures { result ≡ owner_of directive }
+{
+    match directive {
+        Directive::Kind | Directive::Reference => None,
+        Directive::BalanceWorkers
+        | Directive::Method
+        | Directive::Sticky
+        | Directive::Force
+        | Directive::RecoverTime
+        | Directive::Cookie
+        | Directive::Path => Some(Kind::Lb),
+        Directive::ReadOnly => Some(Kind::Status),
+        Directive::Host
+        | Directive::Port
+        | Directive::Factor
+        | Directive::Distance
+        | Directive::Route
+        | Directive::Redirect
+        | Directive::Activation
+        | Directive::PoolSize
+        | Directive::Retries
+        | Directive::PacketSize
+        | Directive::Secret
+        | Directive::PingMode
+        | Directive::RecoveryOptions
+        | Directive::FailOnStatus => Some(Kind::Ajp13),
+    }
+}
+
+/// What is said of a directive of the first type at a worker of the second.
+fn misplaced(of: Kind, at: Kind) -> Option<&'static [u8]>
+    ensures { option_map (λ t. t.now) result ≡ misplaced of at }
+{
+    match (of, at) {
+        (Kind::Ajp13, Kind::Ajp13) => None,
+        (Kind::Ajp13, Kind::Lb) => Some(b" has no effect on a worker of type lb"),
+        (Kind::Ajp13, Kind::Status) => Some(b" has no effect on a worker of type status"),
+        (Kind::Lb, Kind::Ajp13) => Some(b" has no effect on a worker of type ajp13"),
+        (Kind::Lb, Kind::Lb) => None,
+        (Kind::Lb, Kind::Status) => Some(b" has no effect on a worker of type status"),
+        (Kind::Status, Kind::Ajp13) => Some(b" has no effect on a worker of type ajp13"),
+        (Kind::Status, Kind::Lb) => Some(b" has no effect on a worker of type lb"),
+        (Kind::Status, Kind::Status) => None,
+    }
+}
+
+/// What is said of a directive at a worker of this type.
+fn directive_words(directive: Option<Directive>, at: Option<Kind>) -> Option<&'static [u8]>
+    ensures { option_map (λ t. t.now) result ≡ directive_words directive at }
+{
+    match directive {
+        None => Some(b" is not supported and has no effect"),
+        Some(directive) => misplaced(owner_of(directive)?, at?),
+    }
+}
+
+/// What is said of a key that gives no worker a directive.
+fn key_words(key: &[u8]) -> Option<&'static [u8]>
+    ensures { option_map (λ t. t.now) result ≡ key_words key.now }
+{
+    if is_list_key(key) || is_maintain_key(key) {
+        None
+    } else if behind_worker(key).is_some() {
+        Some(b" names no directive and has no effect")
+    } else {
+        Some(b" does not begin with worker. and has no effect")
+    }
+}
+
+/// What is said of a key, if it has no effect.
+fn words_of(table: &KindTable<'_>, key: &[u8]) -> Option<&'static [u8]>
+    ensures { (kinds : List (List ℕ × Kind)) → IsKindTable table.now kinds
+        → option_map (λ t. t.now) result ≡ words_of kinds key.now }
+{
+    match worker_part(key) {
+        None => key_words(key),
+        Some((name, text)) => directive_words(directive_of(text), table.get(name).copied()),
+    }
+}
+
+/// What is said of a line that a later one replaces.
+fn again_words(again: bool) -> Option<&'static [u8]>
+    ensures { option_map (λ t. t.now) result ≡ again_words again }
+{
+    if again {
+        Some(b" has no effect, since a later line gives it again")
+    } else {
+        None
+    }
+}
+
+/// What is said of a line, if it has no effect.
+fn words_at(tables: &LineTables<'_>, entry: &Entry<'_>) -> Option<&'static [u8]>
+    ensures { (kinds : List (List ℕ × Kind)) → (ps : List Property) → AreTables tables.now.kinds.now tables.now.lines.now kinds ps
+        → option_map (λ t. t.now) result ≡ words_at kinds ps (as_property entry.now) }
+{
+    match words_of(tables.kinds, entry.key) {
+        Some(words) => Some(words),
+        None => again_words(is_again(tables.lines, entry)),
+    }
+}
+
+fn put_words(
+    out: &mut Bytes,
+    at: FileLine<'_>,
+    key: &[u8],
+    words: Option<&[u8]>,
+) -> Result<(), NoMemory>
+    ensures { OnOk result (out.new ≡ out.old
+        ++ notice_with at.entry.file.now at.entry.line key.now (option_map (λ t. t.now) words.entry)) }
+{
+    match words {
+        None => Ok(()),
+        Some(words) => put_said(out, at, key, words),
+    }
+}
+
+/// Adds a line for each line of a workers.properties that has no effect: a key that doesn't begin with `worker.`, one that
+/// names no directive, a directive that isn't supported, one of another type of worker, and one that a later line gives
+/// again.
+pub(crate) fn put_notices(
+    out: &mut Bytes,
+    tables: &LineTables<'_>,
+    file: &[u8],
+    entries: &[Entry<'_>],
+) -> Result<(), NoMemory>
+    ensures { (kinds : List (List ℕ × Kind)) → (ps : List Property) → AreTables tables.now.kinds.now tables.now.lines.now kinds ps
+        → OnOk result (out.new ≡ out.old ++ flat_map (notice file.now kinds ps) (as_properties entries.now)) }
+{
+    for entry in entries {
+        let at = FileLine {
+            file,
+            line: entry.line,
+        };
+        put_words(out, at, entry.key, words_at(tables, entry))?;
+    }
+    Ok(())
+}
