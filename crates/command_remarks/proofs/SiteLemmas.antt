@@ -1,0 +1,19 @@
+-- What is told of a site, by the first of the files that were read and those after it.
+use Rattle.std.proofs.Common.{◌≡◌, ℕ, ◌-◌, ◌≤◌, Bool, List, [], ◌∷◌, Option, Some, Result, Ok, Err, IfOk, length, take, drop, get_or, arith, sym, subst, ◌∙◌, ap}
+use Rattle.std.proofs.lemmas.List.{take_all}
+use Rattle.command_remarks.specs.declared.kept_files.ReadFile.{ReadFile}
+use Rattle.command_remarks.specs.Told.{AreSaid, SaysSite, map_among, text_of}
+use Rattle.site_remarks.specs.Remarks.{AreRemarks}
+
+-- what is told of the first file's text and the next one's is told of the site
+pub says_site : {E : Type 0} (effects : Bool) (reads : List ReadFile) (first : ReadFile) (workers : List ℕ × List ℕ) (map : Option (List ℕ × List ℕ)) (result : Result (List ℕ) E)
+    → 1 ≤ length reads → first ≡ get_or reads 0 first → text_of first ≡ Some workers → map ≡ map_among (take (length reads - 1) (drop 1 reads))
+    → IfOk result (AreRemarks effects workers map) → IfOk result (SaysSite effects reads)
+says_site effects [] first workers map result some is text same said = absurd (omega arith)
+says_site effects (read ∷ reads) first workers map (Err e) some is text same said = tt
+says_site effects (read ∷ reads) first workers map (Ok out) some is text same said =
+    let it : first ≡ read = is in
+    let found : text_of read ≡ Some workers = subst (λ (f : ReadFile). text_of f ≡ Some workers) it text in
+    let rest : map ≡ map_among reads = same ∙ ap map_among (take_all (length (read ∷ reads) - 1) reads (omega arith)) in
+    subst (λ (m : Option (List ℕ × List ℕ)). AreSaid effects (text_of read) m out) rest
+    (subst (λ (w : Option (List ℕ × List ℕ)). AreSaid effects w map out) (sym found) said)

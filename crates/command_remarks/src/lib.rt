@@ -1,0 +1,22 @@
+//! What a person is told of a command that ended: the word, the file or the line at fault, and what has no effect.
+//!
+//! Source: own rules (docs/FORMATS.md, "What a person is told").
+//! Shapes: `KeptFiles` and `CountedInput` go round the files and the input of a command, and `remarks_on` is called once it
+//! ended. Nothing here changes what the command reads, writes or answers.
+//! Contract: `remarks_on`, a clause for each status; `KeptFiles` and `CountedInput` are read as what they go round. Read first:
+//! specs/Told.antt.
+//! Errors: want of memory alone.
+#![tactic(auto)]
+
+mod counted_input;
+mod kept_files;
+mod last_read;
+mod remarks;
+mod site;
+mod values;
+mod words;
+
+pub use counted_input::{CountedInput, InputSeen};
+pub use kept_files::{KeptFiles, ReadFile};
+pub use last_read::unread_file;
+pub use remarks::{Ended, remarks_on};

@@ -1,0 +1,69 @@
+//! What is told where the words are no command.
+use crate::values::said_of_values;
+use clap::Error;
+use clap::error::ErrorKind;
+use jk_cli::{CommandName, command, command_of};
+use jk_io::{Bytes, NoMemory};
+use std::alloc::Global;
+use std::str;
+
+/// The words as a shell gives them, the program's name first.
+fn line_of<'w>(alloc: Global, words: &'w [Bytes]) -> Result<Vec<&'w str>, NoMemory> {
+    let mut line = Vec::new(alloc);
+    line.push("jkd")?;
+    for word in words {
+        line.push(str::from_utf8(word.as_slice()).unwrap_or(""))?;
+    }
+    Ok(line)
+}
+
+/// The first paragraph of a text.
+fn paragraph(text: &str) -> &str {
+    match text.split_once("\n\n") {
+        Some((first, _)) => first,
+        None => text,
+    }
+}
+
+fn first_paragraph(alloc: Global, text: &str) -> Result<String, NoMemory> {
+    Ok(String::from_str(alloc, paragraph(text))?)
+}
+
+/// What the parser of the help says, which names the word at fault.
+fn said_by_parser(alloc: Global, error: &Error) -> Result<String, NoMemory> {
+    match error.kind() {
+        ErrorKind::OutOfMemory => Err(NoMemory),
+        _ => first_paragraph(alloc, format!(in alloc; "{error}")?.as_str()),
+    }
+}
+
+fn parsed(alloc: Global, line: &[&str]) -> Result<String, NoMemory> {
+    match command(alloc)?.try_get_matches_from(line) {
+        Ok(matches) => said_of_values(alloc, &matches),
+        Err(error) => said_by_parser(alloc, &error),
+    }
+}
+
+/// What is told of a command that isn't done.
+fn put_undone(out: &mut Bytes, command: CommandName, words: &[Bytes]) -> Result<(), NoMemory> {
+    match command {
+        CommandName::Serve => {
+            out.extend(b"error: this jkd does not do the options --watch and --log of serve")
+        }
+        _ => {
+            out.extend(b"error: this jkd does not do the command ")?;
+            out.extend(words.first().map_or(b"".as_slice(), |word| word.as_slice()))
+        }
+    }
+}
+
+/// What is wrong with words that are no command, or are one that isn't done.
+pub(crate) fn said_of_words(alloc: Global, words: &[Bytes]) -> Result<Bytes, NoMemory> {
+    let mut said = Bytes::new(alloc);
+    match command_of(words) {
+        Some(command) => put_undone(&mut said, command, words)?,
+        None => said.extend(parsed(alloc, line_of(alloc, words)?.as_slice())?.as_bytes())?,
+    }
+    said.push(b'\n')?;
+    Ok(said)
+}
