@@ -7,13 +7,16 @@
 //! Errors: the statuses 1 to 7, each with its cause.
 #![tactic(auto)]
 
+mod telling;
 mod words;
 
+use command_remarks::{CountedInput, KeptFiles};
 use jk_cli::{Order, read_words as read_order};
 use jk_io::{Bytes, IoError, NoMemory, RealFiles, Sink, StdIn, StdOut, write_all};
 use plain_commands::{USAGE, asked_text};
 use serving_commands::run_jkd;
 use std::process::ExitCode;
+use telling::tell;
 use words::{WordsError, read_words};
 use worker_gears::RealWorld;
 
@@ -52,7 +55,10 @@ fn ended<R: Eprint>(rt: &R, status: u8) -> ExitCode {
 fn main(rt: HostRuntime) -> ExitCode {
     let words = match read_words(&rt) {
         Ok(words) => words,
-        Err(WordsError::NotText) => return ended(&rt, NO_COMMAND),
+        Err(WordsError::NotText) => {
+            let _ = eprintln!(&rt; "jkd: a word is not UTF-8");
+            return ended(&rt, NO_COMMAND);
+        }
         Err(WordsError::NoMemory) => return ended(&rt, NO_MEMORY),
     };
     match asked_text(rt.alloc(), words.as_slice()) {
@@ -60,8 +66,8 @@ fn main(rt: HostRuntime) -> ExitCode {
         Ok(Some(text)) => return ended(&rt, print_text(&mut StdOut::new(&rt), text.as_bytes())),
         Err(NoMemory) => return ended(&rt, NO_MEMORY),
     }
-    let mut files = RealFiles::new(&rt);
-    let mut input = StdIn::new(rt.reader());
+    let mut files = KeptFiles::new(rt.alloc(), RealFiles::new(&rt));
+    let mut input = CountedInput::new(StdIn::new(rt.reader()));
     let mut out = StdOut::new(&rt);
     let mut world = RealWorld::new(&rt, threads_of(&rt, words.as_slice()));
     let end = run_jkd(
@@ -76,5 +82,13 @@ fn main(rt: HostRuntime) -> ExitCode {
     if let Some(trouble) = world.trouble() {
         let _ = eprintln!(&rt; "jkd: {trouble}");
     }
+    tell(
+        &rt,
+        &mut rt.stderr(),
+        words.as_slice(),
+        end.status(),
+        files.reads(),
+        input.seen(),
+    );
     ended(&rt, end.status())
 }

@@ -15,6 +15,7 @@
 mod plain;
 mod scripts;
 mod sites;
+mod told;
 mod values;
 
 use anyhow::{Context, Result};
@@ -55,7 +56,7 @@ fn judge_file(rt: &HostRuntime, name: &str) -> Result<()> {
 }
 
 /// The files of rows.
-static FILES: [&str; 11] = [
+static FILES: [&str; 12] = [
     "scripts.txt",
     "refused.txt",
     "faults.txt",
@@ -67,6 +68,7 @@ static FILES: [&str; 11] = [
     "marks.txt",
     "dry.txt",
     "checks.txt",
+    "told.txt",
 ];
 
 fn main(rt: HostRuntime) -> Result<()> {

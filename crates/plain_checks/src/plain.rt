@@ -33,13 +33,15 @@ fn output_of(alloc: Global, row: Row<'_>) -> Result<MemLink, RowError> {
     Ok(MemLink::failing_at(alloc, Bytes::new(alloc), NumberList::new(alloc), failing)?)
 }
 
-fn input_of(alloc: Global, row: Row<'_>) -> Result<MemLink, RowError> {
+/// The input of a row.
+pub fn input_of(alloc: Global, row: Row<'_>) -> Result<MemLink, RowError> {
     let failing = row.numbers(alloc, "input-fails")?;
     let input = row.text(alloc, "input", 0)?;
     Ok(MemLink::failing_at(alloc, input, failing, NumberList::new(alloc))?)
 }
 
-fn files_of(alloc: Global, row: Row<'_>) -> Result<MemFiles, RowError> {
+/// The files of a row.
+pub fn files_of(alloc: Global, row: Row<'_>) -> Result<MemFiles, RowError> {
     let failing = row.numbers(alloc, "file-fails")?;
     let files = row.files(alloc)?;
     Ok(MemFiles::new(files, failing))

@@ -6,8 +6,10 @@
 //! `step`: what the input is as a line of a script whose members are a and b.
 //! `begin`: the balancer that the input begins with, and where it starts.
 //! `load`: how a member with this load is shown.
+//! `told`: what a person is told once the command ended.
 use crate::scripts::{tell_begun, tell_load, tell_step};
 use crate::sites::{tell_found, tell_mount, tell_properties};
+use crate::told::put_told;
 use block_rows::comparing::wants;
 use block_rows::row::{Row, RowError};
 use jk_io::{Bytes, NoMemory};
@@ -55,6 +57,7 @@ fn put_of_input(
     match kind {
         "mount" => put_mount(alloc, row, input, out),
         "find" => put_found(alloc, row, input, out),
+        "told" => put_told(alloc, row, out),
         _ => Ok(tell_of_input(alloc, kind, input, out)?),
     }
 }
