@@ -7,9 +7,11 @@ apart from the program's own code: replies and packets are put together by sessi
     python3 vectors/serving.py serving > crates/serve_checks/data/serving.txt
     python3 vectors/serving.py faults > crates/serve_checks/data/faults.txt
     python3 vectors/serving.py words > crates/serve_checks/data/words.txt
+    python3 vectors/serving.py drills > crates/serve_checks/data/drills.txt
 """
 import sys
 
+import drill
 from sessions import HI, forward, from_member, reply, request, sized
 
 SITE = "worker.list=w1\nworker.w1.retries=1\n"
@@ -20,6 +22,7 @@ WHO_TALKS = [(forward(path="/who", headers=(("Host", "h"),), host="h"), True), (
 WHO_LINK = sized(b"n1\n") * 2
 WHO_BYTES = [(0, len(sent) + len(sized(b"n1\n"))) for sent, _ in WHO_TALKS]
 GET = request()
+MOST = (1 << 64) - 1
 
 
 def spelled(data):
@@ -141,5 +144,22 @@ def words():
               files=(("--watch", SITE), ("m", MAP)), back=[journal([])])
 
 
+def drills():
+    yield Row("a drill of one request", "drill 1 1 1", out=drill.summary(1, 1).encode())
+    yield Row("its journal", "drill 1 1 1 journal", out=drill.one_journal(1).encode())
+    yield Row("a drill of eight threads", "drill 1 8 40", out=drill.summary(1, 40).encode())
+    yield Row("more threads than requests", "drill 18446744073709551615 64 3", out=drill.summary(MOST, 3).encode())
+    yield Row("a thread with more requests than a session has", "drill 7 2 2100", out=drill.summary(7, 2100).encode())
+    yield Row("the output fails", "drill 1 1 1", out=b"req", status=5, lines=["output-fails 3"])
+    for name, line in (("no seed", "drill"), ("no thread", "drill 1 0 1"), ("too many threads", "drill 1 65 1"), ("no request", "drill 1 1 0"),
+                       ("too many requests", "drill 1 1 1000001"), ("a seed of more than 64 bits", "drill 18446744073709551616 1 1"),
+                       ("another word behind", "drill 1 1 1 text"), ("a journal and passes", "drill 1 1 1 journal passes"),
+                       ("an option", "drill --clients 1 1 1 1")):
+        yield Row(f"{name} is no drill", line, status=2)
+    for name, line in (("passes", "drill 1 3 20 passes"), ("passes behind --", "drill -- 1 3 20 passes"), ("passes before --", "drill 1 3 20 passes --")):
+        yield Row(f"a drill with {name} is no command yet", line, status=2)
+    yield Row("a journal behind --", "drill 1 1 -- 1 journal", out=drill.one_journal(1).encode())
+
+
 print(f"# Made by vectors/serving.py {sys.argv[1]}. How a row is written stands in src/main.rt.\n")
-print("\n".join(row.show() for row in {"serving": serving, "faults": faults, "words": words}[sys.argv[1]]()))
+print("\n".join(row.show() for row in {"serving": serving, "faults": faults, "words": words, "drills": drills}[sys.argv[1]]()))

@@ -32,7 +32,7 @@ use std::sync::Wait;
 use std::thread::Threads;
 
 /// The files of rows.
-static FILES: [&str; 3] = ["words.txt", "serving.txt", "faults.txt"];
+static FILES: [&str; 4] = ["words.txt", "serving.txt", "faults.txt", "drills.txt"];
 
 /// How many rows there were, and how many of them came out otherwise.
 #[derive(Clone, Copy)]

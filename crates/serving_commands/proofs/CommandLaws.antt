@@ -1,5 +1,5 @@
 -- How a command that asks for workers ends.
-use Rattle.std.proofs.Common.{ℕ, ◌≡◌, ◌≢◌, ◌≤◌, ◌⊎◌, true, false, List, [], ◌∷◌, length, Option, None, Err, inl, inr, refl, sym, ◌∙◌, arith, lit≤}
+use Rattle.std.proofs.Common.{ℕ, ◌≡◌, ◌≢◌, ◌≤◌, ◌⊎◌, Bool, true, false, List, [], ◌∷◌, length, Option, None, Err, inl, inr, refl, sym, ◌∙◌, arith, lit≤}
 use Rattle.container_server.specs.declared.ends.ContainerWorker.{ContainerWorker}
 use Rattle.container_server.specs.declared.ends.ContainerWorker.TheVariants as container
 use Rattle.gear_runs.specs.declared.ends.Closing.{Closing}
@@ -13,7 +13,7 @@ use Rattle.jk_server.specs.declared.part.WorkerEnd.{WorkerEnd}
 use Rattle.jk_server.specs.declared.part.WorkerEnd.TheVariants as worker
 use Rattle.mini_container.specs.declared.app_config.AppConfig.{AppConfig}
 use Rattle.plain_commands.specs.Readings.{Outside}
-use Rattle.serving_commands.specs.Commands.{CommandSide, ContainsLinks, DoesOrder, RunsContainer, RunsSite, Serves, Unread, Refused, Served, Works, NoGear, NoRoom, Ran}
+use Rattle.serving_commands.specs.Commands.{CommandSide, ContainsLinks, DoesOrder, RunsContainer, RunsSite, Serves, Unread, Refused, Served, RunsDrill, Told, Lacked, Wanted, Works, NoGear, NoRoom, Ran, Writes}
 use Rattle.serving_commands.specs.Ends.{end_by, end_of_closing, end_of_container, end_of_run}
 use Rattle.serving_commands.specs.Words.{is_command, is_served, is_serving, IsInRange}
 use Rattle.serving_commands.specs.Worlds.{RefusesGear, Tells, WorldSide}
@@ -59,7 +59,8 @@ does_none L told outside (order.Match workers map) s served range = cc
 does_none L told outside order.Check s served range = cc
 does_none L told outside (order.Log format request reply workers map) s served range = cc
 does_none L told outside order.Follow s served range = cc
-does_none L told outside (order.Drill seed threads requests text passes) s served range = cc
+does_none L told outside (order.Drill seed threads requests text passes) s served range =
+    record { runs = Wanted (record { status = refl; written = refl }); world = refl }
 
 -- ---- the statuses of a command that asks for workers
 
@@ -113,6 +114,19 @@ serve_status told outside workers map threads clients s n ended k (Served w) e =
     inl (works_status threads (RunsSite told w.cfg w.rules threads clients) s.world n.world ended k
     (λ ran is. run_status ran.ends ran.closing k (sym ran.status ∙ is)) w.works e)
 
+written_status : {G L : Type 0} (text : List ℕ) (s n : CommandSide G) (ended : EndOf L) (k : ℕ)
+    → Writes 0 s.sent n.sent s.output_faults n.output_faults text ended → ended ≡ end.Status k → Answered s n k
+unfolding IsOfRun Answered
+written_status text s n ended k w e =
+    elim w [ inl a ↦ let status = a.1 in inl (inl cc) | inr b ↦ elim b [ inl c ↦ let status = c.1 in inr (inr (cc, c.2)) | inr d ↦ let status = d.1 in inl (inr (inr cc)) ] ]
+
+drill_status : {G L : Type 0} (seed threads requests : ℕ) (text passes : Bool) (s n : CommandSide G) (ended : EndOf L) (k : ℕ)
+    → RunsDrill seed threads requests text passes s.sent n.sent s.output_faults n.output_faults ended → ended ≡ end.Status k → Answered s n k
+unfolding IsOfRun Answered
+drill_status seed threads requests text passes s n ended k (Told w) e = written_status w.told s n ended k w.written e
+drill_status seed threads requests text passes s n ended k (Lacked w) e = let ends = w.ends in cc
+drill_status seed threads requests text passes s n ended k (Wanted w) e = let status = w.status in inl (inr (inr cc))
+
 does_status : {G C S X L : Type 0} (told : Tells G C S X) (outside : Outside) (o : Order) (s n : CommandSide G) (ended : EndOf L) (k : ℕ)
     → DoesOrder told outside o s n ended → ended ≡ end.Status k → Answered s n k
 unfolding Answered
@@ -128,7 +142,8 @@ does_status told outside (order.Match workers map) s n ended k does e = absurd d
 does_status told outside order.Check s n ended k does e = absurd does
 does_status told outside (order.Log format request reply workers map) s n ended k does e = absurd does
 does_status told outside order.Follow s n ended k does e = absurd does
-does_status told outside (order.Drill seed threads requests text passes) s n ended k does e = absurd does
+does_status told outside (order.Drill seed threads requests text passes) s n ended k does e =
+    drill_status _ _ _ _ _ s n ended k does.runs e
 
 -- it never ends with the status of words that are no command
 pub does_done : {G C S X L : Type 0} (told : Tells G C S X) (outside : Outside) (o : Order) (s n : CommandSide G) (ended : EndOf L)

@@ -1,9 +1,12 @@
--- What `serve` and `container` do with the outside, and how they end. Read this first; what a run does is in gear_runs'
+-- What `serve`, `container` and `drill` do with the outside, and how they end. Read this first; what a run does is in gear_runs'
 -- specs/Runs.antt and specs/Containers.antt, which words are which command in specs/Words.antt.
-use Rattle.std.specs.Prelude.{◌≡◌, ℕ, ◌⊎◌, List, [], length, map, Option, Some, None}
+use Rattle.std.specs.Prelude.{◌≡◌, ℕ, ◌⊎◌, Bool, List, [], length, map, Option, Some, None}
 use Rattle.std.specs.List.{All}
+use Rattle.balancer_core.specs.Journal.{Journal}
 use Rattle.client_session.specs.Requests.{visit}
 use Rattle.container_server.specs.declared.ends.ContainerWorker.{ContainerWorker}
+use Rattle.drill.specs.Ends.{IsDrill, IsDrillError}
+use Rattle.drill.specs.declared.drill_error.DrillError.{DrillError}
 use Rattle.gear_runs.specs.Containers.{IsContainerRun}
 use Rattle.gear_runs.specs.Runs.{IsRun}
 use Rattle.gear_runs.specs.declared.ends.Closing.{Closing}
@@ -86,12 +89,16 @@ pub record RunsContainer {G C S X L : Type 0} (told : Tells G C S X) (app : AppC
 
 -- ---- all that a command does
 
--- How the writing of a line that refuses ends: it was written, or a front of it.
+-- How the writing of a text ends: it was written, which gives this status, or a front of it.
+abbrev pub Writes : {L : Type 0} → (status : ℕ) → (sent sent_now : Option (List ℕ)) → (faults faults_now : ℕ) → (text : List ℕ) → EndOf L → Type 0
+Writes status sent sent_now faults faults_now text ended =
+    ((sent_now ≡ appended sent text) × (ended ≡ end.Status status))
+    ⊎ (PutsFront sent sent_now text × (ended ≡ end.Status 5) × Rose faults faults_now)
+    ⊎ (PutsFront sent sent_now text × (ended ≡ end.Status 6))
+
+-- How the writing of a line that refuses ends.
 abbrev pub WritesLine : {L : Type 0} → (sent sent_now : Option (List ℕ)) → (faults faults_now : ℕ) → (line : List ℕ) → EndOf L → Type 0
-WritesLine sent sent_now faults faults_now line ended =
-    ((sent_now ≡ appended sent line) × (ended ≡ end.Status 3))
-    ⊎ (PutsFront sent sent_now line × (ended ≡ end.Status 5) × Rose faults faults_now)
-    ⊎ (PutsFront sent sent_now line × (ended ≡ end.Status 6))
+WritesLine sent sent_now faults faults_now line ended = Writes 3 sent sent_now faults faults_now line ended
 
 -- The files are refused, and the line that `config` prints of them was written.
 pub record RefusesFiles {G L : Type 0} (outside : Outside) (workers map : List ℕ) (s n : CommandSide G) (ended : EndOf L) : Type 0 where
@@ -137,9 +144,41 @@ pub record Contains {G C S X L : Type 0} (told : Tells G C S X) (route : List �
   pub contained : ContainsLinks told route threads clients s.world n.world ended
   pub written : n.sent ≡ s.sent
 
+-- What a drill handed out was written, or a front of it.
+pub record TellsDrill {L : Type 0} (seed threads requests : ℕ) (text passes : Bool) (sent sent_now : Option (List ℕ)) (faults faults_now : ℕ) (ended : EndOf L) : Type 0 where
+  pub told : List ℕ
+  pub book : Journal
+  pub drill : IsDrill seed threads requests text passes told book
+  pub written : Writes 0 sent sent_now faults faults_now told ended
+
+-- It handed out nothing, for this reason, and nothing was written.
+pub record LacksDrill {L : Type 0} (threads requests : ℕ) (sent sent_now : Option (List ℕ)) (ended : EndOf L) : Type 0 where
+  pub error : DrillError
+  pub why : IsDrillError threads requests error
+  pub ends : ended ≡ end.Drill error
+  pub written : sent_now ≡ sent
+
+-- Memory was wanted before it began.
+pub record WantsDrill {L : Type 0} (sent sent_now : Option (List ℕ)) (ended : EndOf L) : Type 0 where
+  pub status : ended ≡ end.Status 6
+  pub written : sent_now ≡ sent
+
+-- What a drill does with the output.
+pub data RunsDrill {L : Type 0} (seed threads requests : ℕ) (text passes : Bool) (sent sent_now : Option (List ℕ)) (faults faults_now : ℕ) (ended : EndOf L) : Type 0 where
+  Told : TellsDrill seed threads requests text passes sent sent_now faults faults_now ended
+      → RunsDrill seed threads requests text passes sent sent_now faults faults_now ended
+  Lacked : LacksDrill threads requests sent sent_now ended → RunsDrill seed threads requests text passes sent sent_now faults faults_now ended
+  Wanted : WantsDrill sent sent_now ended → RunsDrill seed threads requests text passes sent sent_now faults faults_now ended
+
+-- `drill SEED THREADS REQUESTS`, or these and `journal` or `passes`. The world isn't asked.
+pub record Drills {G L : Type 0} (seed threads requests : ℕ) (text passes : Bool) (s n : CommandSide G) (ended : EndOf L) : Type 0 where
+  pub runs : RunsDrill seed threads requests text passes s.sent n.sent s.output_faults n.output_faults ended
+  pub world : n.world ≡ s.world
+
 -- What an order that asks for workers does.
 abbrev pub DoesOrder : {G C S X L : Type 0} → Tells G C S X → Outside → Order → (s n : CommandSide G) → EndOf L → Type 0
 DoesOrder told outside (order.Serve workers map address threads clients journal watch idle log format) s n ended =
     Serves told outside workers map threads clients s n ended
 DoesOrder told outside (order.Container route address threads clients) s n ended = Contains told route threads clients s n ended
+DoesOrder told outside (order.Drill seed threads requests text passes) s n ended = Drills seed threads requests text passes s n ended
 DoesOrder told outside other s n ended = ⊥

@@ -2,6 +2,8 @@
 use Rattle.std.specs.Prelude.{ℕ, List, [], ◌∷◌}
 use Rattle.container_server.specs.declared.ends.ContainerWorker.{ContainerWorker}
 use Rattle.container_server.specs.declared.ends.ContainerWorker.TheVariants as container
+use Rattle.drill.specs.declared.drill_error.DrillError.{DrillError}
+use Rattle.drill.specs.declared.drill_error.DrillError.TheVariants as drill_error
 use Rattle.gear_runs.specs.declared.ends.Closing.{Closing}
 use Rattle.gear_runs.specs.declared.ends.Closing.TheVariants as closing
 use Rattle.jk_io.specs.declared.failures.IoError.{IoError}
@@ -11,11 +13,18 @@ use Rattle.jk_server.specs.declared.part.WorkerEnd.TheVariants as worker
 use Rattle.serving_commands.specs.declared.ends.EndOf.{EndOf}
 use Rattle.serving_commands.specs.declared.ends.EndOf.TheVariants as end
 
+-- the program's status where a drill handed out nothing
+abbrev pub status_of_drill : DrillError → ℕ
+status_of_drill (drill_error.Differs discord) = 1
+status_of_drill (drill_error.Lost book) = 7
+status_of_drill drill_error.NoMemory = 6
+
 -- the program's status
 abbrev pub status_of : {L : Type 0} → EndOf L → ℕ
 status_of (end.Status status) = status
 status_of (end.Discord discord) = 1
 status_of (end.Stray stray) = 7
+status_of (end.Drill error) = status_of_drill error
 
 -- a fault of what is read or used, or want of memory
 abbrev pub end_by : {L : Type 0} → IoError → EndOf L

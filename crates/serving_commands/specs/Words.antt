@@ -1,5 +1,5 @@
 -- Which words ask for workers, and which are a command at all.
-use Rattle.std.specs.Prelude.{◌≡◌, ℕ, ◌≤◌, Bool, true, false, ◌&&◌, ◌||◌, List, [], ◌∷◌, length, Option, Some, None, is_none}
+use Rattle.std.specs.Prelude.{◌≡◌, ℕ, ◌≤◌, Bool, true, false, not, ◌&&◌, ◌||◌, List, [], ◌∷◌, length, Option, Some, None, is_none}
 use Rattle.std.specs.Str.{bytes_eq}
 use Rattle.jk_cli.specs.Orders.{order_of}
 use Rattle.jk_cli.specs.Parts.{Part, Place, Given, Stray}
@@ -8,11 +8,12 @@ use Rattle.jk_cli.specs.declared.order.Order.TheVariants as order
 use Rattle.plain_commands.specs.Plain.{is_plain, readings}
 use Rattle.plain_commands.specs.Readings.{has_file}
 
--- `serve` and `container`. A watch and a log aren't built: words with `--watch` or `--log`, beside which alone `--idle` and
--- `--format` stand, are no command yet.
+-- `serve`, `container` and `drill`. A watch, a log and passes aren't built: words with `--watch` or `--log`, beside which alone
+-- `--idle` and `--format` stand, and a drill with `passes` are no command yet.
 abbrev pub is_served : Order → Bool
 is_served (order.Serve workers map address threads clients journal watch idle log format) = is_none watch && is_none log
 is_served (order.Container route address threads clients) = true
+is_served (order.Drill seed threads requests text passes) = not passes
 is_served other = false
 
 abbrev pub is_served_order : Option Order → Bool
@@ -36,10 +37,12 @@ reads_files other = has_file (readings other)
 abbrev pub AreFilesRead : (words : List (List ℕ)) → Type 0
 AreFilesRead words = (o : Order) × (order_of words ≡ Some o) × (reads_files o ≡ true)
 
--- Of an order that asks for workers: 1 to 64 of them, and a route of at most 1,024 bytes.
+-- Of an order that asks for workers: 1 to 64 of them, and a route of at most 1,024 bytes; of a drill 1 to 1,000,000 requests.
 abbrev pub IsInRange : Order → Type 0
 IsInRange (order.Serve workers map address threads clients journal watch idle log format) = (1 ≤ threads) × (threads ≤ 64)
 IsInRange (order.Container route address threads clients) = (1 ≤ threads) × (threads ≤ 64) × (length route ≤ 1024)
+IsInRange (order.Drill seed threads requests text passes) =
+    (1 ≤ threads) × (threads ≤ 64) × (1 ≤ requests) × (requests ≤ 1000000)
 IsInRange other = Unit {0}
 
 -- an option of this name stands among the parts

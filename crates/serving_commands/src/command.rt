@@ -10,6 +10,7 @@ ghost use Rattle.serving_commands.specs.Words.{AreFilesRead, is_command, is_serv
 ghost use Rattle.serving_commands.specs.Worlds.{tells, world_side};
 
 use crate::container::container;
+use crate::drilling::{DrillOrder, do_drill};
 use crate::ends::{EndOf, JkdEnd, NO_MEMORY};
 use crate::gears::Asked;
 use crate::serve::{ServeOrder, serve};
@@ -22,7 +23,7 @@ use std::sync::Wait;
 use std::thread::Threads;
 use worker_gears::World;
 
-/// Does an order that asks for workers.
+/// Does an order that asks for workers or threads.
 fn do_order<F: Files, O: Sink, W: World, R: Threads + Wait + Sync>(
     rt: &R,
     alloc: Global,
@@ -79,6 +80,22 @@ where
             };
             container(rt, alloc, route, asked, world)
         }
+        Order::Drill {
+            seed,
+            threads,
+            requests,
+            text,
+            passes,
+        } => {
+            let order = DrillOrder {
+                seed: *seed,
+                threads: *threads,
+                requests: *requests as u32,
+                text: *text,
+                passes: *passes,
+            };
+            do_drill(rt, alloc, order, out)
+        }
         _ => unreachable!(),
     }
 }
@@ -95,7 +112,7 @@ pub fn run_jkd<F: Files, S: Source, O: Sink, W: World, R: Threads + Wait + Sync>
 ) -> JkdEnd
 where
     <W::D as Door>::L: Send,
-    // Words that ask for workers: `serve` and `container`.
+    // Words that ask for workers or threads: `serve`, `container` and `drill`.
     ensures serves { (o : AnyOrder) → order_of words.now ≡ Some o → is_served o ≡ true
         → let at = command_side F.faults O.sent O.faults (world_side W.handed W.came_back W.out W.faults) in
         let told = tells W.D.coming W.D.left W.D.faults W.T.talks W.K.answers W.D.L.Meanings W.S.shelved W.S.faults in

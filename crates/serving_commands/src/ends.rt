@@ -1,8 +1,9 @@
 //! How a command of jkd ends.
 ghost use Rattle.std.specs.Prelude.{◌≡◌};
-ghost use Rattle.serving_commands.specs.Ends.{end_by, end_of_closing, end_of_container, end_of_run, status_of};
+ghost use Rattle.serving_commands.specs.Ends.{end_by, end_of_closing, end_of_container, end_of_run, status_of, status_of_drill};
 
 use container_server::ContainerWorker;
+use drill::DrillError;
 use gear_runs::Closing;
 use jk_io::IoError;
 use jk_server::WorkerEnd;
@@ -31,6 +32,9 @@ pub(crate) const NO_MEMORY: u8 = 6;
 /// The status of a ticket that came back and wasn't out.
 const STRAY: u8 = 7;
 
+/// The status of a drill whose journal lacks a request.
+const LOST: u8 = 7;
+
 /// How a command ended over the Site that L names.
 #[derive(Drop)]
 pub enum EndOf<L> {
@@ -41,10 +45,23 @@ pub enum EndOf<L> {
     Discord(Discord<L>),
     /// A ticket came back to its balancer and wasn't out.
     Stray(SiteStray<L>),
+    /// A drill handed out nothing.
+    Drill(DrillError),
 }
 
 /// How a command of jkd ended.
 pub type JkdEnd = EndOf<Brand>;
+
+/// The status of a drill that handed out nothing.
+fn status_of_drill(error: &DrillError) -> u8
+    ensures { result ≡ status_of_drill error.now }
+{
+    match error {
+        DrillError::Differs(_) => DIFFERS,
+        DrillError::Lost(_) => LOST,
+        DrillError::NoMemory => NO_MEMORY,
+    }
+}
 
 impl<L> EndOf<L> {
     /// The program's status.
@@ -55,6 +72,7 @@ impl<L> EndOf<L> {
             EndOf::Status(status) => *status,
             EndOf::Discord(_) => DIFFERS,
             EndOf::Stray(_) => STRAY,
+            EndOf::Drill(error) => status_of_drill(error),
         }
     }
 }

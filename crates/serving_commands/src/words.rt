@@ -1,6 +1,7 @@
 //! Which words ask for workers, told without memory.
 ghost use Rattle.std.specs.Prelude.{◌≡◌, ◌&&◌, ◌∷◌, [], codes, not};
 ghost use Rattle.jk_cli.specs.Parts.{alone, asks_value, equals_in, given_at, is_dashed, is_end, parts_of};
+ghost use Rattle.std.specs.List.{list_any};
 ghost use Rattle.std.specs.Str.{bytes_eq};
 ghost use Rattle.serving_commands.specs.Words.{is_given, is_serving};
 
@@ -103,6 +104,13 @@ fn is_built(behind: &[Bytes]) -> bool
     !gives(behind, b"watch") && !gives(behind, b"log")
 }
 
+/// Whether `passes` is among words of `drill`.
+fn asks_passes(behind: &[Bytes]) -> bool
+    ensures { result ≡ list_any (λ word. bytes_eq word (codes "passes")) behind.now }
+{
+    behind.iter().any(|word| is(word.as_slice(), b"passes"))
+}
+
 /// Whether the words ask for workers.
 pub(crate) fn is_serving(words: &[Bytes]) -> bool
     ensures { result ≡ is_serving words.now }
@@ -112,6 +120,7 @@ pub(crate) fn is_serving(words: &[Bytes]) -> bool
     };
     match command_of(words) {
         Some(CommandName::Serve) => is_built(behind),
+        Some(CommandName::Drill) => !asks_passes(behind),
         Some(CommandName::Container) => true,
         _ => false,
     }
