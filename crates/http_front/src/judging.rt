@@ -59,6 +59,37 @@ fn query_of(alloc: Global, target: &[u8]) -> Result<Option<Bytes>, HeadError>
     }
 }
 
+/// The texts that a head copies from its request.
+#[derive(Drop)]
+struct Texts {
+    method: Bytes,
+    target: Bytes,
+    path: Bytes,
+    query: Option<Bytes>,
+    server: Bytes,
+}
+
+fn texts_of(
+    alloc: Global,
+    method: &[u8],
+    target: &[u8],
+    path: &[u8],
+    server: &[u8],
+) -> Result<Texts, HeadError>
+    ensures line { IfOk result (λ t. (t.method ≡ method.now) × (t.target ≡ target.now)) }
+    ensures parts { IfOk result (λ t. (t.path ≡ path.now) × (t.query ≡ query_of target.now)) }
+    ensures server { IfOk result (λ t. t.server ≡ server.now) }
+    ensures memory { IfErr result (λ e. e ≡ HeadError.NoMemory) }
+{
+    Ok(Texts {
+        method: Bytes::from_slice(alloc, method)?,
+        target: Bytes::from_slice(alloc, target)?,
+        path: Bytes::from_slice(alloc, path)?,
+        query: query_of(alloc, target)?,
+        server: Bytes::from_slice(alloc, server)?,
+    })
+}
+
 /// The head of these parts, or what it is refused for.
 pub fn make_head(
     alloc: Global,
@@ -79,20 +110,20 @@ pub fn make_head(
         Err(PathError::BadPath) => return Err(refused(Form::BadPath)),
         Err(PathError::NoMemory) => return Err(HeadError::NoMemory),
     };
-    let server = Bytes::from_slice(alloc, asked.server.name)?;
+    let texts = texts_of(alloc, method, target, path, asked.server.name)?;
     let port = asked.server.port;
     let plan = asked.plan;
     let close = says_close(headers.as_slice());
     let expect = says_expect(headers.as_slice());
     Ok(Head {
-        method: Bytes::from_slice(alloc, method)?,
-        target: Bytes::from_slice(alloc, target)?,
-        path: Bytes::from_slice(alloc, path)?,
-        query: query_of(alloc, target)?,
+        method: texts.method,
+        target: texts.target,
+        path: texts.path,
+        query: texts.query,
         clean,
         old,
         headers,
-        server,
+        server: texts.server,
         port,
         plan,
         close,
