@@ -1,5 +1,6 @@
-ghost use Rattle.std.specs.Prelude.{◌≡◌, ◌<◌, ◌^◌, length, option_map};
+ghost use Rattle.std.specs.Prelude.{◌≡◌, ℕ, ◌<◌, ◌^◌, List, ◌∷◌, Some, length, option_map};
 ghost use Rattle.play_script.specs.Heads.{rules_of, member_after, member_with, member_of, head_by, head_of};
+ghost use Rattle.play_script.specs.Values.{flag_of, method_of};
 ghost use Rattle.play_script.specs.Words.{words_of_member, words_of_head};
 
 use crate::fields::{activation_in, name_in, number_in};
@@ -51,6 +52,14 @@ fn rules_of(words: &mut Parts) -> Option<Rules>
     let method = method_of(words.next()?)?;
     let sticky = flag_of(words.next()?)?;
     let force = flag_of(words.next()?)?;
+    rules_with(method, sticky, force, words)
+}
+
+// The rules of an `lb` line whose first words were these.
+fn rules_with(method: Method, sticky: bool, force: bool, words: &mut Parts) -> Option<Rules>
+    ensures { (m s f : List ℕ) → method_of m ≡ Some method → flag_of s ≡ Some sticky → flag_of f ≡ Some force
+        → result ≡ rules_of (m ∷ s ∷ f ∷ words.old) }
+{
     let maintain = parse_decimal(words.next()?)?;
     let recover = parse_decimal(words.only()?)?;
     Some(Rules {

@@ -1,4 +1,5 @@
-ghost use Rattle.std.specs.Prelude.{◌≡◌, ◌<◌, ◌^◌, [], length, false, true, None, Some, ◌≤◌, IfSome};
+ghost use Rattle.std.specs.Prelude.{◌≡◌, ℕ, ◌<◌, ◌^◌, List, [], length, false, true, None, Some, ◌≤◌, IfSome, option_map};
+ghost use Rattle.play_script.specs.Values.{end};
 ghost use Rattle.play_script.specs.Steps.{ask_of, old_ask, select_of, bytes_in, return_of, change_after, change_of, update_of, member_named, step_by, step_of, HasSmallBytes, IsSmall};
 
 use crate::fields::{activation_in, number_in, redirect_in};
@@ -124,6 +125,70 @@ fn member_named(names: &NameList, words: &mut Parts) -> Option<u32>
     index_of(names, words.only()?)
 }
 
+fn moment_of(words: &mut Parts) -> Option<Step>
+    ensures value { (names : List (List ℕ)) → result ≡ step_by names Verb.At words.old }
+    ensures small { IfSome result IsSmall }
+{
+    Some(Step::At(parse_decimal(words.only()?)?))
+}
+
+fn selected(names: &NameList, words: &mut Parts) -> Option<Step>
+    requires { length names.now < 2 ^ 32 }
+    ensures value { result ≡ step_by names.now Verb.Select words.old }
+    ensures small { IfSome result IsSmall }
+{
+    Some(Step::Ask(Call::Select(select_of(names, words)?)))
+}
+
+fn returned(kind: Kind, words: &mut Parts) -> Option<Step>
+    ensures value { result ≡ option_map Step.Ask (return_of kind words.old) }
+    ensures small { IfSome result IsSmall }
+{
+    Some(Step::Ask(return_of(kind, words)?))
+}
+
+fn maintained(words: &mut Parts) -> Option<Step>
+    ensures value { result ≡ option_map (λ _. Step.Ask Call.Maintain) (end words.old) }
+    ensures small { IfSome result IsSmall }
+{
+    words.end()?;
+    Some(Step::Ask(Call::Maintain))
+}
+
+fn updated(names: &NameList, words: &mut Parts) -> Option<Step>
+    requires { length names.now < 2 ^ 32 }
+    ensures value { result ≡ step_by names.now Verb.Update words.old }
+    ensures small { IfSome result IsSmall }
+{
+    Some(Step::Ask(Call::Admin(update_of(names, words)?)))
+}
+
+fn reset(names: &NameList, words: &mut Parts) -> Option<Step>
+    requires { length names.now < 2 ^ 32 }
+    ensures value { result ≡ step_by names.now Verb.Reset words.old }
+    ensures small { IfSome result IsSmall }
+{
+    let member = member_named(names, words)?;
+    Some(Step::Ask(Call::Admin(Command::Reset { member })))
+}
+
+fn recovered(names: &NameList, words: &mut Parts) -> Option<Step>
+    requires { length names.now < 2 ^ 32 }
+    ensures value { result ≡ step_by names.now Verb.Recover words.old }
+    ensures small { IfSome result IsSmall }
+{
+    let member = member_named(names, words)?;
+    Some(Step::Ask(Call::Admin(Command::Recover { member })))
+}
+
+fn shown(words: &mut Parts) -> Option<Step>
+    ensures value { result ≡ option_map (λ _. Step.Show) (end words.old) }
+    ensures small { IfSome result IsSmall }
+{
+    words.end()?;
+    Some(Step::Show)
+}
+
 fn step_by(names: &NameList, verb: Verb, words: &mut Parts) -> Option<Step>
     requires { length names.now < 2 ^ 32 }
     ensures value { result ≡ step_by names.now verb words.old }
@@ -131,28 +196,16 @@ fn step_by(names: &NameList, verb: Verb, words: &mut Parts) -> Option<Step>
 {
     match verb {
         Verb::Lb | Verb::Member => None,
-        Verb::At => Some(Step::At(parse_decimal(words.only()?)?)),
-        Verb::Select => Some(Step::Ask(Call::Select(select_of(names, words)?))),
-        Verb::Done => Some(Step::Ask(return_of(Kind::Done, words)?)),
-        Verb::Failed => Some(Step::Ask(return_of(Kind::Failed, words)?)),
-        Verb::Gone => Some(Step::Ask(return_of(Kind::Gone, words)?)),
-        Verb::Maintain => {
-            words.end()?;
-            Some(Step::Ask(Call::Maintain))
-        }
-        Verb::Update => Some(Step::Ask(Call::Admin(update_of(names, words)?))),
-        Verb::Reset => {
-            let member = member_named(names, words)?;
-            Some(Step::Ask(Call::Admin(Command::Reset { member })))
-        }
-        Verb::Recover => {
-            let member = member_named(names, words)?;
-            Some(Step::Ask(Call::Admin(Command::Recover { member })))
-        }
-        Verb::Show => {
-            words.end()?;
-            Some(Step::Show)
-        }
+        Verb::At => moment_of(words),
+        Verb::Select => selected(names, words),
+        Verb::Done => returned(Kind::Done, words),
+        Verb::Failed => returned(Kind::Failed, words),
+        Verb::Gone => returned(Kind::Gone, words),
+        Verb::Maintain => maintained(words),
+        Verb::Update => updated(names, words),
+        Verb::Reset => reset(names, words),
+        Verb::Recover => recovered(names, words),
+        Verb::Show => shown(words),
     }
 }
 
