@@ -1,35 +1,61 @@
 //! The command that a query means.
 ghost use Rattle.std.specs.Prelude.{◌≡◌, Some, None, IfOk, IsErrOf, unwrap_or};
 ghost use Rattle.std.specs.Option.{option_copied};
+ghost use Rattle.status_page.specs.declared.texts.ChangeTexts.{ChangeTexts};
 ghost use Rattle.status_page.specs.Meaning.{command_by, command_in, command_of, meaning_of};
 
 use crate::command::StatusCommand;
 use crate::error::StatusError;
 use crate::field::Field;
 use crate::query::read_fields;
-use crate::texts::{Texts, are_lone, texts_of};
+use crate::texts::{ChangeTexts, Texts, are_lone, texts_of};
 use crate::values::change_of;
 use crate::verb::{Verb, verb_of};
+use jk_io::Bytes;
 use std::alloc::Global;
+
+fn update_by(
+    worker: Option<Bytes>,
+    member: Option<Bytes>,
+    change: ChangeTexts,
+) -> Option<StatusCommand>
+    ensures { result ≡ command_by Verb.Update (record { command = None; worker = worker; member = member; change = change }) }
+{
+    Some(StatusCommand::Update {
+        w: worker?,
+        sw: member?,
+        change: change_of(change)?,
+    })
+}
+
+fn reset_by(worker: Option<Bytes>, member: Option<Bytes>) -> Option<StatusCommand>
+    ensures { (change : ChangeTexts) → result
+        ≡ command_by Verb.Reset (record { command = None; worker = worker; member = member; change = change }) }
+{
+    Some(StatusCommand::Reset {
+        w: worker?,
+        sw: member,
+    })
+}
+
+fn recover_by(worker: Option<Bytes>, member: Option<Bytes>) -> Option<StatusCommand>
+    ensures { (change : ChangeTexts) → result
+        ≡ command_by Verb.Recover (record { command = None; worker = worker; member = member; change = change }) }
+{
+    Some(StatusCommand::Recover {
+        w: worker?,
+        sw: member?,
+    })
+}
 
 fn command_by(verb: Verb, texts: Texts) -> Option<StatusCommand>
     ensures { result ≡ command_by verb texts }
 {
     match verb {
         Verb::List => Some(StatusCommand::List { w: texts.worker }),
-        Verb::Update => Some(StatusCommand::Update {
-            w: texts.worker?,
-            sw: texts.member?,
-            change: change_of(texts.change)?,
-        }),
-        Verb::Reset => Some(StatusCommand::Reset {
-            w: texts.worker?,
-            sw: texts.member,
-        }),
-        Verb::Recover => Some(StatusCommand::Recover {
-            w: texts.worker?,
-            sw: texts.member?,
-        }),
+        Verb::Update => update_by(texts.worker, texts.member, texts.change),
+        Verb::Reset => reset_by(texts.worker, texts.member),
+        Verb::Recover => recover_by(texts.worker, texts.member),
     }
 }
 
