@@ -50,6 +50,7 @@ fn put_undone(out: &mut Bytes, command: CommandName, words: &[Bytes]) -> Result<
         CommandName::Serve => {
             out.extend(b"error: this jkd does not do the options --watch and --log of serve")
         }
+        CommandName::Drill => out.extend(b"error: this jkd does not do passes of drill"),
         _ => {
             out.extend(b"error: this jkd does not do the command ")?;
             out.extend(words.first().map_or(b"".as_slice(), |word| word.as_slice()))
