@@ -47,7 +47,8 @@ fn member(alloc: Global, index: u32) -> Result<MemberConfig> {
     })
 }
 
-fn book_of(alloc: Global, count: u32) -> Result<Book>
+/// A Book of rules 2 with so many members.
+pub fn book_of(alloc: Global, count: u32) -> Result<Book>
     ensures { IfOk result (λ book. book.rules ≡ 2) }
 {
     let mut members = MemberList::new(alloc);
@@ -71,7 +72,7 @@ fn book_of(alloc: Global, count: u32) -> Result<Book>
 }
 
 /// A choice and its return: two holds.
-fn exchange(book: &mut Book, at: u64) -> Result<()>
+pub fn exchange(book: &mut Book, at: u64) -> Result<()>
     requires { book.old.rules ≡ 2 }
     ensures { book.new.rules ≡ 2 }
 {

@@ -1,13 +1,15 @@
-//! How fast the parts are: packets, heads, bodies, choices and a site's text.
+//! How fast the parts are: packets, heads, bodies, choices, a site's text and the check of a journal.
 //!
 //! Without a word it makes one small round of each and prints no time. `ajp N`, `heads N`, `bodies N` and `book N` make
-//! N rounds, and `site N` reads a text of N bytes; they print figures. bench/ has the same work in plain C.
+//! N rounds, `site N` reads a text of N bytes, and `journal N` checks the text of N exchanges; they print figures. bench/
+//! has the same work in plain C, but for the last two.
 #![tactic(auto)]
 
 mod ajp;
 mod bodies;
 mod book;
 mod heads;
+mod journal;
 mod site;
 mod timed;
 
@@ -22,6 +24,7 @@ enum Subject {
     Bodies,
     Book,
     Site,
+    Journal,
 }
 
 fn subject_of(word: &str) -> Result<Subject> {
@@ -31,7 +34,8 @@ fn subject_of(word: &str) -> Result<Subject> {
         "bodies" => Ok(Subject::Bodies),
         "book" => Ok(Subject::Book),
         "site" => Ok(Subject::Site),
-        _ => bail!("the words are ajp, heads, bodies, book and site"),
+        "journal" => Ok(Subject::Journal),
+        _ => bail!("the words are ajp, heads, bodies, book, site and journal"),
     }
 }
 
@@ -51,7 +55,8 @@ fn small_rounds(rt: &HostRuntime) -> Result<()> {
     heads::one_round(rt, rt.alloc())?;
     bodies::one_round(rt, rt.alloc())?;
     book::one_round(rt, rt.alloc())?;
-    site::one_round(rt, rt.alloc())
+    site::one_round(rt, rt.alloc())?;
+    journal::one_round(rt, rt.alloc())
 }
 
 fn measure(rt: &HostRuntime, subject: Subject, amount: u32) -> Result<()> {
@@ -61,6 +66,7 @@ fn measure(rt: &HostRuntime, subject: Subject, amount: u32) -> Result<()> {
         Subject::Bodies => bodies::measure(rt, rt.alloc(), amount),
         Subject::Book => book::measure(rt, rt.alloc(), amount),
         Subject::Site => site::measure(rt, rt.alloc(), amount),
+        Subject::Journal => journal::measure(rt, rt.alloc(), amount),
     }
 }
 
