@@ -9,7 +9,7 @@ use std::io::{ErrorKind, Write};
 use std::net::TcpStream;
 
 /// How many bytes a link reads ahead at most.
-const AHEAD_BYTES: usize = 16_384;
+const AHEAD_BYTES: usize = 65_536;
 
 /// A TCP stream that reads ahead, and writes at once. It tells nothing of what is read and written.
 #[derive(Drop)]
