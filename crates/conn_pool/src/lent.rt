@@ -22,6 +22,12 @@ impl<L> Idle<L> {
     {
         self.lb == lb && self.member == member
     }
+
+    pub(crate) fn link(&self) -> &L
+        ensures { result.now ≡ self.now.link }
+    {
+        &self.link
+    }
 }
 
 /// A link while a talk runs over it, and whose it is. The link comes out by `kept` alone.

@@ -227,6 +227,7 @@ impl<'p, 'r, D: Dial, T: Tape, R: Wait> Reach for PooledReach<'p, 'r, D, T, R> {
                 let _ = self.pools.hand_in(lb, member, idle);
                 return Err(error.into());
             }
+            self.dial.lend(idle.link());
             self.lent = Some(Lent::over_idle(idle));
             return Ok(false);
         }

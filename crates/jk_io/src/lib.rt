@@ -21,8 +21,8 @@ mod whole_input;
 mod writing;
 
 pub use adapters::{
-    CLIENT_SECONDS, DIAL_SECONDS, MAX_ACCEPT_TRIES, ReadSource, RealClock, RealFiles, StdIn,
-    StdOut, TcpDial, TcpDoor, TcpLink,
+    CLIENT_SECONDS, DIAL_SECONDS, MAX_ACCEPT_TRIES, Outbox, ReadSource, RealClock, RealFiles,
+    StdIn, StdOut, TcpDial, TcpDoor, TcpLink,
 };
 pub use byte_list::Bytes;
 pub use decimals::{parse_decimal, put_decimal, trim};

@@ -12,7 +12,7 @@ use crate::shelves::{DropShelf, FileShelf, RealShelf};
 use crate::trouble::Trouble;
 use crate::world::{Gear, World};
 use conn_pool::NoTape;
-use jk_io::{Bytes, IoError, NoMemory, RealClock, TcpDial, TcpDoor};
+use jk_io::{Bytes, IoError, NoMemory, Outbox, RealClock, TcpDial, TcpDoor};
 use site_config::{Config, Lb};
 use std::alloc::Global;
 use std::net::{Net, TcpListener, TcpStream};
@@ -240,10 +240,12 @@ where
         let listener = self.listener(alloc, address)?;
         self.greet(alloc, number, address, journal, cfg)?;
         let shelf = self.shelf(alloc, journal, cfg)?;
+        let outbox = Outbox::new(alloc)?;
+        let dial = TcpDial::with_outbox(self.rt, outbox.share()?);
         self.out = out;
         Ok(Gear {
-            door: TcpDoor::new(self.rt, listener, clients),
-            dial: TcpDial::new(self.rt),
+            door: TcpDoor::with_outbox(self.rt, listener, clients, outbox),
+            dial,
             tape: NoTape,
             clock: RealClock::new(self.rt),
             shelf,

@@ -2,6 +2,7 @@
 ghost use Rattle.std.specs.Prelude.{◌≡◌, ◌≤◌};
 ghost use Rattle.jk_io.specs.Told.{Rose};
 
+use crate::adapters::outbox::Outbox;
 use crate::adapters::tcp_link::{TcpLink, room_ahead};
 use crate::byte_list::Bytes;
 use crate::failures::{IoError, NoMemory};
@@ -31,6 +32,8 @@ const MAX_ADDRESS_BYTES: usize = 45;
 #[derive(Drop)]
 pub struct TcpDial<'r, R: Net<Stream = TcpStream>> {
     rt: &'r R,
+    /// What is sent before a member is dialled, and before its link waits or writes.
+    first: Option<Outbox>,
     failed: u64,
 }
 
@@ -38,7 +41,23 @@ impl<'r, R: Net<Stream = TcpStream>> TcpDial<'r, R> {
     pub fn new(rt: &'r R) -> TcpDial<'r, R>
         ensures { result.failed ≡ 0 }
     {
-        TcpDial { rt, failed: 0 }
+        TcpDial {
+            rt,
+            first: None,
+            failed: 0,
+        }
+    }
+
+    /// It empties this outbox before it dials, as its links do before they wait or write. It is that of the door of the
+    /// same worker.
+    pub fn with_outbox(rt: &'r R, outbox: Outbox) -> TcpDial<'r, R>
+        ensures { result.failed ≡ 0 }
+    {
+        TcpDial {
+            rt,
+            first: Some(outbox),
+            failed: 0,
+        }
     }
 }
 
@@ -48,13 +67,33 @@ impl<'r, R: Net<Stream = TcpStream>> Dial for TcpDial<'r, R> {
     ghost faults = { λ d. d.failed };
 
     fn dial(&mut self, alloc: Global, host: &Bytes, port: u16) -> Result<TcpLink, IoError> {
+        if let Some(outbox) = &self.first {
+            outbox.flush();
+        }
         match connect(self.rt, host, port) {
-            Some(stream) => Ok(TcpLink::new(alloc, stream)?),
+            Some(stream) => Ok(link_to_member(alloc, stream, self.first.as_ref())?),
             None => {
                 self.failed = self.failed.saturating_add(1);
                 Err(IoError::Failed)
             }
         }
+    }
+
+    fn lend(&self, link: &TcpLink) {
+        if let Some(outbox) = &self.first {
+            link.serve(outbox);
+        }
+    }
+}
+
+fn link_to_member(
+    alloc: Global,
+    stream: TcpStream,
+    first: Option<&Outbox>,
+) -> Result<TcpLink, NoMemory> {
+    match first {
+        Some(outbox) => TcpLink::after(alloc, stream, outbox),
+        None => TcpLink::new(alloc, stream),
     }
 }
 
@@ -76,6 +115,8 @@ fn connect<R: Net<Stream = TcpStream>>(rt: &R, host: &Bytes, port: u16) -> Optio
 pub struct TcpDoor<'r, R: Clock> {
     rt: &'r R,
     listener: TcpListener,
+    /// What holds back the bytes of a client, where something does.
+    outbox: Option<Outbox>,
     clients: Option<u64>,
     /// How many links are out and may be left.
     out: u64,
@@ -90,6 +131,27 @@ impl<'r, R: Clock> TcpDoor<'r, R> {
         TcpDoor {
             rt,
             listener,
+            outbox: None,
+            clients,
+            out: 0,
+            failed: 0,
+        }
+    }
+
+    /// What is written to a client is held back in this outbox, until its link is read or left, or a link to a member
+    /// that was dialled with the same outbox waits or writes. Of clients at once the first alone has it.
+    pub fn with_outbox(
+        rt: &'r R,
+        listener: TcpListener,
+        clients: Option<u64>,
+        outbox: Outbox,
+    ) -> TcpDoor<'r, R>
+        ensures { (result.clients ≡ clients) × (result.out ≡ 0) × (result.failed ≡ 0) }
+    {
+        TcpDoor {
+            rt,
+            listener,
+            outbox: Some(outbox),
             clients,
             out: 0,
             failed: 0,
@@ -129,7 +191,7 @@ impl<'r, R: Clock> Door for TcpDoor<'r, R> {
             return Err(self.fail());
         };
         // Memory is taken first, so that want of it loses no client.
-        let room = ClientRoom::new(alloc)?;
+        let room = ClientRoom::new(alloc, self.outbox.as_ref())?;
         let Some((stream, address)) = accept_client(self.rt, &self.listener) else {
             return Err(self.fail());
         };
@@ -138,7 +200,8 @@ impl<'r, R: Clock> Door for TcpDoor<'r, R> {
         Ok(Some(room.client(stream, address.ip())))
     }
 
-    fn leave(&mut self, _link: TcpLink) {
+    fn leave(&mut self, link: TcpLink) {
+        link.end();
         self.out -= 1;
     }
 }
@@ -146,13 +209,19 @@ impl<'r, R: Clock> Door for TcpDoor<'r, R> {
 // The memory of one client: the buffer of its link, and the text of its address.
 #[derive(Drop)]
 struct ClientRoom {
+    outbox: Option<Outbox>,
     ahead: Vec<u8>,
     address: String,
 }
 
 impl ClientRoom {
-    fn new(alloc: Global) -> Result<ClientRoom, NoMemory> {
+    fn new(alloc: Global, outbox: Option<&Outbox>) -> Result<ClientRoom, NoMemory> {
+        let outbox = match outbox {
+            Some(outbox) => Some(outbox.share()?),
+            None => None,
+        };
         Ok(ClientRoom {
+            outbox,
             ahead: room_ahead(alloc)?,
             address: String::with_capacity(alloc, MAX_ADDRESS_BYTES)?,
         })
@@ -160,10 +229,19 @@ impl ClientRoom {
 
     // The room serves, so the address is written whole.
     fn client(self, stream: TcpStream, ip: IpAddr) -> (TcpLink, Peer) {
-        let ClientRoom { ahead, mut address } = self;
+        let ClientRoom {
+            outbox,
+            ahead,
+            mut address,
+        } = self;
         let _ = write!(address, "{ip}");
         let addr = Bytes::from_vec(address.into_bytes());
-        (TcpLink::over(patient(stream), ahead), Peer { addr })
+        let stream = patient(stream);
+        let link = match outbox {
+            Some(outbox) => TcpLink::held_by(outbox, stream, ahead),
+            None => TcpLink::over(stream, ahead),
+        };
+        (link, Peer { addr })
     }
 }
 

@@ -1,20 +1,35 @@
 //! A link over a TCP stream.
-ghost use Rattle.std.specs.Prelude.{◌≡◌, ◌<◌, ◌≤◌, IfOk, IfSome, length, vec_len};
+ghost use Rattle.std.specs.Prelude.{◌≡◌, ◌<◌, ◌≤◌, IfOk, IfSome, IsOk, length, vec_len};
+ghost use Rattle.jk_io.specs.Told.{HasCause};
 
+use crate::adapters::outbox::Outbox;
 use crate::adapters::std_streams::receive;
 use crate::failures::{IoError, NoMemory};
 use crate::traits::streams::{Link, Meanings, Sink, Source};
 use std::alloc::Global;
 use std::io::{ErrorKind, Write};
 use std::net::TcpStream;
+use std::sync::{Arc, Mutex};
 
 /// How many bytes a link reads ahead at most.
 const AHEAD_BYTES: usize = 65_536;
 
-/// A TCP stream that reads ahead, and writes at once. It tells nothing of what is read and written.
+/// What a link reads from and writes to.
+#[derive(Drop)]
+enum Wire {
+    /// A stream, to which it writes at once.
+    Stream(TcpStream),
+    /// A client's stream, for which an outbox holds back what is written until its worker waits.
+    Outbox(Outbox),
+}
+
+/// A TCP stream that reads ahead. It writes at once, but for a client's that has an outbox. It tells nothing of what is read
+/// and written.
 #[derive(Drop)]
 pub struct TcpLink {
-    stream: TcpStream,
+    wire: Wire,
+    /// Whose bytes go out before a member's link waits or writes: those for the client of the worker that it serves.
+    first: Option<Arc<Mutex<Outbox>>>,
     /// What was read ahead lies from `from` to `to`.
     ahead: Vec<u8>,
     from: usize,
@@ -31,18 +46,101 @@ impl TcpLink {
         Ok(TcpLink::over(stream, room_ahead(alloc)?))
     }
 
+    /// A link to a member, before whose waits and writes this outbox is emptied.
+    pub(crate) fn after(
+        alloc: Global,
+        stream: TcpStream,
+        outbox: &Outbox,
+    ) -> Result<TcpLink, NoMemory>
+        ensures { IfOk result (λ link. (link.failed ≡ 0) × (link.from ≡ link.to)) }
+    {
+        let first = Arc::new(alloc, Mutex::new(outbox.share()?))?;
+        let mut link = TcpLink::over(stream, room_ahead(alloc)?);
+        link.first = Some(first);
+        Ok(link)
+    }
+
+    /// From now on this outbox is emptied, where the link was made with one.
+    pub(crate) fn serve(&self, outbox: &Outbox) {
+        if let Some(first) = &self.first
+            && let Some(mut first) = first.try_lock()
+            && let Ok(outbox) = outbox.share()
+        {
+            *first = outbox;
+        }
+    }
+
     /// A link over a stream, which reads ahead into this buffer. It takes no memory.
     pub(crate) fn over(stream: TcpStream, ahead: Vec<u8>) -> TcpLink
         ensures { (result.failed ≡ 0) × (result.from ≡ result.to) }
     {
         // A stream that refuses this is broken, and the next read or write of it fails.
         let _ = stream.set_nodelay(true);
+        TcpLink::on(Wire::Stream(stream), ahead)
+    }
+
+    /// A client's link, whose stream an outbox has, or where that has another one, this stream. It takes no memory.
+    pub(crate) fn held_by(outbox: Outbox, stream: TcpStream, ahead: Vec<u8>) -> TcpLink
+        ensures { (result.failed ≡ 0) × (result.from ≡ result.to) }
+    {
+        let _ = stream.set_nodelay(true);
+        match outbox.open(stream) {
+            None => TcpLink::on(Wire::Outbox(outbox), ahead),
+            Some(stream) => TcpLink::on(Wire::Stream(stream), ahead),
+        }
+    }
+
+    fn on(wire: Wire, ahead: Vec<u8>) -> TcpLink
+        ensures { (result.failed ≡ 0) × (result.from ≡ result.to) }
+    {
         TcpLink {
-            stream,
+            wire,
+            first: None,
             ahead,
             from: 0,
             to: 0,
             failed: 0,
+        }
+    }
+
+    /// Sends what its outbox held back, and ends.
+    pub(crate) fn end(self) {
+        if let Wire::Outbox(outbox) = &self.wire {
+            outbox.close();
+        }
+    }
+
+    // Empties the outbox whose bytes go first.
+    fn let_first_go(&self) {
+        if let Some(first) = &self.first
+            && let Some(outbox) = first.try_lock()
+        {
+            outbox.flush();
+        }
+    }
+}
+
+impl Wire {
+    // One read, counted where it fails.
+    fn receive(&mut self, buf: &mut [u8], failed: &mut u64) -> Result<usize, IoError>
+        ensures count { IfOk result (λ n. n ≤ length buf.new) }
+        ensures cause { HasCause failed.old failed.new result }
+        ensures steady { IsOk result → failed.new ≡ failed.old }
+    {
+        match self {
+            Wire::Stream(stream) => receive(stream, buf, failed),
+            Wire::Outbox(outbox) => outbox.receive(buf, failed),
+        }
+    }
+
+    // One write, and how many bytes it took.
+    fn send(&mut self, piece: &[u8]) -> Option<usize>
+        requires { 0 < length piece.now }
+        ensures { IfSome result (λ n. (0 < n) × (n ≤ length piece.now)) }
+    {
+        match self {
+            Wire::Stream(stream) => send(stream, piece),
+            Wire::Outbox(outbox) => outbox.put(piece).then_some(piece.len()),
         }
     }
 }
@@ -71,16 +169,15 @@ impl Meanings for TcpLink {
 impl Source for TcpLink {
     fn read(&mut self, buf: &mut [u8]) -> Result<usize, IoError> {
         if self.from == self.to {
+            self.let_first_go();
             if buf.len() >= AHEAD_BYTES {
-                return receive(&mut self.stream, buf, &mut self.failed);
+                return self.wire.receive(buf, &mut self.failed);
             }
             self.from = 0;
             self.to = 0;
-            self.to = receive(
-                &mut self.stream,
-                self.ahead.as_mut_slice(),
-                &mut self.failed,
-            )?;
+            self.to = self
+                .wire
+                .receive(self.ahead.as_mut_slice(), &mut self.failed)?;
         }
         let n = buf.len().min(self.to - self.from);
         buf[..n].copy_from_slice(&self.ahead[self.from..self.from + n]);
@@ -91,7 +188,8 @@ impl Source for TcpLink {
 
 impl Sink for TcpLink {
     fn write(&mut self, piece: &[u8]) -> Result<usize, IoError> {
-        match send(&mut self.stream, piece) {
+        self.let_first_go();
+        match self.wire.send(piece) {
             Some(n) => Ok(n),
             None => {
                 self.failed = self.failed.saturating_add(1);

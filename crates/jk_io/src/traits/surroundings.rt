@@ -55,6 +55,10 @@ pub trait Dial {
         ensures gave { IfOk result (λ link. gives self.old link self.new) }
         ensures clean { IsOk result → faults self.new ≡ faults self.old }
         ensures cause { HasCause (faults self.old) (faults self.new) result };
+
+    /// Is told that a link serves the worker of this dial from now on, which another worker's dial may have made. Only the
+    /// real thing has a use for it.
+    fn lend(&self, _link: &Self::L) {}
 }
 
 /// Who is at the other end of a link.
