@@ -9,6 +9,7 @@ mod counted_dial;
 mod gates;
 mod lists;
 mod memory;
+mod outboxes;
 mod pools;
 mod reaches;
 mod shared_pools;
@@ -88,6 +89,12 @@ fn main(rt: HostRuntime) -> Result<()> {
     show(&rt, "a link over TCP answers over the loopback", answered)?;
     let kept = sockets::keep_a_link(&rt, rt.alloc());
     show(&rt, "a kept link over TCP serves the next talk", kept)?;
+    let held = outboxes::hold_back(&rt, rt.alloc());
+    show(
+        &rt,
+        "what a worker writes is held back until it waits",
+        held,
+    )?;
     let once = threads::pass_each_once(&rt, rt.alloc());
     show(&rt, "two threads end with every link once", once)
 }

@@ -14,7 +14,7 @@ use std::rt::Clock;
 use std::sync::Wait;
 
 /// A listener of the loopback, and its port.
-fn listener(
+pub fn listener(
     rt: &impl Net<Listener = TcpListener, Stream = TcpStream>,
 ) -> io::Result<(TcpListener, u16)> {
     let listener = TcpListener::bind(rt, "127.0.0.1:0")?;
@@ -23,7 +23,7 @@ fn listener(
 }
 
 /// A link to the loopback.
-fn dialled<D: Dial>(alloc: Global, dial: &mut D, port: u16) -> Result<D::L, IoError> {
+pub fn dialled<D: Dial>(alloc: Global, dial: &mut D, port: u16) -> Result<D::L, IoError> {
     let host = Bytes::from_slice(alloc, b"127.0.0.1")?;
     dial.dial(alloc, &host, port)
 }
