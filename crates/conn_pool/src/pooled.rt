@@ -8,12 +8,13 @@ ghost use Rattle.conn_pool.specs.Idle.{HasMember, counts};
 ghost use Rattle.jk_io.specs.Moments.{moment};
 ghost use Rattle.conn_pool.specs.Reaches.{beside_of, told_begun, BackState, GoesBack, ReadsLink, WritesLink, StaysLent};
 
+use crate::beginning::{Asked, begin_idle, begin_new, dialled};
 use crate::keeping::Pools;
 use crate::lent::{Idle, Lent};
-use crate::noted::{counted, outside_talk, read_lent, write_lent};
+use crate::noted::{outside_talk, read_lent, write_lent};
 use crate::pool::HandedIn;
 use crate::tape::Tape;
-use jk_io::{Beside, Bytes, Dial, IoError, Link, Meanings, NoMemory, Reach, Sink, Source};
+use jk_io::{Beside, Bytes, Dial, IoError, Link, Meanings, Reach, Sink, Source};
 use std::alloc::Global;
 use std::marker::Model;
 use std::sync::Wait;
@@ -222,25 +223,19 @@ impl<'p, 'r, D: Dial, T: Tape, R: Wait> Reach for PooledReach<'p, 'r, D, T, R> {
         ensures steady { IsOk result → self.new.faults ≡ self.old.faults }
         ensures want_of_memory { IsErrOf result IoError.NoMemory → self.new.faults ≡ self.old.faults }
     {
-        if let Some(idle) = idle_link(self.pools, lb, member, fresh) {
-            if let Err(error) = self.tape.begin(lb, member, host, port, fresh, false) {
-                let _ = self.pools.hand_in(lb, member, idle);
-                return Err(error.into());
-            }
-            self.dial.lend(idle.link());
-            self.lent = Some(Lent::over_idle(idle));
+        let asked = Asked {
+            lb,
+            member,
+            host,
+            port,
+            fresh,
+        };
+        if begin_idle(self.pools, &self.dial, &mut self.tape, &mut self.lent, &asked)? {
             return Ok(false);
         }
         let answer = self.dial.dial(alloc, host, port);
-        if let Err(IoError::Failed) = answer {
-            note_failed(&mut self.tape, lb, member, host, port, fresh)?;
-        }
-        let link = counted(answer, &mut self.failed)?;
-        if fresh {
-            close_idle(self.pools, lb, member);
-        }
-        self.tape.begin(lb, member, host, port, fresh, true)?;
-        self.lent = Some(Lent::over_new(lb, member, link));
+        let link = dialled(answer, &mut self.tape, &mut self.failed, &asked)?;
+        begin_new(self.pools, &mut self.tape, &mut self.lent, &asked, link)?;
         Ok(true)
     }
 
@@ -268,38 +263,6 @@ impl<'p, 'r, D: Dial, T: Tape, R: Wait> Reach for PooledReach<'p, 'r, D, T, R> {
     ghost open_in_talk = { λ r. refl };
 }
 
-// The idle link that was put last for a member, unless a fresh one is asked for. A lock says nothing of what lies
-// behind it, so the link itself says whose it is.
-fn idle_link<L: Drop, R: Wait>(
-    pools: &Pools<'_, Idle<L>, R>,
-    lb: u32,
-    member: u32,
-    fresh: bool,
-) -> Option<Idle<L>>
-    requires { HasMember pools.now lb member }
-    ensures fresh { fresh ≡ true → result ≡ None }
-    ensures whose { IfSome result (λ idle. (idle.lb ≡ lb) × (idle.member ≡ member)) }
-{
-    if fresh {
-        return None;
-    }
-    let idle = pools.take(lb, member)?;
-    if idle.is_of(lb, member) {
-        Some(idle)
-    } else {
-        None
-    }
-}
-
-// Closes the idle link that was put last for a member, whose place a fresh one takes: a talk of the same request has just
-// failed, so it may be dead too, and so a member never holds more links of this front than the front has threads. A
-// container that keeps a thread for each link would otherwise let the fresh one wait until an idle one is closed.
-fn close_idle<L: Drop, R: Wait>(pools: &Pools<'_, Idle<L>, R>, lb: u32, member: u32)
-    requires { HasMember pools.now lb member }
-{
-    let _ = pools.take(lb, member);
-}
-
 // Hands a lent link to the pool of its member where it is to be kept and may be. Where the pool is full it is closed.
 fn put_back<L: Link + Drop, R: Wait>(
     pools: &Pools<'_, Idle<L>, R>,
@@ -317,24 +280,4 @@ fn put_back<L: Link + Drop, R: Wait>(
     let (lb, member) = lent.whose();
     let idle = lent.kept(keep)?;
     Some(pools.hand_in(lb, member, idle))
-}
-
-// Notes a talk that never began, since its dial failed.
-fn note_failed<T: Tape>(
-    tape: &mut T,
-    lb: u32,
-    member: u32,
-    host: &Bytes,
-    port: u16,
-    fresh: bool,
-) -> Result<(), NoMemory>
-    requires { T.is_idle tape.old }
-    ensures noted { OnOk result (T.talks tape.new ≡ appended (T.talks tape.old) (failed_talk lb member host.now port fresh ∷ [])) }
-    ensures err { OnErr result (T.talks tape.new ≡ T.talks tape.old) }
-    ensures idle { T.is_idle tape.new }
-    ensures empty { IsEmpty (T.sent tape.new) × IsEmpty (T.received tape.new) }
-{
-    tape.begin(lb, member, host, port, fresh, false)?;
-    tape.finish(false);
-    Ok(())
 }

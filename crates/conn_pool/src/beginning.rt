@@ -1,0 +1,186 @@
+//! A talk begins: over an idle link of its member, or over one that was dialled for it.
+ghost use Rattle.std.specs.Prelude.{◌≡◌, [], ◌∷◌, true, false, None, IsOk, IsErrOf, IfOk, IfSome, OnOk, OnErr, is_ok, is_some};
+ghost use Rattle.jk_io.specs.Told.{appended, IsEmpty, HasCause};
+ghost use Rattle.jk_io.specs.Talks.{failed_talk};
+ghost use Rattle.conn_pool.specs.Idle.{HasMember};
+ghost use Rattle.conn_pool.specs.Reaches.{told_begun};
+
+use crate::keeping::Pools;
+use crate::lent::{Idle, Lent};
+use crate::noted::counted;
+use crate::tape::Tape;
+use jk_io::{Bytes, Dial, IoError, Link, NoMemory};
+use std::sync::Wait;
+
+/// What a talk is begun with.
+#[derive(Clone, Copy)]
+pub(crate) struct Asked<'h> {
+    pub(crate) lb: u32,
+    pub(crate) member: u32,
+    pub(crate) host: &'h Bytes,
+    pub(crate) port: u16,
+    pub(crate) fresh: bool,
+}
+
+/// Begins a talk over an idle link of its member, and says whether there was one. Another worker's dial may have made it,
+/// so this one's is told. Where the talk can't be noted, the link goes back to its pool.
+pub(crate) fn begin_idle<D: Dial, T: Tape, R: Wait>(
+    pools: &Pools<'_, Idle<D::L>, R>,
+    dial: &D,
+    tape: &mut T,
+    lent: &mut Option<Lent<D::L>>,
+    asked: &Asked<'_>,
+) -> Result<bool, NoMemory>
+    requires known { HasMember pools.now asked.now.lb asked.now.member }
+    requires idle { T.is_idle tape.old }
+    requires empty { IsEmpty (T.sent tape.old) × IsEmpty (T.received tape.old) }
+    requires none { lent.old ≡ None }
+    ensures there { IfOk result (λ there. is_some lent.new ≡ there) }
+    ensures whose { IfSome lent.new (λ new. (new.lb ≡ asked.now.lb) × (new.member ≡ asked.now.member)) }
+    ensures begins { IfSome lent.new (λ new. (new.began ≡ new.link.faults) × (new.faulty ≡ false)) }
+    ensures idle_link { IfSome lent.new (λ new. new.dialled ≡ false) }
+    ensures fresh { IfOk result (λ there. asked.now.fresh ≡ true → there ≡ false) }
+    ensures running { IfOk result (λ there. there ≡ true → T.is_running tape.new) }
+    ensures begun { IfOk result (λ there. there ≡ true → IfSome (T.begun tape.new) (λ b. b
+        ≡ told_begun asked.now.lb asked.now.member asked.now.host.now asked.now.port asked.now.fresh false)) }
+    ensures idle { IfOk result (λ there. there ≡ false → T.is_idle tape.new) }
+    ensures err { OnErr result ((lent.new ≡ None) × T.is_idle tape.new) }
+    ensures empty { IsEmpty (T.sent tape.new) × IsEmpty (T.received tape.new) }
+    ensures same { T.talks tape.new ≡ T.talks tape.old }
+{
+    let Some(idle) = idle_link(pools, asked.lb, asked.member, asked.fresh) else {
+        return Ok(false);
+    };
+    let noted = tape.begin(
+        asked.lb,
+        asked.member,
+        asked.host,
+        asked.port,
+        asked.fresh,
+        false,
+    );
+    if let Err(error) = noted {
+        let _ = pools.hand_in(asked.lb, asked.member, idle);
+        return Err(error);
+    }
+    dial.lend(idle.link());
+    *lent = Some(Lent::over_idle(idle));
+    Ok(true)
+}
+
+/// A dial's answer, noted and counted where the dial failed, so that no talk begins.
+pub(crate) fn dialled<L: Drop, T: Tape>(
+    answer: Result<L, IoError>,
+    tape: &mut T,
+    failed: &mut u64,
+    asked: &Asked<'_>,
+) -> Result<L, IoError>
+    requires idle { T.is_idle tape.old }
+    requires empty { IsEmpty (T.sent tape.old) × IsEmpty (T.received tape.old) }
+    ensures link { IsOk result → result ≡ answer }
+    ensures refused { IsErrOf result IoError.Failed → result ≡ answer }
+    ensures idle { T.is_idle tape.new }
+    ensures empty { IsEmpty (T.sent tape.new) × IsEmpty (T.received tape.new) }
+    ensures ok { OnOk result (T.talks tape.new ≡ T.talks tape.old) }
+    ensures failed { IsErrOf result IoError.Failed → T.talks tape.new ≡ appended (T.talks tape.old)
+        (failed_talk asked.now.lb asked.now.member asked.now.host.now asked.now.port asked.now.fresh ∷ []) }
+    ensures wanted { IsErrOf result IoError.NoMemory → T.talks tape.new ≡ T.talks tape.old }
+    ensures cause { HasCause failed.old failed.new result }
+    ensures steady { IsOk result → failed.new ≡ failed.old }
+    ensures want_of_memory { IsErrOf result IoError.NoMemory → failed.new ≡ failed.old }
+{
+    if let Err(IoError::Failed) = answer {
+        note_failed(tape, asked)?;
+    }
+    counted(answer, failed)
+}
+
+/// Begins a talk over a link that was dialled for it. Where the talk can't be noted, the link is closed.
+pub(crate) fn begin_new<L: Link + Drop, T: Tape, R: Wait>(
+    pools: &Pools<'_, Idle<L>, R>,
+    tape: &mut T,
+    lent: &mut Option<Lent<L>>,
+    asked: &Asked<'_>,
+    link: L,
+) -> Result<(), NoMemory>
+    requires known { HasMember pools.now asked.now.lb asked.now.member }
+    requires idle { T.is_idle tape.old }
+    requires none { lent.old ≡ None }
+    ensures there { is_some lent.new ≡ is_ok result }
+    ensures whose { IfSome lent.new (λ new. (new.lb ≡ asked.now.lb) × (new.member ≡ asked.now.member)) }
+    ensures begins { IfSome lent.new (λ new. (new.began ≡ new.link.faults) × (new.faulty ≡ false)) }
+    ensures new_link { IfSome lent.new (λ new. (new.dialled ≡ true) × (new.given ≡ link)) }
+    ensures running { OnOk result (T.is_running tape.new) }
+    ensures begun { OnOk result (IfSome (T.begun tape.new) (λ b. b
+        ≡ told_begun asked.now.lb asked.now.member asked.now.host.now asked.now.port asked.now.fresh true)) }
+    ensures err { OnErr result ((lent.new ≡ None) × T.is_idle tape.new) }
+    ensures empty { IsEmpty (T.sent tape.new) × IsEmpty (T.received tape.new) }
+    ensures same { T.talks tape.new ≡ T.talks tape.old }
+{
+    if asked.fresh {
+        close_idle(pools, asked.lb, asked.member);
+    }
+    tape.begin(
+        asked.lb,
+        asked.member,
+        asked.host,
+        asked.port,
+        asked.fresh,
+        true,
+    )?;
+    *lent = Some(Lent::over_new(asked.lb, asked.member, link));
+    Ok(())
+}
+
+// The idle link that was put last for a member, unless a fresh one is asked for. A lock says nothing of what lies
+// behind it, so the link itself says whose it is.
+fn idle_link<L: Drop, R: Wait>(
+    pools: &Pools<'_, Idle<L>, R>,
+    lb: u32,
+    member: u32,
+    fresh: bool,
+) -> Option<Idle<L>>
+    requires { HasMember pools.now lb member }
+    ensures fresh { fresh ≡ true → result ≡ None }
+    ensures whose { IfSome result (λ idle. (idle.lb ≡ lb) × (idle.member ≡ member)) }
+{
+    if fresh {
+        return None;
+    }
+    let idle = pools.take(lb, member)?;
+    if idle.is_of(lb, member) {
+        Some(idle)
+    } else {
+        None
+    }
+}
+
+// Closes the idle link that was put last for a member, whose place a fresh one takes: a talk of the same request has just
+// failed, so it may be dead too, and so a member never holds more links of this front than the front has threads. A
+// container that keeps a thread for each link would otherwise let the fresh one wait until an idle one is closed.
+fn close_idle<L: Drop, R: Wait>(pools: &Pools<'_, Idle<L>, R>, lb: u32, member: u32)
+    requires { HasMember pools.now lb member }
+{
+    let _ = pools.take(lb, member);
+}
+
+// Notes a talk that never began, since its dial failed.
+fn note_failed<T: Tape>(tape: &mut T, asked: &Asked<'_>) -> Result<(), NoMemory>
+    requires { T.is_idle tape.old }
+    ensures noted { OnOk result (T.talks tape.new ≡ appended (T.talks tape.old)
+        (failed_talk asked.now.lb asked.now.member asked.now.host.now asked.now.port asked.now.fresh ∷ [])) }
+    ensures err { OnErr result (T.talks tape.new ≡ T.talks tape.old) }
+    ensures idle { T.is_idle tape.new }
+    ensures empty { IsEmpty (T.sent tape.new) × IsEmpty (T.received tape.new) }
+{
+    tape.begin(
+        asked.lb,
+        asked.member,
+        asked.host,
+        asked.port,
+        asked.fresh,
+        false,
+    )?;
+    tape.finish(false);
+    Ok(())
+}
