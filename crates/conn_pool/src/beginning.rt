@@ -9,7 +9,7 @@ use crate::keeping::Pools;
 use crate::lent::{Idle, Lent};
 use crate::noted::counted;
 use crate::tape::Tape;
-use jk_io::{Bytes, Dial, IoError, Link, NoMemory};
+use jk_io::{Bytes, IoError, Link, NoMemory};
 use std::sync::Wait;
 
 /// What a talk is begun with.
@@ -22,13 +22,12 @@ pub(crate) struct Asked<'h> {
     pub(crate) fresh: bool,
 }
 
-/// Begins a talk over an idle link of its member, and says whether there was one. Another worker's dial may have made it,
-/// so this one's is told. Where the talk can't be noted, the link goes back to its pool.
-pub(crate) fn begin_idle<D: Dial, T: Tape, R: Wait>(
-    pools: &Pools<'_, Idle<D::L>, R>,
-    dial: &D,
+/// Begins a talk over an idle link of its member, and says whether there was one. Where the talk can't be noted, the link
+/// goes back to its pool.
+pub(crate) fn begin_idle<L: Link + Drop, T: Tape, R: Wait>(
+    pools: &Pools<'_, Idle<L>, R>,
     tape: &mut T,
-    lent: &mut Option<Lent<D::L>>,
+    lent: &mut Option<Lent<L>>,
     asked: &Asked<'_>,
 ) -> Result<bool, NoMemory>
     requires known { HasMember pools.now asked.now.lb asked.now.member }
@@ -63,7 +62,6 @@ pub(crate) fn begin_idle<D: Dial, T: Tape, R: Wait>(
         let _ = pools.hand_in(asked.lb, asked.member, idle);
         return Err(error);
     }
-    dial.lend(idle.link());
     *lent = Some(Lent::over_idle(idle));
     Ok(true)
 }

@@ -22,12 +22,6 @@ impl<L> Idle<L> {
     {
         self.lb == lb && self.member == member
     }
-
-    pub(crate) fn link(&self) -> &L
-        ensures { result.now ≡ self.now.link }
-    {
-        &self.link
-    }
 }
 
 /// A link while a talk runs over it, and whose it is. The link comes out by `kept` alone.
@@ -72,6 +66,10 @@ impl<L: Link + Drop> Lent<L> {
         ensures begins { (result.link.faults ≡ result.began) × (result.faulty ≡ false) }
     {
         Lent::over(lb, member, true, link)
+    }
+
+    pub(crate) fn link(&self) -> &L {
+        &self.link
     }
 
     /// A link that was idle.

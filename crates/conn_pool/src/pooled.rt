@@ -230,7 +230,11 @@ impl<'p, 'r, D: Dial, T: Tape, R: Wait> Reach for PooledReach<'p, 'r, D, T, R> {
             port,
             fresh,
         };
-        if begin_idle(self.pools, &self.dial, &mut self.tape, &mut self.lent, &asked)? {
+        if begin_idle(self.pools, &mut self.tape, &mut self.lent, &asked)? {
+            if let Some(lent) = &self.lent {
+                // Another worker's dial may have made it.
+                self.dial.lend(lent.link());
+            }
             return Ok(false);
         }
         let answer = self.dial.dial(alloc, host, port);
