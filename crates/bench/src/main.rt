@@ -1,8 +1,9 @@
-//! How fast the parts are: packets, heads, bodies, choices, a site's text and the check of a journal.
+//! How fast the parts are: packets, heads, bodies, choices, the texts of a site and the check of a journal.
 //!
 //! Without a word it makes one small round of each and prints no time. `ajp N`, `heads N`, `bodies N` and `book N` make
-//! N rounds, `site N` reads a text of N bytes, and `journal N` checks the text of N exchanges; they print figures. bench/
-//! has the same work in plain C, but for the last two.
+//! N rounds, of which bench/ has the same work in plain C. `site N` and `map N` read a workers.properties and a
+//! uriworkermap.properties of N bytes, `lists N` reads N balancers that borrow one list, and `journal N` checks the text of N
+//! exchanges. They print figures.
 #![tactic(auto)]
 
 mod ajp;
@@ -10,6 +11,8 @@ mod bodies;
 mod book;
 mod heads;
 mod journal;
+mod lists;
+mod map;
 mod site;
 mod timed;
 
@@ -24,6 +27,8 @@ enum Subject {
     Bodies,
     Book,
     Site,
+    Map,
+    Lists,
     Journal,
 }
 
@@ -34,8 +39,10 @@ fn subject_of(word: &str) -> Result<Subject> {
         "bodies" => Ok(Subject::Bodies),
         "book" => Ok(Subject::Book),
         "site" => Ok(Subject::Site),
+        "map" => Ok(Subject::Map),
+        "lists" => Ok(Subject::Lists),
         "journal" => Ok(Subject::Journal),
-        _ => bail!("the words are ajp, heads, bodies, book, site and journal"),
+        _ => bail!("the words are ajp, heads, bodies, book, site, map, lists and journal"),
     }
 }
 
@@ -56,6 +63,8 @@ fn small_rounds(rt: &HostRuntime) -> Result<()> {
     bodies::one_round(rt, rt.alloc())?;
     book::one_round(rt, rt.alloc())?;
     site::one_round(rt, rt.alloc())?;
+    map::one_round(rt, rt.alloc())?;
+    lists::one_round(rt, rt.alloc())?;
     journal::one_round(rt, rt.alloc())
 }
 
@@ -66,6 +75,8 @@ fn measure(rt: &HostRuntime, subject: Subject, amount: u32) -> Result<()> {
         Subject::Bodies => bodies::measure(rt, rt.alloc(), amount),
         Subject::Book => book::measure(rt, rt.alloc(), amount),
         Subject::Site => site::measure(rt, rt.alloc(), amount),
+        Subject::Map => map::measure(rt, rt.alloc(), amount),
+        Subject::Lists => lists::measure(rt, rt.alloc(), amount),
         Subject::Journal => journal::measure(rt, rt.alloc(), amount),
     }
 }

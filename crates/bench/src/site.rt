@@ -48,7 +48,7 @@ fn text_of(alloc: Global, workers: u64, bytes: u64) -> Result<String> {
 }
 
 /// The text, read as the program reads its files; none where it is too long.
-fn input_of(alloc: Global, text: &str) -> Result<Option<Bytes>>
+pub(crate) fn input_of(alloc: Global, text: &str) -> Result<Option<Bytes>>
     ensures { IfOk result (λ o. IfSome o (λ bytes. length bytes ≤ MAX_INPUT_BYTES)) }
 {
     let incoming = Bytes::from_slice(alloc, text.as_bytes())?;
@@ -61,7 +61,7 @@ fn input_of(alloc: Global, text: &str) -> Result<Option<Bytes>>
 }
 
 /// What a text says of its one balancer.
-fn figures_of(alloc: Global, text: &str) -> Result<String> {
+pub(crate) fn figures_of(alloc: Global, text: &str) -> Result<String> {
     let Some(input) = input_of(alloc, text)? else {
         return Ok(String::from_str(alloc, "too long")?);
     };
