@@ -8,7 +8,7 @@ mod wire;
 
 use crate::timed::show;
 use anyhow::{Result, ensure};
-use http_body_in::BodyIn;
+use http_body_in::{BodyFault, BodyIn};
 use http_front::{BodyPlan, HeadLines, Inbox};
 use http_out::{OutError, ReplyHead, ReplyWriter};
 use jk_io::{Bytes, NoMemory};
@@ -27,38 +27,65 @@ const PIECE_BYTES: usize = 8_186;
 /// No body comes near it.
 const MOST_BYTES: u64 = 1 << 40;
 
+/// Adds a chunk as its framing has it.
+fn put_chunk(text: &mut Vec<u8>, chunk: &[u8]) -> Result<(), NoMemory> {
+    text.extend_from_slice(b"2000\r\n")?;
+    text.extend_from_slice(chunk)?;
+    text.extend_from_slice(b"\r\n")?;
+    Ok(())
+}
+
 /// The same body in chunks.
-fn chunked(alloc: Global, data: &[u8]) -> Result<Vec<u8>> {
-    let mut text = Vec::new(alloc);
+fn put_chunks(text: &mut Vec<u8>, data: &[u8]) -> Result<(), NoMemory> {
     for chunk in data.chunks(CHUNK_BYTES) {
-        text.extend_from_slice(b"2000\r\n")?;
-        text.extend_from_slice(chunk)?;
-        text.extend_from_slice(b"\r\n")?;
+        put_chunk(text, chunk)?;
     }
     text.extend_from_slice(b"0\r\n\r\n")?;
-    Ok(text)
+    Ok(())
+}
+
+/// Takes one piece, and answers whether there was one.
+fn takes(
+    alloc: Global,
+    body: &mut BodyIn,
+    inbox: &mut Inbox,
+    client: &mut Wire,
+) -> Result<bool, BodyFault> {
+    Ok(!body.take(alloc, inbox, client, PIECE_BYTES)?.is_empty())
 }
 
 /// Takes a whole body in pieces, and answers how many bytes of data it has.
-fn take_body(alloc: Global, plan: BodyPlan, inbox: &mut Inbox, client: &mut Wire) -> Result<u64> {
+fn take_body(
+    alloc: Global,
+    plan: BodyPlan,
+    inbox: &mut Inbox,
+    client: &mut Wire,
+) -> Result<u64, BodyFault> {
     let mut body = BodyIn::new(plan, MOST_BYTES);
     for _ in 0..BODY_BYTES {
-        if body.take(alloc, inbox, client, PIECE_BYTES)?.is_empty() {
+        if !takes(alloc, &mut body, inbox, client)? {
             break;
         }
     }
     Ok(body.taken())
 }
 
+fn length_line(alloc: Global, length: &[u8]) -> Result<(Bytes, Bytes), NoMemory> {
+    let name = Bytes::from_slice(alloc, b"Content-Length")?;
+    Ok((name, Bytes::from_slice(alloc, length)?))
+}
+
+fn lines_of(alloc: Global, length: Option<&[u8]>) -> Result<HeadLines, NoMemory> {
+    let mut lines = HeadLines::new(alloc);
+    if let Some(length) = length {
+        lines.push(length_line(alloc, length)?)?;
+    }
+    Ok(lines)
+}
+
 /// A head, with a length or without one.
 fn head(alloc: Global, length: Option<&[u8]>) -> Result<ReplyHead, NoMemory> {
-    let mut headers = HeadLines::new(alloc);
-    if let Some(length) = length {
-        headers.push((
-            Bytes::from_slice(alloc, b"Content-Length")?,
-            Bytes::from_slice(alloc, length)?,
-        ))?;
-    }
+    let headers = lines_of(alloc, length)?;
     Ok(ReplyHead {
         status: 200,
         message: Bytes::from_slice(alloc, b"OK")?,
@@ -75,6 +102,16 @@ fn opened(alloc: Global, length: Option<&[u8]>) -> Result<ReplyWriter, OutError>
     Ok(writer)
 }
 
+/// Passes a body on in chunks, and ends it.
+fn pass(writer: &mut ReplyWriter, data: &[u8], client: &mut Wire) -> Result<(), OutError>
+    requires { IsOpen writer.old }
+{
+    for chunk in data.chunks(CHUNK_BYTES) {
+        writer.chunk(chunk, client)?;
+    }
+    writer.end(client)
+}
+
 /// Writes a reply in chunks.
 fn write_reply(
     alloc: Global,
@@ -82,11 +119,7 @@ fn write_reply(
     data: &[u8],
     client: &mut Wire,
 ) -> Result<(), OutError> {
-    let mut writer = opened(alloc, length)?;
-    for chunk in data.chunks(CHUNK_BYTES) {
-        writer.chunk(chunk, client)?;
-    }
-    writer.end(client)
+    pass(&mut opened(alloc, length)?, data, client)
 }
 
 /// What is measured.
@@ -99,36 +132,33 @@ enum Work {
 }
 
 impl Work {
-    /// What a client sends for it.
-    fn text(self, alloc: Global, data: &[u8]) -> Result<Vec<u8>> {
+    /// Adds what a client sends for it.
+    fn put_text(self, text: &mut Vec<u8>, data: &[u8]) -> Result<(), NoMemory> {
         match self {
-            Work::TakeChunks => chunked(alloc, data),
+            Work::TakeChunks => put_chunks(text, data),
             Work::TakeByLength | Work::WriteByLength | Work::WriteChunks => {
-                let mut text = Vec::new(alloc);
                 text.extend_from_slice(data)?;
-                Ok(text)
+                Ok(())
             }
         }
     }
 
-    /// One body, or one reply; answers how many bytes of data were taken.
-    fn once(self, alloc: Global, inbox: &mut Inbox, client: &mut Wire, data: &[u8]) -> Result<u64> {
+    fn text(self, alloc: Global, data: &[u8]) -> Result<Vec<u8>, NoMemory> {
+        let mut text = Vec::new(alloc);
+        self.put_text(&mut text, data)?;
+        Ok(text)
+    }
+
+    /// One body, or one reply: whether all bytes of data were taken.
+    fn does(self, alloc: Global, inbox: &mut Inbox, client: &mut Wire, data: &[u8]) -> bool {
+        let all = data.len() as u64;
         match self {
-            Work::TakeByLength => take_body(
-                alloc,
-                BodyPlan::Exact(data.len() as u64),
-                inbox,
-                client,
-            ),
-            Work::TakeChunks => take_body(alloc, BodyPlan::Chunked, inbox, client),
-            Work::WriteByLength => {
-                write_reply(alloc, Some(b"65536"), data, client)?;
-                Ok(data.len() as u64)
+            Work::TakeByLength => {
+                take_body(alloc, BodyPlan::Exact(all), inbox, client) == Ok(all)
             }
-            Work::WriteChunks => {
-                write_reply(alloc, None, data, client)?;
-                Ok(data.len() as u64)
-            }
+            Work::TakeChunks => take_body(alloc, BodyPlan::Chunked, inbox, client) == Ok(all),
+            Work::WriteByLength => write_reply(alloc, Some(b"65536"), data, client).is_ok(),
+            Work::WriteChunks => write_reply(alloc, None, data, client).is_ok(),
         }
     }
 
@@ -142,25 +172,44 @@ impl Work {
     }
 }
 
-fn rounds_of(
+fn does_often(
     work: Work,
     alloc: Global,
     inbox: &mut Inbox,
     client: &mut Wire,
     data: &[u8],
     rounds: u32,
-) -> Result<()> {
+) -> bool {
     for _ in 0..rounds {
         client.rewind();
-        let bytes = work.once(alloc, inbox, client, data)?;
-        ensure!(bytes == data.len() as u64, "{bytes} bytes of data");
+        if !work.does(alloc, inbox, client, data) {
+            return false;
+        }
     }
-    Ok(())
+    true
 }
 
 fn over_wire(work: Work, alloc: Global, text: &[u8], data: &[u8], rounds: u32) -> Result<()> {
-    let mut inbox = Inbox::new(alloc)?;
-    rounds_of(work, alloc, &mut inbox, &mut Wire::new(text), data, rounds)
+    let inbox = &mut Inbox::new(alloc)?;
+    ensure!(
+        does_often(work, alloc, inbox, &mut Wire::new(text), data, rounds),
+        "a body was refused"
+    );
+    Ok(())
+}
+
+fn measure_text(
+    rt: &(impl Print + Clock),
+    alloc: Global,
+    work: Work,
+    text: &[u8],
+    data: &[u8],
+    rounds: u32,
+) -> Result<()> {
+    let start = Instant::now(rt)?;
+    over_wire(work, alloc, text, data, rounds)?;
+    let bytes = u64::from(rounds).saturating_mul(BODY_BYTES as u64);
+    show(rt, work.name(), bytes, start)
 }
 
 fn measure_work(
@@ -171,18 +220,26 @@ fn measure_work(
     rounds: u32,
 ) -> Result<()> {
     let text = work.text(alloc, data)?;
-    let start = Instant::now(rt)?;
-    over_wire(work, alloc, text.as_slice(), data, rounds)?;
-    let bytes = u64::from(rounds).saturating_mul(BODY_BYTES as u64);
-    show(rt, work.name(), bytes, start)
+    measure_text(rt, alloc, work, text.as_slice(), data, rounds)
+}
+
+static WORKS: [Work; 4] = [
+    Work::TakeByLength,
+    Work::TakeChunks,
+    Work::WriteByLength,
+    Work::WriteChunks,
+];
+
+fn measure_with(rt: &(impl Print + Clock), alloc: Global, data: &[u8], rounds: u32) -> Result<()> {
+    for work in &WORKS {
+        measure_work(rt, alloc, *work, data, rounds)?;
+    }
+    Ok(())
 }
 
 pub fn measure(rt: &(impl Print + Clock), alloc: Global, rounds: u32) -> Result<()> {
     let data = vec![in alloc; b'x'; BODY_BYTES]?;
-    measure_work(rt, alloc, Work::TakeByLength, data.as_slice(), rounds)?;
-    measure_work(rt, alloc, Work::TakeChunks, data.as_slice(), rounds)?;
-    measure_work(rt, alloc, Work::WriteByLength, data.as_slice(), rounds)?;
-    measure_work(rt, alloc, Work::WriteChunks, data.as_slice(), rounds)
+    measure_with(rt, alloc, data.as_slice(), rounds)
 }
 
 fn once(alloc: Global, work: Work, data: &[u8]) -> Result<()> {
@@ -190,17 +247,16 @@ fn once(alloc: Global, work: Work, data: &[u8]) -> Result<()> {
     over_wire(work, alloc, text.as_slice(), data, 1)
 }
 
-/// One body, or one reply, of each kind.
-pub fn one_round(rt: &impl Print, alloc: Global) -> Result<()> {
-    let data = vec![in alloc; b'x'; BODY_BYTES]?;
-    for work in [
-        Work::TakeByLength,
-        Work::TakeChunks,
-        Work::WriteByLength,
-        Work::WriteChunks,
-    ] {
-        once(alloc, work, data.as_slice())?;
+fn each_once(rt: &impl Print, alloc: Global, data: &[u8]) -> Result<()> {
+    for work in &WORKS {
+        once(alloc, *work, data)?;
         println!(rt; "{BODY_BYTES} {}", work.name())?;
     }
     Ok(())
+}
+
+/// One body, or one reply, of each kind.
+pub fn one_round(rt: &impl Print, alloc: Global) -> Result<()> {
+    let data = vec![in alloc; b'x'; BODY_BYTES]?;
+    each_once(rt, alloc, data.as_slice())
 }

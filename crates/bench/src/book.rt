@@ -5,12 +5,12 @@
 ghost use Rattle.std.specs.Prelude.{◌≡◌, IfOk};
 
 use crate::timed::show;
-use anyhow::{Context, Result};
+use anyhow::Result;
 use balancer_core::{Book, Picked};
-use jk_io::Bytes;
+use jk_io::{Bytes, NoMemory};
 use jk_model::{
-    Activation, Ask, Change, Command, Kind, LbConfig, MemberConfig, MemberList, Method, Outcome,
-    Redirect,
+    Activation, Ask, Change, Command, ConfigError, Kind, LbConfig, MemberConfig, MemberList,
+    Method, Outcome, Redirect,
 };
 use std::alloc::Global;
 use std::rt::Clock;
@@ -35,8 +35,8 @@ const MAINTAIN_SECONDS: u64 = 60;
 /// Exchanges between two maintenances.
 const STRETCH: u64 = 64;
 
-fn member(alloc: Global, index: u32) -> Result<MemberConfig> {
-    Ok(MemberConfig {
+fn member(alloc: Global, index: u32) -> MemberConfig {
+    MemberConfig {
         name: Bytes::new(alloc),
         route: Bytes::new(alloc),
         factor: index % 3 + 1,
@@ -44,30 +44,34 @@ fn member(alloc: Global, index: u32) -> Result<MemberConfig> {
         activation: Activation::Active,
         redirect: None,
         pool: 64,
-    })
+    }
+}
+
+fn members_of(alloc: Global, count: u32) -> Result<MemberList, NoMemory> {
+    let mut members = MemberList::new(alloc);
+    for index in 0..count {
+        members.push(member(alloc, index))?;
+    }
+    Ok(members)
+}
+
+fn config_of(members: MemberList) -> Result<LbConfig, ConfigError> {
+    LbConfig::new(
+        Method::Request,
+        false,
+        false,
+        false,
+        MAINTAIN_SECONDS,
+        MAINTAIN_SECONDS,
+        members,
+    )
 }
 
 /// A Book of rules 2 with so many members.
 pub fn book_of(alloc: Global, count: u32) -> Result<Book>
     ensures { IfOk result (λ book. book.rules ≡ 2) }
 {
-    let mut members = MemberList::new(alloc);
-    for index in 0..count {
-        members
-            .push(member(alloc, index)?)
-            .ok()
-            .context("no memory")?;
-    }
-    let (maintain, recover) = (MAINTAIN_SECONDS, MAINTAIN_SECONDS);
-    let config = LbConfig::new(
-        Method::Request,
-        false,
-        false,
-        false,
-        maintain,
-        recover,
-        members,
-    )?;
+    let config = config_of(members_of(alloc, count)?)?;
     Ok(Book::start(alloc, config, 0, 0)?)
 }
 
@@ -93,6 +97,21 @@ fn exchanges(book: &mut Book, at: u64, count: u64) -> Result<()>
     Ok(())
 }
 
+/// A new distance of the first member.
+fn put_distance(book: &mut Book, at: u64, distance: u32) -> Result<()>
+    requires { book.old.rules ≡ 2 }
+    ensures { book.new.rules ≡ 2 }
+{
+    let change = Change {
+        activation: None,
+        factor: None,
+        distance: Some(distance),
+        redirect: Redirect::Keep,
+    };
+    book.admin(0, at, &Command::Update { member: 0, change })?;
+    Ok(())
+}
+
 /// A stretch of exchanges, the maintenance that is then due, and a new distance of the first member.
 fn stretch(book: &mut Book, number: u64) -> Result<()>
     requires { book.old.rules ≡ 2 }
@@ -101,14 +120,7 @@ fn stretch(book: &mut Book, number: u64) -> Result<()>
     let at = number.saturating_mul(MAINTAIN_SECONDS);
     exchanges(book, at, STRETCH)?;
     book.maintain_if_due(0, at)?;
-    let change = Change {
-        activation: None,
-        factor: None,
-        distance: Some((number % 2) as u32),
-        redirect: Redirect::Keep,
-    };
-    book.admin(0, at, &Command::Update { member: 0, change })?;
-    Ok(())
+    put_distance(book, at, (number % 2) as u32)
 }
 
 fn stretches(book: &mut Book, count: u64) -> Result<()>
@@ -152,6 +164,13 @@ fn measure_mixed(rt: &(impl Print + Clock), book: &mut Book, rounds: u32) -> Res
     show(rt, "holds with maintenance and commands", holds, start)
 }
 
+fn measure_both(rt: &(impl Print + Clock), book: &mut Book, rounds: u32) -> Result<()>
+    requires { book.old.rules ≡ 2 }
+{
+    measure_plain(rt, book, rounds)?;
+    measure_mixed(rt, book, rounds)
+}
+
 fn measure_book(
     rt: &(impl Print + Clock),
     alloc: Global,
@@ -160,9 +179,7 @@ fn measure_book(
     rounds: u32,
 ) -> Result<()> {
     println!(rt; "{members} members, {kept} entries kept")?;
-    let mut book = filled_book(alloc, members, kept)?;
-    measure_plain(rt, &mut book, rounds)?;
-    measure_mixed(rt, &mut book, rounds)
+    measure_both(rt, &mut filled_book(alloc, members, kept)?, rounds)
 }
 
 pub fn measure(rt: &(impl Print + Clock), alloc: Global, rounds: u32) -> Result<()> {
@@ -174,10 +191,17 @@ pub fn measure(rt: &(impl Print + Clock), alloc: Global, rounds: u32) -> Result<
     Ok(())
 }
 
+/// How many entries a Book has after two stretches.
+fn added_by(book: &mut Book) -> Result<u64>
+    requires { book.old.rules ≡ 2 }
+{
+    stretches(book, 2)?;
+    Ok(book.added())
+}
+
 /// Two stretches of a Book.
 pub fn one_round(rt: &impl Print, alloc: Global) -> Result<()> {
-    let mut book = book_of(alloc, 8)?;
-    stretches(&mut book, 2)?;
-    println!(rt; "{} entries added", book.added())?;
+    let added = added_by(&mut book_of(alloc, 8)?)?;
+    println!(rt; "{added} entries added")?;
     Ok(())
 }

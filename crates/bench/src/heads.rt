@@ -46,18 +46,30 @@ enum Way {
     Parser,
 }
 
+/// Reads a head, and answers how many header lines it has.
+fn read_lines(alloc: Global, inbox: &mut Inbox, client: &mut Feed) -> Result<u64> {
+    match read_head(alloc, inbox, client)? {
+        HeadGot::Head(head) => Ok(head.headers.len() as u64),
+        HeadGot::End => bail!("the client's bytes ended"),
+    }
+}
+
 /// Reads heads from a client that has no end of them, and answers how many header lines they had.
-fn read_heads(alloc: Global, text: &[u8], heads: u64) -> Result<u64> {
-    let mut inbox = Inbox::new(alloc)?;
-    let mut client = Feed::new(text);
+fn read_with(alloc: Global, inbox: &mut Inbox, client: &mut Feed, heads: u64) -> Result<u64> {
     let mut lines = 0u64;
     for _ in 0..heads {
-        match read_head(alloc, &mut inbox, &mut client)? {
-            HeadGot::Head(head) => lines = lines.saturating_add(head.headers.len() as u64),
-            HeadGot::End => bail!("the client's bytes ended"),
-        }
+        lines = lines.saturating_add(read_lines(alloc, inbox, client)?);
     }
     Ok(lines)
+}
+
+fn read_heads(alloc: Global, text: &[u8], heads: u64) -> Result<u64> {
+    read_with(alloc, &mut Inbox::new(alloc)?, &mut Feed::new(text), heads)
+}
+
+fn read_row(alloc: Global, head: &[u8], heads: u64) -> Result<u64> {
+    let row = head.repeat(alloc, HEADS_IN_A_ROW)?;
+    read_heads(alloc, row.as_slice(), heads)
 }
 
 /// Has the parser read the same head so many times, and answers how many header lines it found.
@@ -78,10 +90,7 @@ fn read_by(way: Way, alloc: Global, heads: u64) -> Result<u64> {
     let head = HEAD.as_bytes();
     match way {
         Way::Alone => read_heads(alloc, head, heads),
-        Way::Pipelined => {
-            let row = head.repeat(alloc, HEADS_IN_A_ROW)?;
-            read_heads(alloc, row.as_slice(), heads)
-        },
+        Way::Pipelined => read_row(alloc, head, heads),
         Way::Parser => parse_heads(head, heads),
     }
 }

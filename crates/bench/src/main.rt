@@ -14,6 +14,7 @@ mod journal;
 mod lists;
 mod map;
 mod site;
+mod texts;
 mod timed;
 
 use anyhow::{Context, Result, bail};

@@ -1,12 +1,13 @@
 //! A Forward Request with 12 headers, as a browser makes them.
 
-ghost use Rattle.std.specs.Prelude.{IfOk};
+ghost use Rattle.std.specs.Prelude.{◌≤◌, IfOk, length};
 ghost use Rattle.ajp_request.specs.Writing.{IsForward};
 
+use super::headers::headers_of;
 use ajp_request::{AttributeList, Forward, decode_forward, encode_forward};
-use ajp_wire::{HEAD_BYTES, HeadPairs, MAX_HEADERS};
+use ajp_wire::{EncodeError, HEAD_BYTES, HeadPairs, MAX_HEADERS};
 use anyhow::{Result, ensure};
-use jk_io::Bytes;
+use jk_io::{Bytes, NoMemory};
 use std::alloc::Global;
 
 const PACKET_BYTES: u32 = 8192;
@@ -36,69 +37,109 @@ fn table() -> &'static [(&'static str, &'static str)] {
     &HEADERS
 }
 
-fn headers(alloc: Global) -> Result<HeadPairs> {
-    let mut headers = Vec::with_capacity(alloc, table().len())?;
-    for (name, value) in table() {
-        headers.push((
-            Bytes::from_slice(alloc, name.as_bytes())?,
-            Bytes::from_slice(alloc, value.as_bytes())?,
-        ))?;
-    }
-    Ok(HeadPairs::from_vec(headers))
-}
-
-/// A GET of a browser.
-pub fn request(alloc: Global) -> Result<Forward>
-    ensures { IfOk result IsForward }
+/// A request with these headers, whose texts are empty.
+fn with_headers(alloc: Global, headers: HeadPairs) -> Forward
+    requires { length headers ≤ MAX_HEADERS }
+    ensures { IsForward result }
 {
-    let headers = headers(alloc)?;
-    ensure!(headers.len() <= MAX_HEADERS, "too many headers");
-    Ok(Forward {
-        method: Bytes::from_slice(alloc, b"GET")?,
-        protocol: Bytes::from_slice(alloc, b"HTTP/1.1")?,
-        uri: Bytes::from_slice(alloc, b"/shop/item.jsp")?,
-        remote_addr: Bytes::from_slice(alloc, b"192.0.2.17")?,
-        remote_host: Bytes::from_slice(alloc, b"192.0.2.17")?,
-        server: Bytes::from_slice(alloc, b"www.example.org")?,
+    Forward {
+        method: Bytes::new(alloc),
+        protocol: Bytes::new(alloc),
+        uri: Bytes::new(alloc),
+        remote_addr: Bytes::new(alloc),
+        remote_host: Bytes::new(alloc),
+        server: Bytes::new(alloc),
         port: 80,
         ssl: false,
         headers,
         attributes: AttributeList::new(alloc),
-    })
+    }
+}
+
+fn put_line(forward: &mut Forward) -> Result<(), NoMemory>
+    requires { IsForward forward.old }
+    ensures { IsForward forward.new }
+{
+    forward.method.extend(b"GET")?;
+    forward.protocol.extend(b"HTTP/1.1")?;
+    forward.uri.extend(b"/shop/item.jsp")
+}
+
+fn put_ends(forward: &mut Forward) -> Result<(), NoMemory>
+    requires { IsForward forward.old }
+    ensures { IsForward forward.new }
+{
+    forward.remote_addr.extend(b"192.0.2.17")?;
+    forward.remote_host.extend(b"192.0.2.17")?;
+    forward.server.extend(b"www.example.org")
+}
+
+/// A GET without its texts.
+fn bare_request(alloc: Global) -> Result<Forward, NoMemory>
+    ensures { IfOk result IsForward }
+{
+    let headers = headers_of(alloc, table())?;
+    if headers.len() > MAX_HEADERS {
+        return Err(NoMemory);
+    }
+    Ok(with_headers(alloc, headers))
+}
+
+/// A GET of a browser.
+pub fn request(alloc: Global) -> Result<Forward, NoMemory>
+    ensures { IfOk result IsForward }
+{
+    let mut forward = bare_request(alloc)?;
+    put_line(&mut forward)?;
+    put_ends(&mut forward)?;
+    Ok(forward)
 }
 
 /// The packet of a request.
-pub fn write(alloc: Global, forward: &Forward) -> Result<Bytes>
+pub fn write(alloc: Global, forward: &Forward) -> Result<Bytes, EncodeError>
     requires { IsForward forward.now }
 {
-    Ok(encode_forward(alloc, forward, PACKET_BYTES)?)
+    encode_forward(alloc, forward, PACKET_BYTES)
 }
 
-/// Writes a request so many times.
-pub fn write_often(alloc: Global, forward: &Forward, rounds: u32) -> Result<()>
+/// Writes a request so many times. False where it is refused.
+pub fn write_often(alloc: Global, forward: &Forward, rounds: u32) -> bool
     requires { IsForward forward.now }
 {
     for _ in 0..rounds {
-        write(alloc, forward)?;
+        if write(alloc, forward).is_err() {
+            return false;
+        }
     }
-    Ok(())
+    true
 }
 
-fn read(alloc: Global, packet: &[u8]) -> Result<Forward> {
-    Ok(decode_forward(alloc, packet.get(HEAD_BYTES..).unwrap_or(&[]))?)
+fn is_read(alloc: Global, packet: &[u8]) -> bool {
+    decode_forward(alloc, packet.get(HEAD_BYTES..).unwrap_or(&[])).is_ok()
 }
 
-/// Reads the request of a packet so many times.
-pub fn read_often(alloc: Global, packet: &[u8], rounds: u32) -> Result<()> {
+/// Reads the request of a packet so many times. False where it is refused.
+pub fn read_often(alloc: Global, packet: &[u8], rounds: u32) -> bool {
     for _ in 0..rounds {
-        read(alloc, packet)?;
+        if !is_read(alloc, packet) {
+            return false;
+        }
     }
-    Ok(())
+    true
+}
+
+fn size_of(alloc: Global, request: &Forward) -> Result<usize>
+    requires { IsForward request.now }
+{
+    let packet = write(alloc, request)?;
+    ensure!(
+        is_read(alloc, packet.as_slice()),
+        "the request isn't read again"
+    );
+    Ok(packet.len())
 }
 
 /// The bytes of its packet, which is read again once.
 pub fn size(alloc: Global) -> Result<usize> {
-    let packet = write(alloc, &request(alloc)?)?;
-    read_often(alloc, packet.as_slice(), 1)?;
-    Ok(packet.len())
+    size_of(alloc, &request(alloc)?)
 }

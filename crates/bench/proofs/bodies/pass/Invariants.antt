@@ -1,5 +1,5 @@
 use Rattle.http_out.specs.Writer.{IsOpen}
-use Rattle.bench.proofs.bodies.write_reply.Given as goal
+use Rattle.bench.proofs.bodies.pass.Given as goal
 
 abbrev pub invariant-loop-chunk : goal.invariant-loop-chunk
 invariant-loop-chunk l = IsOpen l.writer
