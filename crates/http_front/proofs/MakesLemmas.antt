@@ -1,17 +1,20 @@
 -- A head that was made is one of the bytes that it was parsed from.
-use Rattle.std.proofs.Common.{◌≡◌, ◌≤◌, ◌<◌, ◌+◌, ℕ, Bool, List, ◌++◌, Option, Result, Ok, Err, length, take, drop, inl, inr, sym, ap, subst, ◌∙◌, arith, append_assoc, append-nil, length-append, length-drop, length-take, drop-drop}
-use Rattle.jk_io.specs.Told.{prepended}
-use Rattle.jk_io.proofs.ToldLaws.{prepended-prepended}
-use Rattle.http_front.specs.Answer.{UsesHead, IfRefused}
-use Rattle.http_front.specs.Refusal.{status_of}
-use Rattle.http_front.specs.Search.{IsWhole, IsPart}
-use Rattle.http_front.proofs.CutLemmas.{part-none}
+use Rattle.std.proofs.Common.{◌≡◌, ◌≤◌, ◌<◌, ◌+◌, ℕ, Bool, List, [], ◌++◌, Option, Result, Ok, Err, length, take, drop, inl, inr, sym, ap, subst, ◌∙◌, arith, append_assoc, append-nil, length-append, length-drop, length-take, drop-drop}
+use Rattle.std.proofs.Math.Seq.{drop-length}
+use Rattle.jk_io.specs.Told.{prepended, IsEmpty}
+use Rattle.jk_io.specs.declared.failures.IoError.{IoError}
+use Rattle.jk_io.specs.declared.failures.IoError.TheVariants as io
+use Rattle.jk_io.proofs.ToldLaws.{prepended-nil, prepended-prepended}
+use Rattle.http_front.specs.Answer.{UsesHead, UsesEnd, IfRefused}
+use Rattle.http_front.specs.Refusal.{status_of, read_error}
+use Rattle.http_front.specs.Search.{IsWhole, IsPart, IsStop, IsFound}
+use Rattle.http_front.proofs.CutLemmas.{part-none, over-made}
 use Rattle.httparse.specs.Grammar.{RequestHead}
 use Rattle.http_front.specs.Cut.{header_lines}
 use Rattle.http_front.specs.Fields.{Line}
 use Rattle.http_front.specs.Judged.{head_of}
 use Rattle.http_front.specs.Makes.{Makes, MakesOf, IsFront}
-use Rattle.http_front.specs.Request.{Reads, Refuses, RefusesFront, EndsWithin, IsDecided, judged}
+use Rattle.http_front.specs.Request.{Reads, Refuses, RefusesFront, AreEmptyLines, EndsWithin, IsDecided, judged}
 use Rattle.http_front.specs.declared.answers.Form.{Form}
 use Rattle.http_front.specs.declared.answers.HeadError.{HeadError}
 use Rattle.http_front.specs.declared.answers.HeadError.TheVariants.{Refused, Truncated, Fault, NoMemory}
@@ -91,3 +94,42 @@ part-awaits bytes slice first blank searched part value same short decided =
     let P : List ℕ → Type 0 = λ l. IsPart l blank searched in
     let Q : List ℕ → Type 0 = λ l. IsDecided l in
     part-undecided bytes blank searched (subst P value part) short (subst Q (sym same) decided)
+
+-- a part that decides fills the inbox
+decided-full : (bytes : List ℕ) (blank searched : ℕ) → IsPart bytes blank searched → IsDecided bytes → 16384 ≤ length bytes
+decided-full bytes blank searched part (inl head) = absurd (part-none bytes blank searched part head.blank head.front head.rest head.cut)
+decided-full bytes blank searched part (inr long) = long
+
+pub part-full : (bytes slice first : List ℕ) (blank searched : ℕ) → IsPart slice blank searched → slice ≡ bytes → bytes ≡ first → IsDecided first → 16384 ≤ length bytes
+part-full bytes slice first blank searched part value same decided =
+    let P : List ℕ → Type 0 = λ l. IsPart l blank searched in
+    let Q : List ℕ → Type 0 = λ l. IsDecided l in
+    decided-full bytes blank searched (subst P value part) (subst Q (sym same) decided)
+
+-- a read that failed had room in the inbox
+pub stop-read : (bytes : List ℕ) (error : IoError) (e : HeadError) → e ≡ read_error error → length bytes < 16384 → IsStop bytes e
+stop-read bytes error e is short = subst (λ (x : HeadError). IsStop bytes x) (sym is) (by_error error)
+  where
+    by_error : (x : IoError) → IsStop bytes (read_error x)
+    by_error io.Failed = short
+    by_error io.NoMemory = tt
+
+-- where no more is read, the limit is reached, or a read was refused
+pub stop-found : (bytes slice now : List ℕ) (blank searched : ℕ) (e : HeadError) → IsPart slice blank searched → slice ≡ bytes → IsStop bytes e → now ≡ bytes → IsFound now (Err e)
+stop-found bytes slice now blank searched e part value stop same =
+    subst (λ (l : List ℕ). IsFound l (Err e)) (sym same) (by_stop e stop)
+  where
+    by_stop : (x : HeadError) → IsStop bytes x → IsFound bytes (Err x)
+    by_stop (Refused status form) why = (why.0, why.1, over-made bytes blank searched (subst (λ (l : List ℕ). IsPart l blank searched) value part) why.2)
+    by_stop Truncated why = absurd why
+    by_stop Fault why = tt
+    by_stop NoMemory why = tt
+
+-- empty lines alone are used
+pub uses-end : (inbox now : List ℕ) (more : Option (List ℕ)) → AreEmptyLines inbox → now ≡ drop (length inbox) inbox → IsEmpty more
+    → UsesEnd (prepended inbox more) (prepended now more)
+uses-end inbox now more empty is over =
+    let none : now ≡ [] = is ∙ drop-length inbox in
+    let P : List ℕ → Type 0 = λ l. UsesEnd (prepended inbox more) (prepended l more) in
+    let Q : Option (List ℕ) → Type 0 = λ o. IsEmpty o in
+    subst P (sym none) (record { bytes = inbox; empty = empty; used = ap (prepended inbox) (sym (prepended-nil more)); over = subst Q (sym (prepended-nil more)) over })

@@ -1,5 +1,5 @@
 -- What a search for a head's end keeps while bytes are still to come.
-use Rattle.std.specs.Prelude.{ℕ, ◌≡◌, ◌+◌, ◌≤◌, List, ◌++◌, length, take, drop, Some, None, Result, Ok, Err, ⊤}
+use Rattle.std.specs.Prelude.{ℕ, ◌≡◌, ◌+◌, ◌≤◌, ◌<◌, List, ◌++◌, length, take, drop, Some, None, Result, Ok, Err, ⊤}
 use Rattle.std.specs.Option.{option_map}
 use Rattle.http_front.specs.Cut.{Cuts, blank_len, head_len}
 use Rattle.http_front.specs.Request.{AreEmptyLines, EndsWithin, IsOver}
@@ -12,6 +12,7 @@ use Rattle.http_front.specs.declared.reading.Found.TheVariants as found
 use Rattle.http_front.specs.declared.answers.HeadError.{HeadError}
 use Rattle.http_front.specs.declared.answers.HeadError.TheVariants as error
 use Rattle.http_front.specs.declared.answers.Form.TheVariants.{TooBig}
+use Rattle.http_front.specs.declared.inbox.TheConstants.{MAX_HEAD_BYTES}
 
 -- the first at bytes are empty lines, whatever comes behind bytes
 abbrev pub Skipped : List ℕ → ℕ → Type 0
@@ -47,6 +48,13 @@ pub record IsPart (bytes : List ℕ) (blank searched : ℕ) : Type 0 where
 abbrev pub IsLook : List ℕ → Look → Type 0
 IsLook bytes (Whole blank len) = IsWhole bytes blank len
 IsLook bytes (Part blank searched) = IsPart bytes blank searched
+
+-- why no more of a head is read behind these bytes
+abbrev pub IsStop : List ℕ → HeadError → Type 0
+IsStop bytes (error.Refused status form) = (status ≡ 431) × (form ≡ TooBig) × (length bytes ≡ MAX_HEAD_BYTES)
+IsStop bytes error.Truncated = ⊥
+IsStop bytes error.Fault = length bytes < MAX_HEAD_BYTES
+IsStop bytes error.NoMemory = ⊤
 
 -- what the bytes that were read say
 abbrev pub IsFound : List ℕ → Result Found HeadError → Type 0

@@ -1,10 +1,10 @@
 //! `read_head`: the next head of a client's bytes.
-ghost use Rattle.std.specs.Prelude.{◌≡◌, ◌≤◌, OnErr, IsErrOf};
+ghost use Rattle.std.specs.Prelude.{◌≡◌, ◌≤◌, ◌<◌, ◌++◌, ℕ, List, Option, Ok, length, IfOk, IfErr, OnErr, IsErrOf};
 ghost use Rattle.jk_io.specs.Told.{IsEmpty, Rose};
 ghost use Rattle.http_front.specs.Answer.{UsesHead, UsesEnd, IfHead, OnEnd, IfRefused, IsCalm};
 ghost use Rattle.http_front.specs.Refusal.{status_of};
 ghost use Rattle.http_front.specs.Request.{Refuses, EndsWithin, IsDecided};
-ghost use Rattle.http_front.specs.Search.{IsSeen, IsLook, IsFound, HasEnded};
+ghost use Rattle.http_front.specs.Search.{IsSeen, IsPart, IsLook, IsStop, IsFound, HasEnded};
 ghost use Rattle.http_front.specs.Unread.{unread};
 
 use crate::answers::{Form, HeadError, HeadGot};
@@ -49,6 +49,44 @@ fn look_at(bytes: &[u8], blank: usize, searched: usize) -> Look
     }
 }
 
+/// Reads on where the inbox has room for more of a head, and answers how many bytes came; 0 is the end.
+fn read_on<C: Link>(inbox: &mut Inbox, client: &mut C) -> Result<usize, HeadError>
+    ensures more { IfOk result (λ n. (came : List ℕ) × (length came ≡ n) × (inbox.new ≡ inbox.old ++ came)) }
+    ensures room { IfOk result (λ n. length inbox.old < MAX_HEAD_BYTES) }
+    ensures end { IfOk result (λ n. n ≡ 0 → IsEmpty (C.incoming client.new)) }
+    ensures stopped { IfErr result (IsStop inbox.old) }
+    ensures err { OnErr result (inbox.new ≡ inbox.old) }
+    ensures fault { IsErrOf result HeadError.Fault → Rose (C.faults client.old) (C.faults client.new) }
+    ensures steady { IsCalm result → C.faults client.new ≡ C.faults client.old }
+    ensures unasked { MAX_HEAD_BYTES ≤ length inbox.old → client.new ≡ client.old }
+    ensures unread { unread inbox.new (C.incoming client.new) ≡ unread inbox.old (C.incoming client.old) }
+    ensures same { (C.sent client.new ≡ C.sent client.old) × (C.beside client.new ≡ C.beside client.old) }
+    ensures no_fewer { C.faults client.old ≤ C.faults client.new }
+{
+    if inbox.len() == MAX_HEAD_BYTES {
+        return Err(refused(Form::TooBig));
+    }
+    match inbox.read_more(client) {
+        Ok(count) => Ok(count),
+        Err(error) => Err(HeadError::from(error)),
+    }
+}
+
+/// What stands where the bytes end and no head has its end: empty lines alone, or the front of a head.
+fn end_at(bytes: &[u8], blank: usize) -> Result<Found, HeadError>
+    requires part { (searched : ℕ) × IsPart bytes.now blank searched }
+    requires short { length bytes.now < MAX_HEAD_BYTES }
+    ensures found { IsFound bytes.now result }
+    ensures ended { HasEnded result }
+    ensures no_fault { IsErrOf result HeadError.Fault → ⊥ }
+{
+    if blank == bytes.len() {
+        Ok(Found::End)
+    } else {
+        Err(HeadError::Truncated)
+    }
+}
+
 /// Reads until a head has its end in the inbox, the bytes end, or the limit is reached.
 fn find_head<C: Link>(inbox: &mut Inbox, client: &mut C) -> Result<Found, HeadError>
     ensures found { IsFound inbox.new result }
@@ -74,18 +112,34 @@ fn find_head<C: Link>(inbox: &mut Inbox, client: &mut C) -> Result<Found, HeadEr
                 searched = at;
             }
         }
-        if inbox.len() == MAX_HEAD_BYTES {
-            return Err(refused(Form::TooBig));
-        }
-        match inbox.read_more(client) {
-            Ok(0) => {
-                if blank == inbox.len() {
-                    return Ok(Found::End);
-                }
-                return Err(HeadError::Truncated);
-            }
+        match read_on(inbox, client) {
+            Ok(0) => return end_at(inbox.as_slice(), blank),
             Ok(_) => {}
-            Err(error) => return Err(HeadError::from(error)),
+            Err(error) => return Err(error),
+        }
+    }
+}
+
+/// Takes what was found from the front of the inbox.
+fn take_found(alloc: Global, inbox: &mut Inbox, found: Found) -> Result<HeadGot, HeadError>
+    requires { IsFound inbox.old (Ok found) }
+    ensures head { (more : Option (List ℕ)) → IfHead result (UsesHead (unread inbox.old more) (unread inbox.new more)) }
+    ensures end { (more : Option (List ℕ)) → (HasEnded (Ok found) → IsEmpty more)
+        → OnEnd result (UsesEnd (unread inbox.old more) (unread inbox.new more)) }
+    ensures refused { IfRefused result (λ status form. (status ≡ status_of form) × Refuses inbox.new form) }
+    ensures not_cut { IsErrOf result HeadError.Truncated → ⊥ }
+    ensures no_fault { IsErrOf result HeadError.Fault → ⊥ }
+    ensures err { OnErr result (inbox.new ≡ inbox.old) }
+{
+    match found {
+        Found::Head { blank, len } => {
+            let head = head_from(alloc, &inbox.as_slice()[blank..blank + len])?;
+            inbox.skip(blank + len);
+            Ok(HeadGot::Head(head))
+        }
+        Found::End => {
+            inbox.skip(inbox.len());
+            Ok(HeadGot::End)
         }
     }
 }
@@ -115,15 +169,6 @@ pub fn read_head<C: Link>(
     ensures same { (C.sent client.new ≡ C.sent client.old) × (C.beside client.new ≡ C.beside client.old) }
     ensures no_fewer { C.faults client.old ≤ C.faults client.new }
 {
-    match find_head(inbox, client)? {
-        Found::Head { blank, len } => {
-            let head = head_from(alloc, &inbox.as_slice()[blank..blank + len])?;
-            inbox.skip(blank + len);
-            Ok(HeadGot::Head(head))
-        }
-        Found::End => {
-            inbox.skip(inbox.len());
-            Ok(HeadGot::End)
-        }
-    }
+    let found = find_head(inbox, client)?;
+    take_found(alloc, inbox, found)
 }

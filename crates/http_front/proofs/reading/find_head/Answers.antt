@@ -1,56 +1,74 @@
--- The limit is reached, or the bytes end. A read is made only where the bytes in hand don't decide.
-use Rattle.std.proofs.Common.{ℕ, List, length, Err, refl, sym, ap, subst, ◌∙◌, arith}
-use Rattle.http_front.specs.Request.{EndsWithin}
-use Rattle.http_front.specs.Search.{IsFound, IsPart, IsSeen}
+-- The bytes end, or no more are read. A read is made only where the bytes in hand don't decide.
+use Rattle.std.proofs.Common.{◌≡◌, ◌<◌, ℕ, List, Err, length, refl, sym, ap, subst, ◌∙◌, arith}
+use Rattle.jk_io.specs.Told.{Rose}
+use Rattle.http_front.specs.Search.{IsFound, IsPart, IsSeen, IsStop}
 use Rattle.http_front.specs.declared.answers.HeadError.{HeadError}
-use Rattle.http_front.proofs.CutLemmas.{over-made, seen-more}
+use Rattle.http_front.specs.declared.answers.HeadError.TheVariants as error
+use Rattle.http_front.proofs.CutLemmas.{seen-more}
 use Rattle.http_front.proofs.InboxLemmas.{nothing-came}
-use Rattle.http_front.proofs.MakesLemmas.{ends-made, part-awaits}
+use Rattle.http_front.proofs.MakesLemmas.{part-awaits, part-full, stop-found}
 use Rattle.http_front.proofs.reading.find_head.Goals as goal
 
-pub returns-then-len-eq-MAX_HEAD_BYTES-clause-found : goal.returns-then-len-eq-MAX_HEAD_BYTES-clause-found
-returns-then-len-eq-MAX_HEAD_BYTES-clause-found g c =
-    let inbox = c.loop-blank.inbox in
-    let P : List ℕ → Type 0 = λ l. IsPart l c.in-Part.begin c.in-Part.at in
-    let part = subst P c.as_slice.ensures.value c.in-Part.ensures in
-    let Q : HeadError → Type 0 = λ e. IsFound inbox (Err e) in
-    subst Q (sym c.refused.ensures) (refl, refl, over-made inbox c.in-Part.begin c.in-Part.at part (omega (arith, c.len.ensures.len, c.if-len-eq-MAX_HEAD_BYTES.true)))
-
-pub returns-in-Ok-eq0-clause-found : goal.returns-in-Ok-eq0-clause-found
-returns-in-Ok-eq0-clause-found g c =
-    let inbox = c.loop-blank.inbox in
+pub end_at-requires-clause-part : goal.end_at-requires-clause-part
+end_at-requires-clause-part g c =
     let P : List ℕ → Type 0 = λ l. IsPart l c.in-Part.begin c.in-Part.at in
     let part = subst P c.as_slice.ensures.value c.in-Part.ensures in
     let more = c.in-Ok-eq0.ensures.more in
-    let same = nothing-came c.read_more.new.self inbox more.0 more.2 (omega (arith, more.1, c.in-Ok-eq0.field-0-test)) in
-    let Q : List ℕ → Type 0 = λ l. EndsWithin l in
-    subst Q (sym same) (ends-made inbox c.in-Part.begin c.in-Part.at part (omega (arith, c.len.ensures.len, c.len.ensures.few, c.if-len-eq-MAX_HEAD_BYTES.false)) (λ full. c.if-blank-len.false (full ∙ ap (λ (l : List ℕ). length l) (sym same) ∙ sym c.len-in-Ok-eq0.ensures.len)))
+    let same = nothing-came c.read_on.new.inbox c.loop-blank.inbox more.0 more.2 (omega (arith, more.1, c.in-Ok-eq0.field-0-test)) in
+    (c.in-Part.at, subst P (sym (c.as_slice-in-Ok-eq0.ensures.value ∙ same)) part)
+
+pub end_at-requires-clause-short : goal.end_at-requires-clause-short
+end_at-requires-clause-short g c =
+    let more = c.in-Ok-eq0.ensures.more in
+    let same = nothing-came c.read_on.new.inbox c.loop-blank.inbox more.0 more.2 (omega (arith, more.1, c.in-Ok-eq0.field-0-test)) in
+    subst (λ (l : List ℕ). length l < 16384) (sym (c.as_slice-in-Ok-eq0.ensures.value ∙ same)) c.in-Ok-eq0.ensures.room
+
+pub returns-in-Ok-eq0-clause-found : goal.returns-in-Ok-eq0-clause-found
+returns-in-Ok-eq0-clause-found g c =
+    subst (λ (l : List ℕ). IsFound l c.end_at.result) c.as_slice-in-Ok-eq0.ensures.value c.end_at.ensures.found
+
+pub returns-in-Ok-eq0-clause-ended : goal.returns-in-Ok-eq0-clause-ended
+returns-in-Ok-eq0-clause-ended g c = λ ended. c.in-Ok-eq0.ensures.end c.in-Ok-eq0.field-0-test
+
+pub returns-in-Ok-eq0-clause-fault : goal.returns-in-Ok-eq0-clause-fault
+returns-in-Ok-eq0-clause-fault g c = λ is. absurd (c.end_at.ensures.no_fault is)
+
+pub returns-in-Ok-eq0-clause-awaited : goal.returns-in-Ok-eq0-clause-awaited
+returns-in-Ok-eq0-clause-awaited g c = λ is decided. c.end_at.ensures.no_fault is
+
+pub returns-in-Ok-eq0-clause-steady : goal.returns-in-Ok-eq0-clause-steady
+returns-in-Ok-eq0-clause-steady g c = λ calm. c.in-Ok-eq0.ensures.steady tt ∙ c.loop-blank.invariant.steady
 
 pub returns-in-Whole-clause-unasked : goal.returns-in-Whole-clause-unasked
 returns-in-Whole-clause-unasked g c = λ decided. (c.loop-blank.invariant.untouched decided).1
 
-pub returns-then-len-eq-MAX_HEAD_BYTES-clause-unasked : goal.returns-then-len-eq-MAX_HEAD_BYTES-clause-unasked
-returns-then-len-eq-MAX_HEAD_BYTES-clause-unasked g c = λ decided. (c.loop-blank.invariant.untouched decided).1
-
-pub returns-then-blank-len-clause-unasked : goal.returns-then-blank-len-clause-unasked
-returns-then-blank-len-clause-unasked g c = λ decided.
-    absurd (part-awaits c.loop-blank.inbox _ c.args.inbox.now _ _ c.in-Part.ensures c.as_slice.ensures.value (c.loop-blank.invariant.untouched decided).0
-    (omega (arith, c.len.ensures.len, c.len.ensures.few, c.if-len-eq-MAX_HEAD_BYTES.false)) decided)
-
 pub returns-in-Ok-eq0-clause-unasked : goal.returns-in-Ok-eq0-clause-unasked
 returns-in-Ok-eq0-clause-unasked g c = λ decided.
     absurd (part-awaits c.loop-blank.inbox _ c.args.inbox.now _ _ c.in-Part.ensures c.as_slice.ensures.value (c.loop-blank.invariant.untouched decided).0
-    (omega (arith, c.len.ensures.len, c.len.ensures.few, c.if-len-eq-MAX_HEAD_BYTES.false)) decided)
+    c.in-Ok-eq0.ensures.room decided)
+
+pub returns-in-Err-clause-found : goal.returns-in-Err-clause-found
+returns-in-Err-clause-found g c =
+    stop-found c.loop-blank.inbox _ c.read_on.new.inbox _ _ c.in-Err.error c.in-Part.ensures c.as_slice.ensures.value c.in-Err.ensures.stopped c.in-Err.ensures.err
+
+pub returns-in-Err-clause-fault : goal.returns-in-Err-clause-fault
+returns-in-Err-clause-fault g c = λ is.
+    let why : c.in-Err.error ≡ error.Fault = cc in
+    subst (λ (k : ℕ). Rose k (g.C.Meanings.faults c.read_on.new.client)) c.loop-blank.invariant.steady (c.in-Err.ensures.fault (ap Err why))
+
+pub returns-in-Err-clause-steady : goal.returns-in-Err-clause-steady
+returns-in-Err-clause-steady g c = λ calm. c.in-Err.ensures.steady calm ∙ c.loop-blank.invariant.steady
 
 pub returns-in-Err-clause-unasked : goal.returns-in-Err-clause-unasked
 returns-in-Err-clause-unasked g c = λ decided.
-    absurd (part-awaits c.loop-blank.inbox _ c.args.inbox.now _ _ c.in-Part.ensures c.as_slice.ensures.value (c.loop-blank.invariant.untouched decided).0
-    (omega (arith, c.len.ensures.len, c.len.ensures.few, c.if-len-eq-MAX_HEAD_BYTES.false)) decided)
+    let untouched = c.loop-blank.invariant.untouched decided in
+    c.in-Err.ensures.unasked (part-full c.loop-blank.inbox _ c.args.inbox.now _ _ c.in-Part.ensures c.as_slice.ensures.value untouched.0 decided) ∙ untouched.1
 
 pub returns-in-Err-clause-awaited : goal.returns-in-Err-clause-awaited
 returns-in-Err-clause-awaited g c = λ is decided.
-    part-awaits c.loop-blank.inbox _ c.read_more.new.self _ _ c.in-Part.ensures c.as_slice.ensures.value (sym c.in-Err.ensures.err)
-    (omega (arith, c.len.ensures.len, c.len.ensures.few, c.if-len-eq-MAX_HEAD_BYTES.false)) decided
+    let why : c.in-Err.error ≡ error.Fault = cc in
+    let short : length c.loop-blank.inbox < 16384 = subst (λ (e : HeadError). IsStop c.loop-blank.inbox e) why c.in-Err.ensures.stopped in
+    part-awaits c.loop-blank.inbox _ c.read_on.new.inbox _ _ c.in-Part.ensures c.as_slice.ensures.value (sym c.in-Err.ensures.err) short decided
 
 pub loop-blank-preserved : goal.loop-blank-preserved
 loop-blank-preserved g c =
@@ -65,7 +83,6 @@ loop-blank-preserved g c =
       unread = e.unread ∙ I.unread;
       sent = e.same.0 ∙ I.sent;
       beside = e.same.1 ∙ I.beside;
-      steady = e.steady refl ∙ I.steady;
-      untouched = λ decided. absurd (part-awaits c.loop-blank.inbox _ c.args.inbox.now _ _ part c.as_slice.ensures.value (I.untouched decided).0
-          (omega (arith, c.len.ensures.len, c.len.ensures.few, c.if-len-eq-MAX_HEAD_BYTES.false)) decided);
+      steady = e.steady tt ∙ I.steady;
+      untouched = λ decided. absurd (part-awaits c.loop-blank.inbox _ c.args.inbox.now _ _ part c.as_slice.ensures.value (I.untouched decided).0 e.room decided);
     }
