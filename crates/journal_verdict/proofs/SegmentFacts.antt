@@ -1,5 +1,5 @@
 -- What is wrong with a segment, and where.
-use Rattle.std.proofs.Common.{◌≡◌, ℕ, ◌+◌, ◌<◌, List, [], ◌∷◌, ◌++◌, length, reverse, Option, Some, None, Result, Ok, Err, refl, sym, ap, subst, ◌∙◌, length-append, arith}
+use Rattle.std.proofs.Common.{◌≡◌, ℕ, ◌+◌, ◌<◌, List, [], ◌∷◌, ◌++◌, length, reverse, ◌⊎◌, inl, inr, ◌≤◌, Option, Some, None, Result, Ok, Err, refl, sym, ap, subst, ◌∙◌, length-append, arith}
 use Rattle.std.specs.Prelude.{IfOk, IfSome}
 use Rattle.std.proofs.lemmas.List.{length-map}
 use Rattle.std.proofs.lemmas.Option.{slice_get_within}
@@ -15,7 +15,7 @@ use Rattle.journal_lines.specs.declared.line.Line.TheVariants as line
 use Rattle.journal_text.specs.SegmentText.{entry_lines, opening_lines}
 use Rattle.journal_text.specs.Written.{lines_of}
 use Rattle.journal_text.specs.declared.counted.Counted.{Counted}
-use Rattle.journal_verdict.specs.Checks.{After, IsFormer, past}
+use Rattle.journal_verdict.specs.Checks.{After, IsFormer, IsOtherCount, Leaves, past}
 use Rattle.journal_verdict.specs.Judging.{Replays}
 use Rattle.journal_verdict.specs.Rulings.{IsFirstWrong}
 use Rattle.journal_verdict.specs.Verdicts.{Former, IsDifference, IsWrongAt, Joins, lines_before, opening_texts}
@@ -81,57 +81,87 @@ wrong_entry former c i place ruling.NotDue ruled joins is first = absurd first.d
 wrong_entry former c i place (ruling.Refused n) ruled joins is first = absurd first.differs
 wrong_entry former c i place ruling.Full ruled joins is first = absurd first.differs
 
--- the verdict on an entry, by a Book that began with the segment's opening
-pub after_entry : (r : Reached) (c : Counted) (b : Journal) (es : List Entry) (before : ℕ) (w : Wrong) (v : Verdict) → Joins r.former c
-    → b.rules ≡ c.rules → b.opening ≡ c.opening → es ≡ c.entries → before ≡ lines_before c → IsFirstWrong b.rules b.opening es w.at w.kept w.ruled
+-- the verdict on an entry
+pub after_entry : (r : Reached) (c : Counted) (before : ℕ) (w : Wrong) (v : Verdict) → Joins r.former c → before ≡ lines_before c
+    → IsFirstWrong c.rules c.opening c.entries w.at w.kept w.ruled
     → v ≡ verdict.Bad (r.lines + (before + w.at) + 1) w.kept w.ruled → After r c (check.Bad v)
-after_entry r c b es before w v joins rules opening entries lines first is =
-    let here : IsFirstWrong c.rules c.opening c.entries w.at w.kept w.ruled =
-    subst (λ n. IsFirstWrong n c.opening c.entries w.at w.kept w.ruled) rules
-    (subst (λ (o : Opening). IsFirstWrong b.rules o c.entries w.at w.kept w.ruled) opening
-    (subst (λ (xs : List Entry). IsFirstWrong b.rules b.opening xs w.at w.kept w.ruled) entries first)) in
-    (before + w.at, w.kept, w.ruled, wrong_entry r.former c (before + w.at) w.at w.kept w.ruled joins (ap (λ n. n + w.at) lines) here, is)
-
--- the entries are legal, by a Book that began with the segment's opening
-pub legal_here : (c : Counted) (b : Journal) (es : List Entry) → b.rules ≡ c.rules → b.opening ≡ c.opening → es ≡ c.entries
-    → IsLegal b.rules b.opening es → IsLegal c.rules c.opening c.entries
-legal_here c b es rules opening entries legal =
-    subst (λ n. IsLegal n c.opening c.entries) rules
-    (subst (λ (o : Opening). IsLegal b.rules o c.entries) opening
-    (subst (λ (xs : List Entry). IsLegal b.rules b.opening xs) entries legal))
+after_entry r c before w v joins lines first is =
+    (before + w.at, w.kept, w.ruled, wrong_entry r.former c (before + w.at) w.at w.kept w.ruled joins (ap (λ n. n + w.at) lines) first, is)
 
 -- the verdict on the last line
-pub after_count : (r : Reached) (c : Counted) (place : ℕ) (w : Wrong) (v : Verdict) → Joins r.former c → IsLegal c.rules c.opening c.entries
-    → place ≡ lines_before c + length c.entries → w.at ≡ 0 → w.kept ≡ ruling.Count c.count → w.ruled ≡ ruling.Count (length c.entries)
-    → ¬ (c.count ≡ length c.entries) → v ≡ verdict.Bad (r.lines + (place + w.at) + 1) w.kept w.ruled → After r c (check.Bad v)
-after_count r c place w v joins legal line at kept ruled other is = (
-  place + w.at,
+pub after_count : (r : Reached) (c : Counted) (before : ℕ) (w : Wrong) (v : Verdict) → Joins r.former c → before ≡ lines_before c
+    → IsLegal c.rules c.opening c.entries → IsOtherCount (length c.entries) c.count w
+    → v ≡ verdict.Bad (r.lines + (before + w.at) + 1) w.kept w.ruled → After r c (check.Bad v)
+after_count r c before w v joins lines legal other is = (
+  before + w.at,
   w.kept,
   w.ruled,
-  subst (λ (k : Ruling). IsWrongAt r.former c (place + w.at) k w.ruled) (sym kept)
-      (joins, record { legal = legal; kept = refl; ruled = ruled; other = other; line = omega (arith, at, line) }),
+  subst (λ (k : Ruling). IsWrongAt r.former c (before + w.at) k w.ruled) (sym other.1)
+      (joins, record { legal = legal; kept = refl; ruled = other.2; other = other.3; line = omega (arith, other.0, lines) }),
   is,
 )
+
+-- the verdict on one of them
+pub after_wrong_of : (r : Reached) (c : Counted) (before : ℕ) (w : Wrong) (v : Verdict) → Joins r.former c → before ≡ lines_before c
+    → IsFirstWrong c.rules c.opening c.entries w.at w.kept w.ruled ⊎ (IsLegal c.rules c.opening c.entries × IsOtherCount (length c.entries) c.count w)
+    → v ≡ verdict.Bad (r.lines + (before + w.at) + 1) w.kept w.ruled → After r c (check.Bad v)
+after_wrong_of r c before w v joins lines (inl first) is = after_entry r c before w v joins lines first is
+after_wrong_of r c before w v joins lines (inr (legal, other)) is = after_count r c before w v joins lines legal other is
+
+-- the first entry that is wrong, as what the entries lead to
+pub leaves_wrong : (v : ℕ) (o : Opening) (es : List Entry) (count : ℕ) (w : Wrong) → IsFirstWrong v o es w.at w.kept w.ruled
+    → Leaves v o es count (Err w)
+leaves_wrong v o es count w first = (omega (arith, slice_get_within es w.at first.entry first.found), inl first)
+
+-- another count, so
+pub leaves_count : (v : ℕ) (o : Opening) (es : List Entry) (count place : ℕ) (w : Wrong) → place ≡ length es → IsLegal v o es
+    → IsOtherCount place count w → Leaves v o es count (Err w)
+leaves_count v o es count place w is legal other =
+    let here : IsOtherCount (length es) count w = subst (λ n. IsOtherCount n count w) is other in
+    (omega (arith, here.0), inr (legal, here))
+
+-- the end of the Book that went on by the entries, so
+pub leaves_end : (old new : Journal) (es : List Entry) (count place : ℕ) (ending : Opening) → IsLegal old.rules old.opening es → Replays old new es
+    → IsEnding new.rules new.opening (past_of new) ending → IsOpening ending → count ≡ place → place ≡ length es
+    → Leaves old.rules old.opening es count (Ok ending)
+leaves_end old new es count place ending legal replays ends valid counted is = (
+  legal,
+  counted ∙ is,
+  subst (λ n. IsEnding n old.opening (reverse es) ending) replays.rules
+      (subst (λ (o : Opening). IsEnding new.rules o (reverse es) ending) replays.opening
+      (subst (λ (xs : List Entry). IsEnding new.rules new.opening (reverse xs) ending) replays.entries ends)),
+  valid,
+)
+
+-- what they lead to from a Book's opening
+pub leaves_from : (b : Journal) (v : ℕ) (o : Opening) (es : List Entry) (count : ℕ) (r : Result (Result Opening Wrong) NoMemory)
+    → b ≡ record { rules = v; opening = o; entries = []; added = 0 }
+    → IfOk r (Leaves b.rules b.opening es count) → IfOk r (Leaves v o es count)
+leaves_from b v o es count r is h = subst (λ (j : Journal). IfOk r (Leaves j.rules j.opening es count)) is h
+
+-- the verdict on the first entry that is wrong, or on the last line
+pub after_wrong : (r : Reached) (c : Counted) (es : List Entry) (before : ℕ) (w : Wrong) (v : Verdict) → Joins r.former c → es ≡ c.entries
+    → before ≡ lines_before c → Leaves c.rules c.opening es c.count (Err w)
+    → v ≡ verdict.Bad (r.lines + (before + w.at) + 1) w.kept w.ruled → After r c (check.Bad v)
+after_wrong r c es before w v joins entries lines leaves is =
+    let here : Leaves c.rules c.opening c.entries c.count (Err w) = subst (λ (xs : List Entry). Leaves c.rules c.opening xs c.count (Err w)) entries leaves in
+    after_wrong_of r c before w v joins lines here.1 is
 
 -- the verdict on a line of the opening
 pub after_opening : (r : Reached) (c : Counted) (w : Wrong) (v : Verdict) → IsWrongAt r.former c (1 + w.at) w.kept w.ruled
     → v ≡ verdict.Bad (r.lines + (1 + w.at) + 1) w.kept w.ruled → After r c (check.Bad v)
 after_opening r c w v wrong is = (1 + w.at, w.kept, w.ruled, wrong, is)
 
--- a segment that is right, and where the Book that went on by its entries ends
-pub after_right : (r : Reached) (c : Counted) (old new : Journal) (es : List Entry) (ending : Opening) (q : Reached) → Joins r.former c
-    → old.rules ≡ c.rules → old.opening ≡ c.opening → es ≡ c.entries → IsLegal old.rules old.opening es → Replays old new es
-    → IsEnding new.rules new.opening (past_of new) ending → IsOpening ending → c.count ≡ length c.entries → q ≡ past r c ending
-    → After r c (check.Good q)
-after_right r c old new es ending q joins rules opening entries legal replays ends valid counted is =
-    let here : IsEnding c.rules c.opening (reverse c.entries) ending =
-    subst (λ n. IsEnding n c.opening (reverse c.entries) ending) (replays.rules ∙ rules)
-    (subst (λ (o : Opening). IsEnding new.rules o (reverse c.entries) ending) (replays.opening ∙ opening)
-    (subst (λ (xs : List Entry). IsEnding new.rules new.opening (reverse xs) ending) (replays.entries ∙ entries) ends)) in (
-      record { joins = joins; legal = legal_here c old es rules opening entries legal; counted = counted },
-      subst (λ f. IsFormer f) (sym (ap (λ (x : Reached). x.former) is)) valid,
+-- a segment that is right, and where it ends
+pub after_right : (r : Reached) (c : Counted) (es : List Entry) (ending : Opening) (q : Reached) → Joins r.former c → es ≡ c.entries
+    → Leaves c.rules c.opening es c.count (Ok ending) → q ≡ past r c ending → After r c (check.Good q)
+after_right r c es ending q joins entries leaves is =
+    let here : Leaves c.rules c.opening c.entries c.count (Ok ending) =
+    subst (λ (xs : List Entry). Leaves c.rules c.opening xs c.count (Ok ending)) entries leaves in (
+      record { joins = joins; legal = here.0; counted = here.1 },
+      subst (λ f. IsFormer f) (sym (ap (λ (x : Reached). x.former) is)) here.3,
       ending,
-      here,
+      here.2,
       is,
     )
 

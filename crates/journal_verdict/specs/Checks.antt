@@ -1,7 +1,9 @@
 -- What segments come to, one after the other, and how many lines of a further one are read.
-use Rattle.std.specs.Prelude.{◌≡◌, ℕ, ◌+◌, ◌^◌, ◌<◌, List, ◌++◌, length, reverse, Some, None}
+use Rattle.std.specs.Prelude.{◌≡◌, ℕ, ◌+◌, ◌^◌, ◌<◌, ◌≤◌, ◌⊎◌, List, ◌++◌, length, reverse, Some, None, Result, Ok, Err}
+use Rattle.jk_model.specs.Legal.{IsLegal}
 use Rattle.jk_model.specs.Present.{IsEnding}
 use Rattle.jk_model.specs.Validity.{IsOpening}
+use Rattle.jk_model.specs.declared.journal.Entry.{Entry}
 use Rattle.jk_model.specs.declared.opening.Opening.{Opening}
 use Rattle.journal_text.specs.SegmentText.{opening_lines}
 use Rattle.journal_text.specs.Written.{lines_of}
@@ -9,10 +11,13 @@ use Rattle.journal_text.specs.declared.counted.Counted.{Counted}
 use Rattle.journal_text.specs.declared.reader.Place.{Place}
 use Rattle.journal_text.specs.declared.reader.Place.TheVariants as place
 use Rattle.journal_text.specs.declared.reader.Reader.{Reader}
+use Rattle.journal_verdict.specs.Rulings.{IsFirstWrong}
 use Rattle.journal_verdict.specs.Verdicts.{AreRight, Former, IsFirstBad, IsRight, IsWrongAt, entries_in, lines_in}
 use Rattle.journal_verdict.specs.declared.ruling.Ruling.{Ruling}
+use Rattle.journal_verdict.specs.declared.ruling.Ruling.TheVariants as ruling
 use Rattle.journal_verdict.specs.declared.ruling.Verdict.{Verdict}
 use Rattle.journal_verdict.specs.declared.ruling.Verdict.TheVariants as verdict
+use Rattle.journal_verdict.specs.declared.ruling.Wrong.{Wrong}
 use Rattle.journal_verdict.specs.declared.reached.Check.{Check}
 use Rattle.journal_verdict.specs.declared.reached.Check.TheVariants as check
 use Rattle.journal_verdict.specs.declared.reached.Reached.{Reached}
@@ -32,6 +37,16 @@ past r c ending = record {
 abbrev pub IsFormer : Former → Type 0
 IsFormer None = Unit {0}
 IsFormer (Some (name, ending)) = IsOpening ending
+
+-- The last line of a segment, at this place after its first entry, says another count than the place.
+abbrev pub IsOtherCount : (place count : ℕ) → Wrong → Type 0
+IsOtherCount place count w = (w.at ≡ place) × (w.kept ≡ ruling.Count count) × (w.ruled ≡ ruling.Count place) × ¬ (count ≡ place)
+
+-- Where entries and their count lead from an opening: to its end, or to the first that is wrong.
+abbrev pub Leaves : (v : ℕ) → Opening → List Entry → (count : ℕ) → Result Opening Wrong → Type 0
+Leaves v o es count (Ok ending) = IsLegal v o es × (count ≡ length es) × IsEnding v o (reverse es) ending × IsOpening ending
+Leaves v o es count (Err w) =
+    (w.at ≤ length es) × (IsFirstWrong v o es w.at w.kept w.ruled ⊎ (IsLegal v o es × IsOtherCount (length es) count w))
 
 -- What a further segment leads to.
 abbrev pub After : Reached → Counted → Check → Type 0

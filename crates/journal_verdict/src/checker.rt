@@ -61,7 +61,7 @@ impl Checker {
     ghost use Rattle.journal_text.specs.Reading.{at_start};
     ghost use Rattle.journal_text.specs.declared.counted.Counted.{Counted};
     ghost use Rattle.journal_verdict.specs.Checkers.{Advances, EndsBy, HasTaken, Judged, RefusesLine};
-    ghost use Rattle.journal_verdict.specs.Checks.{HasRoom};
+    ghost use Rattle.journal_verdict.specs.Checks.{HasRoom, verdict_of};
 
     /// Before the first line.
     pub(crate) fn new(alloc: Global) -> Checker
@@ -130,12 +130,18 @@ impl Checker {
         }
     }
 
+    fn verdict(self) -> Verdict
+        ensures { result ≡ verdict_of self.check }
+    {
+        self.check.verdict()
+    }
+
     /// The verdict, where a text may end here; `last` is what stands after its last LF.
     pub(crate) fn end(self, last: &[u8]) -> Result<Verdict, TextError>
         ensures { (done : List Counted) → HasTaken self done → EndsBy done self last.now result }
     {
         if self.some && self.reader.is_over(last) {
-            Ok(self.check.verdict())
+            Ok(self.verdict())
         } else {
             Err(TextError::Unreadable { line: self.number })
         }

@@ -1,13 +1,13 @@
 //! A further segment of a journal, judged after those before it.
-ghost use Rattle.std.specs.Prelude.{◌≡◌, ◌+◌, ◌<◌, ◌≤◌, ◌^◌, length, IfNone, IfOk, IfSome};
-ghost use Rattle.balancer_core.specs.Journal.{past_of};
+ghost use Rattle.std.specs.Prelude.{◌≡◌, ◌+◌, ◌<◌, ◌^◌, [], length, IfNone, IfOk, IfSome};
+ghost use Rattle.balancer_core.specs.Journal.{IsSound, past_of};
 ghost use Rattle.jk_model.specs.Present.{IsEnding};
+ghost use Rattle.jk_model.specs.Segments.{AreKeptEntries, AreRules};
 ghost use Rattle.jk_model.specs.Validity.{IsOpening};
 ghost use Rattle.journal_text.specs.Kept.{IsKept};
 ghost use Rattle.journal_text.specs.Written.{lines_of};
-ghost use Rattle.journal_verdict.specs.Checks.{After, IsFormer};
+ghost use Rattle.journal_verdict.specs.Checks.{After, IsFormer, IsOtherCount, Leaves};
 ghost use Rattle.journal_verdict.specs.Verdicts.{IsWrongAt, Joins, lines_before};
-ghost use Rattle.journal_verdict.specs.declared.ruling.Ruling.TheVariants as rulings;
 
 use crate::joining::first_difference;
 use crate::judging::judge_entries;
@@ -15,7 +15,7 @@ use crate::reached::{Check, Reached};
 use crate::ruling::{Ruling, Verdict, Wrong};
 use balancer_core::Book;
 use jk_io::{Bytes, NoMemory};
-use jk_model::{Opening, Segment};
+use jk_model::{Entry, Opening, Segment};
 use journal_text::Counted;
 use std::alloc::Global;
 
@@ -56,19 +56,18 @@ fn judge_opening(
     }
 }
 
-// What differs in the last line of a segment.
-fn judge_count(count: u64, entries: u64) -> Option<Wrong>
-    ensures none { IfNone result (count ≡ entries) }
-    ensures wrong { IfSome result (λ w. (w.at ≡ 0) × (w.kept ≡ rulings.Count count) × (w.ruled ≡ rulings.Count entries)) }
-    ensures other { IfSome result (λ _. ¬ (count ≡ entries)) }
+// What differs in the last line of a segment, which has this place.
+fn judge_count(place: usize, count: u64) -> Option<Wrong>
+    ensures none { IfNone result (count ≡ place) }
+    ensures wrong { IfSome result (IsOtherCount place count) }
 {
-    if count == entries {
+    if count == place as u64 {
         return None;
     }
     Some(Wrong {
-        at: 0,
+        at: place,
         kept: Ruling::Count(count),
-        ruled: Ruling::Count(entries),
+        ruled: Ruling::Count(place as u64),
     })
 }
 
@@ -80,6 +79,44 @@ fn ending_of(book: &mut Book) -> Result<Opening, NoMemory>
     let _kept = book.cut()?;
     let Segment { opening, .. } = book.segment()?;
     Ok(opening)
+}
+
+// Where entries lead from the Book's opening, if they and their count are right.
+fn replay(
+    book: &mut Book,
+    at: u64,
+    entries: &[Entry],
+    count: u64,
+) -> Result<Result<Opening, Wrong>, NoMemory>
+    requires sound { IsSound book.old }
+    requires empty { book.old.entries ≡ [] }
+    requires at { at ≡ book.old.opening.at }
+    requires kept { AreKeptEntries book.old.rules entries.now }
+    ensures { IfOk result (Leaves book.old.rules book.old.opening entries.now count) }
+{
+    if let Some(wrong) = judge_entries(book, at, entries)? {
+        return Ok(Err(wrong));
+    }
+    if let Some(wrong) = judge_count(entries.len(), count) {
+        return Ok(Err(wrong));
+    }
+    Ok(Ok(ending_of(book)?))
+}
+
+// Where entries lead from an opening, if they and their count are right.
+fn end_of(
+    opening: Opening,
+    rules: u8,
+    entries: &[Entry],
+    count: u64,
+) -> Result<Result<Opening, Wrong>, NoMemory>
+    requires valid { IsOpening opening }
+    requires versions { AreRules rules }
+    requires kept { AreKeptEntries rules entries.now }
+    ensures { IfOk result (Leaves rules opening entries.now count) }
+{
+    let at = opening.at;
+    replay(&mut Book::resume(opening, rules)?, at, entries, count)
 }
 
 // What comes after a segment whose opening is right and has so many lines, its first line among them.
@@ -98,20 +135,25 @@ fn take_entries(reached: Reached, segment: Counted, before: usize) -> Result<Che
         entries,
         count,
     } = segment;
-    let at = opening.at;
-    let mut book = Book::resume(opening, rules)?;
-    if let Some(wrong) = judge_entries(&mut book, at, entries.as_slice())? {
-        return Ok(Check::Bad(bad(reached.lines, before, wrong)));
-    }
     let number = entries.len();
-    if let Some(wrong) = judge_count(count, number as u64) {
-        return Ok(Check::Bad(bad(reached.lines, before + number, wrong)));
+    match end_of(opening, rules, entries.as_slice(), count)? {
+        Err(wrong) => Ok(Check::Bad(bad(reached.lines, before, wrong))),
+        Ok(ending) => Ok(Check::Good(Reached {
+            former: Some((name, ending)),
+            lines: reached.lines + (before + number) as u32 + 1,
+            entries: reached.entries + number as u64,
+        })),
     }
-    Ok(Check::Good(Reached {
-        former: Some((name, ending_of(&mut book)?)),
-        lines: reached.lines + (before + number) as u32 + 1,
-        entries: reached.entries + number as u64,
-    }))
+}
+
+// How many lines a segment has before its entries.
+fn lines_before(segment: &Counted) -> usize
+    requires kept { IsKept segment.now }
+    requires few { length (lines_of segment.now) < 2 ^ 32 }
+    ensures { result ≡ lines_before segment.now }
+{
+    let members = segment.opening.config.members.len();
+    members + segment.opening.out.len() + 3
 }
 
 /// What comes after a further segment.
@@ -129,7 +171,6 @@ pub(crate) fn take_segment(
     if let Some(wrong) = judge_opening(alloc, &reached.former, &segment)? {
         return Ok(Check::Bad(bad(reached.lines, 1, wrong)));
     }
-    let members = segment.opening.config.members.len();
-    let before = members + segment.opening.out.len() + 3;
+    let before = lines_before(&segment);
     take_entries(reached, segment, before)
 }
