@@ -4,7 +4,6 @@ use Rattle.std.proofs.lemmas.Bool.{false≢true, leb-false, cases_Bool}
 use Rattle.std.proofs.lemmas.List.{length-take-le}
 use borrow.Rule.Slice.PartMut.{put_mid, post_of}
 use Rattle.jk_io.specs.Told.{prepended, IsEmpty}
-use Rattle.jk_io.proofs.PieceLaws.{take-filled}
 use Rattle.http_body_in.specs.Body.{Uses, is_over}
 use Rattle.jk_io.specs.declared.failures.IoError.{IoError}
 use Rattle.jk_io.specs.declared.failures.IoError.TheVariants as io
@@ -61,20 +60,6 @@ pub uses-framing : (before mid now : Option (List ℕ)) (p q r : Place) (d : Lis
 uses-framing before mid now p q r d one two =
     let P : List ℕ → Type 0 = λ l. Uses before now p r l in
     subst P (append-nil d) (Uses-then before mid now p q r d [] one two)
-
--- data came behind the front of the piece
-pub uses-data : (before mid now : Option (List ℕ)) (p q : Place) (piece part : List ℕ) (count k came : ℕ) → count ≤ length piece → came ≤ length part → came ≤ data_left q
-    → Uses before mid p q (take count piece) → mid ≡ prepended (take came part) now → Uses before now p (data_step q came) (take (count + came) (put_mid count k piece part))
-uses-data before mid now p q piece part count k came within fits left uses gave =
-    let len : length (take came part) ≡ came = length-take-le came part fits in
-    let run = data-run (take came part) q (omega (arith, len, left)) in
-    let P : List ℕ → Type 0 = λ l. Uses before now p (data_step q came) l in
-    subst P (sym (take-filled piece part count k came within fits)) (Uses-then before mid now p q (data_step q came) (take count piece) (take came part) uses (record {
-      gone = take came part;
-      used = gave;
-      own = run.0 ∙ ap (λ (n : ℕ). Some (data_step q n)) len;
-      brings = run.1;
-    }))
 
 -- the limit was reached
 pub fails-long : (most taken sum count : ℕ) (before now : Option (List ℕ)) (start place : Place) (piece : List ℕ) → count ≤ length piece → Uses before now start place (take count piece)

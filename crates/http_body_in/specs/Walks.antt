@@ -1,5 +1,5 @@
 -- How far a walk over a body came, and why no further.
-use Rattle.std.specs.Prelude.{ℕ, ◌≡◌, ◌≤◌, ◌<◌, ◌+◌, Bool, false, true, ◌&&◌, ◌||◌, ◌==◌, nat_le, min, List, ◌++◌, length, Option}
+use Rattle.std.specs.Prelude.{ℕ, ◌≡◌, ◌≤◌, ◌<◌, ◌+◌, Bool, false, true, ◌&&◌, ◌||◌, ◌==◌, nat_le, min, List, ◌++◌, length, take, Option}
 use Rattle.jk_io.specs.Told.{prepended, IsEmpty}
 use Rattle.http_front.specs.Unread.{unread}
 use Rattle.http_body_in.specs.Body.{Uses, is_over}
@@ -51,6 +51,11 @@ pub record IsDropped (n : ℕ) (inbox inbox_now : List ℕ) (incoming incoming_n
   pub count : length gone ≡ n
   pub used : unread inbox incoming ≡ prepended gone (unread inbox_now incoming_now)
   pub inside : 0 < length inbox → inbox ≡ gone ++ inbox_now
+
+-- n bytes were dropped, and put behind the first count of the piece
+pub record IsPut (n count : ℕ) (piece piece_now inbox inbox_now : List ℕ) (incoming incoming_now : Option (List ℕ)) : Type 0 where
+  pub dropped : IsDropped n inbox inbox_now incoming incoming_now
+  pub put : take (count + n) piece_now ≡ take count piece ++ dropped.gone
 
 -- the walk came to a fault
 pub record Breaks (most taken : ℕ) (before now : Option (List ℕ)) (start : Place) (why : BodyFault) : Type 0 where

@@ -1,12 +1,12 @@
 //! The walk over a client's bytes: framing is stepped over, data is copied or dropped.
-ghost use Rattle.std.specs.Prelude.{◌≡◌, ◌≢◌, ◌<◌, ◌≤◌, ◌↔◌, [], length, take, min, false, IfOk, IfErr, OnOk, OnErr, IsOk, IsErrOf, IsTrue, Err, Some};
+ghost use Rattle.std.specs.Prelude.{◌≡◌, ◌≢◌, ◌<◌, ◌≤◌, ◌+◌, ◌↔◌, [], length, take, min, false, IfOk, IfErr, OnOk, OnErr, IsOk, IsErrOf, IsTrue, Err, Some};
 ghost use Rattle.jk_io.specs.Told.{prepended, IsEmpty, Rose, HasCause};
 ghost use Rattle.http_front.specs.Unread.{unread};
 ghost use Rattle.http_body_in.specs.Body.{Uses, is_over, place_behind, data_from};
 ghost use Rattle.http_body_in.specs.Places.{data_left};
 ghost use Rattle.http_body_in.specs.Falls.{framing_left, exact_left};
 ghost use Rattle.http_body_in.specs.Faults.{IsCalm};
-ghost use Rattle.http_body_in.specs.Walks.{Walks, Fails, Passes, Breaks, IsDropped, is_reached};
+ghost use Rattle.http_body_in.specs.Walks.{Walks, Fails, Passes, Breaks, IsDropped, IsPut, is_reached};
 ghost use Rattle.http_body_in.specs.Wants.{Next, Rest, settles};
 
 use crate::fault::{BodyFault, fault_of};
@@ -72,15 +72,9 @@ pub fn fill_piece<C: Link>(
         if left == 0 {
             place = pass_framing(place, inbox, client)?;
         } else {
-            let want = count_of(left, piece.len() - count);
-            match next_data(inbox, client, &mut piece[count..count + want]) {
-                Ok(0) => return Err(BodyFault::Truncated),
-                Ok(came) => {
-                    place = data_step(place, came as u64);
-                    count += came;
-                }
-                Err(error) => return Err(fault_of(error)),
-            }
+            let came = take_data(left, count, inbox, client, piece)?;
+            place = data_step(place, came as u64);
+            count += came;
         }
     }
 }
@@ -240,6 +234,35 @@ fn drop_data<C: Link>(left: u64, inbox: &mut Inbox, client: &mut C) -> Result<u6
     let count = count_of(left, inbox.len());
     inbox.skip(count);
     Ok(count as u64)
+}
+
+/// Puts up to `left` bytes of data behind the first `count` of the piece, and answers how many came.
+fn take_data<C: Link>(
+    left: u64,
+    count: usize,
+    inbox: &mut Inbox,
+    client: &mut C,
+    piece: &mut [u8],
+) -> Result<usize, BodyFault>
+    requires some { 0 < left }
+    requires room { count < length piece.old }
+    ensures within { IfOk result (λ n. (0 < n) × (n ≤ left) × (count + n ≤ length piece.new)) }
+    ensures put { IfOk result (λ n. IsPut n count piece.old piece.new inbox.old inbox.new (C.incoming client.old) (C.incoming client.new)) }
+    ensures err { OnErr result (unread inbox.new (C.incoming client.new) ≡ unread inbox.old (C.incoming client.old)) }
+    ensures end { IsErrOf result BodyFault.Truncated → IsEmpty (unread inbox.new (C.incoming client.new)) }
+    ensures kind { (result ≢ Err BodyFault.BadChunk) × (result ≢ Err BodyFault.TooLong) }
+    ensures fault { IsErrOf result BodyFault.Fault → Rose (C.faults client.old) (C.faults client.new) }
+    ensures steady { IsCalm result → C.faults client.new ≡ C.faults client.old }
+    ensures unasked { 0 < length inbox.old → client.new ≡ client.old }
+    ensures same { (C.sent client.new ≡ C.sent client.old) × (C.beside client.new ≡ C.beside client.old) }
+    ensures no_fewer { C.faults client.old ≤ C.faults client.new }
+{
+    let want = count_of(left, piece.len() - count);
+    match next_data(inbox, client, &mut piece[count..count + want]) {
+        Ok(0) => Err(BodyFault::Truncated),
+        Ok(came) => Ok(came),
+        Err(error) => Err(fault_of(error)),
+    }
 }
 
 /// Takes bytes for the buffer: those in the inbox, or where it is empty what the client has.

@@ -1,21 +1,17 @@
 -- Each exit of the walk, and its two steps.
-use Rattle.std.proofs.Common.{◌≡◌, ℕ, ◌+◌, ◌-◌, ◌≤◌, ◌<◌, Some, Err, length, take, arith, refl, subst, sym, ap, ◌∙◌}
+use Rattle.std.proofs.Common.{◌≡◌, ℕ, List, ◌+◌, ◌≤◌, ◌<◌, Some, Err, length, take, arith, subst, sym, ap, ◌∙◌}
 use Rattle.std.proofs.lemmas.List.{length-take-le}
 use Rattle.std.proofs.lemmas.Result.{err_from_is_err_and}
 use Rattle.std.proofs.lemmas.Bool.{or_from, true≢false}
-use Rattle.std.proofs.lemmas.Grind.{common_steps}
-use borrow.Rule.Slice.PartMut.{put_mid}
 use Rattle.jk_io.specs.Told.{prepended}
-use Rattle.jk_io.proofs.ToldLaws.{prepended-nil}
 use Rattle.http_body_in.specs.Body.{Uses}
 use Rattle.http_body_in.specs.Falls.{exact_left}
-use Rattle.http_body_in.specs.Places.{data_left, is_limited}
+use Rattle.http_body_in.specs.Places.{data_left, data_step, is_limited}
 use Rattle.http_body_in.specs.Walks.{Fails, IsUnder}
 use Rattle.http_body_in.specs.Wants.{Next}
-use Rattle.http_body_in.specs.declared.fault.BodyFault.TheVariants as fault
 use Rattle.http_body_in.specs.declared.place.Place.{Place}
 use Rattle.http_body_in.proofs.QuietLemmas.{some-left}
-use Rattle.http_body_in.proofs.WalkLemmas.{fails-long, fails-bad, fails-read, fault_of-kind, uses-framing, uses-data, length-put_mid, under-now, data-chunks}
+use Rattle.http_body_in.proofs.WalkLemmas.{fails-long, fails-bad, fails-read, uses-framing, uses-dropped, under-now, data-chunks}
 use Rattle.http_body_in.proofs.walk.fill_piece.Goals as goal
 
 pub returns-then-is_reached-clause-err : goal.returns-then-is_reached-clause-err
@@ -60,61 +56,52 @@ walk-preserved-then-left-eq0 g c =
           (e.unasked some ∙ q.0, uses-framing _ _ _ c.args.start c.walk.place c.in_ok-place.place (take c.walk.count c.walk.piece) q.1 (e.inside some));
     }
 
-pub returns-in-Ok-eq0-clause-err : goal.returns-in-Ok-eq0-clause-err
-returns-in-Ok-eq0-clause-err g c =
-    let e = c.in-Ok-eq0.ensures in
-    let now = prepended c.next_data.new.inbox (g.C.Meanings.incoming c.next_data.new.client) in
-    let same = sym (e.came ∙ ap (λ (n : ℕ). prepended (take n c.next_data.new.buf) now) c.in-Ok-eq0.field-0-test ∙ prepended-nil now) in
-    let fails = fails-read c.args.most c.args.taken c.walk.count _ _ _ c.args.start c.walk.place c.walk.piece fault.Truncated (omega (arith, c.walk.invariant.within, c.if-count-piece.false)) c.walk.invariant.uses same
+pub returns-in_err-came-clause-err : goal.returns-in_err-came-clause-err
+returns-in_err-came-clause-err g c =
+    let e = c.in_err-came.ensures in
+    let why = c.in_err-came.field-0.0 in
+    let p = err_from_is_err_and c.from_residual-in_err-came.result c.from_residual-in_err-came.ensures.1 in
+    let same : c.from_residual-in_err-came.result ≡ Err why = cc (p.1, p.2) in
+    let fails = fails-read c.args.most c.args.taken c.walk.count _ _ _ c.args.start c.walk.place c.walk.piece why (omega (arith, c.walk.invariant.within, c.if-count-piece.false)) c.walk.invariant.uses e.err
     (or_from _ _ (sym c.is_whole.ensures ∙ c.if-is_whole.false) (sym c.is_bad.ensures ∙ c.if-is_bad.false))
-    (λ is. e.end c.in-Ok-eq0.field-0-test) (λ is. cc) (λ is. cc)
+    (λ is. e.end (ap Err is)) (λ is. e.kind.0 (ap Err is)) (λ is. e.kind.1 (ap Err is))
     (λ limited. (under-now c.args.start c.walk.place c.args.most c.args.taken c.walk.count c.saturating_add.result c.saturating_add.ensures (sym c.is_reached.ensures ∙ c.if-is_reached.false) (λ out chunks. omega (arith, c.walk.invariant.under out chunks, c.saturating_add.ensures)) (omega (arith, c.ranges.most)) limited).1) in
-    let k = c.walk.count + c.count_of-want.result - c.walk.count in
-    let fits : c.walk.count + k ≤ length c.walk.piece = omega (arith, c.count_of-want.ensures, c.walk.invariant.within) in
-    let len : length c.next_data.new.buf ≡ k = grind (arith, common_steps, c.next_data.auto.buf, fits) in
-    let P : ℕ → Type 0 = λ n. Fails c.args.most c.args.taken n (prepended c.args.inbox.now (g.C.Meanings.incoming c.args.client.now)) now c.args.start fault.Truncated in
-    subst P (sym (length-put_mid c.walk.count k c.walk.piece c.next_data.new.buf c.walk.invariant.within fits len)) fails
-
-pub returns-in-Err-clause-err : goal.returns-in-Err-clause-err
-returns-in-Err-clause-err g c =
-    let kind = fault_of-kind c.in-Err.error in
-    let now = prepended c.next_data.new.inbox (g.C.Meanings.incoming c.next_data.new.client) in
-    let fails = fails-read c.args.most c.args.taken c.walk.count _ _ _ c.args.start c.walk.place c.walk.piece c.fault_of.result (omega (arith, c.walk.invariant.within, c.if-count-piece.false)) c.walk.invariant.uses c.in-Err.ensures.err
-    (or_from _ _ (sym c.is_whole.ensures ∙ c.if-is_whole.false) (sym c.is_bad.ensures ∙ c.if-is_bad.false))
-    (λ is. absurd (kind.0 (sym c.fault_of.ensures ∙ is))) (λ is. kind.1 (sym c.fault_of.ensures ∙ is)) (λ is. kind.2 (sym c.fault_of.ensures ∙ is))
-    (λ limited. (under-now c.args.start c.walk.place c.args.most c.args.taken c.walk.count c.saturating_add.result c.saturating_add.ensures (sym c.is_reached.ensures ∙ c.if-is_reached.false) (λ out chunks. omega (arith, c.walk.invariant.under out chunks, c.saturating_add.ensures)) (omega (arith, c.ranges.most)) limited).1) in
-    let k = c.walk.count + c.count_of-want.result - c.walk.count in
-    let fits : c.walk.count + k ≤ length c.walk.piece = omega (arith, c.count_of-want.ensures, c.walk.invariant.within) in
-    let len : length c.next_data.new.buf ≡ k = grind (arith, common_steps, c.next_data.auto.buf, fits) in
-    let P : ℕ → Type 0 = λ n. Fails c.args.most c.args.taken n (prepended c.args.inbox.now (g.C.Meanings.incoming c.args.client.now)) now c.args.start c.fault_of.result in
-    subst P (sym (length-put_mid c.walk.count k c.walk.piece c.next_data.new.buf c.walk.invariant.within fits len)) fails
+    let len : length c.take_data.new.piece ≡ length c.walk.piece = omega (arith, c.take_data.auto.piece) in
+    let P : ℕ → Type 0 = λ n. Fails c.args.most c.args.taken n (prepended c.args.inbox.now (g.C.Meanings.incoming c.args.client.now)) (prepended c.take_data.new.inbox (g.C.Meanings.incoming c.take_data.new.client)) c.args.start why in
+    rw same (subst P (sym len) fails)
 
 pub walk-preserved : goal.walk-preserved
 walk-preserved g c =
     let I = c.walk.invariant in
-    let e = c.in-Ok.ensures in
-    let came = c.in-Ok.came in
-    let k = c.walk.count + c.count_of-want.result - c.walk.count in
-    let fits : c.walk.count + k ≤ length c.walk.piece = omega (arith, c.count_of-want.ensures, I.within) in
-    let len : length c.next_data.new.buf ≡ k = grind (arith, common_steps, c.next_data.auto.buf, fits) in
-    let long = length-put_mid c.walk.count k c.walk.piece c.next_data.new.buf I.within fits len in
+    let e = c.in_ok-came.ensures in
+    let came = c.in_ok-came.came in
+    let gone = e.put.dropped.gone in
     let some : 0 < data_left c.walk.place = omega (arith, c.data_left-left.ensures, c.if-left-eq0.false) in
-    let P : Place → Type 0 = λ p. Uses (prepended c.args.inbox.now (g.C.Meanings.incoming c.args.client.now)) (prepended c.next_data.new.inbox (g.C.Meanings.incoming c.next_data.new.client)) c.args.start p (take (c.walk.count + came) (put_mid c.walk.count k c.walk.piece c.next_data.new.buf)) in
+    let left : came ≤ data_left c.walk.place = omega (arith, c.data_left-left.ensures, e.within.1) in
+    let before = prepended c.args.inbox.now (g.C.Meanings.incoming c.args.client.now) in
+    let now = prepended c.take_data.new.inbox (g.C.Meanings.incoming c.take_data.new.client) in
+    let P : Place → Type 0 = λ p. Uses before now c.args.start p (take (c.walk.count + came) c.take_data.new.piece) in
+    let R : List ℕ → Type 0 = λ l. Uses before now c.args.start (data_step c.walk.place came) l in
     record {
-      within = omega (arith, long, fits, len, e.count);
+      within = e.within.2;
       under = λ out limited. absurd (true≢false (sym (ap is_limited c.data_step-place.ensures ∙ (data-chunks c.walk.place came some (I.exact limited)).0) ∙ out));
       exact = λ limited. ap exact_left c.data_step-place.ensures ∙ (data-chunks c.walk.place came some (I.exact limited)).1;
-      uses = subst P (sym c.data_step-place.ensures) (uses-data _ _ _ c.args.start c.walk.place c.walk.piece c.next_data.new.buf c.walk.count k came I.within e.count (omega (arith, e.count, len, c.count_of-want.ensures, c.data_left-left.ensures)) I.uses e.came);
+      uses = subst P (sym c.data_step-place.ensures) (subst R (sym e.put.put)
+          (uses-dropped _ _ _ c.args.start c.walk.place (take c.walk.count c.walk.piece) gone came e.put.dropped.count left I.uses e.put.dropped.used));
       sent = e.same.0 ∙ I.sent;
       beside = e.same.1 ∙ I.beside;
-      steady = e.steady refl ∙ I.steady;
+      steady = e.steady tt ∙ I.steady;
       quiet = λ decided.
           let q = I.quiet decided in
           let have : length (take c.walk.count c.walk.piece) ≡ c.walk.count = length-take-le c.walk.count c.walk.piece I.within in
           let below : IsUnder c.args.most c.args.taken c.args.start (take c.walk.count c.walk.piece) = λ limited. omega (arith, have, (under-now c.args.start c.walk.place c.args.most c.args.taken c.walk.count c.saturating_add.result c.saturating_add.ensures (sym c.is_reached.ensures ∙ c.if-is_reached.false) (λ out chunks. omega (arith, c.walk.invariant.under out chunks, c.saturating_add.ensures)) (omega (arith, c.ranges.most)) limited).1) in
           let more = some-left (Next (length c.args.piece.now)) _ _ c.args.inbox.now c.walk.inbox c.args.start c.walk.place (take c.walk.count c.walk.piece) q.1 (or_from _ _ (sym c.is_whole.ensures ∙ c.if-is_whole.false) (sym c.is_bad.ensures ∙ c.if-is_bad.false)) (omega (arith, have, I.within, c.if-count-piece.false, c.walk.auto.piece)) below decided in
-          let Q : Place → Type 0 = λ p. Uses (Some c.args.inbox.now) (Some c.next_data.new.inbox) c.args.start p (take (c.walk.count + came) (put_mid c.walk.count k c.walk.piece c.next_data.new.buf)) in
-          (e.unasked more ∙ q.0, subst Q (sym c.data_step-place.ensures) (uses-data _ _ _ c.args.start c.walk.place c.walk.piece c.next_data.new.buf c.walk.count k came I.within e.count (omega (arith, e.count, len, c.count_of-want.ensures, c.data_left-left.ensures)) q.1 (e.inside more)));
+          let Q : Place → Type 0 = λ p. Uses (Some c.args.inbox.now) (Some c.take_data.new.inbox) c.args.start p (take (c.walk.count + came) c.take_data.new.piece) in
+          let S : List ℕ → Type 0 = λ l. Uses (Some c.args.inbox.now) (Some c.take_data.new.inbox) c.args.start (data_step c.walk.place came) l in (
+            e.unasked more ∙ q.0,
+            subst Q (sym c.data_step-place.ensures) (subst S (sym e.put.put)
+                (uses-dropped _ _ _ c.args.start c.walk.place (take c.walk.count c.walk.piece) gone came e.put.dropped.count left q.1 (ap Some (e.put.dropped.inside more)))),
+          );
     }
 
 pub returns-then-is_reached-clause-unasked : goal.returns-then-is_reached-clause-unasked
@@ -136,16 +123,9 @@ returns-in_err-place-clause-unasked g c = λ decided.
     let below : IsUnder c.args.most c.args.taken c.args.start (take c.walk.count c.walk.piece) = λ limited. omega (arith, have, (under-now c.args.start c.walk.place c.args.most c.args.taken c.walk.count c.saturating_add.result c.saturating_add.ensures (sym c.is_reached.ensures ∙ c.if-is_reached.false) (λ out chunks. omega (arith, c.walk.invariant.under out chunks, c.saturating_add.ensures)) (omega (arith, c.ranges.most)) limited).1) in
     c.pass_framing.ensures.unasked (some-left (Next (length c.args.piece.now)) _ _ c.args.inbox.now c.walk.inbox c.args.start c.walk.place (take c.walk.count c.walk.piece) q.1 (or_from _ _ (sym c.is_whole.ensures ∙ c.if-is_whole.false) (sym c.is_bad.ensures ∙ c.if-is_bad.false)) (omega (arith, have, c.walk.invariant.within, c.if-count-piece.false, c.walk.auto.piece)) below decided) ∙ q.0
 
-pub returns-in-Ok-eq0-clause-unasked : goal.returns-in-Ok-eq0-clause-unasked
-returns-in-Ok-eq0-clause-unasked g c = λ decided.
+pub returns-in_err-came-clause-unasked : goal.returns-in_err-came-clause-unasked
+returns-in_err-came-clause-unasked g c = λ decided.
     let q = c.walk.invariant.quiet decided in
     let have : length (take c.walk.count c.walk.piece) ≡ c.walk.count = length-take-le c.walk.count c.walk.piece c.walk.invariant.within in
     let below : IsUnder c.args.most c.args.taken c.args.start (take c.walk.count c.walk.piece) = λ limited. omega (arith, have, (under-now c.args.start c.walk.place c.args.most c.args.taken c.walk.count c.saturating_add.result c.saturating_add.ensures (sym c.is_reached.ensures ∙ c.if-is_reached.false) (λ out chunks. omega (arith, c.walk.invariant.under out chunks, c.saturating_add.ensures)) (omega (arith, c.ranges.most)) limited).1) in
-    c.in-Ok-eq0.ensures.unasked (some-left (Next (length c.args.piece.now)) _ _ c.args.inbox.now c.walk.inbox c.args.start c.walk.place (take c.walk.count c.walk.piece) q.1 (or_from _ _ (sym c.is_whole.ensures ∙ c.if-is_whole.false) (sym c.is_bad.ensures ∙ c.if-is_bad.false)) (omega (arith, have, c.walk.invariant.within, c.if-count-piece.false, c.walk.auto.piece)) below decided) ∙ q.0
-
-pub returns-in-Err-clause-unasked : goal.returns-in-Err-clause-unasked
-returns-in-Err-clause-unasked g c = λ decided.
-    let q = c.walk.invariant.quiet decided in
-    let have : length (take c.walk.count c.walk.piece) ≡ c.walk.count = length-take-le c.walk.count c.walk.piece c.walk.invariant.within in
-    let below : IsUnder c.args.most c.args.taken c.args.start (take c.walk.count c.walk.piece) = λ limited. omega (arith, have, (under-now c.args.start c.walk.place c.args.most c.args.taken c.walk.count c.saturating_add.result c.saturating_add.ensures (sym c.is_reached.ensures ∙ c.if-is_reached.false) (λ out chunks. omega (arith, c.walk.invariant.under out chunks, c.saturating_add.ensures)) (omega (arith, c.ranges.most)) limited).1) in
-    c.in-Err.ensures.unasked (some-left (Next (length c.args.piece.now)) _ _ c.args.inbox.now c.walk.inbox c.args.start c.walk.place (take c.walk.count c.walk.piece) q.1 (or_from _ _ (sym c.is_whole.ensures ∙ c.if-is_whole.false) (sym c.is_bad.ensures ∙ c.if-is_bad.false)) (omega (arith, have, c.walk.invariant.within, c.if-count-piece.false, c.walk.auto.piece)) below decided) ∙ q.0
+    c.take_data.ensures.unasked (some-left (Next (length c.args.piece.now)) _ _ c.args.inbox.now c.walk.inbox c.args.start c.walk.place (take c.walk.count c.walk.piece) q.1 (or_from _ _ (sym c.is_whole.ensures ∙ c.if-is_whole.false) (sym c.is_bad.ensures ∙ c.if-is_bad.false)) (omega (arith, have, c.walk.invariant.within, c.if-count-piece.false, c.walk.auto.piece)) below decided) ∙ q.0
