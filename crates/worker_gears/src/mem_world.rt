@@ -1,5 +1,5 @@
 //! A world in memory.
-ghost use Rattle.std.specs.Prelude.{◌≡◌, ◌↔◌, ◌+◌, ◌<◌, ◌≤◌, [], ◌∷◌, ◌++◌, Contains, IfOk, IsErrOf, IsOk, IsTrue, OnErr, OnOk, drop, length, reverse, true, false};
+ghost use Rattle.std.specs.Prelude.{◌≡◌, ◌↔◌, ◌+◌, ◌<◌, ◌≤◌, [], ◌∷◌, ◌++◌, Contains, IfOk, IsErrOf, IsOk, IsTrue, OnErr, OnOk, drop, length, map, reverse, true, false, vec_capacity, vec_len};
 ghost use Rattle.jk_io.specs.Memory.{DialledNext, counted};
 ghost use Rattle.jk_io.specs.Told.{HasCause, Rose};
 ghost use Rattle.worker_gears.specs.Worlds.{gear_of, next_plan};
@@ -7,7 +7,9 @@ ghost use Rattle.worker_gears.specs.Worlds.{gear_of, next_plan};
 use crate::mem_plan::{MemGear, MemPlan, MemPlanList, gear_of};
 use crate::world::World;
 use conn_pool::MemTape;
-use jk_io::{Bytes, IoError, Link, ListOf, MemDial, MemDoor, MemLink, NumberList, StepClock};
+use jk_io::{
+    Bytes, IoError, Link, ListOf, MemDial, MemDoor, MemLink, NoMemory, NumberList, StepClock,
+};
 use locked_balancer::MemShelf;
 use site_config::Config;
 use std::alloc::Global;
@@ -112,6 +114,42 @@ fn fails(failing: &NumberList, calls: &mut u64, failed: &mut u64) -> bool
     fails
 }
 
+// Room for one more gear to come back, and to be noted as handed out.
+fn make_room<L>(
+    back: &mut Vec<MemGear<L>>,
+    handed: &mut Vec<Snapshot<MemGear<L>>>,
+    out: usize,
+) -> Result<(), NoMemory>
+    requires few { vec_len handed.old ≡ vec_len back.old + out }
+    ensures same { (back.new.items ≡ back.old.items) × (handed.new.items ≡ handed.old.items) }
+    ensures len { (vec_len back.new ≡ vec_len back.old) × (vec_len handed.new ≡ vec_len handed.old) }
+    ensures grown { vec_capacity back.old ≤ vec_capacity back.new }
+    ensures room { OnOk result ((vec_len back.new + (out + 1) ≤ vec_capacity back.new) × (vec_len handed.new < vec_capacity handed.new)) }
+{
+    back.reserve(out + 1)?;
+    handed.reserve(1)?;
+    Ok(())
+}
+
+// Makes a gear by the next plan, and notes it as handed out.
+fn hand_out<L: Drop>(
+    alloc: Global,
+    plans: &mut Vec<MemPlan<L>>,
+    handed: &mut Vec<Snapshot<MemGear<L>>>,
+    clients: Option<u64>,
+) -> MemGear<L>
+    requires room { vec_len handed.old < vec_capacity handed.old }
+    ensures planned { result ≡ gear_of clients (next_plan (reverse plans.old.items)) }
+    ensures later { reverse plans.new.items ≡ drop 1 (reverse plans.old.items) }
+    ensures handed { map (λ gear. gear.value) handed.new.items ≡ map (λ gear. gear.value) handed.old.items ++ result ∷ [] }
+    ensures len { vec_len handed.new ≡ vec_len handed.old + 1 }
+{
+    let plan = next_plan(alloc, plans);
+    let gear = gear_of(alloc, plan, clients);
+    handed.push_reserved(Snapshot::of(&gear));
+    gear
+}
+
 impl<L: Link + Drop + Send> World for MemWorld<L> {
     ghost use Rattle.std.specs.Prelude.{Some};
 
@@ -161,13 +199,9 @@ impl<L: Link + Drop + Send> World for MemWorld<L> {
         if fails(&self.failing, &mut self.calls, &mut self.failed) {
             return Err(IoError::Failed);
         }
-        self.back.reserve(self.out + 1)?;
-        self.handed.reserve(1)?;
-        let plan = next_plan(alloc, &mut self.plans);
-        let gear = gear_of(alloc, plan, clients);
-        self.handed.push_reserved(Snapshot::of(&gear));
+        make_room(&mut self.back, &mut self.handed, self.out)?;
         self.out += 1;
-        Ok(gear)
+        Ok(hand_out(alloc, &mut self.plans, &mut self.handed, clients))
     }
 
     fn log(&mut self, alloc: Global, _dir: &Bytes, _number: u32) -> Result<MemLink, IoError>
