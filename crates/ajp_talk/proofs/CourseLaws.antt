@@ -22,42 +22,15 @@ use Rattle.jk_io.specs.Moments.{Moment}
 use Rattle.ajp_talk.specs.Moments.{BodyAt, TalkMoment, data_at, Traffic, IsSteady, Takes, IsFrontOf}
 use Rattle.ajp_talk.specs.Replies.{is_good, is_listed, head_out, kind_of, chunks_of, sum_of, framing_in, exceeds, agrees, so_far_of_talk, whole_of, told_by}
 use Rattle.ajp_talk.specs.Owed.{want, asked, answer, behind_first, answers, pong_of, opening, owed}
-use Rattle.ajp_talk.specs.Talk.{Accepts}
+use Rattle.ajp_talk.specs.Courses.{writer_for, Stands}
 use Rattle.ajp_talk.specs.Turns.{IsHeard, Sends, Gives, with_head, with_chunk}
 use Rattle.ajp_talk.specs.Ends.{IsPlan}
 use Rattle.ajp_talk.specs.declared.plan.TalkPlan.{TalkPlan}
 use Rattle.ajp_talk.specs.declared.course.Course.{Course}
 use Rattle.ajp_talk.specs.declared.ending.Told.{Told}
 use Rattle.ajp_talk.proofs.MessageLaws.{some-bytes, sum-within, chunk-within}
-use Rattle.ajp_talk.proofs.ReplyLaws.{beyond-exceeds, complete-agrees, none-exceeds, writer_for, none-of, first-head}
+use Rattle.ajp_talk.proofs.ReplyLaws.{beyond-exceeds, complete-agrees, none-exceeds, none-of, first-head}
 use Rattle.ajp_talk.proofs.AskLaws.{dropped-dropped, left-then, told-answer, traffic-came, traffic-sent, takes-then}
-
--- The messages were accepted, the client has what they make so far, and the counts are those of the bytes.
-pub record Stands (plan : TalkPlan) (s m : TalkMoment) (c : Course) (past : List Message) (came put : List ℕ) : Type 0 where
-  pub accepts : Accepts plan past came
-  pub traffic : Traffic s.line m.line (pong_of plan ++ came) put
-  pub written : m.client.sent ≡ appended s.client.sent (so_far_of_talk plan past)
-  pub writer : c.writer ≡ writer_for (kind_of plan) (head_of past) (chunks_of past)
-  pub headers : c.headers ≡ is_some (head_of past)
-  pub told : IfSome (head_of past) (λ parts. c.told ≡ told_by (kind_of plan) parts (chunks_of past))
-  pub sent : c.sent ≡ length put
-  pub received : c.received ≡ length (pong_of plan ++ came)
-  pub below : c.received < plan.most
-  pub few : length put ≤ 200000 + 65540 * c.received
-  pub taken : List ℕ
-  pub takes : Takes s.body m.body taken
-  pub left : data_at m.body ≡ dropped (asked plan.piece past) (data_at s.body)
-  pub little : taken_of m.body.body ≤ 65530 + 65540 * c.received
-
--- and all that is owed was sent
-pub record At (plan : TalkPlan) (s m : TalkMoment) (c : Course) : Type 0 where
-  pub past : List Message
-  pub came : List ℕ
-  pub put : List ℕ
-  pub stands : Stands plan s m c past came put
-  pub owed : IfSome (data_at s.body) (λ d. put ≡ owed plan d past)
-  pub opened : IsFrontOf (opening plan) put
-  pub steady : IsSteady s.line m.line
 
 -- One message more came, and nothing was done with it yet.
 pub record Next (plan : TalkPlan) (s : TalkMoment) (l : Moment) (c : Course) (count : ℕ) (message : Message) (past : List Message) (came put bytes : List ℕ) : Type 0 where

@@ -1,12 +1,12 @@
 -- How the draining of a reply goes on.
 use Rattle.ajp_talk.specs.declared.ending.Cause.{Cause}
 use Rattle.ajp_wire.specs.Packet.{IsPart}
-use Rattle.std.proofs.Common.{◌≡◌, ℕ, ◌+◌, ◌<◌, Bool, true, false, ◌&&◌, not, List, [], ◌∷◌, ◌++◌, length, refl, sym, ap, subst, ◌∙◌, arith, length-append, Option, append-nil, inl, inr, unwrap_or}
+use Rattle.std.proofs.Common.{◌≡◌, ℕ, ◌+◌, ◌<◌, Bool, true, false, ◌&&◌, not, List, [], ◌∷◌, ◌++◌, length, refl, sym, ap, subst, ◌∙◌, arith, length-append, Option, Some, None, Result, Ok, Err, append-nil, inl, inr, unwrap_or}
 use Rattle.std.proofs.lemmas.Bool.{cond-false, not-true}
 use Rattle.jk_io.specs.Told.{appended, prepended, PutsFront}
 use Rattle.jk_io.proofs.ToldLaws.{appended-appended, appended-nil, prepended-prepended, prepended-nil}
 use Rattle.ajp_reply.specs.declared.message.Message.{Message}
-use Rattle.ajp_reply.specs.declared.message.Message.TheVariants.{Chunk, End}
+use Rattle.ajp_reply.specs.declared.message.Message.TheVariants.{Headers, Chunk, End, Ask, Pong}
 use Rattle.ajp_reply.specs.Stream.{IsPacketOf, Spelled, BeginsNoMessage}
 use Rattle.http_out.specs.declared.framing.Framing.{Framing}
 use Rattle.http_out.specs.declared.framing.Framing.TheVariants as By
@@ -17,7 +17,7 @@ use Rattle.jk_io.specs.Moments.{Moment}
 use Rattle.ajp_talk.specs.Moments.{IsSteady}
 use Rattle.ajp_talk.specs.Replies.{sum_of, exceeds, chunks_of, agrees}
 use Rattle.ajp_talk.specs.Turns.{Came, IsHeard, IsUnheard, IsOnCourse, IsChunkTurn, IsEndTurn, CameUnheard, IsChunkFailure}
-use Rattle.ajp_talk.specs.Drains.{IsLostCourse, chunk_messages, IsDropped, Drains, IsNoTail, EndsRest, closed_by, IsDrained}
+use Rattle.ajp_talk.specs.Drains.{IsLostCourse, chunk_messages, IsDropped, Drains, IsNoTail, EndsRest, IsDrained, rest_after, rest_without, IsClosing, IsDroppedMessage, IsDrop}
 use Rattle.ajp_talk.specs.Ends.{IsPlan}
 use Rattle.ajp_talk.specs.declared.plan.TalkPlan.{TalkPlan}
 use Rattle.ajp_talk.specs.declared.course.Course.{Course}
@@ -426,20 +426,123 @@ module _ (plan : TalkPlan) (l m n : Moment) (w v u : Moment) (c d e : Course) (c
       drained fit a (End reuse) false h (end-silent reuse (turn_is.Failed why) a.lost.failed t) (end-counts reuse (turn_is.Failed why) (λ is. absurd cc) t) (λ keeps. absurd cc)
       (λ is sum. not_agreed a why t sum) (inr (no-true (agrees (framing_now c.writer) (sum_of a.chunks)) (λ sum. not_agreed a why t sum)))
 
--- a message that is no part of the rest of a reply, and none at all: the client is as it was
+-- a message that is no part of the rest of a reply: the client is as it was
 module _ (plan : TalkPlan) (l m n : Moment) (w v : Moment) (c d : Course) (count : ℕ) where
   pub other_over : IsPlan plan → (a : Draining plan l m w v c d) (message : Message) → (message ≡ End true → ⊥) → EndsRest c a.chunks message → IsHeard plan.packet plan.most m n d.received count message
       → Drains plan l n w v c (record d { received = count }) false
   other_over fit a message other stops h =
       drained plan l m n w v v c d (record d { received = count }) count fit a message false h refl (refl, refl) (λ keeps. absurd cc) (λ is sum. other is) stops
 
-  pub silent_over : IsPlan plan → Draining plan l m w v c d → (want : NoMemory) (why : Unheard) → IsUnheard plan.packet plan.most m n d.received count why
-      → IsDrained plan l n w v c (record d { received = count }) (closed_by want why)
-  silent_over fit a want unheard_is.Line h = drained_silent plan l m n w v v c d (record d { received = count }) count fit a unheard_is.Line h (λ is. absurd cc) refl (refl, refl)
-  silent_over fit a want unheard_is.Ended h = drained_silent plan l m n w v v c d (record d { received = count }) count fit a unheard_is.Ended h (λ is. absurd cc) refl (refl, refl)
-  silent_over fit a want unheard_is.Wrong h = drained_silent plan l m n w v v c d (record d { received = count }) count fit a unheard_is.Wrong h (λ is. absurd cc) refl (refl, refl)
-  silent_over fit a want unheard_is.TooLong h = drained_silent plan l m n w v v c d (record d { received = count }) count fit a unheard_is.TooLong h (λ is. absurd cc) refl (refl, refl)
-  silent_over fit a want unheard_is.NoMemory h = drained_silent_wanted plan l m n w v v c d (record d { received = count }) count a unheard_is.NoMemory h refl
+-- How it stands after one more message: it goes on, or it is over.
+abbrev pub IsDrainedOn : TalkPlan → Moment → Moment → Moment → Moment → Course → Course → Result (Option Bool) NoMemory → Type 0
+IsDrainedOn plan l l' w w' c c' (Ok None) = Draining plan l l' w w' c c'
+IsDrainedOn plan l l' w w' c c' (Ok (Some keep)) = IsDrained plan l l' w w' c c' (Ok keep)
+IsDrainedOn plan l l' w w' c c' (Err want) = IsDrained plan l l' w w' c c' (Err want)
+
+module _ (plan : TalkPlan) (l m n : Moment) (w v u : Moment) (c d e : Course) (count : ℕ) where
+  at_chunk : IsPlan plan → Draining plan l m w v c d → (chunk : List ℕ) (want : NoMemory) (turn : Turn) → IsHeard plan.packet plan.most m n d.received count (Chunk chunk)
+      → IsChunkTurn plan chunk (record d { received = count }) e v u turn → IsDrainedOn plan l n w u c e (rest_after want turn)
+  at_chunk fit a chunk want turn_is.On h t = drains-more plan l m n w v u c d e count fit a chunk h t
+  at_chunk fit a chunk want (turn_is.Done reuse) h t = absurd t
+  at_chunk fit a chunk want (turn_is.Failed cause) h t =
+      chunk_over plan l m n w v u c d e count fit a chunk (turn_is.Failed cause) (λ is. absurd cc) (λ is. absurd cc) (λ is. absurd cc) h t
+  at_chunk fit a chunk want turn_is.Lost h t = drains-lost plan l m n w v u c d e count fit a chunk h t
+  at_chunk fit a chunk want (turn_is.LostAtEnd reuse) h t = absurd t
+  at_chunk fit a chunk want turn_is.Unread h t = absurd t
+  at_chunk fit a chunk want turn_is.Cut h t = absurd t
+  at_chunk fit a chunk want (turn_is.Bad status) h t = absurd t
+  at_chunk fit a chunk want turn_is.NoMemory h t = chunk_wanted plan l m n w v u c d e count a chunk h t
+
+  at_end : IsPlan plan → Draining plan l m w v c d → (reuse : Bool) (want : NoMemory) (turn : Turn) → IsHeard plan.packet plan.most m n d.received count (End reuse)
+      → IsEndTurn reuse (record d { received = count }) e v u turn → IsDrainedOn plan l n w u c e (rest_after want turn)
+  at_end fit a reuse want turn_is.On h t = absurd t
+  at_end fit a reuse want (turn_is.Done again) h t =
+      subst (λ (keep : Bool). Drains plan l n w u c e keep) (sym t.0) (drained_end plan l m n w v u c d e count fit a reuse again h t)
+  at_end fit a reuse want (turn_is.Failed cause) h t = end_over plan l m n w v u c d e count fit a reuse cause h t
+  at_end fit a reuse want turn_is.Lost h t = absurd t
+  at_end fit a reuse want (turn_is.LostAtEnd again) h t =
+      subst (λ (keep : Bool). Drains plan l n w u c e keep) (sym t.0) (drained_lost_end plan l m n w v u c d e count fit a reuse again h t)
+  at_end fit a reuse want turn_is.Unread h t = absurd t
+  at_end fit a reuse want turn_is.Cut h t = absurd t
+  at_end fit a reuse want (turn_is.Bad status) h t = absurd t
+  at_end fit a reuse want turn_is.NoMemory h t = end_wanted plan l m n w v u c d e count a reuse h t
+
+  at_other : IsPlan plan → (a : Draining plan l m w v c d) (message : Message) (answer : Result (Option Bool) NoMemory) → (message ≡ End true → ⊥) → EndsRest c a.chunks message
+      → IsHeard plan.packet plan.most m n d.received count message → IsClosing (record d { received = count }) e v u answer → IsDrainedOn plan l n w u c e answer
+  at_other fit a message answer other stops h t =
+      subst (IsDrainedOn plan l n w u c e) (sym t.closes)
+      (subst (λ (x : Moment). Drains plan l n w x c e false) (sym t.client)
+      (subst (λ (k : Course). Drains plan l n w v c k false) (sym t.course) (other_over plan l m n w v c d count fit a message other stops h)))
+
+  at_message : IsPlan plan → Draining plan l m w v c d → (message : Message) (answer : Result (Option Bool) NoMemory) → IsHeard plan.packet plan.most m n d.received count message
+      → IsDroppedMessage plan message (record d { received = count }) e v u answer → IsDrainedOn plan l n w u c e answer
+  at_message fit a (Headers parts) answer h t = at_other fit a (Headers parts) answer (λ is. absurd cc) tt h t
+  at_message fit a (Chunk chunk) answer h t = subst (IsDrainedOn plan l n w u c e) (sym t.2) (at_chunk fit a chunk t.0 t.1 h t.3)
+  at_message fit a (End reuse) answer h t = subst (IsDrainedOn plan l n w u c e) (sym t.2) (at_end fit a reuse t.0 t.1 h t.3)
+  at_message fit a (Ask most) answer h t = at_other fit a (Ask most) answer (λ is. absurd cc) tt h t
+  at_message fit a Pong answer h t = at_other fit a Pong answer (λ is. absurd cc) tt h t
+
+  at_none : IsPlan plan → Draining plan l m w v c d → (want : NoMemory) (why : Unheard) → IsUnheard plan.packet plan.most m n d.received count why
+      → IsDrainedOn plan l n w v c (record d { received = count }) (rest_without want why)
+  at_none fit a want unheard_is.Line h = drained_silent plan l m n w v v c d (record d { received = count }) count fit a unheard_is.Line h (λ is. absurd cc) refl (refl, refl)
+  at_none fit a want unheard_is.Ended h = drained_silent plan l m n w v v c d (record d { received = count }) count fit a unheard_is.Ended h (λ is. absurd cc) refl (refl, refl)
+  at_none fit a want unheard_is.Wrong h = drained_silent plan l m n w v v c d (record d { received = count }) count fit a unheard_is.Wrong h (λ is. absurd cc) refl (refl, refl)
+  at_none fit a want unheard_is.TooLong h = drained_silent plan l m n w v v c d (record d { received = count }) count fit a unheard_is.TooLong h (λ is. absurd cc) refl (refl, refl)
+  at_none fit a want unheard_is.NoMemory h = drained_silent_wanted plan l m n w v v c d (record d { received = count }) count a unheard_is.NoMemory h refl
+
+pub drained_on : (plan : TalkPlan) (l m n : Moment) (w v u : Moment) (c d e : Course) (answer : Result (Option Bool) NoMemory) → IsPlan plan → Draining plan l m w v c d
+    → IsDrop plan m n v u d e answer → IsDrainedOn plan l n w u c e answer
+drained_on plan l m n w v u c d e answer fit a (inl t) = at_message plan l m n w v u c d e t.count fit a t.message answer t.heard t.acts
+drained_on plan l m n w v u c d e answer fit a (inr t) =
+    subst (IsDrainedOn plan l n w u c e) (sym t.closes)
+    (subst (λ (x : Moment). IsDrainedOn plan l n w x c e (rest_without t.want t.why)) (sym t.client)
+    (subst (λ (k : Course). IsDrainedOn plan l n w v c k (rest_without t.want t.why)) (sym t.course) (at_none plan l m n w v u c d e t.count fit a t.want t.why t.unheard)))
+
+-- a message that was read was counted
+pub drop_more : (plan : TalkPlan) (l m n : Moment) (w v u : Moment) (c d e : Course) → IsPlan plan → Draining plan l m w v c d → IsDrop plan m n v u d e (Ok None)
+    → d.received < e.received
+drop_more plan l m n w v u c d e fit a (inl t) =
+    let some = some-bytes plan.packet t.message t.heard.bytes t.heard.is in
+    let exact : t.count ≡ d.received + length t.heard.bytes = omega (arith, t.heard.came.counts, some.1, a.below, fit.most) in
+    let received : e.received ≡ t.count = counted t.message t.acts in
+    omega (arith, received, exact, some.0)
+  where
+    of : (chunk : List ℕ) (want : NoMemory) (turn : Turn) → Ok None ≡ rest_after want turn → IsChunkTurn plan chunk (record d { received = t.count }) e v u turn → e.received ≡ t.count
+    of chunk want turn_is.On is h = ap (λ (x : Course). x.received) h.2
+    of chunk want (turn_is.Done reuse) is h = absurd h
+    of chunk want (turn_is.Failed cause) is h = absurd cc
+    of chunk want turn_is.Lost is h = ap (λ (x : Course). x.received) h.2.rest
+    of chunk want (turn_is.LostAtEnd reuse) is h = absurd h
+    of chunk want turn_is.Unread is h = absurd h
+    of chunk want turn_is.Cut is h = absurd h
+    of chunk want (turn_is.Bad status) is h = absurd h
+    of chunk want turn_is.NoMemory is h = absurd cc
+
+    ended : (reuse : Bool) (want : NoMemory) (turn : Turn) → Ok None ≡ rest_after want turn → IsEndTurn reuse (record d { received = t.count }) e v u turn → e.received ≡ t.count
+    ended reuse want turn_is.On is h = absurd h
+    ended reuse want (turn_is.Done again) is h = absurd cc
+    ended reuse want (turn_is.Failed cause) is h = absurd cc
+    ended reuse want turn_is.Lost is h = absurd h
+    ended reuse want (turn_is.LostAtEnd again) is h = absurd cc
+    ended reuse want turn_is.Unread is h = absurd h
+    ended reuse want turn_is.Cut is h = absurd h
+    ended reuse want (turn_is.Bad status) is h = absurd h
+    ended reuse want turn_is.NoMemory is h = absurd cc
+
+    counted : (message : Message) → IsDroppedMessage plan message (record d { received = t.count }) e v u (Ok None) → e.received ≡ t.count
+    counted (Headers parts) h = absurd (let is = h.closes in cc)
+    counted (Chunk chunk) h = of chunk h.0 h.1 h.2 h.3
+    counted (End reuse) h = ended reuse h.0 h.1 h.2 h.3
+    counted (Ask most) h = absurd (let is = h.closes in cc)
+    counted Pong h = absurd (let is = h.closes in cc)
+drop_more plan l m n w v u c d e fit a (inr t) = absurd (of t.want t.why t.closes)
+  where
+    of : (want : NoMemory) (why : Unheard) → Ok None ≡ rest_without want why → ⊥
+    of want unheard_is.Line is = cc
+    of want unheard_is.Ended is = cc
+    of want unheard_is.Wrong is = cc
+    of want unheard_is.TooLong is = cc
+    of want unheard_is.NoMemory is = cc
 
 pub course-of : (c : Course) → IsLostCourse c → IsOnCourse c
 course-of c lost = record { opened = λ e. lost.opened; fresh = λ e. absurd (let some = lost.headers in cc) }

@@ -18,6 +18,7 @@ use Rattle.ajp_talk.specs.Replies.{is_good, kind_of, chunks_of, so_far_of_talk, 
 use Rattle.ajp_talk.specs.Owed.{want, asked, answer, behind_first, pong_of, opening, owed}
 use Rattle.ajp_talk.specs.Talk.{IsDone, IsGone, IsBrokenOff, HasBadBody, IsBad, HasWanted, IsNoEnd}
 use Rattle.ajp_talk.specs.Talk as halt_is
+use Rattle.ajp_talk.specs.Courses.{At}
 use Rattle.ajp_talk.specs.Turns.{IsHeard, IsUnheard, Sends, Gives, IsEndTurn, Acts, IsTurn, IsUntaken, IsOnCourse, turn_of}
 use Rattle.ajp_talk.specs.Ends.{IsPlan, told_end, bytes_end}
 use Rattle.ajp_talk.specs.declared.plan.TalkPlan.{TalkPlan}
@@ -31,7 +32,7 @@ use Rattle.ajp_talk.specs.declared.turn.Unheard.{Unheard}
 use Rattle.ajp_talk.specs.declared.turn.Unheard.TheVariants as unheard_is
 use Rattle.ajp_talk.proofs.ReplyLaws.{writer-open, writer-fresh}
 use Rattle.ajp_talk.proofs.AskLaws.{traffic-came, traffic-sent, untaken-same, front-all, front-none, front-behind, front-longer, left-then, reaches-behind, used-takes, used-then, takes-data, takes-limited}
-use Rattle.ajp_talk.proofs.CourseLaws.{At, Next, next, stand_head, stand_chunk, stand_ask, end-sum, end-written, chunk-written, both-then, owed-answer, owed-longer, want-piece}
+use Rattle.ajp_talk.proofs.CourseLaws.{Next, next, stand_head, stand_chunk, stand_ask, end-sum, end-written, chunk-written, both-then, owed-answer, owed-longer, want-piece}
 use Rattle.ajp_talk.proofs.TurnLaws.{bytes-are, few-sent, passed-is, tells}
 
 -- no turn of these kinds comes where no message came

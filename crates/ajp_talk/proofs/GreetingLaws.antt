@@ -1,5 +1,5 @@
 -- A talk's beginning: CPing and its answer, and the request.
-use Rattle.std.proofs.Common.{◌≡◌, ℕ, ◌+◌, ◌≤◌, ◌<◌, ◌↔◌, true, false, List, [], ◌∷◌, ◌++◌, length, refl, sym, ap, subst, ◌∙◌, arith, append-nil, length-append, Option, Some, None, IfSome, inl, inr}
+use Rattle.std.proofs.Common.{◌≡◌, ℕ, ◌+◌, ◌≤◌, ◌<◌, ◌↔◌, true, false, List, [], ◌∷◌, ◌++◌, length, refl, sym, ap, subst, ◌∙◌, arith, append-nil, length-append, Option, Some, None, IfSome, Ok, Err, inl, inr}
 use Rattle.std.proofs.lemmas.Bool.{cond-true, cond-false, cases_Bool}
 use Rattle.jk_io.specs.Told.{Rose}
 use Rattle.jk_io.specs.declared.failures.NoMemory.{NoMemory}
@@ -10,14 +10,14 @@ use Rattle.ajp_reply.specs.declared.message.Message.TheVariants.{Headers, Chunk,
 use Rattle.http_body_in.specs.Body.{Data}
 use Rattle.http_body_in.specs.State.{taken_of, failed_of}
 use Rattle.http_body_in.specs.Walks.{counted}
-use Rattle.http_out.specs.Writer.{new_writer}
 use Rattle.jk_io.specs.Moments.{Moment}
 use Rattle.ajp_talk.specs.Moments.{BodyAt, TalkMoment, data_at, Traffic, IsSteady, Takes, IsFrontOf}
 use Rattle.ajp_talk.specs.Replies.{kind_of}
 use Rattle.ajp_talk.specs.Owed.{ping_of, pong_of, first_packet, request_of, opening, owed, IsSealed}
 use Rattle.ajp_talk.specs.Talk.{IsTalk, HasFailed, HasNoPong, IsPingCause, HasWanted, SentFor}
+use Rattle.ajp_talk.specs.Courses.{Stands, At, fresh, Begins}
 use Rattle.ajp_talk.specs.Turns.{Came, IsHeard, IsUnheard, Sends, pong_only, HasNoAnswer, IsAnswered, IsGreeting, IsUnanswered}
-use Rattle.ajp_talk.specs.Ends.{IsPlan, stage_end, told_end, bytes_end, unanswered_end}
+use Rattle.ajp_talk.specs.Ends.{IsPlan, stage_end, told_end, bytes_end, failed_end, unanswered_end}
 use Rattle.ajp_talk.specs.declared.plan.TalkPlan.{TalkPlan}
 use Rattle.ajp_talk.specs.declared.course.Course.{Course}
 use Rattle.ajp_talk.specs.declared.ending.Cause.{Cause}
@@ -26,7 +26,7 @@ use Rattle.ajp_talk.specs.declared.turn.Unheard.{Unheard}
 use Rattle.ajp_talk.specs.declared.turn.Unheard.TheVariants as unheard_is
 use Rattle.ajp_talk.proofs.MessageLaws.{part-nil, pong-is, no_pong-none, no_pong-other}
 use Rattle.ajp_talk.proofs.AskLaws.{traffic-none, traffic-came, traffic-sent, front-all, front-behind, takes-none, used-takes, dropped-none}
-use Rattle.ajp_talk.proofs.CourseLaws.{Stands, At, answer-length, front-length}
+use Rattle.ajp_talk.proofs.CourseLaws.{answer-length, front-length}
 use Rattle.ajp_talk.proofs.TurnLaws.{failed_with, below-limit}
 
 ping-is : (plan : TalkPlan) → plan.ping ≡ true → ping_of plan ≡ packet false (10 ∷ [])
@@ -200,10 +200,6 @@ request-length : (plan : TalkPlan) → IsPlan plan → length (request_of plan) 
 request-length plan fit =
     omega (arith, sealed-length plan.forward fit.forward, first-length plan.first, length-append plan.forward (first_packet plan.first), fit.first, fit.piece)
 
--- the course where nothing of a reply came
-abbrev pub fresh : TalkPlan → ℕ → ℕ → Course
-fresh plan sent received = record { writer = new_writer (kind_of plan); headers = false; told = record { status = 0; body = 0 }; sent = sent; received = received }
-
 module _ (plan : TalkPlan) (s n : TalkMoment) (mid : Moment) (before sent received : ℕ) where
   pub stand_begun : (put : List ℕ) → IsPlan plan → taken_of s.body.body ≡ length plan.first → failed_of s.body.body ≡ None → IsAnswered plan s.line mid before received
       → Sends mid n.line before sent put → IsFrontOf put (request_of plan) → n.client ≡ s.client → n.body ≡ s.body
@@ -280,3 +276,38 @@ module _ (plan : TalkPlan) (s n : TalkMoment) (mid : Moment) (before sent receiv
           body = used-takes s.body n.body st.taken st.takes;
         };
       }
+
+-- ---- the beginning, whatever the client and the body are
+
+module _ (plan : TalkPlan) (l mid l' : Moment) (c : Course) (before sent received : ℕ) where
+  -- the course so far is one where nothing of a reply came
+  pub begins_on : IsPlan plan → c ≡ fresh plan sent received → IsAnswered plan l mid before received → Sends mid l' before sent (request_of plan) → IsSteady mid l'
+      → Begins plan l l' c None
+  begins_on fit is h d steady = λ w b first going.
+      let s : TalkMoment = record { line = l; client = w; body = b } in
+      let n : TalkMoment = record { line = l'; client = w; body = b } in
+      subst (At plan s n) (sym is) (begun plan s n mid before sent received fit first going h d steady refl refl)
+
+  pub begins_failed : (put : List ℕ) (taken : ℕ) → IsPlan plan → taken ≡ length plan.first → c ≡ fresh plan sent received → IsAnswered plan l mid before received → l.faults ≤ mid.faults
+      → Sends mid l' before sent put → IsFrontOf put (request_of plan) → Rose mid.faults l'.faults → Begins plan l l' c (Some (Ok (failed_end plan c taken cause_is.Line)))
+  begins_failed put taken fit counted is h faults d front rose = λ w b first going.
+      let s : TalkMoment = record { line = l; client = w; body = b } in
+      let n : TalkMoment = record { line = l'; client = w; body = b } in
+      let end : IsTalk plan s n (Ok (failed_end plan (fresh plan sent received) (taken_of b.body) cause_is.Line)) =
+      inl (request_failed plan s n mid before sent received put fit first going h faults d front rose refl refl) in
+      subst (λ (k : Course). IsTalk plan s n (Ok (failed_end plan k taken cause_is.Line))) (sym is)
+      (subst (λ (t : ℕ). IsTalk plan s n (Ok (failed_end plan (fresh plan sent received) t cause_is.Line))) (first ∙ sym counted) end)
+
+  pub begins_wanted : (put : List ℕ) (want : NoMemory) → IsPlan plan → IsAnswered plan l mid before received
+      → Sends mid l' before sent put → IsFrontOf put (request_of plan) → Begins plan l l' c (Some (Err want))
+  begins_wanted put want fit h d front = λ w b first going.
+      inl (request_wanted plan (record { line = l; client = w; body = b }) (record { line = l'; client = w; body = b }) mid before sent received put fit first going h d front refl refl)
+
+pub begins_unanswered : (plan : TalkPlan) (l l' : Moment) (c : Course) (sent received : ℕ) (want : NoMemory) (why : Unheard) → HasNoAnswer plan l l' sent received why
+    → Begins plan l l' c (Some (unanswered_end want sent received why))
+begins_unanswered plan l l' c sent received want why h = λ w b first going.
+    unanswered_talk plan (record { line = l; client = w; body = b }) (record { line = l'; client = w; body = b }) sent received want why h refl refl
+
+-- what was counted since nothing of a reply had come
+pub fresh-counts : (plan : TalkPlan) (c : Course) (sent received : ℕ) → c ≡ fresh plan 0 0 → record c { sent = sent; received = received } ≡ fresh plan sent received
+fresh-counts plan c sent received e = ap (λ (k : Course). record k { sent = sent; received = received }) e

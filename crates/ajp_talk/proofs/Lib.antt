@@ -8,5 +8,6 @@ pub mod EndLaws
 pub mod SendingLaws
 pub mod LostLaws
 pub mod GreetingLaws
+pub mod TalkLaws
 pub mod DrainLaws
 pub mod CompleteLaws

@@ -18,6 +18,7 @@ use Rattle.ajp_talk.specs.Replies.{is_good, kind_of, chunks_of, sum_of, framing_
 use Rattle.ajp_talk.specs.Owed.{pong_of, opening}
 use Rattle.ajp_talk.specs.Talk.{IsGone, IsBrokenOff, HasWanted, IsNoEnd, Halt, IsHalted}
 use Rattle.ajp_talk.specs.Talk as halt_is
+use Rattle.ajp_talk.specs.Courses.{writer_for, At}
 use Rattle.ajp_talk.specs.Turns.{IsHeard, Acts, IsTurn, CameUnheard}
 use Rattle.ajp_talk.specs.Drains.{IsLostCourse, chunk_messages, IsTail, IsDropped, Drains, IsNoTail, EndsRest, IsStopped, IsCutShort}
 use Rattle.ajp_talk.specs.Ends.{IsPlan, bytes_end}
@@ -26,9 +27,9 @@ use Rattle.ajp_talk.specs.declared.course.Course.{Course}
 use Rattle.ajp_talk.specs.declared.turn.Turn.TheVariants as turn_is
 use Rattle.ajp_talk.specs.declared.turn.Unheard.{Unheard}
 use Rattle.ajp_talk.specs.declared.turn.Unheard.TheVariants as unheard_is
-use Rattle.ajp_talk.proofs.ReplyLaws.{framing_after-due, framing_after-none, framing_after-closing, framing_after-chunks, writer_for, some-of, same-equals, same-tests}
+use Rattle.ajp_talk.proofs.ReplyLaws.{framing_after-due, framing_after-none, framing_after-closing, framing_after-chunks, some-of, same-equals, same-tests}
 use Rattle.ajp_talk.proofs.AskLaws.{traffic-came, untaken-same}
-use Rattle.ajp_talk.proofs.CourseLaws.{At, Next, next, longer, chunk-sum, end-sum}
+use Rattle.ajp_talk.proofs.CourseLaws.{Next, next, longer, chunk-sum, end-sum}
 use Rattle.ajp_talk.proofs.TurnLaws.{bytes-are, few-sent}
 use Rattle.ajp_talk.proofs.EndLaws.{no_turn, chunk_broken, end_broken}
 

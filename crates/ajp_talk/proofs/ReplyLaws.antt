@@ -16,6 +16,7 @@ use Rattle.http_out.specs.ReplyBytes.{has_begun}
 use Rattle.http_out.specs.Writer.{Writer, IsOpen, IsJudged, new_writer, writer_after, framing_after, after_head}
 use Rattle.ajp_talk.specs.Replies.{head_out, is_readable, is_good, sum_of, exceeds, agrees, has_passed, told_with, told_by}
 use Rattle.http_out.specs.declared.reply_head.OutError.TheVariants as Out
+use Rattle.ajp_talk.specs.Courses.{writer_for}
 use Rattle.ajp_talk.specs.Turns.{with_seen, with_head}
 use Rattle.ajp_talk.specs.declared.course.Course.{Course}
 use Rattle.ajp_talk.specs.declared.ending.Told.{Told}
@@ -121,11 +122,6 @@ none-exceeds By.Closing = refl
 none-exceeds By.Chunks = refl
 
 -- ---- the writer
-
--- the writer behind a head, if one came, and chunks
-abbrev pub writer_for : RequestKind → Option ReplyParts → List (List ℕ) → Writer
-writer_for kind None chunks = new_writer kind
-writer_for kind (Some parts) chunks = writer_after kind (head_out parts) chunks
 
 pub some-of : {A : Type 0} → (o : Option A) → is_some o ≡ true → (x : A) × (o ≡ Some x)
 some-of None e = absurd cc

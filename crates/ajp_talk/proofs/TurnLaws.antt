@@ -18,6 +18,7 @@ use Rattle.ajp_talk.specs.Moments.{BodyAt, TalkMoment, data_at, Traffic, IsStead
 use Rattle.ajp_talk.specs.Replies.{is_good, kind_of, chunks_of, sum_of, framing_in, exceeds, agrees, passed_of, told_of_talk}
 use Rattle.ajp_talk.specs.Owed.{want, asked, answer, behind_first, pong_of, opening, owed}
 use Rattle.ajp_talk.specs.Talk.{IsCause, OpensFor, SentFor, HasFailed, with_refused}
+use Rattle.ajp_talk.specs.Courses.{writer_for, Stands, At}
 use Rattle.ajp_talk.specs.Turns.{Came, IsHeard, IsUnheard, Sends, Gives, IsHeadFailure, IsChunkFailure, IsAskTurn, Acts, IsTurn, IsUntaken, turn_of}
 use Rattle.ajp_talk.specs.Ends.{IsPlan, stage_end, told_end, bytes_end}
 use Rattle.ajp_talk.specs.declared.plan.TalkPlan.{TalkPlan}
@@ -29,9 +30,9 @@ use Rattle.ajp_talk.specs.declared.turn.Turn.TheVariants as turn_is
 use Rattle.ajp_talk.specs.declared.turn.Unheard.{Unheard}
 use Rattle.ajp_talk.specs.declared.turn.Unheard.TheVariants as unheard_is
 use Rattle.ajp_talk.proofs.MessageLaws.{no_second-head, no_bad-head, no_chunk-first, no_end-first, part-nil}
-use Rattle.ajp_talk.proofs.ReplyLaws.{writer_for, some-of, none-of, writer-passed, told-is}
+use Rattle.ajp_talk.proofs.ReplyLaws.{some-of, none-of, writer-passed, told-is}
 use Rattle.ajp_talk.proofs.AskLaws.{traffic-came, untaken-data, untaken-same, front-behind, front-longer}
-use Rattle.ajp_talk.proofs.CourseLaws.{Stands, At, Next, next, longer, stand_ask, chunk-sum, end-sum, both-then, owed-answer, owed-longer}
+use Rattle.ajp_talk.proofs.CourseLaws.{Next, next, longer, stand_ask, chunk-sum, end-sum, both-then, owed-answer, owed-longer}
 
 -- the course after a message that was refused: nothing more was sent or written
 pub record Keeps (c c' : Course) : Type 0 where

@@ -1,5 +1,5 @@
 -- What is read of a reply after the client is gone.
-use Rattle.std.specs.Prelude.{◌≡◌, ◌≢◌, ℕ, ◌+◌, ◌<◌, ◌⊎◌, Bool, true, List, [], ◌∷◌, ◌++◌, length, Result, Ok, Err, false}
+use Rattle.std.specs.Prelude.{◌≡◌, ◌≢◌, ℕ, ◌+◌, ◌<◌, ◌⊎◌, Bool, true, List, [], ◌∷◌, ◌++◌, length, Option, Some, None, Result, Ok, Err, false}
 use Rattle.jk_io.specs.declared.failures.NoMemory.{NoMemory}
 use Rattle.ajp_wire.specs.Packet.{HasCome}
 use Rattle.ajp_reply.specs.declared.message.Message.{Message}
@@ -9,9 +9,13 @@ use Rattle.http_out.specs.Writer.{IsOpen, framing_now}
 use Rattle.jk_io.specs.Moments.{Moment}
 use Rattle.ajp_talk.specs.Moments.{IsSteady}
 use Rattle.ajp_talk.specs.Replies.{chunks_of, sum_of, exceeds, agrees}
-use Rattle.ajp_talk.specs.Turns.{CameUnheard}
+use Rattle.ajp_talk.specs.Turns.{CameUnheard, IsHeard, IsUnheard, IsChunkTurn, IsEndTurn}
+use Rattle.ajp_talk.specs.Ends.{gone_end}
 use Rattle.ajp_talk.specs.declared.plan.TalkPlan.{TalkPlan}
 use Rattle.ajp_talk.specs.declared.course.Course.{Course}
+use Rattle.ajp_talk.specs.declared.ending.TalkEnd.{TalkEnd}
+use Rattle.ajp_talk.specs.declared.turn.Turn.{Turn}
+use Rattle.ajp_talk.specs.declared.turn.Turn.TheVariants as turn_is
 use Rattle.ajp_talk.specs.declared.turn.Unheard.{Unheard}
 use Rattle.ajp_talk.specs.declared.turn.Unheard.TheVariants as unheard_is
 
@@ -82,10 +86,67 @@ abbrev pub IsDrained : TalkPlan → Moment → Moment → Moment → Moment → 
 IsDrained plan l l' w w' c c' (Ok keep) = Drains plan l l' w w' c c' keep
 IsDrained plan l l' w w' c c' (Err e) = (bytes : List ℕ) × IsDropped l l' w w' bytes
 
--- the answer where no message came
-abbrev pub closed_by : NoMemory → Unheard → Result Bool NoMemory
-closed_by want unheard_is.Line = Ok false
-closed_by want unheard_is.Ended = Ok false
-closed_by want unheard_is.Wrong = Ok false
-closed_by want unheard_is.TooLong = Ok false
-closed_by want unheard_is.NoMemory = Err want
+-- ---- one message
+
+-- whether more is dropped after a turn, and else whether the link may serve again
+abbrev pub rest_after : NoMemory → Turn → Result (Option Bool) NoMemory
+rest_after want turn_is.On = Ok None
+rest_after want (turn_is.Done reuse) = Ok (Some reuse)
+rest_after want (turn_is.Failed cause) = Ok (Some false)
+rest_after want turn_is.Lost = Ok None
+rest_after want (turn_is.LostAtEnd reuse) = Ok (Some reuse)
+rest_after want turn_is.Unread = Ok (Some false)
+rest_after want turn_is.Cut = Ok (Some false)
+rest_after want (turn_is.Bad status) = Ok (Some false)
+rest_after want turn_is.NoMemory = Err want
+
+-- no message came: the link is to be closed
+abbrev pub rest_without : NoMemory → Unheard → Result (Option Bool) NoMemory
+rest_without want unheard_is.Line = Ok (Some false)
+rest_without want unheard_is.Ended = Ok (Some false)
+rest_without want unheard_is.Wrong = Ok (Some false)
+rest_without want unheard_is.TooLong = Ok (Some false)
+rest_without want unheard_is.NoMemory = Err want
+
+-- a message that can't stand in the rest of a reply is looked at no further
+pub record IsClosing (c c' : Course) (w w' : Moment) (answer : Result (Option Bool) NoMemory) : Type 0 where
+  pub closes : answer ≡ Ok (Some false)
+  pub course : c' ≡ c
+  pub client : w' ≡ w
+
+-- what is made of a message that is dropped
+abbrev pub IsDroppedMessage : TalkPlan → Message → Course → Course → Moment → Moment → Result (Option Bool) NoMemory → Type 0
+IsDroppedMessage plan (Headers parts) c c' w w' answer = IsClosing c c' w w' answer
+IsDroppedMessage plan (Chunk chunk) c c' w w' answer = (want : NoMemory) × (turn : Turn) × (answer ≡ rest_after want turn) × IsChunkTurn plan chunk c c' w w' turn
+IsDroppedMessage plan (End reuse) c c' w w' answer = (want : NoMemory) × (turn : Turn) × (answer ≡ rest_after want turn) × IsEndTurn reuse c c' w w' turn
+IsDroppedMessage plan (Ask most) c c' w w' answer = IsClosing c c' w w' answer
+IsDroppedMessage plan Pong c c' w w' answer = IsClosing c c' w w' answer
+
+-- a message came, and was dropped
+pub record HasDropped (plan : TalkPlan) (l l' : Moment) (w w' : Moment) (c c' : Course) (answer : Result (Option Bool) NoMemory) : Type 0 where
+  pub message : Message
+  pub count : ℕ
+  pub heard : IsHeard plan.packet plan.most l l' c.received count message
+  pub acts : IsDroppedMessage plan message (record c { received = count }) c' w w' answer
+
+-- no message came
+pub record HasNone (plan : TalkPlan) (l l' : Moment) (w w' : Moment) (c c' : Course) (answer : Result (Option Bool) NoMemory) : Type 0 where
+  pub why : Unheard
+  pub count : ℕ
+  pub want : NoMemory
+  pub unheard : IsUnheard plan.packet plan.most l l' c.received count why
+  pub closes : answer ≡ rest_without want why
+  pub course : c' ≡ record c { received = count }
+  pub client : w' ≡ w
+
+abbrev pub IsDrop : TalkPlan → Moment → Moment → Moment → Moment → Course → Course → Result (Option Bool) NoMemory → Type 0
+IsDrop plan l l' w w' c c' answer = HasDropped plan l l' w w' c c' answer ⊎ HasNone plan l l' w w' c c' answer
+
+-- ---- the end of a talk whose client is gone
+
+-- at once where the link is to be closed then, and else after the rest was dropped
+abbrev pub IsLostEnd : TalkPlan → Moment → Moment → Moment → Moment → Course → Course → Result TalkEnd NoMemory → Type 0
+IsLostEnd plan l l' w w' c c' (Ok end) =
+    ((plan.close_on_client ≡ true) × (end ≡ gone_end c false false) × (l' ≡ l) × (w' ≡ w))
+    ⊎ ((plan.close_on_client ≡ false) × ((keep : Bool) × Drains plan l l' w w' c c' keep × (end ≡ gone_end c' false keep)))
+IsLostEnd plan l l' w w' c c' (Err e) = (bytes : List ℕ) × IsDropped l l' w w' bytes

@@ -1,5 +1,5 @@
 -- How a talk's answer is made from how far it had come; and what a plan keeps.
-use Rattle.std.specs.Prelude.{ℕ, ◌<◌, ◌≤◌, Bool, false, nat_le, nat_lt, length, Option, Some, None, Result, Ok, Err, if◌then◌else◌}
+use Rattle.std.specs.Prelude.{ℕ, ◌<◌, ◌≤◌, Bool, true, false, ◌&&◌, not, nat_le, nat_lt, length, Option, Some, None, Result, Ok, Err, if◌then◌else◌}
 use Rattle.http_body_in.specs.Walks.{counted}
 use Rattle.ajp_talk.specs.Owed.{opening, IsSealed}
 use Rattle.ajp_talk.specs.declared.plan.TalkPlan.{TalkPlan}
@@ -10,6 +10,8 @@ use Rattle.ajp_talk.specs.declared.ending.Cause.{Cause}
 use Rattle.ajp_talk.specs.declared.ending.Cause.TheVariants as cause_is
 use Rattle.ajp_talk.specs.declared.ending.TalkEnd.{TalkEnd}
 use Rattle.ajp_talk.specs.declared.ending.TalkEnd.TheVariants as ends
+use Rattle.ajp_talk.specs.declared.turn.Turn.{Turn}
+use Rattle.ajp_talk.specs.declared.turn.Turn.TheVariants as turn_is
 use Rattle.ajp_talk.specs.declared.turn.Unheard.{Unheard}
 use Rattle.ajp_talk.specs.declared.turn.Unheard.TheVariants as unheard_is
 use Rattle.jk_io.specs.declared.failures.NoMemory.{NoMemory}
@@ -48,6 +50,18 @@ gone_end c truncated keep = ends.ClientGone truncated keep (bytes_end c)
 
 abbrev pub bad_end : Course → ℕ → TalkEnd
 bad_end c status = ends.BadBody status (told_end c) c.writer.passed (bytes_end c)
+
+-- The end that a turn makes. None ends where the talk goes on, and what comes of a lost client is said apart.
+abbrev pub ended_by : NoMemory → TalkPlan → Course → ℕ → Turn → Result TalkEnd NoMemory
+ended_by want plan c taken turn_is.On = Err want
+ended_by want plan c taken (turn_is.Done reuse) = Ok (done_end c reuse)
+ended_by want plan c taken (turn_is.Failed cause) = Ok (failed_end plan c taken cause)
+ended_by want plan c taken turn_is.Lost = Err want
+ended_by want plan c taken (turn_is.LostAtEnd reuse) = Ok (gone_end c false (reuse && not plan.close_on_client))
+ended_by want plan c taken turn_is.Unread = Ok (gone_end c false false)
+ended_by want plan c taken turn_is.Cut = Ok (gone_end c true false)
+ended_by want plan c taken (turn_is.Bad status) = Ok (bad_end c status)
+ended_by want plan c taken turn_is.NoMemory = Err want
 
 -- a talk that failed before a CPong came
 abbrev pub early_end : ℕ → ℕ → Cause → TalkEnd

@@ -3,6 +3,7 @@ pub mod Replies
 pub mod Owed
 pub mod Talk
 pub mod Turns
+pub mod Courses
 pub mod Hearing
 pub mod Ends
 pub mod Drains

@@ -1,18 +1,37 @@
 //! The ends of a talk, from how far it had come.
 
-ghost use Rattle.std.specs.Prelude.{◌≡◌, ◌≤◌, ◌<◌, ◌^◌, ◌&&◌, not, length};
+ghost use Rattle.std.specs.Prelude.{◌≡◌, ◌≢◌, ◌≤◌, ◌<◌, ◌^◌, ◌&&◌, not, length};
 ghost use Rattle.ajp_talk.specs.Owed.{opening, ping_of, first_packet};
-ghost use Rattle.ajp_talk.specs.Ends.{IsPlan, stage_end, told_end, bytes_end, failed_end, done_end, gone_end, bad_end, unanswered_end};
+ghost use Rattle.ajp_talk.specs.Ends.{IsPlan, stage_end, told_end, bytes_end, failed_end, done_end, gone_end, bad_end, ended_by, unanswered_end};
 
 use crate::course::Course;
 use crate::ending::{Cause, Stage, TalkEnd, Told};
 use crate::plan::TalkPlan;
-use crate::turn::Unheard;
+use crate::turn::{Turn, Unheard};
 use jk_io::NoMemory;
 
 impl Course {
+    /// The end that a turn makes, which neither lets the talk go on nor lost the client before the reply's end.
+    pub(crate) fn ended(&self, plan: &TalkPlan, taken: u64, turn: Turn) -> Result<TalkEnd, NoMemory>
+        requires plan { IsPlan plan.now }
+        requires over { turn ≢ Turn.On }
+        requires stays { turn ≢ Turn.Lost }
+        ensures { result ≡ ended_by (record {}) plan.now self.now taken turn }
+    {
+        match turn {
+            Turn::Done { reuse } => Ok(self.done(reuse)),
+            Turn::Failed(cause) => Ok(self.failed(plan, taken, cause)),
+            Turn::LostAtEnd { reuse } => Ok(self.gone(false, is_kept(plan, reuse))),
+            Turn::Unread => Ok(self.gone(false, false)),
+            Turn::Cut => Ok(self.gone(true, false)),
+            Turn::Bad { status } => Ok(self.bad(status)),
+            Turn::NoMemory => Err(NoMemory),
+            Turn::On | Turn::Lost => unreachable!(),
+        }
+    }
+
     /// The client has the whole reply.
-    pub(crate) fn done(&self, reuse: bool) -> TalkEnd
+    fn done(&self, reuse: bool) -> TalkEnd
         ensures { result ≡ done_end self.now reuse }
     {
         TalkEnd::Done {
@@ -52,7 +71,7 @@ impl Course {
     }
 
     /// The body is bad.
-    pub(crate) fn bad(&self, status: u16) -> TalkEnd
+    fn bad(&self, status: u16) -> TalkEnd
         ensures { result ≡ bad_end self.now status }
     {
         TalkEnd::BadBody {

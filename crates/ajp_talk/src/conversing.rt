@@ -1,12 +1,15 @@
 //! A talk from its first byte to its end.
 
-ghost use Rattle.std.specs.Prelude.{◌≡◌, ◌≤◌, None, length};
+ghost use Rattle.std.specs.Prelude.{◌≡◌, ◌≤◌, ◌<◌, None, length};
 ghost use Rattle.http_body_in.specs.State.{failed_of, taken_of};
+ghost use Rattle.ajp_wire.specs.Moments.{link_at};
+ghost use Rattle.ajp_talk.specs.Courses.{Begins, fresh};
+ghost use Rattle.ajp_talk.specs.Drains.{IsLostCourse, IsLostEnd};
 ghost use Rattle.ajp_talk.specs.Ends.{IsPlan};
 ghost use Rattle.ajp_talk.specs.Moments.{talk_at};
 ghost use Rattle.ajp_talk.specs.Talk.{IsTalk};
 
-use crate::concluding::{is_kept, unanswered};
+use crate::concluding::unanswered;
 use crate::course::Course;
 use crate::cping::greet;
 use crate::drain::drain;
@@ -17,7 +20,7 @@ use crate::stepping::step;
 use crate::turn::Turn;
 use http_body_in::BodyIn;
 use http_front::Inbox;
-use jk_io::{IoError, Link, NoMemory};
+use jk_io::{IoError, Link, NoMemory, Sink};
 use std::alloc::Global;
 
 /// Sends the request, answers the container's asks, and passes its reply on, message by message.
@@ -39,38 +42,89 @@ pub(crate) fn converse<L: Link, C: Link>(
     ensures beside { (L.beside line.new ≡ L.beside line.old) × (C.beside client.new ≡ C.beside client.old) }
     ensures no_fewer { (L.faults line.old ≤ L.faults line.new) × (C.faults client.old ≤ C.faults client.new) }
 {
-    let mut sent = 0;
-    let mut received = 0;
-    match greet(alloc, plan, line, &mut sent, &mut received) {
-        Ok(()) => {}
-        Err(why) => return unanswered(sent, received, why),
+    let mut course = Course::new(alloc, plan, 0, 0);
+    hold(alloc, plan, &mut course, body, inbox, line, client)
+}
+
+/// The talk, of which nothing was sent and nothing came.
+fn hold<L: Link, C: Link>(
+    alloc: Global,
+    plan: &TalkPlan,
+    course: &mut Course,
+    body: &mut BodyIn,
+    inbox: &mut Inbox,
+    line: &mut L,
+    client: &mut C,
+) -> Result<TalkEnd, NoMemory>
+    requires plan { IsPlan plan.now }
+    requires begun { course.old ≡ fresh plan.now 0 0 }
+    requires first { taken_of body.old ≡ length plan.now.first }
+    requires going { failed_of body.old ≡ None }
+
+    ensures talk { let at = talk_at L.Meanings C.Meanings in
+        IsTalk plan.now (at line.old client.old body.old inbox.old) (at line.new client.new body.new inbox.new) result }
+
+    ensures beside { (L.beside line.new ≡ L.beside line.old) × (C.beside client.new ≡ C.beside client.old) }
+    ensures no_fewer { (L.faults line.old ≤ L.faults line.new) × (C.faults client.old ≤ C.faults client.new) }
+{
+    match begin(alloc, plan, course, line) {
+        None => {}
+        Some(end) => return end,
     }
-    match send_request(alloc, plan, line, &mut sent) {
-        Ok(()) => {}
-        Err(IoError::Failed) => {
-            let begun = Course::new(alloc, plan, sent, received);
-            return Ok(begun.failed(plan, body.taken(), Cause::Line));
-        }
-        Err(IoError::NoMemory) => return Err(NoMemory),
-    }
-    let mut course = Course::new(alloc, plan, sent, received);
     loop {
-        match step(alloc, plan, &mut course, body, inbox, line, client) {
+        match step(alloc, plan, course, body, inbox, line, client) {
             Turn::On => {}
-            Turn::Done { reuse } => return Ok(course.done(reuse)),
-            Turn::Failed(cause) => return Ok(course.failed(plan, body.taken(), cause)),
-            Turn::Lost => {
-                if plan.close_on_client {
-                    return Ok(course.gone(false, false));
-                }
-                let keep = drain(alloc, plan, &mut course, line, client)?;
-                return Ok(course.gone(false, keep));
-            }
-            Turn::LostAtEnd { reuse } => return Ok(course.gone(false, is_kept(plan, reuse))),
-            Turn::Unread => return Ok(course.gone(false, false)),
-            Turn::Cut => return Ok(course.gone(true, false)),
-            Turn::Bad { status } => return Ok(course.bad(status)),
-            Turn::NoMemory => return Err(NoMemory),
+            Turn::Lost => return lost(alloc, plan, course, line, client),
+            turn => return course.ended(plan, body.taken(), turn),
         }
+    }
+}
+
+/// Greets the container and sends it the request. None where that went well, and the talk goes on.
+fn begin<L: Link>(
+    alloc: Global,
+    plan: &TalkPlan,
+    course: &mut Course,
+    line: &mut L,
+) -> Option<Result<TalkEnd, NoMemory>>
+    requires plan { IsPlan plan.now }
+    requires begun { course.old ≡ fresh plan.now 0 0 }
+    ensures begins { Begins plan.now (link_at L.Meanings line.old) (link_at L.Meanings line.new) course.new result }
+    ensures beside { L.beside line.new ≡ L.beside line.old }
+    ensures no_fewer { L.faults line.old ≤ L.faults line.new }
+{
+    match greet(alloc, plan, line, &mut course.sent, &mut course.received) {
+        Ok(()) => {}
+        Err(why) => return Some(unanswered(course.sent, course.received, why)),
+    }
+    match send_request(alloc, plan, line, &mut course.sent) {
+        Ok(()) => None,
+        Err(IoError::Failed) => Some(Ok(course.failed(plan, plan.first.len() as u64, Cause::Line))),
+        Err(IoError::NoMemory) => Some(Err(NoMemory)),
+    }
+}
+
+/// The end where a write to the client failed before the reply's end.
+fn lost<L: Link, C: Sink>(
+    alloc: Global,
+    plan: &TalkPlan,
+    course: &mut Course,
+    line: &mut L,
+    client: &mut C,
+) -> Result<TalkEnd, NoMemory>
+    requires plan { IsPlan plan.now }
+    requires lost { IsLostCourse course.old }
+    requires below { course.old.received < plan.now.most }
+    ensures ended { IsLostEnd plan.now (link_at L.Meanings line.old) (link_at L.Meanings line.new) (link_at C.Meanings client.old) (link_at C.Meanings client.new) course.old course.new result }
+    ensures incoming { C.incoming client.new ≡ C.incoming client.old }
+    ensures beside { (L.beside line.new ≡ L.beside line.old) × (C.beside client.new ≡ C.beside client.old) }
+    ensures no_fewer { (L.faults line.old ≤ L.faults line.new) × (C.faults client.old ≤ C.faults client.new) }
+{
+    if plan.close_on_client {
+        return Ok(course.gone(false, false));
+    }
+    match drain(alloc, plan, course, line, client) {
+        Ok(keep) => Ok(course.gone(false, keep)),
+        Err(NoMemory) => Err(NoMemory),
     }
 }

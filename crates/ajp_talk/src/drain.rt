@@ -3,7 +3,8 @@
 ghost use Rattle.std.specs.Prelude.{◌≡◌, ◌≤◌, ◌<◌};
 ghost use Rattle.ajp_wire.specs.Moments.{link_at};
 ghost use Rattle.ajp_talk.specs.Ends.{IsPlan};
-ghost use Rattle.ajp_talk.specs.Drains.{IsLostCourse, IsDrained, closed_by as closed_by_of};
+ghost use Rattle.ajp_talk.specs.Turns.{IsOnCourse};
+ghost use Rattle.ajp_talk.specs.Drains.{IsLostCourse, IsDrained, IsDrop, IsDroppedMessage, rest_after as rest_after_of, rest_without as rest_without_of};
 
 use crate::course::Course;
 use crate::messages::receive;
@@ -31,40 +32,72 @@ pub(crate) fn drain<L: Link, C: Sink>(
     ensures no_fewer { (L.faults line.old ≤ L.faults line.new) × (C.faults client.old ≤ C.faults client.new) }
 {
     loop {
-        match receive(alloc, line, plan.packet, plan.most, &mut course.received) {
-            Ok(Message::Chunk(bytes)) => {
-                match course.take_chunk(plan, bytes.as_slice(), client) {
-                    Turn::On => {}
-                    Turn::Lost => {}
-                    Turn::NoMemory => return Err(NoMemory),
-                    _ => return Ok(false),
-                }
-            }
-            Ok(Message::End { reuse }) => {
-                return match course.finish(reuse, client) {
-                    Turn::Done { .. } => Ok(reuse),
-                    Turn::LostAtEnd { .. } => Ok(reuse),
-                    Turn::Failed(_) => Ok(false),
-                    Turn::NoMemory => Err(NoMemory),
-                    Turn::On | Turn::Lost | Turn::Unread | Turn::Cut | Turn::Bad { .. } => {
-                        unreachable!()
-                    }
-                };
-            }
-            Ok(Message::Headers(_parts)) => return Ok(false),
-            Ok(Message::Ask(_most)) => return Ok(false),
-            Ok(Message::Pong) => return Ok(false),
-            Err(why) => return closed_by(why),
+        match drop_next(alloc, plan, course, line, client) {
+            Ok(None) => {}
+            Ok(Some(keep)) => return Ok(keep),
+            Err(NoMemory) => return Err(NoMemory),
         }
     }
 }
 
+/// Reads one message and drops it. None where more is to be dropped.
+fn drop_next<L: Link, C: Sink>(
+    alloc: Global,
+    plan: &TalkPlan,
+    course: &mut Course,
+    line: &mut L,
+    client: &mut C,
+) -> Result<Option<bool>, NoMemory>
+    requires { IsOnCourse course.old }
+    ensures dropped { IsDrop plan.now (link_at L.Meanings line.old) (link_at L.Meanings line.new) (link_at C.Meanings client.old) (link_at C.Meanings client.new) course.old course.new result }
+    ensures incoming { C.incoming client.new ≡ C.incoming client.old }
+    ensures beside { (L.beside line.new ≡ L.beside line.old) × (C.beside client.new ≡ C.beside client.old) }
+    ensures no_fewer { (L.faults line.old ≤ L.faults line.new) × (C.faults client.old ≤ C.faults client.new) }
+{
+    match receive(alloc, line, plan.packet, plan.most, &mut course.received) {
+        Ok(message) => drop_message(plan, course, &message, client),
+        Err(why) => rest_without(why),
+    }
+}
+
+/// Counts a chunk, ends the reply at its end, and looks at no other message.
+fn drop_message<C: Sink>(
+    plan: &TalkPlan,
+    course: &mut Course,
+    message: &Message,
+    client: &mut C,
+) -> Result<Option<bool>, NoMemory>
+    requires { IsOnCourse course.old }
+    ensures dropped { IsDroppedMessage plan.now message.now course.old course.new (link_at C.Meanings client.old) (link_at C.Meanings client.new) result }
+    ensures incoming { C.incoming client.new ≡ C.incoming client.old }
+    ensures beside { C.beside client.new ≡ C.beside client.old }
+    ensures no_fewer { C.faults client.old ≤ C.faults client.new }
+{
+    match message {
+        Message::Chunk(bytes) => rest_after(course.take_chunk(plan, bytes.as_slice(), client)),
+        Message::End { reuse } => rest_after(course.finish(*reuse, client)),
+        Message::Headers(_) | Message::Ask(_) | Message::Pong => Ok(Some(false)),
+    }
+}
+
+/// Whether more is to be dropped after a turn, and else whether the link may serve again.
+fn rest_after(turn: Turn) -> Result<Option<bool>, NoMemory>
+    ensures { result ≡ rest_after_of (record {}) turn }
+{
+    match turn {
+        Turn::On | Turn::Lost => Ok(None),
+        Turn::Done { reuse } | Turn::LostAtEnd { reuse } => Ok(Some(reuse)),
+        Turn::Failed(_) | Turn::Unread | Turn::Cut | Turn::Bad { .. } => Ok(Some(false)),
+        Turn::NoMemory => Err(NoMemory),
+    }
+}
+
 /// Where no message came the link is to be closed.
-fn closed_by(why: Unheard) -> Result<bool, NoMemory>
-    ensures { result ≡ closed_by_of (record {}) why }
+fn rest_without(why: Unheard) -> Result<Option<bool>, NoMemory>
+    ensures { result ≡ rest_without_of (record {}) why }
 {
     match why {
-        Unheard::Line | Unheard::Ended | Unheard::Wrong | Unheard::TooLong => Ok(false),
+        Unheard::Line | Unheard::Ended | Unheard::Wrong | Unheard::TooLong => Ok(Some(false)),
         Unheard::NoMemory => Err(NoMemory),
     }
 }

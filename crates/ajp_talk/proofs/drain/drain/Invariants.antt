@@ -4,8 +4,8 @@ use Rattle.ajp_talk.proofs.DrainLaws.{Draining}
 use Rattle.ajp_talk.proofs.drain.drain.Given as goal
 
 -- chunks came, and nothing else
-abbrev pub invariant-loop-bytes : goal.invariant-loop-bytes
-invariant-loop-bytes g l = record {
+abbrev pub invariant-loop-keep : goal.invariant-loop-keep
+invariant-loop-keep g l = record {
   draining : Draining l.plan
       (link_at g.L.Meanings l.initial.line)
       (link_at g.L.Meanings l.line)
@@ -19,5 +19,5 @@ invariant-loop-bytes g l = record {
   client_faults : g.C.Meanings.faults l.initial.client ≤ g.C.Meanings.faults l.client;
 }
 
-abbrev pub decreases-loop-bytes : goal.decreases-loop-bytes
-decreases-loop-bytes g l = l.plan.most - l.course.received
+abbrev pub decreases-loop-keep : goal.decreases-loop-keep
+decreases-loop-keep g l = l.plan.most - l.course.received

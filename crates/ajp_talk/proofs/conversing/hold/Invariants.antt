@@ -1,11 +1,11 @@
 use Rattle.std.proofs.Common.{◌≡◌, ◌≤◌, ◌-◌}
 use Rattle.ajp_talk.specs.Moments.{talk_at}
-use Rattle.ajp_talk.proofs.CourseLaws.{At}
-use Rattle.ajp_talk.proofs.conversing.converse.Given as goal
+use Rattle.ajp_talk.specs.Courses.{At}
+use Rattle.ajp_talk.proofs.conversing.hold.Given as goal
 
 -- how the talk stands since it began
-abbrev pub invariant-loop-reuse : goal.invariant-loop-reuse
-invariant-loop-reuse g l = record {
+abbrev pub invariant-loop-course : goal.invariant-loop-course
+invariant-loop-course g l = record {
   stands : (let at = talk_at g.L.Meanings g.C.Meanings in
       At l.plan (at l.fn.line l.fn.client l.fn.body l.fn.inbox) (at l.line l.client l.body l.inbox) l.course);
   line_beside : g.L.Meanings.beside l.line ≡ g.L.Meanings.beside l.fn.line;
@@ -14,5 +14,5 @@ invariant-loop-reuse g l = record {
   client_faults : g.C.Meanings.faults l.fn.client ≤ g.C.Meanings.faults l.client;
 }
 
-abbrev pub decreases-loop-reuse : goal.decreases-loop-reuse
-decreases-loop-reuse g l = l.plan.most - l.course.received
+abbrev pub decreases-loop-course : goal.decreases-loop-course
+decreases-loop-course g l = l.plan.most - l.course.received

@@ -1,0 +1,67 @@
+-- What each message makes of the talk, or that none came.
+use Rattle.std.proofs.Common.{refl, ap, inl, inr}
+use Rattle.http_front.specs.Unread.{unread}
+use Rattle.ajp_wire.specs.Moments.{link_at}
+use Rattle.ajp_reply.specs.declared.message.Message.TheVariants.{Headers, Chunk, End, Ask, Pong}
+use Rattle.ajp_talk.proofs.stepping.step.Goals as goal
+
+pub returns-in-Ok-Headers-clause-turn : goal.returns-in-Ok-Headers-clause-turn
+returns-in-Ok-Headers-clause-turn g c =
+    let heard = rw c.in-Ok-Headers.field-0-is at c.in-Ok-Headers.ensures.heard in
+    inr (record {
+      message = Headers c.in-Ok-Headers.parts;
+      mid = link_at g.L.Meanings c.receive.new.line;
+      count = c.receive.new.count;
+      heard = heard;
+      acts = (c.take_head.ensures, refl, refl, record { body = refl; unread = refl });
+    })
+
+pub returns-in-Ok-Chunk-clause-turn : goal.returns-in-Ok-Chunk-clause-turn
+returns-in-Ok-Chunk-clause-turn g c =
+    let heard = rw c.in-Ok-Chunk.field-0-is at c.in-Ok-Chunk.ensures.heard in
+    let turn = rw c.as_slice.ensures at c.take_chunk.ensures.turn in
+    inr (record {
+      message = Chunk c.in-Ok-Chunk.bytes;
+      mid = link_at g.L.Meanings c.receive.new.line;
+      count = c.receive.new.count;
+      heard = heard;
+      acts = (turn, refl, record { body = refl; unread = ap (unread c.args.inbox.now) c.take_chunk.ensures.same.0 }, c.take_chunk.ensures.no_fewer);
+    })
+
+pub returns-in-Ok-Ask-clause-turn : goal.returns-in-Ok-Ask-clause-turn
+returns-in-Ok-Ask-clause-turn g c =
+    let heard = rw c.in-Ok-Ask.field-0-is at c.in-Ok-Ask.ensures.heard in
+    let turn = rw c.wanted.ensures at c.answer_ask.ensures.turn in
+    inr (record {
+      message = Ask c.in-Ok-Ask.n;
+      mid = link_at g.L.Meanings c.receive.new.line;
+      count = c.receive.new.count;
+      heard = heard;
+      acts = (turn, refl, c.answer_ask.ensures.written, c.answer_ask.ensures.no_fewer.1);
+    })
+
+pub returns-in-Ok-End-clause-turn : goal.returns-in-Ok-End-clause-turn
+returns-in-Ok-End-clause-turn g c =
+    let heard = rw c.in-Ok-End.field-0-is at c.in-Ok-End.ensures.heard in
+    inr (record {
+      message = End c.in-Ok-End.reuse;
+      mid = link_at g.L.Meanings c.receive.new.line;
+      count = c.receive.new.count;
+      heard = heard;
+      acts = (c.finish.ensures.turn, refl, record { body = refl; unread = ap (unread c.args.inbox.now) c.finish.ensures.same.0 }, c.finish.ensures.no_fewer);
+    })
+
+pub returns-in-Ok-Pong-clause-turn : goal.returns-in-Ok-Pong-clause-turn
+returns-in-Ok-Pong-clause-turn g c =
+    let heard = rw c.in-Ok-Pong.field-0-is at c.in-Ok-Pong.ensures.heard in
+    inr (record {
+      message = Pong;
+      mid = link_at g.L.Meanings c.receive.new.line;
+      count = c.receive.new.count;
+      heard = heard;
+      acts = (refl, refl, refl, refl, record { body = refl; unread = refl });
+    })
+
+pub returns-in-Err-clause-turn : goal.returns-in-Err-clause-turn
+returns-in-Err-clause-turn g c =
+    inl (record { why = c.in-Err.why; turn_is = c.turn_of.ensures; unheard = c.in-Err.ensures.unheard; course = refl; client = refl; body = record { body = refl; unread = refl } })
