@@ -12,7 +12,6 @@ use Rattle.http_body_in.specs.State.{taken_of, failed_of}
 use Rattle.http_body_in.specs.Walks.{counted}
 use Rattle.jk_io.specs.Moments.{Moment}
 use Rattle.ajp_talk.specs.Moments.{BodyAt, TalkMoment, data_at, Traffic, IsSteady, Takes, IsFrontOf}
-use Rattle.ajp_talk.specs.Replies.{kind_of}
 use Rattle.ajp_talk.specs.Owed.{ping_of, pong_of, first_packet, request_of, opening, owed, IsSealed}
 use Rattle.ajp_talk.specs.Talk.{IsTalk, HasFailed, HasNoPong, IsPingCause, HasWanted, SentFor}
 use Rattle.ajp_talk.specs.Courses.{Stands, At, fresh, Begins}

@@ -13,7 +13,7 @@ use Rattle.http_out.specs.declared.content_length.ContentLength.TheVariants as S
 use Rattle.http_out.specs.Head.{IsReplyHead, is_text, is_field, content_length}
 use Rattle.http_out.specs.Framing.{framing_of, is_beyond, is_complete, spent}
 use Rattle.http_out.specs.ReplyBytes.{has_begun}
-use Rattle.http_out.specs.Writer.{Writer, IsOpen, IsJudged, new_writer, writer_after, framing_after, after_head}
+use Rattle.http_out.specs.Writer.{Writer, IsOpen, IsJudged, framing_after, after_head}
 use Rattle.ajp_talk.specs.Replies.{head_out, is_readable, is_good, sum_of, exceeds, agrees, has_passed, told_with, told_by}
 use Rattle.http_out.specs.declared.reply_head.OutError.TheVariants as Out
 use Rattle.ajp_talk.specs.Courses.{writer_for}

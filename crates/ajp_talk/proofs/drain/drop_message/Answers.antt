@@ -1,5 +1,4 @@
 -- What a turn of the reply came to.
-use Rattle.std.proofs.Common.{refl}
 use Rattle.ajp_talk.proofs.drain.drop_message.Goals as goal
 
 pub returns-in-Chunk-clause-dropped : goal.returns-in-Chunk-clause-dropped
