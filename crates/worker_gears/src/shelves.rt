@@ -3,7 +3,7 @@ ghost use Rattle.std.specs.Prelude.{◌≡◌, ◌≤◌, true, false, Ok, Err};
 ghost use Rattle.jk_io.specs.Told.{HasCause};
 
 use crate::journal_files::{SegmentFile, segment_file};
-use jk_io::{Bytes, IoError, ListOf};
+use jk_io::{Bytes, IoError, ListOf, NoMemory};
 use jk_model::Segment;
 use locked_balancer::Shelf;
 use std::fs::OpenOptions;
@@ -31,6 +31,15 @@ impl<'r, R: Files> FileShelf<'r, R> {
             names,
             failed: 0,
         }
+    }
+
+    // Writes the file of a segment, and says whether that was done whole. A balancer that has no name here has no file.
+    fn write(&self, lb: u32, segment: &Segment) -> Result<bool, NoMemory> {
+        let Some(name) = self.names.get(lb as usize) else {
+            return Ok(false);
+        };
+        let file = segment_file(&self.dir, name, segment)?;
+        Ok(write_new(self.rt, &file))
     }
 
     // The answer of a call; it is counted where nothing was written.
@@ -71,11 +80,8 @@ impl<'r, R: Files> Shelf for FileShelf<'r, R> {
 
     /// It fails for a balancer that has no name here, and where the file can't be made new and written whole.
     fn keep(&mut self, lb: u32, segment: Segment) -> Result<(), IoError> {
-        let Some(name) = self.names.get(lb as usize) else {
-            return self.answer(false);
-        };
-        let file = segment_file(&self.dir, name, &segment)?;
-        self.answer(write_new(self.rt, &file))
+        let written = self.write(lb, &segment)?;
+        self.answer(written)
     }
 
     fn failed(&self) -> u64 {
