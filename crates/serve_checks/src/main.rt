@@ -12,10 +12,15 @@
 //!     file-fails N        the read of a file with this number fails
 //!     output-fails N      a write of the output fails after its first N bytes
 //!
-//! What comes out is told so: what was written, `status N`, `faults N` of the world, and of each gear that came back the
-//! links that were left at its door, its talks with members, and the segments on its shelf.
+//! A row with a line `meeting` has no command: two workers serve a client each over one lock, and the member answers the
+//! first only once the second's client has its own answer. Its first four `file`s are the bytes of the first client and of
+//! its member, and of the second's. What comes out is what was sent on the links that were left.
+//!
+//! Otherwise what comes out is told so: what was written, `status N`, `faults N` of the world, and of each gear that came
+//! back the links that were left at its door, its talks with members, and the segments on its shelf.
 #![tactic(auto)]
 
+mod meeting;
 mod serving;
 mod told;
 mod worlds;
@@ -30,9 +35,16 @@ use std::fs;
 use std::rt::Files;
 use std::sync::Wait;
 use std::thread::Threads;
+use std::time::Clock;
 
 /// The files of rows.
-static FILES: [&str; 4] = ["words.txt", "serving.txt", "faults.txt", "drills.txt"];
+static FILES: [&str; 5] = [
+    "words.txt",
+    "serving.txt",
+    "faults.txt",
+    "drills.txt",
+    "meeting.txt",
+];
 
 /// How many rows there were, and how many of them came out otherwise.
 #[derive(Clone, Copy)]
@@ -42,12 +54,22 @@ struct Count {
 }
 
 /// Whether a row comes out as it says; not, where it can't be read.
-fn is_held<R: Threads + Wait + Sync>(rt: &R, alloc: Global, lines: &str) -> Result<bool, NoMemory> {
+fn is_held<R: Threads + Wait + Clock + Sync>(
+    rt: &R,
+    alloc: Global,
+    lines: &str,
+) -> Result<bool, NoMemory> {
     let with = With {
         first: "",
         second: "",
     };
-    match serving::holds(rt, alloc, Row { lines, with }) {
+    let row = Row { lines, with };
+    let held = if row.count("meeting") > 0 {
+        meeting::holds(rt, alloc, row)
+    } else {
+        serving::holds(rt, alloc, row)
+    };
+    match held {
         Ok(held) => Ok(held),
         Err(RowError::Unreadable) => Ok(false),
         Err(RowError::NoMemory) => Err(NoMemory),
@@ -55,7 +77,7 @@ fn is_held<R: Threads + Wait + Sync>(rt: &R, alloc: Global, lines: &str) -> Resu
 }
 
 /// Does a row, and shows it where it comes out otherwise.
-fn judge_row<R: Threads + Wait + Sync>(
+fn judge_row<R: Threads + Wait + Clock + Sync>(
     rt: &R,
     alloc: Global,
     lines: &str,
@@ -74,7 +96,7 @@ fn judge_row<R: Threads + Wait + Sync>(
 
 /// Does each row of a text, shows those that come out otherwise, and counts. (A trait's method knows nothing of what its
 /// threads share, so these rows aren't judged by `judge_rows` of block_rows.)
-fn judge_rows<R: Threads + Wait + Sync>(
+fn judge_rows<R: Threads + Wait + Clock + Sync>(
     rt: &R,
     alloc: Global,
     text: &str,
@@ -87,7 +109,7 @@ fn judge_rows<R: Threads + Wait + Sync>(
     Ok(count)
 }
 
-fn judge_text<R: Threads + Wait + Sync + Print + AllocGlobal>(
+fn judge_text<R: Threads + Wait + Clock + Sync + Print + AllocGlobal>(
     rt: &R,
     name: &str,
     text: &str,
@@ -104,7 +126,7 @@ fn judge_text<R: Threads + Wait + Sync + Print + AllocGlobal>(
     Ok(())
 }
 
-fn judge_file<R: Threads + Wait + Sync + Print + AllocGlobal + Files>(
+fn judge_file<R: Threads + Wait + Clock + Sync + Print + AllocGlobal + Files>(
     rt: &R,
     name: &str,
 ) -> Result<()> {

@@ -1,0 +1,258 @@
+//! Two workers side by side: the member answers the first only once the second's client has its own answer.
+//!
+//! All that owns gears is written over any links, so that only the links themselves speak of the gate.
+ghost use Rattle.std.specs.Prelude.{◌≡◌, ◌<◌, true, vec_len, IfOk};
+ghost use Rattle.uri_map.specs.Sites.{stands_in};
+
+use block_rows::comparing::wants;
+use block_rows::row::{Row, RowError};
+use conn_pool::NoTape;
+use gear_runs::serve_gears;
+use jk_io::{
+    Bytes, ClientList, Dial, Gate, GateLink, IoError, Link, MAX_INPUT_BYTES, MemDoor, MemLink,
+    NoMemory, NumberList, Peer, StepClock, Turn,
+};
+use locked_balancer::{KeptList, MemShelf};
+use site_config::Config;
+use std::alloc::Global;
+use std::sync::Wait;
+use std::thread::Threads;
+use std::time::Clock;
+use uri_map::{MapError, UriMap, read_map};
+use worker_gears::Gear;
+use worker_props::{PropsError, read_workers};
+
+/// A link that says what was sent on it.
+pub trait Shown {
+    fn sent(&self) -> &[u8];
+}
+
+impl<'g, 'r, R> Shown for GateLink<'g, 'r, MemLink, R> {
+    fn sent(&self) -> &[u8] {
+        self.link().sent()
+    }
+}
+
+/// A dial that gives one link.
+#[derive(Drop)]
+pub struct OneDial<L> {
+    link: Option<L>,
+}
+
+impl<L: Link + Drop + Send> Dial for OneDial<L> {
+    type L = L;
+
+    ghost faults = { λ _. 0 };
+
+    fn dial(&mut self, _alloc: Global, _host: &Bytes, _port: u16) -> Result<L, IoError> {
+        self.link.take().ok_or(IoError::NoMemory)
+    }
+}
+
+/// The links of a worker: its client's, and the one to its member.
+#[derive(Drop)]
+struct Ends<L> {
+    client: L,
+    member: L,
+}
+
+/// What a worker works with, where no request is logged.
+type OverLinks<L> = Gear<MemDoor<L>, OneDial<L>, NoTape, StepClock, MemShelf, ()>;
+
+/// The place that the second worker's client raises.
+const SECOND_IS_ANSWERED: u32 = 0;
+/// A place that is raised from the beginning.
+const OPEN: u32 = 1;
+/// A place that is raised, and for which nobody waits.
+const NOBODY_WAITS: u32 = 2;
+
+/// At which place the member's answer to a worker waits, and which the worker's client raises once it has its answer.
+#[derive(Clone, Copy)]
+struct Places {
+    member: u32,
+    client: u32,
+    ghost known: { (member < 64) × (client < 64) },
+}
+
+fn link_of(alloc: Global, row: Row<'_>, file: usize) -> Result<MemLink, RowError> {
+    let text = row.text(alloc, "file", file)?;
+    Ok(MemLink::new(alloc, text, NumberList::new(alloc)))
+}
+
+/// A worker's links, over the texts of these files of a row: its client's, and the next, which is its member's.
+fn ends_of(alloc: Global, row: Row<'_>, file: usize) -> Result<Ends<MemLink>, RowError> {
+    let client = link_of(alloc, row, file)?;
+    let member = link_of(alloc, row, file.saturating_add(1))?;
+    Ok(Ends { client, member })
+}
+
+/// The same links, at these places of a gate.
+fn meeting<'g, 'r, R>(
+    ends: Ends<MemLink>,
+    gate: &'g Gate<'r, R>,
+    places: Places,
+) -> Ends<GateLink<'g, 'r, MemLink, R>> {
+    let Ends { client, member } = ends;
+    Ends {
+        client: GateLink::new(client, gate, places.client, Turn::Raises),
+        member: GateLink::new(member, gate, places.member, Turn::Waits),
+    }
+}
+
+/// The one client of a worker.
+fn clients_of<L: Drop>(alloc: Global, link: L) -> Result<ClientList<L>, NoMemory> {
+    let peer = Peer {
+        addr: Bytes::from_slice(alloc, b"127.0.0.1")?,
+    };
+    let mut clients = ClientList::new(alloc);
+    clients.push((link, peer)).map_err(|_| NoMemory)?;
+    Ok(clients)
+}
+
+fn gear_of<L: Drop>(alloc: Global, ends: Ends<L>) -> Result<OverLinks<L>, NoMemory> {
+    let Ends { client, member } = ends;
+    let clients = clients_of(alloc, client)?;
+    Ok(Gear {
+        door: MemDoor::new(alloc, clients, NumberList::new(alloc)),
+        dial: OneDial { link: Some(member) },
+        tape: NoTape,
+        clock: StepClock::new(NumberList::new(alloc)),
+        shelf: MemShelf::new(KeptList::new(alloc), NumberList::new(alloc)),
+        log: None,
+    })
+}
+
+fn gears_of<L: Drop>(
+    alloc: Global,
+    first: Ends<L>,
+    second: Ends<L>,
+) -> Result<Vec<OverLinks<L>>, NoMemory>
+    ensures { IfOk result (λ gears. vec_len gears ≡ 2) }
+{
+    let mut gears = Vec::with_capacity(alloc, 2)?;
+    gears.push_reserved(gear_of(alloc, first)?);
+    gears.push_reserved(gear_of(alloc, second)?);
+    Ok(gears)
+}
+
+/// The configuration in a row; it must be read.
+fn config_of(alloc: Global, row: Row<'_>) -> Result<Config, RowError> {
+    let text = row.file(alloc, "w")?;
+    if text.len() > MAX_INPUT_BYTES {
+        return Err(RowError::Unreadable);
+    }
+    match read_workers(alloc, text.as_slice()) {
+        Ok(config) => Ok(config),
+        Err(PropsError::Refused { .. }) => Err(RowError::Unreadable),
+        Err(PropsError::NoMemory) => Err(RowError::NoMemory),
+    }
+}
+
+/// The map in a row; it must be read.
+fn map_of(alloc: Global, row: Row<'_>, config: &Config) -> Result<UriMap, RowError>
+    ensures { IfOk result (λ map. stands_in config.now map ≡ true) }
+{
+    let text = row.file(alloc, "m")?;
+    if text.len() > MAX_INPUT_BYTES {
+        return Err(RowError::Unreadable);
+    }
+    match read_map(alloc, text.as_slice(), config) {
+        Ok(map) => Ok(map),
+        Err(MapError::Refused { .. }) => Err(RowError::Unreadable),
+        Err(MapError::NoMemory) => Err(RowError::NoMemory),
+    }
+}
+
+/// Adds what was sent on each link that was left at a gear's door.
+fn put_left<L: Shown>(gear: &OverLinks<L>, out: &mut Bytes) -> Result<(), NoMemory> {
+    for link in gear.door.left() {
+        out.extend(b"left\n")?;
+        out.extend(link.sent())?;
+        out.extend(b"\n")?;
+    }
+    Ok(())
+}
+
+/// What was sent on all links that were left.
+fn told<L: Shown>(alloc: Global, gears: &[OverLinks<L>]) -> Result<Bytes, NoMemory> {
+    let mut out = Bytes::new(alloc);
+    for gear in gears {
+        put_left(gear, &mut out)?;
+    }
+    Ok(out)
+}
+
+/// The site that the workers serve.
+#[derive(Clone, Copy)]
+struct Served<'a> {
+    config: &'a Config,
+    map: &'a UriMap,
+    ghost stands: { stands_in config.now map.now ≡ true },
+}
+
+/// Serves the clients of two workers by a thread each, and says what was sent on the links that were left.
+fn over_links<L: Link + Shown + Drop + Send, R: Threads + Wait + Sync>(
+    rt: &R,
+    alloc: Global,
+    served: Served<'_>,
+    first: Ends<L>,
+    second: Ends<L>,
+) -> Result<Bytes, NoMemory> {
+    let gears = gears_of(alloc, first, second)?;
+    let run = serve_gears(rt, alloc, served.config, served.map, gears)?;
+    told(alloc, run.gears.as_slice())
+}
+
+/// So with the links of a row. The member answers the first once the second's client has its answer, and the second at
+/// once: the place that it waits for is raised from the beginning.
+fn over_gate<R: Threads + Wait + Clock + Sync>(
+    rt: &R,
+    alloc: Global,
+    gate: &Gate<'_, R>,
+    row: Row<'_>,
+    served: Served<'_>,
+) -> Result<Bytes, RowError> {
+    let first = Places {
+        member: SECOND_IS_ANSWERED,
+        client: NOBODY_WAITS,
+    };
+    let second = Places {
+        member: OPEN,
+        client: SECOND_IS_ANSWERED,
+    };
+    let one = ends_of(alloc, row, 0)?;
+    let two = ends_of(alloc, row, 2)?;
+    gate.raise(OPEN);
+    let one = meeting(one, gate, first);
+    let two = meeting(two, gate, second);
+    Ok(over_links(rt, alloc, served, one, two)?)
+}
+
+fn over_site<R: Threads + Wait + Clock + Sync>(
+    rt: &R,
+    alloc: Global,
+    row: Row<'_>,
+    served: Served<'_>,
+) -> Result<bool, RowError> {
+    let told = over_gate(rt, alloc, &Gate::new(rt), row, served)?;
+    wants(alloc, row, told.as_slice())
+}
+
+fn over_config<R: Threads + Wait + Clock + Sync>(
+    rt: &R,
+    alloc: Global,
+    row: Row<'_>,
+    config: &Config,
+) -> Result<bool, RowError> {
+    let map = map_of(alloc, row, config)?;
+    over_site(rt, alloc, row, Served { config, map: &map })
+}
+
+/// Whether both clients have the answers that the row says.
+pub fn holds<R: Threads + Wait + Clock + Sync>(
+    rt: &R,
+    alloc: Global,
+    row: Row<'_>,
+) -> Result<bool, RowError> {
+    over_config(rt, alloc, row, &config_of(alloc, row)?)
+}
