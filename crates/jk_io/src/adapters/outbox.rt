@@ -10,7 +10,7 @@ use std::net::TcpStream;
 use std::sync::{Arc, Mutex};
 
 /// How many bytes are held back at most.
-const HELD_BYTES: usize = 65_536;
+const HELD_BYTES: usize = 73_728;
 
 /// The stream of a client, with the bytes that wait to be sent on it.
 #[derive(Drop)]
@@ -71,7 +71,7 @@ impl Held {
     }
 }
 
-/// What a worker wrote to its client and hasn't sent yet: at most 65,536 bytes. It is shared by the client's link and the
+/// What a worker wrote to its client and hasn't sent yet: at most 73,728 bytes. It is shared by the client's link and the
 /// links to members of one worker, and sent before any of them waits or writes to a member. So the messages of a reply
 /// that came together go to the client together, and none is held back while its successor is waited for.
 #[derive(Drop)]

@@ -12,7 +12,7 @@ use std::net::TcpStream;
 use std::sync::{Arc, Mutex};
 
 /// How many bytes a link reads ahead at most.
-const AHEAD_BYTES: usize = 65_536;
+const AHEAD_BYTES: usize = 73_728;
 
 /// What a link reads from and writes to.
 #[derive(Drop)]

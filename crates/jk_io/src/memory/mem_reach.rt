@@ -143,7 +143,8 @@ fn note_begun(
     came: Option<Bytes>,
 ) -> Result<(), NoMemory>
     requires { book.old.begun ≡ None }
-    ensures ok { OnOk result (book.new ≡ record book.old { begun = Some (begun_with asked.entry.lb asked.entry.member asked.entry.host.now asked.entry.port asked.entry.fresh dialled came) }) }
+    ensures ok { let a = asked.entry in
+        OnOk result (book.new ≡ record book.old { begun = Some (begun_with a.lb a.member a.host.now a.port a.fresh dialled came) }) }
     ensures err { OnErr result (book.new ≡ book.old) }
     ensures empty { OnOk result ((book.new.sent ≡ []) × (book.new.received ≡ [])) }
 {
@@ -167,9 +168,8 @@ fn note_kept(
     link: &MemLink,
 ) -> Result<(), NoMemory>
     requires { book.old.begun ≡ None }
-    ensures ok { OnOk result (book.new ≡ record book.old {
-      begun = Some (begun_with asked.entry.lb asked.entry.member asked.entry.host.now
-          asked.entry.port asked.entry.fresh false (Some link.now.incoming));
+    ensures ok { let a = asked.entry in OnOk result (book.new ≡ record book.old {
+      begun = Some (begun_with a.lb a.member a.host.now a.port a.fresh false (Some link.now.incoming));
     }) }
     ensures err { OnErr result (book.new ≡ book.old) }
     ensures empty { OnOk result ((book.new.sent ≡ []) × (book.new.received ≡ [])) }
@@ -186,9 +186,8 @@ fn note_next(
     links: &[MemLink],
 ) -> Result<(), NoMemory>
     requires { book.old.begun ≡ None }
-    ensures ok { OnOk result (book.new ≡ record book.old {
-      begun = Some (begun_with asked.entry.lb asked.entry.member asked.entry.host.now
-          asked.entry.port asked.entry.fresh true (Some (next_incoming (reverse links.now))));
+    ensures ok { let a = asked.entry in OnOk result (book.new ≡ record book.old {
+      begun = Some (begun_with a.lb a.member a.host.now a.port a.fresh true (Some (next_incoming (reverse links.now))));
     }) }
     ensures err { OnErr result (book.new ≡ book.old) }
     ensures empty { OnOk result ((book.new.sent ≡ []) × (book.new.received ≡ [])) }
@@ -227,9 +226,8 @@ impl MemReach {
         requires within { place < length self.old.kept }
         ensures taken { OnOk result (HoldsAt (λ link. link ≡ self.new.running) self.old.kept place) }
         ensures left { OnOk result (self.new.kept ≡ remove self.old.kept place) }
-        ensures begun { OnOk result (self.new.book ≡ record self.old.book {
-          begun = Some (begun_with asked.entry.lb asked.entry.member asked.entry.host.now
-              asked.entry.port asked.entry.fresh false (Some self.new.running.link.incoming));
+        ensures begun { let a = asked.entry in OnOk result (self.new.book ≡ record self.old.book {
+          begun = Some (begun_with a.lb a.member a.host.now a.port a.fresh false (Some self.new.running.link.incoming));
         }) }
         ensures err { OnErr result (self.new ≡ self.old) }
         ensures same { self.new ≡ record self.old { kept = self.new.kept; running = self.new.running; book = self.new.book } }
@@ -245,9 +243,8 @@ impl MemReach {
         ensures new_link { IfOk result (λ dialled. dialled ≡ true) }
         ensures next { OnOk result (DialledNext self.old.links self.new.running.link self.new.links) }
         ensures whose { OnOk result ((self.new.running.lb ≡ asked.entry.lb) × (self.new.running.member ≡ asked.entry.member)) }
-        ensures begun { OnOk result (self.new.book ≡ record self.old.book {
-          begun = Some (begun_with asked.entry.lb asked.entry.member asked.entry.host.now
-              asked.entry.port asked.entry.fresh true (Some self.new.running.link.incoming));
+        ensures begun { let a = asked.entry in OnOk result (self.new.book ≡ record self.old.book {
+          begun = Some (begun_with a.lb a.member a.host.now a.port a.fresh true (Some self.new.running.link.incoming));
         }) }
         ensures err { OnErr result (self.new ≡ self.old) }
         ensures same { self.new ≡ record self.old { links = self.new.links; running = self.new.running; book = self.new.book } }
@@ -263,9 +260,8 @@ impl MemReach {
         requires idle { self.old.book.begun ≡ None }
         ensures new_link { IfOk result (λ dialled. asked.entry.fresh ≡ true → dialled ≡ true) }
         ensures given { IfOk result (λ dialled. GivesLink asked.entry.lb asked.entry.member asked.entry.fresh dialled self.old self.new) }
-        ensures begun { IfOk result (λ dialled. self.new.book ≡ record self.old.book {
-          begun = Some (begun_with asked.entry.lb asked.entry.member asked.entry.host.now
-              asked.entry.port asked.entry.fresh dialled (Some self.new.running.link.incoming));
+        ensures begun { let a = asked.entry in IfOk result (λ dialled. self.new.book ≡ record self.old.book {
+          begun = Some (begun_with a.lb a.member a.host.now a.port a.fresh dialled (Some self.new.running.link.incoming));
         }) }
         ensures err { OnErr result (self.new ≡ self.old) }
         ensures same { (self.new.sizes ≡ self.old.sizes) × (self.new.failing ≡ self.old.failing)
@@ -464,8 +460,8 @@ impl Sink for MemReach {
         ensures count { IfOk result (λ n. (0 < n) × (n ≤ length piece.now)) }
         ensures put { IfOk result (λ n. self.new.book.sent ≡ self.old.book.sent ++ take n piece.now) }
         ensures kept_on_error { OnErr result (self.new.book.sent ≡ self.old.book.sent) }
-        ensures same { (self.new.running.link.incoming ≡ self.old.running.link.incoming) × (self.new.book.received ≡ self.old.book.received)
-            × (self.new.book.begun ≡ self.old.book.begun) × (self.new.book.talks ≡ self.old.book.talks) }
+        ensures same { (self.new.running.link.incoming ≡ self.old.running.link.incoming) × (self.new.book.received ≡ self.old.book.received) }
+        ensures same_talk { (self.new.book.begun ≡ self.old.book.begun) × (self.new.book.talks ≡ self.old.book.talks) }
         ensures same_others { StaysInTalk self.old self.new }
         ensures cause { HasCause self.old.faults self.new.faults result }
 

@@ -62,8 +62,8 @@ pub trait Reach: Link + Meanings<Beside = Beside> {
     /// Looks after idle links between two sessions; most reaches do nothing.
     fn rest(&mut self, _alloc: Global, _now: u64) -> Result<(), NoMemory>
         requires { (Self.beside self.old).runs ≡ false }
-        ensures same { (Self.incoming self.new ≡ Self.incoming self.old) × (Self.received self.new ≡ Self.received self.old)
-            × (Self.sent self.new ≡ Self.sent self.old) × (Self.beside self.new ≡ Self.beside self.old) }
+        ensures same { (Self.incoming self.new ≡ Self.incoming self.old) × (Self.received self.new ≡ Self.received self.old) }
+        ensures same_others { (Self.sent self.new ≡ Self.sent self.old) × (Self.beside self.new ≡ Self.beside self.old) }
         ensures same_faults { Self.faults self.new ≡ Self.faults self.old }
     {
         Ok(())
