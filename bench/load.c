@@ -1,10 +1,12 @@
 /* A load of one request over many connections: requests a second, latencies, and the front's own processor time.
  *
  * usage: load PORT CONNECTIONS REQUESTS PATH [BODY_BYTES [FRONT_PID]]     speaks HTTP/1.1 to 127.0.0.1:PORT
+ *        load PORT CONNECTIONS REQUESTS /size/%                           each asks for another length, up to 9,972 bytes
  *        load PORT CONNECTIONS REQUESTS ajp:PATH                          speaks AJPv1.3, as a connector does
  *
  * Each connection is kept, and has one request under way at a time. It ends once REQUESTS replies have come, or after
- * 120 seconds. It prints one line; a reply that isn't whole, or whose status isn't 200, counts as wrong.
+ * 120 seconds. It prints one line; a reply that isn't whole, or whose status isn't 200, counts as wrong, and so does one of
+ * another length than the one that was asked for by `%`: it would be the reply to another request.
  */
 #define _GNU_SOURCE
 #include <arpa/inet.h>
@@ -20,7 +22,7 @@
 #include <time.h>
 #include <unistd.h>
 
-enum { MOST_CONNECTIONS = 1024, HEAD_ROOM = 16384, LIMIT_SECONDS = 120 };
+enum { MOST_CONNECTIONS = 1024, HEAD_ROOM = 16384, LIMIT_SECONDS = 120, OWN_ROOM = 256, LENGTHS = 9973 };
 
 struct connection {
     int fd;
@@ -30,12 +32,17 @@ struct connection {
     size_t got;           /* bytes of the reply's head, or of an AJP packet's front, in head */
     long left;            /* bytes of the body that are to come; -1 while the head isn't whole */
     int wrong;
+    long wanted;          /* the length that it asked for, where each asks for another one; else -1 */
+    unsigned char own[OWN_ROOM];
+    const unsigned char *request;
+    size_t request_len;
 };
 
 static struct connection connections[MOST_CONNECTIONS];
 static unsigned char request[1 << 20];
 static size_t request_len;
 static int is_ajp;
+static const char *numbered; /* the path in which `%` stands for a length */
 
 static uint64_t now_ns(void) {
     struct timespec t;
@@ -117,17 +124,27 @@ static int dial(int port) {
     return fd;
 }
 
-static void begin(struct connection *c) {
+/* begins the request of this number */
+static void begin(struct connection *c, long number) {
     c->sent = 0;
     c->got = 0;
     c->left = -1;
+    c->wanted = -1;
+    c->request = request;
+    c->request_len = request_len;
+    if (numbered) {
+        c->wanted = number * 31 % LENGTHS;
+        c->request = c->own;
+        c->request_len = (size_t)snprintf((char *)c->own, OWN_ROOM, "GET %.*s%ld%s HTTP/1.1\r\nHost: localhost\r\n\r\n",
+            (int)(strchr(numbered, '%') - numbered), numbered, c->wanted, strchr(numbered, '%') + 1);
+    }
     c->begun = now_ns();
 }
 
 /* 1: all was sent, 0: not yet, -1: the connection failed */
 static int send_on(struct connection *c) {
-    while (c->sent < request_len) {
-        ssize_t n = send(c->fd, request + c->sent, request_len - c->sent, MSG_NOSIGNAL);
+    while (c->sent < c->request_len) {
+        ssize_t n = send(c->fd, c->request + c->sent, c->request_len - c->sent, MSG_NOSIGNAL);
         if (n < 0) return errno == EAGAIN ? 0 : -1;
         c->sent += (size_t)n;
     }
@@ -146,6 +163,7 @@ static int take_http(struct connection *c, const unsigned char *bytes, size_t n)
             if (memcmp(c->head, "HTTP/1.1 200", 12)) c->wrong = 1;
             if (!len) { c->wrong = 1; return 1; }
             c->left = strtol(len + 17, NULL, 10);
+            if (c->wanted >= 0 && c->left != c->wanted) c->wrong = 1;
         }
     }
     if (c->left >= 0) c->left -= (long)(n - at);
@@ -187,6 +205,7 @@ int main(int argc, char **argv) {
     if (count < 1 || count > MOST_CONNECTIONS || total < count) { fprintf(stderr, "load: bad counts\n"); return 2; }
     is_ajp = !strncmp(argv[4], "ajp:", 4);
     if (is_ajp) make_ajp(argv[4] + 4); else make_http(argv[4], argc > 5 ? (size_t)atol(argv[5]) : 0);
+    numbered = !is_ajp && strchr(argv[4], '%') && strlen(argv[4]) < OWN_ROOM - 64 ? argv[4] : NULL;
     uint64_t *took = calloc((size_t)total, sizeof *took);
     int poll = epoll_create1(0);
     double cpu = pid ? cpu_of(pid) : 0;
@@ -194,7 +213,7 @@ int main(int argc, char **argv) {
     for (int i = 0; i < count; i++) {
         struct connection *c = &connections[i];
         c->fd = dial(port);
-        begin(c);
+        begin(c, begun);
         begun++;
         struct epoll_event event = {.events = EPOLLIN | EPOLLOUT | EPOLLET, .data.ptr = c};
         epoll_ctl(poll, EPOLL_CTL_ADD, c->fd, &event);
@@ -216,7 +235,7 @@ int main(int argc, char **argv) {
                 wrong += c->wrong;
                 c->wrong = 0;
                 if (begun == total) { ok = 2; break; }
-                begin(c);
+                begin(c, begun);
                 begun++;
                 if (send_on(c) < 0) ok = 0;
             }
