@@ -96,6 +96,11 @@ pub record HasCome (before after : Moment) (bytes : List ℕ) : Type 0 where
   pub used : before.incoming ≡ prepended bytes after.incoming
   pub kept : after.received ≡ appended before.received bytes
 
+-- What a read into a buffer answered, with the payload that the buffer has after it.
+abbrev pub read_into : Result Unit PacketError → List ℕ → Result (List ℕ) PacketError
+read_into (Ok done) payload = Ok payload
+read_into (Err error) payload = Err error
+
 -- One read of a packet: the bytes that came, what they are, and that the answer counts them.
 pub record ReadsPacket (from_container : Bool) (most : ℕ) (result : Result (List ℕ) PacketError) (before after : Moment) : Type 0 where
   pub bytes : List ℕ

@@ -5,7 +5,7 @@ ghost use Rattle.ajp_wire.specs.Packet.{packet};
 
 /// No packet is a proper prefix of another. So the packets of a list of bytes are read in one way, from its front.
 pub fn no_packet_begins_another()
-    ensures { (from_container : Bool) (one other behind_one behind_other : List ℕ)
-        → packet from_container one ++ behind_one ≡ packet from_container other ++ behind_other
-        → (one ≡ other) × (behind_one ≡ behind_other) }
+    ensures { (from_container : Bool) (one other rest other_rest : List ℕ)
+        → packet from_container one ++ rest ≡ packet from_container other ++ other_rest
+        → (one ≡ other) × (rest ≡ other_rest) }
 {}

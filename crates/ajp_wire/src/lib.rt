@@ -26,7 +26,7 @@ pub use headers::{name_of, next_headers};
 pub use laws::no_packet_begins_another;
 pub use names::code_of;
 pub use places::{take_int, take_string};
-pub use reading::read_packet;
+pub use reading::{read_packet, read_packet_into};
 pub use refusal::{NotRead, Refusal, RefusalKind, refused};
 pub use writing::{
     HEAD_BYTES, MAX_PAYLOAD_BYTES, MAX_STRING_BYTES, body_packet, put_head, put_int, put_string,

@@ -3,7 +3,7 @@
 ghost use Rattle.std.specs.Prelude.{◌≡◌, ◌↔◌, ℕ, ◌+◌, ◌≤◌, ◌<◌, List, length, IsOk, IfOk, IfErr, IsTrue};
 ghost use Rattle.ajp_wire.specs.Moments.{link_at};
 ghost use Rattle.jk_io.specs.Told.{IsEmpty, Rose};
-ghost use Rattle.ajp_wire.specs.Packet.{HasCome, ReadsPacket, says_end, says_fault};
+ghost use Rattle.ajp_wire.specs.Packet.{HasCome, ReadsPacket, read_into, says_end, says_fault};
 ghost use Rattle.ajp_wire.specs.Head.{begins_packet as begins, HeadCameAs, PayloadCameAs};
 
 use crate::errors::PacketError;
@@ -27,8 +27,29 @@ pub fn read_packet<L: Link>(
     ensures steady { IsOk result → L.faults line.new ≡ L.faults line.old }
     ensures same { (L.sent line.new ≡ L.sent line.old) × (L.beside line.new ≡ L.beside line.old) }
 {
+    let mut payload = Vec::new(alloc);
+    read_packet_into(line, from_container, most, &mut payload)?;
+    Ok(Bytes::from_vec(payload))
+}
+
+/// Reads one packet as `read_packet` does, and leaves its payload alone in a buffer, whose memory is used again. After
+/// an error the buffer's bytes are any.
+pub fn read_packet_into<L: Link>(
+    line: &mut L,
+    from_container: bool,
+    most: u32,
+    payload: &mut Vec<u8>,
+) -> Result<(), PacketError>
+    ensures packet { ReadsPacket from_container most (read_into result payload.new.items) (link_at L.Meanings line.old) (link_at L.Meanings line.new) }
+
+    ensures end { IfErr result (λ error. IsTrue (says_end error) → IsEmpty (L.incoming line.new)) }
+    ensures fault { IfErr result (λ error. IsTrue (says_fault error) → Rose (L.faults line.old) (L.faults line.new)) }
+    ensures no_fewer { L.faults line.old ≤ L.faults line.new }
+    ensures steady { IsOk result → L.faults line.new ≡ L.faults line.old }
+    ensures same { (L.sent line.new ≡ L.sent line.old) × (L.beside line.new ≡ L.beside line.old) }
+{
     let size = read_head(line, from_container, most)?;
-    read_payload(alloc, line, size)
+    read_payload(line, size, payload)
 }
 
 /// Reads the head of a packet, and gives the length of its payload.
@@ -103,9 +124,10 @@ fn size_within(head: &[u8], from_container: bool, most: u32) -> Result<u16, Pack
     Ok(size)
 }
 
-/// Reads the payload behind a head.
-fn read_payload<L: Link>(alloc: Global, line: &mut L, size: u16) -> Result<Bytes, PacketError>
-    ensures payload { (bytes : List ℕ) × HasCome (link_at L.Meanings line.old) (link_at L.Meanings line.new) bytes × PayloadCameAs size result bytes }
+/// Reads the payload behind a head into a buffer.
+fn read_payload<L: Link>(line: &mut L, size: u16, payload: &mut Vec<u8>) -> Result<(), PacketError>
+    ensures payload { (bytes : List ℕ) × HasCome (link_at L.Meanings line.old) (link_at L.Meanings line.new) bytes
+        × PayloadCameAs size (read_into result payload.new.items) bytes }
     ensures end { IfErr result (λ error. IsTrue (says_end error) → IsEmpty (L.incoming line.new)) }
     ensures fault { IfErr result (λ error. IsTrue (says_fault error) → Rose (L.faults line.old) (L.faults line.new)) }
     ensures no_fewer { L.faults line.old ≤ L.faults line.new }
@@ -113,16 +135,16 @@ fn read_payload<L: Link>(alloc: Global, line: &mut L, size: u16) -> Result<Bytes
     ensures same { (L.sent line.new ≡ L.sent line.old) × (L.beside line.new ≡ L.beside line.old) }
 {
     if size == 0 {
-        return Ok(Bytes::new(alloc));
+        payload.clear();
+        return Ok(());
     }
-    let mut payload = Vec::new(alloc);
     if payload.resize(size as usize, 0).is_err() {
         return Err(PacketError::NoMemory { read: 4 });
     }
     let Filled { count, stop } = fill(line, payload.as_mut_slice());
     let read = 4 + count as u32;
     match stop {
-        Stop::Full => Ok(Bytes::from_vec(payload)),
+        Stop::Full => Ok(()),
         Stop::End => Err(PacketError::Short { read }),
         Stop::Fault => Err(PacketError::Fault { read }),
         Stop::NoMemory => Err(PacketError::NoMemory { read }),
