@@ -1,7 +1,7 @@
 -- A payload that is read spells what was read, and one that spells a message is read as that message.
-use Rattle.std.proofs.Common.{◌≡◌, ◌≢◌, ℕ, zero, suc, ◌<◌, ◌≤◌, Bool, true, false, cond, ltb, eqb, List, [], ◌∷◌, ◌++◌, length, take, drop, Result, Ok, Err, refl, sym, ap, subst, ◌∙◌, arith, ◌⊎◌, inl, inr}
-use Rattle.std.proofs.lemmas.Bool.{ltb-false, le-ltb, eqb-true}
-use Rattle.std.proofs.lemmas.List.{append-nil, take_at, drop_at, take-append-drop, length-take, length-append}
+use Rattle.std.proofs.Common.{◌≡◌, ◌≢◌, ℕ, zero, suc, ◌<◌, ◌≤◌, Bool, true, false, cond, ltb, eqb, List, [], ◌∷◌, ◌++◌, length, take, drop, get_or, Result, Ok, Err, refl, sym, ap, subst, ◌∙◌, arith, ◌⊎◌, inl, inr}
+use Rattle.std.proofs.lemmas.Bool.{cases_lt, ltb-false, le-ltb, eqb-true}
+use Rattle.std.proofs.lemmas.List.{append-nil, take_at, drop_at, take-append-drop, length-take, length-append, get_or_past}
 use Rattle.ajp_wire.specs.declared.refusal.Refusal.{Refusal}
 use Rattle.ajp_wire.specs.declared.refusal.RefusalKind.TheVariants.{Short, BadCode}
 use Rattle.ajp_wire.specs.Spelling.{int, string, SpellsText}
@@ -170,6 +170,10 @@ message_again Pong payload s = ap message_at s
 -- a payload spells one message
 pub spells-only : (m n : Message) (payload : List ℕ) → Spells m payload → Spells n payload → m ≡ n
 spells-only m n payload s t = ok_is m n (sym (message_again m payload s) ∙ message_again n payload t)
+
+-- the items of bytes in memory are bytes
+pub are-bytes : (items : List ℕ) → ((i : ℕ) → i < length items → get_or items i 0 < 256) → IsBytes items
+are-bytes items each = λ i. elim (cases_lt i (length items)) [ inl within ↦ each i within | inr past ↦ omega (arith, get_or_past items i 0 past) ]
 
 -- what is spelled can be written
 pub spelled-writable : (m : Message) (payload : List ℕ) → Spells m payload → IsMessage m

@@ -166,6 +166,13 @@ no_reply-other good most past bytes last message s p no_front no_form = λ more 
       | inr front ↦ no_front front
     ]
 
+-- messages that begin no reply and are none
+pub no_reply-these : (good : ReplyParts → Bool) (most : ℕ) (past : List Message) (bytes : List ℕ)
+    → Spelled most past bytes → (IsFront good past → ⊥) → (IsForm good past → ⊥) → NoReply good most bytes
+no_reply-these good most [] bytes s no_front no_form = absurd (no_front tt)
+no_reply-these good most (message ∷ past) bytes (before, last, s, p, whole) no_front no_form =
+    subst (NoReply good most) (sym whole) (no_reply-other good most past before last message s p no_front no_form)
+
 -- where what follows a front begins no message, the bytes are no reply, however they go on
 pub no_reply-none : (good : ReplyParts → Bool) (most : ℕ) (past : List Message) (bytes rest : List ℕ)
     → Spelled most past bytes → IsFront good past → BeginsNoMessage most rest → NoReply good most (bytes ++ rest)

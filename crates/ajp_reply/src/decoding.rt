@@ -1,6 +1,6 @@
 //! Payloads of the container, read whole.
 
-ghost use Rattle.std.specs.Prelude.{◌≡◌, ◌≢◌, List, ℕ, length, map, IfOk, IfErr};
+ghost use Rattle.std.specs.Prelude.{◌≡◌, ◌≢◌, ◌+◌, ◌≤◌, List, ℕ, length, map, take, drop, Ok, IfOk, IfErr, IfSome};
 ghost use Rattle.ajp_wire.specs.FirstPlace.{IsRefused};
 ghost use Rattle.ajp_wire.specs.Reading.{Gives, Tells};
 ghost use Rattle.ajp_reply.specs.declared.message.Message.{Message};
@@ -12,6 +12,7 @@ use crate::names::reply_names;
 use ajp_wire::{DecodeError, NotRead, RefusalKind, next_headers, next_int, next_text, refused};
 use jk_io::Bytes;
 use std::alloc::Global;
+use std::mem;
 
 /// The message that a payload spells.
 pub fn decode_reply(alloc: Global, payload: &[u8]) -> Result<Message, DecodeError>
@@ -29,6 +30,51 @@ pub fn decode_reply(alloc: Global, payload: &[u8]) -> Result<Message, DecodeErro
         Ok(message) => Ok(message),
         Err(stop) => Err(stop.told(payload.len())),
     }
+}
+
+/// As `decode_reply`, but a chunk is made of the payload's own memory, so that none is taken: then the payload is left
+/// with no bytes and no memory. Any other message leaves it as it is.
+pub fn take_reply(alloc: Global, payload: &mut Vec<u8>) -> Result<Message, DecodeError>
+    ensures found { IfOk result (λ message. Spells message payload.old.items) }
+    ensures none { IfErr result (λ error. error ≢ DecodeError.NoMemory
+        → (message : Message) → Spells message payload.old.items → ⊥) }
+    ensures written { IfOk result IsMessage }
+    ensures refused { IfErr result (λ error. IsRefused IsSpelled payload.old.items error) }
+    ensures exact { Tells (length payload.old.items) result (message_at payload.old.items) }
+{
+    match chunk_len(payload.as_slice()) {
+        Some(len) => Ok(Message::Chunk(cut_out(alloc, payload, len))),
+        None => decode_reply(alloc, payload.as_slice()),
+    }
+}
+
+/// How many bytes of data the payload has behind its first three, where it spells a chunk.
+#[tactic(auto, unfolding(crate::specs::Reading::chunk_at))]
+fn chunk_len(payload: &[u8]) -> Option<usize>
+    ensures chunk { IfSome result (λ len. message_at payload.now ≡ Ok (Message.Chunk (take len (drop 3 payload.now)))) }
+    ensures within { IfSome result (λ len. 3 + len ≤ length payload.now) }
+{
+    let [3, high, low, rest @ ..] = payload else {
+        return None;
+    };
+    let len = u16::from_be_bytes([*high, *low]) as usize;
+    if rest.len() < len {
+        return None;
+    }
+    match rest.split_at(len).1 {
+        [] | [0] => Some(len),
+        [_, ..] => None,
+    }
+}
+
+/// So many bytes of a payload behind its first three, in the payload's memory.
+fn cut_out(alloc: Global, payload: &mut Vec<u8>, len: usize) -> Bytes
+    requires { 3 + len ≤ length payload.old.items }
+    ensures { result ≡ take len (drop 3 payload.old.items) }
+{
+    payload.copy_within(3..3 + len, 0);
+    payload.truncate(len);
+    Bytes::from_vec(mem::replace(payload, Vec::new(alloc)))
 }
 
 fn message(alloc: Global, payload: &[u8]) -> Result<Message, NotRead>

@@ -1,11 +1,11 @@
 //! What follows from the spellings alone, whatever the calls do.
 
-ghost use Rattle.std.specs.Prelude.{◌≡◌, ℕ, List, ◌∷◌, ◌++◌, Bool, true};
+ghost use Rattle.std.specs.Prelude.{◌≡◌, ℕ, List, ◌++◌, Bool, true};
 ghost use Rattle.ajp_wire.specs.Packet.{IsNoPacket, IsTooLong, IsPacket};
 ghost use Rattle.ajp_reply.specs.declared.message.Message.{Message};
 ghost use Rattle.ajp_reply.specs.declared.message.ReplyParts.{ReplyParts};
 ghost use Rattle.ajp_reply.specs.Spelling.{Spells, payload_of, as_read, IsMessage, FieldsFit};
-ghost use Rattle.ajp_reply.specs.Stream.{IsPacketOf, Spelled, IsStream, IsFront, IsForm, NoReply, BeginsNoMessage};
+ghost use Rattle.ajp_reply.specs.Stream.{Spelled, IsStream, GoesOn, IsFront, IsForm, NoReply, BeginsNoMessage};
 
 /// A payload spells one message at most.
 pub fn one_message_a_payload()
@@ -22,28 +22,28 @@ pub fn written_messages_are_read_again()
 
 /// Bytes are read in one way as messages, one after another, and then less than a whole packet.
 pub fn one_reading()
-    ensures { (most : ℕ) (one other : List Message) (bytes rest_of_one rest_of_other : List ℕ)
-        → IsStream most one bytes rest_of_one → IsStream most other bytes rest_of_other
-        → (one ≡ other) × (rest_of_one ≡ rest_of_other) }
+    ensures { (most : ℕ) (one other : List Message) (bytes rest other_rest : List ℕ)
+        → IsStream most one bytes rest → IsStream most other bytes other_rest
+        → (one ≡ other) × (rest ≡ other_rest) }
 {}
 
 /// What follows the messages of some bytes is read on behind them.
 pub fn readings_go_on()
     ensures behind { (most : ℕ) (past later : List Message) (bytes more : List ℕ)
         → Spelled most past bytes → Spelled most later more → Spelled most (later ++ past) (bytes ++ more) }
-    ensures only { (most : ℕ) (past all : List Message) (bytes more : List ℕ) → Spelled most past bytes → Spelled most all (bytes ++ more)
-        → (later : List Message) × (all ≡ later ++ past) × Spelled most later more }
+    ensures only { (most : ℕ) (past all : List Message) (bytes more : List ℕ) → Spelled most past bytes
+        → Spelled most all (bytes ++ more) → GoesOn most past all more }
 {}
 
-/// Which bytes are no reply, however they go on. `good` says which heads may stand in one.
+/// Which bytes are no reply, however they go on. `ok` says which heads may stand in one.
 pub fn bytes_of_no_reply()
-    // A message that may not stand there.
-    ensures other { (good : ReplyParts → Bool) (most : ℕ) (past : List Message) (bytes last : List ℕ) (message : Message)
-        → Spelled most past bytes → IsPacketOf most message last
-        → (IsFront good (message ∷ past) → ⊥) → (IsForm good (message ∷ past) → ⊥) → NoReply good most (bytes ++ last) }
+    // Messages that begin no reply and are none, as where the last of them may not stand there.
+    ensures other { (ok : ReplyParts → Bool) (most : ℕ) (past : List Message) (bytes : List ℕ) → Spelled most past bytes
+        → (IsFront ok past → ⊥) → (IsForm ok past → ⊥) → NoReply ok most bytes }
+
     // Bytes behind a front that begin no message.
-    ensures none { (good : ReplyParts → Bool) (most : ℕ) (past : List Message) (bytes rest : List ℕ)
-        → Spelled most past bytes → IsFront good past → BeginsNoMessage most rest → NoReply good most (bytes ++ rest) }
+    ensures none { (ok : ReplyParts → Bool) (most : ℕ) (past : List Message) (came rest : List ℕ)
+        → Spelled most past came → IsFront ok past → BeginsNoMessage most rest → NoReply ok most (came ++ rest) }
 
     // Such are bytes that begin no packet, the head of one above the limit, and a packet that spells no message.
     ensures no_packet { (most : ℕ) (bytes : List ℕ) → IsNoPacket true bytes → BeginsNoMessage most bytes }

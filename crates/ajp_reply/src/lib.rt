@@ -15,7 +15,7 @@ mod laws;
 mod message;
 mod names;
 
-pub use decoding::decode_reply;
+pub use decoding::{decode_reply, take_reply};
 pub use encoding::encode_reply;
 pub use laws::{
     bytes_of_no_reply, one_message_a_payload, one_reading, readings_go_on,

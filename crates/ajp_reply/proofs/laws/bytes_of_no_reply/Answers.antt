@@ -1,8 +1,8 @@
-use Rattle.ajp_reply.proofs.StreamLaws.{no_reply-other, no_reply-none, no_packet-begins, too_long-begins, unread-begins}
+use Rattle.ajp_reply.proofs.StreamLaws.{no_reply-these, no_reply-none, no_packet-begins, too_long-begins, unread-begins}
 use Rattle.ajp_reply.proofs.laws.bytes_of_no_reply.Goals as goal
 
 pub returns-clause-other : goal.returns-clause-other
-returns-clause-other c = no_reply-other
+returns-clause-other c = no_reply-these
 
 pub returns-clause-none : goal.returns-clause-none
 returns-clause-none c = no_reply-none

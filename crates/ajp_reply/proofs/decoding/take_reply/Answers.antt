@@ -1,0 +1,12 @@
+-- A chunk that was cut out of its payload is the one that the payload spells.
+use Rattle.std.proofs.Common.{take, drop, arith}
+use Rattle.ajp_reply.specs.declared.message.Message.TheVariants.{Chunk}
+use Rattle.ajp_reply.proofs.ReplyLaws.{are-bytes, message_takes}
+use Rattle.ajp_reply.proofs.decoding.take_reply.Goals as goal
+
+pub returns-in-Some-clause-found : goal.returns-in-Some-clause-found
+returns-in-Some-clause-found c =
+    let payload = c.args.payload.now.items in
+    rw c.cut_out.ensures
+    (message_takes payload (Chunk (take c.in-Some.len (drop 3 payload))) (are-bytes payload (λ i within. omega (arith, within, c.type_inv.payload i)))
+    (rw c.as_slice.ensures.value at c.in-Some.ensures.chunk))
