@@ -47,21 +47,25 @@ length_written None method attributes =
     let own : length (attributes_bytes (Plain 13 method ∷ drop n attributes)) ≡ length (attribute_bytes (Plain 13 method)) + length (attributes_bytes (drop n attributes)) = length-append (attribute_bytes (Plain 13 method)) (attributes_bytes (drop n attributes)) in
     omega (arith, length_joined (take n attributes) (Plain 13 method ∷ drop n attributes), own, length_split n attributes)
 
--- how many bytes the payload has, by its parts
-pub length_payload : (f : Forward) (code : Option ℕ) → code ≡ method_code f.method → length (payload_of f) ≡
+-- how many bytes stand before the headers
+pub length_front : (f : Forward) → length (line_bytes f ++ ends_bytes f) ≡
     2 + length (string f.protocol) + length (string f.uri) + (length (string f.remote_addr) + length (string f.remote_host) + length (string f.server) + 3)
-    + (2 + length (headers_bytes header_names f.headers)) + method_size code f.method + length (attributes_bytes f.attributes) + 1
-unfolding payload_of
-length_payload f code is =
+length_front f =
     let line : length (line_bytes f) ≡ 2 + length (string f.protocol) + length (string f.uri) = omega (arith, length-append (string f.protocol) (string f.uri)) in
     let ends : length (ends_bytes f) ≡ length (string f.remote_addr) + length (string f.remote_host) + length (string f.server) + 3 =
     omega (arith, length-append (string f.remote_addr) (string f.remote_host ++ (string f.server ++ (int f.port ++ boolean f.ssl))), length-append (string f.remote_host) (string f.server ++ (int f.port ++ boolean f.ssl)), length-append (string f.server) (int f.port ++ boolean f.ssl), length_boolean f.ssl) in
+    omega (arith, line, ends, length-append (line_bytes f) (ends_bytes f))
+
+-- how many bytes the payload has, by its parts
+pub length_payload : (f : Forward) (code : Option ℕ) → code ≡ method_code f.method → length (payload_of f) ≡
+    length (line_bytes f ++ ends_bytes f) + (2 + length (headers_bytes header_names f.headers)) + method_size code f.method + length (attributes_bytes f.attributes) + 1
+unfolding payload_of
+length_payload f code is =
     let tail : length (tail_bytes f) ≡ method_size code f.method + length (attributes_bytes f.attributes) + 1 =
     rw is (omega (arith, length-append (attributes_bytes (written_attributes (method_code f.method) f.method f.attributes)) (255 ∷ []), length_written (method_code f.method) f.method f.attributes)) in
     omega (
       arith,
-      line,
-      ends,
+      length-append (line_bytes f) (ends_bytes f),
       tail,
       length-append (line_bytes f) (ends_bytes f ++ (int (length f.headers) ++ (headers_bytes header_names f.headers ++ tail_bytes f))),
       length-append (ends_bytes f) (int (length f.headers) ++ (headers_bytes header_names f.headers ++ tail_bytes f)),

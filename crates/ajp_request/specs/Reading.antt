@@ -123,12 +123,22 @@ made_of line ends headers tail = record {
   attributes = tail.1;
 }
 
+-- The attributes and the end, behind the parts that were read.
+abbrev pub behind_headers : RequestLine → Ends → List (List ℕ × List ℕ) → List ℕ → Result Forward Refusal
+behind_headers line ends headers bytes = do
+  tail ← tail_at line.method bytes
+  end ← ended tail.1
+  Ok (made_of line ends headers tail.0)
+
+-- The headers and what follows them.
+abbrev pub behind_ends : RequestLine → Ends → List ℕ → Result Forward Refusal
+behind_ends line ends bytes = do
+  headers ← headers_at header_names false bytes
+  behind_headers line ends headers.0 headers.1
+
 -- What a payload reads as, whole.
 unfoldable pub forward_of : List ℕ → Result Forward Refusal
 forward_of payload = do
   line ← line_at payload
   ends ← ends_at line.1
-  headers ← headers_at header_names false ends.1
-  tail ← tail_at line.0.method headers.1
-  end ← ended tail.1
-  Ok (made_of line.0 ends.0 headers.0 tail.0)
+  behind_ends line.0 ends.0 ends.1

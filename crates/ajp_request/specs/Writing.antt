@@ -97,6 +97,14 @@ pub record FieldsFit (forward : Forward) : Type 0 where
   pub attributes : AllByRecursion FitsAttribute forward.attributes
   pub method : FitsMethod (method_code forward.method) forward.method
 
+-- The texts before the headers fit their lengths.
+pub record TextsFit (forward : Forward) : Type 0 where
+  pub protocol : length forward.protocol < 65535
+  pub uri : length forward.uri < 65535
+  pub remote_addr : length forward.remote_addr < 65535
+  pub remote_host : length forward.remote_host < 65535
+  pub server : length forward.server < 65535
+
 -- A request that can be written into a packet of at most so many bytes.
 pub record Fits (most : ℕ) (forward : Forward) : Type 0 where
   pub fields : FieldsFit forward

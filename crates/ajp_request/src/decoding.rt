@@ -5,13 +5,14 @@ ghost use Rattle.ajp_request.specs.declared.forward.Forward.{Forward as AnyForwa
 ghost use Rattle.ajp_wire.specs.FirstPlace.{IsRefused};
 ghost use Rattle.ajp_request.specs.Spelling.{SpellsForward, IsSpelled};
 ghost use Rattle.ajp_request.specs.Writing.{IsForward};
-ghost use Rattle.ajp_request.specs.Reading.{boolean_at, method_at, line_at, ends_at, ended as no_more, forward_of};
+ghost use Rattle.ajp_request.specs.Reading.{boolean_at, method_at, line_at, ends_at, ended as no_more, behind_ends as ends_then, behind_headers as headers_then, forward_of};
 
 use crate::attribute_reading::next_tail;
 use crate::forward::Forward;
 use crate::tables::{FORWARD_REQUEST, STORED, header_names, method_of};
 use ajp_wire::{
-    DecodeError, NotRead, RefusalKind, next_byte, next_headers, next_int, next_text, refused,
+    DecodeError, HeadPairs, NotRead, RefusalKind, next_byte, next_headers, next_int, next_text,
+    refused,
 };
 use jk_io::Bytes;
 use std::alloc::Global;
@@ -133,13 +134,43 @@ fn whole_forward(alloc: Global, payload: &[u8]) -> Result<Forward, NotRead>
 {
     let (line, rest) = next_line(alloc, payload)?;
     let (ends, rest) = next_ends(alloc, rest)?;
+    behind_ends(alloc, line, ends, rest)
+}
+
+/// Reads the headers and what follows them.
+fn behind_ends(
+    alloc: Global,
+    line: RequestLine,
+    ends: Ends,
+    rest: &[u8],
+) -> Result<Forward, NotRead>
+    ensures { Gives (λ x. x) result (ends_then line ends rest.now) }
+{
     let (headers, rest) = next_headers(alloc, header_names(), false, rest)?;
-    let ((method, attributes), rest) = next_tail(alloc, line.method, rest)?;
+    behind_headers(alloc, line, ends, headers, rest)
+}
+
+/// Reads the attributes and the end, and makes the request of its parts.
+fn behind_headers(
+    alloc: Global,
+    line: RequestLine,
+    ends: Ends,
+    headers: HeadPairs,
+    rest: &[u8],
+) -> Result<Forward, NotRead>
+    ensures { Gives (λ x. x) result (headers_then line ends headers rest.now) }
+{
+    let RequestLine {
+        method,
+        protocol,
+        uri,
+    } = line;
+    let ((method, attributes), rest) = next_tail(alloc, method, rest)?;
     ended(rest)?;
     Ok(Forward {
         method,
-        protocol: line.protocol,
-        uri: line.uri,
+        protocol,
+        uri,
         remote_addr: ends.remote_addr,
         remote_host: ends.remote_host,
         server: ends.server,

@@ -3,7 +3,7 @@ ghost use Rattle.std.specs.Prelude.{◌≡◌, false, ◌+◌, ◌<◌, ◌≤�
 ghost use Rattle.ajp_wire.specs.Packet.{packet};
 ghost use Rattle.ajp_request.specs.Tables.{method_code as code_of_method};
 ghost use Rattle.ajp_request.specs.Spelling.{SpellsForward};
-ghost use Rattle.ajp_request.specs.Writing.{line_bytes, ends_bytes, tail_bytes, payload_of, as_read, IsForward, FieldsFit, Fits};
+ghost use Rattle.ajp_request.specs.Writing.{line_bytes, ends_bytes, tail_bytes, payload_of, as_read, IsForward, FieldsFit, TextsFit, Fits};
 
 use crate::attribute_writing::{
     attributes_len, method_len, put_attributes, put_with_method, text_len,
@@ -50,15 +50,26 @@ fn payload_len(forward: &Forward, code: Option<u8>) -> Option<usize>
     ensures fits { IfSome result (λ _. FieldsFit forward.now) }
     ensures none { IfNone result (FieldsFit forward.now → length (payload_of forward.now) < 65536 → ⊥) }
 {
+    let front = front_len(forward)?;
+    let headers = 2 + headers_len(forward.headers.as_slice(), header_names())?;
+    let method = method_len(code, &forward.method)?;
+    let attributes = attributes_len(forward.attributes.as_slice())?;
+    Some(front + headers + method + attributes + 1)
+}
+
+/// How many bytes the fields before the headers have, unless a text is longer than its length can say.
+fn front_len(forward: &Forward) -> Option<usize>
+    ensures value { IfSome result (λ len. len ≡ length (line_bytes forward.now ++ ends_bytes forward.now)) }
+    ensures bound { IfSome result (λ len. len < 400000) }
+    ensures fits { IfSome result (λ _. TextsFit forward.now) }
+    ensures none { IfNone result (TextsFit forward.now → ⊥) }
+{
     let line = 2 + text_len(&forward.protocol)? + text_len(&forward.uri)?;
     let ends = text_len(&forward.remote_addr)?
         + text_len(&forward.remote_host)?
         + text_len(&forward.server)?
         + 3;
-    let headers = 2 + headers_len(forward.headers.as_slice(), header_names())?;
-    let method = method_len(code, &forward.method)?;
-    let attributes = attributes_len(forward.attributes.as_slice())?;
-    Some(line + ends + headers + method + attributes + 1)
+    Some(line + ends)
 }
 
 fn put_line(out: &mut Bytes, forward: &Forward, code: Option<u8>) -> Result<(), NoMemory>

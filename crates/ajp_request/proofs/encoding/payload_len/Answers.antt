@@ -22,11 +22,7 @@ returns-clause-value c =
     omega (
       arith,
       length_payload f c.args.code c.requires.coded,
-      c.in_ok-text_len.ensures.value,
-      c.in_ok-line.ensures.value,
-      c.in_ok-text_len-2.ensures.value,
-      c.in_ok-text_len-3.ensures.value,
-      c.in_ok-ends.ensures.value,
+      c.in_ok-front.ensures.value,
       headers,
       c.in_ok-method.ensures.value,
       attributes,
