@@ -1,6 +1,8 @@
 //! Small callers that are proved from the traits alone.
 ghost use Rattle.std.specs.Prelude.{◌≡◌, ◌<◌, ℕ, List, [], ◌∷◌, true, false, Ok, IsOk, IfOk, OnOk, is_some, length, take, slice_index};
 ghost use Rattle.jk_io.specs.declared.traits.surroundings.Peer.{Peer};
+ghost use Rattle.jk_io.specs.declared.reaching.Begun.{Begun};
+ghost use Rattle.jk_io.specs.Talks.{talk_of};
 ghost use Rattle.jk_io.specs.Told.{appended, prepended, IsEmpty, HasCause};
 ghost use Rattle.jk_io.specs.MemReaches.{IsQuiet};
 
@@ -53,8 +55,8 @@ pub fn ask<R: Reach>(
     requires some { 0 < length buf.old }
     ensures idle { (R.beside reach.new).runs ≡ false }
     ensures sizes { (R.beside reach.new).sizes ≡ (R.beside reach.old).sizes }
-    ensures talk { IfOk result (λ n. (note : Talk) × ((R.beside reach.new).talks ≡ appended (R.beside reach.old).talks (note ∷ []))
-        × (note.lb ≡ 0) × (note.member ≡ member) × (note.sent ≡ piece.now) × (note.received ≡ take n buf.new) × (note.keep ≡ true)) }
+    ensures talk { IfOk result (λ n. (b : Begun) × (b.lb ≡ 0) × (b.member ≡ member) × ((R.beside reach.new).talks
+        ≡ appended (R.beside reach.old).talks (talk_of b piece.now (take n buf.new) true ∷ []))) }
     ensures cause { HasCause (R.faults reach.old) (R.faults reach.new) result }
     ensures steady { IsOk result → R.faults reach.new ≡ R.faults reach.old }
 {

@@ -10,12 +10,9 @@ returns-in-Ok-clause-talk g c =
     let e = c.in-Ok.ensures in
     let begun = c.in_ok-begin.ensures in (
       _,
+      refl,
+      refl,
       one_more _ _ _ _ (ap (λ (b : Beside). b.talks) e.same ∙ begun.ok)
           (c.finish.ensures.noted _
           (note_of_talk _ _ _ _ _ _ _ c.args.piece.now (take c.in-Ok.n c.say.new.buf) true begun.begun e.same begun.nothing_yet e.sent e.got)),
-      refl,
-      refl,
-      refl,
-      refl,
-      refl,
     )
