@@ -32,6 +32,10 @@ pub record IsReply (size status : ℕ) (counted : Bool) (body : List ℕ) (messa
   pub status_is : head.status ≡ status
   pub length_is : value_named (codes "Content-Length") head.headers ≡ length_told counted (concat chunks)
 
+-- So with some status, some body, and a length or none.
+abbrev pub IsSomeReply : ℕ → List Message → Type 0
+IsSomeReply size messages = (status : ℕ) × (counted : Bool) × (body : List ℕ) × IsReply size status counted body messages
+
 -- No message is End Response.
 abbrev pub NeverEnds : List Message → Type 0
 NeverEnds messages = AllByRecursion (λ message. (reuse : Bool) → message ≢ End reuse) messages

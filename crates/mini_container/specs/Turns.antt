@@ -49,6 +49,10 @@ abbrev pub AskedFor : AppConfig → Forward → List ℕ → List (List ℕ) →
 AskedFor app forward first [] = Unit {0}
 AskedFor app forward first (piece ∷ past) = IsTrue (asks_on app forward first past) × AskedFor app forward first past
 
+-- The body is asked for, and the container asks for no more of it.
+abbrev pub WasAsked : AppConfig → Forward → List ℕ → List (List ℕ) → Type 0
+WasAsked app forward first past = IsTrue (asks_body app forward) × (asks_on app forward first past ≡ false)
+
 -- A payload is a body packet's: its length and its data, or nothing where nothing is left.
 abbrev pub SpellsPiece : List ℕ → List ℕ → Type 0
 SpellsPiece piece payload =

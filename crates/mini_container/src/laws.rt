@@ -8,8 +8,8 @@ ghost use Rattle.mini_container.specs.declared.page.Page.{Page};
 ghost use Rattle.mini_container.specs.Applications.{drops};
 ghost use Rattle.mini_container.specs.Request.{application_of, content_length, asks_body};
 ghost use Rattle.mini_container.specs.Answer.{cut, messages_of, answer_of, bytes_of, IsSendable};
-ghost use Rattle.mini_container.specs.Reply.{IsCut, IsReply, NeverEnds, IsShortTurn, HasAll};
-ghost use Rattle.mini_container.specs.Turns.{Turn, asks_on, AskedFor, owed};
+ghost use Rattle.mini_container.specs.Reply.{IsCut, IsReply, IsSomeReply, NeverEnds, IsShortTurn, HasAll};
+ghost use Rattle.mini_container.specs.Turns.{Turn, AskedFor, WasAsked, owed};
 
 /// The chunks of a body joined are the body, none is empty, and each but the last is as long as a packet allows.
 pub fn a_body_is_its_chunks()
@@ -26,7 +26,7 @@ pub fn a_page_is_a_reply()
 /// Every request is answered by a whole reply, but for one of `/drop`, whose answer has no End Response.
 pub fn an_answer_is_whole_or_dropped()
     ensures whole { (app : AppConfig) (forward : Forward) (body : List ℕ) → IsTrue (not (drops (application_of app forward)))
-        → (status : ℕ) × (counted : Bool) × (text : List ℕ) × IsReply (app.packet - 8) status counted text (answer_of app forward body) }
+        → IsSomeReply (app.packet - 8) (answer_of app forward body) }
     ensures dropped { (app : AppConfig) (forward : Forward) (body : List ℕ) → IsTrue (drops (application_of app forward))
         → NeverEnds (answer_of app forward body) }
 {}
@@ -45,8 +45,8 @@ pub fn what_is_sent_is_spelled()
 /// A body is asked for only where it is the answer, and then until the last ask is answered by no data, or there are as
 /// many as the request names.
 pub fn a_body_is_asked_for_to_its_end()
-    ensures all { (app : AppConfig) (forward : Forward) (first : List ℕ) (past : List (List ℕ)) → IsTrue (asks_body app forward)
-        → asks_on app forward first past ≡ false → HasAll (content_length forward) first past }
+    ensures all { (app : AppConfig) (forward : Forward) (first : List ℕ) (past : List (List ℕ)) → WasAsked app forward first past
+        → HasAll (content_length forward) first past }
     ensures none { (app : AppConfig) (forward : Forward) (first : List ℕ) (past : List (List ℕ)) → asks_body app forward ≡ false
         → AskedFor app forward first past → past ≡ [] }
 {}

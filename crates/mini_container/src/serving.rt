@@ -1,11 +1,12 @@
 //! A talk with a connector, turn by turn.
 ghost use Rattle.std.specs.Prelude.{◌≡◌, ◌≤◌, [], ◌∷◌};
+ghost use Rattle.jk_io.specs.Moments.{Moment};
 ghost use Rattle.jk_io.specs.Told.{Rose};
 ghost use Rattle.ajp_reply.specs.declared.message.Message.TheVariants.{Pong};
 ghost use Rattle.mini_container.specs.Answer.{bytes_of};
 ghost use Rattle.ajp_wire.specs.Moments.{link_at};
 ghost use Rattle.mini_container.specs.Ends.{IsTalk};
-ghost use Rattle.mini_container.specs.Steps.{Sends, Serves, Reads, IsBegun, TakesTurn, requests_of, stop_of};
+ghost use Rattle.mini_container.specs.Steps.{Sends, Serves, Reads, IsBegun, TakesTurn, TookPacket, requests_of, stop_of};
 
 use crate::answering::app_answer;
 use crate::app_config::AppConfig;
@@ -65,13 +66,28 @@ fn serve_turn<L: Link>(alloc: Global, link: &mut L, app: &AppConfig) -> Result<T
     ensures same { L.beside link.new ≡ L.beside link.old }
 {
     let payload = take_packet(alloc, link, app.packet)?;
-    match turn_of(payload.as_slice()) {
+    serve_taken(alloc, link, app, payload.as_slice())
+}
+
+/// Serves the turn that the payload of a taken packet begins.
+fn serve_taken<L: Link>(
+    alloc: Global,
+    link: &mut L,
+    app: &AppConfig,
+    payload: &[u8],
+) -> Result<TurnKind, Stopped>
+    ensures took { (before : Moment) → TookPacket app.now.packet before (link_at L.Meanings link.old) payload.now
+        → TakesTurn app.now before (link_at L.Meanings link.new) result }
+    ensures no_fewer { L.faults link.old ≤ L.faults link.new }
+    ensures same { L.beside link.new ≡ L.beside link.old }
+{
+    match turn_of(payload) {
         Some(TurnKind::Ping) => {
             pong(alloc, link, app)?;
             Ok(TurnKind::Ping)
         }
         Some(TurnKind::Request) => {
-            let forward = read_request(alloc, payload.as_slice())?;
+            let forward = read_request(alloc, payload)?;
             serve_request(alloc, link, app, &forward)?;
             Ok(TurnKind::Request)
         }
