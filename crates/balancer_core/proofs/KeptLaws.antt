@@ -130,6 +130,17 @@ module _ (v : ℕ) (o : Opening) (h : List Entry) (now : Present) (kept early : 
         answered = (is_open, few, refl);
       }
 
+  -- The entry of a Select may come next.
+  pub next_selected : (seq session at : ℕ) (ask : Ask) (a : Answer) → seq ≡ o.next + length h → now.at ≤ at
+      → seq + length (out o (reverse h)) + 2 ≤ 2 ^ 48 → IsPick v o (reverse h) ask a → KnowsTerms v ask
+      → IsNext v o (reverse h) (select_entry seq session at ask a)
+  next_selected seq session at ask a number later room pick terms = record {
+    number = number ∙ next_is o h;
+    moment = omega (arith, is.present.moment, later);
+    room = room;
+    answered = (pick, terms);
+  }
+
   -- After a Select.
   pub kept-selected : (seq session at : ℕ) (ask : Ask) (a : Answer) (revives : Bool) (new : Present) (c' r' : ℕ)
       → seq ≡ o.next + length h → now.at ≤ at → seq + length (out o (reverse h)) + 2 ≤ 2 ^ 48
@@ -142,12 +153,7 @@ module _ (v : ℕ) (o : Opening) (h : List Entry) (now : Present) (kept early : 
       let e : Entry = select_entry seq session at ask a in
       let p : List Entry = reverse h in
       let seq_is : seq ≡ next_of o p = number ∙ next_is o h in
-      let next : IsNext v o p e = record {
-        number = seq_is;
-        moment = omega (arith, is.present.moment, later);
-        room = room;
-        answered = (pick, terms);
-      } in
+      let next : IsNext v o p e = next_selected seq session at ask a number later room pick terms in
       let past : reverse (h ++ e ∷ []) ≡ e ∷ p = reverse_snoc h e in
       let more : length (out o (e ∷ p)) ≤ 1 + length (out o p) = out_one_more o p e in
       record {

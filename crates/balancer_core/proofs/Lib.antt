@@ -9,6 +9,7 @@ pub mod MaintainLaws
 pub mod NowLaws
 pub mod OpenedLaws
 pub mod ReturnLaws
+pub mod RoomLaws
 pub mod SegmentLaws
 pub mod SpotLaws
 pub mod StepLaws

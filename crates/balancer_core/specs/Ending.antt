@@ -1,7 +1,9 @@
 -- The opening that goes on where a Book's journal ends.
-use Rattle.std.specs.Prelude.{◌≡◌, ℕ, ◌<◌, ◌↔◌, List, [], ◌∷◌, length, Option, Some, None, slice_index_or}
+use Rattle.std.specs.Prelude.{◌≡◌, ℕ, ◌<◌, ◌↔◌, not, List, [], ◌∷◌, length, filter, Option, Some, None, slice_index_or}
+use Rattle.std.specs.List.{filter_map}
 use Rattle.jk_model.specs.Present.{IsEnding, IsPresent}
-use Rattle.jk_model.specs.Tickets.{Ticket}
+use Rattle.jk_model.specs.Ranges.{IsInRange}
+use Rattle.jk_model.specs.Tickets.{Ticket, is_returned, ticket_in}
 use Rattle.jk_model.specs.declared.config.LbConfig.{LbConfig}
 use Rattle.jk_model.specs.declared.journal.Entry.{Entry}
 use Rattle.jk_model.specs.declared.member.MemberConfig.{MemberConfig}
@@ -14,6 +16,13 @@ abbrev pub still_out : (returned : Option ℕ) → Option Ticket → List Ticket
 still_out None None = []
 still_out None (Some x) = x ∷ []
 still_out (Some n) ticket = []
+
+-- The tickets that these entries made, and those of some tickets that p didn't return.
+abbrev pub tickets_made : List Entry → List Ticket
+tickets_made h = filter_map (λ e. ticket_in e.seq e.answer) h
+
+abbrev pub unreturned : (p : List Entry) → List Ticket → List Ticket
+unreturned p tickets = filter (λ x. not (is_returned x.0 p)) tickets
 
 -- For each of these tickets the number of its Return in p, if there is one.
 pub record AreEarly (p : List Entry) (out : List Ticket) (early : List (Option ℕ)) : Type 0 where
@@ -34,6 +43,12 @@ ending_member c row = record {
   redirect = row.redirect;
   pool = c.pool;
 }
+
+-- Each such configuration is in its ranges.
+abbrev pub AreEndingInRange : List MemberConfig → List Standing → Type 0
+AreEndingInRange members rows =
+    (m : ℕ) (c : MemberConfig) (d : Standing) → m < length rows
+    → IsInRange (length rows) m (ending_member (slice_index_or members m c) (slice_index_or rows m d))
 
 -- The first n members have the settings of their rows.
 pub record AreSettled (members : List MemberConfig) (rows : List Standing) (n : ℕ) (new : List MemberConfig) : Type 0 where

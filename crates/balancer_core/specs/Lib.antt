@@ -14,6 +14,7 @@ pub mod Ending
 pub mod Desks
 pub mod PlainDesks
 pub mod PlainLeases
+pub mod PlainLists
 pub mod Refused
 pub mod Bounds
 pub mod Weights

@@ -1,9 +1,11 @@
 -- What a maintenance makes of the rows.
-use Rattle.std.specs.Prelude.{ℕ, List, length, slice_index_or, if◌then◌else◌}
+use Rattle.std.specs.Prelude.{ℕ, ◌-◌, ◌/◌, List, length, slice_index_or, if◌then◌else◌}
 use Rattle.jk_model.specs.Loads.{greatest, halved, load_by}
 use Rattle.jk_model.specs.StateRows.{is_over, maintained_state}
+use Rattle.jk_model.specs.declared.config.LbConfig.{LbConfig}
 use Rattle.jk_model.specs.declared.member.Method.{Method}
 use Rattle.choice_index.specs.declared.standing.Standing.{Standing}
+use Rattle.balancer_core.specs.Stepped.{AreStepped}
 
 -- The greatest of the loads after so many halvings; d stands where there is no row.
 abbrev pub greatest_halved : List Standing → Standing → (times : ℕ) → ℕ
@@ -19,3 +21,14 @@ maintained_row method at recover most times row = record row {
   state = maintained_state at recover row.state;
   load = maintained_load method at recover most times row;
 }
+
+-- How many halvings a maintenance does at this moment, where the last one was at `since`.
+abbrev pub halvings : LbConfig → (since at : ℕ) → ℕ
+halvings config since at = (at - since) / config.maintain
+
+-- All rows after it.
+abbrev pub AreMaintained : LbConfig → (since at : ℕ) → (old new : List Standing) → Type 0
+AreMaintained config since at old new =
+    (d : Standing) → AreStepped
+    (λ _ row. maintained_row config.method at config.recover (greatest_halved old d (halvings config since at)) (halvings config since at) row)
+    (length old) old new

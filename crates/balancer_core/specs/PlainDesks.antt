@@ -5,8 +5,11 @@ use Rattle.jk_model.specs.Free.{is_in}
 use Rattle.jk_model.specs.Journal.{members}
 use Rattle.jk_model.specs.Tickets.{is_out}
 use Rattle.jk_model.specs.declared.ask.Ask.{Ask}
+use Rattle.jk_model.specs.declared.change.Command.{Command}
 use Rattle.jk_model.specs.declared.journal.Answer.{Answer}
 use Rattle.jk_model.specs.declared.journal.Answer.TheVariants as answer
+use Rattle.jk_model.specs.declared.journal.Call.TheVariants as call
+use Rattle.jk_model.specs.declared.journal.Entry.{Entry}
 use Rattle.jk_model.specs.declared.refusal.AdminError.{AdminError}
 use Rattle.jk_model.specs.declared.refusal.AdminError.TheVariants as admin
 use Rattle.jk_model.specs.declared.refusal.FullMark.{FullMark}
@@ -15,6 +18,7 @@ use Rattle.jk_model.specs.declared.refusal.RoomError.TheVariants as room
 use Rattle.balancer_core.specs.Desks.{DeskState, IsDue, IsMaintained, IsOwn, RisesByOne, holds}
 use Rattle.balancer_core.specs.Journal.{IsSound, Journal, past_of}
 use Rattle.balancer_core.specs.ToldBooks.{AreNextAt, grown_by, sizes_of}
+use Rattle.balancer_core.specs.declared.desk.Occasion.{Occasion}
 use Rattle.balancer_core.specs.declared.receipt.Receipt.{Receipt}
 
 -- Each Book has rules 2.
@@ -80,6 +84,16 @@ pub record BookGainsLast (old new : Journal) (before now : List Receipt) (lb ses
   pub is_due : IsDue due
   pub gains : BookGains old new before now lb session at (due ++ last ∷ [])
   pub done : IsMaintained old at due
+
+-- The receipt of an entry.
+abbrev pub receipt_of : Occasion → Entry → Receipt
+receipt_of on e = record { lb = on.lb; given = on.at; entry = e }
+
+-- It added a Maintain exactly where one was due, and then the entry of a command, which was done.
+abbrev pub BookCommands : (old new : Journal) → (before now : List Receipt) → Occasion → Command → Type 0
+BookCommands old new before now on command =
+    (e : Entry) × (e.call ≡ call.Admin command) × (e.answer ≡ answer.Done)
+    × BookGainsLast old new before now on.lb on.session on.at (receipt_of on e)
 
 -- A chosen member exists and wasn't tried, and its ticket, the entry's number, was not out before and is out now.
 pub record IsNewTicket (old new : Journal) (ask : Ask) (m seq : ℕ) : Type 0 where

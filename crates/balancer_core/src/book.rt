@@ -2,11 +2,14 @@
 
 ghost use Rattle.std.specs.Prelude.{◌≡◌, ◌+◌, ◌<◌, ◌≤◌, ◌^◌, ◌↔◌, true, length, IfOk, IfErr, OnOk, OnErr, IsOk};
 
+mod adding;
 mod admin;
 mod cut;
 mod maintain;
 
-use crate::opened::{common_of, none_returned, opening_rows, start_rows};
+use crate::beginning::{opening_present, opening_tables};
+use crate::book::adding::{add, take_room};
+use crate::opened::start_rows;
 use crate::present::Present;
 use crate::shown::shown_rows;
 use crate::tickets::{locate, note_return};
@@ -161,27 +164,15 @@ impl Book {
         requires { IsOpening opening }
         ensures opened { IfOk result (λ book. book ≡ record { rules = rules_number rules; opening = opening; entries = []; added = 0 }) }
     {
-        let members = opening.config.members.as_slice();
-        let common = common_of(alloc, members)?;
-        let rows = opening_rows(alloc, members, opening.rows.as_slice(), common)?;
-        let out = opening.out.len();
-        let early = none_returned(alloc, out)?;
-        let entries = Vec::with_capacity(alloc, out)?;
-        let returned = Vec::with_capacity(alloc, out)?;
-        let present = Present {
-            rows,
-            out: out as u64,
-            at: opening.at,
-            maintained: opening.maintained,
-            chosen: opening.chosen,
-        };
+        let present = opening_present(alloc, &opening)?;
+        let tables = opening_tables(alloc, &opening, present)?;
         Ok(Book {
             rules,
             opening,
-            entries,
-            present,
-            returned,
-            early,
+            entries: tables.entries,
+            present: tables.present,
+            returned: tables.returned,
+            early: tables.early,
             added: 0,
         })
     }
@@ -232,8 +223,7 @@ impl Book {
         if next + out + 2 > MOST_NUMBERS {
             return Err(RoomError::Full(FullMark { next, out }));
         }
-        self.entries.reserve(out as usize + 2)?;
-        self.returned.reserve(out as usize + 2)?;
+        take_room(&mut self.entries, &mut self.returned, out as usize + 2)?;
         let choice = self.present.pick(&self.opening, self.rules, ask, next);
         let entry = Entry {
             seq: next,
@@ -242,16 +232,9 @@ impl Book {
             call: Call::Select(*ask),
             answer: choice.answer,
         };
-        self.present.select(
-            &self.opening.config,
-            ask,
-            next,
-            entry.at,
-            choice.answer,
-            choice.revives,
-        );
-        self.entries.push(entry).unwrap();
-        self.returned.push(None).unwrap();
+        self.present
+            .select(&self.opening.config, ask, next, entry.at, choice);
+        add(&mut self.entries, &mut self.returned, entry);
         self.added += 1;
         Ok(Picked {
             entry,
@@ -322,8 +305,7 @@ impl Book {
         self.present
             .give_back(&self.opening.config, member, ticket, outcome, entry.at);
         note_return(spot, entry.seq, &mut self.returned, &mut self.early);
-        self.entries.push(entry).unwrap();
-        self.returned.push(None).unwrap();
+        add(&mut self.entries, &mut self.returned, entry);
         self.added += 1;
         Ok(entry)
     }

@@ -16,6 +16,14 @@ pub enum Choice<E> {
     Forced,
 }
 
+/// Which balancer a session calls, and when.
+#[derive(Clone, Copy)]
+pub struct Occasion {
+    pub lb: u32,
+    pub session: u32,
+    pub at: u64,
+}
+
 /// Balancers that a caller asks, over one thread as over a lock. A balancer is named by its place `lb`.
 ///
 /// Each call finds a journal that is sound and of rules 2, and its entries follow that journal. Where a desk tells its

@@ -1,16 +1,13 @@
 //! The opening that goes on where a journal ends.
 
-ghost use Rattle.std.specs.Prelude.{◌≡◌, ℕ, ◌+◌, ◌<◌, ◌≤◌, ◌^◌, ◌++◌, List, length, reverse, filter, not, IfOk, OnOk, slice_index_or};
-ghost use Rattle.std.specs.List.{filter_map};
+ghost use Rattle.std.specs.Prelude.{◌≡◌, ℕ, ◌+◌, ◌<◌, ◌≤◌, ◌^◌, ◌++◌, List, length, reverse, IfOk, OnOk, slice_index_or};
 ghost use Rattle.jk_model.specs.declared.journal.Entry.{Entry};
 ghost use Rattle.jk_model.specs.Journal.{each};
 ghost use Rattle.jk_model.specs.Legal.{IsLegal};
 ghost use Rattle.jk_model.specs.Multiple.{multiple_of};
 ghost use Rattle.jk_model.specs.Present.{IsEnding};
-ghost use Rattle.jk_model.specs.Ranges.{IsInRange};
-ghost use Rattle.jk_model.specs.Tickets.{is_returned, out, ticket_in};
-ghost use Rattle.jk_model.specs.declared.member.MemberConfig.{MemberConfig};
-ghost use Rattle.balancer_core.specs.Ending.{AreEarly, AreOwn, AreSettled, IsSettled, ending_member, still_out};
+ghost use Rattle.jk_model.specs.Tickets.{out, ticket_in};
+ghost use Rattle.balancer_core.specs.Ending.{AreEarly, AreEndingInRange, AreOwn, AreSettled, IsSettled, ending_member, still_out, tickets_made, unreturned};
 ghost use Rattle.balancer_core.specs.Kept.{AreReturns, IsNow};
 ghost use Rattle.choice_index.specs.declared.standing.Standing.{Standing};
 
@@ -54,8 +51,7 @@ fn ending_members(
 // The configuration with the settings of the rows.
 fn ending_config(config: &LbConfig, rows: &[Standing]) -> Result<LbConfig, NoMemory>
     requires whole { length rows.now ≡ length config.now.members }
-    requires ranges { (m : ℕ) (c : MemberConfig) (d : Standing) → m < length rows.now
-        → IsInRange (length rows.now) m (ending_member (slice_index_or config.now.members m c) (slice_index_or rows.now m d)) }
+    requires ranges { AreEndingInRange config.now.members rows.now }
     requires narrow { (d : Standing) → multiple_of (each (length rows.now) (λ m. (slice_index_or rows.now m d).factor)) < 2 ^ 32 }
     ensures { IfOk result (IsSettled config.now rows.now) }
 {
@@ -101,7 +97,7 @@ fn early_out(
     early: &[Option<u64>],
 ) -> Result<Vec<(u64, u32)>, NoMemory>
     requires { length early.now ≡ length out.now }
-    ensures { (p : List Entry) → AreEarly p out.now early.now → IfOk result (λ tickets. tickets.items ≡ filter (λ x. not (is_returned x.0 p)) out.now) }
+    ensures { (p : List Entry) → AreEarly p out.now early.now → IfOk result (λ tickets. tickets.items ≡ unreturned p out.now) }
 {
     let mut tickets = Vec::new(alloc);
     for i in 0..out.len() {
@@ -117,8 +113,8 @@ fn put_own(
     kept: &[Option<u64>],
 ) -> Result<(), NoMemory>
     requires { length kept.now ≡ length entries.now }
-    ensures { (p : List Entry) → AreOwn p entries.now kept.now → OnOk result (tickets.new.items
-        ≡ tickets.old.items ++ filter (λ x. not (is_returned x.0 p)) (filter_map (λ e. ticket_in e.seq e.answer) entries.now)) }
+    ensures { (p : List Entry) → AreOwn p entries.now kept.now
+        → OnOk result (tickets.new.items ≡ tickets.old.items ++ unreturned p (tickets_made entries.now)) }
 {
     for k in 0..entries.len() {
         put_if_out(tickets, ticket_of(&entries[k]), kept[k])?;
@@ -151,8 +147,7 @@ pub(crate) fn ending(
 ) -> Result<Opening, NoMemory>
     requires returns { AreReturns opening.now (reverse entries.now) kept.now early.now }
     requires whole { length present.now.rows.items ≡ length opening.now.config.members }
-    requires ranges { (m : ℕ) (c : MemberConfig) (d : Standing) → m < length present.now.rows.items
-        → IsInRange (length present.now.rows.items) m (ending_member (slice_index_or opening.now.config.members m c) (slice_index_or present.now.rows.items m d)) }
+    requires ranges { AreEndingInRange opening.now.config.members present.now.rows.items }
     requires narrow { (d : Standing) → multiple_of (each (length present.now.rows.items) (λ m. (slice_index_or present.now.rows.items m d).factor)) < 2 ^ 32 }
     requires room { opening.now.next + length entries.now ≤ 2 ^ 48 }
     ensures { (v : ℕ) → IsLegal v opening.now entries.now → IsNow v opening.now (reverse entries.now) present.now

@@ -2,43 +2,47 @@
 ghost use Rattle.std.specs.Prelude.{◌≡◌, ◌+◌, ◌≤◌, ◌<◌, ◌∷◌, [], ◌++◌, length, vec_len, vec_capacity, IfOk, IfErr, OnOk, OnErr};
 ghost use Rattle.jk_model.specs.Journal.{members};
 ghost use Rattle.jk_model.specs.Legal.{HasValues};
-ghost use Rattle.jk_model.specs.declared.journal.Answer.{Answer};
 ghost use Rattle.jk_model.specs.declared.journal.Call.{Call};
 ghost use Rattle.balancer_core.specs.Commanded.{IsKnown};
 ghost use Rattle.balancer_core.specs.Leases.{IsLeaseOf};
 ghost use Rattle.balancer_core.specs.Refused.{RefusesMaintain};
 ghost use Rattle.balancer_core.specs.Desks.{IsAskRefusal, IsCommandRefusal, IsMaintained};
-ghost use Rattle.balancer_core.specs.PlainDesks.{BookGainsDue, BookGainsLast, Picks};
+ghost use Rattle.balancer_core.specs.PlainDesks.{BookCommands, BookGainsDue, BookGainsLast, Picks, receipt_of};
 
 use crate::book::{Book, Picked};
+use crate::desk::Occasion;
 use crate::receipt::Receipt;
 use jk_model::{AdminError, Ask, Command, Entry, FullMark, RoomError};
 
 /// Adds the receipt of an entry.
-pub(crate) fn note(receipts: &mut Vec<Receipt>, lb: u32, given: u64, entry: Entry)
+pub(crate) fn note(receipts: &mut Vec<Receipt>, on: Occasion, entry: Entry)
     requires { vec_len receipts.old < vec_capacity receipts.old }
-    ensures added { receipts.new.items ≡ receipts.old.items ++ record { lb = lb; given = given; entry = entry } ∷ [] }
+    ensures added { receipts.new.items ≡ receipts.old.items ++ receipt_of on entry ∷ [] }
     ensures room { vec_capacity receipts.old ≤ vec_capacity receipts.new }
 {
-    receipts.push(Receipt { lb, given, entry }).unwrap();
+    let receipt = Receipt {
+        lb: on.lb,
+        given: on.at,
+        entry,
+    };
+    receipts.push(receipt).unwrap();
 }
 
 /// Does a Maintain where one is due.
 pub(crate) fn maintain_first(
     book: &mut Book,
     receipts: &mut Vec<Receipt>,
-    lb: u32,
-    session: u32,
-    at: u64,
+    on: Occasion,
 ) -> Result<(), RoomError<FullMark>>
     requires { vec_len receipts.old < vec_capacity receipts.old }
-    ensures due { OnOk result (BookGainsDue book.old book.new receipts.old.items receipts.new.items lb session at (IsMaintained book.old at)) }
-    ensures err { IfErr result (λ e. BookGainsDue book.old book.new receipts.old.items receipts.new.items lb session at
-        (λ due. (due ≡ []) × RefusesMaintain (λ mark. mark) book.old at e)) }
+    ensures due { OnOk result (BookGainsDue book.old book.new receipts.old.items receipts.new.items on.lb on.session on.at
+        (IsMaintained book.old on.at)) }
+    ensures err { IfErr result (λ e. BookGainsDue book.old book.new receipts.old.items receipts.new.items on.lb on.session on.at
+        (λ due. (due ≡ []) × RefusesMaintain (λ mark. mark) book.old on.at e)) }
     ensures room { vec_capacity receipts.old ≤ vec_capacity receipts.new }
 {
-    if let Some(entry) = book.maintain_if_due(session, at)? {
-        note(receipts, lb, at, entry);
+    if let Some(entry) = book.maintain_if_due(on.session, on.at)? {
+        note(receipts, on, entry);
     }
     Ok(())
 }
@@ -47,25 +51,23 @@ pub(crate) fn maintain_first(
 pub(crate) fn select_after(
     book: &mut Book,
     receipts: &mut Vec<Receipt>,
-    lb: u32,
-    session: u32,
-    at: u64,
+    on: Occasion,
     ask: &Ask,
 ) -> Result<Picked, RoomError<FullMark>>
     requires modern { book.old.rules ≡ 2 }
     requires room { vec_len receipts.old + 2 ≤ vec_capacity receipts.old }
-    ensures ok { IfOk result (λ picked. BookGainsLast book.old book.new receipts.old.items receipts.new.items lb session at
-        (record { lb = lb; given = at; entry = picked.entry })) }
+    ensures ok { IfOk result (λ picked. BookGainsLast book.old book.new receipts.old.items receipts.new.items on.lb on.session on.at
+        (receipt_of on picked.entry)) }
     ensures asked { IfOk result (λ picked. picked.entry.call ≡ Call.Select ask.now) }
     ensures lease { IfOk result (λ picked. IsLeaseOf picked.entry.answer picked.lease) }
     ensures picks { IfOk result (λ picked. Picks book.old book.new ask.now picked.entry.seq picked.entry.answer) }
-    ensures err { IfErr result (λ e. BookGainsDue book.old book.new receipts.old.items receipts.new.items lb session at
-        (IsAskRefusal (λ mark. mark) at e book.old)) }
+    ensures err { IfErr result (λ e. BookGainsDue book.old book.new receipts.old.items receipts.new.items on.lb on.session on.at
+        (IsAskRefusal (λ mark. mark) on.at e book.old)) }
     ensures room { vec_capacity receipts.old ≤ vec_capacity receipts.new }
 {
-    maintain_first(book, receipts, lb, session, at)?;
-    let picked = book.select(session, at, ask)?;
-    note(receipts, lb, at, picked.entry);
+    maintain_first(book, receipts, on)?;
+    let picked = book.select(on.session, on.at, ask)?;
+    note(receipts, on, picked.entry);
     Ok(picked)
 }
 
@@ -73,25 +75,22 @@ pub(crate) fn select_after(
 pub(crate) fn command_after(
     book: &mut Book,
     receipts: &mut Vec<Receipt>,
-    lb: u32,
-    session: u32,
-    at: u64,
+    on: Occasion,
     command: &Command,
 ) -> Result<(), AdminError<FullMark>>
     requires room { vec_len receipts.old + 2 ≤ vec_capacity receipts.old }
-    ensures ok { OnOk result ((e : Entry) × (e.call ≡ Call.Admin command.now) × (e.answer ≡ Answer.Done)
-        × BookGainsLast book.old book.new receipts.old.items receipts.new.items lb session at (record { lb = lb; given = at; entry = e })) }
+    ensures ok { OnOk result (BookCommands book.old book.new receipts.old.items receipts.new.items on command.now) }
     ensures named { OnOk result (IsKnown (members book.old.opening) command.now × HasValues command.now) }
-    ensures err { IfErr result (λ e. BookGainsDue book.old book.new receipts.old.items receipts.new.items lb session at
-        (IsCommandRefusal (λ mark. mark) at command.now e book.old)) }
+    ensures err { IfErr result (λ e. BookGainsDue book.old book.new receipts.old.items receipts.new.items on.lb on.session on.at
+        (IsCommandRefusal (λ mark. mark) on.at command.now e book.old)) }
     ensures room { vec_capacity receipts.old ≤ vec_capacity receipts.new }
 {
-    match maintain_first(book, receipts, lb, session, at) {
+    match maintain_first(book, receipts, on) {
         Ok(()) => {}
         Err(RoomError::Full(mark)) => return Err(AdminError::Full(mark)),
         Err(RoomError::NoMemory) => return Err(AdminError::NoMemory),
     }
-    let entry = book.admin(session, at, command)?;
-    note(receipts, lb, at, entry);
+    let entry = book.admin(on.session, on.at, command)?;
+    note(receipts, on, entry);
     Ok(())
 }

@@ -13,6 +13,7 @@
 //! Errors: `RoomError`, `AdminError` and `Stray` of jk_model. After one the Book is as it was.
 #![tactic(auto)]
 
+mod beginning;
 mod book;
 mod commanded;
 mod copies;

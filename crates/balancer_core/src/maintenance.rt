@@ -3,7 +3,7 @@
 ghost use Rattle.std.specs.Prelude.{◌≡◌, ℕ, ◌+◌, ◌-◌, ◌/◌, ◌<◌, ◌≤◌, ◌↔◌, IsTrue, length, slice_index_or};
 ghost use Rattle.jk_model.specs.Loads.{halved};
 ghost use Rattle.jk_model.specs.StateRows.{is_over};
-ghost use Rattle.balancer_core.specs.Maintained.{greatest_halved, maintained_load, maintained_row};
+ghost use Rattle.balancer_core.specs.Maintained.{AreMaintained, greatest_halved, maintained_load, maintained_row};
 ghost use Rattle.balancer_core.specs.Stepped.{AreStepped};
 ghost use Rattle.choice_index.specs.declared.standing.Standing.{Standing};
 
@@ -88,11 +88,7 @@ impl Present {
     /// After a maintenance at this moment, which is due.
     pub(crate) fn maintain(&mut self, config: &LbConfig, at: u64)
         requires { self.old.maintained + config.now.maintain ≤ at }
-        ensures rows { (d : Standing) → AreStepped
-            (λ _ row. maintained_row config.now.method at config.now.recover
-            (greatest_halved self.old.rows.items d ((at - self.old.maintained) / config.now.maintain))
-            ((at - self.old.maintained) / config.now.maintain) row)
-            (length self.old.rows.items) self.old.rows.items self.new.rows.items }
+        ensures rows { AreMaintained config.now self.old.maintained at self.old.rows.items self.new.rows.items }
         ensures tickets { self.new.out ≡ self.old.out }
         ensures moment { self.new.at ≡ at }
         ensures maintained { self.new.maintained ≡ at }

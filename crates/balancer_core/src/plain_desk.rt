@@ -6,7 +6,7 @@ ghost use Rattle.balancer_core.specs.PlainDesks.{AreLegal, AreModern, CountsFull
 ghost use Rattle.balancer_core.specs.PlainLeases.{IsChosenFor, pairs_in};
 
 use crate::book::{Book, Lease, Picked};
-use crate::desk::{Choice, Desk};
+use crate::desk::{Choice, Desk, Occasion};
 use crate::hold_at::{command_at, return_at, select_at};
 use crate::receipt::Receipt;
 use jk_io::{ListOf, NoMemory};
@@ -114,9 +114,7 @@ impl Desk for PlainDesk {
             self.books.as_mut_slice(),
             &mut self.receipts,
             &mut self.held,
-            lb,
-            session,
-            at,
+            Occasion { lb, session, at },
             ask,
         );
         count_full(&mut self.fulls, &done);
@@ -147,9 +145,7 @@ impl Desk for PlainDesk {
             self.books.as_mut_slice(),
             &mut self.receipts,
             &mut self.held,
-            lb,
-            session,
-            at,
+            Occasion { lb, session, at },
             lease.into_ticket(),
             outcome,
         );
@@ -175,9 +171,7 @@ impl Desk for PlainDesk {
             self.books.as_mut_slice(),
             &mut self.receipts,
             self.held.as_slice(),
-            lb,
-            session,
-            at,
+            Occasion { lb, session, at },
             command,
         );
         count_refusal(&mut self.fulls, &mut self.wides, &done);

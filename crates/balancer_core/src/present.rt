@@ -2,7 +2,7 @@
 
 ghost use Rattle.std.specs.Prelude.{◌≡◌, ℕ, ◌+◌, ◌<◌, ◌≤◌, ◌^◌, List, length, false, slice_index_or, vec_len, IfSome, None};
 ghost use Rattle.jk_model.specs.Journal.{chosen_in, newest_chosen};
-ghost use Rattle.balancer_core.specs.Revived.{AreOthersRevived, row_selected, tickets_after};
+ghost use Rattle.balancer_core.specs.Revived.{AreOthersRevived, AreSelected, tickets_after};
 ghost use Rattle.choice_index.specs.Picks.{HasRoomFor};
 ghost use Rattle.balancer_core.specs.Steps.{returned_row};
 ghost use Rattle.choice_index.specs.declared.standing.Standing.{Standing};
@@ -61,32 +61,23 @@ impl Present {
     }
 
     /// After a Select with this number, moment and answer, which revives or doesn't.
-    pub(crate) fn select(
-        &mut self,
-        config: &LbConfig,
-        ask: &Ask,
-        seq: u64,
-        at: u64,
-        answer: Answer,
-        revives: bool,
-    )
+    pub(crate) fn select(&mut self, config: &LbConfig, ask: &Ask, seq: u64, at: u64, choice: Choice)
         requires few { length self.old.rows.items ≤ 64 }
-        requires room { HasRoomFor self.old.rows.items answer }
+        requires room { HasRoomFor self.old.rows.items choice.answer }
         requires light { (m : ℕ) (d : Standing) → m < length self.old.rows.items → (slice_index_or self.old.rows.items m d).load < 2 ^ 125 }
         requires tickets { self.old.out ≤ 2 ^ 48 }
-        requires revival { chosen_in answer ≡ None → revives ≡ false }
+        requires revival { chosen_in choice.answer ≡ None → choice.revives ≡ false }
         ensures whole { length self.new.rows.items ≡ length self.old.rows.items }
-        ensures rows { (m : ℕ) (d : Standing) → m < length self.old.rows.items → slice_index_or self.new.rows.items m d
-            ≡ row_selected config.now.method seq ask.now answer revives m (slice_index_or self.old.rows.items m d) }
-        ensures tickets { self.new.out ≡ tickets_after answer self.old.out }
+        ensures rows { AreSelected config.now.method seq ask.now choice self.old.rows.items self.new.rows.items }
+        ensures tickets { self.new.out ≡ tickets_after choice.answer self.old.out }
         ensures moment { self.new.at ≡ at }
         ensures maintained { self.new.maintained ≡ self.old.maintained }
-        ensures chosen { self.new.chosen ≡ newest_chosen (chosen_in answer) self.old.chosen }
+        ensures chosen { self.new.chosen ≡ newest_chosen (chosen_in choice.answer) self.old.chosen }
     {
         self.at = at;
-        if let Answer::Chosen { member, .. } = answer {
+        if let Answer::Chosen { member, .. } = choice.answer {
             let place = member as usize;
-            if revives {
+            if choice.revives {
                 revive_others(&mut self.rows, ask, place, config.direct);
             }
             self.rows[place] = chosen_row(

@@ -1,5 +1,6 @@
 //! The call of a Book that does a command of the status worker.
 
+use super::adding::{add, take_room};
 use super::{Book, MOST_NUMBERS};
 use crate::commanded::judge;
 use jk_model::{AdminError, Answer, Call, Command, Entry, FullMark};
@@ -34,8 +35,7 @@ impl Book {
         if next + out + 1 > MOST_NUMBERS {
             return Err(AdminError::Full(mark));
         }
-        self.entries.reserve(out as usize + 1)?;
-        self.returned.reserve(out as usize + 1)?;
+        take_room(&mut self.entries, &mut self.returned, out as usize + 1)?;
         let entry = Entry {
             seq: next,
             session,
@@ -45,8 +45,7 @@ impl Book {
         };
         self.present
             .command(&self.opening.config, command, common, entry.at);
-        self.entries.push(entry).unwrap();
-        self.returned.push(None).unwrap();
+        add(&mut self.entries, &mut self.returned, entry);
         self.added += 1;
         Ok(entry)
     }

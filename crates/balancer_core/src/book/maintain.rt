@@ -1,5 +1,6 @@
 //! The call of a Book that does a maintenance where one is due.
 
+use super::adding::{add, take_room};
 use super::{Book, MOST_NUMBERS};
 use jk_model::{Answer, Call, Entry, FullMark, RoomError};
 
@@ -35,8 +36,7 @@ impl Book {
         if next + out + 1 > MOST_NUMBERS {
             return Err(RoomError::Full(FullMark { next, out }));
         }
-        self.entries.reserve(out as usize + 1)?;
-        self.returned.reserve(out as usize + 1)?;
+        take_room(&mut self.entries, &mut self.returned, out as usize + 1)?;
         let entry = Entry {
             seq: next,
             session,
@@ -45,8 +45,7 @@ impl Book {
             answer: Answer::Done,
         };
         self.present.maintain(&self.opening.config, moment);
-        self.entries.push(entry).unwrap();
-        self.returned.push(None).unwrap();
+        add(&mut self.entries, &mut self.returned, entry);
         self.added += 1;
         Ok(Some(entry))
     }

@@ -1,4 +1,4 @@
-use Rattle.std.proofs.Common.{◌≡◌, ◌+◌, ◌≤◌, ◌<◌, ℕ, List, [], ◌∷◌, ◌++◌, length, reverse, get_or, None, Ok, Err, refl, sym, subst, arith}
+use Rattle.std.proofs.Common.{◌≡◌, ◌+◌, ◌≤◌, ◌<◌, ℕ, List, [], ◌∷◌, ◌++◌, length, reverse, get_or, Option, None, Ok, Err, refl, sym, subst, ◌∙◌, ap, arith}
 use Rattle.std.specs.Prelude.{vec_capacity}
 use Rattle.std.proofs.lemmas.List.{length-reverse}
 use Rattle.jk_model.specs.Legal.{IsDoable, IsNext}
@@ -45,21 +45,10 @@ returns-then-next-out-gt-MOST_NUMBERS-clause-commanded c =
     (omega (arith, c.len.ensures, c.self.inside.entries.ok.0)) c.as_slice.result.now c.as_slice.ensures.value c.in_ok-common.common
     c.in_ok-common.ensures (omega (arith, c.if-next-out-gt-MOST_NUMBERS.true)))
 
-pub returns-in_err-reserve-clause-commanded : goal.returns-in_err-reserve-clause-commanded
-returns-in_err-reserve-clause-commanded c =
-    commanded_by c.args.self.now c.args.command.now c.from_residual-in_err-reserve.result Admin.NoMemory
-    c.from_residual-in_err-reserve.ensures.0 c.from_residual-in_err-reserve.ensures.1
-    (subst (λ (b : Journal). IsCommanded b c.args.command.now (Err Admin.NoMemory)) c.self.view_is
-    (judged_room (rules_number c.self.inside.rules) c.self.inside.opening c.self.inside.entries.items c.self.inside.present
-    c.self.inside.returned.items c.self.inside.early.items c.self.inside.added (vec_capacity c.self.inside.entries)
-    (vec_capacity c.self.inside.returned) c.self.invariant c.args.command.now (c.self.inside.opening.next + c.len.result)
-    (omega (arith, c.len.ensures, c.self.inside.entries.ok.0)) c.as_slice.result.now c.as_slice.ensures.value c.in_ok-common.common
-    c.in_ok-common.ensures (omega (arith, c.if-next-out-gt-MOST_NUMBERS.false))))
-
-pub returns-in_err-reserve-2-clause-commanded : goal.returns-in_err-reserve-2-clause-commanded
-returns-in_err-reserve-2-clause-commanded c =
-    commanded_by c.args.self.now c.args.command.now c.from_residual-in_err-reserve-2.result Admin.NoMemory
-    c.from_residual-in_err-reserve-2.ensures.0 c.from_residual-in_err-reserve-2.ensures.1
+pub returns-in_err-take_room-clause-commanded : goal.returns-in_err-take_room-clause-commanded
+returns-in_err-take_room-clause-commanded c =
+    commanded_by c.args.self.now c.args.command.now c.from_residual-in_err-take_room.result Admin.NoMemory
+    c.from_residual-in_err-take_room.ensures.0 c.from_residual-in_err-take_room.ensures.1
     (subst (λ (b : Journal). IsCommanded b c.args.command.now (Err Admin.NoMemory)) c.self.view_is
     (judged_room (rules_number c.self.inside.rules) c.self.inside.opening c.self.inside.entries.items c.self.inside.present
     c.self.inside.returned.items c.self.inside.early.items c.self.inside.added (vec_capacity c.self.inside.entries)
@@ -103,6 +92,13 @@ returns-clause-next c =
     subst (λ (b : Journal). IsNext b.rules b.opening (past_of b)
     (admin_entry (c.self.inside.opening.next + c.len.result) c.args.session c.max.result c.args.command.now)) c.self.view_is next
 
+pub invariant_of-self : goal.invariant_of-self
+invariant_of-self c =
+    kept-moved (rules_number c.self.inside.rules) c.self.inside.opening c.self.inside.entries.items c.take_room.new.entries.items c.self.inside.present
+    c.self.inside.returned.items c.take_room.new.returned.items c.self.inside.early.items c.self.inside.added (vec_capacity c.self.inside.entries)
+    (vec_capacity c.self.inside.returned) (vec_capacity c.take_room.new.entries) (vec_capacity c.take_room.new.returned) c.self.invariant
+    c.take_room.ensures.items c.take_room.ensures.places c.take_room.ensures.no_less c.take_room.ensures.places_no_less
+
 pub invariant_of-self-2 : goal.invariant_of-self-2
 invariant_of-self-2 c =
     let v : ℕ = rules_number c.self.inside.rules in
@@ -111,15 +107,15 @@ invariant_of-self-2 c =
     let seq : ℕ = c.self.inside.opening.next + c.len.result in
     let e : Entry = admin_entry seq c.args.session c.max.result c.args.command.now in
     let number : seq ≡ c.self.inside.opening.next + length h = omega (arith, c.len.ensures, c.self.inside.entries.ok.0) in
-    let items : c.push.new.self.items ≡ h ++ e ∷ [] = grind arith in
-    let places : c.push-2.new.self.items ≡ c.self.inside.returned.items ++ None ∷ [] = grind arith in
-    let fits : length h + (length (out o (reverse h)) + 1) ≤ vec_capacity c.push.new.self =
-    omega (arith, c.in_ok-reserve.ensures.ok, c.push.ensures.capacity, c.self.invariant.present.tickets, c.self.inside.entries.ok.0) in
-    let fits_too : length h + (length (out o (reverse h)) + 1) ≤ vec_capacity c.push-2.new.self =
+    let items : c.add.new.entries.items ≡ h ++ e ∷ [] = c.add.ensures.items ∙ ap (λ (xs : List Entry). xs ++ e ∷ []) c.take_room.ensures.items in
+    let places : c.add.new.returned.items ≡ c.self.inside.returned.items ++ None ∷ [] = c.add.ensures.places ∙ ap (λ (xs : List (Option ℕ)). xs ++ None ∷ []) c.take_room.ensures.places in
+    let fits : length h + (length (out o (reverse h)) + 1) ≤ vec_capacity c.add.new.entries =
+    omega (arith, c.in_ok-take_room.ensures.room, c.add.ensures.no_less, c.self.invariant.present.tickets, c.self.inside.entries.ok.0) in
+    let fits_too : length h + (length (out o (reverse h)) + 1) ≤ vec_capacity c.add.new.returned =
     omega (
       arith,
-      c.in_ok-reserve-2.ensures.ok,
-      c.push-2.ensures.capacity,
+      c.in_ok-take_room.ensures.places_room,
+      c.add.ensures.places_no_less,
       c.self.invariant.present.tickets,
       c.self.inside.returned.ok.0,
       c.self.invariant.returns.whole,
@@ -150,13 +146,13 @@ invariant_of-self-2 c =
       chosen = c.command.ensures.chosen;
     }) in
     let kept : IsKept v o (h ++ e ∷ []) c.command.new.self (c.self.inside.returned.items ++ None ∷ []) c.self.inside.early.items
-    (c.self.inside.added + 1) (vec_capacity c.push.new.self) (vec_capacity c.push-2.new.self) =
+    (c.self.inside.added + 1) (vec_capacity c.add.new.entries) (vec_capacity c.add.new.returned) =
     kept-called v o h c.self.inside.present c.command.new.self c.self.inside.returned.items c.self.inside.early.items c.self.inside.added
-    (vec_capacity c.self.inside.entries) (vec_capacity c.self.inside.returned) (vec_capacity c.push.new.self) (vec_capacity c.push-2.new.self)
+    (vec_capacity c.self.inside.entries) (vec_capacity c.self.inside.returned) (vec_capacity c.add.new.entries) (vec_capacity c.add.new.returned)
     e c.self.invariant next present refl (λ t. refl) fits fits_too in
-    kept-moved v o (h ++ e ∷ []) c.push.new.self.items c.command.new.self (c.self.inside.returned.items ++ None ∷ []) c.push-2.new.self.items
-    c.self.inside.early.items (c.self.inside.added + 1) (vec_capacity c.push.new.self) (vec_capacity c.push-2.new.self)
-    (vec_capacity c.push.new.self) (vec_capacity c.push-2.new.self) kept items places (omega arith) (omega arith)
+    kept-moved v o (h ++ e ∷ []) c.add.new.entries.items c.command.new.self (c.self.inside.returned.items ++ None ∷ []) c.add.new.returned.items
+    c.self.inside.early.items (c.self.inside.added + 1) (vec_capacity c.add.new.entries) (vec_capacity c.add.new.returned)
+    (vec_capacity c.add.new.entries) (vec_capacity c.add.new.returned) kept items places (omega arith) (omega arith)
 
 pub returns-clause-sound : goal.returns-clause-sound
 returns-clause-sound c = (invariant_of-self-2 c).legal

@@ -1,4 +1,4 @@
-use Rattle.std.proofs.Common.{◌≡◌, ◌+◌, ◌≤◌, ℕ, List, [], ◌∷◌, ◌++◌, length, reverse, None, refl, arith}
+use Rattle.std.proofs.Common.{◌≡◌, ◌+◌, ◌≤◌, ◌<◌, ◌^◌, ℕ, List, [], ◌∷◌, ◌++◌, length, reverse, Option, Some, None, Ok, refl, ◌∙◌, ap, subst, arith}
 use Rattle.std.specs.Prelude.{vec_capacity}
 use Rattle.std.proofs.lemmas.List.{length-reverse}
 use Rattle.jk_model.specs.Legal.{IsNext}
@@ -6,25 +6,21 @@ use Rattle.jk_model.specs.Tickets.{out}
 use Rattle.jk_model.specs.declared.journal.Entry.{Entry}
 use Rattle.jk_model.specs.declared.opening.Opening.{Opening}
 use Rattle.choice_index.specs.RuleNumbers.{rules_number}
+use Rattle.balancer_core.specs.Due.{IsMaintenance, due_moment, entry_moment}
+use Rattle.balancer_core.specs.Journal.{IsMarked, Journal, next_number, past_of, tickets_out}
 use Rattle.balancer_core.specs.Kept.{IsKept, IsNow}
 use Rattle.balancer_core.proofs.CallLaws.{kept-called}
 use Rattle.balancer_core.proofs.KeptLaws.{kept-moved}
 use Rattle.balancer_core.proofs.MaintainLaws.{maintain_entry, next_maintained, now-maintained}
+use Rattle.balancer_core.proofs.RoomLaws.{due_past, full_marked, full_past, maintenance_by, room_left}
 use Rattle.balancer_core.proofs.book.Book.maintain_if_due.Goals as goal
 
 pub invariant_of-self : goal.invariant_of-self
 invariant_of-self c =
-    kept-moved (rules_number c.self.inside.rules) c.self.inside.opening c.self.inside.entries.items c.reserve.new.self.items c.self.inside.present
-    c.self.inside.returned.items c.self.inside.returned.items c.self.inside.early.items c.self.inside.added (vec_capacity c.self.inside.entries)
-    (vec_capacity c.self.inside.returned) (vec_capacity c.reserve.new.self) (vec_capacity c.self.inside.returned) c.self.invariant
-    c.reserve.ensures.items refl (omega (arith, c.reserve.ensures.capacity)) (omega arith)
-
-pub invariant_of-self-in_err-reserve-2 : goal.invariant_of-self-in_err-reserve-2
-invariant_of-self-in_err-reserve-2 c =
-    kept-moved (rules_number c.self.inside.rules) c.self.inside.opening c.self.inside.entries.items c.reserve.new.self.items c.self.inside.present
-    c.self.inside.returned.items c.reserve-2.new.self.items c.self.inside.early.items c.self.inside.added (vec_capacity c.self.inside.entries)
-    (vec_capacity c.self.inside.returned) (vec_capacity c.reserve.new.self) (vec_capacity c.reserve-2.new.self) c.self.invariant
-    c.reserve.ensures.items c.reserve-2.ensures.items (omega (arith, c.reserve.ensures.capacity)) (omega (arith, c.reserve-2.ensures.capacity))
+    kept-moved (rules_number c.self.inside.rules) c.self.inside.opening c.self.inside.entries.items c.take_room.new.entries.items c.self.inside.present
+    c.self.inside.returned.items c.take_room.new.returned.items c.self.inside.early.items c.self.inside.added (vec_capacity c.self.inside.entries)
+    (vec_capacity c.self.inside.returned) (vec_capacity c.take_room.new.entries) (vec_capacity c.take_room.new.returned) c.self.invariant
+    c.take_room.ensures.items c.take_room.ensures.places c.take_room.ensures.no_less c.take_room.ensures.places_no_less
 
 pub invariant_of-self-2 : goal.invariant_of-self-2
 invariant_of-self-2 c =
@@ -34,15 +30,15 @@ invariant_of-self-2 c =
     let seq : ℕ = c.self.inside.opening.next + c.len.result in
     let e : Entry = maintain_entry seq c.args.session c.max-moment.result in
     let number : seq ≡ c.self.inside.opening.next + length h = omega (arith, c.len.ensures, c.self.inside.entries.ok.0) in
-    let items : c.push.new.self.items ≡ h ++ e ∷ [] = grind arith in
-    let places : c.push-2.new.self.items ≡ c.self.inside.returned.items ++ None ∷ [] = grind arith in
-    let fits : length h + (length (out o (reverse h)) + 1) ≤ vec_capacity c.push.new.self =
-    omega (arith, c.in_ok-reserve.ensures.ok, c.push.ensures.capacity, c.self.invariant.present.tickets, c.self.inside.entries.ok.0) in
-    let fits_too : length h + (length (out o (reverse h)) + 1) ≤ vec_capacity c.push-2.new.self =
+    let items : c.add.new.entries.items ≡ h ++ e ∷ [] = c.add.ensures.items ∙ ap (λ (xs : List Entry). xs ++ e ∷ []) c.take_room.ensures.items in
+    let places : c.add.new.returned.items ≡ c.self.inside.returned.items ++ None ∷ [] = c.add.ensures.places ∙ ap (λ (xs : List (Option ℕ)). xs ++ None ∷ []) c.take_room.ensures.places in
+    let fits : length h + (length (out o (reverse h)) + 1) ≤ vec_capacity c.add.new.entries =
+    omega (arith, c.in_ok-take_room.ensures.room, c.add.ensures.no_less, c.self.invariant.present.tickets, c.self.inside.entries.ok.0) in
+    let fits_too : length h + (length (out o (reverse h)) + 1) ≤ vec_capacity c.add.new.returned =
     omega (
       arith,
-      c.in_ok-reserve-2.ensures.ok,
-      c.push-2.ensures.capacity,
+      c.in_ok-take_room.ensures.places_room,
+      c.add.ensures.places_no_less,
       c.self.invariant.present.tickets,
       c.self.inside.returned.ok.0,
       c.self.invariant.returns.whole,
@@ -61,10 +57,52 @@ invariant_of-self-2 c =
       chosen = c.maintain.ensures.chosen;
     }) in
     let kept : IsKept v o (h ++ e ∷ []) c.maintain.new.self (c.self.inside.returned.items ++ None ∷ []) c.self.inside.early.items
-    (c.self.inside.added + 1) (vec_capacity c.push.new.self) (vec_capacity c.push-2.new.self) =
+    (c.self.inside.added + 1) (vec_capacity c.add.new.entries) (vec_capacity c.add.new.returned) =
     kept-called v o h c.self.inside.present c.maintain.new.self c.self.inside.returned.items c.self.inside.early.items c.self.inside.added
-    (vec_capacity c.self.inside.entries) (vec_capacity c.self.inside.returned) (vec_capacity c.push.new.self) (vec_capacity c.push-2.new.self)
+    (vec_capacity c.self.inside.entries) (vec_capacity c.self.inside.returned) (vec_capacity c.add.new.entries) (vec_capacity c.add.new.returned)
     e c.self.invariant next present refl (λ t. refl) fits fits_too in
-    kept-moved v o (h ++ e ∷ []) c.push.new.self.items c.maintain.new.self (c.self.inside.returned.items ++ None ∷ []) c.push-2.new.self.items
-    c.self.inside.early.items (c.self.inside.added + 1) (vec_capacity c.push.new.self) (vec_capacity c.push-2.new.self)
-    (vec_capacity c.push.new.self) (vec_capacity c.push-2.new.self) kept items places (omega arith) (omega arith)
+    kept-moved v o (h ++ e ∷ []) c.add.new.entries.items c.maintain.new.self (c.self.inside.returned.items ++ None ∷ []) c.add.new.returned.items
+    c.self.inside.early.items (c.self.inside.added + 1) (vec_capacity c.add.new.entries) (vec_capacity c.add.new.returned)
+    (vec_capacity c.add.new.entries) (vec_capacity c.add.new.returned) kept items places (omega arith) (omega arith)
+
+-- It is due; a number is left for it, or it is refused.
+pub returns-then-next-out-gt-MOST_NUMBERS-clause-due : goal.returns-then-next-out-gt-MOST_NUMBERS-clause-due
+returns-then-next-out-gt-MOST_NUMBERS-clause-due c =
+    subst (λ (b : Journal). (due_moment b ≤ entry_moment b c.args.at) × (2 ^ 48 < next_number b + tickets_out b + 1)
+    × IsMarked (next_number b) (tickets_out b) (record { next = c.self.inside.opening.next + c.len.result; out = c.self.inside.present.out })) c.self.view_is (
+      (due_past (rules_number c.self.inside.rules) c.self.inside.opening c.self.inside.entries.items c.self.inside.present c.self.inside.added c.args.at c.max-moment.result
+          c.self.invariant.present (omega (arith, c.max-moment.ensures)) (c.if-not-is_due.ensures.0 refl)),
+      full_past (rules_number c.self.inside.rules) c.self.inside.opening c.self.inside.entries.items c.self.inside.present c.self.inside.added (c.self.inside.opening.next + c.len.result) 1 c.self.invariant.present
+          (omega (arith, c.len.ensures, c.self.inside.entries.ok.0)) (omega (arith, c.if-next-out-gt-MOST_NUMBERS.true)),
+      full_marked (rules_number c.self.inside.rules) c.self.inside.opening c.self.inside.entries.items c.self.inside.present c.self.inside.added (c.self.inside.opening.next + c.len.result) 1 c.self.invariant.present
+          (omega (arith, c.len.ensures, c.self.inside.entries.ok.0)),
+    )
+
+pub returns-in_err-take_room-clause-due : goal.returns-in_err-take_room-clause-due
+returns-in_err-take_room-clause-due c =
+    maintenance_by c.args.self.now c.args.at c.from_residual.result c.from_residual.ensures.0 c.from_residual.ensures.1
+    (subst (λ (b : Journal). due_moment b ≤ entry_moment b c.args.at) c.self.view_is (due_past (rules_number c.self.inside.rules) c.self.inside.opening c.self.inside.entries.items c.self.inside.present c.self.inside.added c.args.at c.max-moment.result
+    c.self.invariant.present (omega (arith, c.max-moment.ensures)) (c.if-not-is_due.ensures.0 refl)))
+    (subst (λ (b : Journal). next_number b + tickets_out b + 1 ≤ 2 ^ 48) c.self.view_is
+    (room_left (rules_number c.self.inside.rules) c.self.inside.opening c.self.inside.entries.items c.self.inside.present c.self.inside.added (c.self.inside.opening.next + c.len.result) 1 c.self.invariant.present
+    (omega (arith, c.len.ensures, c.self.inside.entries.ok.0)) (omega (arith, c.if-next-out-gt-MOST_NUMBERS.false))))
+
+pub returns-clause-due : goal.returns-clause-due
+returns-clause-due c =
+    subst (λ (b : Journal). (due_moment b ≤ entry_moment b c.args.at) × (next_number b + tickets_out b + 1 ≤ 2 ^ 48)) c.self.view_is (
+      (due_past (rules_number c.self.inside.rules) c.self.inside.opening c.self.inside.entries.items c.self.inside.present c.self.inside.added c.args.at c.max-moment.result
+          c.self.invariant.present (omega (arith, c.max-moment.ensures)) (c.if-not-is_due.ensures.0 refl)),
+      room_left (rules_number c.self.inside.rules) c.self.inside.opening c.self.inside.entries.items c.self.inside.present c.self.inside.added (c.self.inside.opening.next + c.len.result) 1 c.self.invariant.present
+          (omega (arith, c.len.ensures, c.self.inside.entries.ok.0)) (omega (arith, c.if-next-out-gt-MOST_NUMBERS.false)),
+    )
+
+pub returns-clause-next : goal.returns-clause-next
+returns-clause-next c =
+    let seq : ℕ = c.self.inside.opening.next + c.len.result in
+    subst (λ (b : Journal). IsNext b.rules b.opening (past_of b) (maintain_entry seq c.args.session c.max-moment.result)) c.self.view_is
+    (next_maintained (rules_number c.self.inside.rules) c.self.inside.opening c.self.inside.entries.items c.self.inside.present seq c.args.session c.max-moment.result
+    c.self.invariant.present (omega (arith, c.len.ensures, c.self.inside.entries.ok.0))
+    (omega (arith, c.max-moment.ensures)) (c.if-not-is_due.ensures.0 refl) (omega (arith, c.if-next-out-gt-MOST_NUMBERS.false)))
+
+pub returns-clause-sound : goal.returns-clause-sound
+returns-clause-sound c = (invariant_of-self-2 c).legal

@@ -1,4 +1,4 @@
-use Rattle.std.proofs.Common.{◌≡◌, ◌+◌, ℕ, true, false, List, [], ◌∷◌, ◌++◌, reverse, None, refl, sym, ◌∙◌, subst, arith}
+use Rattle.std.proofs.Common.{◌≡◌, ◌+◌, ℕ, true, false, List, [], ◌∷◌, ◌++◌, reverse, Option, None, refl, sym, ◌∙◌, subst, ap, arith}
 use Rattle.std.specs.Prelude.{vec_capacity}
 use Rattle.std.proofs.lemmas.Bool.{true≢false}
 use Rattle.jk_model.specs.Legal.{IsLegal, IsNext}
@@ -78,8 +78,9 @@ invariant_of-self c =
     let h : List Entry = c.self.inside.entries.items in
     let seq : ℕ = c.self.inside.opening.next + c.len.result in
     let e : Entry = return_entry seq c.args.session c.max.result c.args.ticket c.args.outcome in
-    let items : c.push.new.self.items ≡ h ++ e ∷ [] = grind arith in
-    let places : c.push-2.new.self.items ≡ kept_noted c.in-Ok.found.0 seq c.self.inside.returned.items ++ None ∷ [] = grind arith in
+    let items : c.add.new.entries.items ≡ h ++ e ∷ [] = c.add.ensures.items in
+    let places : c.add.new.returned.items ≡ kept_noted c.in-Ok.found.0 seq c.self.inside.returned.items ++ None ∷ [] =
+    c.add.ensures.places ∙ ap (λ (xs : List (Option ℕ)). xs ++ None ∷ []) c.note_return.ensures.kept in
     let kept : IsKept (rules_number c.self.inside.rules) c.self.inside.opening (h ++ e ∷ []) c.give_back.new.self
     (kept_noted c.in-Ok.found.0 seq c.self.inside.returned.items ++ None ∷ []) (early_noted c.in-Ok.found.0 seq c.self.inside.early.items)
     (c.self.inside.added + 1) (vec_capacity c.self.inside.entries) (vec_capacity c.self.inside.returned) =
@@ -96,13 +97,13 @@ invariant_of-self c =
       maintained = c.give_back.ensures.maintained;
       chosen = c.give_back.ensures.chosen;
     }) in
-    let at_fields : IsKept (rules_number c.self.inside.rules) c.self.inside.opening c.push.new.self.items c.give_back.new.self
-    c.push-2.new.self.items c.note_return.new.early.items (c.self.inside.added + 1)
+    let at_fields : IsKept (rules_number c.self.inside.rules) c.self.inside.opening c.add.new.entries.items c.give_back.new.self
+    c.add.new.returned.items c.note_return.new.early.items (c.self.inside.added + 1)
     (vec_capacity c.self.inside.entries) (vec_capacity c.self.inside.returned) =
     rw (items, places, c.note_return.ensures.early) kept in
-    kept-wider (rules_number c.self.inside.rules) c.self.inside.opening c.push.new.self.items c.give_back.new.self
-    c.push-2.new.self.items c.note_return.new.early.items (c.self.inside.added + 1) _ _ (vec_capacity c.push.new.self)
-    (vec_capacity c.push-2.new.self) at_fields c.push.ensures.capacity (omega (arith, c.push-2.ensures.capacity, c.note_return.ensures.room))
+    kept-wider (rules_number c.self.inside.rules) c.self.inside.opening c.add.new.entries.items c.give_back.new.self
+    c.add.new.returned.items c.note_return.new.early.items (c.self.inside.added + 1) _ _ (vec_capacity c.add.new.entries)
+    (vec_capacity c.add.new.returned) at_fields c.add.ensures.no_less (omega (arith, c.add.ensures.places_no_less, c.note_return.ensures.room))
 
 pub returns-clause-found : goal.returns-clause-found
 returns-clause-found c = (

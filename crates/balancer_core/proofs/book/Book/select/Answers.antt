@@ -1,15 +1,17 @@
-use Rattle.std.proofs.Common.{◌≡◌, ◌+◌, ◌≤◌, ◌^◌, ℕ, List, [], ◌∷◌, ◌++◌, length, reverse, Option, None, sym, ◌∙◌, subst, arith}
+use Rattle.std.proofs.Common.{◌≡◌, ◌+◌, ◌≤◌, ◌<◌, ◌^◌, ℕ, List, [], ◌∷◌, ◌++◌, length, reverse, Option, None, sym, ◌∙◌, subst, ap, arith}
 use Rattle.std.specs.Prelude.{vec_capacity}
 use Rattle.std.proofs.lemmas.List.{length-reverse}
 use Rattle.jk_model.specs.Tickets.{out}
-use Rattle.jk_model.specs.Legal.{KnowsTerms}
+use Rattle.jk_model.specs.Choice.{IsPick}
+use Rattle.jk_model.specs.Legal.{IsNext, KnowsTerms}
 use Rattle.jk_model.specs.declared.journal.Entry.{Entry}
-use Rattle.balancer_core.specs.Journal.{Journal}
+use Rattle.balancer_core.specs.Journal.{IsMarked, Journal, next_number, past_of, tickets_out}
 use Rattle.choice_index.specs.RuleNumbers.{rules_number}
 use Rattle.balancer_core.specs.Kept.{IsKept}
 use Rattle.choice_index.proofs.PickLaws.{revives-none}
 use Rattle.balancer_core.proofs.ChoiceLaws.{nobody}
-use Rattle.balancer_core.proofs.KeptLaws.{next_is, kept-selected}
+use Rattle.balancer_core.proofs.KeptLaws.{next_is, next_selected, kept-moved, kept-selected}
+use Rattle.balancer_core.proofs.RoomLaws.{full_by, full_marked, full_past, room_left}
 use Rattle.balancer_core.proofs.StepLaws.{select_entry}
 use Rattle.balancer_core.proofs.book.Book.select.Goals as goal
 
@@ -19,40 +21,47 @@ select-requires-clause-revival c = λ none_chosen.
     ∙ revives-none c.self.inside.present.rows.items c.args.ask.now (rules_number c.self.inside.rules) nobody
     c.pick-choice.result.answer none_chosen
 
+pub invariant_of-self : goal.invariant_of-self
+invariant_of-self c =
+    kept-moved (rules_number c.self.inside.rules) c.self.inside.opening c.self.inside.entries.items c.take_room.new.entries.items c.self.inside.present
+    c.self.inside.returned.items c.take_room.new.returned.items c.self.inside.early.items c.self.inside.added (vec_capacity c.self.inside.entries)
+    (vec_capacity c.self.inside.returned) (vec_capacity c.take_room.new.entries) (vec_capacity c.take_room.new.returned) c.self.invariant
+    c.take_room.ensures.items c.take_room.ensures.places c.take_room.ensures.no_less c.take_room.ensures.places_no_less
+
 pub invariant_of-self-2 : goal.invariant_of-self-2
 invariant_of-self-2 c =
     let h : List Entry = c.self.inside.entries.items in
     let seq : ℕ = c.self.inside.opening.next + c.len.result in
     let number : seq ≡ c.self.inside.opening.next + length h = omega (arith, c.len.ensures, c.self.inside.entries.ok.0) in
     let e : Entry = select_entry seq c.args.session c.max.result c.args.ask.now c.pick-choice.result.answer in
-    let items : c.push.new.self.items ≡ h ++ e ∷ [] = grind arith in
-    let places : c.push-2.new.self.items ≡ c.self.inside.returned.items ++ None ∷ [] = grind arith in
+    let items : c.add.new.entries.items ≡ h ++ e ∷ [] = c.add.ensures.items ∙ ap (λ (xs : List Entry). xs ++ e ∷ []) c.take_room.ensures.items in
+    let places : c.add.new.returned.items ≡ c.self.inside.returned.items ++ None ∷ [] = c.add.ensures.places ∙ ap (λ (xs : List (Option ℕ)). xs ++ None ∷ []) c.take_room.ensures.places in
     let terms : KnowsTerms (rules_number c.self.inside.rules) c.args.ask.now =
     subst (λ (b : Journal). KnowsTerms b.rules c.args.ask.now) (sym c.self.view_is) c.requires in
     let room : seq + length (out c.self.inside.opening (reverse h)) + 2 ≤ 2 ^ 48 =
     omega (arith, c.if-next-out-gt-MOST_NUMBERS.false, c.self.invariant.present.tickets) in
-    let fits : length h + (length (out c.self.inside.opening (reverse h)) + 2) ≤ vec_capacity c.push.new.self =
-    omega (arith, c.in_ok-reserve.ensures.ok, c.push.ensures.capacity, c.self.invariant.present.tickets, c.self.inside.entries.ok.0) in
-    let fits_too : length h + (length (out c.self.inside.opening (reverse h)) + 2) ≤ vec_capacity c.push-2.new.self =
+    let fits : length h + (length (out c.self.inside.opening (reverse h)) + 2) ≤ vec_capacity c.add.new.entries =
+    omega (arith, c.in_ok-take_room.ensures.room, c.add.ensures.no_less, c.self.invariant.present.tickets, c.self.inside.entries.ok.0) in
+    let fits_too : length h + (length (out c.self.inside.opening (reverse h)) + 2) ≤ vec_capacity c.add.new.returned =
     omega (
       arith,
-      c.in_ok-reserve-2.ensures.ok,
-      c.push-2.ensures.capacity,
+      c.in_ok-take_room.ensures.places_room,
+      c.add.ensures.places_no_less,
       c.self.invariant.present.tickets,
       c.self.inside.returned.ok.0,
       c.self.invariant.returns.whole,
       length-reverse h,
     ) in
     subst (λ (xs : List Entry). IsKept (rules_number c.self.inside.rules) c.self.inside.opening xs c.select.new.self
-    c.push-2.new.self.items c.self.inside.early.items (c.self.inside.added + 1) (vec_capacity c.push.new.self) (vec_capacity c.push-2.new.self))
+    c.add.new.returned.items c.self.inside.early.items (c.self.inside.added + 1) (vec_capacity c.add.new.entries) (vec_capacity c.add.new.returned))
     (sym items)
     (subst (λ (ys : List (Option ℕ)). IsKept (rules_number c.self.inside.rules) c.self.inside.opening (h ++ e ∷ []) c.select.new.self
-    ys c.self.inside.early.items (c.self.inside.added + 1) (vec_capacity c.push.new.self) (vec_capacity c.push-2.new.self))
+    ys c.self.inside.early.items (c.self.inside.added + 1) (vec_capacity c.add.new.entries) (vec_capacity c.add.new.returned))
     (sym places)
     (kept-selected (rules_number c.self.inside.rules) c.self.inside.opening h c.self.inside.present c.self.inside.returned.items
     c.self.inside.early.items c.self.inside.added (vec_capacity c.self.inside.entries) (vec_capacity c.self.inside.returned) c.self.invariant
     seq c.args.session c.max.result c.args.ask.now c.pick-choice.result.answer c.pick-choice.result.revives c.select.new.self
-    (vec_capacity c.push.new.self) (vec_capacity c.push-2.new.self) number (omega (arith, c.max.ensures)) room
+    (vec_capacity c.add.new.entries) (vec_capacity c.add.new.returned) number (omega (arith, c.max.ensures)) room
     (c.pick-choice.ensures.pick (reverse h) c.self.invariant.present (number ∙ next_is c.self.inside.opening h)) terms
     (c.pick-choice.ensures.revives nobody) c.pick-choice.ensures.room
     (record {
@@ -67,3 +76,52 @@ invariant_of-self-2 c =
 
 pub returns-clause-sound : goal.returns-clause-sound
 returns-clause-sound c = (invariant_of-self-2 c).legal
+
+-- A number for the entry, and one for its Return.
+pub returns-then-next-out-gt-MOST_NUMBERS-clause-full : goal.returns-then-next-out-gt-MOST_NUMBERS-clause-full
+returns-then-next-out-gt-MOST_NUMBERS-clause-full c =
+    subst (λ (b : Journal). (2 ^ 48 < next_number b + tickets_out b + 2) × IsMarked (next_number b) (tickets_out b)
+    (record { next = c.self.inside.opening.next + c.len.result; out = c.self.inside.present.out })) c.self.view_is (
+      full_past (rules_number c.self.inside.rules) c.self.inside.opening c.self.inside.entries.items c.self.inside.present c.self.inside.added (c.self.inside.opening.next + c.len.result) 2 c.self.invariant.present
+          (omega (arith, c.len.ensures, c.self.inside.entries.ok.0)) (omega (arith, c.if-next-out-gt-MOST_NUMBERS.true)),
+      full_marked (rules_number c.self.inside.rules) c.self.inside.opening c.self.inside.entries.items c.self.inside.present c.self.inside.added (c.self.inside.opening.next + c.len.result) 2 c.self.invariant.present
+          (omega (arith, c.len.ensures, c.self.inside.entries.ok.0)),
+    )
+
+pub returns-in_err-take_room-clause-full : goal.returns-in_err-take_room-clause-full
+returns-in_err-take_room-clause-full c =
+    full_by (next_number c.args.self.now) (tickets_out c.args.self.now) 2 c.from_residual.result c.from_residual.ensures.0 c.from_residual.ensures.1
+    (subst (λ (b : Journal). next_number b + tickets_out b + 2 ≤ 2 ^ 48) c.self.view_is
+    (room_left (rules_number c.self.inside.rules) c.self.inside.opening c.self.inside.entries.items c.self.inside.present c.self.inside.added (c.self.inside.opening.next + c.len.result) 2 c.self.invariant.present
+    (omega (arith, c.len.ensures, c.self.inside.entries.ok.0)) (omega (arith, c.if-next-out-gt-MOST_NUMBERS.false))))
+
+pub returns-clause-full : goal.returns-clause-full
+returns-clause-full c =
+    subst (λ (b : Journal). next_number b + tickets_out b + 2 ≤ 2 ^ 48) c.self.view_is
+    (room_left (rules_number c.self.inside.rules) c.self.inside.opening c.self.inside.entries.items c.self.inside.present c.self.inside.added (c.self.inside.opening.next + c.len.result) 2 c.self.invariant.present
+    (omega (arith, c.len.ensures, c.self.inside.entries.ok.0)) (omega (arith, c.if-next-out-gt-MOST_NUMBERS.false)))
+
+pub returns-clause-pick : goal.returns-clause-pick
+returns-clause-pick c =
+    let h : List Entry = c.self.inside.entries.items in
+    let number : (c.self.inside.opening.next + c.len.result) ≡ c.self.inside.opening.next + length h = omega (arith, c.len.ensures, c.self.inside.entries.ok.0) in
+    subst (λ (b : Journal). IsPick b.rules b.opening (past_of b) c.args.ask.now c.pick-choice.result.answer) c.self.view_is
+    (c.pick-choice.ensures.pick (reverse h) c.self.invariant.present (number ∙ next_is c.self.inside.opening h))
+
+pub returns-clause-next : goal.returns-clause-next
+returns-clause-next c =
+    let h : List Entry = c.self.inside.entries.items in
+    let seq : ℕ = c.self.inside.opening.next + c.len.result in
+    let number : seq ≡ c.self.inside.opening.next + length h = omega (arith, c.len.ensures, c.self.inside.entries.ok.0) in
+    let terms : KnowsTerms (rules_number c.self.inside.rules) c.args.ask.now =
+    subst (λ (b : Journal). KnowsTerms b.rules c.args.ask.now) (sym c.self.view_is) c.requires in
+    let room : seq + length (out c.self.inside.opening (reverse h)) + 2 ≤ 2 ^ 48 =
+    omega (arith, c.if-next-out-gt-MOST_NUMBERS.false, c.self.invariant.present.tickets) in
+    let next : IsNext (rules_number c.self.inside.rules) c.self.inside.opening (reverse h)
+    (select_entry seq c.args.session c.max.result c.args.ask.now c.pick-choice.result.answer) =
+    next_selected (rules_number c.self.inside.rules) c.self.inside.opening h c.self.inside.present c.self.inside.returned.items
+    c.self.inside.early.items c.self.inside.added (vec_capacity c.self.inside.entries) (vec_capacity c.self.inside.returned) c.self.invariant
+    seq c.args.session c.max.result c.args.ask.now c.pick-choice.result.answer number (omega (arith, c.max.ensures)) room
+    (c.pick-choice.ensures.pick (reverse h) c.self.invariant.present (number ∙ next_is c.self.inside.opening h)) terms in
+    subst (λ (b : Journal). IsNext b.rules b.opening (past_of b)
+    (select_entry seq c.args.session c.max.result c.args.ask.now c.pick-choice.result.answer)) c.self.view_is next

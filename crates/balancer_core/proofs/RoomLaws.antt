@@ -1,0 +1,45 @@
+-- What is answered for want of numbers, and where a maintenance is due, over what a Book keeps.
+use Rattle.std.proofs.Common.{◌≡◌, ℕ, ◌+◌, ◌<◌, ◌≤◌, ◌^◌, List, length, reverse, Option, Some, Ok, Err, sym, ◌∙◌, subst, arith}
+use Rattle.std.specs.Prelude.{Result, max}
+use Rattle.std.specs.Result.{IsErr, IsErrAnd}
+use Rattle.jk_model.specs.declared.journal.Entry.{Entry}
+use Rattle.jk_model.specs.declared.opening.Opening.{Opening}
+use Rattle.jk_model.specs.declared.refusal.FullMark.{FullMark}
+use Rattle.jk_model.specs.declared.refusal.RoomError.{RoomError}
+use Rattle.jk_model.specs.declared.refusal.RoomError.TheVariants as Room
+use Rattle.balancer_core.specs.declared.present.Present.{Present}
+use Rattle.balancer_core.specs.Due.{IsMaintenance, due_moment, entry_moment}
+use Rattle.balancer_core.specs.Journal.{IsFullUnless, IsMarked, Journal, next_number, tickets_out}
+use Rattle.balancer_core.specs.Kept.{IsNow}
+use Rattle.balancer_core.proofs.AdminLaws.{journal_of}
+use Rattle.balancer_core.proofs.KeptLaws.{next_is}
+
+module _ (v : ℕ) (o : Opening) (h : List Entry) (now : Present) (added seq more : ℕ) (is : IsNow v o (reverse h) now) (number : seq ≡ o.next + length h) where
+  -- The numbers of a refusal.
+  pub full_marked : IsMarked (next_number (journal_of v o h added)) (tickets_out (journal_of v o h added)) (record { next = seq; out = now.out })
+  full_marked = (number ∙ next_is o h, is.tickets)
+
+  -- So many numbers are wanted, or are left.
+  pub full_past : 2 ^ 48 < seq + now.out + more → 2 ^ 48 < next_number (journal_of v o h added) + tickets_out (journal_of v o h added) + more
+  full_past full = omega (arith, number, next_is o h, is.tickets, full)
+
+  pub room_left : seq + now.out + more ≤ 2 ^ 48 → next_number (journal_of v o h added) + tickets_out (journal_of v o h added) + more ≤ 2 ^ 48
+  room_left room = omega (arith, number, next_is o h, is.tickets, room)
+
+-- A maintenance is due.
+pub due_past : (v : ℕ) (o : Opening) (h : List Entry) (now : Present) (added at moment : ℕ) → IsNow v o (reverse h) now → moment ≡ max at now.at
+    → now.maintained + o.config.maintain ≤ moment → due_moment (journal_of v o h added) ≤ entry_moment (journal_of v o h added) at
+due_past v o h now added at moment is later due = omega (arith, is.maintained, is.moment, later, due)
+
+-- Want of memory is a refusal where there are numbers.
+pub full_by : {T : Type 0} (next out more : ℕ) (r : Result T (RoomError FullMark)) → IsErr r → IsErrAnd r (λ e. e ≡ Room.NoMemory)
+    → next + out + more ≤ 2 ^ 48 → IsFullUnless next out more r
+full_by {T} next out more (Ok x) fails same room = room
+full_by {T} next out more (Err e) fails same room =
+    subst (λ (y : RoomError FullMark). IsFullUnless {T = T} next out more (Err y)) (sym same) room
+
+pub maintenance_by : (b : Journal) (at : ℕ) (r : Result (Option Entry) (RoomError FullMark)) → IsErr r → IsErrAnd r (λ e. e ≡ Room.NoMemory)
+    → due_moment b ≤ entry_moment b at → next_number b + tickets_out b + 1 ≤ 2 ^ 48 → IsMaintenance b at r
+maintenance_by b at (Ok x) fails same due room = cc
+maintenance_by b at (Err e) fails same due room =
+    subst (λ (y : RoomError FullMark). IsMaintenance b at (Err y)) (sym same) (due, room)
