@@ -1,5 +1,5 @@
 //! The reader of a text: where it stands, and what each line makes of that.
-ghost use Rattle.std.specs.Prelude.{◌≡◌, [], ◌∷◌, ◌++◌, ◌+◌, ◌≤◌, ◌<◌, ◌^◌, true, false, All, length, IfNone, IfOk, IfSome, MatchOption};
+ghost use Rattle.std.specs.Prelude.{◌≡◌, [], ◌∷◌, ◌++◌, ◌+◌, ◌≤◌, ◌<◌, ◌^◌, None, true, false, All, length, IfNone, IfOk, IfSome, MatchOption};
 ghost use Rattle.jk_model.specs.Segments.{AreRules};
 ghost use Rattle.journal_lines.specs.Ranges.{IsKeptLine};
 ghost use Rattle.jk_model.specs.Segments.{AreKeptEntries};
@@ -264,7 +264,20 @@ impl Reader {
         ensures takes { IfOk result (TakesText self text.now) }
         ensures grown { IfOk result (λ found. IfSome found (λ q. held q.place ≤ held self.place + 1)) }
     {
-        match read_line(alloc, self.rules, text)? {
+        let read = read_line(alloc, self.rules, text)?;
+        self.take_read(alloc, read)
+    }
+
+    // Takes what a text was read as.
+    fn take_read(self, alloc: Global, read: Option<Line>) -> Result<Option<Reader>, NoMemory>
+        requires few { held self.place < 2 ^ 32 }
+        requires kept { IfSome read (IsKeptLine self.rules) }
+        requires sound { IsSound self }
+        ensures sound { IfOk result (λ found. IfSome found IsSound) }
+        ensures takes { IfOk result (λ found. MatchOption read (found ≡ None) (λ line. TakesAt self self.place line found)) }
+        ensures grown { IfOk result (λ found. IfSome found (λ q. held q.place ≤ held self.place + 1)) }
+    {
+        match read {
             None => Ok(None),
             Some(line) => self.take(alloc, line),
         }
@@ -276,16 +289,17 @@ impl Reader {
         ensures sound { IfSome result (All IsKept) }
         ensures value { MatchOption result (is_end self last.now ≡ false) (λ done. (is_end self last.now ≡ true) × (done ≡ self.done)) }
     {
-        let Reader {
-            rules: _,
-            place,
-            done,
-        } = self;
-        if last.is_empty() && matches!(&place, Place::Outside) && !done.is_empty() {
-            Some(done)
+        if self.is_over(last) && !self.done.is_empty() {
+            Some(self.into_done())
         } else {
             None
         }
+    }
+
+    fn into_done(self) -> CountedList
+        ensures { result ≡ self.done }
+    {
+        self.done
     }
 
     /// Takes the last segment out that was read, where there is one.

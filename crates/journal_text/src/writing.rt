@@ -54,6 +54,20 @@ pub fn beginning(opening: &Opening) -> Beginning
     }
 }
 
+fn put_rules_line(out: &mut Bytes, rules: u8) -> Result<(), NoMemory>
+    ensures { OnOk result (out.new ≡ out.old ++ lines_text rules (line.Rules rules ∷ [])) }
+{
+    put_rules(out, rules)?;
+    out.push(b'\n')
+}
+
+fn put_end_line(out: &mut Bytes, rules: u8, count: u64) -> Result<(), NoMemory>
+    ensures { OnOk result (out.new ≡ out.old ++ lines_text rules (line.End count ∷ [])) }
+{
+    put_end(out, count)?;
+    out.push(b'\n')
+}
+
 fn put_balancer_line(
     out: &mut Bytes,
     rules: u8,
@@ -134,16 +148,20 @@ fn put_entries(out: &mut Bytes, rules: u8, entries: &[Entry]) -> Result<(), NoMe
     Ok(())
 }
 
+fn put_segment(out: &mut Bytes, name: &[u8], segment: &Segment) -> Result<(), NoMemory>
+    ensures { OnOk result (out.new ≡ out.old ++ segment_text name.now segment.now) }
+{
+    put_rules_line(out, segment.rules)?;
+    put_opening(out, segment.rules, name, &segment.opening)?;
+    put_entries(out, segment.rules, segment.entries.as_slice())?;
+    put_end_line(out, segment.rules, segment.entries.len() as u64)
+}
+
 /// The text of a segment of the balancer with this name.
 pub fn write_segment(name: &[u8], segment: &Segment) -> Result<Bytes, NoMemory>
     ensures { IfOk result (λ text. text ≡ segment_text name.now segment.now) }
 {
     let mut text = Bytes::new(segment.entries.allocator());
-    put_rules(&mut text, segment.rules)?;
-    text.push(b'\n')?;
-    put_opening(&mut text, segment.rules, name, &segment.opening)?;
-    put_entries(&mut text, segment.rules, segment.entries.as_slice())?;
-    put_end(&mut text, segment.entries.len() as u64)?;
-    text.push(b'\n')?;
+    put_segment(&mut text, name, segment)?;
     Ok(text)
 }
