@@ -1,21 +1,26 @@
 -- What a request is answered with by its status worker.
-use Rattle.std.proofs.Common.{◌≡◌, ◌<◌, ℕ, Bool, get_or, [], ◌∷◌, Some, Ok, Err, refl, sym, subst, inr, ap, ◌∙◌, length}
+use Rattle.std.proofs.Common.{◌≡◌, ◌<◌, ◌≤◌, ℕ, Bool, List, get_or, [], ◌∷◌, Option, IsSome, Some, Ok, Err, refl, sym, subst, inl, inr, ap, ◌∙◌, length, arith}
 use Rattle.std.proofs.lemmas.Option.{slice_get_read}
+use Rattle.jk_io.specs.Moments.{Moment}
 use Rattle.jk_model.specs.declared.served.Asked.{Asked}
 use Rattle.jk_model.specs.declared.served.Asked.TheVariants as asked
 use Rattle.jk_model.specs.declared.served.Served.{Served}
 use Rattle.http_front.specs.declared.head.Head.{Head}
 use Rattle.http_body_in.specs.declared.body.BodyIn.{BodyIn}
+use Rattle.site_config.specs.declared.config.Named.{Named}
 use Rattle.site_config.specs.declared.config.Named.TheVariants as named
 use Rattle.site_config.specs.declared.config.Status.{Status}
 use Rattle.balancer_core.specs.Desks.{DeskState, MeetsNone}
+use Rattle.status_worker.proofs.DeskLaws.{none_met}
 use Rattle.exchange.specs.Requests.{is_head}
-use Rattle.client_session.specs.Answers.{IsAnswerAt, IsAtStatus, IsStatusAnswer}
-use Rattle.client_session.specs.Concluding.{IsKnownStop, rows_of, settled_by}
-use Rattle.client_session.specs.Requests.{Visit, mounted_at}
+use Rattle.client_session.specs.Answers.{IsAnswer, IsAnswerAt, IsAtStatus, IsStatusAnswer, StopsEarly}
+use Rattle.client_session.specs.Concluding.{IsKnownStop, rows_of, settled_by, stopped_by}
+use Rattle.client_session.specs.Ends.{MeetsBy, RisesBy, end_of}
+use Rattle.client_session.specs.Requests.{Visit, continue_for, mounted_at}
 use Rattle.client_session.specs.Rows.{worker_row}
 use Rattle.client_session.specs.Standings.{Standing}
 use Rattle.client_session.specs.Turns.{MeetsInAnswer, RisesInAnswer}
+use Rattle.client_session.specs.Writing.{BreaksOff}
 use Rattle.client_session.specs.declared.ending.Stop.{Stop}
 use Rattle.client_session.specs.declared.ending.Stop.TheVariants as stop
 use Rattle.client_session.specs.declared.ending.Why.TheVariants as why
@@ -113,3 +118,59 @@ stop_meets v head last s n status stop' asked' settled old new answer is met =
     by_stop stop.Truncated a = met
     by_stop (stop.Stray ticket returned_at) a = absurd a
     by_stop stop.NoMemory a = met
+
+-- ---- a mounted request that came to its end before its worker was asked
+
+early_stop : (v : Visit) (head : Head) (s n : Standing) (worker : Named) (stop' : Stop) → mounted_at v head ≡ Some worker → n ≡ record s { client = n.client }
+    → BreaksOff (continue_for head) s.client n.client stop' → StopsEarly v head s n (answered.Not stop') []
+early_stop v head s n worker stop' mounted alone (inl wanted) =
+    subst (λ (x : Stop). StopsEarly v head s n (answered.Not x) []) (sym wanted.0)
+    (refl, inl (alone ∙ ap (λ (m : Moment). record s { client = m }) wanted.1))
+early_stop v head s n worker (stop.Closed w) mounted alone (inr writes) = absurd writes
+early_stop v head s n worker stop.ClientFault mounted alone (inr writes) =
+    (refl, writes.0, inr (subst (λ (o : Option Named). IsSome o) (sym mounted) refl, record { puts = writes.1; alone = alone }))
+early_stop v head s n worker stop.Truncated mounted alone (inr writes) = absurd writes
+early_stop v head s n worker (stop.Stray ticket returned_at) mounted alone (inr writes) = absurd writes
+early_stop v head s n worker stop.NoMemory mounted alone (inr writes) =
+    (refl, inr (inr (subst (λ (o : Option Named). IsSome o) (sym mounted) refl, record { puts = writes; alone = alone })))
+
+pub answers_early : (v : Visit) (head : Head) (last : Bool) (s n : Standing) (body : BodyIn) (worker : Named) (stop' : Stop) (settled : Settled)
+    → mounted_at v head ≡ Some worker → n ≡ record s { client = n.client } → BreaksOff (continue_for head) s.client n.client stop' → settled ≡ stopped_by stop'
+    → IsAnswer v head last s n body body settled.answered (rows_of settled.row)
+answers_early v head last s n body worker stop' settled mounted alone broken is =
+    subst (λ (x : Settled). IsAnswer v head last s n body body x.answered (rows_of x.row)) (sym is)
+    (inl (early_stop v head s n worker stop' mounted alone broken))
+
+meets_early_by : (bytes : List ℕ) (s n : Moment) (stop' : Stop) (desk : DeskState) → BreaksOff bytes s n stop' → MeetsBy (end_of stop' 0) desk desk
+meets_early_by bytes s n stop' desk (inl wanted) = subst (λ (x : Stop). MeetsBy (end_of x 0) desk desk) (sym wanted.0) (none_met desk)
+meets_early_by bytes s n (stop.Closed w) desk (inr writes) = absurd writes
+meets_early_by bytes s n stop.ClientFault desk (inr writes) = none_met desk
+meets_early_by bytes s n stop.Truncated desk (inr writes) = absurd writes
+meets_early_by bytes s n (stop.Stray ticket returned_at) desk (inr writes) = absurd writes
+meets_early_by bytes s n stop.NoMemory desk (inr writes) = none_met desk
+
+pub meets_early : (bytes : List ℕ) (s n : Moment) (stop' : Stop) (settled : Settled) (desk : DeskState) → BreaksOff bytes s n stop' → settled ≡ stopped_by stop'
+    → MeetsInAnswer settled.answered desk desk
+meets_early bytes s n stop' settled desk broken is =
+    subst (λ (x : Settled). MeetsInAnswer x.answered desk desk) (sym is) (meets_early_by bytes s n stop' desk broken)
+
+rises_early_by : (bytes : List ℕ) (s n : Moment) (stop' : Stop) → BreaksOff bytes s n stop' → RisesBy (end_of stop' 0) s.faults n.faults
+rises_early_by bytes s n stop' (inl wanted) = subst (λ (x : Stop). RisesBy (end_of x 0) s.faults n.faults) (sym wanted.0) tt
+rises_early_by bytes s n (stop.Closed w) (inr writes) = absurd writes
+rises_early_by bytes s n stop.ClientFault (inr writes) = writes.0
+rises_early_by bytes s n stop.Truncated (inr writes) = absurd writes
+rises_early_by bytes s n (stop.Stray ticket returned_at) (inr writes) = absurd writes
+rises_early_by bytes s n stop.NoMemory (inr writes) = tt
+
+pub rises_early : (bytes : List ℕ) (s n : Moment) (stop' : Stop) (settled : Settled) → BreaksOff bytes s n stop' → settled ≡ stopped_by stop'
+    → RisesInAnswer settled.answered s.faults n.faults
+rises_early bytes s n stop' settled broken is =
+    subst (λ (x : Settled). RisesInAnswer x.answered s.faults n.faults) (sym is) (rises_early_by bytes s n stop' broken)
+
+pub no_fewer_early : (bytes : List ℕ) (s n : Moment) (stop' : Stop) → BreaksOff bytes s n stop' → s.faults ≤ n.faults
+no_fewer_early bytes s n stop' (inl wanted) = subst (λ (m : Moment). s.faults ≤ m.faults) (sym wanted.1) (omega arith)
+no_fewer_early bytes s n (stop.Closed w) (inr writes) = absurd writes
+no_fewer_early bytes s n stop.ClientFault (inr writes) = writes.1.no_fewer
+no_fewer_early bytes s n stop.Truncated (inr writes) = absurd writes
+no_fewer_early bytes s n (stop.Stray ticket returned_at) (inr writes) = absurd writes
+no_fewer_early bytes s n stop.NoMemory (inr writes) = writes.no_fewer

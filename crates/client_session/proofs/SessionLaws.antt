@@ -1,20 +1,27 @@
 -- Requests one after the other, and the session's end.
 use Rattle.std.proofs.Common.{◌≡◌, ◌≤◌, ℕ, suc, ◌+◌, List, [], ◌∷◌, ◌++◌, false, refl, sym, subst, inl, inr, ap, ◌∙◌, arith, IfSome, Option}
+use Rattle.std.specs.Prelude.{Err, IsErrOf}
 use Rattle.std.proofs.lemmas.List.{append_assoc, append-nil}
 use Rattle.jk_io.specs.Moments.{Moment}
-use Rattle.jk_io.specs.Told.{Rose}
+use Rattle.jk_io.specs.Told.{IsEmpty, Rose}
 use Rattle.jk_io.specs.declared.reaching.Beside.{Beside}
 use Rattle.jk_model.specs.declared.served.Served.{Served}
+use Rattle.http_front.specs.Answer.{IfRefused, IsCalm}
 use Rattle.http_front.specs.Refusal.{status_of}
+use Rattle.http_front.specs.Request.{EndsWithin, Refuses}
 use Rattle.http_front.specs.declared.answers.Form.{Form}
+use Rattle.http_front.specs.declared.answers.HeadError.{HeadError}
+use Rattle.http_front.specs.declared.answers.HeadError.TheVariants as error
+use Rattle.http_front.specs.declared.answers.HeadGot.{HeadGot}
 use Rattle.balancer_core.specs.Desks.{DeskState}
+use Rattle.status_worker.proofs.DeskLaws.{none_met}
 use Rattle.status_worker.specs.Desks.{KeepsTickets}
-use Rattle.client_session.specs.Ends.{RisesBy, end_of}
-use Rattle.client_session.specs.Finishing.{RefusesHead}
+use Rattle.client_session.specs.Ends.{MeetsBy, RisesBy, end_of}
+use Rattle.client_session.specs.Finishing.{RefusesHead, StopsWithoutHead}
 use Rattle.client_session.specs.Ready.{IsReady}
 use Rattle.client_session.specs.Requests.{Visit}
-use Rattle.client_session.specs.Sessions.{EndsIn, HaveServed, IsSession, ReadsRefused, refused_row}
-use Rattle.client_session.specs.Standings.{Standing}
+use Rattle.client_session.specs.Sessions.{EndsIn, HaveServed, IsSession, ReadsEnd, ReadsRefused, refused_row}
+use Rattle.client_session.specs.Standings.{IsClientAlone, Standing, StopsReading, unread_at}
 use Rattle.client_session.specs.Turns.{Turns}
 use Rattle.client_session.specs.declared.ending.SessionEnd.{SessionEnd}
 use Rattle.client_session.specs.declared.ending.SessionEnd.TheVariants as session_end
@@ -66,6 +73,100 @@ refuses v number s read n form rows rows' stop.NoMemory reads alone (inr written
   nothing_added rows rows' written.1,
   inl (refl, inr (inl (record { read = read; form = form; reads = reads; begun = record { puts = written.0; alone = alone } }))),
 )
+
+refused_meets : (form : Form) (s n : Moment) (rows rows' : List Served) (stop' : Stop) (desk : DeskState) → RefusesHead form s n rows rows' stop'
+    → MeetsBy (end_of stop' 0) desk desk
+refused_meets form s n rows rows' stop' desk (inl wanted) = subst (λ (x : Stop). MeetsBy (end_of x 0) desk desk) (sym wanted.0) (none_met desk)
+refused_meets form s n rows rows' (stop.Closed w) desk (inr written) = none_met desk
+refused_meets form s n rows rows' stop.ClientFault desk (inr written) = none_met desk
+refused_meets form s n rows rows' stop.Truncated desk (inr written) = none_met desk
+refused_meets form s n rows rows' (stop.Stray ticket returned_at) desk (inr written) = absurd written.0
+refused_meets form s n rows rows' stop.NoMemory desk (inr written) = none_met desk
+
+refused_rises : (form : Form) (first : ℕ) (s n : Moment) (rows rows' : List Served) (stop' : Stop) → s.faults ≡ first → RefusesHead form s n rows rows' stop'
+    → RisesBy (end_of stop' 0) first n.faults
+refused_rises form first s n rows rows' stop' steady (inl wanted) = subst (λ (x : Stop). RisesBy (end_of x 0) first n.faults) (sym wanted.0) tt
+refused_rises form first s n rows rows' (stop.Closed w) steady (inr written) = tt
+refused_rises form first s n rows rows' stop.ClientFault steady (inr written) = rose_since _ _ _ steady written.0.0
+refused_rises form first s n rows rows' stop.Truncated steady (inr written) = tt
+refused_rises form first s n rows rows' (stop.Stray ticket returned_at) steady (inr written) = tt
+refused_rises form first s n rows rows' stop.NoMemory steady (inr written) = tt
+
+refused_no_fewer : (form : Form) (s n : Moment) (rows rows' : List Served) (stop' : Stop) → RefusesHead form s n rows rows' stop' → s.faults ≤ n.faults
+refused_no_fewer form s n rows rows' stop' (inl wanted) = subst (λ (m : Moment). s.faults ≤ m.faults) (sym wanted.1) (omega arith)
+refused_no_fewer form s n rows rows' (stop.Closed why.ByClient) (inr written) = absurd written.0
+refused_no_fewer form s n rows rows' (stop.Closed why.Last) (inr written) = absurd written.0
+refused_no_fewer form s n rows rows' (stop.Closed (why.Own code)) (inr written) = omega (arith, written.0.1.steady)
+refused_no_fewer form s n rows rows' (stop.Closed why.Cut) (inr written) = absurd written.0
+refused_no_fewer form s n rows rows' (stop.Closed why.Unread) (inr written) = absurd written.0
+refused_no_fewer form s n rows rows' stop.ClientFault (inr written) = written.0.1.no_fewer
+refused_no_fewer form s n rows rows' stop.Truncated (inr written) = absurd written.0
+refused_no_fewer form s n rows rows' (stop.Stray ticket returned_at) (inr written) = absurd written.0
+refused_no_fewer form s n rows rows' stop.NoMemory (inr written) = written.0.no_fewer
+
+-- ---- no head
+
+-- No head was read, for this reason, and none of the client's bytes was used.
+pub record ReadsNoHead (s read : Standing) (e : HeadError) : Type 0 where
+  pub alone : IsClientAlone s read
+  pub sent : read.client.sent ≡ s.client.sent
+  pub unused : unread_at read ≡ unread_at s
+  pub no_fewer : s.client.faults ≤ read.client.faults
+  pub refused : IfRefused (Err e) (λ status form. (status ≡ status_of form) × Refuses read.inbox form)
+  pub truncated : IsErrOf {T = HeadGot} (Err e) error.Truncated → EndsWithin read.inbox × IsEmpty read.client.incoming
+  pub fault : IsErrOf {T = HeadGot} (Err e) error.Fault → Rose s.client.faults read.client.faults
+  pub steady : IsCalm {T = HeadGot} (Err e) → read.client.faults ≡ s.client.faults
+
+stays : (s read : Standing) (e : HeadError) → ReadsNoHead s read e → StopsReading s read
+stays s read e reads = record { alone = reads.alone; sent = reads.sent; unused = reads.unused; no_fewer = reads.no_fewer }
+
+ends_there : (v : Visit) (number : ℕ) (s read n : Standing) (rows rows' : List Served) (stop' x : Stop) → n ≡ record read { client = n.client }
+    → (stop' ≡ x) × (n.client ≡ read.client) × (rows' ≡ rows) → EndsIn v number s read [] (end_of x number) → Turns v number s n rows rows' (turn.EndsAt stop')
+ends_there v number s read n rows rows' stop' x alone stops why' =
+    subst (λ (m : Standing). Turns v number s m rows rows' (turn.EndsAt stop')) (sym (same_again read n alone stops.1))
+    (subst (λ (y : Stop). Turns v number s read rows rows' (turn.EndsAt y)) (sym stops.0) ([], nothing_added rows rows' stops.2, why'))
+
+pub without_head : (v : Visit) (number : ℕ) (s read n : Standing) (e : HeadError) (rows rows' : List Served) (stop' : Stop) → ReadsNoHead s read e
+    → n ≡ record read { client = n.client } → StopsWithoutHead e read.client n.client rows rows' stop' → Turns v number s n rows rows' (turn.EndsAt stop')
+without_head v number s read n (error.Refused status form) rows rows' stop' reads alone stops =
+    refuses v number s read n form rows rows' stop'
+    (record { refused = reads.refused.1; unused = reads.unused; on = record { alone = reads.alone; sent = reads.sent; steady = reads.steady tt } }) alone stops
+without_head v number s read n error.Truncated rows rows' stop' reads alone stops =
+    let cut = reads.truncated refl in
+    ends_there v number s read n rows rows' stop' stop.Truncated alone stops
+    (inl (refl, refl, inl (record { within = cut.0; over = cut.1; unused = reads.unused; on = record { alone = reads.alone; sent = reads.sent; steady = reads.steady tt } })))
+without_head v number s read n error.Fault rows rows' stop' reads alone stops =
+    ends_there v number s read n rows rows' stop' stop.ClientFault alone stops (inl (refl, refl, reads.fault refl, inl (stays s read error.Fault reads)))
+without_head v number s read n error.NoMemory rows rows' stop' reads alone stops =
+    ends_there v number s read n rows rows' stop' stop.NoMemory alone stops (inl (refl, inl (stays s read error.NoMemory reads)))
+
+pub meets_without_head : (e : HeadError) (s n : Moment) (rows rows' : List Served) (stop' : Stop) (desk : DeskState) → StopsWithoutHead e s n rows rows' stop'
+    → MeetsBy (end_of stop' 0) desk desk
+meets_without_head (error.Refused status form) s n rows rows' stop' desk stops = refused_meets form s n rows rows' stop' desk stops
+meets_without_head error.Truncated s n rows rows' stop' desk stops = subst (λ (x : Stop). MeetsBy (end_of x 0) desk desk) (sym stops.0) (none_met desk)
+meets_without_head error.Fault s n rows rows' stop' desk stops = subst (λ (x : Stop). MeetsBy (end_of x 0) desk desk) (sym stops.0) (none_met desk)
+meets_without_head error.NoMemory s n rows rows' stop' desk stops = subst (λ (x : Stop). MeetsBy (end_of x 0) desk desk) (sym stops.0) (none_met desk)
+
+pub rises_without_head : (s read : Standing) (n : Moment) (e : HeadError) (rows rows' : List Served) (stop' : Stop) → ReadsNoHead s read e
+    → StopsWithoutHead e read.client n rows rows' stop' → RisesBy (end_of stop' 0) s.client.faults n.faults
+rises_without_head s read n (error.Refused status form) rows rows' stop' reads stops =
+    refused_rises form s.client.faults read.client n rows rows' stop' (reads.steady tt) stops
+rises_without_head s read n error.Truncated rows rows' stop' reads stops = subst (λ (x : Stop). RisesBy (end_of x 0) s.client.faults n.faults) (sym stops.0) tt
+rises_without_head s read n error.Fault rows rows' stop' reads stops =
+    subst (λ (x : Stop). RisesBy (end_of x 0) s.client.faults n.faults) (sym stops.0)
+    (subst (λ (m : Moment). Rose s.client.faults m.faults) (sym stops.1) (reads.fault refl))
+rises_without_head s read n error.NoMemory rows rows' stop' reads stops = subst (λ (x : Stop). RisesBy (end_of x 0) s.client.faults n.faults) (sym stops.0) tt
+
+pub no_fewer_without_head : (e : HeadError) (s n : Moment) (rows rows' : List Served) (stop' : Stop) → StopsWithoutHead e s n rows rows' stop' → s.faults ≤ n.faults
+no_fewer_without_head (error.Refused status form) s n rows rows' stop' stops = refused_no_fewer form s n rows rows' stop' stops
+no_fewer_without_head error.Truncated s n rows rows' stop' stops = subst (λ (m : Moment). s.faults ≤ m.faults) (sym stops.1) (omega arith)
+no_fewer_without_head error.Fault s n rows rows' stop' stops = subst (λ (m : Moment). s.faults ≤ m.faults) (sym stops.1) (omega arith)
+no_fewer_without_head error.NoMemory s n rows rows' stop' stops = subst (λ (m : Moment). s.faults ≤ m.faults) (sym stops.1) (omega arith)
+
+-- the client's bytes ended between two requests
+pub ends_by_client : (v : Visit) (number : ℕ) (s n : Standing) (rows : List Served) → ReadsEnd s n
+    → Turns v number s n rows rows (turn.EndsAt (stop.Closed why.ByClient))
+ends_by_client v number s n rows reads = ([], sym (append-nil rows), (refl, reads, refl))
 
 -- ---- one request after the other
 

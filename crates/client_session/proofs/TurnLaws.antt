@@ -1,22 +1,24 @@
 -- What a request comes to: the session goes on, or ends at it or after it.
-use Rattle.std.proofs.Common.{◌≡◌, ℕ, ◌+◌, Bool, true, false, List, [], ◌++◌, refl, sym, None, subst, inl, inr, ap, ◌∙◌}
+use Rattle.std.proofs.Common.{◌≡◌, ℕ, ◌+◌, ◌≤◌, ◌<◌, ◌==◌, ◌||◌, Bool, true, false, List, [], ◌++◌, refl, sym, None, subst, inl, inr, ap, ◌∙◌, arith}
+use Rattle.std.proofs.lemmas.Bool.{eq-eqb, true≢false}
 use Rattle.std.proofs.lemmas.List.{append-nil}
 use Rattle.jk_io.specs.Told.{Rose}
 use Rattle.jk_model.specs.declared.served.Served.{Served}
 use Rattle.http_front.specs.declared.head.Head.{Head}
 use Rattle.http_body_in.specs.State.{failed_of}
-use Rattle.http_body_in.specs.Takes.{MeetsFault, body_at}
+use Rattle.http_body_in.specs.Takes.{BodyMoment, MeetsFault, body_at}
 use Rattle.http_body_in.specs.Wants.{Rest}
 use Rattle.http_body_in.specs.declared.body.BodyIn.{BodyIn}
 use Rattle.http_body_in.specs.declared.fault.BodyFault.{BodyFault}
 use Rattle.http_body_in.specs.declared.fault.BodyFault.TheVariants as fault
 use Rattle.client_session.specs.Answers.{IsAnswer}
-use Rattle.client_session.specs.Ends.{end_of}
-use Rattle.client_session.specs.Finishing.{Finishes, stop_after}
+use Rattle.balancer_core.specs.Desks.{DeskState, MeetsNone}
+use Rattle.client_session.specs.Ends.{MeetsBy, RisesBy, end_of}
+use Rattle.client_session.specs.Finishing.{Finishes, TurnsAfter, stop_after}
 use Rattle.client_session.specs.Requests.{IsNewBody, Visit, is_last}
 use Rattle.client_session.specs.Sessions.{EndsIn, IsGoingOn, IsRequest, ReadsHead}
 use Rattle.client_session.specs.Standings.{IsClientAlone, Standing}
-use Rattle.client_session.specs.Turns.{GoesOn, IsTurn, RisesInAnswer, Turns}
+use Rattle.client_session.specs.Turns.{GoesOn, IsTurn, MeetsInAnswer, MeetsInTurn, RisesInAnswer, RisesInTurn, Turns}
 use Rattle.client_session.specs.declared.ending.Stop.{Stop}
 use Rattle.client_session.specs.declared.ending.Stop.TheVariants as stop
 use Rattle.client_session.specs.declared.ending.Why.TheVariants as why
@@ -162,3 +164,91 @@ turn_finishes v number s read m n head fresh body after a last rows mid rows' ad
       })
       (subst (λ (x : Answered). GoesOn x body) is going) alone finished,
 )
+
+-- ---- what follows the answer
+
+same_standing : (mid n : Standing) (body after : BodyIn) → IsClientAlone mid n → body_at after n.inbox n.client ≡ body_at body mid.inbox mid.client → n ≡ mid
+same_standing mid n body after alone same = alone ∙ ap (λ (m : BodyMoment). record mid { client = m.client; inbox = m.inbox }) same
+
+pub turn_follows : (v : Visit) (number : ℕ) (s read mid n : Standing) (head : Head) (fresh body after : BodyIn) (a : Answered) (last : Bool) (rows room rows' added : List Served) (turn' : Turn)
+    → IsNewBody head.plan fresh → room ≡ rows → rows' ≡ room ++ added → last ≡ is_last number head
+    → IsAnswer v head last read mid fresh body a added → RisesInAnswer a read.client.faults mid.client.faults → GoesOn a body → IsClientAlone mid n
+    → TurnsAfter a last (body_at body mid.inbox mid.client) (body_at after n.inbox n.client) turn' → ReadsHead s read head → Turns v number s n rows rows' turn'
+turn_follows v number s read mid n head fresh body after (answered.Not stop') last rows room rows' added turn' is_fresh same more ends answers rises going alone turned reads =
+    subst (λ (x : Turn). Turns v number s n rows rows' x) (sym turned.0)
+    (subst (λ (m : Standing). Turns v number s m rows rows' (turn.EndsAt stop')) (sym (same_standing mid n body after alone turned.1))
+    (turn_stops v number s read mid head fresh body (answered.Not stop') stop' last rows room rows' added is_fresh same more refl ends answers rises reads))
+turn_follows v number s read mid n head fresh body after answered.Whole true rows room rows' added turn' is_fresh same more ends answers rises going alone turned reads =
+    subst (λ (x : Turn). Turns v number s n rows rows' x) (sym turned.0)
+    (subst (λ (m : Standing). Turns v number s m rows rows' (turn.EndsAfter (stop.Closed why.Last))) (sym (same_standing mid n body after alone turned.1))
+    (turn_last v number s read mid head fresh body answered.Whole true rows room rows' added is_fresh same more refl ends refl answers reads))
+turn_follows v number s read mid n head fresh body after answered.Whole false rows room rows' added turn' is_fresh same more ends answers rises going alone turned reads =
+    turn_finishes v number s read mid n head fresh body after answered.Whole false rows room rows' added turn' is_fresh same more refl ends refl answers going alone turned reads
+
+pub turns_not : (a : Answered) (stop' : Stop) (last : Bool) (s n : BodyMoment) → a ≡ answered.Not stop' → n ≡ s → TurnsAfter a last s n (turn.EndsAt stop')
+turns_not a stop' last s n is same = subst (λ (x : Answered). TurnsAfter x last s n (turn.EndsAt stop')) (sym is) (refl, same)
+
+pub turns_last : (a : Answered) (last : Bool) (s n : BodyMoment) → a ≡ answered.Whole → last ≡ true → n ≡ s → TurnsAfter a last s n (turn.EndsAfter (stop.Closed why.Last))
+turns_last a last s n is true' same =
+    subst (λ (x : Answered). TurnsAfter x last s n (turn.EndsAfter (stop.Closed why.Last))) (sym is)
+    (subst (λ (l : Bool). TurnsAfter answered.Whole l s n (turn.EndsAfter (stop.Closed why.Last))) (sym true') (refl, same))
+
+pub turns_on : (a : Answered) (last : Bool) (s n : BodyMoment) (turn' : Turn) → a ≡ answered.Whole → last ≡ false → Finishes s n turn' → TurnsAfter a last s n turn'
+turns_on a last s n turn' is false' finished =
+    subst (λ (x : Answered). TurnsAfter x last s n turn') (sym is) (subst (λ (l : Bool). TurnsAfter answered.Whole l s n turn') (sym false') finished)
+
+met_unread : (why' : BodyFault) (old new : DeskState) → MeetsNone old new → MeetsBy (end_of (stop_after why') 0) old new
+met_unread fault.Truncated old new met = met
+met_unread fault.BadChunk old new met = met
+met_unread fault.TooLong old new met = met
+met_unread fault.Fault old new met = met
+met_unread fault.NoMemory old new met = met
+
+finished_meets : (s n : BodyMoment) (turn' : Turn) (old new : DeskState) → Finishes s n turn' → MeetsNone old new → MeetsInTurn turn' old new
+finished_meets s n turn.Next old new finished met = met
+finished_meets s n (turn.EndsAfter stop') old new finished met =
+    subst (λ (x : Stop). MeetsBy (end_of x 0) old new) (sym finished.2) (met_unread finished.0 old new met)
+finished_meets s n (turn.EndsAt stop') old new finished met = absurd finished
+
+pub follows_meets : (a : Answered) (last : Bool) (s n : BodyMoment) (turn' : Turn) (old new : DeskState) → TurnsAfter a last s n turn' → MeetsInAnswer a old new
+    → MeetsInTurn turn' old new
+follows_meets (answered.Not stop') last s n turn' old new turned met = subst (λ (x : Turn). MeetsInTurn x old new) (sym turned.0) met
+follows_meets answered.Whole true s n turn' old new turned met = subst (λ (x : Turn). MeetsInTurn x old new) (sym turned.0) met
+follows_meets answered.Whole false s n turn' old new turned met = finished_meets s n turn' old new turned met
+
+rose_later : (first before now : ℕ) → first ≤ before → Rose before now → Rose first now
+rose_later first before now more rose = omega (arith, more, rose)
+
+risen_unread : (why' : BodyFault) (s n : BodyMoment) (first : ℕ) → first ≤ s.client.faults → failed_of s.body ≡ None → MeetsFault s n Rest why'
+    → RisesBy (end_of (stop_after why') 0) first n.client.faults
+risen_unread fault.Truncated s n first more going meets = tt
+risen_unread fault.BadChunk s n first more going meets = tt
+risen_unread fault.TooLong s n first more going meets = tt
+risen_unread fault.Fault s n first more going meets = rose_later _ _ _ more (meets.fault refl going)
+risen_unread fault.NoMemory s n first more going meets = tt
+
+finished_rises : (s n : BodyMoment) (turn' : Turn) (first : ℕ) → first ≤ s.client.faults → failed_of s.body ≡ None → Finishes s n turn'
+    → RisesInTurn turn' first n.client.faults
+finished_rises s n turn.Next first more going finished = tt
+finished_rises s n (turn.EndsAfter stop') first more going finished =
+    subst (λ (x : Stop). RisesBy (end_of x 0) first n.client.faults) (sym finished.2) (risen_unread finished.0 s n first more going finished.1)
+finished_rises s n (turn.EndsAt stop') first more going finished = absurd finished
+
+pub follows_rises : (a : Answered) (last : Bool) (s n : BodyMoment) (turn' : Turn) (first : ℕ) → first ≤ s.client.faults → GoesOn a s.body
+    → TurnsAfter a last s n turn' → RisesInAnswer a first s.client.faults → RisesInTurn turn' first n.client.faults
+follows_rises (answered.Not stop') last s n turn' first more going turned rises =
+    subst (λ (x : Turn). RisesInTurn x first n.client.faults) (sym turned.0)
+    (subst (λ (m : BodyMoment). RisesInTurn (turn.EndsAt stop') first m.client.faults) (sym turned.1) rises)
+follows_rises answered.Whole true s n turn' first more going turned rises = subst (λ (x : Turn). RisesInTurn x first n.client.faults) (sym turned.0) tt
+follows_rises answered.Whole false s n turn' first more going turned rises = finished_rises s n turn' first more going turned
+
+or_right : (x y : Bool) → (x || y) ≡ false → y ≡ false
+or_right true y e = absurd (true≢false e)
+or_right false y e = e
+
+-- a request that isn't the last is not the 1,000th
+pub not_last : (number : ℕ) (head : Head) → is_last number head ≡ false → number < 1000 → number + 1 < 1000
+not_last number head more below =
+    let unequal = or_right head.close (number + 1 == 1000) (or_right head.old _ more) in
+    let other : number + 1 ≡ 1000 → ⊥ = λ is. true≢false (sym (eq-eqb (number + 1) 1000 is) ∙ unequal) in
+    omega (arith, below, other)

@@ -1,9 +1,11 @@
--- The rest of a body after a whole answer, and the answer to a refused head.
-use Rattle.std.specs.Prelude.{ℕ, ◌≡◌, ◌⊎◌, false, List, [], ◌∷◌, ◌++◌}
+-- What follows an answer, the rest of its body among it, and what is done where no head was read.
+use Rattle.std.specs.Prelude.{ℕ, ◌≡◌, ◌⊎◌, Bool, true, false, List, [], ◌∷◌, ◌++◌}
 use Rattle.jk_io.specs.Moments.{Moment}
 use Rattle.jk_model.specs.declared.served.Served.{Served}
 use Rattle.http_front.specs.Refusal.{status_of}
 use Rattle.http_front.specs.declared.answers.Form.{Form}
+use Rattle.http_front.specs.declared.answers.HeadError.{HeadError}
+use Rattle.http_front.specs.declared.answers.HeadError.TheVariants as error
 use Rattle.http_body_in.specs.Takes.{BodyMoment, MeetsFault, PassesRest}
 use Rattle.http_body_in.specs.Wants.{Rest}
 use Rattle.http_body_in.specs.declared.fault.BodyFault.{BodyFault}
@@ -13,6 +15,8 @@ use Rattle.client_session.specs.Writing.{WritesOwn}
 use Rattle.client_session.specs.declared.ending.Stop.{Stop}
 use Rattle.client_session.specs.declared.ending.Stop.TheVariants as stop
 use Rattle.client_session.specs.declared.ending.Why.TheVariants as why
+use Rattle.client_session.specs.declared.turn.Answered.{Answered}
+use Rattle.client_session.specs.declared.turn.Answered.TheVariants as answered
 use Rattle.client_session.specs.declared.turn.Turn.{Turn}
 use Rattle.client_session.specs.declared.turn.Turn.TheVariants as turn
 
@@ -30,6 +34,12 @@ Finishes s n turn.Next = PassesRest s n
 Finishes s n (turn.EndsAfter stop') = (why' : BodyFault) × MeetsFault s n Rest why' × (stop' ≡ stop_after why')
 Finishes s n (turn.EndsAt stop') = ⊥
 
+-- the session ends, or the rest of the body is read
+abbrev pub TurnsAfter : Answered → (last : Bool) → BodyMoment → BodyMoment → Turn → Type 0
+TurnsAfter (answered.Not stop') last s n turn' = (turn' ≡ turn.EndsAt stop') × (n ≡ s)
+TurnsAfter answered.Whole true s n turn' = (turn' ≡ turn.EndsAfter (stop.Closed why.Last)) × (n ≡ s)
+TurnsAfter answered.Whole false s n turn' = Finishes s n turn'
+
 -- an own answer adds a row, and nothing else does
 abbrev pub AddsRefused : (status : ℕ) → (rows rows' : List Served) → Stop → Type 0
 AddsRefused status rows rows' (stop.Closed w) = rows' ≡ rows ++ refused_row status ∷ []
@@ -43,3 +53,10 @@ abbrev pub RefusesHead : Form → Moment → Moment → (rows rows' : List Serve
 RefusesHead form s n rows rows' stop' =
     ((stop' ≡ stop.NoMemory) × (n ≡ s) × (rows' ≡ rows))
     ⊎ (WritesOwn (status_of form) false s n stop' × AddsRefused (status_of form) rows rows' stop')
+
+-- a refused head was answered, and otherwise nothing was written
+abbrev pub StopsWithoutHead : HeadError → Moment → Moment → (rows rows' : List Served) → Stop → Type 0
+StopsWithoutHead (error.Refused status form) s n rows rows' stop' = RefusesHead form s n rows rows' stop'
+StopsWithoutHead error.Truncated s n rows rows' stop' = (stop' ≡ stop.Truncated) × (n ≡ s) × (rows' ≡ rows)
+StopsWithoutHead error.Fault s n rows rows' stop' = (stop' ≡ stop.ClientFault) × (n ≡ s) × (rows' ≡ rows)
+StopsWithoutHead error.NoMemory s n rows rows' stop' = (stop' ≡ stop.NoMemory) × (n ≡ s) × (rows' ≡ rows)

@@ -1,5 +1,5 @@
 -- Writing to the client: whole, or broken off.
-use Rattle.std.specs.Prelude.{ℕ, ◌≡◌, Bool, List, Result, Ok, Err}
+use Rattle.std.specs.Prelude.{ℕ, ◌≡◌, ◌⊎◌, Bool, List, Result, Ok, Err}
 use Rattle.jk_io.specs.Moments.{Moment}
 use Rattle.jk_io.specs.Told.{Rose}
 use Rattle.jk_io.specs.declared.failures.IoError.{IoError}
@@ -35,3 +35,7 @@ WritesPart bytes s n (Err stop.ClientFault) = Rose s.faults n.faults × PutsPart
 WritesPart bytes s n (Err stop.Truncated) = ⊥
 WritesPart bytes s n (Err (stop.Stray ticket returned_at)) = ⊥
 WritesPart bytes s n (Err stop.NoMemory) = PutsPart s n bytes
+
+-- memory was wanted before, or a front of the bytes was written, and the session is to end
+abbrev pub BreaksOff : List ℕ → Moment → Moment → Stop → Type 0
+BreaksOff bytes s n stop' = ((stop' ≡ stop.NoMemory) × (n ≡ s)) ⊎ WritesPart {T = Unit {0}} bytes s n (Err stop')

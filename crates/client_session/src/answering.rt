@@ -1,5 +1,5 @@
 //! One request is answered: by its worker, or by the connector itself.
-ghost use Rattle.std.specs.Prelude.{◌≡◌, ◌≤◌, ◌<◌, ℕ, List, true, Some, IfOk, IfSome, length, slice_get};
+ghost use Rattle.std.specs.Prelude.{◌≡◌, ◌≤◌, ◌<◌, ℕ, List, true, Some, IfErr, IfOk, IfSome, length, slice_get};
 ghost use Rattle.std.specs.List.{All};
 ghost use Rattle.jk_model.specs.declared.member.MemberConfig.{MemberConfig as AnyMember};
 ghost use Rattle.http_body_in.specs.declared.body.BodyIn.{BodyIn as AnyBody};
@@ -12,9 +12,9 @@ ghost use Rattle.client_session.specs.Answers.{IsAnswer, IsAnswerAt, IsForwarded
 ghost use Rattle.client_session.specs.Concluding.{HasNamesWithin, HasRoom, IsNotFound, rows_of};
 ghost use Rattle.client_session.specs.Ready.{IsReady};
 ghost use Rattle.client_session.specs.Requests.{IsNewBody, continue_for, mounted_at, visit_of};
-ghost use Rattle.client_session.specs.Standings.{ReachSide, client_at, standing, standing_by};
+ghost use Rattle.client_session.specs.Standings.{Puts, ReachSide, client_at, standing, standing_by};
 ghost use Rattle.client_session.specs.Turns.{GoesOn, MeetsInAnswer, RisesInAnswer};
-ghost use Rattle.client_session.specs.Writing.{WritesPart};
+ghost use Rattle.client_session.specs.Writing.{BreaksOff, WritesPart};
 
 use crate::concluding::{conclude, conclude_stop};
 use crate::ending::Stop;
@@ -246,6 +246,29 @@ fn row_at(alloc: Global, cfg: &Config, worker: Named, head: &Head) -> Result<Row
     Row::of(alloc, head, longest_name(cfg, worker))
 }
 
+/// Makes the row of a mounted request, and then tells a client that waits for it that its body may come.
+fn begin<C: Sink>(
+    alloc: Global,
+    cfg: &Config,
+    worker: Named,
+    head: &Head,
+    client: &mut C,
+) -> Result<Row, Stop>
+    requires { is_worker cfg.now worker ≡ true }
+    ensures room { IfOk result (HasRoom cfg.now worker head.now) }
+    ensures told { IfOk result (λ row. Puts (client_at C.Meanings client.old) (client_at C.Meanings client.new) (continue_for head.now)) }
+    ensures broken { IfErr result (BreaksOff (continue_for head.now) (client_at C.Meanings client.old) (client_at C.Meanings client.new)) }
+    ensures beside { C.beside client.new ≡ C.beside client.old }
+{
+    let Ok(row) = row_at(alloc, cfg, worker, head) else {
+        return Err(Stop::NoMemory);
+    };
+    match send_continue(head, client) {
+        Ok(()) => Ok(row),
+        Err(stop) => Err(stop),
+    }
+}
+
 /// Answers a request that is mounted nowhere.
 fn not_found<C: Sink>(alloc: Global, head: &Head, client: &mut C) -> Settled
     ensures answer { IsNotFound head.now (client_at C.Meanings client.old) (client_at C.Meanings client.new) result }
@@ -289,11 +312,8 @@ where
     let Some(worker) = site.map.mount(head.clean.as_slice()) else {
         return not_found(alloc, head, client);
     };
-    let Ok(row) = row_at(alloc, site.cfg, worker, head) else {
-        return stopped(Stop::NoMemory);
-    };
-    match send_continue(head, client) {
-        Ok(()) => answer_at(
+    match begin(alloc, site.cfg, worker, head, client) {
+        Ok(row) => answer_at(
             alloc, site, worker, head, last, row, body, inbox, desk, reach, client, clock,
         ),
         Err(stop) => stopped(stop),

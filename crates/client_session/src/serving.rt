@@ -7,7 +7,7 @@ ghost use Rattle.status_worker.specs.Desks.{KeepsTickets};
 ghost use Rattle.uri_map.specs.Sites.{stands_in};
 ghost use Rattle.client_session.specs.Concluding.{rows_of};
 ghost use Rattle.client_session.specs.Ends.{MeetsBy, RisesBy};
-ghost use Rattle.client_session.specs.Finishing.{Finishes, RefusesHead, stop_after};
+ghost use Rattle.client_session.specs.Finishing.{Finishes, RefusesHead, StopsWithoutHead, TurnsAfter, stop_after};
 ghost use Rattle.client_session.specs.Ready.{IsReady};
 ghost use Rattle.client_session.specs.Requests.{visit, visit_of};
 ghost use Rattle.client_session.specs.Causes.{IsDecided, IsOwnCaused};
@@ -55,6 +55,27 @@ fn finish_body<C: Link>(body: &mut BodyIn, inbox: &mut Inbox, client: &mut C) ->
     match body.skip_rest(inbox, client) {
         Ok(()) => Turn::Next,
         Err(fault) => Turn::EndsAfter(stop_for(fault)),
+    }
+}
+
+/// What follows an answer; after a whole one that isn't the last, the rest of the body is read.
+fn turn_after<C: Link>(
+    answered: Answered,
+    last: bool,
+    body: &mut BodyIn,
+    inbox: &mut Inbox,
+    client: &mut C,
+) -> Turn
+    ensures turned { let see = client_at C.Meanings in
+        TurnsAfter answered last (body_at body.old inbox.old (see client.old)) (body_at body.new inbox.new (see client.new)) result }
+    ensures more { result ≡ Turn.Next → last ≡ false }
+    ensures beside { C.beside client.new ≡ C.beside client.old }
+    ensures no_fewer { C.faults client.old ≤ C.faults client.new }
+{
+    match answered {
+        Answered::Not(stop) => Turn::EndsAt(stop),
+        Answered::Whole if last => Turn::EndsAfter(Stop::Closed(Why::Last)),
+        Answered::Whole => finish_body(body, inbox, client),
     }
 }
 
@@ -106,11 +127,7 @@ where
         alloc, site, head, last, &mut body, inbox, desk, reach, client, clock,
     );
     put_row(rows, row);
-    match answered {
-        Answered::Not(stop) => Turn::EndsAt(stop),
-        Answered::Whole if last => Turn::EndsAfter(Stop::Closed(Why::Last)),
-        Answered::Whole => finish_body(&mut body, inbox, client),
-    }
+    turn_after(answered, last, &mut body, inbox, client)
 }
 
 /// Answers a refused head.
@@ -128,6 +145,25 @@ fn refuse<C: Sink>(alloc: Global, form: Form, client: &mut C, rows: &mut Vec<Ser
         put(rows, Row::refused(alloc).own(status, false));
     }
     stop
+}
+
+/// Why the session ends where no head was read; a refused one is answered.
+fn stop_without_head<C: Sink>(
+    alloc: Global,
+    error: HeadError,
+    client: &mut C,
+    rows: &mut Vec<Served>,
+) -> Stop
+    ensures stops { let see = client_at C.Meanings in
+        StopsWithoutHead error (see client.old) (see client.new) rows.old.items rows.new.items result }
+    ensures beside { C.beside client.new ≡ C.beside client.old }
+{
+    match error {
+        HeadError::Refused { status: _, form } => refuse(alloc, form, client, rows),
+        HeadError::Truncated => Stop::Truncated,
+        HeadError::Fault => Stop::ClientFault,
+        HeadError::NoMemory => Stop::NoMemory,
+    }
 }
 
 /// Reads a request and answers it.
@@ -163,12 +199,7 @@ where
             alloc, site, &head, number, inbox, desk, reach, client, clock, rows,
         ),
         Ok(HeadGot::End) => Turn::EndsAt(Stop::Closed(Why::ByClient)),
-        Err(HeadError::Refused { status: _, form }) => {
-            Turn::EndsAt(refuse(alloc, form, client, rows))
-        }
-        Err(HeadError::Truncated) => Turn::EndsAt(Stop::Truncated),
-        Err(HeadError::Fault) => Turn::EndsAt(Stop::ClientFault),
-        Err(HeadError::NoMemory) => Turn::EndsAt(Stop::NoMemory),
+        Err(error) => Turn::EndsAt(stop_without_head(alloc, error, client, rows)),
     }
 }
 

@@ -60,3 +60,27 @@ returns-in-EndsAt-clause-met g c =
 pub returns-in-EndsAt-clause-fault : goal.returns-in-EndsAt-clause-fault
 returns-in-EndsAt-clause-fault g c =
     risen_at_end c.in-EndsAt.stop _ _ _ _ _ c.after-in-EndsAt.ensures c.loop-number.invariant.client_faults c.in-EndsAt.ensures.fault
+
+pub returns-in-EndsAfter-clause-ready : goal.returns-in-EndsAfter-clause-ready
+returns-in-EndsAfter-clause-ready g c = c.in-EndsAfter.ensures.ready
+
+pub returns-in-EndsAfter-clause-beside : goal.returns-in-EndsAfter-clause-beside
+returns-in-EndsAfter-clause-beside g c = c.in-EndsAfter.ensures.beside ∙ c.loop-number.invariant.beside
+
+pub returns-in-EndsAfter-clause-no_fewer : goal.returns-in-EndsAfter-clause-no_fewer
+returns-in-EndsAfter-clause-no_fewer g c = (
+  omega (arith, c.loop-number.invariant.reach_faults, c.in-EndsAfter.ensures.no_fewer.0),
+  omega (arith, c.loop-number.invariant.client_faults, c.in-EndsAfter.ensures.no_fewer.1),
+)
+
+pub returns-in-EndsAt-clause-ready : goal.returns-in-EndsAt-clause-ready
+returns-in-EndsAt-clause-ready g c = c.in-EndsAt.ensures.ready
+
+pub returns-in-EndsAt-clause-beside : goal.returns-in-EndsAt-clause-beside
+returns-in-EndsAt-clause-beside g c = c.in-EndsAt.ensures.beside ∙ c.loop-number.invariant.beside
+
+pub returns-in-EndsAt-clause-no_fewer : goal.returns-in-EndsAt-clause-no_fewer
+returns-in-EndsAt-clause-no_fewer g c = (
+  omega (arith, c.loop-number.invariant.reach_faults, c.in-EndsAt.ensures.no_fewer.0),
+  omega (arith, c.loop-number.invariant.client_faults, c.in-EndsAt.ensures.no_fewer.1),
+)

@@ -1,6 +1,9 @@
 -- The request's turn: it ends the session, or the rest of its body was read.
-use Rattle.std.proofs.Common.{refl}
-use Rattle.client_session.proofs.TurnLaws.{turn_finishes, turn_last, turn_stops, unrowed}
+use Rattle.std.proofs.Common.{◌≡◌, false, refl, sym, ◌∙◌, arith}
+use Rattle.http_body_in.specs.Takes.{body_at}
+use Rattle.status_worker.proofs.DeskLaws.{none_met, untouched}
+use Rattle.client_session.specs.Standings.{client_at, standing}
+use Rattle.client_session.proofs.TurnLaws.{follows_meets, follows_rises, not_last, turn_follows, unrowed}
 use Rattle.client_session.proofs.serving.serve_head.Goals as goal
 
 pub returns-in_default-clause-turn : goal.returns-in_default-clause-turn
@@ -9,21 +12,35 @@ returns-in_default-clause-turn g c s reads =
     (record { place = c.new-body.ensures.place; most = c.new-body.ensures.most; taken = c.new-body.ensures.taken; going = c.new-body.ensures.failed })
     c.reserve.ensures.items reads
 
-pub returns-in-Not-clause-turn : goal.returns-in-Not-clause-turn
-returns-in-Not-clause-turn g c s reads =
-    turn_stops _ _ s _ _ _ c.new-body.result c.answer-answered.new.body _ c.in-Not.stop _ _ _ _ _
-    (record { place = c.new-body.ensures.place; most = c.new-body.ensures.most; taken = c.new-body.ensures.taken; going = c.new-body.ensures.failed })
-    c.reserve.ensures.items c.put_row.ensures c.in-Not.is c.is_last-last.ensures c.answer-answered.ensures.answer c.answer-answered.ensures.fault reads
+pub returns-in_default-clause-kept : goal.returns-in_default-clause-kept
+returns-in_default-clause-kept g c = untouched _ _
 
-pub returns-in-Whole-clause-turn : goal.returns-in-Whole-clause-turn
-returns-in-Whole-clause-turn g c s reads =
-    turn_last _ _ s _ _ _ c.new-body.result c.answer-answered.new.body _ _ _ _ _ _
-    (record { place = c.new-body.ensures.place; most = c.new-body.ensures.most; taken = c.new-body.ensures.taken; going = c.new-body.ensures.failed })
-    c.reserve.ensures.items c.put_row.ensures c.in-Whole.is c.is_last-last.ensures c.if-last.true c.answer-answered.ensures.answer reads
+pub returns-in_default-clause-met : goal.returns-in_default-clause-met
+returns-in_default-clause-met g c = none_met _
 
-pub returns-in-Whole-2-clause-turn : goal.returns-in-Whole-2-clause-turn
-returns-in-Whole-2-clause-turn g c s reads =
-    turn_finishes _ _ s _ _ _ _ c.new-body.result c.answer-answered.new.body c.finish_body.new.body _ _ _ _ _ _ c.finish_body.result
+pub returns-clause-turn : goal.returns-clause-turn
+returns-clause-turn g c s reads =
+    turn_follows _ _ s _
+    (standing g.B.Desk.state g.K.Clock.answers g.R.Meanings g.C.Meanings c.answer-answered.new.desk c.answer-answered.new.clock c.answer-answered.new.reach c.answer-answered.new.client c.answer-answered.new.inbox)
+    (standing g.B.Desk.state g.K.Clock.answers g.R.Meanings g.C.Meanings c.answer-answered.new.desk c.answer-answered.new.clock c.answer-answered.new.reach c.turn_after.new.client c.turn_after.new.inbox)
+    _ c.new-body.result c.answer-answered.new.body c.turn_after.new.body c.answer-answered.result.answered c.is_last-last.result _ _ _ _ c.turn_after.result
     (record { place = c.new-body.ensures.place; most = c.new-body.ensures.most; taken = c.new-body.ensures.taken; going = c.new-body.ensures.failed })
-    c.reserve.ensures.items c.put_row.ensures c.in-Whole-2.is c.is_last-last.ensures c.if-last.false c.answer-answered.ensures.answer
-    c.answer-answered.ensures.going refl c.finish_body.ensures.finished reads
+    c.reserve.ensures.items c.put_row.ensures c.is_last-last.ensures c.answer-answered.ensures.answer c.answer-answered.ensures.fault
+    c.answer-answered.ensures.going refl c.turn_after.ensures.turned reads
+
+pub returns-clause-more : goal.returns-clause-more
+returns-clause-more g c = λ next. not_last c.args.number c.args.head.now (sym c.is_last-last.ensures ∙ c.turn_after.ensures.more next) c.requires.number
+
+pub returns-clause-met : goal.returns-clause-met
+returns-clause-met g c =
+    follows_meets c.answer-answered.result.answered c.is_last-last.result (body_at c.answer-answered.new.body c.answer-answered.new.inbox (client_at g.C.Meanings c.answer-answered.new.client))
+    (body_at c.turn_after.new.body c.turn_after.new.inbox (client_at g.C.Meanings c.turn_after.new.client)) c.turn_after.result _ _ c.turn_after.ensures.turned c.answer-answered.ensures.met
+
+pub returns-clause-fault : goal.returns-clause-fault
+returns-clause-fault g c =
+    follows_rises c.answer-answered.result.answered c.is_last-last.result (body_at c.answer-answered.new.body c.answer-answered.new.inbox (client_at g.C.Meanings c.answer-answered.new.client))
+    (body_at c.turn_after.new.body c.turn_after.new.inbox (client_at g.C.Meanings c.turn_after.new.client)) c.turn_after.result _ c.answer-answered.ensures.no_fewer.1 c.answer-answered.ensures.going
+    c.turn_after.ensures.turned c.answer-answered.ensures.fault
+
+pub returns-clause-no_fewer : goal.returns-clause-no_fewer
+returns-clause-no_fewer g c = (c.answer-answered.ensures.no_fewer.0, omega (arith, c.answer-answered.ensures.no_fewer.1, c.turn_after.ensures.no_fewer))

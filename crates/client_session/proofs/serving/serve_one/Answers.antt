@@ -1,7 +1,9 @@
--- A head was read, or was refused.
-use Rattle.std.proofs.Common.{refl}
-use Rattle.client_session.specs.Standings.{standing}
-use Rattle.client_session.proofs.SessionLaws.{refuses}
+-- A head was read, the bytes ended, or no head was read.
+use Rattle.std.proofs.Common.{refl, arith}
+use Rattle.client_session.specs.Requests.{visit_of}
+use Rattle.client_session.specs.Standings.{client_at, standing}
+use Rattle.status_worker.proofs.DeskLaws.{none_met, untouched}
+use Rattle.client_session.proofs.SessionLaws.{ReadsNoHead, ends_by_client, meets_without_head, no_fewer_without_head, rises_without_head, without_head}
 use Rattle.client_session.proofs.serving.serve_one.Goals as goal
 
 pub returns-in-Ok-Head-clause-turn : goal.returns-in-Ok-Head-clause-turn
@@ -13,12 +15,70 @@ returns-in-Ok-Head-clause-turn g c =
       on = record { alone = refl; sent = c.read_head.ensures.same.0; steady = c.in-Ok-Head.ensures.steady tt };
     })
 
-pub returns-in-Err-Refused-clause-turn : goal.returns-in-Err-Refused-clause-turn
-returns-in-Err-Refused-clause-turn g c =
-    refuses _ _ _ _ _ c.in-Err-Refused.form _ _ c.refuse.result
+pub returns-in-Ok-End-clause-turn : goal.returns-in-Ok-End-clause-turn
+returns-in-Ok-End-clause-turn g c =
+    ends_by_client (visit_of c.args.site.now) c.args.number
+    (standing g.B.Desk.state g.K.Clock.answers g.R.Meanings g.C.Meanings c.args.desk.now c.args.clock.now c.args.reach.now c.args.client.now c.args.inbox.now)
+    (standing g.B.Desk.state g.K.Clock.answers g.R.Meanings g.C.Meanings c.args.desk.now c.args.clock.now c.args.reach.now c.read_head.new.client c.read_head.new.inbox) _
     (record {
-      refused = (rw c.in-Err-Refused.field-0-is at c.in-Err-Refused.ensures.refused).1;
-      unused = c.in-Err-Refused.ensures.err;
-      on = record { alone = refl; sent = c.read_head.ensures.same.0; steady = (rw c.in-Err-Refused.field-0-is at c.in-Err-Refused.ensures.steady) tt };
+      used = rw c.in-Ok-End.field-0-is at c.in-Ok-End.ensures.end;
+      on = record { alone = refl; sent = c.read_head.ensures.same.0; steady = c.in-Ok-End.ensures.steady tt };
     })
-    refl c.refuse.ensures.refused
+
+pub returns-in-Ok-End-clause-kept : goal.returns-in-Ok-End-clause-kept
+returns-in-Ok-End-clause-kept g c = untouched _ _
+
+pub returns-in-Ok-End-clause-met : goal.returns-in-Ok-End-clause-met
+returns-in-Ok-End-clause-met g c = none_met _
+
+pub returns-in-Err-clause-turn : goal.returns-in-Err-clause-turn
+returns-in-Err-clause-turn g c =
+    without_head (visit_of c.args.site.now) c.args.number
+    (standing g.B.Desk.state g.K.Clock.answers g.R.Meanings g.C.Meanings c.args.desk.now c.args.clock.now c.args.reach.now c.args.client.now c.args.inbox.now)
+    (standing g.B.Desk.state g.K.Clock.answers g.R.Meanings g.C.Meanings c.args.desk.now c.args.clock.now c.args.reach.now c.read_head.new.client c.read_head.new.inbox)
+    (standing g.B.Desk.state g.K.Clock.answers g.R.Meanings g.C.Meanings c.args.desk.now c.args.clock.now c.args.reach.now c.stop_without_head.new.client c.read_head.new.inbox)
+    c.in-Err.error _ _ c.stop_without_head.result
+    (record {
+      alone = refl;
+      sent = c.read_head.ensures.same.0;
+      unused = c.in-Err.ensures.err;
+      no_fewer = c.read_head.ensures.no_fewer;
+      refused = c.in-Err.ensures.refused;
+      truncated = c.in-Err.ensures.truncated;
+      fault = c.in-Err.ensures.fault;
+      steady = c.in-Err.ensures.steady;
+    })
+    refl c.stop_without_head.ensures.stops
+
+pub returns-in-Err-clause-kept : goal.returns-in-Err-clause-kept
+returns-in-Err-clause-kept g c = untouched _ _
+
+pub returns-in-Err-clause-met : goal.returns-in-Err-clause-met
+returns-in-Err-clause-met g c =
+    meets_without_head c.in-Err.error (client_at g.C.Meanings c.read_head.new.client) (client_at g.C.Meanings c.stop_without_head.new.client) _ _
+    c.stop_without_head.result _ c.stop_without_head.ensures.stops
+
+pub returns-in-Err-clause-fault : goal.returns-in-Err-clause-fault
+returns-in-Err-clause-fault g c =
+    rises_without_head
+    (standing g.B.Desk.state g.K.Clock.answers g.R.Meanings g.C.Meanings c.args.desk.now c.args.clock.now c.args.reach.now c.args.client.now c.args.inbox.now)
+    (standing g.B.Desk.state g.K.Clock.answers g.R.Meanings g.C.Meanings c.args.desk.now c.args.clock.now c.args.reach.now c.read_head.new.client c.read_head.new.inbox)
+    (client_at g.C.Meanings c.stop_without_head.new.client) c.in-Err.error _ _ c.stop_without_head.result
+    (record {
+      alone = refl;
+      sent = c.read_head.ensures.same.0;
+      unused = c.in-Err.ensures.err;
+      no_fewer = c.read_head.ensures.no_fewer;
+      refused = c.in-Err.ensures.refused;
+      truncated = c.in-Err.ensures.truncated;
+      fault = c.in-Err.ensures.fault;
+      steady = c.in-Err.ensures.steady;
+    })
+    c.stop_without_head.ensures.stops
+
+pub returns-in-Err-clause-no_fewer : goal.returns-in-Err-clause-no_fewer
+returns-in-Err-clause-no_fewer g c =
+    let more =
+    no_fewer_without_head c.in-Err.error (client_at g.C.Meanings c.read_head.new.client) (client_at g.C.Meanings c.stop_without_head.new.client) _ _
+    c.stop_without_head.result c.stop_without_head.ensures.stops in
+    (omega arith, omega (arith, more, c.read_head.ensures.no_fewer))

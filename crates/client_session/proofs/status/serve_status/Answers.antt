@@ -1,5 +1,7 @@
 -- The commands were done or refused, and then a page or an own answer was written, or a front of it.
-use Rattle.status_worker.specs.Desks.{desk_side}
+use Rattle.std.proofs.Common.{sym, subst}
+use Rattle.balancer_core.specs.Desks.{DeskState, MeetsNone}
+use Rattle.status_worker.specs.Desks.{KeepsTickets, desk_side}
 use Rattle.client_session.specs.Requests.{visit_of}
 use Rattle.client_session.specs.Standings.{client_at, standing_by}
 use Rattle.client_session.proofs.StatusLaws.{answered_at, broken_at, own_answered, page_code, unseen_at}
@@ -31,3 +33,24 @@ returns-clause-answer g c = λ reach inbox.
     (g.B.Desk.state c.change.new.desk) (g.B.Desk.state c.page_at.new.desk) (g.K.Clock.answers c.change.new.clock) (client_at g.C.Meanings c.send.new.client)
     c.in-Ok.only c.in-Ok-page_at.page c.in-Err.stop c.page_at.ensures.same c.in-Ok.ensures.ok (rw c.is_head-2.ensures at c.in-Ok-page_at.ensures.page)
     (rw (c.as_slice.ensures, c.in-Err.is) at c.send.ensures.sent)
+
+pub returns-in_default-clause-kept : goal.returns-in_default-clause-kept
+returns-in_default-clause-kept g c =
+    subst (λ (d : DeskState). KeepsTickets c.args.site.now.session (g.B.Desk.state c.args.desk.now) d) (sym c.page_at.ensures.same) c.change.ensures.kept
+
+pub returns-in_default-clause-met : goal.returns-in_default-clause-met
+returns-in_default-clause-met g c = subst (λ (d : DeskState). MeetsNone (g.B.Desk.state c.args.desk.now) d) (sym c.page_at.ensures.same) c.change.ensures.met
+
+pub returns-in-Ok-send-clause-kept : goal.returns-in-Ok-send-clause-kept
+returns-in-Ok-send-clause-kept g c =
+    subst (λ (d : DeskState). KeepsTickets c.args.site.now.session (g.B.Desk.state c.args.desk.now) d) (sym c.page_at.ensures.same) c.change.ensures.kept
+
+pub returns-in-Ok-send-clause-met : goal.returns-in-Ok-send-clause-met
+returns-in-Ok-send-clause-met g c = subst (λ (d : DeskState). MeetsNone (g.B.Desk.state c.args.desk.now) d) (sym c.page_at.ensures.same) c.change.ensures.met
+
+pub returns-clause-kept : goal.returns-clause-kept
+returns-clause-kept g c =
+    subst (λ (d : DeskState). KeepsTickets c.args.site.now.session (g.B.Desk.state c.args.desk.now) d) (sym c.page_at.ensures.same) c.change.ensures.kept
+
+pub returns-clause-met : goal.returns-clause-met
+returns-clause-met g c = subst (λ (d : DeskState). MeetsNone (g.B.Desk.state c.args.desk.now) d) (sym c.page_at.ensures.same) c.change.ensures.met
