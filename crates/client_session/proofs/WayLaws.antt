@@ -1,4 +1,4 @@
--- What holds of each way in which a session may have gone.
+-- What holds of each session that ends so.
 use Rattle.std.proofs.Common.{◌≡◌, ℕ, List, [], sym}
 use Rattle.std.proofs.lemmas.List.{append-nil}
 use Rattle.jk_model.specs.declared.served.Served.{Served}
@@ -6,7 +6,7 @@ use Rattle.client_session.specs.Causes.{IsDecided, IsOwnCaused}
 use Rattle.client_session.specs.Complete.{EndsWhole}
 use Rattle.client_session.specs.Parts.{HasParts}
 use Rattle.client_session.specs.Requests.{Visit}
-use Rattle.client_session.specs.Sessions.{InEachWay, Serves}
+use Rattle.client_session.specs.Sessions.{InEachSession, Serves}
 use Rattle.client_session.specs.Standings.{Standing}
 use Rattle.client_session.specs.declared.ending.SessionEnd.{SessionEnd}
 use Rattle.client_session.specs.declared.ending.SessionEnd.TheVariants as session_end
@@ -16,20 +16,14 @@ use Rattle.client_session.proofs.DecideLaws.{decides}
 use Rattle.client_session.proofs.PartsLaws.{has_parts}
 use Rattle.client_session.proofs.SessionLaws.{unbegun}
 
-pub owned : (v : Visit) (at_first at_last : List ℕ → Standing) (rows rows' : List Served) (end : SessionEnd)
-    → InEachWay v at_first at_last rows rows' end (IsOwnCaused v end)
-owned v at_first at_last rows rows' end way =
-    own_cause v way.session.number way.session.mid (at_last way.inbox) way.session.last end way.session.ends
+pub owned : (v : Visit) (end : SessionEnd) → InEachSession v end (IsOwnCaused v)
+owned v end s n rows way = own_cause v way.number way.mid n way.last end way.ends
 
-pub decided : (v : Visit) (at_first at_last : List ℕ → Standing) (rows rows' : List Served) (end : SessionEnd)
-    → InEachWay v at_first at_last rows rows' end (IsDecided v end)
-decided v at_first at_last rows rows' end way bytes told =
-    decides v way.session.number way.session.mid (at_last way.inbox) way.session.last end bytes way.session.ends told
+pub decided : (v : Visit) (end : SessionEnd) → InEachSession v end (IsDecided v)
+decided v end s n rows way bytes told = decides v way.number way.mid n way.last end bytes way.ends told
 
-pub completed : (v : Visit) (at_first at_last : List ℕ → Standing) (rows rows' : List Served) (end : SessionEnd)
-    → InEachWay v at_first at_last rows rows' end (EndsWhole v end)
-completed v at_first at_last rows rows' end way =
-    ends_whole v way.session.number way.session.mid (at_last way.inbox) way.session.last end way.session.ends
+pub completed : (v : Visit) (end : SessionEnd) → InEachSession v end (EndsWhole v)
+completed v end s n rows way = ends_whole v way.number way.mid n way.last end way.ends
 
 -- ---- a session that wanted memory before it read anything
 

@@ -174,8 +174,6 @@ pub record Serves (v : Visit) (at_first : List ℕ → Standing) (at_last : List
   pub session : IsSession v (at_first []) (at_last inbox) gained end
   pub added : rows' ≡ rows ++ gained
 
--- P of each way in which such a session may have gone: of how many requests were served, where that led, and where it ended.
-abbrev pub InEachWay : Visit → (at_first : List ℕ → Standing) → (at_last : List ℕ → Standing) → (rows rows' : List Served) → SessionEnd
-    → ((number : ℕ) → (s n : Standing) → Type 0) → Type 0
-InEachWay v at_first at_last rows rows' end P =
-    (way : Serves v at_first at_last rows rows' end) → P way.session.number way.session.mid (at_last way.inbox)
+-- P of each session of this visit that ends so: of how many requests were served, where that led, and where it ended.
+abbrev pub InEachSession : Visit → SessionEnd → (SessionEnd → (number : ℕ) → (s n : Standing) → Type 0) → Type 0
+InEachSession v end P = (s n : Standing) (rows : List Served) → (way : IsSession v s n rows end) → P end way.number way.mid n

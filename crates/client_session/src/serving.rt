@@ -13,7 +13,7 @@ ghost use Rattle.client_session.specs.Requests.{visit, visit_of};
 ghost use Rattle.client_session.specs.Causes.{IsDecided, IsOwnCaused};
 ghost use Rattle.client_session.specs.Complete.{EndsWhole, ServesWhole};
 ghost use Rattle.client_session.specs.Parts.{HasParts};
-ghost use Rattle.client_session.specs.Sessions.{InEachWay, IsServed, IsSession, ReadsHead, Serves};
+ghost use Rattle.client_session.specs.Sessions.{InEachSession, IsServed, IsSession, ReadsHead, Serves};
 ghost use Rattle.client_session.specs.Standings.{Standing, client_at, standing};
 ghost use Rattle.client_session.specs.Turns.{MeetsInTurn, RisesInTurn, Turns};
 
@@ -270,17 +270,11 @@ where
     // What the client has: the parts of its requests joined, and what belongs to the end.
     ensures parts { HasParts (visit cfg.now map.now session peer.now) (C.incoming client.old) (C.sent client.old) (C.sent client.new) result }
 
-    // An own answer has a cause for each status; the client's bytes decide what they can; and a request that nothing
-    // disturbs is answered with exactly its member's reply, whether the session goes on after it or not.
-    ensures own { let at = standing B.state K.answers R.Meanings C.Meanings in let v = visit cfg.now map.now session peer.now in
-        InEachWay v (at desk.old clock.old reach.old client.old) (at desk.new clock.new reach.new client.new) rows.old rows.new
-        result (IsOwnCaused v result) }
-    ensures by_bytes { let at = standing B.state K.answers R.Meanings C.Meanings in let v = visit cfg.now map.now session peer.now in
-        InEachWay v (at desk.old clock.old reach.old client.old) (at desk.new clock.new reach.new client.new) rows.old rows.new
-        result (IsDecided v result) }
-    ensures complete { let at = standing B.state K.answers R.Meanings C.Meanings in let v = visit cfg.now map.now session peer.now in
-        InEachWay v (at desk.old clock.old reach.old client.old) (at desk.new clock.new reach.new client.new) rows.old rows.new
-        result (EndsWhole v result) }
+    // In each session that ends so an own answer has a cause for each status; the client's bytes decide what they can; and a
+    // request that nothing disturbs is answered with exactly its member's reply, whether the session goes on after it or not.
+    ensures own { let v = visit cfg.now map.now session peer.now in InEachSession v result (IsOwnCaused v) }
+    ensures by_bytes { let v = visit cfg.now map.now session peer.now in InEachSession v result (IsDecided v) }
+    ensures complete { let v = visit cfg.now map.now session peer.now in InEachSession v result (EndsWhole v) }
     ensures served { let v = visit cfg.now map.now session peer.now in
         (number : ℕ) (s n : Standing) (gained : List AnyServed) → IsServed v number s n gained → ServesWhole v number s n }
 
@@ -343,15 +337,9 @@ where
         Serves (visit cfg.now map.now session peer.now) (at desk.old clock.old reach.old client.old)
         (at desk.new clock.new reach.new client.new) [] rows result) }
     ensures parts { HasParts (visit cfg.now map.now session peer.now) (C.incoming client.old) (C.sent client.old) (C.sent client.new) result }
-    ensures own { let at = standing B.state K.answers R.Meanings C.Meanings in let v = visit cfg.now map.now session peer.now in
-        (rows : List AnyServed) → InEachWay v (at desk.old clock.old reach.old client.old) (at desk.new clock.new reach.new client.new)
-        [] rows result (IsOwnCaused v result) }
-    ensures by_bytes { let at = standing B.state K.answers R.Meanings C.Meanings in let v = visit cfg.now map.now session peer.now in
-        (rows : List AnyServed) → InEachWay v (at desk.old clock.old reach.old client.old) (at desk.new clock.new reach.new client.new)
-        [] rows result (IsDecided v result) }
-    ensures complete { let at = standing B.state K.answers R.Meanings C.Meanings in let v = visit cfg.now map.now session peer.now in
-        (rows : List AnyServed) → InEachWay v (at desk.old clock.old reach.old client.old) (at desk.new clock.new reach.new client.new)
-        [] rows result (EndsWhole v result) }
+    ensures own { let v = visit cfg.now map.now session peer.now in InEachSession v result (IsOwnCaused v) }
+    ensures by_bytes { let v = visit cfg.now map.now session peer.now in InEachSession v result (IsDecided v) }
+    ensures complete { let v = visit cfg.now map.now session peer.now in InEachSession v result (EndsWhole v) }
     ensures served { let v = visit cfg.now map.now session peer.now in
         (number : ℕ) (s n : Standing) (gained : List AnyServed) → IsServed v number s n gained → ServesWhole v number s n }
     ensures fault { RisesBy result (C.faults client.old) (C.faults client.new) }

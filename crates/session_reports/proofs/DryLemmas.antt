@@ -11,7 +11,7 @@ use Rattle.client_session.specs.Causes.{IsDecided, IsOwnCaused}
 use Rattle.client_session.specs.Complete.{EndsWhole, ServesWhole}
 use Rattle.client_session.specs.Parts.{HasParts}
 use Rattle.client_session.specs.Requests.{Visit}
-use Rattle.client_session.specs.Sessions.{InEachWay, IsServed, Serves}
+use Rattle.client_session.specs.Sessions.{InEachSession, IsServed, Serves}
 use Rattle.client_session.specs.Standings.{Standing}
 use Rattle.client_session.specs.declared.ending.SessionEnd.{SessionEnd}
 use Rattle.session_reports.specs.Dry.{IsRun, first_standing}
@@ -40,9 +40,9 @@ pub run_from : (v v' : Visit) (first : Standing) (at_first at_last : List ℕ �
     → (at_last way.inbox).reach.talks ≡ Some talks → (at_last way.inbox).client.sent ≡ Some sent
     → ((at_last way.inbox).reach.faults ≡ 0) × ((at_last way.inbox).client.faults ≡ 0)
     → HasParts v (at_first []).client.incoming (at_first []).client.sent (at_last way.inbox).client.sent end
-    → InEachWay v at_first at_last [] rows end (IsOwnCaused v end)
-    → InEachWay v at_first at_last [] rows end (IsDecided v end)
-    → InEachWay v at_first at_last [] rows end (EndsWhole v end)
+    → InEachSession v end (IsOwnCaused v)
+    → InEachSession v end (IsDecided v)
+    → InEachSession v end (EndsWhole v)
     → ((number : ℕ) (s n : Standing) (gained : List Served) → IsServed v number s n gained → ServesWhole v number s n)
     → IsRun v' first talks sent end
 run_from v v' first at_first at_last rows end talks sent way same begun talked written calm parts own by_bytes complete served =
@@ -54,9 +54,9 @@ run_from v v' first at_first at_last rows end talks sent way same begun talked w
       written = written;
       calm = calm;
       parts = parts;
-      own = own way;
-      by_bytes = by_bytes way;
-      complete = complete way;
+      own = own _ _ _ way.session;
+      by_bytes = by_bytes _ _ _ way.session;
+      complete = complete _ _ _ way.session;
       served = served;
     }))
 

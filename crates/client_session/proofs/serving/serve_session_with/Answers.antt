@@ -1,4 +1,4 @@
--- What all requests together were, and what holds of each way in which that may have gone.
+-- What all requests together were, and what holds of each session that ends so.
 use Rattle.std.proofs.Common.{[], refl}
 use Rattle.client_session.specs.Requests.{visit}
 use Rattle.client_session.specs.Standings.{standing}
@@ -26,13 +26,13 @@ returns-clause-parts g c =
     c.serve_all-end.ensures.session.0 c.serve_all-end.result c.in-Ok.ensures c.serve_all-end.ensures.session.2
 
 pub returns-clause-own : goal.returns-clause-own
-returns-clause-own g c = λ way. owned _ _ _ _ _ _ way
+returns-clause-own g c = owned _ _
 
 pub returns-clause-by_bytes : goal.returns-clause-by_bytes
-returns-clause-by_bytes g c = λ way. decided _ _ _ _ _ _ way
+returns-clause-by_bytes g c = decided _ _
 
 pub returns-clause-complete : goal.returns-clause-complete
-returns-clause-complete g c = λ way. completed _ _ _ _ _ _ way
+returns-clause-complete g c = completed _ _
 
 pub returns-clause-served : goal.returns-clause-served
 returns-clause-served g c = λ number s n gained served. serves_whole _ number s n gained served

@@ -20,6 +20,6 @@ returns g c calm =
       run = run_from _ _ _ _ _ _ _ _ _ e.session.1
           (ap (λ (addr : List ℕ). visit c.args.site.now.config.now c.args.site.now.map.now 0 (record { addr = addr })) c.requires.peer)
           (first_is _ _ c.args.reach.now c.args.client.now d.books d.is (c.new-clock.ensures ∙ c.new.ensures) c.requires.reach.no_talk c.requires.reach.no_fault k.received k.sent k.no_fault)
-          refl refl calm e.parts (e.own _) (e.by_bytes _) (e.complete _) e.served;
+          refl refl calm e.parts e.own e.by_bytes e.complete e.served;
       over = (over.past, over.before, over.talks, over.over);
     }
