@@ -1,11 +1,11 @@
 -- The Forward Request that a request becomes for a member.
-use Rattle.std.specs.Prelude.{ℕ, Bool, false, List, [], ◌∷◌, ◌++◌, map, codes, Option, Some, None, if◌then◌else◌}
+use Rattle.std.specs.Prelude.{ℕ, ◌<◌, ◌≤◌, Bool, false, List, [], ◌∷◌, ◌++◌, length, map, codes, Option, Some, None, if◌then◌else◌}
 use Rattle.jk_io.specs.Decimals.{trimmed}
 use Rattle.jk_model.specs.declared.member.MemberConfig.{MemberConfig}
 use Rattle.ajp_wire.specs.Packet.{packet}
 use Rattle.ajp_wire.specs.Spelling.{string}
 use Rattle.ajp_request.specs.Tables.{method_code}
-use Rattle.ajp_request.specs.Writing.{payload_of}
+use Rattle.ajp_request.specs.Writing.{FieldsFit, payload_of}
 use Rattle.ajp_request.specs.declared.attribute.Attribute.{Attribute}
 use Rattle.ajp_request.specs.declared.attribute.Attribute.TheVariants.{Plain}
 use Rattle.ajp_request.specs.declared.forward.Forward.{Forward}
@@ -49,6 +49,23 @@ forward_for head peer direct member endpoint = record {
   headers = map line_for head.headers;
   attributes = attributes_for head.query (route_for direct member) endpoint.secret;
 }
+
+-- A client's request, where it came from, and the member that it goes to.
+pub record Delivery : Type 0 where
+  pub head : Head
+  pub peer : List ℕ
+  pub direct : Bool
+  pub member : MemberConfig
+  pub endpoint : Endpoint
+
+abbrev pub forward_in : Delivery → Forward
+forward_in d = forward_for d.head d.peer d.direct d.member d.endpoint
+
+-- What the standard's spelling holds: a port, at most 100 headers, and fields that fit their lengths.
+pub record IsSpellable (d : Delivery) : Type 0 where
+  pub port : d.head.port < 65536
+  pub few : length d.head.headers ≤ 100
+  pub fits : FieldsFit (forward_in d)
 
 -- its packet
 abbrev pub packet_for : Head → (peer : List ℕ) → (direct : Bool) → MemberConfig → Endpoint → List ℕ

@@ -14,6 +14,31 @@ use jk_model::MemberConfig;
 use site_config::Endpoint;
 use std::alloc::Global;
 
+/// The texts of a Forward Request before its headers.
+#[derive(Drop)]
+struct Texts {
+    method: Bytes,
+    protocol: Bytes,
+    uri: Bytes,
+    remote_addr: Bytes,
+    remote_host: Bytes,
+    server: Bytes,
+}
+
+fn texts_of(alloc: Global, head: &Head, peer: &Peer) -> Result<Texts, NoMemory>
+    ensures line { IfOk result (λ t. (t.method ≡ head.now.method) × (t.protocol ≡ protocol_text head.now.old) × (t.uri ≡ head.now.path)) }
+    ensures ends { IfOk result (λ t. (t.remote_addr ≡ peer.now.addr) × (t.remote_host ≡ peer.now.addr) × (t.server ≡ head.now.server)) }
+{
+    Ok(Texts {
+        method: head.method.copy()?,
+        protocol: Bytes::from_slice(alloc, protocol_of(head.old))?,
+        uri: head.path.copy()?,
+        remote_addr: peer.addr.copy()?,
+        remote_host: peer.addr.copy()?,
+        server: head.server.copy()?,
+    })
+}
+
 /// The Forward Request of a request from `peer`, for a member that is reached by `endpoint`. In a balancer that is
 /// `direct` no route is told.
 pub fn forward_of(
@@ -28,13 +53,14 @@ pub fn forward_of(
     ensures writable { IfOk result IsForward }
 {
     let port = head.port;
+    let texts = texts_of(alloc, head, peer)?;
     Ok(Forward {
-        method: head.method.copy()?,
-        protocol: Bytes::from_slice(alloc, protocol_of(head.old))?,
-        uri: head.path.copy()?,
-        remote_addr: peer.addr.copy()?,
-        remote_host: peer.addr.copy()?,
-        server: head.server.copy()?,
+        method: texts.method,
+        protocol: texts.protocol,
+        uri: texts.uri,
+        remote_addr: texts.remote_addr,
+        remote_host: texts.remote_host,
+        server: texts.server,
         port,
         ssl: false,
         headers: headers_of(alloc, &head.headers)?,
@@ -58,8 +84,8 @@ pub fn forward_packet(
 ) -> Result<Bytes, EncodeError>
     ensures ok { IfOk result (λ bytes. bytes ≡ packet_for head.now peer.now.addr direct member.now endpoint.now) }
     ensures fits { OnOk result (Fits endpoint.now.packet (forward_for head.now peer.now.addr direct member.now endpoint.now)) }
-    ensures spelled { OnOk result (SpellsForward (as_read (forward_for head.now peer.now.addr direct member.now endpoint.now))
-        (payload_of (forward_for head.now peer.now.addr direct member.now endpoint.now))) }
+    ensures spelled { let f = forward_for head.now peer.now.addr direct member.now endpoint.now in
+        OnOk result (SpellsForward (as_read f) (payload_of f)) }
     ensures too_large { result ≡ Err EncodeError.TooLarge
         → Fits endpoint.now.packet (forward_for head.now peer.now.addr direct member.now endpoint.now) → ⊥ }
 {

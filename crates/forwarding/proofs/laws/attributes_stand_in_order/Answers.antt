@@ -6,5 +6,5 @@ use Rattle.forwarding.proofs.AttributeLaws.{attributes_in_order}
 use Rattle.forwarding.proofs.laws.attributes_stand_in_order.Goals as goal
 
 pub returns : goal.returns
-returns c = λ head peer direct member endpoint. ap (λ (t : List ℕ). t ++ 255 ∷ [])
-    (attributes_in_order (method_code head.method) head.method head.query (route_for direct member) endpoint.secret)
+returns c = λ d. ap (λ (t : List ℕ). t ++ 255 ∷ [])
+    (attributes_in_order (method_code d.head.method) d.head.method d.head.query (route_for d.direct d.member) d.endpoint.secret)
