@@ -9,7 +9,7 @@ use Rattle.status_page.specs.BookCommands.{commands_for}
 use Rattle.status_page.specs.Effects.{is_change}
 use Rattle.status_page.specs.Meaning.{meaning_of}
 use Rattle.status_page.specs.declared.command.StatusCommand.{StatusCommand}
-use Rattle.status_worker.specs.Asking.{IfCode, IsNamedBalancer}
+use Rattle.status_worker.specs.Asking.{AsksBy, IfCode, IsNamedBalancer, IsRefusedBy}
 use Rattle.status_worker.specs.Commands.{Asks, IsAllowed, IsRefused, IsWorkFor, NamesNone}
 use Rattle.status_worker.specs.declared.asking.NoPage.{NoPage}
 use Rattle.status_worker.specs.declared.asking.NoPage.TheVariants as no_page
@@ -24,23 +24,14 @@ allowed status c is = by_tests (is_change c) status.read_only is
     by_tests true false e = inr refl
     by_tests true true e = absurd cc
 
-pub forbidden : (cfg : Config) (status : Status) (query : Option (List ℕ)) (c : StatusCommand) → meaning_of query ≡ Some c
-    → (is_change c && status.read_only) ≡ true → IsRefused cfg status query 403
-forbidden cfg status query c means is =
-    let both = and_parts (is_change c) status.read_only is in
-    inr (inl (c, refl, means, both.0, both.1))
+pub forbidden : (cfg : Config) (status : Status) (c : StatusCommand) → (is_change c && status.read_only) ≡ true → IsRefusedBy cfg status c 403
+forbidden cfg status c is = let both = and_parts (is_change c) status.read_only is in inl (refl, both.0, both.1)
 
 -- the query means no command
 pub means_none : (cfg : Config) (status : Status) (query : Option (List ℕ)) (why : NoPage)
     → IfCode (λ code. (code ≡ 400) × (meaning_of query ≡ None)) why → IfCode (IsRefused cfg status query) why
 means_none cfg status query (no_page.Own code) bad = inl bad
 means_none cfg status query no_page.NoMemory bad = tt
-
--- a name is nobody's
-pub names_nobody : (cfg : Config) (status : Status) (query : Option (List ℕ)) (c : StatusCommand) (why : NoPage) → meaning_of query ≡ Some c
-    → IsAllowed status c → IfCode (λ code. (code ≡ 404) × NamesNone cfg c) why → IfCode (IsRefused cfg status query) why
-names_nobody cfg status query c (no_page.Own code) means may nobody = inr (inr (c, nobody.0, means, may, nobody.1))
-names_nobody cfg status query c no_page.NoMemory means may nobody = tt
 
 pub works_for : (cfg : Config) (c : StatusCommand) (place : ℕ) (mine : Lb) (work : Work) (named : IsNamedBalancer cfg c (Some place)) → mine ≡ named.1
     → work.only ≡ Some place → commands_for mine.book.members c ≡ Some work.commands → IsWorkFor cfg c work
@@ -57,18 +48,34 @@ only_within cfg c work (inl all) = subst (λ (o : Option ℕ). IfSome o (λ lb. 
 only_within cfg c work (inr one) =
     subst (λ (o : Option ℕ). IfSome o (λ lb. lb < length cfg.lbs)) (sym one.5) (slice_get_within cfg.lbs one.1 one.2 one.4.stands)
 
+-- a command that isn't forbidden
+pub asks_by : (cfg : Config) (status : Status) (c : StatusCommand) (r : Result Work NoPage) → (is_change c && status.read_only) ≡ false
+    → IfOk r (IsWorkFor cfg c) → IfOk r (AsksBy cfg status c)
+asks_by cfg status c (Ok work) may works = (allowed status c may, works)
+asks_by cfg status c (Err why) may works = tt
+
 -- what the command asks for is what the query asks for
 pub asks : (cfg : Config) (status : Status) (query : Option (List ℕ)) (c : StatusCommand) (r : Result Work NoPage) → meaning_of query ≡ Some c
-    → (is_change c && status.read_only) ≡ false → IfOk r (IsWorkFor cfg c) → IfOk r (Asks cfg status query)
-asks cfg status query c (Ok work) means may works = (c, means, allowed status c may, works)
-asks cfg status query c (Err why) means may works = tt
+    → IfOk r (AsksBy cfg status c) → IfOk r (Asks cfg status query)
+asks cfg status query c (Ok work) means by = (c, means, by.0, by.1)
+asks cfg status query c (Err why) means by = tt
 
 pub all_within : (cfg : Config) (c : StatusCommand) (r : Result Work NoPage) → IfOk r (IsWorkFor cfg c)
     → IfOk r (λ work. IfSome work.only (λ lb. lb < length cfg.lbs))
 all_within cfg c (Ok work) works = only_within cfg c work works
 all_within cfg c (Err why) works = tt
 
-pub none_named : (cfg : Config) (status : Status) (query : Option (List ℕ)) (c : StatusCommand) (r : Result Work NoPage) → meaning_of query ≡ Some c
-    → (is_change c && status.read_only) ≡ false → IfErr r (IfCode (λ code. (code ≡ 404) × NamesNone cfg c)) → IfErr r (IfCode (IsRefused cfg status query))
-none_named cfg status query c (Ok work) means may none = tt
-none_named cfg status query c (Err why) means may none = names_nobody cfg status query c why means (allowed status c may) none
+-- a name is nobody's
+pub none_named : (cfg : Config) (status : Status) (c : StatusCommand) (r : Result Work NoPage) → (is_change c && status.read_only) ≡ false
+    → IfErr r (IfCode (λ code. (code ≡ 404) × NamesNone cfg c)) → IfErr r (IfCode (IsRefusedBy cfg status c))
+none_named cfg status c (Ok work) may none = tt
+none_named cfg status c (Err (no_page.Own code)) may none = inr (none.0, allowed status c may, none.1)
+none_named cfg status c (Err no_page.NoMemory) may none = tt
+
+-- why the command isn't done is why the query isn't
+pub refused : (cfg : Config) (status : Status) (query : Option (List ℕ)) (c : StatusCommand) (r : Result Work NoPage) → meaning_of query ≡ Some c
+    → IfErr r (IfCode (IsRefusedBy cfg status c)) → IfErr r (IfCode (IsRefused cfg status query))
+refused cfg status query c (Ok work) means why = tt
+refused cfg status query c (Err (no_page.Own code)) means (inl change) = inr (inl (c, change.0, means, change.1, change.2))
+refused cfg status query c (Err (no_page.Own code)) means (inr name) = inr (inr (c, name.0, means, name.1, name.2))
+refused cfg status query c (Err no_page.NoMemory) means why = tt

@@ -1,12 +1,14 @@
 -- The steps from a query to what it asks for.
-use Rattle.std.specs.Prelude.{ℕ, ◌≡◌, List, Option, Some, None}
+use Rattle.std.specs.Prelude.{ℕ, ◌≡◌, ◌⊎◌, true, List, Option, Some, None}
 use Rattle.site_config.specs.declared.balancer.Lb.{Lb}
 use Rattle.site_config.specs.declared.config.Config.{Config}
-use Rattle.status_page.specs.Effects.{worker_of}
+use Rattle.site_config.specs.declared.config.Status.{Status}
+use Rattle.status_page.specs.Effects.{is_change, worker_of}
 use Rattle.status_page.specs.declared.command.StatusCommand.{StatusCommand}
-use Rattle.status_worker.specs.Commands.{IsNamed}
+use Rattle.status_worker.specs.Commands.{IsAllowed, IsNamed, IsWorkFor, NamesNone}
 use Rattle.status_worker.specs.declared.asking.NoPage.{NoPage}
 use Rattle.status_worker.specs.declared.asking.NoPage.TheVariants as no_page
+use Rattle.status_worker.specs.declared.asking.Work.{Work}
 
 -- P of the status of an own answer
 abbrev pub IfCode : (ℕ → Type 0) → NoPage → Type 0
@@ -17,3 +19,13 @@ IfCode P no_page.NoMemory = Unit {0}
 abbrev pub IsNamedBalancer : Config → StatusCommand → Option ℕ → Type 0
 IsNamedBalancer cfg c None = worker_of c ≡ None
 IsNamedBalancer cfg c (Some place) = (name : List ℕ) × (lb : Lb) × (worker_of c ≡ Some name) × IsNamed cfg name place lb
+
+-- what the command asks for, where the status worker may do it
+abbrev pub AsksBy : Config → Status → StatusCommand → Work → Type 0
+AsksBy cfg status c work = IsAllowed status c × IsWorkFor cfg c work
+
+-- why it is not done: 403 for a change where the worker is read only, then 404 for a name that is nobody's
+abbrev pub IsRefusedBy : Config → Status → StatusCommand → (code : ℕ) → Type 0
+IsRefusedBy cfg status c code =
+    ((code ≡ 403) × (is_change c ≡ true) × (status.read_only ≡ true))
+    ⊎ ((code ≡ 404) × IsAllowed status c × NamesNone cfg c)

@@ -2,7 +2,7 @@
 ghost use Rattle.std.specs.Prelude.{◌≡◌, ◌<◌, ◌&&◌, None, Some, length, IfOk, IfErr, IfSome};
 ghost use Rattle.status_page.specs.Effects.{is_change};
 ghost use Rattle.status_page.specs.Meaning.{meaning_of};
-ghost use Rattle.status_worker.specs.Asking.{IfCode, IsNamedBalancer};
+ghost use Rattle.status_worker.specs.Asking.{AsksBy, IfCode, IsNamedBalancer, IsRefusedBy};
 ghost use Rattle.status_worker.specs.Commands.{Asks, IsRefused, IsWorkFor, NamesNone};
 
 use jk_io::{Bytes, NoMemory};
@@ -93,6 +93,23 @@ fn is_forbidden(status: &Status, command: &StatusCommand) -> bool
     command.is_change() && status.read_only
 }
 
+/// What a command asks for, where the status worker may do it.
+fn work_by(
+    alloc: Global,
+    cfg: &Config,
+    status: &Status,
+    command: &StatusCommand,
+) -> Result<Work, NoPage>
+    ensures ok { IfOk result (AsksBy cfg.now status.now command.now) }
+    ensures within { IfOk result (λ work. IfSome work.only (λ lb. lb < length cfg.now.lbs)) }
+    ensures err { IfErr result (IfCode (IsRefusedBy cfg.now status.now command.now)) }
+{
+    if is_forbidden(status, command) {
+        return Err(NoPage::Own(403));
+    }
+    work_for(alloc, cfg, command)
+}
+
 /// What a request of a status worker asks for, or the first refusal: 400, 403, 404.
 pub(crate) fn work_of(
     alloc: Global,
@@ -105,8 +122,5 @@ pub(crate) fn work_of(
     ensures err { IfErr result (IfCode (IsRefused cfg.now status.now query.now)) }
 {
     let command = read_query(alloc, query)?;
-    if is_forbidden(status, &command) {
-        return Err(NoPage::Own(403));
-    }
-    work_for(alloc, cfg, &command)
+    work_by(alloc, cfg, status, &command)
 }
