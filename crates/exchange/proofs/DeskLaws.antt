@@ -1,5 +1,5 @@
 -- What a desk keeps over several calls, and the receipts that they add.
-use Rattle.std.proofs.Common.{◌≡◌, ℕ, List, [], ◌∷◌, ◌++◌, refl, sym, ap, ◌∙◌, subst, arith}
+use Rattle.std.proofs.Common.{◌≡◌, ℕ, List, [], ◌∷◌, ◌++◌, Option, Some, None, refl, sym, ap, ◌∙◌, subst, arith}
 use Rattle.std.proofs.lemmas.List.{append_assoc, append-nil, length-append}
 use Rattle.std.proofs.lemmas.List.Elements.{All-append, All-cons, All-nil, All-push}
 use Rattle.std.specs.List.{All}
@@ -12,7 +12,10 @@ use Rattle.jk_model.specs.declared.refusal.Stray.{Stray}
 use Rattle.balancer_core.specs.Desks.{Chooses, DeskState, Gains, IsDue, KeepsDesk, LeaseNote, MeetsStray, RefusesChoice, TakesBack}
 use Rattle.balancer_core.specs.declared.desk.Choice.{Choice}
 use Rattle.balancer_core.specs.declared.receipt.Receipt.{Receipt}
-use Rattle.exchange.specs.Rounds.{IsAskOrReturn, IsDeskAfter, IsReceiptOf}
+use Rattle.exchange.specs.Rounds.{IsAskOrReturn, IsBack, IsDeskAfter, IsReceiptOf}
+use Rattle.exchange.specs.Steps.{IsNoLease}
+use Rattle.exchange.specs.Steps as no_lease_as
+use Rattle.exchange.specs.declared.ending.Verdict.{Verdict}
 
 pub untouched : (lb session : ℕ) (desk : DeskState) → IsDeskAfter lb session desk desk
 untouched lb session desk = record {
@@ -89,6 +92,18 @@ after_stray old new lb session lease stray kept met = record {
   added = omega (arith, met.added);
   own = All-nil (IsReceiptOf lb session);
 }
+
+pub after_none : {T M : Type 0} (note : T → LeaseNote) (numbers : M → FullMark) (old new : DeskState) (lb session at : ℕ) (ask : Ask) (v : Verdict) → KeepsDesk old new
+    → IsNoLease note numbers old new lb session at ask v → IsDeskAfter lb session old new
+after_none note numbers old new lb session at ask v kept (no_lease_as.none follows chose) = after_choice note old new lb session at ask _ kept chose
+after_none note numbers old new lb session at ask v kept (no_lease_as.forced follows chose) = after_choice note old new lb session at ask _ kept chose
+after_none note numbers old new lb session at ask v kept (no_lease_as.full follows mark refused) = after_refusal numbers old new lb session at _ kept refused
+after_none note numbers old new lb session at ask v kept (no_lease_as.wanted follows refused) = after_refusal numbers old new lb session at _ kept refused
+
+pub after_back : (old new : DeskState) (session at : ℕ) (lease : LeaseNote) (outcome : Outcome) (stray : Option Stray) → KeepsDesk old new
+    → IsBack old new session at lease outcome stray → IsDeskAfter lease.lb session old new
+after_back old new session at lease outcome None kept back = after_return old new session at lease outcome kept back
+after_back old new session at lease outcome (Some stray) kept met = after_stray old new lease.lb session lease stray kept met
 
 pub same_twice : (lb session : ℕ) (old mid new : DeskState) → IsDeskAfter lb session old mid → IsDeskAfter lb session mid new
     → IsDeskAfter lb session old new

@@ -140,9 +140,6 @@ pub never_began : (q : Errand) (s n : Scene) (end : ExchangeEnd)
 never_began q s n end why desk clock talks written used =
     inl (record { why = why; desk = desk; clock = clock; talks = talks; written = written; used = used })
 
-pub used_first : (len : ℕ) (s n : BodyAt) (first : List ℕ) → TakesFirst len s n first → IsUsed s n
-used_first len s n first took = record { gone = took.takes.uses.gone; used = took.takes.uses.used; most = took.takes.most }
-
 pub goes_own : (q : Errand) (first : List ℕ) (b n m : Scene) (ask : Ask) (fresh : Bool) (status : ℕ) (client : Moment) (body : BodyAt) (end : ExchangeEnd)
     → IsSearching q first b n ask fresh → IsStep q first ask.tried fresh n m (verdict.Answer status) → body ≡ m.around.body → m.around.client.faults ≤ client.faults
     → IsWritten status (is_head q.head) m.around.client client end → GoesThrough q first b (record m { around = record m.around { client = client; body = body } }) end

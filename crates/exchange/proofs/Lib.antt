@@ -16,4 +16,3 @@ pub mod CompleteLaws
 pub mod UsedLaws
 pub mod OwnLaws
 pub mod SizeLaws
-pub mod WholeExchangeLaws

@@ -14,7 +14,8 @@ use Rattle.exchange.specs.Ends.{outcome_for}
 use Rattle.exchange.specs.OneTalk.{Around}
 use Rattle.exchange.specs.Requests.{Errand, ask_for}
 use Rattle.exchange.specs.Rounds.{IsBack, IsRound, Round, Scene, same_lease, same_mark}
-use Rattle.exchange.specs.Steps.{IsStep, verdict_for}
+use Rattle.exchange.specs.Steps.{IsNoLease, IsStep, verdict_back, verdict_for}
+use Rattle.exchange.specs.Steps as no_lease_as
 use Rattle.exchange.specs.Talks.{HasRun}
 use Rattle.exchange.specs.declared.ending.ExchangeEnd.TheVariants as exchange_end
 use Rattle.exchange.specs.declared.ending.Ran.{Ran}
@@ -141,6 +142,25 @@ wanted numbers q first tried fresh s n at asked same refused =
       },
     ))))
 
+pub no_lease : {T M : Type 0} (note : T → LeaseNote) (numbers : M → FullMark) (q : Errand) (first : List ℕ) (fresh : Bool) (s n : Scene) (at : ℕ) (ask : Ask) (v : Verdict)
+    → ask ≡ ask_for q ask.tried → Answers s.clock at n.clock → n.around ≡ s.around → IsNoLease note numbers s.desk n.desk q.lb q.session at ask v
+    → IsStep q first ask.tried fresh s n v
+no_lease note numbers q first fresh s n at ask v is asked same (no_lease_as.none follows chose) =
+    subst (IsStep q first ask.tried fresh s n) (sym follows) (no_member note q first fresh s n at ask is asked same chose.answered.1 chose)
+no_lease note numbers q first fresh s n at ask v is asked same (no_lease_as.forced follows chose) =
+    subst (IsStep q first ask.tried fresh s n) (sym follows) (forced note q first fresh s n at ask is asked same chose.answered.1 chose)
+no_lease note numbers q first fresh s n at ask v is asked same (no_lease_as.full follows mark refused) =
+    subst (IsStep q first ask.tried fresh s n) (sym follows) (full numbers q first ask.tried fresh s n at mark asked same refused)
+no_lease note numbers q first fresh s n at ask v is asked same (no_lease_as.wanted follows refused) =
+    subst (IsStep q first ask.tried fresh s n) (sym follows) (wanted numbers q first ask.tried fresh s n at asked same refused)
+
+pub none_held : {T M : Type 0} (note : T → LeaseNote) (numbers : M → FullMark) (old new : DeskState) (lb session at : ℕ) (ask : Ask) (v : Verdict)
+    → IsNoLease note numbers old new lb session at ask v → new.held ≡ old.held
+none_held note numbers old new lb session at ask v (no_lease_as.none follows chose) = chose.answered.1
+none_held note numbers old new lb session at ask v (no_lease_as.forced follows chose) = chose.answered.1
+none_held note numbers old new lb session at ask v (no_lease_as.full follows mark refused) = refused.held
+none_held note numbers old new lb session at ask v (no_lease_as.wanted follows refused) = refused.held
+
 -- ---- the exits with a lease
 
 -- what a lease tells is at most 2^44
@@ -215,3 +235,12 @@ pub was_stray : {T : Type 0} (note : T → LeaseNote) (q : Errand) (first : List
     → IsStep q first ask.tried fresh s n (verdict.End (exchange_end.Stray stray.ticket stray.returned_at))
 was_stray note q first fresh s n at back_at ask member lease config endpoint ran desk clock stray gone =
     inr (inr (_, stray, is_round note q first fresh s n at back_at ask member lease config endpoint ran desk clock (Some stray) gone, refl))
+
+pub went_back : {T : Type 0} (note : T → LeaseNote) (q : Errand) (first : List ℕ) (fresh : Bool) (s n : Scene) (at back_at : ℕ) (ask : Ask)
+    (member : ℕ) (lease : T) (config : MemberConfig) (endpoint : Endpoint) (ran : Ran) (desk : DeskState) (clock : Option (List ℕ)) (stray : Option Stray) (v : Verdict)
+    → HasGoneRound note q first fresh s n at back_at ask member lease config endpoint ran desk clock stray
+    → v ≡ verdict_back stray endpoint q.head member ran → IsStep q first ask.tried fresh s n v
+went_back note q first fresh s n at back_at ask member lease config endpoint ran desk clock None v gone is =
+    came_back note q first fresh s n at back_at ask member lease config endpoint ran desk clock v gone is
+went_back note q first fresh s n at back_at ask member lease config endpoint ran desk clock (Some stray) v gone is =
+    subst (IsStep q first ask.tried fresh s n) (sym is) (was_stray note q first fresh s n at back_at ask member lease config endpoint ran desk clock stray gone)

@@ -130,3 +130,7 @@ pub record HasNone (q : Errand) (s n : Scene) (end : ExchangeEnd) : Type 0 where
 -- What an exchange's end says.
 abbrev pub IsExchange : Errand → Scene → Scene → ExchangeEnd → Type 0
 IsExchange q s n end = HasNone q s n end ⊎ HasRounds q s n end
+
+-- P of each exchange of this errand that ends so: of where it began, and where it ended.
+abbrev pub InEachExchange : Errand → ExchangeEnd → (Errand → Scene → Scene → ExchangeEnd → Type 0) → Type 0
+InEachExchange q end P = (s n : Scene) → IsExchange q s n end → P q s n end

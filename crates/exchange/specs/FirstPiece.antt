@@ -1,12 +1,19 @@
 -- The first piece of a body, taken before a member is chosen.
 use Rattle.std.specs.Prelude.{◌≡◌, ℕ, ◌≤◌, false, List, length, take, IfSome, IsTrue}
 use Rattle.jk_io.specs.Told.{Rose}
+use Rattle.jk_io.specs.declared.traits.streams.Meanings.{Ghosts}
+use Rattle.http_front.specs.Unread.{unread}
 use Rattle.http_body_in.specs.Body.{dropped, reaches}
 use Rattle.ajp_talk.specs.Moments.{BodyAt, Takes, data_at}
+use Rattle.http_body_in.specs.declared.body.BodyIn.{BodyIn}
 use Rattle.http_body_in.specs.declared.fault.BodyFault.{BodyFault}
 use Rattle.http_body_in.specs.declared.fault.BodyFault.TheVariants as fault
 use Rattle.exchange.specs.declared.ending.ExchangeEnd.{ExchangeEnd}
 use Rattle.exchange.specs.declared.ending.ExchangeEnd.TheVariants as exchange_end
+
+-- the client's bytes, as a body that is to be taken: `body_left C.Meanings body inbox client`
+abbrev pub body_left : {C X : Type 0} → Ghosts C X → BodyIn → List ℕ → C → BodyAt
+body_left told body inbox client = record { body = body; unread = unread inbox (told.incoming client) }
 
 -- The first bytes of the data were taken: as many as were asked for, or all that a whole body has.
 pub record TakesFirst (len : ℕ) (s n : BodyAt) (first : List ℕ) : Type 0 where

@@ -1,9 +1,10 @@
 -- A request as a balancer is asked for it, and as a talk is planned for a member.
-use Rattle.std.specs.Prelude.{ℕ, Bool, true, false, List, [], ◌∷◌, length, map, codes, bytes_eq, Option, None, if◌then◌else◌}
+use Rattle.std.specs.Prelude.{ℕ, ◌≡◌, Bool, true, false, List, [], ◌∷◌, length, map, codes, bytes_eq, Option, None, Some, slice_get, if◌then◌else◌}
 use Rattle.ajp_talk.specs.declared.ending.Stage.{Stage}
 use Rattle.ajp_talk.specs.declared.plan.TalkPlan.{TalkPlan}
 use Rattle.forwarding.specs.FirstPiece.{piece_for}
-use Rattle.forwarding.specs.Forwards.{packet_for}
+use Rattle.ajp_request.specs.declared.forward.Forward.{Forward}
+use Rattle.forwarding.specs.Forwards.{forward_for, packet_for}
 use Rattle.http_front.specs.declared.head.Head.{Head}
 use Rattle.jk_io.specs.declared.traits.surroundings.Peer.{Peer}
 use Rattle.jk_model.specs.declared.ask.Ask.{Ask}
@@ -41,6 +42,10 @@ errand head peer last session lb terms balancer = record {
 abbrev pub errand_of : Request → Errand
 errand_of q = errand q.head.now q.peer.now q.last q.session q.lb q.terms q.balancer.now
 
+-- P of the balancer at this place
+abbrev pub AtPlace : List Lb → (lb : ℕ) → (Lb → Type 0) → Type 0
+AtPlace lbs lb P = (balancer : Lb) → slice_get lbs lb ≡ Some balancer → P balancer
+
 -- the numbers of members of these balancers
 abbrev pub sizes_of : List Lb → List ℕ
 sizes_of lbs = map (λ lb. length lb.book.members) lbs
@@ -73,6 +78,10 @@ ask_for q tried = record {
   disabled = q.terms.disabled;
   stopped = q.terms.stopped;
 }
+
+-- the Forward Request of the errand for a member
+abbrev pub forward_to : Errand → MemberConfig → Endpoint → Forward
+forward_to q member endpoint = forward_for q.head q.peer q.balancer.book.direct member endpoint
 
 -- how a member's talk goes, where this piece of the body was taken before
 abbrev pub plan_for : Errand → (first : List ℕ) → MemberConfig → Endpoint → TalkPlan

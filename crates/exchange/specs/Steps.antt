@@ -1,7 +1,12 @@
 -- The steps that an exchange is made of: what follows a round, by how its last talk ended.
 use Rattle.std.specs.Prelude.{◌≡◌, ℕ, ◌≤◌, ◌⊎◌, Bool, true, false, List, Option, Some, None, IfSome, if◌then◌else◌}
 use Rattle.jk_io.specs.Told.{appended, PutsFront, Rose}
+use Rattle.jk_model.specs.declared.ask.Ask.{Ask}
+use Rattle.jk_model.specs.declared.refusal.FullMark.{FullMark}
+use Rattle.jk_model.specs.declared.refusal.RoomError.TheVariants as room
 use Rattle.jk_model.specs.declared.refusal.Stray.{Stray}
+use Rattle.balancer_core.specs.Desks.{Chooses, DeskState, LeaseNote, RefusesChoice, pair_of, without_last}
+use Rattle.balancer_core.specs.declared.desk.Choice.TheVariants as choice
 use Rattle.jk_io.specs.Moments.{Moment}
 use Rattle.ajp_talk.specs.declared.ending.Cause.{Cause}
 use Rattle.ajp_talk.specs.declared.ending.TalkEnd.{TalkEnd}
@@ -10,9 +15,9 @@ use Rattle.ajp_talk.specs.declared.ending.Told.{Told}
 use Rattle.http_front.specs.declared.head.Head.{Head}
 use Rattle.http_out.specs.Own.{own_bytes, own_of}
 use Rattle.site_config.specs.declared.endpoint.Endpoint.{Endpoint}
-use Rattle.exchange.specs.Ends.{status_for}
+use Rattle.exchange.specs.Ends.{outcome_for, status_for}
 use Rattle.exchange.specs.Requests.{Errand, allows}
-use Rattle.exchange.specs.Rounds.{FindsNone, IsForced, IsFull, IsRound, IsUnchosen, Round, Scene, WantsMemory}
+use Rattle.exchange.specs.Rounds.{FindsNone, IsBack, IsForced, IsFull, IsRound, IsUnchosen, Round, Scene, WantsMemory}
 use Rattle.exchange.specs.declared.ending.ExchangeEnd.{ExchangeEnd}
 use Rattle.exchange.specs.declared.ending.ExchangeEnd.TheVariants as exchange_end
 use Rattle.exchange.specs.declared.ending.Ran.{Ran}
@@ -47,6 +52,26 @@ abbrev pub verdict_for : Endpoint → Head → ℕ → Ran → Verdict
 verdict_for endpoint head member ran_is.TooLarge = verdict.Answer 413
 verdict_for endpoint head member (ran_is.Wanted bytes) = verdict.End exchange_end.NoMemory
 verdict_for endpoint head member (ran_is.Ended end bytes) = after endpoint head member end
+
+-- What follows where the lease's ticket came back, or was a stray.
+abbrev pub verdict_back : Option Stray → Endpoint → Head → ℕ → Ran → Verdict
+verdict_back None endpoint head member ran = verdict_for endpoint head member ran
+verdict_back (Some stray) endpoint head member ran = verdict.End (exchange_end.Stray stray.ticket stray.returned_at)
+
+-- The lease was handed back.
+pub record HandsBack (old new : DeskState) (session at : ℕ) (lease : LeaseNote) (endpoint : Endpoint) (head : Head) (member : ℕ) (ran : Ran) (v : Verdict) : Type 0 where
+  pub stray : Option Stray
+  pub back : IsBack old new session at lease (outcome_for endpoint ran) stray
+  pub fulls : new.fulls ≡ old.fulls
+  pub held : new.held ≡ without_last old.held (pair_of lease)
+  pub follows : v ≡ verdict_back stray endpoint head member ran
+
+-- Why the desk gave no lease: 503 where no member may be chosen, 500 where it is forced or full.
+pub data IsNoLease {T M : Type 0} (note : T → LeaseNote) (numbers : M → FullMark) (old new : DeskState) (lb session at : ℕ) (ask : Ask) (v : Verdict) : Type 0 where
+  none : v ≡ verdict.Answer 503 → Chooses note old new lb session at ask choice.NoMember → IsNoLease note numbers old new lb session at ask v
+  forced : v ≡ verdict.Answer 500 → Chooses note old new lb session at ask choice.Forced → IsNoLease note numbers old new lb session at ask v
+  full : v ≡ verdict.Answer 500 → (mark : M) → RefusesChoice numbers old new lb session at (room.Full mark) → IsNoLease note numbers old new lb session at ask v
+  wanted : v ≡ verdict.End exchange_end.NoMemory → RefusesChoice numbers old new lb session at room.NoMemory → IsNoLease note numbers old new lb session at ask v
 
 -- The desk chose no member: 503 where none may be chosen, 500 where it is forced or full.
 abbrev pub IsNoChoice : Errand → (tried : ℕ) → Scene → Scene → Verdict → Type 0

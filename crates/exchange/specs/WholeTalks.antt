@@ -12,6 +12,8 @@ use Rattle.recovery_rule.specs.declared.options.RecoveryOption.TheVariants.{NotO
 use Rattle.site_config.specs.declared.endpoint.Endpoint.{Endpoint}
 use Rattle.exchange.specs.OneTalk.{Around, pings}
 use Rattle.exchange.specs.Requests.{Errand, plan_for}
+use Rattle.exchange.specs.Rounds.{Scene}
+use Rattle.exchange.specs.declared.ending.ExchangeEnd.{ExchangeEnd}
 
 -- no other try once the container got the request, whatever its method
 pub record IsStrict (endpoint : Endpoint) : Type 0 where
@@ -41,3 +43,7 @@ pub record SendsOnce (q : Errand) (s n : Around) : Type 0 where
 
 abbrev pub IsWholeOnce : Errand → Around → Around → Type 0
 IsWholeOnce q s n = AreStrict q.balancer.ends → SendsOnce q s n
+
+-- however the exchange ended
+abbrev pub GoesWholeOnce : Errand → Scene → Scene → ExchangeEnd → Type 0
+GoesWholeOnce q s n end = IsWholeOnce q s.around n.around

@@ -1,17 +1,15 @@
 //! `exchange`: a request, from the first piece of its body to what its client has.
-ghost use Rattle.std.specs.Prelude.{◌≡◌, ◌≤◌, ◌<◌, ◌^◌, false, None, Some, length, slice_get, slice_index, IfSome};
-ghost use Rattle.http_front.specs.Unread.{unread};
+ghost use Rattle.std.specs.Prelude.{◌≡◌, ◌≤◌, ◌<◌, ◌^◌, false, None, length, slice_index, IfSome};
 ghost use Rattle.http_body_in.specs.Places.{start_of};
 ghost use Rattle.http_body_in.specs.State.{failed_of, place_of, taken_of};
 ghost use Rattle.ajp_talk.specs.Moments.{IsUsed};
-ghost use Rattle.site_config.specs.declared.balancer.Lb.{Lb as AnyLb};
 ghost use Rattle.exchange.specs.Clients.{Gives, MeetsAt};
 ghost use Rattle.exchange.specs.Complete.{Completes};
-ghost use Rattle.exchange.specs.Exchanges.{IsExchange};
-ghost use Rattle.exchange.specs.OneTalk.{around};
-ghost use Rattle.exchange.specs.Requests.{errand, errand_of, sizes_of};
+ghost use Rattle.exchange.specs.Exchanges.{InEachExchange, IsExchange};
+ghost use Rattle.exchange.specs.FirstPiece.{body_left};
+ghost use Rattle.exchange.specs.Requests.{AtPlace, errand, errand_of, sizes_of};
 ghost use Rattle.exchange.specs.Rounds.{IsDeskAfter, scene};
-ghost use Rattle.exchange.specs.WholeTalks.{IsWholeOnce};
+ghost use Rattle.exchange.specs.WholeTalks.{GoesWholeOnce};
 
 use crate::all_rounds::all_rounds;
 use crate::ending::ExchangeEnd;
@@ -58,30 +56,23 @@ where
     requires going { failed_of body.old ≡ None }
 
     // The rounds that were gone through, and how the last one ended.
-    ensures exchange { (balancer : AnyLb) → slice_get cfg.now.lbs lb ≡ Some balancer
-        → let at = scene B.state K.answers R.Meanings C.Meanings in
-        IsExchange (errand head.now peer.now last session lb terms.now balancer)
-        (at desk.old clock.old reach.old client.old body.old inbox.old) (at desk.new clock.new reach.new client.new body.new inbox.new) result }
+    ensures exchange { let at = scene B.state K.answers R.Meanings C.Meanings in
+        AtPlace cfg.now.lbs lb (λ b. IsExchange (errand head.now peer.now last session lb terms.now b)
+        (at desk.old clock.old reach.old client.old body.old inbox.old) (at desk.new clock.new reach.new client.new body.new inbox.new) result) }
 
-    // What the client has at each end, and that its bytes were used from the front.
-    ensures client { (balancer : AnyLb) → slice_get cfg.now.lbs lb ≡ Some balancer
-        → let at = scene B.state K.answers R.Meanings C.Meanings in
-        Gives (errand head.now peer.now last session lb terms.now balancer)
-        (at desk.old clock.old reach.old client.old body.old inbox.old) (at desk.new clock.new reach.new client.new body.new inbox.new) result }
-    ensures used { IsUsed (record { body = body.old; unread = unread inbox.old (C.incoming client.old) })
-        (record { body = body.new; unread = unread inbox.new (C.incoming client.new) }) }
+    // What the client has after an exchange that ends so, and that its bytes were used from the front.
+    ensures client { AtPlace cfg.now.lbs lb (λ b.
+        InEachExchange (errand head.now peer.now last session lb terms.now b) result Gives) }
+    ensures used { let left = body_left C.Meanings in
+        IsUsed (left body.old inbox.old client.old) (left body.new inbox.new client.new) }
 
     // Where each member has option 1 and neither 8 nor 16, the request is sent whole at most once.
-    ensures whole_once { (balancer : AnyLb) → slice_get cfg.now.lbs lb ≡ Some balancer
-        → let at = around R.Meanings C.Meanings in
-        IsWholeOnce (errand head.now peer.now last session lb terms.now balancer)
-        (at reach.old client.old body.old inbox.old) (at reach.new client.new body.new inbox.new) }
+    ensures whole_once { AtPlace cfg.now.lbs lb (λ b.
+        InEachExchange (errand head.now peer.now last session lb terms.now b) result GoesWholeOnce) }
 
     // Where the first link has a whole reply to come and nothing fails, the client has it after that one talk.
-    ensures complete { (balancer : AnyLb) → slice_get cfg.now.lbs lb ≡ Some balancer
-        → let at = scene B.state K.answers R.Meanings C.Meanings in
-        Completes (errand head.now peer.now last session lb terms.now balancer)
-        (at desk.old clock.old reach.old client.old body.old inbox.old) (at desk.new clock.new reach.new client.new body.new inbox.new) result }
+    ensures complete { AtPlace cfg.now.lbs lb (λ b.
+        InEachExchange (errand head.now peer.now last session lb terms.now b) result Completes) }
 
     // No talk runs, and each lease went back.
     ensures idle { (R.beside reach.new).runs ≡ false }
@@ -136,6 +127,10 @@ where
     ensures beside { C.beside client.new ≡ C.beside client.old }
     ensures no_fewer { (R.faults reach.old ≤ R.faults reach.new) × (C.faults client.old ≤ C.faults client.new) }
 {
+    let ask = match ask_of(alloc, request) {
+        Ok(ask) => ask,
+        Err(NoMemory) => return ExchangeEnd::NoMemory,
+    };
     let first = match take_first(
         alloc,
         request.head.plan,
@@ -146,10 +141,6 @@ where
     ) {
         Ok(first) => first,
         Err(end) => return end,
-    };
-    let ask = match ask_of(alloc, request) {
-        Ok(ask) => ask,
-        Err(NoMemory) => return ExchangeEnd::NoMemory,
     };
     all_rounds(
         alloc, request, &first, ask, body, inbox, desk, reach, client, clock,

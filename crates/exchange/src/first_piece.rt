@@ -1,11 +1,10 @@
 //! The first piece of a body, which is taken before a member is chosen.
 ghost use Rattle.std.specs.Prelude.{◌≡◌, ◌≤◌, ◌<◌, None, IfOk, IfErr};
-ghost use Rattle.http_front.specs.Unread.{unread};
 ghost use Rattle.http_body_in.specs.Places.{start_of};
 ghost use Rattle.http_body_in.specs.State.{failed_of, place_of, taken_of};
 ghost use Rattle.ajp_talk.specs.Moments.{IsUsed};
 ghost use Rattle.forwarding.specs.FirstPiece.{first_len as first_length};
-ghost use Rattle.exchange.specs.FirstPiece.{IsFirstFailure, TakesFirst, end_by};
+ghost use Rattle.exchange.specs.FirstPiece.{IsFirstFailure, TakesFirst, body_left, end_by};
 
 use crate::ending::ExchangeEnd;
 use forwarding::first_len;
@@ -28,14 +27,12 @@ pub(crate) fn take_first<C: Link>(
     requires place { place_of body.old ≡ start_of plan }
     requires taken { taken_of body.old ≡ 0 }
     requires going { failed_of body.old ≡ None }
-    ensures ok { IfOk result (TakesFirst (first_length plan ends.now)
-        (record { body = body.old; unread = unread inbox.old (C.incoming client.old) })
-        (record { body = body.new; unread = unread inbox.new (C.incoming client.new) })) }
-    ensures err { IfErr result (IsFirstFailure (first_length plan ends.now)
-        (record { body = body.old; unread = unread inbox.old (C.incoming client.old) }) (C.faults client.old) (C.faults client.new)) }
-    ensures used { IfErr result (λ _. IsUsed
-        (record { body = body.old; unread = unread inbox.old (C.incoming client.old) })
-        (record { body = body.new; unread = unread inbox.new (C.incoming client.new) })) }
+    ensures ok { let left = body_left C.Meanings in
+        IfOk result (TakesFirst (first_length plan ends.now) (left body.old inbox.old client.old) (left body.new inbox.new client.new)) }
+    ensures err { let len = first_length plan ends.now in
+        IfErr result (IsFirstFailure len (body_left C.Meanings body.old inbox.old client.old) (C.faults client.old) (C.faults client.new)) }
+    ensures used { let left = body_left C.Meanings in
+        IfErr result (λ _. IsUsed (left body.old inbox.old client.old) (left body.new inbox.new client.new)) }
     ensures same { (C.sent client.new ≡ C.sent client.old) × (C.beside client.new ≡ C.beside client.old) }
     ensures no_fewer { C.faults client.old ≤ C.faults client.new }
 {

@@ -1,14 +1,14 @@
 //! One round: the desk is asked, talks are held, the lease goes back.
-ghost use Rattle.std.specs.Prelude.{◌≡◌, ℕ, ◌≤◌, ◌<◌, ◌^◌, false, None, Some, List, length, slice_get, slice_index, IfSome, IsSome};
+ghost use Rattle.std.specs.Prelude.{◌≡◌, ℕ, ◌≤◌, ◌<◌, ◌^◌, false, true, None, Some, length, slice_get, slice_index, IfSome, IfOk, IfErr};
 ghost use Rattle.http_body_in.specs.State.{failed_of, taken_of};
-ghost use Rattle.http_out.specs.Own.{own_of};
-ghost use Rattle.jk_model.specs.Free.{is_in};
+ghost use Rattle.balancer_core.specs.Desks.{Chooses, KeepsDesk, holds, pair_of};
 ghost use Rattle.forwarding.specs.FirstPiece.{piece_for};
 ghost use Rattle.site_config.specs.declared.endpoint.Endpoint.{Endpoint};
 ghost use Rattle.exchange.specs.Requests.{ask_for, errand_of};
 ghost use Rattle.exchange.specs.OneTalk.{around};
 ghost use Rattle.exchange.specs.Rounds.{IsDeskAfter, scene};
-ghost use Rattle.exchange.specs.Steps.{IsStep};
+ghost use Rattle.exchange.specs.Ends.{outcome_for};
+ghost use Rattle.exchange.specs.Steps.{HandsBack, IsNoLease, IsStep};
 ghost use Rattle.exchange.specs.Talks.{HasRun};
 
 use crate::ending::{ExchangeEnd, Ran, Verdict};
@@ -73,6 +73,56 @@ fn run_member<R: Reach, C: Link>(
     }
 }
 
+/// Asks the desk for a member that wasn't tried. Where it gives none, what follows.
+fn chosen<B: Desk>(
+    request: &Request,
+    ask: &Ask,
+    at: u64,
+    desk: &mut B,
+) -> Result<(u32, B::Lease), Verdict>
+where
+    B::Mark: Drop,
+    requires lb { request.now.lb < length (B.state desk.old).sizes }
+    requires caller { IfSome (B.state desk.old).caller (λ n. request.now.session ≡ n) }
+    ensures ok { IfOk result (λ chosen. Chooses B.note (B.state desk.old) (B.state desk.new) request.now.lb request.now.session at ask.now
+        (Choice.Chosen chosen.0 chosen.1)) }
+    ensures err { IfErr result (IsNoLease B.note B.numbers (B.state desk.old) (B.state desk.new) request.now.lb request.now.session at ask.now) }
+    ensures kept { KeepsDesk (B.state desk.old) (B.state desk.new) }
+{
+    match desk.choose(request.lb, request.session, at, ask) {
+        Ok(Choice::Chosen { member, lease }) => Ok((member, lease)),
+        Ok(Choice::NoMember) => Err(Verdict::Answer(503)),
+        Ok(Choice::Forced) => Err(Verdict::Answer(500)),
+        Err(RoomError::Full(_)) => Err(Verdict::Answer(500)),
+        Err(RoomError::NoMemory) => Err(Verdict::End(ExchangeEnd::NoMemory)),
+    }
+}
+
+/// Hands the lease back, and tells what follows.
+fn give_back<B: Desk>(
+    request: &Request,
+    endpoint: &Endpoint,
+    member: u32,
+    lease: B::Lease,
+    ran: Ran,
+    at: u64,
+    desk: &mut B,
+) -> Verdict
+    requires caller { IfSome (B.state desk.old).caller (λ n. request.now.session ≡ n) }
+    requires held { holds (B.state desk.old).held (pair_of (B.note lease)) ≡ true }
+    requires bytes { (outcome_for endpoint.now ran).bytes ≤ 2 ^ 44 }
+    ensures back { HandsBack (B.state desk.old) (B.state desk.new) request.now.session at (B.note lease) endpoint.now request.now.head.now member ran result }
+    ensures kept { KeepsDesk (B.state desk.old) (B.state desk.new) }
+{
+    match desk.hand_back(request.session, at, lease, outcome_of(endpoint, ran)) {
+        Ok(()) => verdict_of(endpoint, request.head, member, ran),
+        Err(stray) => Verdict::End(ExchangeEnd::Stray {
+            ticket: stray.ticket,
+            returned_at: stray.returned_at,
+        }),
+    }
+}
+
 /// Asks the desk for a member that wasn't tried, holds talks on it and hands its lease back.
 pub(crate) fn one_round<B: Desk, R: Reach, C: Link, K: Clock>(
     alloc: Global,
@@ -110,12 +160,9 @@ where
     ensures no_fewer { (R.faults reach.old ≤ R.faults reach.new) × (C.faults client.old ≤ C.faults client.new) }
 {
     let at = clock.now();
-    let (member, lease) = match desk.choose(request.lb, request.session, at, ask) {
-        Ok(Choice::Chosen { member, lease }) => (member, lease),
-        Ok(Choice::NoMember) => return Verdict::Answer(503),
-        Ok(Choice::Forced) => return Verdict::Answer(500),
-        Err(RoomError::Full(_)) => return Verdict::Answer(500),
-        Err(RoomError::NoMemory) => return Verdict::End(ExchangeEnd::NoMemory),
+    let (member, lease) = match chosen(request, ask, at, desk) {
+        Ok(chosen) => chosen,
+        Err(verdict) => return verdict,
     };
     let config = &request.balancer.book.members.as_slice()[member as usize];
     let endpoint = &request.balancer.ends.as_slice()[member as usize];
@@ -123,11 +170,5 @@ where
         alloc, request, first, member, config, endpoint, fresh, body, inbox, reach, client,
     );
     let back_at = clock.now();
-    match desk.hand_back(request.session, back_at, lease, outcome_of(endpoint, ran)) {
-        Ok(()) => verdict_of(endpoint, request.head, member, ran),
-        Err(stray) => Verdict::End(ExchangeEnd::Stray {
-            ticket: stray.ticket,
-            returned_at: stray.returned_at,
-        }),
-    }
+    give_back(request, endpoint, member, lease, ran, back_at, desk)
 }

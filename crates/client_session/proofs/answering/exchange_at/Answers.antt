@@ -6,9 +6,10 @@ use Rattle.client_session.proofs.answering.exchange_at.Goals as goal
 
 pub returns-clause-forwarded : goal.returns-clause-forwarded
 returns-clause-forwarded g c = λ balancer there.
+    let did = c.exchange.ensures.exchange balancer there in
     forwarded_by _ _ _ _ _ _ _ _ _ _ _ (rw c.as_slice.ensures at c.terms-terms.ensures.value)
-    (c.exchange.ensures.exchange balancer there) (c.exchange.ensures.client balancer there) c.exchange.ensures.used
-    (c.exchange.ensures.whole_once balancer there) (c.exchange.ensures.complete balancer there) c.exchange.ensures.kept c.exchange.ensures.met
+    did (c.exchange.ensures.client balancer there _ _ did) c.exchange.ensures.used
+    (c.exchange.ensures.whole_once balancer there _ _ did) (c.exchange.ensures.complete balancer there _ _ did) c.exchange.ensures.kept c.exchange.ensures.met
     c.exchange.ensures.no_fewer
 
 pub returns-clause-ready : goal.returns-clause-ready

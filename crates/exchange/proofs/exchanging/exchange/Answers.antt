@@ -1,8 +1,10 @@
 -- The balancer is the one of this place.
 use Rattle.exchange.proofs.CauseLaws.{met_at}
+use Rattle.exchange.proofs.ClientLaws.{gives}
+use Rattle.exchange.proofs.CompleteLaws.{completes}
 use Rattle.exchange.proofs.SizeLaws.{of_exchange, size_in, within_sizes}
 use Rattle.exchange.proofs.UsedLaws.{uses_all}
-use Rattle.exchange.proofs.WholeExchangeLaws.{of_completes, of_gives, of_once}
+use Rattle.exchange.proofs.WholeLaws.{sends_once}
 use Rattle.exchange.proofs.exchanging.exchange.Goals as goal
 
 pub exchange_of-requires-clause-lb : goal.exchange_of-requires-clause-lb
@@ -18,16 +20,16 @@ pub returns-clause-exchange : goal.returns-clause-exchange
 returns-clause-exchange g c = of_exchange _ _ _ _ _ _ c.requires.lb (rw c.as_slice.ensures at c.index-as_slice-lb.is) c.exchange_of.ensures.exchange
 
 pub returns-clause-client : goal.returns-clause-client
-returns-clause-client g c = of_gives _ _ _ _ _ _ c.requires.lb (rw c.as_slice.ensures at c.index-as_slice-lb.is) c.exchange_of.ensures.exchange
+returns-clause-client g c = λ balancer there s n did. gives _ s n _ did
 
 pub returns-clause-used : goal.returns-clause-used
 returns-clause-used g c = uses_all _ _ _ _ c.exchange_of.ensures.exchange
 
 pub returns-clause-whole_once : goal.returns-clause-whole_once
-returns-clause-whole_once g c = of_once _ _ _ _ _ _ c.requires.lb (rw c.as_slice.ensures at c.index-as_slice-lb.is) c.exchange_of.ensures.exchange
+returns-clause-whole_once g c = λ balancer there s n did. sends_once _ s n _ did
 
 pub returns-clause-complete : goal.returns-clause-complete
-returns-clause-complete g c = of_completes _ _ _ _ _ _ c.requires.lb (rw c.as_slice.ensures at c.index-as_slice-lb.is) c.exchange_of.ensures.exchange
+returns-clause-complete g c = λ balancer there s n did. completes _ s n _ did
 
 pub returns-clause-met : goal.returns-clause-met
 returns-clause-met g c = met_at _ _ _ _ c.exchange_of.ensures.exchange
