@@ -257,14 +257,22 @@ fn with_options<'a>(
     Ok(command)
 }
 
-fn page_command<'a>(alloc: Global, page: &Page) -> Result<Command<'a>, AllocError> {
-    let command = Command::new(alloc, page.name)
+/// The command of a page with its texts alone.
+fn bare_page<'a>(alloc: Global, page: &Page) -> Command<'a> {
+    Command::new(alloc, page.name)
         .about(page.about)
         .override_usage(page.usage)
         .after_help(page.example)
-        .disable_help_flag(true);
-    let command = with_words(alloc, command, page)?;
-    with_options(alloc, command, page)?.arg(help_flag(alloc))
+        .disable_help_flag(true)
+}
+
+fn with_help<'a>(alloc: Global, command: Command<'a>) -> Result<Command<'a>, AllocError> {
+    command.arg(help_flag(alloc))
+}
+
+fn page_command<'a>(alloc: Global, page: &Page) -> Result<Command<'a>, AllocError> {
+    let command = with_words(alloc, bare_page(alloc, page), page)?;
+    with_help(alloc, with_options(alloc, command, page)?)
 }
 
 /// The command with its texts alone.
@@ -279,13 +287,25 @@ fn bare_command<'a>(alloc: Global) -> Command<'a> {
         .disable_help_subcommand(true)
 }
 
+/// The command with its flags.
+fn flagged_command<'a>(alloc: Global) -> Result<Command<'a>, AllocError> {
+    with_help(alloc, bare_command(alloc))?.arg(version_flag(alloc))
+}
+
+/// The command with a page as one of its own.
+fn with_page<'a>(
+    alloc: Global,
+    command: Command<'a>,
+    page: &Page,
+) -> Result<Command<'a>, AllocError> {
+    command.subcommand(page_command(alloc, page)?)
+}
+
 /// The command with its texts.
 pub fn command<'a>(alloc: Global) -> Result<Command<'a>, AllocError> {
-    let mut command = bare_command(alloc)
-        .arg(help_flag(alloc))?
-        .arg(version_flag(alloc))?;
+    let mut command = flagged_command(alloc)?;
     for page in &PAGES {
-        command = command.subcommand(page_command(alloc, page)?)?;
+        command = with_page(alloc, command, page)?;
     }
     Ok(command)
 }
