@@ -43,8 +43,8 @@ fn judged<'t>(
     }
 }
 
-/// What a trimmed line says.
-fn said(values: bool, line: u32, text: &[u8]) -> Result<Option<Entry<'_>>, PropsError>
+/// What a trimmed line says; a bad value is refused where `values` is on.
+pub fn said(values: bool, line: u32, text: &[u8]) -> Result<Option<Entry<'_>>, PropsError>
     ensures { Gives (option_map as_property) result (said values line text.now) }
 {
     if is_silent(text) {

@@ -26,7 +26,7 @@ pub use directive::{
 };
 pub use entry::Entry;
 pub use error::{PropsError, Reason, refused};
-pub use first_pass::read_entries;
+pub use first_pass::{read_entries, said};
 pub use judge::fault_of;
 pub use lines::{first_line, without_mark};
 pub use names::{is_name, push_words};

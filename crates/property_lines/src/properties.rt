@@ -1,12 +1,14 @@
 //! The properties of a workers.properties.
-ghost use Rattle.std.specs.Prelude.{◌≡◌, ◌≤◌, false, length};
+ghost use Rattle.std.specs.Prelude.{◌≡◌, ◌≤◌, false, length, IfOk};
+ghost use Rattle.property_lines.specs.Entries.{as_property};
 ghost use Rattle.property_lines.specs.Refusals.{Gives};
 ghost use Rattle.property_lines.specs.Properties.{read_text};
 
+use crate::entry::Entry;
 use crate::error::PropsError;
 use crate::first_pass::read_entries;
 use crate::property::{Property, PropertyList};
-use jk_io::{Bytes, ListOf};
+use jk_io::{Bytes, ListOf, NoMemory};
 use std::alloc::Global;
 
 /// The lines of a text that give a key its value, or the first refusal of 1 and 2. A name is judged by itself, a value
@@ -18,11 +20,18 @@ pub fn read_properties(alloc: Global, text: &[u8]) -> Result<PropertyList, Props
     let entries = read_entries(alloc, false, text)?;
     let mut properties = Vec::with_capacity(alloc, entries.len())?;
     for entry in entries.iter() {
-        properties.push(Property {
-            line: entry.line,
-            key: Bytes::from_slice(alloc, entry.key)?,
-            value: Bytes::from_slice(alloc, entry.value)?,
-        })?;
+        properties.push(copied(alloc, entry)?)?;
     }
     Ok(ListOf::from_vec(properties))
+}
+
+// The property of a line, with copies of its texts.
+fn copied(alloc: Global, entry: &Entry<'_>) -> Result<Property, NoMemory>
+    ensures { IfOk result (λ property. property ≡ as_property entry.now) }
+{
+    Ok(Property {
+        line: entry.line,
+        key: Bytes::from_slice(alloc, entry.key)?,
+        value: Bytes::from_slice(alloc, entry.value)?,
+    })
 }
