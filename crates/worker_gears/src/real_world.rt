@@ -151,6 +151,15 @@ impl<'r, R: Net<Stream = TcpStream, Listener = TcpListener> + Files + Clock + Ep
         Ok(RealShelf::Files(FileShelf::new(self.rt, dir.copy()?, names)))
     }
 
+    // Looks whether a journal can be written in a directory, and its first files can be new.
+    fn try_journal(&mut self, alloc: Global, dir: &Bytes, lbs: &[Lb]) -> Result<(), IoError>
+        ensures cause { HasCause self.old.failed self.new.failed result }
+        ensures same { self.new.out ≡ self.old.out }
+    {
+        self.try_dir(alloc, dir)?;
+        self.try_names(alloc, dir, lbs)
+    }
+
     // What is done once for all gears: with the first it is tried whether a journal can be written, and with the last it is
     // said where clients are waited for.
     fn greet(
@@ -167,14 +176,43 @@ impl<'r, R: Net<Stream = TcpStream, Listener = TcpListener> + Files + Clock + Ep
         if number == 0
             && let (Some(dir), Some(cfg)) = (journal, cfg)
         {
-            self.try_dir(alloc, dir)?;
-            self.try_names(alloc, dir, cfg.lbs.as_slice())?;
+            self.try_journal(alloc, dir, cfg.lbs.as_slice())?;
         }
         if number.checked_add(1) == Some(self.threads) {
             self.announce(alloc, address, cfg)?;
         }
         Ok(())
     }
+
+    // Does what is done once for all gears, and says where the segments of this one's journal go.
+    fn greeted_shelf(
+        &mut self,
+        alloc: Global,
+        number: u32,
+        address: &Bytes,
+        journal: Option<&Bytes>,
+        cfg: Option<&Config>,
+    ) -> Result<RealShelf<'r, R>, IoError>
+        ensures shelf { IfOk result (λ shelf. IsShelfFor (option_copied journal.entry) (option_map (λ c. map (λ lb. lb.name) c.lbs) (option_copied cfg.entry)) shelf) }
+        ensures cause { HasCause self.old.failed self.new.failed result }
+        ensures same { self.new.out ≡ self.old.out }
+    {
+        self.greet(alloc, number, address, journal, cfg)?;
+        Ok(self.shelf(alloc, journal, cfg)?)
+    }
+}
+
+// A worker's door on a listener, for so many clients, and its dial, which shares the door's outbox.
+fn door_and_dial<'r, R: Net<Stream = TcpStream> + Clock>(
+    rt: &'r R,
+    outbox: Outbox,
+    listener: TcpListener,
+    clients: Option<u64>,
+) -> Result<(TcpDoor<'r, R>, TcpDial<'r, R>), NoMemory>
+    ensures { IfOk result (λ made. made.0.clients ≡ clients) }
+{
+    let dial = TcpDial::with_outbox(rt, outbox.share()?);
+    Ok((TcpDoor::with_outbox(rt, listener, clients, outbox), dial))
 }
 
 /// What a worker uses of the real world.
@@ -238,13 +276,11 @@ where
             return Err(self.fail(Trouble::TooMany));
         };
         let listener = self.listener(alloc, address)?;
-        self.greet(alloc, number, address, journal, cfg)?;
-        let shelf = self.shelf(alloc, journal, cfg)?;
-        let outbox = Outbox::new(alloc)?;
-        let dial = TcpDial::with_outbox(self.rt, outbox.share()?);
+        let shelf = self.greeted_shelf(alloc, number, address, journal, cfg)?;
+        let (door, dial) = door_and_dial(self.rt, Outbox::new(alloc)?, listener, clients)?;
         self.out = out;
         Ok(Gear {
-            door: TcpDoor::with_outbox(self.rt, listener, clients, outbox),
+            door,
             dial,
             tape: NoTape,
             clock: RealClock::new(self.rt),
