@@ -1,6 +1,6 @@
 -- What a send leaves, and what an ask comes to where the body can't be taken further.
-use Rattle.std.proofs.Common.{◌≡◌, ℕ, ◌+◌, ◌-◌, ◌≤◌, true, false, List, [], length, take, drop, refl, sym, arith, length-take, take_all, Option, Some, None, IfSome, Result, Ok, Err, IsOk, OnOk, inl, inr}
-use Rattle.std.proofs.lemmas.List.{take-append-drop}
+use Rattle.std.proofs.Common.{◌≡◌, ℕ, ◌+◌, ◌-◌, ◌≤◌, true, false, List, [], ◌++◌, length, take, drop, refl, sym, ap, ◌∙◌, arith, length-take, take_all, Option, Some, None, IfSome, Result, Ok, Err, IsOk, OnOk, inl, inr}
+use Rattle.std.proofs.lemmas.List.{append-nil, take-append-drop}
 use Rattle.jk_io.specs.Told.{appended, Rose, HasCause}
 use Rattle.jk_io.specs.declared.failures.IoError.{IoError}
 use Rattle.jk_io.specs.declared.failures.IoError.TheVariants as Io
@@ -13,7 +13,8 @@ use Rattle.http_body_in.specs.declared.fault.BodyFault.{BodyFault}
 use Rattle.http_body_in.specs.declared.fault.BodyFault.TheVariants as fault
 use Rattle.jk_io.specs.Moments.{Moment}
 use Rattle.ajp_talk.specs.Moments.{BodyAt, data_at, IsSteady, IsUsed, IsFrontOf}
-use Rattle.ajp_talk.specs.Owed.{answer}
+use Rattle.ajp_talk.specs.declared.plan.TalkPlan.{TalkPlan}
+use Rattle.ajp_talk.specs.Owed.{answer, first_packet, request_of}
 use Rattle.ajp_talk.specs.Turns.{Sends, IsSent, IsAskTurn, fault_turn}
 use Rattle.ajp_talk.proofs.AskLaws.{front-none}
 
@@ -46,6 +47,10 @@ sent-from l l' before after written bytes (Err Io.NoMemory) whole within put inc
   part-sent l l' before after written bytes (omega (arith, within)) put incoming received cause.no_fewer counts,
   record { rest = drop (written - 0) bytes; joined = sym (take-append-drop (written - 0) bytes) },
 )
+
+-- a request without a first piece
+pub forward-alone : (plan : TalkPlan) → plan.first ≡ [] → request_of plan ≡ plan.forward
+forward-alone plan none = ap (λ (first : List ℕ). plan.forward ++ first_packet first) none ∙ append-nil plan.forward
 
 -- nothing was sent
 pub sends-nothing : (l : Moment) (before : ℕ) → Sends l l before before []

@@ -16,16 +16,16 @@ use crate::drain::drain;
 use crate::ending::{Cause, TalkEnd};
 use crate::plan::TalkPlan;
 use crate::request::send_request;
+use crate::room::Room;
 use crate::stepping::step;
 use crate::turn::Turn;
 use http_body_in::BodyIn;
 use http_front::Inbox;
 use jk_io::{IoError, Link, NoMemory, Sink};
-use std::alloc::Global;
 
 /// Sends the request, answers the container's asks, and passes its reply on, message by message.
 pub(crate) fn converse<L: Link, C: Link>(
-    alloc: Global,
+    room: &mut Room,
     plan: &TalkPlan,
     body: &mut BodyIn,
     inbox: &mut Inbox,
@@ -42,13 +42,13 @@ pub(crate) fn converse<L: Link, C: Link>(
     ensures beside { (L.beside line.new ≡ L.beside line.old) × (C.beside client.new ≡ C.beside client.old) }
     ensures no_fewer { (L.faults line.old ≤ L.faults line.new) × (C.faults client.old ≤ C.faults client.new) }
 {
-    let mut course = Course::new(alloc, plan, 0, 0);
-    hold(alloc, plan, &mut course, body, inbox, line, client)
+    let mut course = Course::new(room.alloc, plan, 0, 0);
+    hold(room, plan, &mut course, body, inbox, line, client)
 }
 
 /// The talk, of which nothing was sent and nothing came.
 fn hold<L: Link, C: Link>(
-    alloc: Global,
+    room: &mut Room,
     plan: &TalkPlan,
     course: &mut Course,
     body: &mut BodyIn,
@@ -67,14 +67,14 @@ fn hold<L: Link, C: Link>(
     ensures beside { (L.beside line.new ≡ L.beside line.old) × (C.beside client.new ≡ C.beside client.old) }
     ensures no_fewer { (L.faults line.old ≤ L.faults line.new) × (C.faults client.old ≤ C.faults client.new) }
 {
-    match begin(alloc, plan, course, line) {
+    match begin(room, plan, course, line) {
         None => {}
         Some(end) => return end,
     }
     loop {
-        match step(alloc, plan, course, body, inbox, line, client) {
+        match step(room, plan, course, body, inbox, line, client) {
             Turn::On => {}
-            Turn::Lost => return lost(alloc, plan, course, line, client),
+            Turn::Lost => return lost(room, plan, course, line, client),
             turn => return course.ended(plan, body.taken(), turn),
         }
     }
@@ -82,7 +82,7 @@ fn hold<L: Link, C: Link>(
 
 /// Greets the container and sends it the request. None where that went well, and the talk goes on.
 fn begin<L: Link>(
-    alloc: Global,
+    room: &mut Room,
     plan: &TalkPlan,
     course: &mut Course,
     line: &mut L,
@@ -93,11 +93,11 @@ fn begin<L: Link>(
     ensures beside { L.beside line.new ≡ L.beside line.old }
     ensures no_fewer { L.faults line.old ≤ L.faults line.new }
 {
-    match greet(alloc, plan, line, &mut course.sent, &mut course.received) {
+    match greet(room, plan, line, &mut course.sent, &mut course.received) {
         Ok(()) => {}
         Err(why) => return Some(unanswered(course.sent, course.received, why)),
     }
-    match send_request(alloc, plan, line, &mut course.sent) {
+    match send_request(room.alloc, plan, line, &mut course.sent) {
         Ok(()) => None,
         Err(IoError::Failed) => Some(Ok(course.failed(plan, plan.first.len() as u64, Cause::Line))),
         Err(IoError::NoMemory) => Some(Err(NoMemory)),
@@ -106,7 +106,7 @@ fn begin<L: Link>(
 
 /// The end where a write to the client failed before the reply's end.
 fn lost<L: Link, C: Sink>(
-    alloc: Global,
+    room: &mut Room,
     plan: &TalkPlan,
     course: &mut Course,
     line: &mut L,
@@ -123,7 +123,7 @@ fn lost<L: Link, C: Sink>(
     if plan.close_on_client {
         return Ok(course.gone(false, false));
     }
-    match drain(alloc, plan, course, line, client) {
+    match drain(room, plan, course, line, client) {
         Ok(keep) => Ok(course.gone(false, keep)),
         Err(NoMemory) => Err(NoMemory),
     }

@@ -6,18 +6,18 @@ ghost use Rattle.ajp_talk.specs.Turns.{IsGreeting, pong_only as pong_only_of};
 
 use crate::messages::receive;
 use crate::plan::TalkPlan;
+use crate::room::Room;
 use crate::sending::send;
 use crate::turn::Unheard;
 use ajp_reply::Message;
 use jk_io::{IoError, Link};
-use std::alloc::Global;
 
 /// The packet of CPing.
 const CPING: [u8; 5] = [0x12, 0x34, 0x00, 0x01, 0x0a];
 
 /// Sends CPing, where the plan wants it, and reads CPong. The counts are those of the talk, which begins here.
 pub(crate) fn greet<L: Link>(
-    alloc: Global,
+    room: &mut Room,
     plan: &TalkPlan,
     line: &mut L,
     sent: &mut u64,
@@ -38,7 +38,7 @@ pub(crate) fn greet<L: Link>(
         Err(IoError::Failed) => return Err(Unheard::Line),
         Err(IoError::NoMemory) => return Err(Unheard::NoMemory),
     }
-    match receive(alloc, line, plan.packet, plan.most, received) {
+    match receive(room, line, plan.packet, plan.most, received) {
         Ok(message) => pong_only(message),
         Err(why) => Err(why),
     }

@@ -9,15 +9,15 @@ ghost use Rattle.ajp_talk.specs.Drains.{IsLostCourse, IsDrained, IsDrop, IsDropp
 use crate::course::Course;
 use crate::messages::receive;
 use crate::plan::TalkPlan;
+use crate::room::Room;
 use crate::turn::{Turn, Unheard};
 use ajp_reply::Message;
 use jk_io::{Link, NoMemory, Sink};
-use std::alloc::Global;
 
 /// Reads on to the end of the reply and drops what it reads. True where the reply came whole and lets the link serve
 /// again; false at a failure or an ask.
 pub(crate) fn drain<L: Link, C: Sink>(
-    alloc: Global,
+    room: &mut Room,
     plan: &TalkPlan,
     course: &mut Course,
     line: &mut L,
@@ -32,7 +32,7 @@ pub(crate) fn drain<L: Link, C: Sink>(
     ensures no_fewer { (L.faults line.old ≤ L.faults line.new) × (C.faults client.old ≤ C.faults client.new) }
 {
     loop {
-        match drop_next(alloc, plan, course, line, client) {
+        match drop_next(room, plan, course, line, client) {
             Ok(None) => {}
             Ok(Some(keep)) => return Ok(keep),
             Err(NoMemory) => return Err(NoMemory),
@@ -42,7 +42,7 @@ pub(crate) fn drain<L: Link, C: Sink>(
 
 /// Reads one message and drops it. None where more is to be dropped.
 fn drop_next<L: Link, C: Sink>(
-    alloc: Global,
+    room: &mut Room,
     plan: &TalkPlan,
     course: &mut Course,
     line: &mut L,
@@ -54,28 +54,33 @@ fn drop_next<L: Link, C: Sink>(
     ensures beside { (L.beside line.new ≡ L.beside line.old) × (C.beside client.new ≡ C.beside client.old) }
     ensures no_fewer { (L.faults line.old ≤ L.faults line.new) × (C.faults client.old ≤ C.faults client.new) }
 {
-    match receive(alloc, line, plan.packet, plan.most, &mut course.received) {
-        Ok(message) => drop_message(plan, course, &message, client),
+    match receive(room, line, plan.packet, plan.most, &mut course.received) {
+        Ok(message) => drop_message(room, plan, course, message, client),
         Err(why) => rest_without(why),
     }
 }
 
 /// Counts a chunk, ends the reply at its end, and looks at no other message.
 fn drop_message<C: Sink>(
+    room: &mut Room,
     plan: &TalkPlan,
     course: &mut Course,
-    message: &Message,
+    message: Message,
     client: &mut C,
 ) -> Result<Option<bool>, NoMemory>
     requires { IsOnCourse course.old }
-    ensures dropped { IsDroppedMessage plan.now message.now course.old course.new (link_at C.Meanings client.old) (link_at C.Meanings client.new) result }
+    ensures dropped { IsDroppedMessage plan.now message course.old course.new (link_at C.Meanings client.old) (link_at C.Meanings client.new) result }
     ensures incoming { C.incoming client.new ≡ C.incoming client.old }
     ensures beside { C.beside client.new ≡ C.beside client.old }
     ensures no_fewer { C.faults client.old ≤ C.faults client.new }
 {
     match message {
-        Message::Chunk(bytes) => rest_after(course.take_chunk(plan, bytes.as_slice(), client)),
-        Message::End { reuse } => rest_after(course.finish(*reuse, client)),
+        Message::Chunk(bytes) => {
+            let turn = course.take_chunk(plan, bytes.as_slice(), client);
+            room.reuse(bytes);
+            rest_after(turn)
+        }
+        Message::End { reuse } => rest_after(course.finish(reuse, client)),
         Message::Headers(_) | Message::Ask(_) | Message::Pong => Ok(Some(false)),
     }
 }

@@ -19,6 +19,7 @@ mod ending;
 mod messages;
 mod plan;
 mod request;
+mod room;
 mod send_headers;
 mod sending;
 mod stepping;

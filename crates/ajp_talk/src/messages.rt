@@ -2,19 +2,19 @@
 
 ghost use Rattle.std.specs.Prelude.{◌≡◌, ◌<◌, ◌≤◌, IfOk, IfErr, length};
 ghost use Rattle.ajp_wire.specs.Moments.{link_at};
-ghost use Rattle.ajp_wire.specs.Packet.{count_of};
+ghost use Rattle.ajp_wire.specs.Packet.{count_of, read_into};
 ghost use Rattle.ajp_talk.specs.Hearing.{undecoded as undecoded_as, unheard as unheard_as};
 ghost use Rattle.ajp_talk.specs.Turns.{IsHeard, IsUnheard};
 
+use crate::room::Room;
 use crate::turn::Unheard;
-use ajp_reply::{Message, decode_reply};
-use ajp_wire::{DecodeError, PacketError, read_packet};
-use jk_io::{Bytes, Link};
-use std::alloc::Global;
+use ajp_reply::{Message, take_reply};
+use ajp_wire::{DecodeError, PacketError, read_packet_into};
+use jk_io::Link;
 
 /// Reads one message, and adds the bytes that came to `count`. Where the count reaches `most` nothing else is looked at.
 pub(crate) fn receive<L: Link>(
-    alloc: Global,
+    room: &mut Room,
     line: &mut L,
     packet: u32,
     most: u64,
@@ -25,13 +25,13 @@ pub(crate) fn receive<L: Link>(
     ensures beside { L.beside line.new ≡ L.beside line.old }
     ensures no_fewer { L.faults line.old ≤ L.faults line.new }
 {
-    let answer = read_packet(alloc, line, true, packet);
-    *count = count.saturating_add(bytes_read(&answer));
+    let answer = read_packet_into(line, true, packet, &mut room.payload);
+    *count = count.saturating_add(bytes_read(&answer, room.payload.as_slice()));
     if *count >= most {
         return Err(Unheard::TooLong);
     }
     match answer {
-        Ok(payload) => match decode_reply(alloc, payload.as_slice()) {
+        Ok(()) => match take_reply(room.alloc, &mut room.payload) {
             Ok(message) => Ok(message),
             Err(error) => Err(undecoded(error)),
         },
@@ -40,13 +40,13 @@ pub(crate) fn receive<L: Link>(
 }
 
 /// How many bytes came in the read of a packet.
-fn bytes_read(answer: &Result<Bytes, PacketError>) -> u64
-    requires { IfOk answer.now (λ payload. length payload < 65536) }
-    ensures value { result ≡ count_of answer.now }
+fn bytes_read(answer: &Result<(), PacketError>, payload: &[u8]) -> u64
+    requires { IfOk (read_into answer.now payload.now) (λ payload. length payload < 65536) }
+    ensures value { result ≡ count_of (read_into answer.now payload.now) }
     ensures small { result < 4294967400 }
 {
     match answer {
-        Ok(payload) => payload.len() as u64 + 4,
+        Ok(()) => payload.len() as u64 + 4,
         Err(
             PacketError::End { read }
             | PacketError::Short { read }

@@ -11,7 +11,7 @@ use crate::sending::send;
 use jk_io::{Bytes, IoError, NoMemory, Sink};
 use std::alloc::Global;
 
-/// Sends the Forward Request and the first piece in one write.
+/// Sends the Forward Request and the first piece in one write. Where there is no first piece it goes from where it lies.
 pub(crate) fn send_request<L: Sink>(
     alloc: Global,
     plan: &TalkPlan,
@@ -23,6 +23,9 @@ pub(crate) fn send_request<L: Sink>(
     ensures beside { L.beside line.new ≡ L.beside line.old }
     ensures no_fewer { L.faults line.old ≤ L.faults line.new }
 {
+    if plan.first.is_empty() {
+        return send(line, plan.forward.as_slice(), sent);
+    }
     match request(alloc, plan) {
         Ok(bytes) => send(line, bytes.as_slice(), sent),
         Err(NoMemory) => Err(IoError::NoMemory),

@@ -11,16 +11,16 @@ use crate::course::Course;
 use crate::ending::Cause;
 use crate::messages::receive;
 use crate::plan::TalkPlan;
+use crate::room::Room;
 use crate::turn::{Turn, turn_of};
 use ajp_reply::Message;
 use http_body_in::BodyIn;
 use http_front::Inbox;
 use jk_io::Link;
-use std::alloc::Global;
 
 /// Reads the next message and does what it asks for.
 pub(crate) fn step<L: Link, C: Link>(
-    alloc: Global,
+    room: &mut Room,
     plan: &TalkPlan,
     course: &mut Course,
     body: &mut BodyIn,
@@ -36,11 +36,15 @@ pub(crate) fn step<L: Link, C: Link>(
     ensures beside { (L.beside line.new ≡ L.beside line.old) × (C.beside client.new ≡ C.beside client.old) }
     ensures no_fewer { (L.faults line.old ≤ L.faults line.new) × (C.faults client.old ≤ C.faults client.new) }
 {
-    match receive(alloc, line, plan.packet, plan.most, &mut course.received) {
-        Ok(Message::Headers(parts)) => course.take_head(alloc, plan, parts),
-        Ok(Message::Chunk(bytes)) => course.take_chunk(plan, bytes.as_slice(), client),
+    match receive(room, line, plan.packet, plan.most, &mut course.received) {
+        Ok(Message::Headers(parts)) => course.take_head(room.alloc, plan, parts),
+        Ok(Message::Chunk(bytes)) => {
+            let turn = course.take_chunk(plan, bytes.as_slice(), client);
+            room.reuse(bytes);
+            turn
+        }
         Ok(Message::Ask(n)) => answer_ask(
-            alloc,
+            room.alloc,
             wanted(plan.piece, n),
             body,
             inbox,

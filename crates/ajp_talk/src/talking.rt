@@ -10,6 +10,7 @@ ghost use Rattle.ajp_talk.specs.Talk.{IsTalk};
 use crate::conversing::converse;
 use crate::ending::TalkEnd;
 use crate::plan::TalkPlan;
+use crate::room::Room;
 use http_body_in::BodyIn;
 use http_front::Inbox;
 use jk_io::{Link, NoMemory};
@@ -40,5 +41,5 @@ pub fn talk<L: Link, C: Link>(
     ensures beside { (L.beside line.new ≡ L.beside line.old) × (C.beside client.new ≡ C.beside client.old) }
     ensures no_fewer { (L.faults line.old ≤ L.faults line.new) × (C.faults client.old ≤ C.faults client.new) }
 {
-    converse(alloc, plan, body, inbox, line, client)
+    converse(&mut Room::new(alloc), plan, body, inbox, line, client)
 }

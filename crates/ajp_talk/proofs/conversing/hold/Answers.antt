@@ -12,8 +12,8 @@ returns-in-Some-clause-talk g c = c.in-Some.ensures.begins _ _ c.requires.first 
 
 -- ---- message by message
 
-pub loop-course-init : goal.loop-course-init
-loop-course-init g c = record {
+pub loop-room-init : goal.loop-room-init
+loop-room-init g c = record {
   stands = c.in-None.ensures.begins _ _ c.requires.first c.requires.going;
   line_beside = c.begin.ensures.beside;
   client_beside = refl;
@@ -21,42 +21,42 @@ loop-course-init g c = record {
   client_faults = omega arith;
 }
 
-pub loop-course-preserved : goal.loop-course-preserved
-loop-course-preserved g c =
-    let i = c.loop-course.invariant in
+pub loop-room-preserved : goal.loop-room-preserved
+loop-room-preserved g c =
+    let i = c.loop-room.invariant in
     record {
-      stands = on c.args.plan.now _ _ _ c.loop-course.course c.step.new.course i.stands c.requires.plan c.in-On.ensures.turn;
+      stands = on c.args.plan.now _ _ _ c.loop-room.course c.step.new.course i.stands c.requires.plan c.in-On.ensures.turn;
       line_beside = c.step.ensures.beside.0 ∙ i.line_beside;
       client_beside = c.step.ensures.beside.1 ∙ i.client_beside;
       line_faults = omega (arith, c.step.ensures.no_fewer.0, i.line_faults);
       client_faults = omega (arith, c.step.ensures.no_fewer.1, i.client_faults);
     }
 
-pub loop-course-smaller : goal.loop-course-smaller
-loop-course-smaller g c =
-    let i = c.loop-course.invariant in
-    let more = on_more c.args.plan.now _ _ _ c.loop-course.course c.step.new.course i.stands c.requires.plan c.in-On.ensures.turn in
+pub loop-room-smaller : goal.loop-room-smaller
+loop-room-smaller g c =
+    let i = c.loop-room.invariant in
+    let more = on_more c.args.plan.now _ _ _ c.loop-room.course c.step.new.course i.stands c.requires.plan c.in-On.ensures.turn in
     let below = i.stands.stands.below in
     omega (arith, more, below)
 
 pub step-requires : goal.step-requires
 step-requires g c =
-    let i = c.loop-course.invariant in
+    let i = c.loop-room.invariant in
     record { plan = c.requires.plan; course = on_course _ _ _ _ i.stands; going = i.stands.stands.takes.going }
 
 -- ---- the ends
 
 pub lost-requires : goal.lost-requires
 lost-requires g c =
-    let i = c.loop-course.invariant in
-    let l = lost c.args.plan.now _ _ _ c.loop-course.course c.step.new.course i.stands c.requires.plan i.client_faults c.in-Lost.ensures.turn in
+    let i = c.loop-room.invariant in
+    let l = lost c.args.plan.now _ _ _ c.loop-room.course c.step.new.course i.stands c.requires.plan i.client_faults c.in-Lost.ensures.turn in
     record { plan = c.requires.plan; lost = l.lost; below = l.below }
 
 pub returns-in-Lost-clause-talk : goal.returns-in-Lost-clause-talk
 returns-in-Lost-clause-talk g c =
-    let i = c.loop-course.invariant in
+    let i = c.loop-room.invariant in
     lost_talk c.args.plan.now _ _ _ c.step.new.course c.lost.new.course c.lost.result c.requires.plan
-    (lost c.args.plan.now _ _ _ c.loop-course.course c.step.new.course i.stands c.requires.plan i.client_faults c.in-Lost.ensures.turn)
+    (lost c.args.plan.now _ _ _ c.loop-room.course c.step.new.course i.stands c.requires.plan i.client_faults c.in-Lost.ensures.turn)
     (untaken-same _ _ (record { body = refl; unread = ap (unread c.step.new.inbox) c.lost.ensures.incoming })) c.lost.ensures.no_fewer.1 c.lost.ensures.ended
 
 pub ended-requires : goal.ended-requires
@@ -64,10 +64,10 @@ ended-requires g c = record { plan = c.requires.plan; over = c.in_default.not-On
 
 pub returns-in_default : goal.returns-in_default
 returns-in_default g c =
-    let i = c.loop-course.invariant in
+    let i = c.loop-room.invariant in
     record {
       talk = rw c.ended.ensures
-          (ended_talk c.args.plan.now _ _ _ c.loop-course.course c.step.new.course (record {}) c.taken.result c.step.result i.stands c.requires.plan c.requires.first
+          (ended_talk c.args.plan.now _ _ _ c.loop-room.course c.step.new.course (record {}) c.taken.result c.step.result i.stands c.requires.plan c.requires.first
           i.line_faults i.client_faults c.taken.ensures c.in_default.not-On c.in_default.not-Lost c.step.ensures.turn);
       beside = (c.step.ensures.beside.0 ∙ i.line_beside, c.step.ensures.beside.1 ∙ i.client_beside);
       no_fewer = (omega (arith, c.step.ensures.no_fewer.0, i.line_faults), omega (arith, c.step.ensures.no_fewer.1, i.client_faults));

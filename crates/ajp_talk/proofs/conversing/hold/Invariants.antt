@@ -4,8 +4,8 @@ use Rattle.ajp_talk.specs.Courses.{At}
 use Rattle.ajp_talk.proofs.conversing.hold.Given as goal
 
 -- how the talk stands since it began
-abbrev pub invariant-loop-course : goal.invariant-loop-course
-invariant-loop-course g l = record {
+abbrev pub invariant-loop-room : goal.invariant-loop-room
+invariant-loop-room g l = record {
   stands : (let at = talk_at g.L.Meanings g.C.Meanings in
       At l.plan (at l.fn.line l.fn.client l.fn.body l.fn.inbox) (at l.line l.client l.body l.inbox) l.course);
   line_beside : g.L.Meanings.beside l.line ≡ g.L.Meanings.beside l.fn.line;
@@ -14,5 +14,5 @@ invariant-loop-course g l = record {
   client_faults : g.C.Meanings.faults l.fn.client ≤ g.C.Meanings.faults l.client;
 }
 
-abbrev pub decreases-loop-course : goal.decreases-loop-course
-decreases-loop-course g l = l.plan.most - l.course.received
+abbrev pub decreases-loop-room : goal.decreases-loop-room
+decreases-loop-room g l = l.plan.most - l.course.received

@@ -19,13 +19,13 @@ returns-in-Ok-Headers-clause-turn g c =
 pub returns-in-Ok-Chunk-clause-turn : goal.returns-in-Ok-Chunk-clause-turn
 returns-in-Ok-Chunk-clause-turn g c =
     let heard = rw c.in-Ok-Chunk.field-0-is at c.in-Ok-Chunk.ensures.heard in
-    let turn = rw c.as_slice.ensures at c.take_chunk.ensures.turn in
+    let turn = rw c.as_slice.ensures at c.take_chunk-turn.ensures.turn in
     inr (record {
       message = Chunk c.in-Ok-Chunk.bytes;
       mid = link_at g.L.Meanings c.receive.new.line;
       count = c.receive.new.count;
       heard = heard;
-      acts = (turn, refl, record { body = refl; unread = ap (unread c.args.inbox.now) c.take_chunk.ensures.same.0 }, c.take_chunk.ensures.no_fewer);
+      acts = (turn, refl, record { body = refl; unread = ap (unread c.args.inbox.now) c.take_chunk-turn.ensures.same.0 }, c.take_chunk-turn.ensures.no_fewer);
     })
 
 pub returns-in-Ok-Ask-clause-turn : goal.returns-in-Ok-Ask-clause-turn
