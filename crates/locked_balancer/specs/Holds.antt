@@ -10,6 +10,7 @@ use Rattle.jk_model.specs.declared.journal.Answer.TheVariants as answer
 use Rattle.jk_model.specs.declared.journal.Call.TheVariants as call
 use Rattle.jk_model.specs.declared.journal.Entry.{Entry}
 use Rattle.jk_model.specs.declared.journal.How.{How}
+use Rattle.jk_model.specs.declared.journal.Outcome.{Outcome}
 use Rattle.jk_model.specs.declared.refusal.AdminError.{AdminError}
 use Rattle.jk_model.specs.declared.refusal.AdminError.TheVariants as admin
 use Rattle.jk_model.specs.declared.refusal.RoomError.{RoomError}
@@ -21,10 +22,11 @@ use Rattle.balancer_core.specs.Journal.{Journal, tickets_out}
 use Rattle.balancer_core.specs.ToldBooks.{AreNextAt, grown_by}
 use Rattle.balancer_core.specs.declared.desk.Choice.{Choice}
 use Rattle.balancer_core.specs.declared.desk.Choice.TheVariants as choice
+use Rattle.balancer_core.specs.declared.desk.Occasion.{Occasion}
 use Rattle.balancer_core.specs.declared.receipt.Receipt.{Receipt}
 use Rattle.locked_balancer.specs.Notes.{MarkNote}
 use Rattle.locked_balancer.specs.Shelves.{CutsAt}
-use Rattle.locked_balancer.specs.Sites.{At}
+use Rattle.locked_balancer.specs.Sites.{AreSited, At}
 use Rattle.locked_balancer.specs.declared.site.Refusal.{Refusal}
 use Rattle.locked_balancer.specs.declared.site.Refusal.TheVariants as refusal
 
@@ -132,6 +134,33 @@ pub record HoldCommands (sizes : List ℕ) (old new : Held) (lb session at : ℕ
 abbrev pub CutsFirst : (old mid : List Journal) (lb : ℕ) → Option (ℕ × Segment) → Type 0
 CutsFirst old mid lb None = mid ≡ old
 CutsFirst old mid lb (Some segment) = CutsAt old mid lb segment
+
+-- A hold that took a lease back: its one entry is the Return of the ticket.
+abbrev pub HoldReturns : (old new : Held) → (session at : ℕ) → LeaseNote → Outcome → Type 0
+HoldReturns old new session at lease outcome =
+    (r : Receipt) × (r.entry.call ≡ call.Return lease.ticket outcome) × HoldGains old new lease.lb session at (r ∷ [])
+
+-- A hold cut where that was due, and then it chose, refused the ask, did the command or refused it. `mid` has the Books
+-- of the Site between the two.
+abbrev pub CutChooses : (sizes firsts : List ℕ) → Option (ℕ × Segment) → (old new : Held) → Occasion → Ask → Choice LeaseNote → Type 0
+CutChooses sizes firsts cut old new on ask c =
+    (mid : List Journal) × CutsFirst old.books mid on.lb cut × AreSited sizes firsts mid
+    × HoldChooses sizes (held mid old.receipts old.amount) new on.lb on.session on.at ask c
+
+abbrev pub CutDenies : (sizes firsts : List ℕ) → Option (ℕ × Segment) → (old new : Held) → Occasion → RoomError MarkNote → Type 0
+CutDenies sizes firsts cut old new on e =
+    (mid : List Journal) × CutsFirst old.books mid on.lb cut × AreSited sizes firsts mid
+    × HoldDenies (held mid old.receipts old.amount) new on.lb on.session on.at e
+
+abbrev pub CutCommands : (sizes firsts : List ℕ) → Option (ℕ × Segment) → (old new : Held) → Occasion → Command → Type 0
+CutCommands sizes firsts cut old new on command =
+    (mid : List Journal) × CutsFirst old.books mid on.lb cut × AreSited sizes firsts mid
+    × HoldCommands sizes (held mid old.receipts old.amount) new on.lb on.session on.at command
+
+abbrev pub CutRefuses : (sizes firsts : List ℕ) → Option (ℕ × Segment) → (old new : Held) → Occasion → Command → AdminError MarkNote → Type 0
+CutRefuses sizes firsts cut old new on command e =
+    (mid : List Journal) × CutsFirst old.books mid on.lb cut × AreSited sizes firsts mid
+    × HoldRefuses (held mid old.receipts old.amount) new on.lb on.session on.at command e
 
 -- A mark of this refusal of balancer lb; that of a Full has the numbers of a Book without so many left.
 pub record IsMark (lb : ℕ) (why : Refusal) (mark : MarkNote) : Type 0 where

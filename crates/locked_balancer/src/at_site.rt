@@ -1,28 +1,27 @@
 //! One hold of the lock, over what a desk keeps: its receipts, the pairs that it holds, and its share.
-ghost use Rattle.std.specs.Prelude.{◌≡◌, ℕ, Bool, List, None, ◌++◌, ◌+◌, ◌<◌, ◌≤◌, ◌^◌, true, length, slice_index, vec_len, vec_capacity, IfOk, IfErr, IfSome, IsErrOf, OnOk, OnErr};
+ghost use Rattle.std.specs.Prelude.{◌≡◌, None, ◌++◌, ◌+◌, ◌<◌, ◌≤◌, ◌^◌, true, length, slice_index, vec_len, vec_capacity, IfOk, IfErr, IfSome, IsErrOf, OnOk, OnErr};
 ghost use Rattle.jk_model.specs.Present.{IsPresent};
 ghost use Rattle.balancer_core.specs.Journal.{Journal, past_of};
 ghost use Rattle.balancer_core.specs.ToldBooks.{IsFound};
-ghost use Rattle.balancer_core.specs.Desks.{
-  Chooses,
-  Commands,
-  GainsDue,
-  IsAskRefusal,
-  IsCommandRefusal,
-  IsNotOut,
-  TakesBack,
-  is_pair,
-  without_last,
-};
+ghost use Rattle.balancer_core.specs.Desks.{IsNotOut, is_pair, without_last};
 ghost use Rattle.locked_balancer.specs.Holds.{IsAdminMark, IsRoomMark};
-ghost use Rattle.locked_balancer.specs.SharedDesks.{CutsOrWants, IsLastPlace, IsShared, pairs_of, shared_desk};
+ghost use Rattle.locked_balancer.specs.SharedDesks.{CutsOrWants, IsLastPlace, pairs_of};
+ghost use Rattle.locked_balancer.specs.SharedLists.{
+  KeepsLists,
+  ListsChoose,
+  ListsCommand,
+  ListsDeny,
+  ListsRefuse,
+  ListsTakeBack,
+  lists,
+};
 
-use crate::locked::Cut;
+use crate::locked::{Cut, HandedBack};
 use crate::shared_site::SharedSite;
 use crate::site::{SiteLease, SiteMark, SiteName, SiteReceipt, SiteStray, SiteView};
-use balancer_core::desk::Choice;
+use balancer_core::desk::{Choice, Occasion};
 use jk_io::NoMemory;
-use jk_model::{AdminError, Ask, Command, Outcome, RoomError};
+use jk_model::{AdminError, Ask, Command, RoomError};
 use std::sync::Wait;
 use std::sync::ledger::Share;
 
@@ -33,37 +32,29 @@ pub(crate) fn choose_at<'r, L: SiteName, R: Wait>(
     share: &mut Share<L>,
     receipts: &mut Vec<SiteReceipt<L>>,
     held: &mut Vec<(u32, u64)>,
-    lb: u32,
-    session: u32,
-    at: u64,
+    on: Occasion,
     ask: &Ask,
 ) -> Cut<L, Result<Choice<SiteLease<L>>, RoomError<SiteMark<L>>>>
-    requires known { lb < length L.sizes }
+    requires known { on.lb < length L.sizes }
     requires part { 0 < share.old.parts }
-    ensures kept { (n : ℕ) → IsShared (length L.sizes) receipts.old.items held.old.items share.old.parts share.old.amount n (vec_capacity receipts.old)
-        → IsShared (length L.sizes) receipts.new.items held.new.items share.new.parts share.new.amount n (vec_capacity receipts.new) }
-    ensures ok { IfOk result.1 (λ c. (s f w : ℕ) (m : Bool) → Chooses (λ lease. lease)
-        (shared_desk L.sizes share.old.parts receipts.old.items held.old.items share.old.amount s f w m)
-        (shared_desk L.sizes share.new.parts receipts.new.items held.new.items share.new.amount s f w m) lb session at ask.now c) }
-    ensures err { IfErr result.1 (λ e. (s f w f' w' : ℕ) (m : Bool) → GainsDue
-        (shared_desk L.sizes share.old.parts receipts.old.items held.old.items share.old.amount s f w m)
-        (shared_desk L.sizes share.new.parts receipts.new.items held.new.items share.new.amount s f' w' m) lb session at
-        (e ≡ RoomError.NoMemory) (IsAskRefusal (λ mark. mark.numbers) at e)) }
+    ensures kept { KeepsLists (length L.sizes) (lists share.old.parts share.old.amount receipts.old held.old.items)
+        (lists share.new.parts share.new.amount receipts.new held.new.items) }
+    ensures ok { IfOk result.1 (ListsChoose L.sizes (lists share.old.parts share.old.amount receipts.old held.old.items)
+        (lists share.new.parts share.new.amount receipts.new held.new.items) on ask.now) }
+    ensures err { IfErr result.1 (ListsDeny L.sizes (lists share.old.parts share.old.amount receipts.old held.old.items)
+        (lists share.new.parts share.new.amount receipts.new held.new.items) on) }
     ensures held { OnErr result.1 (held.new.items ≡ held.old.items) }
-    ensures mark { IfErr result.1 (IsRoomMark lb 2) }
-    ensures when { CutsOrWants L.sizes L.cut_at lb result.0 (IsErrOf result.1 RoomError.NoMemory) }
-    ensures cut { IfSome result.0 (λ s. s.0 ≡ lb) }
+    ensures mark { IfErr result.1 (IsRoomMark on.lb 2) }
+    ensures when { CutsOrWants L.sizes L.cut_at on.lb result.0 (IsErrOf result.1 RoomError.NoMemory) }
+    ensures cut { IfSome result.0 (λ s. s.0 ≡ on.lb) }
     ensures parts { share.new.parts ≡ share.old.parts }
 {
     match take_room(receipts, held) {
         Ok(()) => {}
         Err(NoMemory) => return (None, Err(RoomError::NoMemory)),
     }
-    let (segment, done) = site
-        .locked
-        .lock(site.rt)
-        .choose(lb, session, at, ask, share, receipts);
-    hold_pair(held, lb, &done);
+    let (segment, done) = site.locked.lock(site.rt).choose(on, ask, share, receipts);
+    hold_pair(held, on.lb, &done);
     (segment, done)
 }
 
@@ -104,25 +95,20 @@ pub(crate) fn command_at<'r, L: SiteName, R: Wait>(
     share: &mut Share<L>,
     receipts: &mut Vec<SiteReceipt<L>>,
     held: &[(u32, u64)],
-    lb: u32,
-    session: u32,
-    at: u64,
+    on: Occasion,
     command: &Command,
 ) -> Cut<L, Result<(), AdminError<SiteMark<L>>>>
-    requires known { lb < length L.sizes }
+    requires known { on.lb < length L.sizes }
     requires part { 0 < share.old.parts }
-    ensures kept { (n : ℕ) → IsShared (length L.sizes) receipts.old.items held.now share.old.parts share.old.amount n (vec_capacity receipts.old)
-        → IsShared (length L.sizes) receipts.new.items held.now share.new.parts share.new.amount n (vec_capacity receipts.new) }
-    ensures ok { OnOk result.1 ((s f w : ℕ) (m : Bool) → Commands
-        (shared_desk L.sizes share.old.parts receipts.old.items held.now share.old.amount s f w m)
-        (shared_desk L.sizes share.new.parts receipts.new.items held.now share.new.amount s f w m) lb session at command.now) }
-    ensures err { IfErr result.1 (λ e. (s f w f' w' : ℕ) (m : Bool) → GainsDue
-        (shared_desk L.sizes share.old.parts receipts.old.items held.now share.old.amount s f w m)
-        (shared_desk L.sizes share.new.parts receipts.new.items held.now share.new.amount s f' w' m) lb session at
-        (e ≡ AdminError.NoMemory) (IsCommandRefusal (λ mark. mark.numbers) at command.now e)) }
-    ensures mark { IfErr result.1 (IsAdminMark lb) }
-    ensures when { CutsOrWants L.sizes L.cut_at lb result.0 (IsErrOf result.1 AdminError.NoMemory) }
-    ensures cut { IfSome result.0 (λ s. s.0 ≡ lb) }
+    ensures kept { KeepsLists (length L.sizes) (lists share.old.parts share.old.amount receipts.old held.now)
+        (lists share.new.parts share.new.amount receipts.new held.now) }
+    ensures ok { OnOk result.1 (ListsCommand L.sizes (lists share.old.parts share.old.amount receipts.old held.now)
+        (lists share.new.parts share.new.amount receipts.new held.now) on command.now) }
+    ensures err { IfErr result.1 (ListsRefuse L.sizes (lists share.old.parts share.old.amount receipts.old held.now)
+        (lists share.new.parts share.new.amount receipts.new held.now) on command.now) }
+    ensures mark { IfErr result.1 (IsAdminMark on.lb) }
+    ensures when { CutsOrWants L.sizes L.cut_at on.lb result.0 (IsErrOf result.1 AdminError.NoMemory) }
+    ensures cut { IfSome result.0 (λ s. s.0 ≡ on.lb) }
     ensures parts { share.new.parts ≡ share.old.parts }
 {
     match receipts.reserve(held.len() + 2) {
@@ -131,7 +117,7 @@ pub(crate) fn command_at<'r, L: SiteName, R: Wait>(
     }
     site.locked
         .lock(site.rt)
-        .command(lb, session, at, command, share, receipts)
+        .command(on, command, share, receipts)
 }
 
 /// A Return of a lease. It takes no memory.
@@ -141,20 +127,18 @@ pub(crate) fn give_back_at<'r, L: SiteName, R: Wait>(
     receipts: &mut Vec<SiteReceipt<L>>,
     session: u32,
     at: u64,
-    lease: SiteLease<L>,
-    outcome: Outcome,
+    back: HandedBack<L>,
 ) -> Result<(), SiteStray<L>>
-    requires known { lease.lb < length L.sizes }
+    requires known { back.lease.lb < length L.sizes }
     requires part { 0 < share.old.parts }
     requires room { vec_len receipts.old < vec_capacity receipts.old }
-    requires bytes { outcome.bytes ≤ 2 ^ 44 }
-    ensures ok { OnOk result ((s f w : ℕ) (m : Bool) (before after : List (ℕ × ℕ)) → TakesBack
-        (shared_desk L.sizes share.old.parts receipts.old.items before share.old.amount s f w m)
-        (shared_desk L.sizes share.new.parts receipts.new.items after share.new.amount s f w m) session at lease outcome) }
+    requires bytes { back.outcome.bytes ≤ 2 ^ 44 }
+    ensures ok { OnOk result (ListsTakeBack L.sizes (lists share.old.parts share.old.amount receipts.old)
+        (lists share.new.parts share.new.amount receipts.new) session at back.lease back.outcome) }
     ensures length { OnOk result (length receipts.new.items ≡ length receipts.old.items + 1) }
     ensures amount { OnOk result (share.new.amount ≡ share.old.amount + 1) }
-    ensures stray { IfErr result (λ s. (s.lb ≡ lease.lb) × (s.stray.ticket ≡ lease.ticket)) }
-    ensures why { IfErr result (λ s. IsNotOut L.sizes None lease s.stray) }
+    ensures stray { IfErr result (λ s. (s.lb ≡ back.lease.lb) × (s.stray.ticket ≡ back.lease.ticket)) }
+    ensures why { IfErr result (λ s. IsNotOut L.sizes None back.lease s.stray) }
     ensures err { OnErr result ((receipts.new.items ≡ receipts.old.items) × (share.new.amount ≡ share.old.amount)) }
     ensures few { share.new.amount ≤ 2 ^ 58 }
     ensures parts { share.new.parts ≡ share.old.parts }
@@ -162,7 +146,7 @@ pub(crate) fn give_back_at<'r, L: SiteName, R: Wait>(
 {
     site.locked
         .lock(site.rt)
-        .give_back(session, at, lease, outcome, share, receipts)
+        .give_back(session, at, back, share, receipts)
 }
 
 /// A balancer as this hold finds it.

@@ -19,33 +19,31 @@ ghost use Rattle.locked_balancer.specs.Notes.{lease_of};
 ghost use Rattle.locked_balancer.specs.Sites.{At};
 
 use crate::site::{Site, SiteLease, SiteMark, SiteName, SitePicked, SiteReceipt};
-use balancer_core::desk::Choice;
+use balancer_core::desk::{Choice, Occasion};
 use jk_model::{AdminError, Answer, Ask, Command, RoomError};
 use std::sync::ledger::Share;
 
 // Does a Maintain where one is due.
 fn maintain_first<L: SiteName>(
     site: &mut Site<L>,
-    lb: u32,
-    session: u32,
-    at: u64,
+    on: Occasion,
     share: &mut Share<L>,
     receipts: &mut Vec<SiteReceipt<L>>,
 ) -> Result<(), RoomError<SiteMark<L>>>
-    requires lb { lb < length site.old }
+    requires lb { on.lb < length site.old }
     requires part { 0 < share.old.parts }
     requires room { vec_len receipts.old < vec_capacity receipts.old }
     ensures due { OnOk result (HoldMaintains (held site.old receipts.old.items share.old.amount)
-        (held site.new receipts.new.items share.new.amount) lb session at) }
-    ensures up_to_date { OnOk result (At site.new lb (λ b. IsNoneDue b at)) }
-    ensures refused { IfErr result (λ e. At site.old lb (λ b. RefusesMaintain (λ mark. mark.numbers) b at e)) }
+        (held site.new receipts.new.items share.new.amount) on.lb on.session on.at) }
+    ensures up_to_date { OnOk result (At site.new on.lb (λ b. IsNoneDue b on.at)) }
+    ensures refused { IfErr result (λ e. At site.old on.lb (λ b. RefusesMaintain (λ mark. mark.numbers) b on.at e)) }
     ensures err { OnErr result (held site.new receipts.new.items share.new.amount ≡ held site.old receipts.old.items share.old.amount) }
-    ensures mark { IfErr result (IsRoomMark lb 1) }
+    ensures mark { IfErr result (IsRoomMark on.lb 1) }
     ensures len { length site.new ≡ length site.old }
     ensures parts { share.new.parts ≡ share.old.parts }
     ensures room { vec_capacity receipts.old ≤ vec_capacity receipts.new }
 {
-    let found = site.maintain_if_due(lb, session, at, share)?;
+    let found = site.maintain_if_due(on.lb, on.session, on.at, share)?;
     note_some(receipts, found);
     Ok(())
 }
@@ -73,29 +71,27 @@ pub(crate) fn note<L>(receipts: &mut Vec<SiteReceipt<L>>, receipt: SiteReceipt<L
 /// Does a Maintain where one is due, and then a Select.
 pub(crate) fn choose_in<L: SiteName>(
     site: &mut Site<L>,
-    lb: u32,
-    session: u32,
-    at: u64,
+    on: Occasion,
     ask: &Ask,
     share: &mut Share<L>,
     receipts: &mut Vec<SiteReceipt<L>>,
 ) -> Result<Choice<SiteLease<L>>, RoomError<SiteMark<L>>>
-    requires lb { lb < length site.old }
+    requires lb { on.lb < length site.old }
     requires part { 0 < share.old.parts }
     requires room { vec_len receipts.old + 2 ≤ vec_capacity receipts.old }
     ensures ok { IfOk result (λ c. HoldChooses L.sizes (held site.old receipts.old.items share.old.amount)
-        (held site.new receipts.new.items share.new.amount) lb session at ask.now c) }
+        (held site.new receipts.new.items share.new.amount) on.lb on.session on.at ask.now c) }
     ensures err { IfErr result (HoldDenies (held site.old receipts.old.items share.old.amount)
-        (held site.new receipts.new.items share.new.amount) lb session at) }
-    ensures mark { IfErr result (IsRoomMark lb 2) }
+        (held site.new receipts.new.items share.new.amount) on.lb on.session on.at) }
+    ensures mark { IfErr result (IsRoomMark on.lb 2) }
     ensures parts { share.new.parts ≡ share.old.parts }
     ensures room { vec_capacity receipts.old ≤ vec_capacity receipts.new }
 {
-    maintain_first(site, lb, session, at, share, receipts)?;
-    let SitePicked { receipt, lease } = site.select(lb, session, at, ask, share)?;
+    maintain_first(site, on, share, receipts)?;
+    let SitePicked { receipt, lease } = site.select(on.lb, on.session, on.at, ask, share)?;
     let answer = receipt.receipt().entry.answer;
     note(receipts, receipt);
-    Ok(choice_of(lb, answer, lease))
+    Ok(choice_of(on.lb, answer, lease))
 }
 
 // What an answer of balancer lb says, with its lease.
@@ -117,31 +113,29 @@ fn choice_of<L>(lb: u32, answer: Answer, lease: Option<SiteLease<L>>) -> Choice<
 /// Does a Maintain where one is due, and then a command.
 pub(crate) fn command_in<L: SiteName>(
     site: &mut Site<L>,
-    lb: u32,
-    session: u32,
-    at: u64,
+    on: Occasion,
     command: &Command,
     share: &mut Share<L>,
     receipts: &mut Vec<SiteReceipt<L>>,
 ) -> Result<(), AdminError<SiteMark<L>>>
-    requires lb { lb < length site.old }
+    requires lb { on.lb < length site.old }
     requires part { 0 < share.old.parts }
     requires room { vec_len receipts.old + 2 ≤ vec_capacity receipts.old }
     ensures ok { OnOk result (HoldCommands L.sizes (held site.old receipts.old.items share.old.amount)
-        (held site.new receipts.new.items share.new.amount) lb session at command.now) }
+        (held site.new receipts.new.items share.new.amount) on.lb on.session on.at command.now) }
     ensures err { IfErr result (HoldRefuses (held site.old receipts.old.items share.old.amount)
-        (held site.new receipts.new.items share.new.amount) lb session at command.now) }
-    ensures mark { IfErr result (IsAdminMark lb) }
+        (held site.new receipts.new.items share.new.amount) on.lb on.session on.at command.now) }
+    ensures mark { IfErr result (IsAdminMark on.lb) }
     ensures parts { share.new.parts ≡ share.old.parts }
     ensures room { vec_capacity receipts.old ≤ vec_capacity receipts.new }
 {
-    match maintain_first(site, lb, session, at, share, receipts) {
+    match maintain_first(site, on, share, receipts) {
         Ok(()) => {}
         Err(RoomError::Full(mark)) => return Err(AdminError::Full(mark)),
         Err(RoomError::NoMemory) => return Err(AdminError::NoMemory),
     }
     site.count();
-    let receipt = site.admin(lb, session, at, command, share)?;
+    let receipt = site.admin(on.lb, on.session, on.at, command, share)?;
     note(receipts, receipt);
     Ok(())
 }

@@ -4,7 +4,7 @@ use crate::holds::{choose_in, command_in, note};
 use crate::site::{
     Site, SiteLease, SiteMark, SiteName, SiteReceipt, SiteSegment, SiteStray, SiteView,
 };
-use balancer_core::desk::Choice;
+use balancer_core::desk::{Choice, Occasion};
 use jk_io::NoMemory;
 use jk_model::{AdminError, Ask, Command, Outcome, RoomError};
 use std::marker::Model;
@@ -12,6 +12,12 @@ use std::sync::ledger::Share;
 
 /// What a hold that may cut answered, with the segment that it cut.
 pub(crate) type Cut<L, T> = (Option<SiteSegment<L>>, T);
+
+/// A lease that comes back, with how its exchange ended.
+pub(crate) struct HandedBack<L> {
+    pub(crate) lease: SiteLease<L>,
+    pub(crate) outcome: Outcome,
+}
 
 /// A Site whose journals are cut before they grow long.
 #[derive(Drop)]
@@ -33,21 +39,18 @@ impl<L: SiteName> Model for Locked<L> {
 }
 
 impl<L: SiteName> Locked<L> {
-    ghost use Rattle.std.specs.Prelude.{◌≡◌, ℕ, ◌+◌, ◌<◌, ◌≤◌, ◌^◌, ◌↔◌, [], ◌∷◌, ◌++◌, length, slice_index, vec_len, vec_capacity, None, IfOk, IfErr, IsErrOf, IsSome, OnOk, OnErr};
-    ghost use Rattle.std.specs.Prelude.{List};
-    ghost use Rattle.jk_model.specs.declared.journal.Call.{Call};
+    ghost use Rattle.std.specs.Prelude.{◌≡◌, ℕ, ◌+◌, ◌<◌, ◌≤◌, ◌^◌, ◌↔◌, [], length, slice_index, vec_len, vec_capacity, None, IfOk, IfErr, IsErrOf, IsSome, OnOk, OnErr};
     ghost use Rattle.jk_model.specs.Present.{IsPresent};
     ghost use Rattle.balancer_core.specs.Desks.{IsNotOut};
     ghost use Rattle.balancer_core.specs.Journal.{Journal, past_of};
     ghost use Rattle.balancer_core.specs.ToldBooks.{IsFound};
-    ghost use Rattle.balancer_core.specs.declared.receipt.Receipt.{Receipt};
     ghost use Rattle.locked_balancer.specs.Holds.{
+      CutChooses,
+      CutCommands,
+      CutDenies,
+      CutRefuses,
       CutsFirst,
-      HoldChooses,
-      HoldCommands,
-      HoldDenies,
-      HoldGains,
-      HoldRefuses,
+      HoldReturns,
       IsAdminMark,
       IsRoomMark,
       held,
@@ -92,34 +95,30 @@ impl<L: SiteName> Locked<L> {
     /// Cuts where that is due, does a Maintain where one is due, and then a Select.
     pub(crate) fn choose(
         &mut self,
-        lb: u32,
-        session: u32,
-        at: u64,
+        on: Occasion,
         ask: &Ask,
         share: &mut Share<L>,
         receipts: &mut Vec<SiteReceipt<L>>,
     ) -> Cut<L, Result<Choice<SiteLease<L>>, RoomError<SiteMark<L>>>>
-        requires lb { lb < length L.sizes }
+        requires lb { on.lb < length L.sizes }
         requires part { 0 < share.old.parts }
         requires room { vec_len receipts.old + 2 ≤ vec_capacity receipts.old }
-        ensures ok { IfOk result.1 (λ c. (mid : List Journal) × CutsFirst self.old.books mid lb result.0
-            × AreSited L.sizes L.firsts mid × HoldChooses L.sizes (held mid receipts.old.items share.old.amount)
-            (held self.new.books receipts.new.items share.new.amount) lb session at ask.now c) }
-        ensures err { IfErr result.1 (λ e. (mid : List Journal) × CutsFirst self.old.books mid lb result.0
-            × AreSited L.sizes L.firsts mid × HoldDenies (held mid receipts.old.items share.old.amount)
-            (held self.new.books receipts.new.items share.new.amount) lb session at e) }
-        ensures when { CutsOrWants L.sizes L.cut_at lb result.0 (IsErrOf result.1 RoomError.NoMemory) }
-        ensures mark { IfErr result.1 (IsRoomMark lb 2) }
+        ensures ok { IfOk result.1 (CutChooses L.sizes L.firsts result.0 (held self.old.books receipts.old.items share.old.amount)
+            (held self.new.books receipts.new.items share.new.amount) on ask.now) }
+        ensures err { IfErr result.1 (CutDenies L.sizes L.firsts result.0 (held self.old.books receipts.old.items share.old.amount)
+            (held self.new.books receipts.new.items share.new.amount) on) }
+        ensures when { CutsOrWants L.sizes L.cut_at on.lb result.0 (IsErrOf result.1 RoomError.NoMemory) }
+        ensures mark { IfErr result.1 (IsRoomMark on.lb 2) }
         ensures few { share.new.amount ≤ 2 ^ 58 }
         ensures parts { share.new.parts ≡ share.old.parts }
         ensures room { vec_capacity receipts.old ≤ vec_capacity receipts.new }
     {
         self.site.audit(share);
-        let segment = match self.cut_first(lb) {
+        let segment = match self.cut_first(on.lb) {
             Ok(segment) => segment,
             Err(NoMemory) => return (None, Err(RoomError::NoMemory)),
         };
-        let done = choose_in(&mut self.site, lb, session, at, ask, share, receipts);
+        let done = choose_in(&mut self.site, on, ask, share, receipts);
         self.site.audit(share);
         (segment, done)
     }
@@ -127,34 +126,30 @@ impl<L: SiteName> Locked<L> {
     /// Cuts where that is due, does a Maintain where one is due, and then a command.
     pub(crate) fn command(
         &mut self,
-        lb: u32,
-        session: u32,
-        at: u64,
+        on: Occasion,
         command: &Command,
         share: &mut Share<L>,
         receipts: &mut Vec<SiteReceipt<L>>,
     ) -> Cut<L, Result<(), AdminError<SiteMark<L>>>>
-        requires lb { lb < length L.sizes }
+        requires lb { on.lb < length L.sizes }
         requires part { 0 < share.old.parts }
         requires room { vec_len receipts.old + 2 ≤ vec_capacity receipts.old }
-        ensures ok { OnOk result.1 ((mid : List Journal) × CutsFirst self.old.books mid lb result.0
-            × AreSited L.sizes L.firsts mid × HoldCommands L.sizes (held mid receipts.old.items share.old.amount)
-            (held self.new.books receipts.new.items share.new.amount) lb session at command.now) }
-        ensures err { IfErr result.1 (λ e. (mid : List Journal) × CutsFirst self.old.books mid lb result.0
-            × AreSited L.sizes L.firsts mid × HoldRefuses (held mid receipts.old.items share.old.amount)
-            (held self.new.books receipts.new.items share.new.amount) lb session at command.now e) }
-        ensures when { CutsOrWants L.sizes L.cut_at lb result.0 (IsErrOf result.1 AdminError.NoMemory) }
-        ensures mark { IfErr result.1 (IsAdminMark lb) }
+        ensures ok { OnOk result.1 (CutCommands L.sizes L.firsts result.0 (held self.old.books receipts.old.items share.old.amount)
+            (held self.new.books receipts.new.items share.new.amount) on command.now) }
+        ensures err { IfErr result.1 (CutRefuses L.sizes L.firsts result.0 (held self.old.books receipts.old.items share.old.amount)
+            (held self.new.books receipts.new.items share.new.amount) on command.now) }
+        ensures when { CutsOrWants L.sizes L.cut_at on.lb result.0 (IsErrOf result.1 AdminError.NoMemory) }
+        ensures mark { IfErr result.1 (IsAdminMark on.lb) }
         ensures few { share.new.amount ≤ 2 ^ 58 }
         ensures parts { share.new.parts ≡ share.old.parts }
         ensures room { vec_capacity receipts.old ≤ vec_capacity receipts.new }
     {
         self.site.audit(share);
-        let segment = match self.cut_first(lb) {
+        let segment = match self.cut_first(on.lb) {
             Ok(segment) => segment,
             Err(NoMemory) => return (None, Err(AdminError::NoMemory)),
         };
-        let done = command_in(&mut self.site, lb, session, at, command, share, receipts);
+        let done = command_in(&mut self.site, on, command, share, receipts);
         self.site.audit(share);
         (segment, done)
     }
@@ -164,26 +159,25 @@ impl<L: SiteName> Locked<L> {
         &mut self,
         session: u32,
         at: u64,
-        lease: SiteLease<L>,
-        outcome: Outcome,
+        back: HandedBack<L>,
         share: &mut Share<L>,
         receipts: &mut Vec<SiteReceipt<L>>,
     ) -> Result<(), SiteStray<L>>
-        requires lb { lease.lb < length L.sizes }
-        requires bytes { outcome.bytes ≤ 2 ^ 44 }
+        requires lb { back.lease.lb < length L.sizes }
+        requires bytes { back.outcome.bytes ≤ 2 ^ 44 }
         requires part { 0 < share.old.parts }
         requires room { vec_len receipts.old < vec_capacity receipts.old }
-        ensures ok { OnOk result ((r : Receipt) × (r.entry.call ≡ Call.Return lease.ticket outcome)
-            × HoldGains (held self.old.books receipts.old.items share.old.amount)
-            (held self.new.books receipts.new.items share.new.amount) lease.lb session at (r ∷ [])) }
+        ensures ok { OnOk result (HoldReturns (held self.old.books receipts.old.items share.old.amount)
+            (held self.new.books receipts.new.items share.new.amount) session at back.lease back.outcome) }
         ensures sited { AreSited L.sizes L.firsts self.old.books }
-        ensures stray { IfErr result (λ s. (s.lb ≡ lease.lb) × (s.stray.ticket ≡ lease.ticket)) }
-        ensures why { IfErr result (λ s. IsNotOut L.sizes None lease s.stray) }
+        ensures stray { IfErr result (λ s. (s.lb ≡ back.lease.lb) × (s.stray.ticket ≡ back.lease.ticket)) }
+        ensures why { IfErr result (λ s. IsNotOut L.sizes None back.lease s.stray) }
         ensures err { OnErr result (held self.new.books receipts.new.items share.new.amount ≡ held self.old.books receipts.old.items share.old.amount) }
         ensures few { share.new.amount ≤ 2 ^ 58 }
         ensures parts { share.new.parts ≡ share.old.parts }
         ensures room { vec_capacity receipts.old ≤ vec_capacity receipts.new }
     {
+        let HandedBack { lease, outcome } = back;
         self.site.count();
         let done = self.site.give_back(session, at, lease, outcome, share);
         self.site.audit(share);

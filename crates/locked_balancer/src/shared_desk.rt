@@ -3,13 +3,14 @@ ghost use Rattle.std.specs.Prelude.{◌≡◌, ◌+◌, ◌<◌, ◌≤◌, leng
 ghost use Rattle.locked_balancer.specs.SharedDesks.{CountsFull, CountsRefusal, IsPutAway, PutsAway, first_met};
 
 use crate::at_site::{choose_at, command_at, give_back_at, look_at, take_last};
+use crate::locked::HandedBack;
 use crate::shared_site::SharedSite;
 use crate::shelf::Shelf;
 use crate::site::{
     SiteLease, SiteMark, SiteName, SiteReceipt, SiteReceiptList, SiteSegment, SiteStray, SiteView,
 };
 use balancer_core::Desk;
-use balancer_core::desk::Choice;
+use balancer_core::desk::{Choice, Occasion};
 use jk_io::{IoError, NoMemory};
 use jk_model::{AdminError, Ask, Command, Outcome, RoomError, Stray, View};
 use std::alloc::Global;
@@ -219,9 +220,7 @@ impl<'s, 'r, L: SiteName, S: Shelf, R: Wait> Desk for SharedDesk<'s, 'r, L, S, R
             &mut self.share,
             &mut self.receipts,
             &mut self.held,
-            lb,
-            session,
-            at,
+            Occasion { lb, session, at },
             ask,
         );
         put_away(&mut self.shelf, &mut self.wants, segment);
@@ -261,8 +260,7 @@ impl<'s, 'r, L: SiteName, S: Shelf, R: Wait> Desk for SharedDesk<'s, 'r, L, S, R
             &mut self.receipts,
             session,
             at,
-            lease,
-            outcome,
+            HandedBack { lease, outcome },
         );
         take_last(&mut self.held, (lb, ticket));
         match done {
@@ -300,9 +298,7 @@ impl<'s, 'r, L: SiteName, S: Shelf, R: Wait> Desk for SharedDesk<'s, 'r, L, S, R
             &mut self.share,
             &mut self.receipts,
             self.held.as_slice(),
-            lb,
-            session,
-            at,
+            Occasion { lb, session, at },
             command,
         );
         put_away(&mut self.shelf, &mut self.wants, segment);

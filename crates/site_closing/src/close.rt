@@ -76,8 +76,9 @@ pub fn close_desks<'r, L: SiteName, S: Drop, R>(
         → IsPermutation (noted (flat_map (λ l. l.receipts) leaving)) (kept_from 0 c.books)) }
 
     // A discord comes only there, and tells the first number at which they differ.
-    ensures differs { IfErr result (IsCloseError (λ d. All (λ l. l.forgotten ≡ 0) leaving
-        × Differs L.sizes L.firsts (sum_by (λ l. l.share.amount) leaving) (noted (flat_map (λ l. l.receipts) leaving)) d)) }
+    ensures all { IfErr result (IsCloseError (λ d. All (λ l. l.forgotten ≡ 0) leaving)) }
+    ensures differs { IfErr result (IsCloseError
+        (Differs L.sizes L.firsts (sum_by (λ l. l.share.amount) leaving) (noted (flat_map (λ l. l.receipts) leaving)))) }
 {
     let Gathered {
         share,

@@ -14,36 +14,36 @@ returns-in-Err-clause-kept g c = λ n.
 pub returns-in-Err-clause-err : goal.returns-in-Err-clause-err
 returns-in-Err-clause-err g c = λ s f w f' w' m.
     none_desk g.L.SiteName.sizes c.args.share.now.parts c.args.receipts.now.items c.take_room.new.receipts.items c.args.held.now.items c.take_room.new.held.items c.args.share.now.amount s f w f' w' m
-    c.args.lb c.args.session c.args.at _ _ c.take_room.ensures.receipts refl
+    c.args.on.lb c.args.on.session c.args.on.at _ _ c.take_room.ensures.receipts refl
 
 pub returns-clause-kept : goal.returns-clause-kept
 returns-clause-kept g c = λ n.
-    let ok = subst (λ (rs : List Receipt). IfOk c.choose-segment.result.1 (λ x. ChoseOk g.L.SiteName.sizes g.L.SiteName.firsts c.deref_mut.result.now.books c.choose-segment.new.self.books c.choose-segment.result.0 rs c.choose-segment.new.receipts.items c.args.share.now.amount c.choose-segment.new.share.amount c.args.lb c.args.session c.args.at c.args.ask.now x)) c.take_room.ensures.receipts c.choose-segment.ensures.ok in
-    let err = subst (λ (rs : List Receipt). IfErr c.choose-segment.result.1 (λ e. ChoseErr g.L.SiteName.sizes g.L.SiteName.firsts c.deref_mut.result.now.books c.choose-segment.new.self.books c.choose-segment.result.0 rs c.choose-segment.new.receipts.items c.args.share.now.amount c.choose-segment.new.share.amount c.args.lb c.args.session c.args.at e)) c.take_room.ensures.receipts c.choose-segment.ensures.err in
-    let tickets = subst (λ (xs : List (ℕ × ℕ)). IfOk c.choose-segment.result.1 (λ x. c.hold_pair.new.held.items ≡ xs ++ pairs_of c.args.lb x)) c.take_room.ensures.held c.hold_pair.ensures.ok in
+    let ok = subst (λ (rs : List Receipt). IfOk c.choose-segment.result.1 (λ x. ChoseOk g.L.SiteName.sizes g.L.SiteName.firsts c.deref_mut.result.now.books c.choose-segment.new.self.books c.choose-segment.result.0 rs c.choose-segment.new.receipts.items c.args.share.now.amount c.choose-segment.new.share.amount c.args.on.lb c.args.on.session c.args.on.at c.args.ask.now x)) c.take_room.ensures.receipts c.choose-segment.ensures.ok in
+    let err = subst (λ (rs : List Receipt). IfErr c.choose-segment.result.1 (λ e. ChoseErr g.L.SiteName.sizes g.L.SiteName.firsts c.deref_mut.result.now.books c.choose-segment.new.self.books c.choose-segment.result.0 rs c.choose-segment.new.receipts.items c.args.share.now.amount c.choose-segment.new.share.amount c.args.on.lb c.args.on.session c.args.on.at e)) c.take_room.ensures.receipts c.choose-segment.ensures.err in
+    let tickets = subst (λ (xs : List (ℕ × ℕ)). IfOk c.choose-segment.result.1 (λ x. c.hold_pair.new.held.items ≡ xs ++ pairs_of c.args.on.lb x)) c.take_room.ensures.held c.hold_pair.ensures.ok in
     let same = subst (λ (xs : List (ℕ × ℕ)). OnErr c.choose-segment.result.1 (c.hold_pair.new.held.items ≡ xs)) c.take_room.ensures.held c.hold_pair.ensures.err in
     let roomy : length c.args.receipts.now.items + length c.args.held.now.items + 3 ≤ vec_capacity c.choose-segment.new.receipts =
     omega (arith, c.in-Ok.ensures.room, c.choose-segment.ensures.room, c.args.receipts.now.ok.0, c.args.held.now.ok.0) in
-    kept_choose (length g.L.SiteName.sizes) c.args.lb c.args.receipts.now.items c.choose-segment.new.receipts.items c.args.held.now.items c.hold_pair.new.held.items c.args.share.now.parts c.choose-segment.new.share.parts c.args.share.now.amount c.choose-segment.new.share.amount
+    kept_choose (length g.L.SiteName.sizes) c.args.on.lb c.args.receipts.now.items c.choose-segment.new.receipts.items c.args.held.now.items c.hold_pair.new.held.items c.args.share.now.parts c.choose-segment.new.share.parts c.args.share.now.amount c.choose-segment.new.share.amount
     (vec_capacity c.args.receipts.now) (vec_capacity c.choose-segment.new.receipts) c.choose-segment.result.1 c.requires.known
-    (gained_choose g.L.SiteName.sizes g.L.SiteName.firsts c.deref_mut.result.now.books c.choose-segment.new.self.books c.choose-segment.result.0 c.args.receipts.now.items c.choose-segment.new.receipts.items c.args.share.now.amount c.choose-segment.new.share.amount c.args.lb c.args.session c.args.at c.args.ask.now c.choose-segment.result.1 ok err) tickets same c.choose-segment.ensures.few c.choose-segment.ensures.parts roomy n
+    (gained_choose g.L.SiteName.sizes g.L.SiteName.firsts c.deref_mut.result.now.books c.choose-segment.new.self.books c.choose-segment.result.0 c.args.receipts.now.items c.choose-segment.new.receipts.items c.args.share.now.amount c.choose-segment.new.share.amount c.args.on.lb c.args.on.session c.args.on.at c.args.ask.now c.choose-segment.result.1 ok err) tickets same c.choose-segment.ensures.few c.choose-segment.ensures.parts roomy n
 
 pub returns-clause-ok : goal.returns-clause-ok
 returns-clause-ok g c =
-    let ok = subst (λ (rs : List Receipt). IfOk c.choose-segment.result.1 (λ x. ChoseOk g.L.SiteName.sizes g.L.SiteName.firsts c.deref_mut.result.now.books c.choose-segment.new.self.books c.choose-segment.result.0 rs c.choose-segment.new.receipts.items c.args.share.now.amount c.choose-segment.new.share.amount c.args.lb c.args.session c.args.at c.args.ask.now x)) c.take_room.ensures.receipts c.choose-segment.ensures.ok in
-    let err = subst (λ (rs : List Receipt). IfErr c.choose-segment.result.1 (λ e. ChoseErr g.L.SiteName.sizes g.L.SiteName.firsts c.deref_mut.result.now.books c.choose-segment.new.self.books c.choose-segment.result.0 rs c.choose-segment.new.receipts.items c.args.share.now.amount c.choose-segment.new.share.amount c.args.lb c.args.session c.args.at e)) c.take_room.ensures.receipts c.choose-segment.ensures.err in
-    let tickets = subst (λ (xs : List (ℕ × ℕ)). IfOk c.choose-segment.result.1 (λ x. c.hold_pair.new.held.items ≡ xs ++ pairs_of c.args.lb x)) c.take_room.ensures.held c.hold_pair.ensures.ok in
+    let ok = subst (λ (rs : List Receipt). IfOk c.choose-segment.result.1 (λ x. ChoseOk g.L.SiteName.sizes g.L.SiteName.firsts c.deref_mut.result.now.books c.choose-segment.new.self.books c.choose-segment.result.0 rs c.choose-segment.new.receipts.items c.args.share.now.amount c.choose-segment.new.share.amount c.args.on.lb c.args.on.session c.args.on.at c.args.ask.now x)) c.take_room.ensures.receipts c.choose-segment.ensures.ok in
+    let err = subst (λ (rs : List Receipt). IfErr c.choose-segment.result.1 (λ e. ChoseErr g.L.SiteName.sizes g.L.SiteName.firsts c.deref_mut.result.now.books c.choose-segment.new.self.books c.choose-segment.result.0 rs c.choose-segment.new.receipts.items c.args.share.now.amount c.choose-segment.new.share.amount c.args.on.lb c.args.on.session c.args.on.at e)) c.take_room.ensures.receipts c.choose-segment.ensures.err in
+    let tickets = subst (λ (xs : List (ℕ × ℕ)). IfOk c.choose-segment.result.1 (λ x. c.hold_pair.new.held.items ≡ xs ++ pairs_of c.args.on.lb x)) c.take_room.ensures.held c.hold_pair.ensures.ok in
     let same = subst (λ (xs : List (ℕ × ℕ)). OnErr c.choose-segment.result.1 (c.hold_pair.new.held.items ≡ xs)) c.take_room.ensures.held c.hold_pair.ensures.err in
-    ok_choose g.L.SiteName.sizes g.L.SiteName.firsts c.deref_mut.result.now.books c.choose-segment.new.self.books c.choose-segment.result.0 c.args.receipts.now.items c.choose-segment.new.receipts.items c.args.share.now.amount c.choose-segment.new.share.amount c.args.lb c.args.session c.args.at c.args.share.now.parts c.choose-segment.new.share.parts c.args.held.now.items c.hold_pair.new.held.items c.args.ask.now c.choose-segment.result.1 c.choose-segment.ensures.parts ok tickets
+    ok_choose g.L.SiteName.sizes g.L.SiteName.firsts c.deref_mut.result.now.books c.choose-segment.new.self.books c.choose-segment.result.0 c.args.receipts.now.items c.choose-segment.new.receipts.items c.args.share.now.amount c.choose-segment.new.share.amount c.args.on.lb c.args.on.session c.args.on.at c.args.share.now.parts c.choose-segment.new.share.parts c.args.held.now.items c.hold_pair.new.held.items c.args.ask.now c.choose-segment.result.1 c.choose-segment.ensures.parts ok tickets
 
 pub returns-clause-err : goal.returns-clause-err
 returns-clause-err g c =
-    let ok = subst (λ (rs : List Receipt). IfOk c.choose-segment.result.1 (λ x. ChoseOk g.L.SiteName.sizes g.L.SiteName.firsts c.deref_mut.result.now.books c.choose-segment.new.self.books c.choose-segment.result.0 rs c.choose-segment.new.receipts.items c.args.share.now.amount c.choose-segment.new.share.amount c.args.lb c.args.session c.args.at c.args.ask.now x)) c.take_room.ensures.receipts c.choose-segment.ensures.ok in
-    let err = subst (λ (rs : List Receipt). IfErr c.choose-segment.result.1 (λ e. ChoseErr g.L.SiteName.sizes g.L.SiteName.firsts c.deref_mut.result.now.books c.choose-segment.new.self.books c.choose-segment.result.0 rs c.choose-segment.new.receipts.items c.args.share.now.amount c.choose-segment.new.share.amount c.args.lb c.args.session c.args.at e)) c.take_room.ensures.receipts c.choose-segment.ensures.err in
-    err_choose g.L.SiteName.sizes g.L.SiteName.firsts c.deref_mut.result.now.books c.choose-segment.new.self.books c.choose-segment.result.0 c.args.receipts.now.items c.choose-segment.new.receipts.items c.args.share.now.amount c.choose-segment.new.share.amount c.args.lb c.args.session c.args.at c.args.share.now.parts c.choose-segment.new.share.parts c.args.held.now.items c.hold_pair.new.held.items c.choose-segment.result.1 c.choose-segment.ensures.parts err
+    let ok = subst (λ (rs : List Receipt). IfOk c.choose-segment.result.1 (λ x. ChoseOk g.L.SiteName.sizes g.L.SiteName.firsts c.deref_mut.result.now.books c.choose-segment.new.self.books c.choose-segment.result.0 rs c.choose-segment.new.receipts.items c.args.share.now.amount c.choose-segment.new.share.amount c.args.on.lb c.args.on.session c.args.on.at c.args.ask.now x)) c.take_room.ensures.receipts c.choose-segment.ensures.ok in
+    let err = subst (λ (rs : List Receipt). IfErr c.choose-segment.result.1 (λ e. ChoseErr g.L.SiteName.sizes g.L.SiteName.firsts c.deref_mut.result.now.books c.choose-segment.new.self.books c.choose-segment.result.0 rs c.choose-segment.new.receipts.items c.args.share.now.amount c.choose-segment.new.share.amount c.args.on.lb c.args.on.session c.args.on.at e)) c.take_room.ensures.receipts c.choose-segment.ensures.err in
+    err_choose g.L.SiteName.sizes g.L.SiteName.firsts c.deref_mut.result.now.books c.choose-segment.new.self.books c.choose-segment.result.0 c.args.receipts.now.items c.choose-segment.new.receipts.items c.args.share.now.amount c.choose-segment.new.share.amount c.args.on.lb c.args.on.session c.args.on.at c.args.share.now.parts c.choose-segment.new.share.parts c.args.held.now.items c.hold_pair.new.held.items c.choose-segment.result.1 c.choose-segment.ensures.parts err
 
 pub returns-clause-cut : goal.returns-clause-cut
 returns-clause-cut g c =
-    let ok = subst (λ (rs : List Receipt). IfOk c.choose-segment.result.1 (λ x. ChoseOk g.L.SiteName.sizes g.L.SiteName.firsts c.deref_mut.result.now.books c.choose-segment.new.self.books c.choose-segment.result.0 rs c.choose-segment.new.receipts.items c.args.share.now.amount c.choose-segment.new.share.amount c.args.lb c.args.session c.args.at c.args.ask.now x)) c.take_room.ensures.receipts c.choose-segment.ensures.ok in
-    let err = subst (λ (rs : List Receipt). IfErr c.choose-segment.result.1 (λ e. ChoseErr g.L.SiteName.sizes g.L.SiteName.firsts c.deref_mut.result.now.books c.choose-segment.new.self.books c.choose-segment.result.0 rs c.choose-segment.new.receipts.items c.args.share.now.amount c.choose-segment.new.share.amount c.args.lb c.args.session c.args.at e)) c.take_room.ensures.receipts c.choose-segment.ensures.err in
-    cut_choose g.L.SiteName.sizes g.L.SiteName.firsts c.deref_mut.result.now.books c.choose-segment.new.self.books c.choose-segment.result.0 c.args.receipts.now.items c.choose-segment.new.receipts.items c.args.share.now.amount c.choose-segment.new.share.amount c.args.lb c.args.session c.args.at c.args.ask.now c.choose-segment.result.1 ok err
+    let ok = subst (λ (rs : List Receipt). IfOk c.choose-segment.result.1 (λ x. ChoseOk g.L.SiteName.sizes g.L.SiteName.firsts c.deref_mut.result.now.books c.choose-segment.new.self.books c.choose-segment.result.0 rs c.choose-segment.new.receipts.items c.args.share.now.amount c.choose-segment.new.share.amount c.args.on.lb c.args.on.session c.args.on.at c.args.ask.now x)) c.take_room.ensures.receipts c.choose-segment.ensures.ok in
+    let err = subst (λ (rs : List Receipt). IfErr c.choose-segment.result.1 (λ e. ChoseErr g.L.SiteName.sizes g.L.SiteName.firsts c.deref_mut.result.now.books c.choose-segment.new.self.books c.choose-segment.result.0 rs c.choose-segment.new.receipts.items c.args.share.now.amount c.choose-segment.new.share.amount c.args.on.lb c.args.on.session c.args.on.at e)) c.take_room.ensures.receipts c.choose-segment.ensures.err in
+    cut_choose g.L.SiteName.sizes g.L.SiteName.firsts c.deref_mut.result.now.books c.choose-segment.new.self.books c.choose-segment.result.0 c.args.receipts.now.items c.choose-segment.new.receipts.items c.args.share.now.amount c.choose-segment.new.share.amount c.args.on.lb c.args.on.session c.args.on.at c.args.ask.now c.choose-segment.result.1 ok err

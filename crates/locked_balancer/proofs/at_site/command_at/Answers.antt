@@ -13,32 +13,32 @@ returns-in-Err-clause-kept g c = λ n.
 pub returns-in-Err-clause-err : goal.returns-in-Err-clause-err
 returns-in-Err-clause-err g c = λ s f w f' w' m.
     none_desk g.L.SiteName.sizes c.args.share.now.parts c.args.receipts.now.items c.reserve.new.self.items c.args.held.now c.args.held.now c.args.share.now.amount s f w f' w' m
-    c.args.lb c.args.session c.args.at _ _ c.reserve.ensures.items refl
+    c.args.on.lb c.args.on.session c.args.on.at _ _ c.reserve.ensures.items refl
 
 pub returns-clause-kept : goal.returns-clause-kept
 returns-clause-kept g c = λ n.
-    let ok = subst (λ (rs : List Receipt). OnOk c.command.result.1 (DidOk g.L.SiteName.sizes g.L.SiteName.firsts c.deref_mut.result.now.books c.command.new.self.books c.command.result.0 rs c.command.new.receipts.items c.args.share.now.amount c.command.new.share.amount c.args.lb c.args.session c.args.at c.args.command.now)) c.reserve.ensures.items c.command.ensures.ok in
-    let err = subst (λ (rs : List Receipt). IfErr c.command.result.1 (λ e. DidErr g.L.SiteName.sizes g.L.SiteName.firsts c.deref_mut.result.now.books c.command.new.self.books c.command.result.0 rs c.command.new.receipts.items c.args.share.now.amount c.command.new.share.amount c.args.lb c.args.session c.args.at c.args.command.now e)) c.reserve.ensures.items c.command.ensures.err in
+    let ok = subst (λ (rs : List Receipt). OnOk c.command.result.1 (DidOk g.L.SiteName.sizes g.L.SiteName.firsts c.deref_mut.result.now.books c.command.new.self.books c.command.result.0 rs c.command.new.receipts.items c.args.share.now.amount c.command.new.share.amount c.args.on.lb c.args.on.session c.args.on.at c.args.command.now)) c.reserve.ensures.items c.command.ensures.ok in
+    let err = subst (λ (rs : List Receipt). IfErr c.command.result.1 (λ e. DidErr g.L.SiteName.sizes g.L.SiteName.firsts c.deref_mut.result.now.books c.command.new.self.books c.command.result.0 rs c.command.new.receipts.items c.args.share.now.amount c.command.new.share.amount c.args.on.lb c.args.on.session c.args.on.at c.args.command.now e)) c.reserve.ensures.items c.command.ensures.err in
     let roomy : length c.args.receipts.now.items + length c.args.held.now + 2 ≤ vec_capacity c.command.new.receipts =
     omega (arith, c.in-Ok.ensures.ok, c.command.ensures.room, c.args.receipts.now.ok.0, c.reserve.ensures.len) in
     kept_command (length g.L.SiteName.sizes) c.args.receipts.now.items c.command.new.receipts.items c.args.held.now c.args.share.now.parts c.command.new.share.parts c.args.share.now.amount c.command.new.share.amount
     (vec_capacity c.args.receipts.now) (vec_capacity c.command.new.receipts)
-    (gained_command g.L.SiteName.sizes g.L.SiteName.firsts c.deref_mut.result.now.books c.command.new.self.books c.command.result.0 c.args.receipts.now.items c.command.new.receipts.items c.args.share.now.amount c.command.new.share.amount c.args.lb c.args.session c.args.at c.args.command.now c.command.result.1 ok err) c.command.ensures.few c.command.ensures.parts roomy n
+    (gained_command g.L.SiteName.sizes g.L.SiteName.firsts c.deref_mut.result.now.books c.command.new.self.books c.command.result.0 c.args.receipts.now.items c.command.new.receipts.items c.args.share.now.amount c.command.new.share.amount c.args.on.lb c.args.on.session c.args.on.at c.args.command.now c.command.result.1 ok err) c.command.ensures.few c.command.ensures.parts roomy n
 
 pub returns-clause-ok : goal.returns-clause-ok
 returns-clause-ok g c =
-    let ok = subst (λ (rs : List Receipt). OnOk c.command.result.1 (DidOk g.L.SiteName.sizes g.L.SiteName.firsts c.deref_mut.result.now.books c.command.new.self.books c.command.result.0 rs c.command.new.receipts.items c.args.share.now.amount c.command.new.share.amount c.args.lb c.args.session c.args.at c.args.command.now)) c.reserve.ensures.items c.command.ensures.ok in
-    let err = subst (λ (rs : List Receipt). IfErr c.command.result.1 (λ e. DidErr g.L.SiteName.sizes g.L.SiteName.firsts c.deref_mut.result.now.books c.command.new.self.books c.command.result.0 rs c.command.new.receipts.items c.args.share.now.amount c.command.new.share.amount c.args.lb c.args.session c.args.at c.args.command.now e)) c.reserve.ensures.items c.command.ensures.err in
-    ok_command g.L.SiteName.sizes g.L.SiteName.firsts c.deref_mut.result.now.books c.command.new.self.books c.command.result.0 c.args.receipts.now.items c.command.new.receipts.items c.args.share.now.amount c.command.new.share.amount c.args.lb c.args.session c.args.at c.args.share.now.parts c.command.new.share.parts c.args.held.now c.args.held.now c.args.command.now c.command.result.1 c.command.ensures.parts ok
+    let ok = subst (λ (rs : List Receipt). OnOk c.command.result.1 (DidOk g.L.SiteName.sizes g.L.SiteName.firsts c.deref_mut.result.now.books c.command.new.self.books c.command.result.0 rs c.command.new.receipts.items c.args.share.now.amount c.command.new.share.amount c.args.on.lb c.args.on.session c.args.on.at c.args.command.now)) c.reserve.ensures.items c.command.ensures.ok in
+    let err = subst (λ (rs : List Receipt). IfErr c.command.result.1 (λ e. DidErr g.L.SiteName.sizes g.L.SiteName.firsts c.deref_mut.result.now.books c.command.new.self.books c.command.result.0 rs c.command.new.receipts.items c.args.share.now.amount c.command.new.share.amount c.args.on.lb c.args.on.session c.args.on.at c.args.command.now e)) c.reserve.ensures.items c.command.ensures.err in
+    ok_command g.L.SiteName.sizes g.L.SiteName.firsts c.deref_mut.result.now.books c.command.new.self.books c.command.result.0 c.args.receipts.now.items c.command.new.receipts.items c.args.share.now.amount c.command.new.share.amount c.args.on.lb c.args.on.session c.args.on.at c.args.share.now.parts c.command.new.share.parts c.args.held.now c.args.held.now c.args.command.now c.command.result.1 c.command.ensures.parts ok
 
 pub returns-clause-err : goal.returns-clause-err
 returns-clause-err g c =
-    let ok = subst (λ (rs : List Receipt). OnOk c.command.result.1 (DidOk g.L.SiteName.sizes g.L.SiteName.firsts c.deref_mut.result.now.books c.command.new.self.books c.command.result.0 rs c.command.new.receipts.items c.args.share.now.amount c.command.new.share.amount c.args.lb c.args.session c.args.at c.args.command.now)) c.reserve.ensures.items c.command.ensures.ok in
-    let err = subst (λ (rs : List Receipt). IfErr c.command.result.1 (λ e. DidErr g.L.SiteName.sizes g.L.SiteName.firsts c.deref_mut.result.now.books c.command.new.self.books c.command.result.0 rs c.command.new.receipts.items c.args.share.now.amount c.command.new.share.amount c.args.lb c.args.session c.args.at c.args.command.now e)) c.reserve.ensures.items c.command.ensures.err in
-    err_command g.L.SiteName.sizes g.L.SiteName.firsts c.deref_mut.result.now.books c.command.new.self.books c.command.result.0 c.args.receipts.now.items c.command.new.receipts.items c.args.share.now.amount c.command.new.share.amount c.args.lb c.args.session c.args.at c.args.share.now.parts c.command.new.share.parts c.args.held.now c.args.held.now c.args.command.now c.command.result.1 c.command.ensures.parts err
+    let ok = subst (λ (rs : List Receipt). OnOk c.command.result.1 (DidOk g.L.SiteName.sizes g.L.SiteName.firsts c.deref_mut.result.now.books c.command.new.self.books c.command.result.0 rs c.command.new.receipts.items c.args.share.now.amount c.command.new.share.amount c.args.on.lb c.args.on.session c.args.on.at c.args.command.now)) c.reserve.ensures.items c.command.ensures.ok in
+    let err = subst (λ (rs : List Receipt). IfErr c.command.result.1 (λ e. DidErr g.L.SiteName.sizes g.L.SiteName.firsts c.deref_mut.result.now.books c.command.new.self.books c.command.result.0 rs c.command.new.receipts.items c.args.share.now.amount c.command.new.share.amount c.args.on.lb c.args.on.session c.args.on.at c.args.command.now e)) c.reserve.ensures.items c.command.ensures.err in
+    err_command g.L.SiteName.sizes g.L.SiteName.firsts c.deref_mut.result.now.books c.command.new.self.books c.command.result.0 c.args.receipts.now.items c.command.new.receipts.items c.args.share.now.amount c.command.new.share.amount c.args.on.lb c.args.on.session c.args.on.at c.args.share.now.parts c.command.new.share.parts c.args.held.now c.args.held.now c.args.command.now c.command.result.1 c.command.ensures.parts err
 
 pub returns-clause-cut : goal.returns-clause-cut
 returns-clause-cut g c =
-    let ok = subst (λ (rs : List Receipt). OnOk c.command.result.1 (DidOk g.L.SiteName.sizes g.L.SiteName.firsts c.deref_mut.result.now.books c.command.new.self.books c.command.result.0 rs c.command.new.receipts.items c.args.share.now.amount c.command.new.share.amount c.args.lb c.args.session c.args.at c.args.command.now)) c.reserve.ensures.items c.command.ensures.ok in
-    let err = subst (λ (rs : List Receipt). IfErr c.command.result.1 (λ e. DidErr g.L.SiteName.sizes g.L.SiteName.firsts c.deref_mut.result.now.books c.command.new.self.books c.command.result.0 rs c.command.new.receipts.items c.args.share.now.amount c.command.new.share.amount c.args.lb c.args.session c.args.at c.args.command.now e)) c.reserve.ensures.items c.command.ensures.err in
-    cut_command g.L.SiteName.sizes g.L.SiteName.firsts c.deref_mut.result.now.books c.command.new.self.books c.command.result.0 c.args.receipts.now.items c.command.new.receipts.items c.args.share.now.amount c.command.new.share.amount c.args.lb c.args.session c.args.at c.args.command.now c.command.result.1 ok err
+    let ok = subst (λ (rs : List Receipt). OnOk c.command.result.1 (DidOk g.L.SiteName.sizes g.L.SiteName.firsts c.deref_mut.result.now.books c.command.new.self.books c.command.result.0 rs c.command.new.receipts.items c.args.share.now.amount c.command.new.share.amount c.args.on.lb c.args.on.session c.args.on.at c.args.command.now)) c.reserve.ensures.items c.command.ensures.ok in
+    let err = subst (λ (rs : List Receipt). IfErr c.command.result.1 (λ e. DidErr g.L.SiteName.sizes g.L.SiteName.firsts c.deref_mut.result.now.books c.command.new.self.books c.command.result.0 rs c.command.new.receipts.items c.args.share.now.amount c.command.new.share.amount c.args.on.lb c.args.on.session c.args.on.at c.args.command.now e)) c.reserve.ensures.items c.command.ensures.err in
+    cut_command g.L.SiteName.sizes g.L.SiteName.firsts c.deref_mut.result.now.books c.command.new.self.books c.command.result.0 c.args.receipts.now.items c.command.new.receipts.items c.args.share.now.amount c.command.new.share.amount c.args.on.lb c.args.on.session c.args.on.at c.args.command.now c.command.result.1 ok err

@@ -10,16 +10,16 @@ use Rattle.locked_balancer.proofs.holds.maintain_first.Goals as goal
 pub returns-in_err-found-clause-refused : goal.returns-in_err-found-clause-refused
 returns-in_err-found-clause-refused g c =
     of_error c.from_residual.result c.in_err-found.field-0.0 _ c.from_residual.ensures.1
-    (λ b here. refused_maintain c.args.lb b c.args.at c.in_err-found.field-0.0 (c.in_err-found.ensures.due b here))
+    (λ b here. refused_maintain c.args.on.lb b c.args.on.at c.in_err-found.field-0.0 (c.in_err-found.ensures.due b here))
 
 pub returns-in_err-found-clause-mark : goal.returns-in_err-found-clause-mark
 returns-in_err-found-clause-mark g c =
-    let here : (b : Journal) × (slice_get c.args.site.now c.args.lb ≡ Some b) = at_place c.args.site.now c.args.lb c.requires.lb in
+    let here : (b : Journal) × (slice_get c.args.site.now c.args.on.lb ≡ Some b) = at_place c.args.site.now c.args.on.lb c.requires.lb in
     of_error c.from_residual.result c.in_err-found.field-0.0 _ c.from_residual.ensures.1
-    (due_mark c.args.lb here.0 c.args.at c.in_err-found.field-0.0 (c.in_err-found.ensures.due here.0 here.1))
+    (due_mark c.args.on.lb here.0 c.args.on.at c.in_err-found.field-0.0 (c.in_err-found.ensures.due here.0 here.1))
 
 pub returns-clause-due : goal.returns-clause-due
 returns-clause-due g c =
     maintains c.in_ok-found.found c.args.site.now c.maintain_if_due.new.self c.args.receipts.now.items c.note_some.new.receipts.items
-    c.args.share.now.amount c.maintain_if_due.new.share.amount c.args.lb c.args.session c.args.at c.requires.lb
+    c.args.share.now.amount c.maintain_if_due.new.share.amount c.args.on.lb c.args.on.session c.args.on.at c.requires.lb
     c.in_ok-found.ensures.ok c.in_ok-found.ensures.due c.in_ok-found.ensures.amount c.note_some.ensures.items
