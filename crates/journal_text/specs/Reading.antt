@@ -94,6 +94,11 @@ TakesAt r (place.Body name o entries) l found = found ≡ continued r name o ent
 abbrev pub TakesText : Reader → (text : List ℕ) → Option Reader → Type 0
 TakesText r text found = MatchOption (line_of r.rules text) (found ≡ None) (λ l. TakesAt r r.place l found)
 
+-- Why a line with this number isn't taken. Want of memory says nothing.
+abbrev pub Refuses : Reader → (number : ℕ) → (text : List ℕ) → TextError → Type 0
+Refuses r number text (error.Unreadable line) = (line ≡ number) × TakesText r text None
+Refuses r number text error.NoMemory = Unit {0}
+
 -- A text is read as segments, each with the count of its last line, or can't be read at a line.
 pub data Outcome : Type 0 where
   readable : List Counted → Outcome

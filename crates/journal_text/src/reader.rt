@@ -1,14 +1,15 @@
 //! The reader of a text: where it stands, and what each line makes of that.
-ghost use Rattle.std.specs.Prelude.{◌≡◌, [], ◌∷◌, ◌++◌, ◌+◌, ◌≤◌, ◌<◌, ◌^◌, None, true, false, All, length, IfNone, IfOk, IfSome, MatchOption};
+ghost use Rattle.std.specs.Prelude.{◌≡◌, [], ◌∷◌, ◌++◌, ◌+◌, ◌≤◌, ◌<◌, ◌^◌, None, Some, true, false, All, length, IfNone, IfErr, IfOk, IfSome, MatchOption};
 ghost use Rattle.jk_model.specs.Segments.{AreRules};
 ghost use Rattle.journal_lines.specs.Ranges.{IsKeptLine};
 ghost use Rattle.jk_model.specs.Segments.{AreKeptEntries};
 ghost use Rattle.jk_model.specs.Validity.{IsOpening};
 ghost use Rattle.journal_text.specs.Kept.{IsKept, IsSound};
-ghost use Rattle.journal_text.specs.Reading.{Heads, Opens, TakesAt, TakesText, at_start, begun, continued, held, is_end, is_over, named, opened};
+ghost use Rattle.journal_text.specs.Reading.{Heads, Opens, Refuses, TakesAt, TakesText, at_start, begun, continued, held, is_end, is_over, named, opened};
 
 use crate::counted::{Counted, CountedList};
 use crate::draft::Draft;
+use crate::text_error::TextError;
 use jk_io::{Bytes, NoMemory};
 use jk_model::{Entry, EntryList, MemberList, Opening, RowList, TicketList};
 use journal_lines::{Beginning, Line, read_line};
@@ -280,6 +281,21 @@ impl Reader {
         match read {
             None => Ok(None),
             Some(line) => self.take(alloc, line),
+        }
+    }
+
+    /// Takes the text of the line with this number, without its LF.
+    pub fn take_line(self, alloc: Global, text: &[u8], number: u32) -> Result<Reader, TextError>
+        requires few { held self.place < 2 ^ 32 }
+        requires sound { IsSound self }
+        ensures sound { IfOk result IsSound }
+        ensures takes { IfOk result (λ q. TakesText self text.now (Some q)) }
+        ensures grown { IfOk result (λ q. held q.place ≤ held self.place + 1) }
+        ensures err { IfErr result (Refuses self number text.now) }
+    {
+        match self.take_text(alloc, text)? {
+            Some(further) => Ok(further),
+            None => Err(TextError::Unreadable { line: number }),
         }
     }
 

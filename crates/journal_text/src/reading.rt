@@ -16,17 +16,14 @@ pub(crate) fn read_counted(alloc: Global, text: &[u8]) -> Result<CountedList, Te
     ensures sound { IfOk result (All IsKept) }
 {
     let mut lines = Parts::of(b'\n', text);
-    let mut reader = Reader::new(alloc);
-    let mut number: u32 = 1;
     let mut line = match lines.next() {
         Some(first) => first,
         None => return Err(TextError::Unreadable { line: 1 }),
     };
+    let mut reader = Reader::new(alloc);
+    let mut number: u32 = 1;
     'lines: while let Some(next) = lines.next() {
-        reader = match reader.take_text(alloc, line)? {
-            Some(further) => further,
-            None => return Err(TextError::Unreadable { line: number }),
-        };
+        reader = reader.take_line(alloc, line, number)?;
         number += 1;
         line = next;
     }
