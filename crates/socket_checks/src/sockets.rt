@@ -2,7 +2,8 @@
 ghost use Rattle.std.specs.Prelude.{◌≡◌, ◌<◌, false, true, OnOk, slice_index};
 ghost use Rattle.conn_pool.specs.Idle.{HasMember};
 
-use crate::lists::{length_read, one_balancer};
+use crate::pools::one_pool;
+use crate::reading::length_read;
 use conn_pool::{Idle, NoTape, PooledReach, Pools};
 use jk_io::{
     Bytes, Dial, Door, IoError, Link, Peer, Reach, Stop, TcpDial, TcpDoor, TcpLink, fill, write_all,
@@ -213,7 +214,7 @@ fn keeps_over<D: Door, R: Net<Stream = TcpStream> + Wait>(
     door: &mut D,
     port: u16,
 ) -> bool {
-    let Ok(sizes) = one_balancer(alloc, &[1]) else {
+    let Ok(sizes) = one_pool(alloc, 1) else {
         return false;
     };
     match Pools::new(rt, alloc, &sizes) {

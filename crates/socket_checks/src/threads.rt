@@ -2,7 +2,7 @@
 ghost use Rattle.std.specs.Prelude.{◌<◌};
 ghost use Rattle.conn_pool.specs.Idle.{HasMember};
 
-use crate::lists::one_balancer;
+use crate::pools::one_pool;
 use conn_pool::Pools;
 use jk_io::NoMemory;
 use std::alloc::Global;
@@ -29,7 +29,7 @@ pub fn pass_each_once<R: Threads + Wait + Sync>(rt: &R, alloc: Global) -> bool {
 }
 
 fn pass_through_one<R: Threads + Wait + Sync>(rt: &R, alloc: Global) -> Result<bool, NoMemory> {
-    let sizes = one_balancer(alloc, &[64])?;
+    let sizes = one_pool(alloc, 64)?;
     pass_with(rt, alloc, &Pools::new(rt, alloc, &sizes)?)
 }
 
