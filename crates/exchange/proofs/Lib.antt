@@ -16,3 +16,4 @@ pub mod CompleteLaws
 pub mod UsedLaws
 pub mod OwnLaws
 pub mod SizeLaws
+pub mod MeansLaws

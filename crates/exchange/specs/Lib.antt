@@ -9,3 +9,4 @@ pub mod Clients
 pub mod WholeTalks
 pub mod Complete
 pub mod Steps
+pub mod Means

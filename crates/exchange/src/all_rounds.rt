@@ -4,18 +4,18 @@ ghost use Rattle.http_body_in.specs.State.{failed_of, taken_of};
 ghost use Rattle.forwarding.specs.FirstPiece.{piece_for};
 ghost use Rattle.site_config.specs.declared.endpoint.Endpoint.{Endpoint};
 ghost use Rattle.exchange.specs.Exchanges.{GoesThrough};
+ghost use Rattle.exchange.specs.Means.{AreSameMeans, scene_of};
 ghost use Rattle.exchange.specs.Requests.{ask_for, errand_of};
-ghost use Rattle.exchange.specs.Rounds.{IsDeskAfter, scene};
+ghost use Rattle.exchange.specs.Rounds.{IsDeskAfter};
 
 use crate::ending::{ExchangeEnd, Verdict};
 use crate::methods::is_head;
 use crate::own::write_own;
 use crate::request::Request;
 use crate::rounds::one_round;
+use crate::sides::Means;
 use crate::tried::with_member;
 use balancer_core::Desk;
-use http_body_in::BodyIn;
-use http_front::Inbox;
 use jk_io::{Bytes, Clock, Link, Reach};
 use jk_model::Ask;
 use std::alloc::Global;
@@ -26,47 +26,41 @@ pub(crate) fn all_rounds<B: Desk, R: Reach, C: Link, K: Clock>(
     request: &Request,
     first: &Bytes,
     ask: Ask,
-    body: &mut BodyIn,
-    inbox: &mut Inbox,
-    desk: &mut B,
-    reach: &mut R,
-    client: &mut C,
-    clock: &mut K,
+    means: &mut Means<B, K, R, C>,
 ) -> ExchangeEnd
 where
     B::Mark: Drop,
     requires ask { ask ≡ ask_for (errand_of request.now) 0 }
-    requires lb { request.now.lb < length (B.state desk.old).sizes }
-    requires caller { IfSome (B.state desk.old).caller (λ n. request.now.session ≡ n) }
-    requires desk_size { slice_index (B.state desk.old).sizes request.now.lb ≡ length request.now.balancer.now.book.members }
-    requires reach_size { slice_index (R.beside reach.old).sizes request.now.lb ≡ length request.now.balancer.now.book.members }
-    requires idle { (R.beside reach.old).runs ≡ false }
+    requires lb { request.now.lb < length (B.state means.old.desk.now).sizes }
+    requires caller { IfSome (B.state means.old.desk.now).caller (λ n. request.now.session ≡ n) }
+    requires desk_size { slice_index (B.state means.old.desk.now).sizes request.now.lb ≡ length request.now.balancer.now.book.members }
+    requires reach_size { slice_index (R.beside means.old.sides.reach.now).sizes request.now.lb ≡ length request.now.balancer.now.book.members }
+    requires idle { (R.beside means.old.sides.reach.now).runs ≡ false }
     requires short { (endpoint : Endpoint) → (m : ℕ) → slice_get request.now.balancer.now.ends m ≡ Some endpoint → length first.now ≤ piece_for endpoint }
-    requires first { taken_of body.old ≡ length first.now }
-    requires going { failed_of body.old ≡ None }
-    ensures through { GoesThrough (errand_of request.now) first.now
-        (scene B.state K.answers R.Meanings C.Meanings desk.old clock.old reach.old client.old body.old inbox.old)
-        (scene B.state K.answers R.Meanings C.Meanings desk.new clock.new reach.new client.new body.new inbox.new)
-        result }
-    ensures idle { (R.beside reach.new).runs ≡ false }
-    ensures held { (B.state desk.new).held ≡ (B.state desk.old).held }
-    ensures sizes { (R.beside reach.new).sizes ≡ (R.beside reach.old).sizes }
-    ensures kept { IsDeskAfter request.now.lb request.now.session (B.state desk.old) (B.state desk.new) }
-    ensures beside { C.beside client.new ≡ C.beside client.old }
-    ensures no_fewer { (R.faults reach.old ≤ R.faults reach.new) × (C.faults client.old ≤ C.faults client.new) }
+    requires first { taken_of means.old.sides.body.now ≡ length first.now }
+    requires going { failed_of means.old.sides.body.now ≡ None }
+    ensures through { let at = scene_of B.state K.answers R.Meanings C.Meanings in
+        GoesThrough (errand_of request.now) first.now (at means.old) (at means.new) result }
+    ensures idle { (R.beside means.new.sides.reach.now).runs ≡ false }
+    ensures held { (B.state means.new.desk.now).held ≡ (B.state means.old.desk.now).held }
+    ensures sizes { (R.beside means.new.sides.reach.now).sizes ≡ (R.beside means.old.sides.reach.now).sizes }
+    ensures kept { IsDeskAfter request.now.lb request.now.session (B.state means.old.desk.now) (B.state means.new.desk.now) }
+    ensures beside { C.beside means.new.sides.client.now ≡ C.beside means.old.sides.client.now }
+    ensures reach_faults { R.faults means.old.sides.reach.now ≤ R.faults means.new.sides.reach.now }
+    ensures client_faults { C.faults means.old.sides.client.now ≤ C.faults means.new.sides.client.now }
+    ensures same { AreSameMeans means.old means.new }
 {
     let mut ask = ask;
     let mut fresh = false;
     loop {
-        let verdict = one_round(
-            alloc, request, first, &ask, fresh, body, inbox, desk, reach, client, clock,
-        );
-        match verdict {
+        match one_round(alloc, request, first, &ask, fresh, means) {
             Verdict::Again { member } => {
                 ask.tried = with_member(ask.tried, member);
                 fresh = true;
             }
-            Verdict::Answer(status) => return write_own(status, is_head(request.head), client),
+            Verdict::Answer(status) => {
+                return write_own(status, is_head(request.head), means.sides.client);
+            }
             Verdict::End(end) => return end,
         }
     }

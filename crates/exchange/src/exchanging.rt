@@ -7,6 +7,7 @@ ghost use Rattle.exchange.specs.Clients.{Gives, MeetsAt};
 ghost use Rattle.exchange.specs.Complete.{Completes};
 ghost use Rattle.exchange.specs.Exchanges.{InEachExchange, IsExchange};
 ghost use Rattle.exchange.specs.FirstPiece.{body_left};
+ghost use Rattle.exchange.specs.Means.{AreSameMeans, scene_of};
 ghost use Rattle.exchange.specs.Requests.{AtPlace, errand, errand_of, sizes_of};
 ghost use Rattle.exchange.specs.Rounds.{IsDeskAfter, scene};
 ghost use Rattle.exchange.specs.WholeTalks.{GoesWholeOnce};
@@ -16,6 +17,7 @@ use crate::ending::ExchangeEnd;
 use crate::first_piece::take_first;
 use crate::planning::ask_of;
 use crate::request::Request;
+use crate::sides::{Means, Sides};
 use balancer_core::Desk;
 use http_body_in::BodyIn;
 use http_front::{Head, Inbox};
@@ -92,57 +94,61 @@ where
         balancer: &cfg.lbs.as_slice()[lb as usize],
         terms: *terms,
     };
-    exchange_of(alloc, &request, body, inbox, desk, reach, client, clock)
+    let mut means = Means {
+        desk,
+        clock,
+        sides: Sides {
+            reach,
+            client,
+            body,
+            inbox,
+        },
+    };
+    exchange_of(alloc, &request, &mut means)
 }
 
 /// The exchange of a request with its balancer.
 fn exchange_of<B: Desk, R: Reach, C: Link, K: Clock>(
     alloc: Global,
     request: &Request,
-    body: &mut BodyIn,
-    inbox: &mut Inbox,
-    desk: &mut B,
-    reach: &mut R,
-    client: &mut C,
-    clock: &mut K,
+    means: &mut Means<B, K, R, C>,
 ) -> ExchangeEnd
 where
     B::Mark: Drop,
-    requires lb { request.now.lb < length (B.state desk.old).sizes }
-    requires caller { IfSome (B.state desk.old).caller (λ n. request.now.session ≡ n) }
-    requires desk_size { slice_index (B.state desk.old).sizes request.now.lb ≡ length request.now.balancer.now.book.members }
-    requires reach_size { slice_index (R.beside reach.old).sizes request.now.lb ≡ length request.now.balancer.now.book.members }
-    requires idle { (R.beside reach.old).runs ≡ false }
-    requires place { place_of body.old ≡ start_of request.now.head.now.plan }
-    requires taken { taken_of body.old ≡ 0 }
-    requires going { failed_of body.old ≡ None }
-    ensures exchange { IsExchange (errand_of request.now)
-        (scene B.state K.answers R.Meanings C.Meanings desk.old clock.old reach.old client.old body.old inbox.old)
-        (scene B.state K.answers R.Meanings C.Meanings desk.new clock.new reach.new client.new body.new inbox.new)
-        result }
-    ensures idle { (R.beside reach.new).runs ≡ false }
-    ensures held { (B.state desk.new).held ≡ (B.state desk.old).held }
-    ensures sizes { (R.beside reach.new).sizes ≡ (R.beside reach.old).sizes }
-    ensures kept { IsDeskAfter request.now.lb request.now.session (B.state desk.old) (B.state desk.new) }
-    ensures beside { C.beside client.new ≡ C.beside client.old }
-    ensures no_fewer { (R.faults reach.old ≤ R.faults reach.new) × (C.faults client.old ≤ C.faults client.new) }
+    requires lb { request.now.lb < length (B.state means.old.desk.now).sizes }
+    requires caller { IfSome (B.state means.old.desk.now).caller (λ n. request.now.session ≡ n) }
+    requires desk_size { slice_index (B.state means.old.desk.now).sizes request.now.lb ≡ length request.now.balancer.now.book.members }
+    requires reach_size { slice_index (R.beside means.old.sides.reach.now).sizes request.now.lb ≡ length request.now.balancer.now.book.members }
+    requires idle { (R.beside means.old.sides.reach.now).runs ≡ false }
+    requires place { place_of means.old.sides.body.now ≡ start_of request.now.head.now.plan }
+    requires taken { taken_of means.old.sides.body.now ≡ 0 }
+    requires going { failed_of means.old.sides.body.now ≡ None }
+    ensures exchange { let at = scene_of B.state K.answers R.Meanings C.Meanings in
+        IsExchange (errand_of request.now) (at means.old) (at means.new) result }
+    ensures idle { (R.beside means.new.sides.reach.now).runs ≡ false }
+    ensures held { (B.state means.new.desk.now).held ≡ (B.state means.old.desk.now).held }
+    ensures sizes { (R.beside means.new.sides.reach.now).sizes ≡ (R.beside means.old.sides.reach.now).sizes }
+    ensures kept { IsDeskAfter request.now.lb request.now.session (B.state means.old.desk.now) (B.state means.new.desk.now) }
+    ensures beside { C.beside means.new.sides.client.now ≡ C.beside means.old.sides.client.now }
+    ensures reach_faults { R.faults means.old.sides.reach.now ≤ R.faults means.new.sides.reach.now }
+    ensures client_faults { C.faults means.old.sides.client.now ≤ C.faults means.new.sides.client.now }
+    ensures same { AreSameMeans means.old means.new }
 {
     let ask = match ask_of(alloc, request) {
         Ok(ask) => ask,
         Err(NoMemory) => return ExchangeEnd::NoMemory,
     };
+    let sides = &mut means.sides;
     let first = match take_first(
         alloc,
         request.head.plan,
         &request.balancer.ends,
-        body,
-        inbox,
-        client,
+        sides.body,
+        sides.inbox,
+        sides.client,
     ) {
         Ok(first) => first,
         Err(end) => return end,
     };
-    all_rounds(
-        alloc, request, &first, ask, body, inbox, desk, reach, client, clock,
-    )
+    all_rounds(alloc, request, &first, ask, means)
 }

@@ -21,7 +21,9 @@ mod own;
 mod planning;
 mod request;
 mod rounds;
+mod sides;
 mod talks;
+mod target;
 mod tried;
 mod verdicts;
 

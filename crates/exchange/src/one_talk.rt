@@ -2,11 +2,12 @@
 ghost use Rattle.std.specs.Prelude.{◌≡◌, ◌≤◌, ◌<◌, false, None, length, slice_index};
 ghost use Rattle.http_body_in.specs.State.{failed_of, taken_of};
 ghost use Rattle.ajp_talk.specs.Ends.{IsPlan};
-ghost use Rattle.exchange.specs.OneTalk.{IsOneTalk, around, keeps as keeps_link, no_link as end_without_link, pings as pings_first};
+ghost use Rattle.exchange.specs.Means.{AreSameSides, around_of};
+ghost use Rattle.exchange.specs.OneTalk.{IsOneTalk, keeps as keeps_link, no_link as end_without_link, pings as pings_first};
 
+use crate::sides::Sides;
+use crate::target::Target;
 use ajp_talk::{Cause, Stage, TalkEnd, TalkPlan, talk};
-use http_body_in::BodyIn;
-use http_front::Inbox;
 use jk_io::{IoError, Link, NoMemory, Reach};
 use site_config::Endpoint;
 use std::alloc::Global;
@@ -15,38 +16,45 @@ use std::alloc::Global;
 pub(crate) fn one_talk<R: Reach, C: Link>(
     alloc: Global,
     lb: u32,
-    member: u32,
-    endpoint: &Endpoint,
+    to: &Target,
     plan: &mut TalkPlan,
     fresh: bool,
-    body: &mut BodyIn,
-    inbox: &mut Inbox,
-    reach: &mut R,
-    client: &mut C,
+    sides: &mut Sides<R, C>,
 ) -> Result<TalkEnd, NoMemory>
-    requires idle { (R.beside reach.old).runs ≡ false }
-    requires known { member < slice_index (R.beside reach.old).sizes lb }
+    requires idle { (R.beside sides.old.reach.now).runs ≡ false }
+    requires known { to.now.member < slice_index (R.beside sides.old.reach.now).sizes lb }
     requires plan { IsPlan plan.now }
-    requires first { taken_of body.old ≡ length plan.now.first }
-    requires going { failed_of body.old ≡ None }
-    ensures talk { IsOneTalk lb member endpoint.now plan.entry.now fresh
-        (around R.Meanings C.Meanings reach.old client.old body.old inbox.old)
-        (around R.Meanings C.Meanings reach.new client.new body.new inbox.new)
-        result }
+    requires first { taken_of sides.old.body.now ≡ length plan.now.first }
+    requires going { failed_of sides.old.body.now ≡ None }
+    ensures talk { let at = around_of R.Meanings C.Meanings in
+        IsOneTalk lb to.now.member to.now.endpoint.now plan.entry.now fresh (at sides.old) (at sides.new) result }
     ensures plan { plan.exit.now ≡ record plan.entry.now { ping = plan.exit.now.ping } }
-    ensures idle { (R.beside reach.new).runs ≡ false }
-    ensures sizes { (R.beside reach.new).sizes ≡ (R.beside reach.old).sizes }
-    ensures beside { C.beside client.new ≡ C.beside client.old }
-    ensures no_fewer { (R.faults reach.old ≤ R.faults reach.new) × (C.faults client.old ≤ C.faults client.new) }
+    ensures idle { (R.beside sides.new.reach.now).runs ≡ false }
+    ensures sizes { (R.beside sides.new.reach.now).sizes ≡ (R.beside sides.old.reach.now).sizes }
+    ensures beside { C.beside sides.new.client.now ≡ C.beside sides.old.client.now }
+    ensures reach_faults { R.faults sides.old.reach.now ≤ R.faults sides.new.reach.now }
+    ensures client_faults { C.faults sides.old.client.now ≤ C.faults sides.new.client.now }
+    ensures same { AreSameSides sides.old sides.new }
 {
-    let dialled = match reach.begin(alloc, lb, member, &endpoint.host, endpoint.port, fresh) {
+    let endpoint = to.endpoint;
+    let dialled = match sides
+        .reach
+        .begin(alloc, lb, to.member, &endpoint.host, endpoint.port, fresh)
+    {
         Ok(dialled) => dialled,
         Err(IoError::Failed) => return Ok(no_link()),
         Err(IoError::NoMemory) => return Err(NoMemory),
     };
     plan.ping = pings(endpoint, dialled);
-    let end = talk(alloc, plan, body, inbox, reach, client);
-    reach.finish(keeps(&end));
+    let end = talk(
+        alloc,
+        plan,
+        sides.body,
+        sides.inbox,
+        sides.reach,
+        sides.client,
+    );
+    sides.reach.finish(keeps(&end));
     end
 }
 

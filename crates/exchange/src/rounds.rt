@@ -1,12 +1,14 @@
 //! One round: the desk is asked, talks are held, the lease goes back.
-ghost use Rattle.std.specs.Prelude.{◌≡◌, ℕ, ◌≤◌, ◌<◌, ◌^◌, false, true, None, Some, length, slice_get, slice_index, IfSome, IfOk, IfErr};
+ghost use Rattle.std.specs.Prelude.{◌≡◌, ℕ, ◌≤◌, ◌<◌, ◌^◌, false, true, None, Some, List, length, slice_get, slice_index, IfSome, IsSome, IfOk, IfErr};
 ghost use Rattle.http_body_in.specs.State.{failed_of, taken_of};
+ghost use Rattle.http_out.specs.Own.{own_of};
+ghost use Rattle.jk_model.specs.Free.{is_in};
 ghost use Rattle.balancer_core.specs.Desks.{Chooses, KeepsDesk, holds, pair_of};
 ghost use Rattle.forwarding.specs.FirstPiece.{piece_for};
 ghost use Rattle.site_config.specs.declared.endpoint.Endpoint.{Endpoint};
 ghost use Rattle.exchange.specs.Requests.{ask_for, errand_of};
-ghost use Rattle.exchange.specs.OneTalk.{around};
-ghost use Rattle.exchange.specs.Rounds.{IsDeskAfter, scene};
+ghost use Rattle.exchange.specs.Means.{AreSameMeans, AreSameSides, around_of, scene_of};
+ghost use Rattle.exchange.specs.Rounds.{IsDeskAfter};
 ghost use Rattle.exchange.specs.Ends.{outcome_for};
 ghost use Rattle.exchange.specs.Steps.{HandsBack, IsNoLease, IsStep};
 ghost use Rattle.exchange.specs.Talks.{HasRun};
@@ -14,16 +16,15 @@ ghost use Rattle.exchange.specs.Talks.{HasRun};
 use crate::ending::{ExchangeEnd, Ran, Verdict};
 use crate::planning::plan_for;
 use crate::request::Request;
+use crate::sides::{Means, Sides};
 use crate::talks::run_talks;
+use crate::target::Target;
 use crate::verdicts::{outcome_of, verdict_of};
 use ajp_wire::EncodeError;
 use balancer_core::Desk;
 use balancer_core::desk::Choice;
-use http_body_in::BodyIn;
-use http_front::Inbox;
 use jk_io::{Bytes, Clock, Link, Reach};
-use jk_model::{Ask, MemberConfig, RoomError};
-use site_config::Endpoint;
+use jk_model::{Ask, RoomError};
 use std::alloc::Global;
 
 /// Makes the Forward Request for a member, and holds its talks.
@@ -31,43 +32,26 @@ fn run_member<R: Reach, C: Link>(
     alloc: Global,
     request: &Request,
     first: &Bytes,
-    member: u32,
-    config: &MemberConfig,
-    endpoint: &Endpoint,
+    to: &Target,
     fresh: bool,
-    body: &mut BodyIn,
-    inbox: &mut Inbox,
-    reach: &mut R,
-    client: &mut C,
+    sides: &mut Sides<R, C>,
 ) -> Ran
-    requires idle { (R.beside reach.old).runs ≡ false }
-    requires known { member < slice_index (R.beside reach.old).sizes request.now.lb }
-    requires short { length first.now ≤ piece_for endpoint.now }
-    requires first { taken_of body.old ≡ length first.now }
-    requires going { failed_of body.old ≡ None }
-    ensures ran { HasRun (errand_of request.now) first.now member config.now endpoint.now fresh
-        (around R.Meanings C.Meanings reach.old client.old body.old inbox.old)
-        (around R.Meanings C.Meanings reach.new client.new body.new inbox.new)
-        result }
-    ensures idle { (R.beside reach.new).runs ≡ false }
-    ensures sizes { (R.beside reach.new).sizes ≡ (R.beside reach.old).sizes }
-    ensures beside { C.beside client.new ≡ C.beside client.old }
-    ensures no_fewer { (R.faults reach.old ≤ R.faults reach.new) × (C.faults client.old ≤ C.faults client.new) }
+    requires idle { (R.beside sides.old.reach.now).runs ≡ false }
+    requires known { to.now.member < slice_index (R.beside sides.old.reach.now).sizes request.now.lb }
+    requires short { length first.now ≤ piece_for to.now.endpoint.now }
+    requires first { taken_of sides.old.body.now ≡ length first.now }
+    requires going { failed_of sides.old.body.now ≡ None }
+    ensures ran { let at = around_of R.Meanings C.Meanings in
+        HasRun (errand_of request.now) first.now to.now.member to.now.config.now to.now.endpoint.now fresh (at sides.old) (at sides.new) result }
+    ensures idle { (R.beside sides.new.reach.now).runs ≡ false }
+    ensures sizes { (R.beside sides.new.reach.now).sizes ≡ (R.beside sides.old.reach.now).sizes }
+    ensures beside { C.beside sides.new.client.now ≡ C.beside sides.old.client.now }
+    ensures reach_faults { R.faults sides.old.reach.now ≤ R.faults sides.new.reach.now }
+    ensures client_faults { C.faults sides.old.client.now ≤ C.faults sides.new.client.now }
+    ensures same { AreSameSides sides.old sides.new }
 {
-    match plan_for(alloc, request, first, config, endpoint) {
-        Ok(mut plan) => run_talks(
-            alloc,
-            request.lb,
-            member,
-            endpoint,
-            request.head,
-            &mut plan,
-            fresh,
-            body,
-            inbox,
-            reach,
-            client,
-        ),
+    match plan_for(alloc, request, first, to.config, to.endpoint) {
+        Ok(mut plan) => run_talks(alloc, request, to, &mut plan, fresh, sides),
         Err(EncodeError::TooLarge) => Ran::TooLarge,
         Err(EncodeError::NoMemory) => Ran::Wanted { bytes: 0 },
     }
@@ -101,8 +85,7 @@ where
 /// Hands the lease back, and tells what follows.
 fn give_back<B: Desk>(
     request: &Request,
-    endpoint: &Endpoint,
-    member: u32,
+    to: &Target,
     lease: B::Lease,
     ran: Ran,
     at: u64,
@@ -110,12 +93,13 @@ fn give_back<B: Desk>(
 ) -> Verdict
     requires caller { IfSome (B.state desk.old).caller (λ n. request.now.session ≡ n) }
     requires held { holds (B.state desk.old).held (pair_of (B.note lease)) ≡ true }
-    requires bytes { (outcome_for endpoint.now ran).bytes ≤ 2 ^ 44 }
-    ensures back { HandsBack (B.state desk.old) (B.state desk.new) request.now.session at (B.note lease) endpoint.now request.now.head.now member ran result }
+    requires bytes { (outcome_for to.now.endpoint.now ran).bytes ≤ 2 ^ 44 }
+    ensures back { HandsBack (B.state desk.old) (B.state desk.new) request.now.session at (B.note lease)
+        to.now.endpoint.now request.now.head.now to.now.member ran result }
     ensures kept { KeepsDesk (B.state desk.old) (B.state desk.new) }
 {
-    match desk.hand_back(request.session, at, lease, outcome_of(endpoint, ran)) {
-        Ok(()) => verdict_of(endpoint, request.head, member, ran),
+    match desk.hand_back(request.session, at, lease, outcome_of(to.endpoint, ran)) {
+        Ok(()) => verdict_of(to.endpoint, request.head, to.member, ran),
         Err(stray) => Verdict::End(ExchangeEnd::Stray {
             ticket: stray.ticket,
             returned_at: stray.returned_at,
@@ -130,45 +114,41 @@ pub(crate) fn one_round<B: Desk, R: Reach, C: Link, K: Clock>(
     first: &Bytes,
     ask: &Ask,
     fresh: bool,
-    body: &mut BodyIn,
-    inbox: &mut Inbox,
-    desk: &mut B,
-    reach: &mut R,
-    client: &mut C,
-    clock: &mut K,
+    means: &mut Means<B, K, R, C>,
 ) -> Verdict
 where
     B::Mark: Drop,
     requires ask { ask.now ≡ ask_for (errand_of request.now) ask.now.tried }
-    requires lb { request.now.lb < length (B.state desk.old).sizes }
-    requires caller { IfSome (B.state desk.old).caller (λ n. request.now.session ≡ n) }
-    requires desk_size { slice_index (B.state desk.old).sizes request.now.lb ≡ length request.now.balancer.now.book.members }
-    requires reach_size { slice_index (R.beside reach.old).sizes request.now.lb ≡ length request.now.balancer.now.book.members }
-    requires idle { (R.beside reach.old).runs ≡ false }
+    requires lb { request.now.lb < length (B.state means.old.desk.now).sizes }
+    requires caller { IfSome (B.state means.old.desk.now).caller (λ n. request.now.session ≡ n) }
+    requires desk_size { slice_index (B.state means.old.desk.now).sizes request.now.lb ≡ length request.now.balancer.now.book.members }
+    requires reach_size { slice_index (R.beside means.old.sides.reach.now).sizes request.now.lb ≡ length request.now.balancer.now.book.members }
+    requires idle { (R.beside means.old.sides.reach.now).runs ≡ false }
     requires short { (endpoint : Endpoint) → (m : ℕ) → slice_get request.now.balancer.now.ends m ≡ Some endpoint → length first.now ≤ piece_for endpoint }
-    requires first { taken_of body.old ≡ length first.now }
-    requires going { failed_of body.old ≡ None }
-    ensures step { IsStep (errand_of request.now) first.now ask.now.tried fresh
-        (scene B.state K.answers R.Meanings C.Meanings desk.old clock.old reach.old client.old body.old inbox.old)
-        (scene B.state K.answers R.Meanings C.Meanings desk.new clock.new reach.new client.new body.new inbox.new)
-        result }
-    ensures idle { (R.beside reach.new).runs ≡ false }
-    ensures sizes { (R.beside reach.new).sizes ≡ (R.beside reach.old).sizes }
-    ensures held { (B.state desk.new).held ≡ (B.state desk.old).held }
-    ensures kept { IsDeskAfter request.now.lb request.now.session (B.state desk.old) (B.state desk.new) }
-    ensures beside { C.beside client.new ≡ C.beside client.old }
-    ensures no_fewer { (R.faults reach.old ≤ R.faults reach.new) × (C.faults client.old ≤ C.faults client.new) }
+    requires first { taken_of means.old.sides.body.now ≡ length first.now }
+    requires going { failed_of means.old.sides.body.now ≡ None }
+    ensures step { let at = scene_of B.state K.answers R.Meanings C.Meanings in
+        IsStep (errand_of request.now) first.now ask.now.tried fresh (at means.old) (at means.new) result }
+    ensures idle { (R.beside means.new.sides.reach.now).runs ≡ false }
+    ensures sizes { (R.beside means.new.sides.reach.now).sizes ≡ (R.beside means.old.sides.reach.now).sizes }
+    ensures held { (B.state means.new.desk.now).held ≡ (B.state means.old.desk.now).held }
+    ensures kept { IsDeskAfter request.now.lb request.now.session (B.state means.old.desk.now) (B.state means.new.desk.now) }
+    ensures beside { C.beside means.new.sides.client.now ≡ C.beside means.old.sides.client.now }
+    ensures reach_faults { R.faults means.old.sides.reach.now ≤ R.faults means.new.sides.reach.now }
+    ensures client_faults { C.faults means.old.sides.client.now ≤ C.faults means.new.sides.client.now }
+    ensures same { AreSameMeans means.old means.new }
 {
-    let at = clock.now();
-    let (member, lease) = match chosen(request, ask, at, desk) {
+    let at = means.clock.now();
+    let (member, lease) = match chosen(request, ask, at, means.desk) {
         Ok(chosen) => chosen,
         Err(verdict) => return verdict,
     };
-    let config = &request.balancer.book.members.as_slice()[member as usize];
-    let endpoint = &request.balancer.ends.as_slice()[member as usize];
-    let ran = run_member(
-        alloc, request, first, member, config, endpoint, fresh, body, inbox, reach, client,
-    );
-    let back_at = clock.now();
-    give_back(request, endpoint, member, lease, ran, back_at, desk)
+    let to = Target {
+        member,
+        config: &request.balancer.book.members.as_slice()[member as usize],
+        endpoint: &request.balancer.ends.as_slice()[member as usize],
+    };
+    let ran = run_member(alloc, request, first, &to, fresh, &mut means.sides);
+    let back_at = means.clock.now();
+    give_back(request, &to, lease, ran, back_at, means.desk)
 }

@@ -2,19 +2,19 @@
 ghost use Rattle.std.specs.Prelude.{◌≡◌, ◌≤◌, ◌<◌, ◌^◌, false, None, length, slice_index};
 ghost use Rattle.http_body_in.specs.State.{failed_of, taken_of};
 ghost use Rattle.ajp_talk.specs.Ends.{IsPlan};
-ghost use Rattle.exchange.specs.OneTalk.{around};
+ghost use Rattle.exchange.specs.Means.{AreSameSides, around_of};
 ghost use Rattle.exchange.specs.Talks.{HaveTalked};
 ghost use Rattle.exchange.specs.Ends.{bytes_of as bytes_in, outcome_for};
 ghost use Rattle.std.specs.Prelude.{min, ◌+◌};
 
 use crate::ending::Ran;
 use crate::one_talk::one_talk;
+use crate::request::Request;
+use crate::sides::Sides;
+use crate::target::Target;
 use crate::verdicts::{bytes_of, tries_again};
 use ajp_talk::{TalkEnd, TalkPlan};
-use http_body_in::BodyIn;
-use http_front::{Head, Inbox};
 use jk_io::{Link, NoMemory, Reach};
-use site_config::Endpoint;
 use std::alloc::Global;
 
 /// The most bytes that a lease tells.
@@ -31,44 +31,37 @@ fn with_talk(bytes: u64, end: TalkEnd) -> u64
 /// `fresh` is true, and each further one is.
 pub(crate) fn run_talks<R: Reach, C: Link>(
     alloc: Global,
-    lb: u32,
-    member: u32,
-    endpoint: &Endpoint,
-    head: &Head,
+    request: &Request,
+    to: &Target,
     plan: &mut TalkPlan,
     fresh: bool,
-    body: &mut BodyIn,
-    inbox: &mut Inbox,
-    reach: &mut R,
-    client: &mut C,
+    sides: &mut Sides<R, C>,
 ) -> Ran
-    requires idle { (R.beside reach.old).runs ≡ false }
-    requires known { member < slice_index (R.beside reach.old).sizes lb }
+    requires idle { (R.beside sides.old.reach.now).runs ≡ false }
+    requires known { to.now.member < slice_index (R.beside sides.old.reach.now).sizes request.now.lb }
     requires plan { IsPlan plan.now }
-    requires first { taken_of body.old ≡ length plan.now.first }
-    requires going { failed_of body.old ≡ None }
-    ensures talks { HaveTalked lb member endpoint.now head.now plan.entry.now fresh
-        (around R.Meanings C.Meanings reach.old client.old body.old inbox.old)
-        (around R.Meanings C.Meanings reach.new client.new body.new inbox.new)
-        result }
-    ensures idle { (R.beside reach.new).runs ≡ false }
-    ensures sizes { (R.beside reach.new).sizes ≡ (R.beside reach.old).sizes }
-    ensures beside { C.beside client.new ≡ C.beside client.old }
-    ensures no_fewer { (R.faults reach.old ≤ R.faults reach.new) × (C.faults client.old ≤ C.faults client.new) }
+    requires first { taken_of sides.old.body.now ≡ length plan.now.first }
+    requires going { failed_of sides.old.body.now ≡ None }
+    ensures talks { let at = around_of R.Meanings C.Meanings in
+        HaveTalked request.now.lb to.now.member to.now.endpoint.now request.now.head.now plan.entry.now fresh
+        (at sides.old) (at sides.new) result }
+    ensures idle { (R.beside sides.new.reach.now).runs ≡ false }
+    ensures sizes { (R.beside sides.new.reach.now).sizes ≡ (R.beside sides.old.reach.now).sizes }
+    ensures beside { C.beside sides.new.client.now ≡ C.beside sides.old.client.now }
+    ensures reach_faults { R.faults sides.old.reach.now ≤ R.faults sides.new.reach.now }
+    ensures client_faults { C.faults sides.old.client.now ≤ C.faults sides.new.client.now }
+    ensures same { AreSameSides sides.old sides.new }
 {
     let mut fresh_link = fresh;
     let mut bytes = 0;
-    let mut left = endpoint.retries;
+    let mut left = to.endpoint.retries;
     loop {
-        let talked = one_talk(
-            alloc, lb, member, endpoint, plan, fresh_link, body, inbox, reach, client,
-        );
-        let end = match talked {
+        let end = match one_talk(alloc, request.lb, to, plan, fresh_link, sides) {
             Ok(end) => end,
             Err(NoMemory) => return Ran::Wanted { bytes },
         };
         bytes = with_talk(bytes, end);
-        if !tries_again(endpoint, head, end) {
+        if !tries_again(to.endpoint, request.head, end) {
             return Ran::Ended { end, bytes };
         }
         left -= 1;

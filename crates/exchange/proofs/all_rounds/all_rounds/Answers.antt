@@ -19,26 +19,27 @@ loop-member-init g c = record {
   beside = refl;
   reach_faults = omega arith;
   client_faults = omega arith;
+  same = (refl, refl, refl, refl, refl, refl);
 }
 
-pub one_round-verdict-requires-clause-ask : goal.one_round-verdict-requires-clause-ask
-one_round-verdict-requires-clause-ask g c =
+pub one_round-requires-clause-ask : goal.one_round-requires-clause-ask
+one_round-requires-clause-ask g c =
     let way = c.loop-member.invariant.way in
     way.ask_is ∙ ap (λ (t : ℕ). ask_for (errand_of c.args.request.now) t) (sym (ap (λ (a : Ask). a.tried) way.ask_is))
 
-pub one_round-verdict-requires-clause-desk_size : goal.one_round-verdict-requires-clause-desk_size
-one_round-verdict-requires-clause-desk_size g c =
+pub one_round-requires-clause-desk_size : goal.one_round-requires-clause-desk_size
+one_round-requires-clause-desk_size g c =
     ap (λ (sizes : List ℕ). slice_index sizes c.args.request.now.lb) c.loop-member.invariant.desk.sizes ∙ c.requires.desk_size
 
-pub one_round-verdict-requires-clause-reach_size : goal.one_round-verdict-requires-clause-reach_size
-one_round-verdict-requires-clause-reach_size g c =
+pub one_round-requires-clause-reach_size : goal.one_round-requires-clause-reach_size
+one_round-requires-clause-reach_size g c =
     ap (λ (sizes : List ℕ). slice_index sizes c.args.request.now.lb) c.loop-member.invariant.sizes ∙ c.requires.reach_size
 
-pub one_round-verdict-requires-clause-first : goal.one_round-verdict-requires-clause-first
-one_round-verdict-requires-clause-first g c = c.loop-member.invariant.way.unmoved.taken ∙ c.requires.first
+pub one_round-requires-clause-first : goal.one_round-requires-clause-first
+one_round-requires-clause-first g c = c.loop-member.invariant.way.unmoved.taken ∙ c.requires.first
 
-pub one_round-verdict-requires-clause-going : goal.one_round-verdict-requires-clause-going
-one_round-verdict-requires-clause-going g c = c.loop-member.invariant.way.unmoved.going c.requires.going
+pub one_round-requires-clause-going : goal.one_round-requires-clause-going
+one_round-requires-clause-going g c = c.loop-member.invariant.way.unmoved.going c.requires.going
 
 pub with_member-requires-clause-member : goal.with_member-requires-clause-member
 with_member-requires-clause-member g c =
@@ -59,8 +60,9 @@ loop-member-preserved g c = record {
   idle = c.in-Again.ensures.idle;
   sizes = c.in-Again.ensures.sizes ∙ c.loop-member.invariant.sizes;
   beside = c.in-Again.ensures.beside ∙ c.loop-member.invariant.beside;
-  reach_faults = omega (arith, c.loop-member.invariant.reach_faults, c.in-Again.ensures.no_fewer.0);
-  client_faults = omega (arith, c.loop-member.invariant.client_faults, c.in-Again.ensures.no_fewer.1);
+  reach_faults = omega (arith, c.loop-member.invariant.reach_faults, c.in-Again.ensures.reach_faults);
+  client_faults = omega (arith, c.loop-member.invariant.client_faults, c.in-Again.ensures.client_faults);
+  same = (c.in-Again.ensures.same.0 ∙ c.loop-member.invariant.same.0, c.in-Again.ensures.same.1 ∙ c.loop-member.invariant.same.1, c.in-Again.ensures.same.2 ∙ c.loop-member.invariant.same.2, c.in-Again.ensures.same.3 ∙ c.loop-member.invariant.same.3, c.in-Again.ensures.same.4 ∙ c.loop-member.invariant.same.4, c.in-Again.ensures.same.5 ∙ c.loop-member.invariant.same.5);
 }
 
 pub loop-member-smaller : goal.loop-member-smaller

@@ -5,7 +5,7 @@ use Rattle.exchange.proofs.one_talk.one_talk.Goals as goal
 
 pub returns-clause-talk : goal.returns-clause-talk
 returns-clause-talk g c =
-    was_held c.args.lb c.args.member c.args.endpoint.now c.args.plan.now c.args.fresh c.in-Ok.dialled _ _
+    was_held c.args.lb c.args.to.now.member c.args.to.now.endpoint.now c.args.plan.now c.args.fresh c.in-Ok.dialled _ _
     (link_at g.R.Meanings c.begin.new.self)
     (link_at g.R.Meanings c.talk-end.new.line)
     c.talk-end.result (g.R.Meanings.beside c.begin.new.self) (g.R.Meanings.beside c.talk-end.new.line)

@@ -3,7 +3,7 @@ use Rattle.std.proofs.Common.{length, refl, ap, arith}
 use Rattle.std.proofs.lemmas.Option.{slice_get_read}
 use Rattle.balancer_core.proofs.DeskLaws.{held_again}
 use Rattle.balancer_core.specs.Desks.{pair_of}
-use Rattle.exchange.specs.OneTalk.{around}
+use Rattle.exchange.specs.Means.{around_of}
 use Rattle.exchange.specs.Requests.{errand_of}
 use Rattle.exchange.proofs.DeskLaws.{after_back, after_choice, after_none, same_twice}
 use Rattle.exchange.proofs.RoundLaws.{no_lease, none_held, told_at_most, went_back}
@@ -22,8 +22,7 @@ returns-in-Err-clause-kept g c = after_none g.B.Desk.note g.B.Desk.numbers _ _ _
 pub give_back-requires-clause-bytes : goal.give_back-requires-clause-bytes
 give_back-requires-clause-bytes g c =
     told_at_most (errand_of c.args.request.now) c.args.first.now c.in-Ok.chosen.0 c.index-as_slice-member.result c.index-as_slice-member-2.result c.args.fresh
-    (around g.R.Meanings g.C.Meanings c.args.reach.now c.args.client.now c.args.body.now c.args.inbox.now)
-    (around g.R.Meanings g.C.Meanings c.run_member-ran.new.reach c.run_member-ran.new.client c.run_member-ran.new.body c.run_member-ran.new.inbox)
+    (around_of g.R.Meanings g.C.Meanings c.args.means.now.sides) (around_of g.R.Meanings g.C.Meanings c.run_member-ran.new.sides)
     c.run_member-ran.result c.run_member-ran.ensures.ran
 
 pub returns-clause-step : goal.returns-clause-step

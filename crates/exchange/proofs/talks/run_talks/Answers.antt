@@ -22,11 +22,12 @@ pub loop-end-preserved : goal.loop-end-preserved
 loop-end-preserved g c = record {
   way = goes_on _ _ _ _ _ _ _ _ _ _ _ _ _ _ _ _ c.loop-end.invariant.way c.in-Ok.ensures.talk
       (sym c.tries_again.ensures ∙ c.if-not-tries_again.false) c.with_talk-bytes.ensures
-      (omega (arith, c.loop-end.invariant.way.some, c.if-left-eq0.false)) c.one_talk-talked.ensures.plan;
-  plan = still_plan _ _ c.one_talk-talked.ensures.plan c.loop-end.invariant.plan;
-  idle = c.one_talk-talked.ensures.idle;
-  sizes = c.one_talk-talked.ensures.sizes ∙ c.loop-end.invariant.sizes;
-  beside = c.one_talk-talked.ensures.beside ∙ c.loop-end.invariant.beside;
-  reach_faults = omega (arith, c.loop-end.invariant.reach_faults, c.one_talk-talked.ensures.no_fewer.0);
-  client_faults = omega (arith, c.loop-end.invariant.client_faults, c.one_talk-talked.ensures.no_fewer.1);
+      (omega (arith, c.loop-end.invariant.way.some, c.if-left-eq0.false)) c.one_talk.ensures.plan;
+  plan = still_plan _ _ c.one_talk.ensures.plan c.loop-end.invariant.plan;
+  idle = c.one_talk.ensures.idle;
+  sizes = c.one_talk.ensures.sizes ∙ c.loop-end.invariant.sizes;
+  beside = c.one_talk.ensures.beside ∙ c.loop-end.invariant.beside;
+  reach_faults = omega (arith, c.loop-end.invariant.reach_faults, c.one_talk.ensures.reach_faults);
+  client_faults = omega (arith, c.loop-end.invariant.client_faults, c.one_talk.ensures.client_faults);
+  same = (c.one_talk.ensures.same.0 ∙ c.loop-end.invariant.same.0, c.one_talk.ensures.same.1 ∙ c.loop-end.invariant.same.1, c.one_talk.ensures.same.2 ∙ c.loop-end.invariant.same.2, c.one_talk.ensures.same.3 ∙ c.loop-end.invariant.same.3);
 }

@@ -1,0 +1,20 @@
+-- What was lent came back: what is said of the struct is said of each value by itself.
+use Rattle.std.proofs.Common.{◌≡◌, ℕ, List, Option}
+use Rattle.jk_io.specs.declared.reaching.Beside.{Beside}
+use Rattle.jk_io.specs.declared.traits.streams.Meanings.{Ghosts}
+use Rattle.balancer_core.specs.Desks.{DeskState}
+use Rattle.http_body_in.specs.declared.body.BodyIn.{BodyIn}
+use Rattle.exchange.specs.Exchanges.{IsExchange}
+use Rattle.exchange.specs.Means.{scene_of}
+use Rattle.exchange.specs.Requests.{Errand}
+use Rattle.exchange.specs.Rounds.{Scene, scene}
+use Rattle.exchange.specs.declared.ending.ExchangeEnd.{ExchangeEnd}
+use Rattle.exchange.specs.declared.sides.Means.{Means}
+
+pub came_back : {B K R C X : Type 0} (state : B → DeskState) (answers : K → Option (List ℕ)) (of_reach : Ghosts R Beside) (of_client : Ghosts C X)
+    (m : Means B K R C) (desk : B) (clock : K) (reach : R) (client : C) (body : BodyIn) (inbox : List ℕ)
+    (q : Errand) (s : Scene) (end : ExchangeEnd) → desk ≡ m.desk.now → clock ≡ m.clock.now → reach ≡ m.sides.reach.now → client ≡ m.sides.client.now
+    → body ≡ m.sides.body.now → inbox ≡ m.sides.inbox.now
+    → IsExchange q s (scene_of state answers of_reach of_client m) end → IsExchange q s (scene state answers of_reach of_client desk clock reach client body inbox) end
+came_back state answers of_reach of_client m desk clock reach client body inbox q s end is_desk is_clock is_reach is_client is_body is_inbox did =
+    rw (is_desk, is_clock, is_reach, is_client, is_body, is_inbox) did

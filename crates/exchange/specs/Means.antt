@@ -1,0 +1,31 @@
+-- The moments of an exchange, by what it is held with.
+use Rattle.std.specs.Prelude.{ℕ, ◌≡◌, List, Option}
+use Rattle.jk_io.specs.declared.reaching.Beside.{Beside}
+use Rattle.jk_io.specs.declared.traits.streams.Meanings.{Ghosts}
+use Rattle.balancer_core.specs.Desks.{DeskState}
+use Rattle.exchange.specs.OneTalk.{Around, around}
+use Rattle.exchange.specs.Rounds.{Scene, scene}
+use Rattle.exchange.specs.declared.sides.Means.{Means}
+use Rattle.exchange.specs.declared.sides.Sides.{Sides}
+
+-- What is known between two talks: `around_of R.Meanings C.Meanings sides`.
+abbrev pub around_of : {R C X : Type 0} → Ghosts R Beside → Ghosts C X → Sides R C → Around
+around_of told_of_reach told_of_client s = around told_of_reach told_of_client s.reach.now s.client.now s.body.now s.inbox.now
+
+-- What is known between two rounds: `scene_of B.state K.answers R.Meanings C.Meanings means`.
+abbrev pub scene_of : {B K R C X : Type 0} → (B → DeskState) → (K → Option (List ℕ)) → Ghosts R Beside → Ghosts C X → Means B K R C → Scene
+scene_of state answers told_of_reach told_of_client m =
+    scene state answers told_of_reach told_of_client m.desk.now m.clock.now m.sides.reach.now m.sides.client.now m.sides.body.now m.sides.inbox.now
+
+-- The sides are still the caller's own.
+abbrev pub AreSameSides : {R C : Type 0} → Sides R C → Sides R C → Type 0
+AreSameSides s n =
+    (n.reach.ghost_name ≡ s.reach.ghost_name) × (n.client.ghost_name ≡ s.client.ghost_name)
+    × (n.body.ghost_name ≡ s.body.ghost_name) × (n.inbox.ghost_name ≡ s.inbox.ghost_name)
+
+-- So are the desk and the clock.
+abbrev pub AreSameMeans : {B K R C : Type 0} → Means B K R C → Means B K R C → Type 0
+AreSameMeans s n =
+    (n.desk.ghost_name ≡ s.desk.ghost_name) × (n.clock.ghost_name ≡ s.clock.ghost_name)
+    × (n.sides.reach.ghost_name ≡ s.sides.reach.ghost_name) × (n.sides.client.ghost_name ≡ s.sides.client.ghost_name)
+    × (n.sides.body.ghost_name ≡ s.sides.body.ghost_name) × (n.sides.inbox.ghost_name ≡ s.sides.inbox.ghost_name)
