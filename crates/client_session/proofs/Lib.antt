@@ -10,3 +10,4 @@ pub mod DecideLaws
 pub mod PartsLaws
 pub mod CompleteLaws
 pub mod WayLaws
+pub mod SurroundingsLaws

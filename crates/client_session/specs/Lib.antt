@@ -12,3 +12,4 @@ pub mod Ready
 pub mod Finishing
 pub mod Parts
 pub mod Complete
+pub mod Surroundings

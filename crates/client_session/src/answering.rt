@@ -1,27 +1,27 @@
 //! One request is answered: by its worker, or by the connector itself.
-ghost use Rattle.std.specs.Prelude.{◌≡◌, ◌≤◌, ◌<◌, ℕ, List, true, Some, IfErr, IfOk, IfSome, length, slice_get};
+ghost use Rattle.std.specs.Prelude.{◌≡◌, ◌≤◌, ◌<◌, true, Some, IfErr, IfOk, IfSome, length};
 ghost use Rattle.std.specs.List.{All};
 ghost use Rattle.jk_model.specs.declared.member.MemberConfig.{MemberConfig as AnyMember};
 ghost use Rattle.http_body_in.specs.declared.body.BodyIn.{BodyIn as AnyBody};
 ghost use Rattle.exchange.specs.Requests.{sizes_of};
 ghost use Rattle.status_worker.specs.Desks.{KeepsTickets};
 ghost use Rattle.uri_map.specs.Sites.{is_worker};
-ghost use Rattle.site_config.specs.declared.balancer.Lb.{Lb as AnyLb};
 ghost use Rattle.site_config.specs.declared.config.Named.TheVariants as named_is;
-ghost use Rattle.client_session.specs.Answers.{IsAnswer, IsAnswerAt, IsForwardedAt, errand_at};
-ghost use Rattle.client_session.specs.Concluding.{HasNamesWithin, HasRoom, IsNotFound, rows_of};
+ghost use Rattle.client_session.specs.Concluding.{HasNamesWithin, HasRoom, IsNotFound};
 ghost use Rattle.client_session.specs.Ready.{IsReady};
 ghost use Rattle.client_session.specs.Requests.{IsNewBody, continue_for, mounted_at, visit_of};
-ghost use Rattle.client_session.specs.Standings.{Puts, ReachSide, client_at, standing, standing_by};
+ghost use Rattle.client_session.specs.Standings.{Puts, client_at};
+ghost use Rattle.client_session.specs.Surroundings.{IsAnswered, IsAnsweredAt, AreSame, ForwardsTo, standing_of};
 ghost use Rattle.client_session.specs.Turns.{GoesOn, MeetsInAnswer, RisesInAnswer};
 ghost use Rattle.client_session.specs.Writing.{BreaksOff, WritesPart};
 
 use crate::concluding::{conclude, conclude_stop};
 use crate::ending::Stop;
+use crate::inquiry::Inquiry;
 use crate::requests::{awaits_continue, is_head};
 use crate::rows::Row;
-use crate::site::Site;
 use crate::status::serve_status;
+use crate::surroundings::Surroundings;
 use crate::turn::{Answered, Settled, stopped};
 use crate::writing::{send, write_own};
 use balancer_core::Desk;
@@ -73,31 +73,26 @@ fn send_continue<C: Sink>(head: &Head, client: &mut C) -> Result<(), Stop>
 /// Sends a request to the balancer at this place.
 fn exchange_at<B: Desk, R: Reach, C: Link, K: Clock>(
     alloc: Global,
-    site: &Site<'_>,
+    of: &Inquiry,
     lb: u32,
-    head: &Head,
-    last: bool,
     body: &mut BodyIn,
-    inbox: &mut Inbox,
-    desk: &mut B,
-    reach: &mut R,
-    client: &mut C,
-    clock: &mut K,
+    around: &mut Surroundings<B, K, R, C>,
 ) -> ExchangeEnd
 where
     B::Mark: Drop,
-    requires ready { IsReady (visit_of site.now) (B.state desk.old) (R.beside reach.old) }
-    requires worker { lb < length site.now.cfg.now.lbs }
-    requires fresh { IsNewBody head.now.plan body.old }
-    ensures forwarded { (balancer : AnyLb) → slice_get site.now.cfg.now.lbs lb ≡ Some balancer
-        → let at = standing B.state K.answers R.Meanings C.Meanings in
-        IsForwardedAt (visit_of site.now) (errand_at (visit_of site.now) head.now last lb balancer)
-        (at desk.old clock.old reach.old client.old inbox.old) (at desk.new clock.new reach.new client.new inbox.new) body.old body.new result }
-    ensures ready { IsReady (visit_of site.now) (B.state desk.new) (R.beside reach.new) }
-    ensures kept { KeepsTickets site.now.session (B.state desk.old) (B.state desk.new) }
-    ensures beside { C.beside client.new ≡ C.beside client.old }
-    ensures no_fewer { (R.faults reach.old ≤ R.faults reach.new) × (C.faults client.old ≤ C.faults client.new) }
+    requires ready { IsReady (visit_of of.now.site.now) (B.state around.old.desk.now) (R.beside around.old.reach.now) }
+    requires worker { lb < length of.now.site.now.cfg.now.lbs }
+    requires fresh { IsNewBody of.now.head.now.plan body.old }
+    ensures forwarded { let at = standing_of B.state K.answers R.Meanings C.Meanings in
+        ForwardsTo of.now lb (at around.old) (at around.new) body.old body.new result }
+    ensures ready { IsReady (visit_of of.now.site.now) (B.state around.new.desk.now) (R.beside around.new.reach.now) }
+    ensures kept { KeepsTickets of.now.site.now.session (B.state around.old.desk.now) (B.state around.new.desk.now) }
+    ensures beside { C.beside around.new.client.now ≡ C.beside around.old.client.now }
+    ensures reach_faults { R.faults around.old.reach.now ≤ R.faults around.new.reach.now }
+    ensures client_faults { C.faults around.old.client.now ≤ C.faults around.new.client.now }
+    ensures same { AreSame around.old around.new }
 {
+    let Inquiry { site, head, last } = *of;
     let terms = site.map.terms(head.clean.as_slice());
     exchange(
         alloc,
@@ -109,132 +104,119 @@ where
         head,
         last,
         body,
-        inbox,
-        desk,
-        reach,
-        client,
-        clock,
+        around.inbox,
+        around.desk,
+        around.reach,
+        around.client,
+        around.clock,
     )
 }
 
 /// Answers a request of a balancer.
 fn forward<B: Desk, R: Reach, C: Link, K: Clock>(
     alloc: Global,
-    site: &Site<'_>,
+    of: &Inquiry,
     lb: u32,
-    head: &Head,
-    last: bool,
     row: Row,
     body: &mut BodyIn,
-    inbox: &mut Inbox,
-    desk: &mut B,
-    reach: &mut R,
-    client: &mut C,
-    clock: &mut K,
+    around: &mut Surroundings<B, K, R, C>,
 ) -> Settled
 where
     B::Mark: Drop,
-    requires ready { IsReady (visit_of site.now) (B.state desk.old) (R.beside reach.old) }
-    requires mounted { mounted_at (visit_of site.now) head.now ≡ Some (named_is.Balancer lb) }
-    requires worker { lb < length site.now.cfg.now.lbs }
-    requires fresh { IsNewBody head.now.plan body.old }
-    requires room { HasRoom site.now.cfg.now (named_is.Balancer lb) head.now row }
-    ensures answer { let at = standing B.state K.answers R.Meanings C.Meanings in
-        IsAnswerAt (visit_of site.now) head.now last (at desk.old clock.old reach.old client.old inbox.old)
-        (at desk.new clock.new reach.new client.new inbox.new) body.old body.new result.answered (rows_of result.row) }
+    requires ready { IsReady (visit_of of.now.site.now) (B.state around.old.desk.now) (R.beside around.old.reach.now) }
+    requires mounted { mounted_at (visit_of of.now.site.now) of.now.head.now ≡ Some (named_is.Balancer lb) }
+    requires worker { lb < length of.now.site.now.cfg.now.lbs }
+    requires fresh { IsNewBody of.now.head.now.plan body.old }
+    requires room { HasRoom of.now.site.now.cfg.now (named_is.Balancer lb) of.now.head.now row }
+    ensures answer { let at = standing_of B.state K.answers R.Meanings C.Meanings in
+        IsAnsweredAt of.now (at around.old) (at around.new) body.old body.new result }
     ensures going { GoesOn result.answered body.new }
-    ensures ready { IsReady (visit_of site.now) (B.state desk.new) (R.beside reach.new) }
-    ensures kept { KeepsTickets site.now.session (B.state desk.old) (B.state desk.new) }
-    ensures met { MeetsInAnswer result.answered (B.state desk.old) (B.state desk.new) }
-    ensures fault { RisesInAnswer result.answered (C.faults client.old) (C.faults client.new) }
-    ensures beside { C.beside client.new ≡ C.beside client.old }
-    ensures no_fewer { (R.faults reach.old ≤ R.faults reach.new) × (C.faults client.old ≤ C.faults client.new) }
+    ensures ready { IsReady (visit_of of.now.site.now) (B.state around.new.desk.now) (R.beside around.new.reach.now) }
+    ensures kept { KeepsTickets of.now.site.now.session (B.state around.old.desk.now) (B.state around.new.desk.now) }
+    ensures met { MeetsInAnswer result.answered (B.state around.old.desk.now) (B.state around.new.desk.now) }
+    ensures fault { RisesInAnswer result.answered (C.faults around.old.client.now) (C.faults around.new.client.now) }
+    ensures beside { C.beside around.new.client.now ≡ C.beside around.old.client.now }
+    ensures reach_faults { R.faults around.old.reach.now ≤ R.faults around.new.reach.now }
+    ensures client_faults { C.faults around.old.client.now ≤ C.faults around.new.client.now }
+    ensures same { AreSame around.old around.new }
 {
-    let end = exchange_at(
-        alloc, site, lb, head, last, body, inbox, desk, reach, client, clock,
-    );
-    let members = site.cfg.lbs.as_slice()[lb as usize].book.members.as_slice();
-    conclude(end, members, is_head(head), row)
+    let end = exchange_at(alloc, of, lb, body, around);
+    let members = of.site.cfg.lbs.as_slice()[lb as usize]
+        .book
+        .members
+        .as_slice();
+    conclude(end, members, is_head(of.head), row)
 }
 
 /// Answers a request of a status worker.
-fn show<B: Desk, C: Sink, K: Clock>(
+fn show<B: Desk, R: Reach, C: Link, K: Clock>(
     alloc: Global,
-    site: &Site<'_>,
+    of: &Inquiry,
     place: u32,
-    head: &Head,
-    last: bool,
     row: Row,
-    desk: &mut B,
-    client: &mut C,
-    clock: &mut K,
+    around: &mut Surroundings<B, K, R, C>,
 ) -> Settled
 where
     B::Mark: Drop,
     B::Shown: Drop,
-    requires caller { IfSome (B.state desk.old).caller (λ n. site.now.session ≡ n) }
-    requires sizes { (B.state desk.old).sizes ≡ sizes_of site.now.cfg.now.lbs }
-    requires mounted { mounted_at (visit_of site.now) head.now ≡ Some (named_is.Status place) }
-    requires worker { place < length site.now.cfg.now.statuses }
-    requires room { HasRoom site.now.cfg.now (named_is.Status place) head.now row }
-    ensures answer { (reach : ReachSide) → (inbox : List ℕ) → (body : AnyBody) → let at = standing_by B.state K.answers C.Meanings reach inbox in
-        IsAnswerAt (visit_of site.now) head.now last (at desk.old clock.old client.old) (at desk.new clock.new client.new)
-        body body result.answered (rows_of result.row) }
-    ensures kept { KeepsTickets site.now.session (B.state desk.old) (B.state desk.new) }
-    ensures met { MeetsInAnswer result.answered (B.state desk.old) (B.state desk.new) }
-    ensures fault { RisesInAnswer result.answered (C.faults client.old) (C.faults client.new) }
-    ensures beside { C.beside client.new ≡ C.beside client.old }
-    ensures no_fewer { C.faults client.old ≤ C.faults client.new }
+    requires caller { IfSome (B.state around.old.desk.now).caller (λ n. of.now.site.now.session ≡ n) }
+    requires sizes { (B.state around.old.desk.now).sizes ≡ sizes_of of.now.site.now.cfg.now.lbs }
+    requires mounted { mounted_at (visit_of of.now.site.now) of.now.head.now ≡ Some (named_is.Status place) }
+    requires worker { place < length of.now.site.now.cfg.now.statuses }
+    requires room { HasRoom of.now.site.now.cfg.now (named_is.Status place) of.now.head.now row }
+    ensures answer { (body : AnyBody) → let at = standing_of B.state K.answers R.Meanings C.Meanings in
+        IsAnsweredAt of.now (at around.old) (at around.new) body body result }
+    ensures reach { around.new.reach.now ≡ around.old.reach.now }
+    ensures kept { KeepsTickets of.now.site.now.session (B.state around.old.desk.now) (B.state around.new.desk.now) }
+    ensures met { MeetsInAnswer result.answered (B.state around.old.desk.now) (B.state around.new.desk.now) }
+    ensures fault { RisesInAnswer result.answered (C.faults around.old.client.now) (C.faults around.new.client.now) }
+    ensures beside { C.beside around.new.client.now ≡ C.beside around.old.client.now }
+    ensures reach_faults { R.faults around.old.reach.now ≤ R.faults around.new.reach.now }
+    ensures client_faults { C.faults around.old.client.now ≤ C.faults around.new.client.now }
+    ensures same { AreSame around.old around.new }
 {
-    let status = &site.cfg.statuses.as_slice()[place as usize];
-    match serve_status(alloc, site, status, head, last, desk, client, clock) {
+    let status = &of.site.cfg.statuses.as_slice()[place as usize];
+    match serve_status(alloc, of, status, around) {
         Ok(len) => Settled {
             answered: Answered::Whole,
             row: Some(row.of_worker(200, len, status.name.as_slice())),
         },
-        Err(stop) => conclude_stop(stop, is_head(head), row),
+        Err(stop) => conclude_stop(stop, is_head(of.head), row),
     }
 }
 
 /// Answers a request that is mounted at this worker.
 fn answer_at<B: Desk, R: Reach, C: Link, K: Clock>(
     alloc: Global,
-    site: &Site<'_>,
+    of: &Inquiry,
     worker: Named,
-    head: &Head,
-    last: bool,
     row: Row,
     body: &mut BodyIn,
-    inbox: &mut Inbox,
-    desk: &mut B,
-    reach: &mut R,
-    client: &mut C,
-    clock: &mut K,
+    around: &mut Surroundings<B, K, R, C>,
 ) -> Settled
 where
     B::Mark: Drop,
     B::Shown: Drop,
-    requires ready { IsReady (visit_of site.now) (B.state desk.old) (R.beside reach.old) }
-    requires mounted { mounted_at (visit_of site.now) head.now ≡ Some worker }
-    requires worker { is_worker site.now.cfg.now worker ≡ true }
-    requires fresh { IsNewBody head.now.plan body.old }
-    requires room { HasRoom site.now.cfg.now worker head.now row }
-    ensures answer { let at = standing B.state K.answers R.Meanings C.Meanings in
-        IsAnswerAt (visit_of site.now) head.now last (at desk.old clock.old reach.old client.old inbox.old)
-        (at desk.new clock.new reach.new client.new inbox.new) body.old body.new result.answered (rows_of result.row) }
+    requires ready { IsReady (visit_of of.now.site.now) (B.state around.old.desk.now) (R.beside around.old.reach.now) }
+    requires mounted { mounted_at (visit_of of.now.site.now) of.now.head.now ≡ Some worker }
+    requires worker { is_worker of.now.site.now.cfg.now worker ≡ true }
+    requires fresh { IsNewBody of.now.head.now.plan body.old }
+    requires room { HasRoom of.now.site.now.cfg.now worker of.now.head.now row }
+    ensures answer { let at = standing_of B.state K.answers R.Meanings C.Meanings in
+        IsAnsweredAt of.now (at around.old) (at around.new) body.old body.new result }
     ensures going { GoesOn result.answered body.new }
-    ensures ready { IsReady (visit_of site.now) (B.state desk.new) (R.beside reach.new) }
-    ensures kept { KeepsTickets site.now.session (B.state desk.old) (B.state desk.new) }
-    ensures met { MeetsInAnswer result.answered (B.state desk.old) (B.state desk.new) }
-    ensures fault { RisesInAnswer result.answered (C.faults client.old) (C.faults client.new) }
-    ensures beside { C.beside client.new ≡ C.beside client.old }
-    ensures no_fewer { (R.faults reach.old ≤ R.faults reach.new) × (C.faults client.old ≤ C.faults client.new) }
+    ensures ready { IsReady (visit_of of.now.site.now) (B.state around.new.desk.now) (R.beside around.new.reach.now) }
+    ensures kept { KeepsTickets of.now.site.now.session (B.state around.old.desk.now) (B.state around.new.desk.now) }
+    ensures met { MeetsInAnswer result.answered (B.state around.old.desk.now) (B.state around.new.desk.now) }
+    ensures fault { RisesInAnswer result.answered (C.faults around.old.client.now) (C.faults around.new.client.now) }
+    ensures beside { C.beside around.new.client.now ≡ C.beside around.old.client.now }
+    ensures reach_faults { R.faults around.old.reach.now ≤ R.faults around.new.reach.now }
+    ensures client_faults { C.faults around.old.client.now ≤ C.faults around.new.client.now }
+    ensures same { AreSame around.old around.new }
 {
     match worker {
-        Named::Balancer(lb) => forward(
-            alloc, site, lb, head, last, row, body, inbox, desk, reach, client, clock,
-        ),
-        Named::Status(place) => show(alloc, site, place, head, last, row, desk, client, clock),
+        Named::Balancer(lb) => forward(alloc, of, lb, row, body, around),
+        Named::Status(place) => show(alloc, of, place, row, around),
     }
 }
 
@@ -283,39 +265,32 @@ fn not_found<C: Sink>(alloc: Global, head: &Head, client: &mut C) -> Settled
 /// Answers a request that was read.
 pub(crate) fn answer<B: Desk, R: Reach, C: Link, K: Clock>(
     alloc: Global,
-    site: &Site<'_>,
-    head: &Head,
-    last: bool,
+    of: &Inquiry,
     body: &mut BodyIn,
-    inbox: &mut Inbox,
-    desk: &mut B,
-    reach: &mut R,
-    client: &mut C,
-    clock: &mut K,
+    around: &mut Surroundings<B, K, R, C>,
 ) -> Settled
 where
     B::Mark: Drop,
     B::Shown: Drop,
-    requires ready { IsReady (visit_of site.now) (B.state desk.old) (R.beside reach.old) }
-    requires fresh { IsNewBody head.now.plan body.old }
-    ensures answer { let at = standing B.state K.answers R.Meanings C.Meanings in
-        IsAnswer (visit_of site.now) head.now last (at desk.old clock.old reach.old client.old inbox.old)
-        (at desk.new clock.new reach.new client.new inbox.new) body.old body.new result.answered (rows_of result.row) }
+    requires ready { IsReady (visit_of of.now.site.now) (B.state around.old.desk.now) (R.beside around.old.reach.now) }
+    requires fresh { IsNewBody of.now.head.now.plan body.old }
+    ensures answer { let at = standing_of B.state K.answers R.Meanings C.Meanings in
+        IsAnswered of.now (at around.old) (at around.new) body.old body.new result }
     ensures going { GoesOn result.answered body.new }
-    ensures ready { IsReady (visit_of site.now) (B.state desk.new) (R.beside reach.new) }
-    ensures kept { KeepsTickets site.now.session (B.state desk.old) (B.state desk.new) }
-    ensures met { MeetsInAnswer result.answered (B.state desk.old) (B.state desk.new) }
-    ensures fault { RisesInAnswer result.answered (C.faults client.old) (C.faults client.new) }
-    ensures beside { C.beside client.new ≡ C.beside client.old }
-    ensures no_fewer { (R.faults reach.old ≤ R.faults reach.new) × (C.faults client.old ≤ C.faults client.new) }
+    ensures ready { IsReady (visit_of of.now.site.now) (B.state around.new.desk.now) (R.beside around.new.reach.now) }
+    ensures kept { KeepsTickets of.now.site.now.session (B.state around.old.desk.now) (B.state around.new.desk.now) }
+    ensures met { MeetsInAnswer result.answered (B.state around.old.desk.now) (B.state around.new.desk.now) }
+    ensures fault { RisesInAnswer result.answered (C.faults around.old.client.now) (C.faults around.new.client.now) }
+    ensures beside { C.beside around.new.client.now ≡ C.beside around.old.client.now }
+    ensures reach_faults { R.faults around.old.reach.now ≤ R.faults around.new.reach.now }
+    ensures client_faults { C.faults around.old.client.now ≤ C.faults around.new.client.now }
+    ensures same { AreSame around.old around.new }
 {
-    let Some(worker) = site.map.mount(head.clean.as_slice()) else {
-        return not_found(alloc, head, client);
+    let Some(worker) = of.site.map.mount(of.head.clean.as_slice()) else {
+        return not_found(alloc, of.head, around.client);
     };
-    match begin(alloc, site.cfg, worker, head, client) {
-        Ok(row) => answer_at(
-            alloc, site, worker, head, last, row, body, inbox, desk, reach, client, clock,
-        ),
+    match begin(alloc, of.site.cfg, worker, of.head, around.client) {
+        Ok(row) => answer_at(alloc, of, worker, row, body, around),
         Err(stop) => stopped(stop),
     }
 }

@@ -13,11 +13,13 @@
 mod answering;
 mod concluding;
 mod ending;
+mod inquiry;
 mod requests;
 mod rows;
 mod serving;
 mod site;
 mod status;
+mod surroundings;
 mod turn;
 mod writing;
 

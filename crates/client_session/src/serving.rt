@@ -13,15 +13,18 @@ ghost use Rattle.client_session.specs.Requests.{visit, visit_of};
 ghost use Rattle.client_session.specs.Causes.{IsDecided, IsOwnCaused};
 ghost use Rattle.client_session.specs.Complete.{EndsWhole, ServesWhole};
 ghost use Rattle.client_session.specs.Parts.{HasParts};
-ghost use Rattle.client_session.specs.Sessions.{InEachSession, IsServed, IsSession, ReadsHead, Serves};
+ghost use Rattle.client_session.specs.Sessions.{InEachSession, IsServed, Serves};
 ghost use Rattle.client_session.specs.Standings.{Standing, client_at, standing};
+ghost use Rattle.client_session.specs.Surroundings.{AddsSession, AreSame, TurnsFrom, standing_of};
 ghost use Rattle.client_session.specs.Turns.{MeetsInTurn, RisesInTurn, Turns};
 
 use crate::answering::answer;
 use crate::ending::{SessionEnd, Stop, Why};
+use crate::inquiry::Inquiry;
 use crate::requests::{MAX_BODY_BYTES, MAX_REQUESTS, is_last};
 use crate::rows::{Row, put};
 use crate::site::Site;
+use crate::surroundings::Surroundings;
 use crate::turn::{Answered, Settled, Turn};
 use crate::writing::write_own;
 use balancer_core::Desk;
@@ -95,39 +98,35 @@ fn serve_head<B: Desk, R: Reach, C: Link, K: Clock>(
     site: &Site<'_>,
     head: &Head,
     number: u32,
-    inbox: &mut Inbox,
-    desk: &mut B,
-    reach: &mut R,
-    client: &mut C,
-    clock: &mut K,
+    around: &mut Surroundings<B, K, R, C>,
     rows: &mut Vec<Served>,
 ) -> Turn
 where
     B::Mark: Drop,
     B::Shown: Drop,
-    requires ready { IsReady (visit_of site.now) (B.state desk.old) (R.beside reach.old) }
+    requires ready { IsReady (visit_of site.now) (B.state around.old.desk.now) (R.beside around.old.reach.now) }
     requires number { number < MAX_REQUESTS }
-    ensures turn { (s : Standing) → let at = standing B.state K.answers R.Meanings C.Meanings in
-        ReadsHead s (at desk.old clock.old reach.old client.old inbox.old) head.now
-        → Turns (visit_of site.now) number s (at desk.new clock.new reach.new client.new inbox.new) rows.old.items rows.new.items result }
+    ensures turn { let at = standing_of B.state K.answers R.Meanings C.Meanings in
+        TurnsFrom (visit_of site.now) number head.now (at around.old) (at around.new) rows.old.items rows.new.items result }
     ensures more { result ≡ Turn.Next → number + 1 < MAX_REQUESTS }
-    ensures ready { IsReady (visit_of site.now) (B.state desk.new) (R.beside reach.new) }
-    ensures kept { KeepsTickets site.now.session (B.state desk.old) (B.state desk.new) }
-    ensures met { MeetsInTurn result (B.state desk.old) (B.state desk.new) }
-    ensures fault { RisesInTurn result (C.faults client.old) (C.faults client.new) }
-    ensures beside { C.beside client.new ≡ C.beside client.old }
-    ensures no_fewer { (R.faults reach.old ≤ R.faults reach.new) × (C.faults client.old ≤ C.faults client.new) }
+    ensures ready { IsReady (visit_of site.now) (B.state around.new.desk.now) (R.beside around.new.reach.now) }
+    ensures kept { KeepsTickets site.now.session (B.state around.old.desk.now) (B.state around.new.desk.now) }
+    ensures met { MeetsInTurn result (B.state around.old.desk.now) (B.state around.new.desk.now) }
+    ensures fault { RisesInTurn result (C.faults around.old.client.now) (C.faults around.new.client.now) }
+    ensures beside { C.beside around.new.client.now ≡ C.beside around.old.client.now }
+    ensures reach_faults { R.faults around.old.reach.now ≤ R.faults around.new.reach.now }
+    ensures client_faults { C.faults around.old.client.now ≤ C.faults around.new.client.now }
+    ensures same { AreSame around.old around.new }
 {
     let mut body = BodyIn::new(head.plan, MAX_BODY_BYTES);
     let Ok(()) = rows.reserve(1) else {
         return Turn::EndsAt(Stop::NoMemory);
     };
     let last = is_last(number, head);
-    let Settled { answered, row } = answer(
-        alloc, site, head, last, &mut body, inbox, desk, reach, client, clock,
-    );
+    let of = Inquiry { site, head, last };
+    let Settled { answered, row } = answer(alloc, &of, &mut body, around);
     put_row(rows, row);
-    turn_after(answered, last, &mut body, inbox, client)
+    turn_after(answered, last, &mut body, around.inbox, around.client)
 }
 
 /// Answers a refused head.
@@ -171,35 +170,30 @@ fn serve_one<B: Desk, R: Reach, C: Link, K: Clock>(
     alloc: Global,
     site: &Site<'_>,
     number: u32,
-    inbox: &mut Inbox,
-    desk: &mut B,
-    reach: &mut R,
-    client: &mut C,
-    clock: &mut K,
+    around: &mut Surroundings<B, K, R, C>,
     rows: &mut Vec<Served>,
 ) -> Turn
 where
     B::Mark: Drop,
     B::Shown: Drop,
-    requires ready { IsReady (visit_of site.now) (B.state desk.old) (R.beside reach.old) }
+    requires ready { IsReady (visit_of site.now) (B.state around.old.desk.now) (R.beside around.old.reach.now) }
     requires number { number < MAX_REQUESTS }
-    ensures turn { let at = standing B.state K.answers R.Meanings C.Meanings in
-        Turns (visit_of site.now) number (at desk.old clock.old reach.old client.old inbox.old)
-        (at desk.new clock.new reach.new client.new inbox.new) rows.old.items rows.new.items result }
+    ensures turn { let at = standing_of B.state K.answers R.Meanings C.Meanings in
+        Turns (visit_of site.now) number (at around.old) (at around.new) rows.old.items rows.new.items result }
     ensures more { result ≡ Turn.Next → number + 1 < MAX_REQUESTS }
-    ensures ready { IsReady (visit_of site.now) (B.state desk.new) (R.beside reach.new) }
-    ensures kept { KeepsTickets site.now.session (B.state desk.old) (B.state desk.new) }
-    ensures met { MeetsInTurn result (B.state desk.old) (B.state desk.new) }
-    ensures fault { RisesInTurn result (C.faults client.old) (C.faults client.new) }
-    ensures beside { C.beside client.new ≡ C.beside client.old }
-    ensures no_fewer { (R.faults reach.old ≤ R.faults reach.new) × (C.faults client.old ≤ C.faults client.new) }
+    ensures ready { IsReady (visit_of site.now) (B.state around.new.desk.now) (R.beside around.new.reach.now) }
+    ensures kept { KeepsTickets site.now.session (B.state around.old.desk.now) (B.state around.new.desk.now) }
+    ensures met { MeetsInTurn result (B.state around.old.desk.now) (B.state around.new.desk.now) }
+    ensures fault { RisesInTurn result (C.faults around.old.client.now) (C.faults around.new.client.now) }
+    ensures beside { C.beside around.new.client.now ≡ C.beside around.old.client.now }
+    ensures reach_faults { R.faults around.old.reach.now ≤ R.faults around.new.reach.now }
+    ensures client_faults { C.faults around.old.client.now ≤ C.faults around.new.client.now }
+    ensures same { AreSame around.old around.new }
 {
-    match read_head(alloc, inbox, client) {
-        Ok(HeadGot::Head(head)) => serve_head(
-            alloc, site, &head, number, inbox, desk, reach, client, clock, rows,
-        ),
+    match read_head(alloc, around.inbox, around.client) {
+        Ok(HeadGot::Head(head)) => serve_head(alloc, site, &head, number, around, rows),
         Ok(HeadGot::End) => Turn::EndsAt(Stop::Closed(Why::ByClient)),
-        Err(error) => Turn::EndsAt(stop_without_head(alloc, error, client, rows)),
+        Err(error) => Turn::EndsAt(stop_without_head(alloc, error, around.client, rows)),
     }
 }
 
@@ -207,30 +201,27 @@ where
 fn serve_all<B: Desk, R: Reach, C: Link, K: Clock>(
     alloc: Global,
     site: &Site<'_>,
-    inbox: &mut Inbox,
-    desk: &mut B,
-    reach: &mut R,
-    client: &mut C,
-    clock: &mut K,
+    around: &mut Surroundings<B, K, R, C>,
     rows: &mut Vec<Served>,
 ) -> SessionEnd
 where
     B::Mark: Drop,
     B::Shown: Drop,
-    requires ready { IsReady (visit_of site.now) (B.state desk.old) (R.beside reach.old) }
-    ensures session { (gained : List AnyServed) × (rows.new.items ≡ rows.old.items ++ gained) × (let at = standing B.state K.answers R.Meanings C.Meanings in
-        IsSession (visit_of site.now) (at desk.old clock.old reach.old client.old inbox.old)
-        (at desk.new clock.new reach.new client.new inbox.new) gained result) }
-    ensures ready { IsReady (visit_of site.now) (B.state desk.new) (R.beside reach.new) }
-    ensures kept { KeepsTickets site.now.session (B.state desk.old) (B.state desk.new) }
-    ensures met { MeetsBy result (B.state desk.old) (B.state desk.new) }
-    ensures fault { RisesBy result (C.faults client.old) (C.faults client.new) }
-    ensures beside { C.beside client.new ≡ C.beside client.old }
-    ensures no_fewer { (R.faults reach.old ≤ R.faults reach.new) × (C.faults client.old ≤ C.faults client.new) }
+    requires ready { IsReady (visit_of site.now) (B.state around.old.desk.now) (R.beside around.old.reach.now) }
+    ensures session { let at = standing_of B.state K.answers R.Meanings C.Meanings in
+        AddsSession (visit_of site.now) (at around.old) (at around.new) rows.old.items rows.new.items result }
+    ensures ready { IsReady (visit_of site.now) (B.state around.new.desk.now) (R.beside around.new.reach.now) }
+    ensures kept { KeepsTickets site.now.session (B.state around.old.desk.now) (B.state around.new.desk.now) }
+    ensures met { MeetsBy result (B.state around.old.desk.now) (B.state around.new.desk.now) }
+    ensures fault { RisesBy result (C.faults around.old.client.now) (C.faults around.new.client.now) }
+    ensures beside { C.beside around.new.client.now ≡ C.beside around.old.client.now }
+    ensures reach_faults { R.faults around.old.reach.now ≤ R.faults around.new.reach.now }
+    ensures client_faults { C.faults around.old.client.now ≤ C.faults around.new.client.now }
+    ensures same { AreSame around.old around.new }
 {
     let mut number = 0;
     loop {
-        match serve_one(alloc, site, number, inbox, desk, reach, client, clock, rows) {
+        match serve_one(alloc, site, number, around, rows) {
             Turn::Next => number += 1,
             Turn::EndsAfter(stop) => return stop.after(number + 1),
             Turn::EndsAt(stop) => return stop.after(number),
@@ -298,17 +289,15 @@ where
         session,
         peer,
     };
-    let mut served = mem::replace(rows, ListOf::new(alloc)).into_vec();
-    let end = serve_all(
-        alloc,
-        &site,
-        &mut inbox,
+    let mut around = Surroundings {
         desk,
+        clock,
         reach,
         client,
-        clock,
-        &mut served,
-    );
+        inbox: &mut inbox,
+    };
+    let mut served = mem::replace(rows, ListOf::new(alloc)).into_vec();
+    let end = serve_all(alloc, &site, &mut around, &mut served);
     *rows = ListOf::from_vec(served);
     end
 }

@@ -1,63 +1,60 @@
 //! A request of a status worker: its commands are done, and its page written.
-ghost use Rattle.std.specs.Prelude.{◌≡◌, ◌≤◌, ℕ, List, IfSome};
+ghost use Rattle.std.specs.Prelude.{◌≡◌, ◌≤◌, IfSome};
 ghost use Rattle.balancer_core.specs.Desks.{MeetsNone};
 ghost use Rattle.exchange.specs.Requests.{sizes_of};
 ghost use Rattle.status_worker.specs.Desks.{KeepsTickets};
-ghost use Rattle.client_session.specs.Answers.{IsStatusAnswer};
-ghost use Rattle.client_session.specs.Requests.{visit_of};
-ghost use Rattle.client_session.specs.Standings.{ReachSide, standing_by};
+ghost use Rattle.client_session.specs.Surroundings.{AreSame, Shows, standing_of};
 
 use crate::ending::Stop;
+use crate::inquiry::Inquiry;
 use crate::requests::is_head;
-use crate::site::Site;
+use crate::surroundings::Surroundings;
 use crate::writing::{send, write_own};
 use balancer_core::Desk;
-use http_front::Head;
-use jk_io::{Clock, Sink};
+use jk_io::{Clock, Link, Reach};
 use site_config::Status;
 use status_worker::{NoPage, change, page_at};
 use std::alloc::Global;
 
 /// Answers a request of a status worker: the page's length, or why there is none.
-pub(crate) fn serve_status<B: Desk, C: Sink, K: Clock>(
+pub(crate) fn serve_status<B: Desk, R: Reach, C: Link, K: Clock>(
     alloc: Global,
-    site: &Site<'_>,
+    of: &Inquiry,
     status: &Status,
-    head: &Head,
-    last: bool,
-    desk: &mut B,
-    client: &mut C,
-    clock: &mut K,
+    around: &mut Surroundings<B, K, R, C>,
 ) -> Result<u64, Stop>
 where
     B::Mark: Drop,
     B::Shown: Drop,
-    requires caller { IfSome (B.state desk.old).caller (λ n. site.now.session ≡ n) }
-    requires sizes { (B.state desk.old).sizes ≡ sizes_of site.now.cfg.now.lbs }
-    ensures answer { (reach : ReachSide) → (inbox : List ℕ) → let at = standing_by B.state K.answers C.Meanings reach inbox in
-        IsStatusAnswer (visit_of site.now) status.now head.now last (at desk.old clock.old client.old) (at desk.new clock.new client.new) result }
-    ensures kept { KeepsTickets site.now.session (B.state desk.old) (B.state desk.new) }
-    ensures met { MeetsNone (B.state desk.old) (B.state desk.new) }
-    ensures beside { C.beside client.new ≡ C.beside client.old }
-    ensures no_fewer { C.faults client.old ≤ C.faults client.new }
+    requires caller { IfSome (B.state around.old.desk.now).caller (λ n. of.now.site.now.session ≡ n) }
+    requires sizes { (B.state around.old.desk.now).sizes ≡ sizes_of of.now.site.now.cfg.now.lbs }
+    ensures answer { let at = standing_of B.state K.answers R.Meanings C.Meanings in
+        Shows of.now status.now (at around.old) (at around.new) result }
+    ensures reach { around.new.reach.now ≡ around.old.reach.now }
+    ensures kept { KeepsTickets of.now.site.now.session (B.state around.old.desk.now) (B.state around.new.desk.now) }
+    ensures met { MeetsNone (B.state around.old.desk.now) (B.state around.new.desk.now) }
+    ensures beside { C.beside around.new.client.now ≡ C.beside around.old.client.now }
+    ensures client_faults { C.faults around.old.client.now ≤ C.faults around.new.client.now }
+    ensures same { AreSame around.old around.new }
 {
+    let Inquiry { site, head, last } = *of;
     let only = match change(
         alloc,
         site.cfg,
         site.session,
         status,
         &head.query,
-        desk,
-        clock,
+        around.desk,
+        around.clock,
     ) {
         Ok(only) => only,
-        Err(NoPage::Own(code)) => return Err(write_own(code, is_head(head), client)),
+        Err(NoPage::Own(code)) => return Err(write_own(code, is_head(head), around.client)),
         Err(NoPage::NoMemory) => return Err(Stop::NoMemory),
     };
-    let Ok(page) = page_at(alloc, site.cfg, only, is_head(head), last, desk) else {
+    let Ok(page) = page_at(alloc, site.cfg, only, is_head(head), last, around.desk) else {
         return Err(Stop::NoMemory);
     };
-    match send(page.reply.as_slice(), client) {
+    match send(page.reply.as_slice(), around.client) {
         Ok(()) => Ok(page.len),
         Err(stop) => Err(stop),
     }

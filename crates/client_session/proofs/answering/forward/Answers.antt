@@ -2,61 +2,56 @@
 use Rattle.std.proofs.Common.{ap, sym, ◌∙◌}
 use Rattle.site_config.specs.declared.balancer.Lb.{Lb}
 use Rattle.client_session.specs.Requests.{visit_of}
-use Rattle.client_session.specs.Standings.{standing}
+use Rattle.client_session.specs.Surroundings.{standing_of}
 use Rattle.client_session.proofs.ConcludeLaws.{concluded_by, forwards, goes_on, meets, rises, stands_there, within}
 use Rattle.client_session.proofs.answering.forward.Goals as goal
 
 pub conclude-requires-clause-within : goal.conclude-requires-clause-within
 conclude-requires-clause-within g c =
-    let stands = stands_there c.args.site.now.cfg.now.lbs c.args.lb c.index-as_slice-lb.result c.requires.worker (rw c.as_slice.ensures at c.index-as_slice-lb.is) in
+    let stands = stands_there c.args.of.now.site.now.cfg.now.lbs c.args.lb c.index-as_slice-lb.result c.requires.worker (rw c.as_slice.ensures at c.index-as_slice-lb.is) in
     let are = c.as_slice-members.ensures ∙ ap (λ (b : Lb). b.book.members) (sym c.index-as_slice-lb.is) in
     rw are
-    (within (visit_of c.args.site.now) c.args.head.now c.args.last
-    (standing g.B.Desk.state g.K.Clock.answers g.R.Meanings g.C.Meanings c.args.desk.now c.args.clock.now c.args.reach.now c.args.client.now c.args.inbox.now)
-    (standing g.B.Desk.state g.K.Clock.answers g.R.Meanings g.C.Meanings c.exchange_at-end.new.desk c.exchange_at-end.new.clock c.exchange_at-end.new.reach
-    c.exchange_at-end.new.client c.exchange_at-end.new.inbox) c.args.body.now c.exchange_at-end.new.body c.args.lb c.index-as_slice-lb.result c.requires.room.0 _ c.exchange_at-end.result stands c.requires.room.2 c.requires.room.1.room
+    (within (visit_of c.args.of.now.site.now) c.args.of.now.head.now c.args.of.now.last
+    (standing_of g.B.Desk.state g.K.Clock.answers g.R.Meanings g.C.Meanings c.args.around.now)
+    (standing_of g.B.Desk.state g.K.Clock.answers g.R.Meanings g.C.Meanings c.exchange_at-end.new.around) c.args.body.now c.exchange_at-end.new.body c.args.lb c.index-as_slice-lb.result c.requires.room.0 _ c.exchange_at-end.result stands c.requires.room.2 c.requires.room.1.room
     (c.exchange_at-end.ensures.forwarded c.index-as_slice-lb.result stands))
 
 pub returns-clause-answer : goal.returns-clause-answer
 returns-clause-answer g c =
-    let stands = stands_there c.args.site.now.cfg.now.lbs c.args.lb c.index-as_slice-lb.result c.requires.worker (rw c.as_slice.ensures at c.index-as_slice-lb.is) in
+    let stands = stands_there c.args.of.now.site.now.cfg.now.lbs c.args.lb c.index-as_slice-lb.result c.requires.worker (rw c.as_slice.ensures at c.index-as_slice-lb.is) in
     let are = c.as_slice-members.ensures ∙ ap (λ (b : Lb). b.book.members) (sym c.index-as_slice-lb.is) in
-    forwards (visit_of c.args.site.now) c.args.head.now c.args.last
-    (standing g.B.Desk.state g.K.Clock.answers g.R.Meanings g.C.Meanings c.args.desk.now c.args.clock.now c.args.reach.now c.args.client.now c.args.inbox.now)
-    (standing g.B.Desk.state g.K.Clock.answers g.R.Meanings g.C.Meanings c.exchange_at-end.new.desk c.exchange_at-end.new.clock c.exchange_at-end.new.reach
-    c.exchange_at-end.new.client c.exchange_at-end.new.inbox) c.args.body.now c.exchange_at-end.new.body c.args.lb c.index-as_slice-lb.result c.exchange_at-end.result c.conclude.result c.requires.mounted stands
+    forwards (visit_of c.args.of.now.site.now) c.args.of.now.head.now c.args.of.now.last
+    (standing_of g.B.Desk.state g.K.Clock.answers g.R.Meanings g.C.Meanings c.args.around.now)
+    (standing_of g.B.Desk.state g.K.Clock.answers g.R.Meanings g.C.Meanings c.exchange_at-end.new.around) c.args.body.now c.exchange_at-end.new.body c.args.lb c.index-as_slice-lb.result c.exchange_at-end.result c.conclude.result c.requires.mounted stands
     (c.exchange_at-end.ensures.forwarded c.index-as_slice-lb.result stands)
-    (concluded_by c.exchange_at-end.result c.as_slice-members.result.now c.index-as_slice-lb.result c.is_head.result c.args.head.now c.args.row.asked c.conclude.result are c.is_head.ensures c.requires.room.1.asked' c.conclude.ensures)
+    (concluded_by c.exchange_at-end.result c.as_slice-members.result.now c.index-as_slice-lb.result c.is_head.result c.args.of.now.head.now c.args.row.asked c.conclude.result are c.is_head.ensures c.requires.room.1.asked' c.conclude.ensures)
 
 pub returns-clause-going : goal.returns-clause-going
 returns-clause-going g c =
-    let stands = stands_there c.args.site.now.cfg.now.lbs c.args.lb c.index-as_slice-lb.result c.requires.worker (rw c.as_slice.ensures at c.index-as_slice-lb.is) in
+    let stands = stands_there c.args.of.now.site.now.cfg.now.lbs c.args.lb c.index-as_slice-lb.result c.requires.worker (rw c.as_slice.ensures at c.index-as_slice-lb.is) in
     let are = c.as_slice-members.ensures ∙ ap (λ (b : Lb). b.book.members) (sym c.index-as_slice-lb.is) in
-    goes_on (visit_of c.args.site.now) c.args.head.now c.args.last
-    (standing g.B.Desk.state g.K.Clock.answers g.R.Meanings g.C.Meanings c.args.desk.now c.args.clock.now c.args.reach.now c.args.client.now c.args.inbox.now)
-    (standing g.B.Desk.state g.K.Clock.answers g.R.Meanings g.C.Meanings c.exchange_at-end.new.desk c.exchange_at-end.new.clock c.exchange_at-end.new.reach
-    c.exchange_at-end.new.client c.exchange_at-end.new.inbox) c.args.body.now c.exchange_at-end.new.body c.args.lb c.index-as_slice-lb.result c.exchange_at-end.result c.conclude.result
+    goes_on (visit_of c.args.of.now.site.now) c.args.of.now.head.now c.args.of.now.last
+    (standing_of g.B.Desk.state g.K.Clock.answers g.R.Meanings g.C.Meanings c.args.around.now)
+    (standing_of g.B.Desk.state g.K.Clock.answers g.R.Meanings g.C.Meanings c.exchange_at-end.new.around) c.args.body.now c.exchange_at-end.new.body c.args.lb c.index-as_slice-lb.result c.exchange_at-end.result c.conclude.result
     (c.exchange_at-end.ensures.forwarded c.index-as_slice-lb.result stands)
-    (concluded_by c.exchange_at-end.result c.as_slice-members.result.now c.index-as_slice-lb.result c.is_head.result c.args.head.now c.args.row.asked c.conclude.result are c.is_head.ensures c.requires.room.1.asked' c.conclude.ensures)
+    (concluded_by c.exchange_at-end.result c.as_slice-members.result.now c.index-as_slice-lb.result c.is_head.result c.args.of.now.head.now c.args.row.asked c.conclude.result are c.is_head.ensures c.requires.room.1.asked' c.conclude.ensures)
 
 pub returns-clause-met : goal.returns-clause-met
 returns-clause-met g c =
-    let stands = stands_there c.args.site.now.cfg.now.lbs c.args.lb c.index-as_slice-lb.result c.requires.worker (rw c.as_slice.ensures at c.index-as_slice-lb.is) in
+    let stands = stands_there c.args.of.now.site.now.cfg.now.lbs c.args.lb c.index-as_slice-lb.result c.requires.worker (rw c.as_slice.ensures at c.index-as_slice-lb.is) in
     let are = c.as_slice-members.ensures ∙ ap (λ (b : Lb). b.book.members) (sym c.index-as_slice-lb.is) in
-    meets (visit_of c.args.site.now) c.args.head.now c.args.last
-    (standing g.B.Desk.state g.K.Clock.answers g.R.Meanings g.C.Meanings c.args.desk.now c.args.clock.now c.args.reach.now c.args.client.now c.args.inbox.now)
-    (standing g.B.Desk.state g.K.Clock.answers g.R.Meanings g.C.Meanings c.exchange_at-end.new.desk c.exchange_at-end.new.clock c.exchange_at-end.new.reach
-    c.exchange_at-end.new.client c.exchange_at-end.new.inbox) c.args.body.now c.exchange_at-end.new.body c.args.lb c.index-as_slice-lb.result c.exchange_at-end.result c.conclude.result
+    meets (visit_of c.args.of.now.site.now) c.args.of.now.head.now c.args.of.now.last
+    (standing_of g.B.Desk.state g.K.Clock.answers g.R.Meanings g.C.Meanings c.args.around.now)
+    (standing_of g.B.Desk.state g.K.Clock.answers g.R.Meanings g.C.Meanings c.exchange_at-end.new.around) c.args.body.now c.exchange_at-end.new.body c.args.lb c.index-as_slice-lb.result c.exchange_at-end.result c.conclude.result
     (c.exchange_at-end.ensures.forwarded c.index-as_slice-lb.result stands)
-    (concluded_by c.exchange_at-end.result c.as_slice-members.result.now c.index-as_slice-lb.result c.is_head.result c.args.head.now c.args.row.asked c.conclude.result are c.is_head.ensures c.requires.room.1.asked' c.conclude.ensures)
+    (concluded_by c.exchange_at-end.result c.as_slice-members.result.now c.index-as_slice-lb.result c.is_head.result c.args.of.now.head.now c.args.row.asked c.conclude.result are c.is_head.ensures c.requires.room.1.asked' c.conclude.ensures)
 
 pub returns-clause-fault : goal.returns-clause-fault
 returns-clause-fault g c =
-    let stands = stands_there c.args.site.now.cfg.now.lbs c.args.lb c.index-as_slice-lb.result c.requires.worker (rw c.as_slice.ensures at c.index-as_slice-lb.is) in
+    let stands = stands_there c.args.of.now.site.now.cfg.now.lbs c.args.lb c.index-as_slice-lb.result c.requires.worker (rw c.as_slice.ensures at c.index-as_slice-lb.is) in
     let are = c.as_slice-members.ensures ∙ ap (λ (b : Lb). b.book.members) (sym c.index-as_slice-lb.is) in
-    rises (visit_of c.args.site.now) c.args.head.now c.args.last
-    (standing g.B.Desk.state g.K.Clock.answers g.R.Meanings g.C.Meanings c.args.desk.now c.args.clock.now c.args.reach.now c.args.client.now c.args.inbox.now)
-    (standing g.B.Desk.state g.K.Clock.answers g.R.Meanings g.C.Meanings c.exchange_at-end.new.desk c.exchange_at-end.new.clock c.exchange_at-end.new.reach
-    c.exchange_at-end.new.client c.exchange_at-end.new.inbox) c.args.body.now c.exchange_at-end.new.body c.args.lb c.index-as_slice-lb.result c.exchange_at-end.result c.conclude.result
+    rises (visit_of c.args.of.now.site.now) c.args.of.now.head.now c.args.of.now.last
+    (standing_of g.B.Desk.state g.K.Clock.answers g.R.Meanings g.C.Meanings c.args.around.now)
+    (standing_of g.B.Desk.state g.K.Clock.answers g.R.Meanings g.C.Meanings c.exchange_at-end.new.around) c.args.body.now c.exchange_at-end.new.body c.args.lb c.index-as_slice-lb.result c.exchange_at-end.result c.conclude.result
     (c.exchange_at-end.ensures.forwarded c.index-as_slice-lb.result stands)
-    (concluded_by c.exchange_at-end.result c.as_slice-members.result.now c.index-as_slice-lb.result c.is_head.result c.args.head.now c.args.row.asked c.conclude.result are c.is_head.ensures c.requires.room.1.asked' c.conclude.ensures)
+    (concluded_by c.exchange_at-end.result c.as_slice-members.result.now c.index-as_slice-lb.result c.is_head.result c.args.of.now.head.now c.args.row.asked c.conclude.result are c.is_head.ensures c.requires.room.1.asked' c.conclude.ensures)

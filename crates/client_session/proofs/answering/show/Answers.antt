@@ -1,30 +1,29 @@
 -- The page was shown, or an own answer took its place, or nothing whole was written.
-use Rattle.std.proofs.Common.{[], None}
 use Rattle.client_session.specs.Requests.{visit_of}
 use Rattle.client_session.proofs.AnswerLaws.{at_status, shown_stop, shown_whole, stop_known, stop_meets, stop_rises}
 use Rattle.client_session.proofs.answering.show.Goals as goal
 
 pub conclude_stop-requires : goal.conclude_stop-requires
-conclude_stop-requires g c = stop_known (visit_of c.args.site.now) c.args.head.now c.args.last _ _ c.index-as_slice-place.result c.in-Err.stop (c.in-Err.ensures.answer (record { talks = None; faults = 0 }) [])
+conclude_stop-requires g c = stop_known (visit_of c.args.of.now.site.now) c.args.of.now.head.now c.args.of.now.last _ _ c.index-as_slice-place.result c.in-Err.stop c.in-Err.ensures.answer
 
 pub returns-in-Ok-clause-answer : goal.returns-in-Ok-clause-answer
-returns-in-Ok-clause-answer g c = λ reach inbox body.
-    shown_whole (visit_of c.args.site.now) c.args.head.now c.args.last _ _ body c.index-as_slice-place.result c.in-Ok.len _ _
+returns-in-Ok-clause-answer g c = λ body.
+    shown_whole (visit_of c.args.of.now.site.now) c.args.of.now.head.now c.args.of.now.last _ _ body c.index-as_slice-place.result c.in-Ok.len _ _
     (at_status _ _ _ c.index-as_slice-place.result c.requires.mounted c.requires.worker (rw c.as_slice.ensures at c.index-as_slice-place.is))
-    (c.in-Ok.ensures.answer reach inbox) c.requires.room.1.asked' (rw c.as_slice-in-Ok.ensures at c.of_worker.ensures)
+    c.in-Ok.ensures.answer c.requires.room.1.asked' (rw c.as_slice-in-Ok.ensures at c.of_worker.ensures)
 
 pub returns-in-Err-clause-answer : goal.returns-in-Err-clause-answer
-returns-in-Err-clause-answer g c = λ reach inbox body.
-    shown_stop (visit_of c.args.site.now) c.args.head.now c.args.last _ _ body c.index-as_slice-place.result c.in-Err.stop _ _
+returns-in-Err-clause-answer g c = λ body.
+    shown_stop (visit_of c.args.of.now.site.now) c.args.of.now.head.now c.args.of.now.last _ _ body c.index-as_slice-place.result c.in-Err.stop _ _
     (at_status _ _ _ c.index-as_slice-place.result c.requires.mounted c.requires.worker (rw c.as_slice.ensures at c.index-as_slice-place.is))
-    (c.in-Err.ensures.answer reach inbox) c.requires.room.1.asked' (rw c.is_head.ensures at c.conclude_stop.ensures)
+    c.in-Err.ensures.answer c.requires.room.1.asked' (rw c.is_head.ensures at c.conclude_stop.ensures)
 
 pub returns-in-Err-clause-met : goal.returns-in-Err-clause-met
 returns-in-Err-clause-met g c =
-    stop_meets (visit_of c.args.site.now) c.args.head.now c.args.last _ _ c.index-as_slice-place.result c.in-Err.stop _ _ _ _ (c.in-Err.ensures.answer (record { talks = None; faults = 0 }) [])
+    stop_meets (visit_of c.args.of.now.site.now) c.args.of.now.head.now c.args.of.now.last _ _ c.index-as_slice-place.result c.in-Err.stop _ _ _ _ c.in-Err.ensures.answer
     (rw c.is_head.ensures at c.conclude_stop.ensures) c.serve_status.ensures.met
 
 pub returns-in-Err-clause-fault : goal.returns-in-Err-clause-fault
 returns-in-Err-clause-fault g c =
-    stop_rises (visit_of c.args.site.now) c.args.head.now c.args.last _ _ c.index-as_slice-place.result c.in-Err.stop _ _ (c.in-Err.ensures.answer (record { talks = None; faults = 0 }) [])
+    stop_rises (visit_of c.args.of.now.site.now) c.args.of.now.head.now c.args.of.now.last _ _ c.index-as_slice-place.result c.in-Err.stop _ _ c.in-Err.ensures.answer
     (rw c.is_head.ensures at c.conclude_stop.ensures)

@@ -15,6 +15,7 @@ loop-number-init g c = record {
   beside = refl;
   reach_faults = omega arith;
   client_faults = omega arith;
+  same = (refl, refl, refl, refl, refl);
 }
 
 pub loop-number-preserved : goal.loop-number-preserved
@@ -27,8 +28,9 @@ loop-number-preserved g c =
       kept = twice _ _ _ _ inv.kept c.in-Next.ensures.kept;
       met = none_twice _ _ _ inv.met c.in-Next.ensures.met;
       beside = c.in-Next.ensures.beside ∙ inv.beside;
-      reach_faults = omega (arith, inv.reach_faults, c.in-Next.ensures.no_fewer.0);
-      client_faults = omega (arith, inv.client_faults, c.in-Next.ensures.no_fewer.1);
+      reach_faults = omega (arith, inv.reach_faults, c.in-Next.ensures.reach_faults);
+      client_faults = omega (arith, inv.client_faults, c.in-Next.ensures.client_faults);
+      same = (c.in-Next.ensures.same.0 ∙ inv.same.0, c.in-Next.ensures.same.1 ∙ inv.same.1, c.in-Next.ensures.same.2 ∙ inv.same.2, c.in-Next.ensures.same.3 ∙ inv.same.3, c.in-Next.ensures.same.4 ∙ inv.same.4);
     }
 
 pub returns-in-EndsAfter-clause-session : goal.returns-in-EndsAfter-clause-session
@@ -67,11 +69,14 @@ returns-in-EndsAfter-clause-ready g c = c.in-EndsAfter.ensures.ready
 pub returns-in-EndsAfter-clause-beside : goal.returns-in-EndsAfter-clause-beside
 returns-in-EndsAfter-clause-beside g c = c.in-EndsAfter.ensures.beside ∙ c.loop-number.invariant.beside
 
-pub returns-in-EndsAfter-clause-no_fewer : goal.returns-in-EndsAfter-clause-no_fewer
-returns-in-EndsAfter-clause-no_fewer g c = (
-  omega (arith, c.loop-number.invariant.reach_faults, c.in-EndsAfter.ensures.no_fewer.0),
-  omega (arith, c.loop-number.invariant.client_faults, c.in-EndsAfter.ensures.no_fewer.1),
-)
+pub returns-in-EndsAfter-clause-reach_faults : goal.returns-in-EndsAfter-clause-reach_faults
+returns-in-EndsAfter-clause-reach_faults g c = omega (arith, c.loop-number.invariant.reach_faults, c.in-EndsAfter.ensures.reach_faults)
+
+pub returns-in-EndsAfter-clause-client_faults : goal.returns-in-EndsAfter-clause-client_faults
+returns-in-EndsAfter-clause-client_faults g c = omega (arith, c.loop-number.invariant.client_faults, c.in-EndsAfter.ensures.client_faults)
+
+pub returns-in-EndsAfter-clause-same : goal.returns-in-EndsAfter-clause-same
+returns-in-EndsAfter-clause-same g c = (c.in-EndsAfter.ensures.same.0 ∙ c.loop-number.invariant.same.0, c.in-EndsAfter.ensures.same.1 ∙ c.loop-number.invariant.same.1, c.in-EndsAfter.ensures.same.2 ∙ c.loop-number.invariant.same.2, c.in-EndsAfter.ensures.same.3 ∙ c.loop-number.invariant.same.3, c.in-EndsAfter.ensures.same.4 ∙ c.loop-number.invariant.same.4)
 
 pub returns-in-EndsAt-clause-ready : goal.returns-in-EndsAt-clause-ready
 returns-in-EndsAt-clause-ready g c = c.in-EndsAt.ensures.ready
@@ -79,8 +84,11 @@ returns-in-EndsAt-clause-ready g c = c.in-EndsAt.ensures.ready
 pub returns-in-EndsAt-clause-beside : goal.returns-in-EndsAt-clause-beside
 returns-in-EndsAt-clause-beside g c = c.in-EndsAt.ensures.beside ∙ c.loop-number.invariant.beside
 
-pub returns-in-EndsAt-clause-no_fewer : goal.returns-in-EndsAt-clause-no_fewer
-returns-in-EndsAt-clause-no_fewer g c = (
-  omega (arith, c.loop-number.invariant.reach_faults, c.in-EndsAt.ensures.no_fewer.0),
-  omega (arith, c.loop-number.invariant.client_faults, c.in-EndsAt.ensures.no_fewer.1),
-)
+pub returns-in-EndsAt-clause-reach_faults : goal.returns-in-EndsAt-clause-reach_faults
+returns-in-EndsAt-clause-reach_faults g c = omega (arith, c.loop-number.invariant.reach_faults, c.in-EndsAt.ensures.reach_faults)
+
+pub returns-in-EndsAt-clause-client_faults : goal.returns-in-EndsAt-clause-client_faults
+returns-in-EndsAt-clause-client_faults g c = omega (arith, c.loop-number.invariant.client_faults, c.in-EndsAt.ensures.client_faults)
+
+pub returns-in-EndsAt-clause-same : goal.returns-in-EndsAt-clause-same
+returns-in-EndsAt-clause-same g c = (c.in-EndsAt.ensures.same.0 ∙ c.loop-number.invariant.same.0, c.in-EndsAt.ensures.same.1 ∙ c.loop-number.invariant.same.1, c.in-EndsAt.ensures.same.2 ∙ c.loop-number.invariant.same.2, c.in-EndsAt.ensures.same.3 ∙ c.loop-number.invariant.same.3, c.in-EndsAt.ensures.same.4 ∙ c.loop-number.invariant.same.4)

@@ -3,6 +3,7 @@ use Rattle.std.proofs.Common.{◌≡◌, false, refl, sym, ◌∙◌, arith}
 use Rattle.http_body_in.specs.Takes.{body_at}
 use Rattle.status_worker.proofs.DeskLaws.{none_met, untouched}
 use Rattle.client_session.specs.Standings.{client_at, standing}
+use Rattle.client_session.specs.Surroundings.{standing_of}
 use Rattle.client_session.proofs.TurnLaws.{follows_meets, follows_rises, not_last, turn_follows, unrowed}
 use Rattle.client_session.proofs.serving.serve_head.Goals as goal
 
@@ -21,8 +22,8 @@ returns-in_default-clause-met g c = none_met _
 pub returns-clause-turn : goal.returns-clause-turn
 returns-clause-turn g c s reads =
     turn_follows _ _ s _
-    (standing g.B.Desk.state g.K.Clock.answers g.R.Meanings g.C.Meanings c.answer-answered.new.desk c.answer-answered.new.clock c.answer-answered.new.reach c.answer-answered.new.client c.answer-answered.new.inbox)
-    (standing g.B.Desk.state g.K.Clock.answers g.R.Meanings g.C.Meanings c.answer-answered.new.desk c.answer-answered.new.clock c.answer-answered.new.reach c.turn_after.new.client c.turn_after.new.inbox)
+    (standing_of g.B.Desk.state g.K.Clock.answers g.R.Meanings g.C.Meanings c.answer-answered.new.around)
+    (standing g.B.Desk.state g.K.Clock.answers g.R.Meanings g.C.Meanings c.answer-answered.new.around.desk.now c.answer-answered.new.around.clock.now c.answer-answered.new.around.reach.now c.turn_after.new.client c.turn_after.new.inbox)
     _ c.new-body.result c.answer-answered.new.body c.turn_after.new.body c.answer-answered.result.answered c.is_last-last.result _ _ _ _ c.turn_after.result
     (record { place = c.new-body.ensures.place; most = c.new-body.ensures.most; taken = c.new-body.ensures.taken; going = c.new-body.ensures.failed })
     c.reserve.ensures.items c.put_row.ensures c.is_last-last.ensures c.answer-answered.ensures.answer c.answer-answered.ensures.fault
@@ -33,14 +34,14 @@ returns-clause-more g c = λ next. not_last c.args.number c.args.head.now (sym c
 
 pub returns-clause-met : goal.returns-clause-met
 returns-clause-met g c =
-    follows_meets c.answer-answered.result.answered c.is_last-last.result (body_at c.answer-answered.new.body c.answer-answered.new.inbox (client_at g.C.Meanings c.answer-answered.new.client))
+    follows_meets c.answer-answered.result.answered c.is_last-last.result (body_at c.answer-answered.new.body c.answer-answered.new.around.inbox.now (client_at g.C.Meanings c.answer-answered.new.around.client.now))
     (body_at c.turn_after.new.body c.turn_after.new.inbox (client_at g.C.Meanings c.turn_after.new.client)) c.turn_after.result _ _ c.turn_after.ensures.turned c.answer-answered.ensures.met
 
 pub returns-clause-fault : goal.returns-clause-fault
 returns-clause-fault g c =
-    follows_rises c.answer-answered.result.answered c.is_last-last.result (body_at c.answer-answered.new.body c.answer-answered.new.inbox (client_at g.C.Meanings c.answer-answered.new.client))
-    (body_at c.turn_after.new.body c.turn_after.new.inbox (client_at g.C.Meanings c.turn_after.new.client)) c.turn_after.result _ c.answer-answered.ensures.no_fewer.1 c.answer-answered.ensures.going
+    follows_rises c.answer-answered.result.answered c.is_last-last.result (body_at c.answer-answered.new.body c.answer-answered.new.around.inbox.now (client_at g.C.Meanings c.answer-answered.new.around.client.now))
+    (body_at c.turn_after.new.body c.turn_after.new.inbox (client_at g.C.Meanings c.turn_after.new.client)) c.turn_after.result _ c.answer-answered.ensures.client_faults c.answer-answered.ensures.going
     c.turn_after.ensures.turned c.answer-answered.ensures.fault
 
-pub returns-clause-no_fewer : goal.returns-clause-no_fewer
-returns-clause-no_fewer g c = (c.answer-answered.ensures.no_fewer.0, omega (arith, c.answer-answered.ensures.no_fewer.1, c.turn_after.ensures.no_fewer))
+pub returns-clause-client_faults : goal.returns-clause-client_faults
+returns-clause-client_faults g c = omega (arith, c.answer-answered.ensures.client_faults, c.turn_after.ensures.no_fewer)

@@ -2,6 +2,7 @@
 use Rattle.std.proofs.Common.{refl, arith}
 use Rattle.client_session.specs.Requests.{visit_of}
 use Rattle.client_session.specs.Standings.{client_at, standing}
+use Rattle.client_session.specs.Surroundings.{standing_of}
 use Rattle.status_worker.proofs.DeskLaws.{none_met, untouched}
 use Rattle.client_session.proofs.SessionLaws.{ReadsNoHead, ends_by_client, meets_without_head, no_fewer_without_head, rises_without_head, without_head}
 use Rattle.client_session.proofs.serving.serve_one.Goals as goal
@@ -9,7 +10,7 @@ use Rattle.client_session.proofs.serving.serve_one.Goals as goal
 pub returns-in-Ok-Head-clause-turn : goal.returns-in-Ok-Head-clause-turn
 returns-in-Ok-Head-clause-turn g c =
     c.serve_head.ensures.turn
-    (standing g.B.Desk.state g.K.Clock.answers g.R.Meanings g.C.Meanings c.args.desk.now c.args.clock.now c.args.reach.now c.args.client.now c.args.inbox.now)
+    (standing_of g.B.Desk.state g.K.Clock.answers g.R.Meanings g.C.Meanings c.args.around.now)
     (record {
       used = rw c.in-Ok-Head.field-0-is at c.in-Ok-Head.ensures.head;
       on = record { alone = refl; sent = c.read_head.ensures.same.0; steady = c.in-Ok-Head.ensures.steady tt };
@@ -18,8 +19,8 @@ returns-in-Ok-Head-clause-turn g c =
 pub returns-in-Ok-End-clause-turn : goal.returns-in-Ok-End-clause-turn
 returns-in-Ok-End-clause-turn g c =
     ends_by_client (visit_of c.args.site.now) c.args.number
-    (standing g.B.Desk.state g.K.Clock.answers g.R.Meanings g.C.Meanings c.args.desk.now c.args.clock.now c.args.reach.now c.args.client.now c.args.inbox.now)
-    (standing g.B.Desk.state g.K.Clock.answers g.R.Meanings g.C.Meanings c.args.desk.now c.args.clock.now c.args.reach.now c.read_head.new.client c.read_head.new.inbox) _
+    (standing_of g.B.Desk.state g.K.Clock.answers g.R.Meanings g.C.Meanings c.args.around.now)
+    (standing g.B.Desk.state g.K.Clock.answers g.R.Meanings g.C.Meanings c.args.around.now.desk.now c.args.around.now.clock.now c.args.around.now.reach.now c.read_head.new.client c.read_head.new.inbox) _
     (record {
       used = rw c.in-Ok-End.field-0-is at c.in-Ok-End.ensures.end;
       on = record { alone = refl; sent = c.read_head.ensures.same.0; steady = c.in-Ok-End.ensures.steady tt };
@@ -34,9 +35,9 @@ returns-in-Ok-End-clause-met g c = none_met _
 pub returns-in-Err-clause-turn : goal.returns-in-Err-clause-turn
 returns-in-Err-clause-turn g c =
     without_head (visit_of c.args.site.now) c.args.number
-    (standing g.B.Desk.state g.K.Clock.answers g.R.Meanings g.C.Meanings c.args.desk.now c.args.clock.now c.args.reach.now c.args.client.now c.args.inbox.now)
-    (standing g.B.Desk.state g.K.Clock.answers g.R.Meanings g.C.Meanings c.args.desk.now c.args.clock.now c.args.reach.now c.read_head.new.client c.read_head.new.inbox)
-    (standing g.B.Desk.state g.K.Clock.answers g.R.Meanings g.C.Meanings c.args.desk.now c.args.clock.now c.args.reach.now c.stop_without_head.new.client c.read_head.new.inbox)
+    (standing_of g.B.Desk.state g.K.Clock.answers g.R.Meanings g.C.Meanings c.args.around.now)
+    (standing g.B.Desk.state g.K.Clock.answers g.R.Meanings g.C.Meanings c.args.around.now.desk.now c.args.around.now.clock.now c.args.around.now.reach.now c.read_head.new.client c.read_head.new.inbox)
+    (standing g.B.Desk.state g.K.Clock.answers g.R.Meanings g.C.Meanings c.args.around.now.desk.now c.args.around.now.clock.now c.args.around.now.reach.now c.stop_without_head.new.client c.read_head.new.inbox)
     c.in-Err.error _ _ c.stop_without_head.result
     (record {
       alone = refl;
@@ -61,8 +62,8 @@ returns-in-Err-clause-met g c =
 pub returns-in-Err-clause-fault : goal.returns-in-Err-clause-fault
 returns-in-Err-clause-fault g c =
     rises_without_head
-    (standing g.B.Desk.state g.K.Clock.answers g.R.Meanings g.C.Meanings c.args.desk.now c.args.clock.now c.args.reach.now c.args.client.now c.args.inbox.now)
-    (standing g.B.Desk.state g.K.Clock.answers g.R.Meanings g.C.Meanings c.args.desk.now c.args.clock.now c.args.reach.now c.read_head.new.client c.read_head.new.inbox)
+    (standing_of g.B.Desk.state g.K.Clock.answers g.R.Meanings g.C.Meanings c.args.around.now)
+    (standing g.B.Desk.state g.K.Clock.answers g.R.Meanings g.C.Meanings c.args.around.now.desk.now c.args.around.now.clock.now c.args.around.now.reach.now c.read_head.new.client c.read_head.new.inbox)
     (client_at g.C.Meanings c.stop_without_head.new.client) c.in-Err.error _ _ c.stop_without_head.result
     (record {
       alone = refl;
@@ -76,9 +77,9 @@ returns-in-Err-clause-fault g c =
     })
     c.stop_without_head.ensures.stops
 
-pub returns-in-Err-clause-no_fewer : goal.returns-in-Err-clause-no_fewer
-returns-in-Err-clause-no_fewer g c =
+pub returns-in-Err-clause-client_faults : goal.returns-in-Err-clause-client_faults
+returns-in-Err-clause-client_faults g c =
     let more =
     no_fewer_without_head c.in-Err.error (client_at g.C.Meanings c.read_head.new.client) (client_at g.C.Meanings c.stop_without_head.new.client) _ _
     c.stop_without_head.result c.stop_without_head.ensures.stops in
-    (omega arith, omega (arith, more, c.read_head.ensures.no_fewer))
+    omega (arith, more, c.read_head.ensures.no_fewer)
