@@ -15,19 +15,45 @@ pub fn tell(
     out: &mut String,
 ) -> Result<(), NoMemory> {
     match fields[0] {
-        "reads" => tell_reads(&mut failing(alloc, bytes, fields[1])?, out),
-        "pieces" => tell_reads(&mut in_pieces(alloc, bytes, fields[1])?, out),
-        "writes" => tell_writes(alloc, &mut silent(alloc, fields[1])?, fields[2], out),
-        "echo" => tell_echo(alloc, &mut planned(alloc, bytes, fields[1])?, out),
+        "reads" => tell_failing(alloc, bytes, fields[1], out),
+        "pieces" => tell_pieces(alloc, bytes, fields[1], out),
+        "writes" => tell_silent(alloc, fields, out),
+        "echo" => tell_planned(alloc, bytes, fields[1], out),
         "decimal" => put_shown(out, &parse_decimal(bytes)),
-        "digits" => tell_digits(
-            number(fields[1]),
-            number(fields[2]),
-            &mut Bytes::new(alloc),
-            out,
-        ),
+        "digits" => tell_digits(alloc, number(fields[1]), number(fields[2]), out),
         _ => put_bytes(out, trim(bytes)),
     }
+}
+
+fn tell_failing(
+    alloc: Global,
+    bytes: &[u8],
+    places: &str,
+    out: &mut String,
+) -> Result<(), NoMemory> {
+    tell_reads(&mut failing(alloc, bytes, places)?, out)
+}
+
+fn tell_pieces(
+    alloc: Global,
+    bytes: &[u8],
+    places: &str,
+    out: &mut String,
+) -> Result<(), NoMemory> {
+    tell_reads(&mut in_pieces(alloc, bytes, places)?, out)
+}
+
+fn tell_silent(alloc: Global, fields: &[&str; 8], out: &mut String) -> Result<(), NoMemory> {
+    tell_writes(alloc, &mut silent(alloc, fields[1])?, fields[2], out)
+}
+
+fn tell_planned(
+    alloc: Global,
+    bytes: &[u8],
+    calls: &str,
+    out: &mut String,
+) -> Result<(), NoMemory> {
+    tell_echo(alloc, &mut planned(alloc, bytes, calls)?, out)
 }
 
 fn failing(alloc: Global, bytes: &[u8], places: &str) -> Result<MemLink, NoMemory> {
@@ -103,9 +129,15 @@ fn tell_writes(
     put_faults(out, link.faults())
 }
 
+fn digits(alloc: Global, number: u128) -> Result<Bytes, NoMemory> {
+    let mut text = Bytes::new(alloc);
+    put_decimal(&mut text, number)?;
+    Ok(text)
+}
+
 /// The digits of `high` times 2^64 and `low`.
-fn tell_digits(high: u64, low: u64, text: &mut Bytes, out: &mut String) -> Result<(), NoMemory> {
-    put_decimal(text, u128::from(high) << 64 | u128::from(low))?;
+fn tell_digits(alloc: Global, high: u64, low: u64, out: &mut String) -> Result<(), NoMemory> {
+    let number = u128::from(high) << 64 | u128::from(low);
     part(out)?;
-    put_plain(out, text.as_slice())
+    put_plain(out, digits(alloc, number)?.as_slice())
 }

@@ -1,18 +1,13 @@
-//! Reads rows of data/, does on the wire what each says, and shows each row that comes out otherwise.
+//! Reads rows of data/ on links and on AJPv1.3, does on the wire what each says, and shows each row that comes out otherwise.
 //!
-//! The wanted answer stands at the end of a row. It comes from RFC 9110, RFC 9112, the AJPv1.3 reference, or the scripts of
-//! vectors/. How a row is written stands in `check_rows::rows`, and what its fields are at the head of each file of data/.
+//! The wanted answer stands at the end of a row. It comes from the AJPv1.3 reference, or the scripts of vectors/. How a row is
+//! written stands in `check_rows::rows`, and what its fields are at the head of each file of data/.
 #![tactic(auto)]
 
-mod bodies;
-mod heads;
-mod laws;
 mod links;
 mod messages;
 mod packets;
-mod replies;
 mod requests;
-mod routes;
 mod vectors;
 
 use anyhow::{Context, Result};
@@ -25,24 +20,16 @@ use std::fs;
 /// What a file's rows are about.
 #[derive(Clone, Copy)]
 enum Area {
-    Heads,
-    Bodies,
-    Replies,
     Packets,
     Messages,
     Requests,
-    Routes,
     Links,
 }
 
-static FILES: [(&str, Area); 8] = [
-    ("heads.txt", Area::Heads),
-    ("bodies.txt", Area::Bodies),
-    ("replies.txt", Area::Replies),
+static FILES: [(&str, Area); 4] = [
     ("packets.txt", Area::Packets),
     ("messages.txt", Area::Messages),
     ("requests.txt", Area::Requests),
-    ("routes.txt", Area::Routes),
     ("links.txt", Area::Links),
 ];
 
@@ -56,13 +43,9 @@ impl judging::Area for Area {
         out: &mut String,
     ) -> Result<(), NoMemory> {
         match self {
-            Area::Heads => heads::tell(alloc, fields, bytes, way, out),
-            Area::Bodies => bodies::tell(alloc, fields, bytes, way, out),
-            Area::Replies => replies::tell(alloc, fields, bytes, way, out),
             Area::Packets => packets::tell(alloc, fields, bytes, way, out),
             Area::Messages => messages::tell(alloc, fields, bytes, out),
             Area::Requests => requests::tell(alloc, fields, bytes, out),
-            Area::Routes => routes::tell(alloc, fields, bytes, out),
             Area::Links => links::tell(alloc, fields, bytes, out),
         }
     }
@@ -82,7 +65,6 @@ fn judge_file(rt: &HostRuntime, file: &str, area: Area) -> Result<()> {
 }
 
 fn main(rt: HostRuntime) -> Result<()> {
-    laws::hold_of_some();
     for (file, area) in &FILES {
         judge_file(&rt, file, *area)?;
     }

@@ -1,4 +1,6 @@
 //! Messages of a container, read and written.
+ghost use Rattle.std.specs.Prelude.{IsTrue};
+ghost use Rattle.ajp_reply.specs.Spelling.{IsMessage};
 
 use ajp_reply::{Message, ReplyParts, decode_reply, encode_reply};
 use ajp_wire::{EncodeError, HeadPairs, MAX_HEADERS};
@@ -17,8 +19,23 @@ pub fn tell(
         return put_shown(out, &decode_reply(alloc, bytes));
     }
     let most = u32::try_from(number(fields[1])).unwrap_or(u32::MAX);
-    let packet = packet(alloc, &message(alloc, fields)?, most);
-    put_packet(out, fields[0] == "message", &packet)
+    tell_message(
+        alloc,
+        fields[0] == "message",
+        &message(alloc, fields)?,
+        most,
+        out,
+    )
+}
+
+fn tell_message(
+    alloc: Global,
+    whole: bool,
+    message: &Message,
+    most: u32,
+    out: &mut String,
+) -> Result<(), NoMemory> {
+    put_packet(out, whole, &packet(alloc, message, most))
 }
 
 /// Adds a packet, or how many bytes it has, or why it isn't made.
@@ -65,22 +82,28 @@ pub fn pairs_of(alloc: Global, list: &str) -> Result<HeadPairs, NoMemory> {
     Ok(pairs)
 }
 
-/// The packet of a message, which has no more headers than a message may have.
-fn packet(alloc: Global, message: &Message, most: u32) -> Result<Bytes, EncodeError> {
+/// A message has no more headers than it may have.
+fn is_short(message: &Message) -> bool
+    ensures { IsTrue result → IsMessage message.now }
+{
     match message {
         Message::Headers(parts) => {
             let _status = parts.status;
-            if parts.headers.len() > MAX_HEADERS {
-                return Err(EncodeError::TooLarge);
-            }
-            encode_reply(alloc, message, most)
+            parts.headers.len() <= MAX_HEADERS
         }
-        Message::Chunk(_) => encode_reply(alloc, message, most),
-        Message::End { .. } => encode_reply(alloc, message, most),
         Message::Ask(wanted) => {
             let _wanted = *wanted;
-            encode_reply(alloc, message, most)
+            true
         }
-        Message::Pong => encode_reply(alloc, message, most),
+        Message::Chunk(_) | Message::End { .. } | Message::Pong => true,
+    }
+}
+
+/// The packet of a message.
+fn packet(alloc: Global, message: &Message, most: u32) -> Result<Bytes, EncodeError> {
+    if is_short(message) {
+        encode_reply(alloc, message, most)
+    } else {
+        Err(EncodeError::TooLarge)
     }
 }

@@ -17,31 +17,70 @@ pub fn tell(
     way: Way,
     out: &mut String,
 ) -> Result<(), NoMemory> {
-    let to_container = fields[1] == "to container";
     match fields[0] {
-        "seal" => put_packet(out, true, &sealed(alloc, bytes, to_container)),
-        "seal-size" => put_packet(out, false, &sealed(alloc, bytes, to_container)),
-        "piece" => put_packet(out, true, &body_packet(alloc, bytes)),
-        "piece-size" => put_packet(out, false, &body_packet(alloc, bytes)),
-        "string-size" => put_packet(out, false, &string(alloc, bytes)),
+        "seal" | "seal-size" => tell_sealed(alloc, fields, bytes, out),
+        "piece" | "piece-size" => tell_piece(alloc, fields, bytes, out),
+        "string-size" => tell_string(alloc, bytes, out),
         "places" => tell_places(number(fields[1]) as usize, bytes, out),
-        "headers" => put_shown(out, &next_headers(alloc, &TABLE, false, bytes)),
+        "headers" => tell_headers(alloc, bytes, out),
         "code" => put_shown(out, &code_of(&TABLE, bytes)),
-        _ => tell_read(alloc, fields, &mut link_of(alloc, bytes, way)?, out),
+        _ => tell_line(alloc, fields, bytes, way, out),
     }
+}
+
+fn tell_line(
+    alloc: Global,
+    fields: &[&str; 8],
+    bytes: &[u8],
+    way: Way,
+    out: &mut String,
+) -> Result<(), NoMemory> {
+    tell_read(alloc, fields, &mut link_of(alloc, bytes, way)?, out)
 }
 
 /// The table of names that the rows of headers and codes go by.
 static TABLE: [&[u8]; 2] = [b"First", b"Second"];
 
+/// Whether the packet itself is asked for, and not its length alone.
+fn is_whole(fields: &[&str; 8]) -> bool {
+    !fields[0].ends_with("-size")
+}
+
 fn sealed(alloc: Global, payload: &[u8], to_container: bool) -> Result<Bytes, WireError> {
     seal(alloc, Bytes::from_slice(alloc, payload)?, to_container)
+}
+
+fn tell_sealed(
+    alloc: Global,
+    fields: &[&str; 8],
+    bytes: &[u8],
+    out: &mut String,
+) -> Result<(), NoMemory> {
+    let packet = sealed(alloc, bytes, fields[1] == "to container");
+    put_packet(out, is_whole(fields), &packet)
+}
+
+fn tell_piece(
+    alloc: Global,
+    fields: &[&str; 8],
+    bytes: &[u8],
+    out: &mut String,
+) -> Result<(), NoMemory> {
+    put_packet(out, is_whole(fields), &body_packet(alloc, bytes))
 }
 
 fn string(alloc: Global, text: &[u8]) -> Result<Bytes, WireError> {
     let mut out = Bytes::new(alloc);
     put_string(&mut out, text)?;
     Ok(out)
+}
+
+fn tell_string(alloc: Global, text: &[u8], out: &mut String) -> Result<(), NoMemory> {
+    put_packet(out, false, &string(alloc, text))
+}
+
+fn tell_headers(alloc: Global, bytes: &[u8], out: &mut String) -> Result<(), NoMemory> {
+    put_shown(out, &next_headers(alloc, &TABLE, false, bytes))
 }
 
 /// Adds a packet, or how many bytes it has, or why it isn't made.

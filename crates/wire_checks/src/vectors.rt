@@ -60,36 +60,46 @@ fn request_fits(rt: &HostRuntime, line: &str) -> Result<bool> {
     )
 }
 
-fn count_replies(rt: &HostRuntime, text: &str) -> Result<u64> {
+/// What the rows of a file are about.
+#[derive(Clone, Copy)]
+enum Payloads {
+    Replies,
+    Requests,
+}
+
+impl Payloads {
+    fn fits(self, rt: &HostRuntime, line: &str) -> Result<bool> {
+        match self {
+            Payloads::Replies => reply_fits(rt, line),
+            Payloads::Requests => request_fits(rt, line),
+        }
+    }
+}
+
+fn count(rt: &HostRuntime, payloads: Payloads, text: &str) -> Result<u64> {
     let mut rows = 0u64;
     for line in text.lines() {
-        if reply_fits(rt, line)? {
+        if payloads.fits(rt, line)? {
             rows = rows.saturating_add(1);
         }
     }
     Ok(rows)
 }
 
-fn count_requests(rt: &HostRuntime, text: &str) -> Result<u64> {
-    let mut rows = 0u64;
-    for line in text.lines() {
-        if request_fits(rt, line)? {
-            rows = rows.saturating_add(1);
-        }
-    }
-    Ok(rows)
+/// Shows each row of a file that says otherwise, and how many say what comes out.
+fn judge(rt: &HostRuntime, file: &str, payloads: Payloads, told: &str) -> Result<()> {
+    let text = fs::read_to_string(rt, file).context(format_args!("reading {file}"))?;
+    let rows = count(rt, payloads, text.as_str())?;
+    println!(rt; "{rows} {told}")?;
+    Ok(())
 }
 
 pub fn judge_replies(rt: &HostRuntime) -> Result<()> {
-    let text = fs::read_to_string(rt, "reply.txt").context("reading reply.txt")?;
-    let rows = count_replies(rt, text.as_str())?;
-    println!(rt; "{rows} payloads of the container are read as the reference says")?;
-    Ok(())
+    let told = "payloads of the container are read as the reference says";
+    judge(rt, "reply.txt", Payloads::Replies, told)
 }
 
 pub fn judge_requests(rt: &HostRuntime) -> Result<()> {
-    let text = fs::read_to_string(rt, "request.txt").context("reading request.txt")?;
-    let rows = count_requests(rt, text.as_str())?;
-    println!(rt; "{rows} rows of requests are read and written as the reference says")?;
-    Ok(())
+    let told = "rows of requests are read and written as the reference says";
+    judge(rt, "request.txt", Payloads::Requests, told)
 }

@@ -15,15 +15,34 @@ pub fn tell(
     way: Way,
     out: &mut String,
 ) -> Result<(), NoMemory> {
-    let kind = fields[0];
-    if kind == "path" {
+    if fields[0] == "path" {
         return tell_path(alloc, bytes, out);
     }
-    let client = &mut link_of(alloc, bytes, way)?;
+    tell_over(alloc, fields, bytes, way, out)
+}
+
+fn tell_over(
+    alloc: Global,
+    fields: &[&str; 8],
+    bytes: &[u8],
+    way: Way,
+    out: &mut String,
+) -> Result<(), NoMemory> {
+    tell_client(alloc, fields, &mut link_of(alloc, bytes, way)?, out)
+}
+
+fn tell_client(
+    alloc: Global,
+    fields: &[&str; 8],
+    client: &mut MemLink,
+    out: &mut String,
+) -> Result<(), NoMemory> {
+    let inbox = &mut Inbox::new(alloc)?;
+    let kind = fields[0];
     if kind.starts_with("heads") {
-        return tell_heads(alloc, number(fields[1]), client, out);
+        return tell_heads(alloc, number(fields[1]), inbox, client, out);
     }
-    tell_head(alloc, kind == "parts", client, out)
+    tell_head(alloc, kind == "parts", inbox, client, out)
 }
 
 fn tell_path(alloc: Global, raw: &[u8], out: &mut String) -> Result<(), NoMemory> {
@@ -38,40 +57,39 @@ fn tell_path(alloc: Global, raw: &[u8], out: &mut String) -> Result<(), NoMemory
 fn tell_head(
     alloc: Global,
     parts: bool,
+    inbox: &mut Inbox,
     client: &mut MemLink,
     out: &mut String,
 ) -> Result<(), NoMemory> {
-    let mut inbox = Inbox::new(alloc)?;
-    let got = read_head(alloc, &mut inbox, client);
-    put_answer(parts, &got, out)?;
+    tell_read(alloc, parts, inbox, client, out)?;
     put_faults(out, client.faults())
+}
+
+fn tell_read(
+    alloc: Global,
+    parts: bool,
+    inbox: &mut Inbox,
+    client: &mut MemLink,
+    out: &mut String,
+) -> Result<(), NoMemory> {
+    put_answer(parts, &read_head(alloc, inbox, client), out)
 }
 
 /// The answers of that many calls, and what is left in the inbox.
 fn tell_heads(
     alloc: Global,
     calls: u64,
-    client: &mut MemLink,
-    out: &mut String,
-) -> Result<(), NoMemory> {
-    let mut inbox = Inbox::new(alloc)?;
-    for _ in 0..calls {
-        read_one(alloc, &mut inbox, client, out)?;
-    }
-    put_word(out, "left")?;
-    put_bytes(out, inbox.as_slice())?;
-    put_faults(out, client.faults())
-}
-
-fn read_one(
-    alloc: Global,
     inbox: &mut Inbox,
     client: &mut MemLink,
     out: &mut String,
 ) -> Result<(), NoMemory> {
-    let got = read_head(alloc, inbox, client);
-    put_answer(false, &got, out)?;
-    put_word(out, ";")
+    for _ in 0..calls {
+        tell_read(alloc, false, inbox, client, out)?;
+        put_word(out, ";")?;
+    }
+    put_word(out, "left")?;
+    put_bytes(out, inbox.as_slice())?;
+    put_faults(out, client.faults())
 }
 
 fn put_answer(

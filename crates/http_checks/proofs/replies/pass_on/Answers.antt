@@ -4,7 +4,7 @@ use Rattle.http_out.specs.declared.reply_head.OutError.TheVariants as Out
 use Rattle.http_out.specs.Framing.{spent}
 use Rattle.http_out.specs.Writer.{Writer, IsOpen, IsChunkStep, framing_now}
 use Rattle.http_out.proofs.WriterLaws.{open-from_step}
-use Rattle.wire_checks.proofs.replies.pass_on.Goals as goal
+use Rattle.http_checks.proofs.replies.pass_on.Goals as goal
 
 -- whatever a chunk answers, the reply was not ended
 still-open : (w now : Writer) (chunk : List ℕ) (sent sent_now : Option (List ℕ)) (result : Result Unit OutError) → IsOpen w → IsChunkStep w chunk now sent sent_now result → IsOpen now

@@ -20,8 +20,17 @@ pub fn tell(
     match fields[0] {
         "own" => tell_own(number(fields[1]), out),
         "message" => put_end(out, &judged(alloc, bytes)),
-        _ => tell_reply(alloc, fields, &mut link_of(alloc, &[], way)?, out),
+        _ => tell_over(alloc, fields, way, out),
     }
+}
+
+fn tell_over(
+    alloc: Global,
+    fields: &[&str; 8],
+    way: Way,
+    out: &mut String,
+) -> Result<(), NoMemory> {
+    tell_reply(alloc, fields, &mut link_of(alloc, &[], way)?, out)
 }
 
 /// The answer to HEAD, and what more the answer to another method has.
@@ -55,8 +64,8 @@ fn put_end(out: &mut String, end: &Result<(), OutError>) -> Result<(), NoMemory>
 
 /// What a head with this message is answered.
 fn judged(alloc: Global, message: &[u8]) -> Result<(), OutError> {
-    let mut writer = ReplyWriter::new(alloc, false, false, false);
-    writer.headers(head_with(alloc, 200, message, "-")?)
+    let head = head_with(alloc, 200, message, "-")?;
+    ReplyWriter::new(alloc, false, false, false).headers(head)
 }
 
 fn head_with(
@@ -65,10 +74,11 @@ fn head_with(
     message: &[u8],
     lines: &str,
 ) -> Result<ReplyHead, NoMemory> {
+    let headers = lines_of(alloc, lines)?;
     Ok(ReplyHead {
         status,
         message: Bytes::from_slice(alloc, message)?,
-        headers: lines_of(alloc, lines)?,
+        headers,
     })
 }
 

@@ -21,14 +21,14 @@ pub fn tell(
     out: &mut String,
 ) -> Result<(), NoMemory> {
     match fields[0] {
-        "ids" => tell_ids(
-            alloc,
-            &head_of(alloc, b"GET", fields[1], "-", fields[2])?,
-            out,
-        ),
+        "ids" => tell_ids_in(alloc, fields[1], fields[2], out),
         "retry" => tell_retry(u8::try_from(number(fields[1])).unwrap_or(0), out),
         _ => tell_packet(alloc, fields, bytes, out),
     }
+}
+
+fn tell_ids_in(alloc: Global, path: &str, lines: &str, out: &mut String) -> Result<(), NoMemory> {
+    tell_ids(alloc, &head_of(alloc, b"GET", path, "-", lines)?, out)
 }
 
 fn tell_ids(alloc: Global, head: &Head, out: &mut String) -> Result<(), NoMemory> {
@@ -79,9 +79,13 @@ fn nobody(alloc: Global) -> MemberConfig {
 
 fn member(alloc: Global, route: &[u8]) -> Result<MemberConfig, NoMemory> {
     let mut member = nobody(alloc);
-    member.name.extend(route)?;
-    member.route.extend(route)?;
+    put_names(&mut member, route)?;
     Ok(member)
+}
+
+fn put_names(member: &mut MemberConfig, route: &[u8]) -> Result<(), NoMemory> {
+    member.name.extend(route)?;
+    member.route.extend(route)
 }
 
 /// A head of HTTP/1.1 for localhost, with this path as it is and clean.
@@ -93,11 +97,21 @@ fn head_of(
     lines: &str,
 ) -> Result<Head, NoMemory> {
     let mut head = head_with(alloc, lines_of(alloc, lines)?);
+    put_first_line(alloc, &mut head, method, path, query)?;
+    Ok(head)
+}
+
+fn put_first_line(
+    alloc: Global,
+    head: &mut Head,
+    method: &[u8],
+    path: &str,
+    query: &str,
+) -> Result<(), NoMemory> {
     head.method.extend(method)?;
     head.server.extend(b"localhost")?;
-    put_path(&mut head, bytes_of(alloc, path)?.as_slice())?;
-    put_query(alloc, &mut head, query)?;
-    Ok(head)
+    put_path(head, bytes_of(alloc, path)?.as_slice())?;
+    put_query(alloc, head, query)
 }
 
 fn head_with(alloc: Global, headers: HeadLines) -> Head {
@@ -155,8 +169,13 @@ fn tell_packet(
     secret: &[u8],
     out: &mut String,
 ) -> Result<(), NoMemory> {
-    let head = head_of(alloc, fields[2].as_bytes(), "/", fields[3], fields[4])?;
-    tell_packet_of(alloc, fields[1] == "direct", &head, secret, out)
+    tell_packet_of(
+        alloc,
+        fields[1] == "direct",
+        &head_of(alloc, fields[2].as_bytes(), "/", fields[3], fields[4])?,
+        secret,
+        out,
+    )
 }
 
 fn tell_packet_of(
@@ -222,9 +241,14 @@ fn open_endpoint(alloc: Global) -> Endpoint {
 /// How the member is reached, with a secret or, by `-`, without one.
 fn endpoint(alloc: Global, secret: &[u8]) -> Result<Endpoint, NoMemory> {
     let mut endpoint = open_endpoint(alloc);
+    put_secret(alloc, &mut endpoint, secret)?;
+    Ok(endpoint)
+}
+
+fn put_secret(alloc: Global, endpoint: &mut Endpoint, secret: &[u8]) -> Result<(), NoMemory> {
     endpoint.host.extend(b"localhost")?;
     if secret != b"-".as_slice() {
         endpoint.secret = Some(Bytes::from_slice(alloc, secret)?);
     }
-    Ok(endpoint)
+    Ok(())
 }

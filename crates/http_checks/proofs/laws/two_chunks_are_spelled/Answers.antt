@@ -1,6 +1,6 @@
 use Rattle.std.proofs.Common.{◌≡◌, ◌≤◌, ◌<◌, List, [], ◌∷◌, ◌++◌, Option, Some, None, refl, arith, codes}
 use Rattle.http_body_in.specs.Chunked.{Chunk, IsChunk, IsSize, ChunkedBody, IsChunkedBody}
-use Rattle.wire_checks.proofs.laws.two_chunks_are_spelled.Goals as goal
+use Rattle.http_checks.proofs.laws.two_chunks_are_spelled.Goals as goal
 
 pub returns : goal.returns
 returns c = (

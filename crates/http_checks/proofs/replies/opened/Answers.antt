@@ -3,7 +3,7 @@ use Rattle.http_out.specs.declared.framing.RequestKind.{RequestKind}
 use Rattle.http_out.specs.declared.reply_head.ReplyHead.{ReplyHead}
 use Rattle.http_out.specs.Framing.{framing_of}
 use Rattle.http_out.specs.Writer.{Writer, IsOpen, new_writer, after_head}
-use Rattle.wire_checks.proofs.replies.opened.Goals as goal
+use Rattle.http_checks.proofs.replies.opened.Goals as goal
 
 -- a new writer's reply is open once a head was taken
 open-from_head : (kind : RequestKind) (h : ReplyHead) (w now : Writer) → w ≡ new_writer kind → now ≡ after_head w h → IsOpen now

@@ -18,14 +18,17 @@ pub fn tell(
     way: Way,
     out: &mut String,
 ) -> Result<(), NoMemory> {
+    tell_client(alloc, fields, &mut link_of(alloc, bytes, way)?, out)
+}
+
+fn tell_client(
+    alloc: Global,
+    fields: &[&str; 8],
+    client: &mut MemLink,
+    out: &mut String,
+) -> Result<(), NoMemory> {
     let body = &mut BodyIn::new(plan_of(fields[1]), most_of(fields[2]));
-    do_acts(
-        alloc,
-        fields[3],
-        body,
-        &mut link_of(alloc, bytes, way)?,
-        out,
-    )
+    do_acts(alloc, fields[3], body, &mut Inbox::new(alloc)?, client, out)
 }
 
 /// How a body is framed: `none`, `chunked`, or its length.
@@ -48,12 +51,12 @@ fn do_acts(
     alloc: Global,
     acts: &str,
     body: &mut BodyIn,
+    inbox: &mut Inbox,
     client: &mut MemLink,
     out: &mut String,
 ) -> Result<(), NoMemory> {
-    let mut inbox = Inbox::new(alloc)?;
     for act in acts.split(' ') {
-        do_act(alloc, act, body, &mut inbox, client, out)?;
+        do_act(alloc, act, body, inbox, client, out)?;
     }
     put_faults(out, client.faults())
 }
