@@ -53,12 +53,7 @@ where
             journal,
             ..
         } => {
-            let asked = Asked {
-                address,
-                threads: *threads,
-                clients: *clients,
-                journal: journal.as_ref(),
-            };
+            let asked = Asked::new(address, *threads, *clients, journal.as_ref());
             let order = ServeOrder {
                 workers,
                 map,
@@ -72,12 +67,7 @@ where
             threads,
             clients,
         } => {
-            let asked = Asked {
-                address,
-                threads: *threads,
-                clients: *clients,
-                journal: None,
-            };
+            let asked = Asked::new(address, *threads, *clients, None);
             container(rt, alloc, route, asked, world)
         }
         Order::Drill {
@@ -87,13 +77,7 @@ where
             text,
             passes,
         } => {
-            let order = DrillOrder {
-                seed: *seed,
-                threads: *threads,
-                requests: *requests as u32,
-                text: *text,
-                passes: *passes,
-            };
+            let order = DrillOrder::new(*seed, *threads, *requests as u32, *text, *passes);
             do_drill(rt, alloc, order, out)
         }
         _ => unreachable!(),

@@ -19,6 +19,26 @@ pub(crate) struct DrillOrder {
     pub(crate) passes: bool,
 }
 
+impl DrillOrder {
+    pub(crate) fn new(
+        seed: u64,
+        threads: u32,
+        requests: u32,
+        text: bool,
+        passes: bool,
+    ) -> DrillOrder
+        ensures { result ≡ record { seed = seed; threads = threads; requests = requests; text = text; passes = passes } }
+    {
+        DrillOrder {
+            seed,
+            threads,
+            requests,
+            text,
+            passes,
+        }
+    }
+}
+
 /// Writes what a drill hands out.
 fn put_text<O: Sink>(out: &mut O, text: &[u8]) -> JkdEnd
     ensures { Writes 0 (O.sent out.old) (O.sent out.new) (O.faults out.old) (O.faults out.new) text.now result }

@@ -30,6 +30,24 @@ pub(crate) struct Asked<'a> {
     pub(crate) journal: Option<&'a Bytes>,
 }
 
+impl<'a> Asked<'a> {
+    pub(crate) fn new(
+        address: &'a Bytes,
+        threads: u32,
+        clients: Option<u64>,
+        journal: Option<&'a Bytes>,
+    ) -> Asked<'a>
+        ensures { (result.threads ≡ threads) × (result.clients ≡ clients) × (result.journal ≡ journal.entry) }
+    {
+        Asked {
+            address,
+            threads,
+            clients,
+            journal,
+        }
+    }
+}
+
 /// Takes a gear for each worker. Where one is refused, those before it are given back.
 pub(crate) fn take_gears<W: World>(
     alloc: Global,
