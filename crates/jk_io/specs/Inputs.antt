@@ -9,6 +9,10 @@ pub record HasRead (incoming received : Option (List ℕ)) (bytes : List ℕ) (i
   pub gave : incoming ≡ prepended bytes incoming_now
   pub got : received_now ≡ appended received bytes
 
+-- these bytes, no more and no fewer, were read of a source, by what its type tells: `Gave S.incoming S.received before bytes after`
+abbrev pub Gave : {S : Type 0} → (S → Option (List ℕ)) → (S → Option (List ℕ)) → S → List ℕ → S → Type 0
+Gave incoming received before bytes after = HasRead (incoming before) (received before) bytes (incoming after) (received after)
+
 -- a chunk was added to the text; true says that there may be more
 pub record AddsChunk (most : ℕ) (text more now : List ℕ) (result : Result Bool FileError) : Type 0 where
   pub added : OnOk result (now ≡ text ++ more)

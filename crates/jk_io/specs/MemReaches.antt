@@ -1,8 +1,9 @@
 -- What contracts see of a reach in memory, and which of its links a talk gets.
-use Rattle.std.specs.Prelude.{◌≡◌, ℕ, ◌+◌, ◌<◌, List, [], length, All, Bool, true, false, ◌==◌, ◌&&◌}
+use Rattle.std.specs.Prelude.{◌≡◌, ℕ, ◌+◌, ◌<◌, List, [], length, All, Some, Bool, true, false, ◌==◌, ◌&&◌}
 use Rattle.std.specs.List.{HoldsAt, AllWithin, remove}
 use Rattle.jk_io.specs.Memory.{MemLinkState, NeverFails, DialledNext}
 use Rattle.jk_io.specs.TalkBooks.{TalkBookState}
+use Rattle.jk_io.specs.Talks.{begun_with}
 use Rattle.jk_io.specs.declared.memory.member_link.MemberLink.{MemberLink}
 
 -- the links to come; those that were kept, in order; the running talk's link, or an empty one; the talks; the number
@@ -45,6 +46,11 @@ pub record GivesLink (lb member : ℕ) (fresh dialled : Bool) (before after : Me
   pub kept : dialled ≡ false → (fresh ≡ false) × TakesLast lb member before.kept after.running after.kept × (after.links ≡ before.links)
   pub next : dialled ≡ true → DialledNext before.links after.running.link after.links × (after.kept ≡ before.kept)
   pub none : dialled ≡ true → fresh ≡ false → HasNoneOf lb member before.kept
+
+-- a begin noted the talk that runs over the link that it gave, and left the rest of the book as it was
+abbrev pub NotesBegin : ℕ → ℕ → List ℕ → ℕ → Bool → Bool → MemReachState → MemReachState → Type 0
+NotesBegin lb member host port fresh dialled before after =
+    after.book ≡ record before.book { begun = Some (begun_with lb member host port fresh dialled (Some after.running.link.incoming)) }
 
 -- a call within a talk leaves all but the talk and its link as it was
 pub record StaysInTalk (before after : MemReachState) : Type 0 where

@@ -1,7 +1,7 @@
 //! Inputs that are read to their end.
 ghost use Rattle.std.specs.Prelude.{◌≡◌, ℕ, ◌<◌, ◌≤◌, List, length, IsOk, IfOk, IsErrOf, OnOk, OnErr, true, false};
 ghost use Rattle.jk_io.specs.Told.{IsEmpty, Rose};
-ghost use Rattle.jk_io.specs.Inputs.{HasRead, AddsChunk};
+ghost use Rattle.jk_io.specs.Inputs.{Gave, AddsChunk};
 
 use crate::byte_list::Bytes;
 use crate::failures::{FileError, NoMemory};
@@ -16,12 +16,12 @@ const CHUNK_BYTES: usize = 65_536;
 
 /// Reads a source to its end.
 pub fn read_whole<S: Source>(alloc: Global, source: &mut S) -> Result<Bytes, FileError>
-    ensures whole { IfOk result (λ bytes. HasRead (S.incoming source.old) (S.received source.old) bytes (S.incoming source.new) (S.received source.new)) }
+    ensures whole { IfOk result (λ bytes. Gave S.incoming S.received source.old bytes source.new) }
     ensures ended { OnOk result (IsEmpty (S.incoming source.new)) }
     ensures short { IfOk result (λ bytes. length bytes ≤ MAX_INPUT_BYTES) }
 
     // A refusal has read a part, and TooLong more than may be.
-    ensures part { OnErr result ((bytes : List ℕ) × HasRead (S.incoming source.old) (S.received source.old) bytes (S.incoming source.new) (S.received source.new)
+    ensures part { OnErr result ((bytes : List ℕ) × Gave S.incoming S.received source.old bytes source.new
         × (IsErrOf result FileError.TooLong → MAX_INPUT_BYTES < length bytes)) }
     ensures failed { IsErrOf result FileError.Failed → Rose (S.faults source.old) (S.faults source.new) }
     ensures no_fewer { S.faults source.old ≤ S.faults source.new }
@@ -46,7 +46,7 @@ fn read_chunk<S: Source>(
     text: &mut Bytes,
 ) -> Result<bool, FileError>
     requires { 0 < length chunk.old }
-    ensures read { (more : List ℕ) × HasRead (S.incoming source.old) (S.received source.old) more (S.incoming source.new) (S.received source.new)
+    ensures read { (more : List ℕ) × Gave S.incoming S.received source.old more source.new
         × AddsChunk MAX_INPUT_BYTES text.old more text.new result }
     ensures ended { result ≡ Ok false → IsEmpty (S.incoming source.new) }
     ensures failed { IsErrOf result FileError.Failed → Rose (S.faults source.old) (S.faults source.new) }

@@ -5,7 +5,7 @@ ghost use Rattle.jk_io.specs.Told.{HasCause};
 ghost use Rattle.jk_io.specs.Talks.{begun_with, failed_talk, talk_of};
 ghost use Rattle.jk_io.specs.Memory.{ReadIsToFail, WriteIsToFail, DialledNext, counted, next_incoming};
 ghost use Rattle.jk_io.specs.Memory as nothing;
-ghost use Rattle.jk_io.specs.MemReaches.{IsLastOf, HasNoneOf, GivesLink, StaysInTalk};
+ghost use Rattle.jk_io.specs.MemReaches.{IsLastOf, HasNoneOf, GivesLink, NotesBegin, StaysInTalk};
 
 use crate::byte_list::Bytes;
 use crate::failures::{IoError, NoMemory};
@@ -226,9 +226,8 @@ impl MemReach {
         requires within { place < length self.old.kept }
         ensures taken { OnOk result (HoldsAt (λ link. link ≡ self.new.running) self.old.kept place) }
         ensures left { OnOk result (self.new.kept ≡ remove self.old.kept place) }
-        ensures begun { let a = asked.entry in OnOk result (self.new.book ≡ record self.old.book {
-          begun = Some (begun_with a.lb a.member a.host.now a.port a.fresh false (Some self.new.running.link.incoming));
-        }) }
+        ensures begun { let a = asked.entry in
+            OnOk result (NotesBegin a.lb a.member a.host.now a.port a.fresh false self.old self.new) }
         ensures err { OnErr result (self.new ≡ self.old) }
         ensures same { self.new ≡ record self.old { kept = self.new.kept; running = self.new.running; book = self.new.book } }
     {
@@ -243,9 +242,8 @@ impl MemReach {
         ensures new_link { IfOk result (λ dialled. dialled ≡ true) }
         ensures next { OnOk result (DialledNext self.old.links self.new.running.link self.new.links) }
         ensures whose { OnOk result ((self.new.running.lb ≡ asked.entry.lb) × (self.new.running.member ≡ asked.entry.member)) }
-        ensures begun { let a = asked.entry in OnOk result (self.new.book ≡ record self.old.book {
-          begun = Some (begun_with a.lb a.member a.host.now a.port a.fresh true (Some self.new.running.link.incoming));
-        }) }
+        ensures begun { let a = asked.entry in
+            OnOk result (NotesBegin a.lb a.member a.host.now a.port a.fresh true self.old self.new) }
         ensures err { OnErr result (self.new ≡ self.old) }
         ensures same { self.new ≡ record self.old { links = self.new.links; running = self.new.running; book = self.new.book } }
     {
@@ -260,9 +258,8 @@ impl MemReach {
         requires idle { self.old.book.begun ≡ None }
         ensures new_link { IfOk result (λ dialled. asked.entry.fresh ≡ true → dialled ≡ true) }
         ensures given { IfOk result (λ dialled. GivesLink asked.entry.lb asked.entry.member asked.entry.fresh dialled self.old self.new) }
-        ensures begun { let a = asked.entry in IfOk result (λ dialled. self.new.book ≡ record self.old.book {
-          begun = Some (begun_with a.lb a.member a.host.now a.port a.fresh dialled (Some self.new.running.link.incoming));
-        }) }
+        ensures begun { let a = asked.entry in
+            IfOk result (λ dialled. NotesBegin a.lb a.member a.host.now a.port a.fresh dialled self.old self.new) }
         ensures err { OnErr result (self.new ≡ self.old) }
         ensures same { (self.new.sizes ≡ self.old.sizes) × (self.new.failing ≡ self.old.failing)
             × (self.new.calls ≡ self.old.calls) × (self.new.faults ≡ self.old.faults) }

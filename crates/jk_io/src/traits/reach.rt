@@ -9,7 +9,7 @@ use std::alloc::Global;
 pub trait Reach: Link + Meanings<Beside = Beside> {
     ghost use Rattle.std.specs.Prelude.{◌≡◌, ◌<◌, [], ◌∷◌, true, false, IfSome, IsOk, IfOk, OnOk, IsErrOf, is_ok, slice_index};
     ghost use Rattle.jk_io.specs.Told.{appended, IsEmpty, HasCause};
-    ghost use Rattle.jk_io.specs.Talks.{failed_talk, IsNoteOf};
+    ghost use Rattle.jk_io.specs.Talks.{begun_with, failed_talk, IsNoteOf};
     ghost use Rattle.jk_io.specs.declared.reaching.Talk.{Talk};
 
     /// Begins a talk with a member, and answers whether its link is new.
@@ -27,15 +27,8 @@ pub trait Reach: Link + Meanings<Beside = Beside> {
 
         ensures runs { (Self.beside self.new).runs ≡ is_ok result }
         ensures new_link { IfOk result (λ dialled. fresh ≡ true → dialled ≡ true) }
-        ensures begun { IfOk result (λ dialled. IfSome (Self.beside self.new).begun (λ b. b ≡ record {
-          lb = lb;
-          member = member;
-          host = host.now;
-          port = port;
-          fresh = fresh;
-          dialled = dialled;
-          came = Self.incoming self.new;
-        })) }
+        ensures begun { IfOk result (λ dialled. IfSome (Self.beside self.new).begun
+            (λ b. b ≡ begun_with lb member host.now port fresh dialled (Self.incoming self.new))) }
         ensures nothing_yet { IsEmpty (Self.sent self.new) × IsEmpty (Self.received self.new) }
 
         // A begin that failed is a talk, one that wanted memory is none.
@@ -54,8 +47,9 @@ pub trait Reach: Link + Meanings<Beside = Beside> {
         ensures nothing_left { IsEmpty (Self.sent self.new) × IsEmpty (Self.received self.new) }
 
         // Where the talks are told, one note alone says what is told of this one.
-        ensures noted { (note : Talk) → IsNoteOf (Self.beside self.old).begun (Self.sent self.old) (Self.received self.old) keep note
-            → (Self.beside self.new).talks ≡ appended (Self.beside self.old).talks (note ∷ []) }
+        ensures noted { let b = Self.beside self.old in
+            (note : Talk) → IsNoteOf b.begun (Self.sent self.old) (Self.received self.old) keep note
+            → (Self.beside self.new).talks ≡ appended b.talks (note ∷ []) }
         ensures same_sizes { (Self.beside self.new).sizes ≡ (Self.beside self.old).sizes }
         ensures same_faults { Self.faults self.new ≡ Self.faults self.old };
 
