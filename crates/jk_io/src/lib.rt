@@ -29,8 +29,8 @@ pub use decimals::{parse_decimal, put_decimal, trim};
 pub use failures::{FileError, IoError, NoMemory};
 pub use list_of::{ListOf, NumberList, SizeList, SizeTable};
 pub use memory::{
-    ClientList, FileList, Gate, GateLink, LinkPlan, MemDial, MemDoor, MemFiles, MemLink,
-    MemLinkList, MemReach, StepClock, TalkBook, Turn,
+    ClientList, FileList, GATE_PLACES, Gate, GateLink, LinkPlan, MemDial, MemDoor, MemFiles,
+    MemLink, MemLinkList, MemReach, StepClock, TalkBook, Turn,
 };
 pub use reaching::{Begun, Beside, Talk, TalkList};
 pub use reading::{Filled, Stop, fill};

@@ -11,7 +11,7 @@ pub(crate) mod mem_reach;
 pub(crate) mod member_link;
 pub(crate) mod talk_book;
 
-pub use gate::{Gate, GateLink, Turn};
+pub use gate::{GATE_PLACES, Gate, GateLink, Turn};
 pub use link_plan::LinkPlan;
 pub use mem_clock::StepClock;
 pub use mem_dial::{MemDial, MemLinkList};

@@ -1,5 +1,6 @@
 //! A gate with numbered places, and a fake link that waits at one or raises one.
 ghost use Rattle.std.specs.Prelude.{◌≡◌, ◌<◌, false};
+ghost use Rattle.jk_io.specs.declared.memory.gate.TheConstants.{GATE_PLACES};
 
 use crate::failures::IoError;
 use crate::traits::streams::{Link, Meanings, Sink, Source};
@@ -10,7 +11,10 @@ use std::time::{Clock, Duration};
 /// How often a waiting read looks, a millisecond apart, before it fails.
 const MAX_LOOKS: u32 = 10_000;
 
-/// Places from 0 to 63 that one thread raises and others look at.
+/// How many places a gate has, numbered from 0.
+pub const GATE_PLACES: u32 = 64;
+
+/// Places that one thread raises and others look at.
 #[derive(Drop)]
 pub struct Gate<'r, R> {
     rt: &'r R,
@@ -29,14 +33,14 @@ impl<'r, R> Gate<'r, R> {
 
 impl<'r, R: Wait> Gate<'r, R> {
     pub fn raise(&self, place: u32)
-        requires { place < 64 }
+        requires { place < GATE_PLACES }
     {
         let mut raised = self.raised.lock(self.rt);
         *raised |= 1 << place;
     }
 
     pub fn is_raised(&self, place: u32) -> bool
-        requires { place < 64 }
+        requires { place < GATE_PLACES }
     {
         let raised = self.raised.lock(self.rt);
         *raised >> place & 1 == 1
@@ -61,12 +65,12 @@ pub struct GateLink<'g, 'r, L: Link + Drop, R> {
     turn: Turn,
     wrote: bool,
     failed: u64,
-    ghost known: { place < 64 },
+    ghost known: { place < GATE_PLACES },
 }
 
 impl<'g, 'r, L: Link + Drop, R> GateLink<'g, 'r, L, R> {
     pub fn new(link: L, gate: &'g Gate<'r, R>, place: u32, turn: Turn) -> GateLink<'g, 'r, L, R>
-        requires { place < 64 }
+        requires { place < GATE_PLACES }
         ensures link { (result.link ≡ link) × (result.failed ≡ 0) }
         ensures turn { (result.place ≡ place) × (result.turn ≡ turn) × (result.wrote ≡ false) }
     {
@@ -122,7 +126,7 @@ impl<'g, 'r, L: Link + Drop, R: Wait + Clock> Source for GateLink<'g, 'r, L, R> 
 
 // Waits for a place, and says whether it was raised in time.
 fn waits<R: Wait + Clock>(gate: &Gate<'_, R>, place: u32) -> bool
-    requires { place < 64 }
+    requires { place < GATE_PLACES }
 {
     for _ in 0..MAX_LOOKS {
         if gate.is_raised(place) {
