@@ -1,5 +1,5 @@
 //! Buffers that are filled from a source.
-ghost use Rattle.std.specs.Prelude.{◌≡◌, ◌≤◌, ◌↔◌, ◌⊎◌, length, take};
+ghost use Rattle.std.specs.Prelude.{◌≡◌, ◌≢◌, ◌≤◌, ◌↔◌, ◌⊎◌, length, take};
 ghost use Rattle.jk_io.specs.Told.{appended, prepended, IsEmpty, Rose};
 
 use crate::failures::IoError;
@@ -46,18 +46,25 @@ pub fn fill<S: Source>(source: &mut S, buf: &mut [u8]) -> Filled
                 stop: Stop::End,
             },
             Ok(more) => count += more,
-            Err(IoError::Failed) => return Filled {
+            Err(error) => return Filled {
                 count,
-                stop: Stop::Fault,
-            },
-            Err(IoError::NoMemory) => return Filled {
-                count,
-                stop: Stop::NoMemory,
+                stop: stop_of(error),
             },
         }
     }
     Filled {
         count,
         stop: Stop::Full,
+    }
+}
+
+// Why a read that is refused stops a filling.
+fn stop_of(error: IoError) -> Stop
+    ensures fault { result ≡ Stop.Fault → error ≡ IoError.Failed }
+    ensures refused { (result ≢ Stop.Full) × (result ≢ Stop.End) }
+{
+    match error {
+        IoError::Failed => Stop::Fault,
+        IoError::NoMemory => Stop::NoMemory,
     }
 }
