@@ -1,5 +1,6 @@
 -- The next client is the one that came first, and one link more may be left.
-use Rattle.std.proofs.Common.{◌≡◌, ◌+◌, [], ◌∷◌, reverse, IfSome, IfNone, subst, arith}
+use Rattle.std.proofs.Common.{◌≡◌, ◌+◌, ◌<◌, ◌≤◌, ℕ, List, [], ◌∷◌, length, reverse, IfSome, IfNone, Contains, refl, subst, arith}
+use Rattle.jk_io.specs.Told.{Rose}
 use Rattle.jk_io.specs.MemDoors.{MemDoorState}
 use Rattle.jk_io.proofs.memory.mem_door.MemDoorDoor.accept.Goals as goal
 
@@ -21,3 +22,37 @@ returns-clause-closed g c =
 pub returns-clause-no_more : goal.returns-clause-no_more
 returns-clause-no_more g c =
     subst (λ (d : MemDoorState _). IfNone c.next_client.result (c.next_client.new.out ≡ d.room)) c.self.view_is c.next_client.ensures.no_more
+
+-- where no accept is to fail, none of them is this one
+none_planned : (failing : List ℕ) (n : ℕ) → failing ≡ [] → Contains failing n → ⊥
+none_planned failing n none planned =
+    let within : planned.0 < 0 = subst (λ (xs : List ℕ). planned.0 < length xs) none planned.1 in
+    omega (arith, within)
+
+pub returns-then-fails-clause-planned : goal.returns-then-fails-clause-planned
+returns-then-fails-clause-planned g c = (
+  λ _. subst (λ (d : MemDoorState _). Contains d.failing d.calls) c.self.view_is (c.fails.ensures.planned.0 c.if-fails.true),
+  λ _. refl,
+)
+
+pub returns-then-fails-clause-cause : goal.returns-then-fails-clause-cause
+returns-then-fails-clause-cause g c = record {
+  no_fewer = subst (λ (d : MemDoorState _). d.faults ≤ c.fails.new.self.failed) c.self.view_is c.fails.ensures.no_fewer;
+  failed = λ _. subst (λ (d : MemDoorState _). Rose d.faults c.fails.new.self.failed) c.self.view_is (c.fails.ensures.rose c.if-fails.true);
+}
+
+pub returns-then-fails-clause-steady : goal.returns-then-fails-clause-steady
+returns-then-fails-clause-steady g c = λ none. absurd (none_planned _ _ none
+    (subst (λ (d : MemDoorState _). Contains d.failing d.calls) c.self.view_is (c.fails.ensures.planned.0 c.if-fails.true)))
+
+pub returns-in_err-reserve-clause-steady : goal.returns-in_err-reserve-clause-steady
+returns-in_err-reserve-clause-steady g c =
+    λ _. subst (λ (d : MemDoorState _). c.fails.new.self.failed ≡ d.faults) c.self.view_is (c.fails.ensures.same c.if-fails.false)
+
+pub returns-clause-steady : goal.returns-clause-steady
+returns-clause-steady g c =
+    λ _. subst (λ (d : MemDoorState _). c.fails.new.self.failed ≡ d.faults) c.self.view_is (c.fails.ensures.same c.if-fails.false)
+
+pub returns-clause-clean : goal.returns-clause-clean
+returns-clause-clean g c =
+    λ _. subst (λ (d : MemDoorState _). c.fails.new.self.failed ≡ d.faults) c.self.view_is (c.fails.ensures.same c.if-fails.false)
