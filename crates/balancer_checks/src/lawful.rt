@@ -14,7 +14,7 @@ use jk_model::laws::{
     ticket_begins, ticket_ends,
 };
 use jk_model::{
-    AdminError, Answer, Ask, Command, Entry, FullMark, Method, Outcome, RoomError, Segment, Stray,
+    AdminError, Ask, Command, Entry, FullMark, Method, Outcome, RoomError, Segment, Stray,
 };
 
 /// Selects. A choice is a good one, and begins its ticket.
@@ -32,19 +32,10 @@ fn cite_choice(before: &Segment, ask: &Ask, entry: &Entry)
     requires pick { IsPick before.now.rules before.now.opening (reverse before.now.entries) ask.now entry.now.answer }
     requires legal { IsLegalPast before.now.rules before.now.opening (entry.now ∷ reverse before.now.entries) }
 {
-    let Answer::Chosen {
-        member,
-        ticket,
-        how,
-        probe,
-    } = entry.answer
-    else {
-        return;
-    };
     let past = before.entries.as_slice();
     let (rules, opening) = (before.rules, &before.opening);
-    choice_is_good(rules, opening, past, ask, member, ticket, how, probe);
-    ticket_begins(rules, opening, past, entry, member, ticket, how, probe);
+    choice_is_good(rules, opening, past, ask, entry.answer);
+    ticket_begins(rules, opening, past, entry);
 }
 
 /// Returns a ticket, which then is out no longer.

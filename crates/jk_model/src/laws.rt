@@ -1,7 +1,7 @@
 //! What the definitions mean, as functions without a body whose contracts are laws.
 //!
 //! A past is written oldest first, as a journal keeps it. `rules` is 1 or 2.
-ghost use Rattle.std.specs.Prelude.{◌≡◌, ℕ, ◌+◌, ◌<◌, ◌≤◌, ◌==◌, ◌&&◌, ◌^◌, length, true, false, ◌∷◌, ◌++◌, reverse, sum_by};
+ghost use Rattle.std.specs.Prelude.{◌≡◌, ℕ, Bool, ◌+◌, ◌<◌, ◌≤◌, ◌==◌, ◌&&◌, ◌^◌, length, true, false, ◌∷◌, ◌++◌, reverse, sum_by};
 ghost use Rattle.std.specs.List.{list_any};
 ghost use Rattle.jk_model.specs.Choice.{IsPick};
 ghost use Rattle.jk_model.specs.Journal.{members, next_of};
@@ -21,35 +21,19 @@ use crate::state::MemberState;
 
 /// A sticky or redirected choice serves; a balanced one is the least of the usable members, or of the revived ones.
 /// A member in Probe is never chosen, one in Error only where no member is usable.
-pub fn choice_is_good(
-    rules: u8,
-    opening: &Opening,
-    past: &[Entry],
-    ask: &Ask,
-    member: u32,
-    ticket: u64,
-    how: How,
-    probe: bool,
-)
-    requires { IsPick rules opening.now (reverse past.now) ask.now (Answer.Chosen member ticket how probe) }
-    ensures good { IsGoodChoice rules opening.now (reverse past.now) ask.now how member }
-    ensures state { MayBeChosen rules opening.now (reverse past.now) ask.now (state_of rules opening.now (reverse past.now) member) }
+pub fn choice_is_good(rules: u8, opening: &Opening, past: &[Entry], ask: &Ask, answer: Answer)
+    requires { IsPick rules opening.now (reverse past.now) ask.now answer }
+    ensures good { (m t : ℕ) (how : How) (p : Bool) → answer ≡ Answer.Chosen m t how p
+        → IsGoodChoice rules opening.now (reverse past.now) ask.now how m }
+    ensures state { (m t : ℕ) (how : How) (p : Bool) → answer ≡ Answer.Chosen m t how p
+        → MayBeChosen rules opening.now (reverse past.now) ask.now (state_of rules opening.now (reverse past.now) m) }
 {}
 
 /// A ticket is out from the entry that makes it on.
-pub fn ticket_begins(
-    rules: u8,
-    opening: &Opening,
-    past: &[Entry],
-    entry: &Entry,
-    member: u32,
-    ticket: u64,
-    how: How,
-    probe: bool,
-)
-    requires legal { IsLegalPast rules opening.now (entry.now ∷ reverse past.now) }
-    requires chosen { entry.now.answer ≡ Answer.Chosen member ticket how probe }
-    ensures { BeginsTicket opening.now (reverse past.now) entry.now member }
+pub fn ticket_begins(rules: u8, opening: &Opening, past: &[Entry], entry: &Entry)
+    requires { IsLegalPast rules opening.now (entry.now ∷ reverse past.now) }
+    ensures { (m t : ℕ) (how : How) (p : Bool) → entry.now.answer ≡ Answer.Chosen m t how p
+        → BeginsTicket opening.now (reverse past.now) entry.now m }
 {}
 
 /// It stays out through every entry that doesn't return it, and after its Return it is never out again.
