@@ -49,25 +49,37 @@ abbrev pub routed : (serving : ℕ → Bool) (redirect : ℕ → Option ℕ) →
 routed serving redirect None = None
 routed serving redirect (Some m) = if serving m then Some (m, how.Sticky) else redirected serving (redirect m)
 
-abbrev pub routed_choice : (v : ℕ) → Opening → List Entry → Ask → Option (ℕ × How)
-routed_choice v o p ask = routed (λ m. serves v o p ask m) (λ m. redirect_of o p m) (routed_member o ask)
+-- What a choice looks at of the members: how many there are, and of each whether it serves the ask, is usable for it or
+-- may be revived, its redirect, its distance, its load and its state.
+pub record Seen : Type 0 where
+  pub count : ℕ
+  pub serves : ℕ → Bool
+  pub usable : ℕ → Bool
+  pub revivable : ℕ → Bool
+  pub redirect : ℕ → Option ℕ
+  pub distance : ℕ → ℕ
+  pub load : ℕ → ℕ
+  pub state : ℕ → MemberState
+
+-- Step 1, where the ask is routed to the member `home`.
+abbrev pub routed_in : Seen → (home : Option ℕ) → Option (ℕ × How)
+routed_in s home = routed s.serves s.redirect home
 
 -- Step 1 refuses: force is on, and neither the session's member nor its redirect serves.
-abbrev pub is_forced : (v : ℕ) → Opening → List Entry → Ask → Bool
-is_forced v o p ask = o.config.force && (is_some (routed_member o ask) && is_none (routed_choice v o p ask))
+abbrev pub is_forced_in : Seen → (home : Option ℕ) → (force : Bool) → Bool
+is_forced_in s home force = force && (is_some home && is_none (routed_in s home))
 
 -- Step 1 gives no answer.
-pub record IsOpen (v : ℕ) (o : Opening) (p : List Entry) (ask : Ask) : Type 0 where
-  pub not_routed : routed_choice v o p ask ≡ None
-  pub not_forced : is_forced v o p ask ≡ false
+pub record IsOpenIn (s : Seen) (home : Option ℕ) (force : Bool) : Type 0 where
+  pub not_routed : routed_in s home ≡ None
+  pub not_forced : is_forced_in s home force ≡ false
 
-abbrev pub any_usable : (v : ℕ) → Opening → List Entry → Ask → Bool
-any_usable v o p ask = any_of (members o) (λ j. is_usable v o p ask j)
+abbrev pub any_usable_in : Seen → Bool
+any_usable_in s = any_of s.count s.usable
 
 -- Steps 2 and 3: the usable members; where there is none, under rules 2, the revivable ones.
-abbrev pub is_candidate : (v : ℕ) → Opening → List Entry → Ask → (m : ℕ) → Bool
-is_candidate v o p ask m =
-    if any_usable v o p ask then is_usable v o p ask m else (v == 2) && is_revivable v o p ask m
+abbrev pub is_candidate_in : (v : ℕ) → Seen → (m : ℕ) → Bool
+is_candidate_in v s m = if any_usable_in s then s.usable m else (v == 2) && s.revivable m
 
 -- The place of member m of n in the cyclic order that begins with the member `begin`.
 abbrev pub place_from : (n begin m : ℕ) → ℕ
@@ -78,17 +90,16 @@ abbrev pub begin_after : Option ℕ → ℕ
 begin_after None = 0
 begin_after (Some m) = m + 1
 
-abbrev pub place_of : Opening → List Entry → ℕ → ℕ
-place_of o p m = place_from (members o) (begin_after (last_chosen o p)) m
+abbrev pub place_in : Seen → (last : Option ℕ) → ℕ → ℕ
+place_in s last m = place_from s.count (begin_after last) m
 
 -- The smaller distance comes first; of equal ones the smaller load; of equal ones the earlier place.
 abbrev pub is_before_by : (distance load place distance' load' place' : ℕ) → Bool
 is_before_by d l t d' l' t' = nat_lt d d' || ((d == d') && (nat_lt l l' || ((l == l') && nat_lt t t')))
 
-abbrev pub is_before : (v : ℕ) → Opening → List Entry → ℕ → ℕ → Bool
-is_before v o p j m =
-    is_before_by (distance_of o p j) (load_of v o p j) (place_of o p j)
-    (distance_of o p m) (load_of v o p m) (place_of o p m)
+abbrev pub is_before_in : Seen → (last : Option ℕ) → (j m : ℕ) → Bool
+is_before_in s last j m =
+    is_before_by (s.distance j) (s.load j) (place_in s last j) (s.distance m) (s.load m) (place_in s last m)
 
 -- Member m, of the first n, passes the test, and none that passes it comes before m.
 pub record IsFirstOf (n : ℕ) (test : ℕ → Bool) (before : ℕ → ℕ → Bool) (m : ℕ) : Type 0 where
@@ -97,14 +108,14 @@ pub record IsFirstOf (n : ℕ) (test : ℕ → Bool) (before : ℕ → ℕ → B
   pub first : (j : ℕ) → j < n → test j ≡ true → before j m ≡ false
 
 -- Member m is the least of the candidates.
-abbrev pub IsLeast : (v : ℕ) → Opening → List Entry → Ask → (m : ℕ) → Type 0
-IsLeast v o p ask m = IsFirstOf (members o) (λ j. is_candidate v o p ask j) (λ j k. is_before v o p j k) m
+abbrev pub IsLeastIn : (v : ℕ) → Seen → (last : Option ℕ) → (m : ℕ) → Type 0
+IsLeastIn v s last m = IsFirstOf s.count (λ j. is_candidate_in v s j) (λ j k. is_before_in s last j k) m
 
 -- How member m may be chosen.
-abbrev pub IsChosen : (v : ℕ) → Opening → List Entry → Ask → How → ℕ → Type 0
-IsChosen v o p ask how.Sticky m = routed_choice v o p ask ≡ Some (m, how.Sticky)
-IsChosen v o p ask how.Redirect m = routed_choice v o p ask ≡ Some (m, how.Redirect)
-IsChosen v o p ask how.Balanced m = IsOpen v o p ask × IsLeast v o p ask m
+abbrev pub IsChosenIn : (v : ℕ) → Seen → (home : Option ℕ) → (force : Bool) → (last : Option ℕ) → How → ℕ → Type 0
+IsChosenIn v s home force last how.Sticky m = routed_in s home ≡ Some (m, how.Sticky)
+IsChosenIn v s home force last how.Redirect m = routed_in s home ≡ Some (m, how.Redirect)
+IsChosenIn v s home force last how.Balanced m = IsOpenIn s home force × IsLeastIn v s last m
 
 -- A choice begins a trial exactly where the member's state was Recover or Error.
 abbrev pub begins_trial : MemberState → Bool
@@ -113,11 +124,56 @@ begins_trial (state.Error at) = true
 begins_trial state.Recover = true
 begins_trial (state.Probe t) = false
 
--- The answer that an ask gets after p, under rules v.
+-- The answer that an ask gets under rules v and the number `next`, where `last` was chosen last.
+abbrev pub IsPickIn : (v : ℕ) → Seen → (home : Option ℕ) → (force : Bool) → (last : Option ℕ) → (next : ℕ) → Answer → Type 0
+IsPickIn v s home force last next (answer.Chosen m t how probe) =
+    IsChosenIn v s home force last how m × (t ≡ next) × (probe ≡ begins_trial (s.state m))
+IsPickIn v s home force last next answer.NoMember = IsOpenIn s home force × (any_of s.count (λ j. is_candidate_in v s j) ≡ false)
+IsPickIn v s home force last next answer.Forced = is_forced_in s home force ≡ true
+IsPickIn v s home force last next answer.Done = ⊥
+
+-- What a journal shows of the members after p.
+abbrev pub seen : (v : ℕ) → Opening → List Entry → Ask → Seen
+seen v o p ask = record {
+  count = members o;
+  serves = λ m. serves v o p ask m;
+  usable = λ m. is_usable v o p ask m;
+  revivable = λ m. is_revivable v o p ask m;
+  redirect = λ m. redirect_of o p m;
+  distance = λ m. distance_of o p m;
+  load = λ m. load_of v o p m;
+  state = λ m. state_of v o p m;
+}
+
+-- The choice after p, and its parts.
+abbrev pub routed_choice : (v : ℕ) → Opening → List Entry → Ask → Option (ℕ × How)
+routed_choice v o p ask = routed_in (seen v o p ask) (routed_member o ask)
+
+abbrev pub is_forced : (v : ℕ) → Opening → List Entry → Ask → Bool
+is_forced v o p ask = is_forced_in (seen v o p ask) (routed_member o ask) o.config.force
+
+abbrev pub IsOpen : (v : ℕ) → Opening → List Entry → Ask → Type 0
+IsOpen v o p ask = IsOpenIn (seen v o p ask) (routed_member o ask) o.config.force
+
+abbrev pub any_usable : (v : ℕ) → Opening → List Entry → Ask → Bool
+any_usable v o p ask = any_usable_in (seen v o p ask)
+
+abbrev pub is_candidate : (v : ℕ) → Opening → List Entry → Ask → (m : ℕ) → Bool
+is_candidate v o p ask m = is_candidate_in v (seen v o p ask) m
+
+abbrev pub place_of : Opening → List Entry → ℕ → ℕ
+place_of o p m = place_from (members o) (begin_after (last_chosen o p)) m
+
+abbrev pub is_before : (v : ℕ) → Opening → List Entry → ℕ → ℕ → Bool
+is_before v o p j m =
+    is_before_by (distance_of o p j) (load_of v o p j) (place_of o p j)
+    (distance_of o p m) (load_of v o p m) (place_of o p m)
+
+abbrev pub IsLeast : (v : ℕ) → Opening → List Entry → Ask → (m : ℕ) → Type 0
+IsLeast v o p ask m = IsLeastIn v (seen v o p ask) (last_chosen o p) m
+
+abbrev pub IsChosen : (v : ℕ) → Opening → List Entry → Ask → How → ℕ → Type 0
+IsChosen v o p ask how m = IsChosenIn v (seen v o p ask) (routed_member o ask) o.config.force (last_chosen o p) how m
+
 abbrev pub IsPick : (v : ℕ) → Opening → List Entry → Ask → Answer → Type 0
-IsPick v o p ask (answer.Chosen m t how probe) =
-    IsChosen v o p ask how m × (t ≡ next_of o p) × (probe ≡ begins_trial (state_of v o p m))
-IsPick v o p ask answer.NoMember =
-    IsOpen v o p ask × (any_of (members o) (λ j. is_candidate v o p ask j) ≡ false)
-IsPick v o p ask answer.Forced = is_forced v o p ask ≡ true
-IsPick v o p ask answer.Done = ⊥
+IsPick v o p ask a = IsPickIn v (seen v o p ask) (routed_member o ask) o.config.force (last_chosen o p) (next_of o p) a
