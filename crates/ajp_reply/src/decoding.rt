@@ -1,6 +1,6 @@
 //! Payloads of the container, read whole.
 
-ghost use Rattle.std.specs.Prelude.{◌≡◌, ◌≢◌, ◌+◌, ◌≤◌, List, ℕ, length, map, take, drop, Ok, IfOk, IfErr, IfSome};
+ghost use Rattle.std.specs.Prelude.{◌≡◌, ◌≢◌, ◌+◌, ◌≤◌, List, [], ℕ, length, map, take, drop, Ok, IfOk, IfErr, IfSome, IfNone, vec_capacity};
 ghost use Rattle.ajp_wire.specs.FirstPlace.{IsRefused};
 ghost use Rattle.ajp_wire.specs.Reading.{Gives, Tells};
 ghost use Rattle.ajp_reply.specs.declared.message.Message.{Message};
@@ -32,8 +32,7 @@ pub fn decode_reply(alloc: Global, payload: &[u8]) -> Result<Message, DecodeErro
     }
 }
 
-/// As `decode_reply`, but a chunk is made of the payload's own memory, so that none is taken: then the payload is left
-/// with no bytes and no memory. Any other message leaves it as it is.
+/// As `decode_reply`, but a chunk is made of the payload's own memory, so that none is taken.
 pub fn take_reply(alloc: Global, payload: &mut Vec<u8>) -> Result<Message, DecodeError>
     ensures found { IfOk result (λ message. Spells message payload.old.items) }
     ensures none { IfErr result (λ error. error ≢ DecodeError.NoMemory
@@ -41,6 +40,10 @@ pub fn take_reply(alloc: Global, payload: &mut Vec<u8>) -> Result<Message, Decod
     ensures written { IfOk result IsMessage }
     ensures refused { IfErr result (λ error. IsRefused IsSpelled payload.old.items error) }
     ensures exact { Tells (length payload.old.items) result (message_at payload.old.items) }
+
+    // A chunk leaves the payload with no bytes and no memory. Any other message, and an error, leave it as it was.
+    ensures emptied { (bytes : List ℕ) → result ≡ Ok (Message.Chunk bytes) → (payload.new.items ≡ []) × (vec_capacity payload.new ≡ 0) }
+    ensures kept { ((bytes : List ℕ) → result ≢ Ok (Message.Chunk bytes)) → payload.new ≡ payload.old }
 {
     match chunk_len(payload.as_slice()) {
         Some(len) => Ok(Message::Chunk(cut_out(alloc, payload, len))),
@@ -53,6 +56,7 @@ pub fn take_reply(alloc: Global, payload: &mut Vec<u8>) -> Result<Message, Decod
 fn chunk_len(payload: &[u8]) -> Option<usize>
     ensures chunk { IfSome result (λ len. message_at payload.now ≡ Ok (Message.Chunk (take len (drop 3 payload.now)))) }
     ensures within { IfSome result (λ len. 3 + len ≤ length payload.now) }
+    ensures none { IfNone result ((bytes : List ℕ) → Spells (Message.Chunk bytes) payload.now → ⊥) }
 {
     let [3, high, low, rest @ ..] = payload else {
         return None;
@@ -70,7 +74,8 @@ fn chunk_len(payload: &[u8]) -> Option<usize>
 /// So many bytes of a payload behind its first three, in the payload's memory.
 fn cut_out(alloc: Global, payload: &mut Vec<u8>, len: usize) -> Bytes
     requires { 3 + len ≤ length payload.old.items }
-    ensures { result ≡ take len (drop 3 payload.old.items) }
+    ensures value { result ≡ take len (drop 3 payload.old.items) }
+    ensures emptied { (payload.new.items ≡ []) × (vec_capacity payload.new ≡ 0) }
 {
     payload.copy_within(3..3 + len, 0);
     payload.truncate(len);

@@ -7,6 +7,6 @@ use Rattle.ajp_reply.proofs.decoding.take_reply.Goals as goal
 pub returns-in-Some-clause-found : goal.returns-in-Some-clause-found
 returns-in-Some-clause-found c =
     let payload = c.args.payload.now.items in
-    rw c.cut_out.ensures
+    rw c.cut_out.ensures.value
     (message_takes payload (Chunk (take c.in-Some.len (drop 3 payload))) (are-bytes payload (λ i within. omega (arith, within, c.type_inv.payload i)))
     (rw c.as_slice.ensures.value at c.in-Some.ensures.chunk))
