@@ -1,12 +1,12 @@
 //! A reach whose links are dialled, or taken from the pools.
 ghost use Rattle.std.specs.Prelude.{◌≡◌, ◌<◌, ◌≤◌, [], ◌∷◌, true, false, None, Ok, IsOk, IsErr, IsErrOf, IfOk, IfSome, IsSomeAnd, OnOk, OnErr, is_ok, is_some, length, take, slice_index};
-ghost use Rattle.std.specs.Option.{option_map};
 ghost use Rattle.jk_io.specs.Told.{appended, IsEmpty, Rose, HasCause};
 ghost use Rattle.jk_io.specs.Talks.{failed_talk, IsNoteOf};
 ghost use Rattle.jk_io.specs.declared.reaching.Talk.{Talk};
+ghost use Rattle.conn_pool.specs.Backs.{back_of};
 ghost use Rattle.conn_pool.specs.Idle.{HasMember, counts};
 ghost use Rattle.jk_io.specs.Moments.{moment};
-ghost use Rattle.conn_pool.specs.Reaches.{beside_of, told_begun, BackState, GoesBack, ReadsLink, WritesLink, StaysLent};
+ghost use Rattle.conn_pool.specs.Reaches.{beside_of, told_begun, GoesBack, ReadsLink, WritesLink, StaysLent};
 
 use crate::beginning::{Asked, begin_idle, begin_new, dialled};
 use crate::keeping::Pools;
@@ -34,11 +34,11 @@ pub struct PooledReach<'p, 'r, D: Dial, T: Tape, R> {
 
 impl<'p, 'r, D: Dial, T: Tape, R> Model for PooledReach<'p, 'r, D, T, R> {
     ghost use Rattle.std.specs.Prelude.{◌<◌, MatchOption, slice_index};
-    ghost use Rattle.std.specs.Option.{option_map};
     ghost use Rattle.jk_io.specs.Told.{IsEmpty};
+    ghost use Rattle.conn_pool.specs.Backs.{back_of};
     ghost use Rattle.conn_pool.specs.Idle.{counts};
     ghost use Rattle.jk_io.specs.Moments.{moment};
-    ghost use Rattle.conn_pool.specs.Reaches.{PooledState, BackState};
+    ghost use Rattle.conn_pool.specs.Reaches.{PooledState};
 
     ghost Value = { PooledState D T D.L };
 
@@ -46,12 +46,7 @@ impl<'p, 'r, D: Dial, T: Tape, R> Model for PooledReach<'p, 'r, D, T, R> {
       dial = r.dial;
       tape = r.tape;
       lent = r.lent;
-      back = option_map (λ b. record {
-        lb = b.link.value.lb;
-        member = b.link.value.member;
-        link = moment D.L.incoming D.L.received D.L.sent D.L.faults b.link.value.link;
-        idle = b.idle;
-      }) r.back;
+      back = back_of (moment D.L.incoming D.L.received D.L.sent D.L.faults) r.back;
       sizes = counts r.pools.now;
       faults = r.failed;
     } };
@@ -274,12 +269,7 @@ fn put_back<L: Link + Drop, R: Wait>(
     keep: bool,
 ) -> Option<HandedIn<Idle<L>>>
     requires { HasMember pools.now lent.lb lent.member }
-    ensures { GoesBack lent keep (option_map (λ b. record {
-      lb = b.link.value.lb;
-      member = b.link.value.member;
-      link = moment L.incoming L.received L.sent L.faults b.link.value.link;
-      idle = b.idle;
-    }) result) }
+    ensures { GoesBack lent keep (back_of (moment L.incoming L.received L.sent L.faults) result) }
 {
     let (lb, member) = lent.whose();
     let idle = lent.kept(keep)?;
