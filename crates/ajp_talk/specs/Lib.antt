@@ -1,4 +1,5 @@
 pub mod Moments
+pub mod Uploads
 pub mod Replies
 pub mod Owed
 pub mod Talk

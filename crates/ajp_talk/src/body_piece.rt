@@ -3,16 +3,15 @@
 ghost use Rattle.std.specs.Prelude.{◌≡◌, ◌<◌, ◌≤◌, None, length, IfOk};
 ghost use Rattle.http_body_in.specs.State.{failed_of};
 ghost use Rattle.ajp_wire.specs.Packet.{body_packet as body_packet_of};
-ghost use Rattle.ajp_talk.specs.Moments.{talk_at};
 ghost use Rattle.ajp_talk.specs.Owed.{want};
 ghost use Rattle.ajp_talk.specs.Turns.{IsAskTurn};
+ghost use Rattle.ajp_talk.specs.Uploads.{IsSameUpload, talk_over};
 
 use crate::ending::Cause;
 use crate::sending::send;
 use crate::turn::{Turn, fault_turn};
+use crate::upload::Upload;
 use ajp_wire::body_packet;
-use http_body_in::BodyIn;
-use http_front::Inbox;
 use jk_io::{Bytes, IoError, Link, NoMemory};
 use std::alloc::Global;
 
@@ -42,22 +41,22 @@ pub(crate) fn wanted(most: u32, n: u16) -> usize
 pub(crate) fn answer_ask<L: Link, C: Link>(
     alloc: Global,
     n: usize,
-    body: &mut BodyIn,
-    inbox: &mut Inbox,
+    upload: &mut Upload,
     line: &mut L,
     client: &mut C,
     sent: &mut u64,
 ) -> Turn
     requires some { 0 < n }
     requires narrow { n ≤ 65530 }
-    requires going { failed_of body.old ≡ None }
-    ensures turn { let at = talk_at L.Meanings C.Meanings in
-        IsAskTurn n (at line.old client.old body.old inbox.old) (at line.new client.new body.new inbox.new) sent.old sent.new result }
+    requires going { failed_of upload.old.body.now ≡ None }
+    ensures turn { let at = talk_over L.Meanings C.Meanings in
+        IsAskTurn n (at line.old client.old upload.old) (at line.new client.new upload.new) sent.old sent.new result }
     ensures written { C.sent client.new ≡ C.sent client.old }
     ensures beside { (L.beside line.new ≡ L.beside line.old) × (C.beside client.new ≡ C.beside client.old) }
     ensures no_fewer { (L.faults line.old ≤ L.faults line.new) × (C.faults client.old ≤ C.faults client.new) }
+    ensures same { IsSameUpload upload.old upload.new }
 {
-    let piece = match body.take(alloc, inbox, client, n) {
+    let piece = match upload.body.take(alloc, upload.inbox, client, n) {
         Ok(piece) => piece,
         Err(fault) => return fault_turn(fault),
     };

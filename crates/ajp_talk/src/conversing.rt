@@ -8,6 +8,7 @@ ghost use Rattle.ajp_talk.specs.Drains.{IsLostCourse, IsLostEnd};
 ghost use Rattle.ajp_talk.specs.Ends.{IsPlan};
 ghost use Rattle.ajp_talk.specs.Moments.{talk_at};
 ghost use Rattle.ajp_talk.specs.Talk.{IsTalk};
+ghost use Rattle.ajp_talk.specs.Uploads.{IsSameUpload, talk_over};
 
 use crate::concluding::unanswered;
 use crate::course::Course;
@@ -19,6 +20,7 @@ use crate::request::send_request;
 use crate::room::Room;
 use crate::stepping::step;
 use crate::turn::Turn;
+use crate::upload::Upload;
 use http_body_in::BodyIn;
 use http_front::Inbox;
 use jk_io::{IoError, Link, NoMemory, Sink};
@@ -43,7 +45,8 @@ pub(crate) fn converse<L: Link, C: Link>(
     ensures no_fewer { (L.faults line.old ≤ L.faults line.new) × (C.faults client.old ≤ C.faults client.new) }
 {
     let mut course = Course::new(room.alloc, plan, 0, 0);
-    hold(room, plan, &mut course, body, inbox, line, client)
+    let mut upload = Upload { body, inbox };
+    hold(room, plan, &mut course, &mut upload, line, client)
 }
 
 /// The talk, of which nothing was sent and nothing came.
@@ -51,31 +54,31 @@ fn hold<L: Link, C: Link>(
     room: &mut Room,
     plan: &TalkPlan,
     course: &mut Course,
-    body: &mut BodyIn,
-    inbox: &mut Inbox,
+    upload: &mut Upload,
     line: &mut L,
     client: &mut C,
 ) -> Result<TalkEnd, NoMemory>
     requires plan { IsPlan plan.now }
     requires begun { course.old ≡ fresh plan.now 0 0 }
-    requires first { taken_of body.old ≡ length plan.now.first }
-    requires going { failed_of body.old ≡ None }
+    requires first { taken_of upload.old.body.now ≡ length plan.now.first }
+    requires going { failed_of upload.old.body.now ≡ None }
 
-    ensures talk { let at = talk_at L.Meanings C.Meanings in
-        IsTalk plan.now (at line.old client.old body.old inbox.old) (at line.new client.new body.new inbox.new) result }
+    ensures talk { let at = talk_over L.Meanings C.Meanings in
+        IsTalk plan.now (at line.old client.old upload.old) (at line.new client.new upload.new) result }
 
     ensures beside { (L.beside line.new ≡ L.beside line.old) × (C.beside client.new ≡ C.beside client.old) }
     ensures no_fewer { (L.faults line.old ≤ L.faults line.new) × (C.faults client.old ≤ C.faults client.new) }
+    ensures same { IsSameUpload upload.old upload.new }
 {
     match begin(room, plan, course, line) {
         None => {}
         Some(end) => return end,
     }
     loop {
-        match step(room, plan, course, body, inbox, line, client) {
+        match step(room, plan, course, upload, line, client) {
             Turn::On => {}
             Turn::Lost => return lost(room, plan, course, line, client),
-            turn => return course.ended(plan, body.taken(), turn),
+            turn => return course.ended(plan, upload.body.taken(), turn),
         }
     }
 }

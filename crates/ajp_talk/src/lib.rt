@@ -25,6 +25,7 @@ mod sending;
 mod stepping;
 mod talking;
 mod turn;
+mod upload;
 
 pub use ending::{Cause, Stage, TalkEnd, Told};
 pub use plan::TalkPlan;

@@ -19,6 +19,7 @@ loop-room-init g c = record {
   client_beside = refl;
   line_faults = c.begin.ensures.no_fewer;
   client_faults = omega arith;
+  same = (refl, refl);
 }
 
 pub loop-room-preserved : goal.loop-room-preserved
@@ -30,6 +31,7 @@ loop-room-preserved g c =
       client_beside = c.step.ensures.beside.1 ∙ i.client_beside;
       line_faults = omega (arith, c.step.ensures.no_fewer.0, i.line_faults);
       client_faults = omega (arith, c.step.ensures.no_fewer.1, i.client_faults);
+      same = (c.step.ensures.same.0 ∙ i.same.0, c.step.ensures.same.1 ∙ i.same.1);
     }
 
 pub loop-room-smaller : goal.loop-room-smaller
@@ -57,7 +59,7 @@ returns-in-Lost-clause-talk g c =
     let i = c.loop-room.invariant in
     lost_talk c.args.plan.now _ _ _ c.step.new.course c.lost.new.course c.lost.result c.requires.plan
     (lost c.args.plan.now _ _ _ c.loop-room.course c.step.new.course i.stands c.requires.plan i.client_faults c.in-Lost.ensures.turn)
-    (untaken-same _ _ (record { body = refl; unread = ap (unread c.step.new.inbox) c.lost.ensures.incoming })) c.lost.ensures.no_fewer.1 c.lost.ensures.ended
+    (untaken-same _ _ (record { body = refl; unread = ap (unread c.step.new.upload.inbox.now) c.lost.ensures.incoming })) c.lost.ensures.no_fewer.1 c.lost.ensures.ended
 
 pub ended-requires : goal.ended-requires
 ended-requires g c = record { plan = c.requires.plan; over = c.in_default.not-On; stays = c.in_default.not-Lost }
@@ -71,4 +73,5 @@ returns-in_default g c =
           i.line_faults i.client_faults c.taken.ensures c.in_default.not-On c.in_default.not-Lost c.step.ensures.turn);
       beside = (c.step.ensures.beside.0 ∙ i.line_beside, c.step.ensures.beside.1 ∙ i.client_beside);
       no_fewer = (omega (arith, c.step.ensures.no_fewer.0, i.line_faults), omega (arith, c.step.ensures.no_fewer.1, i.client_faults));
+      same = (c.step.ensures.same.0 ∙ i.same.0, c.step.ensures.same.1 ∙ i.same.1);
     }

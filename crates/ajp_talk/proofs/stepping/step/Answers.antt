@@ -25,7 +25,7 @@ returns-in-Ok-Chunk-clause-turn g c =
       mid = link_at g.L.Meanings c.receive.new.line;
       count = c.receive.new.count;
       heard = heard;
-      acts = (turn, refl, record { body = refl; unread = ap (unread c.args.inbox.now) c.take_chunk-turn.ensures.same.0 }, c.take_chunk-turn.ensures.no_fewer);
+      acts = (turn, refl, record { body = refl; unread = ap (unread c.args.upload.now.inbox.now) c.take_chunk-turn.ensures.same.0 }, c.take_chunk-turn.ensures.no_fewer);
     })
 
 pub returns-in-Ok-Ask-clause-turn : goal.returns-in-Ok-Ask-clause-turn
@@ -48,7 +48,7 @@ returns-in-Ok-End-clause-turn g c =
       mid = link_at g.L.Meanings c.receive.new.line;
       count = c.receive.new.count;
       heard = heard;
-      acts = (c.finish.ensures.turn, refl, record { body = refl; unread = ap (unread c.args.inbox.now) c.finish.ensures.same.0 }, c.finish.ensures.no_fewer);
+      acts = (c.finish.ensures.turn, refl, record { body = refl; unread = ap (unread c.args.upload.now.inbox.now) c.finish.ensures.same.0 }, c.finish.ensures.no_fewer);
     })
 
 pub returns-in-Ok-Pong-clause-turn : goal.returns-in-Ok-Pong-clause-turn
