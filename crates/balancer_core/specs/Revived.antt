@@ -4,7 +4,7 @@ use Rattle.jk_model.specs.Journal.{chose}
 use Rattle.jk_model.specs.declared.ask.Ask.{Ask}
 use Rattle.jk_model.specs.declared.member.Method.{Method}
 use Rattle.jk_model.specs.declared.journal.Answer.{Answer}
-use Rattle.choice_index.specs.declared.choice.Choice.{Choice}
+use Rattle.choice_index.specs.declared.choice.SelectAnswer.{SelectAnswer}
 use Rattle.choice_index.specs.declared.standing.Standing.{Standing}
 use Rattle.choice_index.specs.declared.among.Among.TheVariants as Among
 use Rattle.choice_index.specs.Standings.{passes}
@@ -27,7 +27,7 @@ row_selected method seq ask answer revives m row =
     (if chose m answer then chosen_row method seq ask.fresh row else (if revives then row_revived ask m row else row))
 
 -- So of all rows.
-abbrev pub AreSelected : Method → (seq : ℕ) → Ask → Choice → (old new : List Standing) → Type 0
+abbrev pub AreSelected : Method → (seq : ℕ) → Ask → SelectAnswer → (old new : List Standing) → Type 0
 AreSelected method seq ask c old new =
     (m : ℕ) (d : Standing) → m < length old
     → slice_index_or new m d ≡ row_selected method seq ask c.answer c.revives m (slice_index_or old m d)

@@ -8,7 +8,7 @@ ghost use Rattle.balancer_core.specs.Steps.{returned_row};
 ghost use Rattle.choice_index.specs.declared.standing.Standing.{Standing};
 
 use crate::steps::{chosen_row, returned_row, revived_row};
-use choice_index::{Among, Choice, Rules, Standing, passes, pick};
+use choice_index::{Among, Rules, SelectAnswer, Standing, passes, pick};
 use jk_model::{Answer, Ask, LbConfig, Opening, Outcome};
 
 /// The balancer as its journal leaves it.
@@ -47,7 +47,7 @@ impl Present {
     ghost use Rattle.balancer_core.specs.Kept.{IsNow};
 
     /// The answer to `ask` under the number `next`: by the rows, and so by every history that leaves them.
-    pub(crate) fn pick(&self, opening: &Opening, rules: Rules, ask: &Ask, next: u64) -> Choice
+    pub(crate) fn pick(&self, opening: &Opening, rules: Rules, ask: &Ask, next: u64) -> SelectAnswer
         requires whole { length self.now.rows.items ≡ members opening.now }
         requires targets { (m : ℕ) (d : Standing) → m < length self.now.rows.items → IfSome (slice_index_or self.now.rows.items m d).redirect (λ r. r < length self.now.rows.items) }
         ensures pick { (p : List Entry) → IsNow (rules_number rules) opening.now p self.now → next ≡ next_of opening.now p
@@ -61,7 +61,14 @@ impl Present {
     }
 
     /// After a Select with this number, moment and answer, which revives or doesn't.
-    pub(crate) fn select(&mut self, config: &LbConfig, ask: &Ask, seq: u64, at: u64, choice: Choice)
+    pub(crate) fn select(
+        &mut self,
+        config: &LbConfig,
+        ask: &Ask,
+        seq: u64,
+        at: u64,
+        choice: SelectAnswer,
+    )
         requires few { length self.old.rows.items ≤ 64 }
         requires room { HasRoomFor self.old.rows.items choice.answer }
         requires light { (m : ℕ) (d : Standing) → m < length self.old.rows.items → (slice_index_or self.old.rows.items m d).load < 2 ^ 125 }

@@ -4,7 +4,7 @@
 ghost use Rattle.std.specs.Prelude.{IfOk};
 ghost use Rattle.http_out.specs.Writer.{IsOpen};
 
-mod wire;
+mod repeat_link;
 
 use crate::timed::show;
 use anyhow::{Result, ensure};
@@ -12,10 +12,10 @@ use http_body_in::{BodyFault, BodyIn};
 use http_front::{BodyPlan, HeadLines, Inbox};
 use http_out::{OutError, ReplyHead, ReplyWriter};
 use jk_io::{Bytes, NoMemory};
+use repeat_link::RepeatLink;
 use std::alloc::Global;
 use std::rt::Clock;
 use std::time::Instant;
-use wire::Wire;
 
 const BODY_BYTES: usize = 65_536;
 
@@ -49,7 +49,7 @@ fn takes(
     alloc: Global,
     body: &mut BodyIn,
     inbox: &mut Inbox,
-    client: &mut Wire,
+    client: &mut RepeatLink,
 ) -> Result<bool, BodyFault> {
     Ok(!body.take(alloc, inbox, client, PIECE_BYTES)?.is_empty())
 }
@@ -59,7 +59,7 @@ fn take_body(
     alloc: Global,
     plan: BodyPlan,
     inbox: &mut Inbox,
-    client: &mut Wire,
+    client: &mut RepeatLink,
 ) -> Result<u64, BodyFault> {
     let mut body = BodyIn::new(plan, MOST_BYTES);
     for _ in 0..BODY_BYTES {
@@ -103,7 +103,7 @@ fn opened(alloc: Global, length: Option<&[u8]>) -> Result<ReplyWriter, OutError>
 }
 
 /// Passes a body on in chunks, and ends it.
-fn pass(writer: &mut ReplyWriter, data: &[u8], client: &mut Wire) -> Result<(), OutError>
+fn pass(writer: &mut ReplyWriter, data: &[u8], client: &mut RepeatLink) -> Result<(), OutError>
     requires { IsOpen writer.old }
 {
     for chunk in data.chunks(CHUNK_BYTES) {
@@ -117,7 +117,7 @@ fn write_reply(
     alloc: Global,
     length: Option<&[u8]>,
     data: &[u8],
-    client: &mut Wire,
+    client: &mut RepeatLink,
 ) -> Result<(), OutError> {
     pass(&mut opened(alloc, length)?, data, client)
 }
@@ -150,7 +150,7 @@ impl Work {
     }
 
     /// One body, or one reply: whether all bytes of data were taken.
-    fn does(self, alloc: Global, inbox: &mut Inbox, client: &mut Wire, data: &[u8]) -> bool {
+    fn does(self, alloc: Global, inbox: &mut Inbox, client: &mut RepeatLink, data: &[u8]) -> bool {
         let all = data.len() as u64;
         match self {
             Work::TakeByLength => {
@@ -176,7 +176,7 @@ fn does_often(
     work: Work,
     alloc: Global,
     inbox: &mut Inbox,
-    client: &mut Wire,
+    client: &mut RepeatLink,
     data: &[u8],
     rounds: u32,
 ) -> bool {
@@ -192,7 +192,7 @@ fn does_often(
 fn over_wire(work: Work, alloc: Global, text: &[u8], data: &[u8], rounds: u32) -> Result<()> {
     let inbox = &mut Inbox::new(alloc)?;
     ensure!(
-        does_often(work, alloc, inbox, &mut Wire::new(text), data, rounds),
+        does_often(work, alloc, inbox, &mut RepeatLink::new(text), data, rounds),
         "a body was refused"
     );
     Ok(())

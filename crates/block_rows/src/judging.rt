@@ -1,14 +1,14 @@
 //! Each row of a text, done once for each of its lines `with`.
-use crate::row::{Row, RowError};
+use crate::row::{BlockRow, RowError};
 use crate::texts::With;
 use jk_io::NoMemory;
 use std::alloc::Global;
 use std::fmt::Write;
 
 /// What rows are about.
-pub trait Area {
+pub trait BlockArea {
     /// Whether a row comes out as it says.
-    fn holds(&self, alloc: Global, row: Row<'_>) -> Result<bool, RowError>;
+    fn holds(&self, alloc: Global, row: BlockRow<'_>) -> Result<bool, RowError>;
 }
 
 /// How many runs there were, and how many of them came out otherwise.
@@ -30,7 +30,7 @@ fn with_of(line: &str) -> With<'_> {
 }
 
 /// Whether a row comes out as it says; not, where it can't be read.
-fn is_held<A: Area>(alloc: Global, area: &A, row: Row<'_>) -> Result<bool, NoMemory> {
+fn is_held<A: BlockArea>(alloc: Global, area: &A, row: BlockRow<'_>) -> Result<bool, NoMemory> {
     match area.holds(alloc, row) {
         Ok(held) => Ok(held),
         Err(RowError::Unreadable) => Ok(false),
@@ -38,17 +38,17 @@ fn is_held<A: Area>(alloc: Global, area: &A, row: Row<'_>) -> Result<bool, NoMem
     }
 }
 
-fn show(row: Row<'_>, shown: &mut String) -> Result<(), NoMemory> {
+fn show(row: BlockRow<'_>, shown: &mut String) -> Result<(), NoMemory> {
     let name = row.lines.lines().next().unwrap_or("");
     write!(shown, "not as wanted: {name} {}\n", row.with.first)?;
     Ok(())
 }
 
 /// Does a row once, and shows it where it comes out otherwise.
-fn judge<A: Area>(
+fn judge<A: BlockArea>(
     alloc: Global,
     area: &A,
-    row: Row<'_>,
+    row: BlockRow<'_>,
     count: Count,
     shown: &mut String,
 ) -> Result<Count, NoMemory> {
@@ -62,7 +62,7 @@ fn judge<A: Area>(
 }
 
 /// Does a row once for each of its lines `with`, or once where it has none.
-fn judge_row<A: Area>(
+fn judge_row<A: BlockArea>(
     alloc: Global,
     area: &A,
     lines: &str,
@@ -73,18 +73,18 @@ fn judge_row<A: Area>(
     for line in lines.lines() {
         if let Some(line) = line.strip_prefix("with ") {
             let with = with_of(line);
-            after = judge(alloc, area, Row { lines, with }, after, shown)?;
+            after = judge(alloc, area, BlockRow { lines, with }, after, shown)?;
         }
     }
     if after.runs > count.runs {
         return Ok(after);
     }
     let with = with_of("");
-    judge(alloc, area, Row { lines, with }, count, shown)
+    judge(alloc, area, BlockRow { lines, with }, count, shown)
 }
 
 /// Does each row of a text, shows those that come out otherwise, and counts.
-pub fn judge_rows<A: Area>(
+pub fn judge_rows<A: BlockArea>(
     alloc: Global,
     area: &A,
     text: &str,

@@ -18,7 +18,7 @@ impl From<NoMemory> for RowError {
 
 /// A row as it is done once: its lines, and what stands for `\1` and `\2` in them.
 #[derive(Clone, Copy)]
-pub struct Row<'r> {
+pub struct BlockRow<'r> {
     pub lines: &'r str,
     pub with: With<'r>,
 }
@@ -110,7 +110,7 @@ impl<'k> Place<'k> {
     }
 }
 
-fn put_place(out: &mut Bytes, row: Row<'_>, place: Place<'_>) -> Result<(), RowError> {
+fn put_place(out: &mut Bytes, row: BlockRow<'_>, place: Place<'_>) -> Result<(), RowError> {
     let mut place = place;
     for line in row.lines.lines() {
         let key = parts_of(line).0;
@@ -123,7 +123,7 @@ fn put_place(out: &mut Bytes, row: Row<'_>, place: Place<'_>) -> Result<(), RowE
     Ok(())
 }
 
-impl<'r> Row<'r> {
+impl<'r> BlockRow<'r> {
     /// The rest of the first line that begins with this word.
     pub fn value(self, key: &str) -> Option<&'r str> {
         for line in self.lines.lines() {

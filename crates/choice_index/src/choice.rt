@@ -17,7 +17,7 @@ use jk_model::{Answer, Ask, How, LbConfig, MemberState};
 
 /// The answer to an ask, and whether it turns those members from Error to Recover that may be revived.
 #[derive(Clone, Copy, Debug, PartialEq, Eq)]
-pub struct Choice {
+pub struct SelectAnswer {
     pub answer: Answer,
     pub revives: bool,
 }
@@ -96,12 +96,12 @@ fn begin_after(chosen: Option<u32>) -> usize
 }
 
 // The choice of a member whose row this is.
-fn chosen(row: &Standing, member: u32, how: How, next: u64, revives: bool) -> Choice
+fn chosen(row: &Standing, member: u32, how: How, next: u64, revives: bool) -> SelectAnswer
     ensures answer { result.answer ≡ Answer.Chosen member next how (begins_trial row.now.state) }
     ensures revives { result.revives ≡ revives }
 {
     let probe = begins_trial(row.state);
-    Choice {
+    SelectAnswer {
         answer: Answer::Chosen {
             member,
             ticket: next,
@@ -124,7 +124,13 @@ fn least_revivable(rules: Rules, rows: &[Standing], ask: &Ask, begin: usize) -> 
 }
 
 // The least of the usable members; where there is none, under rules 2, of those that may be revived.
-fn balanced(rules: Rules, rows: &[Standing], last: Option<u32>, ask: &Ask, next: u64) -> Choice
+fn balanced(
+    rules: Rules,
+    rows: &[Standing],
+    last: Option<u32>,
+    ask: &Ask,
+    next: u64,
+) -> SelectAnswer
     requires few { length rows.now ≤ 64 }
     ensures pick { (config : LbConfig) (d : Standing) → IsOpenAt config rows.now d ask.now
         → IsPickAt (rules_number rules) config rows.now d last next ask.now result.answer }
@@ -137,7 +143,7 @@ fn balanced(rules: Rules, rows: &[Standing], last: Option<u32>, ask: &Ask, next:
     }
     match least_revivable(rules, rows, ask, begin) {
         Some(member) => chosen(&rows[member], member as u32, How::Balanced, next, true),
-        None => Choice {
+        None => SelectAnswer {
             answer: Answer::NoMember,
             revives: false,
         },
@@ -152,7 +158,7 @@ pub fn pick(
     last: Option<u32>,
     ask: &Ask,
     next: u64,
-) -> Choice
+) -> SelectAnswer
     requires whole { length rows.now ≡ length config.now.members }
     requires targets { (m : ℕ) (d : Standing) → m < length rows.now → IfSome (slice_index_or rows.now m d).redirect (λ r. r < length rows.now) }
     ensures pick { (d : Standing) → IsPickAt (rules_number rules) config.now rows.now d last next ask.now result.answer }
@@ -163,7 +169,7 @@ pub fn pick(
         return chosen(&rows[member as usize], member, how, next, false);
     }
     if is_forced(config, ask) {
-        return Choice {
+        return SelectAnswer {
             answer: Answer::Forced,
             revives: false,
         };

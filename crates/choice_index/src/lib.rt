@@ -15,6 +15,6 @@ mod rules;
 mod standing;
 
 pub use among::{Among, passes};
-pub use choice::{Choice, pick};
+pub use choice::{SelectAnswer, pick};
 pub use rules::Rules;
 pub use standing::Standing;

@@ -18,11 +18,11 @@ use Rattle.client_session.specs.Concluding.{IsKnownStop, rows_of, settled_by, st
 use Rattle.client_session.specs.Ends.{MeetsBy, RisesBy, end_of}
 use Rattle.client_session.specs.Requests.{Visit, continue_for, mounted_at}
 use Rattle.client_session.specs.Rows.{worker_row}
-use Rattle.client_session.specs.Standings.{Standing}
+use Rattle.client_session.specs.Standings.{ClientStanding}
 use Rattle.client_session.specs.Turns.{MeetsInAnswer, RisesInAnswer}
 use Rattle.client_session.specs.Writing.{BreaksOff}
-use Rattle.client_session.specs.declared.ending.Stop.{Stop}
-use Rattle.client_session.specs.declared.ending.Stop.TheVariants as stop
+use Rattle.client_session.specs.declared.ending.SessionStop.{SessionStop}
+use Rattle.client_session.specs.declared.ending.SessionStop.TheVariants as stop
 use Rattle.client_session.specs.declared.ending.Why.TheVariants as why
 use Rattle.client_session.specs.declared.turn.Answered.TheVariants as answered
 use Rattle.client_session.specs.declared.turn.Settled.{Settled}
@@ -37,7 +37,7 @@ pub at_status : (v : Visit) (head : Head) (place : ℕ) (status : Status) → mo
 at_status v head place status mounted within is =
     record { place = place; mounted = mounted; stands = slice_get_read v.cfg.statuses (length v.cfg.statuses) place status refl within is }
 
-pub shown_whole : (v : Visit) (head : Head) (last : Bool) (s n : Standing) (body : BodyIn) (status : Status) (len : ℕ) (asked' : Asked) (row : Served)
+pub shown_whole : (v : Visit) (head : Head) (last : Bool) (s n : ClientStanding) (body : BodyIn) (status : Status) (len : ℕ) (asked' : Asked) (row : Served)
     → IsAtStatus v head status → IsStatusAnswer v status head last s n (Ok len) → asked' ≡ line_of head
     → row ≡ worker_row asked' 200 len status.name → IsAnswerAt v head last s n body body answered.Whole (row ∷ [])
 shown_whole v head last s n body status len asked' row at answer line is =
@@ -53,14 +53,14 @@ shown_whole v head last s n body status len asked' row at answer line is =
           ∙ ap (λ (k : ℕ). worker_row (line_of head) 200 k status.name) answer.4),
     )
 
-pub shown_stop : (v : Visit) (head : Head) (last : Bool) (s n : Standing) (body : BodyIn) (status : Status) (stop' : Stop) (asked' : Asked) (settled : Settled)
+pub shown_stop : (v : Visit) (head : Head) (last : Bool) (s n : ClientStanding) (body : BodyIn) (status : Status) (stop' : SessionStop) (asked' : Asked) (settled : Settled)
     → IsAtStatus v head status → IsStatusAnswer v status head last s n (Err stop') → asked' ≡ line_of head
     → settled ≡ settled_by stop' asked' (is_head head) → IsAnswerAt v head last s n body body settled.answered (rows_of settled.row)
 shown_stop v head last s n body status stop' asked' settled at answer line is =
     subst (λ (x : Settled). IsAnswerAt v head last s n body body x.answered (rows_of x.row))
     (sym (is ∙ ap (λ (a : Asked). settled_by stop' a (is_head head)) line)) (by_stop stop' answer)
   where
-    by_stop : (x : Stop) → IsStatusAnswer v status head last s n (Err x)
+    by_stop : (x : SessionStop) → IsStatusAnswer v status head last s n (Err x)
         → IsAnswerAt v head last s n body body (settled_by x (line_of head) (is_head head)).answered (rows_of (settled_by x (line_of head) (is_head head)).row)
     by_stop (stop.Closed why.ByClient) a = absurd a
     by_stop (stop.Closed why.Last) a = absurd a
@@ -72,7 +72,7 @@ shown_stop v head last s n body status stop' asked' settled at answer line is =
     by_stop (stop.Stray ticket returned_at) a = absurd a
     by_stop stop.NoMemory a = (refl, inr (status, at, a))
 
-pub stop_known : (v : Visit) (head : Head) (last : Bool) (s n : Standing) (status : Status) (stop' : Stop) → IsStatusAnswer v status head last s n (Err stop')
+pub stop_known : (v : Visit) (head : Head) (last : Bool) (s n : ClientStanding) (status : Status) (stop' : SessionStop) → IsStatusAnswer v status head last s n (Err stop')
     → IsKnownStop stop'
 stop_known v head last s n status (stop.Closed why.ByClient) answer = absurd answer
 stop_known v head last s n status (stop.Closed why.Last) answer = absurd answer
@@ -84,13 +84,13 @@ stop_known v head last s n status stop.Truncated answer = absurd answer
 stop_known v head last s n status (stop.Stray ticket returned_at) answer = absurd answer
 stop_known v head last s n status stop.NoMemory answer = tt
 
-pub stop_rises : (v : Visit) (head : Head) (last : Bool) (s n : Standing) (status : Status) (stop' : Stop) (asked' : Asked) (settled : Settled)
+pub stop_rises : (v : Visit) (head : Head) (last : Bool) (s n : ClientStanding) (status : Status) (stop' : SessionStop) (asked' : Asked) (settled : Settled)
     → IsStatusAnswer v status head last s n (Err stop') → settled ≡ settled_by stop' asked' (is_head head)
     → RisesInAnswer settled.answered s.client.faults n.client.faults
 stop_rises v head last s n status stop' asked' settled answer is =
     subst (λ (x : Settled). RisesInAnswer x.answered s.client.faults n.client.faults) (sym is) (by_stop stop' answer)
   where
-    by_stop : (x : Stop) → IsStatusAnswer v status head last s n (Err x)
+    by_stop : (x : SessionStop) → IsStatusAnswer v status head last s n (Err x)
         → RisesInAnswer (settled_by x asked' (is_head head)).answered s.client.faults n.client.faults
     by_stop (stop.Closed why.ByClient) a = tt
     by_stop (stop.Closed why.Last) a = tt
@@ -102,13 +102,13 @@ stop_rises v head last s n status stop' asked' settled answer is =
     by_stop (stop.Stray ticket returned_at) a = tt
     by_stop stop.NoMemory a = tt
 
-pub stop_meets : (v : Visit) (head : Head) (last : Bool) (s n : Standing) (status : Status) (stop' : Stop) (asked' : Asked) (settled : Settled) (old new : DeskState)
+pub stop_meets : (v : Visit) (head : Head) (last : Bool) (s n : ClientStanding) (status : Status) (stop' : SessionStop) (asked' : Asked) (settled : Settled) (old new : DeskState)
     → IsStatusAnswer v status head last s n (Err stop') → settled ≡ settled_by stop' asked' (is_head head) → MeetsNone old new
     → MeetsInAnswer settled.answered old new
 stop_meets v head last s n status stop' asked' settled old new answer is met =
     subst (λ (x : Settled). MeetsInAnswer x.answered old new) (sym is) (by_stop stop' answer)
   where
-    by_stop : (x : Stop) → IsStatusAnswer v status head last s n (Err x) → MeetsInAnswer (settled_by x asked' (is_head head)).answered old new
+    by_stop : (x : SessionStop) → IsStatusAnswer v status head last s n (Err x) → MeetsInAnswer (settled_by x asked' (is_head head)).answered old new
     by_stop (stop.Closed why.ByClient) a = met
     by_stop (stop.Closed why.Last) a = met
     by_stop (stop.Closed (why.Own code)) a = met
@@ -121,10 +121,10 @@ stop_meets v head last s n status stop' asked' settled old new answer is met =
 
 -- ---- a mounted request that came to its end before its worker was asked
 
-early_stop : (v : Visit) (head : Head) (s n : Standing) (worker : Named) (stop' : Stop) → mounted_at v head ≡ Some worker → n ≡ record s { client = n.client }
+early_stop : (v : Visit) (head : Head) (s n : ClientStanding) (worker : Named) (stop' : SessionStop) → mounted_at v head ≡ Some worker → n ≡ record s { client = n.client }
     → BreaksOff (continue_for head) s.client n.client stop' → StopsEarly v head s n (answered.Not stop') []
 early_stop v head s n worker stop' mounted alone (inl wanted) =
-    subst (λ (x : Stop). StopsEarly v head s n (answered.Not x) []) (sym wanted.0)
+    subst (λ (x : SessionStop). StopsEarly v head s n (answered.Not x) []) (sym wanted.0)
     (refl, inl (alone ∙ ap (λ (m : Moment). record s { client = m }) wanted.1))
 early_stop v head s n worker (stop.Closed w) mounted alone (inr writes) = absurd writes
 early_stop v head s n worker stop.ClientFault mounted alone (inr writes) =
@@ -134,40 +134,40 @@ early_stop v head s n worker (stop.Stray ticket returned_at) mounted alone (inr 
 early_stop v head s n worker stop.NoMemory mounted alone (inr writes) =
     (refl, inr (inr (subst (λ (o : Option Named). IsSome o) (sym mounted) refl, record { puts = writes; alone = alone })))
 
-pub answers_early : (v : Visit) (head : Head) (last : Bool) (s n : Standing) (body : BodyIn) (worker : Named) (stop' : Stop) (settled : Settled)
+pub answers_early : (v : Visit) (head : Head) (last : Bool) (s n : ClientStanding) (body : BodyIn) (worker : Named) (stop' : SessionStop) (settled : Settled)
     → mounted_at v head ≡ Some worker → n ≡ record s { client = n.client } → BreaksOff (continue_for head) s.client n.client stop' → settled ≡ stopped_by stop'
     → IsAnswer v head last s n body body settled.answered (rows_of settled.row)
 answers_early v head last s n body worker stop' settled mounted alone broken is =
     subst (λ (x : Settled). IsAnswer v head last s n body body x.answered (rows_of x.row)) (sym is)
     (inl (early_stop v head s n worker stop' mounted alone broken))
 
-meets_early_by : (bytes : List ℕ) (s n : Moment) (stop' : Stop) (desk : DeskState) → BreaksOff bytes s n stop' → MeetsBy (end_of stop' 0) desk desk
-meets_early_by bytes s n stop' desk (inl wanted) = subst (λ (x : Stop). MeetsBy (end_of x 0) desk desk) (sym wanted.0) (none_met desk)
+meets_early_by : (bytes : List ℕ) (s n : Moment) (stop' : SessionStop) (desk : DeskState) → BreaksOff bytes s n stop' → MeetsBy (end_of stop' 0) desk desk
+meets_early_by bytes s n stop' desk (inl wanted) = subst (λ (x : SessionStop). MeetsBy (end_of x 0) desk desk) (sym wanted.0) (none_met desk)
 meets_early_by bytes s n (stop.Closed w) desk (inr writes) = absurd writes
 meets_early_by bytes s n stop.ClientFault desk (inr writes) = none_met desk
 meets_early_by bytes s n stop.Truncated desk (inr writes) = absurd writes
 meets_early_by bytes s n (stop.Stray ticket returned_at) desk (inr writes) = absurd writes
 meets_early_by bytes s n stop.NoMemory desk (inr writes) = none_met desk
 
-pub meets_early : (bytes : List ℕ) (s n : Moment) (stop' : Stop) (settled : Settled) (desk : DeskState) → BreaksOff bytes s n stop' → settled ≡ stopped_by stop'
+pub meets_early : (bytes : List ℕ) (s n : Moment) (stop' : SessionStop) (settled : Settled) (desk : DeskState) → BreaksOff bytes s n stop' → settled ≡ stopped_by stop'
     → MeetsInAnswer settled.answered desk desk
 meets_early bytes s n stop' settled desk broken is =
     subst (λ (x : Settled). MeetsInAnswer x.answered desk desk) (sym is) (meets_early_by bytes s n stop' desk broken)
 
-rises_early_by : (bytes : List ℕ) (s n : Moment) (stop' : Stop) → BreaksOff bytes s n stop' → RisesBy (end_of stop' 0) s.faults n.faults
-rises_early_by bytes s n stop' (inl wanted) = subst (λ (x : Stop). RisesBy (end_of x 0) s.faults n.faults) (sym wanted.0) tt
+rises_early_by : (bytes : List ℕ) (s n : Moment) (stop' : SessionStop) → BreaksOff bytes s n stop' → RisesBy (end_of stop' 0) s.faults n.faults
+rises_early_by bytes s n stop' (inl wanted) = subst (λ (x : SessionStop). RisesBy (end_of x 0) s.faults n.faults) (sym wanted.0) tt
 rises_early_by bytes s n (stop.Closed w) (inr writes) = absurd writes
 rises_early_by bytes s n stop.ClientFault (inr writes) = writes.0
 rises_early_by bytes s n stop.Truncated (inr writes) = absurd writes
 rises_early_by bytes s n (stop.Stray ticket returned_at) (inr writes) = absurd writes
 rises_early_by bytes s n stop.NoMemory (inr writes) = tt
 
-pub rises_early : (bytes : List ℕ) (s n : Moment) (stop' : Stop) (settled : Settled) → BreaksOff bytes s n stop' → settled ≡ stopped_by stop'
+pub rises_early : (bytes : List ℕ) (s n : Moment) (stop' : SessionStop) (settled : Settled) → BreaksOff bytes s n stop' → settled ≡ stopped_by stop'
     → RisesInAnswer settled.answered s.faults n.faults
 rises_early bytes s n stop' settled broken is =
     subst (λ (x : Settled). RisesInAnswer x.answered s.faults n.faults) (sym is) (rises_early_by bytes s n stop' broken)
 
-pub no_fewer_early : (bytes : List ℕ) (s n : Moment) (stop' : Stop) → BreaksOff bytes s n stop' → s.faults ≤ n.faults
+pub no_fewer_early : (bytes : List ℕ) (s n : Moment) (stop' : SessionStop) → BreaksOff bytes s n stop' → s.faults ≤ n.faults
 no_fewer_early bytes s n stop' (inl wanted) = subst (λ (m : Moment). s.faults ≤ m.faults) (sym wanted.1) (omega arith)
 no_fewer_early bytes s n (stop.Closed w) (inr writes) = absurd writes
 no_fewer_early bytes s n stop.ClientFault (inr writes) = writes.1.no_fewer

@@ -40,7 +40,7 @@ use Rattle.client_session.specs.Answers.{IsToldOn}
 use Rattle.client_session.specs.Causes.{GaveUp, HasBadLine, HasNoPage, HasNoReply, HasOwnCause, IfOwn, IsTooMuch, IsUnmounted, RefusesAs}
 use Rattle.client_session.specs.Requests.{Visit}
 use Rattle.client_session.specs.Sessions.{EndsIn, IsHeadRefused, ReadsHead}
-use Rattle.client_session.specs.Standings.{Standing}
+use Rattle.client_session.specs.Standings.{ClientStanding}
 use Rattle.client_session.specs.declared.ending.SessionEnd.{SessionEnd}
 use Rattle.client_session.specs.declared.ending.SessionEnd.TheVariants as session_end
 use Rattle.client_session.specs.declared.ending.Why.TheVariants as why
@@ -62,7 +62,7 @@ form_code form_is.Connect = inr (inr (inr refl))
 form_code form_is.TooLong = inr (inl refl)
 form_code form_is.BadPath = inl refl
 
-head_code : (s n : Standing) (code : ℕ) → IsHeadRefused s n code → IsHeadCode code
+head_code : (s n : ClientStanding) (code : ℕ) → IsHeadRefused s n code → IsHeadCode code
 head_code s n code r = subst IsHeadCode (sym r.status) (form_code r.form)
 
 abbrev IsReplyCode : ℕ → Type 0
@@ -109,7 +109,7 @@ exchange_code : (q : Errand) (s n : Scene) (status : ℕ) → IsExchange q s n (
 exchange_code q s n status (inl none) = absurd none.why
 exchange_code q s n status (inr rounds) = own_code q _ _ _ _ status rounds.through.ends_in.0
 
-reply_code : (v : Visit) (number : ℕ) (s n : Standing) (code : ℕ) → HasNoReply v number s n code → IsReplyCode code
+reply_code : (v : Visit) (number : ℕ) (s n : ClientStanding) (code : ℕ) → HasNoReply v number s n code → IsReplyCode code
 reply_code v number s n code r = exchange_code _ _ _ code r.forwarded.forwarded.exchange
 
 turned_code : (error : AdminError FullMark) (code : ℕ) → page_status error ≡ Some code → IsPageCode code
@@ -119,7 +119,7 @@ turned_code (admin.TooWide mark) code is = let e : code ≡ 400 = cc in inl e
 turned_code (admin.Full mark) code is = let e : code ≡ 500 = cc in inr (inr (inr e))
 turned_code admin.NoMemory code is = absurd cc
 
-page_code : (v : Visit) (s n : Standing) (code : ℕ) → HasNoPage v s n code → IsPageCode code
+page_code : (v : Visit) (s n : ClientStanding) (code : ℕ) → HasNoPage v s n code → IsPageCode code
 page_code v s n code r =
     elim r.turned.turned [
       | inl refused ↦ refused_known v.cfg r.status r.head.query code refused.0
@@ -128,11 +128,11 @@ page_code v s n code r =
 
 -- ---- where the own answer comes from
 
-abbrev Origin : Visit → (number : ℕ) → (s n : Standing) → (code : ℕ) → Type 0
+abbrev Origin : Visit → (number : ℕ) → (s n : ClientStanding) → (code : ℕ) → Type 0
 Origin v number s n code =
     IsHeadRefused s n code ⊎ (((code ≡ 404) × IsUnmounted v s) ⊎ (HasNoReply v number s n code ⊎ HasNoPage v s n code))
 
-origin : (v : Visit) (number requests : ℕ) (s n : Standing) (rows : List Served) (code : ℕ) → EndsIn v number s n rows (session_end.Closed requests (why.Own code))
+origin : (v : Visit) (number requests : ℕ) (s n : ClientStanding) (rows : List Served) (code : ℕ) → EndsIn v number s n rows (session_end.Closed requests (why.Own code))
     → Origin v number s n code
 origin v number requests s n rows code (counted, inl (refused, added)) = inl refused
 origin v number requests s n rows code (counted, inr (body, request)) =
@@ -160,13 +160,13 @@ origin v number requests s n rows code (counted, inr (body, request)) =
             at = at;
             asked = asked;
             turned = turned;
-            desk = ap (λ (x : Standing). x.desk) written.alone;
+            desk = ap (λ (x : ClientStanding). x.desk) written.alone;
           })))
     ]
 
 -- what was read and told is nothing to the desk
-same_desk : (v : Visit) (s read begun : Standing) (head : Head) → ReadsHead s read head → IsToldOn v head read begun → begun.desk ≡ s.desk
-same_desk v s read begun head reads told_on = ap (λ (x : Standing). x.desk) told_on.written.alone ∙ ap (λ (x : Standing). x.desk) reads.on.alone
+same_desk : (v : Visit) (s read begun : ClientStanding) (head : Head) → ReadsHead s read head → IsToldOn v head read begun → begun.desk ≡ s.desk
+same_desk v s read begun head reads told_on = ap (λ (x : ClientStanding). x.desk) told_on.written.alone ∙ ap (λ (x : ClientStanding). x.desk) reads.on.alone
 
 -- ---- a journal that is full
 
@@ -188,7 +188,7 @@ full_by (admin.TooWide mark) is = absurd (omega (arith, same_number 400 500 is))
 full_by (admin.Full mark) is = (mark, refl)
 full_by admin.NoMemory is = absurd cc
 
-page_full : (v : Visit) (s n : Standing) (r : HasNoPage v s n 500) → r.begun.desk ≡ s.desk → Rose s.desk.state.fulls n.desk.state.fulls
+page_full : (v : Visit) (s n : ClientStanding) (r : HasNoPage v s n 500) → r.begun.desk ≡ s.desk → Rose s.desk.state.fulls n.desk.state.fulls
 page_full v s n r same =
     subst (λ (d : DeskSide). Rose d.state.fulls n.desk.state.fulls) same
     (subst (λ (d : DeskSide). Rose r.begun.desk.state.fulls d.state.fulls) (sym r.desk) (
@@ -212,51 +212,51 @@ page_full v s n r same =
 
 -- ---- the rows, each by where the answer comes from
 
-refuses_as : (s n : Standing) (code known : ℕ) → IsHeadRefused s n code → code ≡ known → RefusesAs s known
+refuses_as : (s n : ClientStanding) (code known : ℕ) → IsHeadRefused s n code → code ≡ known → RefusesAs s known
 refuses_as s n code known r is = (r.read, r.form, r.reads, sym r.status ∙ is)
 
-not_head : (s n : Standing) (code known : ℕ) → IsHeadRefused s n code → code ≡ known → (IsHeadCode known → ⊥) → ⊥
+not_head : (s n : ClientStanding) (code known : ℕ) → IsHeadRefused s n code → code ≡ known → (IsHeadCode known → ⊥) → ⊥
 not_head s n code known r is other = other (subst IsHeadCode is (head_code s n code r))
 
-not_reply : (v : Visit) (number : ℕ) (s n : Standing) (code known : ℕ) → HasNoReply v number s n code → code ≡ known → (IsReplyCode known → ⊥) → ⊥
+not_reply : (v : Visit) (number : ℕ) (s n : ClientStanding) (code known : ℕ) → HasNoReply v number s n code → code ≡ known → (IsReplyCode known → ⊥) → ⊥
 not_reply v number s n code known r is other = other (subst IsReplyCode is (reply_code v number s n code r))
 
-not_page : (v : Visit) (s n : Standing) (code known : ℕ) → HasNoPage v s n code → code ≡ known → (IsPageCode known → ⊥) → ⊥
+not_page : (v : Visit) (s n : ClientStanding) (code known : ℕ) → HasNoPage v s n code → code ≡ known → (IsPageCode known → ⊥) → ⊥
 not_page v s n code known r is other = other (subst IsPageCode is (page_code v s n code r))
 
-bad_request : (v : Visit) (number : ℕ) (s n : Standing) (code : ℕ) → Origin v number s n code → code ≡ 400
+bad_request : (v : Visit) (number : ℕ) (s n : ClientStanding) (code : ℕ) → Origin v number s n code → code ≡ 400
     → RefusesAs s 400 ⊎ (((r : HasNoReply v number s n code) × HasBadLine v number s n code r) ⊎ HasNoPage v s n 400)
 bad_request v number s n code (inl head) is = inl (refuses_as s n code 400 head is)
 bad_request v number s n code (inr (inl unmounted)) is = absurd (omega (arith, unmounted.0, is))
 bad_request v number s n code (inr (inr (inl r))) is = inr (inl (r, r.forwarded.forwarded.gives.bad_line is))
 bad_request v number s n code (inr (inr (inr r))) is = inr (inr (subst (HasNoPage v s n) is r))
 
-forbidden : (v : Visit) (number : ℕ) (s n : Standing) (code : ℕ) → Origin v number s n code → code ≡ 403 → HasNoPage v s n 403
+forbidden : (v : Visit) (number : ℕ) (s n : ClientStanding) (code : ℕ) → Origin v number s n code → code ≡ 403 → HasNoPage v s n 403
 forbidden v number s n code (inl head) is = absurd (not_head s n code 403 head is (λ x. omega (arith, x)))
 forbidden v number s n code (inr (inl unmounted)) is = absurd (omega (arith, unmounted.0, is))
 forbidden v number s n code (inr (inr (inl r))) is = absurd (not_reply v number s n code 403 r is (λ x. omega (arith, x)))
 forbidden v number s n code (inr (inr (inr r))) is = subst (HasNoPage v s n) is r
 
-not_found : (v : Visit) (number : ℕ) (s n : Standing) (code : ℕ) → Origin v number s n code → code ≡ 404 → IsUnmounted v s ⊎ HasNoPage v s n 404
+not_found : (v : Visit) (number : ℕ) (s n : ClientStanding) (code : ℕ) → Origin v number s n code → code ≡ 404 → IsUnmounted v s ⊎ HasNoPage v s n 404
 not_found v number s n code (inl head) is = absurd (not_head s n code 404 head is (λ x. omega (arith, x)))
 not_found v number s n code (inr (inl unmounted)) is = inl unmounted.1
 not_found v number s n code (inr (inr (inl r))) is = absurd (not_reply v number s n code 404 r is (λ x. omega (arith, x)))
 not_found v number s n code (inr (inr (inr r))) is = inr (subst (HasNoPage v s n) is r)
 
-too_large : (v : Visit) (number : ℕ) (s n : Standing) (code : ℕ) → Origin v number s n code → code ≡ 413
+too_large : (v : Visit) (number : ℕ) (s n : ClientStanding) (code : ℕ) → Origin v number s n code → code ≡ 413
     → RefusesAs s 413 ⊎ ((r : HasNoReply v number s n code) × IsTooMuch v number s n code r)
 too_large v number s n code (inl head) is = inl (refuses_as s n code 413 head is)
 too_large v number s n code (inr (inl unmounted)) is = absurd (omega (arith, unmounted.0, is))
 too_large v number s n code (inr (inr (inl r))) is = inr (r, r.forwarded.forwarded.gives.too_large is)
 too_large v number s n code (inr (inr (inr r))) is = absurd (not_page v s n code 413 r is (λ x. omega (arith, x)))
 
-many_fields : (v : Visit) (number : ℕ) (s n : Standing) (code : ℕ) → Origin v number s n code → code ≡ 431 → RefusesAs s 431
+many_fields : (v : Visit) (number : ℕ) (s n : ClientStanding) (code : ℕ) → Origin v number s n code → code ≡ 431 → RefusesAs s 431
 many_fields v number s n code (inl head) is = refuses_as s n code 431 head is
 many_fields v number s n code (inr (inl unmounted)) is = absurd (omega (arith, unmounted.0, is))
 many_fields v number s n code (inr (inr (inl r))) is = absurd (not_reply v number s n code 431 r is (λ x. omega (arith, x)))
 many_fields v number s n code (inr (inr (inr r))) is = absurd (not_page v s n code 431 r is (λ x. omega (arith, x)))
 
-internal : (v : Visit) (number : ℕ) (s n : Standing) (code : ℕ) → Origin v number s n code → code ≡ 500
+internal : (v : Visit) (number : ℕ) (s n : ClientStanding) (code : ℕ) → Origin v number s n code → code ≡ 500
     → EndsWith s.desk.state n.desk.state answer.Forced ⊎ Rose s.desk.state.fulls n.desk.state.fulls
 internal v number s n code (inl head) is = absurd (not_head s n code 500 head is (λ x. omega (arith, x)))
 internal v number s n code (inr (inl unmounted)) is = absurd (omega (arith, unmounted.0, is))
@@ -267,20 +267,20 @@ internal v number s n code (inr (inr (inr r))) is =
     let page = subst (HasNoPage v s n) is r in
     inr (page_full v s n page (same_desk v s page.read page.begun page.head page.reads page.told_on))
 
-unbuilt : (v : Visit) (number : ℕ) (s n : Standing) (code : ℕ) → Origin v number s n code → code ≡ 501 → RefusesAs s 501
+unbuilt : (v : Visit) (number : ℕ) (s n : ClientStanding) (code : ℕ) → Origin v number s n code → code ≡ 501 → RefusesAs s 501
 unbuilt v number s n code (inl head) is = refuses_as s n code 501 head is
 unbuilt v number s n code (inr (inl unmounted)) is = absurd (omega (arith, unmounted.0, is))
 unbuilt v number s n code (inr (inr (inl r))) is = absurd (not_reply v number s n code 501 r is (λ x. omega (arith, x)))
 unbuilt v number s n code (inr (inr (inr r))) is = absurd (not_page v s n code 501 r is (λ x. omega (arith, x)))
 
-gateway : (v : Visit) (number : ℕ) (s n : Standing) (code : ℕ) → Origin v number s n code → code ≡ 502
+gateway : (v : Visit) (number : ℕ) (s n : ClientStanding) (code : ℕ) → Origin v number s n code → code ≡ 502
     → (r : HasNoReply v number s n code) × GaveUp v number s n code r false
 gateway v number s n code (inl head) is = absurd (not_head s n code 502 head is (λ x. omega (arith, x)))
 gateway v number s n code (inr (inl unmounted)) is = absurd (omega (arith, unmounted.0, is))
 gateway v number s n code (inr (inr (inl r))) is = (r, r.forwarded.forwarded.gives.gateway is)
 gateway v number s n code (inr (inr (inr r))) is = absurd (not_page v s n code 502 r is (λ x. omega (arith, x)))
 
-unavailable : (v : Visit) (number : ℕ) (s n : Standing) (code : ℕ) → Origin v number s n code → code ≡ 503
+unavailable : (v : Visit) (number : ℕ) (s n : ClientStanding) (code : ℕ) → Origin v number s n code → code ≡ 503
     → EndsWith s.desk.state n.desk.state answer.NoMember ⊎ ((r : HasNoReply v number s n code) × GaveUp v number s n code r true)
 unavailable v number s n code (inl head) is = absurd (not_head s n code 503 head is (λ x. omega (arith, x)))
 unavailable v number s n code (inr (inl unmounted)) is = absurd (omega (arith, unmounted.0, is))
@@ -291,7 +291,7 @@ unavailable v number s n code (inr (inr (inl r))) is =
     ]
 unavailable v number s n code (inr (inr (inr r))) is = absurd (not_page v s n code 503 r is (λ x. omega (arith, x)))
 
-of_origin : (v : Visit) (number : ℕ) (s n : Standing) (code : ℕ) → Origin v number s n code → HasOwnCause v number s n code
+of_origin : (v : Visit) (number : ℕ) (s n : ClientStanding) (code : ℕ) → Origin v number s n code → HasOwnCause v number s n code
 of_origin v number s n code from = record {
   bad_request = bad_request v number s n code from;
   forbidden = forbidden v number s n code from;
@@ -304,7 +304,7 @@ of_origin v number s n code from = record {
   unavailable = unavailable v number s n code from;
 }
 
-pub own_cause : (v : Visit) (number : ℕ) (s n : Standing) (rows : List Served) (end : SessionEnd) → EndsIn v number s n rows end
+pub own_cause : (v : Visit) (number : ℕ) (s n : ClientStanding) (rows : List Served) (end : SessionEnd) → EndsIn v number s n rows end
     → IfOwn end (HasOwnCause v number s n)
 own_cause v number s n rows (session_end.Closed requests why.ByClient) ends_in = tt
 own_cause v number s n rows (session_end.Closed requests why.Last) ends_in = tt

@@ -29,10 +29,10 @@ use Rattle.client_session.specs.Answers.{IsAnswer, IsForwarded, IsForwardedAt, I
 use Rattle.client_session.specs.Complete.{EndsWhole, GetsWhole, IsUndisturbed, ServesWhole, with_bytes}
 use Rattle.client_session.specs.Requests.{IsNewBody, Visit, continue_for, is_last, mounted_at}
 use Rattle.client_session.specs.Sessions.{BreaksRest, EndsIn, IsRequest, IsServed, IsUnread, ReadsHead}
-use Rattle.client_session.specs.Standings.{Standing, unread_at, with_body}
+use Rattle.client_session.specs.Standings.{ClientStanding, unread_at, with_body}
 use Rattle.client_session.specs.declared.ending.SessionEnd.{SessionEnd}
 use Rattle.client_session.specs.declared.ending.SessionEnd.TheVariants as session_end
-use Rattle.client_session.specs.declared.ending.Stop.TheVariants as stop
+use Rattle.client_session.specs.declared.ending.SessionStop.TheVariants as stop
 use Rattle.client_session.specs.declared.ending.Why.TheVariants as why
 use Rattle.client_session.specs.declared.turn.Answered.{Answered}
 use Rattle.client_session.specs.declared.turn.Answered.TheVariants as answered
@@ -41,15 +41,15 @@ use Rattle.client_session.proofs.DecideLaws.{cut_bytes, end_bytes, front_of_told
 -- ---- the request that was read is the one that stands there
 
 -- A request, where this head stands at the front and these bytes follow it.
-record IsAsked (v : Visit) (number : ℕ) (s n : Standing) (head : Head) (rest : List ℕ) (body : BodyIn) (a : Answered) (rows : List Served) : Type 0 where
-  pub read : Standing
+record IsAsked (v : Visit) (number : ℕ) (s n : ClientStanding) (head : Head) (rest : List ℕ) (body : BodyIn) (a : Answered) (rows : List Served) : Type 0 where
+  pub read : ClientStanding
   pub fresh : BodyIn
   pub reads : ReadsHead s read head
   pub is_fresh : IsNewBody head.plan fresh
   pub answers : IsAnswer v head (is_last number head) read n fresh body a rows
   pub left : unread_at read ≡ Some rest
 
-asked : (v : Visit) (number : ℕ) (s n : Standing) (head : Head) (used rest : List ℕ) (body : BodyIn) (a : Answered) (rows : List Served)
+asked : (v : Visit) (number : ℕ) (s n : ClientStanding) (head : Head) (used rest : List ℕ) (body : BodyIn) (a : Answered) (rows : List Served)
     → unread_at s ≡ Some (used ++ rest) → IsHeadOf used head → IsRequest v number s n body a rows → IsAsked v number s n head rest body a rows
 asked v number s n head used rest body a rows told is r =
     let there = front_of_told r.reads.used.bytes (unread_at r.read) (used ++ rest) (sym r.reads.used.used ∙ told) in
@@ -66,7 +66,7 @@ asked v number s n head used rest body a rows told is r =
 
 -- ---- the exchange is the one of this balancer, and nothing happens to it
 
-forwarded_as : (v : Visit) (head : Head) (last : Bool) (s n : Standing) (body body' : BodyIn) (end : ExchangeEnd) (lb : ℕ) (balancer : Lb)
+forwarded_as : (v : Visit) (head : Head) (last : Bool) (s n : ClientStanding) (body body' : BodyIn) (end : ExchangeEnd) (lb : ℕ) (balancer : Lb)
     → (is : IsForwarded v head last s n body body' end) → mounted_at v head ≡ Some (named.Balancer lb) → slice_get v.cfg.lbs lb ≡ Some balancer
     → IsForwardedAt v (errand_at v head last lb balancer) s n body body' end
 forwarded_as v head last s n body body' end lb balancer is mounted stands =
@@ -110,30 +110,30 @@ whole_over q s n s' n' t all w talks talks' data_is taken most reach client stra
 }
 
 -- What is the same where 100 Continue was written after the head.
-record IsBegun (s told : Standing) (rest : List ℕ) : Type 0 where
+record IsBegun (s told : ClientStanding) (rest : List ℕ) : Type 0 where
   pub desk : told.desk ≡ s.desk
   pub reach : told.reach ≡ s.reach
   pub faults : told.client.faults ≡ s.client.faults
   pub left : unread_at told ≡ Some rest
 
-begun : (v : Visit) (s read told : Standing) (head : Head) (rest : List ℕ) → ReadsHead s read head → unread_at read ≡ Some rest → IsToldOn v head read told
+begun : (v : Visit) (s read told : ClientStanding) (head : Head) (rest : List ℕ) → ReadsHead s read head → unread_at read ≡ Some rest → IsToldOn v head read told
     → IsBegun s told rest
 begun v s read told head rest reads left on = record {
-  desk = ap (λ (x : Standing). x.desk) on.written.alone ∙ ap (λ (x : Standing). x.desk) reads.on.alone;
-  reach = ap (λ (x : Standing). x.reach) on.written.alone ∙ ap (λ (x : Standing). x.reach) reads.on.alone;
+  desk = ap (λ (x : ClientStanding). x.desk) on.written.alone ∙ ap (λ (x : ClientStanding). x.desk) reads.on.alone;
+  reach = ap (λ (x : ClientStanding). x.reach) on.written.alone ∙ ap (λ (x : ClientStanding). x.reach) reads.on.alone;
   faults = on.written.puts.steady ∙ reads.on.steady;
-  left = ap (λ (i : List ℕ). unread i told.client.incoming) (ap (λ (x : Standing). x.inbox) on.written.alone)
+  left = ap (λ (i : List ℕ). unread i told.client.incoming) (ap (λ (x : ClientStanding). x.inbox) on.written.alone)
       ∙ ap (λ o. unread read.inbox o) on.written.puts.incoming ∙ left;
 }
 
 -- What is the same after the exchange, where no more is done than reading the rest of the body.
-record IsAfter (n e : Standing) : Type 0 where
+record IsAfter (n e : ClientStanding) : Type 0 where
   pub desk : e.desk ≡ n.desk
   pub reach : e.reach ≡ n.reach
   pub no_fewer : n.client.faults ≤ e.client.faults
   pub sent : e.client.sent ≡ n.client.sent
 
-at_once : (n : Standing) → IsAfter n n
+at_once : (n : ClientStanding) → IsAfter n n
 at_once n = record { desk = refl; reach = refl; no_fewer = omega arith; sent = refl }
 
 same_rose : (a b a' b' : ℕ) → a' ≡ a → b' ≡ b → Rose a' b' → Rose a b
@@ -142,11 +142,11 @@ same_rose a b a' b' first second rose = subst (λ (k : ℕ). Rose a k) second (s
 later_rose : (a b a' b' : ℕ) → a' ≡ a → b' ≤ b → Rose a' b' → Rose a b
 later_rose a b a' b' first more rose = omega (arith, first, more, rose)
 
-abbrev errand_in : (v : Visit) (number : ℕ) (s n : Standing) (head : Head) (t : Talk) (all : List Message) → IsUndisturbed v number s n head t all → Errand
+abbrev errand_in : (v : Visit) (number : ℕ) (s n : ClientStanding) (head : Head) (t : Talk) (all : List Message) → IsUndisturbed v number s n head t all → Errand
 errand_in v number s n head t all u = errand_at v head (is_last number head) u.lb u.balancer
 
 -- nothing happens to the exchange of the request that was read
-abbrev whole_in : (v : Visit) (number : ℕ) (s told n e : Standing) (head : Head) (t : Talk) (all : List Message) (u : IsUndisturbed v number s e head t all) (fresh body : BodyIn)
+abbrev whole_in : (v : Visit) (number : ℕ) (s told n e : ClientStanding) (head : Head) (t : Talk) (all : List Message) (u : IsUndisturbed v number s e head t all) (fresh body : BodyIn)
     → IsNewBody head.plan fresh → IsBegun s told u.rest → IsAfter n e
     → HasWhole (errand_in v number s e head t all u) (with_body told fresh) (with_body n body) t all
 whole_in v number s told n e head t all u fresh body is_fresh b after =
@@ -160,7 +160,7 @@ whole_in v number s told n e head t all u fresh body is_fresh b after =
 
 -- ---- it is answered whole
 
-gets_whole : (v : Visit) (number : ℕ) (s n e : Standing) (head : Head) (t : Talk) (all : List Message) (u : IsUndisturbed v number s e head t all) (body : BodyIn) (rows : List Served)
+gets_whole : (v : Visit) (number : ℕ) (s n e : ClientStanding) (head : Head) (t : Talk) (all : List Message) (u : IsUndisturbed v number s e head t all) (body : BodyIn) (rows : List Served)
     → IsAsked v number s n head u.rest body answered.Whole rows → IsAfter n e → GetsWhole v number s e head t all u
 gets_whole v number s n e head t all u body rows r after = by_answer r.answers
   where
@@ -179,13 +179,13 @@ gets_whole v number s n e head t all u body rows r after = by_answer r.answers
     by_answer (inr (told, on, inr (status, m, page, at, has, written, same, added))) =
         absurd (let there : mounted_at v head ≡ Some (named.Status at.place) = at.mounted in let here : mounted_at v head ≡ Some (named.Balancer u.lb) = u.mounted in cc)
 
-pub serves_whole : (v : Visit) (number : ℕ) (s n : Standing) (rows : List Served) → IsServed v number s n rows → ServesWhole v number s n
+pub serves_whole : (v : Visit) (number : ℕ) (s n : ClientStanding) (rows : List Served) → IsServed v number s n rows → ServesWhole v number s n
 serves_whole v number s n rows served head t all u =
     gets_whole v number s served.mid n head t all u served.body rows
     (asked v number s served.mid head u.used u.rest served.body answered.Whole rows u.told u.is_head served.going_on.request)
     (record {
-      desk = ap (λ (x : Standing). x.desk) served.skips.alone;
-      reach = ap (λ (x : Standing). x.reach) served.skips.alone;
+      desk = ap (λ (x : ClientStanding). x.desk) served.skips.alone;
+      reach = ap (λ (x : ClientStanding). x.reach) served.skips.alone;
       no_fewer = omega (arith, served.skips.passes.on.steady);
       sent = served.skips.passes.on.sent;
     })
@@ -199,7 +199,7 @@ not_status v head lb place here there = absurd cc
 not_nowhere : (v : Visit) (head : Head) (lb : ℕ) → mounted_at v head ≡ Some (named.Balancer lb) → mounted_at v head ≡ None → ⊥
 not_nowhere v head lb here there = absurd cc
 
-no_own : (v : Visit) (number : ℕ) (s n : Standing) (head : Head) (t : Talk) (all : List Message) (u : IsUndisturbed v number s n head t all) (body : BodyIn) (rows : List Served) (code : ℕ)
+no_own : (v : Visit) (number : ℕ) (s n : ClientStanding) (head : Head) (t : Talk) (all : List Message) (u : IsUndisturbed v number s n head t all) (body : BodyIn) (rows : List Served) (code : ℕ)
     → IsAsked v number s n head u.rest body (answered.Not (stop.Closed (why.Own code))) rows → ⊥
 no_own v number s n head t all u body rows code r = by_answer r.answers
   where
@@ -211,7 +211,7 @@ no_own v number s n head t all u body rows code r = by_answer r.answers
         at.complete t all (whole_in v number s told n n head t all u r.fresh body r.is_fresh b (at_once n))
     by_answer (inr (told, on, (added, inr (status, at, answer)))) = not_status v head u.lb at.place u.mounted at.mounted
 
-no_cut : (v : Visit) (number : ℕ) (s n : Standing) (head : Head) (t : Talk) (all : List Message) (u : IsUndisturbed v number s n head t all) (body : BodyIn) (rows : List Served)
+no_cut : (v : Visit) (number : ℕ) (s n : ClientStanding) (head : Head) (t : Talk) (all : List Message) (u : IsUndisturbed v number s n head t all) (body : BodyIn) (rows : List Served)
     → IsAsked v number s n head u.rest body (answered.Not (stop.Closed why.Cut)) rows → ⊥
 no_cut v number s n head t all u body rows r = by_answer r.answers
   where
@@ -222,7 +222,7 @@ no_cut v number s n head t all u body rows r = by_answer r.answers
         let at = forwarded_as v head (is_last number head) told n r.fresh body _ u.lb u.balancer is u.mounted u.stands in
         at.complete t all (whole_in v number s told n n head t all u r.fresh body r.is_fresh b (at_once n))
 
-no_truncated : (v : Visit) (number : ℕ) (s n : Standing) (head : Head) (t : Talk) (all : List Message) (u : IsUndisturbed v number s n head t all) (body : BodyIn) (rows : List Served)
+no_truncated : (v : Visit) (number : ℕ) (s n : ClientStanding) (head : Head) (t : Talk) (all : List Message) (u : IsUndisturbed v number s n head t all) (body : BodyIn) (rows : List Served)
     → IsAsked v number s n head u.rest body (answered.Not stop.Truncated) rows → ⊥
 no_truncated v number s n head t all u body rows r = by_answer r.answers
   where
@@ -233,7 +233,7 @@ no_truncated v number s n head t all u body rows r = by_answer r.answers
         let at = forwarded_as v head (is_last number head) told n r.fresh body _ u.lb u.balancer is u.mounted u.stands in
         at.complete t all (whole_in v number s told n n head t all u r.fresh body r.is_fresh b (at_once n))
 
-no_stray : (v : Visit) (number : ℕ) (s n : Standing) (head : Head) (t : Talk) (all : List Message) (u : IsUndisturbed v number s n head t all) (body : BodyIn) (rows : List Served) (ticket : ℕ) (returned_at : Option ℕ)
+no_stray : (v : Visit) (number : ℕ) (s n : ClientStanding) (head : Head) (t : Talk) (all : List Message) (u : IsUndisturbed v number s n head t all) (body : BodyIn) (rows : List Served) (ticket : ℕ) (returned_at : Option ℕ)
     → IsAsked v number s n head u.rest body (answered.Not (stop.Stray ticket returned_at)) rows → ⊥
 no_stray v number s n head t all u body rows ticket returned_at r = by_answer r.answers
   where
@@ -271,11 +271,11 @@ rest_of fresh body rest before left taken told takes whole below =
     }
 
 -- What is known where the answer was whole: the rest of the body can be read, and the client's faults are no fewer.
-record IsReadable (s mid : Standing) (body : BodyIn) : Type 0 where
+record IsReadable (s mid : ClientStanding) (body : BodyIn) : Type 0 where
   pub rest : HasRest body (unread_at mid)
   pub no_fewer : s.client.faults ≤ mid.client.faults
 
-readable : (v : Visit) (number : ℕ) (s mid n : Standing) (head : Head) (t : Talk) (all : List Message) (u : IsUndisturbed v number s n head t all) (body : BodyIn) (rows : List Served)
+readable : (v : Visit) (number : ℕ) (s mid n : ClientStanding) (head : Head) (t : Talk) (all : List Message) (u : IsUndisturbed v number s n head t all) (body : BodyIn) (rows : List Served)
     → IsAsked v number s mid head u.rest body answered.Whole rows → IsReadable s mid body
 readable v number s mid n head t all u body rows r = by_answer r.answers
   where
@@ -297,7 +297,7 @@ readable v number s mid n head t all u body rows r = by_answer r.answers
         }
     by_answer (inr (told, on, inr (status, m, page, at, has, written, same, added))) = absurd (not_status v head u.lb at.place u.mounted at.mounted)
 
-bad_readable : (s mid n : Standing) (body : BodyIn) (P : Data → Type 0) → IsReadable s mid body → ((d : Data) → P d → d.whole ≡ false)
+bad_readable : (s mid n : ClientStanding) (body : BodyIn) (P : Data → Type 0) → IsReadable s mid body → ((d : Data) → P d → d.whole ≡ false)
     → IfSome (data_of (place_of body) (unread_at mid)) P → ⊥
 bad_readable s mid n body P is unmet found =
     let here : P (data_from is.rest.more (place_of body)) = subst (λ (o : Option (List ℕ)). IfSome (data_of (place_of body) o) P) is.rest.is found in
@@ -305,7 +305,7 @@ bad_readable s mid n body P is unmet found =
     let whole = is.rest.whole in
     absurd cc
 
-long_readable : (s mid : Standing) (body : BodyIn) → IsReadable s mid body
+long_readable : (s mid : ClientStanding) (body : BodyIn) → IsReadable s mid body
     → IfSome (data_of (place_of body) (unread_at mid)) (λ (d : Data). most_of body ≤ taken_of body + length d.bytes) → ⊥
 long_readable s mid body is found =
     let P : Data → Type 0 = λ d. most_of body ≤ taken_of body + length d.bytes in
@@ -313,7 +313,7 @@ long_readable s mid body is found =
     absurd (omega (arith, here, is.rest.below))
 
 -- the rest of the body is read, unless memory is wanted
-no_unread : (s mid n : Standing) (body : BodyIn) (why' : BodyFault) → IsReadable s mid body → (Rose s.client.faults n.client.faults → ⊥)
+no_unread : (s mid n : ClientStanding) (body : BodyIn) (why' : BodyFault) → IsReadable s mid body → (Rose s.client.faults n.client.faults → ⊥)
     → BreaksRest mid n body why' → why' ≡ fault.NoMemory
 no_unread s mid n body fault.Truncated is steady breaks =
     absurd (bad_readable s mid n body _ is (λ d met. met.0) (breaks.meets.truncated refl breaks.going))
@@ -325,7 +325,7 @@ no_unread s mid n body fault.Fault is steady breaks =
     absurd (steady (omega (arith, rose, is.no_fewer)))
 no_unread s mid n body fault.NoMemory is steady breaks = refl
 
-unread_whole : (v : Visit) (number : ℕ) (s n : Standing) (rows : List Served) (why' : BodyFault) (head : Head) (t : Talk) (all : List Message) (u : IsUndisturbed v number s n head t all)
+unread_whole : (v : Visit) (number : ℕ) (s n : ClientStanding) (rows : List Served) (why' : BodyFault) (head : Head) (t : Talk) (all : List Message) (u : IsUndisturbed v number s n head t all)
     → IsUnread v number s n rows why' → why' ≡ fault.NoMemory
 unread_whole v number s n rows why' head t all u (body, mid, going_on, breaks) =
     let r = asked v number s mid head u.used u.rest body answered.Whole rows u.told u.is_head going_on.request in
@@ -333,14 +333,14 @@ unread_whole v number s n rows why' head t all u (body, mid, going_on, breaks) =
 
 -- ---- how the session ends there
 
-last_too : (v : Visit) (number : ℕ) (s n : Standing) (head : Head) (used rest : List ℕ) (body : BodyIn) (a : Answered) (rows : List Served) → unread_at s ≡ Some (used ++ rest) → IsHeadOf used head
+last_too : (v : Visit) (number : ℕ) (s n : ClientStanding) (head : Head) (used rest : List ℕ) (body : BodyIn) (a : Answered) (rows : List Served) → unread_at s ≡ Some (used ++ rest) → IsHeadOf used head
     → (r : IsRequest v number s n body a rows) → is_last number r.head ≡ true → is_last number head ≡ true
 last_too v number s n head used rest body a rows told is r last =
     let there = front_of_told r.reads.used.bytes (unread_at r.read) (used ++ rest) (sym r.reads.used.used ∙ told) in
     let one = head-one (used ++ rest) r.reads.used.bytes there.0 used rest r.head head there.2 r.reads.used.is refl is in
     subst (λ (h : Head). is_last number h ≡ true) one.1 last
 
-pub ends_whole : (v : Visit) (number : ℕ) (s n : Standing) (rows : List Served) (end : SessionEnd) → EndsIn v number s n rows end → EndsWhole v end number s n
+pub ends_whole : (v : Visit) (number : ℕ) (s n : ClientStanding) (rows : List Served) (end : SessionEnd) → EndsIn v number s n rows end → EndsWhole v end number s n
 ends_whole v number s n rows (session_end.Closed requests why.ByClient) (count, reads, none) head t all u =
     absurd (empty-head (u.used ++ u.rest) u.used u.rest head refl u.is_head (end_bytes (unread_at s) (unread_at n) (u.used ++ u.rest) reads.used u.told))
 ends_whole v number s n rows (session_end.Closed requests why.Last) (count, (body, r, last)) head t all u =

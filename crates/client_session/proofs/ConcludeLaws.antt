@@ -24,18 +24,18 @@ use Rattle.exchange.specs.declared.ending.ExchangeEnd.TheVariants as exchange_en
 use Rattle.client_session.specs.Answers.{IsAnswerAt, IsForwardedAt, errand_at}
 use Rattle.client_session.specs.Concluding.{HasNamesWithin, IsConclusion, IsWithin, rows_of}
 use Rattle.client_session.specs.Requests.{Visit, mounted_at}
-use Rattle.client_session.specs.Standings.{Standing, with_body}
+use Rattle.client_session.specs.Standings.{ClientStanding, with_body}
 use Rattle.client_session.specs.Turns.{GoesOn, MeetsInAnswer, RisesInAnswer}
 use Rattle.client_session.specs.declared.turn.Settled.{Settled}
 
 abbrev asked_of : Head → Asked
 asked_of head = asked.Line head.method head.target head.old
 
-abbrev Settles : Visit → Head → (last : Bool) → (s n : Standing) → (body body' : BodyIn) → Settled → Type 0
+abbrev Settles : Visit → Head → (last : Bool) → (s n : ClientStanding) → (body body' : BodyIn) → Settled → Type 0
 Settles v head last s n body body' settled = IsAnswerAt v head last s n body body' settled.answered (rows_of settled.row)
 
 -- the exchange went by the terms of the mount
-pub forwarded_by : (v : Visit) (head : Head) (last : Bool) (s n : Standing) (body body' : BodyIn) (lb : ℕ) (balancer : Lb) (t : Terms) (end : ExchangeEnd) → t ≡ terms v.rules head.clean
+pub forwarded_by : (v : Visit) (head : Head) (last : Bool) (s n : ClientStanding) (body body' : BodyIn) (lb : ℕ) (balancer : Lb) (t : Terms) (end : ExchangeEnd) → t ≡ terms v.rules head.clean
     → IsExchange (errand head v.peer last v.session lb t balancer) (with_body s body) (with_body n body') end
     → Gives (errand head v.peer last v.session lb t balancer) (with_body s body) (with_body n body') end
     → IsUsed (with_body s body).around.body (with_body n body').around.body
@@ -61,7 +61,7 @@ concluded_by end members balancer head_only head asked' settled are only line is
 pub stands_there : (lbs : List Lb) (lb : ℕ) (balancer : Lb) → lb < length lbs → balancer ≡ get_or lbs lb balancer → slice_get lbs lb ≡ Some balancer
 stands_there lbs lb balancer within is = slice_get_read lbs (length lbs) lb balancer refl within is
 
-pub forwards : (v : Visit) (head : Head) (last : Bool) (s n : Standing) (body body' : BodyIn) (lb : ℕ) (balancer : Lb) (end : ExchangeEnd) (settled : Settled)
+pub forwards : (v : Visit) (head : Head) (last : Bool) (s n : ClientStanding) (body body' : BodyIn) (lb : ℕ) (balancer : Lb) (end : ExchangeEnd) (settled : Settled)
     → mounted_at v head ≡ Some (named.Balancer lb) → slice_get v.cfg.lbs lb ≡ Some balancer
     → IsForwardedAt v (errand_at v head last lb balancer) s n body body' end
     → IsConclusion end balancer.book.members (is_head head) (asked_of head) settled
@@ -102,7 +102,7 @@ forwards v head last s n body body' lb balancer exchange_end.NoMemory settled mo
     (refl, inl (record { lb = lb; balancer = balancer; mounted = mounted; stands = stands; forwarded = at }))
 
 -- no call on the body had failed after a whole reply
-pub goes_on : (v : Visit) (head : Head) (last : Bool) (s n : Standing) (body body' : BodyIn) (lb : ℕ) (balancer : Lb) (end : ExchangeEnd) (settled : Settled)
+pub goes_on : (v : Visit) (head : Head) (last : Bool) (s n : ClientStanding) (body body' : BodyIn) (lb : ℕ) (balancer : Lb) (end : ExchangeEnd) (settled : Settled)
     → IsForwardedAt v (errand_at v head last lb balancer) s n body body' end
     → IsConclusion end balancer.book.members (is_head head) (asked_of head) settled → GoesOn settled.answered body'
 goes_on v head last s n body body' lb balancer (exchange_end.Done member told) settled at concluded =
@@ -121,7 +121,7 @@ goes_on v head last s n body body' lb balancer exchange_end.NoMemory settled at 
     subst (λ (x : Settled). GoesOn x.answered body') (sym concluded) tt
 
 -- a stray was met where the exchange met one
-pub meets : (v : Visit) (head : Head) (last : Bool) (s n : Standing) (body body' : BodyIn) (lb : ℕ) (balancer : Lb) (end : ExchangeEnd) (settled : Settled)
+pub meets : (v : Visit) (head : Head) (last : Bool) (s n : ClientStanding) (body body' : BodyIn) (lb : ℕ) (balancer : Lb) (end : ExchangeEnd) (settled : Settled)
     → IsForwardedAt v (errand_at v head last lb balancer) s n body body' end
     → IsConclusion end balancer.book.members (is_head head) (asked_of head) settled
     → MeetsInAnswer settled.answered s.desk.state n.desk.state
@@ -141,7 +141,7 @@ meets v head last s n body body' lb balancer exchange_end.NoMemory settled at co
     subst (λ (x : Settled). MeetsInAnswer x.answered s.desk.state n.desk.state) (sym concluded) at.met
 
 -- the client's faults rose where they ended the exchange
-pub rises : (v : Visit) (head : Head) (last : Bool) (s n : Standing) (body body' : BodyIn) (lb : ℕ) (balancer : Lb) (end : ExchangeEnd) (settled : Settled)
+pub rises : (v : Visit) (head : Head) (last : Bool) (s n : ClientStanding) (body body' : BodyIn) (lb : ℕ) (balancer : Lb) (end : ExchangeEnd) (settled : Settled)
     → IsForwardedAt v (errand_at v head last lb balancer) s n body body' end
     → IsConclusion end balancer.book.members (is_head head) (asked_of head) settled
     → RisesInAnswer settled.answered s.client.faults n.client.faults
@@ -164,7 +164,7 @@ known_own : (status : ℕ) (own : Own) → own_of status ≡ Some own → IsSome
 known_own status own is = rw is refl
 
 -- the end names a member whose name there is room for, or an own answer that there is
-pub within : (v : Visit) (head : Head) (last : Bool) (s n : Standing) (body body' : BodyIn) (lb : ℕ) (balancer : Lb) (longest room : ℕ) (end : ExchangeEnd)
+pub within : (v : Visit) (head : Head) (last : Bool) (s n : ClientStanding) (body body' : BodyIn) (lb : ℕ) (balancer : Lb) (longest room : ℕ) (end : ExchangeEnd)
     → slice_get v.cfg.lbs lb ≡ Some balancer → HasNamesWithin v.cfg (named.Balancer lb) longest → longest ≤ room
     → IsForwardedAt v (errand_at v head last lb balancer) s n body body' end → IsWithin end balancer.book.members room
 within v head last s n body body' lb balancer longest room (exchange_end.Done member told) stands names enough at =

@@ -27,10 +27,10 @@ use Rattle.client_session.specs.Answers.{IsAnswer, IsAnswerAt, IsAtStatus, Stops
 use Rattle.client_session.specs.Causes.{Calmly, DecidesEnd}
 use Rattle.client_session.specs.Requests.{Visit, mounted_at}
 use Rattle.client_session.specs.Sessions.{EndsIn, IsRequest, ReadsCut, ReadsHead, ReadsRefused}
-use Rattle.client_session.specs.Standings.{Standing, unread_at}
+use Rattle.client_session.specs.Standings.{ClientStanding, unread_at}
 use Rattle.client_session.specs.declared.ending.SessionEnd.{SessionEnd}
 use Rattle.client_session.specs.declared.ending.SessionEnd.TheVariants as session_end
-use Rattle.client_session.specs.declared.ending.Stop.TheVariants as stop
+use Rattle.client_session.specs.declared.ending.SessionStop.TheVariants as stop
 use Rattle.client_session.specs.declared.ending.Why.TheVariants as why
 use Rattle.client_session.specs.declared.turn.Answered.{Answered}
 use Rattle.client_session.specs.declared.turn.Answered.TheVariants as answered
@@ -74,18 +74,18 @@ refuses_more bytes more form (inr over) = inr (
   },
 )
 
-head_bytes : (s read : Standing) (head : Head) (bytes : List ℕ) → ReadsHead s read head → unread_at s ≡ Some bytes
+head_bytes : (s read : ClientStanding) (head : Head) (bytes : List ℕ) → ReadsHead s read head → unread_at s ≡ Some bytes
     → (used : List ℕ) × (rest : List ℕ) × (bytes ≡ used ++ rest) × IsHeadOf used head
 head_bytes s read head bytes reads told =
     let there = front_of_told reads.used.bytes (unread_at read) bytes (sym reads.used.used ∙ told) in
     (reads.used.bytes, there.0, there.2, reads.used.is)
 
-pub refused_bytes : (s read : Standing) (form : Form) (bytes : List ℕ) → ReadsRefused s read form → unread_at s ≡ Some bytes → Refuses bytes form
+pub refused_bytes : (s read : ClientStanding) (form : Form) (bytes : List ℕ) → ReadsRefused s read form → unread_at s ≡ Some bytes → Refuses bytes form
 refused_bytes s read form bytes reads told =
     let there = front_of_told read.inbox read.client.incoming bytes (reads.unused ∙ told) in
     subst (λ (l : List ℕ). Refuses l form) (sym there.2) (refuses_more read.inbox there.0 form reads.refused)
 
-pub cut_bytes : (s n : Standing) (bytes : List ℕ) → ReadsCut s n → unread_at s ≡ Some bytes → EndsWithin bytes
+pub cut_bytes : (s n : ClientStanding) (bytes : List ℕ) → ReadsCut s n → unread_at s ≡ Some bytes → EndsWithin bytes
 cut_bytes s n bytes reads told =
     let there = front_of_told n.inbox n.client.incoming bytes (reads.unused ∙ told) in
     let none : there.0 ≡ [] = rw there.1 at reads.over in
@@ -153,7 +153,7 @@ abbrev IsOwnOrLess : (code : ℕ) → Answered → Type 0
 IsOwnOrLess code a =
     (a ≡ answered.Not (stop.Closed (why.Own code))) ⊎ ((a ≡ answered.Not stop.ClientFault) ⊎ (a ≡ answered.Not stop.NoMemory))
 
-early_own : (v : Visit) (head : Head) (s n : Standing) (a : Answered) (rows : List Served) → StopsEarly v head s n a rows → IsOwnOrLess 404 a
+early_own : (v : Visit) (head : Head) (s n : ClientStanding) (a : Answered) (rows : List Served) → StopsEarly v head s n a rows → IsOwnOrLess 404 a
 early_own v head s n answered.Whole rows early = absurd early
 early_own v head s n (answered.Not (stop.Closed why.ByClient)) rows early = absurd early
 early_own v head s n (answered.Not (stop.Closed why.Last)) rows early = absurd early
@@ -165,14 +165,14 @@ early_own v head s n (answered.Not stop.Truncated) rows early = absurd early
 early_own v head s n (answered.Not (stop.Stray ticket returned_at)) rows early = absurd early
 early_own v head s n (answered.Not stop.NoMemory) rows early = inr (inr refl)
 
-unmounted_own : (v : Visit) (head : Head) (last : Bool) (s n : Standing) (body body' : BodyIn) (a : Answered) (rows : List Served)
+unmounted_own : (v : Visit) (head : Head) (last : Bool) (s n : ClientStanding) (body body' : BodyIn) (a : Answered) (rows : List Served)
     → IsAnswer v head last s n body body' a rows → mounted_at v head ≡ None → IsOwnOrLess 404 a
 unmounted_own v head last s n body body' a rows (inl early) none = early_own v head s n a rows early
 unmounted_own v head last s n body body' a rows (inr (begun, told_on, at)) none =
     let some : IsSome (mounted_at v head) = told_on.mounted in absurd cc
 
 -- a request that is mounted at a status worker was answered early by no own answer
-early_less : (v : Visit) (head : Head) (s n : Standing) (a : Answered) (rows : List Served) (status : Status) (code : ℕ) → StopsEarly v head s n a rows
+early_less : (v : Visit) (head : Head) (s n : ClientStanding) (a : Answered) (rows : List Served) (status : Status) (code : ℕ) → StopsEarly v head s n a rows
     → IsAtStatus v head status → IsOwnOrLess code a
 early_less v head s n answered.Whole rows status code early at = absurd early
 early_less v head s n (answered.Not (stop.Closed why.ByClient)) rows status code early at = absurd early
@@ -203,7 +203,7 @@ turned_own : (cfg : Config) (session : ℕ) (status : Status) (query : Option (L
 turned_own cfg session status query s n code other refused (inl turned) = refused_one cfg status query other code turned.0 refused
 turned_own cfg session status query s n code other refused (inr (work, error, asks, stops, is)) = absurd (refused_unasked cfg status query code work refused asks)
 
-refused_own : (v : Visit) (head : Head) (last : Bool) (s n : Standing) (body body' : BodyIn) (a : Answered) (rows : List Served) (status : Status) (code : ℕ)
+refused_own : (v : Visit) (head : Head) (last : Bool) (s n : ClientStanding) (body body' : BodyIn) (a : Answered) (rows : List Served) (status : Status) (code : ℕ)
     → IsAnswerAt v head last s n body body' a rows → IsAtStatus v head status → IsRefused v.cfg status head.query code → IsOwnOrLess code a
 refused_own v head last s n body body' answered.Whole rows status code (inl (member, told, row, is, row_is, added)) at refused =
     absurd (not_both v head is.lb status is.mounted at)
@@ -231,8 +231,8 @@ refused_own v head last s n body body' (answered.Not stop.NoMemory) rows status 
 -- ---- how the session ends at a head
 
 -- The head at the front; and how the session ends where no worker is mounted there, or a status worker refuses it.
-record HasHead (v : Visit) (number : ℕ) (s : Standing) (end : SessionEnd) : Type 0 where
-  read : Standing
+record HasHead (v : Visit) (number : ℕ) (s : ClientStanding) (end : SessionEnd) : Type 0 where
+  read : ClientStanding
   head : Head
   reads : ReadsHead s read head
   unmounted : mounted_at v head ≡ None → end ≡ session_end.Closed number (why.Own 404)
@@ -243,7 +243,7 @@ record HasHead (v : Visit) (number : ℕ) (s : Standing) (end : SessionEnd) : Ty
 abbrev IsEndOf : (number : ℕ) → Answered → SessionEnd → Type 0
 IsEndOf number a end = (code : ℕ) → IsOwnOrLess code a → end ≡ session_end.Closed number (why.Own code)
 
-at_head : (v : Visit) (number : ℕ) (s n : Standing) (body : BodyIn) (a : Answered) (rows : List Served) (end : SessionEnd)
+at_head : (v : Visit) (number : ℕ) (s n : ClientStanding) (body : BodyIn) (a : Answered) (rows : List Served) (end : SessionEnd)
     → IsRequest v number s n body a rows → IsEndOf number a end → HasHead v number s end
 at_head v number s n body a rows end request is = record {
   read = request.read;
@@ -285,14 +285,14 @@ own_other number requests other counted code (inr (inl is)) = absurd cc
 own_other number requests other counted code (inr (inr is)) = absurd cc
 
 -- what stands at the front, and the end that goes with it
-abbrev IsAtFront : Visit → (number : ℕ) → (s n : Standing) → SessionEnd → Type 0
+abbrev IsAtFront : Visit → (number : ℕ) → (s n : ClientStanding) → SessionEnd → Type 0
 IsAtFront v number s n end =
     ((end ≡ session_end.Closed number why.ByClient) × UsesEnd (unread_at s) (unread_at n))
     ⊎ (((end ≡ session_end.Truncated number) × ReadsCut s n)
-    ⊎ (((read : Standing) × (form : Form) × ReadsRefused s read form × (end ≡ session_end.Closed number (why.Own (status_of form))))
+    ⊎ (((read : ClientStanding) × (form : Form) × ReadsRefused s read form × (end ≡ session_end.Closed number (why.Own (status_of form))))
     ⊎ HasHead v number s end))
 
-at_front : (v : Visit) (number : ℕ) (s n : Standing) (rows : List Served) (end : SessionEnd) → EndsIn v number s n rows end
+at_front : (v : Visit) (number : ℕ) (s n : ClientStanding) (rows : List Served) (end : SessionEnd) → EndsIn v number s n rows end
     → Calmly end (IsAtFront v number s n end)
 at_front v number s n rows (session_end.Closed requests why.ByClient) (counted, reads, added) =
     inl (ap (λ (k : ℕ). session_end.Closed k why.ByClient) counted, reads.used)
@@ -321,7 +321,7 @@ at_front v number s n rows session_end.NoMemory ends_in = tt
 
 -- ---- the bytes decide
 
-over_by : (v : Visit) (number : ℕ) (s n : Standing) (end : SessionEnd) (bytes : List ℕ) → unread_at s ≡ Some bytes → IsAtFront v number s n end
+over_by : (v : Visit) (number : ℕ) (s n : ClientStanding) (end : SessionEnd) (bytes : List ℕ) → unread_at s ≡ Some bytes → IsAtFront v number s n end
     → AreEmptyLines bytes → end ≡ session_end.Closed number why.ByClient
 over_by v number s n end bytes told (inl ended) empty = ended.0
 over_by v number s n end bytes told (inr (inl cut)) empty = absurd ((cut_bytes s n bytes cut.1 told).begun empty.empty)
@@ -331,7 +331,7 @@ over_by v number s n end bytes told (inr (inr (inr h))) empty =
     let there = head_bytes s h.read h.head bytes h.reads told in
     absurd (empty-head bytes there.0 there.1 h.head there.2 there.3 empty)
 
-cut_by : (v : Visit) (number : ℕ) (s n : Standing) (end : SessionEnd) (bytes : List ℕ) → unread_at s ≡ Some bytes → IsAtFront v number s n end
+cut_by : (v : Visit) (number : ℕ) (s n : ClientStanding) (end : SessionEnd) (bytes : List ℕ) → unread_at s ≡ Some bytes → IsAtFront v number s n end
     → EndsWithin bytes → end ≡ session_end.Truncated number
 cut_by v number s n end bytes told (inl ended) short = absurd (short.begun (end_bytes _ _ bytes ended.1 told).empty)
 cut_by v number s n end bytes told (inr (inl cut)) short = cut.0
@@ -341,7 +341,7 @@ cut_by v number s n end bytes told (inr (inr (inr h))) short =
     let there = head_bytes s h.read h.head bytes h.reads told in
     absurd (short-head bytes there.0 there.1 h.head there.2 there.3 short)
 
-refused_by : (v : Visit) (number : ℕ) (s n : Standing) (end : SessionEnd) (bytes : List ℕ) (form : Form) → unread_at s ≡ Some bytes → IsAtFront v number s n end
+refused_by : (v : Visit) (number : ℕ) (s n : ClientStanding) (end : SessionEnd) (bytes : List ℕ) (form : Form) → unread_at s ≡ Some bytes → IsAtFront v number s n end
     → Refuses bytes form → end ≡ session_end.Closed number (why.Own (status_of form))
 refused_by v number s n end bytes form told (inl ended) refused = absurd (empty-refused bytes form refused (end_bytes _ _ bytes ended.1 told))
 refused_by v number s n end bytes form told (inr (inl cut)) refused = absurd (short-refused bytes form refused (cut_bytes s n bytes cut.1 told))
@@ -352,7 +352,7 @@ refused_by v number s n end bytes form told (inr (inr (inr h))) refused =
     absurd (head-refused bytes there.0 there.1 h.head form there.2 there.3 refused)
 
 -- the head that stands there is the one that was read
-headed_by : (v : Visit) (number : ℕ) (s n : Standing) (end : SessionEnd) (bytes used rest : List ℕ) (head : Head) → unread_at s ≡ Some bytes
+headed_by : (v : Visit) (number : ℕ) (s n : ClientStanding) (end : SessionEnd) (bytes used rest : List ℕ) (head : Head) → unread_at s ≡ Some bytes
     → IsAtFront v number s n end → bytes ≡ used ++ rest → IsHeadOf used head → (h : HasHead v number s end) × (h.head ≡ head)
 headed_by v number s n end bytes used rest head told (inl ended) whole is =
     absurd (empty-head bytes used rest head whole is (end_bytes _ _ bytes ended.1 told))
@@ -364,7 +364,7 @@ headed_by v number s n end bytes used rest head told (inr (inr (inr h))) whole i
     let there = head_bytes s h.read h.head bytes h.reads told in
     (h, (head-one bytes there.0 there.1 used rest h.head head there.2 there.3 whole is).1)
 
-pub decides : (v : Visit) (number : ℕ) (s n : Standing) (rows : List Served) (end : SessionEnd) (bytes : List ℕ) → EndsIn v number s n rows end
+pub decides : (v : Visit) (number : ℕ) (s n : ClientStanding) (rows : List Served) (end : SessionEnd) (bytes : List ℕ) → EndsIn v number s n rows end
     → unread_at s ≡ Some bytes → DecidesEnd v number bytes end
 decides v number s n rows end bytes ends_in told = record {
   over = λ empty. calmly_on end (at_front v number s n rows end ends_in) (λ front. over_by v number s n end bytes told front empty);

@@ -21,30 +21,30 @@ use Rattle.client_session.specs.Finishing.{RefusesHead, StopsWithoutHead}
 use Rattle.client_session.specs.Ready.{IsReady}
 use Rattle.client_session.specs.Requests.{Visit}
 use Rattle.client_session.specs.Sessions.{EndsIn, HaveServed, IsSession, ReadsEnd, ReadsRefused, refused_row}
-use Rattle.client_session.specs.Standings.{IsClientAlone, Standing, StopsReading, unread_at}
+use Rattle.client_session.specs.Standings.{IsClientAlone, ClientStanding, StopsReading, unread_at}
 use Rattle.client_session.specs.Turns.{Turns}
 use Rattle.client_session.specs.declared.ending.SessionEnd.{SessionEnd}
 use Rattle.client_session.specs.declared.ending.SessionEnd.TheVariants as session_end
-use Rattle.client_session.specs.declared.ending.Stop.{Stop}
-use Rattle.client_session.specs.declared.ending.Stop.TheVariants as stop
+use Rattle.client_session.specs.declared.ending.SessionStop.{SessionStop}
+use Rattle.client_session.specs.declared.ending.SessionStop.TheVariants as stop
 use Rattle.client_session.specs.declared.ending.Why.TheVariants as why
-use Rattle.client_session.specs.declared.turn.Turn.TheVariants as turn
+use Rattle.client_session.specs.declared.turn.SessionTurn.TheVariants as turn
 
 -- ---- a refused head
 
 nothing_added : (rows rows' : List Served) → rows' ≡ rows → rows' ≡ rows ++ []
 nothing_added rows rows' is = is ∙ sym (append-nil rows)
 
-same_again : (read n : Standing) → n ≡ record read { client = n.client } → n.client ≡ read.client → n ≡ read
+same_again : (read n : ClientStanding) → n ≡ record read { client = n.client } → n.client ≡ read.client → n ≡ read
 same_again read n alone same = alone ∙ ap (λ (c : Moment). record read { client = c }) same
 
 rose_since : (first before now : ℕ) → before ≡ first → Rose before now → Rose first now
 rose_since first before now is rose = subst (λ (k : ℕ). Rose k now) is rose
 
-pub refuses : (v : Visit) (number : ℕ) (s read n : Standing) (form : Form) (rows rows' : List Served) (stop' : Stop) → ReadsRefused s read form
+pub refuses : (v : Visit) (number : ℕ) (s read n : ClientStanding) (form : Form) (rows rows' : List Served) (stop' : SessionStop) → ReadsRefused s read form
     → n ≡ record read { client = n.client } → RefusesHead form read.client n.client rows rows' stop' → Turns v number s n rows rows' (turn.EndsAt stop')
 refuses v number s read n form rows rows' stop' reads alone (inl wanted) =
-    subst (λ (x : Stop). Turns v number s n rows rows' (turn.EndsAt x)) (sym wanted.0)
+    subst (λ (x : SessionStop). Turns v number s n rows rows' (turn.EndsAt x)) (sym wanted.0)
     ([], nothing_added rows rows' wanted.2, inl (refl, inr (inr (inl (read, form, reads, same_again read n alone wanted.1)))))
 refuses v number s read n form rows rows' (stop.Closed why.ByClient) reads alone (inr written) = absurd written.0
 refuses v number s read n form rows rows' (stop.Closed why.Last) reads alone (inr written) = absurd written.0
@@ -74,25 +74,25 @@ refuses v number s read n form rows rows' stop.NoMemory reads alone (inr written
   inl (refl, inr (inl (record { read = read; form = form; reads = reads; begun = record { puts = written.0; alone = alone } }))),
 )
 
-refused_meets : (form : Form) (s n : Moment) (rows rows' : List Served) (stop' : Stop) (desk : DeskState) → RefusesHead form s n rows rows' stop'
+refused_meets : (form : Form) (s n : Moment) (rows rows' : List Served) (stop' : SessionStop) (desk : DeskState) → RefusesHead form s n rows rows' stop'
     → MeetsBy (end_of stop' 0) desk desk
-refused_meets form s n rows rows' stop' desk (inl wanted) = subst (λ (x : Stop). MeetsBy (end_of x 0) desk desk) (sym wanted.0) (none_met desk)
+refused_meets form s n rows rows' stop' desk (inl wanted) = subst (λ (x : SessionStop). MeetsBy (end_of x 0) desk desk) (sym wanted.0) (none_met desk)
 refused_meets form s n rows rows' (stop.Closed w) desk (inr written) = none_met desk
 refused_meets form s n rows rows' stop.ClientFault desk (inr written) = none_met desk
 refused_meets form s n rows rows' stop.Truncated desk (inr written) = none_met desk
 refused_meets form s n rows rows' (stop.Stray ticket returned_at) desk (inr written) = absurd written.0
 refused_meets form s n rows rows' stop.NoMemory desk (inr written) = none_met desk
 
-refused_rises : (form : Form) (first : ℕ) (s n : Moment) (rows rows' : List Served) (stop' : Stop) → s.faults ≡ first → RefusesHead form s n rows rows' stop'
+refused_rises : (form : Form) (first : ℕ) (s n : Moment) (rows rows' : List Served) (stop' : SessionStop) → s.faults ≡ first → RefusesHead form s n rows rows' stop'
     → RisesBy (end_of stop' 0) first n.faults
-refused_rises form first s n rows rows' stop' steady (inl wanted) = subst (λ (x : Stop). RisesBy (end_of x 0) first n.faults) (sym wanted.0) tt
+refused_rises form first s n rows rows' stop' steady (inl wanted) = subst (λ (x : SessionStop). RisesBy (end_of x 0) first n.faults) (sym wanted.0) tt
 refused_rises form first s n rows rows' (stop.Closed w) steady (inr written) = tt
 refused_rises form first s n rows rows' stop.ClientFault steady (inr written) = rose_since _ _ _ steady written.0.0
 refused_rises form first s n rows rows' stop.Truncated steady (inr written) = tt
 refused_rises form first s n rows rows' (stop.Stray ticket returned_at) steady (inr written) = tt
 refused_rises form first s n rows rows' stop.NoMemory steady (inr written) = tt
 
-refused_no_fewer : (form : Form) (s n : Moment) (rows rows' : List Served) (stop' : Stop) → RefusesHead form s n rows rows' stop' → s.faults ≤ n.faults
+refused_no_fewer : (form : Form) (s n : Moment) (rows rows' : List Served) (stop' : SessionStop) → RefusesHead form s n rows rows' stop' → s.faults ≤ n.faults
 refused_no_fewer form s n rows rows' stop' (inl wanted) = subst (λ (m : Moment). s.faults ≤ m.faults) (sym wanted.1) (omega arith)
 refused_no_fewer form s n rows rows' (stop.Closed why.ByClient) (inr written) = absurd written.0
 refused_no_fewer form s n rows rows' (stop.Closed why.Last) (inr written) = absurd written.0
@@ -107,7 +107,7 @@ refused_no_fewer form s n rows rows' stop.NoMemory (inr written) = written.0.no_
 -- ---- no head
 
 -- No head was read, for this reason, and none of the client's bytes was used.
-pub record ReadsNoHead (s read : Standing) (e : HeadError) : Type 0 where
+pub record ReadsNoHead (s read : ClientStanding) (e : HeadError) : Type 0 where
   pub alone : IsClientAlone s read
   pub sent : read.client.sent ≡ s.client.sent
   pub unused : unread_at read ≡ unread_at s
@@ -117,16 +117,16 @@ pub record ReadsNoHead (s read : Standing) (e : HeadError) : Type 0 where
   pub fault : IsErrOf {T = HeadGot} (Err e) error.Fault → Rose s.client.faults read.client.faults
   pub steady : IsCalm {T = HeadGot} (Err e) → read.client.faults ≡ s.client.faults
 
-stays : (s read : Standing) (e : HeadError) → ReadsNoHead s read e → StopsReading s read
+stays : (s read : ClientStanding) (e : HeadError) → ReadsNoHead s read e → StopsReading s read
 stays s read e reads = record { alone = reads.alone; sent = reads.sent; unused = reads.unused; no_fewer = reads.no_fewer }
 
-ends_there : (v : Visit) (number : ℕ) (s read n : Standing) (rows rows' : List Served) (stop' x : Stop) → n ≡ record read { client = n.client }
+ends_there : (v : Visit) (number : ℕ) (s read n : ClientStanding) (rows rows' : List Served) (stop' x : SessionStop) → n ≡ record read { client = n.client }
     → (stop' ≡ x) × (n.client ≡ read.client) × (rows' ≡ rows) → EndsIn v number s read [] (end_of x number) → Turns v number s n rows rows' (turn.EndsAt stop')
 ends_there v number s read n rows rows' stop' x alone stops why' =
-    subst (λ (m : Standing). Turns v number s m rows rows' (turn.EndsAt stop')) (sym (same_again read n alone stops.1))
-    (subst (λ (y : Stop). Turns v number s read rows rows' (turn.EndsAt y)) (sym stops.0) ([], nothing_added rows rows' stops.2, why'))
+    subst (λ (m : ClientStanding). Turns v number s m rows rows' (turn.EndsAt stop')) (sym (same_again read n alone stops.1))
+    (subst (λ (y : SessionStop). Turns v number s read rows rows' (turn.EndsAt y)) (sym stops.0) ([], nothing_added rows rows' stops.2, why'))
 
-pub without_head : (v : Visit) (number : ℕ) (s read n : Standing) (e : HeadError) (rows rows' : List Served) (stop' : Stop) → ReadsNoHead s read e
+pub without_head : (v : Visit) (number : ℕ) (s read n : ClientStanding) (e : HeadError) (rows rows' : List Served) (stop' : SessionStop) → ReadsNoHead s read e
     → n ≡ record read { client = n.client } → StopsWithoutHead e read.client n.client rows rows' stop' → Turns v number s n rows rows' (turn.EndsAt stop')
 without_head v number s read n (error.Refused status form) rows rows' stop' reads alone stops =
     refuses v number s read n form rows rows' stop'
@@ -140,55 +140,55 @@ without_head v number s read n error.Fault rows rows' stop' reads alone stops =
 without_head v number s read n error.NoMemory rows rows' stop' reads alone stops =
     ends_there v number s read n rows rows' stop' stop.NoMemory alone stops (inl (refl, inl (stays s read error.NoMemory reads)))
 
-pub meets_without_head : (e : HeadError) (s n : Moment) (rows rows' : List Served) (stop' : Stop) (desk : DeskState) → StopsWithoutHead e s n rows rows' stop'
+pub meets_without_head : (e : HeadError) (s n : Moment) (rows rows' : List Served) (stop' : SessionStop) (desk : DeskState) → StopsWithoutHead e s n rows rows' stop'
     → MeetsBy (end_of stop' 0) desk desk
 meets_without_head (error.Refused status form) s n rows rows' stop' desk stops = refused_meets form s n rows rows' stop' desk stops
-meets_without_head error.Truncated s n rows rows' stop' desk stops = subst (λ (x : Stop). MeetsBy (end_of x 0) desk desk) (sym stops.0) (none_met desk)
-meets_without_head error.Fault s n rows rows' stop' desk stops = subst (λ (x : Stop). MeetsBy (end_of x 0) desk desk) (sym stops.0) (none_met desk)
-meets_without_head error.NoMemory s n rows rows' stop' desk stops = subst (λ (x : Stop). MeetsBy (end_of x 0) desk desk) (sym stops.0) (none_met desk)
+meets_without_head error.Truncated s n rows rows' stop' desk stops = subst (λ (x : SessionStop). MeetsBy (end_of x 0) desk desk) (sym stops.0) (none_met desk)
+meets_without_head error.Fault s n rows rows' stop' desk stops = subst (λ (x : SessionStop). MeetsBy (end_of x 0) desk desk) (sym stops.0) (none_met desk)
+meets_without_head error.NoMemory s n rows rows' stop' desk stops = subst (λ (x : SessionStop). MeetsBy (end_of x 0) desk desk) (sym stops.0) (none_met desk)
 
-pub rises_without_head : (s read : Standing) (n : Moment) (e : HeadError) (rows rows' : List Served) (stop' : Stop) → ReadsNoHead s read e
+pub rises_without_head : (s read : ClientStanding) (n : Moment) (e : HeadError) (rows rows' : List Served) (stop' : SessionStop) → ReadsNoHead s read e
     → StopsWithoutHead e read.client n rows rows' stop' → RisesBy (end_of stop' 0) s.client.faults n.faults
 rises_without_head s read n (error.Refused status form) rows rows' stop' reads stops =
     refused_rises form s.client.faults read.client n rows rows' stop' (reads.steady tt) stops
-rises_without_head s read n error.Truncated rows rows' stop' reads stops = subst (λ (x : Stop). RisesBy (end_of x 0) s.client.faults n.faults) (sym stops.0) tt
+rises_without_head s read n error.Truncated rows rows' stop' reads stops = subst (λ (x : SessionStop). RisesBy (end_of x 0) s.client.faults n.faults) (sym stops.0) tt
 rises_without_head s read n error.Fault rows rows' stop' reads stops =
-    subst (λ (x : Stop). RisesBy (end_of x 0) s.client.faults n.faults) (sym stops.0)
+    subst (λ (x : SessionStop). RisesBy (end_of x 0) s.client.faults n.faults) (sym stops.0)
     (subst (λ (m : Moment). Rose s.client.faults m.faults) (sym stops.1) (reads.fault refl))
-rises_without_head s read n error.NoMemory rows rows' stop' reads stops = subst (λ (x : Stop). RisesBy (end_of x 0) s.client.faults n.faults) (sym stops.0) tt
+rises_without_head s read n error.NoMemory rows rows' stop' reads stops = subst (λ (x : SessionStop). RisesBy (end_of x 0) s.client.faults n.faults) (sym stops.0) tt
 
-pub no_fewer_without_head : (e : HeadError) (s n : Moment) (rows rows' : List Served) (stop' : Stop) → StopsWithoutHead e s n rows rows' stop' → s.faults ≤ n.faults
+pub no_fewer_without_head : (e : HeadError) (s n : Moment) (rows rows' : List Served) (stop' : SessionStop) → StopsWithoutHead e s n rows rows' stop' → s.faults ≤ n.faults
 no_fewer_without_head (error.Refused status form) s n rows rows' stop' stops = refused_no_fewer form s n rows rows' stop' stops
 no_fewer_without_head error.Truncated s n rows rows' stop' stops = subst (λ (m : Moment). s.faults ≤ m.faults) (sym stops.1) (omega arith)
 no_fewer_without_head error.Fault s n rows rows' stop' stops = subst (λ (m : Moment). s.faults ≤ m.faults) (sym stops.1) (omega arith)
 no_fewer_without_head error.NoMemory s n rows rows' stop' stops = subst (λ (m : Moment). s.faults ≤ m.faults) (sym stops.1) (omega arith)
 
 -- the client's bytes ended between two requests
-pub ends_by_client : (v : Visit) (number : ℕ) (s n : Standing) (rows : List Served) → ReadsEnd s n
+pub ends_by_client : (v : Visit) (number : ℕ) (s n : ClientStanding) (rows : List Served) → ReadsEnd s n
     → Turns v number s n rows rows (turn.EndsAt (stop.Closed why.ByClient))
 ends_by_client v number s n rows reads = ([], sym (append-nil rows), (refl, reads, refl))
 
 -- ---- one request after the other
 
 -- That number of requests was served since the beginning, and the rows are theirs.
-pub record IsUnderWay (v : Visit) (number : ℕ) (s now : Standing) (rows rows_now : List Served) : Type 0 where
+pub record IsUnderWay (v : Visit) (number : ℕ) (s now : ClientStanding) (rows rows_now : List Served) : Type 0 where
   pub before : List Served
   pub served : HaveServed v number s now before
   pub added : rows_now ≡ rows ++ before
 
-pub begins : (v : Visit) (s : Standing) (rows : List Served) → IsUnderWay v 0 s s rows rows
+pub begins : (v : Visit) (s : ClientStanding) (rows : List Served) → IsUnderWay v 0 s s rows rows
 begins v s rows = record { before = []; served = (refl, refl); added = sym (append-nil rows) }
 
 joined : (rows mid now before last : List Served) → mid ≡ rows ++ before → now ≡ mid ++ last → now ≡ rows ++ (before ++ last)
 joined rows mid now before last first second =
     second ∙ ap (λ (xs : List Served). xs ++ last) first ∙ append_assoc rows before last
 
-one_more : (v : Visit) (number : ℕ) (s n : Standing) (rows : List Served) → HaveServed v (suc number) s n rows → HaveServed v (number + 1) s n rows
+one_more : (v : Visit) (number : ℕ) (s n : ClientStanding) (rows : List Served) → HaveServed v (suc number) s n rows → HaveServed v (number + 1) s n rows
 one_more v number s n rows served =
     let next : suc number ≡ number + 1 = omega arith in
     subst (λ (k : ℕ). HaveServed v k s n rows) next served
 
-pub goes_on : (v : Visit) (number : ℕ) (s mid n : Standing) (rows rows_mid rows_now : List Served) → IsUnderWay v number s mid rows rows_mid
+pub goes_on : (v : Visit) (number : ℕ) (s mid n : ClientStanding) (rows rows_mid rows_now : List Served) → IsUnderWay v number s mid rows rows_mid
     → Turns v number mid n rows_mid rows_now turn.Next → IsUnderWay v (number + 1) s n rows rows_now
 goes_on v number s mid n rows rows_mid rows_now way turned = record {
   before = way.before ++ turned.0;
@@ -196,7 +196,7 @@ goes_on v number s mid n rows rows_mid rows_now way turned = record {
   added = joined rows rows_mid rows_now way.before turned.0 way.added turned.1;
 }
 
-pub ends : (v : Visit) (number : ℕ) (s mid n : Standing) (rows rows_mid rows_now added : List Served) (end : SessionEnd)
+pub ends : (v : Visit) (number : ℕ) (s mid n : ClientStanding) (rows rows_mid rows_now added : List Served) (end : SessionEnd)
     → IsUnderWay v number s mid rows rows_mid → rows_now ≡ rows_mid ++ added → EndsIn v number mid n added end
     → (gained : List Served) × (rows_now ≡ rows ++ gained) × IsSession v s n gained end
 ends v number s mid n rows rows_mid rows_now added end way more ending = (
@@ -206,7 +206,7 @@ ends v number s mid n rows rows_mid rows_now added end way more ending = (
 )
 
 -- a session that wanted memory before it read anything
-pub unbegun : (v : Visit) (s : Standing) (rows : List Served) → IsSession v s s [] session_end.NoMemory
+pub unbegun : (v : Visit) (s : ClientStanding) (rows : List Served) → IsSession v s s [] session_end.NoMemory
 unbegun v s rows = record {
   number = 0;
   mid = s;
@@ -239,20 +239,20 @@ rises_on (session_end.Truncated requests) before mid now more rises = tt
 rises_on (session_end.Stray ticket returned_at) before mid now more rises = tt
 rises_on session_end.NoMemory before mid now more rises = tt
 
-risen_by : (stop' : Stop) (count before now : ℕ) → RisesBy (end_of stop' 0) before now → RisesBy (end_of stop' count) before now
+risen_by : (stop' : SessionStop) (count before now : ℕ) → RisesBy (end_of stop' 0) before now → RisesBy (end_of stop' count) before now
 risen_by (stop.Closed why') count before now rises = rises
 risen_by stop.ClientFault count before now rises = rises
 risen_by stop.Truncated count before now rises = rises
 risen_by (stop.Stray ticket returned_at) count before now rises = rises
 risen_by stop.NoMemory count before now rises = rises
 
-pub risen_at_end : (stop' : Stop) (count : ℕ) (end : SessionEnd) (before mid now : ℕ) → end ≡ end_of stop' count → before ≤ mid
+pub risen_at_end : (stop' : SessionStop) (count : ℕ) (end : SessionEnd) (before mid now : ℕ) → end ≡ end_of stop' count → before ≤ mid
     → RisesBy (end_of stop' 0) mid now → RisesBy end before now
 risen_at_end stop' count end before mid now is more rises =
     subst (λ (x : SessionEnd). RisesBy x before now) (sym is) (rises_on (end_of stop' count) before mid now more (risen_by stop' count mid now rises))
 
 -- the last request's turn, as the end of the session
-pub ended : (v : Visit) (number : ℕ) (s mid n : Standing) (rows rows_mid rows_now : List Served) (stop' : Stop) (count : ℕ) (end : SessionEnd)
+pub ended : (v : Visit) (number : ℕ) (s mid n : ClientStanding) (rows rows_mid rows_now : List Served) (stop' : SessionStop) (count : ℕ) (end : SessionEnd)
     → IsUnderWay v number s mid rows rows_mid → end ≡ end_of stop' count
     → (added : List Served) × (rows_now ≡ rows_mid ++ added) × EndsIn v number mid n added (end_of stop' count)
     → (gained : List Served) × (rows_now ≡ rows ++ gained) × IsSession v s n gained end

@@ -12,10 +12,10 @@ use Rattle.status_worker.specs.Pages.{IsPage}
 use Rattle.client_session.specs.Requests.{Visit}
 use Rattle.balancer_core.specs.Desks.{DeskState}
 use Rattle.status_worker.specs.Desks.{DeskSide}
-use Rattle.client_session.specs.Standings.{Puts, PutsPart, Standing}
+use Rattle.client_session.specs.Standings.{Puts, PutsPart, ClientStanding}
 use Rattle.client_session.specs.Writing.{WritesOwn, WritesPart}
-use Rattle.client_session.specs.declared.ending.Stop.{Stop}
-use Rattle.client_session.specs.declared.ending.Stop.TheVariants as stop
+use Rattle.client_session.specs.declared.ending.SessionStop.{SessionStop}
+use Rattle.client_session.specs.declared.ending.SessionStop.TheVariants as stop
 use Rattle.client_session.specs.declared.ending.Why.TheVariants as why
 use Rattle.status_worker.specs.declared.pages.Page.{Page}
 use Rattle.status_page.specs.Page.{page_of}
@@ -28,20 +28,20 @@ page_code code (inr (inr (inl unknown))) = subst (λ (n : ℕ). IsSome (own_of n
 page_code code (inr (inr (inr full))) = subst (λ (n : ℕ). IsSome (own_of n)) (sym full) refl
 
 -- the desk's side alone went on
-abbrev asked_on : Standing → DeskSide → Standing
+abbrev asked_on : ClientStanding → DeskSide → ClientStanding
 asked_on s d = record s { desk = d }
 
 -- and then something was written
-abbrev written_on : Standing → DeskSide → Moment → Standing
+abbrev written_on : ClientStanding → DeskSide → Moment → ClientStanding
 written_on s d w = record s { desk = d; client = w }
 
-own_begun : (v : Visit) (status : Status) (head : Head) (last : Bool) (s : Standing) (d : DeskSide) (w : Moment) (code : ℕ)
+own_begun : (v : Visit) (status : Status) (head : Head) (last : Bool) (s : ClientStanding) (d : DeskSide) (w : Moment) (code : ℕ)
     → TurnsAway v.cfg v.session status head.query s.desk d code → PutsPart s.client w (own_for code (is_head head))
     → IsStatusBegun v status head last s (written_on s d w)
 own_begun v status head last s d w code turned puts =
     inr (asked_on s d, code, record { turned = turned; alone = refl }, record { puts = puts; alone = refl })
 
-pub own_answered : (v : Visit) (status : Status) (head : Head) (last : Bool) (s : Standing) (d : DeskSide) (w : Moment) (code : ℕ) (stop' : Stop)
+pub own_answered : (v : Visit) (status : Status) (head : Head) (last : Bool) (s : ClientStanding) (d : DeskSide) (w : Moment) (code : ℕ) (stop' : SessionStop)
     → TurnsAway v.cfg v.session status head.query s.desk d code → IsSome (own_of code) → WritesOwn code (is_head head) s.client w stop'
     → IsStatusAnswer v status head last s (written_on s d w) (Err stop')
 own_answered v status head last s d w code (stop.Closed why.ByClient) turned known writes = absurd writes
@@ -57,7 +57,7 @@ own_answered v status head last s d w code stop.Truncated turned known writes = 
 own_answered v status head last s d w code (stop.Stray ticket returned_at) turned known writes = absurd writes
 own_answered v status head last s d w code stop.NoMemory turned known writes = inl (own_begun v status head last s d w code turned writes)
 
-has_page : (v : Visit) (status : Status) (query : Option (List ℕ)) (s : Standing) (d : DeskSide) (only : Option ℕ) (head_only last : Bool) (page : Page)
+has_page : (v : Visit) (status : Status) (query : Option (List ℕ)) (s : ClientStanding) (d : DeskSide) (only : Option ℕ) (head_only last : Bool) (page : Page)
     → IsDone v.cfg v.session status query s.desk d only → (seen : IsPage v.cfg d.state only head_only last page)
     → HasPage v status query s (asked_on s d) (page_of seen.0)
 has_page v status query s d only head_only last page done seen = record {
@@ -69,7 +69,7 @@ has_page v status query s d only head_only last page done seen = record {
   is = refl;
 }
 
-page_answered : (v : Visit) (status : Status) (head : Head) (last : Bool) (s : Standing) (d : DeskSide) (w : Moment) (only : Option ℕ) (page : Page)
+page_answered : (v : Visit) (status : Status) (head : Head) (last : Bool) (s : ClientStanding) (d : DeskSide) (w : Moment) (only : Option ℕ) (page : Page)
     → IsDone v.cfg v.session status head.query s.desk d only → IsPage v.cfg d.state only (is_head head) last page → Puts s.client w page.reply
     → IsStatusAnswer v status head last s (written_on s d w) (Ok page.len)
 page_answered v status head last s d w only page done seen puts = (
@@ -80,7 +80,7 @@ page_answered v status head last s d w only page done seen puts = (
   seen.3,
 )
 
-page_begun : (v : Visit) (status : Status) (head : Head) (last : Bool) (s : Standing) (d : DeskSide) (w : Moment) (only : Option ℕ) (page : Page)
+page_begun : (v : Visit) (status : Status) (head : Head) (last : Bool) (s : ClientStanding) (d : DeskSide) (w : Moment) (only : Option ℕ) (page : Page)
     → IsDone v.cfg v.session status head.query s.desk d only → IsPage v.cfg d.state only (is_head head) last page → PutsPart s.client w page.reply
     → IsStatusBegun v status head last s (written_on s d w)
 page_begun v status head last s d w only page done seen puts =
@@ -91,7 +91,7 @@ page_begun v status head last s d w only page done seen puts =
       record { puts = rw (← seen.2) puts; alone = refl },
     )
 
-page_broken : (v : Visit) (status : Status) (head : Head) (last : Bool) (s : Standing) (d : DeskSide) (w : Moment) (only : Option ℕ) (page : Page) (stop' : Stop)
+page_broken : (v : Visit) (status : Status) (head : Head) (last : Bool) (s : ClientStanding) (d : DeskSide) (w : Moment) (only : Option ℕ) (page : Page) (stop' : SessionStop)
     → IsDone v.cfg v.session status head.query s.desk d only → IsPage v.cfg d.state only (is_head head) last page
     → WritesPart {T = Unit {0}} page.reply s.client w (Err stop') → IsStatusAnswer v status head last s (written_on s d w) (Err stop')
 page_broken v status head last s d w only page (stop.Closed why') done seen writes = absurd writes
@@ -101,7 +101,7 @@ page_broken v status head last s d w only page stop.Truncated done seen writes =
 page_broken v status head last s d w only page (stop.Stray ticket returned_at) done seen writes = absurd writes
 page_broken v status head last s d w only page stop.NoMemory done seen writes = inl (page_begun v status head last s d w only page done seen writes)
 
-nothing_seen : (v : Visit) (status : Status) (head : Head) (last : Bool) (s : Standing) (d : DeskSide) (only : Option ℕ)
+nothing_seen : (v : Visit) (status : Status) (head : Head) (last : Bool) (s : ClientStanding) (d : DeskSide) (only : Option ℕ)
     → IsDone v.cfg v.session status head.query s.desk d only → IsStatusAnswer v status head last s (asked_on s d) (Err stop.NoMemory)
 nothing_seen v status head last s d only done = inr (record { alone = refl; why = inr (only, done) })
 
@@ -110,20 +110,20 @@ nothing_seen v status head last s d only done = inr (record { alone = refl; why 
 abbrev side : DeskState → Option (List ℕ) → DeskSide
 side state clock = record { state = state; clock = clock }
 
-pub unseen_at : (v : Visit) (status : Status) (head : Head) (last : Bool) (s : Standing) (seen now : DeskState) (clock : Option (List ℕ)) (only : Option ℕ) → now ≡ seen
+pub unseen_at : (v : Visit) (status : Status) (head : Head) (last : Bool) (s : ClientStanding) (seen now : DeskState) (clock : Option (List ℕ)) (only : Option ℕ) → now ≡ seen
     → IsDone v.cfg v.session status head.query s.desk (side seen clock) only → IsStatusAnswer v status head last s (asked_on s (side now clock)) (Err stop.NoMemory)
 unseen_at v status head last s seen now clock only same done =
     subst (λ (d : DeskState). IsStatusAnswer v status head last s (asked_on s (side d clock)) (Err stop.NoMemory)) (sym same)
     (nothing_seen v status head last s (side seen clock) only done)
 
-pub answered_at : (v : Visit) (status : Status) (head : Head) (last : Bool) (s : Standing) (seen now : DeskState) (clock : Option (List ℕ)) (w : Moment) (only : Option ℕ) (page : Page) → now ≡ seen
+pub answered_at : (v : Visit) (status : Status) (head : Head) (last : Bool) (s : ClientStanding) (seen now : DeskState) (clock : Option (List ℕ)) (w : Moment) (only : Option ℕ) (page : Page) → now ≡ seen
     → IsDone v.cfg v.session status head.query s.desk (side seen clock) only → IsPage v.cfg seen only (is_head head) last page → Puts s.client w page.reply
     → IsStatusAnswer v status head last s (written_on s (side now clock) w) (Ok page.len)
 answered_at v status head last s seen now clock w only page same done is_seen puts =
     subst (λ (d : DeskState). IsStatusAnswer v status head last s (written_on s (side d clock) w) (Ok page.len)) (sym same)
     (page_answered v status head last s (side seen clock) w only page done is_seen puts)
 
-pub broken_at : (v : Visit) (status : Status) (head : Head) (last : Bool) (s : Standing) (seen now : DeskState) (clock : Option (List ℕ)) (w : Moment) (only : Option ℕ) (page : Page) (stop' : Stop) → now ≡ seen
+pub broken_at : (v : Visit) (status : Status) (head : Head) (last : Bool) (s : ClientStanding) (seen now : DeskState) (clock : Option (List ℕ)) (w : Moment) (only : Option ℕ) (page : Page) (stop' : SessionStop) → now ≡ seen
     → IsDone v.cfg v.session status head.query s.desk (side seen clock) only → IsPage v.cfg seen only (is_head head) last page
     → WritesPart {T = Unit {0}} page.reply s.client w (Err stop') → IsStatusAnswer v status head last s (written_on s (side now clock) w) (Err stop')
 broken_at v status head last s seen now clock w only page stop' same done is_seen writes =

@@ -6,13 +6,13 @@ use Rattle.jk_model.specs.declared.served.Served.{Served}
 use Rattle.balancer_core.specs.Desks.{DeskState}
 use Rattle.client_session.specs.Requests.{Visit}
 use Rattle.client_session.specs.Sessions.{IsSession}
-use Rattle.client_session.specs.Standings.{Standing, standing}
+use Rattle.client_session.specs.Standings.{ClientStanding, standing}
 use Rattle.client_session.specs.Surroundings.{standing_of}
 use Rattle.client_session.specs.declared.ending.SessionEnd.{SessionEnd}
 use Rattle.client_session.specs.declared.surroundings.Surroundings.{Surroundings}
 
 pub came_back : {B K R C X : Type 0} (state : B → DeskState) (answers : K → Option (List ℕ)) (of_reach : Ghosts R Beside) (of_client : Ghosts C X)
-    (m : Surroundings B K R C) (desk : B) (clock : K) (reach : R) (client : C) (v : Visit) (s : Standing) (gained : List Served) (end : SessionEnd)
+    (m : Surroundings B K R C) (desk : B) (clock : K) (reach : R) (client : C) (v : Visit) (s : ClientStanding) (gained : List Served) (end : SessionEnd)
     → desk ≡ m.desk.now → clock ≡ m.clock.now → reach ≡ m.reach.now → client ≡ m.client.now
     → IsSession v s (standing_of state answers of_reach of_client m) gained end
     → IsSession v s (standing state answers of_reach of_client desk clock reach client m.inbox.now) gained end

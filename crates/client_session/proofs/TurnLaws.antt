@@ -17,17 +17,17 @@ use Rattle.client_session.specs.Ends.{MeetsBy, RisesBy, end_of}
 use Rattle.client_session.specs.Finishing.{Finishes, TurnsAfter, stop_after}
 use Rattle.client_session.specs.Requests.{IsNewBody, Visit, is_last}
 use Rattle.client_session.specs.Sessions.{EndsIn, IsGoingOn, IsRequest, ReadsHead}
-use Rattle.client_session.specs.Standings.{IsClientAlone, Standing}
+use Rattle.client_session.specs.Standings.{IsClientAlone, ClientStanding}
 use Rattle.client_session.specs.Turns.{GoesOn, IsTurn, MeetsInAnswer, MeetsInTurn, RisesInAnswer, RisesInTurn, Turns}
-use Rattle.client_session.specs.declared.ending.Stop.{Stop}
-use Rattle.client_session.specs.declared.ending.Stop.TheVariants as stop
+use Rattle.client_session.specs.declared.ending.SessionStop.{SessionStop}
+use Rattle.client_session.specs.declared.ending.SessionStop.TheVariants as stop
 use Rattle.client_session.specs.declared.ending.Why.TheVariants as why
 use Rattle.client_session.specs.declared.turn.Answered.{Answered}
 use Rattle.client_session.specs.declared.turn.Answered.TheVariants as answered
-use Rattle.client_session.specs.declared.turn.Turn.{Turn}
-use Rattle.client_session.specs.declared.turn.Turn.TheVariants as turn
+use Rattle.client_session.specs.declared.turn.SessionTurn.{SessionTurn}
+use Rattle.client_session.specs.declared.turn.SessionTurn.TheVariants as turn
 
-abbrev pub request : (v : Visit) (number : ℕ) (s read n : Standing) (head : Head) (fresh body : BodyIn) (a : Answered) (rows : List Served)
+abbrev pub request : (v : Visit) (number : ℕ) (s read n : ClientStanding) (head : Head) (fresh body : BodyIn) (a : Answered) (rows : List Served)
     → ReadsHead s read head → IsNewBody head.plan fresh → IsAnswer v head (is_last number head) read n fresh body a rows
     → IsRequest v number s n body a rows
 request v number s read n head fresh body a rows reads is_fresh answers =
@@ -37,7 +37,7 @@ rose_from : (first before now : ℕ) → before ≡ first → Rose before now �
 rose_from first before now is rose = subst (λ (n : ℕ). Rose n now) is rose
 
 -- the request wasn't answered whole
-pub stops : (v : Visit) (number : ℕ) (s read n : Standing) (head : Head) (fresh body : BodyIn) (stop' : Stop) (rows : List Served)
+pub stops : (v : Visit) (number : ℕ) (s read n : ClientStanding) (head : Head) (fresh body : BodyIn) (stop' : SessionStop) (rows : List Served)
     → ReadsHead s read head → IsNewBody head.plan fresh → IsAnswer v head (is_last number head) read n fresh body (answered.Not stop') rows
     → RisesInAnswer (answered.Not stop') read.client.faults n.client.faults → EndsIn v number s n rows (end_of stop' number)
 stops v number s read n head fresh body (stop.Closed why.ByClient) rows reads is_fresh answers rises =
@@ -74,7 +74,7 @@ stops v number s read n head fresh body stop.NoMemory rows reads is_fresh answer
     )
 
 -- the rest of the body came to a fault
-pub unread : (v : Visit) (number : ℕ) (s mid n : Standing) (body after : BodyIn) (rows : List Served) (why' : BodyFault)
+pub unread : (v : Visit) (number : ℕ) (s mid n : ClientStanding) (body after : BodyIn) (rows : List Served) (why' : BodyFault)
     → IsGoingOn v number s mid body rows → failed_of body ≡ None → IsClientAlone mid n
     → MeetsFault (body_at body mid.inbox mid.client) (body_at after n.inbox n.client) Rest why'
     → EndsIn v number s n rows (end_of (stop_after why') (number + 1))
@@ -90,13 +90,13 @@ unread v number s mid n body after rows fault.NoMemory going_on going alone meet
     inr (body, mid, going_on, record { after = after; meets = meets; going = going; alone = alone })
 
 -- the rest of the body was read, or wasn't
-pub finishes : (v : Visit) (number : ℕ) (s mid n : Standing) (body after : BodyIn) (rows : List Served) (turn' : Turn)
+pub finishes : (v : Visit) (number : ℕ) (s mid n : ClientStanding) (body after : BodyIn) (rows : List Served) (turn' : SessionTurn)
     → IsGoingOn v number s mid body rows → failed_of body ≡ None → IsClientAlone mid n
     → Finishes (body_at body mid.inbox mid.client) (body_at after n.inbox n.client) turn' → IsTurn v number s n rows turn'
 finishes v number s mid n body after rows turn.Next going_on going alone finished =
     record { body = body; mid = mid; going_on = going_on; skips = record { after = after; passes = finished; alone = alone } }
 finishes v number s mid n body after rows (turn.EndsAfter stop') going_on going alone finished =
-    subst (λ (x : Stop). EndsIn v number s n rows (end_of x (number + 1))) (sym finished.2)
+    subst (λ (x : SessionStop). EndsIn v number s n rows (end_of x (number + 1))) (sym finished.2)
     (unread v number s mid n body after rows finished.0 going_on going alone finished.1)
 finishes v number s mid n body after rows (turn.EndsAt stop') going_on going alone finished = absurd finished
 
@@ -105,14 +105,14 @@ finishes v number s mid n body after rows (turn.EndsAt stop') going_on going alo
 put_on : (rows mid rows' added : List Served) → mid ≡ rows → rows' ≡ mid ++ added → rows' ≡ rows ++ added
 put_on rows mid rows' added same more = more ∙ ap (λ (xs : List Served). xs ++ added) same
 
-answered_as : (v : Visit) (number : ℕ) (read n : Standing) (head : Head) (fresh body : BodyIn) (a b : Answered) (last : Bool) (rows : List Served)
+answered_as : (v : Visit) (number : ℕ) (read n : ClientStanding) (head : Head) (fresh body : BodyIn) (a b : Answered) (last : Bool) (rows : List Served)
     → a ≡ b → last ≡ is_last number head → IsAnswer v head last read n fresh body a rows → IsAnswer v head (is_last number head) read n fresh body b rows
 answered_as v number read n head fresh body a b last rows same is answers =
     subst (λ (x : Answered). IsAnswer v head (is_last number head) read n fresh body x rows) same
     (subst (λ (l : Bool). IsAnswer v head l read n fresh body a rows) is answers)
 
 -- there was no memory for its row
-pub unrowed : (v : Visit) (number : ℕ) (s read : Standing) (head : Head) (fresh : BodyIn) (rows rows' : List Served) → IsNewBody head.plan fresh
+pub unrowed : (v : Visit) (number : ℕ) (s read : ClientStanding) (head : Head) (fresh : BodyIn) (rows rows' : List Served) → IsNewBody head.plan fresh
     → rows' ≡ rows → ReadsHead s read head → Turns v number s read rows rows' (turn.EndsAt stop.NoMemory)
 unrowed v number s read head fresh rows rows' is_fresh same reads = (
   [],
@@ -121,7 +121,7 @@ unrowed v number s read head fresh rows rows' is_fresh same reads = (
 )
 
 -- it wasn't answered whole
-pub turn_stops : (v : Visit) (number : ℕ) (s read n : Standing) (head : Head) (fresh body : BodyIn) (a : Answered) (stop' : Stop) (last : Bool) (rows mid rows' added : List Served)
+pub turn_stops : (v : Visit) (number : ℕ) (s read n : ClientStanding) (head : Head) (fresh body : BodyIn) (a : Answered) (stop' : SessionStop) (last : Bool) (rows mid rows' added : List Served)
     → IsNewBody head.plan fresh → mid ≡ rows → rows' ≡ mid ++ added → a ≡ answered.Not stop' → last ≡ is_last number head
     → IsAnswer v head last read n fresh body a added → RisesInAnswer a read.client.faults n.client.faults → ReadsHead s read head
     → Turns v number s n rows rows' (turn.EndsAt stop')
@@ -133,7 +133,7 @@ turn_stops v number s read n head fresh body a stop' last rows mid rows' added i
 )
 
 -- it was, and is the last one
-pub turn_last : (v : Visit) (number : ℕ) (s read n : Standing) (head : Head) (fresh body : BodyIn) (a : Answered) (last : Bool) (rows mid rows' added : List Served)
+pub turn_last : (v : Visit) (number : ℕ) (s read n : ClientStanding) (head : Head) (fresh body : BodyIn) (a : Answered) (last : Bool) (rows mid rows' added : List Served)
     → IsNewBody head.plan fresh → mid ≡ rows → rows' ≡ mid ++ added → a ≡ answered.Whole → last ≡ is_last number head → last ≡ true
     → IsAnswer v head last read n fresh body a added → ReadsHead s read head → Turns v number s n rows rows' (turn.EndsAfter (stop.Closed why.Last))
 turn_last v number s read n head fresh body a last rows mid rows' added is_fresh same more is ends true' answers reads = (
@@ -150,7 +150,7 @@ turn_last v number s read n head fresh body a last rows mid rows' added is_fresh
 )
 
 -- it was, and isn't the last one
-pub turn_finishes : (v : Visit) (number : ℕ) (s read m n : Standing) (head : Head) (fresh body after : BodyIn) (a : Answered) (last : Bool) (rows mid rows' added : List Served) (turn' : Turn)
+pub turn_finishes : (v : Visit) (number : ℕ) (s read m n : ClientStanding) (head : Head) (fresh body after : BodyIn) (a : Answered) (last : Bool) (rows mid rows' added : List Served) (turn' : SessionTurn)
     → IsNewBody head.plan fresh → mid ≡ rows → rows' ≡ mid ++ added → a ≡ answered.Whole → last ≡ is_last number head → last ≡ false
     → IsAnswer v head last read m fresh body a added → GoesOn a body → IsClientAlone m n
     → Finishes (body_at body m.inbox m.client) (body_at after n.inbox n.client) turn' → ReadsHead s read head → Turns v number s n rows rows' turn'
@@ -167,25 +167,25 @@ turn_finishes v number s read m n head fresh body after a last rows mid rows' ad
 
 -- ---- what follows the answer
 
-same_standing : (mid n : Standing) (body after : BodyIn) → IsClientAlone mid n → body_at after n.inbox n.client ≡ body_at body mid.inbox mid.client → n ≡ mid
+same_standing : (mid n : ClientStanding) (body after : BodyIn) → IsClientAlone mid n → body_at after n.inbox n.client ≡ body_at body mid.inbox mid.client → n ≡ mid
 same_standing mid n body after alone same = alone ∙ ap (λ (m : BodyMoment). record mid { client = m.client; inbox = m.inbox }) same
 
-pub turn_follows : (v : Visit) (number : ℕ) (s read mid n : Standing) (head : Head) (fresh body after : BodyIn) (a : Answered) (last : Bool) (rows room rows' added : List Served) (turn' : Turn)
+pub turn_follows : (v : Visit) (number : ℕ) (s read mid n : ClientStanding) (head : Head) (fresh body after : BodyIn) (a : Answered) (last : Bool) (rows room rows' added : List Served) (turn' : SessionTurn)
     → IsNewBody head.plan fresh → room ≡ rows → rows' ≡ room ++ added → last ≡ is_last number head
     → IsAnswer v head last read mid fresh body a added → RisesInAnswer a read.client.faults mid.client.faults → GoesOn a body → IsClientAlone mid n
     → TurnsAfter a last (body_at body mid.inbox mid.client) (body_at after n.inbox n.client) turn' → ReadsHead s read head → Turns v number s n rows rows' turn'
 turn_follows v number s read mid n head fresh body after (answered.Not stop') last rows room rows' added turn' is_fresh same more ends answers rises going alone turned reads =
-    subst (λ (x : Turn). Turns v number s n rows rows' x) (sym turned.0)
-    (subst (λ (m : Standing). Turns v number s m rows rows' (turn.EndsAt stop')) (sym (same_standing mid n body after alone turned.1))
+    subst (λ (x : SessionTurn). Turns v number s n rows rows' x) (sym turned.0)
+    (subst (λ (m : ClientStanding). Turns v number s m rows rows' (turn.EndsAt stop')) (sym (same_standing mid n body after alone turned.1))
     (turn_stops v number s read mid head fresh body (answered.Not stop') stop' last rows room rows' added is_fresh same more refl ends answers rises reads))
 turn_follows v number s read mid n head fresh body after answered.Whole true rows room rows' added turn' is_fresh same more ends answers rises going alone turned reads =
-    subst (λ (x : Turn). Turns v number s n rows rows' x) (sym turned.0)
-    (subst (λ (m : Standing). Turns v number s m rows rows' (turn.EndsAfter (stop.Closed why.Last))) (sym (same_standing mid n body after alone turned.1))
+    subst (λ (x : SessionTurn). Turns v number s n rows rows' x) (sym turned.0)
+    (subst (λ (m : ClientStanding). Turns v number s m rows rows' (turn.EndsAfter (stop.Closed why.Last))) (sym (same_standing mid n body after alone turned.1))
     (turn_last v number s read mid head fresh body answered.Whole true rows room rows' added is_fresh same more refl ends refl answers reads))
 turn_follows v number s read mid n head fresh body after answered.Whole false rows room rows' added turn' is_fresh same more ends answers rises going alone turned reads =
     turn_finishes v number s read mid n head fresh body after answered.Whole false rows room rows' added turn' is_fresh same more refl ends refl answers going alone turned reads
 
-pub turns_not : (a : Answered) (stop' : Stop) (last : Bool) (s n : BodyMoment) → a ≡ answered.Not stop' → n ≡ s → TurnsAfter a last s n (turn.EndsAt stop')
+pub turns_not : (a : Answered) (stop' : SessionStop) (last : Bool) (s n : BodyMoment) → a ≡ answered.Not stop' → n ≡ s → TurnsAfter a last s n (turn.EndsAt stop')
 turns_not a stop' last s n is same = subst (λ (x : Answered). TurnsAfter x last s n (turn.EndsAt stop')) (sym is) (refl, same)
 
 pub turns_last : (a : Answered) (last : Bool) (s n : BodyMoment) → a ≡ answered.Whole → last ≡ true → n ≡ s → TurnsAfter a last s n (turn.EndsAfter (stop.Closed why.Last))
@@ -193,7 +193,7 @@ turns_last a last s n is true' same =
     subst (λ (x : Answered). TurnsAfter x last s n (turn.EndsAfter (stop.Closed why.Last))) (sym is)
     (subst (λ (l : Bool). TurnsAfter answered.Whole l s n (turn.EndsAfter (stop.Closed why.Last))) (sym true') (refl, same))
 
-pub turns_on : (a : Answered) (last : Bool) (s n : BodyMoment) (turn' : Turn) → a ≡ answered.Whole → last ≡ false → Finishes s n turn' → TurnsAfter a last s n turn'
+pub turns_on : (a : Answered) (last : Bool) (s n : BodyMoment) (turn' : SessionTurn) → a ≡ answered.Whole → last ≡ false → Finishes s n turn' → TurnsAfter a last s n turn'
 turns_on a last s n turn' is false' finished =
     subst (λ (x : Answered). TurnsAfter x last s n turn') (sym is) (subst (λ (l : Bool). TurnsAfter answered.Whole l s n turn') (sym false') finished)
 
@@ -204,16 +204,16 @@ met_unread fault.TooLong old new met = met
 met_unread fault.Fault old new met = met
 met_unread fault.NoMemory old new met = met
 
-finished_meets : (s n : BodyMoment) (turn' : Turn) (old new : DeskState) → Finishes s n turn' → MeetsNone old new → MeetsInTurn turn' old new
+finished_meets : (s n : BodyMoment) (turn' : SessionTurn) (old new : DeskState) → Finishes s n turn' → MeetsNone old new → MeetsInTurn turn' old new
 finished_meets s n turn.Next old new finished met = met
 finished_meets s n (turn.EndsAfter stop') old new finished met =
-    subst (λ (x : Stop). MeetsBy (end_of x 0) old new) (sym finished.2) (met_unread finished.0 old new met)
+    subst (λ (x : SessionStop). MeetsBy (end_of x 0) old new) (sym finished.2) (met_unread finished.0 old new met)
 finished_meets s n (turn.EndsAt stop') old new finished met = absurd finished
 
-pub follows_meets : (a : Answered) (last : Bool) (s n : BodyMoment) (turn' : Turn) (old new : DeskState) → TurnsAfter a last s n turn' → MeetsInAnswer a old new
+pub follows_meets : (a : Answered) (last : Bool) (s n : BodyMoment) (turn' : SessionTurn) (old new : DeskState) → TurnsAfter a last s n turn' → MeetsInAnswer a old new
     → MeetsInTurn turn' old new
-follows_meets (answered.Not stop') last s n turn' old new turned met = subst (λ (x : Turn). MeetsInTurn x old new) (sym turned.0) met
-follows_meets answered.Whole true s n turn' old new turned met = subst (λ (x : Turn). MeetsInTurn x old new) (sym turned.0) met
+follows_meets (answered.Not stop') last s n turn' old new turned met = subst (λ (x : SessionTurn). MeetsInTurn x old new) (sym turned.0) met
+follows_meets answered.Whole true s n turn' old new turned met = subst (λ (x : SessionTurn). MeetsInTurn x old new) (sym turned.0) met
 follows_meets answered.Whole false s n turn' old new turned met = finished_meets s n turn' old new turned met
 
 rose_later : (first before now : ℕ) → first ≤ before → Rose before now → Rose first now
@@ -227,19 +227,19 @@ risen_unread fault.TooLong s n first more going meets = tt
 risen_unread fault.Fault s n first more going meets = rose_later _ _ _ more (meets.fault refl going)
 risen_unread fault.NoMemory s n first more going meets = tt
 
-finished_rises : (s n : BodyMoment) (turn' : Turn) (first : ℕ) → first ≤ s.client.faults → failed_of s.body ≡ None → Finishes s n turn'
+finished_rises : (s n : BodyMoment) (turn' : SessionTurn) (first : ℕ) → first ≤ s.client.faults → failed_of s.body ≡ None → Finishes s n turn'
     → RisesInTurn turn' first n.client.faults
 finished_rises s n turn.Next first more going finished = tt
 finished_rises s n (turn.EndsAfter stop') first more going finished =
-    subst (λ (x : Stop). RisesBy (end_of x 0) first n.client.faults) (sym finished.2) (risen_unread finished.0 s n first more going finished.1)
+    subst (λ (x : SessionStop). RisesBy (end_of x 0) first n.client.faults) (sym finished.2) (risen_unread finished.0 s n first more going finished.1)
 finished_rises s n (turn.EndsAt stop') first more going finished = absurd finished
 
-pub follows_rises : (a : Answered) (last : Bool) (s n : BodyMoment) (turn' : Turn) (first : ℕ) → first ≤ s.client.faults → GoesOn a s.body
+pub follows_rises : (a : Answered) (last : Bool) (s n : BodyMoment) (turn' : SessionTurn) (first : ℕ) → first ≤ s.client.faults → GoesOn a s.body
     → TurnsAfter a last s n turn' → RisesInAnswer a first s.client.faults → RisesInTurn turn' first n.client.faults
 follows_rises (answered.Not stop') last s n turn' first more going turned rises =
-    subst (λ (x : Turn). RisesInTurn x first n.client.faults) (sym turned.0)
+    subst (λ (x : SessionTurn). RisesInTurn x first n.client.faults) (sym turned.0)
     (subst (λ (m : BodyMoment). RisesInTurn (turn.EndsAt stop') first m.client.faults) (sym turned.1) rises)
-follows_rises answered.Whole true s n turn' first more going turned rises = subst (λ (x : Turn). RisesInTurn x first n.client.faults) (sym turned.0) tt
+follows_rises answered.Whole true s n turn' first more going turned rises = subst (λ (x : SessionTurn). RisesInTurn x first n.client.faults) (sym turned.0) tt
 follows_rises answered.Whole false s n turn' first more going turned rises = finished_rises s n turn' first more going turned
 
 or_right : (x y : Bool) → (x || y) ≡ false → y ≡ false

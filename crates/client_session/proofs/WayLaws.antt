@@ -7,7 +7,7 @@ use Rattle.client_session.specs.Complete.{EndsWhole}
 use Rattle.client_session.specs.Parts.{HasParts}
 use Rattle.client_session.specs.Requests.{Visit}
 use Rattle.client_session.specs.Sessions.{InEachSession, Serves}
-use Rattle.client_session.specs.Standings.{Standing}
+use Rattle.client_session.specs.Standings.{ClientStanding}
 use Rattle.client_session.specs.declared.ending.SessionEnd.{SessionEnd}
 use Rattle.client_session.specs.declared.ending.SessionEnd.TheVariants as session_end
 use Rattle.client_session.proofs.CauseLaws.{own_cause}
@@ -27,8 +27,8 @@ completed v end s n rows way = ends_whole v way.number way.mid n way.last end wa
 
 -- ---- a session that wanted memory before it read anything
 
-pub never_began : (v : Visit) (at : List ℕ → Standing) (rows : List Served) → Serves v at at rows rows session_end.NoMemory
+pub never_began : (v : Visit) (at : List ℕ → ClientStanding) (rows : List Served) → Serves v at at rows rows session_end.NoMemory
 never_began v at rows = record { inbox = []; gained = []; session = unbegun v (at []) rows; added = sym (append-nil rows) }
 
-pub no_parts : (v : Visit) (s : Standing) → s.inbox ≡ [] → HasParts v s.client.incoming s.client.sent s.client.sent session_end.NoMemory
+pub no_parts : (v : Visit) (s : ClientStanding) → s.inbox ≡ [] → HasParts v s.client.incoming s.client.sent s.client.sent session_end.NoMemory
 no_parts v s fresh = has_parts v s s [] session_end.NoMemory fresh (unbegun v s [])

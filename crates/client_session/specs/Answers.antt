@@ -27,9 +27,9 @@ use Rattle.exchange.specs.declared.ending.ExchangeEnd.{ExchangeEnd}
 use Rattle.status_worker.specs.Commands.{IsBroken, IsDone, TurnsAway}
 use Rattle.status_worker.specs.Pages.{IsPageOf, page_reply, sent_of}
 use Rattle.client_session.specs.Requests.{Visit, continue_for, mounted_at}
-use Rattle.client_session.specs.Standings.{IsBegun, IsWritten, Standing, with_body}
-use Rattle.client_session.specs.declared.ending.Stop.TheVariants as stop
-use Rattle.client_session.specs.declared.ending.Stop.{Stop}
+use Rattle.client_session.specs.Standings.{IsBegun, IsWritten, ClientStanding, with_body}
+use Rattle.client_session.specs.declared.ending.SessionStop.TheVariants as stop
+use Rattle.client_session.specs.declared.ending.SessionStop.{SessionStop}
 use Rattle.client_session.specs.declared.ending.Why.TheVariants as why
 use Rattle.client_session.specs.declared.turn.Answered.TheVariants as answered
 use Rattle.client_session.specs.declared.turn.Answered.{Answered}
@@ -76,7 +76,7 @@ own_for status head_only = own_bytes_of (own_of status) head_only
 -- ---- a request at a balancer
 
 -- The exchange of the request, from its whole body on, with the terms of its mount. It asks the desk for no command.
-pub record IsForwardedAt (v : Visit) (q : Errand) (s n : Standing) (body body' : BodyIn) (end : ExchangeEnd) : Type 0 where
+pub record IsForwardedAt (v : Visit) (q : Errand) (s n : ClientStanding) (body body' : BodyIn) (end : ExchangeEnd) : Type 0 where
   pub exchange : IsExchange q (with_body s body) (with_body n body') end
   pub gives : Gives q (with_body s body) (with_body n body') end
   pub used : IsUsed (with_body s body).around.body (with_body n body').around.body
@@ -91,7 +91,7 @@ abbrev pub errand_at : Visit → Head → (last : Bool) → (lb : ℕ) → Lb �
 errand_at v head last lb balancer = errand head v.peer last v.session lb (terms v.rules head.clean) balancer
 
 -- The request is mounted at a balancer, and was forwarded.
-pub record IsForwarded (v : Visit) (head : Head) (last : Bool) (s n : Standing) (body body' : BodyIn) (end : ExchangeEnd) : Type 0 where
+pub record IsForwarded (v : Visit) (head : Head) (last : Bool) (s n : ClientStanding) (body body' : BodyIn) (end : ExchangeEnd) : Type 0 where
   pub lb : ℕ
   pub balancer : Lb
   pub mounted : mounted_at v head ≡ Some (named.Balancer lb)
@@ -107,7 +107,7 @@ pub record IsAtStatus (v : Visit) (head : Head) (status : Status) : Type 0 where
   pub stands : slice_get v.cfg.statuses place ≡ Some status
 
 -- What was asked was done, and the balancers were looked at afterwards.
-pub record HasPage (v : Visit) (status : Status) (query : Option (List ℕ)) (s m : Standing) (page : List ℕ) : Type 0 where
+pub record HasPage (v : Visit) (status : Status) (query : Option (List ℕ)) (s m : ClientStanding) (page : List ℕ) : Type 0 where
   pub only : Option ℕ
   pub done : IsDone v.cfg v.session status query s.desk m.desk only
   pub alone : m ≡ record s { desk = m.desk }
@@ -116,30 +116,30 @@ pub record HasPage (v : Visit) (status : Status) (query : Option (List ℕ)) (s 
   pub is : page ≡ page_of parts
 
 -- There is no page; what was asked before the refusal was done.
-pub record IsTurnedAway (v : Visit) (status : Status) (query : Option (List ℕ)) (s m : Standing) (code : ℕ) : Type 0 where
+pub record IsTurnedAway (v : Visit) (status : Status) (query : Option (List ℕ)) (s m : ClientStanding) (code : ℕ) : Type 0 where
   pub turned : TurnsAway v.cfg v.session status query s.desk m.desk code
   pub alone : m ≡ record s { desk = m.desk }
 
 -- Writing the page, or the own answer in its place, broke off.
-abbrev pub IsStatusBegun : Visit → Status → Head → (last : Bool) → (s n : Standing) → Type 0
+abbrev pub IsStatusBegun : Visit → Status → Head → (last : Bool) → (s n : ClientStanding) → Type 0
 IsStatusBegun v status head last s n =
-    ((m : Standing) × (page : List ℕ) × HasPage v status head.query s m page × IsBegun m n (page_reply (is_head head) last page))
-    ⊎ ((m : Standing) × (code : ℕ) × IsTurnedAway v status head.query s m code × IsBegun m n (own_for code (is_head head)))
+    ((m : ClientStanding) × (page : List ℕ) × HasPage v status head.query s m page × IsBegun m n (page_reply (is_head head) last page))
+    ⊎ ((m : ClientStanding) × (code : ℕ) × IsTurnedAway v status head.query s m code × IsBegun m n (own_for code (is_head head)))
 
 -- Nothing was written: memory was wanted before what was asked was done, or after it.
-pub record IsStatusUnwritten (v : Visit) (status : Status) (query : Option (List ℕ)) (s n : Standing) : Type 0 where
+pub record IsStatusUnwritten (v : Visit) (status : Status) (query : Option (List ℕ)) (s n : ClientStanding) : Type 0 where
   pub alone : n ≡ record s { desk = n.desk }
   pub why : IsBroken v.cfg v.session status query s.desk n.desk ⊎ ((only : Option ℕ) × IsDone v.cfg v.session status query s.desk n.desk only)
 
 -- What a status worker's request is answered with: the page, as many bytes of it as are sent, or why there is none.
-abbrev pub IsStatusAnswer : Visit → Status → Head → (last : Bool) → (s n : Standing) → Result ℕ Stop → Type 0
+abbrev pub IsStatusAnswer : Visit → Status → Head → (last : Bool) → (s n : ClientStanding) → Result ℕ SessionStop → Type 0
 IsStatusAnswer v status head last s n (Ok len) =
-    (m : Standing) × (page : List ℕ) × HasPage v status head.query s m page
+    (m : ClientStanding) × (page : List ℕ) × HasPage v status head.query s m page
     × IsWritten m n (page_reply (is_head head) last page) × (len ≡ length (sent_of (is_head head) page))
 IsStatusAnswer v status head last s n (Err (stop.Closed why.ByClient)) = ⊥
 IsStatusAnswer v status head last s n (Err (stop.Closed why.Last)) = ⊥
 IsStatusAnswer v status head last s n (Err (stop.Closed (why.Own code))) =
-    (m : Standing) × IsTurnedAway v status head.query s m code × IsWritten m n (own_for code (is_head head)) × IsSome (own_of code)
+    (m : ClientStanding) × IsTurnedAway v status head.query s m code × IsWritten m n (own_for code (is_head head)) × IsSome (own_of code)
 IsStatusAnswer v status head last s n (Err (stop.Closed why.Cut)) = ⊥
 IsStatusAnswer v status head last s n (Err (stop.Closed why.Unread)) = ⊥
 IsStatusAnswer v status head last s n (Err stop.ClientFault) = Rose s.client.faults n.client.faults × IsStatusBegun v status head last s n
@@ -149,17 +149,17 @@ IsStatusAnswer v status head last s n (Err stop.NoMemory) =
     IsStatusBegun v status head last s n ⊎ IsStatusUnwritten v status head.query s n
 
 -- the same, where the request is mounted at some status worker
-abbrev pub IsPaged : Visit → Head → (last : Bool) → (s n : Standing) → Result ℕ Stop → Type 0
+abbrev pub IsPaged : Visit → Head → (last : Bool) → (s n : ClientStanding) → Result ℕ SessionStop → Type 0
 IsPaged v head last s n answer = (status : Status) × IsAtStatus v head status × IsStatusAnswer v status head last s n answer
 
 -- ---- a request that is mounted
 
 -- What follows 100 Continue, and the row that it adds. The body stands where it was taken to.
-abbrev pub IsAnswerAt : Visit → Head → (last : Bool) → (s n : Standing) → (body body' : BodyIn) → Answered → List Served → Type 0
+abbrev pub IsAnswerAt : Visit → Head → (last : Bool) → (s n : ClientStanding) → (body body' : BodyIn) → Answered → List Served → Type 0
 IsAnswerAt v head last s n body body' answered.Whole rows =
     ((member : ℕ) × (told : Told) × (row : Served) × (is : IsForwarded v head last s n body body' (exchange_end.Done member told))
     × IsReplyRow head is.balancer member told row × (rows ≡ row ∷ []))
-    ⊎ ((status : Status) × (m : Standing) × (page : List ℕ) × IsAtStatus v head status × HasPage v status head.query s m page
+    ⊎ ((status : Status) × (m : ClientStanding) × (page : List ℕ) × IsAtStatus v head status × HasPage v status head.query s m page
     × IsWritten m n (page_reply (is_head head) last page) × (body' ≡ body) × (rows ≡ page_row head status page ∷ []))
 IsAnswerAt v head last s n body body' (answered.Not (stop.Closed why.ByClient)) rows = ⊥
 IsAnswerAt v head last s n body body' (answered.Not (stop.Closed why.Last)) rows = ⊥
@@ -182,18 +182,18 @@ IsAnswerAt v head last s n body body' (answered.Not stop.NoMemory) rows =
 -- ---- a request that was read
 
 -- The request is mounted, and its client was told to go on where it waits for that.
-pub record IsToldOn (v : Visit) (head : Head) (s told : Standing) : Type 0 where
+pub record IsToldOn (v : Visit) (head : Head) (s told : ClientStanding) : Type 0 where
   pub mounted : IsSome (mounted_at v head)
   pub written : IsWritten s told (continue_for head)
 
 -- writing the 404 of a request that is mounted nowhere broke off, or writing 100 Continue of one that is mounted
-abbrev pub IsEarlyBegun : Visit → Head → (s n : Standing) → Type 0
+abbrev pub IsEarlyBegun : Visit → Head → (s n : ClientStanding) → Type 0
 IsEarlyBegun v head s n =
     ((mounted_at v head ≡ None) × IsBegun s n (own_for 404 (is_head head)))
     ⊎ (IsSome (mounted_at v head) × IsBegun s n (continue_for head))
 
 -- What comes before 100 Continue: 404 where no worker is mounted there; or nothing whole was written.
-abbrev pub StopsEarly : Visit → Head → (s n : Standing) → Answered → List Served → Type 0
+abbrev pub StopsEarly : Visit → Head → (s n : ClientStanding) → Answered → List Served → Type 0
 StopsEarly v head s n answered.Whole rows = ⊥
 StopsEarly v head s n (answered.Not (stop.Closed why.ByClient)) rows = ⊥
 StopsEarly v head s n (answered.Not (stop.Closed why.Last)) rows = ⊥
@@ -208,7 +208,7 @@ StopsEarly v head s n (answered.Not (stop.Stray ticket returned_at)) rows = ⊥
 StopsEarly v head s n (answered.Not stop.NoMemory) rows = (rows ≡ []) × ((n ≡ s) ⊎ IsEarlyBegun v head s n)
 
 -- What a request is answered with, and the rows that it adds.
-abbrev pub IsAnswer : Visit → Head → (last : Bool) → (s n : Standing) → (body body' : BodyIn) → Answered → List Served → Type 0
+abbrev pub IsAnswer : Visit → Head → (last : Bool) → (s n : ClientStanding) → (body body' : BodyIn) → Answered → List Served → Type 0
 IsAnswer v head last s n body body' a rows =
     StopsEarly v head s n a rows
-    ⊎ ((told : Standing) × IsToldOn v head s told × IsAnswerAt v head last told n body body' a rows)
+    ⊎ ((told : ClientStanding) × IsToldOn v head s told × IsAnswerAt v head last told n body body' a rows)

@@ -18,7 +18,7 @@ use Rattle.status_worker.specs.Commands.{IsRefused}
 use Rattle.client_session.specs.Answers.{IsAtStatus, IsForwarded, IsToldOn, IsTurnedAway, errand_at}
 use Rattle.client_session.specs.Requests.{Visit, is_last, mounted_at}
 use Rattle.client_session.specs.Sessions.{ReadsHead, ReadsRefused}
-use Rattle.client_session.specs.Standings.{Standing, unread_at, with_body}
+use Rattle.client_session.specs.Standings.{ClientStanding, unread_at, with_body}
 use Rattle.client_session.specs.declared.ending.SessionEnd.{SessionEnd}
 use Rattle.client_session.specs.declared.ending.SessionEnd.TheVariants as session_end
 use Rattle.client_session.specs.declared.ending.Why.TheVariants as why
@@ -48,32 +48,32 @@ pub record DecidesEnd (v : Visit) (number : ℕ) (bytes : List ℕ) (end : Sessi
 -- ---- why an own answer was given
 
 -- the head is refused for a form of that status
-abbrev pub RefusesAs : Standing → (code : ℕ) → Type 0
-RefusesAs s code = (read : Standing) × (form : Form) × ReadsRefused s read form × (status_of form ≡ code)
+abbrev pub RefusesAs : ClientStanding → (code : ℕ) → Type 0
+RefusesAs s code = (read : ClientStanding) × (form : Form) × ReadsRefused s read form × (status_of form ≡ code)
 
 -- the head is mounted nowhere
-abbrev pub IsUnmounted : Visit → Standing → Type 0
-IsUnmounted v s = (read : Standing) × (head : Head) × ReadsHead s read head × (mounted_at v head ≡ None)
+abbrev pub IsUnmounted : Visit → ClientStanding → Type 0
+IsUnmounted v s = (read : ClientStanding) × (head : Head) × ReadsHead s read head × (mounted_at v head ≡ None)
 
 -- A status worker's request got this own answer in its page's place.
-pub record HasNoPage (v : Visit) (s n : Standing) (code : ℕ) : Type 0 where
+pub record HasNoPage (v : Visit) (s n : ClientStanding) (code : ℕ) : Type 0 where
   pub head : Head
-  pub read : Standing
+  pub read : ClientStanding
   pub reads : ReadsHead s read head
-  pub begun : Standing
+  pub begun : ClientStanding
   pub told_on : IsToldOn v head read begun
   pub status : Status
   pub at : IsAtStatus v head status
-  pub asked : Standing
+  pub asked : ClientStanding
   pub turned : IsTurnedAway v status head.query begun asked code
   pub desk : n.desk ≡ asked.desk
 
 -- A request that was forwarded got this own answer.
-pub record HasNoReply (v : Visit) (number : ℕ) (s n : Standing) (code : ℕ) : Type 0 where
+pub record HasNoReply (v : Visit) (number : ℕ) (s n : ClientStanding) (code : ℕ) : Type 0 where
   pub head : Head
-  pub read : Standing
+  pub read : ClientStanding
   pub reads : ReadsHead s read head
-  pub begun : Standing
+  pub begun : ClientStanding
   pub told_on : IsToldOn v head read begun
   pub body : BodyIn
   pub body' : BodyIn
@@ -81,24 +81,24 @@ pub record HasNoReply (v : Visit) (number : ℕ) (s n : Standing) (code : ℕ) :
 
 -- Its last talk failed, with no byte passed, and the member's options forbid another try: by the status of the reply, or by
 -- another cause.
-abbrev pub GaveUp : (v : Visit) (number : ℕ) (s n : Standing) (code : ℕ) → HasNoReply v number s n code → (by_status : Bool) → Type 0
+abbrev pub GaveUp : (v : Visit) (number : ℕ) (s n : ClientStanding) (code : ℕ) → HasNoReply v number s n code → (by_status : Bool) → Type 0
 GaveUp v number s n code r by_status =
     (cause : Cause) × (is_status cause ≡ by_status)
     × GivesUp (errand_at v r.head (is_last number r.head) r.forwarded.lb r.forwarded.balancer) (with_body r.begun r.body).around (with_body n r.body').around cause
 
 -- its talk, which answered an ask, came to a bad line of the body
-abbrev pub HasBadLine : (v : Visit) (number : ℕ) (s n : Standing) (code : ℕ) → HasNoReply v number s n code → Type 0
+abbrev pub HasBadLine : (v : Visit) (number : ℕ) (s n : ClientStanding) (code : ℕ) → HasNoReply v number s n code → Type 0
 HasBadLine v number s n code r = IfSome (data_at (with_body r.begun r.body).around.body) (λ d. (d.whole ≡ false) × (d.bad ≡ true))
 
 -- its Forward Request is too large for the member, or its body reached the limit
-abbrev pub IsTooMuch : (v : Visit) (number : ℕ) (s n : Standing) (code : ℕ) → HasNoReply v number s n code → Type 0
+abbrev pub IsTooMuch : (v : Visit) (number : ℕ) (s n : ClientStanding) (code : ℕ) → HasNoReply v number s n code → Type 0
 IsTooMuch v number s n code r =
     IsTooLarge (errand_at v r.head (is_last number r.head) r.forwarded.lb r.forwarded.balancer)
     ⊎ IfSome (data_at (with_body r.begun r.body).around.body) (λ d. most_of r.body ≤ taken_of r.body + length d.bytes)
 
 -- The cause of an own answer, by its status. A standing of the request's begin and one of its end tell which receipts and
 -- counts of the desk are the request's.
-pub record HasOwnCause (v : Visit) (number : ℕ) (s n : Standing) (code : ℕ) : Type 0 where
+pub record HasOwnCause (v : Visit) (number : ℕ) (s n : ClientStanding) (code : ℕ) : Type 0 where
   pub bad_request : code ≡ 400
       → RefusesAs s 400 ⊎ (((r : HasNoReply v number s n code) × HasBadLine v number s n code r) ⊎ HasNoPage v s n 400)
   pub forbidden : code ≡ 403 → HasNoPage v s n 403
@@ -124,9 +124,9 @@ IfOwn (session_end.Stray ticket returned_at) P = Unit {0}
 IfOwn session_end.NoMemory P = Unit {0}
 
 -- an own answer at the end has its cause
-abbrev pub IsOwnCaused : Visit → SessionEnd → (number : ℕ) → (s n : Standing) → Type 0
+abbrev pub IsOwnCaused : Visit → SessionEnd → (number : ℕ) → (s n : ClientStanding) → Type 0
 IsOwnCaused v end number s n = IfOwn end (HasOwnCause v number s n)
 
 -- where they are told, the bytes that no request used decide the end
-abbrev pub IsDecided : Visit → SessionEnd → (number : ℕ) → (s n : Standing) → Type 0
+abbrev pub IsDecided : Visit → SessionEnd → (number : ℕ) → (s n : ClientStanding) → Type 0
 IsDecided v end number s n = (bytes : List ℕ) → unread_at s ≡ Some bytes → DecidesEnd v number bytes end

@@ -16,11 +16,11 @@ use Rattle.exchange.specs.declared.ending.ExchangeEnd.TheVariants as exchange_en
 use Rattle.exchange.specs.declared.ending.ExchangeEnd.{ExchangeEnd}
 use Rattle.client_session.specs.Rows.{IsRowOf, own_row_by, worker_row}
 use Rattle.client_session.specs.Writing.{WritesOwn}
-use Rattle.client_session.specs.declared.ending.Stop.TheVariants as stop
+use Rattle.client_session.specs.declared.ending.SessionStop.TheVariants as stop
 use Rattle.client_session.specs.declared.rows.Row.{Row}
 use Rattle.http_front.specs.declared.head.Head.{Head}
 use Rattle.exchange.specs.Requests.{is_head}
-use Rattle.client_session.specs.declared.ending.Stop.{Stop}
+use Rattle.client_session.specs.declared.ending.SessionStop.{SessionStop}
 use Rattle.client_session.specs.declared.ending.Why.TheVariants as why
 use Rattle.client_session.specs.declared.turn.Answered.TheVariants as answered
 use Rattle.client_session.specs.declared.turn.Settled.{Settled}
@@ -59,7 +59,7 @@ abbrev pub own_settled : Asked → (status : ℕ) → (head_only : Bool) → Set
 own_settled asked' status head_only =
     record { answered = answered.Not (stop.Closed (why.Own status)); row = Some (own_row_by asked' status head_only) }
 
-abbrev pub stopped_by : Stop → Settled
+abbrev pub stopped_by : SessionStop → Settled
 stopped_by stop' = record { answered = answered.Not stop'; row = None }
 
 -- what an exchange's end means, and the row of its request
@@ -76,7 +76,7 @@ IsConclusion (exchange_end.Stray ticket returned_at) members head_only asked' se
 IsConclusion exchange_end.NoMemory members head_only asked' settled = settled ≡ stopped_by stop.NoMemory
 
 -- where it is an own answer, there is one with that status
-abbrev pub IsKnownStop : Stop → Type 0
+abbrev pub IsKnownStop : SessionStop → Type 0
 IsKnownStop (stop.Closed why.ByClient) = Unit {0}
 IsKnownStop (stop.Closed why.Last) = Unit {0}
 IsKnownStop (stop.Closed (why.Own status)) = IsSome (own_of status)
@@ -88,7 +88,7 @@ IsKnownStop (stop.Stray ticket returned_at) = Unit {0}
 IsKnownStop stop.NoMemory = Unit {0}
 
 -- an own answer has a row, and nothing else that isn't whole
-abbrev pub settled_by : Stop → Asked → (head_only : Bool) → Settled
+abbrev pub settled_by : SessionStop → Asked → (head_only : Bool) → Settled
 settled_by (stop.Closed why.ByClient) asked' head_only = stopped_by (stop.Closed why.ByClient)
 settled_by (stop.Closed why.Last) asked' head_only = stopped_by (stop.Closed why.Last)
 settled_by (stop.Closed (why.Own status)) asked' head_only = own_settled asked' status head_only
@@ -115,5 +115,5 @@ HasRoom cfg worker head row = (longest : ℕ) × IsRowOf head longest row × Has
 abbrev pub IsNotFound : Head → Moment → Moment → Settled → Type 0
 IsNotFound head s n settled =
     ((n ≡ s) × (settled ≡ stopped_by stop.NoMemory))
-    ⊎ ((stop' : Stop) × WritesOwn 404 (is_head head) s n stop'
+    ⊎ ((stop' : SessionStop) × WritesOwn 404 (is_head head) s n stop'
     × (settled ≡ settled_by stop' (asked.Line head.method head.target head.old) (is_head head)))

@@ -4,8 +4,8 @@ use Rattle.jk_io.specs.Told.{Rose}
 use Rattle.balancer_core.specs.Desks.{DeskState, MeetsNone, RisesByOne}
 use Rattle.client_session.specs.declared.ending.SessionEnd.{SessionEnd}
 use Rattle.client_session.specs.declared.ending.SessionEnd.TheVariants as session_end
-use Rattle.client_session.specs.declared.ending.Stop.{Stop}
-use Rattle.client_session.specs.declared.ending.Stop.TheVariants as stop
+use Rattle.client_session.specs.declared.ending.SessionStop.{SessionStop}
+use Rattle.client_session.specs.declared.ending.SessionStop.TheVariants as stop
 
 -- A stray was met where the session ended by one, and there alone.
 abbrev pub MeetsBy : SessionEnd → DeskState → DeskState → Type 0
@@ -24,7 +24,7 @@ RisesBy (session_end.Stray ticket returned_at) old new = Unit {0}
 RisesBy session_end.NoMemory old new = Unit {0}
 
 -- the session's end, after this many complete replies and pages
-abbrev pub end_of : Stop → (requests : ℕ) → SessionEnd
+abbrev pub end_of : SessionStop → (requests : ℕ) → SessionEnd
 end_of (stop.Closed why) requests = session_end.Closed requests why
 end_of stop.ClientFault requests = session_end.ClientFault requests
 end_of stop.Truncated requests = session_end.Truncated requests

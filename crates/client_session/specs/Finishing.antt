@@ -12,16 +12,16 @@ use Rattle.http_body_in.specs.declared.fault.BodyFault.{BodyFault}
 use Rattle.http_body_in.specs.declared.fault.BodyFault.TheVariants as fault
 use Rattle.client_session.specs.Sessions.{refused_row}
 use Rattle.client_session.specs.Writing.{WritesOwn}
-use Rattle.client_session.specs.declared.ending.Stop.{Stop}
-use Rattle.client_session.specs.declared.ending.Stop.TheVariants as stop
+use Rattle.client_session.specs.declared.ending.SessionStop.{SessionStop}
+use Rattle.client_session.specs.declared.ending.SessionStop.TheVariants as stop
 use Rattle.client_session.specs.declared.ending.Why.TheVariants as why
 use Rattle.client_session.specs.declared.turn.Answered.{Answered}
 use Rattle.client_session.specs.declared.turn.Answered.TheVariants as answered
-use Rattle.client_session.specs.declared.turn.Turn.{Turn}
-use Rattle.client_session.specs.declared.turn.Turn.TheVariants as turn
+use Rattle.client_session.specs.declared.turn.SessionTurn.{SessionTurn}
+use Rattle.client_session.specs.declared.turn.SessionTurn.TheVariants as turn
 
 -- why the session ends where the rest of a body can't be read
-abbrev pub stop_after : BodyFault → Stop
+abbrev pub stop_after : BodyFault → SessionStop
 stop_after fault.Truncated = stop.Truncated
 stop_after fault.BadChunk = stop.Closed why.Unread
 stop_after fault.TooLong = stop.Closed why.Unread
@@ -29,19 +29,19 @@ stop_after fault.Fault = stop.ClientFault
 stop_after fault.NoMemory = stop.NoMemory
 
 -- the rest was read and dropped, or came to a fault
-abbrev pub Finishes : BodyMoment → BodyMoment → Turn → Type 0
+abbrev pub Finishes : BodyMoment → BodyMoment → SessionTurn → Type 0
 Finishes s n turn.Next = PassesRest s n
 Finishes s n (turn.EndsAfter stop') = (why' : BodyFault) × MeetsFault s n Rest why' × (stop' ≡ stop_after why')
 Finishes s n (turn.EndsAt stop') = ⊥
 
 -- the session ends, or the rest of the body is read
-abbrev pub TurnsAfter : Answered → (last : Bool) → BodyMoment → BodyMoment → Turn → Type 0
+abbrev pub TurnsAfter : Answered → (last : Bool) → BodyMoment → BodyMoment → SessionTurn → Type 0
 TurnsAfter (answered.Not stop') last s n turn' = (turn' ≡ turn.EndsAt stop') × (n ≡ s)
 TurnsAfter answered.Whole true s n turn' = (turn' ≡ turn.EndsAfter (stop.Closed why.Last)) × (n ≡ s)
 TurnsAfter answered.Whole false s n turn' = Finishes s n turn'
 
 -- an own answer adds a row, and nothing else does
-abbrev pub AddsRefused : (status : ℕ) → (rows rows' : List Served) → Stop → Type 0
+abbrev pub AddsRefused : (status : ℕ) → (rows rows' : List Served) → SessionStop → Type 0
 AddsRefused status rows rows' (stop.Closed w) = rows' ≡ rows ++ refused_row status ∷ []
 AddsRefused status rows rows' stop.ClientFault = rows' ≡ rows
 AddsRefused status rows rows' stop.Truncated = rows' ≡ rows
@@ -49,13 +49,13 @@ AddsRefused status rows rows' (stop.Stray ticket returned_at) = rows' ≡ rows
 AddsRefused status rows rows' stop.NoMemory = rows' ≡ rows
 
 -- the refused head was answered with its status; or memory was wanted before
-abbrev pub RefusesHead : Form → Moment → Moment → (rows rows' : List Served) → Stop → Type 0
+abbrev pub RefusesHead : Form → Moment → Moment → (rows rows' : List Served) → SessionStop → Type 0
 RefusesHead form s n rows rows' stop' =
     ((stop' ≡ stop.NoMemory) × (n ≡ s) × (rows' ≡ rows))
     ⊎ (WritesOwn (status_of form) false s n stop' × AddsRefused (status_of form) rows rows' stop')
 
 -- a refused head was answered, and otherwise nothing was written
-abbrev pub StopsWithoutHead : HeadError → Moment → Moment → (rows rows' : List Served) → Stop → Type 0
+abbrev pub StopsWithoutHead : HeadError → Moment → Moment → (rows rows' : List Served) → SessionStop → Type 0
 StopsWithoutHead (error.Refused status form) s n rows rows' stop' = RefusesHead form s n rows rows' stop'
 StopsWithoutHead error.Truncated s n rows rows' stop' = (stop' ≡ stop.Truncated) × (n ≡ s) × (rows' ≡ rows)
 StopsWithoutHead error.Fault s n rows rows' stop' = (stop' ≡ stop.ClientFault) × (n ≡ s) × (rows' ≡ rows)

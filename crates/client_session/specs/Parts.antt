@@ -80,15 +80,15 @@ IsDueAnswer v head last written =
 -- ---- the requests that were served
 
 -- A request's part of a session: its own bytes, and those that the client got for it.
-pub record Part : Type 0 where
+pub record SessionPart : Type 0 where
   pub taken : List ℕ
   pub written : List ℕ
 
-abbrev pub taken_in : List Part → List ℕ
+abbrev pub taken_in : List SessionPart → List ℕ
 taken_in [] = []
 taken_in (part ∷ parts) = part.taken ++ taken_in parts
 
-abbrev pub written_in : List Part → List ℕ
+abbrev pub written_in : List SessionPart → List ℕ
 written_in [] = []
 written_in (part ∷ parts) = part.written ++ written_in parts
 
@@ -103,17 +103,17 @@ pub record IsRequestWhole (head : Head) (bytes : List ℕ) : Type 0 where
   pub whole : is_whole place ≡ true
 
 -- A request that isn't last, and its whole answer. It is the one after `number` others.
-pub record IsPart (v : Visit) (number : ℕ) (part : Part) : Type 0 where
+pub record IsPart (v : Visit) (number : ℕ) (part : SessionPart) : Type 0 where
   pub head : Head
   pub request : IsRequestWhole head part.taken
   pub more : is_last number head ≡ false
   pub answer : IsWholeAnswer v head (is_last number head) part.written
 
 -- the parts of that number of requests, in order
-abbrev pub AreParts : Visit → (number : ℕ) → List Part → Type 0
+abbrev pub AreParts : Visit → (number : ℕ) → List SessionPart → Type 0
 AreParts v zero parts = parts ≡ []
 AreParts v (suc number) parts =
-    (before : List Part) × (part : Part) × AreParts v number before × IsPart v number part × (parts ≡ before ++ part ∷ [])
+    (before : List SessionPart) × (part : SessionPart) × AreParts v number before × IsPart v number part × (parts ≡ before ++ part ∷ [])
 
 -- ---- the request that ended the session
 
@@ -145,7 +145,7 @@ IsLastWritten v number session_end.NoMemory bytes = IsFrontOfAnswer v number byt
 -- The client's bytes begin with the requests that were served. It got their answers joined, and then what the end says.
 pub record HasParts (v : Visit) (incoming before now : Option (List ℕ)) (end : SessionEnd) : Type 0 where
   pub number : ℕ
-  pub parts : List Part
+  pub parts : List SessionPart
   pub are : AreParts v number parts
   pub last : List ℕ
   pub is_last : IsLastWritten v number end last

@@ -12,7 +12,7 @@ use Rattle.site_config.specs.declared.config.Named.{Named}
 use Rattle.uri_map.specs.Mounts.{mount}
 use Rattle.uri_map.specs.declared.rule.Rule.{Rule}
 use Rattle.client_session.specs.declared.requests.TheConstants.{MAX_REQUESTS, MAX_BODY_BYTES}
-use Rattle.client_session.specs.declared.site.Site.{Site}
+use Rattle.client_session.specs.declared.session_site.SessionSite.{SessionSite}
 
 -- The site, the number of the worker that serves, and the client.
 pub record Visit : Type 0 where
@@ -24,7 +24,7 @@ pub record Visit : Type 0 where
 abbrev pub visit : Config → List Rule → (session : ℕ) → Peer → Visit
 visit cfg rules session peer = record { cfg = cfg; rules = rules; session = session; peer = peer }
 
-abbrev pub visit_of : Site → Visit
+abbrev pub visit_of : SessionSite → Visit
 visit_of site = visit site.cfg.now site.map.now site.session site.peer.now
 
 -- No request follows it: it is of HTTP/1.0, or says so, or it is the 1,000th. The number is how many came before it.

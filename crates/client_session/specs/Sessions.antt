@@ -20,11 +20,11 @@ use Rattle.http_body_in.specs.declared.fault.BodyFault.{BodyFault}
 use Rattle.http_body_in.specs.declared.fault.BodyFault.TheVariants as fault
 use Rattle.client_session.specs.Answers.{IsAnswer, own_for, own_len}
 use Rattle.client_session.specs.Requests.{IsNewBody, Visit, is_last}
-use Rattle.client_session.specs.Standings.{IsBegun, IsClientAlone, IsReadOn, IsWritten, Standing, StopsReading, unread_at}
+use Rattle.client_session.specs.Standings.{IsBegun, IsClientAlone, IsReadOn, IsWritten, ClientStanding, StopsReading, unread_at}
 use Rattle.client_session.specs.declared.ending.SessionEnd.{SessionEnd}
 use Rattle.client_session.specs.declared.ending.SessionEnd.TheVariants as session_end
-use Rattle.client_session.specs.declared.ending.Stop.{Stop}
-use Rattle.client_session.specs.declared.ending.Stop.TheVariants as stop
+use Rattle.client_session.specs.declared.ending.SessionStop.{SessionStop}
+use Rattle.client_session.specs.declared.ending.SessionStop.TheVariants as stop
 use Rattle.client_session.specs.declared.ending.Why.TheVariants as why
 use Rattle.client_session.specs.declared.turn.Answered.{Answered}
 use Rattle.client_session.specs.declared.turn.Answered.TheVariants as answered
@@ -32,23 +32,23 @@ use Rattle.client_session.specs.declared.turn.Answered.TheVariants as answered
 -- ---- the head of a request
 
 -- The head at the front of the client's bytes was read, and its bytes are used.
-pub record ReadsHead (s n : Standing) (head : Head) : Type 0 where
+pub record ReadsHead (s n : ClientStanding) (head : Head) : Type 0 where
   pub used : UsesHead (unread_at s) (unread_at n) head
   pub on : IsReadOn s n
 
 -- The client's bytes end between two requests.
-pub record ReadsEnd (s n : Standing) : Type 0 where
+pub record ReadsEnd (s n : ClientStanding) : Type 0 where
   pub used : UsesEnd (unread_at s) (unread_at n)
   pub on : IsReadOn s n
 
 -- The bytes at the front, as far as they were read, are refused as a head.
-pub record ReadsRefused (s n : Standing) (form : Form) : Type 0 where
+pub record ReadsRefused (s n : ClientStanding) (form : Form) : Type 0 where
   pub refused : Refuses n.inbox form
   pub unused : unread_at n ≡ unread_at s
   pub on : IsReadOn s n
 
 -- The client's bytes end within a head.
-pub record ReadsCut (s n : Standing) : Type 0 where
+pub record ReadsCut (s n : ClientStanding) : Type 0 where
   pub within : EndsWithin n.inbox
   pub over : IsEmpty n.client.incoming
   pub unused : unread_at n ≡ unread_at s
@@ -57,44 +57,44 @@ pub record ReadsCut (s n : Standing) : Type 0 where
 -- ---- one request
 
 -- A request was read and answered so, and its body stands where the answer left it. It is the one after `number` others.
-pub record IsRequest (v : Visit) (number : ℕ) (s n : Standing) (body : BodyIn) (a : Answered) (rows : List Served) : Type 0 where
+pub record IsRequest (v : Visit) (number : ℕ) (s n : ClientStanding) (body : BodyIn) (a : Answered) (rows : List Served) : Type 0 where
   pub head : Head
-  pub read : Standing
+  pub read : ClientStanding
   pub fresh : BodyIn
   pub reads : ReadsHead s read head
   pub is_fresh : IsNewBody head.plan fresh
   pub answers : IsAnswer v head (is_last number head) read n fresh body a rows
 
 -- The rest of the body was read to its end, and dropped.
-pub record SkipsRest (s n : Standing) (body : BodyIn) : Type 0 where
+pub record SkipsRest (s n : ClientStanding) (body : BodyIn) : Type 0 where
   pub after : BodyIn
   pub passes : PassesRest (body_at body s.inbox s.client) (body_at after n.inbox n.client)
   pub alone : IsClientAlone s n
 
 -- Reading the rest of the body came to a fault, the first one of that body.
-pub record BreaksRest (s n : Standing) (body : BodyIn) (why : BodyFault) : Type 0 where
+pub record BreaksRest (s n : ClientStanding) (body : BodyIn) (why : BodyFault) : Type 0 where
   pub after : BodyIn
   pub meets : MeetsFault (body_at body s.inbox s.client) (body_at after n.inbox n.client) Rest why
   pub going : failed_of body ≡ None
   pub alone : IsClientAlone s n
 
 -- A request was answered whole, which isn't the last.
-pub record IsGoingOn (v : Visit) (number : ℕ) (s n : Standing) (body : BodyIn) (rows : List Served) : Type 0 where
+pub record IsGoingOn (v : Visit) (number : ℕ) (s n : ClientStanding) (body : BodyIn) (rows : List Served) : Type 0 where
   pub request : IsRequest v number s n body answered.Whole rows
   pub more : is_last number request.head ≡ false
 
 -- Such a request, whose body was read to its end.
-pub record IsServed (v : Visit) (number : ℕ) (s n : Standing) (rows : List Served) : Type 0 where
+pub record IsServed (v : Visit) (number : ℕ) (s n : ClientStanding) (rows : List Served) : Type 0 where
   pub body : BodyIn
-  pub mid : Standing
+  pub mid : ClientStanding
   pub going_on : IsGoingOn v number s mid body rows
   pub skips : SkipsRest mid n body
 
 -- That number of requests was served, one after the other. The rows are theirs, in order.
-abbrev pub HaveServed : Visit → (number : ℕ) → Standing → Standing → List Served → Type 0
+abbrev pub HaveServed : Visit → (number : ℕ) → ClientStanding → ClientStanding → List Served → Type 0
 HaveServed v zero s n rows = (n ≡ s) × (rows ≡ [])
 HaveServed v (suc number) s n rows =
-    (mid : Standing) × (before : List Served) × (last : List Served)
+    (mid : ClientStanding) × (before : List Served) × (last : List Served)
     × HaveServed v number s mid before × IsServed v number mid n last × (rows ≡ before ++ last)
 
 -- ---- the end
@@ -104,30 +104,30 @@ abbrev pub refused_row : (status : ℕ) → Served
 refused_row status = record { asked = asked.Refused; status = status; body = own_len status false; worker = None }
 
 -- A refused head was answered with its status.
-pub record IsHeadRefused (s n : Standing) (code : ℕ) : Type 0 where
-  pub read : Standing
+pub record IsHeadRefused (s n : ClientStanding) (code : ℕ) : Type 0 where
+  pub read : ClientStanding
   pub form : Form
   pub reads : ReadsRefused s read form
   pub status : code ≡ status_of form
   pub written : IsWritten read n (own_for code false)
 
 -- Writing that answer broke off.
-pub record IsRefusalBegun (s n : Standing) : Type 0 where
-  pub read : Standing
+pub record IsRefusalBegun (s n : ClientStanding) : Type 0 where
+  pub read : ClientStanding
   pub form : Form
   pub reads : ReadsRefused s read form
   pub begun : IsBegun read n (own_for (status_of form) false)
 
 -- A request was answered otherwise than whole.
-abbrev pub IsStopped : Visit → (number : ℕ) → (s n : Standing) → List Served → Stop → Type 0
+abbrev pub IsStopped : Visit → (number : ℕ) → (s n : ClientStanding) → List Served → SessionStop → Type 0
 IsStopped v number s n rows stop' = (body : BodyIn) × IsRequest v number s n body (answered.Not stop') rows
 
 -- A request was answered whole, and the rest of its body was not read to its end for this reason.
-abbrev pub IsUnread : Visit → (number : ℕ) → (s n : Standing) → List Served → BodyFault → Type 0
-IsUnread v number s n rows why = (body : BodyIn) × (mid : Standing) × IsGoingOn v number s mid body rows × BreaksRest mid n body why
+abbrev pub IsUnread : Visit → (number : ℕ) → (s n : ClientStanding) → List Served → BodyFault → Type 0
+IsUnread v number s n rows why = (body : BodyIn) × (mid : ClientStanding) × IsGoingOn v number s mid body rows × BreaksRest mid n body why
 
 -- Why the session ended, after `number` requests that were served: what was done from there on, and its rows.
-abbrev pub EndsIn : Visit → (number : ℕ) → (s n : Standing) → List Served → SessionEnd → Type 0
+abbrev pub EndsIn : Visit → (number : ℕ) → (s n : ClientStanding) → List Served → SessionEnd → Type 0
 EndsIn v number s n rows (session_end.Closed requests why.ByClient) = (requests ≡ number) × ReadsEnd s n × (rows ≡ [])
 EndsIn v number s n rows (session_end.Closed requests why.Last) =
     (requests ≡ number + 1)
@@ -150,16 +150,16 @@ EndsIn v number s n rows (session_end.Stray ticket returned_at) =
     (rows ≡ []) × IsStopped v number s n rows (stop.Stray ticket returned_at)
 EndsIn v number s n rows session_end.NoMemory =
     ((rows ≡ []) × (StopsReading s n
-    ⊎ (IsRefusalBegun s n ⊎ (((read : Standing) × (form : Form) × ReadsRefused s read form × (n ≡ read))
+    ⊎ (IsRefusalBegun s n ⊎ (((read : ClientStanding) × (form : Form) × ReadsRefused s read form × (n ≡ read))
     ⊎ IsStopped v number s n rows stop.NoMemory))))
     ⊎ IsUnread v number s n rows fault.NoMemory
 
 -- ---- the whole
 
 -- Requests were served, and then the session ended.
-pub record IsSession (v : Visit) (s n : Standing) (rows : List Served) (end : SessionEnd) : Type 0 where
+pub record IsSession (v : Visit) (s n : ClientStanding) (rows : List Served) (end : SessionEnd) : Type 0 where
   pub number : ℕ
-  pub mid : Standing
+  pub mid : ClientStanding
   pub before : List Served
   pub last : List Served
   pub served : HaveServed v number s mid before
@@ -168,12 +168,12 @@ pub record IsSession (v : Visit) (s n : Standing) (rows : List Served) (end : Se
 
 -- A session from a client of which nothing was read. What it had read at its end and not used is lost; its rows are added
 -- at the end.
-pub record Serves (v : Visit) (at_first : List ℕ → Standing) (at_last : List ℕ → Standing) (rows rows' : List Served) (end : SessionEnd) : Type 0 where
+pub record Serves (v : Visit) (at_first : List ℕ → ClientStanding) (at_last : List ℕ → ClientStanding) (rows rows' : List Served) (end : SessionEnd) : Type 0 where
   pub inbox : List ℕ
   pub gained : List Served
   pub session : IsSession v (at_first []) (at_last inbox) gained end
   pub added : rows' ≡ rows ++ gained
 
 -- P of each session of this visit that ends so: of how many requests were served, where that led, and where it ended.
-abbrev pub InEachSession : Visit → SessionEnd → (SessionEnd → (number : ℕ) → (s n : Standing) → Type 0) → Type 0
-InEachSession v end P = (s n : Standing) (rows : List Served) → (way : IsSession v s n rows end) → P end way.number way.mid n
+abbrev pub InEachSession : Visit → SessionEnd → (SessionEnd → (number : ℕ) → (s n : ClientStanding) → Type 0) → Type 0
+InEachSession v end P = (s n : ClientStanding) (rows : List Served) → (way : IsSession v s n rows end) → P end way.number way.mid n

@@ -17,7 +17,7 @@ pub record ReachSide : Type 0 where
   pub faults : ℕ
 
 -- The client's link, and its bytes that were read and not yet used.
-pub record Standing : Type 0 where
+pub record ClientStanding : Type 0 where
   pub desk : DeskSide
   pub reach : ReachSide
   pub client : Moment
@@ -28,13 +28,13 @@ abbrev pub client_at : {C X : Type 0} → Ghosts C X → C → Moment
 client_at told client = moment told.incoming told.received told.sent told.faults client
 
 -- What is known then, where the reach and the inbox are these.
-abbrev pub standing_by : {B K C X : Type 0} → (B → DeskState) → (K → Option (List ℕ)) → Ghosts C X → ReachSide → List ℕ → B → K → C → Standing
+abbrev pub standing_by : {B K C X : Type 0} → (B → DeskState) → (K → Option (List ℕ)) → Ghosts C X → ReachSide → List ℕ → B → K → C → ClientStanding
 standing_by state answers told_of_client reach inbox desk clock client =
     record { desk = desk_side state answers desk clock; reach = reach; client = client_at told_of_client client; inbox = inbox }
 
 -- What is known then, by what the types tell: `standing B.state K.answers R.Meanings C.Meanings`.
 abbrev pub standing : {B K R C X : Type 0} → (B → DeskState) → (K → Option (List ℕ)) → Ghosts R Beside → Ghosts C X
-    → B → K → R → C → List ℕ → Standing
+    → B → K → R → C → List ℕ → ClientStanding
 standing state answers told_of_reach told_of_client desk clock reach client inbox = record {
   desk = desk_side state answers desk clock;
   reach = record { talks = (told_of_reach.beside reach).talks; faults = told_of_reach.faults reach };
@@ -43,11 +43,11 @@ standing state answers told_of_reach told_of_client desk clock reach client inbo
 }
 
 -- the client's bytes that no request used
-abbrev pub unread_at : Standing → Option (List ℕ)
+abbrev pub unread_at : ClientStanding → Option (List ℕ)
 unread_at s = unread s.inbox s.client.incoming
 
 -- the scene of an exchange that is to take this body
-abbrev pub with_body : Standing → BodyIn → Scene
+abbrev pub with_body : ClientStanding → BodyIn → Scene
 with_body s body = record {
   desk = s.desk.state;
   clock = s.desk.clock;
@@ -62,17 +62,17 @@ with_body s body = record {
 -- ---- reading
 
 -- nothing but the client's bytes was touched
-abbrev pub IsClientAlone : Standing → Standing → Type 0
+abbrev pub IsClientAlone : ClientStanding → ClientStanding → Type 0
 IsClientAlone s n = n ≡ record s { client = n.client; inbox = n.inbox }
 
 -- The client's bytes were read on, and no read failed.
-pub record IsReadOn (s n : Standing) : Type 0 where
+pub record IsReadOn (s n : ClientStanding) : Type 0 where
   pub alone : IsClientAlone s n
   pub sent : n.client.sent ≡ s.client.sent
   pub steady : n.client.faults ≡ s.client.faults
 
 -- Bytes may have come, and none was used: a read failed, or memory was wanted.
-pub record StopsReading (s n : Standing) : Type 0 where
+pub record StopsReading (s n : ClientStanding) : Type 0 where
   pub alone : IsClientAlone s n
   pub sent : n.client.sent ≡ s.client.sent
   pub unused : unread_at n ≡ unread_at s
@@ -95,11 +95,11 @@ pub record PutsPart (s n : Moment) (bytes : List ℕ) : Type 0 where
   pub received : n.received ≡ s.received
 
 -- This was written to the client, and nothing else was done.
-pub record IsWritten (s n : Standing) (bytes : List ℕ) : Type 0 where
+pub record IsWritten (s n : ClientStanding) (bytes : List ℕ) : Type 0 where
   pub puts : Puts s.client n.client bytes
   pub alone : n ≡ record s { client = n.client }
 
 -- Writing this broke off, and nothing else was done.
-pub record IsBegun (s n : Standing) (bytes : List ℕ) : Type 0 where
+pub record IsBegun (s n : ClientStanding) (bytes : List ℕ) : Type 0 where
   pub puts : PutsPart s.client n.client bytes
   pub alone : n ≡ record s { client = n.client }

@@ -13,18 +13,18 @@ use Rattle.client_session.specs.Answers.{IsAnswer, IsAnswerAt, IsForwardedAt, Is
 use Rattle.client_session.specs.Concluding.{rows_of}
 use Rattle.client_session.specs.Requests.{Visit, visit_of}
 use Rattle.client_session.specs.Sessions.{IsSession, ReadsHead}
-use Rattle.client_session.specs.Standings.{Standing, standing}
+use Rattle.client_session.specs.Standings.{ClientStanding, standing}
 use Rattle.client_session.specs.Turns.{Turns}
 use Rattle.client_session.specs.declared.ending.SessionEnd.{SessionEnd}
-use Rattle.client_session.specs.declared.ending.Stop.{Stop}
+use Rattle.client_session.specs.declared.ending.SessionStop.{SessionStop}
 use Rattle.client_session.specs.declared.inquiry.Inquiry.{Inquiry}
 use Rattle.client_session.specs.declared.surroundings.Surroundings.{Surroundings}
 use Rattle.client_session.specs.declared.turn.Settled.{Settled}
-use Rattle.client_session.specs.declared.turn.Turn.{Turn}
+use Rattle.client_session.specs.declared.turn.SessionTurn.{SessionTurn}
 
 -- What is known then: `standing_of B.state K.answers R.Meanings C.Meanings around`.
 abbrev pub standing_of : {B K R C X : Type 0} → (B → DeskState) → (K → Option (List ℕ)) → Ghosts R Beside → Ghosts C X
-    → Surroundings B K R C → Standing
+    → Surroundings B K R C → ClientStanding
 standing_of state answers told_of_reach told_of_client s =
     standing state answers told_of_reach told_of_client s.desk.now s.clock.now s.reach.now s.client.now s.inbox.now
 
@@ -35,26 +35,26 @@ AreSame s n =
     × (n.client.ghost_name ≡ s.client.ghost_name) × (n.inbox.ghost_name ≡ s.inbox.ghost_name)
 
 -- The request was answered so.
-abbrev pub IsAnswered : Inquiry → (s n : Standing) → (body body' : BodyIn) → Settled → Type 0
+abbrev pub IsAnswered : Inquiry → (s n : ClientStanding) → (body body' : BodyIn) → Settled → Type 0
 IsAnswered i s n body body' settled = IsAnswer (visit_of i.site.now) i.head.now i.last s n body body' settled.answered (rows_of settled.row)
 
 -- It is mounted, and its client was told to go on.
-abbrev pub IsAnsweredAt : Inquiry → (s n : Standing) → (body body' : BodyIn) → Settled → Type 0
+abbrev pub IsAnsweredAt : Inquiry → (s n : ClientStanding) → (body body' : BodyIn) → Settled → Type 0
 IsAnsweredAt i s n body body' settled = IsAnswerAt (visit_of i.site.now) i.head.now i.last s n body body' settled.answered (rows_of settled.row)
 
 -- The session added its rows at the end.
-abbrev pub AddsSession : Visit → (s n : Standing) → (rows rows' : List Served) → SessionEnd → Type 0
+abbrev pub AddsSession : Visit → (s n : ClientStanding) → (rows rows' : List Served) → SessionEnd → Type 0
 AddsSession v s n rows rows' end = (gained : List Served) × (rows' ≡ rows ++ gained) × IsSession v s n gained end
 
 -- The request was forwarded to the balancer at this place.
-abbrev pub ForwardsTo : Inquiry → (lb : ℕ) → (s n : Standing) → (body body' : BodyIn) → ExchangeEnd → Type 0
+abbrev pub ForwardsTo : Inquiry → (lb : ℕ) → (s n : ClientStanding) → (body body' : BodyIn) → ExchangeEnd → Type 0
 ForwardsTo i lb s n body body' end = AtPlace i.site.now.cfg.now.lbs lb (λ b.
     IsForwardedAt (visit_of i.site.now) (errand_at (visit_of i.site.now) i.head.now i.last lb b) s n body body' end)
 
 -- The request was answered by that status worker.
-abbrev pub Shows : Inquiry → Status → (s n : Standing) → Result ℕ Stop → Type 0
+abbrev pub Shows : Inquiry → Status → (s n : ClientStanding) → Result ℕ SessionStop → Type 0
 Shows i status s n answer = IsStatusAnswer (visit_of i.site.now) status i.head.now i.last s n answer
 
 -- The turn of a request whose head was read, wherever its bytes began.
-abbrev pub TurnsFrom : Visit → (number : ℕ) → Head → (s n : Standing) → (rows rows' : List Served) → Turn → Type 0
-TurnsFrom v number head s n rows rows' turn' = (start : Standing) → ReadsHead start s head → Turns v number start n rows rows' turn'
+abbrev pub TurnsFrom : Visit → (number : ℕ) → Head → (s n : ClientStanding) → (rows rows' : List Served) → SessionTurn → Type 0
+TurnsFrom v number head s n rows rows' turn' = (start : ClientStanding) → ReadsHead start s head → Turns v number start n rows rows' turn'

@@ -6,17 +6,17 @@ use Rattle.jk_io.specs.declared.failures.IoError.{IoError}
 use Rattle.jk_io.specs.declared.failures.IoError.TheVariants as io
 use Rattle.client_session.specs.Answers.{own_for}
 use Rattle.client_session.specs.Standings.{Puts, PutsPart}
-use Rattle.client_session.specs.declared.ending.Stop.{Stop}
-use Rattle.client_session.specs.declared.ending.Stop.TheVariants as stop
+use Rattle.client_session.specs.declared.ending.SessionStop.{SessionStop}
+use Rattle.client_session.specs.declared.ending.SessionStop.TheVariants as stop
 use Rattle.client_session.specs.declared.ending.Why.TheVariants as why
 
 -- what a write that failed makes of the session
-abbrev pub stop_by : IoError → Stop
+abbrev pub stop_by : IoError → SessionStop
 stop_by io.Failed = stop.ClientFault
 stop_by io.NoMemory = stop.NoMemory
 
 -- the own answer was written whole, or a front of it
-abbrev pub WritesOwn : (status : ℕ) → (head_only : Bool) → Moment → Moment → Stop → Type 0
+abbrev pub WritesOwn : (status : ℕ) → (head_only : Bool) → Moment → Moment → SessionStop → Type 0
 WritesOwn status head_only s n (stop.Closed why.ByClient) = ⊥
 WritesOwn status head_only s n (stop.Closed why.Last) = ⊥
 WritesOwn status head_only s n (stop.Closed (why.Own code)) = (code ≡ status) × Puts s n (own_for status head_only)
@@ -28,7 +28,7 @@ WritesOwn status head_only s n (stop.Stray ticket returned_at) = ⊥
 WritesOwn status head_only s n stop.NoMemory = PutsPart s n (own_for status head_only)
 
 -- bytes were written whole, or a front of them and the session is to end
-abbrev pub WritesPart : {T : Type 0} → List ℕ → Moment → Moment → Result T Stop → Type 0
+abbrev pub WritesPart : {T : Type 0} → List ℕ → Moment → Moment → Result T SessionStop → Type 0
 WritesPart bytes s n (Ok value) = Puts s n bytes
 WritesPart bytes s n (Err (stop.Closed w)) = ⊥
 WritesPart bytes s n (Err stop.ClientFault) = Rose s.faults n.faults × PutsPart s n bytes
@@ -37,5 +37,5 @@ WritesPart bytes s n (Err (stop.Stray ticket returned_at)) = ⊥
 WritesPart bytes s n (Err stop.NoMemory) = PutsPart s n bytes
 
 -- memory was wanted before, or a front of the bytes was written, and the session is to end
-abbrev pub BreaksOff : List ℕ → Moment → Moment → Stop → Type 0
+abbrev pub BreaksOff : List ℕ → Moment → Moment → SessionStop → Type 0
 BreaksOff bytes s n stop' = ((stop' ≡ stop.NoMemory) × (n ≡ s)) ⊎ WritesPart {T = Unit {0}} bytes s n (Err stop')

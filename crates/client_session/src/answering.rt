@@ -16,7 +16,7 @@ ghost use Rattle.client_session.specs.Turns.{GoesOn, MeetsInAnswer, RisesInAnswe
 ghost use Rattle.client_session.specs.Writing.{BreaksOff, WritesPart};
 
 use crate::concluding::{conclude, conclude_stop};
-use crate::ending::Stop;
+use crate::ending::SessionStop;
 use crate::inquiry::Inquiry;
 use crate::requests::{awaits_continue, is_head};
 use crate::rows::Row;
@@ -60,7 +60,7 @@ fn longest_name(cfg: &Config, worker: Named) -> usize
 }
 
 /// Tells a client that waits for it that its body may come.
-fn send_continue<C: Sink>(head: &Head, client: &mut C) -> Result<(), Stop>
+fn send_continue<C: Sink>(head: &Head, client: &mut C) -> Result<(), SessionStop>
     ensures sent { WritesPart (continue_for head.now) (client_at C.Meanings client.old) (client_at C.Meanings client.new) result }
     ensures beside { C.beside client.new ≡ C.beside client.old }
 {
@@ -235,7 +235,7 @@ fn begin<C: Sink>(
     worker: Named,
     head: &Head,
     client: &mut C,
-) -> Result<Row, Stop>
+) -> Result<Row, SessionStop>
     requires { is_worker cfg.now worker ≡ true }
     ensures room { IfOk result (HasRoom cfg.now worker head.now) }
     ensures told { IfOk result (λ row. Puts (client_at C.Meanings client.old) (client_at C.Meanings client.new) (continue_for head.now)) }
@@ -243,7 +243,7 @@ fn begin<C: Sink>(
     ensures beside { C.beside client.new ≡ C.beside client.old }
 {
     let Ok(row) = row_at(alloc, cfg, worker, head) else {
-        return Err(Stop::NoMemory);
+        return Err(SessionStop::NoMemory);
     };
     match send_continue(head, client) {
         Ok(()) => Ok(row),
@@ -257,7 +257,7 @@ fn not_found<C: Sink>(alloc: Global, head: &Head, client: &mut C) -> Settled
     ensures beside { C.beside client.new ≡ C.beside client.old }
 {
     let Ok(row) = Row::of(alloc, head, 0) else {
-        return stopped(Stop::NoMemory);
+        return stopped(SessionStop::NoMemory);
     };
     conclude_stop(write_own(404, is_head(head), client), is_head(head), row)
 }

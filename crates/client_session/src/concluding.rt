@@ -3,7 +3,7 @@ ghost use Rattle.std.specs.Prelude.{◌≡◌, [], vec_capacity, IsSome};
 ghost use Rattle.http_out.specs.Own.{own_of};
 ghost use Rattle.client_session.specs.Concluding.{HoldsName, IsConclusion, IsKnownStop, IsMemberRow, IsWithin, cut_settled, own_settled, settled_by};
 
-use crate::ending::{Stop, Why};
+use crate::ending::{SessionStop, Why};
 use crate::rows::Row;
 use crate::turn::{Answered, Settled, stopped};
 use ajp_talk::Told;
@@ -25,7 +25,7 @@ fn cut(row: Served) -> Settled
     ensures { result ≡ cut_settled row }
 {
     Settled {
-        answered: Answered::Not(Stop::Closed(Why::Cut)),
+        answered: Answered::Not(SessionStop::Closed(Why::Cut)),
         row: Some(row),
     }
 }
@@ -48,16 +48,16 @@ pub(crate) fn conclude(
         },
         ExchangeEnd::Own(status) => own(status, head_only, row),
         ExchangeEnd::Cut { member, told } => cut(member_row(row, members, member, told)),
-        ExchangeEnd::ClientFault => stopped(Stop::ClientFault),
-        ExchangeEnd::Truncated => stopped(Stop::Truncated),
+        ExchangeEnd::ClientFault => stopped(SessionStop::ClientFault),
+        ExchangeEnd::Truncated => stopped(SessionStop::Truncated),
         ExchangeEnd::Stray {
             ticket,
             returned_at,
-        } => stopped(Stop::Stray {
+        } => stopped(SessionStop::Stray {
             ticket,
             returned_at,
         }),
-        ExchangeEnd::NoMemory => stopped(Stop::NoMemory),
+        ExchangeEnd::NoMemory => stopped(SessionStop::NoMemory),
     }
 }
 
@@ -67,18 +67,18 @@ fn own(status: u16, head_only: bool, row: Row) -> Settled
     ensures { result ≡ own_settled row.asked status head_only }
 {
     Settled {
-        answered: Answered::Not(Stop::Closed(Why::Own(status))),
+        answered: Answered::Not(SessionStop::Closed(Why::Own(status))),
         row: Some(row.own(status, head_only)),
     }
 }
 
 /// No page and no reply was written: an own answer, or nothing whole.
-pub(crate) fn conclude_stop(stop: Stop, head_only: bool, row: Row) -> Settled
+pub(crate) fn conclude_stop(stop: SessionStop, head_only: bool, row: Row) -> Settled
     requires { IsKnownStop stop }
     ensures { result ≡ settled_by stop row.asked head_only }
 {
     match stop {
-        Stop::Closed(Why::Own(status)) => own(status, head_only, row),
+        SessionStop::Closed(Why::Own(status)) => own(status, head_only, row),
         stop => stopped(stop),
     }
 }

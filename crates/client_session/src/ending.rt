@@ -42,7 +42,7 @@ pub enum SessionEnd {
 
 /// Why no further request is read.
 #[derive(Clone, Copy, Debug, PartialEq, Eq)]
-pub enum Stop {
+pub enum SessionStop {
     Closed(Why),
     ClientFault,
     Truncated,
@@ -53,7 +53,7 @@ pub enum Stop {
     NoMemory,
 }
 
-impl Stop {
+impl SessionStop {
     ghost use Rattle.std.specs.Prelude.{◌≡◌};
     ghost use Rattle.client_session.specs.Ends.{end_of};
 
@@ -62,17 +62,17 @@ impl Stop {
         ensures { result ≡ end_of self requests }
     {
         match self {
-            Stop::Closed(why) => SessionEnd::Closed { requests, why },
-            Stop::ClientFault => SessionEnd::ClientFault { requests },
-            Stop::Truncated => SessionEnd::Truncated { requests },
-            Stop::Stray {
+            SessionStop::Closed(why) => SessionEnd::Closed { requests, why },
+            SessionStop::ClientFault => SessionEnd::ClientFault { requests },
+            SessionStop::Truncated => SessionEnd::Truncated { requests },
+            SessionStop::Stray {
                 ticket,
                 returned_at,
             } => SessionEnd::Stray {
                 ticket,
                 returned_at,
             },
-            Stop::NoMemory => SessionEnd::NoMemory,
+            SessionStop::NoMemory => SessionEnd::NoMemory,
         }
     }
 }

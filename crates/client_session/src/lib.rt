@@ -17,7 +17,7 @@ mod inquiry;
 mod requests;
 mod rows;
 mod serving;
-mod site;
+mod session_site;
 mod status;
 mod surroundings;
 mod turn;

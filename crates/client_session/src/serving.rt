@@ -14,18 +14,18 @@ ghost use Rattle.client_session.specs.Causes.{IsDecided, IsOwnCaused};
 ghost use Rattle.client_session.specs.Complete.{EndsWhole, ServesWhole};
 ghost use Rattle.client_session.specs.Parts.{HasParts};
 ghost use Rattle.client_session.specs.Sessions.{InEachSession, IsServed, Serves};
-ghost use Rattle.client_session.specs.Standings.{Standing, client_at, standing};
+ghost use Rattle.client_session.specs.Standings.{ClientStanding, client_at, standing};
 ghost use Rattle.client_session.specs.Surroundings.{AddsSession, AreSame, TurnsFrom, standing_of};
 ghost use Rattle.client_session.specs.Turns.{MeetsInTurn, RisesInTurn, Turns};
 
 use crate::answering::answer;
-use crate::ending::{SessionEnd, Stop, Why};
+use crate::ending::{SessionEnd, SessionStop, Why};
 use crate::inquiry::Inquiry;
 use crate::requests::{MAX_BODY_BYTES, MAX_REQUESTS, is_last};
 use crate::rows::{Row, put};
-use crate::site::Site;
+use crate::session_site::SessionSite;
 use crate::surroundings::Surroundings;
-use crate::turn::{Answered, Settled, Turn};
+use crate::turn::{Answered, SessionTurn, Settled};
 use crate::writing::write_own;
 use balancer_core::Desk;
 use http_body_in::{BodyFault, BodyIn};
@@ -38,26 +38,26 @@ use std::mem;
 use uri_map::UriMap;
 
 /// What it makes of the session that the rest of a body can't be read.
-fn stop_for(fault: BodyFault) -> Stop
+fn stop_for(fault: BodyFault) -> SessionStop
     ensures { result ≡ stop_after fault }
 {
     match fault {
-        BodyFault::Truncated => Stop::Truncated,
-        BodyFault::BadChunk | BodyFault::TooLong => Stop::Closed(Why::Unread),
-        BodyFault::Fault => Stop::ClientFault,
-        BodyFault::NoMemory => Stop::NoMemory,
+        BodyFault::Truncated => SessionStop::Truncated,
+        BodyFault::BadChunk | BodyFault::TooLong => SessionStop::Closed(Why::Unread),
+        BodyFault::Fault => SessionStop::ClientFault,
+        BodyFault::NoMemory => SessionStop::NoMemory,
     }
 }
 
 /// Reads the rest of a body, after a whole reply or page.
-fn finish_body<C: Link>(body: &mut BodyIn, inbox: &mut Inbox, client: &mut C) -> Turn
+fn finish_body<C: Link>(body: &mut BodyIn, inbox: &mut Inbox, client: &mut C) -> SessionTurn
     ensures finished { let see = client_at C.Meanings in
         Finishes (body_at body.old inbox.old (see client.old)) (body_at body.new inbox.new (see client.new)) result }
     ensures beside { C.beside client.new ≡ C.beside client.old }
 {
     match body.skip_rest(inbox, client) {
-        Ok(()) => Turn::Next,
-        Err(fault) => Turn::EndsAfter(stop_for(fault)),
+        Ok(()) => SessionTurn::Next,
+        Err(fault) => SessionTurn::EndsAfter(stop_for(fault)),
     }
 }
 
@@ -68,16 +68,16 @@ fn turn_after<C: Link>(
     body: &mut BodyIn,
     inbox: &mut Inbox,
     client: &mut C,
-) -> Turn
+) -> SessionTurn
     ensures turned { let see = client_at C.Meanings in
         TurnsAfter answered last (body_at body.old inbox.old (see client.old)) (body_at body.new inbox.new (see client.new)) result }
-    ensures more { result ≡ Turn.Next → last ≡ false }
+    ensures more { result ≡ SessionTurn.Next → last ≡ false }
     ensures beside { C.beside client.new ≡ C.beside client.old }
     ensures no_fewer { C.faults client.old ≤ C.faults client.new }
 {
     match answered {
-        Answered::Not(stop) => Turn::EndsAt(stop),
-        Answered::Whole if last => Turn::EndsAfter(Stop::Closed(Why::Last)),
+        Answered::Not(stop) => SessionTurn::EndsAt(stop),
+        Answered::Whole if last => SessionTurn::EndsAfter(SessionStop::Closed(Why::Last)),
         Answered::Whole => finish_body(body, inbox, client),
     }
 }
@@ -95,12 +95,12 @@ fn put_row(rows: &mut Vec<Served>, row: Option<Served>)
 /// Answers the request of a head, and reads what is left of its body.
 fn serve_head<B: Desk, R: Reach, C: Link, K: Clock>(
     alloc: Global,
-    site: &Site<'_>,
+    site: &SessionSite<'_>,
     head: &Head,
     number: u32,
     around: &mut Surroundings<B, K, R, C>,
     rows: &mut Vec<Served>,
-) -> Turn
+) -> SessionTurn
 where
     B::Mark: Drop,
     B::Shown: Drop,
@@ -108,7 +108,7 @@ where
     requires number { number < MAX_REQUESTS }
     ensures turn { let at = standing_of B.state K.answers R.Meanings C.Meanings in
         TurnsFrom (visit_of site.now) number head.now (at around.old) (at around.new) rows.old.items rows.new.items result }
-    ensures more { result ≡ Turn.Next → number + 1 < MAX_REQUESTS }
+    ensures more { result ≡ SessionTurn.Next → number + 1 < MAX_REQUESTS }
     ensures ready { IsReady (visit_of site.now) (B.state around.new.desk.now) (R.beside around.new.reach.now) }
     ensures kept { KeepsTickets site.now.session (B.state around.old.desk.now) (B.state around.new.desk.now) }
     ensures met { MeetsInTurn result (B.state around.old.desk.now) (B.state around.new.desk.now) }
@@ -120,7 +120,7 @@ where
 {
     let mut body = BodyIn::new(head.plan, MAX_BODY_BYTES);
     let Ok(()) = rows.reserve(1) else {
-        return Turn::EndsAt(Stop::NoMemory);
+        return SessionTurn::EndsAt(SessionStop::NoMemory);
     };
     let last = is_last(number, head);
     let of = Inquiry { site, head, last };
@@ -130,17 +130,17 @@ where
 }
 
 /// Answers a refused head.
-fn refuse<C: Sink>(alloc: Global, form: Form, client: &mut C, rows: &mut Vec<Served>) -> Stop
+fn refuse<C: Sink>(alloc: Global, form: Form, client: &mut C, rows: &mut Vec<Served>) -> SessionStop
     ensures refused { let see = client_at C.Meanings in
         RefusesHead form (see client.old) (see client.new) rows.old.items rows.new.items result }
     ensures beside { C.beside client.new ≡ C.beside client.old }
 {
     let Ok(()) = rows.reserve(1) else {
-        return Stop::NoMemory;
+        return SessionStop::NoMemory;
     };
     let status = form.status();
     let stop = write_own(status, false, client);
-    if let Stop::Closed(_) = stop {
+    if let SessionStop::Closed(_) = stop {
         put(rows, Row::refused(alloc).own(status, false));
     }
     stop
@@ -152,27 +152,27 @@ fn stop_without_head<C: Sink>(
     error: HeadError,
     client: &mut C,
     rows: &mut Vec<Served>,
-) -> Stop
+) -> SessionStop
     ensures stops { let see = client_at C.Meanings in
         StopsWithoutHead error (see client.old) (see client.new) rows.old.items rows.new.items result }
     ensures beside { C.beside client.new ≡ C.beside client.old }
 {
     match error {
         HeadError::Refused { status: _, form } => refuse(alloc, form, client, rows),
-        HeadError::Truncated => Stop::Truncated,
-        HeadError::Fault => Stop::ClientFault,
-        HeadError::NoMemory => Stop::NoMemory,
+        HeadError::Truncated => SessionStop::Truncated,
+        HeadError::Fault => SessionStop::ClientFault,
+        HeadError::NoMemory => SessionStop::NoMemory,
     }
 }
 
 /// Reads a request and answers it.
 fn serve_one<B: Desk, R: Reach, C: Link, K: Clock>(
     alloc: Global,
-    site: &Site<'_>,
+    site: &SessionSite<'_>,
     number: u32,
     around: &mut Surroundings<B, K, R, C>,
     rows: &mut Vec<Served>,
-) -> Turn
+) -> SessionTurn
 where
     B::Mark: Drop,
     B::Shown: Drop,
@@ -180,7 +180,7 @@ where
     requires number { number < MAX_REQUESTS }
     ensures turn { let at = standing_of B.state K.answers R.Meanings C.Meanings in
         Turns (visit_of site.now) number (at around.old) (at around.new) rows.old.items rows.new.items result }
-    ensures more { result ≡ Turn.Next → number + 1 < MAX_REQUESTS }
+    ensures more { result ≡ SessionTurn.Next → number + 1 < MAX_REQUESTS }
     ensures ready { IsReady (visit_of site.now) (B.state around.new.desk.now) (R.beside around.new.reach.now) }
     ensures kept { KeepsTickets site.now.session (B.state around.old.desk.now) (B.state around.new.desk.now) }
     ensures met { MeetsInTurn result (B.state around.old.desk.now) (B.state around.new.desk.now) }
@@ -192,15 +192,15 @@ where
 {
     match read_head(alloc, around.inbox, around.client) {
         Ok(HeadGot::Head(head)) => serve_head(alloc, site, &head, number, around, rows),
-        Ok(HeadGot::End) => Turn::EndsAt(Stop::Closed(Why::ByClient)),
-        Err(error) => Turn::EndsAt(stop_without_head(alloc, error, around.client, rows)),
+        Ok(HeadGot::End) => SessionTurn::EndsAt(SessionStop::Closed(Why::ByClient)),
+        Err(error) => SessionTurn::EndsAt(stop_without_head(alloc, error, around.client, rows)),
     }
 }
 
 /// Serves requests one after the other until the session ends.
 fn serve_all<B: Desk, R: Reach, C: Link, K: Clock>(
     alloc: Global,
-    site: &Site<'_>,
+    site: &SessionSite<'_>,
     around: &mut Surroundings<B, K, R, C>,
     rows: &mut Vec<Served>,
 ) -> SessionEnd
@@ -222,9 +222,9 @@ where
     let mut number = 0;
     loop {
         match serve_one(alloc, site, number, around, rows) {
-            Turn::Next => number += 1,
-            Turn::EndsAfter(stop) => return stop.after(number + 1),
-            Turn::EndsAt(stop) => return stop.after(number),
+            SessionTurn::Next => number += 1,
+            SessionTurn::EndsAfter(stop) => return stop.after(number + 1),
+            SessionTurn::EndsAt(stop) => return stop.after(number),
         }
     }
 }
@@ -267,7 +267,7 @@ where
     ensures by_bytes { let v = visit cfg.now map.now session peer.now in InEachSession v result (IsDecided v) }
     ensures complete { let v = visit cfg.now map.now session peer.now in InEachSession v result (EndsWhole v) }
     ensures served { let v = visit cfg.now map.now session peer.now in
-        (number : ℕ) (s n : Standing) (gained : List AnyServed) → IsServed v number s n gained → ServesWhole v number s n }
+        (number : ℕ) (s n : ClientStanding) (gained : List AnyServed) → IsServed v number s n gained → ServesWhole v number s n }
 
     // A client's fault ends it only where its faults rose, a stray only where the desk's strays rose.
     ensures fault { RisesBy result (C.faults client.old) (C.faults client.new) }
@@ -283,7 +283,7 @@ where
     let Ok(mut inbox) = Inbox::new(alloc) else {
         return SessionEnd::NoMemory;
     };
-    let site = Site {
+    let site = SessionSite {
         cfg,
         map,
         session,
@@ -330,7 +330,7 @@ where
     ensures by_bytes { let v = visit cfg.now map.now session peer.now in InEachSession v result (IsDecided v) }
     ensures complete { let v = visit cfg.now map.now session peer.now in InEachSession v result (EndsWhole v) }
     ensures served { let v = visit cfg.now map.now session peer.now in
-        (number : ℕ) (s n : Standing) (gained : List AnyServed) → IsServed v number s n gained → ServesWhole v number s n }
+        (number : ℕ) (s n : ClientStanding) (gained : List AnyServed) → IsServed v number s n gained → ServesWhole v number s n }
     ensures fault { RisesBy result (C.faults client.old) (C.faults client.new) }
     ensures met { MeetsBy result (B.state desk.old) (B.state desk.new) }
     ensures idle { (R.beside reach.new).runs ≡ false }

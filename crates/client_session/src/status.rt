@@ -5,7 +5,7 @@ ghost use Rattle.exchange.specs.Requests.{sizes_of};
 ghost use Rattle.status_worker.specs.Desks.{KeepsTickets};
 ghost use Rattle.client_session.specs.Surroundings.{AreSame, Shows, standing_of};
 
-use crate::ending::Stop;
+use crate::ending::SessionStop;
 use crate::inquiry::Inquiry;
 use crate::requests::is_head;
 use crate::surroundings::Surroundings;
@@ -22,7 +22,7 @@ pub(crate) fn serve_status<B: Desk, R: Reach, C: Link, K: Clock>(
     of: &Inquiry,
     status: &Status,
     around: &mut Surroundings<B, K, R, C>,
-) -> Result<u64, Stop>
+) -> Result<u64, SessionStop>
 where
     B::Mark: Drop,
     B::Shown: Drop,
@@ -49,10 +49,10 @@ where
     ) {
         Ok(only) => only,
         Err(NoPage::Own(code)) => return Err(write_own(code, is_head(head), around.client)),
-        Err(NoPage::NoMemory) => return Err(Stop::NoMemory),
+        Err(NoPage::NoMemory) => return Err(SessionStop::NoMemory),
     };
     let Ok(page) = page_at(alloc, site.cfg, only, is_head(head), last, around.desk) else {
-        return Err(Stop::NoMemory);
+        return Err(SessionStop::NoMemory);
     };
     match send(page.reply.as_slice(), around.client) {
         Ok(()) => Ok(page.len),

@@ -2,7 +2,7 @@
 ghost use Rattle.std.specs.Prelude.{◌≡◌, None};
 ghost use Rattle.client_session.specs.declared.turn.Answered.TheVariants as answered_is;
 
-use crate::ending::Stop;
+use crate::ending::SessionStop;
 use jk_model::Served;
 
 /// What the client has of a request's answer.
@@ -11,7 +11,7 @@ pub enum Answered {
     /// A complete reply or page.
     Whole,
     /// Something else, after which the session ends.
-    Not(Stop),
+    Not(SessionStop),
 }
 
 /// How a request was answered, and the row that it adds, if any.
@@ -23,17 +23,17 @@ pub struct Settled {
 
 /// What follows a request.
 #[derive(Clone, Copy, Debug, PartialEq, Eq)]
-pub enum Turn {
+pub enum SessionTurn {
     /// The next request is read.
     Next,
     /// The session ends after this request, which had a complete reply or page.
-    EndsAfter(Stop),
+    EndsAfter(SessionStop),
     /// The session ends, and this request had none.
-    EndsAt(Stop),
+    EndsAt(SessionStop),
 }
 
 /// Nothing whole was written, so there is no row.
-pub(crate) fn stopped(stop: Stop) -> Settled
+pub(crate) fn stopped(stop: SessionStop) -> Settled
     ensures { result ≡ record { answered = answered_is.Not stop; row = None } }
 {
     Settled {

@@ -4,22 +4,22 @@ ghost use Rattle.http_out.specs.Own.{own_of};
 ghost use Rattle.client_session.specs.Standings.{client_at};
 ghost use Rattle.client_session.specs.Writing.{WritesOwn, WritesPart, stop_by};
 
-use crate::ending::{Stop, Why};
+use crate::ending::{SessionStop, Why};
 use http_out::own_answer;
 use jk_io::{IoError, Sink, write_all};
 
 /// Why a write to the client ended the session.
-fn stop_of(error: IoError) -> Stop
+fn stop_of(error: IoError) -> SessionStop
     ensures { result ≡ stop_by error }
 {
     match error {
-        IoError::Failed => Stop::ClientFault,
-        IoError::NoMemory => Stop::NoMemory,
+        IoError::Failed => SessionStop::ClientFault,
+        IoError::NoMemory => SessionStop::NoMemory,
     }
 }
 
 /// Writes bytes whole, or says why the session ends.
-pub(crate) fn send<C: Sink>(bytes: &[u8], client: &mut C) -> Result<(), Stop>
+pub(crate) fn send<C: Sink>(bytes: &[u8], client: &mut C) -> Result<(), SessionStop>
     ensures sent { WritesPart bytes.now (client_at C.Meanings client.old) (client_at C.Meanings client.new) result }
     ensures beside { C.beside client.new ≡ C.beside client.old }
 {
@@ -30,13 +30,13 @@ pub(crate) fn send<C: Sink>(bytes: &[u8], client: &mut C) -> Result<(), Stop>
 }
 
 /// Writes the answer with this status, after which the session ends.
-pub(crate) fn write_own<C: Sink>(status: u16, head_only: bool, client: &mut C) -> Stop
+pub(crate) fn write_own<C: Sink>(status: u16, head_only: bool, client: &mut C) -> SessionStop
     requires { IsSome (own_of status) }
     ensures own { WritesOwn status head_only (client_at C.Meanings client.old) (client_at C.Meanings client.new) result }
     ensures beside { C.beside client.new ≡ C.beside client.old }
 {
     match write_all(client, own_answer(status, head_only)) {
-        Ok(()) => Stop::Closed(Why::Own(status)),
+        Ok(()) => SessionStop::Closed(Why::Own(status)),
         Err(error) => stop_of(error),
     }
 }

@@ -7,7 +7,7 @@ use Rattle.mini_container.specs.declared.app_config.AppConfig.{AppConfig}
 use Rattle.mini_container.specs.declared.ends.ContainerEnd.{ContainerEnd}
 use Rattle.mini_container.specs.declared.ends.Stopped.{Stopped}
 use Rattle.mini_container.specs.Answer.{bytes_of}
-use Rattle.mini_container.specs.Ends.{IsTalk, Place, Stops, place_of}
+use Rattle.mini_container.specs.Ends.{IsTalk, TurnPlace, Stops, place_of}
 use Rattle.mini_container.specs.Turns.{is_dropped, owed, waits}
 use Rattle.drill.specs.Wires.{Answers, WireState, end_at, wire}
 
@@ -15,7 +15,7 @@ record Appends (before after : Option (List ℕ)) : Type 0 where
   more : List ℕ
   is : after ≡ appended before more
 
-stops-appends : (most : ℕ) (place : Place) (waiting dropped : Bool) (going : List ℕ) (before after : Moment) (rest : List ℕ) (stop : Stopped)
+stops-appends : (most : ℕ) (place : TurnPlace) (waiting dropped : Bool) (going : List ℕ) (before after : Moment) (rest : List ℕ) (stop : Stopped)
     → Stops most place waiting dropped going before after rest stop → Appends before.sent after.sent
 stops-appends most place waiting dropped going before after rest stop (inl reading) = record { more = going; is = reading.sent }
 stops-appends most place waiting dropped going before after rest stop (inr (inl sending)) =

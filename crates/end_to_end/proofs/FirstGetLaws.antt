@@ -39,7 +39,7 @@ use Rattle.site_config.specs.declared.endpoint.Endpoint.{Endpoint}
 use Rattle.mini_container.specs.Answer.{bytes_of}
 use Rattle.mini_container.specs.Ends.{IsTalk, end_of}
 use Rattle.mini_container.specs.Request.{application_of}
-use Rattle.mini_container.specs.Turns.{Came, Idle, Request, Taken, Turn, is_over, owed}
+use Rattle.mini_container.specs.Turns.{Came, Idle, Request, Taken, ContainerTurn, is_over, owed}
 use Rattle.mini_container.specs.declared.app_config.AppConfig.{AppConfig}
 use Rattle.mini_container.specs.declared.application.Application.TheVariants.{Unknown}
 use Rattle.mini_container.specs.declared.ends.Stopped.TheVariants.{Closed}
@@ -162,7 +162,7 @@ forwarded-is balancer member endpoint session lb terms direct secret = rw (direc
 
 -- ---- what the container sends
 
-abbrev turn : Turn
+abbrev turn : ContainerTurn
 turn = Request (as_read sent_forward) (Taken [] [])
 
 abbrev parts : ReplyParts

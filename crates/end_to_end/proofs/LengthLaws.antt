@@ -19,7 +19,7 @@ use Rattle.ajp_request.proofs.ForwardLaws.{spells_one}
 use Rattle.ajp_request.proofs.SpelledLaws.{written_spells}
 use Rattle.forwarding.specs.Forwards.{forward_for, line_for}
 use Rattle.forwarding.proofs.ForwardLaws.{forward_is_one}
-use Rattle.http_front.specs.Fields.{Line, is_named, named, same_word}
+use Rattle.http_front.specs.Fields.{HeaderLine, is_named, named, same_word}
 use Rattle.http_front.specs.Framing.{exact_plan, is_long, length_of, length_plan, plan_of}
 use Rattle.http_front.specs.Host.{host_of, numbered, parted, ported, server_of, split_port}
 use Rattle.http_front.specs.Judged.{allowed, and_then, head_of as head_by, judged_of, made}
@@ -51,7 +51,7 @@ abbrev first_of : List (List ℕ) → Option (List ℕ)
 first_of [] = None
 first_of (value ∷ values) = Some value
 
-lines-value : (name : List ℕ) (lines : List Line)
+lines-value : (name : List ℕ) (lines : List HeaderLine)
     → value_named name (headers_as_read header_names (map line_for lines)) ≡ option_map trimmed (first_of (named name lines))
 lines-value name [] = refl
 lines-value name (line ∷ lines) =
@@ -61,13 +61,13 @@ lines-value name (line ∷ lines) =
   where
     of : (b : Bool) → value_named name (headers_as_read header_names (map line_for lines)) ≡ option_map trimmed (first_of (named name lines))
         → (if b then Some (trimmed line.1) else value_named name (headers_as_read header_names (map line_for lines)))
-        ≡ option_map trimmed (first_of (map (λ (l : Line). l.1) (cond b (line ∷ filter (is_named name) lines) (filter (is_named name) lines))))
+        ≡ option_map trimmed (first_of (map (λ (l : HeaderLine). l.1) (cond b (line ∷ filter (is_named name) lines) (filter (is_named name) lines))))
     of true later = refl
     of false later = later
 
 -- ---- a head that was read
 
-record IsJudged (lines : List Line) (head : Head) : Type 0 where
+record IsJudged (lines : List HeaderLine) (head : Head) : Type 0 where
   old : Bool
   port : head.port < 65536
   headers : head.headers ≡ lines
@@ -127,7 +127,7 @@ abbrev head_or : Head → Result Head Form → Head
 head_or other (Ok head) = head
 head_or other (Err refused) = other
 
-judged_is : (method target : List ℕ) (old : Bool) (lines : List Line) (head : Head) → head_by method target old lines ≡ Ok head → IsJudged lines head
+judged_is : (method target : List ℕ) (old : Bool) (lines : List HeaderLine) (head : Head) → head_by method target old lines ≡ Ok head → IsJudged lines head
 judged_is method target old lines head is =
     let one = then_is (judged_of method old lines) (λ parts. made method target old lines parts (clean_of (path_of target))) head is in
     let two = then_is (host_of old (named (codes "host") lines))
@@ -258,6 +258,6 @@ named_length used head peer direct member endpoint f is fits spells =
     let one = forward_is_one head peer direct member endpoint j.port few in
     let same : f ≡ as_read fwd = spells_one f (as_read fwd) (payload_of fwd) spells (written_spells fwd one fits) in
     let found : content_length (as_read fwd) ≡ option_and_then length_in (option_map trimmed (first_of (named (codes "content-length") lines))) =
-    ap (option_and_then length_in) (ap (λ (l : List Line). value_named (codes "content-length") (headers_as_read header_names (map line_for l))) j.headers
+    ap (option_and_then length_in) (ap (λ (l : List HeaderLine). value_named (codes "content-length") (headers_as_read header_names (map line_for l))) j.headers
     ∙ lines-value (codes "content-length") lines) in
     subst (Names head.plan) (sym (ap content_length same ∙ found)) (plan-names j.old (named (codes "content-length") lines) (named (codes "transfer-encoding") lines) head.plan j.plan_is)

@@ -17,9 +17,9 @@ use Rattle.ajp_reply.proofs.StreamLaws.{goes_on}
 use Rattle.ajp_talk.specs.Replies.{chunks_of, is_good}
 use Rattle.mini_container.specs.Answer.{answer_of, bytes_of}
 use Rattle.mini_container.specs.Applications.{drops}
-use Rattle.mini_container.specs.Ends.{IsTalk, Place, Stops, place_of}
+use Rattle.mini_container.specs.Ends.{IsTalk, TurnPlace, Stops, place_of}
 use Rattle.mini_container.specs.Request.{application_of}
-use Rattle.mini_container.specs.Turns.{Body, Awaited, Taken, Turn, Idle, Ping, Request, Came, CameBody, CameTaken, IsPacketOf, Turns, ask, asks_on, data_of, is_dropped, is_over, owed, owed_for, waits}
+use Rattle.mini_container.specs.Turns.{Body, Awaited, Taken, ContainerTurn, Idle, Ping, Request, Came, CameBody, CameTaken, IsPacketOf, Turns, ask, asks_on, data_of, is_dropped, is_over, owed, owed_for, waits}
 use Rattle.mini_container.specs.declared.app_config.AppConfig.{AppConfig}
 use Rattle.mini_container.specs.declared.ends.ContainerEnd.{ContainerEnd}
 use Rattle.mini_container.specs.declared.ends.Stopped.{Stopped}
@@ -31,7 +31,7 @@ use Rattle.end_to_end.proofs.DataLaws.{taken-within}
 
 -- within the last turn, for whose owed messages a front of the bytes was sent
 pub record Last (app : AppConfig) (put sent : List ℕ) : Type 0 where
-  pub turn : Turn
+  pub turn : ContainerTurn
   pub front : List ℕ
   pub rest : List ℕ
   pub more : List ℕ
@@ -40,17 +40,17 @@ pub record Last (app : AppConfig) (put sent : List ℕ) : Type 0 where
   pub sends : bytes_of (owed app turn) ≡ sent ++ more
 
 -- the turns, the oldest first, and the last
-abbrev pub Talks : AppConfig → List Turn → (put sent : List ℕ) → Type 0
+abbrev pub Talks : AppConfig → List ContainerTurn → (put sent : List ℕ) → Type 0
 Talks app [] put sent = Last app put sent
 Talks app (turn ∷ later) put sent =
     (first : List ℕ) × (rest : List ℕ) × (later_sent : List ℕ) × IsTrue (is_over app turn) × Came app turn first × Talks app later rest later_sent
     × (put ≡ first ++ rest) × (sent ≡ bytes_of (owed app turn) ++ later_sent)
 
 pub record SomeTalk (app : AppConfig) (put sent : List ℕ) : Type 0 where
-  pub all : List Turn
+  pub all : List ContainerTurn
   pub talks : Talks app all put sent
 
-talks-from : (app : AppConfig) (past later : List Turn) (came sent rest later_sent : List ℕ) → Turns app past came sent → Talks app later rest later_sent
+talks-from : (app : AppConfig) (past later : List ContainerTurn) (came sent rest later_sent : List ℕ) → Turns app past came sent → Talks app later rest later_sent
     → SomeTalk app (came ++ rest) (sent ++ later_sent)
 talks-from app [] later came sent rest later_sent (none, nothing) talks =
     record { all = later; talks = rw (none, nothing) talks }
@@ -70,7 +70,7 @@ record Sends (going : List ℕ) (before after : Option (List ℕ)) : Type 0 wher
   whole : going ≡ front ++ more
   put : after ≡ appended before front
 
-stops-sends : (most : ℕ) (place : Place) (waiting dropped : Bool) (going : List ℕ) (before after : Moment) (rest : List ℕ) (stop : Stopped)
+stops-sends : (most : ℕ) (place : TurnPlace) (waiting dropped : Bool) (going : List ℕ) (before after : Moment) (rest : List ℕ) (stop : Stopped)
     → Stops most place waiting dropped going before after rest stop → Sends going before.sent after.sent
 stops-sends most place waiting dropped going before after rest stop (inl reading) =
     record { front = going; more = []; whole = sym (append-nil going); put = reading.sent }
@@ -146,11 +146,11 @@ empty-front : (sent more : List ℕ) → [] ≡ sent ++ more → sent ≡ []
 empty-front [] more same = refl
 empty-front (x ∷ sent) more same = absurd cc
 
-pub took_request : (app : AppConfig) (f : Forward) (payload behind sent : List ℕ) (all : List Turn) → SpellsForward f payload
+pub took_request : (app : AppConfig) (f : Forward) (payload behind sent : List ℕ) (all : List ContainerTurn) → SpellsForward f payload
     → Talks app all (packet false payload ++ behind) sent → (sent ≡ [] → ⊥) → TookRequest app f behind sent
 took_request app f payload behind sent [] spells last some = of last.turn last.came last.sends
   where
-    of : (turn : Turn) → Came app turn last.front → bytes_of (owed app turn) ≡ sent ++ last.more → TookRequest app f behind sent
+    of : (turn : ContainerTurn) → Came app turn last.front → bytes_of (owed app turn) ≡ sent ++ last.more → TookRequest app f behind sent
     of Idle came sends = absurd (some (empty-front sent last.more sends))
     of Ping came sends = absurd (not_ping f payload behind last.rest spells (last.whole ∙ ap (λ (b : List ℕ). b ++ last.rest) came))
     of (Request g body) (head, came, p, is, cut) sends =
@@ -190,11 +190,11 @@ pong = packet true (9 ∷ [])
 after_pong : (x y : List ℕ) → pong ++ x ≡ (pong ++ []) ++ y → x ≡ y
 after_pong x y same = (packet-only true (9 ∷ []) (9 ∷ []) x y (same ∙ ap (λ (b : List ℕ). b ++ y) (append-nil pong))).1
 
-pub after_ping : (app : AppConfig) (f : Forward) (put sent : List ℕ) (all : List Turn) → Talks app all (packet false (10 ∷ []) ++ put) (pong ++ sent)
+pub after_ping : (app : AppConfig) (f : Forward) (put sent : List ℕ) (all : List ContainerTurn) → Talks app all (packet false (10 ∷ []) ++ put) (pong ++ sent)
     → (sent ≡ [] → ⊥) → SomeTalk app put sent
 after_ping app f put sent [] last some = of last.turn last.came last.sends
   where
-    of : (turn : Turn) → Came app turn last.front → bytes_of (owed app turn) ≡ (pong ++ sent) ++ last.more → SomeTalk app put sent
+    of : (turn : ContainerTurn) → Came app turn last.front → bytes_of (owed app turn) ≡ (pong ++ sent) ++ last.more → SomeTalk app put sent
     of Idle came sends = absurd cc
     of Ping came sends =
         let none : [] ≡ sent ++ last.more = sym (after_pong (sent ++ last.more) [] (sym (append_assoc pong sent last.more) ∙ sym sends ∙ sym (append-nil (pong ++ [])))) in

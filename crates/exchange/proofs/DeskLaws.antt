@@ -15,7 +15,7 @@ use Rattle.balancer_core.specs.declared.receipt.Receipt.{Receipt}
 use Rattle.exchange.specs.Rounds.{IsAskOrReturn, IsBack, IsDeskAfter, IsReceiptOf}
 use Rattle.exchange.specs.Steps.{IsNoLease}
 use Rattle.exchange.specs.Steps as no_lease_as
-use Rattle.exchange.specs.declared.ending.Verdict.{Verdict}
+use Rattle.exchange.specs.declared.ending.RoundVerdict.{RoundVerdict}
 
 pub untouched : (lb session : ℕ) (desk : DeskState) → IsDeskAfter lb session desk desk
 untouched lb session desk = record {
@@ -93,7 +93,7 @@ after_stray old new lb session lease stray kept met = record {
   own = All-nil (IsReceiptOf lb session);
 }
 
-pub after_none : {T M : Type 0} (note : T → LeaseNote) (numbers : M → FullMark) (old new : DeskState) (lb session at : ℕ) (ask : Ask) (v : Verdict) → KeepsDesk old new
+pub after_none : {T M : Type 0} (note : T → LeaseNote) (numbers : M → FullMark) (old new : DeskState) (lb session at : ℕ) (ask : Ask) (v : RoundVerdict) → KeepsDesk old new
     → IsNoLease note numbers old new lb session at ask v → IsDeskAfter lb session old new
 after_none note numbers old new lb session at ask v kept (no_lease_as.none follows chose) = after_choice note old new lb session at ask _ kept chose
 after_none note numbers old new lb session at ask v kept (no_lease_as.forced follows chose) = after_choice note old new lb session at ask _ kept chose

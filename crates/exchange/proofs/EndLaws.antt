@@ -13,8 +13,8 @@ use Rattle.exchange.specs.declared.ending.ExchangeEnd.{ExchangeEnd}
 use Rattle.exchange.specs.declared.ending.ExchangeEnd.TheVariants as exchange_end
 use Rattle.exchange.specs.declared.ending.Ran.{Ran}
 use Rattle.exchange.specs.declared.ending.Ran.TheVariants as ran_is
-use Rattle.exchange.specs.declared.ending.Verdict.{Verdict}
-use Rattle.exchange.specs.declared.ending.Verdict.TheVariants as verdict
+use Rattle.exchange.specs.declared.ending.RoundVerdict.{RoundVerdict}
+use Rattle.exchange.specs.declared.ending.RoundVerdict.TheVariants as verdict
 
 -- ---- another round
 
@@ -144,7 +144,7 @@ written_end q first past s m n status (exchange_end.Stray ticket returned_at) ca
 written_end q first past s m n status exchange_end.NoMemory cause rest no_fewer written =
     inr (inr (status, cause, record { written = written; no_fewer = no_fewer; rest = rest }))
 
-pub ends_in : (q : Errand) (first : List ℕ) (past : List Round) (s m n : Scene) (v : Verdict) (end : ExchangeEnd)
+pub ends_in : (q : Errand) (first : List ℕ) (past : List Round) (s m n : Scene) (v : RoundVerdict) (end : ExchangeEnd)
     → IsStep q first (tried_in past) (is_later past) s m v → Concludes (is_head q.head) v m n end → EndsIn q first past s m n end
 ends_in q first past s m n (verdict.Again member) end step concluded = absurd concluded
 ends_in q first past s m n (verdict.Answer status) end step concluded =

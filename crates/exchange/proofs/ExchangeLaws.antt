@@ -27,8 +27,8 @@ use Rattle.exchange.specs.declared.ending.ExchangeEnd.{ExchangeEnd}
 use Rattle.exchange.specs.declared.ending.ExchangeEnd.TheVariants as exchange_end
 use Rattle.exchange.specs.declared.ending.Ran.{Ran}
 use Rattle.exchange.specs.declared.ending.Ran.TheVariants as ran_is
-use Rattle.exchange.specs.declared.ending.Verdict.{Verdict}
-use Rattle.exchange.specs.declared.ending.Verdict.TheVariants as verdict
+use Rattle.exchange.specs.declared.ending.RoundVerdict.{RoundVerdict}
+use Rattle.exchange.specs.declared.ending.RoundVerdict.TheVariants as verdict
 use Rattle.exchange.proofs.EndLaws.{ends_in, goes_on_after}
 use Rattle.exchange.proofs.UnmovedLaws.{IsUnmoved, all_unmoved, follow_unmoved, may_follow, still, unmoved_twice}
 
@@ -115,7 +115,7 @@ searches_on q first s n m ask next fresh member way step is =
       unmoved = unmoved_twice s.around n.around m.around way.unmoved had.unmoved;
     }
 
-pub goes_through : (q : Errand) (first : List ℕ) (b n m e : Scene) (ask : Ask) (fresh : Bool) (v : Verdict) (end : ExchangeEnd)
+pub goes_through : (q : Errand) (first : List ℕ) (b n m e : Scene) (ask : Ask) (fresh : Bool) (v : RoundVerdict) (end : ExchangeEnd)
     → IsSearching q first b n ask fresh → IsStep q first ask.tried fresh n m v → Concludes (is_head q.head) v m e end → GoesThrough q first b e end
 goes_through q first b n m e ask fresh v end way step concluded = record {
   past = way.past;

@@ -17,7 +17,7 @@ use Rattle.exchange.specs.Talks.{HasRun}
 use Rattle.exchange.specs.declared.ending.ExchangeEnd.TheVariants as exchange_end
 use Rattle.exchange.specs.declared.ending.Ran.{Ran}
 use Rattle.exchange.specs.declared.ending.Ran.TheVariants as ran_is
-use Rattle.exchange.specs.declared.ending.Verdict.TheVariants as verdict
+use Rattle.exchange.specs.declared.ending.RoundVerdict.TheVariants as verdict
 
 pub is_own : (status known : ℕ) → status ≡ known → IsSome (own_of known) → IsSome (own_of status)
 is_own status known is some = subst (λ (n : ℕ). IsSome (own_of n)) (sym is) some

@@ -20,8 +20,8 @@ use Rattle.exchange.specs.Talks.{HasRun}
 use Rattle.exchange.specs.declared.ending.ExchangeEnd.TheVariants as exchange_end
 use Rattle.exchange.specs.declared.ending.Ran.{Ran}
 use Rattle.exchange.specs.declared.ending.Ran.TheVariants as ran_is
-use Rattle.exchange.specs.declared.ending.Verdict.{Verdict}
-use Rattle.exchange.specs.declared.ending.Verdict.TheVariants as verdict
+use Rattle.exchange.specs.declared.ending.RoundVerdict.{RoundVerdict}
+use Rattle.exchange.specs.declared.ending.RoundVerdict.TheVariants as verdict
 
 -- the lease's note stands for the lease
 chosen : {T : Type 0} (note : T → LeaseNote) (old new : DeskState) (lb session at : ℕ) (ask : Ask) (m : ℕ) (lease : T) (told : LeaseNote) → told ≡ note lease
@@ -142,7 +142,7 @@ wanted numbers q first tried fresh s n at asked same refused =
       },
     ))))
 
-pub no_lease : {T M : Type 0} (note : T → LeaseNote) (numbers : M → FullMark) (q : Errand) (first : List ℕ) (fresh : Bool) (s n : Scene) (at : ℕ) (ask : Ask) (v : Verdict)
+pub no_lease : {T M : Type 0} (note : T → LeaseNote) (numbers : M → FullMark) (q : Errand) (first : List ℕ) (fresh : Bool) (s n : Scene) (at : ℕ) (ask : Ask) (v : RoundVerdict)
     → ask ≡ ask_for q ask.tried → Answers s.clock at n.clock → n.around ≡ s.around → IsNoLease note numbers s.desk n.desk q.lb q.session at ask v
     → IsStep q first ask.tried fresh s n v
 no_lease note numbers q first fresh s n at ask v is asked same (no_lease_as.none follows chose) =
@@ -154,7 +154,7 @@ no_lease note numbers q first fresh s n at ask v is asked same (no_lease_as.full
 no_lease note numbers q first fresh s n at ask v is asked same (no_lease_as.wanted follows refused) =
     subst (IsStep q first ask.tried fresh s n) (sym follows) (wanted numbers q first ask.tried fresh s n at asked same refused)
 
-pub none_held : {T M : Type 0} (note : T → LeaseNote) (numbers : M → FullMark) (old new : DeskState) (lb session at : ℕ) (ask : Ask) (v : Verdict)
+pub none_held : {T M : Type 0} (note : T → LeaseNote) (numbers : M → FullMark) (old new : DeskState) (lb session at : ℕ) (ask : Ask) (v : RoundVerdict)
     → IsNoLease note numbers old new lb session at ask v → new.held ≡ old.held
 none_held note numbers old new lb session at ask v (no_lease_as.none follows chose) = chose.answered.1
 none_held note numbers old new lb session at ask v (no_lease_as.forced follows chose) = chose.answered.1
@@ -223,7 +223,7 @@ is_round note q first fresh s n at back_at ask member lease config endpoint ran 
     }
 
 pub came_back : {T : Type 0} (note : T → LeaseNote) (q : Errand) (first : List ℕ) (fresh : Bool) (s n : Scene) (at back_at : ℕ) (ask : Ask)
-    (member : ℕ) (lease : T) (config : MemberConfig) (endpoint : Endpoint) (ran : Ran) (desk : DeskState) (clock : Option (List ℕ)) (v : Verdict)
+    (member : ℕ) (lease : T) (config : MemberConfig) (endpoint : Endpoint) (ran : Ran) (desk : DeskState) (clock : Option (List ℕ)) (v : RoundVerdict)
     → HasGoneRound note q first fresh s n at back_at ask member lease config endpoint ran desk clock None
     → v ≡ verdict_for endpoint q.head member ran → IsStep q first ask.tried fresh s n v
 came_back note q first fresh s n at back_at ask member lease config endpoint ran desk clock v gone is =
@@ -237,7 +237,7 @@ was_stray note q first fresh s n at back_at ask member lease config endpoint ran
     inr (inr (_, stray, is_round note q first fresh s n at back_at ask member lease config endpoint ran desk clock (Some stray) gone, refl))
 
 pub went_back : {T : Type 0} (note : T → LeaseNote) (q : Errand) (first : List ℕ) (fresh : Bool) (s n : Scene) (at back_at : ℕ) (ask : Ask)
-    (member : ℕ) (lease : T) (config : MemberConfig) (endpoint : Endpoint) (ran : Ran) (desk : DeskState) (clock : Option (List ℕ)) (stray : Option Stray) (v : Verdict)
+    (member : ℕ) (lease : T) (config : MemberConfig) (endpoint : Endpoint) (ran : Ran) (desk : DeskState) (clock : Option (List ℕ)) (stray : Option Stray) (v : RoundVerdict)
     → HasGoneRound note q first fresh s n at back_at ask member lease config endpoint ran desk clock stray
     → v ≡ verdict_back stray endpoint q.head member ran → IsStep q first ask.tried fresh s n v
 went_back note q first fresh s n at back_at ask member lease config endpoint ran desk clock None v gone is =

@@ -22,25 +22,25 @@ use Rattle.exchange.specs.declared.ending.ExchangeEnd.{ExchangeEnd}
 use Rattle.exchange.specs.declared.ending.ExchangeEnd.TheVariants as exchange_end
 use Rattle.exchange.specs.declared.ending.Ran.{Ran}
 use Rattle.exchange.specs.declared.ending.Ran.TheVariants as ran_is
-use Rattle.exchange.specs.declared.ending.Verdict.{Verdict}
-use Rattle.exchange.specs.declared.ending.Verdict.TheVariants as verdict
+use Rattle.exchange.specs.declared.ending.RoundVerdict.{RoundVerdict}
+use Rattle.exchange.specs.declared.ending.RoundVerdict.TheVariants as verdict
 
 -- after a talk that failed where no other try is allowed: the client is closed where a byte was passed, else it gets 503
 -- for a status that counts as a failure, and 502 for any other cause
-abbrev pub after_failure : ℕ → Cause → Option Told → Verdict
+abbrev pub after_failure : ℕ → Cause → Option Told → RoundVerdict
 after_failure member cause (Some told) = verdict.End (exchange_end.Cut member told)
 after_failure member cause None = verdict.Answer (status_for cause)
 
-abbrev pub after_bad_body : ℕ → ℕ → Option Told → Verdict
+abbrev pub after_bad_body : ℕ → ℕ → Option Told → RoundVerdict
 after_bad_body member status (Some told) = verdict.End (exchange_end.Cut member told)
 after_bad_body member status None = verdict.Answer status
 
-abbrev pub after_client : Bool → Verdict
+abbrev pub after_client : Bool → RoundVerdict
 after_client true = verdict.End exchange_end.Truncated
 after_client false = verdict.End exchange_end.ClientFault
 
 -- what follows the last talk of a round
-abbrev pub after : Endpoint → Head → ℕ → TalkEnd → Verdict
+abbrev pub after : Endpoint → Head → ℕ → TalkEnd → RoundVerdict
 after endpoint head member (ends.Done told reuse bytes) = verdict.End (exchange_end.Done member told)
 after endpoint head member (ends.Failed stage cause told bytes) =
     if allows endpoint head stage then verdict.Again member else after_failure member cause told
@@ -48,18 +48,18 @@ after endpoint head member (ends.ClientGone truncated keep bytes) = after_client
 after endpoint head member (ends.BadBody status told passed bytes) = after_bad_body member status told
 
 -- what follows a round: 413 where the Forward Request is too large for the member
-abbrev pub verdict_for : Endpoint → Head → ℕ → Ran → Verdict
+abbrev pub verdict_for : Endpoint → Head → ℕ → Ran → RoundVerdict
 verdict_for endpoint head member ran_is.TooLarge = verdict.Answer 413
 verdict_for endpoint head member (ran_is.Wanted bytes) = verdict.End exchange_end.NoMemory
 verdict_for endpoint head member (ran_is.Ended end bytes) = after endpoint head member end
 
 -- What follows where the lease's ticket came back, or was a stray.
-abbrev pub verdict_back : Option Stray → Endpoint → Head → ℕ → Ran → Verdict
+abbrev pub verdict_back : Option Stray → Endpoint → Head → ℕ → Ran → RoundVerdict
 verdict_back None endpoint head member ran = verdict_for endpoint head member ran
 verdict_back (Some stray) endpoint head member ran = verdict.End (exchange_end.Stray stray.ticket stray.returned_at)
 
 -- The lease was handed back.
-pub record HandsBack (old new : DeskState) (session at : ℕ) (lease : LeaseNote) (endpoint : Endpoint) (head : Head) (member : ℕ) (ran : Ran) (v : Verdict) : Type 0 where
+pub record HandsBack (old new : DeskState) (session at : ℕ) (lease : LeaseNote) (endpoint : Endpoint) (head : Head) (member : ℕ) (ran : Ran) (v : RoundVerdict) : Type 0 where
   pub stray : Option Stray
   pub back : IsBack old new session at lease (outcome_for endpoint ran) stray
   pub fulls : new.fulls ≡ old.fulls
@@ -67,14 +67,14 @@ pub record HandsBack (old new : DeskState) (session at : ℕ) (lease : LeaseNote
   pub follows : v ≡ verdict_back stray endpoint head member ran
 
 -- Why the desk gave no lease: 503 where no member may be chosen, 500 where it is forced or full.
-pub data IsNoLease {T M : Type 0} (note : T → LeaseNote) (numbers : M → FullMark) (old new : DeskState) (lb session at : ℕ) (ask : Ask) (v : Verdict) : Type 0 where
+pub data IsNoLease {T M : Type 0} (note : T → LeaseNote) (numbers : M → FullMark) (old new : DeskState) (lb session at : ℕ) (ask : Ask) (v : RoundVerdict) : Type 0 where
   none : v ≡ verdict.Answer 503 → Chooses note old new lb session at ask choice.NoMember → IsNoLease note numbers old new lb session at ask v
   forced : v ≡ verdict.Answer 500 → Chooses note old new lb session at ask choice.Forced → IsNoLease note numbers old new lb session at ask v
   full : v ≡ verdict.Answer 500 → (mark : M) → RefusesChoice numbers old new lb session at (room.Full mark) → IsNoLease note numbers old new lb session at ask v
   wanted : v ≡ verdict.End exchange_end.NoMemory → RefusesChoice numbers old new lb session at room.NoMemory → IsNoLease note numbers old new lb session at ask v
 
 -- The desk chose no member: 503 where none may be chosen, 500 where it is forced or full.
-abbrev pub IsNoChoice : Errand → (tried : ℕ) → Scene → Scene → Verdict → Type 0
+abbrev pub IsNoChoice : Errand → (tried : ℕ) → Scene → Scene → RoundVerdict → Type 0
 IsNoChoice q tried s n v =
     ((v ≡ verdict.Answer 503) × IsUnchosen q s n (FindsNone q tried))
     ⊎ (((v ≡ verdict.Answer 500) × IsUnchosen q s n (IsForced q tried))
@@ -82,7 +82,7 @@ IsNoChoice q tried s n v =
     ⊎ ((v ≡ verdict.End exchange_end.NoMemory) × IsUnchosen q s n (WantsMemory q))))
 
 -- What a round comes to.
-abbrev pub IsStep : Errand → (first : List ℕ) → (tried : ℕ) → (fresh : Bool) → Scene → Scene → Verdict → Type 0
+abbrev pub IsStep : Errand → (first : List ℕ) → (tried : ℕ) → (fresh : Bool) → Scene → Scene → RoundVerdict → Type 0
 IsStep q first tried fresh s n v =
     IsNoChoice q tried s n v
     ⊎ (((r : Round) × IsRound q first tried fresh s n r None × (v ≡ verdict_for r.endpoint q.head r.member r.ran))
@@ -102,7 +102,7 @@ IsWritten status head_only s n (exchange_end.Stray ticket returned_at) = ⊥
 IsWritten status head_only s n exchange_end.NoMemory = IfSome (own_of status) (λ own. PutsFront s.sent n.sent (own_bytes own head_only))
 
 -- The last round's verdict: the answer is written, and nothing else done; or the exchange ended with the round.
-abbrev pub Concludes : (head_only : Bool) → Verdict → Scene → Scene → ExchangeEnd → Type 0
+abbrev pub Concludes : (head_only : Bool) → RoundVerdict → Scene → Scene → ExchangeEnd → Type 0
 Concludes head_only (verdict.Again member) s n end = ⊥
 Concludes head_only (verdict.Answer status) s n end =
     (n ≡ record s { around = record s.around { client = n.around.client } }) × (s.around.client.faults ≤ n.around.client.faults)

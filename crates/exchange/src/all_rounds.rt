@@ -8,7 +8,7 @@ ghost use Rattle.exchange.specs.Means.{AreSameMeans, scene_of};
 ghost use Rattle.exchange.specs.Requests.{ask_for, errand_of};
 ghost use Rattle.exchange.specs.Rounds.{IsDeskAfter};
 
-use crate::ending::{ExchangeEnd, Verdict};
+use crate::ending::{ExchangeEnd, RoundVerdict};
 use crate::methods::is_head;
 use crate::own::write_own;
 use crate::request::Request;
@@ -54,14 +54,14 @@ where
     let mut fresh = false;
     loop {
         match one_round(alloc, request, first, &ask, fresh, means) {
-            Verdict::Again { member } => {
+            RoundVerdict::Again { member } => {
                 ask.tried = with_member(ask.tried, member);
                 fresh = true;
             }
-            Verdict::Answer(status) => {
+            RoundVerdict::Answer(status) => {
                 return write_own(status, is_head(request.head), means.sides.client);
             }
-            Verdict::End(end) => return end,
+            RoundVerdict::End(end) => return end,
         }
     }
 }

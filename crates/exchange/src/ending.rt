@@ -42,7 +42,7 @@ pub enum Ran {
 
 /// What becomes of a request after a round.
 #[derive(Clone, Copy, Debug, PartialEq, Eq)]
-pub enum Verdict {
+pub enum RoundVerdict {
     /// Another member is tried, and this one no more.
     Again { member: u32 },
     /// The client gets an answer of the connector's own.

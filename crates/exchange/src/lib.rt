@@ -27,6 +27,6 @@ mod target;
 mod tried;
 mod verdicts;
 
-pub use ending::{ExchangeEnd, Ran, Verdict};
+pub use ending::{ExchangeEnd, Ran, RoundVerdict};
 pub use exchanging::exchange;
 pub use request::Request;

@@ -13,7 +13,7 @@ ghost use Rattle.exchange.specs.Ends.{outcome_for};
 ghost use Rattle.exchange.specs.Steps.{HandsBack, IsNoLease, IsStep};
 ghost use Rattle.exchange.specs.Talks.{HasRun};
 
-use crate::ending::{ExchangeEnd, Ran, Verdict};
+use crate::ending::{ExchangeEnd, Ran, RoundVerdict};
 use crate::planning::plan_for;
 use crate::request::Request;
 use crate::sides::{Means, Sides};
@@ -63,7 +63,7 @@ fn chosen<B: Desk>(
     ask: &Ask,
     at: u64,
     desk: &mut B,
-) -> Result<(u32, B::Lease), Verdict>
+) -> Result<(u32, B::Lease), RoundVerdict>
 where
     B::Mark: Drop,
     requires lb { request.now.lb < length (B.state desk.old).sizes }
@@ -75,10 +75,10 @@ where
 {
     match desk.choose(request.lb, request.session, at, ask) {
         Ok(Choice::Chosen { member, lease }) => Ok((member, lease)),
-        Ok(Choice::NoMember) => Err(Verdict::Answer(503)),
-        Ok(Choice::Forced) => Err(Verdict::Answer(500)),
-        Err(RoomError::Full(_)) => Err(Verdict::Answer(500)),
-        Err(RoomError::NoMemory) => Err(Verdict::End(ExchangeEnd::NoMemory)),
+        Ok(Choice::NoMember) => Err(RoundVerdict::Answer(503)),
+        Ok(Choice::Forced) => Err(RoundVerdict::Answer(500)),
+        Err(RoomError::Full(_)) => Err(RoundVerdict::Answer(500)),
+        Err(RoomError::NoMemory) => Err(RoundVerdict::End(ExchangeEnd::NoMemory)),
     }
 }
 
@@ -90,7 +90,7 @@ fn give_back<B: Desk>(
     ran: Ran,
     at: u64,
     desk: &mut B,
-) -> Verdict
+) -> RoundVerdict
     requires caller { IfSome (B.state desk.old).caller (λ n. request.now.session ≡ n) }
     requires held { holds (B.state desk.old).held (pair_of (B.note lease)) ≡ true }
     requires bytes { (outcome_for to.now.endpoint.now ran).bytes ≤ 2 ^ 44 }
@@ -100,7 +100,7 @@ fn give_back<B: Desk>(
 {
     match desk.hand_back(request.session, at, lease, outcome_of(to.endpoint, ran)) {
         Ok(()) => verdict_of(to.endpoint, request.head, to.member, ran),
-        Err(stray) => Verdict::End(ExchangeEnd::Stray {
+        Err(stray) => RoundVerdict::End(ExchangeEnd::Stray {
             ticket: stray.ticket,
             returned_at: stray.returned_at,
         }),
@@ -115,7 +115,7 @@ pub(crate) fn one_round<B: Desk, R: Reach, C: Link, K: Clock>(
     ask: &Ask,
     fresh: bool,
     means: &mut Means<B, K, R, C>,
-) -> Verdict
+) -> RoundVerdict
 where
     B::Mark: Drop,
     requires ask { ask.now ≡ ask_for (errand_of request.now) ask.now.tried }

@@ -4,7 +4,7 @@ ghost use Rattle.exchange.specs.Ends.{bytes_of as bytes_in, is_negated as is_neg
 ghost use Rattle.exchange.specs.Steps.{after as after_talk, after_bad_body as after_bad, after_client as after_gone, after_failure as after_failed, verdict_for};
 ghost use Rattle.exchange.specs.Requests.{allows as allows_another};
 
-use crate::ending::{ExchangeEnd, Ran, Verdict};
+use crate::ending::{ExchangeEnd, Ran, RoundVerdict};
 use crate::methods::{is_get, is_head};
 use ajp_talk::{Cause, Stage, TalkEnd, Told};
 use http_front::Head;
@@ -116,39 +116,39 @@ pub(crate) fn outcome_of(endpoint: &Endpoint, ran: Ran) -> Outcome
     }
 }
 
-fn after_failure(member: u32, cause: Cause, told: Option<Told>) -> Verdict
+fn after_failure(member: u32, cause: Cause, told: Option<Told>) -> RoundVerdict
     ensures { result ≡ after_failed member cause told }
 {
     match told {
-        Some(told) => Verdict::End(ExchangeEnd::Cut { member, told }),
-        None => Verdict::Answer(if is_status(cause) { 503 } else { 502 }),
+        Some(told) => RoundVerdict::End(ExchangeEnd::Cut { member, told }),
+        None => RoundVerdict::Answer(if is_status(cause) { 503 } else { 502 }),
     }
 }
 
-fn after_bad_body(member: u32, status: u16, told: Option<Told>) -> Verdict
+fn after_bad_body(member: u32, status: u16, told: Option<Told>) -> RoundVerdict
     ensures { result ≡ after_bad member status told }
 {
     match told {
-        Some(told) => Verdict::End(ExchangeEnd::Cut { member, told }),
-        None => Verdict::Answer(status),
+        Some(told) => RoundVerdict::End(ExchangeEnd::Cut { member, told }),
+        None => RoundVerdict::Answer(status),
     }
 }
 
-fn after_client(truncated: bool) -> Verdict
+fn after_client(truncated: bool) -> RoundVerdict
     ensures { result ≡ after_gone truncated }
 {
     if truncated {
-        Verdict::End(ExchangeEnd::Truncated)
+        RoundVerdict::End(ExchangeEnd::Truncated)
     } else {
-        Verdict::End(ExchangeEnd::ClientFault)
+        RoundVerdict::End(ExchangeEnd::ClientFault)
     }
 }
 
-fn after(endpoint: &Endpoint, head: &Head, member: u32, end: TalkEnd) -> Verdict
+fn after(endpoint: &Endpoint, head: &Head, member: u32, end: TalkEnd) -> RoundVerdict
     ensures { result ≡ after_talk endpoint.now head.now member end }
 {
     match end {
-        TalkEnd::Done { told, .. } => Verdict::End(ExchangeEnd::Done { member, told }),
+        TalkEnd::Done { told, .. } => RoundVerdict::End(ExchangeEnd::Done { member, told }),
         TalkEnd::Failed {
             stage,
             cause,
@@ -156,7 +156,7 @@ fn after(endpoint: &Endpoint, head: &Head, member: u32, end: TalkEnd) -> Verdict
             ..
         } => {
             if allows(endpoint, head, stage) {
-                Verdict::Again { member }
+                RoundVerdict::Again { member }
             } else {
                 after_failure(member, cause, told)
             }
@@ -167,12 +167,12 @@ fn after(endpoint: &Endpoint, head: &Head, member: u32, end: TalkEnd) -> Verdict
 }
 
 /// What becomes of the request after a round on this member.
-pub(crate) fn verdict_of(endpoint: &Endpoint, head: &Head, member: u32, ran: Ran) -> Verdict
+pub(crate) fn verdict_of(endpoint: &Endpoint, head: &Head, member: u32, ran: Ran) -> RoundVerdict
     ensures { result ≡ verdict_for endpoint.now head.now member ran }
 {
     match ran {
-        Ran::TooLarge => Verdict::Answer(413),
-        Ran::Wanted { .. } => Verdict::End(ExchangeEnd::NoMemory),
+        Ran::TooLarge => RoundVerdict::Answer(413),
+        Ran::Wanted { .. } => RoundVerdict::End(ExchangeEnd::NoMemory),
         Ran::Ended { end, .. } => after(endpoint, head, member, end),
     }
 }

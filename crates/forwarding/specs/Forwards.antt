@@ -9,7 +9,7 @@ use Rattle.ajp_request.specs.Writing.{FieldsFit, payload_of}
 use Rattle.ajp_request.specs.declared.attribute.Attribute.{Attribute}
 use Rattle.ajp_request.specs.declared.attribute.Attribute.TheVariants.{Plain}
 use Rattle.ajp_request.specs.declared.forward.Forward.{Forward}
-use Rattle.http_front.specs.Fields.{Line}
+use Rattle.http_front.specs.Fields.{HeaderLine}
 use Rattle.http_front.specs.declared.head.Head.{Head}
 use Rattle.site_config.specs.declared.endpoint.Endpoint.{Endpoint}
 
@@ -18,7 +18,7 @@ abbrev pub protocol_of : Bool → List ℕ
 protocol_of old = if old then codes "HTTP/1.0" else codes "HTTP/1.1"
 
 -- a header goes on under its name, with its value without outer spaces and tabs
-abbrev pub line_for : Line → List ℕ × List ℕ
+abbrev pub line_for : HeaderLine → List ℕ × List ℕ
 line_for line = (line.0, trimmed line.1)
 
 -- the route of a member is told where a balancer chose it

@@ -16,7 +16,7 @@ use jk_io::{IoError, Link};
 
 /// How far a walk came that fills a piece.
 #[derive(Clone, Copy)]
-pub struct Filled {
+pub struct FilledPiece {
     /// Where it stands.
     pub place: Place,
     /// How many bytes of data it put into the piece.
@@ -40,7 +40,7 @@ pub fn fill_piece<C: Link>(
     inbox: &mut Inbox,
     client: &mut C,
     piece: &mut [u8],
-) -> Result<Filled, BodyFault>
+) -> Result<FilledPiece, BodyFault>
     ensures count { IfOk result (λ f. f.count ≤ length piece.new) }
     ensures ok { IfOk result (λ f. Walks most taken (length piece.new) (unread inbox.old (C.incoming client.old))
         (unread inbox.new (C.incoming client.new)) start f.place (take f.count piece.new)) }
@@ -60,10 +60,10 @@ pub fn fill_piece<C: Link>(
             return Err(BodyFault::TooLong);
         }
         if count == piece.len() {
-            return Ok(Filled { place, count });
+            return Ok(FilledPiece { place, count });
         }
         if is_whole(place) {
-            return Ok(Filled { place, count });
+            return Ok(FilledPiece { place, count });
         }
         if is_bad(place) {
             return Err(BodyFault::BadChunk);

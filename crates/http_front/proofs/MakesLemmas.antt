@@ -11,7 +11,7 @@ use Rattle.http_front.specs.Search.{IsWhole, IsPart, IsStop, IsFound}
 use Rattle.http_front.proofs.CutLemmas.{part-none, over-made}
 use Rattle.httparse.specs.Grammar.{RequestHead}
 use Rattle.http_front.specs.Cut.{header_lines}
-use Rattle.http_front.specs.Fields.{Line}
+use Rattle.http_front.specs.Fields.{HeaderLine}
 use Rattle.http_front.specs.Judged.{head_of}
 use Rattle.http_front.specs.Makes.{Makes, MakesOf, IsFront}
 use Rattle.http_front.specs.Request.{Reads, Refuses, RefusesFront, AreEmptyLines, EndsWithin, IsDecided, judged}
@@ -81,7 +81,7 @@ ends-made bytes blank searched part short text = record {
   none = part-none bytes blank searched part;
 }
 
-pub same-head : (m n t u : List ℕ) (a b : Bool) (l k : List Line) → m ≡ n → t ≡ u → a ≡ b → l ≡ k → head_of m t a l ≡ head_of n u b k
+pub same-head : (m n t u : List ℕ) (a b : Bool) (l k : List HeaderLine) → m ≡ n → t ≡ u → a ≡ b → l ≡ k → head_of m t a l ≡ head_of n u b k
 same-head m n t u a b l k p q r s = cc
 
 -- where no head has its end yet and there is room, more bytes are needed

@@ -1,6 +1,6 @@
 -- What a parsed head is, or what it is refused for: the rows behind the parser in their order.
 use Rattle.std.specs.Prelude.{ℕ, Bool, List, codes, bytes_eq, Option, Some, None, Result, Ok, Err, if◌then◌else◌}
-use Rattle.http_front.specs.Fields.{Line, named, says_close, says_expect}
+use Rattle.http_front.specs.Fields.{HeaderLine, named, says_close, says_expect}
 use Rattle.http_front.specs.Host.{host_of}
 use Rattle.http_front.specs.Framing.{plan_of, is_long}
 use Rattle.http_front.specs.Path.{path_of, query_of, clean_of}
@@ -22,14 +22,14 @@ allowed method server plan =
     else Ok (server.0, server.1, plan)
 
 -- the server's name and port and the body's plan: Host first, then the framing, the method and the length
-abbrev pub judged_of : List ℕ → Bool → List Line → Result (List ℕ × ℕ × BodyPlan) Form
+abbrev pub judged_of : List ℕ → Bool → List HeaderLine → Result (List ℕ × ℕ × BodyPlan) Form
 judged_of method old lines =
     and_then (host_of old (named (codes "host") lines)) (λ server.
     and_then (plan_of old (named (codes "content-length") lines) (named (codes "transfer-encoding") lines)) (λ plan.
     allowed method server plan))
 
 -- the head with its clean path, where it has one
-abbrev pub made : List ℕ → List ℕ → Bool → List Line → (List ℕ × ℕ × BodyPlan) → Option (List ℕ) → Result Head Form
+abbrev pub made : List ℕ → List ℕ → Bool → List HeaderLine → (List ℕ × ℕ × BodyPlan) → Option (List ℕ) → Result Head Form
 made method target old lines parts None = Err BadPath
 made method target old lines parts (Some clean) = Ok (record {
   method = method;
@@ -47,6 +47,6 @@ made method target old lines parts (Some clean) = Ok (record {
 })
 
 -- the head of these parts, or the first row that refuses it
-abbrev pub head_of : List ℕ → List ℕ → Bool → List Line → Result Head Form
+abbrev pub head_of : List ℕ → List ℕ → Bool → List HeaderLine → Result Head Form
 head_of method target old lines =
     and_then (judged_of method old lines) (λ parts. made method target old lines parts (clean_of (path_of target)))

@@ -17,7 +17,7 @@ use std::alloc::Global;
 
 /// What the lines of a head ask for: a server, and how the body is framed.
 #[derive(Clone, Copy)]
-pub struct Asked<'a> {
+pub struct JudgedLines<'a> {
     server: Server<'a>,
     plan: BodyPlan,
 }
@@ -33,7 +33,7 @@ pub fn refused(form: Form) -> HeadError
 }
 
 /// Judges a head by its method and lines: Host, the framing, the method and the length.
-fn judge<'a>(method: &[u8], old: bool, lines: &'a [(Bytes, Bytes)]) -> Result<Asked<'a>, Form>
+fn judge<'a>(method: &[u8], old: bool, lines: &'a [(Bytes, Bytes)]) -> Result<JudgedLines<'a>, Form>
     ensures { MatchResult result (λ asked. judged_of method.now old lines.now ≡ Ok (asked.server.name.now, asked.server.port, asked.plan))
         (λ form. judged_of method.now old lines.now ≡ Err form) }
 {
@@ -45,7 +45,7 @@ fn judge<'a>(method: &[u8], old: bool, lines: &'a [(Bytes, Bytes)]) -> Result<As
     if is_long(plan) {
         return Err(Form::TooLong);
     }
-    Ok(Asked { server, plan })
+    Ok(JudgedLines { server, plan })
 }
 
 /// What follows the target's first `?`.

@@ -4,7 +4,7 @@ use Rattle.std.specs.List.{list_all}
 use Rattle.http_header.specs.Token.{is_value_byte}
 use Rattle.http_header.specs.FieldName.{is_field_name}
 use Rattle.jk_io.specs.Decimals.{decimal_of}
-use Rattle.http_front.specs.Fields.{Line, named}
+use Rattle.http_front.specs.Fields.{HeaderLine, named}
 use Rattle.http_out.specs.declared.reply_head.ReplyHead.{ReplyHead}
 use Rattle.http_out.specs.declared.reply_head.OutError.{OutError}
 use Rattle.http_out.specs.declared.reply_head.OutError.TheVariants as Out
@@ -32,7 +32,7 @@ all_said [] = Said.Absent
 all_said (value ∷ []) = length_said value
 all_said (value ∷ next ∷ more) = Said.Unreadable
 
-abbrev pub length_in : List Line → ContentLength
+abbrev pub length_in : List HeaderLine → ContentLength
 length_in lines = all_said (named (codes "content-length") lines)
 
 abbrev pub content_length : ReplyHead → ContentLength
@@ -43,7 +43,7 @@ abbrev pub is_text : List ℕ → Bool
 is_text bytes = list_all is_value_byte bytes
 
 -- a name that is a token, and a value that is text
-abbrev pub is_field : Line → Bool
+abbrev pub is_field : HeaderLine → Bool
 is_field line = is_field_name line.0 && is_text line.1
 
 -- a final status, a message and values that can't break the head's lines, names that are tokens, one length at most

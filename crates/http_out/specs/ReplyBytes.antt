@@ -2,7 +2,7 @@
 use Rattle.std.specs.Prelude.{if◌then◌else◌, ◌≡◌, ℕ, Bool, false, ◌&&◌, ◌||◌, not, ◌==◌, List, [], ◌∷◌, ◌++◌, filter, Option, Some, None, codes}
 use Rattle.std.specs.List.{flat_map}
 use Rattle.std.specs.Fmt.{decimal}
-use Rattle.http_front.specs.Fields.{Line, is_named}
+use Rattle.http_front.specs.Fields.{HeaderLine, is_named}
 use Rattle.http_out.specs.declared.reply_head.ReplyHead.{ReplyHead}
 use Rattle.http_out.specs.declared.framing.RequestKind.{RequestKind}
 use Rattle.http_out.specs.declared.framing.Framing.{Framing}
@@ -10,15 +10,15 @@ use Rattle.http_out.specs.declared.framing.Framing.TheVariants as By
 use Rattle.http_out.specs.Framing.{framing_of, framed, is_passed, closing_bytes}
 
 -- lines that speak of the container's link alone are not the client's, and a 204 has no length
-abbrev pub passes : ℕ → Line → Bool
+abbrev pub passes : ℕ → HeaderLine → Bool
 passes status line = not (is_named (codes "connection") line) && (not (is_named (codes "keep-alive") line)
     && (not (is_named (codes "transfer-encoding") line) && not (status == 204 && is_named (codes "content-length") line)))
 
-abbrev pub line_bytes : Line → List ℕ
+abbrev pub line_bytes : HeaderLine → List ℕ
 line_bytes line = ((line.0 ++ codes ": ") ++ line.1) ++ codes "\r\n"
 
 -- the container's lines that pass, in order
-abbrev pub lines_bytes : ℕ → List Line → List ℕ
+abbrev pub lines_bytes : ℕ → List HeaderLine → List ℕ
 lines_bytes status lines = flat_map line_bytes (filter (passes status) lines)
 
 -- the lines that the connector adds

@@ -5,7 +5,7 @@ use Rattle.jk_io.specs.Moments.{Moment}
 use Rattle.jk_io.specs.declared.reaching.Beside.{Beside}
 use Rattle.jk_io.specs.declared.traits.streams.Meanings.{Ghosts}
 use Rattle.balancer_core.specs.Desks.{DeskState}
-use Rattle.client_session.specs.Standings.{ReachSide, Standing}
+use Rattle.client_session.specs.Standings.{ReachSide, ClientStanding}
 use Rattle.exchange.specs.Requests.{sizes_of}
 use Rattle.locked_balancer.specs.SharedDesks.{SharedState}
 use Rattle.site_config.specs.declared.config.Config.{Config}
@@ -27,7 +27,7 @@ worker_side answers told desk clock reach = record {
 }
 
 -- what a session of this worker knows then, over a client and the client's bytes that were read and not used
-abbrev pub standing_with : {S : Type 0} → WorkerSide S → Moment → List ℕ → Standing
+abbrev pub standing_with : {S : Type 0} → WorkerSide S → Moment → List ℕ → ClientStanding
 standing_with w client inbox =
     record { desk = record { state = w.desk.desk; clock = w.clock }; reach = w.reach; client = client; inbox = inbox }
 

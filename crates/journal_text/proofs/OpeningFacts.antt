@@ -7,7 +7,7 @@ use Rattle.jk_model.specs.declared.config_error.ConfigError.{ConfigError}
 use Rattle.jk_model.specs.declared.config_error.ConfigError.TheVariants as refusal
 use Rattle.jk_model.specs.declared.member.MemberConfig.{MemberConfig}
 use Rattle.journal_text.specs.Openings.{IsConfigured}
-use Rattle.journal_text.specs.declared.draft.Draft.{Draft}
+use Rattle.journal_text.specs.declared.draft.OpeningDraft.{OpeningDraft}
 
 nth : (xs : List MemberConfig) (m : ℕ) → m < length xs → (x : MemberConfig) × (slice_get xs m ≡ Some x)
 nth [] m h = absurd (omega (arith, h))
@@ -24,7 +24,7 @@ not_refused c refusal.BadTime h = h.2 (c.maintains, c.recovers)
 not_refused c refusal.TooWide h = omega (arith, h.4, c.narrow)
 
 -- where the values of the lines are refused, there is no configuration of them
-pub refused_none : (d : Draft) (c : LbConfig) (e : ConfigError) → IsConfigured d c → IsRefused d.values.maintain d.values.recover d.members e → ⊥
+pub refused_none : (d : OpeningDraft) (c : LbConfig) (e : ConfigError) → IsConfigured d c → IsRefused d.values.maintain d.values.recover d.members e → ⊥
 refused_none d c e h refused =
     not_refused c e
     (subst (λ ms. IsRefused c.maintain c.recover ms e) (sym h.members)

@@ -16,10 +16,10 @@ use Rattle.journal_lines.specs.declared.line.Beginning.{Beginning}
 use Rattle.journal_lines.specs.declared.line.Line.{Line}
 use Rattle.journal_lines.specs.declared.line.Line.TheVariants as line
 use Rattle.journal_text.specs.Openings.{AreCounted, IsConfigured, IsOpened}
-use Rattle.journal_text.specs.Reading.{Heads, Opens, Outcome, Reads, TakesAt, TakesText, opened, unreadable}
-use Rattle.journal_text.specs.declared.draft.Draft.{Draft}
-use Rattle.journal_text.specs.declared.reader.Place.{Place}
-use Rattle.journal_text.specs.declared.reader.Place.TheVariants as place
+use Rattle.journal_text.specs.Reading.{Heads, Opens, TextOutcome, Reads, TakesAt, TakesText, opened, unreadable}
+use Rattle.journal_text.specs.declared.draft.OpeningDraft.{OpeningDraft}
+use Rattle.journal_text.specs.declared.reader.TextPlace.{TextPlace}
+use Rattle.journal_text.specs.declared.reader.TextPlace.TheVariants as place
 use Rattle.journal_text.specs.declared.reader.Reader.{Reader}
 
 same_rows : (out : List Ticket) (old a b : List MemberRow) → AreCounted out (length old) old a → AreCounted out (length old) old b → a ≡ b
@@ -76,7 +76,7 @@ config_same m s f d mt r ms c i a b n mt' r' ms' p q w c' i' a' b' n' =
     ∙ ap (λ x. config m s f d mt r ms c' i' a' x n) (period_prop r b b')
     ∙ ap (λ x. config m s f d mt r ms c' i' a' b' x) (narrow_prop ms n n')) c' i' n') b') a'
 
-same_config : (d : Draft) (x y : LbConfig) → IsConfigured d x → IsConfigured d y → x ≡ y
+same_config : (d : OpeningDraft) (x y : LbConfig) → IsConfigured d x → IsConfigured d y → x ≡ y
 same_config d x y h k =
     config_same x.method x.sticky x.force x.direct x.maintain x.recover x.members x.count x.in_range x.maintains x.recovers x.narrow
     y.maintain y.recover y.members (h.maintain ∙ sym k.maintain) (h.recover ∙ sym k.recover) (h.members ∙ sym k.members)
@@ -86,7 +86,7 @@ same_config d x y h k =
     ∙ ap (λ f. config y.method y.sticky f x.direct y.maintain y.recover y.members y.count y.in_range y.maintains y.recovers y.narrow) (h.force ∙ sym k.force)
     ∙ ap (λ d. config y.method y.sticky y.force d y.maintain y.recover y.members y.count y.in_range y.maintains y.recovers y.narrow) (h.direct ∙ sym k.direct)
 
-pub same_opening : (d : Draft) (b : Beginning) (o p : Opening) → IsOpened d b o → IsOpened d b p → o ≡ p
+pub same_opening : (d : OpeningDraft) (b : Beginning) (o p : Opening) → IsOpened d b o → IsOpened d b p → o ≡ p
 unfolding opening
 same_opening d b o p h k =
     ap (λ x. opening x o.rows o.out o.next o.at o.maintained o.chosen) (same_config d o.config p.config h.config k.config)
@@ -97,14 +97,14 @@ same_opening d b o p h k =
     ∙ ap (λ x. opening p.config p.rows p.out p.next p.at x o.chosen) (h.maintained ∙ sym k.maintained)
     ∙ ap (λ x. opening p.config p.rows p.out p.next p.at p.maintained x) (h.chosen ∙ sym k.chosen)
 
-opens_once : (r : Reader) (d : Draft) (b : Beginning) (f g : Option Reader) → Opens r d b f → Opens r d b g → f ≡ g
+opens_once : (r : Reader) (d : OpeningDraft) (b : Beginning) (f g : Option Reader) → Opens r d b f → Opens r d b g → f ≡ g
 opens_once r d b None None h k = refl
 opens_once r d b None (Some q) h k = absurd (h k.0 k.1 k.2 k.3)
 opens_once r d b (Some q) None h k = absurd (k h.0 h.1 h.2 h.3)
 opens_once r d b (Some q) (Some s) h k =
     ap Some (h.4 ∙ ap (opened r d.name) (same_opening d b h.1 k.1 h.2 k.2) ∙ sym k.4)
 
-heads_once : (r : Reader) (d : Draft) (l : Line) (f g : Option Reader) → Heads r d l f → Heads r d l g → f ≡ g
+heads_once : (r : Reader) (d : OpeningDraft) (l : Line) (f g : Option Reader) → Heads r d l f → Heads r d l g → f ≡ g
 heads_once r d (line.Rules v) f g h k = h ∙ sym k
 heads_once r d (line.Balancer name values) f g h k = h ∙ sym k
 heads_once r d (line.Member name route values) f g h k = h ∙ sym k
@@ -113,7 +113,7 @@ heads_once r d (line.From b) f g h k = opens_once r d b f g h k
 heads_once r d (line.Entry e) f g h k = h ∙ sym k
 heads_once r d (line.End count) f g h k = h ∙ sym k
 
-at_once : (r : Reader) (p : Place) (l : Line) (f g : Option Reader) → TakesAt r p l f → TakesAt r p l g → f ≡ g
+at_once : (r : Reader) (p : TextPlace) (l : Line) (f g : Option Reader) → TakesAt r p l f → TakesAt r p l g → f ≡ g
 at_once r place.Outside l f g h k = h ∙ sym k
 at_once r place.Ruled l f g h k = h ∙ sym k
 at_once r (place.Heading d) l f g h k = heads_once r d l f g h k
@@ -128,7 +128,7 @@ pub takes_once : (r : Reader) (text : List ℕ) (f g : Option Reader) → TakesT
 takes_once r text f g h k = line_once r (line_of r.rules text) f g h k
 
 -- the lines from here on are read in one way
-pub reads_once : (r : Reader) (number : ℕ) (lines : List (List ℕ)) (o p : Outcome) → Reads r number lines o → Reads r number lines p → o ≡ p
+pub reads_once : (r : Reader) (number : ℕ) (lines : List (List ℕ)) (o p : TextOutcome) → Reads r number lines o → Reads r number lines p → o ≡ p
 reads_once r number [] o p h k = absurd h
 reads_once r number (last ∷ []) o p h k = h ∙ sym k
 reads_once r number (text ∷ next ∷ lines) o p h k =

@@ -21,12 +21,12 @@ use Rattle.journal_lines.specs.declared.line.Line.TheVariants as line
 use Rattle.journal_lines.proofs.LineLaws.{line_back, line_graphic}
 use Rattle.journal_lines.proofs.SplitFacts.{AreGraphic, IsGraphic}
 use Rattle.journal_text.specs.Openings.{AreCounted, IsOpened, row_of}
-use Rattle.journal_text.specs.Reading.{Outcome, Reads, TakesAt, TakesText, headed, is_full, opened, readable, unreadable, with_member, with_ticket}
+use Rattle.journal_text.specs.Reading.{TextOutcome, Reads, TakesAt, TakesText, headed, is_full, opened, readable, unreadable, with_member, with_ticket}
 use Rattle.journal_text.specs.SegmentText.{balancer_values, beginning, entry_lines, lease_lines, member_line, member_lines, member_values, opening_lines}
 use Rattle.journal_text.specs.Written.{AllFit, CanFollow, CanStand, lines_of, texts_of}
 use Rattle.journal_text.specs.declared.counted.Counted.{Counted}
-use Rattle.journal_text.specs.declared.draft.Draft.{Draft}
-use Rattle.journal_text.specs.declared.reader.Place.TheVariants as place
+use Rattle.journal_text.specs.declared.draft.OpeningDraft.{OpeningDraft}
+use Rattle.journal_text.specs.declared.reader.TextPlace.TheVariants as place
 use Rattle.journal_text.specs.declared.reader.Reader.{Reader}
 
 -- ---- lines are cut out of the text
@@ -105,7 +105,7 @@ run_one r l m fits takes = (m, take_line r l m fits takes, refl)
 
 -- ---- the lines of an opening
 
-drafted : Draft → List MemberConfig → List MemberRow → List Ticket → Draft
+drafted : OpeningDraft → List MemberConfig → List MemberRow → List Ticket → OpeningDraft
 drafted d ms rs out = record { name = d.name; values = d.values; members = ms; rows = rs; out = out }
 
 blank : MemberRow → MemberRow
@@ -131,7 +131,7 @@ row_shown : (c : MemberConfig) (r : MemberRow) → ShowsMember c r
 unfolding blank
 row_shown c r h = rw (h.name, h.factor, h.distance, h.activation, h.redirect) refl
 
-members_run : (r : Reader) (d : Draft) (ms : List MemberConfig) (rs : List MemberRow)
+members_run : (r : Reader) (d : OpeningDraft) (ms : List MemberConfig) (rs : List MemberRow)
     → length d.members + length ms ≡ d.values.members → AllShow ms rs → AllFit r.rules (member_lines ms rs)
     → Run (headed r d) (texts r.rules (member_lines ms rs)) (headed r (drafted d (d.members ++ ms) (d.rows ++ map blank rs) d.out))
 unfolding Run texts drafted AllShow
@@ -154,7 +154,7 @@ members_run r d (c ∷ ms) (w ∷ rs) n h fits =
     ∙ ap (λ x. headed r (drafted d (d.members ++ c ∷ ms) x d.out)) rows in
     (headed r d', step, subst (λ q. Run (headed r d') (texts r.rules (member_lines ms rs)) q) end (members_run r d' ms rs more h.1 fits.1))
 
-leases_run : (r : Reader) (d : Draft) (out : List Ticket) → is_full d ≡ true → AllFit r.rules (lease_lines out)
+leases_run : (r : Reader) (d : OpeningDraft) (out : List Ticket) → is_full d ≡ true → AllFit r.rules (lease_lines out)
     → Run (headed r d) (texts r.rules (lease_lines out)) (headed r (drafted d d.members d.rows (d.out ++ out)))
 unfolding Run texts drafted
 leases_run r d [] full fits = ap (λ x. headed r (drafted d d.members d.rows x)) (sym (append-nil d.out))
@@ -187,7 +187,7 @@ counted_rows o h = record {
 }
 
 -- the draft that the lines before `from` leave
-before_from : (name : List ℕ) → Opening → Draft
+before_from : (name : List ℕ) → Opening → OpeningDraft
 before_from name o = record { name = name; values = balancer_values o.config; members = o.config.members; rows = map blank o.rows; out = o.out }
 
 from_opens : (name : List ℕ) (o : Opening) → IsOpening o → IsOpened (before_from name o) (beginning o) o
@@ -205,9 +205,9 @@ opening_run : (v : ℕ) (done : List Counted) (name : List ℕ) (o : Opening) �
 unfolding Run texts drafted before_from
 opening_run v done name o valid fits =
     let r : Reader = record { rules = v; place = place.Ruled; done = done } in
-    let d0 : Draft = record { name = name; values = balancer_values o.config; members = []; rows = []; out = [] } in
-    let d1 : Draft = record { name = name; values = balancer_values o.config; members = o.config.members; rows = map blank o.rows; out = [] } in
-    let d2 : Draft = before_from name o in
+    let d0 : OpeningDraft = record { name = name; values = balancer_values o.config; members = []; rows = []; out = [] } in
+    let d1 : OpeningDraft = record { name = name; values = balancer_values o.config; members = o.config.members; rows = map blank o.rows; out = [] } in
+    let d2 : OpeningDraft = before_from name o in
     let full : is_full d1 ≡ true = eq-eqb (length o.config.members) (length o.config.members) refl in
     let parts = fits_split v (member_lines o.config.members o.rows) (lease_lines o.out ++ line.From (beginning o) ∷ []) fits.1 in
     let last = fits_split v (lease_lines o.out) (line.From (beginning o) ∷ []) parts.1 in
@@ -267,12 +267,12 @@ segment_run former done c h =
           (run_lines v begun whole after (entry_lines es) (line.End c.count ∷ []) entries end),
     )
 
-reads_step : (r m : Reader) (t : List ℕ) (ls : List (List ℕ)) (o : Outcome) (k : ℕ) → TakesText r t (Some m) → 0 < length ls
+reads_step : (r m : Reader) (t : List ℕ) (ls : List (List ℕ)) (o : TextOutcome) (k : ℕ) → TakesText r t (Some m) → 0 < length ls
     → Reads m (k + 1) ls o → Reads r k (t ∷ ls) o
 reads_step r m t [] o k takes some reads = absurd (omega (arith, some))
 reads_step r m t (n ∷ ls) o k takes some reads = (Some m, takes, reads)
 
-reads_run : (ts : List (List ℕ)) (r q : Reader) (ls : List (List ℕ)) (o : Outcome) → 0 < length ls → Run r ts q
+reads_run : (ts : List (List ℕ)) (r q : Reader) (ls : List (List ℕ)) (o : TextOutcome) → 0 < length ls → Run r ts q
     → ((k : ℕ) → Reads q k ls o) → (k : ℕ) → Reads r k (ts ++ ls) o
 unfolding Run
 reads_run [] r q ls o some h each k = subst (λ x. Reads x k ls o) (sym h) (each k)

@@ -3,8 +3,8 @@ use Rattle.std.specs.Prelude.{ℕ, All}
 use Rattle.jk_model.specs.Segments.{AreKeptEntries, AreRules}
 use Rattle.jk_model.specs.Validity.{IsOpening}
 use Rattle.journal_text.specs.declared.counted.Counted.{Counted}
-use Rattle.journal_text.specs.declared.reader.Place.{Place}
-use Rattle.journal_text.specs.declared.reader.Place.TheVariants as place
+use Rattle.journal_text.specs.declared.reader.TextPlace.{TextPlace}
+use Rattle.journal_text.specs.declared.reader.TextPlace.TheVariants as place
 use Rattle.journal_text.specs.declared.reader.Reader.{Reader}
 
 -- it can be a segment
@@ -13,7 +13,7 @@ pub record IsKept (c : Counted) : Type 0 where
   pub valid : IsOpening c.opening
   pub entries : AreKeptEntries c.rules c.entries
 
-abbrev pub IsKeptAt : (rules : ℕ) → Place → Type 0
+abbrev pub IsKeptAt : (rules : ℕ) → TextPlace → Type 0
 IsKeptAt rules (place.Body name o entries) = IsOpening o × AreKeptEntries rules entries
 IsKeptAt rules other = Unit {0}
 

@@ -7,7 +7,7 @@ use Rattle.jk_model.specs.declared.opening.Opening.{Opening}
 use Rattle.jk_model.specs.declared.view.MemberRow.{MemberRow}
 use Rattle.journal_lines.specs.declared.line.Beginning.{Beginning}
 use Rattle.journal_lines.specs.declared.line.MemberValues.{MemberValues}
-use Rattle.journal_text.specs.declared.draft.Draft.{Draft}
+use Rattle.journal_text.specs.declared.draft.OpeningDraft.{OpeningDraft}
 
 -- the configuration and the row of a member's line; the tickets are counted where the opening is whole
 abbrev pub config_of : (name route : List ℕ) → MemberValues → MemberConfig
@@ -41,7 +41,7 @@ pub record AreCounted (out : List Ticket) (n : ℕ) (old new : List MemberRow) :
   pub above : (m : ℕ) (d : MemberRow) → n ≤ m → slice_index_or new m d ≡ slice_index_or old m d
 
 -- the configuration that the lines say, each value in its range
-pub record IsConfigured (d : Draft) (c : LbConfig) : Type 0 where
+pub record IsConfigured (d : OpeningDraft) (c : LbConfig) : Type 0 where
   pub method : c.method ≡ d.values.method
   pub sticky : c.sticky ≡ d.values.sticky
   pub force : c.force ≡ d.values.force
@@ -51,7 +51,7 @@ pub record IsConfigured (d : Draft) (c : LbConfig) : Type 0 where
   pub members : c.members ≡ d.members
 
 -- the opening that the lines say
-pub record IsOpened (d : Draft) (b : Beginning) (o : Opening) : Type 0 where
+pub record IsOpened (d : OpeningDraft) (b : Beginning) (o : Opening) : Type 0 where
   pub config : IsConfigured d o.config
   pub rows : AreCounted d.out (length d.rows) d.rows o.rows
   pub out : o.out ≡ d.out

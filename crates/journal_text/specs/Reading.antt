@@ -11,9 +11,9 @@ use Rattle.journal_lines.specs.declared.line.Line.TheVariants as line
 use Rattle.journal_lines.specs.declared.line.MemberValues.{MemberValues}
 use Rattle.journal_text.specs.Openings.{IsOpened, config_of, row_of}
 use Rattle.journal_text.specs.declared.counted.Counted.{Counted}
-use Rattle.journal_text.specs.declared.draft.Draft.{Draft}
-use Rattle.journal_text.specs.declared.reader.Place.{Place}
-use Rattle.journal_text.specs.declared.reader.Place.TheVariants as place
+use Rattle.journal_text.specs.declared.draft.OpeningDraft.{OpeningDraft}
+use Rattle.journal_text.specs.declared.reader.TextPlace.{TextPlace}
+use Rattle.journal_text.specs.declared.reader.TextPlace.TheVariants as place
 use Rattle.journal_text.specs.declared.reader.Reader.{Reader}
 use Rattle.journal_text.specs.declared.text_error.TextError.{TextError}
 use Rattle.journal_text.specs.declared.text_error.TextError.TheVariants as error
@@ -29,7 +29,7 @@ named r (line.Balancer name values) =
     Some (record { rules = r.rules; place = place.Heading (record { name = name; values = values; members = []; rows = []; out = [] }); done = r.done })
 named r other = None
 
-abbrev pub with_member : Draft → (name route : List ℕ) → MemberValues → Draft
+abbrev pub with_member : OpeningDraft → (name route : List ℕ) → MemberValues → OpeningDraft
 with_member d name route v = record {
   name = d.name;
   values = d.values;
@@ -38,7 +38,7 @@ with_member d name route v = record {
   out = d.out;
 }
 
-abbrev pub with_ticket : Draft → (ticket member : ℕ) → Draft
+abbrev pub with_ticket : OpeningDraft → (ticket member : ℕ) → OpeningDraft
 with_ticket d ticket member = record {
   name = d.name;
   values = d.values;
@@ -47,11 +47,11 @@ with_ticket d ticket member = record {
   out = d.out ++ (ticket, member) ∷ [];
 }
 
-abbrev pub headed : Reader → Draft → Reader
+abbrev pub headed : Reader → OpeningDraft → Reader
 headed r d = record { rules = r.rules; place = place.Heading d; done = r.done }
 
 -- As many members as the balancer's line says, and then the tickets that are out.
-abbrev pub is_full : Draft → Bool
+abbrev pub is_full : OpeningDraft → Bool
 is_full d = length d.members == d.values.members
 
 -- A segment whose entries are still to come.
@@ -59,14 +59,14 @@ abbrev pub opened : Reader → (name : List ℕ) → Opening → Reader
 opened r name o = record { rules = r.rules; place = place.Body name o []; done = r.done }
 
 -- The opening is whole: a segment begins where it may begin so.
-abbrev pub Opens : Reader → Draft → Beginning → Option Reader → Type 0
+abbrev pub Opens : Reader → OpeningDraft → Beginning → Option Reader → Type 0
 Opens r d b found =
     MatchOption found
     (is_full d ≡ true → (o : Opening) → IsOpened d b o → ¬ IsOpening o)
     (λ q. (is_full d ≡ true) × (o : Opening) × IsOpened d b o × IsOpening o × (q ≡ opened r d.name o))
 
 -- In an opening.
-abbrev pub Heads : Reader → Draft → Line → Option Reader → Type 0
+abbrev pub Heads : Reader → OpeningDraft → Line → Option Reader → Type 0
 Heads r d (line.Member name route v) found = found ≡ (if is_full d then None else Some (headed r (with_member d name route v)))
 Heads r d (line.Lease ticket member) found = found ≡ (if is_full d then Some (headed r (with_ticket d ticket member)) else None)
 Heads r d (line.From b) found = Opens r d b found
@@ -84,7 +84,7 @@ continued r name o entries (line.End count) = Some (record {
 continued r name o entries other = None
 
 -- What a line makes of where the reader stands; none where it is out of its place.
-abbrev pub TakesAt : Reader → Place → Line → Option Reader → Type 0
+abbrev pub TakesAt : Reader → TextPlace → Line → Option Reader → Type 0
 TakesAt r place.Outside l found = found ≡ begun r l
 TakesAt r place.Ruled l found = found ≡ named r l
 TakesAt r (place.Heading d) l found = Heads r d l found
@@ -100,16 +100,16 @@ Refuses r number text (error.Unreadable line) = (line ≡ number) × TakesText r
 Refuses r number text error.NoMemory = Unit {0}
 
 -- A text is read as segments, each with the count of its last line, or can't be read at a line.
-pub data Outcome : Type 0 where
-  readable : List Counted → Outcome
-  unreadable : (number : ℕ) → Outcome
+pub data TextOutcome : Type 0 where
+  readable : List Counted → TextOutcome
+  unreadable : (number : ℕ) → TextOutcome
 
-abbrev pub is_outside : Place → Bool
+abbrev pub is_outside : TextPlace → Bool
 is_outside place.Outside = true
 is_outside other = false
 
 -- How many members and tickets the reader holds.
-abbrev pub held : Place → ℕ
+abbrev pub held : TextPlace → ℕ
 held (place.Heading d) = length d.rows + length d.out
 held other = 0
 
@@ -121,11 +121,11 @@ is_over r last = (length last == 0) && is_outside r.place
 abbrev pub is_end : Reader → (last : List ℕ) → Bool
 is_end r last = (length last == 0) && (is_outside r.place && nat_lt 0 (length r.done))
 
-abbrev pub ended : Reader → (number : ℕ) → (last : List ℕ) → Outcome
+abbrev pub ended : Reader → (number : ℕ) → (last : List ℕ) → TextOutcome
 ended r number last = if is_end r last then readable r.done else unreadable number
 
 -- How the lines are read from here on, the first of which has the number.
-abbrev pub Reads : Reader → (number : ℕ) → List (List ℕ) → Outcome → Type 0
+abbrev pub Reads : Reader → (number : ℕ) → List (List ℕ) → TextOutcome → Type 0
 Reads r number [] outcome = ⊥
 Reads r number (last ∷ []) outcome = outcome ≡ ended r number last
 Reads r number (text ∷ next ∷ lines) outcome =
@@ -137,11 +137,11 @@ abbrev pub at_start : Reader
 at_start = record { rules = 1; place = place.Outside; done = [] }
 
 -- How a text is read.
-abbrev pub ReadsText : (text : List ℕ) → Outcome → Type 0
+abbrev pub ReadsText : (text : List ℕ) → TextOutcome → Type 0
 ReadsText text outcome = Reads at_start 1 (parts_of 10 text) outcome
 
 -- An answer says what the text is read as; want of memory says nothing.
-abbrev pub Tells : Result (List Counted) TextError → (Outcome → Type 0) → Type 0
+abbrev pub Tells : Result (List Counted) TextError → (TextOutcome → Type 0) → Type 0
 Tells (Ok done) Says = Says (readable done)
 Tells (Err (error.Unreadable line)) Says = Says (unreadable line)
 Tells (Err error.NoMemory) Says = Unit {0}

@@ -11,7 +11,7 @@ use journal_lines::{BalancerValues, Beginning, MemberValues};
 
 /// An opening as far as its lines are read.
 #[derive(Debug, Drop)]
-pub struct Draft {
+pub struct OpeningDraft {
     pub name: Bytes,
     pub values: BalancerValues,
     pub members: MemberList,
@@ -67,7 +67,7 @@ fn count_tickets(rows: &mut Vec<MemberRow>, out: &[(u64, u32)])
     }
 }
 
-impl Draft {
+impl OpeningDraft {
     /// Whether each member of the balancer's line was read.
     pub(crate) fn is_full(&self) -> bool
         ensures { result ≡ is_full self.now }
@@ -81,7 +81,7 @@ impl Draft {
         name: Bytes,
         route: Bytes,
         values: MemberValues,
-    ) -> Result<Draft, NoMemory>
+    ) -> Result<OpeningDraft, NoMemory>
         ensures { IfOk result (λ d. d ≡ with_member self name route values) }
     {
         let mut draft = self;
@@ -91,7 +91,7 @@ impl Draft {
     }
 
     /// With a further ticket that is out.
-    pub(crate) fn with_ticket(self, ticket: u64, member: u32) -> Result<Draft, NoMemory>
+    pub(crate) fn with_ticket(self, ticket: u64, member: u32) -> Result<OpeningDraft, NoMemory>
         ensures { IfOk result (λ d. d ≡ with_ticket self ticket member) }
     {
         let mut draft = self;
@@ -107,7 +107,7 @@ impl Draft {
             ((o : Opening) → IsOpened self beginning.now o → ¬ IsOpening o)
             (λ found. (found.0 ≡ self.name) × IsOpened self beginning.now found.1 × IsOpening found.1) }
     {
-        let Draft {
+        let OpeningDraft {
             name,
             values,
             members,

@@ -17,8 +17,8 @@ mod text_error;
 mod writing;
 
 pub use counted::{Counted, SegmentList};
-pub use draft::Draft;
-pub use reader::{Place, Reader};
+pub use draft::OpeningDraft;
+pub use reader::{Reader, TextPlace};
 pub use segments::read_segments;
 pub use text_error::TextError;
 pub use writing::{balancer_values, beginning, member_values, write_segment};

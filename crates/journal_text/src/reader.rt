@@ -8,7 +8,7 @@ ghost use Rattle.journal_text.specs.Kept.{IsKept, IsSound};
 ghost use Rattle.journal_text.specs.Reading.{Heads, Opens, Refuses, TakesAt, TakesText, at_start, begun, continued, held, is_end, is_over, named, opened};
 
 use crate::counted::{Counted, CountedList};
-use crate::draft::Draft;
+use crate::draft::OpeningDraft;
 use crate::text_error::TextError;
 use jk_io::{Bytes, NoMemory};
 use jk_model::{Entry, EntryList, MemberList, Opening, RowList, TicketList};
@@ -17,13 +17,13 @@ use std::alloc::Global;
 
 /// Where a text is read.
 #[derive(Debug, Drop)]
-pub enum Place {
+pub enum TextPlace {
     /// Between segments.
     Outside,
     /// Behind the line of a segment's rules.
     Ruled,
     /// In an opening, behind its balancer's line.
-    Heading(Draft),
+    Heading(OpeningDraft),
     /// Among the entries of a segment.
     Body {
         name: Bytes,
@@ -37,7 +37,7 @@ pub enum Place {
 pub struct Reader {
     /// Those of the present segment, or of the last one.
     rules: u8,
-    place: Place,
+    place: TextPlace,
     /// The segments that were read.
     done: CountedList,
 }
@@ -46,12 +46,12 @@ fn begun(rules: u8, done: CountedList, line: Line) -> Option<Reader>
     requires kept { IsKeptLine rules line }
     requires sound { All IsKept done }
     ensures sound { IfSome result IsSound }
-    ensures takes { result ≡ begun (record { rules = rules; place = Place.Outside; done = done }) line }
+    ensures takes { result ≡ begun (record { rules = rules; place = TextPlace.Outside; done = done }) line }
 {
     match line {
         Line::Rules(version) if rules <= version => Some(Reader {
             rules: version,
-            place: Place::Ruled,
+            place: TextPlace::Ruled,
             done,
         }),
         _ => None,
@@ -62,12 +62,12 @@ fn named(alloc: Global, rules: u8, done: CountedList, line: Line) -> Option<Read
     requires versions { AreRules rules }
     requires sound { All IsKept done }
     ensures sound { IfSome result IsSound }
-    ensures takes { result ≡ named (record { rules = rules; place = Place.Ruled; done = done }) line }
+    ensures takes { result ≡ named (record { rules = rules; place = TextPlace.Ruled; done = done }) line }
 {
     let Line::Balancer { name, values } = line else {
         return None;
     };
-    let draft = Draft {
+    let draft = OpeningDraft {
         name,
         values,
         members: MemberList::new(alloc),
@@ -76,7 +76,7 @@ fn named(alloc: Global, rules: u8, done: CountedList, line: Line) -> Option<Read
     };
     Some(Reader {
         rules,
-        place: Place::Heading(draft),
+        place: TextPlace::Heading(draft),
         done,
     })
 }
@@ -85,14 +85,14 @@ fn opened(
     alloc: Global,
     rules: u8,
     done: CountedList,
-    draft: Draft,
+    draft: OpeningDraft,
     beginning: &Beginning,
 ) -> Option<Reader>
     requires versions { AreRules rules }
     requires few { length draft.rows + length draft.out < 2 ^ 32 }
     requires sound { All IsKept done }
     ensures sound { IfSome result IsSound }
-    ensures takes { Opens (record { rules = rules; place = Place.Heading draft; done = done }) draft beginning.now result }
+    ensures takes { Opens (record { rules = rules; place = TextPlace.Heading draft; done = done }) draft beginning.now result }
 {
     if !draft.is_full() {
         return None;
@@ -100,7 +100,7 @@ fn opened(
     let (name, opening) = draft.open(beginning)?;
     Some(Reader {
         rules,
-        place: Place::Body {
+        place: TextPlace::Body {
             name,
             opening,
             entries: EntryList::new(alloc),
@@ -113,14 +113,14 @@ fn headed(
     alloc: Global,
     rules: u8,
     done: CountedList,
-    draft: Draft,
+    draft: OpeningDraft,
     line: Line,
 ) -> Result<Option<Reader>, NoMemory>
     requires versions { AreRules rules }
     requires few { length draft.rows + length draft.out < 2 ^ 32 }
     requires sound { All IsKept done }
     ensures sound { IfOk result (λ found. IfSome found IsSound) }
-    ensures takes { IfOk result (Heads (record { rules = rules; place = Place.Heading draft; done = done }) draft line) }
+    ensures takes { IfOk result (Heads (record { rules = rules; place = TextPlace.Heading draft; done = done }) draft line) }
     ensures grown { IfOk result (λ found. IfSome found (λ q. held q.place ≤ length draft.rows + length draft.out + 1)) }
 {
     let full = draft.is_full();
@@ -136,7 +136,7 @@ fn headed(
     };
     Ok(Some(Reader {
         rules,
-        place: Place::Heading(further),
+        place: TextPlace::Heading(further),
         done,
     }))
 }
@@ -156,11 +156,11 @@ fn with_entry(
     requires kept { IsKeptLine rules (Line.Entry entry) }
     requires sound { All IsKept done }
     ensures sound { IfOk result IsSound }
-    ensures value { IfOk result (λ q. q ≡ record { rules = rules; place = Place.Body name opening (entries ++ entry ∷ []); done = done }) }
+    ensures value { IfOk result (λ q. q ≡ record { rules = rules; place = TextPlace.Body name opening (entries ++ entry ∷ []); done = done }) }
 {
     let mut entries = entries;
     entries.push(entry)?;
-    let place = Place::Body {
+    let place = TextPlace::Body {
         name,
         opening,
         entries,
@@ -174,13 +174,13 @@ fn with_segment(rules: u8, done: CountedList, segment: Counted) -> Result<Reader
     requires kept { IsKept segment }
     requires sound { All IsKept done }
     ensures sound { IfOk result IsSound }
-    ensures value { IfOk result (λ q. q ≡ record { rules = rules; place = Place.Outside; done = done ++ segment ∷ [] }) }
+    ensures value { IfOk result (λ q. q ≡ record { rules = rules; place = TextPlace.Outside; done = done ++ segment ∷ [] }) }
 {
     let mut done = done;
     done.push(segment)?;
     Ok(Reader {
         rules,
-        place: Place::Outside,
+        place: TextPlace::Outside,
         done,
     })
 }
@@ -200,7 +200,7 @@ fn continued(
     requires sound { All IsKept done }
     ensures sound { IfOk result (λ found. IfSome found IsSound) }
     ensures takes { IfOk result (λ found. found
-        ≡ continued (record { rules = rules; place = Place.Body name opening entries; done = done }) name opening entries line) }
+        ≡ continued (record { rules = rules; place = TextPlace.Body name opening entries; done = done }) name opening entries line) }
     ensures grown { IfOk result (λ found. IfSome found (λ q. held q.place ≡ 0)) }
 {
     match line {
@@ -231,7 +231,7 @@ impl Reader {
     {
         Reader {
             rules: 1,
-            place: Place::Outside,
+            place: TextPlace::Outside,
             done: CountedList::new(alloc),
         }
     }
@@ -246,10 +246,10 @@ impl Reader {
     {
         let Reader { rules, place, done } = self;
         match place {
-            Place::Outside => Ok(begun(rules, done, line)),
-            Place::Ruled => Ok(named(alloc, rules, done, line)),
-            Place::Heading(draft) => headed(alloc, rules, done, draft, line),
-            Place::Body {
+            TextPlace::Outside => Ok(begun(rules, done, line)),
+            TextPlace::Ruled => Ok(named(alloc, rules, done, line)),
+            TextPlace::Heading(draft) => headed(alloc, rules, done, draft, line),
+            TextPlace::Body {
                 name,
                 opening,
                 entries,
@@ -334,6 +334,6 @@ impl Reader {
     pub fn is_over(&self, last: &[u8]) -> bool
         ensures { result ≡ is_over self.now last.now }
     {
-        last.is_empty() && matches!(&self.place, Place::Outside)
+        last.is_empty() && matches!(&self.place, TextPlace::Outside)
     }
 }

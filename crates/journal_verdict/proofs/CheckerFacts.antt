@@ -11,7 +11,7 @@ use Rattle.journal_text.specs.Reading.{TakesText}
 use Rattle.journal_text.specs.SegmentText.{entry_lines, opening_lines}
 use Rattle.journal_text.specs.Written.{lines_of}
 use Rattle.journal_text.specs.declared.counted.Counted.{Counted}
-use Rattle.journal_text.specs.declared.reader.Place.{Place}
+use Rattle.journal_text.specs.declared.reader.TextPlace.{TextPlace}
 use Rattle.journal_text.specs.declared.reader.Reader.{Reader}
 use Rattle.journal_verdict.specs.Checkers.{HasTaken, Judged}
 use Rattle.journal_verdict.specs.Checks.{After, Comes, HasRoom, IsBad, Leads, front, lines_taken, verdict_of}
@@ -133,7 +133,7 @@ fronts : (done : List Counted) (c : List Counted) (q r : Reader) → q.done ≡ 
     → front done q ≡ front (done ++ c) r
 fronts done c q r ended empty rules place =
     ap (λ (v : ℕ). record { rules = v; place = q.place; done = done ++ q.done }) (sym rules)
-    ∙ ap (λ (p : Place). record { rules = r.rules; place = p; done = done ++ q.done }) (sym place)
+    ∙ ap (λ (p : TextPlace). record { rules = r.rules; place = p; done = done ++ q.done }) (sym place)
     ∙ ap (λ (d : List Counted). record { rules = r.rules; place = r.place; done = done ++ d }) ended
     ∙ ap (λ (d : List Counted). record { rules = r.rules; place = r.place; done = d }) (sym (append-nil (done ++ c)))
     ∙ ap (λ (d : List Counted). record { rules = r.rules; place = r.place; done = (done ++ c) ++ d }) (sym empty)

@@ -17,9 +17,9 @@ use Rattle.journal_text.specs.Reading.{Heads, TakesAt, TakesText, begun, continu
 use Rattle.journal_text.specs.SegmentText.{beginning, entry_lines, lease_lines, member_lines, opening_lines}
 use Rattle.journal_text.specs.Written.{lines_of}
 use Rattle.journal_text.specs.declared.counted.Counted.{Counted}
-use Rattle.journal_text.specs.declared.draft.Draft.{Draft}
-use Rattle.journal_text.specs.declared.reader.Place.{Place}
-use Rattle.journal_text.specs.declared.reader.Place.TheVariants as place
+use Rattle.journal_text.specs.declared.draft.OpeningDraft.{OpeningDraft}
+use Rattle.journal_text.specs.declared.reader.TextPlace.{TextPlace}
+use Rattle.journal_text.specs.declared.reader.TextPlace.TheVariants as place
 use Rattle.journal_text.specs.declared.reader.Reader.{Reader}
 
 abbrev pub fronted : List Counted → Option Reader → Option Reader
@@ -53,7 +53,7 @@ named_front before r (line.From b) = refl
 named_front before r (line.Entry e) = refl
 named_front before r (line.End count) = refl
 
-heads_front : (before : List Counted) (r : Reader) (d : Draft) (l : Line) (found : Option Reader)
+heads_front : (before : List Counted) (r : Reader) (d : OpeningDraft) (l : Line) (found : Option Reader)
     → Heads r d l found → Heads (front before r) d l (fronted before found)
 heads_front before r d (line.Rules v) found h = ap (fronted before) h
 heads_front before r d (line.Balancer name values) found h = ap (fronted before) h
@@ -78,7 +78,7 @@ continued_front before r name o entries (line.End count) =
     let c : Counted = record { name = name; rules = r.rules; opening = o; entries = entries; count = count } in
     ap (λ (done : List Counted). Some (record { rules = r.rules; place = place.Outside; done = done })) (sym (append_assoc before r.done (c ∷ [])))
 
-at_front : (before : List Counted) (r : Reader) (p : Place) (l : Line) (found : Option Reader)
+at_front : (before : List Counted) (r : Reader) (p : TextPlace) (l : Line) (found : Option Reader)
     → TakesAt r p l found → TakesAt (front before r) p l (fronted before found)
 at_front before r place.Outside l found h = ap (fronted before) h ∙ begun_front before r l
 at_front before r place.Ruled l found h = ap (fronted before) h ∙ named_front before r l
@@ -157,12 +157,12 @@ stepped_ruled r q (line.From b) h = not_some q h
 stepped_ruled r q (line.Entry e) h = not_some q h
 stepped_ruled r q (line.End count) h = not_some q h
 
-opened_lines : (d : Draft) (o : Opening) (b : _) → IsOpened d b o → IsOpening o
+opened_lines : (d : OpeningDraft) (o : Opening) (b : _) → IsOpened d b o → IsOpening o
     → 1 + length (opening_lines d.name o) + 0 ≡ 2 + length d.rows + length d.out + 1
 opened_lines d o b is valid =
     omega (arith, opening_count d.name o valid.rows.count, is.rows.whole, ap length is.out)
 
-stepped_heading : (r q : Reader) (d : Draft) (l : Line) → Heads r d l (Some q) → Stepped (2 + length d.rows + length d.out) r q
+stepped_heading : (r q : Reader) (d : OpeningDraft) (l : Line) → Heads r d l (Some q) → Stepped (2 + length d.rows + length d.out) r q
 stepped_heading r q d (line.Rules v) h = not_some q h
 stepped_heading r q d (line.Balancer name values) h = not_some q h
 stepped_heading r q d (line.Member name route values) h =
@@ -197,7 +197,7 @@ stepped_body r q name o entries (line.End count) h =
       ),
     ))
 
-stepped_at : (r q : Reader) (p : Place) (l : Line) → TakesAt r p l (Some q) → Stepped (lines_taken p) r q
+stepped_at : (r q : Reader) (p : TextPlace) (l : Line) → TakesAt r p l (Some q) → Stepped (lines_taken p) r q
 stepped_at r q place.Outside l h = stepped_outside r q l h
 stepped_at r q place.Ruled l h = stepped_ruled r q l h
 stepped_at r q (place.Heading d) l h = stepped_heading r q d l h

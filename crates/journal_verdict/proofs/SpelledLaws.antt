@@ -26,20 +26,20 @@ use Rattle.journal_text.specs.Reading.{Reads, ReadsText, TakesAt, TakesText, at_
 use Rattle.journal_text.specs.SegmentText.{balancer_values, beginning, entry_lines, lease_lines, member_line, member_lines, opening_lines}
 use Rattle.journal_text.specs.Written.{lines_of, texts_of}
 use Rattle.journal_text.specs.declared.counted.Counted.{Counted}
-use Rattle.journal_text.specs.declared.draft.Draft.{Draft}
-use Rattle.journal_text.specs.declared.reader.Place.{Place}
-use Rattle.journal_text.specs.declared.reader.Place.TheVariants as place
+use Rattle.journal_text.specs.declared.draft.OpeningDraft.{OpeningDraft}
+use Rattle.journal_text.specs.declared.reader.TextPlace.{TextPlace}
+use Rattle.journal_text.specs.declared.reader.TextPlace.TheVariants as place
 use Rattle.journal_text.specs.declared.reader.Reader.{Reader}
 
 -- ---- the lines that a reader has taken
 
-abbrev drafted : (v : ℕ) → Draft → List Line
+abbrev drafted : (v : ℕ) → OpeningDraft → List Line
 drafted v d = line.Rules v ∷ line.Balancer d.name d.values ∷ (member_lines d.members d.rows ++ lease_lines d.out)
 
 abbrev opened_by : (v : ℕ) (name : List ℕ) → Opening → List Entry → List Line
 opened_by v name o entries = line.Rules v ∷ (opening_lines name o ++ entry_lines entries)
 
-abbrev lines_at : (v : ℕ) → Place → List Line
+abbrev lines_at : (v : ℕ) → TextPlace → List Line
 lines_at v place.Outside = []
 lines_at v place.Ruled = line.Rules v ∷ []
 lines_at v (place.Heading d) = drafted v d
@@ -49,11 +49,11 @@ abbrev taken : Reader → List ℕ
 taken r = texts_of r.done ++ lines_text r.rules (lines_at r.rules r.place)
 
 -- a row for each member, and no ticket before the last member
-record IsOrdered (d : Draft) : Type 0 where
+record IsOrdered (d : OpeningDraft) : Type 0 where
   even : length d.rows ≡ length d.members
   later : is_full d ≡ false → d.out ≡ []
 
-abbrev IsOrderedAt : Place → Type 0
+abbrev IsOrderedAt : TextPlace → Type 0
 IsOrderedAt place.Outside = Unit {0}
 IsOrderedAt place.Ruled = Unit {0}
 IsOrderedAt (place.Heading d) = IsOrdered d
@@ -112,7 +112,7 @@ counted_without out old new h =
 values : Method → (sticky force direct : Bool) → (maintain recover members : ℕ) → BalancerValues
 values m s f d mt r n = record { method = m; sticky = s; force = f; direct = d; maintain = mt; recover = r; members = n }
 
-opened_values : (d : Draft) (b : Beginning) (o : Opening) → IsOpened d b o → is_full d ≡ true → balancer_values o.config ≡ d.values
+opened_values : (d : OpeningDraft) (b : Beginning) (o : Opening) → IsOpened d b o → is_full d ≡ true → balancer_values o.config ≡ d.values
 unfolding values
 opened_values d b o is full =
     let c = o.config in
@@ -129,7 +129,7 @@ opened_values d b o is full =
 start : (next at maintained : ℕ) → Option ℕ → Beginning
 start n a m c = record { next = n; at = a; maintained = m; chosen = c }
 
-opened_start : (d : Draft) (b : Beginning) (o : Opening) → IsOpened d b o → beginning o ≡ b
+opened_start : (d : OpeningDraft) (b : Beginning) (o : Opening) → IsOpened d b o → beginning o ≡ b
 unfolding start
 opened_start d b o is =
     ap (λ x. start x o.at o.maintained o.chosen) is.next
@@ -137,7 +137,7 @@ opened_start d b o is =
     ∙ ap (λ x. start b.next b.at x o.chosen) is.maintained
     ∙ ap (λ x. start b.next b.at b.maintained x) is.chosen
 
-opened_members : (d : Draft) (b : Beginning) (o : Opening) → IsOpened d b o → member_lines o.config.members o.rows ≡ member_lines d.members d.rows
+opened_members : (d : OpeningDraft) (b : Beginning) (o : Opening) → IsOpened d b o → member_lines o.config.members o.rows ≡ member_lines d.members d.rows
 opened_members d b o is =
     ap (λ ms. member_lines ms o.rows) is.config.members
     ∙ sym (members_without d.members o.rows)
@@ -145,7 +145,7 @@ opened_members d b o is =
     ∙ members_without d.members d.rows
 
 -- the opening's lines are those of the draft, and the last one
-opened_lines : (v : ℕ) (d : Draft) (b : Beginning) (o : Opening) → IsOpened d b o → is_full d ≡ true
+opened_lines : (v : ℕ) (d : OpeningDraft) (b : Beginning) (o : Opening) → IsOpened d b o → is_full d ≡ true
     → opened_by v d.name o [] ≡ drafted v d ++ line.From b ∷ []
 opened_lines v d b o is full =
     ap (λ ls. line.Rules v ∷ ls) (append-nil (opening_lines d.name o))
@@ -198,7 +198,7 @@ adds_ruled : (v : ℕ) (done : List Counted) (q : Reader) (l : Line) → Some q 
 adds_ruled v done q (line.Rules w) h = no_some q h
 adds_ruled v done q (line.Balancer name b) h =
     let r : Reader = record { rules = v; place = place.Ruled; done = done } in
-    let d : Draft = record { name = name; values = b; members = []; rows = []; out = [] } in
+    let d : OpeningDraft = record { name = name; values = b; members = []; rows = []; out = [] } in
     adds_as r q (headed r d) (line_text v (line.Balancer name b)) (same_some q (headed r d) h)
     (record { even = refl; later = λ _. refl }, text_more done v (line.Rules v ∷ []) (drafted v d) (line.Balancer name b) refl)
 adds_ruled v done q (line.Member name route b) h = no_some q h
@@ -207,7 +207,7 @@ adds_ruled v done q (line.From b) h = no_some q h
 adds_ruled v done q (line.Entry e) h = no_some q h
 adds_ruled v done q (line.End count) h = no_some q h
 
-member_drafted : (v : ℕ) (d : Draft) (name route : List ℕ) (m : MemberValues) → IsOrdered d → is_full d ≡ false
+member_drafted : (v : ℕ) (d : OpeningDraft) (name route : List ℕ) (m : MemberValues) → IsOrdered d → is_full d ≡ false
     → drafted v (with_member d name route m) ≡ drafted v d ++ line.Member name route m ∷ []
 member_drafted v d name route m ordered room =
     let ms = member_lines d.members d.rows in
@@ -219,14 +219,14 @@ member_drafted v d name route m ordered room =
     ∙ ap (λ ls. line.Rules v ∷ line.Balancer d.name d.values ∷ (ls ++ l ∷ [])) (sym (append-nil ms))
     ∙ ap (λ (out : List Ticket). line.Rules v ∷ line.Balancer d.name d.values ∷ ((ms ++ lease_lines out) ++ l ∷ [])) (sym none)
 
-lease_drafted : (v : ℕ) (d : Draft) (ticket member : ℕ) → drafted v (with_ticket d ticket member) ≡ drafted v d ++ line.Lease ticket member ∷ []
+lease_drafted : (v : ℕ) (d : OpeningDraft) (ticket member : ℕ) → drafted v (with_ticket d ticket member) ≡ drafted v d ++ line.Lease ticket member ∷ []
 lease_drafted v d ticket member =
     let ms = member_lines d.members d.rows in
     let l = line.Lease ticket member in
     ap (λ ls. line.Rules v ∷ line.Balancer d.name d.values ∷ (ms ++ ls)) (map-append (λ (x : Ticket). line.Lease x.0 x.1) d.out ((ticket, member) ∷ []))
     ∙ ap (λ ls. line.Rules v ∷ line.Balancer d.name d.values ∷ ls) (sym (append_assoc ms (lease_lines d.out) (l ∷ [])))
 
-adds_heading : (v : ℕ) (done : List Counted) (d : Draft) (q : Reader) (l : Line) → IsOrdered d
+adds_heading : (v : ℕ) (done : List Counted) (d : OpeningDraft) (q : Reader) (l : Line) → IsOrdered d
     → TakesAt (record { rules = v; place = place.Heading d; done = done }) (place.Heading d) l (Some q)
     → Adds (record { rules = v; place = place.Heading d; done = done }) (line_text v l) q
 adds_heading v done d q (line.Rules w) ordered h = no_some q h
@@ -287,7 +287,7 @@ adds_body v done name o entries q (line.End count) h =
           ∙ text_more done v (opened_by v name o entries) (lines_of c) (line.End count) more,
     )
 
-adds_at : (v : ℕ) (p : Place) (done : List Counted) (q : Reader) (l : Line) → IsOrderedAt p
+adds_at : (v : ℕ) (p : TextPlace) (done : List Counted) (q : Reader) (l : Line) → IsOrderedAt p
     → TakesAt (record { rules = v; place = p; done = done }) p l (Some q) → Adds (record { rules = v; place = p; done = done }) (line_text v l) q
 adds_at v place.Outside done q l ordered h = adds_outside v done q l (record { rules = v; place = place.Outside; done = done }) refl h
 adds_at v place.Ruled done q l ordered h = adds_ruled v done q l h
@@ -305,7 +305,7 @@ adds r q text ordered h = adds_line r q text (line_of r.rules text) refl ordered
 
 -- ---- the whole text
 
-outside_nothing : (v : ℕ) (p : Place) → is_outside p ≡ true → lines_at v p ≡ []
+outside_nothing : (v : ℕ) (p : TextPlace) → is_outside p ≡ true → lines_at v p ≡ []
 outside_nothing v place.Outside h = refl
 outside_nothing v place.Ruled h = absurd (let no : false ≡ true = h in cc)
 outside_nothing v (place.Heading d) h = absurd (let no : false ≡ true = h in cc)

@@ -8,8 +8,8 @@ use Rattle.jk_model.specs.declared.opening.Opening.{Opening}
 use Rattle.journal_text.specs.SegmentText.{opening_lines}
 use Rattle.journal_text.specs.Written.{lines_of}
 use Rattle.journal_text.specs.declared.counted.Counted.{Counted}
-use Rattle.journal_text.specs.declared.reader.Place.{Place}
-use Rattle.journal_text.specs.declared.reader.Place.TheVariants as place
+use Rattle.journal_text.specs.declared.reader.TextPlace.{TextPlace}
+use Rattle.journal_text.specs.declared.reader.TextPlace.TheVariants as place
 use Rattle.journal_text.specs.declared.reader.Reader.{Reader}
 use Rattle.journal_verdict.specs.Rulings.{IsFirstWrong}
 use Rattle.journal_verdict.specs.Verdicts.{AreRight, Former, IsFirstBad, IsRight, IsWrongAt, entries_in, lines_in}
@@ -68,7 +68,7 @@ Leads (check.Good q) c after = After q c after
 Leads (check.Bad v) c after = after ≡ check.Bad v
 
 -- How many lines of a segment were read.
-abbrev pub lines_taken : Place → ℕ
+abbrev pub lines_taken : TextPlace → ℕ
 lines_taken place.Outside = 0
 lines_taken place.Ruled = 1
 lines_taken (place.Heading d) = 2 + length d.rows + length d.out

@@ -30,13 +30,13 @@ use Rattle.balancer_core.specs.declared.desk.Choice.{Choice}
 use Rattle.balancer_core.specs.declared.receipt.Receipt.{Receipt}
 use Rattle.balancer_core.proofs.PlainLaws.{size-at}
 use Rattle.balancer_core.proofs.ToldLaws.{at_place, get-set, grown-nil, grown-twice, next_more, set-found, some_is}
-use Rattle.locked_balancer.specs.Holds.{Held, HoldChooses, HoldCommands, HoldGains, HoldGainsDue, HoldGainsLast, HoldMaintains, IsAdminMark, IsHoldChoice, IsRoomMark, IsSiteChoice, held, listed}
+use Rattle.locked_balancer.specs.Holds.{HeldState, HoldChooses, HoldCommands, HoldGains, HoldGainsDue, HoldGainsLast, HoldMaintains, IsAdminMark, IsHoldChoice, IsRoomMark, IsSiteChoice, held, listed}
 use Rattle.locked_balancer.specs.Notes.{MarkNote, lease_of}
 use Rattle.locked_balancer.specs.SiteAnswers.{HasRoom, IsCommandedAt, IsMaintenanceAt, IsRoomAt}
 use Rattle.locked_balancer.specs.Sites.{AddsAt, AreSited, At}
 
 -- Nothing, one entry, and entries after others.
-pub gains_none : (old : Held) (lb session at : ℕ) (b : Journal) → slice_get old.books lb ≡ Some b → HoldGains old old lb session at []
+pub gains_none : (old : HeldState) (lb session at : ℕ) (b : Journal) → slice_get old.books lb ≡ Some b → HoldGains old old lb session at []
 gains_none old lb session at b found = record {
   book = b;
   found = found;
@@ -47,7 +47,7 @@ gains_none old lb session at b found = record {
   amount = omega arith;
 }
 
-pub gains_one : (old new : Held) (lb session at : ℕ) (called : Call) (r : Receipt) → AddsAt old.books new.books lb session at called r
+pub gains_one : (old new : HeldState) (lb session at : ℕ) (called : Call) (r : Receipt) → AddsAt old.books new.books lb session at called r
     → new.receipts ≡ old.receipts ++ r ∷ [] → new.amount ≡ old.amount + 1 → HoldGains old new lb session at (r ∷ [])
 gains_one old new lb session at called r adds noted counted = record {
   book = adds.book;
@@ -59,7 +59,7 @@ gains_one old new lb session at called r adds noted counted = record {
   amount = counted;
 }
 
-pub gains_more : (a b c : Held) (lb session at : ℕ) (g h : List Receipt) (first : HoldGains a b lb session at g) → HoldGains b c lb session at h
+pub gains_more : (a b c : HeldState) (lb session at : ℕ) (g h : List Receipt) (first : HoldGains a b lb session at g) → HoldGains b c lb session at h
     → (both : HoldGains a c lb session at (g ++ h)) × (both.book ≡ first.book)
 gains_more a b c lb session at g h first second =
     let within : lb < length a.books = slice_get_within a.books lb first.book first.found in
@@ -89,7 +89,7 @@ gains_more a b c lb session at g h first second =
     )
 
 -- A Maintain that was due and then an entry.
-pub gains_last : (a b c : Held) (lb session at : ℕ) (called : Call) (r : Receipt) → HoldMaintains a b lb session at → AddsAt b.books c.books lb session at called r
+pub gains_last : (a b c : HeldState) (lb session at : ℕ) (called : Call) (r : Receipt) → HoldMaintains a b lb session at → AddsAt b.books c.books lb session at called r
     → c.receipts ≡ b.receipts ++ r ∷ [] → c.amount ≡ b.amount + 1 → HoldGainsLast a c lb session at r
 unfolding gains_more
 gains_last a b c lb session at called r due adds noted counted =
@@ -121,7 +121,7 @@ hold_choice v o p sizes lb ask e answer.Forced c is number pick member chose =
     subst (λ (x : Choice LeaseNote). IsHoldChoice sizes lb ask e x) (sym chose) is
 hold_choice v o p sizes lb ask e answer.Done c is number pick member chose = absurd chose
 
-pub chooses : (sizes : List ℕ) (a b c : Held) (lb session at : ℕ) (ask : Ask) (r : Receipt) (picked : Choice LeaseNote) → HoldMaintains a b lb session at
+pub chooses : (sizes : List ℕ) (a b c : HeldState) (lb session at : ℕ) (ask : Ask) (r : Receipt) (picked : Choice LeaseNote) → HoldMaintains a b lb session at
     → AddsAt b.books c.books lb session at (call.Select ask) r → c.receipts ≡ b.receipts ++ r ∷ [] → c.amount ≡ b.amount + 1
     → At b.books lb (λ x. IsPick x.rules x.opening (past_of x) ask r.entry.answer)
     → IfSome (lease_of lb r.entry.answer) (λ lease. (lease.member < slice_index sizes lb) × (is_in ask.tried lease.member ≡ false))
@@ -144,16 +144,16 @@ due_none books books' rs a a' lb session at wanting account same_books same_amou
     (record { due = []; is_due = tt; gains = gains_none (held books rs a) lb session at here.0 here.1; why = inr (refl, wants) }))
 
 -- The Maintain that was due was refused.
-pub denied_first : (a b : Held) (lb session at : ℕ) (wanting : Type 0) (account : Journal → List Receipt → Type 0) → b ≡ a → lb < length a.books
+pub denied_first : (a b : HeldState) (lb session at : ℕ) (wanting : Type 0) (account : Journal → List Receipt → Type 0) → b ≡ a → lb < length a.books
     → At a.books lb (λ x. account x []) → HoldGainsDue a b lb session at wanting account
 unfolding gains_none
 denied_first a b lb session at wanting account same within why =
     let here : (x : Journal) × (slice_get a.books lb ≡ Some x) = at_place a.books lb within in
-    subst (λ (x : Held). HoldGainsDue a x lb session at wanting account) (sym same)
+    subst (λ (x : HeldState). HoldGainsDue a x lb session at wanting account) (sym same)
     (record { due = []; is_due = tt; gains = gains_none a lb session at here.0 here.1; why = inl (why here.0 here.1) })
 
 -- The call after it was refused.
-pub denied_after : (a b : Held) (books' : List Journal) (amount' : ℕ) (lb session at : ℕ) (wanting : Type 0) (account : Journal → List Receipt → Type 0)
+pub denied_after : (a b : HeldState) (books' : List Journal) (amount' : ℕ) (lb session at : ℕ) (wanting : Type 0) (account : Journal → List Receipt → Type 0)
     → (due : HoldMaintains a b lb session at) → books' ≡ b.books → amount' ≡ b.amount → account due.gains.book due.due
     → HoldGainsDue a (held books' b.receipts amount') lb session at wanting account
 denied_after a b books' amount' lb session at wanting account due same_books same_amount why =
@@ -162,7 +162,7 @@ denied_after a b books' amount' lb session at wanting account due same_books sam
     (record { due = due.due; is_due = due.is_due; gains = due.gains; why = inl why }))
 
 -- The Book after the Maintain.
-maintained_at : (a b : Held) (lb session at : ℕ) (due : HoldMaintains a b lb session at) → slice_get b.books lb ≡ Some (grown_by due.gains.book due.due)
+maintained_at : (a b : HeldState) (lb session at : ℕ) (due : HoldMaintains a b lb session at) → slice_get b.books lb ≡ Some (grown_by due.gains.book due.due)
 maintained_at a b lb session at due =
     ap (λ (books : List Journal). slice_get books lb) due.gains.grown
     ∙ get-set a.books lb (grown_by due.gains.book due.due) (slice_get_within a.books lb due.gains.book due.gains.found)
@@ -183,12 +183,12 @@ pub refused_maintain : (lb : ℕ) (b : Journal) (at : ℕ) (e : RoomError MarkNo
 refused_maintain lb b at (room.Full mark) is = (is.0, (is.1.0, (is.1.1.next, is.1.1.out)))
 refused_maintain lb b at room.NoMemory is = is.0
 
-pub ask_account : (a b : Held) (lb session at : ℕ) (due : HoldMaintains a b lb session at) (e : RoomError MarkNote) → At b.books lb (λ x. IsRoomAt {T = ℕ} lb 2 x (Err e))
+pub ask_account : (a b : HeldState) (lb session at : ℕ) (due : HoldMaintains a b lb session at) (e : RoomError MarkNote) → At b.books lb (λ x. IsRoomAt {T = ℕ} lb 2 x (Err e))
     → IsAskRefusal (λ mark. mark.numbers) at e due.gains.book due.due
 ask_account a b lb session at due e why =
     inl (due.maintained, refused_ask lb (grown_by due.gains.book due.due) e (why (grown_by due.gains.book due.due) (maintained_at a b lb session at due)))
 
-pub command_account : (a b : Held) (lb session at : ℕ) (due : HoldMaintains a b lb session at) (c : Command) (e : AdminError MarkNote)
+pub command_account : (a b : HeldState) (lb session at : ℕ) (due : HoldMaintains a b lb session at) (c : Command) (e : AdminError MarkNote)
     → At b.books lb (λ x. IsCommandedAt {T = ℕ} lb x c (Err e)) → IsCommandRefusal (λ mark. mark.numbers) at c e due.gains.book due.due
 command_account a b lb session at due c e why =
     inl (due.maintained, refused_change lb (grown_by due.gains.book due.due) c e (why (grown_by due.gains.book due.due) (maintained_at a b lb session at due)))
@@ -261,7 +261,7 @@ admin_done b e c next calls =
 size_of : (sizes firsts : List ℕ) (books : List Journal) (lb : ℕ) (b : Journal) → AreSited sizes firsts books → slice_get books lb ≡ Some b → slice_index sizes lb ≡ members b.opening
 size_of sizes firsts books lb b are here = ap (λ (ns : List ℕ). slice_index ns lb) (sym are.sized) ∙ size-at books lb b here
 
-pub commands : (sizes firsts : List ℕ) (a b c : Held) (lb session at : ℕ) (command : Command) (r : Receipt) → HoldMaintains a b lb session at → AreSited sizes firsts b.books
+pub commands : (sizes firsts : List ℕ) (a b c : HeldState) (lb session at : ℕ) (command : Command) (r : Receipt) → HoldMaintains a b lb session at → AreSited sizes firsts b.books
     → AddsAt b.books c.books lb session at (call.Admin command) r → c.receipts ≡ b.receipts ++ r ∷ [] → c.amount ≡ b.amount + 1
     → At b.books lb (λ x. IsDoable x.opening (past_of x) command × HasRoom 1 x) → HoldCommands sizes a c lb session at command
 commands sizes firsts a b c lb session at command r due are adds noted counted done =

@@ -29,7 +29,7 @@ use Rattle.balancer_core.specs.declared.desk.Choice.{Choice}
 use Rattle.balancer_core.specs.declared.receipt.Receipt.{Receipt}
 use Rattle.balancer_core.proofs.PlainLaws.{size-at}
 use Rattle.balancer_core.proofs.ToldLaws.{at_place, get-set, get-set_other, past-one, some_is}
-use Rattle.locked_balancer.specs.Holds.{AreShort, CutsFirst, Held, HoldChooses, HoldCommands, HoldDenies, HoldGains, HoldGainsLast, HoldRefuses, held, pools_of}
+use Rattle.locked_balancer.specs.Holds.{AreShort, CutsFirst, HeldState, HoldChooses, HoldCommands, HoldDenies, HoldGains, HoldGainsLast, HoldRefuses, held, pools_of}
 use Rattle.locked_balancer.specs.Notes.{MarkNote, StrayNote}
 use Rattle.locked_balancer.specs.SharedDesks.{CutsWhen}
 use Rattle.locked_balancer.specs.Shelves.{CutsAt}
@@ -120,7 +120,7 @@ due_length [] is = omega arith
 due_length (r ∷ []) is = omega arith
 due_length (r ∷ s ∷ rest) is = absurd is
 
-pub short_gains : (cut_at : ℕ) (old new : Held) (lb session at : ℕ) (gained : List Receipt) → AreShort cut_at old.books
+pub short_gains : (cut_at : ℕ) (old new : HeldState) (lb session at : ℕ) (gained : List Receipt) → AreShort cut_at old.books
     → (0 < cut_at → At old.books lb (λ b. length b.entries < cut_at)) → HoldGains old new lb session at gained → length gained ≤ 2 → AreLegal new.books → AreShort cut_at new.books
 short_gains cut_at old new lb session at gained short shorter gains few legal =
     let there : slice_get new.books lb ≡ Some (grown_by gains.book gained) =
@@ -129,26 +129,26 @@ short_gains cut_at old new lb session at gained short shorter gains few legal =
     (short-hold cut_at old.books lb gains.book (grown_by gains.book gained) short gains.found
     (λ cuts. short-grown cut_at gains.book gained (shorter cuts gains.book gains.found) few (legal lb (grown_by gains.book gained) there)))
 
-short_last : (cut_at : ℕ) (old new : Held) (lb session at : ℕ) (last : Receipt) → AreShort cut_at old.books
+short_last : (cut_at : ℕ) (old new : HeldState) (lb session at : ℕ) (last : Receipt) → AreShort cut_at old.books
     → (0 < cut_at → At old.books lb (λ b. length b.entries < cut_at)) → HoldGainsLast old new lb session at last → AreLegal new.books → AreShort cut_at new.books
 short_last cut_at old new lb session at last short shorter gains legal =
     let one : length gains.due ≤ 1 = due_length gains.due gains.is_due in
     let all : length (gains.due ++ last ∷ []) ≡ length gains.due + 1 = length-append gains.due (last ∷ []) in
     short_gains cut_at old new lb session at (gains.due ++ last ∷ []) short shorter gains.gains (omega arith) legal
 
-short_due : (cut_at : ℕ) (old new : Held) (lb session at : ℕ) (due : List Receipt) → AreShort cut_at old.books
+short_due : (cut_at : ℕ) (old new : HeldState) (lb session at : ℕ) (due : List Receipt) → AreShort cut_at old.books
     → (0 < cut_at → At old.books lb (λ b. length b.entries < cut_at)) → IsDue due → HoldGains old new lb session at due → AreLegal new.books → AreShort cut_at new.books
 short_due cut_at old new lb session at due short shorter is gains legal =
     let one : length due ≤ 1 = due_length due is in
     short_gains cut_at old new lb session at due short shorter gains (omega arith) legal
 
-pub short_choose : (sizes : List ℕ) (cut_at : ℕ) (old new : Held) (lb session at : ℕ) (ask : Ask) (r : Result (Choice LeaseNote) (RoomError MarkNote))
+pub short_choose : (sizes : List ℕ) (cut_at : ℕ) (old new : HeldState) (lb session at : ℕ) (ask : Ask) (r : Result (Choice LeaseNote) (RoomError MarkNote))
     → AreShort cut_at old.books → (0 < cut_at → At old.books lb (λ b. length b.entries < cut_at)) → IfOk r (λ c. HoldChooses sizes old new lb session at ask c)
     → IfErr r (λ e. HoldDenies old new lb session at e) → AreLegal new.books → AreShort cut_at new.books
 short_choose sizes cut_at old new lb session at ask (Ok c) short shorter ok err legal = short_last cut_at old new lb session at ok.last short shorter ok.gains legal
 short_choose sizes cut_at old new lb session at ask (Err e) short shorter ok err legal = short_due cut_at old new lb session at err.due short shorter err.is_due err.gains legal
 
-pub short_command : {T : Type 0} (sizes : List ℕ) (cut_at : ℕ) (old new : Held) (lb session at : ℕ) (command : Command) (r : Result T (AdminError MarkNote))
+pub short_command : {T : Type 0} (sizes : List ℕ) (cut_at : ℕ) (old new : HeldState) (lb session at : ℕ) (command : Command) (r : Result T (AdminError MarkNote))
     → AreShort cut_at old.books → (0 < cut_at → At old.books lb (λ b. length b.entries < cut_at)) → OnOk r (HoldCommands sizes old new lb session at command)
     → IfErr r (λ e. HoldRefuses old new lb session at command e) → AreLegal new.books → AreShort cut_at new.books
 short_command sizes cut_at old new lb session at command (Ok x) short shorter ok err legal = short_last cut_at old new lb session at ok.last short shorter ok.gains legal
@@ -240,7 +240,7 @@ look_present sizes firsts books lb v are within present =
     (here.0, sited_found sizes firsts books lb here.0 are here.1, present here.0 here.1)
 
 -- What is so between the states of a hold, where they are told otherwise.
-pub held_moved : (P : Held → Held → Type 0) (mid mid' after after' : List Journal) (rs rs' : List Receipt) (a a' b b' : ℕ) → mid ≡ mid' → a ≡ a' → after ≡ after' → b ≡ b'
+pub held_moved : (P : HeldState → HeldState → Type 0) (mid mid' after after' : List Journal) (rs rs' : List Receipt) (a a' b b' : ℕ) → mid ≡ mid' → a ≡ a' → after ≡ after' → b ≡ b'
     → P (held mid rs a) (held after rs' b) → P (held mid' rs a') (held after' rs' b')
 held_moved P mid mid' after after' rs rs' a a' b b' mids amounts afters amounts' is =
     subst (λ (n : ℕ). P (held mid' rs a') (held after' rs' n)) amounts'

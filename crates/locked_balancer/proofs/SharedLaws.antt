@@ -23,7 +23,7 @@ use Rattle.balancer_core.specs.declared.desk.Choice.{Choice}
 use Rattle.balancer_core.specs.declared.desk.Choice.TheVariants as choice
 use Rattle.balancer_core.specs.declared.receipt.Receipt.{Receipt}
 use Rattle.balancer_core.proofs.PlainLaws.{pair_is}
-use Rattle.locked_balancer.specs.Holds.{CutsFirst, Held, HoldChooses, HoldCommands, HoldGains, HoldDenies, HoldGainsDue, HoldGainsLast, HoldRefuses, IsHoldChoice, held}
+use Rattle.locked_balancer.specs.Holds.{CutsFirst, HeldState, HoldChooses, HoldCommands, HoldGains, HoldDenies, HoldGainsDue, HoldGainsLast, HoldRefuses, IsHoldChoice, held}
 use Rattle.locked_balancer.specs.Notes.{MarkNote, ViewNote}
 use Rattle.locked_balancer.specs.Sites.{AreSited}
 use Rattle.locked_balancer.proofs.HoldLaws.{sited_found}
@@ -37,7 +37,7 @@ none_sound sizes = record {
 }
 
 -- What a hold gained, told of the desk that had the lock.
-pub gains_desk : (sizes : List ℕ) (parts : ℕ) (old new : Held) (held held' : List (ℕ × ℕ)) (s f w s' f' w' : ℕ) (m m' : Bool) (lb session at : ℕ) (gained : List Receipt)
+pub gains_desk : (sizes : List ℕ) (parts : ℕ) (old new : HeldState) (held held' : List (ℕ × ℕ)) (s f w s' f' w' : ℕ) (m m' : Bool) (lb session at : ℕ) (gained : List Receipt)
     → HoldGains old new lb session at gained
     → Gains (shared_desk sizes parts old.receipts held old.amount s f w m) (shared_desk sizes parts new.receipts held' new.amount s' f' w' m') lb session at gained
 gains_desk sizes parts old new held held' s f w s' f' w' m m' lb session at gained gains = record {
@@ -47,7 +47,7 @@ gains_desk sizes parts old new held held' s f w s' f' w' m m' lb session at gain
   books = refl;
 }
 
-follows_desk : (sizes firsts : List ℕ) (old new : Held) (lb session at : ℕ) (gained : List Receipt) → AreSited sizes firsts old.books → HoldGains old new lb session at gained
+follows_desk : (sizes firsts : List ℕ) (old new : HeldState) (lb session at : ℕ) (gained : List Receipt) → AreSited sizes firsts old.books → HoldGains old new lb session at gained
     → Follows sizes None lb at gained
 follows_desk sizes firsts old new lb session at gained are gains = record {
   book = gains.book;
@@ -55,7 +55,7 @@ follows_desk sizes firsts old new lb session at gained are gains = record {
   next = gains.next;
 }
 
-module _ (sizes firsts : List ℕ) (parts : ℕ) (old new : Held) (are : AreSited sizes firsts old.books) (held held' : List (ℕ × ℕ)) (s f w s' f' w' : ℕ) (m : Bool) (lb session at : ℕ) where
+module _ (sizes firsts : List ℕ) (parts : ℕ) (old new : HeldState) (are : AreSited sizes firsts old.books) (held held' : List (ℕ × ℕ)) (s f w s' f' w' : ℕ) (m : Bool) (lb session at : ℕ) where
   pub last_desk : (last : Receipt) → HoldGainsLast old new lb session at last
       → GainsLast (shared_desk sizes parts old.receipts held old.amount s f w m) (shared_desk sizes parts new.receipts held' new.amount s' f' w' m) lb session at last
   unfolding follows_desk
@@ -95,7 +95,7 @@ choice_desk old new lb ask e (choice.Chosen m lease) is tickets = (
 choice_desk old new lb ask e choice.NoMember is tickets = (is, tickets ∙ append-nil old.held)
 choice_desk old new lb ask e choice.Forced is tickets = (is, tickets ∙ append-nil old.held)
 
-pub chooses_desk : (sizes firsts : List ℕ) (parts : ℕ) (old new : Held) (held held' : List (ℕ × ℕ)) (s f w : ℕ) (m : Bool) (lb session at : ℕ) (ask : Ask) (c : Choice LeaseNote)
+pub chooses_desk : (sizes firsts : List ℕ) (parts : ℕ) (old new : HeldState) (held held' : List (ℕ × ℕ)) (s f w : ℕ) (m : Bool) (lb session at : ℕ) (ask : Ask) (c : Choice LeaseNote)
     → AreSited sizes firsts old.books → HoldChooses sizes old new lb session at ask c → held' ≡ held ++ pairs_of lb c
     → Chooses (λ lease. lease) (shared_desk sizes parts old.receipts held old.amount s f w m) (shared_desk sizes parts new.receipts held' new.amount s f w m) lb session at ask c
 chooses_desk sizes firsts parts old new held held' s f w m lb session at ask c are chose tickets = record {
@@ -110,7 +110,7 @@ chooses_desk sizes firsts parts old new held held' s f w m lb session at ask c a
   met = refl;
 }
 
-pub commands_desk : (sizes firsts : List ℕ) (parts : ℕ) (old new : Held) (held : List (ℕ × ℕ)) (s f w : ℕ) (m : Bool) (lb session at : ℕ) (command : Command)
+pub commands_desk : (sizes firsts : List ℕ) (parts : ℕ) (old new : HeldState) (held : List (ℕ × ℕ)) (s f w : ℕ) (m : Bool) (lb session at : ℕ) (command : Command)
     → AreSited sizes firsts old.books → HoldCommands sizes old new lb session at command
     → Commands (shared_desk sizes parts old.receipts held old.amount s f w m) (shared_desk sizes parts new.receipts held new.amount s f w m) lb session at command
 commands_desk sizes firsts parts old new held s f w m lb session at command are done = record {
@@ -124,7 +124,7 @@ commands_desk sizes firsts parts old new held s f w m lb session at command are 
   wide = refl;
 }
 
-pub takes_back_desk : (sizes firsts : List ℕ) (parts : ℕ) (old new : Held) (held held' : List (ℕ × ℕ)) (s f w : ℕ) (m : Bool) (session at : ℕ) (lease : LeaseNote) (outcome : Outcome) (r : Receipt)
+pub takes_back_desk : (sizes firsts : List ℕ) (parts : ℕ) (old new : HeldState) (held held' : List (ℕ × ℕ)) (s f w : ℕ) (m : Bool) (session at : ℕ) (lease : LeaseNote) (outcome : Outcome) (r : Receipt)
     → AreSited sizes firsts old.books → r.entry.call ≡ call.Return lease.ticket outcome → HoldGains old new lease.lb session at (r ∷ [])
     → TakesBack (shared_desk sizes parts old.receipts held old.amount s f w m) (shared_desk sizes parts new.receipts held' new.amount s f w m) session at lease outcome
 takes_back_desk sizes firsts parts old new held held' s f w m session at lease outcome r are returned gains = record {
@@ -266,13 +266,13 @@ due_length [] is = omega arith
 due_length (r ∷ []) is = omega arith
 due_length (r ∷ s ∷ rest) is = absurd is
 
-gained_last : (old new : Held) (lb session at : ℕ) (last : Receipt) → HoldGainsLast old new lb session at last → Gained old.receipts new.receipts old.amount new.amount
+gained_last : (old new : HeldState) (lb session at : ℕ) (last : Receipt) → HoldGainsLast old new lb session at last → Gained old.receipts new.receipts old.amount new.amount
 gained_last old new lb session at last gains =
     let one : length gains.due ≤ 1 = due_length gains.due gains.is_due in
     let all : length (gains.due ++ last ∷ []) ≡ length gains.due + 1 = length-append gains.due (last ∷ []) in
     (gains.due ++ last ∷ [], gains.gains.receipts, gains.gains.amount, omega arith)
 
-gained_due : (old new : Held) (lb session at : ℕ) (due : List Receipt) → IsDue due → HoldGains old new lb session at due → Gained old.receipts new.receipts old.amount new.amount
+gained_due : (old new : HeldState) (lb session at : ℕ) (due : List Receipt) → IsDue due → HoldGains old new lb session at due → Gained old.receipts new.receipts old.amount new.amount
 gained_due old new lb session at due is gains =
     let one : length due ≤ 1 = due_length due is in
     (due, gains.receipts, gains.amount, omega arith)
@@ -420,7 +420,7 @@ back_amount before after rs rs' a a' session at lease outcome (Err e) ok = tt
 pub back_err : {T E : Type 0} (before after : List Journal) (rs rs' : List Receipt) (a a' : ℕ) (r : Result T E) → OnErr r (held after rs' a' ≡ held before rs a)
     → OnErr r ((rs' ≡ rs) × (a' ≡ a))
 back_err before after rs rs' a a' (Ok x) err = tt
-back_err before after rs rs' a a' (Err e) err = (ap (λ (x : Held). x.receipts) err, ap (λ (x : Held). x.amount) err)
+back_err before after rs rs' a a' (Err e) err = (ap (λ (x : HeldState). x.receipts) err, ap (λ (x : HeldState). x.amount) err)
 
 pub holds_all : (held : List (ℕ × ℕ)) (p : ℕ × ℕ) (n : ℕ) → length held ≤ n → holds (drop n held) p ≡ false
 holds_all held p n all = rw (drop_all n held all) refl

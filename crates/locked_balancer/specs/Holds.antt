@@ -27,8 +27,8 @@ use Rattle.balancer_core.specs.declared.receipt.Receipt.{Receipt}
 use Rattle.locked_balancer.specs.Notes.{MarkNote}
 use Rattle.locked_balancer.specs.Shelves.{CutsAt}
 use Rattle.locked_balancer.specs.Sites.{AreSited, At}
-use Rattle.locked_balancer.specs.declared.site.Refusal.{Refusal}
-use Rattle.locked_balancer.specs.declared.site.Refusal.TheVariants as refusal
+use Rattle.locked_balancer.specs.declared.site.MarkKind.{MarkKind}
+use Rattle.locked_balancer.specs.declared.site.MarkKind.TheVariants as refusal
 
 -- How many tickets may be out in a Book at a time.
 abbrev pub pools_of : Journal → ℕ
@@ -45,12 +45,12 @@ AreShort cut_at books =
     0 < cut_at → (lb : ℕ) → At books lb (λ b. length b.entries + tickets_out b ≤ cut_at + 1 + pools_of b)
 
 -- What a hold changes: the Books, the receipts of the desk that has the lock, and the amount of its share.
-pub record Held : Type 0 where
+pub record HeldState : Type 0 where
   pub books : List Journal
   pub receipts : List Receipt
   pub amount : ℕ
 
-abbrev pub held : List Journal → List Receipt → (amount : ℕ) → Held
+abbrev pub held : List Journal → List Receipt → (amount : ℕ) → HeldState
 held books receipts amount = record { books = books; receipts = receipts; amount = amount }
 
 -- What there is, as a list.
@@ -59,7 +59,7 @@ listed None = []
 listed (Some r) = r ∷ []
 
 -- The call of a session at a moment added just the entries of these receipts, to the Book of balancer lb.
-pub record HoldGains (old new : Held) (lb session at : ℕ) (gained : List Receipt) : Type 0 where
+pub record HoldGains (old new : HeldState) (lb session at : ℕ) (gained : List Receipt) : Type 0 where
   pub book : Journal
   pub found : slice_get old.books lb ≡ Some book
   pub grown : new.books ≡ slice_set old.books lb (grown_by book gained)
@@ -69,31 +69,31 @@ pub record HoldGains (old new : Held) (lb session at : ℕ) (gained : List Recei
   pub amount : new.amount ≡ old.amount + length gained
 
 -- A Maintain or nothing, by this account of the journal that was found; or nothing for want of memory.
-pub record HoldGainsDue (old new : Held) (lb session at : ℕ) (Wanting : Type 0) (Account : Journal → List Receipt → Type 0) : Type 0 where
+pub record HoldGainsDue (old new : HeldState) (lb session at : ℕ) (Wanting : Type 0) (Account : Journal → List Receipt → Type 0) : Type 0 where
   pub due : List Receipt
   pub is_due : IsDue due
   pub gains : HoldGains old new lb session at due
   pub why : Account gains.book due ⊎ ((due ≡ []) × Wanting)
 
 -- A hold that refused an ask, or the Maintain before it.
-abbrev pub HoldDenies : (old new : Held) → (lb session at : ℕ) → RoomError MarkNote → Type 0
+abbrev pub HoldDenies : (old new : HeldState) → (lb session at : ℕ) → RoomError MarkNote → Type 0
 HoldDenies old new lb session at error =
     HoldGainsDue old new lb session at (error ≡ room.NoMemory) (IsAskRefusal (λ mark. mark.numbers) at error)
 
 -- A hold that refused a command, or the Maintain before it.
-abbrev pub HoldRefuses : (old new : Held) → (lb session at : ℕ) → Command → AdminError MarkNote → Type 0
+abbrev pub HoldRefuses : (old new : HeldState) → (lb session at : ℕ) → Command → AdminError MarkNote → Type 0
 HoldRefuses old new lb session at command error =
     HoldGainsDue old new lb session at (error ≡ admin.NoMemory) (IsCommandRefusal (λ mark. mark.numbers) at command error)
 
 -- A Maintain exactly where one was due.
-pub record HoldMaintains (old new : Held) (lb session at : ℕ) : Type 0 where
+pub record HoldMaintains (old new : HeldState) (lb session at : ℕ) : Type 0 where
   pub due : List Receipt
   pub is_due : IsDue due
   pub gains : HoldGains old new lb session at due
   pub maintained : IsMaintained gains.book at due
 
 -- So, and then the entry of this receipt.
-pub record HoldGainsLast (old new : Held) (lb session at : ℕ) (last : Receipt) : Type 0 where
+pub record HoldGainsLast (old new : HeldState) (lb session at : ℕ) (last : Receipt) : Type 0 where
   pub due : List Receipt
   pub is_due : IsDue due
   pub gains : HoldGains old new lb session at (due ++ last ∷ [])
@@ -115,14 +115,14 @@ IsHoldChoice sizes lb ask e choice.NoMember = e.answer ≡ answer.NoMember
 IsHoldChoice sizes lb ask e choice.Forced = e.answer ≡ answer.Forced
 
 -- A hold that chose: its last entry is the Select of this ask.
-pub record HoldChooses (sizes : List ℕ) (old new : Held) (lb session at : ℕ) (ask : Ask) (c : Choice LeaseNote) : Type 0 where
+pub record HoldChooses (sizes : List ℕ) (old new : HeldState) (lb session at : ℕ) (ask : Ask) (c : Choice LeaseNote) : Type 0 where
   pub last : Receipt
   pub gains : HoldGainsLast old new lb session at last
   pub asked : last.entry.call ≡ call.Select ask
   pub answered : IsHoldChoice sizes lb ask last.entry c
 
 -- A hold that did a command: its last entry is that of the command.
-pub record HoldCommands (sizes : List ℕ) (old new : Held) (lb session at : ℕ) (command : Command) : Type 0 where
+pub record HoldCommands (sizes : List ℕ) (old new : HeldState) (lb session at : ℕ) (command : Command) : Type 0 where
   pub last : Receipt
   pub gains : HoldGainsLast old new lb session at last
   pub commanded : last.entry.call ≡ call.Admin command
@@ -136,34 +136,34 @@ CutsFirst old mid lb None = mid ≡ old
 CutsFirst old mid lb (Some segment) = CutsAt old mid lb segment
 
 -- A hold that took a lease back: its one entry is the Return of the ticket.
-abbrev pub HoldReturns : (old new : Held) → (session at : ℕ) → LeaseNote → Outcome → Type 0
+abbrev pub HoldReturns : (old new : HeldState) → (session at : ℕ) → LeaseNote → Outcome → Type 0
 HoldReturns old new session at lease outcome =
     (r : Receipt) × (r.entry.call ≡ call.Return lease.ticket outcome) × HoldGains old new lease.lb session at (r ∷ [])
 
 -- A hold cut where that was due, and then it chose, refused the ask, did the command or refused it. `mid` has the Books
 -- of the Site between the two.
-abbrev pub CutChooses : (sizes firsts : List ℕ) → Option (ℕ × Segment) → (old new : Held) → Occasion → Ask → Choice LeaseNote → Type 0
+abbrev pub CutChooses : (sizes firsts : List ℕ) → Option (ℕ × Segment) → (old new : HeldState) → Occasion → Ask → Choice LeaseNote → Type 0
 CutChooses sizes firsts cut old new on ask c =
     (mid : List Journal) × CutsFirst old.books mid on.lb cut × AreSited sizes firsts mid
     × HoldChooses sizes (held mid old.receipts old.amount) new on.lb on.session on.at ask c
 
-abbrev pub CutDenies : (sizes firsts : List ℕ) → Option (ℕ × Segment) → (old new : Held) → Occasion → RoomError MarkNote → Type 0
+abbrev pub CutDenies : (sizes firsts : List ℕ) → Option (ℕ × Segment) → (old new : HeldState) → Occasion → RoomError MarkNote → Type 0
 CutDenies sizes firsts cut old new on e =
     (mid : List Journal) × CutsFirst old.books mid on.lb cut × AreSited sizes firsts mid
     × HoldDenies (held mid old.receipts old.amount) new on.lb on.session on.at e
 
-abbrev pub CutCommands : (sizes firsts : List ℕ) → Option (ℕ × Segment) → (old new : Held) → Occasion → Command → Type 0
+abbrev pub CutCommands : (sizes firsts : List ℕ) → Option (ℕ × Segment) → (old new : HeldState) → Occasion → Command → Type 0
 CutCommands sizes firsts cut old new on command =
     (mid : List Journal) × CutsFirst old.books mid on.lb cut × AreSited sizes firsts mid
     × HoldCommands sizes (held mid old.receipts old.amount) new on.lb on.session on.at command
 
-abbrev pub CutRefuses : (sizes firsts : List ℕ) → Option (ℕ × Segment) → (old new : Held) → Occasion → Command → AdminError MarkNote → Type 0
+abbrev pub CutRefuses : (sizes firsts : List ℕ) → Option (ℕ × Segment) → (old new : HeldState) → Occasion → Command → AdminError MarkNote → Type 0
 CutRefuses sizes firsts cut old new on command e =
     (mid : List Journal) × CutsFirst old.books mid on.lb cut × AreSited sizes firsts mid
     × HoldRefuses (held mid old.receipts old.amount) new on.lb on.session on.at command e
 
 -- A mark of this refusal of balancer lb; that of a Full has the numbers of a Book without so many left.
-pub record IsMark (lb : ℕ) (why : Refusal) (mark : MarkNote) : Type 0 where
+pub record IsMark (lb : ℕ) (why : MarkKind) (mark : MarkNote) : Type 0 where
   pub of : mark.lb ≡ lb
   pub refusal : mark.refusal ≡ why
 

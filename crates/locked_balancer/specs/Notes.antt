@@ -11,13 +11,13 @@ use Rattle.jk_model.specs.declared.refusal.Stray.{Stray}
 use Rattle.jk_model.specs.declared.view.View.{View}
 use Rattle.balancer_core.specs.Desks.{LeaseNote}
 use Rattle.balancer_core.specs.declared.book.Lease.{Lease}
-use Rattle.locked_balancer.specs.declared.site.Refusal.{Refusal}
-use Rattle.locked_balancer.specs.declared.site.Refusal.TheVariants as refusal
+use Rattle.locked_balancer.specs.declared.site.MarkKind.{MarkKind}
+use Rattle.locked_balancer.specs.declared.site.MarkKind.TheVariants as refusal
 
 -- A refusal of the Book of balancer lb, with the numbers that it had then.
 pub record MarkNote : Type 0 where
   pub lb : ℕ
-  pub refusal : Refusal
+  pub refusal : MarkKind
   pub numbers : FullMark
 
 -- Balancer lb as it was looked at.

@@ -13,11 +13,11 @@ use Rattle.balancer_core.specs.Commanded.{IsKnown}
 use Rattle.balancer_core.specs.Due.{due_moment, entry_moment}
 use Rattle.balancer_core.specs.Journal.{Journal, next_number, past_of, tickets_out}
 use Rattle.locked_balancer.specs.Notes.{MarkNote}
-use Rattle.locked_balancer.specs.declared.site.Refusal.{Refusal}
-use Rattle.locked_balancer.specs.declared.site.Refusal.TheVariants as refusal
+use Rattle.locked_balancer.specs.declared.site.MarkKind.{MarkKind}
+use Rattle.locked_balancer.specs.declared.site.MarkKind.TheVariants as refusal
 
 -- The mark is of this refusal of balancer lb, and has the numbers of its Book.
-pub record IsMarkOf (lb : ℕ) (why : Refusal) (b : Journal) (mark : MarkNote) : Type 0 where
+pub record IsMarkOf (lb : ℕ) (why : MarkKind) (b : Journal) (mark : MarkNote) : Type 0 where
   pub of : mark.lb ≡ lb
   pub refusal : mark.refusal ≡ why
   pub next : mark.numbers.next ≡ next_number b

@@ -26,7 +26,7 @@ pub use shared_desk::{Leaving, SharedDesk};
 pub use shared_site::SharedSite;
 pub use shelf::Shelf;
 pub use site::{
-    Refusal, Site, SiteLease, SiteMark, SiteName, SitePicked, SiteReceipt, SiteReceiptList,
+    MarkKind, Site, SiteLease, SiteMark, SiteName, SitePicked, SiteReceipt, SiteReceiptList,
     SiteSegment, SiteStray, SiteView,
 };
 pub use threads::may_cross_threads;

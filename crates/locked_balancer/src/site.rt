@@ -124,7 +124,7 @@ impl<L> SiteLease<L> {
 
 /// Which refusal of a Book a mark tells of.
 #[derive(Clone, Copy, Debug, PartialEq, Eq)]
-pub enum Refusal {
+pub enum MarkKind {
     /// No number was left.
     Full,
     /// The least common multiple of the factors would have passed its limit.
@@ -135,7 +135,7 @@ pub enum Refusal {
 #[derive(Debug, Drop)]
 pub struct SiteMark<L> {
     lb: u32,
-    refusal: Refusal,
+    refusal: MarkKind,
     numbers: FullMark,
     of: PhantomData<L>,
 }

@@ -5,7 +5,7 @@ use Rattle.std.specs.List.{concat}
 use Rattle.ajp_request.specs.declared.forward.Forward.{Forward}
 use Rattle.ajp_reply.specs.declared.message.Message.{Message}
 use Rattle.mini_container.specs.declared.app_config.AppConfig.{AppConfig}
-use Rattle.mini_container.specs.declared.page.Page.{Page}
+use Rattle.mini_container.specs.declared.page.AppPage.{AppPage}
 use Rattle.mini_container.specs.declared.application.Application.{Application}
 use Rattle.mini_container.specs.declared.application.Application.TheVariants.{Forbidden, Who, Echo, Size, Status, Session, DropAtOnce, DropBehindHead, DropBehindChunk, Unknown}
 use Rattle.mini_container.specs.Applications.{drops}
@@ -21,7 +21,7 @@ length-found true body text cookie same = ap (λ (t : List ℕ). length_told tru
 length-found false body text None same = refl
 length-found false body text (Some cookie) same = refl
 
-pub page-is_reply : (packet : ℕ) (page : Page) → 8 < packet → IsReply (packet - 8) page.status page.counted page.body (messages_of packet page)
+pub page-is_reply : (packet : ℕ) (page : AppPage) → 8 < packet → IsReply (packet - 8) page.status page.counted page.body (messages_of packet page)
 page-is_reply packet page some =
     let size : 0 < packet - 8 = omega arith in
     let is = cut-is (packet - 8) page.body size in
@@ -38,7 +38,7 @@ page-is_reply packet page some =
 abbrev pub IsAReply : AppConfig → List Message → Type 0
 IsAReply app messages = (status : ℕ) × (counted : Bool) × (text : List ℕ) × IsReply (app.packet - 8) status counted text messages
 
-page-is_a_reply : (app : AppConfig) (page : Page) → IsAReply app (messages_of app.packet page)
+page-is_a_reply : (app : AppConfig) (page : AppPage) → IsAReply app (messages_of app.packet page)
 page-is_a_reply app page = let least = app.packet_at_least in (page.status, page.counted, page.body, page-is_reply app.packet page (omega arith))
 
 pub answer-whole : (app : AppConfig) (forward : Forward) (body : List ℕ) (application : Application) → IsTrue (not (drops application))

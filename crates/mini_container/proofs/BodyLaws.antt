@@ -14,7 +14,7 @@ use Rattle.mini_container.specs.Answer.{answer_of, bytes_of}
 use Rattle.mini_container.specs.Turns.{Awaited, Taken, data_of, has_ended, is_enough, asks_on, ask}
 use Rattle.jk_io.specs.Moments.{Moment}
 use Rattle.mini_container.specs.Ends.{Goes, Within, Stops, StopsWithin, drops_at}
-use Rattle.mini_container.specs.Steps.{NotTaken, TookPiece, NotSent, TookFirst, asks, Asked, TookRest, StopsAsking, TakesRest, TookBody, TakesBody}
+use Rattle.mini_container.specs.Steps.{NotTaken, TookPiece, NotSent, TookFirst, asks, AnsweredAsks, TookRest, StopsAsking, TakesRest, TookBody, TakesBody}
 use Rattle.mini_container.proofs.StepLaws.{comes-then, goes-none, goes-then, stops-then, stops-reading, stops-sending}
 
 pub bytes_of-append : (a b : List Message) → bytes_of (a ++ b) ≡ bytes_of a ++ bytes_of b
@@ -31,7 +31,7 @@ goes-same m0 m1 x y a b p q goes = subst (λ (v : List ℕ). Goes m0 m1 v b) p (
 -- so far each answer had data
 pub record AsksOn (app : AppConfig) (forward : Forward) (first body : List ℕ) (m0 m1 : Moment) : Type 0 where
   pub past : List (List ℕ)
-  pub asked : Asked app forward first m0 m1 past
+  pub asked : AnsweredAsks app forward first m0 m1 past
   pub going_on : has_ended past ≡ false
   pub body_is : body ≡ data_of first past
 
@@ -117,7 +117,7 @@ piece-failed app forward first body m0 m1 m2 m3 stop a echo few sent t =
 -- the answer came
 piece-asked : (app : AppConfig) (forward : Forward) (first body : List ℕ) (m0 m1 m2 m3 : Moment) (body_after : List ℕ) (len : ℕ) (a : AsksOn app forward first body m0 m1)
     → asks_body app forward ≡ true → is_enough (content_length forward) (length body) ≡ false → Goes m1 m2 [] (bytes_of (ask app ∷ []))
-    → (t : TookPiece app.packet body m2 m3 body_after len) → Asked app forward first m0 m3 (t.piece ∷ a.past)
+    → (t : TookPiece app.packet body m2 m3 body_after len) → AnsweredAsks app forward first m0 m3 (t.piece ∷ a.past)
 piece-asked app forward first body m0 m1 m2 m3 body_after len a echo few sent t = record {
   bytes = a.asked.bytes ++ t.bytes;
   came = (a.asked.bytes, t.bytes, a.asked.came, t.packet, refl);

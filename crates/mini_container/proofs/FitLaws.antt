@@ -13,7 +13,7 @@ use Rattle.ajp_reply.specs.declared.message.Message.{Message}
 use Rattle.ajp_reply.specs.declared.message.Message.TheVariants.{Headers, Chunk, End}
 use Rattle.ajp_reply.specs.Spelling.{reply_names}
 use Rattle.mini_container.specs.declared.app_config.AppConfig.{AppConfig}
-use Rattle.mini_container.specs.declared.page.Page.{Page}
+use Rattle.mini_container.specs.declared.page.AppPage.{AppPage}
 use Rattle.mini_container.specs.declared.application.Application.{Application}
 use Rattle.mini_container.specs.declared.application.Application.TheVariants.{Forbidden, Who, Echo, Size, Status, Session, DropAtOnce, DropBehindHead, DropBehindChunk, Unknown}
 use Rattle.mini_container.specs.Applications.{application_at, numbered, number_behind, size_or, status_or}
@@ -96,7 +96,7 @@ head-sendable most status message headers least small short few each bytes =
       };
     }
 
-page-head_sendable : (most : ℕ) (page : Page) → 8192 ≤ most → page.status < 65536 → IsShortCookie page.cookie → length page.body < 2 ^ 64
+page-head_sendable : (most : ℕ) (page : AppPage) → 8192 ≤ most → page.status < 65536 → IsShortCookie page.cookie → length page.body < 2 ^ 64
     → IsSendable most (Headers (head_of page))
 page-head_sendable most page least small cookie body =
     let lengths = length_line-short page.counted page.body body in
@@ -133,12 +133,12 @@ chunks-sendable most (piece ∷ pieces) later least greatest short rest =
     (chunk-sendable most piece least greatest short.0, chunks-sendable most pieces later least greatest short.1 rest)
 
 -- what a page has to be so that its messages fit
-record IsModest (page : Page) : Type 0 where
+record IsModest (page : AppPage) : Type 0 where
   status : page.status < 65536
   cookie : IsShortCookie page.cookie
   body : length page.body < 2 ^ 64
 
-page-sendable : (app : AppConfig) (page : Page) → IsModest page → AllByRecursion (IsSendable app.packet) (messages_of app.packet page)
+page-sendable : (app : AppConfig) (page : AppPage) → IsModest page → AllByRecursion (IsSendable app.packet) (messages_of app.packet page)
 page-sendable app page modest = (
   page-head_sendable app.packet page app.packet_at_least modest.status modest.cookie modest.body,
   chunks-sendable app.packet (cut (app.packet - 8) page.body) (End true ∷ []) app.packet_at_least app.packet_at_most

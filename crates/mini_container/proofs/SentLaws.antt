@@ -16,11 +16,11 @@ use Rattle.ajp_reply.proofs.StreamLaws.{spelled-behind}
 use Rattle.mini_container.specs.declared.app_config.AppConfig.{AppConfig}
 use Rattle.mini_container.specs.declared.application.Application.{Application}
 use Rattle.mini_container.specs.declared.application.Application.TheVariants.{Forbidden, Who, Echo, Size, Status, Session, DropAtOnce, DropBehindHead, DropBehindChunk, Unknown}
-use Rattle.mini_container.specs.declared.page.Page.{Page}
+use Rattle.mini_container.specs.declared.page.AppPage.{AppPage}
 use Rattle.mini_container.specs.Request.{application_of, content_length, asks_body}
 use Rattle.mini_container.specs.Pages.{who, echo, sized, empty, session, unknown}
 use Rattle.mini_container.specs.Answer.{cut, length_line, cookie_line, head_of, message_of, messages_of, answer_by, answer_of, IsSendable, bytes_of}
-use Rattle.mini_container.specs.Turns.{Awaited, Taken, Turn, Idle, Ping, Request, data_of, has_ended, is_enough, asks_on, AskedFor, ask, next, owed}
+use Rattle.mini_container.specs.Turns.{Awaited, Taken, ContainerTurn, Idle, Ping, Request, data_of, has_ended, is_enough, asks_on, AskedFor, ask, next, owed}
 use Rattle.mini_container.specs.Reply.{IsShortTurn, HasAll}
 use Rattle.mini_container.proofs.FitLaws.{answer-sendable}
 
@@ -36,7 +36,7 @@ lines-alike true body (Some cookie) = refl
 lines-alike false body None = refl
 lines-alike false body (Some cookie) = refl
 
-head-alike : (page : Page) → ReadsAlike (Headers (head_of page))
+head-alike : (page : AppPage) → ReadsAlike (Headers (head_of page))
 head-alike page =
     ap (λ (headers : List (List ℕ × List ℕ)). Headers (record { status = page.status; message = message_of page.status; headers = headers }))
     (lines-alike page.counted page.body page.cookie)
@@ -45,7 +45,7 @@ chunks-alike : (pieces : List (List ℕ)) (later : List Message) → AllByRecurs
 chunks-alike [] later alike = alike
 chunks-alike (piece ∷ pieces) later alike = (refl, chunks-alike pieces later alike)
 
-page-alike : (app : AppConfig) (page : Page) → AllByRecursion ReadsAlike (messages_of app.packet page)
+page-alike : (app : AppConfig) (page : AppPage) → AllByRecursion ReadsAlike (messages_of app.packet page)
 page-alike app page = (head-alike page, chunks-alike (cut (app.packet - 8) page.body) (End true ∷ []) (refl, tt))
 
 answer_by-alike : (app : AppConfig) (forward : Forward) (body : List ℕ) (application : Application) → AllByRecursion ReadsAlike (answer_by app forward body application)
@@ -106,7 +106,7 @@ next-all : (P : Message → Type 0) (b : Bool) (one : Message) (messages : List 
 next-all P true one messages p q = (p, tt)
 next-all P false one messages p q = q
 
-owed-all : (P : Message → Type 0) (app : AppConfig) (turn : Turn) → P (ask app) → P Pong
+owed-all : (P : Message → Type 0) (app : AppConfig) (turn : ContainerTurn) → P (ask app) → P Pong
     → ((forward : Forward) (body : List ℕ) → length body < 2 ^ 64 → AllByRecursion P (answer_of app forward body)) → IsShortTurn turn
     → AllByRecursion P (owed app turn)
 owed-all P app Idle a p q short = tt
@@ -116,7 +116,7 @@ owed-all P app (Request forward (Taken first past)) a p q short =
     All-append P (replicate (length past) (ask app)) (next app forward first past) (All-replicate P (length past) (ask app) a)
     (next-all P (asks_on app forward first past) (ask app) (answer_of app forward (data_of first past)) a (q forward (data_of first past) short))
 
-pub owed-spelled : (app : AppConfig) (turn : Turn) → IsShortTurn turn → Spelled app.packet (reverse (owed app turn)) (bytes_of (owed app turn))
+pub owed-spelled : (app : AppConfig) (turn : ContainerTurn) → IsShortTurn turn → Spelled app.packet (reverse (owed app turn)) (bytes_of (owed app turn))
 owed-spelled app turn short =
     sent-spelled app.packet (owed app turn)
     (owed-all (IsSendable app.packet) app turn (ask-sendable app) (pong-sendable app) (answer-sendable app) short)

@@ -8,7 +8,7 @@ use Rattle.mini_container.specs.declared.ends.Stopped.TheVariants.{Closed, Dropp
 use Rattle.mini_container.specs.Turns.{SpellsPiece}
 use Rattle.jk_io.specs.Moments.{Moment}
 use Rattle.ajp_wire.specs.Packet.{HasCome}
-use Rattle.mini_container.specs.Ends.{Goes, Place, Within, EndsReading, EndsSending, Stops}
+use Rattle.mini_container.specs.Ends.{Goes, TurnPlace, Within, EndsReading, EndsSending, Stops}
 use Rattle.mini_container.specs.Steps.{TookPacket, NotTaken, TookPiece, NotSent}
 
 -- ---- body packets
@@ -22,7 +22,7 @@ piece-refused most m0 m1 payload took none = record {
   why = (payload, took.packet, none);
 }
 
-pub packet-unkept : (most : ℕ) (place : Place) (m0 m1 : Moment) (payload : List ℕ) → TookPacket most m0 m1 payload → NotTaken most place m0 m1 NoMemory
+pub packet-unkept : (most : ℕ) (place : TurnPlace) (m0 m1 : Moment) (payload : List ℕ) → TookPacket most m0 m1 payload → NotTaken most place m0 m1 NoMemory
 packet-unkept most place m0 m1 payload took = record {
   bytes = took.bytes;
   comes = took.goes.came;
@@ -68,7 +68,7 @@ goes-then m0 m1 m2 x y a b p q =
       no_fewer = omega arith;
     }
 
-reading-earlier : (most : ℕ) (place : Place) (m0 m1 m2 : Moment) (bytes : List ℕ) (stop : Stopped) → m0.faults ≤ m1.faults
+reading-earlier : (most : ℕ) (place : TurnPlace) (m0 m1 m2 : Moment) (bytes : List ℕ) (stop : Stopped) → m0.faults ≤ m1.faults
     → EndsReading most place m1 m2 bytes stop → EndsReading most place m0 m2 bytes stop
 reading-earlier most place m0 m1 m2 bytes Closed f why = why
 reading-earlier most place m0 m1 m2 bytes Dropped f why = why
@@ -86,7 +86,7 @@ sending-earlier m0 m1 m2 (Bad bad) f why = why
 sending-earlier m0 m1 m2 NoMemory f why = why
 
 -- what stops behind a step that was done stops behind what that step sent
-pub stops-then : (most : ℕ) (place : Place) (waiting dropped : Bool) (m0 m1 m2 : Moment) (x a b rest : List ℕ) (stop : Stopped) → Goes m0 m1 x a
+pub stops-then : (most : ℕ) (place : TurnPlace) (waiting dropped : Bool) (m0 m1 m2 : Moment) (x a b rest : List ℕ) (stop : Stopped) → Goes m0 m1 x a
     → Stops most place waiting dropped b m1 m2 rest stop → Stops most place waiting dropped (a ++ b) m0 m2 rest stop
 stops-then most place waiting dropped m0 m1 m2 x a b rest stop goes (inl r) = inl (record {
   waits = r.waits;
@@ -106,15 +106,15 @@ stops-then most place waiting dropped m0 m1 m2 x a b rest stop goes (inr (inr d)
 }))
 
 -- a packet that wasn't taken stops the container where it waits for one, and owes nothing
-pub stops-reading : (most : ℕ) (place : Place) (dropped : Bool) (m0 m1 : Moment) (stop : Stopped) (t : NotTaken most place m0 m1 stop)
+pub stops-reading : (most : ℕ) (place : TurnPlace) (dropped : Bool) (m0 m1 : Moment) (stop : Stopped) (t : NotTaken most place m0 m1 stop)
     → Stops most place true dropped [] m0 m1 t.bytes stop
 stops-reading most place dropped m0 m1 stop t = inl (record { waits = refl; sent = t.sent ∙ sym (appended-nil m0.sent); why = t.why })
 
 -- what wasn't sent whole stops it
-pub stops-sending : (most : ℕ) (place : Place) (waiting dropped : Bool) (m0 m1 : Moment) (going : List ℕ) (stop : Stopped)
+pub stops-sending : (most : ℕ) (place : TurnPlace) (waiting dropped : Bool) (m0 m1 : Moment) (going : List ℕ) (stop : Stopped)
     → NotSent going m0 m1 stop → Stops most place waiting dropped going m0 m1 [] stop
 stops-sending most place waiting dropped m0 m1 going stop s = inr (inl (record { none = refl; front = s.front; why = s.why }))
 
 -- so does want of memory for it
-pub stops-wanting : (most : ℕ) (place : Place) (waiting dropped : Bool) (m : Moment) (going : List ℕ) → Stops most place waiting dropped going m m [] NoMemory
+pub stops-wanting : (most : ℕ) (place : TurnPlace) (waiting dropped : Bool) (m : Moment) (going : List ℕ) → Stops most place waiting dropped going m m [] NoMemory
 stops-wanting most place waiting dropped m going = inr (inl (record { none = refl; front = none_put m.sent going; why = tt }))

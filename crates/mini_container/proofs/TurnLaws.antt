@@ -23,10 +23,10 @@ use Rattle.mini_container.specs.declared.serving.TurnKind.TheVariants as kinds
 use Rattle.mini_container.specs.Applications.{drops}
 use Rattle.mini_container.specs.Request.{application_of}
 use Rattle.mini_container.specs.Answer.{answer_of, bytes_of, IsSendable}
-use Rattle.mini_container.specs.Turns.{Taken, Turn, Idle, Ping, Request, Turns, data_of, asks_on, ask, owed_for, owed, requests_in}
+use Rattle.mini_container.specs.Turns.{Taken, ContainerTurn, Idle, Ping, Request, Turns, data_of, asks_on, ask, owed_for, owed, requests_in}
 use Rattle.jk_io.specs.Moments.{Moment}
-use Rattle.mini_container.specs.Ends.{Goes, Place, Between, Within, IsRefused, Stops, StopsWithin, StopsInTurn, IsTalk, end_of}
-use Rattle.mini_container.specs.Steps.{TookPacket, NotTaken, NotSent, TookBody, asks, Served, TookTurn, Reads, is_request, kind_of, requests_of, stop_of}
+use Rattle.mini_container.specs.Ends.{Goes, TurnPlace, Between, Within, IsRefused, Stops, StopsWithin, StopsInTurn, IsTalk, end_of}
+use Rattle.mini_container.specs.Steps.{TookPacket, NotTaken, NotSent, TookBody, asks, ServedWhole, TookTurn, Reads, is_request, kind_of, requests_of, stop_of}
 use Rattle.mini_container.proofs.StepLaws.{packet-unkept, comes-none, comes-then, goes-none, goes-then, stops-then, stops-reading, stops-sending, stops-wanting}
 use Rattle.mini_container.proofs.FitLaws.{answer-sendable}
 use Rattle.mini_container.proofs.BodyLaws.{bytes_of-append, goes-same}
@@ -69,7 +69,7 @@ answer-dropped app forward m0 m1 m2 body t goes gone =
     answer-stops app forward m0 m1 m2 body Dropped t goes.came (inr (inr (record { none = refl; drops = gone; sent = goes.sent; why = refl })))
 
 pub answer-served : (app : AppConfig) (forward : Forward) (m0 m1 m2 : Moment) (body : List ℕ) → TookBody app forward m0 m1 body
-    → Goes m1 m2 [] (bytes_of (answer_of app forward body)) → drops (application_of app forward) ≡ false → Served app forward m0 m2
+    → Goes m1 m2 [] (bytes_of (answer_of app forward body)) → drops (application_of app forward) ≡ false → ServedWhole app forward m0 m2
 answer-served app forward m0 m1 m2 body t goes stays = record {
   body = Taken t.first t.past;
   bytes = t.bytes;
@@ -174,7 +174,7 @@ request-stops app forward m0 m1 m2 payload stop t spelled s = record {
 }
 
 pub request-served : (app : AppConfig) (forward : Forward) (m0 m1 m2 : Moment) (payload : List ℕ) → TookPacket app.packet m0 m1 payload
-    → SpellsForward forward payload → Served app forward m1 m2 → TookTurn app m0 m2 kinds.Request
+    → SpellsForward forward payload → ServedWhole app forward m1 m2 → TookTurn app m0 m2 kinds.Request
 request-served app forward m0 m1 m2 payload t spelled s = record {
   turn = Request forward s.body;
   bytes = t.bytes ++ s.bytes;
@@ -188,7 +188,7 @@ request-served app forward m0 m1 m2 payload t spelled s = record {
 
 -- the turns so far
 pub record TalkSoFar (app : AppConfig) (m0 m1 : Moment) (requests : ℕ) : Type 0 where
-  pub past : List Turn
+  pub past : List ContainerTurn
   pub came : List ℕ
   pub sent : List ℕ
   pub turns : Turns app past came sent
@@ -199,7 +199,7 @@ pub talk-starts : (app : AppConfig) (m : Moment) → TalkSoFar app m m 0
 talk-starts app m = record { past = []; came = []; sent = []; turns = (refl, refl); goes = goes-none m; counted = refl }
 
 -- a turn counts where it is a request
-counts : (turn : Turn) (past : List Turn) (n : ℕ) (kind : TurnKind) → kind ≡ kind_of (is_request turn) → n ≡ requests_in past
+counts : (turn : ContainerTurn) (past : List ContainerTurn) (n : ℕ) (kind : TurnKind) → kind ≡ kind_of (is_request turn) → n ≡ requests_in past
     → n + requests_of kind ≡ requests_in (turn ∷ past)
 counts Idle past n kind k e = ap (λ (t : TurnKind). n + requests_of t) k ∙ omega (arith, e)
 counts Ping past n kind k e = ap (λ (t : TurnKind). n + requests_of t) k ∙ omega (arith, e)
@@ -242,7 +242,7 @@ talk-given_up app m0 m1 n so =
     })
 
 -- where the link failed its count rose
-stop-rose : (most : ℕ) (place : Place) (waiting dropped : Bool) (going : List ℕ) (m0 m1 : Moment) (rest : List ℕ)
+stop-rose : (most : ℕ) (place : TurnPlace) (waiting dropped : Bool) (going : List ℕ) (m0 m1 : Moment) (rest : List ℕ)
     → Stops most place waiting dropped going m0 m1 rest LinkFault → Rose m0.faults m1.faults
 stop-rose most place waiting dropped going m0 m1 rest (inl r) = r.why.0
 stop-rose most place waiting dropped going m0 m1 rest (inr (inl s)) = s.why
@@ -284,6 +284,6 @@ messages-dropped app forward m0 m1 m2 body messages is t goes gone =
 
 pub messages-served : (app : AppConfig) (forward : Forward) (m0 m1 m2 : Moment) (body : List ℕ) (messages : List Message)
     → messages ≡ answer_of app forward body → TookBody app forward m0 m1 body → Goes m1 m2 [] (bytes_of messages)
-    → drops (application_of app forward) ≡ false → Served app forward m0 m2
+    → drops (application_of app forward) ≡ false → ServedWhole app forward m0 m2
 messages-served app forward m0 m1 m2 body messages is t goes stays =
     answer-served app forward m0 m1 m2 body t (subst (λ (ms : List Message). Goes m1 m2 [] (bytes_of ms)) is goes) stays

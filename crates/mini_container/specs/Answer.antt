@@ -9,7 +9,7 @@ use Rattle.ajp_reply.specs.Spelling.{payload_of, Fits, IsMessage}
 use Rattle.mini_container.specs.declared.app_config.AppConfig.{AppConfig}
 use Rattle.mini_container.specs.declared.application.Application.{Application}
 use Rattle.mini_container.specs.declared.application.Application.TheVariants.{Forbidden, Who, Echo, Size, Status, Session, DropAtOnce, DropBehindHead, DropBehindChunk, Unknown}
-use Rattle.mini_container.specs.declared.page.Page.{Page}
+use Rattle.mini_container.specs.declared.page.AppPage.{AppPage}
 use Rattle.mini_container.specs.Request.{application_of}
 use Rattle.mini_container.specs.Pages.{who, echo, sized, empty, session, unknown}
 
@@ -35,7 +35,7 @@ cookie_line None = []
 cookie_line (Some cookie) = (codes "Set-Cookie", cookie) ∷ []
 
 -- The head of a page: Content-Length comes before Set-Cookie.
-abbrev pub head_of : Page → ReplyParts
+abbrev pub head_of : AppPage → ReplyParts
 head_of page = record {
   status = page.status;
   message = message_of page.status;
@@ -43,7 +43,7 @@ head_of page = record {
 }
 
 -- A page whole: its head, its body in chunks that fill a packet, and End Response, after which the link may serve again.
-abbrev pub messages_of : ℕ → Page → List Message
+abbrev pub messages_of : ℕ → AppPage → List Message
 messages_of packet page = Headers (head_of page) ∷ map Chunk (cut (packet - 8) page.body) ++ End true ∷ []
 
 -- the head of a body of 10 bytes that never comes whole

@@ -13,7 +13,7 @@ use Rattle.mini_container.specs.declared.ends.BadPacket.TheVariants.{Magic, TooL
 use Rattle.mini_container.specs.declared.ends.Stopped.{Stopped}
 use Rattle.mini_container.specs.declared.ends.Stopped.TheVariants.{Closed, Dropped, LinkFault, Truncated, Bad, NoMemory}
 use Rattle.mini_container.specs.Answer.{bytes_of}
-use Rattle.mini_container.specs.Turns.{Body, Turn, Idle, Ping, Request, SpellsPiece, CameBody, Came, owed_for, owed, awaits, waits, is_dropped, Turns, requests_in}
+use Rattle.mini_container.specs.Turns.{Body, ContainerTurn, Idle, Ping, Request, SpellsPiece, CameBody, Came, owed_for, owed, awaits, waits, is_dropped, Turns, requests_in}
 
 abbrev pub code_of : BadPacket → ℕ
 code_of Magic = 1
@@ -37,12 +37,12 @@ pub record Goes (before after : Moment) (coming going : List ℕ) : Type 0 where
   pub no_fewer : before.faults ≤ after.faults
 
 -- Whether a body packet is awaited, or a turn.
-pub data Place : Type 0 where
-  Between : Place
-  Within : Place
+pub data TurnPlace : Type 0 where
+  Between : TurnPlace
+  Within : TurnPlace
 
 -- Which payloads can't be taken at a place, by the answer.
-abbrev pub IsRefused : Place → BadPacket → List ℕ → Type 0
+abbrev pub IsRefused : TurnPlace → BadPacket → List ℕ → Type 0
 IsRefused place Magic payload = ⊥
 IsRefused place TooLong payload = ⊥
 IsRefused Between Code payload = (payload ≢ 10 ∷ []) × ((rest : List ℕ) → payload ≢ 2 ∷ rest)
@@ -54,7 +54,7 @@ IsRefused Within BadRequest payload = ⊥
 IsRefused Within Piece payload = (piece : List ℕ) → SpellsPiece piece payload → ⊥
 
 -- What came of a packet that can't be taken: too little to be one, the head of one that is too long, or one whole.
-abbrev pub IsBadBy : ℕ → Place → BadPacket → List ℕ → Type 0
+abbrev pub IsBadBy : ℕ → TurnPlace → BadPacket → List ℕ → Type 0
 IsBadBy most place Magic bytes = IsBad false bytes
 IsBadBy most place TooLong bytes = IsTooLong false most bytes
 IsBadBy most place Code bytes = (payload : List ℕ) × IsPacket false most payload bytes × IsRefused place Code payload
@@ -66,7 +66,7 @@ abbrev pub IsFront : ℕ → List ℕ → Type 0
 IsFront most bytes = IsPart false most bytes ⊎ ((payload : List ℕ) × IsPacket false most payload bytes)
 
 -- Why a packet wasn't taken of which these bytes came.
-abbrev pub EndsReading : ℕ → Place → Moment → Moment → List ℕ → Stopped → Type 0
+abbrev pub EndsReading : ℕ → TurnPlace → Moment → Moment → List ℕ → Stopped → Type 0
 EndsReading most place before after bytes Closed = (bytes ≡ []) × IsEmpty after.incoming
 EndsReading most place before after bytes Dropped = ⊥
 EndsReading most place before after bytes LinkFault = Rose before.faults after.faults × IsPart false most bytes
@@ -84,7 +84,7 @@ EndsSending before after (Bad bad) = ⊥
 EndsSending before after NoMemory = Unit {0}
 
 -- A packet was awaited, with all sent that was owed before it.
-pub record StopsReading (most : ℕ) (place : Place) (waiting : Bool) (going : List ℕ) (before after : Moment) (rest : List ℕ) (stop : Stopped) : Type 0 where
+pub record StopsReading (most : ℕ) (place : TurnPlace) (waiting : Bool) (going : List ℕ) (before after : Moment) (rest : List ℕ) (stop : Stopped) : Type 0 where
   pub waits : IsTrue waiting
   pub sent : after.sent ≡ appended before.sent going
   pub why : EndsReading most place before after rest stop
@@ -103,7 +103,7 @@ pub record StopsDropped (dropped : Bool) (going : List ℕ) (before after : Mome
   pub why : stop ≡ Dropped
 
 -- Where the container owes these bytes, it stops before the next packet is taken, before all is sent, or by `/drop`.
-abbrev pub Stops : ℕ → Place → Bool → Bool → List ℕ → Moment → Moment → List ℕ → Stopped → Type 0
+abbrev pub Stops : ℕ → TurnPlace → Bool → Bool → List ℕ → Moment → Moment → List ℕ → Stopped → Type 0
 Stops most place waiting dropped going before after rest stop =
     StopsReading most place waiting going before after rest stop
     ⊎ (StopsSending going before after rest stop ⊎ StopsDropped dropped going before after rest stop)
@@ -121,14 +121,14 @@ pub record StopsWithin (app : AppConfig) (forward : Forward) (before after : Mom
   pub comes : HasCome before after (front ++ rest)
   pub stops : Stops app.packet Within (awaits app forward body) (drops_at app forward body) (bytes_of (owed_for app forward body)) before after rest stop
 
-abbrev pub place_of : Turn → Place
+abbrev pub place_of : ContainerTurn → TurnPlace
 place_of Idle = Between
 place_of Ping = Between
 place_of (Request forward body) = Within
 
 -- The container stopped within a turn.
 pub record StopsInTurn (app : AppConfig) (before after : Moment) (stop : Stopped) : Type 0 where
-  pub turn : Turn
+  pub turn : ContainerTurn
   pub front : List ℕ
   pub rest : List ℕ
   pub came : Came app turn front
@@ -137,7 +137,7 @@ pub record StopsInTurn (app : AppConfig) (before after : Moment) (stop : Stopped
 
 -- A talk: turns that are over, each with all sent that it is owed, and then a turn within which it stops.
 pub record IsTalk (app : AppConfig) (before after : Moment) (end : ContainerEnd) : Type 0 where
-  pub past : List Turn
+  pub past : List ContainerTurn
   pub came : List ℕ
   pub sent : List ℕ
   pub turns : Turns app past came sent

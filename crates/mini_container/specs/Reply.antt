@@ -5,7 +5,7 @@ use Rattle.ajp_reply.specs.declared.message.Message.{Message}
 use Rattle.ajp_reply.specs.declared.message.Message.TheVariants.{Headers, Chunk, End}
 use Rattle.ajp_reply.specs.declared.message.ReplyParts.{ReplyParts}
 use Rattle.mini_container.specs.Request.{value_named}
-use Rattle.mini_container.specs.Turns.{Turn, Idle, Ping, Request, Awaited, Taken, data_of}
+use Rattle.mini_container.specs.Turns.{ContainerTurn, Idle, Ping, Request, Awaited, Taken, data_of}
 
 -- Each piece has `size` bytes, but for the last, which has one at least and no more.
 abbrev pub AreFull : ℕ → List (List ℕ) → Type 0
@@ -41,7 +41,7 @@ abbrev pub NeverEnds : List Message → Type 0
 NeverEnds messages = AllByRecursion (λ message. (reuse : Bool) → message ≢ End reuse) messages
 
 -- A body is as long as a list in memory can be.
-abbrev pub IsShortTurn : Turn → Type 0
+abbrev pub IsShortTurn : ContainerTurn → Type 0
 IsShortTurn Idle = Unit {0}
 IsShortTurn Ping = Unit {0}
 IsShortTurn (Request forward Awaited) = Unit {0}

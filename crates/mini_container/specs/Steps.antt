@@ -15,9 +15,9 @@ use Rattle.mini_container.specs.declared.serving.TurnKind.{TurnKind}
 use Rattle.mini_container.specs.declared.serving.TurnKind.TheVariants as kinds
 use Rattle.mini_container.specs.Request.{has_first}
 use Rattle.mini_container.specs.Answer.{bytes_of}
-use Rattle.mini_container.specs.Turns.{Body, Turn, Idle, Ping, Request, SpellsPiece, IsPacketOf, CameAnswers, AskedFor, CameFirst, CameTaken, CameBody, Came, data_of, asks_on, ask, owed_for, owed, is_over}
+use Rattle.mini_container.specs.Turns.{Body, ContainerTurn, Idle, Ping, Request, SpellsPiece, IsPacketOf, CameAnswers, AskedFor, CameFirst, CameTaken, CameBody, Came, data_of, asks_on, ask, owed_for, owed, is_over}
 use Rattle.jk_io.specs.Moments.{Moment}
-use Rattle.mini_container.specs.Ends.{Goes, Place, Between, Within, IsRefused, EndsReading, EndsSending, Stops, StopsWithin, StopsInTurn}
+use Rattle.mini_container.specs.Ends.{Goes, TurnPlace, Between, Within, IsRefused, EndsReading, EndsSending, Stops, StopsWithin, StopsInTurn}
 
 -- A packet was taken.
 pub record TookPacket (most : ℕ) (before after : Moment) (payload : List ℕ) : Type 0 where
@@ -26,13 +26,13 @@ pub record TookPacket (most : ℕ) (before after : Moment) (payload : List ℕ) 
   pub goes : Goes before after bytes []
 
 -- None was taken.
-pub record NotTaken (most : ℕ) (place : Place) (before after : Moment) (stop : Stopped) : Type 0 where
+pub record NotTaken (most : ℕ) (place : TurnPlace) (before after : Moment) (stop : Stopped) : Type 0 where
   pub bytes : List ℕ
   pub comes : HasCome before after bytes
   pub sent : after.sent ≡ before.sent
   pub why : EndsReading most place before after bytes stop
 
-abbrev pub TakesPacket : ℕ → Place → Moment → Moment → Result (List ℕ) Stopped → Type 0
+abbrev pub TakesPacket : ℕ → TurnPlace → Moment → Moment → Result (List ℕ) Stopped → Type 0
 TakesPacket most place before after (Ok payload) = TookPacket most before after payload
 TakesPacket most place before after (Err stop) = NotTaken most place before after stop
 
@@ -74,7 +74,7 @@ abbrev pub asks : AppConfig → List (List ℕ) → List Message
 asks app past = replicate (length past) (ask app)
 
 -- Answers to asks came, and each was asked for.
-pub record Asked (app : AppConfig) (forward : Forward) (first : List ℕ) (before after : Moment) (past : List (List ℕ)) : Type 0 where
+pub record AnsweredAsks (app : AppConfig) (forward : Forward) (first : List ℕ) (before after : Moment) (past : List (List ℕ)) : Type 0 where
   pub bytes : List ℕ
   pub came : CameAnswers app.packet past bytes
   pub asked : AskedFor app forward first past
@@ -83,7 +83,7 @@ pub record Asked (app : AppConfig) (forward : Forward) (first : List ℕ) (befor
 -- The rest of the body was asked for, as far as it is.
 pub record TookRest (app : AppConfig) (forward : Forward) (first : List ℕ) (before after : Moment) (body : List ℕ) : Type 0 where
   pub past : List (List ℕ)
-  pub asked : Asked app forward first before after past
+  pub asked : AnsweredAsks app forward first before after past
   pub all : asks_on app forward first past ≡ false
   pub body_is : body ≡ data_of first past
 
@@ -117,7 +117,7 @@ TakesBody app forward before after (Ok body) = TookBody app forward before after
 TakesBody app forward before after (Err stop) = StopsWithin app forward before after stop
 
 -- A request was served whole, behind its Forward Request.
-pub record Served (app : AppConfig) (forward : Forward) (before after : Moment) : Type 0 where
+pub record ServedWhole (app : AppConfig) (forward : Forward) (before after : Moment) : Type 0 where
   pub body : Body
   pub bytes : List ℕ
   pub came : CameBody app forward body bytes
@@ -125,7 +125,7 @@ pub record Served (app : AppConfig) (forward : Forward) (before after : Moment) 
   pub goes : Goes before after bytes (bytes_of (owed_for app forward body))
 
 abbrev pub Serves : {T : Type 0} → AppConfig → Forward → Moment → Moment → Result T Stopped → Type 0
-Serves app forward before after (Ok _) = Served app forward before after
+Serves app forward before after (Ok _) = ServedWhole app forward before after
 Serves app forward before after (Err stop) = StopsWithin app forward before after stop
 
 -- what a payload that begins with 02 reads as
@@ -148,7 +148,7 @@ abbrev pub requests_of : TurnKind → ℕ
 requests_of kinds.Ping = 0
 requests_of kinds.Request = 1
 
-abbrev pub is_request : Turn → Bool
+abbrev pub is_request : ContainerTurn → Bool
 is_request Idle = false
 is_request Ping = false
 is_request (Request forward body) = true
@@ -165,7 +165,7 @@ IsBegun payload None = IsRefused Between Code payload
 
 -- A turn is over: what came, and that all was sent that is owed for it.
 pub record TookTurn (app : AppConfig) (before after : Moment) (kind : TurnKind) : Type 0 where
-  pub turn : Turn
+  pub turn : ContainerTurn
   pub bytes : List ℕ
   pub came : Came app turn bytes
   pub over : IsTrue (is_over app turn)

@@ -18,10 +18,10 @@ pub data Body : Type 0 where
   Taken : (first : List ℕ) (past : List (List ℕ)) → Body
 
 -- A turn. Idle: nothing of it has come.
-pub data Turn : Type 0 where
-  Idle : Turn
-  Ping : Turn
-  Request : Forward → Body → Turn
+pub data ContainerTurn : Type 0 where
+  Idle : ContainerTurn
+  Ping : ContainerTurn
+  Request : Forward → Body → ContainerTurn
 
 -- the data so far, in the order in which they came
 abbrev pub data_of : List ℕ → List (List ℕ) → List ℕ
@@ -89,7 +89,7 @@ CameBody app forward Awaited bytes = IsTrue (has_first forward) × (bytes ≡ []
 CameBody app forward (Taken first past) bytes = CameTaken app forward first past bytes
 
 -- What came of a turn.
-abbrev pub Came : AppConfig → Turn → List ℕ → Type 0
+abbrev pub Came : AppConfig → ContainerTurn → List ℕ → Type 0
 Came app Idle bytes = bytes ≡ []
 Came app Ping bytes = bytes ≡ packet false (10 ∷ [])
 Came app (Request forward body) bytes =
@@ -110,7 +110,7 @@ owed_for app forward Awaited = []
 owed_for app forward (Taken first past) = replicate (length past) (ask app) ++ next app forward first past
 
 -- What the container owes for what came of a turn.
-abbrev pub owed : AppConfig → Turn → List Message
+abbrev pub owed : AppConfig → ContainerTurn → List Message
 owed app Idle = []
 owed app Ping = Pong ∷ []
 owed app (Request forward body) = owed_for app forward body
@@ -121,32 +121,32 @@ awaits app forward Awaited = true
 awaits app forward (Taken first past) = asks_on app forward first past
 
 -- The container waits for a packet.
-abbrev pub waits : AppConfig → Turn → Bool
+abbrev pub waits : AppConfig → ContainerTurn → Bool
 waits app Idle = true
 waits app Ping = false
 waits app (Request forward body) = awaits app forward body
 
 -- The link is closed behind what is owed.
-abbrev pub is_dropped : AppConfig → Turn → Bool
+abbrev pub is_dropped : AppConfig → ContainerTurn → Bool
 is_dropped app Idle = false
 is_dropped app Ping = false
 is_dropped app (Request forward body) = not (awaits app forward body) && drops (application_of app forward)
 
 -- A turn is over with what is owed: a CPing, or a request that isn't one of `/drop`.
-abbrev pub is_over : AppConfig → Turn → Bool
+abbrev pub is_over : AppConfig → ContainerTurn → Bool
 is_over app Idle = false
 is_over app Ping = true
 is_over app (Request forward body) = not (awaits app forward body) && not (drops (application_of app forward))
 
 -- Turns that are over, the newest first: what came, and what was sent for them, one after another.
-abbrev pub Turns : AppConfig → List Turn → List ℕ → List ℕ → Type 0
+abbrev pub Turns : AppConfig → List ContainerTurn → List ℕ → List ℕ → Type 0
 Turns app [] came sent = (came ≡ []) × (sent ≡ [])
 Turns app (turn ∷ past) came sent =
     (came_before : List ℕ) × (last : List ℕ) × (sent_before : List ℕ) × Turns app past came_before sent_before × IsTrue (is_over app turn)
     × Came app turn last × (came ≡ came_before ++ last) × (sent ≡ sent_before ++ bytes_of (owed app turn))
 
 -- how many of the turns are requests
-abbrev pub requests_in : List Turn → ℕ
+abbrev pub requests_in : List ContainerTurn → ℕ
 requests_in [] = 0
 requests_in (Idle ∷ past) = requests_in past
 requests_in (Ping ∷ past) = requests_in past

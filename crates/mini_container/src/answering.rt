@@ -5,7 +5,7 @@ ghost use Rattle.mini_container.specs.Answer.{message_of, head_of, messages_of, 
 use crate::app_config::AppConfig;
 use crate::application::Application;
 use crate::cutting::put_chunks;
-use crate::page::{Page, echo, empty, session, sized, unknown, who};
+use crate::page::{AppPage, echo, empty, session, sized, unknown, who};
 use crate::request::application_of;
 use ajp_reply::{Message, ReplyParts};
 use ajp_request::Forward;
@@ -55,7 +55,7 @@ fn answer(
 }
 
 /// A page whole.
-fn whole(alloc: Global, app: &AppConfig, page: Page) -> Result<MessageList, NoMemory>
+fn whole(alloc: Global, app: &AppConfig, page: AppPage) -> Result<MessageList, NoMemory>
     ensures { IfOk result (λ messages. messages ≡ messages_of app.now.packet page) }
 {
     let mut messages = MessageList::new(alloc);
@@ -67,7 +67,7 @@ fn whole(alloc: Global, app: &AppConfig, page: Page) -> Result<MessageList, NoMe
 }
 
 /// The head of a page.
-fn head(alloc: Global, page: &Page) -> Result<ReplyParts, NoMemory>
+fn head(alloc: Global, page: &AppPage) -> Result<ReplyParts, NoMemory>
     ensures { IfOk result (λ parts. parts ≡ head_of page.now) }
 {
     let mut headers = HeadPairs::new(alloc);

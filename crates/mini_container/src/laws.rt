@@ -4,12 +4,12 @@ ghost use Rattle.std.specs.List.{AllByRecursion};
 ghost use Rattle.ajp_reply.specs.Stream.{Spelled};
 ghost use Rattle.ajp_request.specs.declared.forward.Forward.{Forward};
 ghost use Rattle.mini_container.specs.declared.app_config.AppConfig.{AppConfig};
-ghost use Rattle.mini_container.specs.declared.page.Page.{Page};
+ghost use Rattle.mini_container.specs.declared.page.AppPage.{AppPage};
 ghost use Rattle.mini_container.specs.Applications.{drops};
 ghost use Rattle.mini_container.specs.Request.{application_of, content_length, asks_body};
 ghost use Rattle.mini_container.specs.Answer.{cut, messages_of, answer_of, bytes_of, IsSendable};
 ghost use Rattle.mini_container.specs.Reply.{IsCut, IsReply, IsSomeReply, NeverEnds, IsShortTurn, HasAll};
-ghost use Rattle.mini_container.specs.Turns.{Turn, AskedFor, WasAsked, owed};
+ghost use Rattle.mini_container.specs.Turns.{ContainerTurn, AskedFor, WasAsked, owed};
 
 /// The chunks of a body joined are the body, none is empty, and each but the last is as long as a packet allows.
 pub fn a_body_is_its_chunks()
@@ -19,7 +19,7 @@ pub fn a_body_is_its_chunks()
 /// A page is sent as one head, its body in chunks, and End Response. Its Content-Length is the length of the chunks
 /// together.
 pub fn a_page_is_a_reply()
-    ensures { (packet : ℕ) (page : Page) → 8 < packet
+    ensures { (packet : ℕ) (page : AppPage) → 8 < packet
         → IsReply (packet - 8) page.status page.counted page.body (messages_of packet page) }
 {}
 
@@ -39,7 +39,7 @@ pub fn answers_fit_their_packets()
 
 /// What is sent for a turn spells its messages, the newest first in the list, and nothing else.
 pub fn what_is_sent_is_spelled()
-    ensures { (app : AppConfig) (turn : Turn) → IsShortTurn turn → Spelled app.packet (reverse (owed app turn)) (bytes_of (owed app turn)) }
+    ensures { (app : AppConfig) (turn : ContainerTurn) → IsShortTurn turn → Spelled app.packet (reverse (owed app turn)) (bytes_of (owed app turn)) }
 {}
 
 /// A body is asked for only where it is the answer, and then until the last ask is answered by no data, or there are as

@@ -2,7 +2,7 @@
 ghost use Rattle.std.specs.Prelude.{◌≡◌, ◌≤◌, ℕ, List, IfSome, IfNone};
 ghost use Rattle.mini_container.specs.Turns.{SpellsPiece};
 ghost use Rattle.ajp_wire.specs.Moments.{link_at};
-ghost use Rattle.mini_container.specs.Ends.{Place};
+ghost use Rattle.mini_container.specs.Ends.{TurnPlace};
 ghost use Rattle.mini_container.specs.Steps.{TakesPacket, TakesPiece};
 
 use crate::ends::{BadPacket, Stopped};
@@ -12,7 +12,7 @@ use std::alloc::Global;
 
 /// Takes a packet of at most `most` bytes, and gives its payload.
 pub fn take_packet<L: Link>(alloc: Global, link: &mut L, most: u32) -> Result<Bytes, Stopped>
-    ensures took { (place : Place) → TakesPacket most place (link_at L.Meanings link.old) (link_at L.Meanings link.new) result }
+    ensures took { (place : TurnPlace) → TakesPacket most place (link_at L.Meanings link.old) (link_at L.Meanings link.new) result }
     ensures no_fewer { L.faults link.old ≤ L.faults link.new }
     ensures same { L.beside link.new ≡ L.beside link.old }
 {

@@ -10,7 +10,7 @@ use std::alloc::Global;
 
 /// A reply, before it is cut into messages.
 #[derive(Debug, Drop)]
-pub struct Page {
+pub struct AppPage {
     pub status: u16,
     /// Whether its head has a Content-Length.
     pub counted: bool,
@@ -19,10 +19,10 @@ pub struct Page {
     pub body: Bytes,
 }
 
-fn with_length(status: u16, body: Bytes) -> Page
+fn with_length(status: u16, body: Bytes) -> AppPage
     ensures { result ≡ page_with status body }
 {
-    Page {
+    AppPage {
         status,
         counted: true,
         cookie: None,
@@ -40,17 +40,17 @@ fn line(alloc: Global, text: &[u8]) -> Result<Bytes, NoMemory>
 }
 
 /// The container's route.
-pub fn who(alloc: Global, app: &AppConfig) -> Result<Page, NoMemory>
+pub fn who(alloc: Global, app: &AppConfig) -> Result<AppPage, NoMemory>
     ensures { IfOk result (λ page. page ≡ who_page app.now) }
 {
     Ok(with_length(200, line(alloc, app.route.as_slice())?))
 }
 
 /// The request's own body.
-pub fn echo(forward: &Forward, body: Bytes) -> Page
+pub fn echo(forward: &Forward, body: Bytes) -> AppPage
     ensures { result ≡ echo_page forward.now body }
 {
-    Page {
+    AppPage {
         status: 200,
         counted: content_length(forward).is_some(),
         cookie: None,
@@ -59,7 +59,7 @@ pub fn echo(forward: &Forward, body: Bytes) -> Page
 }
 
 /// So many bytes.
-pub fn sized(alloc: Global, len: u32) -> Result<Page, NoMemory>
+pub fn sized(alloc: Global, len: u32) -> Result<AppPage, NoMemory>
     ensures { IfOk result (λ page. page ≡ sized_page len) }
 {
     let body = Bytes::from_vec(vec![in alloc; b'x'; len as usize]?);
@@ -67,20 +67,20 @@ pub fn sized(alloc: Global, len: u32) -> Result<Page, NoMemory>
 }
 
 /// A status alone.
-pub fn empty(alloc: Global, status: u16) -> Page
+pub fn empty(alloc: Global, status: u16) -> AppPage
     ensures { result ≡ empty_page status }
 {
     with_length(status, Bytes::new(alloc))
 }
 
 /// Whether the client has a session, and one that begins where it has none.
-pub fn session(alloc: Global, app: &AppConfig, forward: &Forward) -> Result<Page, NoMemory>
+pub fn session(alloc: Global, app: &AppConfig, forward: &Forward) -> Result<AppPage, NoMemory>
     ensures { IfOk result (λ page. page ≡ session_page app.now forward.now) }
 {
     if has_session(forward) {
         return Ok(with_length(200, line(alloc, b"old")?));
     }
-    Ok(Page {
+    Ok(AppPage {
         status: 200,
         counted: true,
         cookie: Some(session_cookie(alloc, app)?),
@@ -98,7 +98,7 @@ fn session_cookie(alloc: Global, app: &AppConfig) -> Result<Bytes, NoMemory>
 }
 
 /// The page of a path that no application has.
-pub fn unknown(alloc: Global) -> Result<Page, NoMemory>
+pub fn unknown(alloc: Global) -> Result<AppPage, NoMemory>
     ensures { IfOk result (λ page. page ≡ unknown_page) }
 {
     Ok(with_length(404, line(alloc, b"no application")?))

@@ -19,8 +19,8 @@ mod told;
 mod values;
 
 use anyhow::{Context, Result};
-use block_rows::judging::{Area, judge_rows};
-use block_rows::row::{Row, RowError};
+use block_rows::judging::{BlockArea, judge_rows};
+use block_rows::row::{BlockRow, RowError};
 use std::alloc::Global;
 use std::fs;
 
@@ -28,8 +28,8 @@ use std::fs;
 #[derive(Clone, Copy)]
 struct Commands;
 
-impl Area for Commands {
-    fn holds(&self, alloc: Global, row: Row<'_>) -> Result<bool, RowError> {
+impl BlockArea for Commands {
+    fn holds(&self, alloc: Global, row: BlockRow<'_>) -> Result<bool, RowError> {
         match row.value("kind") {
             None => plain::holds(alloc, row),
             Some(kind) => values::holds(alloc, row, kind),

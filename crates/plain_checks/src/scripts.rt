@@ -1,7 +1,7 @@
 //! Lines of a script, by the calls below `play`.
 use jk_io::{Bytes, ListOf, NoMemory, put_decimal};
 use jk_model::{Activation, LbConfig, MemberConfig, MemberRow, MemberState};
-use play_script::{Begun, NameList, Parts, Step, begin, put_rows, step_of};
+use play_script::{BegunScript, NameList, Parts, Step, begin, put_rows, step_of};
 use std::alloc::Global;
 
 fn names_of(alloc: Global) -> Result<NameList, NoMemory> {
@@ -88,7 +88,7 @@ fn put_config(alloc: Global, out: &mut Bytes, config: &LbConfig) -> Result<(), N
     Ok(())
 }
 
-fn put_draft(alloc: Global, out: &mut Bytes, begun: &Begun<'_>) -> Result<(), NoMemory> {
+fn put_draft(alloc: Global, out: &mut Bytes, begun: &BegunScript<'_>) -> Result<(), NoMemory> {
     if begun.draft.names().len() > 64 {
         return out.extend(b"too many members\n");
     }
@@ -98,7 +98,7 @@ fn put_draft(alloc: Global, out: &mut Bytes, begun: &Begun<'_>) -> Result<(), No
     }
 }
 
-fn put_begun(alloc: Global, out: &mut Bytes, begun: &Begun<'_>) -> Result<(), NoMemory> {
+fn put_begun(alloc: Global, out: &mut Bytes, begun: &BegunScript<'_>) -> Result<(), NoMemory> {
     put_number(out, b"at ", begun.at)?;
     put_number(out, b" line ", begun.number)?;
     out.extend(b" ")?;

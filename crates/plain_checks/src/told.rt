@@ -1,6 +1,6 @@
 //! What a person is told of a command that ended.
 use crate::plain::{files_of, input_of};
-use block_rows::row::{Row, RowError};
+use block_rows::row::{BlockRow, RowError};
 use command_remarks::{CountedInput, Ended, KeptFiles, remarks_on};
 use jk_io::{Bytes, MemFiles, MemLink, NumberList};
 use plain_commands::run_plain;
@@ -34,7 +34,7 @@ fn over_input(
 
 fn over_files(
     alloc: Global,
-    row: Row<'_>,
+    row: BlockRow<'_>,
     words: &[Bytes],
     files: &mut KeptFiles<MemFiles>,
     out: &mut Bytes,
@@ -44,7 +44,7 @@ fn over_files(
 }
 
 /// Adds what is told of the row's command, done over files and input in memory.
-pub fn put_told(alloc: Global, row: Row<'_>, out: &mut Bytes) -> Result<(), RowError> {
+pub fn put_told(alloc: Global, row: BlockRow<'_>, out: &mut Bytes) -> Result<(), RowError> {
     let words = row.words(alloc)?;
     let mut files = KeptFiles::new(alloc, files_of(alloc, row)?);
     over_files(alloc, row, words.as_slice(), &mut files, out)

@@ -11,7 +11,7 @@ use crate::scripts::{tell_begun, tell_load, tell_step};
 use crate::sites::{tell_found, tell_mount, tell_properties};
 use crate::told::put_told;
 use block_rows::comparing::wants;
-use block_rows::row::{Row, RowError};
+use block_rows::row::{BlockRow, RowError};
 use jk_io::{Bytes, NoMemory};
 use std::alloc::Global;
 
@@ -26,14 +26,19 @@ fn tell_of_input(alloc: Global, kind: &str, input: &[u8], out: &mut Bytes) -> Re
     }
 }
 
-fn put_mount(alloc: Global, row: Row<'_>, path: &[u8], out: &mut Bytes) -> Result<(), RowError> {
+fn put_mount(
+    alloc: Global,
+    row: BlockRow<'_>,
+    path: &[u8],
+    out: &mut Bytes,
+) -> Result<(), RowError> {
     let workers = row.file(alloc, "w")?;
     put_mount_in(alloc, row, path, workers.as_slice(), out)
 }
 
 fn put_mount_in(
     alloc: Global,
-    row: Row<'_>,
+    row: BlockRow<'_>,
     path: &[u8],
     workers: &[u8],
     out: &mut Bytes,
@@ -42,14 +47,19 @@ fn put_mount_in(
     Ok(tell_mount(alloc, workers, map.as_slice(), path, out)?)
 }
 
-fn put_found(alloc: Global, row: Row<'_>, name: &[u8], out: &mut Bytes) -> Result<(), RowError> {
+fn put_found(
+    alloc: Global,
+    row: BlockRow<'_>,
+    name: &[u8],
+    out: &mut Bytes,
+) -> Result<(), RowError> {
     let workers = row.file(alloc, "w")?;
     Ok(tell_found(alloc, workers.as_slice(), name, out)?)
 }
 
 fn put_of_input(
     alloc: Global,
-    row: Row<'_>,
+    row: BlockRow<'_>,
     kind: &str,
     input: &[u8],
     out: &mut Bytes,
@@ -62,13 +72,18 @@ fn put_of_input(
     }
 }
 
-fn put_value(alloc: Global, row: Row<'_>, kind: &str, out: &mut Bytes) -> Result<(), RowError> {
+fn put_value(
+    alloc: Global,
+    row: BlockRow<'_>,
+    kind: &str,
+    out: &mut Bytes,
+) -> Result<(), RowError> {
     let input = row.text(alloc, "input", 0)?;
     put_of_input(alloc, row, kind, input.as_slice(), out)
 }
 
 /// Whether what is told is what its row says.
-pub fn holds(alloc: Global, row: Row<'_>, kind: &str) -> Result<bool, RowError> {
+pub fn holds(alloc: Global, row: BlockRow<'_>, kind: &str) -> Result<bool, RowError> {
     let mut out = Bytes::new(alloc);
     put_value(alloc, row, kind, &mut out)?;
     wants(alloc, row, out.as_slice())

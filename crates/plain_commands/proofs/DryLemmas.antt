@@ -3,24 +3,24 @@ use Rattle.std.proofs.Common.{ℕ, List, [], ◌∷◌, Option, None, Some, Resu
 use Rattle.jk_cli.specs.declared.order.Order.TheVariants as order
 use Rattle.plain_commands.specs.Endings.{status_of}
 use Rattle.plain_commands.specs.Plain.{DryOver, Plain, PrintsOf, readings}
-use Rattle.plain_commands.specs.Readings.{AreRead, File, Outside, Reading, StopsLong}
+use Rattle.plain_commands.specs.Readings.{AreRead, File, CommandOutside, Reading, StopsLong}
 use Rattle.plain_commands.specs.declared.play.Output.{Output}
 
 -- what is too long before other readings is too long
-pub stops_early : (outside : Outside) (first second : Reading) (later : List Reading) → StopsLong outside (first ∷ second ∷ [])
+pub stops_early : (outside : CommandOutside) (first second : Reading) (later : List Reading) → StopsLong outside (first ∷ second ∷ [])
     → StopsLong outside (first ∷ second ∷ later)
 stops_early outside first second later (inl long) = inl long
 stops_early outside first second later (inr (text, read, inl long)) = inr (text, read, inl long)
 stops_early outside first second later (inr (text, read, inr (other, also, none))) = absurd none
 
 -- so are the first two texts of `dry`, with a site and without
-pub dry_stops : (outside : Outside) (request reply : List ℕ) (site : Option (List ℕ × List ℕ)) → StopsLong outside (File request ∷ File reply ∷ [])
+pub dry_stops : (outside : CommandOutside) (request reply : List ℕ) (site : Option (List ℕ × List ℕ)) → StopsLong outside (File request ∷ File reply ∷ [])
     → StopsLong outside (readings (order.Dry request reply site))
 dry_stops outside request reply None long = long
 dry_stops outside request reply (Some site) long = stops_early outside (File request) (File reply) (File site.0 ∷ File site.1 ∷ []) long
 
 -- two texts, and what is printed of two more
-pub then_site : (outside : Outside) (request reply workers map q p out : List ℕ) (status : ℕ)
+pub then_site : (outside : CommandOutside) (request reply workers map q p out : List ℕ) (status : ℕ)
     → AreRead outside (File request ∷ File reply ∷ []) (q ∷ p ∷ []) → PrintsOf outside (File workers ∷ File map ∷ []) (DryOver q p) out status
     → Plain outside (order.Dry request reply (Some (workers, map))) out status
 then_site outside request reply workers map q p out status (first, (second, end)) (inl (long, said, is)) =

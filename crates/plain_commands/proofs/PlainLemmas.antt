@@ -6,7 +6,7 @@ use Rattle.jk_cli.specs.declared.order.Order.TheVariants as order
 use Rattle.jk_io.specs.Told.{prepended}
 use Rattle.plain_commands.specs.Endings.{status_of}
 use Rattle.plain_commands.specs.Plain.{MatchesRead, Plain, PrintsOf, Reported, status_if, readings, AreFilesDue, InputIsDue, IsInputDue}
-use Rattle.plain_commands.specs.Readings.{Outside, File, Input, IsRead, has_file}
+use Rattle.plain_commands.specs.Readings.{CommandOutside, File, Input, IsRead, has_file}
 use Rattle.plain_commands.specs.declared.play.Output.{Output}
 
 -- a front that is too long makes the whole too long, where that is told
@@ -30,20 +30,20 @@ config_has_file workers None = refl
 config_has_file workers (Some map) = refl
 
 -- no file comes before the input of `play`
-pub play_due : (outside : Outside) → InputIsDue outside order.Play
+pub play_due : (outside : CommandOutside) → InputIsDue outside order.Play
 play_due outside = (refl, ([], tt))
 
 -- so of `check`
-pub check_due : (outside : Outside) → InputIsDue outside order.Check
+pub check_due : (outside : CommandOutside) → InputIsDue outside order.Check
 check_due outside = (refl, ([], tt))
 
 -- both files of `match` were read whole
-pub match_due : (outside : Outside) (workers map text rules : List ℕ) → IsRead outside (File workers) text → IsRead outside (File map) rules
+pub match_due : (outside : CommandOutside) (workers map text rules : List ℕ) → IsRead outside (File workers) text → IsRead outside (File map) rules
     → InputIsDue outside (order.Match workers map)
 match_due outside workers map text rules first second = (refl, (text ∷ rules ∷ [], (first, (second, tt))))
 
 -- what is due by an order is due by its words
-pub input_by : (words : List (List ℕ)) (o : Order) (outside : Outside) (same : Type 0) → order_of words ≡ Some o
+pub input_by : (words : List (List ℕ)) (o : Order) (outside : CommandOutside) (same : Type 0) → order_of words ≡ Some o
     → same ⊎ InputIsDue outside o → same ⊎ IsInputDue words outside
 input_by words o outside same meant (inl kept) = inl kept
 input_by words o outside same meant (inr due) = inr (o, meant, due)
@@ -54,13 +54,13 @@ files_by words o same meant (inl kept) = inl kept
 files_by words o same meant (inr due) = inr (o, meant, due)
 
 -- both files were read, and then the paths
-pub then_input : (outside : Outside) (w m workers map out : List ℕ) (status : ℕ) → IsRead outside (File w) workers → IsRead outside (File m) map
+pub then_input : (outside : CommandOutside) (w m workers map out : List ℕ) (status : ℕ) → IsRead outside (File w) workers → IsRead outside (File m) map
     → PrintsOf outside (Input ∷ []) (MatchesRead workers map) out status → Plain outside (order.Match w m) out status
 then_input outside w m workers map out status first second (inl (inl long, said, is)) = inl (inr (workers, first, inr (map, second, inl long)), said, is)
 then_input outside w m workers map out status first second (inl (inr (text, read, none), said, is)) = absurd none
 then_input outside w m workers map out status first second (inr (texts, read, of)) = inr (workers ∷ map ∷ texts, (first, (second, read)), of)
 
-pub match_ok : {E : Type 0} (outside : Outside) (w m workers map : List ℕ) → IsRead outside (File w) workers → IsRead outside (File m) map
+pub match_ok : {E : Type 0} (outside : CommandOutside) (w m workers map : List ℕ) → IsRead outside (File w) workers → IsRead outside (File m) map
     → (result : Result Output E) → IfOk result (λ o. (files : Option (List (List ℕ × List ℕ)))
     → PrintsOf (record { files = files; incoming = outside.incoming }) (Input ∷ []) (MatchesRead workers map) o.text (status_of o.ending))
     → IfOk result (λ o. Plain outside (order.Match w m) o.text (status_of o.ending))

@@ -10,11 +10,11 @@ use Rattle.jk_model.proofs.OutFacts.{out_one_more, out-opening}
 use Rattle.balancer_core.specs.Journal.{Journal, IsSound, AddsEntry, past_of, next_number, tickets_out}
 use Rattle.std.proofs.lemmas.Bool.{cases_Bool, MatchBool-at_true, MatchBool-at_false}
 use Rattle.play_script.specs.Play.{is_skipped, AddsCall, SaysLine, Runs}
-use Rattle.play_script.specs.declared.printed.Refusal.{Refusal}
+use Rattle.play_script.specs.declared.printed.ScriptRefusal.{ScriptRefusal}
 use Rattle.play_script.specs.Printed.{refusal_line}
 use Rattle.play_script.specs.Steps.{step_of}
 use Rattle.play_script.proofs.PlayLemmas.{runs_skipped, runs_said, runs_stopped}
-use Rattle.plain_commands.specs.Turns.{IsPlayed, Keeps, Maintains, Asked, Turns, Taken, Refuses, AppendsRun}
+use Rattle.plain_commands.specs.Turns.{IsPlayed, Keeps, Maintains, AnsweredCall, Turns, Taken, Refuses, AppendsRun}
 
 -- no more tickets are out than there are entries
 out_within : (o : Opening) (p : List Entry) → o.out ≡ [] → length (out o p) ≤ length p
@@ -113,7 +113,7 @@ module _ (names : List (List ℕ)) (b0 b : Journal) (n0 a0 number at : ℕ) (ls0
   }
 
   -- the script ends at a refused line
-  pub comes_to_stop : (reason : Refusal) (before after : List ℕ) → Refuses names line b out before reason → after ≡ before ++ refusal_line number reason
+  pub comes_to_stop : (reason : ScriptRefusal) (before after : List ℕ) → Refuses names line b out before reason → after ≡ before ++ refusal_line number reason
       → AppendsRun names b0 n0 a0 ls0 3 out0 after
   comes_to_stop reason before after refuses printed = record {
     text = text ++ refusal_line number reason;
@@ -125,7 +125,7 @@ module _ (names : List (List ℕ)) (b0 b : Journal) (n0 a0 number at : ℕ) (ls0
 
 -- A maintenance was asked for: it was done, or none was due.
 pub maintained_asks : (names : List (List ℕ)) (old new : Journal) (at : ℕ) (out : List ℕ) → IsPlayed old → Maintains at old new
-    → Asked names at Call.Maintain old new out out
+    → AnsweredCall names at Call.Maintain old new out out
 maintained_asks names old new at out played maintains =
     elim maintains [
       | inl done ↦ record {

@@ -2,7 +2,7 @@
 use Rattle.std.specs.Prelude.{◌≡◌, ℕ, true, false, ◌⊎◌, List, Option}
 use Rattle.jk_io.specs.Told.{appended, PutsFront, Rose}
 use Rattle.plain_commands.specs.Plain.{is_plain, Prints, PrintsFront}
-use Rattle.plain_commands.specs.Readings.{Outside}
+use Rattle.plain_commands.specs.Readings.{CommandOutside}
 use Rattle.plain_commands.specs.declared.play.Ending.{Ending}
 use Rattle.plain_commands.specs.declared.play.Ending.TheVariants as ending
 use Rattle.plain_commands.specs.declared.plain.PlainEnd.{PlainEnd}
@@ -44,7 +44,7 @@ abbrev pub ReadFails : (old new : Faults) → Type 0
 ReadFails old new = Rose old.files new.files ⊎ Rose old.input new.input
 
 -- What each end says of a command that is built.
-abbrev pub AnswersSo : (words : List (List ℕ)) → Outside → (sent sent_now : Option (List ℕ)) → (old new : Faults) → PlainEnd → Type 0
+abbrev pub AnswersSo : (words : List (List ℕ)) → CommandOutside → (sent sent_now : Option (List ℕ)) → (old new : Faults) → PlainEnd → Type 0
 AnswersSo words outside sent sent_now old new end.Done = Prints words outside sent sent_now 0
 AnswersSo words outside sent sent_now old new end.Bad = Prints words outside sent sent_now 1
 AnswersSo words outside sent sent_now old new end.NoCommand = ⊥
@@ -54,6 +54,6 @@ AnswersSo words outside sent sent_now old new end.OutputFault = PrintsFront word
 AnswersSo words outside sent sent_now old new end.NoMemory = (sent_now ≡ sent) ⊎ PrintsFront words outside sent sent_now
 
 -- What each end says.
-abbrev pub EndsSo : (words : List (List ℕ)) → Outside → (sent sent_now : Option (List ℕ)) → (old new : Faults) → PlainEnd → Type 0
+abbrev pub EndsSo : (words : List (List ℕ)) → CommandOutside → (sent sent_now : Option (List ℕ)) → (old new : Faults) → PlainEnd → Type 0
 EndsSo words outside sent sent_now old new end.NoCommand = (is_plain words ≡ false) × (sent_now ≡ sent)
 EndsSo words outside sent sent_now old new ended = (is_plain words ≡ true) × AnswersSo words outside sent sent_now old new ended

@@ -10,7 +10,7 @@ use Rattle.play_script.specs.Play.{PlaysScript}
 use Rattle.session_reports.specs.Dry.{ReportsDry, default_map, default_workers}
 use Rattle.site_reports.specs.Reports.{ReportsConfig, ReportsMatches, ReportsSite}
 use Rattle.plain_commands.specs.Checked.{ChecksText}
-use Rattle.plain_commands.specs.Readings.{Outside, Reading, File, Input, AreRead, StopsLong, has_file, has_input, before_input}
+use Rattle.plain_commands.specs.Readings.{CommandOutside, Reading, File, Input, AreRead, StopsLong, has_file, has_input, before_input}
 
 -- The plain commands that are built; of the commands that are, each other one is none yet.
 abbrev pub is_built : CommandName → Bool
@@ -41,12 +41,12 @@ readings order.Check = Input ∷ []
 readings other = []
 
 -- A command has an input, and each of its files is there and not too long, as far as files are told: else nothing is read of it.
-abbrev pub InputIsDue : Outside → Order → Type 0
+abbrev pub InputIsDue : CommandOutside → Order → Type 0
 InputIsDue outside o =
     (has_input (readings o) ≡ true) × ((texts : List (List ℕ)) × AreRead outside (before_input (readings o)) texts)
 
 -- The words are a command whose input is due.
-abbrev pub IsInputDue : (words : List (List ℕ)) → Outside → Type 0
+abbrev pub IsInputDue : (words : List (List ℕ)) → CommandOutside → Type 0
 IsInputDue words outside = (o : Order) × (order_of words ≡ Some o) × InputIsDue outside o
 
 -- The words are a command that reads files.
@@ -85,17 +85,17 @@ Answers other texts out status = ⊥
 
 -- What is printed of texts that are read whole, and its status. All are read before one is judged, and a text that is too
 -- long is none.
-abbrev pub PrintsOf : Outside → List Reading → (List (List ℕ) → List ℕ → ℕ → Type 0) → (out : List ℕ) → (status : ℕ) → Type 0
+abbrev pub PrintsOf : CommandOutside → List Reading → (List (List ℕ) → List ℕ → ℕ → Type 0) → (out : List ℕ) → (status : ℕ) → Type 0
 PrintsOf outside readings Of out status =
     (StopsLong outside readings × (out ≡ codes "too long\n") × (status ≡ 3))
     ⊎ ((texts : List (List ℕ)) × AreRead outside readings texts × Of texts out status)
 
 -- What a command prints, and its status.
-abbrev pub Plain : Outside → Order → (out : List ℕ) → (status : ℕ) → Type 0
+abbrev pub Plain : CommandOutside → Order → (out : List ℕ) → (status : ℕ) → Type 0
 Plain outside o out status = PrintsOf outside (readings o) (Answers o) out status
 
 -- Just what the words' command prints was written.
-pub record Prints (words : List (List ℕ)) (outside : Outside) (sent sent_now : Option (List ℕ)) (status : ℕ) : Type 0 where
+pub record Prints (words : List (List ℕ)) (outside : CommandOutside) (sent sent_now : Option (List ℕ)) (status : ℕ) : Type 0 where
   pub command : Order
   pub meant : order_of words ≡ Some command
   pub text : List ℕ
@@ -103,7 +103,7 @@ pub record Prints (words : List (List ℕ)) (outside : Outside) (sent sent_now :
   pub written : sent_now ≡ appended sent text
 
 -- A front of what the words' command prints was written.
-pub record PrintsFront (words : List (List ℕ)) (outside : Outside) (sent sent_now : Option (List ℕ)) : Type 0 where
+pub record PrintsFront (words : List (List ℕ)) (outside : CommandOutside) (sent sent_now : Option (List ℕ)) : Type 0 where
   pub command : Order
   pub meant : order_of words ≡ Some command
   pub text : List ℕ

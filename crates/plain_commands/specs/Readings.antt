@@ -3,7 +3,7 @@ use Rattle.std.specs.Prelude.{◌≡◌, ℕ, Bool, true, false, ◌<◌, ◌≤
 use Rattle.jk_io.specs.Stored.{content_of}
 
 -- What a command may read: files, each a name and a content, and an input; none is told of the real ones.
-pub record Outside : Type 0 where
+pub record CommandOutside : Type 0 where
   pub files : Option (List (List ℕ × List ℕ))
   pub incoming : Option (List ℕ)
 
@@ -32,27 +32,27 @@ before_input (File name ∷ readings) = File name ∷ before_input readings
 before_input (Input ∷ readings) = []
 
 -- The text is what is there, where that is told.
-abbrev pub IsThere : Outside → Reading → List ℕ → Type 0
+abbrev pub IsThere : CommandOutside → Reading → List ℕ → Type 0
 IsThere outside (File name) text = IfSome outside.files (λ files. content_of files name ≡ Some text)
 IsThere outside Input text = IfSome outside.incoming (λ incoming. text ≡ incoming)
 
 -- The text that is there is read whole.
-abbrev pub IsRead : Outside → Reading → List ℕ → Type 0
+abbrev pub IsRead : CommandOutside → Reading → List ℕ → Type 0
 IsRead outside reading text = IsThere outside reading text × (length text ≤ 67108864)
 
 -- What is there has too many bytes, where that is told.
-abbrev pub IsLong : Outside → Reading → Type 0
+abbrev pub IsLong : CommandOutside → Reading → Type 0
 IsLong outside (File name) = IfSome outside.files (λ files. IsSomeAnd (content_of files name) (λ text. 67108864 < length text))
 IsLong outside Input = IfSome outside.incoming (λ incoming. 67108864 < length incoming)
 
 -- Each is read whole, in this order.
-abbrev pub AreRead : Outside → List Reading → List (List ℕ) → Type 0
+abbrev pub AreRead : CommandOutside → List Reading → List (List ℕ) → Type 0
 AreRead outside [] [] = Unit {0}
 AreRead outside (reading ∷ readings) (text ∷ texts) = IsRead outside reading text × AreRead outside readings texts
 AreRead outside readings texts = ⊥
 
 -- The first that isn't read whole has too many bytes.
-abbrev pub StopsLong : Outside → List Reading → Type 0
+abbrev pub StopsLong : CommandOutside → List Reading → Type 0
 StopsLong outside [] = ⊥
 StopsLong outside (reading ∷ readings) =
     IsLong outside reading ⊎ ((text : List ℕ) × IsRead outside reading text × StopsLong outside readings)

@@ -9,7 +9,7 @@ use Rattle.jk_model.specs.Journal.{maintained_of, members, moment_of}
 use Rattle.jk_model.specs.Present.{ArePresentRows}
 use Rattle.jk_model.specs.declared.view.MemberRow.{MemberRow}
 use Rattle.play_script.specs.Printed.{row_lines}
-use Rattle.play_script.specs.declared.printed.Refusal.{Refusal}
+use Rattle.play_script.specs.declared.printed.ScriptRefusal.{ScriptRefusal}
 use Rattle.play_script.specs.declared.step.Step.{Step}
 use Rattle.play_script.specs.Play.{is_skipped, AddsCall, AsksFor, Says, SaysLine, IsRefusedLine, Runs}
 use Rattle.play_script.specs.Steps.{step_of}
@@ -43,7 +43,7 @@ Maintains at old new =
     ⊎ ((max at (moment_of old.opening (past_of old)) < maintained_of old.opening (past_of old) + old.opening.config.maintain) × (new ≡ old))
 
 -- A call was answered, and printed its part.
-pub record Asked (names : List (List ℕ)) (at : ℕ) (asked : Call) (old new : Journal) (before after : List ℕ) : Type 0 where
+pub record AnsweredCall (names : List (List ℕ)) (at : ℕ) (asked : Call) (old new : Journal) (before after : List ℕ) : Type 0 where
   pub part : List ℕ
   pub asks : AsksFor names old.opening at (past_of old) asked part (past_of new)
   pub put : after ≡ before ++ part
@@ -71,23 +71,23 @@ pub record Taken (names : List (List ℕ)) (at : ℕ) (line : List ℕ) (moment 
   pub keeps : Keeps old new
 
 -- What a stop says where it isn't want of memory.
-abbrev pub Tells : Stop → (Refusal → Type 0) → Type 0
+abbrev pub Tells : Stop → (ScriptRefusal → Type 0) → Type 0
 Tells (stop.Refused reason) Says = Says reason
 Tells stop.NoMemory Says = Unit {0}
 
 -- A line was refused, and printed nothing.
-pub record Refuses (names : List (List ℕ)) (line : List ℕ) (old : Journal) (before after : List ℕ) (reason : Refusal) : Type 0 where
+pub record Refuses (names : List (List ℕ)) (line : List ℕ) (old : Journal) (before after : List ℕ) (reason : ScriptRefusal) : Type 0 where
   pub full : is_skipped line ≡ false
   pub refused : IsRefusedLine old.opening (past_of old) (step_of names line) reason
   pub put : after ≡ before
 
 -- A line of this form was refused, and printed nothing.
-pub record RefusesStep (line : Step) (old : Journal) (before after : List ℕ) (reason : Refusal) : Type 0 where
+pub record RefusesStep (line : Step) (old : Journal) (before after : List ℕ) (reason : ScriptRefusal) : Type 0 where
   pub refused : IsRefusedLine old.opening (past_of old) (Some line) reason
   pub put : after ≡ before
 
 -- A line for each member was printed, as the Book is.
-pub record Shown (b : Journal) (before after : List ℕ) : Type 0 where
+pub record ShownRows (b : Journal) (before after : List ℕ) : Type 0 where
   pub rows : List MemberRow
   pub present : ArePresentRows 2 b.opening (past_of b) (members b.opening) rows
   pub put : after ≡ before ++ row_lines rows

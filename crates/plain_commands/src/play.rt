@@ -10,7 +10,9 @@ ghost use Rattle.plain_commands.specs.Turns.{IsPlayed, AppendsRun};
 use crate::turn::{Stop, take_line};
 use balancer_core::Book;
 use jk_io::{Bytes, NoMemory};
-use play_script::{Begun, DraftError, NameList, Parts, Refusal, begin, put_refusal, step_of};
+use play_script::{
+    BegunScript, DraftError, NameList, Parts, ScriptRefusal, begin, put_refusal, step_of,
+};
 use std::alloc::Global;
 
 /// How a plain command ends that was read and answered.
@@ -31,7 +33,7 @@ pub(crate) struct Output {
 }
 
 // The script ends at this line.
-fn refused(alloc: Global, number: u64, reason: Refusal) -> Result<Output, NoMemory>
+fn refused(alloc: Global, number: u64, reason: ScriptRefusal) -> Result<Output, NoMemory>
     ensures { IfOk result (λ o. Stops number reason o.text (status_of o.ending)) }
 {
     let mut text = Bytes::new(alloc);
@@ -79,7 +81,12 @@ fn run(
 }
 
 // The balancer starts at a line.
-fn start(alloc: Global, begun: &Begun, line: &[u8], lines: &mut Parts) -> Result<Output, NoMemory>
+fn start(
+    alloc: Global,
+    begun: &BegunScript,
+    line: &[u8],
+    lines: &mut Parts,
+) -> Result<Output, NoMemory>
     requires names { length (names_in begun.now.draft) < 2 ^ 32 }
     requires few { begun.now.number + length lines.old < 2 ^ 32 }
     ensures { IfOk result (λ o. Starts (step_of (names_in begun.now.draft) line.now) begun.now.draft (line.now ∷ lines.old)
@@ -87,11 +94,15 @@ fn start(alloc: Global, begun: &Begun, line: &[u8], lines: &mut Parts) -> Result
 {
     let draft = &begun.draft;
     if step_of(draft.names(), line).is_none() {
-        return refused(alloc, begun.number, Refusal::BadLine);
+        return refused(alloc, begun.number, ScriptRefusal::BadLine);
     }
     let config = match draft.config() {
         Ok(config) => config,
-        Err(DraftError::NoBalancer) => return refused(alloc, begun.number, Refusal::BadBalancer),
+        Err(DraftError::NoBalancer) => return refused(
+            alloc,
+            begun.number,
+            ScriptRefusal::BadBalancer,
+        ),
         Err(DraftError::NoMemory) => return Err(NoMemory),
     };
     let mut book = Book::start(alloc, config, begun.at, 0)?;

@@ -3,12 +3,12 @@ ghost use Rattle.std.specs.Prelude.{◌≡◌, ◌+◌, ◌<◌, ◌≤◌, ◌^
 ghost use Rattle.balancer_core.specs.Journal.{past_of};
 ghost use Rattle.play_script.specs.Play.{IsAskRefused, IsCommandRefused};
 ghost use Rattle.play_script.specs.Steps.{HasSmallBytes, IsSmall};
-ghost use Rattle.plain_commands.specs.Turns.{IsPlayed, Adds, Asked, Maintains, Said, Shown, Taken, Tells, Refuses, RefusesStep};
+ghost use Rattle.plain_commands.specs.Turns.{IsPlayed, Adds, AnsweredCall, Maintains, Said, ShownRows, Taken, Tells, Refuses, RefusesStep};
 
 use balancer_core::{Book, Picked};
 use jk_io::{Bytes, NoMemory};
 use jk_model::{AdminError, Ask, Call, Command, Outcome, RoomError};
-use play_script::{NameList, Refusal, Step, is_skipped, put_answer, put_rows, step_of};
+use play_script::{NameList, ScriptRefusal, Step, is_skipped, put_answer, put_rows, step_of};
 
 /// Whose calls a script makes.
 const SESSION: u32 = 0;
@@ -16,7 +16,7 @@ const SESSION: u32 = 0;
 /// Why a script goes no further.
 #[derive(Clone, Copy)]
 pub(crate) enum Stop {
-    Refused(Refusal),
+    Refused(ScriptRefusal),
     NoMemory,
 }
 
@@ -40,7 +40,7 @@ fn select(
 ) -> Result<(), NoMemory>
     requires played { IsPlayed book.old }
     requires few { length book.old.entries < 2 ^ 40 }
-    ensures { OnOk result (Asked names.now at (Call.Select ask.now) book.old book.new out.old out.new) }
+    ensures { OnOk result (AnsweredCall names.now at (Call.Select ask.now) book.old book.new out.old out.new) }
 {
     match book.select(SESSION, at, ask) {
         Ok(Picked { entry, lease }) => {
@@ -54,7 +54,7 @@ fn select(
     }
 }
 
-fn give_back(book: &mut Book, at: u64, ticket: u64, outcome: Outcome) -> Result<(), Refusal>
+fn give_back(book: &mut Book, at: u64, ticket: u64, outcome: Outcome) -> Result<(), ScriptRefusal>
     requires played { IsPlayed book.old }
     requires small { outcome.bytes ≤ 2 ^ 44 }
     ensures ok { OnOk result (Adds at (Call.Return ticket outcome) book.old book.new) }
@@ -63,7 +63,7 @@ fn give_back(book: &mut Book, at: u64, ticket: u64, outcome: Outcome) -> Result<
 {
     match book.return_ticket(SESSION, at, ticket, outcome) {
         Ok(_) => Ok(()),
-        Err(_) => Err(Refusal::NotOpen(ticket)),
+        Err(_) => Err(ScriptRefusal::NotOpen(ticket)),
     }
 }
 
@@ -87,9 +87,9 @@ fn admin(book: &mut Book, at: u64, command: &Command) -> Result<(), Stop>
 {
     match book.admin(SESSION, at, command) {
         Ok(_) => Ok(()),
-        Err(AdminError::UnknownMember) => Err(Stop::Refused(Refusal::Refused(1))),
-        Err(AdminError::BadValue) => Err(Stop::Refused(Refusal::Refused(2))),
-        Err(AdminError::TooWide(_)) => Err(Stop::Refused(Refusal::Refused(3))),
+        Err(AdminError::UnknownMember) => Err(Stop::Refused(ScriptRefusal::Refused(1))),
+        Err(AdminError::BadValue) => Err(Stop::Refused(ScriptRefusal::Refused(2))),
+        Err(AdminError::TooWide(_)) => Err(Stop::Refused(ScriptRefusal::Refused(3))),
         Err(AdminError::Full(_)) => unreachable!(),
         Err(AdminError::NoMemory) => Err(Stop::NoMemory),
     }
@@ -97,7 +97,7 @@ fn admin(book: &mut Book, at: u64, command: &Command) -> Result<(), Stop>
 
 fn show(book: &Book, out: &mut Bytes) -> Result<(), NoMemory>
     requires { IsPlayed book.now }
-    ensures { OnOk result (Shown book.now out.old out.new) }
+    ensures { OnOk result (ShownRows book.now out.old out.new) }
 {
     let view = book.view()?;
     put_rows(out, view.rows.as_slice())
@@ -107,7 +107,7 @@ fn ask(names: &NameList, book: &mut Book, at: u64, call: &Call, out: &mut Bytes)
     requires played { IsPlayed book.old }
     requires few { length book.old.entries < 2 ^ 40 }
     requires small { HasSmallBytes call.now }
-    ensures ok { OnOk result (Asked names.now at call.now book.old book.new out.old out.new) }
+    ensures ok { OnOk result (AnsweredCall names.now at call.now book.old book.new out.old out.new) }
     ensures refused { IfErr result (λ stop. Tells stop (IsAskRefused book.old.opening (past_of book.old) call.now)) }
     ensures err { IfErr result (λ stop. Tells stop (λ _. out.new ≡ out.old)) }
 {
@@ -166,7 +166,7 @@ pub(crate) fn take_line(
         return Ok(at);
     }
     match step_of(names, line) {
-        None => Err(Stop::Refused(Refusal::BadLine)),
+        None => Err(Stop::Refused(ScriptRefusal::BadLine)),
         Some(step) => take_step(names, book, at, &step, out),
     }
 }

@@ -13,7 +13,7 @@ use Rattle.jk_model.specs.declared.change.Redirect.{Redirect}
 use Rattle.play_script.specs.Fields.{given, number_in, redirect_in, redirect_of, kept_without}
 use Rattle.play_script.specs.Values.{◌>>=◌, activation_of, short_number, byte_count, end, value_of, past}
 use Rattle.play_script.specs.Steps.{ask_of, step_from, change_of, change_after}
-use Rattle.play_script.specs.Forms.{Form, at, select, select_old, select_route, back, back_with, maintain, update, reset, recover, show, ChangeTexts, SaysChange, words_of_change, word_of, field, Leads}
+use Rattle.play_script.specs.Forms.{StepForm, at, select, select_old, select_route, back, back_with, maintain, update, reset, recover, show, ChangeTexts, SaysChange, words_of_change, word_of, field, Leads}
 
 back_read : (names : List (List ℕ)) (k : Kind) (text : List ℕ) (t : ℕ) → decimal_of text ≡ Some t
     → step_from names (word_of k ∷ text ∷ []) ≡ Some (step.Ask (call.Return t (record { kind = k; bytes = 0 })))
@@ -132,7 +132,7 @@ update_read names name m t c is_member says =
     ap (λ o. option_map (λ x. step.Ask (call.Admin x)) (o >>= λ j. option_map (command.Update j) (change_of names (words_of_change t)))) is_member
     ∙ ap (λ o. option_map (λ x. step.Ask (call.Admin x)) (option_map (command.Update m) o)) (change_read names t c says)
 
-pub form_read : (names words : List (List ℕ)) (said : Step) → Form names words said → step_from names words ≡ Some said
+pub form_read : (names words : List (List ℕ)) (said : Step) → StepForm names words said → step_from names words ≡ Some said
 form_read names words said (at {text} h) = ap (option_map step.At) h
 form_read names words said select = refl
 form_read names words said select_old = refl

@@ -26,7 +26,7 @@ use Rattle.play_script.specs.Verbs.{verb_of}
 use Rattle.play_script.specs.Fields.{given, activation_in, number_in, redirect_in, redirect_of, kept_without}
 use Rattle.play_script.specs.Values.{◌>>=◌, short_number, byte_count, end, value_of, past}
 use Rattle.play_script.specs.Steps.{ask_of, old_ask, bytes_in, return_of, step_by, step_from, change_of, change_after, update_of}
-use Rattle.play_script.specs.Forms.{Form, at, select, select_old, select_route, back, back_with, maintain, update, reset, recover, show, ChangeTexts, SaysChange, words_of_change, word_of, field, Leads}
+use Rattle.play_script.specs.Forms.{StepForm, at, select, select_old, select_route, back, back_with, maintain, update, reset, recover, show, ChangeTexts, SaysChange, words_of_change, word_of, field, Leads}
 
 bind_some : {X Y : Type 0} (o : Option X) (f : X → Option Y) (y : Y) → (o >>= f) ≡ Some y → (x : X) × (o ≡ Some x) × (f x ≡ Some y)
 bind_some None f y h = absurd cc
@@ -154,7 +154,7 @@ texts_back words last =
     field_back (codes "activation=") words ∙ ap (λ w. field (codes "activation=") (value_of (codes "activation=") words) ++ w) f
 
 change_form : (names : List (List ℕ)) (name : List ℕ) (m : ℕ) (words : List (List ℕ)) (c : Change) → index_of names name ≡ Some m → change_of names words ≡ Some c
-    → Form names (codes "update" ∷ name ∷ words) (step.Ask (call.Admin (command.Update m c)))
+    → StepForm names (codes "update" ∷ name ∷ words) (step.Ask (call.Admin (command.Update m c)))
 unfolding texts_of
 change_form names name m words c is_member h =
     let a = bind_some (activation_in words) _ c h in
@@ -166,83 +166,83 @@ change_form names name m words c is_member h =
       distance = later.distance;
       redirect = later.leads;
     } in
-    subst (λ w. Form names (codes "update" ∷ name ∷ w) (step.Ask (call.Admin (command.Update m c)))) (sym (texts_back words later.last))
+    subst (λ w. StepForm names (codes "update" ∷ name ∷ w) (step.Ask (call.Admin (command.Update m c)))) (sym (texts_back words later.last))
     (update {t = texts_of words} is_member says)
 
 -- Below, the members have these names, and a line says this.
 module _ (names : List (List ℕ)) (said : Step) where
-  old_form : (word : List ℕ) → option_map (λ ask. step.Ask (call.Select ask)) (old_ask names word) ≡ Some said → Form names (codes "select" ∷ word ∷ []) said
+  old_form : (word : List ℕ) → option_map (λ ask. step.Ask (call.Select ask)) (old_ask names word) ≡ Some said → StepForm names (codes "select" ∷ word ∷ []) said
   old_form word h =
       let asked = map_some (λ ask. step.Ask (call.Select ask)) (old_ask names word) said h in
       by_test (bytes_eq word (codes "old")) refl asked.0 asked.1 asked.2
     where
       by_test : (t : Bool) → bytes_eq word (codes "old") ≡ t → (ask : Ask)
           → cond t (Some (ask_of false None)) (option_map (λ m. ask_of false (Some m)) (value_of (codes "route=") (word ∷ []) >>= index_of names)) ≡ Some ask
-          → step.Ask (call.Select ask) ≡ said → Form names (codes "select" ∷ word ∷ []) said
+          → step.Ask (call.Select ask) ≡ said → StepForm names (codes "select" ∷ word ∷ []) said
       by_test true is ask h e =
           let one : ask_of false None ≡ ask = same_some (ask_of false None) ask h in
-          subst (λ w. Form names (codes "select" ∷ w ∷ []) said) (sym ((bytes_eq-Decides word (codes "old")).0 is))
-          (subst (λ s. Form names (codes "select" ∷ codes "old" ∷ []) s) (ap (λ (x : Ask). step.Ask (call.Select x)) one ∙ e) select_old)
+          subst (λ w. StepForm names (codes "select" ∷ w ∷ []) said) (sym ((bytes_eq-Decides word (codes "old")).0 is))
+          (subst (λ s. StepForm names (codes "select" ∷ codes "old" ∷ []) s) (ap (λ (x : Ask). step.Ask (call.Select x)) one ∙ e) select_old)
       by_test false is ask h e =
           let routed = map_some (λ m. ask_of false (Some m)) (value_of (codes "route=") (word ∷ []) >>= index_of names) ask h in
           let named = bind_some (value_of (codes "route=") (word ∷ [])) (index_of names) routed.0 routed.1 in
-          subst (λ w. Form names (codes "select" ∷ w ∷ []) said) (sym (value_word (codes "route=") word named.0 named.1))
-          (subst (λ s. Form names (codes "select" ∷ (codes "route=" ++ named.0) ∷ []) s) (ap (λ (x : Ask). step.Ask (call.Select x)) routed.2 ∙ e)
+          subst (λ w. StepForm names (codes "select" ∷ w ∷ []) said) (sym (value_word (codes "route=") word named.0 named.1))
+          (subst (λ s. StepForm names (codes "select" ∷ (codes "route=" ++ named.0) ∷ []) s) (ap (λ (x : Ask). step.Ask (call.Select x)) routed.2 ∙ e)
           (select_route named.2))
 
-  back_form : (k : Kind) (words : List (List ℕ)) → option_map step.Ask (return_of k words) ≡ Some said → Form names (word_of k ∷ words) said
+  back_form : (k : Kind) (words : List (List ℕ)) → option_map step.Ask (return_of k words) ≡ Some said → StepForm names (word_of k ∷ words) said
   back_form k [] h = absurd cc
   back_form k (text ∷ words) h =
       let asked = map_some step.Ask (return_of k (text ∷ words)) said h in
       let ticket = bind_some (decimal_of text) _ asked.0 asked.1 in
-      subst (λ s. Form names (word_of k ∷ text ∷ words) s) asked.2 (sized words ticket.0 asked.0 ticket.1 ticket.2)
+      subst (λ s. StepForm names (word_of k ∷ text ∷ words) s) asked.2 (sized words ticket.0 asked.0 ticket.1 ticket.2)
     where
       sized : (words : List (List ℕ)) (t : ℕ) (asked : Call) → decimal_of text ≡ Some t
-          → option_map (λ bytes. call.Return t (record { kind = k; bytes = bytes })) (bytes_in words) ≡ Some asked → Form names (word_of k ∷ text ∷ words) (step.Ask asked)
-      sized [] t asked is_t h = subst (λ x. Form names (word_of k ∷ text ∷ []) (step.Ask x)) (same_some _ asked h) (back is_t)
+          → option_map (λ bytes. call.Return t (record { kind = k; bytes = bytes })) (bytes_in words) ≡ Some asked → StepForm names (word_of k ∷ text ∷ words) (step.Ask asked)
+      sized [] t asked is_t h = subst (λ x. StepForm names (word_of k ∷ text ∷ []) (step.Ask x)) (same_some _ asked h) (back is_t)
       sized (size ∷ []) t asked is_t h =
           let n = map_some (λ bytes. call.Return t (record { kind = k; bytes = bytes })) (byte_count size) asked h in
-          subst (λ x. Form names (word_of k ∷ text ∷ size ∷ []) (step.Ask x)) n.2 (back_with is_t n.1)
+          subst (λ x. StepForm names (word_of k ∷ text ∷ size ∷ []) (step.Ask x)) n.2 (back_with is_t n.1)
       sized (size ∷ next ∷ more) t asked is_t h = absurd cc
 
-  by_verb : (v : Verb) (words : List (List ℕ)) → step_by names v words ≡ Some said → Form names (verb_word v ∷ words) said
+  by_verb : (v : Verb) (words : List (List ℕ)) → step_by names v words ≡ Some said → StepForm names (verb_word v ∷ words) said
   by_verb verb.Lb words h = absurd cc
   by_verb verb.Member words h = absurd cc
   by_verb verb.At [] h = absurd cc
   by_verb verb.At (text ∷ []) h =
       let n = map_some step.At (decimal_of text) said h in
-      subst (λ s. Form names (codes "at" ∷ text ∷ []) s) n.2 (at n.1)
+      subst (λ s. StepForm names (codes "at" ∷ text ∷ []) s) n.2 (at n.1)
   by_verb verb.At (text ∷ next ∷ more) h = absurd cc
-  by_verb verb.Select [] h = subst (λ s. Form names (codes "select" ∷ []) s) (same_some _ said h) select
+  by_verb verb.Select [] h = subst (λ s. StepForm names (codes "select" ∷ []) s) (same_some _ said h) select
   by_verb verb.Select (word ∷ []) h = old_form word h
   by_verb verb.Select (word ∷ next ∷ more) h = absurd cc
   by_verb verb.Done words h = back_form kind.Done words h
   by_verb verb.Failed words h = back_form kind.Failed words h
   by_verb verb.Gone words h = back_form kind.Gone words h
-  by_verb verb.Maintain [] h = subst (λ s. Form names (codes "maintain" ∷ []) s) (same_some _ said h) maintain
+  by_verb verb.Maintain [] h = subst (λ s. StepForm names (codes "maintain" ∷ []) s) (same_some _ said h) maintain
   by_verb verb.Maintain (word ∷ words) h = absurd cc
   by_verb verb.Update [] h = absurd cc
   by_verb verb.Update (name ∷ words) h =
       let asked = map_some (λ c. step.Ask (call.Admin c)) (update_of names (name ∷ words)) said h in
       let member = bind_some (index_of names name) _ asked.0 asked.1 in
       let change = map_some (command.Update member.0) (change_of names words) asked.0 member.2 in
-      subst (λ s. Form names (codes "update" ∷ name ∷ words) s) (ap (λ c. step.Ask (call.Admin c)) change.2 ∙ asked.2)
+      subst (λ s. StepForm names (codes "update" ∷ name ∷ words) s) (ap (λ c. step.Ask (call.Admin c)) change.2 ∙ asked.2)
       (change_form names name member.0 words change.0 member.1 change.1)
   by_verb verb.Reset [] h = absurd cc
   by_verb verb.Reset (name ∷ []) h =
       let m = map_some (λ m. step.Ask (call.Admin (command.Reset m))) (index_of names name) said h in
-      subst (λ s. Form names (codes "reset" ∷ name ∷ []) s) m.2 (reset m.1)
+      subst (λ s. StepForm names (codes "reset" ∷ name ∷ []) s) m.2 (reset m.1)
   by_verb verb.Reset (name ∷ next ∷ more) h = absurd cc
   by_verb verb.Recover [] h = absurd cc
   by_verb verb.Recover (name ∷ []) h =
       let m = map_some (λ m. step.Ask (call.Admin (command.Recover m))) (index_of names name) said h in
-      subst (λ s. Form names (codes "recover" ∷ name ∷ []) s) m.2 (recover m.1)
+      subst (λ s. StepForm names (codes "recover" ∷ name ∷ []) s) m.2 (recover m.1)
   by_verb verb.Recover (name ∷ next ∷ more) h = absurd cc
-  by_verb verb.Show [] h = subst (λ s. Form names (codes "show" ∷ []) s) (same_some _ said h) show
+  by_verb verb.Show [] h = subst (λ s. StepForm names (codes "show" ∷ []) s) (same_some _ said h) show
   by_verb verb.Show (word ∷ words) h = absurd cc
 
-pub form_only : (names words : List (List ℕ)) (said : Step) → step_from names words ≡ Some said → Form names words said
+pub form_only : (names words : List (List ℕ)) (said : Step) → step_from names words ≡ Some said → StepForm names words said
 form_only names [] said h = absurd cc
 form_only names (word ∷ words) said h =
     let v = bind_some (verb_of word) _ said h in
-    subst (λ w. Form names (w ∷ words) said) (sym (verb_is word v.0 v.1)) (by_verb names said v.0 words v.2)
+    subst (λ w. StepForm names (w ∷ words) said) (sym (verb_is word v.0 v.1)) (by_verb names said v.0 words v.2)

@@ -4,8 +4,8 @@ use Rattle.std.specs.Bool.{MatchBool}
 use Rattle.std.specs.Option.{MatchOption}
 use Rattle.jk_model.specs.declared.journal.Entry.{Entry}
 use Rattle.jk_model.specs.declared.opening.Opening.{Opening}
-use Rattle.play_script.specs.declared.printed.Refusal.{Refusal}
-use Rattle.play_script.specs.Heads.{Head, head_of}
+use Rattle.play_script.specs.declared.printed.ScriptRefusal.{ScriptRefusal}
+use Rattle.play_script.specs.Heads.{HeadWords, head_of}
 use Rattle.play_script.specs.Steps.{step_of}
 use Rattle.play_script.specs.Drafts.{DraftWords, names_in, draft_after, moment_after}
 use Rattle.play_script.specs.Play.{is_skipped, Stops, IsRefusedLine, SaysLine, Takes, Runs, Starts, Plays}
@@ -22,17 +22,17 @@ module _ (line : List ℕ) (lines : List (List ℕ)) (draft : DraftWords) (numbe
   plays_skipped skipped rest = at_true _ _ skipped rest
 
   -- a line of the balancer changes the draft, or the moment
-  pub plays_said : (said : Head) → is_skipped line ≡ false → head_of (names_in draft) line ≡ Some said
+  pub plays_said : (said : HeadWords) → is_skipped line ≡ false → head_of (names_in draft) line ≡ Some said
       → Plays lines (draft_after said draft) (number + 1) (moment_after said at) out status → Plays (line ∷ lines) draft number at out status
   plays_said said full is_said rest = at_false _ _ full
-      (subst (λ (o : Option Head). MatchOption o (Starts (step_of (names_in draft) line) draft (line ∷ lines) number at out status)
+      (subst (λ (o : Option HeadWords). MatchOption o (Starts (step_of (names_in draft) line) draft (line ∷ lines) number at out status)
       (λ h. Plays lines (draft_after h draft) (number + 1) (moment_after h at) out status)) (sym is_said) rest)
 
   -- at any other line the balancer starts
   pub plays_started : is_skipped line ≡ false → head_of (names_in draft) line ≡ None
       → Starts (step_of (names_in draft) line) draft (line ∷ lines) number at out status → Plays (line ∷ lines) draft number at out status
   plays_started full is_other starts = at_false _ _ full
-      (subst (λ (o : Option Head). MatchOption o (Starts (step_of (names_in draft) line) draft (line ∷ lines) number at out status)
+      (subst (λ (o : Option HeadWords). MatchOption o (Starts (step_of (names_in draft) line) draft (line ∷ lines) number at out status)
       (λ h. Plays lines (draft_after h draft) (number + 1) (moment_after h at) out status)) (sym is_other) starts)
 
 module _ (names : List (List ℕ)) (o : Opening) (line : List ℕ) (lines : List (List ℕ)) (number at : ℕ) (p : List Entry) where
@@ -49,7 +49,7 @@ module _ (names : List (List ℕ)) (o : Opening) (line : List ℕ) (lines : List
       at_false _ _ full (inr (printed, behind, moment, q, says, refl, rest))
 
   -- a refused line ends the script
-  pub runs_stopped : (reason : Refusal) (out : List ℕ) (status : ℕ) → is_skipped line ≡ false
+  pub runs_stopped : (reason : ScriptRefusal) (out : List ℕ) (status : ℕ) → is_skipped line ≡ false
       → IsRefusedLine o p (step_of names line) reason → Stops number reason out status
       → Runs names o (line ∷ lines) number at p out status
   runs_stopped reason out status full refused stops = at_false _ _ full (inl (reason, refused, stops))

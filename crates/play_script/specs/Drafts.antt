@@ -9,33 +9,33 @@ use Rattle.jk_model.specs.declared.member.Method.TheVariants as method
 use Rattle.jk_model.specs.declared.state.MemberState.TheVariants as state
 use Rattle.jk_model.specs.declared.view.MemberRow.{MemberRow}
 use Rattle.jk_model.specs.declared.opening.Opening.{Opening}
-use Rattle.play_script.specs.declared.head.Rules.{Rules}
+use Rattle.play_script.specs.declared.head.BalancerLine.{BalancerLine}
 use Rattle.play_script.specs.Names.{index_of}
-use Rattle.play_script.specs.Heads.{MemberWords, Head, At, Rule, Member}
+use Rattle.play_script.specs.Heads.{MemberWords, HeadWords, At, Rule, Member}
 
 pub record DraftWords : Type 0 where
-  pub rules : Rules
+  pub rules : BalancerLine
   pub members : List MemberWords
 
 -- `lb R 1 0 60 60`
-abbrev pub default_rules : Rules
+abbrev pub default_rules : BalancerLine
 default_rules = record { method = method.Request; sticky = true; force = false; maintain = 60; recover = 60 }
 
 abbrev pub empty_draft : DraftWords
 empty_draft = record { rules = default_rules; members = [] }
 
-abbrev pub with_rules : Rules → DraftWords → DraftWords
+abbrev pub with_rules : BalancerLine → DraftWords → DraftWords
 with_rules rules draft = record { rules = rules; members = draft.members }
 
 abbrev pub with_member : MemberWords → DraftWords → DraftWords
 with_member member draft = record { rules = draft.rules; members = draft.members ++ member ∷ [] }
 
-abbrev pub draft_after : Head → DraftWords → DraftWords
+abbrev pub draft_after : HeadWords → DraftWords → DraftWords
 draft_after (At moment) draft = draft
 draft_after (Rule rules) draft = with_rules rules draft
 draft_after (Member member) draft = with_member member draft
 
-abbrev pub moment_after : Head → ℕ → ℕ
+abbrev pub moment_after : HeadWords → ℕ → ℕ
 moment_after (At moment) at = moment
 moment_after (Rule rules) at = at
 moment_after (Member member) at = at

@@ -52,21 +52,21 @@ pub record SaysChange (names : List (List ℕ)) (t : ChangeTexts) (c : Change) :
   pub redirect : Leads names t.redirect c.redirect
 
 -- Below, the members have these names. A line's words say a step.
-pub data Form (names : List (List ℕ)) : List (List ℕ) → Step → Type 0 where
-  at : {text : List ℕ} {n : ℕ} → decimal_of text ≡ Some n → Form names (codes "at" ∷ text ∷ []) (step.At n)
-  select : Form names (codes "select" ∷ []) (step.Ask (call.Select (ask_of true None)))
-  select_old : Form names (codes "select" ∷ codes "old" ∷ []) (step.Ask (call.Select (ask_of false None)))
+pub data StepForm (names : List (List ℕ)) : List (List ℕ) → Step → Type 0 where
+  at : {text : List ℕ} {n : ℕ} → decimal_of text ≡ Some n → StepForm names (codes "at" ∷ text ∷ []) (step.At n)
+  select : StepForm names (codes "select" ∷ []) (step.Ask (call.Select (ask_of true None)))
+  select_old : StepForm names (codes "select" ∷ codes "old" ∷ []) (step.Ask (call.Select (ask_of false None)))
   select_route : {name : List ℕ} {m : ℕ} → index_of names name ≡ Some m
-      → Form names (codes "select" ∷ (codes "route=" ++ name) ∷ []) (step.Ask (call.Select (ask_of false (Some m))))
+      → StepForm names (codes "select" ∷ (codes "route=" ++ name) ∷ []) (step.Ask (call.Select (ask_of false (Some m))))
   back : {k : Kind} {text : List ℕ} {t : ℕ} → decimal_of text ≡ Some t
-      → Form names (word_of k ∷ text ∷ []) (step.Ask (call.Return t (record { kind = k; bytes = 0 })))
+      → StepForm names (word_of k ∷ text ∷ []) (step.Ask (call.Return t (record { kind = k; bytes = 0 })))
   back_with : {k : Kind} {text size : List ℕ} {t n : ℕ} → decimal_of text ≡ Some t → byte_count size ≡ Some n
-      → Form names (word_of k ∷ text ∷ size ∷ []) (step.Ask (call.Return t (record { kind = k; bytes = n })))
-  maintain : Form names (codes "maintain" ∷ []) (step.Ask call.Maintain)
+      → StepForm names (word_of k ∷ text ∷ size ∷ []) (step.Ask (call.Return t (record { kind = k; bytes = n })))
+  maintain : StepForm names (codes "maintain" ∷ []) (step.Ask call.Maintain)
   update : {name : List ℕ} {m : ℕ} {t : ChangeTexts} {c : Change} → index_of names name ≡ Some m → SaysChange names t c
-      → Form names (codes "update" ∷ name ∷ words_of_change t) (step.Ask (call.Admin (command.Update m c)))
+      → StepForm names (codes "update" ∷ name ∷ words_of_change t) (step.Ask (call.Admin (command.Update m c)))
   reset : {name : List ℕ} {m : ℕ} → index_of names name ≡ Some m
-      → Form names (codes "reset" ∷ name ∷ []) (step.Ask (call.Admin (command.Reset m)))
+      → StepForm names (codes "reset" ∷ name ∷ []) (step.Ask (call.Admin (command.Reset m)))
   recover : {name : List ℕ} {m : ℕ} → index_of names name ≡ Some m
-      → Form names (codes "recover" ∷ name ∷ []) (step.Ask (call.Admin (command.Recover m)))
-  show : Form names (codes "show" ∷ []) step.Show
+      → StepForm names (codes "recover" ∷ name ∷ []) (step.Ask (call.Admin (command.Recover m)))
+  show : StepForm names (codes "show" ∷ []) step.Show

@@ -6,7 +6,7 @@ use Rattle.jk_model.specs.declared.member.Activation.TheVariants as state
 use Rattle.jk_model.specs.declared.member.Method.{Method}
 use Rattle.play_script.specs.declared.verb.Verb.{Verb}
 use Rattle.play_script.specs.declared.verb.Verb.TheVariants as verb
-use Rattle.play_script.specs.declared.head.Rules.{Rules}
+use Rattle.play_script.specs.declared.head.BalancerLine.{BalancerLine}
 use Rattle.play_script.specs.Parts.{parts_of}
 use Rattle.play_script.specs.Names.{index_of}
 use Rattle.play_script.specs.Verbs.{verb_of}
@@ -23,12 +23,12 @@ pub record MemberWords : Type 0 where
   pub pool : ℕ
 
 -- a line that makes a part of the balancer, or moves the clock before it starts
-pub data Head : Type 0 where
-  At : ℕ → Head
-  Rule : Rules → Head
-  Member : MemberWords → Head
+pub data HeadWords : Type 0 where
+  At : ℕ → HeadWords
+  Rule : BalancerLine → HeadWords
+  Member : MemberWords → HeadWords
 
-abbrev pub rules_of : List (List ℕ) → Option Rules
+abbrev pub rules_of : List (List ℕ) → Option BalancerLine
 rules_of (m ∷ sticky ∷ force ∷ maintain ∷ recover ∷ []) =
     method_of m >>= λ method.
     flag_of sticky >>= λ is_sticky.
@@ -69,7 +69,7 @@ member_of names (name ∷ factor ∷ words) =
     new_name names name >>= λ own. short_number factor >>= λ weight. member_with own weight words
 member_of names words = None
 
-abbrev pub head_by : List (List ℕ) → Verb → List (List ℕ) → Option Head
+abbrev pub head_by : List (List ℕ) → Verb → List (List ℕ) → Option HeadWords
 head_by names verb.Lb words = option_map Rule (rules_of words)
 head_by names verb.Member words = option_map Member (member_of names words)
 head_by names verb.At words = option_map At (only words >>= decimal_of)
@@ -83,10 +83,10 @@ head_by names verb.Reset words = None
 head_by names verb.Recover words = None
 head_by names verb.Show words = None
 
-abbrev pub head_from : List (List ℕ) → List (List ℕ) → Option Head
+abbrev pub head_from : List (List ℕ) → List (List ℕ) → Option HeadWords
 head_from names [] = None
 head_from names (word ∷ words) = verb_of word >>= λ v. head_by names v words
 
 -- what a line says before the balancer starts, where the members so far have these names; None: another line
-abbrev pub head_of : List (List ℕ) → List ℕ → Option Head
+abbrev pub head_of : List (List ℕ) → List ℕ → Option HeadWords
 head_of names line = head_from names (parts_of 32 line)

@@ -14,8 +14,8 @@ use Rattle.jk_model.specs.declared.journal.Call.TheVariants as call
 use Rattle.jk_model.specs.declared.journal.Entry.{Entry}
 use Rattle.jk_model.specs.declared.opening.Opening.{Opening}
 use Rattle.jk_model.specs.declared.view.MemberRow.{MemberRow}
-use Rattle.play_script.specs.declared.printed.Refusal.{Refusal}
-use Rattle.play_script.specs.declared.printed.Refusal.TheVariants as refusal
+use Rattle.play_script.specs.declared.printed.ScriptRefusal.{ScriptRefusal}
+use Rattle.play_script.specs.declared.printed.ScriptRefusal.TheVariants as refusal
 use Rattle.play_script.specs.declared.step.Step.{Step}
 use Rattle.play_script.specs.declared.step.Step.TheVariants as step
 use Rattle.play_script.specs.Parts.{parts_of}
@@ -30,7 +30,7 @@ is_skipped [] = true
 is_skipped (byte ∷ text) = byte == 35
 
 -- The script is refused at a line: its refusal is printed, and nothing behind it is looked at.
-pub record Stops (number : ℕ) (reason : Refusal) (out : List ℕ) (status : ℕ) : Type 0 where
+pub record Stops (number : ℕ) (reason : ScriptRefusal) (out : List ℕ) (status : ℕ) : Type 0 where
   pub printed : out ≡ refusal_line number reason
   pub ended : status ≡ 3
 
@@ -58,7 +58,7 @@ abbrev pub IsKnown : Opening → Command → Type 0
 IsKnown o c = (subject_of c < members o) × TargetExists (members o) c
 
 -- A command that is refused, with the number of the first reason.
-abbrev pub IsCommandRefused : Opening → List Entry → Command → Refusal → Type 0
+abbrev pub IsCommandRefused : Opening → List Entry → Command → ScriptRefusal → Type 0
 IsCommandRefused o p c refusal.BadLine = ⊥
 IsCommandRefused o p c (refusal.NotOpen ticket) = ⊥
 IsCommandRefused o p c (refusal.Refused code) =
@@ -68,7 +68,7 @@ IsCommandRefused o p c (refusal.Refused code) =
 IsCommandRefused o p c refusal.BadBalancer = ⊥
 
 -- A call that is refused.
-abbrev pub IsAskRefused : Opening → List Entry → Call → Refusal → Type 0
+abbrev pub IsAskRefused : Opening → List Entry → Call → ScriptRefusal → Type 0
 IsAskRefused o p (call.Select ask) reason = ⊥
 IsAskRefused o p (call.Return ticket outcome) reason = (is_out o p ticket ≡ false) × (reason ≡ refusal.NotOpen ticket)
 IsAskRefused o p call.Maintain reason = ⊥
@@ -82,7 +82,7 @@ Says names o at p step.Show printed moment q =
     (rows : List MemberRow) × ArePresentRows 2 o p (members o) rows × (printed ≡ row_lines rows) × (moment ≡ at) × (q ≡ p)
 
 -- A line that is of no form, or whose call is refused.
-abbrev pub IsRefusedLine : Opening → List Entry → Option Step → Refusal → Type 0
+abbrev pub IsRefusedLine : Opening → List Entry → Option Step → ScriptRefusal → Type 0
 IsRefusedLine o p None reason = reason ≡ refusal.BadLine
 IsRefusedLine o p (Some (step.At said)) reason = ⊥
 IsRefusedLine o p (Some (step.Ask asked)) reason = IsAskRefused o p asked reason
@@ -96,7 +96,7 @@ SaysLine names o at p (Some said) printed moment q = Says names o at p said prin
 -- A line prints its part and the lines behind it theirs (Rest), or it ends the script.
 abbrev pub Takes : List (List ℕ) → Opening → (number at : ℕ) → List Entry → Option Step → (Rest : ℕ → List Entry → List ℕ → ℕ → Type 0) → List ℕ → ℕ → Type 0
 Takes names o number at p said Rest out status =
-    ((reason : Refusal) × IsRefusedLine o p said reason × Stops number reason out status)
+    ((reason : ScriptRefusal) × IsRefusedLine o p said reason × Stops number reason out status)
     ⊎ ((printed : List ℕ) × (behind : List ℕ) × (moment : ℕ) × (q : List Entry)
     × SaysLine names o at p said printed moment q × (out ≡ printed ++ behind) × Rest moment q behind status)
 

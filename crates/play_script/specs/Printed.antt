@@ -8,8 +8,8 @@ use Rattle.jk_model.specs.declared.journal.How.{How}
 use Rattle.jk_model.specs.declared.journal.How.TheVariants as how
 use Rattle.jk_model.specs.declared.journal.Answer.{Answer}
 use Rattle.jk_model.specs.declared.journal.Answer.TheVariants as answer
-use Rattle.play_script.specs.declared.printed.Refusal.{Refusal}
-use Rattle.play_script.specs.declared.printed.Refusal.TheVariants as refusal
+use Rattle.play_script.specs.declared.printed.ScriptRefusal.{ScriptRefusal}
+use Rattle.play_script.specs.declared.printed.ScriptRefusal.TheVariants as refusal
 
 abbrev pub name_at : List (List ℕ) → ℕ → List ℕ
 name_at names member = slice_index_or names member []
@@ -45,12 +45,12 @@ row_line row =
 abbrev pub row_lines : List MemberRow → List ℕ
 row_lines rows = flat_map row_line rows
 
-abbrev pub refusal_words : Refusal → List ℕ
+abbrev pub refusal_words : ScriptRefusal → List ℕ
 refusal_words refusal.BadLine = codes "bad line\n"
 refusal_words (refusal.NotOpen ticket) = codes "ticket " ++ decimal ticket ++ codes " is not open\n"
 refusal_words (refusal.Refused code) = codes "refused " ++ decimal code ++ codes "\n"
 refusal_words refusal.BadBalancer = codes "bad balancer\n"
 
 -- the last line of a script that is refused at this line, counted from 1
-abbrev pub refusal_line : ℕ → Refusal → List ℕ
+abbrev pub refusal_line : ℕ → ScriptRefusal → List ℕ
 refusal_line number r = codes "line " ++ decimal number ++ codes ": " ++ refusal_words r

@@ -2,9 +2,9 @@
 use Rattle.std.specs.Prelude.{ℕ, List}
 use Rattle.std.specs.Option.{option_copied}
 use Rattle.play_script.specs.declared.head.MemberLine.{MemberLine}
-use Rattle.play_script.specs.declared.head.Head as source
-use Rattle.play_script.specs.declared.head.Head.TheVariants as given
-use Rattle.play_script.specs.Heads.{MemberWords, Head, At, Rule, Member}
+use Rattle.play_script.specs.declared.head.ScriptHead as source
+use Rattle.play_script.specs.declared.head.ScriptHead.TheVariants as given
+use Rattle.play_script.specs.Heads.{MemberWords, HeadWords, At, Rule, Member}
 
 abbrev pub words_of_member : MemberLine → MemberWords
 words_of_member m = record {
@@ -16,7 +16,7 @@ words_of_member m = record {
   pool = m.pool;
 }
 
-abbrev pub words_of_head : source.Head → Head
+abbrev pub words_of_head : source.ScriptHead → HeadWords
 words_of_head (given.At n) = At n
 words_of_head (given.Rule r) = Rule r
 words_of_head (given.Member m) = Member (words_of_member m)

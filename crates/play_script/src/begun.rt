@@ -5,14 +5,14 @@ ghost use Rattle.play_script.specs.Play.{is_skipped, LeadsTo};
 ghost use Rattle.play_script.specs.Words.{words_of_head};
 
 use crate::draft::Draft;
-use crate::head::{Head, head_of};
+use crate::head::{ScriptHead, head_of};
 use crate::parts::Parts;
 use jk_io::NoMemory;
 use std::alloc::Global;
 
 /// A script up to the line at which its balancer starts.
 #[derive(Drop)]
-pub struct Begun<'a> {
+pub struct BegunScript<'a> {
     pub draft: Draft<'a>,
     /// The moment, in seconds.
     pub at: u64,
@@ -32,17 +32,17 @@ pub fn is_skipped(line: &[u8]) -> bool
     }
 }
 
-fn take_head<'a>(draft: &mut Draft<'a>, head: Head<'a>, at: u64) -> Result<u64, NoMemory>
+fn take_head<'a>(draft: &mut Draft<'a>, head: ScriptHead<'a>, at: u64) -> Result<u64, NoMemory>
     ensures moment { IfOk result (λ moment. moment ≡ moment_after (words_of_head head.entry) at) }
     ensures draft { IfOk result (λ _. draft.new ≡ draft_after (words_of_head head.entry) draft.old) }
 {
     match head {
-        Head::At(moment) => Ok(moment),
-        Head::Rule(rules) => {
+        ScriptHead::At(moment) => Ok(moment),
+        ScriptHead::Rule(rules) => {
             draft.set_rules(rules);
             Ok(at)
         }
-        Head::Member(member) => {
+        ScriptHead::Member(member) => {
             draft.add(member)?;
             Ok(at)
         }
@@ -50,7 +50,7 @@ fn take_head<'a>(draft: &mut Draft<'a>, head: Head<'a>, at: u64) -> Result<u64, 
 }
 
 /// Reads a script's lines up to the one at which its balancer starts.
-pub fn begin<'a>(alloc: Global, lines: &mut Parts<'a>) -> Result<Begun<'a>, NoMemory>
+pub fn begin<'a>(alloc: Global, lines: &mut Parts<'a>) -> Result<BegunScript<'a>, NoMemory>
     requires { length lines.old < 2 ^ 32 }
     ensures leads { IfOk result (λ b. LeadsTo lines.old b.draft (option_copied b.line) lines.new b.number b.at) }
     ensures said { IfOk result (λ b. IfSome b.line (λ line. is_skipped line.now ≡ false)) }
@@ -66,7 +66,7 @@ pub fn begin<'a>(alloc: Global, lines: &mut Parts<'a>) -> Result<Begun<'a>, NoMe
             continue;
         }
         let Some(head) = head_of(draft.names(), line) else {
-            return Ok(Begun {
+            return Ok(BegunScript {
                 draft,
                 at,
                 number,
@@ -75,7 +75,7 @@ pub fn begin<'a>(alloc: Global, lines: &mut Parts<'a>) -> Result<Begun<'a>, NoMe
         };
         at = take_head(&mut draft, head, at)?;
     }
-    Ok(Begun {
+    Ok(BegunScript {
         draft,
         at,
         number,

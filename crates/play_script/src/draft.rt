@@ -4,7 +4,7 @@ ghost use Rattle.std.specs.Option.{option_copied};
 ghost use Rattle.play_script.specs.Drafts.{leads_to_member, has_targets, config_of, configs_of};
 ghost use Rattle.play_script.specs.Words.{words_of_member};
 
-use crate::head::{MemberLine, Rules};
+use crate::head::{BalancerLine, MemberLine};
 use crate::names::{NameList, index_of};
 use jk_io::{Bytes, ListOf, NoMemory};
 use jk_model::{LbConfig, MemberConfig, MemberList, Method};
@@ -36,7 +36,7 @@ impl From<NoMemory> for DraftError {
 /// A balancer as the lines so far describe it. Contracts see its rules and members as words.
 #[derive(Drop)]
 pub struct Draft<'a> {
-    rules: Rules,
+    rules: BalancerLine,
     members: Vec<MemberLine<'a>>,
     names: NameList,
 }
@@ -122,7 +122,7 @@ impl<'a> Draft<'a> {
         ensures { result ≡ empty_draft }
     {
         Draft {
-            rules: Rules {
+            rules: BalancerLine {
                 method: Method::Request,
                 sticky: true,
                 force: false,
@@ -142,7 +142,7 @@ impl<'a> Draft<'a> {
     }
 
     /// Replaces the rules.
-    pub fn set_rules(&mut self, rules: Rules)
+    pub fn set_rules(&mut self, rules: BalancerLine)
         ensures { self.new ≡ with_rules rules self.old }
     {
         self.rules = rules;

@@ -13,7 +13,7 @@ use jk_model::{Activation, Method};
 
 /// What an `lb` line says.
 #[derive(Clone, Copy)]
-pub struct Rules {
+pub struct BalancerLine {
     pub method: Method,
     pub sticky: bool,
     pub force: bool,
@@ -36,17 +36,17 @@ pub struct MemberLine<'a> {
 
 /// What a line before the balancer's start says.
 #[derive(Clone, Copy)]
-pub enum Head<'a> {
+pub enum ScriptHead<'a> {
     /// The moment of what follows.
     At(u64),
-    Rule(Rules),
+    Rule(BalancerLine),
     Member(MemberLine<'a>),
 }
 
 /// The pool size of a member that names none.
 const POOL: u32 = 64;
 
-fn rules_of(words: &mut Parts) -> Option<Rules>
+fn rules_of(words: &mut Parts) -> Option<BalancerLine>
     ensures { result ≡ rules_of words.old }
 {
     let method = method_of(words.next()?)?;
@@ -56,13 +56,13 @@ fn rules_of(words: &mut Parts) -> Option<Rules>
 }
 
 // The rules of an `lb` line whose first words were these.
-fn rules_with(method: Method, sticky: bool, force: bool, words: &mut Parts) -> Option<Rules>
+fn rules_with(method: Method, sticky: bool, force: bool, words: &mut Parts) -> Option<BalancerLine>
     ensures { (m s f : List ℕ) → method_of m ≡ Some method → flag_of s ≡ Some sticky → flag_of f ≡ Some force
         → result ≡ rules_of (m ∷ s ∷ f ∷ words.old) }
 {
     let maintain = parse_decimal(words.next()?)?;
     let recover = parse_decimal(words.only()?)?;
-    Some(Rules {
+    Some(BalancerLine {
         method,
         sticky,
         force,
@@ -113,20 +113,20 @@ fn member_of<'a>(names: &NameList, words: &mut Parts<'a>) -> Option<MemberLine<'
     member_with(name, short_number(factor)?, words)
 }
 
-fn head_by<'a>(names: &NameList, verb: Verb, words: &mut Parts<'a>) -> Option<Head<'a>>
+fn head_by<'a>(names: &NameList, verb: Verb, words: &mut Parts<'a>) -> Option<ScriptHead<'a>>
     requires { length names.now < 2 ^ 32 }
     ensures { option_map words_of_head result ≡ head_by names.now verb words.old }
 {
     match verb {
-        Verb::At => Some(Head::At(parse_decimal(words.only()?)?)),
-        Verb::Lb => Some(Head::Rule(rules_of(words)?)),
-        Verb::Member => Some(Head::Member(member_of(names, words)?)),
+        Verb::At => Some(ScriptHead::At(parse_decimal(words.only()?)?)),
+        Verb::Lb => Some(ScriptHead::Rule(rules_of(words)?)),
+        Verb::Member => Some(ScriptHead::Member(member_of(names, words)?)),
         _ => None,
     }
 }
 
 /// What a line before the balancer's start says, where the members so far have these names. `None`: another line.
-pub fn head_of<'a>(names: &NameList, line: &'a [u8]) -> Option<Head<'a>>
+pub fn head_of<'a>(names: &NameList, line: &'a [u8]) -> Option<ScriptHead<'a>>
     requires { length names.now < 2 ^ 32 }
     ensures { option_map words_of_head result ≡ head_of names.now line.now }
 {

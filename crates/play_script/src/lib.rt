@@ -4,7 +4,7 @@
 //! Shapes: a line's words stand between single spaces; a name has letters, digits, `-` and `_`.
 //! Contract: `head_of` and `step_of`, the meaning of a line; `begin`, clause `leads`.
 //! Read first: specs/Heads.antt and specs/Steps.antt (lines), then specs/Play.antt (what a script prints).
-//! Errors: `Refusal`, the line that ends a script; `DraftError`.
+//! Errors: `ScriptRefusal`, the line that ends a script; `DraftError`.
 #![tactic(auto)]
 
 mod begun;
@@ -19,10 +19,10 @@ mod step;
 mod values;
 mod verb;
 
-pub use begun::{Begun, begin, is_skipped};
+pub use begun::{BegunScript, begin, is_skipped};
 pub use draft::{Draft, DraftError};
-pub use head::{Head, MemberLine, Rules, head_of};
+pub use head::{BalancerLine, MemberLine, ScriptHead, head_of};
 pub use names::{NameList, index_of};
 pub use parts::Parts;
-pub use printed::{Refusal, put_answer, put_refusal, put_rows};
+pub use printed::{ScriptRefusal, put_answer, put_refusal, put_rows};
 pub use step::{Step, step_of};

@@ -7,7 +7,7 @@ use jk_model::{Answer, How, MemberRow, MemberState};
 
 /// Why a script ends before its last line.
 #[derive(Clone, Copy)]
-pub enum Refusal {
+pub enum ScriptRefusal {
     /// The line is of no form, or not in its place.
     BadLine,
     /// The ticket of a Return isn't out.
@@ -110,19 +110,19 @@ fn put_number(out: &mut Bytes, before: &[u8], number: u64, after: &[u8]) -> Resu
     Ok(())
 }
 
-fn put_refusal_words(out: &mut Bytes, refusal: Refusal) -> Result<(), NoMemory>
+fn put_refusal_words(out: &mut Bytes, refusal: ScriptRefusal) -> Result<(), NoMemory>
     ensures { OnOk result (out.new ≡ out.old ++ refusal_words refusal) }
 {
     match refusal {
-        Refusal::BadLine => out.extend(b"bad line\n"),
-        Refusal::NotOpen(ticket) => put_number(out, b"ticket ", ticket, b" is not open\n"),
-        Refusal::Refused(code) => put_number(out, b"refused ", u64::from(code), b"\n"),
-        Refusal::BadBalancer => out.extend(b"bad balancer\n"),
+        ScriptRefusal::BadLine => out.extend(b"bad line\n"),
+        ScriptRefusal::NotOpen(ticket) => put_number(out, b"ticket ", ticket, b" is not open\n"),
+        ScriptRefusal::Refused(code) => put_number(out, b"refused ", u64::from(code), b"\n"),
+        ScriptRefusal::BadBalancer => out.extend(b"bad balancer\n"),
     }
 }
 
 /// Adds the last line of a script that is refused at this line, counted from 1.
-pub fn put_refusal(out: &mut Bytes, number: u64, refusal: Refusal) -> Result<(), NoMemory>
+pub fn put_refusal(out: &mut Bytes, number: u64, refusal: ScriptRefusal) -> Result<(), NoMemory>
     ensures { OnOk result (out.new ≡ out.old ++ refusal_line number refusal) }
 {
     put_number(out, b"line ", number, b": ")?;

@@ -9,14 +9,14 @@ use Rattle.property_lines.specs.declared.property.Fault.{Fault}
 use Rattle.property_lines.specs.declared.property.Fault.TheVariants as fault
 use Rattle.property_lines.specs.declared.directive.Directive.{Directive}
 use Rattle.property_lines.specs.declared.directive.Directive.TheVariants as directive
-use Rattle.property_lines.specs.declared.error.Reason.{Reason}
-use Rattle.property_lines.specs.declared.error.Reason.TheVariants as reason
+use Rattle.property_lines.specs.declared.error.PropsReason.{PropsReason}
+use Rattle.property_lines.specs.declared.error.PropsReason.TheVariants as reason
 use Rattle.property_lines.specs.Cut.{cut_at}
 use Rattle.property_lines.specs.Lines.{lines, without_mark}
 use Rattle.property_lines.specs.Names.{is_name, words}
 use Rattle.property_lines.specs.Directives.{directive_of, worker_part, list_key, maintain_key}
 use Rattle.property_lines.specs.Values.{is_value, target_of, number_in}
-use Rattle.property_lines.specs.Refusals.{Refusal, refusal}
+use Rattle.property_lines.specs.Refusals.{LineRefusal, refusal}
 
 -- a list whose names are all names
 abbrev pub are_names : List ℕ → Bool
@@ -53,14 +53,14 @@ abbrev pub fault_of : List ℕ → List ℕ → Option Fault
 fault_of key value = fault_at (worker_part key) key value
 
 -- the refusal of a line with this fault; bad values are refused only where values count
-abbrev pub judged : Bool → Property → Option Fault → Result (Option Property) Refusal
+abbrev pub judged : Bool → Property → Option Fault → Result (Option Property) LineRefusal
 judged values p None = Ok (Some p)
 judged values p (Some fault.Name) = Err (refusal p.line reason.BadName)
 judged true p (Some fault.Value) = Err (refusal p.line reason.BadValue)
 judged false p (Some fault.Value) = Ok (Some p)
 
 -- a line split at its first '='
-abbrev pub property_of : Bool → ℕ → Option (List ℕ × List ℕ) → Result (Option Property) Refusal
+abbrev pub property_of : Bool → ℕ → Option (List ℕ × List ℕ) → Result (Option Property) LineRefusal
 property_of values line None = Err (refusal line reason.NoEquals)
 property_of values line (Some parts) =
     let p : Property = record { line = line; key = trimmed parts.0; value = trimmed parts.1 } in
@@ -71,23 +71,23 @@ abbrev pub is_silent : List ℕ → Bool
 is_silent text = (length text == 0) || (slice_index text 0 == 35)
 
 -- what a line without its outer blanks says
-abbrev pub said : Bool → ℕ → List ℕ → Result (Option Property) Refusal
+abbrev pub said : Bool → ℕ → List ℕ → Result (Option Property) LineRefusal
 said values line text = if is_silent text then Ok None else property_of values line (cut_at 61 text)
 
 -- properties in front of those that are read
-abbrev pub with_properties : List Property → Result (List Property) Refusal → Result (List Property) Refusal
+abbrev pub with_properties : List Property → Result (List Property) LineRefusal → Result (List Property) LineRefusal
 with_properties front (Ok properties) = Ok (front ++ properties)
 with_properties front (Err refused) = Err refused
 
-abbrev pub before_rest : Result (Option Property) Refusal → Result (List Property) Refusal → Result (List Property) Refusal
+abbrev pub before_rest : Result (Option Property) LineRefusal → Result (List Property) LineRefusal → Result (List Property) LineRefusal
 before_rest (Err refused) rest = Err refused
 before_rest (Ok p) rest = with_properties (option_to_list p) rest
 
 -- the lines from this number on
-abbrev pub read_lines : Bool → ℕ → List (List ℕ) → Result (List Property) Refusal
+abbrev pub read_lines : Bool → ℕ → List (List ℕ) → Result (List Property) LineRefusal
 read_lines values line [] = Ok []
 read_lines values line (l ∷ ls) = before_rest (said values line (trimmed l)) (read_lines values (line + 1) ls)
 
 -- the properties of a text, whose byte-order mark is no part of it, or its first refusal
-abbrev pub read_text : Bool → List ℕ → Result (List Property) Refusal
+abbrev pub read_text : Bool → List ℕ → Result (List Property) LineRefusal
 read_text values text = read_lines values 1 (lines (without_mark text))

@@ -1,11 +1,11 @@
 -- The refusals of a workers.properties, each with its line and its number.
 use Rattle.std.specs.Prelude.{◌≡◌, ℕ, Option, Result, Ok, Err}
-use Rattle.property_lines.specs.declared.error.Reason.{Reason}
-use Rattle.property_lines.specs.declared.error.Reason.TheVariants as reason
+use Rattle.property_lines.specs.declared.error.PropsReason.{PropsReason}
+use Rattle.property_lines.specs.declared.error.PropsReason.TheVariants as reason
 use Rattle.property_lines.specs.declared.error.PropsError.{PropsError}
 use Rattle.property_lines.specs.declared.error.PropsError.TheVariants as errors
 
-abbrev pub code_of : Reason → ℕ
+abbrev pub code_of : PropsReason → ℕ
 code_of reason.NoEquals = 1
 code_of reason.BadName = 2
 code_of reason.UnknownWorker = 3
@@ -15,20 +15,20 @@ code_of reason.TooManyMembers = 6
 code_of reason.TooWide = 7
 code_of reason.BadReference = 8
 
-pub record Refusal : Type 0 where
+pub record LineRefusal : Type 0 where
   pub line : ℕ
   pub code : ℕ
 
-abbrev pub refusal : ℕ → Reason → Refusal
+abbrev pub refusal : ℕ → PropsReason → LineRefusal
 refusal line why = record { line = line; code = code_of why }
 
 -- a call's answer is what reading gives, unless memory was wanted
-abbrev pub Gives : {X Y : Type 0} → (X → Y) → Result X PropsError → Result Y Refusal → Type 0
+abbrev pub Gives : {X Y : Type 0} → (X → Y) → Result X PropsError → Result Y LineRefusal → Type 0
 Gives view (Ok x) read = read ≡ Ok (view x)
 Gives view (Err (errors.Refused line code)) read = read ≡ Err (record { line = line; code = code })
 Gives view (Err errors.NoMemory) read = Unit {0}
 
 -- the refusal of a call's error is so; want of memory may come
-abbrev pub IsRefusal : (Refusal → Type 0) → PropsError → Type 0
+abbrev pub IsRefusal : (LineRefusal → Type 0) → PropsError → Type 0
 IsRefusal so (errors.Refused line code) = so (record { line = line; code = code })
 IsRefusal so errors.NoMemory = Unit {0}

@@ -9,8 +9,8 @@ use Rattle.jk_model.specs.declared.member.Activation.{Activation}
 use Rattle.jk_model.specs.declared.member.Activation.TheVariants as activation
 use Rattle.jk_model.specs.declared.member.Method.{Method}
 use Rattle.jk_model.specs.declared.member.Method.TheVariants as method
-use Rattle.property_lines.specs.declared.values.Kind.{Kind}
-use Rattle.property_lines.specs.declared.values.Kind.TheVariants as kind
+use Rattle.property_lines.specs.declared.values.WorkerKind.{WorkerKind}
+use Rattle.property_lines.specs.declared.values.WorkerKind.TheVariants as kind
 use Rattle.property_lines.specs.declared.directive.Directive.{Directive}
 use Rattle.property_lines.specs.declared.directive.Directive.TheVariants as directive
 use Rattle.property_lines.specs.Directives.{behind_worker}
@@ -43,7 +43,7 @@ abbrev pub truth_of : List ℕ → Option Bool
 truth_of text = if says_yes text then Some true else (if says_no text then Some false else None)
 
 -- the type of a worker
-unfoldable pub kind_of : List ℕ → Option Kind
+unfoldable pub kind_of : List ℕ → Option WorkerKind
 kind_of text = if bytes_eq text (codes "ajp13") then Some kind.Ajp13 else (if bytes_eq text (codes "lb") then Some kind.Lb else (if bytes_eq text (codes "status") then Some kind.Status else None))
 
 -- A, D or S

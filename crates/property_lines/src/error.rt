@@ -8,7 +8,7 @@ use thiserror::Error;
 
 /// What is wrong with a line.
 #[derive(Clone, Copy, Debug, PartialEq, Eq)]
-pub enum Reason {
+pub enum PropsReason {
     NoEquals,
     BadName,
     UnknownWorker,
@@ -30,26 +30,26 @@ pub enum PropsError {
     NoMemory,
 }
 
-impl Reason {
+impl PropsReason {
     /// The number of the refusal.
     fn code(self) -> u8
         ensures { result ≡ code_of self }
     {
         match self {
-            Reason::NoEquals => 1,
-            Reason::BadName => 2,
-            Reason::UnknownWorker => 3,
-            Reason::BadValue => 4,
-            Reason::NoMembers => 5,
-            Reason::TooManyMembers => 6,
-            Reason::TooWide => 7,
-            Reason::BadReference => 8,
+            PropsReason::NoEquals => 1,
+            PropsReason::BadName => 2,
+            PropsReason::UnknownWorker => 3,
+            PropsReason::BadValue => 4,
+            PropsReason::NoMembers => 5,
+            PropsReason::TooManyMembers => 6,
+            PropsReason::TooWide => 7,
+            PropsReason::BadReference => 8,
         }
     }
 }
 
 /// The refusal of a line.
-pub fn refused(line: u32, reason: Reason) -> PropsError
+pub fn refused(line: u32, reason: PropsReason) -> PropsError
     ensures { result ≡ PropsError.Refused line (code_of reason) }
 {
     PropsError::Refused {

@@ -7,11 +7,11 @@ ghost use Rattle.property_lines.specs.Properties.{is_silent, judged, property_of
 ghost use Rattle.property_lines.specs.Cut.{cut_at};
 
 use crate::cut::cut_at;
-use crate::entry::Entry;
-use crate::error::{PropsError, Reason, refused};
+use crate::error::{PropsError, PropsReason, refused};
 use crate::judge::fault_of;
 use crate::lines::{first_line, without_mark};
 use crate::property::Fault;
+use crate::property_line::PropertyLine;
 use jk_io::trim;
 use std::alloc::Global;
 
@@ -25,17 +25,17 @@ fn is_silent(text: &[u8]) -> bool
 /// The property, unless its fault is to be refused: a bad value is where `values` is on.
 fn judged<'t>(
     values: bool,
-    entry: Entry<'t>,
+    entry: PropertyLine<'t>,
     fault: Option<Fault>,
-) -> Result<Option<Entry<'t>>, PropsError>
+) -> Result<Option<PropertyLine<'t>>, PropsError>
     ensures { Gives (option_map as_property) result (judged values (as_property entry.entry) fault) }
 {
     match fault {
         None => Ok(Some(entry)),
-        Some(Fault::Name) => Err(refused(entry.line, Reason::BadName)),
+        Some(Fault::Name) => Err(refused(entry.line, PropsReason::BadName)),
         Some(Fault::Value) => {
             if values {
-                Err(refused(entry.line, Reason::BadValue))
+                Err(refused(entry.line, PropsReason::BadValue))
             } else {
                 Ok(Some(entry))
             }
@@ -44,16 +44,16 @@ fn judged<'t>(
 }
 
 /// What a trimmed line says; a bad value is refused where `values` is on.
-pub fn said(values: bool, line: u32, text: &[u8]) -> Result<Option<Entry<'_>>, PropsError>
+pub fn said(values: bool, line: u32, text: &[u8]) -> Result<Option<PropertyLine<'_>>, PropsError>
     ensures { Gives (option_map as_property) result (said values line text.now) }
 {
     if is_silent(text) {
         return Ok(None);
     }
     match cut_at(text, b'=') {
-        None => Err(refused(line, Reason::NoEquals)),
+        None => Err(refused(line, PropsReason::NoEquals)),
         Some((key, value)) => {
-            let entry = Entry {
+            let entry = PropertyLine {
                 line,
                 key: trim(key),
                 value: trim(value),
@@ -64,7 +64,11 @@ pub fn said(values: bool, line: u32, text: &[u8]) -> Result<Option<Entry<'_>>, P
 }
 
 /// The properties of a text, or the first line that is refused. Bad values are refused where `values` is on.
-pub fn read_entries(alloc: Global, values: bool, text: &[u8]) -> Result<Vec<Entry<'_>>, PropsError>
+pub fn read_entries(
+    alloc: Global,
+    values: bool,
+    text: &[u8],
+) -> Result<Vec<PropertyLine<'_>>, PropsError>
     requires { length text.now ≤ 67108864 }
     ensures entries { Gives (λ v. as_properties v.items) result (read_text values text.now) }
     ensures few { IfOk result (λ v. vec_len v ≤ length text.now) }

@@ -9,7 +9,6 @@
 
 mod cut;
 mod directive;
-mod entry;
 mod error;
 mod first_pass;
 mod judge;
@@ -17,6 +16,7 @@ mod lines;
 mod names;
 mod properties;
 mod property;
+mod property_line;
 mod statuses;
 mod values;
 
@@ -24,15 +24,15 @@ pub use cut::{cut_at, cut_at_separator, is_separator};
 pub use directive::{
     DIRECTIVES, Directive, behind_worker, directive_of, is_list_key, is_maintain_key, worker_part,
 };
-pub use entry::Entry;
-pub use error::{PropsError, Reason, refused};
+pub use error::{PropsError, PropsReason, refused};
 pub use first_pass::{read_entries, said};
 pub use judge::fault_of;
 pub use lines::{first_line, without_mark};
 pub use names::{is_name, push_words};
 pub use properties::read_properties;
 pub use property::{Fault, Property, PropertyList};
+pub use property_line::PropertyLine;
 pub use statuses::{Statuses, status_of, statuses_of};
 pub use values::{
-    Kind, activation_of, is_ping, is_value, kind_of, method_of, number_in, pings, truth_of,
+    WorkerKind, activation_of, is_ping, is_value, kind_of, method_of, number_in, pings, truth_of,
 };

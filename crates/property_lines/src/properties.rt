@@ -4,10 +4,10 @@ ghost use Rattle.property_lines.specs.Entries.{as_property};
 ghost use Rattle.property_lines.specs.Refusals.{Gives};
 ghost use Rattle.property_lines.specs.Properties.{read_text};
 
-use crate::entry::Entry;
 use crate::error::PropsError;
 use crate::first_pass::read_entries;
 use crate::property::{Property, PropertyList};
+use crate::property_line::PropertyLine;
 use jk_io::{Bytes, ListOf, NoMemory};
 use std::alloc::Global;
 
@@ -26,7 +26,7 @@ pub fn read_properties(alloc: Global, text: &[u8]) -> Result<PropertyList, Props
 }
 
 // The property of a line, with copies of its texts.
-fn copied(alloc: Global, entry: &Entry<'_>) -> Result<Property, NoMemory>
+fn copied(alloc: Global, entry: &PropertyLine<'_>) -> Result<Property, NoMemory>
     ensures { IfOk result (λ property. property ≡ as_property entry.now) }
 {
     Ok(Property {

@@ -11,7 +11,7 @@ use jk_model::{Activation, Method};
 
 /// The type of a worker.
 #[derive(Clone, Copy, Debug, PartialEq, Eq)]
-pub enum Kind {
+pub enum WorkerKind {
     Ajp13,
     Lb,
     Status,
@@ -82,15 +82,15 @@ pub fn truth_of(text: &[u8]) -> Option<bool>
 }
 
 #[tactic(auto, unfolding(crate::specs::Values::kind_of))]
-pub fn kind_of(text: &[u8]) -> Option<Kind>
+pub fn kind_of(text: &[u8]) -> Option<WorkerKind>
     ensures { result ≡ kind_of text.now }
 {
     if text == b"ajp13".as_slice() {
-        Some(Kind::Ajp13)
+        Some(WorkerKind::Ajp13)
     } else if text == b"lb".as_slice() {
-        Some(Kind::Lb)
+        Some(WorkerKind::Lb)
     } else if text == b"status".as_slice() {
-        Some(Kind::Status)
+        Some(WorkerKind::Status)
     } else {
         None
     }

@@ -26,7 +26,7 @@ mod told;
 mod worlds;
 
 use anyhow::{Context, Result};
-use block_rows::row::{Row, RowError};
+use block_rows::row::{BlockRow, RowError};
 use block_rows::texts::With;
 use jk_io::NoMemory;
 use std::alloc::Global;
@@ -63,7 +63,7 @@ fn is_held<R: Threads + Wait + Clock + Sync>(
         first: "",
         second: "",
     };
-    let row = Row { lines, with };
+    let row = BlockRow { lines, with };
     let held = if row.count("meeting") > 0 {
         meeting::holds(rt, alloc, row)
     } else {

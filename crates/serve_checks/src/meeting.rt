@@ -5,7 +5,7 @@ ghost use Rattle.std.specs.Prelude.{◌≡◌, ◌<◌, true, vec_len, IfOk};
 ghost use Rattle.uri_map.specs.Sites.{stands_in};
 
 use block_rows::comparing::wants;
-use block_rows::row::{Row, RowError};
+use block_rows::row::{BlockRow, RowError};
 use conn_pool::NoTape;
 use gear_runs::serve_gears;
 use jk_io::{
@@ -74,13 +74,13 @@ struct Places {
     ghost known: { (member < 64) × (client < 64) },
 }
 
-fn link_of(alloc: Global, row: Row<'_>, file: usize) -> Result<MemLink, RowError> {
+fn link_of(alloc: Global, row: BlockRow<'_>, file: usize) -> Result<MemLink, RowError> {
     let text = row.text(alloc, "file", file)?;
     Ok(MemLink::new(alloc, text, NumberList::new(alloc)))
 }
 
 /// A worker's links, over the texts of these files of a row: its client's, and the next, which is its member's.
-fn ends_of(alloc: Global, row: Row<'_>, file: usize) -> Result<Ends<MemLink>, RowError> {
+fn ends_of(alloc: Global, row: BlockRow<'_>, file: usize) -> Result<Ends<MemLink>, RowError> {
     let client = link_of(alloc, row, file)?;
     let member = link_of(alloc, row, file.saturating_add(1))?;
     Ok(Ends { client, member })
@@ -136,7 +136,7 @@ fn gears_of<L: Drop>(
 }
 
 /// The configuration in a row; it must be read.
-fn config_of(alloc: Global, row: Row<'_>) -> Result<Config, RowError> {
+fn config_of(alloc: Global, row: BlockRow<'_>) -> Result<Config, RowError> {
     let text = row.file(alloc, "w")?;
     if text.len() > MAX_INPUT_BYTES {
         return Err(RowError::Unreadable);
@@ -149,7 +149,7 @@ fn config_of(alloc: Global, row: Row<'_>) -> Result<Config, RowError> {
 }
 
 /// The map in a row; it must be read.
-fn map_of(alloc: Global, row: Row<'_>, config: &Config) -> Result<UriMap, RowError>
+fn map_of(alloc: Global, row: BlockRow<'_>, config: &Config) -> Result<UriMap, RowError>
     ensures { IfOk result (λ map. stands_in config.now map ≡ true) }
 {
     let text = row.file(alloc, "m")?;
@@ -209,7 +209,7 @@ fn over_gate<R: Threads + Wait + Clock + Sync>(
     rt: &R,
     alloc: Global,
     gate: &Gate<'_, R>,
-    row: Row<'_>,
+    row: BlockRow<'_>,
     served: Served<'_>,
 ) -> Result<Bytes, RowError> {
     let first = Places {
@@ -231,7 +231,7 @@ fn over_gate<R: Threads + Wait + Clock + Sync>(
 fn over_site<R: Threads + Wait + Clock + Sync>(
     rt: &R,
     alloc: Global,
-    row: Row<'_>,
+    row: BlockRow<'_>,
     served: Served<'_>,
 ) -> Result<bool, RowError> {
     let told = over_gate(rt, alloc, &Gate::new(rt), row, served)?;
@@ -241,7 +241,7 @@ fn over_site<R: Threads + Wait + Clock + Sync>(
 fn over_config<R: Threads + Wait + Clock + Sync>(
     rt: &R,
     alloc: Global,
-    row: Row<'_>,
+    row: BlockRow<'_>,
     config: &Config,
 ) -> Result<bool, RowError> {
     let map = map_of(alloc, row, config)?;
@@ -252,7 +252,7 @@ fn over_config<R: Threads + Wait + Clock + Sync>(
 pub fn holds<R: Threads + Wait + Clock + Sync>(
     rt: &R,
     alloc: Global,
-    row: Row<'_>,
+    row: BlockRow<'_>,
 ) -> Result<bool, RowError> {
     over_config(rt, alloc, row, &config_of(alloc, row)?)
 }

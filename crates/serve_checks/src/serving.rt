@@ -2,7 +2,7 @@
 use crate::told::put_world;
 use crate::worlds::world_of;
 use block_rows::comparing::wants;
-use block_rows::row::{Row, RowError};
+use block_rows::row::{BlockRow, RowError};
 use jk_io::{Bytes, MemFiles, MemLink, NumberList, put_decimal};
 use serving_commands::run_jkd;
 use std::alloc::Global;
@@ -11,12 +11,12 @@ use std::thread::Threads;
 use worker_gears::MemWorld;
 
 /// An output that takes all, or so many bytes and no more.
-fn output_of(alloc: Global, row: Row<'_>) -> Result<MemLink, RowError> {
+fn output_of(alloc: Global, row: BlockRow<'_>) -> Result<MemLink, RowError> {
     let failing = row.numbers(alloc, "output-fails")?;
     Ok(MemLink::failing_at(alloc, Bytes::new(alloc), NumberList::new(alloc), failing)?)
 }
 
-fn files_of(alloc: Global, row: Row<'_>) -> Result<MemFiles, RowError> {
+fn files_of(alloc: Global, row: BlockRow<'_>) -> Result<MemFiles, RowError> {
     let failing = row.numbers(alloc, "file-fails")?;
     let files = row.files(alloc)?;
     Ok(MemFiles::new(files, failing))
@@ -36,7 +36,7 @@ fn status_of<R: Threads + Wait + Sync>(
 
 fn wants_told(
     alloc: Global,
-    row: Row<'_>,
+    row: BlockRow<'_>,
     status: u8,
     out: &MemLink,
     world: &MemWorld<MemLink>,
@@ -52,7 +52,7 @@ fn wants_told(
 fn over_output<R: Threads + Wait + Sync>(
     rt: &R,
     alloc: Global,
-    row: Row<'_>,
+    row: BlockRow<'_>,
     words: &[Bytes],
     files: &mut MemFiles,
     world: &mut MemWorld<MemLink>,
@@ -65,7 +65,7 @@ fn over_output<R: Threads + Wait + Sync>(
 fn over_files<R: Threads + Wait + Sync>(
     rt: &R,
     alloc: Global,
-    row: Row<'_>,
+    row: BlockRow<'_>,
     words: &[Bytes],
     files: &mut MemFiles,
 ) -> Result<bool, RowError> {
@@ -75,7 +75,7 @@ fn over_files<R: Threads + Wait + Sync>(
 fn over_words<R: Threads + Wait + Sync>(
     rt: &R,
     alloc: Global,
-    row: Row<'_>,
+    row: BlockRow<'_>,
     words: &[Bytes],
 ) -> Result<bool, RowError> {
     over_files(rt, alloc, row, words, &mut files_of(alloc, row)?)
@@ -85,7 +85,7 @@ fn over_words<R: Threads + Wait + Sync>(
 pub fn holds<R: Threads + Wait + Sync>(
     rt: &R,
     alloc: Global,
-    row: Row<'_>,
+    row: BlockRow<'_>,
 ) -> Result<bool, RowError> {
     over_words(rt, alloc, row, row.words(alloc)?.as_slice())
 }

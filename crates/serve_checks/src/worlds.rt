@@ -1,5 +1,5 @@
 //! The world of a row: what its gears are made of.
-use block_rows::row::{Row, RowError};
+use block_rows::row::{BlockRow, RowError};
 use jk_io::{
     Bytes, ClientList, ListOf, MemDial, MemLink, MemLinkList, NoMemory, NumberList, Peer,
     StepClock, parse_decimal,
@@ -18,7 +18,7 @@ fn counts_in(text: &str) -> Result<(u64, u64), RowError> {
     Ok((number_in(clients)?, number_in(links)?))
 }
 
-fn link_of(alloc: Global, row: Row<'_>, file: usize) -> Result<MemLink, RowError> {
+fn link_of(alloc: Global, row: BlockRow<'_>, file: usize) -> Result<MemLink, RowError> {
     let text = row.text(alloc, "file", file)?;
     Ok(MemLink::new(alloc, text, NumberList::new(alloc)))
 }
@@ -31,7 +31,7 @@ fn peer(alloc: Global) -> Result<Peer, NoMemory> {
 
 fn push_client(
     alloc: Global,
-    row: Row<'_>,
+    row: BlockRow<'_>,
     file: usize,
     clients: &mut ClientList<MemLink>,
 ) -> Result<(), RowError> {
@@ -44,7 +44,7 @@ fn push_client(
 /// So many clients, whose bytes are those of the files from this one on.
 fn clients_of(
     alloc: Global,
-    row: Row<'_>,
+    row: BlockRow<'_>,
     count: u64,
     file: &mut usize,
 ) -> Result<ClientList<MemLink>, RowError> {
@@ -58,7 +58,7 @@ fn clients_of(
 
 fn push_link(
     alloc: Global,
-    row: Row<'_>,
+    row: BlockRow<'_>,
     file: usize,
     links: &mut MemLinkList,
 ) -> Result<(), RowError> {
@@ -69,7 +69,7 @@ fn push_link(
 
 fn links_of(
     alloc: Global,
-    row: Row<'_>,
+    row: BlockRow<'_>,
     count: u64,
     file: &mut usize,
 ) -> Result<MemLinkList, RowError> {
@@ -83,7 +83,7 @@ fn links_of(
 
 fn plan_of(
     alloc: Global,
-    row: Row<'_>,
+    row: BlockRow<'_>,
     gear: &str,
     file: &mut usize,
 ) -> Result<MemPlan<MemLink>, RowError> {
@@ -101,7 +101,7 @@ fn plan_of(
 
 fn push_plan(
     alloc: Global,
-    row: Row<'_>,
+    row: BlockRow<'_>,
     gear: &str,
     file: &mut usize,
     plans: &mut MemPlanList<MemLink>,
@@ -111,7 +111,7 @@ fn push_plan(
     Ok(())
 }
 
-fn plans_of(alloc: Global, row: Row<'_>) -> Result<MemPlanList<MemLink>, RowError> {
+fn plans_of(alloc: Global, row: BlockRow<'_>) -> Result<MemPlanList<MemLink>, RowError> {
     let mut plans = MemPlanList::new(alloc);
     let mut file = 0;
     for line in row.lines.lines() {
@@ -123,7 +123,7 @@ fn plans_of(alloc: Global, row: Row<'_>) -> Result<MemPlanList<MemLink>, RowErro
 }
 
 /// The world that hands out the gears of a row.
-pub fn world_of(alloc: Global, row: Row<'_>) -> Result<MemWorld<MemLink>, RowError> {
+pub fn world_of(alloc: Global, row: BlockRow<'_>) -> Result<MemWorld<MemLink>, RowError> {
     let plans = plans_of(alloc, row)?;
     let failing = row.numbers(alloc, "gear-fails")?;
     Ok(MemWorld::new(alloc, plans, ListOf::new(alloc), failing))

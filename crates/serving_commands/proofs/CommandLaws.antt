@@ -12,7 +12,7 @@ use Rattle.jk_io.specs.declared.failures.IoError.TheVariants as io
 use Rattle.jk_server.specs.declared.part.WorkerEnd.{WorkerEnd}
 use Rattle.jk_server.specs.declared.part.WorkerEnd.TheVariants as worker
 use Rattle.mini_container.specs.declared.app_config.AppConfig.{AppConfig}
-use Rattle.plain_commands.specs.Readings.{Outside}
+use Rattle.plain_commands.specs.Readings.{CommandOutside}
 use Rattle.serving_commands.specs.Commands.{CommandSide, ContainsLinks, DoesOrder, RunsContainer, RunsSite, Serves, Unread, Refused, Served, RunsDrill, Told, Lacked, Wanted, Works, NoGear, NoRoom, Ran, Writes}
 use Rattle.serving_commands.specs.Ends.{end_by, end_of_closing, end_of_container, end_of_run}
 use Rattle.serving_commands.specs.Words.{is_command, is_served, is_serving, IsInRange}
@@ -46,7 +46,7 @@ contains_none told route threads clients s short = record {
 }
 
 -- memory was wanted before the words were read
-pub does_none : {G C S X : Type 0} (L : Type 0) (told : Tells G C S X) (outside : Outside) (o : Order) (s : CommandSide G) → is_served o ≡ true → IsInRange o
+pub does_none : {G C S X : Type 0} (L : Type 0) (told : Tells G C S X) (outside : CommandOutside) (o : Order) (s : CommandSide G) → is_served o ≡ true → IsInRange o
     → DoesOrder {L = L} told outside o s s (end.Status 6)
 does_none L told outside (order.Serve workers map address threads clients journal watch idle log format) s served range =
     Unread (record { why = inr refl; written = refl; world = refl })
@@ -103,7 +103,7 @@ works_status threads Runs s n ended k ran (Ran w) e = ran w e
 Answered : {G : Type 0} → (s n : CommandSide G) → ℕ → Type 0
 Answered s n k = IsOfRun k ⊎ (k ≡ 3) ⊎ ((k ≡ 5) × Rose s.output_faults n.output_faults)
 
-serve_status : {G C S X L : Type 0} (told : Tells G C S X) (outside : Outside) (workers map : List ℕ) (threads : ℕ) (clients : Option ℕ) (s n : CommandSide G) (ended : EndOf L) (k : ℕ)
+serve_status : {G C S X L : Type 0} (told : Tells G C S X) (outside : CommandOutside) (workers map : List ℕ) (threads : ℕ) (clients : Option ℕ) (s n : CommandSide G) (ended : EndOf L) (k : ℕ)
     → Serves told outside workers map threads clients s n ended → ended ≡ end.Status k → Answered s n k
 unfolding IsOfRun Answered
 serve_status told outside workers map threads clients s n ended k (Unread w) e =
@@ -127,7 +127,7 @@ drill_status seed threads requests text passes s n ended k (Told w) e = written_
 drill_status seed threads requests text passes s n ended k (Lacked w) e = let ends = w.ends in cc
 drill_status seed threads requests text passes s n ended k (Wanted w) e = let status = w.status in inl (inr (inr cc))
 
-does_status : {G C S X L : Type 0} (told : Tells G C S X) (outside : Outside) (o : Order) (s n : CommandSide G) (ended : EndOf L) (k : ℕ)
+does_status : {G C S X L : Type 0} (told : Tells G C S X) (outside : CommandOutside) (o : Order) (s n : CommandSide G) (ended : EndOf L) (k : ℕ)
     → DoesOrder told outside o s n ended → ended ≡ end.Status k → Answered s n k
 unfolding Answered
 does_status told outside (order.Serve workers map address threads clients journal watch idle log format) s n ended k does e =
@@ -146,7 +146,7 @@ does_status told outside (order.Drill seed threads requests text passes) s n end
     drill_status _ _ _ _ _ s n ended k does.runs e
 
 -- it never ends with the status of words that are no command
-pub does_done : {G C S X L : Type 0} (told : Tells G C S X) (outside : Outside) (o : Order) (s n : CommandSide G) (ended : EndOf L)
+pub does_done : {G C S X L : Type 0} (told : Tells G C S X) (outside : CommandOutside) (o : Order) (s n : CommandSide G) (ended : EndOf L)
     → DoesOrder told outside o s n ended → ended ≢ end.Status 2
 unfolding IsOfRun Answered
 does_done told outside o s n ended does e =
@@ -156,7 +156,7 @@ does_done told outside o s n ended does e =
     ]
 
 -- it ends with status 5 only where the output's faults rose
-pub does_lose : {G C S X L : Type 0} (told : Tells G C S X) (outside : Outside) (o : Order) (s n : CommandSide G) (ended : EndOf L)
+pub does_lose : {G C S X L : Type 0} (told : Tells G C S X) (outside : CommandOutside) (o : Order) (s n : CommandSide G) (ended : EndOf L)
     → DoesOrder told outside o s n ended → ended ≡ end.Status 5 → Rose s.output_faults n.output_faults
 unfolding IsOfRun Answered
 does_lose told outside o s n ended does e =

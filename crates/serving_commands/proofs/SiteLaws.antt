@@ -1,7 +1,7 @@
 -- What a site's files are judged to be.
 use Rattle.std.proofs.Common.{ℕ, ◌≡◌, true, List, [], ◌∷◌, ◌++◌, Ok, Err, IfOk, Result, codes, inr, refl, sym, subst}
-use Rattle.plain_commands.specs.Readings.{Outside, File, IsRead}
-use Rattle.property_lines.specs.Refusals.{Refusal}
+use Rattle.plain_commands.specs.Readings.{CommandOutside, File, IsRead}
+use Rattle.property_lines.specs.Refusals.{LineRefusal}
 use Rattle.site_config.specs.declared.config.Config.{Config}
 use Rattle.site_reports.specs.ConfigText.{config_text}
 use Rattle.site_reports.specs.Reports.{OfMap, refusal_line, rules_line}
@@ -13,17 +13,17 @@ use Rattle.serving_commands.specs.declared.reading.Judged.{Judged}
 use Rattle.serving_commands.specs.declared.reading.Judged.TheVariants as judged
 
 -- a map that is refused
-pub refused_map : {E : Type 0} (workers map : List ℕ) (cfg : Config) (r : Refusal) (result : Result Judged E) → IsConfig workers cfg → read_text cfg map ≡ Err r
+pub refused_map : {E : Type 0} (workers map : List ℕ) (cfg : Config) (r : LineRefusal) (result : Result Judged E) → IsConfig workers cfg → read_text cfg map ≡ Err r
     → IfOk result (λ j. j ≡ judged.Refused (refusal_line (codes "map") r)) → IfOk result (λ j. Judges workers map j)
 refused_map workers map cfg r (Err e) config refused is = tt
 refused_map workers map cfg r (Ok j) config refused is =
     let line = refusal_line (codes "map") r in
     let of : OfMap cfg (read_text cfg map) (λ rules. config_text cfg ++ rules_line rules) line true =
-    subst (λ (read : Result (List Rule) Refusal). OfMap cfg read (λ rules. config_text cfg ++ rules_line rules) line true) (sym refused) (refl, refl) in
+    subst (λ (read : Result (List Rule) LineRefusal). OfMap cfg read (λ rules. config_text cfg ++ rules_line rules) line true) (sym refused) (refl, refl) in
     subst (λ (k : Judged). Judges workers map k) (sym is) (inr (cfg, config, of))
 
 -- both files were read whole, and their texts were judged
-pub judged_so : (outside : Outside) (workers map workers_text map_text : List ℕ) (j : Judged) → IsRead outside (File workers) workers_text → IsRead outside (File map) map_text
+pub judged_so : (outside : CommandOutside) (workers map workers_text map_text : List ℕ) (j : Judged) → IsRead outside (File workers) workers_text → IsRead outside (File map) map_text
     → Judges workers_text map_text j → IsJudged outside workers map j
 judged_so outside workers map workers_text map_text (judged.Site site) first second j = record {
   workers_text = workers_text;

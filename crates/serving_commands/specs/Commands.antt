@@ -16,7 +16,7 @@ use Rattle.jk_io.specs.Told.{appended, PutsFront, Rose}
 use Rattle.jk_server.specs.declared.part.WorkerEnd.{WorkerEnd}
 use Rattle.mini_container.specs.declared.app_config.AppConfig.{AppConfig}
 use Rattle.plain_commands.specs.Plain.{Plain}
-use Rattle.plain_commands.specs.Readings.{Outside}
+use Rattle.plain_commands.specs.Readings.{CommandOutside}
 use Rattle.site_config.specs.declared.config.Config.{Config}
 use Rattle.uri_map.specs.declared.rule.Rule.{Rule}
 use Rattle.serving_commands.specs.Ends.{end_of_container, end_of_run, returned}
@@ -101,7 +101,7 @@ abbrev pub WritesLine : {L : Type 0} → (sent sent_now : Option (List ℕ)) →
 WritesLine sent sent_now faults faults_now line ended = Writes 3 sent sent_now faults faults_now line ended
 
 -- The files are refused, and the line that `config` prints of them was written.
-pub record RefusesFiles {G L : Type 0} (outside : Outside) (workers map : List ℕ) (s n : CommandSide G) (ended : EndOf L) : Type 0 where
+pub record RefusesFiles {G L : Type 0} (outside : CommandOutside) (workers map : List ℕ) (s n : CommandSide G) (ended : EndOf L) : Type 0 where
   pub line : List ℕ
   pub plain : Plain outside (order.Config workers (Some map)) line 3
   pub written : WritesLine s.sent n.sent s.output_faults n.output_faults line ended
@@ -114,7 +114,7 @@ pub record LacksFiles {G L : Type 0} (s n : CommandSide G) (ended : EndOf L) : T
   pub world : n.world ≡ s.world
 
 -- The files are a site, for which so many workers were wanted. Nothing was written.
-pub record ServesSite {G C S X L : Type 0} (told : Tells G C S X) (outside : Outside) (workers map : List ℕ) (threads : ℕ) (clients : Option ℕ) (s n : CommandSide G) (ended : EndOf L) : Type 0 where
+pub record ServesSite {G C S X L : Type 0} (told : Tells G C S X) (outside : CommandOutside) (workers map : List ℕ) (threads : ℕ) (clients : Option ℕ) (s n : CommandSide G) (ended : EndOf L) : Type 0 where
   pub cfg : Config
   pub rules : List Rule
   pub site : IsSite outside workers map cfg rules
@@ -122,7 +122,7 @@ pub record ServesSite {G C S X L : Type 0} (told : Tells G C S X) (outside : Out
   pub written : n.sent ≡ s.sent
 
 -- `serve WORKERS MAP ADDRESS THREADS`
-pub data Serves {G C S X L : Type 0} (told : Tells G C S X) (outside : Outside) (workers map : List ℕ) (threads : ℕ) (clients : Option ℕ) (s n : CommandSide G) (ended : EndOf L) : Type 0 where
+pub data Serves {G C S X L : Type 0} (told : Tells G C S X) (outside : CommandOutside) (workers map : List ℕ) (threads : ℕ) (clients : Option ℕ) (s n : CommandSide G) (ended : EndOf L) : Type 0 where
   Unread : LacksFiles s n ended → Serves told outside workers map threads clients s n ended
   Refused : RefusesFiles outside workers map s n ended → Serves told outside workers map threads clients s n ended
   Served : ServesSite told outside workers map threads clients s n ended → Serves told outside workers map threads clients s n ended
@@ -176,7 +176,7 @@ pub record Drills {G L : Type 0} (seed threads requests : ℕ) (text passes : Bo
   pub world : n.world ≡ s.world
 
 -- What an order that asks for workers does.
-abbrev pub DoesOrder : {G C S X L : Type 0} → Tells G C S X → Outside → Order → (s n : CommandSide G) → EndOf L → Type 0
+abbrev pub DoesOrder : {G C S X L : Type 0} → Tells G C S X → CommandOutside → Order → (s n : CommandSide G) → EndOf L → Type 0
 DoesOrder told outside (order.Serve workers map address threads clients journal watch idle log format) s n ended =
     Serves told outside workers map threads clients s n ended
 DoesOrder told outside (order.Container route address threads clients) s n ended = Contains told route threads clients s n ended

@@ -3,10 +3,10 @@ use Rattle.std.specs.Prelude.{◌≡◌, ◌↔◌, ℕ, false, ◌⊎◌, List,
 use Rattle.jk_io.specs.Told.{Rose}
 use Rattle.plain_commands.specs.Endings.{Faults, ReadFails}
 use Rattle.plain_commands.specs.Plain.{is_plain, Prints, PrintsFront}
-use Rattle.plain_commands.specs.Readings.{Outside}
+use Rattle.plain_commands.specs.Readings.{CommandOutside}
 
 -- What each status of a plain command says, of words that ask for no workers.
-pub record RunsPlain (words : List (List ℕ)) (outside : Outside) (sent sent_now : Option (List ℕ)) (old new : Faults) (status : ℕ) : Type 0 where
+pub record RunsPlain (words : List (List ℕ)) (outside : CommandOutside) (sent sent_now : Option (List ℕ)) (old new : Faults) (status : ℕ) : Type 0 where
   pub statuses : (status ≡ 0) ⊎ (status ≡ 1) ⊎ (status ≡ 2) ⊎ (status ≡ 3) ⊎ (status ≡ 4) ⊎ (status ≡ 5) ⊎ (status ≡ 6)
   pub done : status ≡ 0 → Prints words outside sent sent_now 0
   pub bad : status ≡ 1 → Prints words outside sent sent_now 1

@@ -2,7 +2,7 @@
 use Rattle.std.specs.Prelude.{◌≡◌, ℕ, true, List, [], ◌∷◌, Some, Ok}
 use Rattle.jk_cli.specs.declared.order.Order.TheVariants as order
 use Rattle.plain_commands.specs.Plain.{Plain}
-use Rattle.plain_commands.specs.Readings.{Outside, File, AreRead}
+use Rattle.plain_commands.specs.Readings.{CommandOutside, File, AreRead}
 use Rattle.site_config.specs.declared.config.Config.{Config}
 use Rattle.site_reports.specs.Reports.{ReportsSite}
 use Rattle.uri_map.specs.Lines.{read_text}
@@ -13,7 +13,7 @@ use Rattle.serving_commands.specs.declared.reading.Judged.TheVariants as judged
 
 -- The site of the files WORKERS and MAP: each is read whole before one is judged, and this is the configuration of the one
 -- and these are the rules of the other.
-pub record IsSite (outside : Outside) (workers map : List ℕ) (cfg : Config) (rules : List Rule) : Type 0 where
+pub record IsSite (outside : CommandOutside) (workers map : List ℕ) (cfg : Config) (rules : List Rule) : Type 0 where
   pub workers_text : List ℕ
   pub map_text : List ℕ
   pub read : AreRead outside (File workers ∷ File map ∷ []) (workers_text ∷ map_text ∷ [])
@@ -26,6 +26,6 @@ Judges workers map (judged.Site site) = IsConfig workers site.cfg × (read_text 
 Judges workers map (judged.Refused line) = ReportsSite workers map line true
 
 -- the files of these names
-abbrev pub IsJudged : Outside → (workers map : List ℕ) → Judged → Type 0
+abbrev pub IsJudged : CommandOutside → (workers map : List ℕ) → Judged → Type 0
 IsJudged outside workers map (judged.Site site) = IsSite outside workers map site.cfg site.map
 IsJudged outside workers map (judged.Refused line) = Plain outside (order.Config workers (Some map)) line 3

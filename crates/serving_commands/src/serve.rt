@@ -1,7 +1,7 @@
 //! `serve`: clients served over the balancers of a site.
 ghost use Rattle.std.specs.Prelude.{◌≡◌, ◌<◌, ◌≤◌, ℕ, List, Option, [], length};
 ghost use Rattle.jk_io.specs.Told.{HasCause};
-ghost use Rattle.plain_commands.specs.Readings.{Outside};
+ghost use Rattle.plain_commands.specs.Readings.{CommandOutside};
 ghost use Rattle.serving_commands.specs.Commands.{command_side, RunsSite, Serves, Works, WritesLine, CommandSide};
 ghost use Rattle.serving_commands.specs.Ends.{end_of_run, returned};
 ghost use Rattle.serving_commands.specs.Worlds.{HandsAndTakes, tells, world_side};

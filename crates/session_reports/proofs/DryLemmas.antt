@@ -12,13 +12,13 @@ use Rattle.client_session.specs.Complete.{EndsWhole, ServesWhole}
 use Rattle.client_session.specs.Parts.{HasParts}
 use Rattle.client_session.specs.Requests.{Visit}
 use Rattle.client_session.specs.Sessions.{InEachSession, IsServed, Serves}
-use Rattle.client_session.specs.Standings.{Standing}
+use Rattle.client_session.specs.Standings.{ClientStanding}
 use Rattle.client_session.specs.declared.ending.SessionEnd.{SessionEnd}
 use Rattle.session_reports.specs.Dry.{IsRun, first_standing}
 use Rattle.session_reports.specs.Lines.{dry_text}
 
 -- what is known at first of these, where nothing of the client's bytes was read
-abbrev pub first_of : DeskState → (clock : List ℕ) → MemReachState → MemLinkState → Standing
+abbrev pub first_of : DeskState → (clock : List ℕ) → MemReachState → MemLinkState → ClientStanding
 first_of desk clock reach client = record {
   desk = record { state = desk; clock = Some clock };
   reach = record { talks = Some reach.book.talks; faults = reach.faults };
@@ -35,7 +35,7 @@ first_is desk clock reach client books d k talks faults received sent failed =
     rw (d, k, talks, faults, received, sent, failed) refl
 
 -- what a session's contract says of the way that it went
-pub run_from : (v v' : Visit) (first : Standing) (at_first at_last : List ℕ → Standing) (rows : List Served) (end : SessionEnd) (talks : List Talk) (sent : List ℕ)
+pub run_from : (v v' : Visit) (first : ClientStanding) (at_first at_last : List ℕ → ClientStanding) (rows : List Served) (end : SessionEnd) (talks : List Talk) (sent : List ℕ)
     → (way : Serves v at_first at_last [] rows end) → v ≡ v' → at_first [] ≡ first
     → (at_last way.inbox).reach.talks ≡ Some talks → (at_last way.inbox).client.sent ≡ Some sent
     → ((at_last way.inbox).reach.faults ≡ 0) × ((at_last way.inbox).client.faults ≡ 0)
@@ -43,10 +43,10 @@ pub run_from : (v v' : Visit) (first : Standing) (at_first at_last : List ℕ �
     → InEachSession v end (IsOwnCaused v)
     → InEachSession v end (IsDecided v)
     → InEachSession v end (EndsWhole v)
-    → ((number : ℕ) (s n : Standing) (gained : List Served) → IsServed v number s n gained → ServesWhole v number s n)
+    → ((number : ℕ) (s n : ClientStanding) (gained : List Served) → IsServed v number s n gained → ServesWhole v number s n)
     → IsRun v' first talks sent end
 run_from v v' first at_first at_last rows end talks sent way same begun talked written calm parts own by_bytes complete served =
-    subst (λ (w : Visit). IsRun w first talks sent end) same (subst (λ (s : Standing). IsRun v s talks sent end) begun (record {
+    subst (λ (w : Visit). IsRun w first talks sent end) same (subst (λ (s : ClientStanding). IsRun v s talks sent end) begun (record {
       last = at_last way.inbox;
       rows = way.gained;
       session = way.session;

@@ -1,6 +1,6 @@
 -- What `dry` prints: one session over memory. Read this first.
 use Rattle.std.specs.Prelude.{◌≡◌, ℕ, Bool, false, List, [], ◌∷◌, Some, IsSomeAnd, Result, Ok, Err, codes, reverse}
-use Rattle.property_lines.specs.Refusals.{Refusal}
+use Rattle.property_lines.specs.Refusals.{LineRefusal}
 use Rattle.jk_io.specs.MemReaches.{MemReachState}
 use Rattle.jk_io.specs.declared.reaching.Talk.{Talk}
 use Rattle.jk_model.specs.declared.served.Served.{Served}
@@ -16,7 +16,7 @@ use Rattle.client_session.specs.Complete.{EndsWhole, ServesWhole}
 use Rattle.client_session.specs.Parts.{HasParts}
 use Rattle.client_session.specs.Requests.{Visit, visit}
 use Rattle.client_session.specs.Sessions.{IsServed, IsSession}
-use Rattle.client_session.specs.Standings.{Standing}
+use Rattle.client_session.specs.Standings.{ClientStanding}
 use Rattle.client_session.specs.declared.ending.SessionEnd.{SessionEnd}
 use Rattle.session_reports.specs.Lines.{dry_text, end_words}
 use Rattle.session_reports.specs.Links.{AreTalksOver, reply_link}
@@ -35,7 +35,7 @@ dry_visit c rules = visit c rules 0 (record { addr = codes "127.0.0.1" })
 
 -- Nothing was done yet: the Books as they start, a clock whose every answer is 0, no talk, and all bytes of the client are
 -- to come.
-abbrev pub first_standing : List Journal → (request : List ℕ) → Standing
+abbrev pub first_standing : List Journal → (request : List ℕ) → ClientStanding
 first_standing books request = record {
   desk = record { state = plain_state books [] [] 0 0 0; clock = Some [] };
   reach = record { talks = Some []; faults = 0 };
@@ -48,8 +48,8 @@ first_standing books request = record {
 -- One session from this standing to its end, in which no call of a link failed: the talks that it had, the bytes that its
 -- client has, and its end. The client has the parts of its requests joined; an own answer has its cause; the client's bytes
 -- decide what they can; and what nothing disturbs is answered with exactly its member's reply.
-pub record IsRun (v : Visit) (first : Standing) (talks : List Talk) (sent : List ℕ) (end : SessionEnd) : Type 0 where
-  pub last : Standing
+pub record IsRun (v : Visit) (first : ClientStanding) (talks : List Talk) (sent : List ℕ) (end : SessionEnd) : Type 0 where
+  pub last : ClientStanding
   pub rows : List Served
   pub session : IsSession v first last rows end
   pub talked : last.reach.talks ≡ Some talks
@@ -59,7 +59,7 @@ pub record IsRun (v : Visit) (first : Standing) (talks : List Talk) (sent : List
   pub own : IsOwnCaused v end session.number session.mid last
   pub by_bytes : IsDecided v end session.number session.mid last
   pub complete : EndsWhole v end session.number session.mid last
-  pub served : (number : ℕ) (s n : Standing) (gained : List Served) → IsServed v number s n gained → ServesWhole v number s n
+  pub served : (number : ℕ) (s n : ClientStanding) (gained : List Served) → IsServed v number s n gained → ServesWhole v number s n
 
 -- The first link that was dialled had the reply to come, and each later one nothing.
 abbrev pub AreOverReply : (reply : List ℕ) → List Talk → Type 0
@@ -84,7 +84,7 @@ pub record Dries (c : Config) (rules : List Rule) (request reply out : List ℕ)
   pub printed : IsSomeAnd (end_words end) (λ words. out ≡ dry_text talks sent words)
 
 -- the refusal of a map, or what is printed of a session over its rules
-abbrev pub OfRules : Config → Result (List Rule) Refusal → (request reply out : List ℕ) → (refused : Bool) → Type 0
+abbrev pub OfRules : Config → Result (List Rule) LineRefusal → (request reply out : List ℕ) → (refused : Bool) → Type 0
 OfRules c (Err r) request reply out refused = Refuses (codes "map") r out refused
 OfRules c (Ok rules) request reply out refused = Dries c rules request reply out × (refused ≡ false)
 

@@ -3,13 +3,13 @@ use Rattle.std.proofs.Common.{◌≡◌, ℕ, ◌+◌, ◌<◌, Bool, true, fals
 use Rattle.std.proofs.lemmas.List.{map-append, take_more}
 use Rattle.std.specs.Map.{update}
 use Rattle.std.specs.Str.{bytes_eq}
-use Rattle.property_lines.specs.declared.values.Kind.{Kind}
+use Rattle.property_lines.specs.declared.values.WorkerKind.{WorkerKind}
 use Rattle.worker_props.specs.Given.{or_else}
 use Rattle.site_remarks.specs.KindTables.{as_kinds}
 use Rattle.site_remarks.specs.Notices.{kind_among}
 
 -- the last one is found first
-kind_among-snoc : (name : List ℕ) (kinds : List (List ℕ × Kind)) (entry : List ℕ × Kind)
+kind_among-snoc : (name : List ℕ) (kinds : List (List ℕ × WorkerKind)) (entry : List ℕ × WorkerKind)
     → kind_among name (kinds ++ entry ∷ []) ≡ cond (bytes_eq entry.0 name) (Some entry.1) (kind_among name kinds)
 kind_among-snoc name [] entry = refl
 kind_among-snoc name (other ∷ kinds) entry = rw (kind_among-snoc name kinds entry) (by_test (bytes_eq entry.0 name))
@@ -19,11 +19,11 @@ kind_among-snoc name (other ∷ kinds) entry = rw (kind_among-snoc name kinds en
     by_test true = refl
     by_test false = refl
 
-pub kind_put : (found : List ℕ → Option Kind) (name : List ℕ) (kinds : List (List ℕ × Kind)) (entry : List ℕ × Kind) → found name ≡ kind_among name kinds
+pub kind_put : (found : List ℕ → Option WorkerKind) (name : List ℕ) (kinds : List (List ℕ × WorkerKind)) (entry : List ℕ × WorkerKind) → found name ≡ kind_among name kinds
     → update bytes_eq found entry.0 (Some entry.1) name ≡ kind_among name (kinds ++ entry ∷ [])
-kind_put found name kinds entry before = ap (λ (o : Option Kind). cond (bytes_eq entry.0 name) (Some entry.1) o) before ∙ sym (kind_among-snoc name kinds entry)
+kind_put found name kinds entry before = ap (λ (o : Option WorkerKind). cond (bytes_eq entry.0 name) (Some entry.1) o) before ∙ sym (kind_among-snoc name kinds entry)
 
 -- the workers up to the next one
-pub kinds_more : (kinds : List (Bor (List ℕ) × Kind)) (i : ℕ) (d : Bor (List ℕ) × Kind) → i < length kinds
+pub kinds_more : (kinds : List (Bor (List ℕ) × WorkerKind)) (i : ℕ) (d : Bor (List ℕ) × WorkerKind) → i < length kinds
     → as_kinds (take (i + 1) kinds) ≡ as_kinds (take i kinds) ++ ((get_or kinds i d).0.now, (get_or kinds i d).1) ∷ []
 kinds_more kinds i d h = rw (take_more kinds i d h, map-append) refl

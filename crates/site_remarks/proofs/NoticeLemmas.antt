@@ -6,8 +6,8 @@ use Rattle.property_lines.specs.declared.property.Property.{Property}
 use Rattle.std.proofs.lemmas.List.{map-append, take_more}
 use Rattle.property_lines.specs.Entries.{as_property, as_properties}
 use Rattle.property_lines.specs.Lines.{lines}
-use Rattle.property_lines.specs.declared.entry.Entry.{Entry}
-use Rattle.property_lines.specs.declared.values.Kind.{Kind}
+use Rattle.property_lines.specs.declared.property_line.PropertyLine.{PropertyLine}
+use Rattle.property_lines.specs.declared.values.WorkerKind.{WorkerKind}
 use Rattle.site_remarks.specs.MapNotices.{notices_from}
 use Rattle.site_remarks.specs.Notices.{notice, notice_with, words_at}
 
@@ -17,16 +17,16 @@ on_ok (Ok x) P Q h f = f h
 on_ok (Err e) P Q h f = tt
 
 -- no notice where no line is left
-pub none_left : (file : List ℕ) (line : ℕ) (kinds : List (List ℕ × Kind)) (rest : List ℕ) → length rest ≡ 0 → notices_from file line kinds (lines rest) ≡ []
+pub none_left : (file : List ℕ) (line : ℕ) (kinds : List (List ℕ × WorkerKind)) (rest : List ℕ) → length rest ≡ 0 → notices_from file line kinds (lines rest) ≡ []
 none_left file line kinds [] none = refl
 none_left file line kinds (b ∷ bs) none = absurd (omega arith)
 
 -- the notices of one line more
-notices_step : (file : List ℕ) (kinds : List (List ℕ × Kind)) (ps : List Property) (es : List Entry) (i : ℕ) (d : Entry) → i < length es
+notices_step : (file : List ℕ) (kinds : List (List ℕ × WorkerKind)) (ps : List Property) (es : List PropertyLine) (i : ℕ) (d : PropertyLine) → i < length es
     → flat_map (notice file kinds ps) (as_properties (take (i + 1) es)) ≡ flat_map (notice file kinds ps) (as_properties (take i es)) ++ notice file kinds ps (as_property (get_or es i d))
 notices_step file kinds ps es i d h = rw (take_more es i d h, map-append, flat_map-append, append-nil) refl
 
-pub notice_more : (file : List ℕ) (kinds : List (List ℕ × Kind)) (ps : List Property) (es : List Entry) (i : ℕ) (d : Entry) → i < length es → (start out new : List ℕ) (words : Option (List ℕ))
+pub notice_more : (file : List ℕ) (kinds : List (List ℕ × WorkerKind)) (ps : List Property) (es : List PropertyLine) (i : ℕ) (d : PropertyLine) → i < length es → (start out new : List ℕ) (words : Option (List ℕ))
     → out ≡ start ++ flat_map (notice file kinds ps) (as_properties (take i es)) → words ≡ words_at kinds ps (as_property (get_or es i d)) → new ≡ out ++ notice_with file (get_or es i d).line (get_or es i d).key.now words
     → new ≡ start ++ flat_map (notice file kinds ps) (as_properties (take (i + 1) es))
 notice_more file kinds ps es i d h start out new words before are more = rw (notices_step file kinds ps es i d h, more, before, are, append_assoc) refl

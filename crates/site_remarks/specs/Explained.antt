@@ -1,7 +1,7 @@
 -- What is said of a file that is refused: in words what is wrong with a line of it, and the line as it stands.
 use Rattle.std.specs.Prelude.{ℕ, ◌-◌, List, [], ◌++◌, codes, decimal, slice_get, unwrap_or, if◌then◌else◌, ◌==◌}
 use Rattle.property_lines.specs.Lines.{lines, without_mark}
-use Rattle.property_lines.specs.Refusals.{Refusal}
+use Rattle.property_lines.specs.Refusals.{LineRefusal}
 use Rattle.site_remarks.specs.Wanted.{wanted_of}
 
 -- what is said of a line of a file
@@ -38,9 +38,9 @@ abbrev pub told_of : (file text words : List ℕ) → ℕ → List ℕ
 told_of file text words line = said_of file line (words ++ line_at text line)
 
 -- the first refusal of a workers.properties
-abbrev pub explained_workers : (file text : List ℕ) → Refusal → List ℕ
+abbrev pub explained_workers : (file text : List ℕ) → LineRefusal → List ℕ
 explained_workers file text r = told_of file text (workers_words (line_at text r.line) r.code) r.line
 
 -- the first refusal of a uriworkermap.properties
-abbrev pub explained_map : (file text : List ℕ) → Refusal → List ℕ
+abbrev pub explained_map : (file text : List ℕ) → LineRefusal → List ℕ
 explained_map file text r = told_of file text (map_words r.code) r.line

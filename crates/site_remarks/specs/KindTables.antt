@@ -4,19 +4,19 @@ use Rattle.std.specs.Str.{bytes_eq}
 use Rattle.std.specs.HashMap.{HashMap, get_by}
 use Rattle.std.specs.declared.hash.FoldHasher.{FoldHasher}
 use Rattle.std.specs.declared.hash.BuildHasherDefault.{BuildHasherDefault}
-use Rattle.property_lines.specs.declared.values.Kind.{Kind}
+use Rattle.property_lines.specs.declared.values.WorkerKind.{WorkerKind}
 use Rattle.site_remarks.specs.Notices.{kind_among}
 use Rattle.property_lines.specs.declared.property.Property.{Property}
 use Rattle.site_remarks.specs.Again.{IsLineTable}
 use denote.Ref.{Bor}
 
-abbrev pub as_kinds : List (Bor (List ℕ) × Kind) → List (List ℕ × Kind)
+abbrev pub as_kinds : List (Bor (List ℕ) × WorkerKind) → List (List ℕ × WorkerKind)
 as_kinds kinds = map (λ entry. (entry.0.now, entry.1)) kinds
 
 -- the table finds the type of each worker, and nothing else
-abbrev pub IsKindTable : HashMap (Bor (List ℕ)) Kind (BuildHasherDefault FoldHasher) → List (List ℕ × Kind) → Type 0
+abbrev pub IsKindTable : HashMap (Bor (List ℕ)) WorkerKind (BuildHasherDefault FoldHasher) → List (List ℕ × WorkerKind) → Type 0
 IsKindTable table kinds = (name : List ℕ) → get_by (λ k. bytes_eq name k.now) table ≡ kind_among name kinds
 
 -- the tables of these types and of these lines
-abbrev pub AreTables : HashMap (Bor (List ℕ)) Kind (BuildHasherDefault FoldHasher) → HashMap (Bor (List ℕ)) ℕ (BuildHasherDefault FoldHasher) → List (List ℕ × Kind) → List Property → Type 0
+abbrev pub AreTables : HashMap (Bor (List ℕ)) WorkerKind (BuildHasherDefault FoldHasher) → HashMap (Bor (List ℕ)) ℕ (BuildHasherDefault FoldHasher) → List (List ℕ × WorkerKind) → List Property → Type 0
 AreTables kind_table line_table kinds ps = IsKindTable kind_table kinds × IsLineTable line_table ps

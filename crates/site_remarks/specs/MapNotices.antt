@@ -7,8 +7,8 @@ use Rattle.jk_io.specs.Decimals.{trimmed}
 use Rattle.property_lines.specs.Cut.{cut_at}
 use Rattle.property_lines.specs.Lines.{lines, without_mark}
 use Rattle.property_lines.specs.Properties.{is_silent}
-use Rattle.property_lines.specs.declared.values.Kind.{Kind}
-use Rattle.property_lines.specs.declared.values.Kind.TheVariants as kind
+use Rattle.property_lines.specs.declared.values.WorkerKind.{WorkerKind}
+use Rattle.property_lines.specs.declared.values.WorkerKind.TheVariants as kind
 use Rattle.site_remarks.specs.Explained.{said_of}
 use Rattle.site_remarks.specs.Notices.{kind_among}
 use Rattle.site_remarks.specs.Wanted.{key_in}
@@ -26,33 +26,33 @@ part_notice file line text =
     else said_of file line (key_in text ++ codes " is not supported in a rule and has no effect")
 
 -- the notices of the parts that follow a worker of this type
-abbrev pub parts_notices : (file : List ℕ) → ℕ → Option Kind → List ℕ → List ℕ
+abbrev pub parts_notices : (file : List ℕ) → ℕ → Option WorkerKind → List ℕ → List ℕ
 parts_notices file line (Some kind.Status) parts = said_of file line (codes "what follows the ; has no effect on a worker of type status")
 parts_notices file line type parts = flat_map (part_notice file line) (pieces_of parts)
 
 -- the notices of what follows a rule's worker, where a `;` stands there
-abbrev pub behind_notices : (file : List ℕ) → ℕ → List (List ℕ × Kind) → (exclusion : Bool) → Option (List ℕ × List ℕ) → List ℕ
+abbrev pub behind_notices : (file : List ℕ) → ℕ → List (List ℕ × WorkerKind) → (exclusion : Bool) → Option (List ℕ × List ℕ) → List ℕ
 behind_notices file line kinds exclusion None = []
 behind_notices file line kinds true (Some sides) = said_of file line (codes "what follows the ; has no effect on an exclusion")
 behind_notices file line kinds false (Some sides) = parts_notices file line (kind_among (trimmed sides.0) kinds) sides.1
 
 -- the notices of a rule with this left side; nobody expects an effect of one that is turned off
-abbrev pub side_notices : (file : List ℕ) → ℕ → List (List ℕ × Kind) → Left → (right : List ℕ) → List ℕ
+abbrev pub side_notices : (file : List ℕ) → ℕ → List (List ℕ × WorkerKind) → Left → (right : List ℕ) → List ℕ
 side_notices file line kinds side right = if side.off then [] else behind_notices file line kinds side.exclusion (cut_at 59 right)
 
 -- the notices of a rule, split at its first `=`
-abbrev pub rule_notices : (file : List ℕ) → ℕ → List (List ℕ × Kind) → Option (List ℕ × List ℕ) → List ℕ
+abbrev pub rule_notices : (file : List ℕ) → ℕ → List (List ℕ × WorkerKind) → Option (List ℕ × List ℕ) → List ℕ
 rule_notices file line kinds None = []
 rule_notices file line kinds (Some sides) = side_notices file line kinds (left_of (trimmed sides.0)) sides.1
 
 -- the notices of a line without its outer blanks
-abbrev pub line_notices : (file : List ℕ) → ℕ → List (List ℕ × Kind) → List ℕ → List ℕ
+abbrev pub line_notices : (file : List ℕ) → ℕ → List (List ℕ × WorkerKind) → List ℕ → List ℕ
 line_notices file line kinds text = if is_silent text then [] else rule_notices file line kinds (cut_at 61 text)
 
 -- the notices of the lines from this number on
-abbrev pub notices_from : (file : List ℕ) → ℕ → List (List ℕ × Kind) → List (List ℕ) → List ℕ
+abbrev pub notices_from : (file : List ℕ) → ℕ → List (List ℕ × WorkerKind) → List (List ℕ) → List ℕ
 notices_from file line kinds [] = []
 notices_from file line kinds (l ∷ ls) = line_notices file line kinds (trimmed l) ++ notices_from file (line + 1) kinds ls
 
-abbrev pub map_notices : (file : List ℕ) → List (List ℕ × Kind) → (text : List ℕ) → List ℕ
+abbrev pub map_notices : (file : List ℕ) → List (List ℕ × WorkerKind) → (text : List ℕ) → List ℕ
 map_notices file kinds text = notices_from file 1 kinds (lines (without_mark text))

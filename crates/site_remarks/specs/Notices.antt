@@ -5,8 +5,8 @@ use Rattle.std.specs.Str.{bytes_eq}
 use Rattle.property_lines.specs.declared.directive.Directive.{Directive}
 use Rattle.property_lines.specs.declared.directive.Directive.TheVariants as directive
 use Rattle.property_lines.specs.declared.property.Property.{Property}
-use Rattle.property_lines.specs.declared.values.Kind.{Kind}
-use Rattle.property_lines.specs.declared.values.Kind.TheVariants as kind
+use Rattle.property_lines.specs.declared.values.WorkerKind.{WorkerKind}
+use Rattle.property_lines.specs.declared.values.WorkerKind.TheVariants as kind
 use Rattle.property_lines.specs.Directives.{behind_worker, directive_of, list_key, maintain_key, worker_part}
 use Rattle.site_config.specs.declared.balancer.Lb.{Lb}
 use Rattle.site_config.specs.declared.config.Config.{Config}
@@ -17,28 +17,28 @@ use Rattle.site_remarks.specs.Again.{is_again}
 use Rattle.site_remarks.specs.Explained.{said_of}
 
 -- a balancer that was made of one listed worker is of type ajp13
-abbrev pub balancer_kind : Option Lb → Kind
+abbrev pub balancer_kind : Option Lb → WorkerKind
 balancer_kind None = kind.Lb
 balancer_kind (Some lb) = if lb.book.direct then kind.Ajp13 else kind.Lb
 
-abbrev pub listed_kind : List Lb → Named → Kind
+abbrev pub listed_kind : List Lb → Named → WorkerKind
 listed_kind lbs (named.Status i) = kind.Status
 listed_kind lbs (named.Balancer i) = balancer_kind (slice_get lbs i)
 
-abbrev pub member_kinds : Lb → List (List ℕ × Kind)
+abbrev pub member_kinds : Lb → List (List ℕ × WorkerKind)
 member_kinds lb = map (λ m. (m.name, kind.Ajp13)) lb.book.members
 
 -- the workers of a configuration with their types: the members of each balancer, then those that are listed
-abbrev pub kinds_of : Config → List (List ℕ × Kind)
+abbrev pub kinds_of : Config → List (List ℕ × WorkerKind)
 kinds_of c = flat_map member_kinds c.lbs ++ map (λ entry. (entry.0, listed_kind c.lbs entry.1)) c.listed
 
 -- the type of a worker of this name; of one that stands there twice the last one counts
-abbrev pub kind_among : List ℕ → List (List ℕ × Kind) → Option Kind
+abbrev pub kind_among : List ℕ → List (List ℕ × WorkerKind) → Option WorkerKind
 kind_among name [] = None
 kind_among name (entry ∷ kinds) = or_else (kind_among name kinds) (if bytes_eq entry.0 name then Some entry.1 else None)
 
 -- the type of worker that a directive is of; `type` and `reference` are of each
-abbrev pub owner_of : Directive → Option Kind
+abbrev pub owner_of : Directive → Option WorkerKind
 owner_of directive.Kind = None
 owner_of directive.Reference = None
 owner_of directive.BalanceWorkers = Some kind.Lb
@@ -52,7 +52,7 @@ owner_of directive.ReadOnly = Some kind.Status
 owner_of d = Some kind.Ajp13
 
 -- what is said of a directive of the first type at a worker of the second
-abbrev pub misplaced : Kind → Kind → Option (List ℕ)
+abbrev pub misplaced : WorkerKind → WorkerKind → Option (List ℕ)
 misplaced kind.Ajp13 kind.Ajp13 = None
 misplaced kind.Lb kind.Lb = None
 misplaced kind.Status kind.Status = None
@@ -60,13 +60,13 @@ misplaced of kind.Ajp13 = Some (codes " has no effect on a worker of type ajp13"
 misplaced of kind.Lb = Some (codes " has no effect on a worker of type lb")
 misplaced of kind.Status = Some (codes " has no effect on a worker of type status")
 
-abbrev pub misplaced_at : Option Kind → Option Kind → Option (List ℕ)
+abbrev pub misplaced_at : Option WorkerKind → Option WorkerKind → Option (List ℕ)
 misplaced_at None at = None
 misplaced_at (Some of) None = None
 misplaced_at (Some of) (Some at) = misplaced of at
 
 -- what is said of a directive at a worker of this type, or at one that has no part in the configuration
-abbrev pub directive_words : Option Directive → Option Kind → Option (List ℕ)
+abbrev pub directive_words : Option Directive → Option WorkerKind → Option (List ℕ)
 directive_words None at = Some (codes " is not supported and has no effect")
 directive_words (Some d) at = misplaced_at (owner_of d) at
 
@@ -77,12 +77,12 @@ key_words key =
     else (if is_some (behind_worker key) then Some (codes " names no directive and has no effect")
     else Some (codes " does not begin with worker. and has no effect"))
 
-abbrev pub words_with : List (List ℕ × Kind) → List ℕ → Option (List ℕ × List ℕ) → Option (List ℕ)
+abbrev pub words_with : List (List ℕ × WorkerKind) → List ℕ → Option (List ℕ × List ℕ) → Option (List ℕ)
 words_with kinds key None = key_words key
 words_with kinds key (Some parts) = directive_words (directive_of parts.1) (kind_among parts.0 kinds)
 
 -- what is said of a key, if it has no effect
-abbrev pub words_of : List (List ℕ × Kind) → List ℕ → Option (List ℕ)
+abbrev pub words_of : List (List ℕ × WorkerKind) → List ℕ → Option (List ℕ)
 words_of kinds key = words_with kinds key (worker_part key)
 
 -- what is said of a line that a later one replaces
@@ -95,7 +95,7 @@ or_again None again = again_words again
 or_again (Some words) again = Some words
 
 -- what is said of one of these lines, if it has no effect
-abbrev pub words_at : List (List ℕ × Kind) → List Property → Property → Option (List ℕ)
+abbrev pub words_at : List (List ℕ × WorkerKind) → List Property → Property → Option (List ℕ)
 words_at kinds ps p = or_again (words_of kinds p.key) (is_again ps p)
 
 abbrev pub notice_with : (file : List ℕ) → ℕ → List ℕ → Option (List ℕ) → List ℕ
@@ -103,8 +103,8 @@ notice_with file line key None = []
 notice_with file line key (Some words) = said_of file line (key ++ words)
 
 -- the notice of one of these lines
-abbrev pub notice : (file : List ℕ) → List (List ℕ × Kind) → List Property → Property → List ℕ
+abbrev pub notice : (file : List ℕ) → List (List ℕ × WorkerKind) → List Property → Property → List ℕ
 notice file kinds ps p = notice_with file p.line p.key (words_at kinds ps p)
 
-abbrev pub notices : (file : List ℕ) → List (List ℕ × Kind) → List Property → List ℕ
+abbrev pub notices : (file : List ℕ) → List (List ℕ × WorkerKind) → List Property → List ℕ
 notices file kinds ps = flat_map (notice file kinds ps) ps

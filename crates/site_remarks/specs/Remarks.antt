@@ -4,7 +4,7 @@ use Rattle.std.specs.Prelude.{◌≡◌, ◌≤◌, ℕ, Bool, true, false, List
 use Rattle.std.specs.Option.{option_map}
 use Rattle.jk_io.specs.declared.whole_input.TheConstants.{MAX_INPUT_BYTES}
 use Rattle.property_lines.specs.Properties as properties
-use Rattle.property_lines.specs.Refusals.{Refusal}
+use Rattle.property_lines.specs.Refusals.{LineRefusal}
 use Rattle.property_lines.specs.declared.property.Property.{Property}
 use Rattle.site_config.specs.declared.config.Config.{Config}
 use Rattle.site_remarks.specs.declared.site_file.SiteFile.{SiteFile}
@@ -21,7 +21,7 @@ abbrev pub workers_remarks : (effects : Bool) → (file : List ℕ) → Config �
 workers_remarks true file c ps = notices file (kinds_of c) ps
 workers_remarks false file c ps = []
 
-abbrev pub rules_remarks : (effects : Bool) → Config → List ℕ × List ℕ → Result (List Rule) Refusal → List ℕ
+abbrev pub rules_remarks : (effects : Bool) → Config → List ℕ × List ℕ → Result (List Rule) LineRefusal → List ℕ
 rules_remarks effects c map (Err r) = explained_map map.0 map.1 r
 rules_remarks true c map (Ok rules) = map_notices map.0 (kinds_of c) map.1
 rules_remarks false c map (Ok rules) = []
@@ -34,7 +34,7 @@ map_remarks effects c (Some map) = rules_remarks effects c map (read_text c map.
 -- of both files: why the first that is refused is, and what of those that are accepted has no effect
 abbrev pub AreRemarks : (effects : Bool) → (workers : List ℕ × List ℕ) → (map : Option (List ℕ × List ℕ)) → (out : List ℕ) → Type 0
 AreRemarks effects workers map out =
-    ((r : Refusal) × IsRefused workers.1 r × (out ≡ explained_workers workers.0 workers.1 r))
+    ((r : LineRefusal) × IsRefused workers.1 r × (out ≡ explained_workers workers.0 workers.1 r))
     ⊎ ((c : Config) × IsConfig workers.1 c × (ps : List Property) × (properties.read_text true workers.1 ≡ Ok ps)
     × (out ≡ workers_remarks effects workers.0 c ps ++ map_remarks effects c map))
 

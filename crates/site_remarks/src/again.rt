@@ -5,7 +5,7 @@ ghost use Rattle.property_lines.specs.Entries.{as_properties, as_property};
 ghost use Rattle.site_remarks.specs.Again.{IsLineTable, is_again, is_before, is_single, is_single_directive};
 
 use jk_io::NoMemory;
-use property_lines::{Directive, Entry, directive_of, is_maintain_key, worker_part};
+use property_lines::{Directive, PropertyLine, directive_of, is_maintain_key, worker_part};
 use std::alloc::Global;
 use std::collections::HashMap;
 
@@ -33,7 +33,7 @@ fn is_single(key: &[u8]) -> bool
 }
 
 /// Puts a line into the table of those before it.
-fn put_line<'t>(table: &mut LineTable<'t>, entry: &Entry<'t>) -> Result<(), NoMemory>
+fn put_line<'t>(table: &mut LineTable<'t>, entry: &PropertyLine<'t>) -> Result<(), NoMemory>
     ensures { (ps : List Property) → IsLineTable table.old ps
         → OnOk result (IsLineTable table.new (ps ++ as_property entry.now ∷ [])) }
 {
@@ -48,7 +48,7 @@ fn put_line<'t>(table: &mut LineTable<'t>, entry: &Entry<'t>) -> Result<(), NoMe
 /// The last line of each key.
 pub(crate) fn line_table<'t>(
     alloc: Global,
-    entries: &[Entry<'t>],
+    entries: &[PropertyLine<'t>],
 ) -> Result<LineTable<'t>, NoMemory>
     ensures { IfOk result (λ table. IsLineTable table (as_properties entries.now)) }
 {
@@ -69,7 +69,7 @@ fn is_before(line: u32, last: Option<u32>) -> bool
 }
 
 /// Whether a later one of the table's lines gives the key again.
-pub(crate) fn is_again(table: &LineTable<'_>, entry: &Entry<'_>) -> bool
+pub(crate) fn is_again(table: &LineTable<'_>, entry: &PropertyLine<'_>) -> bool
     ensures { (ps : List Property) → IsLineTable table.now ps → result ≡ is_again ps (as_property entry.now) }
 {
     is_before(entry.line, table.get(entry.key).copied())

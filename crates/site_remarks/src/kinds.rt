@@ -1,32 +1,32 @@
 //! The workers of a configuration with their types.
 ghost use Rattle.std.specs.Prelude.{◌≡◌, ◌∷◌, ◌++◌, [], ℕ, List, map, IfOk, OnOk};
-ghost use Rattle.property_lines.specs.declared.values.Kind.{Kind as AnyKind};
+ghost use Rattle.property_lines.specs.declared.values.WorkerKind.{WorkerKind as AnyKind};
 ghost use Rattle.std.specs.List.{flat_map};
 ghost use Rattle.site_remarks.specs.KindTables.{as_kinds, IsKindTable};
 ghost use Rattle.site_remarks.specs.Notices.{balancer_kind, kinds_of, listed_kind, member_kinds};
 
 use jk_io::NoMemory;
-use property_lines::Kind;
+use property_lines::WorkerKind;
 use site_config::{Config, Lb, Named};
 use std::alloc::Global;
 use std::collections::HashMap;
 
 /// Names of workers, each with its type.
-type Kinds<'c> = Vec<(&'c [u8], Kind)>;
+type Kinds<'c> = Vec<(&'c [u8], WorkerKind)>;
 
 /// The same, found by name.
-pub(crate) type KindTable<'c> = HashMap<&'c [u8], Kind>;
+pub(crate) type KindTable<'c> = HashMap<&'c [u8], WorkerKind>;
 
 /// What a listed name is.
-fn listed_kind(lbs: &[Lb], named: Named) -> Kind
+fn listed_kind(lbs: &[Lb], named: Named) -> WorkerKind
     ensures { result ≡ listed_kind lbs.now named }
 {
     match named {
-        Named::Status(_) => Kind::Status,
+        Named::Status(_) => WorkerKind::Status,
         Named::Balancer(place) => match lbs.get(place as usize) {
-            Some(lb) if lb.book.direct => Kind::Ajp13,
-            Some(_) => Kind::Lb,
-            None => Kind::Lb,
+            Some(lb) if lb.book.direct => WorkerKind::Ajp13,
+            Some(_) => WorkerKind::Lb,
+            None => WorkerKind::Lb,
         },
     }
 }
@@ -46,7 +46,7 @@ fn push_members<'c>(out: &mut Kinds<'c>, lb: &'c Lb) -> Result<(), NoMemory>
     ensures { OnOk result (as_kinds out.new.items ≡ as_kinds out.old.items ++ member_kinds lb.now) }
 {
     for member in lb.book.members.as_slice() {
-        out.push((member.name.as_slice(), Kind::Ajp13))?;
+        out.push((member.name.as_slice(), WorkerKind::Ajp13))?;
     }
     Ok(())
 }
@@ -70,7 +70,7 @@ fn kinds_of<'c>(alloc: Global, config: &'c Config) -> Result<Kinds<'c>, NoMemory
 }
 
 /// Puts a worker into the table of those before it.
-fn put_kind<'c>(table: &mut KindTable<'c>, name: &'c [u8], kind: Kind) -> Result<(), NoMemory>
+fn put_kind<'c>(table: &mut KindTable<'c>, name: &'c [u8], kind: WorkerKind) -> Result<(), NoMemory>
     ensures { (kinds : List (List ℕ × AnyKind)) → IsKindTable table.old kinds
         → OnOk result (IsKindTable table.new (kinds ++ (name.now, kind) ∷ [])) }
 {
@@ -79,7 +79,7 @@ fn put_kind<'c>(table: &mut KindTable<'c>, name: &'c [u8], kind: Kind) -> Result
 }
 
 /// The type of each name; of a name that stands there twice the last one counts.
-fn table_of<'c>(alloc: Global, kinds: &[(&'c [u8], Kind)]) -> Result<KindTable<'c>, NoMemory>
+fn table_of<'c>(alloc: Global, kinds: &[(&'c [u8], WorkerKind)]) -> Result<KindTable<'c>, NoMemory>
     ensures { IfOk result (λ table. IsKindTable table (as_kinds kinds.now)) }
 {
     let mut table = HashMap::new(alloc);

@@ -3,7 +3,7 @@ ghost use Rattle.std.specs.Prelude.{◌≡◌, ◌++◌, ◌≤◌, ℕ, List, l
 ghost use Rattle.jk_io.specs.declared.whole_input.TheConstants.{MAX_INPUT_BYTES};
 ghost use Rattle.std.specs.List.{flat_map};
 ghost use Rattle.std.specs.Option.{option_map};
-ghost use Rattle.property_lines.specs.declared.values.Kind.{Kind};
+ghost use Rattle.property_lines.specs.declared.values.WorkerKind.{WorkerKind};
 ghost use Rattle.property_lines.specs.Cut.{cut_at};
 ghost use Rattle.site_remarks.specs.KindTables.{IsKindTable};
 ghost use Rattle.site_remarks.specs.MapNotices.{behind_notices, is_part_name, line_notices, map_notices, part_notice, parts_notices, side_notices};
@@ -16,7 +16,7 @@ use crate::kinds::KindTable;
 use crate::site_file::SiteFile;
 use crate::wanted::key_in;
 use jk_io::{Bytes, NoMemory, trim};
-use property_lines::{Kind, cut_at, first_line, without_mark};
+use property_lines::{WorkerKind, cut_at, first_line, without_mark};
 
 /// The marks before a rule's pattern: `!` makes an exclusion, `-` turns the rule off.
 #[derive(Clone, Copy)]
@@ -103,13 +103,13 @@ fn put_each_part(out: &mut Bytes, at: FileLine<'_>, parts: &[u8]) -> Result<(), 
 fn put_parts(
     out: &mut Bytes,
     at: FileLine<'_>,
-    kind: Option<Kind>,
+    kind: Option<WorkerKind>,
     parts: &[u8],
 ) -> Result<(), NoMemory>
     ensures { OnOk result (out.new ≡ out.old ++ parts_notices at.entry.file.now at.entry.line kind parts.now) }
 {
     match kind {
-        Some(Kind::Status) => put_said(
+        Some(WorkerKind::Status) => put_said(
             out,
             at,
             b"",
@@ -127,7 +127,7 @@ fn put_behind(
     exclusion: bool,
     right: &[u8],
 ) -> Result<(), NoMemory>
-    ensures { (kinds : List (List ℕ × Kind)) → IsKindTable table.now kinds → OnOk result (out.new ≡ out.old
+    ensures { (kinds : List (List ℕ × WorkerKind)) → IsKindTable table.now kinds → OnOk result (out.new ≡ out.old
         ++ behind_notices at.entry.file.now at.entry.line kinds exclusion (cut_at 59 right.now)) }
 {
     let Some((name, parts)) = cut_at(right, b';') else {
@@ -152,7 +152,7 @@ fn put_sides(
     left: &[u8],
     right: &[u8],
 ) -> Result<(), NoMemory>
-    ensures { (kinds : List (List ℕ × Kind)) → IsKindTable table.now kinds → OnOk result (out.new ≡ out.old
+    ensures { (kinds : List (List ℕ × WorkerKind)) → IsKindTable table.now kinds → OnOk result (out.new ≡ out.old
         ++ side_notices at.entry.file.now at.entry.line kinds (left_of left.now) right.now) }
 {
     let marks = marks_of(left);
@@ -169,7 +169,7 @@ fn put_line(
     at: FileLine<'_>,
     text: &[u8],
 ) -> Result<(), NoMemory>
-    ensures { (kinds : List (List ℕ × Kind)) → IsKindTable table.now kinds
+    ensures { (kinds : List (List ℕ × WorkerKind)) → IsKindTable table.now kinds
         → OnOk result (out.new ≡ out.old ++ line_notices at.entry.file.now at.entry.line kinds text.now) }
 {
     if is_silent(text) {
@@ -188,7 +188,7 @@ pub(crate) fn put_map_notices(
     map: &SiteFile<'_>,
 ) -> Result<(), NoMemory>
     requires { length map.now.text.now ≤ MAX_INPUT_BYTES }
-    ensures { (kinds : List (List ℕ × Kind)) → IsKindTable table.now kinds
+    ensures { (kinds : List (List ℕ × WorkerKind)) → IsKindTable table.now kinds
         → OnOk result (out.new ≡ out.old ++ map_notices map.now.name.now kinds map.now.text.now) }
 {
     let mut line: u32 = 0;

@@ -2,7 +2,7 @@
 ghost use Rattle.std.specs.Prelude.{◌≡◌, ◌++◌, ℕ, List, OnOk};
 ghost use Rattle.std.specs.Option.{option_map};
 ghost use Rattle.std.specs.List.{flat_map};
-ghost use Rattle.property_lines.specs.declared.values.Kind.{Kind};
+ghost use Rattle.property_lines.specs.declared.values.WorkerKind.{WorkerKind};
 ghost use Rattle.property_lines.specs.declared.property.Property.{Property};
 ghost use Rattle.property_lines.specs.Entries.{as_property, as_properties};
 ghost use Rattle.site_remarks.specs.KindTables.{AreTables, IsKindTable};
@@ -13,7 +13,8 @@ use crate::explain::{FileLine, put_said};
 use crate::kinds::KindTable;
 use jk_io::{Bytes, NoMemory};
 use property_lines::{
-    Directive, Entry, Kind, behind_worker, directive_of, is_list_key, is_maintain_key, worker_part,
+    Directive, PropertyLine, WorkerKind, behind_worker, directive_of, is_list_key, is_maintain_key,
+    worker_part,
 };
 
 /// The types of a configuration's workers, and the last line of each key.
@@ -24,7 +25,7 @@ pub(crate) struct LineTables<'a> {
 }
 
 /// The type of worker that a directive is of; none where it is of each.
-fn owner_of(directive: Directive) -> Option<Kind>
+fn owner_of(directive: Directive) -> Option<WorkerKind>
     ensures { result ≡ owner_of directive }
 {
     match directive {
@@ -35,8 +36,8 @@ fn owner_of(directive: Directive) -> Option<Kind>
         | Directive::Force
         | Directive::RecoverTime
         | Directive::Cookie
-        | Directive::Path => Some(Kind::Lb),
-        Directive::ReadOnly => Some(Kind::Status),
+        | Directive::Path => Some(WorkerKind::Lb),
+        Directive::ReadOnly => Some(WorkerKind::Status),
         Directive::Host
         | Directive::Port
         | Directive::Factor
@@ -50,29 +51,33 @@ fn owner_of(directive: Directive) -> Option<Kind>
         | Directive::Secret
         | Directive::PingMode
         | Directive::RecoveryOptions
-        | Directive::FailOnStatus => Some(Kind::Ajp13),
+        | Directive::FailOnStatus => Some(WorkerKind::Ajp13),
     }
 }
 
 /// What is said of a directive of the first type at a worker of the second.
-fn misplaced(of: Kind, at: Kind) -> Option<&'static [u8]>
+fn misplaced(of: WorkerKind, at: WorkerKind) -> Option<&'static [u8]>
     ensures { option_map (λ t. t.now) result ≡ misplaced of at }
 {
     match (of, at) {
-        (Kind::Ajp13, Kind::Ajp13) => None,
-        (Kind::Ajp13, Kind::Lb) => Some(b" has no effect on a worker of type lb"),
-        (Kind::Ajp13, Kind::Status) => Some(b" has no effect on a worker of type status"),
-        (Kind::Lb, Kind::Ajp13) => Some(b" has no effect on a worker of type ajp13"),
-        (Kind::Lb, Kind::Lb) => None,
-        (Kind::Lb, Kind::Status) => Some(b" has no effect on a worker of type status"),
-        (Kind::Status, Kind::Ajp13) => Some(b" has no effect on a worker of type ajp13"),
-        (Kind::Status, Kind::Lb) => Some(b" has no effect on a worker of type lb"),
-        (Kind::Status, Kind::Status) => None,
+        (WorkerKind::Ajp13, WorkerKind::Ajp13) => None,
+        (WorkerKind::Ajp13, WorkerKind::Lb) => Some(b" has no effect on a worker of type lb"),
+        (WorkerKind::Ajp13, WorkerKind::Status) => Some(
+            b" has no effect on a worker of type status",
+        ),
+        (WorkerKind::Lb, WorkerKind::Ajp13) => Some(b" has no effect on a worker of type ajp13"),
+        (WorkerKind::Lb, WorkerKind::Lb) => None,
+        (WorkerKind::Lb, WorkerKind::Status) => Some(b" has no effect on a worker of type status"),
+        (WorkerKind::Status, WorkerKind::Ajp13) => Some(
+            b" has no effect on a worker of type ajp13",
+        ),
+        (WorkerKind::Status, WorkerKind::Lb) => Some(b" has no effect on a worker of type lb"),
+        (WorkerKind::Status, WorkerKind::Status) => None,
     }
 }
 
 /// What is said of a directive at a worker of this type.
-fn directive_words(directive: Option<Directive>, at: Option<Kind>) -> Option<&'static [u8]>
+fn directive_words(directive: Option<Directive>, at: Option<WorkerKind>) -> Option<&'static [u8]>
     ensures { option_map (λ t. t.now) result ≡ directive_words directive at }
 {
     match directive {
@@ -96,7 +101,7 @@ fn key_words(key: &[u8]) -> Option<&'static [u8]>
 
 /// What is said of a key, if it has no effect.
 fn words_of(table: &KindTable<'_>, key: &[u8]) -> Option<&'static [u8]>
-    ensures { (kinds : List (List ℕ × Kind)) → IsKindTable table.now kinds
+    ensures { (kinds : List (List ℕ × WorkerKind)) → IsKindTable table.now kinds
         → option_map (λ t. t.now) result ≡ words_of kinds key.now }
 {
     match worker_part(key) {
@@ -117,8 +122,8 @@ fn again_words(again: bool) -> Option<&'static [u8]>
 }
 
 /// What is said of a line, if it has no effect.
-fn words_at(tables: &LineTables<'_>, entry: &Entry<'_>) -> Option<&'static [u8]>
-    ensures { (kinds : List (List ℕ × Kind)) → (ps : List Property) → AreTables tables.now.kinds.now tables.now.lines.now kinds ps
+fn words_at(tables: &LineTables<'_>, entry: &PropertyLine<'_>) -> Option<&'static [u8]>
+    ensures { (kinds : List (List ℕ × WorkerKind)) → (ps : List Property) → AreTables tables.now.kinds.now tables.now.lines.now kinds ps
         → option_map (λ t. t.now) result ≡ words_at kinds ps (as_property entry.now) }
 {
     match words_of(tables.kinds, entry.key) {
@@ -149,9 +154,9 @@ pub(crate) fn put_notices(
     out: &mut Bytes,
     tables: &LineTables<'_>,
     file: &[u8],
-    entries: &[Entry<'_>],
+    entries: &[PropertyLine<'_>],
 ) -> Result<(), NoMemory>
-    ensures { (kinds : List (List ℕ × Kind)) → (ps : List Property) → AreTables tables.now.kinds.now tables.now.lines.now kinds ps
+    ensures { (kinds : List (List ℕ × WorkerKind)) → (ps : List Property) → AreTables tables.now.kinds.now tables.now.lines.now kinds ps
         → OnOk result (out.new ≡ out.old ++ flat_map (notice file.now kinds ps) (as_properties entries.now)) }
 {
     for entry in entries {

@@ -3,7 +3,7 @@ ghost use Rattle.std.specs.Prelude.{◌≡◌, ℕ, List, ◌++◌, ◌<◌, ◌
 ghost use Rattle.std.specs.Option.{option_map};
 ghost use Rattle.property_lines.specs.Entries.{as_properties};
 ghost use Rattle.property_lines.specs.Properties as properties;
-ghost use Rattle.property_lines.specs.declared.values.Kind.{Kind as AnyKind};
+ghost use Rattle.property_lines.specs.declared.values.WorkerKind.{WorkerKind as AnyKind};
 ghost use Rattle.uri_map.specs.Lines.{read_text};
 ghost use Rattle.site_config.specs.declared.config.Config.{Config};
 ghost use Rattle.worker_props.specs.Site.{IsConfig};
@@ -18,7 +18,7 @@ use crate::map_notices::put_map_notices;
 use crate::notices::{LineTables, put_notices};
 use crate::site_file::{SiteFile, SiteFiles};
 use jk_io::{Bytes, NoMemory};
-use property_lines::{Entry, PropsError, read_entries};
+use property_lines::{PropertyLine, PropsError, read_entries};
 use site_config::Config;
 use std::alloc::Global;
 use uri_map::{MapError, read_map};
@@ -76,7 +76,7 @@ fn put_effects(
     out: &mut Bytes,
     table: &KindTable<'_>,
     file: &[u8],
-    entries: &[Entry<'_>],
+    entries: &[PropertyLine<'_>],
 ) -> Result<(), NoMemory>
     ensures { (kinds : List (List ℕ × AnyKind)) → IsKindTable table.now kinds
         → OnOk result (out.new ≡ out.old ++ notices file.now kinds (as_properties entries.now)) }
@@ -95,7 +95,7 @@ fn put_workers(
     out: &mut Bytes,
     table: &KindTable<'_>,
     workers: &SiteFile<'_>,
-    entries: &[Entry<'_>],
+    entries: &[PropertyLine<'_>],
     effects: bool,
 ) -> Result<(), NoMemory>
     ensures { (config : Config) → IsKindTable table.now (kinds_of config)
@@ -113,7 +113,7 @@ fn put_accepted(
     alloc: Global,
     out: &mut Bytes,
     config: &Config,
-    entries: &[Entry<'_>],
+    entries: &[PropertyLine<'_>],
     files: &SiteFiles<'_>,
     effects: bool,
 ) -> Result<(), NoMemory>
@@ -131,7 +131,7 @@ fn put_accepted(
 fn put_of_lines(
     alloc: Global,
     out: &mut Bytes,
-    entries: &[Entry<'_>],
+    entries: &[PropertyLine<'_>],
     files: &SiteFiles<'_>,
     effects: bool,
 ) -> Result<(), NoMemory>

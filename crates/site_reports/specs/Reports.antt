@@ -1,6 +1,6 @@
 -- What `config` and `match` print of the texts of a site's files, and whether one of these is refused.
 use Rattle.std.specs.Prelude.{◌≡◌, ℕ, Bool, true, false, List, [], ◌∷◌, ◌++◌, ◌⊎◌, Result, Ok, Err, codes, decimal}
-use Rattle.property_lines.specs.Refusals.{Refusal}
+use Rattle.property_lines.specs.Refusals.{LineRefusal}
 use Rattle.site_config.specs.declared.config.Config.{Config}
 use Rattle.uri_map.specs.Lines.{read_text}
 use Rattle.uri_map.specs.Mounts.{line_count}
@@ -10,24 +10,24 @@ use Rattle.site_reports.specs.ConfigText.{config_text}
 use Rattle.site_reports.specs.Matches.{match_text}
 
 -- the first refusal of a file
-abbrev pub refusal_line : (file : List ℕ) → Refusal → List ℕ
+abbrev pub refusal_line : (file : List ℕ) → LineRefusal → List ℕ
 refusal_line file r = file ++ codes " line " ++ decimal r.line ++ codes ": refusal " ++ decimal r.code ++ codes "\n"
 
 abbrev pub rules_line : List Rule → List ℕ
 rules_line rules = codes "rules " ++ decimal (line_count rules) ++ codes "\n"
 
 -- a file was refused: its line alone is printed
-abbrev pub Refuses : (file : List ℕ) → Refusal → (out : List ℕ) → (refused : Bool) → Type 0
+abbrev pub Refuses : (file : List ℕ) → LineRefusal → (out : List ℕ) → (refused : Bool) → Type 0
 Refuses file r out refused = (out ≡ refusal_line file r) × (refused ≡ true)
 
 -- the refusal of a workers.properties, or what is printed of its configuration
 abbrev pub OfWorkers : (workers : List ℕ) → (Config → List ℕ → Bool → Type 0) → (out : List ℕ) → (refused : Bool) → Type 0
 OfWorkers workers of out refused =
-    ((r : Refusal) × IsRefused workers r × Refuses (codes "workers") r out refused)
+    ((r : LineRefusal) × IsRefused workers r × Refuses (codes "workers") r out refused)
     ⊎ ((c : Config) × IsConfig workers c × of c out refused)
 
 -- the refusal of a uriworkermap.properties, or what is printed of its rules
-abbrev pub OfMap : Config → Result (List Rule) Refusal → (List Rule → List ℕ) → (out : List ℕ) → (refused : Bool) → Type 0
+abbrev pub OfMap : Config → Result (List Rule) LineRefusal → (List Rule → List ℕ) → (out : List ℕ) → (refused : Bool) → Type 0
 OfMap c (Err r) of out refused = Refuses (codes "map") r out refused
 OfMap c (Ok rules) of out refused = (out ≡ of rules) × (refused ≡ false)
 

@@ -11,7 +11,7 @@ use Rattle.jk_io.specs.Decimals.{trimmed}
 use Rattle.property_lines.specs.Cut.{cut_at}
 use Rattle.property_lines.specs.Lines.{lines, without_mark}
 use Rattle.property_lines.specs.Properties.{is_silent}
-use Rattle.property_lines.specs.Refusals.{Refusal}
+use Rattle.property_lines.specs.Refusals.{LineRefusal}
 use Rattle.site_config.specs.declared.balancer.Lb.{Lb}
 use Rattle.site_config.specs.declared.config.Config.{Config}
 use Rattle.site_config.specs.declared.config.Named.{Named}
@@ -19,7 +19,7 @@ use Rattle.site_config.specs.declared.config.Named.TheVariants as named
 use Rattle.site_config.specs.Places.{are_places, is_place, named_among}
 use Rattle.uri_map.specs.declared.error.MapError.{MapError}
 use Rattle.uri_map.specs.declared.error.MapError.TheVariants as errors
-use Rattle.uri_map.specs.declared.error.Reason.TheVariants as reason
+use Rattle.uri_map.specs.declared.error.MapReason.TheVariants as reason
 use Rattle.uri_map.specs.declared.rule.Rule.{Rule}
 use Rattle.uri_map.specs.declared.rule.Role.{Role}
 use Rattle.uri_map.specs.declared.rule.Role.TheVariants as role
@@ -32,7 +32,7 @@ use Rattle.uri_map.specs.Sites.{is_worker, member_count, names_members, role_sta
 use Rattle.uri_map.proofs.MemberLemmas.{set_of-below}
 
 -- a line that is read
-pub with_line : (rules after : List Rule) (line rest : Result (List Rule) Refusal) → with_rules rules line ≡ Ok after → with_rules rules (before_rest line rest) ≡ with_rules after rest
+pub with_line : (rules after : List Rule) (line rest : Result (List Rule) LineRefusal) → with_rules rules line ≡ Ok after → with_rules rules (before_rest line rest) ≡ with_rules after rest
 with_line rules after (Err refused) rest e = cc
 with_line rules after (Ok new) (Err refused) e = refl
 with_line rules after (Ok new) (Ok more) e =
@@ -40,12 +40,12 @@ with_line rules after (Ok new) (Ok more) e =
     ap (λ (xs : List Rule). Ok xs) (sym (append_assoc rules new more) ∙ ap (λ (xs : List Rule). xs ++ more) so)
 
 -- a line that is refused
-pub with_refused : (rules : List Rule) (line rest : Result (List Rule) Refusal) (refused : Refusal) → with_rules rules line ≡ Err refused → with_rules rules (before_rest line rest) ≡ Err refused
+pub with_refused : (rules : List Rule) (line rest : Result (List Rule) LineRefusal) (refused : LineRefusal) → with_rules rules line ≡ Err refused → with_rules rules (before_rest line rest) ≡ Err refused
 with_refused rules (Err why) rest refused e = e
 with_refused rules (Ok new) rest refused e = cc
 
 -- what is read is so; a refusal may come
-abbrev pub OnRead : {X : Type 0} → (X → Bool) → Result X Refusal → Type 0
+abbrev pub OnRead : {X : Type 0} → (X → Bool) → Result X LineRefusal → Type 0
 OnRead so (Ok x) = so x ≡ true
 OnRead so (Err refused) = Unit {0}
 
@@ -79,7 +79,7 @@ terms_stand config i parts =
     let few' = lt-ltb _ _ (below (names_in (last_value stopped parts))) in
     rw (few, few') refl
 
-mount_stands : (config : Config) (line : ℕ) (texts : List (List ℕ)) (w : Result Named Refusal) → OnRead (is_worker config) w → OnRead (role_stands_in config) (mount_with config line texts w)
+mount_stands : (config : Config) (line : ℕ) (texts : List (List ℕ)) (w : Result Named LineRefusal) → OnRead (is_worker config) w → OnRead (role_stands_in config) (mount_with config line texts w)
 mount_stands config line texts (Err refused) h = tt
 mount_stands config line texts (Ok worker) h = by_parts worker (parts_of texts) h
   where
@@ -92,7 +92,7 @@ mount_stands config line texts (Ok worker) h = by_parts worker (parts_of texts) 
     by_parts (named.Status i) (Some parts) h = rw h refl
     by_parts (named.Balancer i) (Some parts) h = by_test i parts (list_all (is_good (members_at config i)) parts) h
 
-excluded_stands : (config : Config) (w : Result Named Refusal) → OnRead (is_worker config) w → OnRead (role_stands_in config) (excluded_worker w)
+excluded_stands : (config : Config) (w : Result Named LineRefusal) → OnRead (is_worker config) w → OnRead (role_stands_in config) (excluded_worker w)
 excluded_stands config (Err refused) h = tt
 excluded_stands config (Ok worker) h = h
 
@@ -109,7 +109,7 @@ made_stand : (config : Config) (line : ℕ) (r : Role) (patterns : List (List �
 made_stand config line r [] h = refl
 made_stand config line r (p ∷ patterns) h = rw (h, made_stand config line r patterns h) refl
 
-rules_stand : (config : Config) (line : ℕ) (off : Bool) (patterns : List (List ℕ)) (r : Result Role Refusal) → OnRead (role_stands_in config) r → OnRead (stands_in config) (rules_with line off patterns r)
+rules_stand : (config : Config) (line : ℕ) (off : Bool) (patterns : List (List ℕ)) (r : Result Role LineRefusal) → OnRead (role_stands_in config) r → OnRead (stands_in config) (rules_with line off patterns r)
 rules_stand config line off patterns (Err refused) h = tt
 rules_stand config line true patterns (Ok r) h = refl
 rules_stand config line false patterns (Ok r) h = made_stand config line r patterns h
@@ -134,7 +134,7 @@ said_stands config line text = by_test (is_silent text)
 append_stands : (config : Config) (rules more : List Rule) → stands_in config rules ≡ true → stands_in config more ≡ true → stands_in config (rules ++ more) ≡ true
 append_stands config rules more h k = rw (list_all-append, h, k) refl
 
-before_stands : (config : Config) (line rest : Result (List Rule) Refusal) → OnRead (stands_in config) line → OnRead (stands_in config) rest → OnRead (stands_in config) (before_rest line rest)
+before_stands : (config : Config) (line rest : Result (List Rule) LineRefusal) → OnRead (stands_in config) line → OnRead (stands_in config) rest → OnRead (stands_in config) (before_rest line rest)
 before_stands config (Err refused) rest h k = tt
 before_stands config (Ok rules) (Err refused) h k = tt
 before_stands config (Ok rules) (Ok more) h k = append_stands config rules more h k
@@ -155,12 +155,12 @@ read_ended config rules line text [] h e = sym e ∙ ap (λ (xs : List Rule). Ok
 read_ended config rules line text (b ∷ bs) h e = absurd (omega arith)
 
 -- the first line that is refused is what reading gives
-pub refused_line : (view : Unit {0} → List Rule) (rules : List Rule) (line rest : Result (List Rule) Refusal) (error : MapError) → Gives view (Err error) (with_rules rules line) → Gives {X = List Rule} (λ map. map) (Err error) (with_rules rules (before_rest line rest))
+pub refused_line : (view : Unit {0} → List Rule) (rules : List Rule) (line rest : Result (List Rule) LineRefusal) (error : MapError) → Gives view (Err error) (with_rules rules line) → Gives {X = List Rule} (λ map. map) (Err error) (with_rules rules (before_rest line rest))
 refused_line view rules line rest (errors.Refused number code) h =
     with_refused rules line rest (record { line = number; code = code }) h
 refused_line view rules line rest errors.NoMemory h = tt
 
 -- an error that a call hands on
-pub handed_on : (answer : Result (List Rule) MapError) (error : MapError) (read : Result (List Rule) Refusal) → IsErrAnd answer (λ e. e ≡ error) → Gives (λ map. map) (Err error) read → Gives (λ map. map) answer read
+pub handed_on : (answer : Result (List Rule) MapError) (error : MapError) (read : Result (List Rule) LineRefusal) → IsErrAnd answer (λ e. e ≡ error) → Gives (λ map. map) (Err error) read → Gives (λ map. map) answer read
 handed_on (Ok map) error read h g = absurd h
 handed_on (Err e) error read h g = subst (λ (x : MapError). Gives {X = List Rule} (λ map. map) (Err x) read) (sym h) g

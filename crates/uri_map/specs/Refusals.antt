@@ -1,26 +1,26 @@
 -- The refusals of a uriworkermap.properties, each with its line and its number.
 use Rattle.std.specs.Prelude.{◌≡◌, ℕ, Option, Some, None, Result, Ok, Err}
-use Rattle.property_lines.specs.Refusals.{Refusal}
-use Rattle.uri_map.specs.declared.error.Reason.{Reason}
-use Rattle.uri_map.specs.declared.error.Reason.TheVariants as reason
+use Rattle.property_lines.specs.Refusals.{LineRefusal}
+use Rattle.uri_map.specs.declared.error.MapReason.{MapReason}
+use Rattle.uri_map.specs.declared.error.MapReason.TheVariants as reason
 use Rattle.uri_map.specs.declared.error.MapError.{MapError}
 use Rattle.uri_map.specs.declared.error.MapError.TheVariants as errors
 
-abbrev pub code_of : Reason → ℕ
+abbrev pub code_of : MapReason → ℕ
 code_of reason.BadPattern = 1
 code_of reason.UnknownWorker = 2
 code_of reason.BadExtension = 3
 
-abbrev pub refusal : ℕ → Reason → Refusal
+abbrev pub refusal : ℕ → MapReason → LineRefusal
 refusal line why = record { line = line; code = code_of why }
 
 -- a call's answer is what reading gives, unless memory was wanted
-abbrev pub Gives : {X Y : Type 0} → (X → Y) → Result X MapError → Result Y Refusal → Type 0
+abbrev pub Gives : {X Y : Type 0} → (X → Y) → Result X MapError → Result Y LineRefusal → Type 0
 Gives view (Ok x) read = read ≡ Ok (view x)
 Gives view (Err (errors.Refused line code)) read = read ≡ Err (record { line = line; code = code })
 Gives view (Err errors.NoMemory) read = Unit {0}
 
 -- a line that lacks something is refused for that
-abbrev pub or_refused : {X : Type 0} → ℕ → Reason → Option X → Result X Refusal
+abbrev pub or_refused : {X : Type 0} → ℕ → MapReason → Option X → Result X LineRefusal
 or_refused line why None = Err (refusal line why)
 or_refused line why (Some x) = Ok x

@@ -8,7 +8,7 @@ use thiserror::Error;
 
 /// What is wrong with a line.
 #[derive(Clone, Copy, Debug, PartialEq, Eq)]
-pub enum Reason {
+pub enum MapReason {
     /// It has no `=`, its pattern doesn't begin with `/`, or has more than one `|`.
     BadPattern,
     /// The worker isn't listed.
@@ -27,21 +27,21 @@ pub enum MapError {
     NoMemory,
 }
 
-impl Reason {
+impl MapReason {
     /// The number of the refusal.
     fn code(self) -> u8
         ensures { result ≡ code_of self }
     {
         match self {
-            Reason::BadPattern => 1,
-            Reason::UnknownWorker => 2,
-            Reason::BadExtension => 3,
+            MapReason::BadPattern => 1,
+            MapReason::UnknownWorker => 2,
+            MapReason::BadExtension => 3,
         }
     }
 }
 
 /// The refusal of a line.
-pub(crate) fn refused(line: u32, reason: Reason) -> MapError
+pub(crate) fn refused(line: u32, reason: MapReason) -> MapError
     ensures { result ≡ MapError.Refused line (code_of reason) }
 {
     MapError::Refused {

@@ -18,7 +18,7 @@ mod side;
 mod uri_map;
 mod workers;
 
-pub use error::{MapError, Reason};
+pub use error::{MapError, MapReason};
 pub use lines::read_map;
 pub use pattern::Pattern;
 pub use rule::{Mount, Role, Rule};

@@ -7,7 +7,7 @@ ghost use Rattle.uri_map.specs.Refusals.{Gives};
 ghost use Rattle.uri_map.specs.Sides.{as_patterns};
 ghost use Rattle.uri_map.specs.Sites.{stands_in};
 
-use crate::error::{MapError, Reason, refused};
+use crate::error::{MapError, MapReason, refused};
 use crate::pattern::Pattern;
 use crate::role::role_of;
 use crate::rule::{Role, Rule};
@@ -78,7 +78,7 @@ fn push_sides(
 {
     let side = left_of(trim(left));
     let Some(patterns) = patterns_of(side.pattern) else {
-        return Err(refused(line, Reason::BadPattern));
+        return Err(refused(line, MapReason::BadPattern));
     };
     let role = role_of(alloc, workers, line, side.exclusion, right)?;
     if !side.off {
@@ -103,7 +103,7 @@ fn push_line(
         return Ok(());
     }
     match cut_at(text, b'=') {
-        None => Err(refused(line, Reason::BadPattern)),
+        None => Err(refused(line, MapReason::BadPattern)),
         Some((left, right)) => push_sides(alloc, out, workers, line, left, right),
     }
 }

@@ -6,7 +6,7 @@ ghost use Rattle.uri_map.specs.PartViews.{as_parts};
 ghost use Rattle.uri_map.specs.Parts.{parts_of, pieces_behind, pieces_of};
 ghost use Rattle.uri_map.specs.Refusals.{Gives};
 
-use crate::error::{MapError, Reason, refused};
+use crate::error::{MapError, MapReason, refused};
 use crate::parts::{Part, given_terms, parts_behind};
 use crate::rule::{Mount, Role};
 use crate::workers::Workers;
@@ -22,7 +22,7 @@ fn known(workers: &Workers<'_>, line: u32, name: &[u8]) -> Result<Named, MapErro
 {
     match workers.find(name) {
         Some(worker) => Ok(worker),
-        None => Err(refused(line, Reason::UnknownWorker)),
+        None => Err(refused(line, MapReason::UnknownWorker)),
     }
 }
 
@@ -80,7 +80,7 @@ fn mount_of(
     let worker = known(workers, line, name)?;
     match terms_behind(alloc, workers, worker, text)? {
         Some(terms) => Ok(Role::Mount(Mount { worker, terms })),
-        None => Err(refused(line, Reason::BadExtension)),
+        None => Err(refused(line, MapReason::BadExtension)),
     }
 }
 

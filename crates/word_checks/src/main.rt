@@ -9,8 +9,8 @@ mod words;
 
 use anyhow::{Context, Result};
 use block_rows::comparing::wants;
-use block_rows::judging::{Area, judge_rows};
-use block_rows::row::{Row, RowError};
+use block_rows::judging::{BlockArea, judge_rows};
+use block_rows::row::{BlockRow, RowError};
 use jk_io::Bytes;
 use std::alloc::Global;
 use std::fs;
@@ -20,7 +20,12 @@ use words::{tell_help, tell_order};
 #[derive(Clone, Copy)]
 struct WordRows;
 
-fn tell(alloc: Global, row: Row<'_>, words: &[Bytes], out: &mut Bytes) -> Result<(), RowError> {
+fn tell(
+    alloc: Global,
+    row: BlockRow<'_>,
+    words: &[Bytes],
+    out: &mut Bytes,
+) -> Result<(), RowError> {
     match row.value("kind") {
         Some("words") => tell_order(alloc, words, out)?,
         Some("help") => tell_help(alloc, words, out)?,
@@ -29,14 +34,14 @@ fn tell(alloc: Global, row: Row<'_>, words: &[Bytes], out: &mut Bytes) -> Result
     Ok(())
 }
 
-fn compare(alloc: Global, row: Row<'_>, words: &[Bytes]) -> Result<bool, RowError> {
+fn compare(alloc: Global, row: BlockRow<'_>, words: &[Bytes]) -> Result<bool, RowError> {
     let mut out = Bytes::new(alloc);
     tell(alloc, row, words, &mut out)?;
     wants(alloc, row, out.as_slice())
 }
 
-impl Area for WordRows {
-    fn holds(&self, alloc: Global, row: Row<'_>) -> Result<bool, RowError> {
+impl BlockArea for WordRows {
+    fn holds(&self, alloc: Global, row: BlockRow<'_>) -> Result<bool, RowError> {
         compare(alloc, row, row.words(alloc)?.as_slice())
     }
 }

@@ -10,7 +10,7 @@ use Rattle.property_lines.specs.declared.directive.Directive.TheVariants as dire
 use Rattle.property_lines.specs.declared.error.PropsError.{PropsError}
 use Rattle.property_lines.specs.declared.error.PropsError.TheVariants as errors
 use Rattle.property_lines.specs.Directives.{name_of, worker_part}
-use Rattle.property_lines.specs.Refusals.{Refusal, IsRefusal}
+use Rattle.property_lines.specs.Refusals.{LineRefusal, IsRefusal}
 use Rattle.worker_props.specs.Ways.{IsBroken}
 use Rattle.worker_props.specs.Given.{IsChain, concerns, gives, is_given, is_among, last_given, names_both, names_worker, target_at, target_in, not_passed, Walks, BreaksAt}
 
@@ -99,7 +99,7 @@ pub unknown_chain : (ps : List Property) (name : List ℕ) → is_given ps name 
 unknown_chain ps name e = ap target_in (none_given ps name directive.Reference e)
 
 -- a worker whose references end meets no broken reference
-pub not_broken : (ps : List Property) (name : List ℕ) (more : List (List ℕ)) (so : Refusal → Type 0) (e : PropsError) → IsChain ps name more → IsBroken ps name e → IsRefusal so e
+pub not_broken : (ps : List Property) (name : List ℕ) (more : List (List ℕ)) (so : LineRefusal → Type 0) (e : PropsError) → IsChain ps name more → IsBroken ps name e → IsRefusal so e
 not_broken ps name more so (errors.Refused line code) chain broken = absurd (chain_or_break ps name more line chain broken.0)
 not_broken ps name more so errors.NoMemory chain broken = tt
 

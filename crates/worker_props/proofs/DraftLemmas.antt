@@ -3,8 +3,8 @@ use Rattle.std.proofs.Common.{◌≡◌, ℕ, ◌+◌, ◌<◌, ◌≤◌, true,
 use Rattle.std.proofs.lemmas.Bool.{and_parts}
 use Rattle.property_lines.specs.declared.property.Property.{Property}
 use Rattle.property_lines.specs.declared.directive.Directive.{Directive}
-use Rattle.property_lines.specs.declared.values.Kind.{Kind}
-use Rattle.property_lines.specs.declared.values.Kind.TheVariants as kind
+use Rattle.property_lines.specs.declared.values.WorkerKind.{WorkerKind}
+use Rattle.property_lines.specs.declared.values.WorkerKind.TheVariants as kind
 use Rattle.site_config.specs.declared.balancer.Lb.{Lb}
 use Rattle.site_config.specs.declared.config.Named.{Named}
 use Rattle.site_config.specs.declared.config.Named.TheVariants as named
@@ -51,7 +51,7 @@ sound_lb old name lb room h = record {
   placed = places_grow (length old.lbs) (length old.statuses) (length (old.lbs ++ lb ∷ [])) (length old.statuses) old.listed name (named.Balancer (length old.lbs)) (rw length-append (omega arith)) (omega arith) h.placed (rw length-append (last_place (length old.lbs)));
 }
 
-sound_kind : (ps : List Property) (maintain : ℕ) (l : Listing) (v : Directive → Option Property) (k : Kind) (old new : Draft) → AddsKind ps maintain l v k old new → IsSound old → IsSound new
+sound_kind : (ps : List Property) (maintain : ℕ) (l : Listing) (v : Directive → Option Property) (k : WorkerKind) (old new : Draft) → AddsKind ps maintain l v k old new → IsSound old → IsSound new
 sound_kind ps maintain l v kind.Status old new a h = subst IsSound (sym a.3) (record {
   few = h.few;
   placed = places_grow (length old.lbs) (length old.statuses) (length old.lbs) (length (old.statuses ++ a.0 ∷ [])) old.listed l.name (named.Status (length old.statuses)) (omega arith) (rw length-append (omega arith)) h.placed (rw length-append (last_place (length old.statuses)));

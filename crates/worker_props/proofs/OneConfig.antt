@@ -10,10 +10,10 @@ use Rattle.site_config.specs.Places.{are_places}
 use Rattle.property_lines.specs.declared.property.Property.{Property}
 use Rattle.property_lines.specs.declared.directive.Directive.{Directive}
 use Rattle.property_lines.specs.declared.directive.Directive.TheVariants as directive
-use Rattle.property_lines.specs.declared.values.Kind.{Kind}
-use Rattle.property_lines.specs.declared.values.Kind.TheVariants as kind
+use Rattle.property_lines.specs.declared.values.WorkerKind.{WorkerKind}
+use Rattle.property_lines.specs.declared.values.WorkerKind.TheVariants as kind
 use Rattle.property_lines.specs.Properties.{read_text}
-use Rattle.property_lines.specs.Refusals.{Refusal}
+use Rattle.property_lines.specs.Refusals.{LineRefusal}
 use Rattle.site_config.specs.declared.balancer.Lb.{Lb}
 use Rattle.site_config.specs.declared.config.Config.{Config}
 use Rattle.site_config.specs.declared.config.Status.{Status}
@@ -179,7 +179,7 @@ direct_one ps maintain l a b x y =
     lb_is a b (x.named ∙ sym y.named) book same.1 (x.cookie ∙ sym y.cookie) (x.path ∙ sym y.path)
 
 -- what a listed worker adds
-kind_one : (ps : List Property) (maintain : ℕ) (l : Listing) (v : Directive → Option Property) (k : Kind) (old a b : Draft)
+kind_one : (ps : List Property) (maintain : ℕ) (l : Listing) (v : Directive → Option Property) (k : WorkerKind) (old a b : Draft)
     → AddsKind ps maintain l v k old a → AddsKind ps maintain l v k old b → a ≡ b
 kind_one ps maintain l v kind.Status old a b x y =
     let same : x.0 ≡ y.0 = λ i. record { name = (x.1 ∙ sym y.1) i; read_only = (x.2 ∙ sym y.2) i } in
@@ -203,7 +203,7 @@ builds_one ps maintain (l ∷ ls) old a b x y =
     let mid = adds_one ps maintain l old y.0 x.0 y.1 x.1 in
     builds_one ps maintain ls x.0 a b x.2 (subst (λ (d : Draft). Builds ps maintain ls d b) mid y.2)
 
-pub same_properties : (a b : List Property) (r : Result (List Property) Refusal) → r ≡ Ok a → r ≡ Ok b → a ≡ b
+pub same_properties : (a b : List Property) (r : Result (List Property) LineRefusal) → r ≡ Ok a → r ≡ Ok b → a ≡ b
 same_properties a b r x y = cc
 
 -- a text has one configuration

@@ -10,7 +10,7 @@ use Rattle.std.specs.Str.{bytes_eq}
 use Rattle.std.specs.List.{slice_get}
 use Rattle.property_lines.specs.declared.property.Property.{Property}
 use Rattle.property_lines.specs.declared.directive.Directive.{Directive}
-use Rattle.property_lines.specs.declared.entry.Entry.{Entry}
+use Rattle.property_lines.specs.declared.property_line.PropertyLine.{PropertyLine}
 use Rattle.property_lines.specs.Entries.{as_property, as_properties}
 use Rattle.worker_props.specs.declared.row.Row.{Row}
 use Rattle.property_lines.specs.Directives.{name_of, slot_of, directive_of, worker_part}
@@ -28,14 +28,14 @@ last_of-snoc passes (q ∷ ps) p = rw (last_of-snoc passes ps p) (by_test (passe
     by_test true = refl
     by_test false = refl
 
-last_more : (passes : Property → Bool) (es : List Entry) (i : ℕ) (d : Entry) → i < length es → last_of passes (as_properties (take (i + 1) es)) ≡ cond (passes (as_property (get_or es i d))) (Some (as_property (get_or es i d))) (last_of passes (as_properties (take i es)))
+last_more : (passes : Property → Bool) (es : List PropertyLine) (i : ℕ) (d : PropertyLine) → i < length es → last_of passes (as_properties (take (i + 1) es)) ≡ cond (passes (as_property (get_or es i d))) (Some (as_property (get_or es i d))) (last_of passes (as_properties (take i es)))
 last_more passes es i d h = rw (take_more es i d h, map-append) (last_of-snoc passes (as_properties (take i es)) (as_property (get_or es i d)))
 
 -- the last line so far, after one that passes and after one that doesn't
-pub last_put : (passes : Property → Bool) (es : List Entry) (i : ℕ) (d : Entry) → i < length es → passes (as_property (get_or es i d)) ≡ true → Some (as_property (get_or es i d)) ≡ last_of passes (as_properties (take (i + 1) es))
+pub last_put : (passes : Property → Bool) (es : List PropertyLine) (i : ℕ) (d : PropertyLine) → i < length es → passes (as_property (get_or es i d)) ≡ true → Some (as_property (get_or es i d)) ≡ last_of passes (as_properties (take (i + 1) es))
 last_put passes es i d h yea = rw (last_more passes es i d h, yea) refl
 
-pub last_kept : (passes : Property → Bool) (es : List Entry) (i : ℕ) (d : Entry) (last : Option Property) → i < length es → passes (as_property (get_or es i d)) ≡ false → last ≡ last_of passes (as_properties (take i es)) → last ≡ last_of passes (as_properties (take (i + 1) es))
+pub last_kept : (passes : Property → Bool) (es : List PropertyLine) (i : ℕ) (d : PropertyLine) (last : Option Property) → i < length es → passes (as_property (get_or es i d)) ≡ false → last ≡ last_of passes (as_properties (take i es)) → last ≡ last_of passes (as_properties (take (i + 1) es))
 last_kept passes es i d last h nay so_far = rw (last_more passes es i d h, nay) so_far
 
 -- a name's place has the name

@@ -18,10 +18,10 @@ use Rattle.worker_props.specs.Building.{IsBuilding}
 use Rattle.worker_props.specs.Given.{in_force}
 use Rattle.worker_props.specs.Lists.{Listing, firsts, site_list}
 use Rattle.worker_props.specs.Listings.{as_listing, as_listings}
-use Rattle.property_lines.specs.Refusals.{Refusal, IsRefusal}
+use Rattle.property_lines.specs.Refusals.{LineRefusal, IsRefusal}
 use Rattle.worker_props.specs.Rows.{HasForce, property_at}
 use Rattle.worker_props.specs.Settings.{kind_in}
-use Rattle.property_lines.specs.declared.values.Kind.TheVariants as kind
+use Rattle.property_lines.specs.declared.values.WorkerKind.TheVariants as kind
 use Rattle.worker_props.specs.Site.{Adds, AddsKind, Builds, IsConfig, IsRefused, Known, RefusesKind, Stops, draft_of, ignored_of, maintain_of, no_workers}
 
 -- what a call makes at Ok is what its caller means
@@ -30,7 +30,7 @@ on_ok (Ok x) P Q h f = f h
 on_ok (Err e) P Q h f = tt
 
 -- a refusal of an lb's members is one of the lb
-pub lb_refusal : (ps : List Property) (count : ℕ) (l : Listing) (v : Directive → Option Property) (P : Refusal → Type 0) (e : PropsError) → IsRefusal P e → ((r : Refusal) → P r → RefusesKind ps count l v kind.Lb r) → IsRefusal (RefusesKind ps count l v kind.Lb) e
+pub lb_refusal : (ps : List Property) (count : ℕ) (l : Listing) (v : Directive → Option Property) (P : LineRefusal → Type 0) (e : PropsError) → IsRefusal P e → ((r : LineRefusal) → P r → RefusesKind ps count l v kind.Lb r) → IsRefusal (RefusesKind ps count l v kind.Lb) e
 lb_refusal ps count l v P (errors.Refused line code) h f = f (record { line = line; code = code }) h
 lb_refusal ps count l v P errors.NoMemory h f = tt
 

@@ -3,9 +3,9 @@ use Rattle.std.specs.Prelude.{ℕ, List}
 use Rattle.property_lines.specs.declared.property.Property.{Property}
 use Rattle.worker_props.specs.declared.draft.Draft.{Draft}
 use Rattle.worker_props.specs.Lists.{Listing}
-use Rattle.property_lines.specs.Refusals.{Refusal}
+use Rattle.property_lines.specs.Refusals.{LineRefusal}
 use Rattle.worker_props.specs.Site.{Builds, Stops}
 
 pub record IsBuilding (ps : List Property) (maintain : ℕ) (all : List Listing) (start : Draft) (rest : List Listing) (now : Draft) : Type 0 where
   pub builds : (new : Draft) → Builds ps maintain rest now new → Builds ps maintain all start new
-  pub stops : (r : Refusal) → Stops ps maintain rest now r → Stops ps maintain all start r
+  pub stops : (r : LineRefusal) → Stops ps maintain rest now r → Stops ps maintain all start r

@@ -8,8 +8,8 @@ use Rattle.jk_model.specs.declared.member.Method.{Method}
 use Rattle.jk_model.specs.declared.member.Method.TheVariants as method
 use Rattle.jk_model.specs.declared.member.MemberConfig.{MemberConfig}
 use Rattle.property_lines.specs.declared.property.Property.{Property}
-use Rattle.property_lines.specs.declared.values.Kind.{Kind}
-use Rattle.property_lines.specs.declared.values.Kind.TheVariants as kind
+use Rattle.property_lines.specs.declared.values.WorkerKind.{WorkerKind}
+use Rattle.property_lines.specs.declared.values.WorkerKind.TheVariants as kind
 use Rattle.property_lines.specs.declared.directive.Directive.{Directive}
 use Rattle.property_lines.specs.declared.directive.Directive.TheVariants as directive
 use Rattle.site_config.specs.declared.endpoint.Endpoint.{Endpoint}
@@ -36,7 +36,7 @@ number_or low high default p = unwrap_or (option_and_then (number_in low high) (
 abbrev pub truth_or : Bool → Option Property → Bool
 truth_or default p = unwrap_or (option_and_then truth_of (text_in p)) default
 
-abbrev pub kind_in : Option Property → Kind
+abbrev pub kind_in : Option Property → WorkerKind
 kind_in p = unwrap_or (option_and_then kind_of (text_in p)) kind.Ajp13
 
 abbrev pub activation_in : Option Property → Activation

@@ -7,18 +7,18 @@ use Rattle.jk_model.specs.Ranges.{factors_in}
 use Rattle.jk_model.specs.declared.member.MemberConfig.{MemberConfig}
 use Rattle.jk_model.specs.declared.member.Method.TheVariants as method
 use Rattle.property_lines.specs.declared.property.Property.{Property}
-use Rattle.property_lines.specs.declared.values.Kind.{Kind}
-use Rattle.property_lines.specs.declared.values.Kind.TheVariants as kind
+use Rattle.property_lines.specs.declared.values.WorkerKind.{WorkerKind}
+use Rattle.property_lines.specs.declared.values.WorkerKind.TheVariants as kind
 use Rattle.property_lines.specs.declared.directive.Directive.{Directive}
 use Rattle.property_lines.specs.declared.directive.Directive.TheVariants as directive
-use Rattle.property_lines.specs.declared.error.Reason.TheVariants as reason
+use Rattle.property_lines.specs.declared.error.PropsReason.TheVariants as reason
 use Rattle.site_config.specs.declared.endpoint.Endpoint.{Endpoint}
 use Rattle.site_config.specs.declared.balancer.Lb.{Lb}
 use Rattle.site_config.specs.declared.config.Status.{Status}
 use Rattle.site_config.specs.declared.config.Config.{Config}
 use Rattle.worker_props.specs.declared.draft.Draft.{Draft}
 use Rattle.site_config.specs.declared.config.Named.TheVariants as named
-use Rattle.property_lines.specs.Refusals.{Refusal, refusal}
+use Rattle.property_lines.specs.Refusals.{LineRefusal, refusal}
 use Rattle.property_lines.specs.Directives.{directive_of, worker_part, list_key, maintain_key}
 use Rattle.property_lines.specs.Properties.{read_text}
 use Rattle.worker_props.specs.Given.{IsChain, in_force, is_given, last_of, BreaksAt}
@@ -68,7 +68,7 @@ Each fine [] = Unit {0}
 Each fine (l ∷ ls) = fine l × Each fine ls
 
 -- the first that isn't fine is refused
-abbrev pub FirstBad : (Listing → Type 0) → (Listing → Refusal → Type 0) → List Listing → Refusal → Type 0
+abbrev pub FirstBad : (Listing → Type 0) → (Listing → LineRefusal → Type 0) → List Listing → LineRefusal → Type 0
 FirstBad fine bad [] r = ⊥
 FirstBad fine bad (l ∷ ls) r = bad l r ⊎ (fine l × FirstBad fine bad ls r)
 
@@ -76,17 +76,17 @@ abbrev pub HasChain : List Property → List ℕ → Type 0
 HasChain ps name = (more : List (List ℕ)) × IsChain ps name more
 
 -- the worker's type
-abbrev pub HasKind : List Property → List ℕ → Kind → Type 0
+abbrev pub HasKind : List Property → List ℕ → WorkerKind → Type 0
 HasKind ps name k = (more : List (List ℕ)) × IsChain ps name more × (kind_in (in_force ps name more directive.Kind) ≡ k)
 
-abbrev pub Breaks : List Property → Listing → Refusal → Type 0
+abbrev pub Breaks : List Property → Listing → LineRefusal → Type 0
 Breaks ps l r = (line : ℕ) × BreaksAt ps l.name line × (r ≡ refusal line reason.BadReference)
 
-abbrev pub IsUnknown : List Property → Listing → Refusal → Type 0
+abbrev pub IsUnknown : List Property → Listing → LineRefusal → Type 0
 IsUnknown ps l r = (is_given ps l.name ≡ false) × (r ≡ refusal l.line reason.UnknownWorker)
 
-abbrev pub IsNoAjp13 : List Property → Listing → Refusal → Type 0
-IsNoAjp13 ps l r = ((k : Kind) × (k ≢ kind.Ajp13) × HasKind ps l.name k) × (r ≡ refusal l.line reason.BadValue)
+abbrev pub IsNoAjp13 : List Property → Listing → LineRefusal → Type 0
+IsNoAjp13 ps l r = ((k : WorkerKind) × (k ≢ kind.Ajp13) × HasKind ps l.name k) × (r ≡ refusal l.line reason.BadValue)
 
 -- the lists' names so far: those of the lb's members pass when their references lead on, they have a directive, and
 -- their type is ajp13
@@ -100,7 +100,7 @@ abbrev pub IsAjp13 : List Property → Listing → Type 0
 IsAjp13 ps l = HasKind ps l.name kind.Ajp13
 
 -- the refusals of a balancer's members themselves: none, more than 64, factors that are too wide
-abbrev pub RefusesBook : List Property → ℕ → List Listing → Refusal → Type 0
+abbrev pub RefusesBook : List Property → ℕ → List Listing → LineRefusal → Type 0
 RefusesBook ps line members r =
     ((length members ≡ 0) × (r ≡ refusal line reason.NoMembers))
     ⊎ (((64 < length members) × (r ≡ refusal line reason.TooManyMembers))
@@ -112,7 +112,7 @@ line_in None = 0
 line_in (Some p) = p.line
 
 -- the refusals of an lb after `count` balancers, each after those before it
-abbrev pub RefusesLb : List Property → ℕ → Listing → (Directive → Option Property) → List Listing → Refusal → Type 0
+abbrev pub RefusesLb : List Property → ℕ → Listing → (Directive → Option Property) → List Listing → LineRefusal → Type 0
 RefusesLb ps count l v members r =
     FirstBad (Chained ps) (Breaks ps) members r
     ⊎ ((Each (Chained ps) members × FirstBad (Known ps) (IsUnknown ps) members r)
@@ -120,13 +120,13 @@ RefusesLb ps count l v members r =
     ⊎ ((Each (Chained ps) members × Each (Known ps) members × (count < 1024) × FirstBad (IsAjp13 ps) (IsNoAjp13 ps) members r)
     ⊎ (Each (Known ps) members × (count < 1024) × Each (IsAjp13 ps) members × RefusesBook ps (line_in (v directive.Kind)) (firsts members) r))))
 
-abbrev pub RefusesKind : List Property → ℕ → Listing → (Directive → Option Property) → Kind → Refusal → Type 0
+abbrev pub RefusesKind : List Property → ℕ → Listing → (Directive → Option Property) → WorkerKind → LineRefusal → Type 0
 RefusesKind ps count l v kind.Status r = ⊥
 RefusesKind ps count l v kind.Ajp13 r = (1024 ≤ count) × (r ≡ refusal l.line reason.BadValue)
 RefusesKind ps count l v kind.Lb r = RefusesLb ps count l v (members_in ps (v directive.BalanceWorkers)) r
 
 -- the refusals of a listed worker after `count` balancers
-abbrev pub Refuses : List Property → ℕ → Listing → Refusal → Type 0
+abbrev pub Refuses : List Property → ℕ → Listing → LineRefusal → Type 0
 Refuses ps count l r =
     Breaks ps l r
     ⊎ (IsUnknown ps l r
@@ -141,7 +141,7 @@ abbrev pub with_status : Draft → List ℕ → Status → Draft
 with_status d name s = record { lbs = d.lbs; statuses = d.statuses ++ s ∷ []; listed = d.listed ++ (name, named.Status (length d.statuses)) ∷ [] }
 
 -- what an accepted worker of this type adds
-abbrev pub AddsKind : List Property → ℕ → Listing → (Directive → Option Property) → Kind → Draft → Draft → Type 0
+abbrev pub AddsKind : List Property → ℕ → Listing → (Directive → Option Property) → WorkerKind → Draft → Draft → Type 0
 AddsKind ps maintain l v kind.Status old new =
     (s : Status) × (s.name ≡ l.name) × (s.read_only ≡ truth_or false (v directive.ReadOnly)) × (new ≡ with_status old l.name s)
 AddsKind ps maintain l v kind.Ajp13 old new =
@@ -162,7 +162,7 @@ Builds ps maintain [] old new = new ≡ old
 Builds ps maintain (l ∷ ls) old new = (mid : Draft) × Adds ps maintain l old mid × Builds ps maintain ls mid new
 
 -- the listed workers, in order, up to the first that is refused
-abbrev pub Stops : List Property → ℕ → List Listing → Draft → Refusal → Type 0
+abbrev pub Stops : List Property → ℕ → List Listing → Draft → LineRefusal → Type 0
 Stops ps maintain [] old r = ⊥
 Stops ps maintain (l ∷ ls) old r = Refuses ps (length old.lbs) l r ⊎ ((mid : Draft) × Adds ps maintain l old mid × Stops ps maintain ls mid r)
 
@@ -199,7 +199,7 @@ pub record IsConfig (text : List ℕ) (c : Config) : Type 0 where
   pub ignored : c.ignored ≡ ignored_of properties
 
 -- the first refusal of a text
-abbrev pub IsRefused : List ℕ → Refusal → Type 0
+abbrev pub IsRefused : List ℕ → LineRefusal → Type 0
 IsRefused text r =
     (read_text true text ≡ Err r)
     ⊎ ((ps : List Property) × (read_text true text ≡ Ok ps) × Stops ps (maintain_of ps) (firsts (site_list ps)) no_workers r)

@@ -16,12 +16,12 @@ use crate::row::{Row, picked};
 use crate::settings::{filled_or, method, number_or, truth_or};
 use jk_io::{Bytes, ListOf};
 use jk_model::{LbConfig, Method};
-use property_lines::{Directive, Entry, PropsError, Reason, refused};
+use property_lines::{Directive, PropertyLine, PropsError, PropsReason, refused};
 use site_config::Lb;
 use std::alloc::Global;
 
 /// The line of the worker's type; 0 where none gives it.
-fn type_line(entries: &[Entry<'_>], row: &Row) -> u32
+fn type_line(entries: &[PropertyLine<'_>], row: &Row) -> u32
     ensures { result ≡ line_in (property_at (as_properties entries.now) row.now Directive.Kind) }
 {
     match picked(entries, row, Directive::Kind) {
@@ -113,7 +113,7 @@ fn lb_of<'t>(
             cookie: Bytes::from_slice(alloc, cookie)?,
             path: Bytes::from_slice(alloc, path)?,
         }),
-        Err(_) => Err(refused(line, Reason::TooWide)),
+        Err(_) => Err(refused(line, PropsReason::TooWide)),
     }
 }
 
@@ -136,10 +136,10 @@ pub(crate) fn balanced<'t>(
         (line_in (property_at (lines_in given.now) row.now Directive.Kind)) (as_listings members.now))) }
 {
     if members.is_empty() {
-        return Err(refused(type_line(given.entries, row), Reason::NoMembers));
+        return Err(refused(type_line(given.entries, row), PropsReason::NoMembers));
     }
     if members.len() > 64 {
-        return Err(refused(type_line(given.entries, row), Reason::TooManyMembers));
+        return Err(refused(type_line(given.entries, row), PropsReason::TooManyMembers));
     }
     lb_of(alloc, given, rows, row, listing, members)
 }

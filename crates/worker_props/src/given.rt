@@ -8,13 +8,13 @@ ghost use Rattle.worker_props.specs.Table.{IsNameOfGiven};
 use crate::listing::Listing;
 use crate::name_table::NameTable;
 use jk_io::ListOf;
-use property_lines::Entry;
+use property_lines::PropertyLine;
 
 /// The lines of a text, the numbers of the workers that have a directive, and by these numbers the members that each
 /// worker's own lines list.
 #[derive(Clone, Copy)]
 pub(crate) struct Given<'g, 't> {
-    pub(crate) entries: &'g [Entry<'t>],
+    pub(crate) entries: &'g [PropertyLine<'t>],
     pub(crate) names: &'g NameTable<'t>,
     pub(crate) lists: &'g [ListOf<Listing<'t>>],
     /// The members of a worker that has no list.

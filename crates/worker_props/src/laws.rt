@@ -1,6 +1,6 @@
 //! A law of the site's definition, in words of its own.
 ghost use Rattle.std.specs.Prelude.{◌≡◌, ℕ, List};
-ghost use Rattle.property_lines.specs.Refusals.{Refusal};
+ghost use Rattle.property_lines.specs.Refusals.{LineRefusal};
 ghost use Rattle.site_config.specs.declared.config.Config.{Config};
 ghost use Rattle.worker_props.specs.Site.{IsConfig, IsRefused};
 
@@ -8,6 +8,6 @@ ghost use Rattle.worker_props.specs.Site.{IsConfig, IsRefused};
 /// never both.
 pub fn a_text_has_one_answer()
     ensures configuration { (text : List ℕ) (a b : Config) → IsConfig text a → IsConfig text b → a ≡ b }
-    ensures refusal { (text : List ℕ) (r s : Refusal) → IsRefused text r → IsRefused text s → r ≡ s }
-    ensures never_both { (text : List ℕ) (c : Config) (r : Refusal) → IsConfig text c → IsRefused text r → ⊥ }
+    ensures refusal { (text : List ℕ) (r s : LineRefusal) → IsRefused text r → IsRefused text s → r ≡ s }
+    ensures never_both { (text : List ℕ) (c : Config) (r : LineRefusal) → IsConfig text c → IsRefused text r → ⊥ }
 {}

@@ -6,7 +6,7 @@ ghost use Rattle.worker_props.specs.Listings.{as_listings};
 
 use crate::firsts::firsts;
 use jk_io::{ListOf, NoMemory};
-use property_lines::{Entry, is_list_key, push_words};
+use property_lines::{PropertyLine, is_list_key, push_words};
 use std::alloc::Global;
 
 /// A name of a list, and the line on which it stands.
@@ -20,7 +20,7 @@ pub(crate) struct Listing<'t> {
 pub(crate) fn push_listings<'t>(
     alloc: Global,
     out: &mut ListOf<Listing<'t>>,
-    entry: &Entry<'t>,
+    entry: &PropertyLine<'t>,
 ) -> Result<(), NoMemory>
     ensures { OnOk result (as_listings out.new ≡ as_listings out.old ++ listings_of (as_property entry.now)) }
 {
@@ -36,7 +36,10 @@ pub(crate) fn push_listings<'t>(
 }
 
 /// The names of `worker.list`, one line after another.
-fn site_list<'t>(alloc: Global, entries: &[Entry<'t>]) -> Result<ListOf<Listing<'t>>, NoMemory>
+fn site_list<'t>(
+    alloc: Global,
+    entries: &[PropertyLine<'t>],
+) -> Result<ListOf<Listing<'t>>, NoMemory>
     ensures { IfOk result (λ l. as_listings l ≡ joined is_list_line (as_properties entries.now)) }
 {
     let mut out = ListOf::new(alloc);
@@ -49,7 +52,10 @@ fn site_list<'t>(alloc: Global, entries: &[Entry<'t>]) -> Result<ListOf<Listing<
 }
 
 /// The names of `worker.list`, each where it stands first.
-pub(crate) fn listed<'t>(alloc: Global, entries: &[Entry<'t>]) -> Result<Vec<Listing<'t>>, NoMemory>
+pub(crate) fn listed<'t>(
+    alloc: Global,
+    entries: &[PropertyLine<'t>],
+) -> Result<Vec<Listing<'t>>, NoMemory>
     ensures { IfOk result (λ v. as_listings v.items ≡ firsts (site_list (as_properties entries.now))) }
 {
     firsts(alloc, site_list(alloc, entries)?.as_slice())

@@ -9,7 +9,7 @@ use crate::row::Row;
 use crate::settings::{activation, number_or, text, text_or};
 use jk_io::{Bytes, ListOf, NoMemory};
 use jk_model::{FailList, MemberConfig};
-use property_lines::{Directive, Entry, pings, statuses_of};
+use property_lines::{Directive, PropertyLine, pings, statuses_of};
 use site_config::Endpoint;
 use std::alloc::Global;
 
@@ -23,7 +23,7 @@ fn copied(alloc: Global, text: Option<&[u8]>) -> Result<Option<Bytes>, NoMemory>
 }
 
 /// The statuses that count as a failure.
-fn fail_list(alloc: Global, entries: &[Entry<'_>], row: &Row) -> Result<FailList, NoMemory>
+fn fail_list(alloc: Global, entries: &[PropertyLine<'_>], row: &Row) -> Result<FailList, NoMemory>
     ensures { IfOk result (λ l. l ≡ statuses_in (property_at (as_properties entries.now) row.now Directive.FailOnStatus)) }
 {
     match text(entries, row, Directive::FailOnStatus) {
@@ -38,7 +38,7 @@ fn fail_list(alloc: Global, entries: &[Entry<'_>], row: &Row) -> Result<FailList
 /// How the worker of this row is reached.
 pub(crate) fn endpoint_of<'t>(
     alloc: Global,
-    entries: &[Entry<'t>],
+    entries: &[PropertyLine<'t>],
     row: &Row,
 ) -> Result<Endpoint, NoMemory>
     ensures { IfOk result (IsEndpoint (property_at (as_properties entries.now) row.now)) }
@@ -88,7 +88,7 @@ fn redirect(index: usize, text: Option<&[u8]>, routes: &[&[u8]]) -> Option<u32>
 /// The member at this place of a balancer whose members have these routes.
 pub(crate) fn member_of<'t>(
     alloc: Global,
-    entries: &[Entry<'t>],
+    entries: &[PropertyLine<'t>],
     row: &Row,
     name: &'t [u8],
     routes: &[&[u8]],

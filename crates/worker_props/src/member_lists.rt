@@ -16,14 +16,14 @@ use crate::listing::{Listing, push_listings};
 use crate::name_table::NameTable;
 use crate::row::{Row, picked};
 use jk_io::{ListOf, NoMemory};
-use property_lines::{Directive, Entry, worker_part};
+use property_lines::{Directive, PropertyLine, worker_part};
 use std::alloc::Global;
 
 /// Lists of members, by the number of the worker whose lines they are.
 pub(crate) type MemberLists<'t> = Vec<ListOf<Listing<'t>>>;
 
 /// The number of the worker whose members the line lists.
-fn lister(names: &NameTable<'_>, entry: &Entry<'_>) -> Option<usize>
+fn lister(names: &NameTable<'_>, entry: &PropertyLine<'_>) -> Option<usize>
     ensures within { IfSome result (λ i. i < length names.now) }
     ensures value { (name : List ℕ) (i : ℕ) → number_of name names.now ≡ Some i
         → gives name Directive.BalanceWorkers (as_property entry.now) ≡ is_number i result }
@@ -41,7 +41,7 @@ fn add_line<'t>(
     alloc: Global,
     names: &NameTable<'t>,
     lists: &mut MemberLists<'t>,
-    entry: &Entry<'t>,
+    entry: &PropertyLine<'t>,
 ) -> Result<(), NoMemory>
     requires { vec_len lists.old ≡ length names.now }
     ensures { OnOk result (AddsLine names.now (as_property entry.now) lists.old.items lists.new.items) }
@@ -67,7 +67,7 @@ fn no_lists<'t>(alloc: Global, count: usize) -> Result<MemberLists<'t>, NoMemory
 fn joined_lists<'t>(
     alloc: Global,
     names: &NameTable<'t>,
-    entries: &[Entry<'t>],
+    entries: &[PropertyLine<'t>],
 ) -> Result<MemberLists<'t>, NoMemory>
     ensures { IfOk result (λ v. HaveLines (as_properties entries.now) names.now v.items) }
 {
@@ -93,7 +93,7 @@ fn once<'t>(alloc: Global, lists: &[ListOf<Listing<'t>>]) -> Result<MemberLists<
 pub(crate) fn member_lists<'t>(
     alloc: Global,
     names: &NameTable<'t>,
-    entries: &[Entry<'t>],
+    entries: &[PropertyLine<'t>],
 ) -> Result<MemberLists<'t>, NoMemory>
     ensures { IfOk result (λ v. HaveMembers (as_properties entries.now) names.now v.items) }
 {
@@ -101,7 +101,7 @@ pub(crate) fn member_lists<'t>(
 }
 
 /// The worker whose line it is.
-fn owner_of<'t>(entry: &Entry<'t>) -> &'t [u8]
+fn owner_of<'t>(entry: &PropertyLine<'t>) -> &'t [u8]
     ensures { result.now ≡ name_part (worker_part (as_property entry.now).key) }
 {
     match worker_part(entry.key) {

@@ -16,7 +16,7 @@ use crate::row::Row;
 use crate::settings::text_or;
 use crate::site::{check_ajp13, check_known, check_reference, force_of};
 use jk_model::MemberConfig;
-use property_lines::{Directive, Entry, PropsError};
+use property_lines::{Directive, PropertyLine, PropsError};
 use site_config::Endpoint;
 use std::alloc::Global;
 
@@ -99,7 +99,7 @@ fn rows_of<'t>(
 /// The routes of these members.
 fn routes_of<'t>(
     alloc: Global,
-    entries: &[Entry<'t>],
+    entries: &[PropertyLine<'t>],
     rows: &[Row],
     members: &[Listing<'t>],
 ) -> Result<Vec<&'t [u8]>, PropsError>
@@ -125,7 +125,7 @@ pub(crate) struct Members {
 
 fn built<'t>(
     alloc: Global,
-    entries: &[Entry<'t>],
+    entries: &[PropertyLine<'t>],
     rows: &[Row],
     members: &[Listing<'t>],
     routes: &[&[u8]],

@@ -11,11 +11,11 @@ ghost use Rattle.worker_props.specs.Ways.{IsWay, IsBroken, IsSettled, Inherits, 
 use crate::given::Given;
 use crate::name_table::NameTable;
 use crate::row::{Progress, Row, picked};
-use property_lines::{Directive, Entry, PropsError, Reason, behind_worker, refused};
+use property_lines::{Directive, PropertyLine, PropsError, PropsReason, behind_worker, refused};
 use std::alloc::Global;
 
 /// The worker that a reference names.
-fn target_of<'t>(entry: &Entry<'t>) -> &'t [u8]
+fn target_of<'t>(entry: &PropertyLine<'t>) -> &'t [u8]
     ensures { result.now ≡ target_name (as_property entry.now) }
 {
     match behind_worker(entry.value) {
@@ -25,7 +25,12 @@ fn target_of<'t>(entry: &Entry<'t>) -> &'t [u8]
 }
 
 /// The row of the worker that the row's reference names.
-fn target_row(entries: &[Entry<'_>], names: &NameTable<'_>, rows: &[Row], row: &Row) -> Option<Row>
+fn target_row(
+    entries: &[PropertyLine<'_>],
+    names: &NameTable<'_>,
+    rows: &[Row],
+    row: &Row,
+) -> Option<Row>
     ensures { result ≡ row_of_target (as_properties entries.now) names.now rows.now row.now }
 {
     let entry = picked(entries, row, Directive::Reference)?;
@@ -79,7 +84,11 @@ fn pass(rows: &mut Vec<Row>, number: usize)
 }
 
 /// The worker that a reference names, where it has a directive and wasn't passed.
-fn next_on_way<'t>(names: &NameTable<'_>, rows: &[Row], entry: &Entry<'t>) -> Option<&'t [u8]>
+fn next_on_way<'t>(
+    names: &NameTable<'_>,
+    rows: &[Row],
+    entry: &PropertyLine<'t>,
+) -> Option<&'t [u8]>
     ensures { option_map (λ t. t.now) result ≡ (if is_open names.now rows.now (target_name (as_property entry.now))
         then Some (target_name (as_property entry.now)) else None) }
 {
@@ -119,7 +128,7 @@ fn walk<'t>(
             None => return Ok(path),
             Some(entry) => match next_on_way(given.names, rows.as_slice(), &entry) {
                 Some(next) => at = next,
-                None => return Err(refused(entry.line, Reason::BadReference)),
+                None => return Err(refused(entry.line, PropsReason::BadReference)),
             },
         }
     }

@@ -6,7 +6,7 @@ ghost use Rattle.property_lines.specs.Entries.{as_property, as_properties};
 ghost use Rattle.worker_props.specs.Ways.{is_whole, passed_row};
 ghost use Rattle.worker_props.specs.Rows.{place_at, picked, property_at, row_with};
 
-use property_lines::{Directive, Entry};
+use property_lines::{Directive, PropertyLine};
 
 /// How far a row has come.
 #[derive(Clone, Copy, Debug, PartialEq, Eq)]
@@ -82,10 +82,10 @@ impl Row {
 
 /// The line that gives the directive.
 pub(crate) fn picked<'t>(
-    entries: &[Entry<'t>],
+    entries: &[PropertyLine<'t>],
     row: &Row,
     directive: Directive,
-) -> Option<Entry<'t>>
+) -> Option<PropertyLine<'t>>
     ensures { option_map as_property result ≡ property_at (as_properties entries.now) row.now directive }
 {
     match row.place(directive) {

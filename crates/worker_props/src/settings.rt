@@ -8,11 +8,15 @@ ghost use Rattle.worker_props.specs.Settings.{text_in, text_or, filled, filled_o
 use crate::row::{Row, picked};
 use jk_model::{Activation, Method};
 use property_lines::{
-    Directive, Entry, Kind, activation_of, kind_of, method_of, number_in, truth_of,
+    Directive, PropertyLine, WorkerKind, activation_of, kind_of, method_of, number_in, truth_of,
 };
 
 /// The value of a directive in force.
-pub(crate) fn text<'t>(entries: &[Entry<'t>], row: &Row, directive: Directive) -> Option<&'t [u8]>
+pub(crate) fn text<'t>(
+    entries: &[PropertyLine<'t>],
+    row: &Row,
+    directive: Directive,
+) -> Option<&'t [u8]>
     ensures { option_map (λ t. t.now) result ≡ text_in (property_at (as_properties entries.now) row.now directive) }
 {
     match picked(entries, row, directive) {
@@ -22,7 +26,7 @@ pub(crate) fn text<'t>(entries: &[Entry<'t>], row: &Row, directive: Directive) -
 }
 
 pub(crate) fn text_or<'t>(
-    entries: &[Entry<'t>],
+    entries: &[PropertyLine<'t>],
     row: &Row,
     directive: Directive,
     default: &'t [u8],
@@ -37,7 +41,7 @@ pub(crate) fn text_or<'t>(
 
 /// The value, where it has a byte.
 pub(crate) fn filled_or<'t>(
-    entries: &[Entry<'t>],
+    entries: &[PropertyLine<'t>],
     row: &Row,
     directive: Directive,
     default: &'t [u8],
@@ -51,7 +55,7 @@ pub(crate) fn filled_or<'t>(
 }
 
 pub(crate) fn number_or(
-    entries: &[Entry<'_>],
+    entries: &[PropertyLine<'_>],
     row: &Row,
     directive: Directive,
     low: u64,
@@ -74,7 +78,7 @@ pub(crate) fn number_or(
 }
 
 pub(crate) fn truth_or(
-    entries: &[Entry<'_>],
+    entries: &[PropertyLine<'_>],
     row: &Row,
     directive: Directive,
     default: bool,
@@ -91,19 +95,19 @@ pub(crate) fn truth_or(
 }
 
 /// The type of the worker.
-pub(crate) fn kind(entries: &[Entry<'_>], row: &Row) -> Kind
+pub(crate) fn kind(entries: &[PropertyLine<'_>], row: &Row) -> WorkerKind
     ensures { result ≡ kind_in (property_at (as_properties entries.now) row.now Directive.Kind) }
 {
     match text(entries, row, Directive::Kind) {
         Some(text) => match kind_of(text) {
             Some(kind) => kind,
-            None => Kind::Ajp13,
+            None => WorkerKind::Ajp13,
         },
-        None => Kind::Ajp13,
+        None => WorkerKind::Ajp13,
     }
 }
 
-pub(crate) fn activation(entries: &[Entry<'_>], row: &Row) -> Activation
+pub(crate) fn activation(entries: &[PropertyLine<'_>], row: &Row) -> Activation
     ensures { result ≡ activation_in (property_at (as_properties entries.now) row.now Directive.Activation) }
 {
     match text(entries, row, Directive::Activation) {
@@ -115,7 +119,7 @@ pub(crate) fn activation(entries: &[Entry<'_>], row: &Row) -> Activation
     }
 }
 
-pub(crate) fn method(entries: &[Entry<'_>], row: &Row) -> Method
+pub(crate) fn method(entries: &[PropertyLine<'_>], row: &Row) -> Method
     ensures { result ≡ method_in (property_at (as_properties entries.now) row.now Directive.Method) }
 {
     match text(entries, row, Directive::Method) {

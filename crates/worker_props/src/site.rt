@@ -16,7 +16,7 @@ use crate::name_table::NameTable;
 use crate::reference::resolve;
 use crate::row::Row;
 use crate::settings::kind;
-use property_lines::{Kind, PropsError, Reason, refused};
+use property_lines::{PropsError, PropsReason, WorkerKind, refused};
 use std::alloc::Global;
 
 /// The row of a worker whose row is whole.
@@ -73,7 +73,7 @@ pub(crate) fn check_known(given: &Given<'_, '_>, listing: &Listing<'_>) -> Resul
 {
     match given.names.find(listing.name) {
         Some(_) => Ok(()),
-        None => Err(refused(listing.line, Reason::UnknownWorker)),
+        None => Err(refused(listing.line, PropsReason::UnknownWorker)),
     }
 }
 
@@ -93,8 +93,8 @@ pub(crate) fn check_ajp13<'t>(
 {
     let row = force_of(alloc, given, rows, listing.name)?;
     match kind(given.entries, &row) {
-        Kind::Ajp13 => Ok(()),
-        Kind::Lb => Err(refused(listing.line, Reason::BadValue)),
-        Kind::Status => Err(refused(listing.line, Reason::BadValue)),
+        WorkerKind::Ajp13 => Ok(()),
+        WorkerKind::Lb => Err(refused(listing.line, PropsReason::BadValue)),
+        WorkerKind::Status => Err(refused(listing.line, PropsReason::BadValue)),
     }
 }

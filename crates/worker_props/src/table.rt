@@ -9,7 +9,7 @@ ghost use Rattle.worker_props.specs.Rows.{HasOwn, AreRows, rows_after};
 use crate::name_table::NameTable;
 use crate::row::Row;
 use jk_io::NoMemory;
-use property_lines::{Entry, directive_of, worker_part};
+use property_lines::{PropertyLine, directive_of, worker_part};
 use std::alloc::Global;
 
 /// Adds the name, unless it is there.
@@ -23,7 +23,7 @@ fn add_name<'t>(names: &mut NameTable<'t>, name: &'t [u8]) -> Result<(), NoMemor
 }
 
 /// Adds the name of the worker to which the line gives a directive.
-fn add_worker<'t>(names: &mut NameTable<'t>, entry: &Entry<'t>) -> Result<(), NoMemory>
+fn add_worker<'t>(names: &mut NameTable<'t>, entry: &PropertyLine<'t>) -> Result<(), NoMemory>
     ensures { OnOk result (names.new ≡ names_with (worker_part entry.now.key.now) names.old) }
 {
     match worker_part(entry.key) {
@@ -33,7 +33,10 @@ fn add_worker<'t>(names: &mut NameTable<'t>, entry: &Entry<'t>) -> Result<(), No
 }
 
 /// The names of the workers that have a directive.
-pub(crate) fn names_of<'t>(alloc: Global, entries: &[Entry<'t>]) -> Result<NameTable<'t>, NoMemory>
+pub(crate) fn names_of<'t>(
+    alloc: Global,
+    entries: &[PropertyLine<'t>],
+) -> Result<NameTable<'t>, NoMemory>
     ensures { IfOk result (IsNameOfGiven (as_properties entries.now)) }
 {
     let mut names = NameTable::new(alloc);
@@ -44,7 +47,7 @@ pub(crate) fn names_of<'t>(alloc: Global, entries: &[Entry<'t>]) -> Result<NameT
 }
 
 /// Puts the line at this place into the row of its worker.
-fn put(names: &NameTable<'_>, rows: &mut Vec<Row>, entry: &Entry<'_>, place: u32)
+fn put(names: &NameTable<'_>, rows: &mut Vec<Row>, entry: &PropertyLine<'_>, place: u32)
     requires { vec_len rows.old ≡ length names.now }
     ensures { rows.new.items ≡ rows_after names.now (as_property entry.now) place rows.old.items }
 {
@@ -65,7 +68,7 @@ fn put(names: &NameTable<'_>, rows: &mut Vec<Row>, entry: &Entry<'_>, place: u32
 pub(crate) fn rows_of(
     alloc: Global,
     names: &NameTable<'_>,
-    entries: &[Entry<'_>],
+    entries: &[PropertyLine<'_>],
 ) -> Result<Vec<Row>, NoMemory>
     requires { length entries.now < 2 ^ 32 }
     ensures { IfOk result (λ v. AreRows (HasOwn (as_properties entries.now) (length entries.now)) names.now v.items) }

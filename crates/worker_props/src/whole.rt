@@ -7,12 +7,14 @@ ghost use Rattle.worker_props.specs.Site.{ignored_of, is_built, is_maintain_line
 ghost use Rattle.worker_props.specs.Given.{last_of};
 
 use jk_io::{Bytes, ListOf, NoMemory};
-use property_lines::{Entry, directive_of, is_list_key, is_maintain_key, number_in, worker_part};
+use property_lines::{
+    PropertyLine, directive_of, is_list_key, is_maintain_key, number_in, worker_part,
+};
 use site_config::IgnoredList;
 use std::alloc::Global;
 
 /// The last line that gives the seconds between two maintenances.
-fn maintain_line<'t>(entries: &[Entry<'t>]) -> Option<Entry<'t>>
+fn maintain_line<'t>(entries: &[PropertyLine<'t>]) -> Option<PropertyLine<'t>>
     ensures { option_map as_property result ≡ last_of is_maintain_line (as_properties entries.now) }
 {
     let mut last = None;
@@ -25,7 +27,7 @@ fn maintain_line<'t>(entries: &[Entry<'t>]) -> Option<Entry<'t>>
 }
 
 /// The seconds between two maintenances.
-pub(crate) fn maintain_of(entries: &[Entry<'_>]) -> u64
+pub(crate) fn maintain_of(entries: &[PropertyLine<'_>]) -> u64
     ensures value { result ≡ maintain_of (as_properties entries.now) }
     ensures above { 1 ≤ result }
     ensures below { result ≤ 86400 }
@@ -50,7 +52,10 @@ fn is_built(key: &[u8]) -> bool
 }
 
 /// The lines whose keys have no effect.
-pub(crate) fn ignored_of(alloc: Global, entries: &[Entry<'_>]) -> Result<IgnoredList, NoMemory>
+pub(crate) fn ignored_of(
+    alloc: Global,
+    entries: &[PropertyLine<'_>],
+) -> Result<IgnoredList, NoMemory>
     ensures { IfOk result (λ l. l ≡ ignored_of (as_properties entries.now)) }
 {
     let mut ignored = Vec::new(alloc);

@@ -23,7 +23,9 @@ use crate::site::{check_known, force_of};
 use crate::table::{names_of, rows_of};
 use crate::whole::{ignored_of, maintain_of};
 use jk_io::{Bytes, ListOf};
-use property_lines::{Directive, Entry, Kind, PropsError, Reason, read_entries, refused};
+use property_lines::{
+    Directive, PropertyLine, PropsError, PropsReason, WorkerKind, read_entries, refused,
+};
 use site_config::{Config, Status};
 use std::alloc::Global;
 
@@ -42,15 +44,15 @@ fn add_lb<'t>(
     requires rows { AreAtRest given.now rows.old.items }
     ensures rows { OnOk result (AreAtRest given.now rows.new.items) }
     ensures ok { OnOk result (AddsKind (lines_in given.now) given.now.maintain (as_listing listing.now)
-        (property_at (lines_in given.now) row.now) Kind.Lb draft.old draft.new) }
+        (property_at (lines_in given.now) row.now) WorkerKind.Lb draft.old draft.new) }
     ensures refused { IfErr result (IsRefusal (RefusesKind (lines_in given.now) (length draft.old.lbs)
-        (as_listing listing.now) (property_at (lines_in given.now) row.now) Kind.Lb)) }
+        (as_listing listing.now) (property_at (lines_in given.now) row.now) WorkerKind.Lb)) }
 {
     let members = members_in(given, row);
     check_references(alloc, given, rows, members)?;
     check_members_known(given, members)?;
     if draft.lbs.len() >= MAX_BALANCERS {
-        return Err(refused(listing.line, Reason::BadValue));
+        return Err(refused(listing.line, PropsReason::BadValue));
     }
     check_types(alloc, given, rows, members)?;
     let lb = balanced(alloc, given, rows, row, listing, members)?;
@@ -71,12 +73,12 @@ fn add_direct<'t>(
     requires chained { Chained (lines_in given.now) (as_listing listing.now) }
     ensures rows { OnOk result (AreAtRest given.now rows.new.items) }
     ensures ok { OnOk result (AddsKind (lines_in given.now) given.now.maintain (as_listing listing.now)
-        (property_at (lines_in given.now) row.now) Kind.Ajp13 draft.old draft.new) }
+        (property_at (lines_in given.now) row.now) WorkerKind.Ajp13 draft.old draft.new) }
     ensures refused { IfErr result (IsRefusal (RefusesKind (lines_in given.now) (length draft.old.lbs)
-        (as_listing listing.now) (property_at (lines_in given.now) row.now) Kind.Ajp13)) }
+        (as_listing listing.now) (property_at (lines_in given.now) row.now) WorkerKind.Ajp13)) }
 {
     if draft.lbs.len() >= MAX_BALANCERS {
-        return Err(refused(listing.line, Reason::BadValue));
+        return Err(refused(listing.line, PropsReason::BadValue));
     }
     let lb = direct(alloc, given, rows, listing)?;
     draft.add_lb(Bytes::from_slice(alloc, listing.name)?, lb)
@@ -85,13 +87,13 @@ fn add_direct<'t>(
 /// Adds a status worker.
 fn add_status(
     alloc: Global,
-    entries: &[Entry<'_>],
+    entries: &[PropertyLine<'_>],
     draft: &mut Draft,
     row: &Row,
     listing: &Listing<'_>,
 ) -> Result<(), PropsError>
     ensures ok { (maintain : ℕ) → OnOk result (AddsKind (as_properties entries.now) maintain (as_listing listing.now)
-        (property_at (as_properties entries.now) row.now) Kind.Status draft.old draft.new) }
+        (property_at (as_properties entries.now) row.now) WorkerKind.Status draft.old draft.new) }
     ensures memory { IfErr result (λ e. e ≡ PropsError.NoMemory) }
 {
     let read_only = truth_or(entries, row, Directive::ReadOnly, false);
@@ -118,9 +120,9 @@ fn add_worker<'t>(
     check_known(given, listing)?;
     let row = force_of(alloc, given, rows, listing.name)?;
     match kind(given.entries, &row) {
-        Kind::Ajp13 => add_direct(alloc, given, rows, draft, &row, listing),
-        Kind::Lb => add_lb(alloc, given, rows, draft, &row, listing),
-        Kind::Status => add_status(alloc, given.entries, draft, &row, listing),
+        WorkerKind::Ajp13 => add_direct(alloc, given, rows, draft, &row, listing),
+        WorkerKind::Lb => add_lb(alloc, given, rows, draft, &row, listing),
+        WorkerKind::Status => add_status(alloc, given.entries, draft, &row, listing),
     }
 }
 
@@ -180,7 +182,7 @@ fn config_of(alloc: Global, given: &Given<'_, '_>) -> Result<Config, PropsError>
 
 /// The configuration of lines that pass by themselves, as `read_entries` gives them where values count, or their first
 /// refusal.
-pub fn workers_of(alloc: Global, entries: &[Entry<'_>]) -> Result<Config, PropsError>
+pub fn workers_of(alloc: Global, entries: &[PropertyLine<'_>]) -> Result<Config, PropsError>
     requires { length entries.now < 2 ^ 32 }
     ensures ok { IfOk result (λ c. Builds (as_properties entries.now) (maintain_of (as_properties entries.now))
         (firsts (site_list (as_properties entries.now))) no_workers (draft_of c)) }

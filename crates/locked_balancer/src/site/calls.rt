@@ -2,7 +2,7 @@
 ghost use Rattle.std.specs.Prelude.{◌≡◌, ◌+◌, ◌<◌};
 ghost use Rattle.locked_balancer.specs.Notes.{lease_at, marked_admin, marked_room};
 
-use super::{Refusal, Site, SiteLease, SiteMark, SiteName, SitePicked, SiteReceipt, SiteStray};
+use super::{MarkKind, Site, SiteLease, SiteMark, SiteName, SitePicked, SiteReceipt, SiteStray};
 use balancer_core::{Lease, Picked, Receipt};
 use jk_model::{AdminError, Ask, Command, Entry, FullMark, Outcome, RoomError};
 use std::marker::PhantomData;
@@ -210,7 +210,7 @@ fn room_refused<L>(lb: u32, error: RoomError<FullMark>) -> RoomError<SiteMark<L>
     ensures { result ≡ marked_room lb error }
 {
     match error {
-        RoomError::Full(numbers) => RoomError::Full(mark_of(lb, Refusal::Full, numbers)),
+        RoomError::Full(numbers) => RoomError::Full(mark_of(lb, MarkKind::Full, numbers)),
         RoomError::NoMemory => RoomError::NoMemory,
     }
 }
@@ -221,13 +221,17 @@ fn admin_refused<L>(lb: u32, error: AdminError<FullMark>) -> AdminError<SiteMark
     match error {
         AdminError::UnknownMember => AdminError::UnknownMember,
         AdminError::BadValue => AdminError::BadValue,
-        AdminError::TooWide(numbers) => AdminError::TooWide(mark_of(lb, Refusal::TooWide, numbers)),
-        AdminError::Full(numbers) => AdminError::Full(mark_of(lb, Refusal::Full, numbers)),
+        AdminError::TooWide(numbers) => AdminError::TooWide(mark_of(
+            lb,
+            MarkKind::TooWide,
+            numbers,
+        )),
+        AdminError::Full(numbers) => AdminError::Full(mark_of(lb, MarkKind::Full, numbers)),
         AdminError::NoMemory => AdminError::NoMemory,
     }
 }
 
-fn mark_of<L>(lb: u32, refusal: Refusal, numbers: FullMark) -> SiteMark<L>
+fn mark_of<L>(lb: u32, refusal: MarkKind, numbers: FullMark) -> SiteMark<L>
     ensures { result ≡ record { lb = lb; refusal = refusal; numbers = numbers } }
 {
     SiteMark {

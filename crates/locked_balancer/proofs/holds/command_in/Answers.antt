@@ -11,7 +11,7 @@ use Rattle.balancer_core.specs.Journal.{Journal}
 use Rattle.balancer_core.specs.Refused.{RefusesMaintain}
 use Rattle.balancer_core.proofs.HoldLaws.{of_error}
 use Rattle.balancer_core.proofs.ToldLaws.{at_place}
-use Rattle.locked_balancer.specs.Holds.{Held, HoldRefuses, held}
+use Rattle.locked_balancer.specs.Holds.{HeldState, HoldRefuses, held}
 use Rattle.locked_balancer.specs.Notes.{MarkNote}
 use Rattle.locked_balancer.specs.Sites.{At}
 use Rattle.locked_balancer.proofs.HoldLaws.{admin_mark, command_account, command_first, commands, denied_after, denied_first}
@@ -41,7 +41,7 @@ returns-in_err-receipt-clause-mark g c =
     (admin_mark c.args.on.lb here.0 c.args.command.now c.in_err-receipt.field-0.0 (c.in_err-receipt.ensures.commanded here.0 here.1))
 
 -- The Maintain was refused, and so the command.
-refused_before : (a b : Held) (lb session at : ℕ) (c : Command) (e : AdminError MarkNote) (found first : RoomError MarkNote) → b ≡ a → lb < length a.books
+refused_before : (a b : HeldState) (lb session at : ℕ) (c : Command) (e : AdminError MarkNote) (found first : RoomError MarkNote) → b ≡ a → lb < length a.books
     → e ≡ refused_first first → found ≡ first → At a.books lb (λ b. RefusesMaintain (λ mark. mark.numbers) b at found) → HoldRefuses a b lb session at c e
 refused_before a b lb session at c e found first same within is found_is why =
     denied_first a b lb session at (e ≡ admin.NoMemory) (IsCommandRefusal (λ mark. mark.numbers) at c e) same within

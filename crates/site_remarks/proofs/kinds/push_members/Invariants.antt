@@ -1,5 +1,5 @@
 use Rattle.std.proofs.Common.{◌≡◌, ◌++◌, map, take}
-use Rattle.property_lines.specs.declared.values.Kind.TheVariants as kind
+use Rattle.property_lines.specs.declared.values.WorkerKind.TheVariants as kind
 use Rattle.site_remarks.specs.KindTables.{as_kinds}
 use Rattle.site_remarks.proofs.kinds.push_members.Given as goal
 

@@ -1,6 +1,6 @@
 use Rattle.std.proofs.Common.{ℕ, [], List, sym, subst, take, arith}
-use Rattle.property_lines.specs.declared.values.Kind.{Kind}
-use Rattle.property_lines.specs.declared.values.Kind.TheVariants as kind
+use Rattle.property_lines.specs.declared.values.WorkerKind.{WorkerKind}
+use Rattle.property_lines.specs.declared.values.WorkerKind.TheVariants as kind
 use Rattle.site_remarks.specs.KindTables.{as_kinds, IsKindTable}
 use Rattle.site_remarks.proofs.KindLemmas.{kinds_more}
 use Rattle.site_remarks.proofs.kinds.table_of.Goals as goal
@@ -8,5 +8,5 @@ use Rattle.site_remarks.proofs.kinds.table_of.Goals as goal
 pub loop-entry-preserved : goal.loop-entry-preserved
 loop-entry-preserved c =
     let kinds = c.args.kinds.now in
-    subst (λ (ks : List (List ℕ × Kind)). IsKindTable c.put_kind.new.table ks) (sym (kinds_more kinds c.loop-entry.entry-index (record { ref_ptr = (0, 0); now = [] }, kind.Ajp13) (omega arith)))
+    subst (λ (ks : List (List ℕ × WorkerKind)). IsKindTable c.put_kind.new.table ks) (sym (kinds_more kinds c.loop-entry.entry-index (record { ref_ptr = (0, 0); now = [] }, kind.Ajp13) (omega arith)))
     (c.in_ok-put_kind.ensures (as_kinds (take c.loop-entry.entry-index kinds)) c.loop-entry.invariant)

@@ -1,6 +1,6 @@
 use Rattle.std.proofs.Common.{◌≡◌, ◌≤◌, ◌+◌, ◌++◌, ℕ, List, length}
 use Rattle.property_lines.specs.Lines.{lines}
-use Rattle.property_lines.specs.declared.values.Kind.{Kind}
+use Rattle.property_lines.specs.declared.values.WorkerKind.{WorkerKind}
 use Rattle.site_remarks.specs.KindTables.{IsKindTable}
 use Rattle.site_remarks.specs.MapNotices.{map_notices, notices_from}
 use Rattle.site_remarks.proofs.map_notices.put_map_notices.Given as goal
@@ -9,7 +9,7 @@ use Rattle.site_remarks.proofs.map_notices.put_map_notices.Given as goal
 abbrev pub invariant-loop-text : goal.invariant-loop-text
 invariant-loop-text l = record {
   count : l.line + length l.rest ≤ length l.map.text.now;
-  said : (kinds : List (List ℕ × Kind)) → IsKindTable l.table kinds
+  said : (kinds : List (List ℕ × WorkerKind)) → IsKindTable l.table kinds
       → l.out ++ notices_from l.map.name.now (l.line + 1) kinds (lines l.rest) ≡ l.fn.out ++ map_notices l.map.name.now kinds l.map.text.now;
 }
 

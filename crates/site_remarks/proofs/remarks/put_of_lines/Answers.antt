@@ -1,6 +1,6 @@
 use Rattle.std.proofs.Common.{◌++◌, refl, inl, inr, append_assoc}
 use Rattle.property_lines.specs.Entries.{as_properties}
-use Rattle.property_lines.specs.Refusals.{Refusal}
+use Rattle.property_lines.specs.Refusals.{LineRefusal}
 use Rattle.worker_props.specs.Site.{IsConfig, IsRefused}
 use Rattle.site_remarks.specs.Explained.{explained_workers}
 use Rattle.site_remarks.specs.Remarks.{map_remarks, maps_of, workers_remarks}
@@ -26,7 +26,7 @@ pub returns-in-Err-Refused : goal.returns-in-Err-Refused
 returns-in-Err-Refused c =
     let ps = as_properties c.args.entries.now in
     let files = c.args.files.now in
-    let r : Refusal = record { line = c.in-Err-Refused.line; code = c.in-Err-Refused.code } in
+    let r : LineRefusal = record { line = c.in-Err-Refused.line; code = c.in-Err-Refused.code } in
     let refused : IsRefused files.workers.text.now r = inr (ps, c.requires.lines, rw c.in-Err-Refused.field-0-is at c.in-Err-Refused.ensures.refused) in
     on_ok c.explain_workers.result _ _ (rw c.in-Err-Refused.field-0-is at c.explain_workers.ensures) (λ same.
     (explained_workers files.workers.name.now files.workers.text.now r, same, inl (r, refused, refl)))

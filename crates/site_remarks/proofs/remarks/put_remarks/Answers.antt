@@ -1,5 +1,5 @@
 use Rattle.std.proofs.Common.{arith, refl, inl}
-use Rattle.property_lines.specs.Refusals.{Refusal}
+use Rattle.property_lines.specs.Refusals.{LineRefusal}
 use Rattle.worker_props.specs.Site.{IsRefused}
 use Rattle.site_remarks.specs.Explained.{explained_workers}
 use Rattle.site_remarks.proofs.NoticeLemmas.{on_ok}
@@ -14,7 +14,7 @@ put_of_lines-requires-clause-lines c = rw c.as_slice.ensures.value c.in-Ok.ensur
 pub returns-in-Err-Refused : goal.returns-in-Err-Refused
 returns-in-Err-Refused c =
     let files = c.args.files.now in
-    let r : Refusal = record { line = c.in-Err-Refused.line; code = c.in-Err-Refused.code } in
+    let r : LineRefusal = record { line = c.in-Err-Refused.line; code = c.in-Err-Refused.code } in
     let refused : IsRefused files.workers.text.now r = inl (rw c.in-Err-Refused.field-0-is at c.in-Err-Refused.ensures.entries) in
     on_ok c.explain_workers.result _ _ (rw c.in-Err-Refused.field-0-is at c.explain_workers.ensures) (λ same.
     (explained_workers files.workers.name.now files.workers.text.now r, same, inl (r, refused, refl)))

@@ -2,7 +2,7 @@ use Rattle.std.proofs.Common.{◌≡◌, ◌≤◌, ◌^◌, ℕ, length, inr, a
 use Rattle.std.proofs.lemmas.List.{length-map}
 use Rattle.jk_model.specs.Multiple.{multiple_of}
 use Rattle.jk_model.specs.Ranges.{AreInRange, IsPeriod, factors_in}
-use Rattle.property_lines.specs.declared.error.Reason.TheVariants as reason
+use Rattle.property_lines.specs.declared.error.PropsReason.TheVariants as reason
 use Rattle.property_lines.specs.Refusals.{refusal}
 use Rattle.worker_props.specs.Listings.{as_listings}
 use Rattle.worker_props.proofs.BookLemmas.{book_refused}

@@ -3,13 +3,13 @@ use Rattle.std.proofs.lemmas.List.{length-map, take-map, get_or-map}
 use Rattle.property_lines.specs.Entries.{as_property, as_properties}
 use Rattle.property_lines.specs.Directives.{worker_part}
 use Rattle.worker_props.specs.Table.{IsNameOfGiven, names_with}
-use Rattle.property_lines.specs.declared.entry.Entry.{Entry}
+use Rattle.property_lines.specs.declared.property_line.PropertyLine.{PropertyLine}
 use Rattle.property_lines.specs.declared.property.Property.{Property}
 use Rattle.worker_props.proofs.TableLemmas.{known_step}
 use Rattle.worker_props.proofs.table.names_of.Goals as goal
 
 -- one entry more
-known : (es : List Entry) (i : ℕ) (d : Entry) (names : List (List ℕ)) → i < length es → IsNameOfGiven (as_properties (take i es)) names → IsNameOfGiven (as_properties (take (i + 1) es)) (names_with (worker_part (get_or es i d).key.now) names)
+known : (es : List PropertyLine) (i : ℕ) (d : PropertyLine) (names : List (List ℕ)) → i < length es → IsNameOfGiven (as_properties (take i es)) names → IsNameOfGiven (as_properties (take (i + 1) es)) (names_with (worker_part (get_or es i d).key.now) names)
 known es i d names within h =
     let ps = as_properties es in
     let at : as_property (get_or es i d) ≡ get_or ps i (as_property (get_or es i d)) = sym (get_or-map as_property es i d (as_property (get_or es i d)) within) in

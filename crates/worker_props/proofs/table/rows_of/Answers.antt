@@ -2,13 +2,13 @@ use Rattle.std.proofs.Common.{◌≡◌, ◌+◌, ◌<◌, ℕ, List, length, ge
 use Rattle.std.proofs.lemmas.List.{length-map, get_or-map}
 use Rattle.property_lines.specs.Entries.{as_property, as_properties}
 use Rattle.worker_props.specs.Rows.{AreRows, HasOwn, rows_after}
-use Rattle.property_lines.specs.declared.entry.Entry.{Entry}
+use Rattle.property_lines.specs.declared.property_line.PropertyLine.{PropertyLine}
 use Rattle.worker_props.specs.declared.row.Row.{Row}
 use Rattle.worker_props.proofs.RowLemmas.{rows_step}
 use Rattle.worker_props.proofs.table.rows_of.Goals as goal
 
 -- one entry more
-one_more : (es : List Entry) (i : ℕ) (d : Entry) (names : List (List ℕ)) (rows : List Row) → i < length es → AreRows (HasOwn (as_properties es) i) names rows → AreRows (HasOwn (as_properties es) (i + 1)) names (rows_after names (as_property (get_or es i d)) i rows)
+one_more : (es : List PropertyLine) (i : ℕ) (d : PropertyLine) (names : List (List ℕ)) (rows : List Row) → i < length es → AreRows (HasOwn (as_properties es) i) names rows → AreRows (HasOwn (as_properties es) (i + 1)) names (rows_after names (as_property (get_or es i d)) i rows)
 one_more es i d names rows within h =
     rows_step (as_properties es) i (as_property (get_or es i d)) names rows (rw length-map within) (sym (get_or-map as_property es i d (as_property (get_or es i d)) within)) h
 

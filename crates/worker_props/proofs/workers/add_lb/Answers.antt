@@ -1,7 +1,7 @@
 use Rattle.std.proofs.Common.{◌≡◌, ◌≤◌, ◌<◌, ℕ, List, length, true, arith, refl, ◌∙◌, ap, subst, inl, inr}
 use Rattle.std.proofs.lemmas.Result.{err_from_is_err_and}
 use Rattle.property_lines.specs.declared.directive.Directive.TheVariants as directive
-use Rattle.property_lines.specs.declared.values.Kind.TheVariants as kind
+use Rattle.property_lines.specs.declared.values.WorkerKind.TheVariants as kind
 use Rattle.property_lines.specs.Entries.{as_properties}
 use Rattle.worker_props.specs.Given.{is_given}
 use Rattle.worker_props.specs.Lists.{Listing, firsts, members_in}

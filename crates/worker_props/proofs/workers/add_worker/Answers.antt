@@ -1,5 +1,5 @@
 use Rattle.std.proofs.Common.{subst}
-use Rattle.property_lines.specs.declared.values.Kind.{Kind}
+use Rattle.property_lines.specs.declared.values.WorkerKind.{WorkerKind}
 use Rattle.property_lines.specs.Entries.{as_properties}
 use Rattle.worker_props.specs.Listings.{as_listing}
 use Rattle.worker_props.specs.Rows.{property_at}
@@ -13,7 +13,7 @@ returns-in-Lb-clause-ok c =
     let l = as_listing c.args.listing.now in
     let row = c.in_ok-row.row in
     on_ok c.add_lb.result _ _ c.add_lb.ensures.ok (λ added.
-    adds_kind ps c.args.given.now.maintain l row c.args.draft.now c.add_lb.new.draft c.in_ok-check_known.ensures.ok c.in_ok-row.ensures.force (subst (λ (k : Kind). AddsKind ps c.args.given.now.maintain l (property_at ps row) k c.args.draft.now c.add_lb.new.draft) c.in-Lb.ensures added))
+    adds_kind ps c.args.given.now.maintain l row c.args.draft.now c.add_lb.new.draft c.in_ok-check_known.ensures.ok c.in_ok-row.ensures.force (subst (λ (k : WorkerKind). AddsKind ps c.args.given.now.maintain l (property_at ps row) k c.args.draft.now c.add_lb.new.draft) c.in-Lb.ensures added))
 
 pub returns-in-Status-clause-ok : goal.returns-in-Status-clause-ok
 returns-in-Status-clause-ok c =
@@ -21,4 +21,4 @@ returns-in-Status-clause-ok c =
     let l = as_listing c.args.listing.now in
     let row = c.in_ok-row.row in
     on_ok c.add_status.result _ _ (c.add_status.ensures.ok c.args.given.now.maintain) (λ added.
-    adds_kind ps c.args.given.now.maintain l row c.args.draft.now c.add_status.new.draft c.in_ok-check_known.ensures.ok c.in_ok-row.ensures.force (subst (λ (k : Kind). AddsKind ps c.args.given.now.maintain l (property_at ps row) k c.args.draft.now c.add_status.new.draft) c.in-Status.ensures added))
+    adds_kind ps c.args.given.now.maintain l row c.args.draft.now c.add_status.new.draft c.in_ok-check_known.ensures.ok c.in_ok-row.ensures.force (subst (λ (k : WorkerKind). AddsKind ps c.args.given.now.maintain l (property_at ps row) k c.args.draft.now c.add_status.new.draft) c.in-Status.ensures added))

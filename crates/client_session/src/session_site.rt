@@ -6,7 +6,7 @@ use uri_map::UriMap;
 
 /// The site, the worker that serves, and the client.
 #[derive(Clone, Copy)]
-pub struct Site<'a> {
+pub struct SessionSite<'a> {
     pub cfg: &'a Config,
     pub map: &'a UriMap,
     /// The number of the worker.

@@ -8,16 +8,16 @@ const TAKEN_AT_ONCE: usize = 16_384;
 
 /// A client without a network.
 #[derive(Drop)]
-pub struct Wire<'t> {
+pub struct RepeatLink<'t> {
     text: &'t [u8],
     /// What is left of it to give.
     left: &'t [u8],
     taken: [u8; TAKEN_AT_ONCE],
 }
 
-impl<'t> Wire<'t> {
-    pub fn new(text: &'t [u8]) -> Wire<'t> {
-        Wire {
+impl<'t> RepeatLink<'t> {
+    pub fn new(text: &'t [u8]) -> RepeatLink<'t> {
+        RepeatLink {
             text,
             left: text,
             taken: [0; TAKEN_AT_ONCE],
@@ -30,7 +30,7 @@ impl<'t> Wire<'t> {
     }
 }
 
-impl<'t> Meanings for Wire<'t> {
+impl<'t> Meanings for RepeatLink<'t> {
     ghost use Rattle.std.specs.Prelude.{None};
 
     type Beside = ();
@@ -56,7 +56,7 @@ fn copy_front(from: &[u8], to: &mut [u8]) -> usize
     count
 }
 
-impl<'t> Source for Wire<'t> {
+impl<'t> Source for RepeatLink<'t> {
     fn read(&mut self, buf: &mut [u8]) -> Result<usize, IoError> {
         let count = copy_front(self.left, buf);
         self.left = &self.left[count..];
@@ -64,10 +64,10 @@ impl<'t> Source for Wire<'t> {
     }
 }
 
-impl<'t> Sink for Wire<'t> {
+impl<'t> Sink for RepeatLink<'t> {
     fn write(&mut self, piece: &[u8]) -> Result<usize, IoError> {
         Ok(copy_front(piece, &mut self.taken))
     }
 }
 
-impl<'t> Link for Wire<'t> {}
+impl<'t> Link for RepeatLink<'t> {}

@@ -2,7 +2,7 @@
 
 /// A line's key and value, parts of the text.
 #[derive(Clone, Copy, Debug)]
-pub struct Entry<'t> {
+pub struct PropertyLine<'t> {
     /// From 1.
     pub line: u32,
     pub key: &'t [u8],
