@@ -13,6 +13,9 @@ use ajp_wire::{
 use jk_io::{Bytes, NoMemory};
 use std::alloc::Global;
 
+/// No more bytes are counted for a payload than these, also for one that is too long.
+const PAYLOAD_ROOM: usize = 20_000_000;
+
 /// The packet of a message, which has at most `most` bytes.
 pub fn encode_reply(alloc: Global, message: &Message, most: u32) -> Result<Bytes, EncodeError>
     requires { IsMessage message.now }
@@ -40,7 +43,7 @@ pub fn encode_reply(alloc: Global, message: &Message, most: u32) -> Result<Bytes
 fn payload_len(message: &Message) -> Option<usize>
     requires { IsMessage message.now }
     ensures value { IfSome result (λ size. size ≡ length (payload_of message.now)) }
-    ensures bound { IfSome result (λ size. size ≤ 20000000) }
+    ensures bound { IfSome result (λ size. size ≤ PAYLOAD_ROOM) }
     ensures fits { IfSome result (λ _. FieldsFit message.now) }
     ensures none { IfNone result (FieldsFit message.now → ⊥) }
 {
@@ -61,7 +64,7 @@ fn payload_len(message: &Message) -> Option<usize>
 fn head_len(parts: &ReplyParts) -> Option<usize>
     requires { IsMessage (Message.Headers parts.now) }
     ensures value { IfSome result (λ size. size ≡ length (payload_of (Message.Headers parts.now))) }
-    ensures bound { IfSome result (λ size. size ≤ 20000000) }
+    ensures bound { IfSome result (λ size. size ≤ PAYLOAD_ROOM) }
     ensures fits { IfSome result (λ _. FieldsFit (Message.Headers parts.now)) }
     ensures none { IfNone result (FieldsFit (Message.Headers parts.now) → ⊥) }
 {

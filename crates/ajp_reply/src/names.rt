@@ -2,6 +2,7 @@
 
 ghost use Rattle.std.specs.Prelude.{◌≡◌, ◌<◌, length, map};
 ghost use Rattle.ajp_reply.specs.Spelling.{reply_names as names_of_replies};
+ghost use Rattle.ajp_wire.specs.declared.names.TheConstants.{CODES_LIMIT};
 
 /// In the order of their codes, from A001 on.
 static REPLY_NAMES: [&[u8]; 11] = [
@@ -21,7 +22,7 @@ static REPLY_NAMES: [&[u8]; 11] = [
 /// The table of the names of headers.
 pub fn reply_names() -> &'static [&'static [u8]]
     ensures names { map (λ name. name.now) result.now ≡ names_of_replies }
-    ensures few { length result.now < 100 }
+    ensures few { length result.now < CODES_LIMIT }
 {
     &REPLY_NAMES
 }

@@ -3,18 +3,28 @@ ghost use Rattle.std.specs.Prelude.{◌≡◌, ◌+◌, ◌<◌, ◌≤◌, ◌�
 ghost use Rattle.std.specs.List.{AllByRecursion};
 ghost use Rattle.ajp_wire.specs.Spelling.{string};
 ghost use Rattle.ajp_request.specs.Writing.{attribute_bytes, attributes_bytes, before_stored as stand_before_stored, with_method, method_size, FitsAttribute, FitsMethod};
+ghost use Rattle.ajp_wire.specs.declared.writing.TheConstants.{PAYLOAD_LIMIT, STRING_LIMIT};
 
 use crate::attribute::{Attribute, is_stored};
 use crate::tables::{KEY_SIZE, NAMED, STORED_METHOD};
 use ajp_wire::{MAX_PAYLOAD_BYTES, MAX_STRING_BYTES, put_int, put_text};
 use jk_io::{Bytes, NoMemory};
 
+/// A string is spelled in fewer bytes than this.
+pub const STRING_ROOM: usize = 65_538;
+
+/// A method is stored in fewer bytes than this.
+pub const METHOD_ROOM: usize = 65_539;
+
+/// An attribute is spelled in fewer bytes than this.
+const ATTRIBUTE_ROOM: usize = 131_078;
+
 /// How many bytes spell a string, unless it is longer than its length can say.
 pub fn text_len(text: &Bytes) -> Option<usize>
     ensures value { IfSome result (λ len. len ≡ length (string text.now)) }
-    ensures bound { IfSome result (λ len. len < 65538) }
-    ensures fits { IfSome result (λ _. length text.now < 65535) }
-    ensures none { IfNone result (65535 ≤ length text.now) }
+    ensures bound { IfSome result (λ len. len < STRING_ROOM) }
+    ensures fits { IfSome result (λ _. length text.now < STRING_LIMIT) }
+    ensures none { IfNone result (STRING_LIMIT ≤ length text.now) }
 {
     if text.len() > MAX_STRING_BYTES {
         return None;
@@ -25,9 +35,9 @@ pub fn text_len(text: &Bytes) -> Option<usize>
 /// How many bytes the attributes have, unless a field is longer than its length can say, or they are more than fit a payload.
 pub fn attributes_len(attributes: &[Attribute]) -> Option<usize>
     ensures value { IfSome result (λ len. len ≡ length (attributes_bytes attributes.now)) }
-    ensures bound { IfSome result (λ len. len < 65536) }
+    ensures bound { IfSome result (λ len. len < PAYLOAD_LIMIT) }
     ensures fits { IfSome result (λ _. AllByRecursion FitsAttribute attributes.now) }
-    ensures none { IfNone result (AllByRecursion FitsAttribute attributes.now → length (attributes_bytes attributes.now) < 65536 → ⊥) }
+    ensures none { IfNone result (AllByRecursion FitsAttribute attributes.now → length (attributes_bytes attributes.now) < PAYLOAD_LIMIT → ⊥) }
 {
     let mut len = 0;
     for attribute in attributes {
@@ -41,7 +51,7 @@ pub fn attributes_len(attributes: &[Attribute]) -> Option<usize>
 
 fn attribute_len(attribute: &Attribute) -> Option<usize>
     ensures value { IfSome result (λ len. len ≡ length (attribute_bytes attribute.now)) }
-    ensures bound { IfSome result (λ len. len < 131078) }
+    ensures bound { IfSome result (λ len. len < ATTRIBUTE_ROOM) }
     ensures fits { IfSome result (λ _. FitsAttribute attribute.now) }
     ensures none { IfNone result (FitsAttribute attribute.now → ⊥) }
 {
@@ -55,7 +65,7 @@ fn attribute_len(attribute: &Attribute) -> Option<usize>
 /// How many bytes the method takes among the attributes.
 pub fn method_len(code: Option<u8>, method: &Bytes) -> Option<usize>
     ensures value { IfSome result (λ len. len ≡ method_size code method.now) }
-    ensures bound { IfSome result (λ len. len < 65539) }
+    ensures bound { IfSome result (λ len. len < METHOD_ROOM) }
     ensures fits { IfSome result (λ _. FitsMethod code method.now) }
     ensures none { IfNone result (FitsMethod code method.now → ⊥) }
 {
@@ -82,7 +92,7 @@ pub fn put_with_method(
     method: &[u8],
     attributes: &[Attribute],
 ) -> Result<(), NoMemory>
-    requires method { length method.now < 65535 }
+    requires method { length method.now < STRING_LIMIT }
     requires attributes { AllByRecursion FitsAttribute attributes.now }
     ensures { OnOk result (out.new ≡ out.old ++ attributes_bytes (with_method method.now attributes.now)) }
 {
@@ -124,7 +134,7 @@ fn put_attribute(out: &mut Bytes, attribute: &Attribute) -> Result<(), NoMemory>
 }
 
 fn put_plain(out: &mut Bytes, code: u8, text: &[u8]) -> Result<(), NoMemory>
-    requires { length text.now < 65535 }
+    requires { length text.now < STRING_LIMIT }
     ensures { OnOk result (out.new ≡ out.old ++ (code ∷ string text.now)) }
 {
     out.push(code)?;

@@ -4,6 +4,8 @@ ghost use Rattle.ajp_wire.specs.Packet.{packet};
 ghost use Rattle.ajp_request.specs.Tables.{method_code as code_of_method};
 ghost use Rattle.ajp_request.specs.Spelling.{SpellsForward};
 ghost use Rattle.ajp_request.specs.Writing.{line_bytes, ends_bytes, tail_bytes, payload_of, as_read, IsForward, FieldsFit, TextsFit, Fits};
+ghost use Rattle.ajp_wire.specs.declared.head_pairs.TheConstants.{MAX_HEADERS};
+ghost use Rattle.ajp_wire.specs.declared.writing.TheConstants.{PAYLOAD_LIMIT};
 
 use crate::attribute_writing::{
     attributes_len, method_len, put_attributes, put_with_method, text_len,
@@ -16,6 +18,12 @@ use ajp_wire::{
 };
 use jk_io::{Bytes, NoMemory};
 use std::alloc::Global;
+
+/// Fewer bytes are counted for a payload than these, also for one that is too long.
+const PAYLOAD_ROOM: usize = 20_000_000;
+
+/// The fields before the headers are spelled in fewer bytes than this.
+const FRONT_ROOM: usize = 400_000;
 
 /// The packet of a request, which has at most `most` bytes.
 pub fn encode_forward(alloc: Global, forward: &Forward, most: u32) -> Result<Bytes, EncodeError>
@@ -43,12 +51,12 @@ pub fn encode_forward(alloc: Global, forward: &Forward, most: u32) -> Result<Byt
 
 /// How many bytes the payload has, unless a field is longer than its length can say, or they are more than fit a payload.
 fn payload_len(forward: &Forward, code: Option<u8>) -> Option<usize>
-    requires few { length forward.now.headers ≤ 100 }
+    requires few { length forward.now.headers ≤ MAX_HEADERS }
     requires coded { code ≡ code_of_method forward.now.method }
     ensures value { IfSome result (λ len. len ≡ length (payload_of forward.now)) }
-    ensures bound { IfSome result (λ len. len < 20000000) }
+    ensures bound { IfSome result (λ len. len < PAYLOAD_ROOM) }
     ensures fits { IfSome result (λ _. FieldsFit forward.now) }
-    ensures none { IfNone result (FieldsFit forward.now → length (payload_of forward.now) < 65536 → ⊥) }
+    ensures none { IfNone result (FieldsFit forward.now → length (payload_of forward.now) < PAYLOAD_LIMIT → ⊥) }
 {
     let front = front_len(forward)?;
     let headers = 2 + headers_len(forward.headers.as_slice(), header_names())?;
@@ -60,7 +68,7 @@ fn payload_len(forward: &Forward, code: Option<u8>) -> Option<usize>
 /// How many bytes the fields before the headers have, unless a text is longer than its length can say.
 fn front_len(forward: &Forward) -> Option<usize>
     ensures value { IfSome result (λ len. len ≡ length (line_bytes forward.now ++ ends_bytes forward.now)) }
-    ensures bound { IfSome result (λ len. len < 400000) }
+    ensures bound { IfSome result (λ len. len < FRONT_ROOM) }
     ensures fits { IfSome result (λ _. TextsFit forward.now) }
     ensures none { IfNone result (TextsFit forward.now → ⊥) }
 {
@@ -96,7 +104,7 @@ fn put_ends(out: &mut Bytes, forward: &Forward) -> Result<(), NoMemory>
 
 #[tactic(auto, unfolding(crate::specs::Writing::payload_of))]
 fn put_payload(out: &mut Bytes, forward: &Forward, code: Option<u8>) -> Result<(), NoMemory>
-    requires few { length forward.now.headers ≤ 100 }
+    requires few { length forward.now.headers ≤ MAX_HEADERS }
     requires fits { FieldsFit forward.now }
     requires coded { code ≡ code_of_method forward.now.method }
     ensures { OnOk result (out.new ≡ out.old ++ payload_of forward.now) }

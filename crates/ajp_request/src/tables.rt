@@ -3,6 +3,7 @@ ghost use Rattle.std.specs.Prelude.{◌≡◌, ◌<◌, length, map};
 ghost use Rattle.std.specs.Option.{option_copied};
 ghost use Rattle.ajp_wire.specs.Reading.{named_from};
 ghost use Rattle.ajp_request.specs.Tables.{methods, method_from, method_code as code_of_method, header_names as names_of_headers, is_plain as is_plain_code};
+ghost use Rattle.ajp_wire.specs.declared.names.TheConstants.{CODES_LIMIT};
 
 use ajp_wire::name_of;
 
@@ -79,7 +80,7 @@ pub const END: u8 = 0xFF;
 /// The table of the names of headers.
 pub fn header_names() -> &'static [&'static [u8]]
     ensures names { map (λ name. name.now) result.now ≡ names_of_headers }
-    ensures few { length result.now < 100 }
+    ensures few { length result.now < CODES_LIMIT }
 {
     &HEADER_NAMES
 }
@@ -99,7 +100,7 @@ pub fn method_code(method: &[u8]) -> Option<u8>
 }
 
 fn place_in(table: &[&[u8]], name: &[u8]) -> Option<u8>
-    requires { length table.now < 100 }
+    requires { length table.now < CODES_LIMIT }
     ensures { result ≡ method_from 1 (map (λ known. known.now) table.now) name.now }
 {
     let mut code = 1u8;

@@ -18,6 +18,7 @@ use Rattle.ajp_talk.specs.declared.turn.Turn.{Turn}
 use Rattle.ajp_talk.specs.declared.turn.Turn.TheVariants as turn_is
 use Rattle.ajp_talk.specs.declared.turn.Unheard.{Unheard}
 use Rattle.ajp_talk.specs.declared.turn.Unheard.TheVariants as unheard_is
+use Rattle.ajp_talk.specs.declared.messages.TheConstants.{READ_LIMIT}
 
 -- a head was passed, and a write failed after it
 pub record IsLostCourse (c : Course) : Type 0 where
@@ -76,7 +77,7 @@ pub record Drains (plan : TalkPlan) (l l' : Moment) (w w' : Moment) (c c' : Cour
   pub bytes : List ℕ
   pub dropped : IsDropped l l' w w' bytes
   pub counts : c'.received ≡ c.received + length bytes
-  pub small : c'.received < plan.most + 4294967400
+  pub small : c'.received < plan.most + READ_LIMIT
   pub same : c'.sent ≡ c.sent
   pub kept : keep ≡ true → IsTail plan c bytes × (c'.received < plan.most) × IsSteady l l'
   pub closed : keep ≡ false → c'.received < plan.most → IsNoTail plan c bytes

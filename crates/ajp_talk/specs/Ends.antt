@@ -15,13 +15,15 @@ use Rattle.ajp_talk.specs.declared.turn.Turn.TheVariants as turn_is
 use Rattle.ajp_talk.specs.declared.turn.Unheard.{Unheard}
 use Rattle.ajp_talk.specs.declared.turn.Unheard.TheVariants as unheard_is
 use Rattle.jk_io.specs.declared.failures.NoMemory.{NoMemory}
+use Rattle.http_front.specs.declared.framing.TheConstants.{MAX_BODY_BYTES}
+use Rattle.ajp_wire.specs.declared.writing.TheConstants.{MAX_PIECE_BYTES}
 
 -- A piece has 1 to 65,530 bytes, the limit is 1 to 2^40, a packet goes out first, and the first piece is within a piece.
 pub record IsPlan (plan : TalkPlan) : Type 0 where
   pub some_piece : 0 < plan.piece
-  pub piece : plan.piece ≤ 65530
+  pub piece : plan.piece ≤ MAX_PIECE_BYTES
   pub some_bytes : 0 < plan.most
-  pub most : plan.most ≤ 1099511627776
+  pub most : plan.most ≤ MAX_BODY_BYTES
   pub forward : IsSealed plan.forward
   pub first : length plan.first ≤ plan.piece
 

@@ -31,6 +31,7 @@ use Rattle.ajp_talk.specs.declared.turn.Turn.{Turn}
 use Rattle.ajp_talk.specs.declared.turn.Turn.TheVariants as turn_is
 use Rattle.ajp_talk.specs.declared.turn.Unheard.{Unheard}
 use Rattle.ajp_talk.specs.declared.turn.Unheard.TheVariants as unheard_is
+use Rattle.ajp_talk.specs.declared.messages.TheConstants.{READ_LIMIT}
 
 abbrev pub turn_of : Unheard → Turn
 turn_of unheard_is.Line = turn_is.Failed cause_is.Line
@@ -61,7 +62,7 @@ pub record Came (l l' : Moment) (count count' : ℕ) (bytes : List ℕ) : Type 0
   pub came : HasCome l l' bytes
   pub sent : l'.sent ≡ l.sent
   pub counts : count' ≡ counted count (length bytes)
-  pub small : length bytes < 4294967400
+  pub small : length bytes < READ_LIMIT
   pub no_fewer : l.faults ≤ l'.faults
 
 pub record IsUnheard (packet most : ℕ) (l l' : Moment) (count count' : ℕ) (why : Unheard) : Type 0 where

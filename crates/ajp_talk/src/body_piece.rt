@@ -6,6 +6,7 @@ ghost use Rattle.ajp_wire.specs.Packet.{body_packet as body_packet_of};
 ghost use Rattle.ajp_talk.specs.Owed.{want};
 ghost use Rattle.ajp_talk.specs.Turns.{IsAskTurn};
 ghost use Rattle.ajp_talk.specs.Uploads.{IsSameUpload, talk_over};
+ghost use Rattle.ajp_wire.specs.declared.writing.TheConstants.{MAX_PIECE_BYTES};
 
 use crate::ending::Cause;
 use crate::sending::send;
@@ -17,7 +18,7 @@ use std::alloc::Global;
 
 /// The packet of a piece that is within the limit.
 pub(crate) fn piece_packet(alloc: Global, piece: &[u8]) -> Result<Bytes, NoMemory>
-    requires { length piece.now ≤ 65530 }
+    requires { length piece.now ≤ MAX_PIECE_BYTES }
     ensures { IfOk result (λ bytes. bytes ≡ body_packet_of piece.now) }
 {
     match body_packet(alloc, piece) {
@@ -47,7 +48,7 @@ pub(crate) fn answer_ask<L: Link, C: Link>(
     sent: &mut u64,
 ) -> Turn
     requires some { 0 < n }
-    requires narrow { n ≤ 65530 }
+    requires narrow { n ≤ MAX_PIECE_BYTES }
     requires going { failed_of upload.old.body.now ≡ None }
     ensures turn { let at = talk_over L.Meanings C.Meanings in
         IsAskTurn n (at line.old client.old upload.old) (at line.new client.new upload.new) sent.old sent.new result }

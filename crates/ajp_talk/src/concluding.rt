@@ -3,6 +3,7 @@
 ghost use Rattle.std.specs.Prelude.{◌≡◌, ◌≢◌, ◌≤◌, ◌<◌, ◌^◌, ◌&&◌, not, length};
 ghost use Rattle.ajp_talk.specs.Owed.{opening, ping_of, first_packet};
 ghost use Rattle.ajp_talk.specs.Ends.{IsPlan, stage_end, told_end, bytes_end, failed_end, done_end, gone_end, bad_end, ended_by, unanswered_end};
+ghost use Rattle.ajp_wire.specs.declared.writing.TheConstants.{MAX_PIECE_BYTES};
 
 use crate::course::Course;
 use crate::ending::{Cause, Stage, TalkEnd, Told};
@@ -133,7 +134,7 @@ pub(crate) fn is_kept(plan: &TalkPlan, reuse: bool) -> bool
 /// How many bytes go out before anything of a reply.
 fn opening_len(plan: &TalkPlan) -> u64
     requires forward { length plan.now.forward < 2 ^ 32 }
-    requires first { length plan.now.first ≤ 65530 }
+    requires first { length plan.now.first ≤ MAX_PIECE_BYTES }
     ensures { result ≡ length (opening plan.now) }
 {
     ping_len(plan) + (plan.forward.len() as u64 + first_len(plan))
@@ -147,7 +148,7 @@ fn ping_len(plan: &TalkPlan) -> u64
 }
 
 fn first_len(plan: &TalkPlan) -> u64
-    requires { length plan.now.first ≤ 65530 }
+    requires { length plan.now.first ≤ MAX_PIECE_BYTES }
     ensures value { result ≡ length (first_packet plan.now.first) }
     ensures small { result ≤ 65536 }
 {

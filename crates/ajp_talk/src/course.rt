@@ -6,6 +6,7 @@ ghost use Rattle.http_out.specs.Writer.{new_writer};
 ghost use Rattle.ajp_wire.specs.Moments.{link_at};
 ghost use Rattle.ajp_talk.specs.Replies.{kind_of, is_listed as is_listed_in};
 ghost use Rattle.ajp_talk.specs.Turns.{IsOnCourse, IsHeadTurn, IsChunkTurn, IsEndTurn};
+ghost use Rattle.ajp_wire.specs.declared.head_pairs.TheConstants.{MAX_HEADERS};
 
 use crate::ending::{Cause, Told};
 use crate::plan::TalkPlan;
@@ -45,7 +46,7 @@ impl Course {
     /// Takes the head of the reply.
     pub(crate) fn take_head(&mut self, alloc: Global, plan: &TalkPlan, parts: ReplyParts) -> Turn
         requires course { IsOnCourse self.old }
-        requires few { length parts.headers ≤ 100 }
+        requires few { length parts.headers ≤ MAX_HEADERS }
         ensures { IsHeadTurn plan.now parts self.old self.new result }
     {
         if self.headers {

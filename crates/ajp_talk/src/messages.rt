@@ -5,12 +5,16 @@ ghost use Rattle.ajp_wire.specs.Moments.{link_at};
 ghost use Rattle.ajp_wire.specs.Packet.{count_of, read_into};
 ghost use Rattle.ajp_talk.specs.Hearing.{undecoded as undecoded_as, unheard as unheard_as};
 ghost use Rattle.ajp_talk.specs.Turns.{IsHeard, IsUnheard};
+ghost use Rattle.ajp_wire.specs.declared.writing.TheConstants.{PAYLOAD_LIMIT};
 
 use crate::room::Room;
 use crate::turn::Unheard;
 use ajp_reply::{Message, take_reply};
 use ajp_wire::{DecodeError, PacketError, read_packet_into};
 use jk_io::Link;
+
+/// The read of one packet takes fewer bytes than this: its count has 32 bits.
+pub const READ_LIMIT: u64 = 4_294_967_400;
 
 /// Reads one message, and adds the bytes that came to `count`. Where the count reaches `most` nothing else is looked at.
 pub(crate) fn receive<L: Link>(
@@ -41,9 +45,9 @@ pub(crate) fn receive<L: Link>(
 
 /// How many bytes came in the read of a packet.
 fn bytes_read(answer: &Result<(), PacketError>, payload: &[u8]) -> u64
-    requires { IfOk (read_into answer.now payload.now) (λ payload. length payload < 65536) }
+    requires { IfOk (read_into answer.now payload.now) (λ payload. length payload < PAYLOAD_LIMIT) }
     ensures value { result ≡ count_of (read_into answer.now payload.now) }
-    ensures small { result < 4294967400 }
+    ensures small { result < READ_LIMIT }
 {
     match answer {
         Ok(()) => payload.len() as u64 + 4,

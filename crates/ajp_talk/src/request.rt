@@ -4,6 +4,7 @@ ghost use Rattle.std.specs.Prelude.{◌≡◌, ◌≤◌, length, IfOk};
 ghost use Rattle.ajp_wire.specs.Moments.{link_at};
 ghost use Rattle.ajp_talk.specs.Owed.{first_packet as first_packet_of, request_of};
 ghost use Rattle.ajp_talk.specs.Turns.{IsSent};
+ghost use Rattle.ajp_wire.specs.declared.writing.TheConstants.{MAX_PIECE_BYTES};
 
 use crate::body_piece::piece_packet;
 use crate::plan::TalkPlan;
@@ -18,7 +19,7 @@ pub(crate) fn send_request<L: Sink>(
     line: &mut L,
     sent: &mut u64,
 ) -> Result<(), IoError>
-    requires { length plan.now.first ≤ 65530 }
+    requires { length plan.now.first ≤ MAX_PIECE_BYTES }
     ensures sent { IsSent (link_at L.Meanings line.old) (link_at L.Meanings line.new) sent.old sent.new (request_of plan.now) result }
     ensures beside { L.beside line.new ≡ L.beside line.old }
     ensures no_fewer { L.faults line.old ≤ L.faults line.new }
@@ -34,7 +35,7 @@ pub(crate) fn send_request<L: Sink>(
 
 /// The Forward Request, and the packet of the first piece where there is one.
 fn request(alloc: Global, plan: &TalkPlan) -> Result<Bytes, NoMemory>
-    requires { length plan.now.first ≤ 65530 }
+    requires { length plan.now.first ≤ MAX_PIECE_BYTES }
     ensures { IfOk result (λ bytes. bytes ≡ request_of plan.now) }
 {
     let mut bytes = plan.forward.copy()?;
@@ -43,7 +44,7 @@ fn request(alloc: Global, plan: &TalkPlan) -> Result<Bytes, NoMemory>
 }
 
 fn first_packet(alloc: Global, first: &[u8]) -> Result<Bytes, NoMemory>
-    requires { length first.now ≤ 65530 }
+    requires { length first.now ≤ MAX_PIECE_BYTES }
     ensures { IfOk result (λ bytes. bytes ≡ first_packet_of first.now) }
 {
     match first {

@@ -2,6 +2,7 @@
 
 ghost use Rattle.std.specs.Prelude.{◌≡◌, ◌≤◌, List, length, IfOk};
 ghost use Rattle.ajp_talk.specs.Replies.{head_out};
+ghost use Rattle.ajp_wire.specs.declared.head_pairs.TheConstants.{MAX_HEADERS};
 
 use ajp_reply::ReplyParts;
 use http_front::HeadLines;
@@ -11,7 +12,7 @@ use std::alloc::Global;
 
 /// The head of a reply as `http_out` takes it, in the same memory.
 pub(crate) fn reply_head(alloc: Global, parts: ReplyParts) -> Result<ReplyHead, NoMemory>
-    requires { length parts.headers ≤ 100 }
+    requires { length parts.headers ≤ MAX_HEADERS }
     ensures { IfOk result (λ head. head ≡ head_out parts) }
 {
     let ReplyParts {
@@ -29,7 +30,7 @@ pub(crate) fn reply_head(alloc: Global, parts: ReplyParts) -> Result<ReplyHead, 
 
 /// The same lines, of which there are at most 100.
 fn head_lines(alloc: Global, pairs: Vec<(Bytes, Bytes)>) -> Result<HeadLines, NoMemory>
-    requires { length pairs.items ≤ 100 }
+    requires { length pairs.items ≤ MAX_HEADERS }
     ensures { IfOk result (λ lines. lines ≡ pairs.items) }
 {
     let mut lines = HeadLines::new(alloc);

@@ -2,6 +2,7 @@
 
 ghost use Rattle.std.specs.Prelude.{◌≡◌, ◌+◌, ◌<◌, ◌≤◌, List, ◌++◌, length, map, OnOk, IfSome, IfNone};
 ghost use Rattle.ajp_wire.specs.Names.{header_bytes, headers_bytes, FitsHeader, FitsHeaders};
+ghost use Rattle.ajp_wire.specs.declared.names.TheConstants.{CODES_LIMIT};
 
 use crate::names::code_of;
 use crate::writing::{MAX_STRING_BYTES, put_int, put_text};
@@ -16,12 +17,18 @@ pub const MAX_HEADERS: usize = 100;
 /// The most bytes of a name: a greater length would read as a code.
 pub const MAX_NAME_BYTES: usize = 40_959;
 
+/// A header is spelled in fewer bytes than this.
+pub const HEADER_ROOM: usize = 131_072;
+
+/// The headers of a message are spelled in no more bytes than this.
+pub const HEADERS_ROOM: usize = 13_107_200;
+
 /// How many bytes spell the headers, unless a name or a value is longer than its length can say.
 pub fn headers_len(headers: &[(Bytes, Bytes)], table: &[&[u8]]) -> Option<usize>
-    requires few { length headers.now ≤ 100 }
-    requires codes { length table.now < 100 }
+    requires few { length headers.now ≤ MAX_HEADERS }
+    requires codes { length table.now < CODES_LIMIT }
     ensures value { IfSome result (λ n. n ≡ length (headers_bytes (map (λ s. s.now) table.now) headers.now)) }
-    ensures bound { IfSome result (λ n. n ≤ 13107200) }
+    ensures bound { IfSome result (λ n. n ≤ HEADERS_ROOM) }
     ensures fits { IfSome result (λ _. FitsHeaders headers.now) }
     ensures none { IfNone result (FitsHeaders headers.now → ⊥) }
 {
@@ -36,9 +43,9 @@ pub fn headers_len(headers: &[(Bytes, Bytes)], table: &[&[u8]]) -> Option<usize>
 }
 
 fn header_len(header: &(Bytes, Bytes), table: &[&[u8]]) -> Option<usize>
-    requires codes { length table.now < 100 }
+    requires codes { length table.now < CODES_LIMIT }
     ensures value { IfSome result (λ n. n ≡ length (header_bytes (map (λ s. s.now) table.now) header.now)) }
-    ensures bound { IfSome result (λ n. n < 131072) }
+    ensures bound { IfSome result (λ n. n < HEADER_ROOM) }
     ensures fits { IfSome result (λ _. FitsHeader header.now) }
     ensures none { IfNone result (FitsHeader header.now → ⊥) }
 {
@@ -62,7 +69,7 @@ pub fn put_headers(
     table: &[&[u8]],
 ) -> Result<(), NoMemory>
     requires fits { FitsHeaders headers.now }
-    requires codes { length table.now < 100 }
+    requires codes { length table.now < CODES_LIMIT }
     ensures ok { OnOk result (out.new ≡ out.old ++ headers_bytes (map (λ s. s.now) table.now) headers.now) }
 {
     for header in headers {
@@ -73,7 +80,7 @@ pub fn put_headers(
 
 fn put_header(out: &mut Bytes, header: &(Bytes, Bytes), table: &[&[u8]]) -> Result<(), NoMemory>
     requires fits { FitsHeader header.now }
-    requires codes { length table.now < 100 }
+    requires codes { length table.now < CODES_LIMIT }
     ensures ok { OnOk result (out.new ≡ out.old ++ header_bytes (map (λ s. s.now) table.now) header.now) }
 {
     let (name, value) = header;

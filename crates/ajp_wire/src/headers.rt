@@ -2,6 +2,7 @@
 ghost use Rattle.std.specs.Prelude.{◌≡◌, ◌+◌, ◌*◌, ◌<◌, ◌≤◌, List, ℕ, length, map, Option, option_map, IfOk};
 ghost use Rattle.std.specs.Option.{option_copied};
 ghost use Rattle.ajp_wire.specs.Reading.{Gives, named_from, name_at, header_at, header_list_at, headers_at};
+ghost use Rattle.ajp_wire.specs.declared.names.TheConstants.{CODES_LIMIT};
 
 use crate::fields::{next_int, next_marked, next_text};
 use crate::head_pairs::HeadPairs;
@@ -10,10 +11,13 @@ use crate::refusal::{NotRead, RefusalKind, refused};
 use jk_io::Bytes;
 use std::alloc::Global;
 
+/// The code of a table's first name is below this, so that each of its names has one.
+pub const FIRST_LIMIT: u16 = 65_000;
+
 /// The name that a code stands for, in a table whose first name has the code `first`.
 pub fn name_of<'a>(table: &'a [&'a [u8]], first: u16, code: u16) -> Option<&'a [u8]>
-    requires few { length table.now < 100 }
-    requires fits { first < 65000 }
+    requires few { length table.now < CODES_LIMIT }
+    requires fits { first < FIRST_LIMIT }
     ensures { option_copied result ≡ named_from first (map (λ name. name.now) table.now) code }
 {
     let mut at = first;
@@ -33,7 +37,7 @@ fn next_name<'a>(
     absent_names: bool,
     rest: &'a [u8],
 ) -> Result<(Bytes, &'a [u8]), NotRead>
-    requires { length table.now < 100 }
+    requires { length table.now < CODES_LIMIT }
     ensures { Gives (λ x. (x.0, x.1.now)) result
         (name_at (map (λ name. name.now) table.now) absent_names rest.now) }
 {
@@ -61,7 +65,7 @@ fn next_header<'a>(
     absent_names: bool,
     rest: &'a [u8],
 ) -> Result<((Bytes, Bytes), &'a [u8]), NotRead>
-    requires { length table.now < 100 }
+    requires { length table.now < CODES_LIMIT }
     ensures { Gives (λ x. (x.0, x.1.now)) result
         (header_at (map (λ name. name.now) table.now) absent_names rest.now) }
 {
@@ -77,7 +81,7 @@ fn next_header_list<'a>(
     count: u16,
     bytes: &'a [u8],
 ) -> Result<(HeadPairs, &'a [u8]), NotRead>
-    requires { length table.now < 100 }
+    requires { length table.now < CODES_LIMIT }
     ensures { Gives (λ x. (x.0, x.1.now)) result
         (header_list_at (map (λ name. name.now) table.now) absent_names count bytes.now) }
 {
@@ -100,7 +104,7 @@ pub fn next_headers<'a>(
     absent_names: bool,
     rest: &'a [u8],
 ) -> Result<(HeadPairs, &'a [u8]), NotRead>
-    requires { length table.now < 100 }
+    requires { length table.now < CODES_LIMIT }
     ensures { Gives (λ x. (x.0, x.1.now)) result
         (headers_at (map (λ name. name.now) table.now) absent_names rest.now) }
 {

@@ -7,9 +7,12 @@ ghost use Rattle.ajp_wire.specs.Names.{code_of as code_in};
 /// The code of the first name of a table.
 pub const FIRST_CODE: u16 = 0xA001;
 
+/// A table has fewer names than this.
+pub const CODES_LIMIT: usize = 100;
+
 /// The code that stands for a header's name in either case.
 pub fn code_of(table: &[&[u8]], name: &[u8]) -> Option<u16>
-    requires { length table.now < 100 }
+    requires { length table.now < CODES_LIMIT }
     ensures { result ≡ code_in (map (λ s. s.now) table.now) name.now }
 {
     let mut code = FIRST_CODE;

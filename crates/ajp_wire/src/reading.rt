@@ -68,8 +68,8 @@ fn read_head<L: Link>(line: &mut L, from_container: bool, most: u32) -> Result<u
 
 /// What the front of a head says that came before a stop.
 fn judge_head(came: &[u8], stop: Stop, from_container: bool, most: u32) -> Result<u16, PacketError>
-    requires short { length came.now ≤ 4 }
-    requires full { (stop ≡ Stop.Full) ↔ (length came.now ≡ 4) }
+    requires short { length came.now ≤ HEAD_BYTES }
+    requires full { (stop ≡ Stop.Full) ↔ (length came.now ≡ HEAD_BYTES) }
     ensures head { HeadCameAs from_container most result came.now }
     ensures end { IfErr result (λ error. IsTrue (says_end error) → stop ≡ Stop.End) }
     ensures fault { IfErr result (λ error. IsTrue (says_fault error) → stop ≡ Stop.Fault) }
@@ -111,7 +111,7 @@ fn begins_packet(came: &[u8], from_container: bool) -> bool
 
 /// The length in a whole head, where the packet is within the limit. The head begins as a packet does.
 fn size_within(head: &[u8], from_container: bool, most: u32) -> Result<u16, PacketError>
-    requires whole { length head.now ≡ 4 }
+    requires whole { length head.now ≡ HEAD_BYTES }
     requires begun { IsTrue (begins from_container head.now) }
     ensures head { HeadCameAs from_container most result head.now }
     ensures no_end { IfErr result (λ error. IsTrue (says_end error) → ⊥) }

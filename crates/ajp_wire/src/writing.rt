@@ -11,8 +11,14 @@ use std::alloc::Global;
 /// The most bytes of a string: its length is below the one that says absent.
 pub const MAX_STRING_BYTES: usize = 65_534;
 
+/// A string has fewer bytes than this, which as its length says that it is absent.
+pub const STRING_LIMIT: usize = 65_535;
+
 /// The most bytes of a payload, which has no more than its length can say.
 pub const MAX_PAYLOAD_BYTES: usize = 65_535;
+
+/// A payload has fewer bytes than this.
+pub const PAYLOAD_LIMIT: usize = 65_536;
 
 /// The most data of a body packet: the greatest packet has 65,536 bytes, and 6 of them stand before the data.
 pub const MAX_PIECE_BYTES: usize = 65_530;
@@ -31,7 +37,7 @@ pub fn put_int(out: &mut Bytes, n: u16) -> Result<(), NoMemory>
 /// Adds a string at the end. After a refusal nothing was added.
 pub fn put_string(out: &mut Bytes, text: &[u8]) -> Result<(), WireError>
     ensures ok { OnOk result (out.new ≡ out.old ++ string text.now) }
-    ensures too_long { (result ≡ Err WireError.TooLong) ↔ (65534 < length text.now) }
+    ensures too_long { (result ≡ Err WireError.TooLong) ↔ (MAX_STRING_BYTES < length text.now) }
     ensures err { OnErr result (out.new ≡ out.old) }
 {
     if text.len() > MAX_STRING_BYTES {
@@ -49,7 +55,7 @@ pub fn put_string(out: &mut Bytes, text: &[u8]) -> Result<(), WireError>
 
 /// Adds a string at the end. After a refusal a front of it may stand there.
 pub fn put_text(out: &mut Bytes, text: &[u8]) -> Result<(), NoMemory>
-    requires { length text.now < 65535 }
+    requires { length text.now < STRING_LIMIT }
     ensures ok { OnOk result (out.new ≡ out.old ++ string text.now) }
     ensures err { OnErr result ((front : List ℕ) × (out.new ≡ out.old ++ front)) }
 {
@@ -74,7 +80,7 @@ pub fn put_head(out: &mut Bytes, from_container: bool, size: u16) -> Result<(), 
 /// The packet of a payload.
 pub fn seal(alloc: Global, payload: Bytes, to_container: bool) -> Result<Bytes, WireError>
     ensures ok { IfOk result (λ bytes. bytes ≡ packet (not to_container) payload) }
-    ensures too_long { (result ≡ Err WireError.TooLong) ↔ (65535 < length payload) }
+    ensures too_long { (result ≡ Err WireError.TooLong) ↔ (MAX_PAYLOAD_BYTES < length payload) }
 {
     if payload.len() > MAX_PAYLOAD_BYTES {
         return Err(WireError::TooLong);
@@ -88,7 +94,7 @@ pub fn seal(alloc: Global, payload: Bytes, to_container: bool) -> Result<Bytes, 
 /// The packet to the container with a piece of a request's body. No bytes mean that nothing is left.
 pub fn body_packet(alloc: Global, piece: &[u8]) -> Result<Bytes, WireError>
     ensures ok { IfOk result (λ bytes. bytes ≡ body_packet_of piece.now) }
-    ensures too_long { (result ≡ Err WireError.TooLong) ↔ (65530 < length piece.now) }
+    ensures too_long { (result ≡ Err WireError.TooLong) ↔ (MAX_PIECE_BYTES < length piece.now) }
 {
     if piece.len() > MAX_PIECE_BYTES {
         return Err(WireError::TooLong);

@@ -1,7 +1,8 @@
 //! Small callers of a desk, proved from its trait alone.
-ghost use Rattle.std.specs.Prelude.{◌≡◌, ◌+◌, ◌<◌, ◌≤◌, ◌^◌, true, length, IfSome, IfOk, IfErr, OnOk, OnErr};
+ghost use Rattle.std.specs.Prelude.{◌≡◌, ◌+◌, ◌<◌, ◌≤◌, true, length, IfSome, IfOk, IfErr, OnOk, OnErr};
 ghost use Rattle.balancer_core.specs.Desks.{Commands, DeskState, KeepsDesk, Shows};
 ghost use Rattle.balancer_checks.specs.Once.{Ends, GainsAsMany, IsUpToDate, LeavesNoneDue};
+ghost use Rattle.jk_model.specs.declared.journal.TheConstants.{MOST_BYTES};
 
 use balancer_core::Desk;
 use balancer_core::desk::Choice;
@@ -28,7 +29,7 @@ pub fn one_exchange<D: Desk>(
 ) -> Once<D::Mark>
     requires known { lb < length (D.state desk.old).sizes }
     requires caller { IfSome (D.state desk.old).caller (λ n. session ≡ n) }
-    requires bytes { outcome.bytes ≤ 2 ^ 44 }
+    requires bytes { outcome.bytes ≤ MOST_BYTES }
     ensures held { (D.state desk.new).held ≡ (D.state desk.old).held }
     ensures ends { Ends (D.state desk.old) (D.state desk.new) lb ask.now outcome result }
     ensures due { LeavesNoneDue (D.state desk.new) lb at result }

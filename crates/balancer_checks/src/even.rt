@@ -1,5 +1,5 @@
 //! Callers that meet the premises of the law of weights: a Book that starts, and each call that keeps them.
-ghost use Rattle.std.specs.Prelude.{◌≡◌, ◌≤◌, ◌<◌, ◌^◌, ℕ, true, IfOk};
+ghost use Rattle.std.specs.Prelude.{◌≡◌, ◌≤◌, ◌<◌, ℕ, true, IfOk};
 ghost use Rattle.jk_model.specs.Choice.{is_usable};
 ghost use Rattle.jk_model.specs.Journal.{members};
 ghost use Rattle.jk_model.specs.Legal.{KnowsTerms};
@@ -8,6 +8,7 @@ ghost use Rattle.jk_model.specs.States.{is_balanced};
 ghost use Rattle.jk_model.specs.declared.member.Method.{Method};
 ghost use Rattle.balancer_core.specs.Journal.{past_of};
 ghost use Rattle.balancer_core.specs.Weights.{IsEvenEpoch};
+ghost use Rattle.jk_model.specs.declared.journal.TheConstants.{MOST_BYTES};
 
 use balancer_core::{Book, Picked};
 use jk_io::NoMemory;
@@ -41,7 +42,7 @@ pub fn return_evenly(
     ticket: u64,
     outcome: Outcome,
 ) -> Result<Entry, Stray>
-    requires bytes { outcome.bytes ≤ 2 ^ 44 }
+    requires bytes { outcome.bytes ≤ MOST_BYTES }
     requires even { IsEvenEpoch book.old.rules book.old.opening (past_of book.old) }
     ensures { IsEvenEpoch book.new.rules book.new.opening (past_of book.new) }
 {

@@ -2,10 +2,12 @@
 //!
 //! Each takes the segment of a Book before a call, does the call, and cites the laws of what it saw. That they are
 //! proved shows that no premise of a law is one that no history meets.
-ghost use Rattle.std.specs.Prelude.{◌≡◌, ◌≤◌, ◌<◌, ◌∷◌, ◌^◌, reverse, IfOk};
+ghost use Rattle.std.specs.Prelude.{◌≡◌, ◌≤◌, ◌<◌, ◌∷◌, reverse, IfOk};
 ghost use Rattle.jk_model.specs.Choice.{IsPick};
 ghost use Rattle.jk_model.specs.Legal.{IsLegalPast};
 ghost use Rattle.jk_model.specs.declared.journal.Call.{Call};
+ghost use Rattle.jk_model.specs.declared.segment.TheConstants.{MODERN_RULES};
+ghost use Rattle.jk_model.specs.declared.journal.TheConstants.{MOST_BYTES};
 
 use balancer_core::{Book, Picked};
 use jk_io::NoMemory;
@@ -19,8 +21,8 @@ use jk_model::{
 
 /// Selects. A choice is a good one, and begins its ticket.
 pub fn select_lawfully(book: &mut Book, at: u64, ask: &Ask) -> Result<Picked, RoomError<FullMark>>
-    requires { book.old.rules ≡ 2 }
-    ensures rules { book.new.rules ≡ 2 }
+    requires { book.old.rules ≡ MODERN_RULES }
+    ensures rules { book.new.rules ≡ MODERN_RULES }
 {
     let before = book.segment()?;
     let picked = book.select(0, at, ask)?;
@@ -45,9 +47,9 @@ pub fn return_lawfully(
     ticket: u64,
     outcome: Outcome,
 ) -> Result<Result<Entry, Stray>, NoMemory>
-    requires bytes { outcome.bytes ≤ 2 ^ 44 }
-    requires rules { book.old.rules ≡ 2 }
-    ensures rules { book.new.rules ≡ 2 }
+    requires bytes { outcome.bytes ≤ MOST_BYTES }
+    requires rules { book.old.rules ≡ MODERN_RULES }
+    ensures rules { book.new.rules ≡ MODERN_RULES }
 {
     let before = book.segment()?;
     let answer = book.return_ticket(0, at, ticket, outcome);
@@ -65,8 +67,8 @@ pub fn return_lawfully(
 
 /// Does a Maintain where one is due: it halves the loads, but for Busyness.
 pub fn maintain_lawfully(book: &mut Book, at: u64) -> Result<Option<Entry>, RoomError<FullMark>>
-    requires { book.old.rules ≡ 2 }
-    ensures rules { book.new.rules ≡ 2 }
+    requires { book.old.rules ≡ MODERN_RULES }
+    ensures rules { book.new.rules ≡ MODERN_RULES }
 {
     let before = book.segment()?;
     let done = book.maintain_if_due(0, at)?;
@@ -87,8 +89,8 @@ fn cite_maintenance(before: &Segment, entry: &Entry)
 
 /// Resets a member, whose state is what this last entry that touches it gives.
 pub fn reset_lawfully(book: &mut Book, at: u64, member: u32) -> Result<Entry, AdminError<FullMark>>
-    requires { book.old.rules ≡ 2 }
-    ensures rules { book.new.rules ≡ 2 }
+    requires { book.old.rules ≡ MODERN_RULES }
+    ensures rules { book.new.rules ≡ MODERN_RULES }
 {
     let before = book.segment()?;
     let entry = book.admin(0, at, &Command::Reset { member })?;

@@ -16,6 +16,7 @@ use Rattle.jk_model.specs.declared.refusal.FullMark.{FullMark}
 use Rattle.jk_model.specs.declared.state.MemberState.TheVariants as State
 use Rattle.balancer_core.specs.Journal.{IsMarked, Journal, next_number, past_of, tickets_out}
 use Rattle.choice_index.specs.declared.standing.Standing.{Standing}
+use Rattle.jk_model.specs.declared.validity.TheConstants.{MOST_NUMBERS}
 
 abbrev pub row_setting : Standing → Setting
 row_setting row =
@@ -65,16 +66,16 @@ IsKnown n c = (subject_of c < n) × TargetExists n c
 -- What is answered to a command, by what holds of it: each refusal after those before it.
 abbrev pub IsCommanded : Journal → Command → Result Entry (AdminError FullMark) → Type 0
 IsCommanded b c (Ok e) =
-    IsDoable b.opening (past_of b) c × (next_number b + tickets_out b + 1 ≤ 2 ^ 48)
+    IsDoable b.opening (past_of b) c × (next_number b + tickets_out b + 1 ≤ MOST_NUMBERS)
 IsCommanded b c (Err Admin.UnknownMember) = ¬ IsKnown (members b.opening) c
 IsCommanded b c (Err Admin.BadValue) = IsKnown (members b.opening) c × ¬ HasValues c
 IsCommanded b c (Err (Admin.TooWide mark)) =
     IsKnown (members b.opening) c × HasValues c × (2 ^ 32 ≤ common_after b.opening (past_of b) (Call.Admin c))
     × IsMarked (next_number b) (tickets_out b) mark
 IsCommanded b c (Err (Admin.Full mark)) =
-    IsDoable b.opening (past_of b) c × (2 ^ 48 < next_number b + tickets_out b + 1) × IsMarked (next_number b) (tickets_out b) mark
+    IsDoable b.opening (past_of b) c × (MOST_NUMBERS < next_number b + tickets_out b + 1) × IsMarked (next_number b) (tickets_out b) mark
 IsCommanded b c (Err Admin.NoMemory) =
-    IsDoable b.opening (past_of b) c × (next_number b + tickets_out b + 1 ≤ 2 ^ 48)
+    IsDoable b.opening (past_of b) c × (next_number b + tickets_out b + 1 ≤ MOST_NUMBERS)
 
 -- What the rows say of a command, before there is a number for it.
 abbrev pub IsJudged : (n : ℕ) → List Standing → Standing → Command → FullMark → Result ℕ (AdminError FullMark) → Type 0

@@ -1,5 +1,5 @@
 -- What contracts see of a Book, and what its calls do with it.
-use Rattle.std.specs.Prelude.{◌≡◌, ℕ, ◌+◌, ◌^◌, ◌<◌, ◌≤◌, ◌==◌, ◌&&◌, max, false, true, List, [], ◌∷◌, ◌++◌, length, map, reverse, Option, Some, None, Result, Ok, Err}
+use Rattle.std.specs.Prelude.{◌≡◌, ℕ, ◌+◌, ◌<◌, ◌≤◌, ◌==◌, ◌&&◌, max, false, true, List, [], ◌∷◌, ◌++◌, length, map, reverse, Option, Some, None, Result, Ok, Err}
 use Rattle.std.specs.List.{list_any}
 use Rattle.jk_model.specs.Journal.{next_of, moment_of}
 use Rattle.jk_model.specs.Tickets.{gives_back, is_returned, out}
@@ -15,6 +15,8 @@ use Rattle.jk_model.specs.declared.segment.Segment.{Segment}
 use Rattle.jk_model.specs.declared.refusal.FullMark.{FullMark}
 use Rattle.jk_model.specs.declared.refusal.RoomError.{RoomError}
 use Rattle.jk_model.specs.declared.refusal.RoomError.TheVariants as Room
+use Rattle.jk_model.specs.declared.segment.TheConstants.{MODERN_RULES}
+use Rattle.jk_model.specs.declared.validity.TheConstants.{MOST_NUMBERS}
 
 -- A Book: its rules, the opening, the kept entries, oldest first, and how many it ever added.
 pub record Journal : Type 0 where
@@ -59,9 +61,9 @@ IsMarked next out mark = (mark.next ≡ next) × (mark.out ≡ out)
 
 -- A refusal for want of numbers comes exactly where `more` beside those of the tickets out are too many.
 abbrev pub IsFullUnless : {T : Type 0} → (next out more : ℕ) → Result T (RoomError FullMark) → Type 0
-IsFullUnless next out more (Ok value) = next + out + more ≤ 2 ^ 48
-IsFullUnless next out more (Err (Room.Full mark)) = (2 ^ 48 < next + out + more) × IsMarked next out mark
-IsFullUnless next out more (Err Room.NoMemory) = next + out + more ≤ 2 ^ 48
+IsFullUnless next out more (Ok value) = next + out + more ≤ MOST_NUMBERS
+IsFullUnless next out more (Err (Room.Full mark)) = (MOST_NUMBERS < next + out + more) × IsMarked next out mark
+IsFullUnless next out more (Err Room.NoMemory) = next + out + more ≤ MOST_NUMBERS
 
 -- The number of the kept entry that returned the ticket, if there is one.
 abbrev pub IsReturnedAt : List Entry → (ticket : ℕ) → Option ℕ → Type 0
@@ -83,7 +85,7 @@ start_row c = record {
 
 -- A Book of rules 2 that starts at a moment with a number: every member is Ok, without load or tickets.
 pub record IsStart (b : Journal) (config : LbConfig) (at first : ℕ) : Type 0 where
-  pub rules : b.rules ≡ 2
+  pub rules : b.rules ≡ MODERN_RULES
   pub empty : b.entries ≡ []
   pub added : b.added ≡ 0
   pub configured : b.opening.config ≡ config

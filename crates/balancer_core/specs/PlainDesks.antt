@@ -20,10 +20,11 @@ use Rattle.balancer_core.specs.Journal.{IsSound, Journal, past_of}
 use Rattle.balancer_core.specs.ToldBooks.{AreNextAt, grown_by, sizes_of}
 use Rattle.balancer_core.specs.declared.desk.Occasion.{Occasion}
 use Rattle.balancer_core.specs.declared.receipt.Receipt.{Receipt}
+use Rattle.jk_model.specs.declared.segment.TheConstants.{MODERN_RULES}
 
 -- Each Book has rules 2.
 abbrev pub AreModern : List Journal → Type 0
-AreModern books = (lb : ℕ) (b : Journal) → slice_get books lb ≡ Some b → b.rules ≡ 2
+AreModern books = (lb : ℕ) (b : Journal) → slice_get books lb ≡ Some b → b.rules ≡ MODERN_RULES
 
 -- Each Book is sound.
 abbrev pub AreLegal : List Journal → Type 0

@@ -13,10 +13,11 @@ use Rattle.jk_model.specs.declared.refusal.RoomError.TheVariants as room
 use Rattle.balancer_core.specs.Commanded.{IsKnown}
 use Rattle.balancer_core.specs.Due.{due_moment, entry_moment}
 use Rattle.balancer_core.specs.Journal.{IsMarked, Journal, next_number, past_of, tickets_out}
+use Rattle.jk_model.specs.declared.validity.TheConstants.{MOST_NUMBERS}
 
 -- Full is told with the journal's numbers, and only where `more` beside those of the tickets out aren't left.
 abbrev pub IsFullAt : (more : ℕ) → Journal → FullMark → Type 0
-IsFullAt more b mark = (2 ^ 48 < next_number b + tickets_out b + more) × IsMarked (next_number b) (tickets_out b) mark
+IsFullAt more b mark = (MOST_NUMBERS < next_number b + tickets_out b + more) × IsMarked (next_number b) (tickets_out b) mark
 
 -- An ask needs its own number and that of its ticket's Return. Want of memory needs no cause, here and below.
 abbrev pub RefusesAsk : {M : Type 0} → (M → FullMark) → Journal → RoomError M → Type 0

@@ -1,6 +1,6 @@
 //! `Book`: the journal of one balancer, and the calls that add to it.
 
-ghost use Rattle.std.specs.Prelude.{◌≡◌, ◌+◌, ◌<◌, ◌≤◌, ◌^◌, ◌↔◌, true, length, IfOk, IfErr, OnOk, OnErr, IsOk};
+ghost use Rattle.std.specs.Prelude.{◌≡◌, ◌+◌, ◌<◌, ◌≤◌, ◌↔◌, true, length, IfOk, IfErr, OnOk, OnErr, IsOk};
 
 mod adding;
 mod admin;
@@ -16,14 +16,11 @@ use crate::tickets::{locate, note_return};
 use choice_index::Rules;
 use jk_io::NoMemory;
 use jk_model::{
-    Answer, Ask, Call, Entry, FullMark, LbConfig, Opening, Outcome, RoomError, RowList, Stray,
-    TicketList, View,
+    Answer, Ask, Call, Entry, FullMark, LbConfig, MOST_NUMBERS, Opening, Outcome, RoomError,
+    RowList, Stray, TicketList, View,
 };
 use std::alloc::Global;
 use std::marker::Model;
-
-/// Numbers of entries are below this one.
-const MOST_NUMBERS: u64 = 1 << 48;
 
 /// One balancer: the state that its journal begins with, the kept entries, and what they leave.
 #[derive(Debug, Drop)]
@@ -106,7 +103,7 @@ pub struct Picked {
 }
 
 impl Book {
-    ghost use Rattle.std.specs.Prelude.{◌≡◌, ◌+◌, ◌<◌, ◌≤◌, ◌^◌, ◌↔◌, true, [], length, IfOk, IfErr, OnOk, OnErr, IsOk};
+    ghost use Rattle.std.specs.Prelude.{◌≡◌, ◌+◌, ◌<◌, ◌≤◌, ◌↔◌, true, [], length, IfOk, IfErr, OnOk, OnErr, IsOk};
     ghost use Rattle.jk_model.specs.Choice.{IsPick};
     ghost use Rattle.jk_model.specs.Legal.{IsNext, KnowsTerms};
     ghost use Rattle.jk_model.specs.Present.{IsPresent};
@@ -127,11 +124,12 @@ impl Book {
     ghost use Rattle.balancer_core.specs.Leases.{IsLeaseOf};
     ghost use Rattle.balancer_core.specs.Bounds.{ChoseWell, IsBounded};
     ghost use Rattle.balancer_core.specs.Weights.{AreLevel, IsEvenEpoch};
+    ghost use Rattle.jk_model.specs.declared.journal.TheConstants.{MOST_BYTES};
 
     /// A balancer that starts at moment `at`: every member Ok, nothing loaded, no ticket out. `first` is the number
     /// of its first entry.
     pub fn start(alloc: Global, config: LbConfig, at: u64, first: u64) -> Result<Book, NoMemory>
-        requires { first ≤ 2 ^ 48 }
+        requires { first ≤ MOST_NUMBERS }
         ensures start { IfOk result (λ book. IsStart book config at first) }
         ensures sound { IfOk result IsSound }
     {
@@ -250,7 +248,7 @@ impl Book {
         lease: Lease,
         outcome: Outcome,
     ) -> Result<Entry, Stray>
-        requires { outcome.bytes ≤ 2 ^ 44 }
+        requires { outcome.bytes ≤ MOST_BYTES }
         ensures found { IsOk result ↔ (is_out self.old.opening (past_of self.old) lease.ticket ≡ true) }
         ensures ok { IfOk result (λ e. AddsEntry self.old self.new session at (Call.Return lease.ticket outcome) e) }
         ensures done { IfOk result (λ e. e.answer ≡ Answer.Done) }
@@ -273,7 +271,7 @@ impl Book {
         ticket: u64,
         outcome: Outcome,
     ) -> Result<Entry, Stray>
-        requires { outcome.bytes ≤ 2 ^ 44 }
+        requires { outcome.bytes ≤ MOST_BYTES }
         ensures found { IsOk result ↔ (is_out self.old.opening (past_of self.old) ticket ≡ true) }
         ensures ok { IfOk result (λ e. AddsEntry self.old self.new session at (Call.Return ticket outcome) e) }
         ensures done { IfOk result (λ e. e.answer ≡ Answer.Done) }

@@ -19,6 +19,7 @@ ghost use Rattle.balancer_core.specs.Commanded.{
 };
 ghost use Rattle.balancer_core.specs.Stepped.{AreStepped};
 ghost use Rattle.choice_index.specs.declared.standing.Standing.{Standing};
+ghost use Rattle.jk_model.specs.declared.config.TheConstants.{MAX_MEMBERS};
 
 use crate::present::Present;
 use crate::steps::{by_method, load_by};
@@ -114,7 +115,7 @@ fn put_factors(rows: &[Standing], command: &Command, table: &mut [u32])
 
 // The least common multiple of the factors after the command, where it isn't above 4,294,967,295.
 fn common_commanded(rows: &[Standing], command: &Command) -> Option<u32>
-    requires few { length rows.now ≤ 64 }
+    requires few { length rows.now ≤ MAX_MEMBERS }
     requires some { (m : ℕ) (d : Standing) → m < length rows.now → 0 < (setting_commanded command.now m (slice_index_or rows.now m d)).factor }
     ensures { (d : Standing) → SomeIff result (common_commanded command.now rows.now d < 2 ^ 32) (common_commanded command.now rows.now d) }
 {
@@ -129,7 +130,7 @@ pub(crate) fn judge(
     command: &Command,
     mark: FullMark,
 ) -> Result<u32, AdminError<FullMark>>
-    requires few { length rows.now ≤ 64 }
+    requires few { length rows.now ≤ MAX_MEMBERS }
     requires some { (m : ℕ) (d : Standing) → m < length rows.now → 0 < (slice_index_or rows.now m d).factor }
     ensures { (d : Standing) → IsJudged (length rows.now) rows.now d command.now mark result }
 {

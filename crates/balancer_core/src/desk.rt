@@ -1,5 +1,5 @@
 //! A desk: what a session asks for members, and hands leases back to.
-ghost use Rattle.std.specs.Prelude.{◌≡◌, ◌≤◌, ◌<◌, ◌^◌, true, false, length, Some, IfSome, IfOk, IfErr, OnErr};
+ghost use Rattle.std.specs.Prelude.{◌≡◌, ◌≤◌, ◌<◌, true, false, length, Some, IfSome, IfOk, IfErr, OnErr};
 ghost use Rattle.jk_model.specs.declared.view.View.{View};
 
 use jk_io::NoMemory;
@@ -29,7 +29,7 @@ pub struct Occasion {
 /// Each call finds a journal that is sound and of rules 2, and its entries follow that journal. Where a desk tells its
 /// Books, it is the told one; a desk over a lock tells none, and then no more is known of it.
 pub trait Desk {
-    ghost use Rattle.std.specs.Prelude.{◌≡◌, ◌≤◌, ◌<◌, ◌^◌, true, length, IfSome, IfOk, IfErr, OnErr};
+    ghost use Rattle.std.specs.Prelude.{◌≡◌, ◌≤◌, ◌<◌, true, length, IfSome, IfOk, IfErr, OnErr};
     ghost use Rattle.balancer_core.specs.Desks.{
       Chooses,
       Commands,
@@ -48,6 +48,7 @@ pub trait Desk {
     };
     ghost use Rattle.jk_model.specs.declared.refusal.FullMark.{FullMark};
     ghost use Rattle.jk_model.specs.declared.view.View.{View};
+    ghost use Rattle.jk_model.specs.declared.journal.TheConstants.{MOST_BYTES};
 
     /// A ticket that is out. Only `choose` makes one, and only `hand_back` spends one.
     type Lease;
@@ -92,7 +93,7 @@ pub trait Desk {
     ) -> Result<(), Stray>
         requires caller { IfSome (state self.old).caller (λ n. session ≡ n) }
         requires held { holds (state self.old).held (pair_of (note lease)) ≡ true }
-        requires bytes { outcome.bytes ≤ 2 ^ 44 }
+        requires bytes { outcome.bytes ≤ MOST_BYTES }
         ensures ok { IfOk result (λ _. TakesBack (state self.old) (state self.new) session at (note lease) outcome) }
         ensures err { IfErr result (λ stray. MeetsStray (state self.old) (state self.new) (note lease) stray) }
         ensures held { (state self.new).held ≡ without_last (state self.old).held (pair_of (note lease)) }

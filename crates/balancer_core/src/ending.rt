@@ -10,6 +10,7 @@ ghost use Rattle.jk_model.specs.Tickets.{out, ticket_in};
 ghost use Rattle.balancer_core.specs.Ending.{AreEarly, AreEndingInRange, AreOwn, AreSettled, IsSettled, ending_member, still_out, tickets_made, unreturned};
 ghost use Rattle.balancer_core.specs.Kept.{AreReturns, IsNow};
 ghost use Rattle.choice_index.specs.declared.standing.Standing.{Standing};
+ghost use Rattle.jk_model.specs.declared.validity.TheConstants.{MOST_NUMBERS};
 
 use crate::present::Present;
 use crate::shown::shown_rows;
@@ -149,7 +150,7 @@ pub(crate) fn ending(
     requires whole { length present.now.rows.items ≡ length opening.now.config.members }
     requires ranges { AreEndingInRange opening.now.config.members present.now.rows.items }
     requires narrow { (d : Standing) → multiple_of (each (length present.now.rows.items) (λ m. (slice_index_or present.now.rows.items m d).factor)) < 2 ^ 32 }
-    requires room { opening.now.next + length entries.now ≤ 2 ^ 48 }
+    requires room { opening.now.next + length entries.now ≤ MOST_NUMBERS }
     ensures { (v : ℕ) → IsLegal v opening.now entries.now → IsNow v opening.now (reverse entries.now) present.now
         → IfOk result (IsEnding v opening.now (reverse entries.now)) }
 {

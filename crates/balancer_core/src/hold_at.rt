@@ -1,9 +1,10 @@
 //! One hold of the Book at a place, over the lists that a desk of one thread keeps.
-ghost use Rattle.std.specs.Prelude.{◌≡◌, ◌≤◌, ◌<◌, ◌^◌, ℕ, true, not, filter, length, slice_index, vec_len, vec_capacity, IfOk, IfErr, OnOk, OnErr};
+ghost use Rattle.std.specs.Prelude.{◌≡◌, ◌≤◌, ◌<◌, ℕ, true, not, filter, length, slice_index, vec_len, vec_capacity, IfOk, IfErr, OnOk, OnErr};
 ghost use Rattle.balancer_core.specs.Desks.{holds, is_pair, without_last};
 ghost use Rattle.balancer_core.specs.PlainDesks.{IsPlain};
 ghost use Rattle.balancer_core.specs.PlainLists.{ListsChoose, ListsCommand, ListsDeny, ListsRefuse, ListsTakeBack, lists};
 ghost use Rattle.balancer_core.specs.ToldBooks.{sizes_of};
+ghost use Rattle.jk_model.specs.declared.journal.TheConstants.{MOST_BYTES};
 
 use crate::book::Book;
 use crate::desk::{Choice, Occasion};
@@ -50,7 +51,7 @@ pub(crate) fn return_at(
     requires plain { IsPlain books.old receipts.old.items held.old.items (vec_capacity receipts.old) }
     requires known { on.lb < length books.old }
     requires held { holds held.old.items (on.lb, ticket) ≡ true }
-    requires bytes { outcome.bytes ≤ 2 ^ 44 }
+    requires bytes { outcome.bytes ≤ MOST_BYTES }
     ensures plain { IsPlain books.new receipts.new.items held.new.items (vec_capacity receipts.new) }
     ensures back { ListsTakeBack (lists books.old receipts.old.items held.old.items)
         (lists books.new receipts.new.items held.new.items) on ticket outcome }

@@ -8,6 +8,7 @@ ghost use Rattle.balancer_core.specs.Leases.{IsLeaseOf};
 ghost use Rattle.balancer_core.specs.Refused.{RefusesMaintain};
 ghost use Rattle.balancer_core.specs.Desks.{IsAskRefusal, IsCommandRefusal, IsMaintained};
 ghost use Rattle.balancer_core.specs.PlainDesks.{BookCommands, BookGainsDue, BookGainsLast, Picks, receipt_of};
+ghost use Rattle.jk_model.specs.declared.segment.TheConstants.{MODERN_RULES};
 
 use crate::book::{Book, Picked};
 use crate::desk::Occasion;
@@ -54,7 +55,7 @@ pub(crate) fn select_after(
     on: Occasion,
     ask: &Ask,
 ) -> Result<Picked, RoomError<FullMark>>
-    requires modern { book.old.rules ≡ 2 }
+    requires modern { book.old.rules ≡ MODERN_RULES }
     requires room { vec_len receipts.old + 2 ≤ vec_capacity receipts.old }
     ensures ok { IfOk result (λ picked. BookGainsLast book.old book.new receipts.old.items receipts.new.items on.lb on.session on.at
         (receipt_of on picked.entry)) }

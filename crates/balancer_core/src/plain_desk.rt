@@ -66,7 +66,7 @@ impl PlainDesk {
 }
 
 impl Desk for PlainDesk {
-    ghost use Rattle.std.specs.Prelude.{◌≡◌, ◌<◌, ◌≤◌, ◌^◌, true, length, Some, IfSome, IfOk, IfErr, IsOk};
+    ghost use Rattle.std.specs.Prelude.{◌≡◌, ◌<◌, ◌≤◌, true, length, Some, IfSome, IfOk, IfErr, IsOk};
     ghost use Rattle.balancer_core.specs.Desks.{
       Chooses,
       Commands,
@@ -82,6 +82,7 @@ impl Desk for PlainDesk {
       without_last,
     };
     ghost use Rattle.balancer_core.specs.PlainLeases.{note_of};
+    ghost use Rattle.jk_model.specs.declared.journal.TheConstants.{MOST_BYTES};
 
     type Lease = PlainLease;
 
@@ -130,7 +131,7 @@ impl Desk for PlainDesk {
     ) -> Result<(), Stray>
         requires caller { IfSome self.old.caller (λ n. session ≡ n) }
         requires held { holds self.old.held (pair_of (note_of lease)) ≡ true }
-        requires bytes { outcome.bytes ≤ 2 ^ 44 }
+        requires bytes { outcome.bytes ≤ MOST_BYTES }
 
         // A ticket that is held is never a stray.
         ensures back { IsOk result }

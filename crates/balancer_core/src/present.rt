@@ -1,11 +1,12 @@
 //! The balancer as its journal leaves it, and what an entry makes of it.
 
-ghost use Rattle.std.specs.Prelude.{◌≡◌, ℕ, ◌+◌, ◌<◌, ◌≤◌, ◌^◌, List, length, false, slice_index_or, vec_len, IfSome, None};
+ghost use Rattle.std.specs.Prelude.{◌≡◌, ℕ, ◌+◌, ◌<◌, ◌≤◌, List, length, false, slice_index_or, vec_len, IfSome, None};
 ghost use Rattle.jk_model.specs.Journal.{chosen_in, newest_chosen};
 ghost use Rattle.balancer_core.specs.Revived.{AreOthersRevived, AreSelected, tickets_after};
 ghost use Rattle.choice_index.specs.Picks.{HasRoomFor};
 ghost use Rattle.balancer_core.specs.Steps.{returned_row};
 ghost use Rattle.choice_index.specs.declared.standing.Standing.{Standing};
+ghost use Rattle.jk_model.specs.declared.config.TheConstants.{MAX_MEMBERS};
 
 use crate::steps::{chosen_row, returned_row, revived_row};
 use choice_index::{Among, Rules, SelectAnswer, Standing, passes, pick};
@@ -28,7 +29,7 @@ pub(crate) struct Present {
 
 // Turns all rows from Error to Recover that may be revived for the ask, but that of `except`.
 fn revive_others(rows: &mut Vec<Standing>, ask: &Ask, except: usize, direct: bool)
-    requires { length rows.old.items ≤ 64 }
+    requires { length rows.old.items ≤ MAX_MEMBERS }
     ensures { AreOthersRevived ask.now except (length rows.old.items) rows.old.items rows.new.items }
 {
     for i in 0..rows.len() {
@@ -45,6 +46,10 @@ impl Present {
     ghost use Rattle.choice_index.specs.RuleNumbers.{rules_number};
     ghost use Rattle.choice_index.specs.Picks.{revives_at};
     ghost use Rattle.balancer_core.specs.Kept.{IsNow};
+    ghost use Rattle.balancer_core.specs.declared.steps.TheConstants.{LOAD_LIMIT};
+    ghost use Rattle.jk_model.specs.declared.config.TheConstants.{MAX_MEMBERS};
+    ghost use Rattle.jk_model.specs.declared.journal.TheConstants.{MOST_BYTES};
+    ghost use Rattle.jk_model.specs.declared.validity.TheConstants.{MOST_NUMBERS};
 
     /// The answer to `ask` under the number `next`: by the rows, and so by every history that leaves them.
     pub(crate) fn pick(&self, opening: &Opening, rules: Rules, ask: &Ask, next: u64) -> SelectAnswer
@@ -69,10 +74,10 @@ impl Present {
         at: u64,
         choice: SelectAnswer,
     )
-        requires few { length self.old.rows.items ≤ 64 }
+        requires few { length self.old.rows.items ≤ MAX_MEMBERS }
         requires room { HasRoomFor self.old.rows.items choice.answer }
-        requires light { (m : ℕ) (d : Standing) → m < length self.old.rows.items → (slice_index_or self.old.rows.items m d).load < 2 ^ 125 }
-        requires tickets { self.old.out ≤ 2 ^ 48 }
+        requires light { (m : ℕ) (d : Standing) → m < length self.old.rows.items → (slice_index_or self.old.rows.items m d).load < LOAD_LIMIT }
+        requires tickets { self.old.out ≤ MOST_NUMBERS }
         requires revival { chosen_in choice.answer ≡ None → choice.revives ≡ false }
         ensures whole { length self.new.rows.items ≡ length self.old.rows.items }
         ensures rows { AreSelected config.now.method seq ask.now choice self.old.rows.items self.new.rows.items }
@@ -110,8 +115,8 @@ impl Present {
     )
         requires within { member < length self.old.rows.items }
         requires busy { (d : Standing) → 0 < (slice_index_or self.old.rows.items member d).busy }
-        requires light { (d : Standing) → (slice_index_or self.old.rows.items member d).load < 2 ^ 125 }
-        requires few { outcome.bytes ≤ 2 ^ 44 }
+        requires light { (d : Standing) → (slice_index_or self.old.rows.items member d).load < LOAD_LIMIT }
+        requires few { outcome.bytes ≤ MOST_BYTES }
         requires tickets { 0 < self.old.out }
         ensures whole { length self.new.rows.items ≡ length self.old.rows.items }
         ensures row { (d : Standing) → slice_index_or self.new.rows.items member d

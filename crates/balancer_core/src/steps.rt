@@ -1,13 +1,17 @@
 //! What an entry makes of the row of a member that it touches.
 
-ghost use Rattle.std.specs.Prelude.{◌≡◌, ◌+◌, ◌*◌, ◌<◌, ◌≤◌, ◌^◌};
+ghost use Rattle.std.specs.Prelude.{◌≡◌, ◌+◌, ◌*◌, ◌<◌, ◌≤◌};
 ghost use Rattle.jk_model.specs.Loads.{load_by};
 ghost use Rattle.balancer_core.specs.Steps.{chosen_row, returned_row, revived_row};
+ghost use Rattle.jk_model.specs.declared.journal.TheConstants.{MOST_BYTES};
 
 use choice_index::Standing;
 use jk_model::{Method, Outcome};
 use lb_methods::{gain_return, gain_select};
 use member_state::{Touch, next_state};
+
+/// Each load is below this, so that what an entry adds to it is a number too.
+pub(crate) const LOAD_LIMIT: u128 = 1 << 125;
 
 /// The load by the method: what is kept, but by Busyness what runs now.
 pub(crate) fn by_method(method: Method, running: u128, kept: u128) -> u128
@@ -35,7 +39,7 @@ pub(crate) fn chosen_row(
     direct: bool,
 ) -> Standing
     requires free { row.now.busy < row.now.pool }
-    requires light { row.now.load < 2 ^ 125 }
+    requires light { row.now.load < LOAD_LIMIT }
     ensures { result ≡ chosen_row method ticket fresh row.now }
 {
     let busy = row.busy + 1;
@@ -68,8 +72,8 @@ pub(crate) fn returned_row(
     direct: bool,
 ) -> Standing
     requires busy { 0 < row.now.busy }
-    requires light { row.now.load < 2 ^ 125 }
-    requires few { outcome.bytes ≤ 2 ^ 44 }
+    requires light { row.now.load < LOAD_LIMIT }
+    requires few { outcome.bytes ≤ MOST_BYTES }
     ensures { result ≡ returned_row method direct ticket outcome at row.now }
 {
     let touch = Touch::Returned {

@@ -3,6 +3,7 @@
 //! It makes N exchanges in each of nine Books: choices and returns alone, and with a maintenance and a command after
 //! each 64 exchanges. bench/scan.c picks by the same rule over plain arrays.
 ghost use Rattle.std.specs.Prelude.{◌≡◌, IfOk};
+ghost use Rattle.jk_model.specs.declared.segment.TheConstants.{MODERN_RULES};
 
 use crate::timed::show;
 use anyhow::Result;
@@ -69,7 +70,7 @@ fn config_of(members: MemberList) -> Result<LbConfig, ConfigError> {
 
 /// A Book of rules 2 with so many members.
 pub fn book_of(alloc: Global, count: u32) -> Result<Book>
-    ensures { IfOk result (λ book. book.rules ≡ 2) }
+    ensures { IfOk result (λ book. book.rules ≡ MODERN_RULES) }
 {
     let config = config_of(members_of(alloc, count)?)?;
     Ok(Book::start(alloc, config, 0, 0)?)
@@ -77,8 +78,8 @@ pub fn book_of(alloc: Global, count: u32) -> Result<Book>
 
 /// A choice and its return: two holds.
 pub fn exchange(book: &mut Book, at: u64) -> Result<()>
-    requires { book.old.rules ≡ 2 }
-    ensures { book.new.rules ≡ 2 }
+    requires { book.old.rules ≡ MODERN_RULES }
+    ensures { book.new.rules ≡ MODERN_RULES }
 {
     let Picked { entry: _, lease } = book.select(0, at, &ASK)?;
     if let Some(lease) = lease {
@@ -88,8 +89,8 @@ pub fn exchange(book: &mut Book, at: u64) -> Result<()>
 }
 
 fn exchanges(book: &mut Book, at: u64, count: u64) -> Result<()>
-    requires { book.old.rules ≡ 2 }
-    ensures { book.new.rules ≡ 2 }
+    requires { book.old.rules ≡ MODERN_RULES }
+    ensures { book.new.rules ≡ MODERN_RULES }
 {
     for _ in 0..count {
         exchange(book, at)?;
@@ -99,8 +100,8 @@ fn exchanges(book: &mut Book, at: u64, count: u64) -> Result<()>
 
 /// A new distance of the first member.
 fn put_distance(book: &mut Book, at: u64, distance: u32) -> Result<()>
-    requires { book.old.rules ≡ 2 }
-    ensures { book.new.rules ≡ 2 }
+    requires { book.old.rules ≡ MODERN_RULES }
+    ensures { book.new.rules ≡ MODERN_RULES }
 {
     let change = Change {
         activation: None,
@@ -114,8 +115,8 @@ fn put_distance(book: &mut Book, at: u64, distance: u32) -> Result<()>
 
 /// A stretch of exchanges, the maintenance that is then due, and a new distance of the first member.
 fn stretch(book: &mut Book, number: u64) -> Result<()>
-    requires { book.old.rules ≡ 2 }
-    ensures { book.new.rules ≡ 2 }
+    requires { book.old.rules ≡ MODERN_RULES }
+    ensures { book.new.rules ≡ MODERN_RULES }
 {
     let at = number.saturating_mul(MAINTAIN_SECONDS);
     exchanges(book, at, STRETCH)?;
@@ -124,8 +125,8 @@ fn stretch(book: &mut Book, number: u64) -> Result<()>
 }
 
 fn stretches(book: &mut Book, count: u64) -> Result<()>
-    requires { book.old.rules ≡ 2 }
-    ensures { book.new.rules ≡ 2 }
+    requires { book.old.rules ≡ MODERN_RULES }
+    ensures { book.new.rules ≡ MODERN_RULES }
 {
     for number in 0..count {
         stretch(book, number)?;
@@ -135,7 +136,7 @@ fn stretches(book: &mut Book, count: u64) -> Result<()>
 
 /// A Book of so many members that keeps about so many entries.
 fn filled_book(alloc: Global, members: u32, kept: u64) -> Result<Book>
-    ensures { IfOk result (λ book. book.rules ≡ 2) }
+    ensures { IfOk result (λ book. book.rules ≡ MODERN_RULES) }
 {
     let mut book = book_of(alloc, members)?;
     exchanges(&mut book, 0, kept / 2)?;
@@ -143,8 +144,8 @@ fn filled_book(alloc: Global, members: u32, kept: u64) -> Result<Book>
 }
 
 fn measure_plain(rt: &(impl Print + Clock), book: &mut Book, rounds: u32) -> Result<()>
-    requires { book.old.rules ≡ 2 }
-    ensures { book.new.rules ≡ 2 }
+    requires { book.old.rules ≡ MODERN_RULES }
+    ensures { book.new.rules ≡ MODERN_RULES }
 {
     let before = book.added();
     let start = Instant::now(rt)?;
@@ -154,8 +155,8 @@ fn measure_plain(rt: &(impl Print + Clock), book: &mut Book, rounds: u32) -> Res
 }
 
 fn measure_mixed(rt: &(impl Print + Clock), book: &mut Book, rounds: u32) -> Result<()>
-    requires { book.old.rules ≡ 2 }
-    ensures { book.new.rules ≡ 2 }
+    requires { book.old.rules ≡ MODERN_RULES }
+    ensures { book.new.rules ≡ MODERN_RULES }
 {
     let before = book.added();
     let start = Instant::now(rt)?;
@@ -165,7 +166,7 @@ fn measure_mixed(rt: &(impl Print + Clock), book: &mut Book, rounds: u32) -> Res
 }
 
 fn measure_both(rt: &(impl Print + Clock), book: &mut Book, rounds: u32) -> Result<()>
-    requires { book.old.rules ≡ 2 }
+    requires { book.old.rules ≡ MODERN_RULES }
 {
     measure_plain(rt, book, rounds)?;
     measure_mixed(rt, book, rounds)
@@ -193,7 +194,7 @@ pub fn measure(rt: &(impl Print + Clock), alloc: Global, rounds: u32) -> Result<
 
 /// How many entries a Book has after two stretches.
 fn added_by(book: &mut Book) -> Result<u64>
-    requires { book.old.rules ≡ 2 }
+    requires { book.old.rules ≡ MODERN_RULES }
 {
     stretches(book, 2)?;
     Ok(book.added())

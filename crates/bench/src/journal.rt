@@ -3,6 +3,7 @@
 //! The text is that of N exchanges in a Book of two members, cut where a server cuts it. It has to be whole in memory; the
 //! check itself holds one segment.
 ghost use Rattle.std.specs.Prelude.{◌≡◌, ◌≤◌, length};
+ghost use Rattle.jk_model.specs.declared.segment.TheConstants.{MODERN_RULES};
 
 use crate::book::{book_of, exchange};
 use crate::timed::show;
@@ -27,8 +28,8 @@ const STATUS: &str = "/proc/self/status";
 
 /// Cuts the journal, and puts the text of what was kept.
 fn put_segment(text: &mut Bytes, book: &mut Book) -> Result<()>
-    requires { book.old.rules ≡ 2 }
-    ensures { book.new.rules ≡ 2 }
+    requires { book.old.rules ≡ MODERN_RULES }
+    ensures { book.new.rules ≡ MODERN_RULES }
 {
     let segment = book.cut()?;
     text.extend(write_segment(b"lb", &segment)?.as_slice())?;
@@ -36,8 +37,8 @@ fn put_segment(text: &mut Bytes, book: &mut Book) -> Result<()>
 }
 
 fn put_exchange(text: &mut Bytes, book: &mut Book) -> Result<()>
-    requires { book.old.rules ≡ 2 }
-    ensures { book.new.rules ≡ 2 }
+    requires { book.old.rules ≡ MODERN_RULES }
+    ensures { book.new.rules ≡ MODERN_RULES }
 {
     exchange(book, 0)?;
     if book.kept() >= CUT_AT {

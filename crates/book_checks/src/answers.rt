@@ -1,6 +1,8 @@
 //! Calls of a Book of rules 2, and what is told of their answers. A call of session 0 goes by the callers that cite the
 //! laws.
-ghost use Rattle.std.specs.Prelude.{◌≡◌, ◌≤◌, ◌^◌};
+ghost use Rattle.std.specs.Prelude.{◌≡◌, ◌≤◌};
+ghost use Rattle.jk_model.specs.declared.segment.TheConstants.{MODERN_RULES};
+ghost use Rattle.jk_model.specs.declared.journal.TheConstants.{MOST_BYTES};
 
 use balancer_checks::{maintain_lawfully, reset_lawfully, return_lawfully, select_lawfully};
 use balancer_core::{Book, Picked};
@@ -9,8 +11,8 @@ use jk_io::{Bytes, NoMemory};
 use jk_model::{AdminError, Ask, Command, Entry, FullMark, Outcome, RoomError, Stray};
 
 fn select(book: &mut Book, session: u32, at: u64, ask: &Ask) -> Result<Picked, RoomError<FullMark>>
-    requires { book.old.rules ≡ 2 }
-    ensures { book.new.rules ≡ 2 }
+    requires { book.old.rules ≡ MODERN_RULES }
+    ensures { book.new.rules ≡ MODERN_RULES }
 {
     if session == 0 {
         select_lawfully(book, at, ask)
@@ -35,8 +37,8 @@ pub fn tell_select(
     ask: &Ask,
     out: &mut Bytes,
 ) -> Result<bool, NoMemory>
-    requires { book.old.rules ≡ 2 }
-    ensures { book.new.rules ≡ 2 }
+    requires { book.old.rules ≡ MODERN_RULES }
+    ensures { book.new.rules ≡ MODERN_RULES }
 {
     match select(book, session, at, ask) {
         Ok(picked) => tell_entry(out, &chosen(picked))?,
@@ -52,9 +54,9 @@ fn return_ticket(
     ticket: u64,
     outcome: Outcome,
 ) -> Result<Result<Entry, Stray>, NoMemory>
-    requires bytes { outcome.bytes ≤ 2 ^ 44 }
-    requires rules { book.old.rules ≡ 2 }
-    ensures rules { book.new.rules ≡ 2 }
+    requires bytes { outcome.bytes ≤ MOST_BYTES }
+    requires rules { book.old.rules ≡ MODERN_RULES }
+    ensures rules { book.new.rules ≡ MODERN_RULES }
 {
     if session == 0 {
         return_lawfully(book, at, ticket, outcome)
@@ -80,17 +82,17 @@ pub fn tell_return(
     outcome: Outcome,
     out: &mut Bytes,
 ) -> Result<bool, NoMemory>
-    requires bytes { outcome.bytes ≤ 2 ^ 44 }
-    requires rules { book.old.rules ≡ 2 }
-    ensures rules { book.new.rules ≡ 2 }
+    requires bytes { outcome.bytes ≤ MOST_BYTES }
+    requires rules { book.old.rules ≡ MODERN_RULES }
+    ensures rules { book.new.rules ≡ MODERN_RULES }
 {
     let back = return_ticket(book, session, at, ticket, outcome)?;
     tell_back(&back, out)
 }
 
 fn maintain(book: &mut Book, session: u32, at: u64) -> Result<Option<Entry>, RoomError<FullMark>>
-    requires { book.old.rules ≡ 2 }
-    ensures { book.new.rules ≡ 2 }
+    requires { book.old.rules ≡ MODERN_RULES }
+    ensures { book.new.rules ≡ MODERN_RULES }
 {
     if session == 0 {
         maintain_lawfully(book, at)
@@ -105,8 +107,8 @@ pub fn tell_maintain(
     at: u64,
     out: &mut Bytes,
 ) -> Result<bool, NoMemory>
-    requires { book.old.rules ≡ 2 }
-    ensures { book.new.rules ≡ 2 }
+    requires { book.old.rules ≡ MODERN_RULES }
+    ensures { book.new.rules ≡ MODERN_RULES }
 {
     match maintain(book, session, at) {
         Ok(Some(entry)) => tell_entry(out, &entry)?,
@@ -122,8 +124,8 @@ fn admin(
     at: u64,
     command: &Command,
 ) -> Result<Entry, AdminError<FullMark>>
-    requires { book.old.rules ≡ 2 }
-    ensures { book.new.rules ≡ 2 }
+    requires { book.old.rules ≡ MODERN_RULES }
+    ensures { book.new.rules ≡ MODERN_RULES }
 {
     match *command {
         Command::Reset { member } if session == 0 => reset_lawfully(book, at, member),
@@ -145,8 +147,8 @@ pub fn tell_command(
     command: &Command,
     out: &mut Bytes,
 ) -> Result<bool, NoMemory>
-    requires { book.old.rules ≡ 2 }
-    ensures { book.new.rules ≡ 2 }
+    requires { book.old.rules ≡ MODERN_RULES }
+    ensures { book.new.rules ≡ MODERN_RULES }
 {
     match admin(book, session, at, command) {
         Ok(entry) => tell_entry(out, &entry)?,

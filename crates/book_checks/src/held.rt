@@ -1,5 +1,7 @@
 //! A Book of rules 2, and what is told of it.
-ghost use Rattle.std.specs.Prelude.{◌≡◌, ◌≤◌, ◌^◌, IfOk, IfSome};
+ghost use Rattle.std.specs.Prelude.{◌≡◌, ◌≤◌, IfOk, IfSome};
+ghost use Rattle.jk_model.specs.declared.segment.TheConstants.{MODERN_RULES};
+ghost use Rattle.jk_model.specs.declared.journal.TheConstants.{MOST_BYTES};
 
 use crate::answers::{tell_back, tell_command, tell_maintain, tell_return, tell_select};
 use crate::queries::commands_asked;
@@ -16,7 +18,7 @@ use std::alloc::Global;
 #[derive(Drop)]
 pub struct Held {
     pub book: Book,
-    pub ghost modern: { book.rules ≡ 2 },
+    pub ghost modern: { book.rules ≡ MODERN_RULES },
 }
 
 /// What a fresh session asks.
@@ -34,8 +36,8 @@ fn tell_returned(
     ticket: u64,
     out: &mut Bytes,
 ) -> Result<bool, NoMemory>
-    requires { book.old.rules ≡ 2 }
-    ensures { book.new.rules ≡ 2 }
+    requires { book.old.rules ≡ MODERN_RULES }
+    ensures { book.new.rules ≡ MODERN_RULES }
 {
     match outcome_of(asked) {
         Some(outcome) => tell_return(book, asked.session, asked.at, ticket, outcome, out),
@@ -44,8 +46,8 @@ fn tell_returned(
 }
 
 fn tell_call(book: &mut Book, asked: &Entry, out: &mut Bytes) -> Result<bool, NoMemory>
-    requires { book.old.rules ≡ 2 }
-    ensures { book.new.rules ≡ 2 }
+    requires { book.old.rules ≡ MODERN_RULES }
+    ensures { book.new.rules ≡ MODERN_RULES }
 {
     match &asked.call {
         Call::Select(ask) => tell_select(book, asked.session, asked.at, ask, out),
@@ -61,8 +63,8 @@ fn tell_asked(
     asked: &str,
     out: &mut Bytes,
 ) -> Result<bool, NoMemory>
-    requires { book.old.rules ≡ 2 }
-    ensures { book.new.rules ≡ 2 }
+    requires { book.old.rules ≡ MODERN_RULES }
+    ensures { book.new.rules ≡ MODERN_RULES }
 {
     match asked_call(alloc, asked)? {
         Some(entry) => tell_call(book, &entry, out),
@@ -77,9 +79,9 @@ fn lent(
     at: u64,
     outcome: Outcome,
 ) -> Option<(u32, Result<Entry, Stray>)>
-    requires bytes { outcome.bytes ≤ 2 ^ 44 }
-    requires rules { book.old.rules ≡ 2 }
-    ensures rules { book.new.rules ≡ 2 }
+    requires bytes { outcome.bytes ≤ MOST_BYTES }
+    requires rules { book.old.rules ≡ MODERN_RULES }
+    ensures rules { book.new.rules ≡ MODERN_RULES }
 {
     let Ok(Picked { entry: _, lease }) = book.select(session, at, &FRESH) else {
         return None;
@@ -96,9 +98,9 @@ fn put_lent(member: u32, back: &Result<Entry, Stray>, out: &mut Bytes) -> Result
 }
 
 fn lend(book: &mut Book, asked: &Entry, outcome: Outcome, out: &mut Bytes) -> Result<bool, NoMemory>
-    requires bytes { outcome.bytes ≤ 2 ^ 44 }
-    requires rules { book.old.rules ≡ 2 }
-    ensures rules { book.new.rules ≡ 2 }
+    requires bytes { outcome.bytes ≤ MOST_BYTES }
+    requires rules { book.old.rules ≡ MODERN_RULES }
+    ensures rules { book.new.rules ≡ MODERN_RULES }
 {
     match lent(book, asked.session, asked.at, outcome) {
         Some((member, back)) => put_lent(member, &back, out),
@@ -107,8 +109,8 @@ fn lend(book: &mut Book, asked: &Entry, outcome: Outcome, out: &mut Bytes) -> Re
 }
 
 fn tell_lend(book: &mut Book, asked: &Entry, out: &mut Bytes) -> Result<bool, NoMemory>
-    requires { book.old.rules ≡ 2 }
-    ensures { book.new.rules ≡ 2 }
+    requires { book.old.rules ≡ MODERN_RULES }
+    ensures { book.new.rules ≡ MODERN_RULES }
 {
     match outcome_of(asked) {
         Some(outcome) => lend(book, asked, outcome, out),
@@ -117,8 +119,8 @@ fn tell_lend(book: &mut Book, asked: &Entry, out: &mut Bytes) -> Result<bool, No
 }
 
 fn tell_lent(alloc: Global, book: &mut Book, call: &str, out: &mut Bytes) -> Result<bool, NoMemory>
-    requires { book.old.rules ≡ 2 }
-    ensures { book.new.rules ≡ 2 }
+    requires { book.old.rules ≡ MODERN_RULES }
+    ensures { book.new.rules ≡ MODERN_RULES }
 {
     match call_of(alloc, call)? {
         Some(asked) => tell_lend(book, &asked, out),
@@ -134,23 +136,23 @@ fn put_segment(segment: &Segment, out: &mut Bytes) -> Result<bool, NoMemory> {
 
 /// Cuts the journal: how many entries go, and from which number on.
 fn tell_cut(book: &mut Book, out: &mut Bytes) -> Result<bool, NoMemory>
-    requires { book.old.rules ≡ 2 }
-    ensures { book.new.rules ≡ 2 }
+    requires { book.old.rules ≡ MODERN_RULES }
+    ensures { book.new.rules ≡ MODERN_RULES }
 {
     put_segment(&book.cut()?, out)
 }
 
 /// A Book that goes on from the opening that this one has, without its entries.
 fn reopened(book: &Book) -> Result<Option<Book>, NoMemory>
-    ensures { IfOk result (λ found. IfSome found (λ b. b.rules ≡ 2)) }
+    ensures { IfOk result (λ found. IfSome found (λ b. b.rules ≡ MODERN_RULES)) }
 {
     let Segment { opening, .. } = book.segment()?;
     resume(opening)
 }
 
 fn reopen(book: &mut Book, out: &mut Bytes) -> Result<bool, NoMemory>
-    requires { book.old.rules ≡ 2 }
-    ensures { book.new.rules ≡ 2 }
+    requires { book.old.rules ≡ MODERN_RULES }
+    ensures { book.new.rules ≡ MODERN_RULES }
 {
     match reopened(book)? {
         Some(fresh) => {
@@ -162,8 +164,8 @@ fn reopen(book: &mut Book, out: &mut Bytes) -> Result<bool, NoMemory>
 }
 
 fn do_commands(book: &mut Book, commands: &[Command], out: &mut Bytes) -> Result<bool, NoMemory>
-    requires { book.old.rules ≡ 2 }
-    ensures { book.new.rules ≡ 2 }
+    requires { book.old.rules ≡ MODERN_RULES }
+    ensures { book.new.rules ≡ MODERN_RULES }
 {
     for command in commands {
         tell_command(book, 0, 0, command, out)?;
@@ -179,8 +181,8 @@ fn tell_query(
     query: &str,
     out: &mut Bytes,
 ) -> Result<bool, NoMemory>
-    requires { book.old.rules ≡ 2 }
-    ensures { book.new.rules ≡ 2 }
+    requires { book.old.rules ≡ MODERN_RULES }
+    ensures { book.new.rules ≡ MODERN_RULES }
 {
     match commands_asked(alloc, lines, query)? {
         Some(commands) => do_commands(book, commands.as_slice(), out),

@@ -1,5 +1,6 @@
 //! Openings, as the lines of a journal's text have them: `lb`, `member`, `lease` and `from`.
 ghost use Rattle.std.specs.Prelude.{◌≡◌, [], IfOk, IfSome};
+ghost use Rattle.jk_model.specs.declared.segment.TheConstants.{MODERN_RULES};
 
 use crate::texts::{first_word, put_line};
 use balancer_core::Book;
@@ -69,7 +70,7 @@ fn start_with(
     at: u64,
     first: u64,
 ) -> Result<Option<Book>, NoMemory>
-    ensures { IfOk result (λ found. IfSome found (λ b. (b.rules ≡ 2) × (b.added ≡ 0) × (b.entries ≡ []))) }
+    ensures { IfOk result (λ found. IfSome found (λ b. (b.rules ≡ MODERN_RULES) × (b.added ≡ 0) × (b.entries ≡ []))) }
 {
     if first > 1 << 48 {
         return Ok(None);
@@ -78,7 +79,7 @@ fn start_with(
 }
 
 fn start(alloc: Global, opening: Opening) -> Result<Option<Book>, NoMemory>
-    ensures { IfOk result (λ found. IfSome found (λ b. (b.rules ≡ 2) × (b.added ≡ 0) × (b.entries ≡ []))) }
+    ensures { IfOk result (λ found. IfSome found (λ b. (b.rules ≡ MODERN_RULES) × (b.added ≡ 0) × (b.entries ≡ []))) }
 {
     let Opening {
         config,
@@ -91,7 +92,7 @@ fn start(alloc: Global, opening: Opening) -> Result<Option<Book>, NoMemory>
 
 /// A Book that goes on from an opening.
 pub fn resume(opening: Opening) -> Result<Option<Book>, NoMemory>
-    ensures { IfOk result (λ found. IfSome found (λ b. b.rules ≡ 2)) }
+    ensures { IfOk result (λ found. IfSome found (λ b. b.rules ≡ MODERN_RULES)) }
 {
     let valid = opening.is_valid();
     if !valid {
@@ -102,7 +103,7 @@ pub fn resume(opening: Opening) -> Result<Option<Book>, NoMemory>
 
 /// A Book that starts with the configuration, the moment and the number of the opening that these lines are.
 pub fn started(alloc: Global, lines: &[u8]) -> Result<Option<Book>, NoMemory>
-    ensures { IfOk result (λ found. IfSome found (λ b. (b.rules ≡ 2) × (b.added ≡ 0) × (b.entries ≡ []))) }
+    ensures { IfOk result (λ found. IfSome found (λ b. (b.rules ≡ MODERN_RULES) × (b.added ≡ 0) × (b.entries ≡ []))) }
 {
     match opening_of(alloc, lines)? {
         Some(opening) => start(alloc, opening),
@@ -112,7 +113,7 @@ pub fn started(alloc: Global, lines: &[u8]) -> Result<Option<Book>, NoMemory>
 
 /// A Book that goes on from the opening that these lines are.
 pub fn resumed(alloc: Global, lines: &[u8]) -> Result<Option<Book>, NoMemory>
-    ensures { IfOk result (λ found. IfSome found (λ b. b.rules ≡ 2)) }
+    ensures { IfOk result (λ found. IfSome found (λ b. b.rules ≡ MODERN_RULES)) }
 {
     match opening_of(alloc, lines)? {
         Some(opening) => resume(opening),
@@ -122,7 +123,7 @@ pub fn resumed(alloc: Global, lines: &[u8]) -> Result<Option<Book>, NoMemory>
 
 /// A Book that starts with the opening in a row.
 pub fn book_of_row(alloc: Global, row: &str) -> Result<Option<Book>, NoMemory>
-    ensures { IfOk result (λ found. IfSome found (λ b. (b.rules ≡ 2) × (b.added ≡ 0) × (b.entries ≡ []))) }
+    ensures { IfOk result (λ found. IfSome found (λ b. (b.rules ≡ MODERN_RULES) × (b.added ≡ 0) × (b.entries ≡ []))) }
 {
     started(alloc, opening_lines(alloc, row)?.as_slice())
 }

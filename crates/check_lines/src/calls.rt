@@ -3,19 +3,15 @@
 //! A call stands as in a journal's line: `SESSION AT CALL`. An entry is told as its line there, and a refusal by its name
 //! and its numbers.
 
-ghost use Rattle.std.specs.Prelude.{◌≤◌, ◌^◌, IfSome};
+ghost use Rattle.std.specs.Prelude.{◌≤◌, IfSome};
 
 use crate::texts::{put_given, put_number};
 use jk_io::{Bytes, NoMemory};
-use jk_model::{AdminError, Call, Command, Entry, FullMark, Outcome, RoomError, Stray};
+use jk_model::{
+    AdminError, Call, Command, Entry, FullMark, MODERN_RULES, MOST_BYTES, Outcome, RoomError, Stray,
+};
 use journal_lines::{Line, put_entry, read_line};
 use std::alloc::Global;
-
-/// The rules of every Book here.
-pub const RULES: u8 = 2;
-
-/// The most bytes of a Return.
-pub const MOST_BYTES: u64 = 1 << 44;
 
 fn entry_in(line: Option<Line>) -> Option<Entry> {
     match line {
@@ -26,7 +22,7 @@ fn entry_in(line: Option<Line>) -> Option<Entry> {
 
 /// The entry of a journal's line.
 fn entry_of(alloc: Global, line: &[u8]) -> Result<Option<Entry>, NoMemory> {
-    Ok(entry_in(read_line(alloc, RULES, line)?))
+    Ok(entry_in(read_line(alloc, MODERN_RULES, line)?))
 }
 
 /// Puts a session's call as the line of an entry whose number and answer mean nothing.
@@ -61,7 +57,7 @@ pub fn command_of(entry: &Entry) -> Option<Command> {
 
 /// How the ticket of a call comes back, where it is a Return of at most 2^44 bytes.
 pub fn outcome_of(entry: &Entry) -> Option<Outcome>
-    ensures { IfSome result (λ outcome. outcome.bytes ≤ 2 ^ 44) }
+    ensures { IfSome result (λ outcome. outcome.bytes ≤ MOST_BYTES) }
 {
     match entry.call {
         Call::Return { ticket: _, outcome } if outcome.bytes <= MOST_BYTES => Some(outcome),
@@ -71,7 +67,7 @@ pub fn outcome_of(entry: &Entry) -> Option<Outcome>
 
 /// Puts the line of an entry.
 pub fn tell_entry(out: &mut Bytes, entry: &Entry) -> Result<(), NoMemory> {
-    put_entry(out, RULES, entry)
+    put_entry(out, MODERN_RULES, entry)
 }
 
 pub fn tell_full(out: &mut Bytes, mark: &FullMark) -> Result<(), NoMemory> {

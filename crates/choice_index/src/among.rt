@@ -3,6 +3,7 @@
 ghost use Rattle.std.specs.Prelude.{◌≡◌, ◌<◌};
 ghost use Rattle.jk_model.specs.Free.{is_in, is_ready, is_error, has_room};
 ghost use Rattle.choice_index.specs.Standings.{counted_row, passes, serves_row};
+ghost use Rattle.jk_model.specs.declared.config.TheConstants.{MAX_MEMBERS};
 
 use crate::standing::Standing;
 use jk_model::{Activation, Ask, MemberState};
@@ -16,7 +17,7 @@ pub enum Among {
 
 // Whether `member` is in a set of members.
 fn is_in(set: u64, member: usize) -> bool
-    requires { member < 64 }
+    requires { member < MAX_MEMBERS }
     ensures { result ≡ is_in set member }
 {
     set >> member & 1 == 1
@@ -36,7 +37,7 @@ fn is_error(state: MemberState) -> bool
 
 // The member's activation, which the ask's mount may lower.
 fn counted(row: &Standing, ask: &Ask, member: usize) -> Activation
-    requires { member < 64 }
+    requires { member < MAX_MEMBERS }
     ensures { result ≡ counted_row ask.now member row.now }
 {
     let disabled = is_in(ask.disabled, member);
@@ -53,14 +54,14 @@ fn counted(row: &Standing, ask: &Ask, member: usize) -> Activation
 
 // Not tried before, and a place in its pool is left.
 fn has_room(row: &Standing, ask: &Ask, member: usize) -> bool
-    requires { member < 64 }
+    requires { member < MAX_MEMBERS }
     ensures { result ≡ has_room (is_in ask.now.tried member) row.now.busy row.now.pool }
 {
     !is_in(ask.tried, member) && row.busy < row.pool
 }
 
 pub(crate) fn serves(row: &Standing, ask: &Ask, member: usize) -> bool
-    requires { member < 64 }
+    requires { member < MAX_MEMBERS }
     ensures { result ≡ serves_row ask.now member row.now }
 {
     let activation = counted(row, ask, member);
@@ -68,7 +69,7 @@ pub(crate) fn serves(row: &Standing, ask: &Ask, member: usize) -> bool
 }
 
 pub fn passes(among: Among, row: &Standing, ask: &Ask, member: usize) -> bool
-    requires { member < 64 }
+    requires { member < MAX_MEMBERS }
     ensures { result ≡ passes among ask.now member row.now }
 {
     let right = match among {

@@ -8,6 +8,7 @@ ghost use Rattle.choice_index.specs.declared.standing.Standing.{Standing};
 ghost use Rattle.choice_index.specs.RuleNumbers.{rules_number};
 ghost use Rattle.choice_index.specs.Picks.{home_of, serves_at, routed_at, revives_at, HasRoomAt, HasRoomFor, IsOpenAt, IsPickAt};
 ghost use Rattle.choice_index.specs.Least.{IsRevivalOf};
+ghost use Rattle.jk_model.specs.declared.config.TheConstants.{MAX_MEMBERS};
 
 use crate::among::{Among, serves};
 use crate::least::least;
@@ -51,7 +52,7 @@ fn is_forced(config: &LbConfig, ask: &Ask) -> bool
 
 // The redirect where it serves.
 fn redirected(rows: &[Standing], ask: &Ask, redirect: Option<u32>) -> Option<(u32, How)>
-    requires few { length rows.now ≤ 64 }
+    requires few { length rows.now ≤ MAX_MEMBERS }
     requires within { ForSome redirect (λ r. r < length rows.now) }
     ensures value { (d : Standing) → result ≡ redirected (serves_at rows.now d ask.now) redirect }
     ensures room { IfSome result (λ x. HasRoomAt rows.now x.0) }
@@ -66,7 +67,7 @@ fn redirected(rows: &[Standing], ask: &Ask, redirect: Option<u32>) -> Option<(u3
 
 // The session's member where it serves, else its redirect where that serves.
 fn routed(config: &LbConfig, rows: &[Standing], ask: &Ask) -> Option<(u32, How)>
-    requires few { length rows.now ≤ 64 }
+    requires few { length rows.now ≤ MAX_MEMBERS }
     requires whole { length rows.now ≡ length config.now.members }
     requires targets { (m : ℕ) (d : Standing) → m < length rows.now → IfSome (slice_index_or rows.now m d).redirect (λ r. r < length rows.now) }
     ensures value { (d : Standing) → result ≡ routed_at config.now rows.now d ask.now }
@@ -114,7 +115,7 @@ fn chosen(row: &Standing, member: u32, how: How, next: u64, revives: bool) -> Se
 
 // The least of those that may be revived, which rules 1 don't do.
 fn least_revivable(rules: Rules, rows: &[Standing], ask: &Ask, begin: usize) -> Option<usize>
-    requires few { length rows.now ≤ 64 }
+    requires few { length rows.now ≤ MAX_MEMBERS }
     ensures { IsRevivalOf (rules_number rules) rows.now ask.now begin result }
 {
     match rules {
@@ -131,7 +132,7 @@ fn balanced(
     ask: &Ask,
     next: u64,
 ) -> SelectAnswer
-    requires few { length rows.now ≤ 64 }
+    requires few { length rows.now ≤ MAX_MEMBERS }
     ensures pick { (config : LbConfig) (d : Standing) → IsOpenAt config rows.now d ask.now
         → IsPickAt (rules_number rules) config rows.now d last next ask.now result.answer }
     ensures revives { (d : Standing) → result.revives ≡ revives_at (rules_number rules) rows.now d ask.now result.answer }

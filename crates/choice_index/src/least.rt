@@ -1,10 +1,11 @@
 //! The least of the members that an ask may be given to.
 
-ghost use Rattle.std.specs.Prelude.{◌≡◌, ◌+◌, ◌<◌, ◌≤◌, ◌^◌, length};
+ghost use Rattle.std.specs.Prelude.{◌≡◌, ◌+◌, ◌<◌, ◌≤◌, length};
 ghost use Rattle.std.specs.Option.{ForSome};
 ghost use Rattle.jk_model.specs.Choice.{is_before_by, place_from};
 ghost use Rattle.choice_index.specs.Least.{IsLeastOf, improves};
 ghost use Rattle.choice_index.specs.declared.standing.Standing.{Standing};
+ghost use Rattle.jk_model.specs.declared.config.TheConstants.{MAX_MEMBERS};
 
 use crate::among::{Among, passes};
 use crate::standing::Standing;
@@ -12,8 +13,8 @@ use jk_model::Ask;
 
 // A member's place in the cyclic order that begins with `begin`.
 fn place_from(count: usize, begin: usize, member: usize) -> usize
-    requires few { count ≤ 64 }
-    requires within { member < 64 }
+    requires few { count ≤ MAX_MEMBERS }
+    requires within { member < MAX_MEMBERS }
     ensures { result ≡ place_from count begin member }
 {
     if member < begin {
@@ -34,7 +35,7 @@ fn is_before(a: &Standing, a_place: usize, b: &Standing, b_place: usize) -> bool
 
 // Row i goes before the best so far, or there is none yet.
 fn improves(rows: &[Standing], begin: usize, i: usize, best: Option<usize>) -> bool
-    requires few { length rows.now ≤ 64 }
+    requires few { length rows.now ≤ MAX_MEMBERS }
     requires within { i < length rows.now }
     requires best { ForSome best (λ b. b < length rows.now) }
     ensures { (d : Standing) → result ≡ improves rows.now begin i d best }
@@ -59,7 +60,7 @@ fn least_with(
     i: usize,
     best: Option<usize>,
 ) -> Option<usize>
-    requires few { length rows.now ≤ 64 }
+    requires few { length rows.now ≤ MAX_MEMBERS }
     requires within { i < length rows.now }
     requires best { IsLeastOf among rows.now ask.now begin i best }
     ensures { IsLeastOf among rows.now ask.now begin (i + 1) result }
@@ -76,7 +77,7 @@ fn least_with(
 
 /// The least of those rows, in the order that begins with row `begin`; `None` where there is none.
 pub(crate) fn least(among: Among, rows: &[Standing], ask: &Ask, begin: usize) -> Option<usize>
-    requires { length rows.now ≤ 64 }
+    requires { length rows.now ≤ MAX_MEMBERS }
     ensures value { IsLeastOf among rows.now ask.now begin (length rows.now) result }
 {
     let mut best: Option<usize> = None;

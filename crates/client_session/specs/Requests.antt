@@ -11,7 +11,8 @@ use Rattle.site_config.specs.declared.config.Config.{Config}
 use Rattle.site_config.specs.declared.config.Named.{Named}
 use Rattle.uri_map.specs.Mounts.{mount}
 use Rattle.uri_map.specs.declared.rule.Rule.{Rule}
-use Rattle.client_session.specs.declared.requests.TheConstants.{MAX_REQUESTS, MAX_BODY_BYTES}
+use Rattle.http_front.specs.declared.framing.TheConstants.{MAX_BODY_BYTES}
+use Rattle.client_session.specs.declared.requests.TheConstants.{MAX_REQUESTS}
 use Rattle.client_session.specs.declared.session_site.SessionSite.{SessionSite}
 
 -- The site, the number of the worker that serves, and the client.

@@ -8,9 +8,6 @@ use http_front::{BodyPlan, Head};
 /// The most requests of a session.
 pub const MAX_REQUESTS: u32 = 1_000;
 
-/// A chunked body has fewer bytes.
-pub const MAX_BODY_BYTES: u64 = 1 << 40;
-
 /// Whether the answer has a head alone.
 pub(crate) fn is_head(head: &Head) -> bool
     ensures { result ≡ is_head_of head.now }

@@ -1,5 +1,6 @@
 //! Rows of desks: of one thread over a Book that it owns, and over a Site behind its lock whose journal is cut.
 ghost use Rattle.std.specs.Prelude.{◌≡◌, []};
+ghost use Rattle.jk_model.specs.declared.segment.TheConstants.{MODERN_RULES};
 
 use crate::{plain, shared};
 use balancer_core::Book;
@@ -51,7 +52,7 @@ fn judge_over<R: AllocGlobal + Wait>(
     row: &str,
     shown: &mut String,
 ) -> Result<u64, NoMemory>
-    requires { (book.rules ≡ 2) × (book.added ≡ 0) × (book.entries ≡ []) }
+    requires { (book.rules ≡ MODERN_RULES) × (book.added ≡ 0) × (book.entries ≡ []) }
 {
     match over {
         Some(Over::Book) => plain::judge(rt.alloc(), book, row, shown),

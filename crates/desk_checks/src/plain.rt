@@ -1,5 +1,7 @@
 //! A desk of one thread.
-ghost use Rattle.std.specs.Prelude.{◌≡◌, ◌≤◌, ◌^◌, None, length};
+ghost use Rattle.std.specs.Prelude.{◌≡◌, ◌≤◌, None, length};
+ghost use Rattle.jk_model.specs.declared.segment.TheConstants.{MODERN_RULES};
+ghost use Rattle.jk_model.specs.declared.journal.TheConstants.{MOST_BYTES};
 
 use crate::exchanged::{FRESH, tell_once, tell_view};
 use balancer_checks::{Once, change_and_look, one_exchange};
@@ -21,7 +23,7 @@ struct PlainRow {
 }
 
 fn row_of(alloc: Global, book: Book) -> Result<PlainRow, NoMemory>
-    requires { book.rules ≡ 2 }
+    requires { book.rules ≡ MODERN_RULES }
 {
     let mut books = BookList::new(alloc);
     books.push(book)?;
@@ -59,7 +61,7 @@ impl PlainRow {
         outcome: Outcome,
         out: &mut Bytes,
     ) -> Result<bool, NoMemory>
-        requires { outcome.bytes ≤ 2 ^ 44 }
+        requires { outcome.bytes ≤ MOST_BYTES }
     {
         let once = one_exchange(&mut self.desk, 0, session, at, &FRESH, outcome);
         put_once(&once, out)
@@ -125,7 +127,7 @@ impl Teller for PlainRow {
 }
 
 pub fn judge(alloc: Global, book: Book, row: &str, shown: &mut String) -> Result<u64, NoMemory>
-    requires { book.rules ≡ 2 }
+    requires { book.rules ≡ MODERN_RULES }
 {
     judge_lines(alloc, &mut row_of(alloc, book)?, row, shown)
 }

@@ -1,7 +1,9 @@
 //! A desk over a Site behind its lock, whose journal is cut.
-ghost use Rattle.std.specs.Prelude.{◌≡◌, ◌<◌, ◌≤◌, ◌^◌, ◌∷◌, [], None, length};
+ghost use Rattle.std.specs.Prelude.{◌≡◌, ◌<◌, ◌≤◌, ◌∷◌, [], None, length};
 ghost use Rattle.balancer_core.specs.Journal.{next_number};
 ghost use Rattle.jk_model.specs.Journal.{members};
+ghost use Rattle.jk_model.specs.declared.segment.TheConstants.{MODERN_RULES};
+ghost use Rattle.jk_model.specs.declared.journal.TheConstants.{MOST_BYTES};
 
 use crate::exchanged::{FRESH, tell_once, tell_view};
 use crate::sites::site_of;
@@ -35,7 +37,7 @@ impl<'s, 'r, L: SiteName, R: Wait> SharedRow<'s, 'r, L, R> {
         outcome: Outcome,
         out: &mut Bytes,
     ) -> Result<bool, NoMemory>
-        requires { outcome.bytes ≤ 2 ^ 44 }
+        requires { outcome.bytes ≤ MOST_BYTES }
     {
         let once = one_exchange(&mut self.desk, 0, session, at, &FRESH, outcome);
         tell_once(&once, out)?;
@@ -180,7 +182,7 @@ pub fn judge<L: SiteName, R: AllocGlobal + Wait>(
     requires parts { (blank.parts ≡ L.parts) × (0 < L.parts) }
     requires sizes { members book.opening ∷ [] ≡ L.sizes }
     requires firsts { next_number book ∷ [] ≡ L.firsts }
-    requires fresh { (book.rules ≡ 2) × (book.added ≡ 0) × (book.entries ≡ []) }
+    requires fresh { (book.rules ≡ MODERN_RULES) × (book.added ≡ 0) × (book.entries ≡ []) }
     requires cuts { cut_at ≡ L.cut_at }
 {
     let (site, share) = site_of::<L>(rt.alloc(), blank, book)?;

@@ -93,9 +93,10 @@ fn put_last(shelf: &MemShelf, out: &mut Bytes) -> Result<bool, NoMemory> {
 }
 
 impl<L: SiteName> SiteRow<L> {
-    ghost use Rattle.std.specs.Prelude.{◌≡◌, ◌<◌, ◌≤◌, ◌^◌, IfSome, length};
+    ghost use Rattle.std.specs.Prelude.{◌≡◌, ◌<◌, ◌≤◌, IfSome, length};
     ghost use Rattle.balancer_core.specs.ToldBooks.{IsNoneDue};
     ghost use Rattle.locked_balancer.specs.Sites.{At};
+    ghost use Rattle.jk_model.specs.declared.journal.TheConstants.{MOST_BYTES};
 
     pub fn new(alloc: Global, site: Site<L>, share: Share<L>) -> SiteRow<L>
         requires one { length site ≡ 1 }
@@ -185,7 +186,7 @@ impl<L: SiteName> SiteRow<L> {
         out: &mut Bytes,
     ) -> Result<bool, NoMemory>
         requires own { lease.lb ≡ 0 }
-        requires bytes { outcome.bytes ≤ 2 ^ 44 }
+        requires bytes { outcome.bytes ≤ MOST_BYTES }
     {
         let back = self
             .site
@@ -200,7 +201,7 @@ impl<L: SiteName> SiteRow<L> {
         outcome: Outcome,
         out: &mut Bytes,
     ) -> Result<bool, NoMemory>
-        requires { outcome.bytes ≤ 2 ^ 44 }
+        requires { outcome.bytes ≤ MOST_BYTES }
     {
         match take(&mut self.leases, ticket) {
             Some(lease) => self.give_back(asked, lease, outcome, out),

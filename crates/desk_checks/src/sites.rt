@@ -2,6 +2,7 @@
 ghost use Rattle.std.specs.Prelude.{◌≡◌, ◌<◌, ◌∷◌, [], IfOk};
 ghost use Rattle.balancer_core.specs.Journal.{next_number};
 ghost use Rattle.jk_model.specs.Journal.{members};
+ghost use Rattle.jk_model.specs.declared.segment.TheConstants.{MODERN_RULES};
 
 use crate::desks::show_unread;
 use crate::site_row::SiteRow;
@@ -32,7 +33,7 @@ pub fn site_of<L: SiteName>(
     requires parts { blank.parts ≡ L.parts }
     requires sizes { members book.opening ∷ [] ≡ L.sizes }
     requires firsts { next_number book ∷ [] ≡ L.firsts }
-    requires fresh { (book.rules ≡ 2) × (book.added ≡ 0) × (book.entries ≡ []) }
+    requires fresh { (book.rules ≡ MODERN_RULES) × (book.added ≡ 0) × (book.entries ≡ []) }
     ensures { IfOk result (λ x. (x.0 ≡ book ∷ []) × (x.1.parts ≡ L.parts) × (x.1.amount ≡ 0)) }
 {
     Ok(Site::open(blank, list_of(alloc, book)?))
@@ -61,7 +62,7 @@ fn judge_site<L: SiteName, R: AllocGlobal>(
     requires parts { (blank.parts ≡ L.parts) × (0 < L.parts) }
     requires sizes { members book.opening ∷ [] ≡ L.sizes }
     requires firsts { next_number book ∷ [] ≡ L.firsts }
-    requires fresh { (book.rules ≡ 2) × (book.added ≡ 0) × (book.entries ≡ []) }
+    requires fresh { (book.rules ≡ MODERN_RULES) × (book.added ≡ 0) × (book.entries ≡ []) }
 {
     let (site, share) = site_of::<L>(rt.alloc(), blank, book)?;
     let asked = SiteRow::new(rt.alloc(), site, share);

@@ -8,17 +8,18 @@ use Rattle.drill.specs.Drills.{IsDrilled}
 use Rattle.drill.specs.Summaries.{IsJournalText, summary_text}
 use Rattle.drill.specs.declared.drill_error.DrillError.{DrillError}
 use Rattle.drill.specs.declared.drill_error.DrillError.TheVariants as error
+use Rattle.jk_model.specs.declared.segment.TheConstants.{MODERN_RULES}
 
 -- A Book of rules 2 with two members that began with number 0, and whose journal, replayed, gives each recorded answer.
 pub record IsOfDrill (b : Journal) : Type 0 where
-  pub rules : b.rules ≡ 2
+  pub rules : b.rules ≡ MODERN_RULES
   pub two : members b.opening ≡ 2
   pub numbered : next_number b ≡ b.added
   pub sound : IsSound b
 
 -- It has no entry yet.
 pub record IsStarted (b : Journal) : Type 0 where
-  pub rules : b.rules ≡ 2
+  pub rules : b.rules ≡ MODERN_RULES
   pub two : members b.opening ≡ 2
   pub first : next_number b ≡ 0
   pub added : b.added ≡ 0

@@ -5,6 +5,7 @@
 #![tactic(auto)]
 
 ghost use Rattle.std.specs.Prelude.{◌≤◌};
+ghost use Rattle.drill.specs.declared.plan.TheConstants.{MAX_REQUESTS, MAX_THREADS};
 
 use drill::{DrillError, run_drill};
 use jk_io::{StdOut, write_all};
@@ -28,8 +29,8 @@ fn show<R: Threads + Wait + Sync + Print + AllocGlobal>(
     requests: u32,
     text: bool,
 ) -> bool
-    requires threads { (1 ≤ threads) × (threads ≤ 64) }
-    requires requests { (1 ≤ requests) × (requests ≤ 1000000) }
+    requires threads { (1 ≤ threads) × (threads ≤ MAX_THREADS) }
+    requires requests { (1 ≤ requests) × (requests ≤ MAX_REQUESTS) }
 {
     let mut out = StdOut::new(rt);
     match run_drill(rt, rt.alloc(), seed, threads, requests, text, false) {

@@ -17,6 +17,7 @@ use Rattle.exchange.specs.Requests.{Errand, plan_for}
 use Rattle.exchange.specs.Rounds.{Scene}
 use Rattle.exchange.specs.declared.ending.ExchangeEnd.{ExchangeEnd}
 use Rattle.exchange.specs.declared.ending.ExchangeEnd.TheVariants as exchange_end
+use Rattle.http_front.specs.declared.framing.TheConstants.{MAX_BODY_BYTES}
 
 -- the plan of a noted talk, where the request's body has this data
 abbrev pub plan_of_note : Errand → Data → MemberConfig → Endpoint → Talk → TalkPlan
@@ -44,7 +45,7 @@ pub record HasWhole (q : Errand) (s n : Scene) (t : Talk) (all : List Message) :
   pub comes : t.came ≡ Some ((pong_of (plan_of_note q data' config endpoint t) ++ reply) ++ more)
   pub is : IsReply (plan_of_note q data' config endpoint t) all reply
   pub unlisted : IsUnlisted (plan_of_note q data' config endpoint t) all
-  pub below : length (pong_of (plan_of_note q data' config endpoint t) ++ reply) < 1099511627776
+  pub below : length (pong_of (plan_of_note q data' config endpoint t) ++ reply) < MAX_BODY_BYTES
   pub reach : Rose s.around.faults n.around.faults → ⊥
   pub client : Rose s.around.client.faults n.around.client.faults → ⊥
   pub strays : Rose s.desk.strays n.desk.strays → ⊥

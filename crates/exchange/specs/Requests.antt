@@ -17,6 +17,7 @@ use Rattle.sticky_routes.specs.Routes.{routed_of}
 use Rattle.jk_model.specs.declared.ask.Terms.{Terms}
 use Rattle.site_config.specs.declared.balancer.Lb.{Lb}
 use Rattle.exchange.specs.declared.request.Request.{Request}
+use Rattle.http_front.specs.declared.framing.TheConstants.{MAX_BODY_BYTES}
 
 -- What an exchange is to do: a client's request, and the balancer where it is mounted.
 pub record Errand : Type 0 where
@@ -91,7 +92,7 @@ plan_for q first member endpoint = record {
   piece = piece_for endpoint;
   packet = endpoint.packet;
   ping = false;
-  most = 1099511627776;
+  most = MAX_BODY_BYTES;
   old = q.head.old;
   head_only = is_head q.head;
   last = q.last;

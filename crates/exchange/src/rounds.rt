@@ -1,5 +1,5 @@
 //! One round: the desk is asked, talks are held, the lease goes back.
-ghost use Rattle.std.specs.Prelude.{◌≡◌, ℕ, ◌≤◌, ◌<◌, ◌^◌, false, true, None, Some, List, length, slice_get, slice_index, IfSome, IsSome, IfOk, IfErr};
+ghost use Rattle.std.specs.Prelude.{◌≡◌, ℕ, ◌≤◌, ◌<◌, false, true, None, Some, List, length, slice_get, slice_index, IfSome, IsSome, IfOk, IfErr};
 ghost use Rattle.http_body_in.specs.State.{failed_of, taken_of};
 ghost use Rattle.http_out.specs.Own.{own_of};
 ghost use Rattle.jk_model.specs.Free.{is_in};
@@ -12,6 +12,7 @@ ghost use Rattle.exchange.specs.Rounds.{IsDeskAfter};
 ghost use Rattle.exchange.specs.Ends.{outcome_for};
 ghost use Rattle.exchange.specs.Steps.{HandsBack, IsNoLease, IsStep};
 ghost use Rattle.exchange.specs.Talks.{HasRun};
+ghost use Rattle.jk_model.specs.declared.journal.TheConstants.{MOST_BYTES};
 
 use crate::ending::{ExchangeEnd, Ran, RoundVerdict};
 use crate::planning::plan_for;
@@ -93,7 +94,7 @@ fn give_back<B: Desk>(
 ) -> RoundVerdict
     requires caller { IfSome (B.state desk.old).caller (λ n. request.now.session ≡ n) }
     requires held { holds (B.state desk.old).held (pair_of (B.note lease)) ≡ true }
-    requires bytes { (outcome_for to.now.endpoint.now ran).bytes ≤ 2 ^ 44 }
+    requires bytes { (outcome_for to.now.endpoint.now ran).bytes ≤ MOST_BYTES }
     ensures back { HandsBack (B.state desk.old) (B.state desk.new) request.now.session at (B.note lease)
         to.now.endpoint.now request.now.head.now to.now.member ran result }
     ensures kept { KeepsDesk (B.state desk.old) (B.state desk.new) }

@@ -1,5 +1,5 @@
 //! The talks of one round.
-ghost use Rattle.std.specs.Prelude.{◌≡◌, ◌≤◌, ◌<◌, ◌^◌, false, None, length, slice_index};
+ghost use Rattle.std.specs.Prelude.{◌≡◌, ◌≤◌, ◌<◌, false, None, length, slice_index};
 ghost use Rattle.http_body_in.specs.State.{failed_of, taken_of};
 ghost use Rattle.ajp_talk.specs.Ends.{IsPlan};
 ghost use Rattle.exchange.specs.Means.{AreSameSides, around_of};
@@ -15,16 +15,14 @@ use crate::target::Target;
 use crate::verdicts::{bytes_of, tries_again};
 use ajp_talk::{TalkEnd, TalkPlan};
 use jk_io::{Link, NoMemory, Reach};
+use jk_model::MOST_BYTES;
 use std::alloc::Global;
-
-/// The most bytes that a lease tells.
-const MOST_TOLD: u64 = 1 << 44;
 
 /// The bytes so far and those of one more talk.
 fn with_talk(bytes: u64, end: TalkEnd) -> u64
-    ensures { result ≡ min (bytes + bytes_in end) 17592186044416 }
+    ensures { result ≡ min (bytes + bytes_in end) MOST_BYTES }
 {
-    bytes.saturating_add(bytes_of(end)).min(MOST_TOLD)
+    bytes.saturating_add(bytes_of(end)).min(MOST_BYTES)
 }
 
 /// Holds talks on a member until one doesn't fail, or none may follow it. The first one is on a newly dialled link where

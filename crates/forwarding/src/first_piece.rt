@@ -1,6 +1,7 @@
 //! How much of a body is sent right behind the Forward Request.
 ghost use Rattle.std.specs.Prelude.{◌≡◌, ◌≤◌};
 ghost use Rattle.forwarding.specs.FirstPiece.{first_len as first_len_of, piece_for};
+ghost use Rattle.ajp_wire.specs.declared.writing.TheConstants.{MAX_PIECE_BYTES};
 
 use http_front::BodyPlan;
 use site_config::{EndList, Endpoint};
@@ -8,11 +9,14 @@ use site_config::{EndList, Endpoint};
 /// What of a body packet isn't data: the packet's head, and the data's length.
 const PIECE_FRAME: u32 = 6;
 
+/// The least limit of a piece: that of a packet of 8,192 bytes.
+pub const MIN_PIECE_BYTES: u32 = 8_186;
+
 /// The most bytes of data that a body packet for this member holds.
 pub fn piece_of(endpoint: &Endpoint) -> u32
     ensures value { result ≡ piece_for endpoint.now }
-    ensures some { 8186 ≤ result }
-    ensures most { result ≤ 65530 }
+    ensures some { MIN_PIECE_BYTES ≤ result }
+    ensures most { result ≤ MAX_PIECE_BYTES }
 {
     endpoint.packet - PIECE_FRAME
 }

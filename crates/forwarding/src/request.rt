@@ -4,6 +4,7 @@ ghost use Rattle.ajp_wire.specs.declared.errors.EncodeError.{EncodeError as AnyE
 ghost use Rattle.ajp_request.specs.Writing.{Fits, IsForward, as_read, payload_of};
 ghost use Rattle.ajp_request.specs.Spelling.{SpellsForward};
 ghost use Rattle.forwarding.specs.Forwards.{forward_for, line_for, packet_for, protocol_of as protocol_text};
+ghost use Rattle.ajp_wire.specs.declared.head_pairs.TheConstants.{MAX_HEADERS};
 
 use crate::attributes::{attributes_for, route_for};
 use ajp_request::{Forward, encode_forward};
@@ -101,7 +102,7 @@ fn protocol_of(old: bool) -> &'static [u8]
 
 fn headers_of(alloc: Global, lines: &HeadLines) -> Result<HeadPairs, NoMemory>
     ensures value { IfOk result (λ pairs. pairs ≡ map line_for lines.now) }
-    ensures few { IfOk result (λ pairs. length pairs ≤ 100) }
+    ensures few { IfOk result (λ pairs. length pairs ≤ MAX_HEADERS) }
 {
     let mut pairs = Vec::with_capacity(alloc, lines.len())?;
     for line in lines.as_slice() {

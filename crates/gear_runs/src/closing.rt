@@ -9,6 +9,7 @@ ghost use Rattle.worker_gears.specs.Gears.{gear_side};
 ghost use Rattle.gear_runs.specs.Closings.{Closes, firsts_of};
 ghost use Rattle.gear_runs.specs.Parts.{gear_with, gears_with, tools};
 ghost use Rattle.gear_runs.specs.Shelved.{AddsCuts, ToFirst};
+ghost use Rattle.jk_model.specs.declared.config.TheConstants.{MAX_BALANCERS};
 
 use crate::ends::{Closing, SiteRun};
 use crate::parts::{Left, Ran};
@@ -103,7 +104,7 @@ fn close_books<
     gears: &mut Vec<Gear<D, G, T, K, S, O>>,
 ) -> Closing<L>
     requires some { 0 < length closed.shelves }
-    requires few { length closed.books ≤ 1024 }
+    requires few { length closed.books ≤ MAX_BALANCERS }
     requires none { gears.old.items ≡ [] }
     requires paired { vec_len left ≡ length closed.shelves }
     requires room { vec_len left ≤ vec_capacity gears.old }
@@ -130,7 +131,7 @@ fn close_books<
 /// Keeps the last segments on the first of the shelves.
 fn keep_on_first<S: Shelf>(books: BookList, shelves: &mut [S]) -> Result<(), IoError>
     requires some { 0 < length shelves.old }
-    requires few { length books ≤ 1024 }
+    requires few { length books ≤ MAX_BALANCERS }
     ensures kept { OnOk result (ToFirst (AddsCuts S.shelved books) shelves.old shelves.new) }
     ensures failed { IsErrOf result IoError.Failed → ToFirst (λ old new. Rose (S.faults old) (S.faults new)) shelves.old shelves.new }
     ensures len { length shelves.new ≡ length shelves.old }
@@ -140,7 +141,7 @@ fn keep_on_first<S: Shelf>(books: BookList, shelves: &mut [S]) -> Result<(), IoE
 
 /// Cuts each Book once more, in order, and keeps its segment.
 fn keep_rest<S: Shelf>(books: BookList, shelf: &mut S) -> Result<(), IoError>
-    requires few { length books ≤ 1024 }
+    requires few { length books ≤ MAX_BALANCERS }
     ensures kept { OnOk result (AddsCuts S.shelved books shelf.old shelf.new) }
     ensures failed { IsErrOf result IoError.Failed → Rose (S.faults shelf.old) (S.faults shelf.new) }
 {

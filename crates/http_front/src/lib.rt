@@ -24,6 +24,7 @@ mod path;
 mod reading;
 
 pub use answers::{Form, HeadError, HeadGot, PathError};
+pub use framing::MAX_BODY_BYTES;
 pub use head::{BodyPlan, Head};
 pub use head_lines::{HeadLines, MAX_HEAD_LINES};
 pub use inbox::{Inbox, MAX_HEAD_BYTES};

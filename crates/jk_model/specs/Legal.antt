@@ -15,6 +15,8 @@ use Rattle.jk_model.specs.declared.journal.Call.{Call}
 use Rattle.jk_model.specs.declared.journal.Call.TheVariants as call
 use Rattle.jk_model.specs.declared.journal.Entry.{Entry}
 use Rattle.jk_model.specs.declared.opening.Opening.{Opening}
+use Rattle.jk_model.specs.declared.journal.TheConstants.{MOST_BYTES}
+use Rattle.jk_model.specs.declared.validity.TheConstants.{MOST_NUMBERS}
 
 -- How many numbers a call takes from those that the Returns don't need: its own, and for a Select that of its Return.
 abbrev pub taken_by : Call → ℕ
@@ -73,7 +75,7 @@ KnowsTerms v ask = v ≡ 1 → (ask.disabled ≡ 0) × (ask.stopped ≡ 0)
 -- The answer of an entry follows from the entries before it.
 abbrev pub IsAnswered : ℕ → Opening → List Entry → Entry → Call → Type 0
 IsAnswered v o p e (call.Select ask) = IsPick v o p ask e.answer × KnowsTerms v ask
-IsAnswered v o p e (call.Return t w) = (is_out o p t ≡ true) × (w.bytes ≤ 2 ^ 44) × (e.answer ≡ answer.Done)
+IsAnswered v o p e (call.Return t w) = (is_out o p t ≡ true) × (w.bytes ≤ MOST_BYTES) × (e.answer ≡ answer.Done)
 IsAnswered v o p e call.Maintain = (maintained_of o p + o.config.maintain ≤ e.at) × (e.answer ≡ answer.Done)
 IsAnswered v o p e (call.Admin c) = IsDoable o p c × (e.answer ≡ answer.Done)
 
@@ -81,7 +83,7 @@ IsAnswered v o p e (call.Admin c) = IsDoable o p c × (e.answer ≡ answer.Done)
 pub record IsNext (v : ℕ) (o : Opening) (p : List Entry) (e : Entry) : Type 0 where
   pub number : e.seq ≡ next_of o p
   pub moment : moment_of o p ≤ e.at
-  pub room : e.seq + length (out o p) + taken_by e.call ≤ 2 ^ 48
+  pub room : e.seq + length (out o p) + taken_by e.call ≤ MOST_NUMBERS
   pub answered : IsAnswered v o p e e.call
 
 -- A legal history whose entries are p, newest first.

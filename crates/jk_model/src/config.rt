@@ -9,6 +9,15 @@ use crate::member::{MemberConfig, MemberList, Method};
 use jk_io::{ListOf, NoMemory};
 use std::alloc::Global;
 
+/// The most members of a balancer.
+pub const MAX_MEMBERS: usize = 64;
+
+/// The most balancers of a site.
+pub const MAX_BALANCERS: usize = 1024;
+
+/// The most seconds of a period: a day.
+pub const MAX_PERIOD_SECONDS: u64 = 86_400;
+
 /// A balancer's configuration, each value in its range.
 #[derive(Debug, Drop)]
 pub struct LbConfig {
@@ -52,7 +61,7 @@ fn is_in_range(members: u32, index: u32, member: &MemberConfig) -> bool
 fn is_period(seconds: u64) -> bool
     ensures value { IsTrue result ↔ IsPeriod seconds }
 {
-    seconds >= 1 && seconds <= 86400
+    seconds >= 1 && seconds <= MAX_PERIOD_SECONDS
 }
 
 fn are_periods(maintain: u64, recover: u64) -> bool
@@ -127,7 +136,7 @@ impl LbConfig {
         if members.is_empty() {
             return Err(ConfigError::NoMembers);
         }
-        if members.len() > 64 {
+        if members.len() > MAX_MEMBERS {
             return Err(ConfigError::TooMany);
         }
         if let Some(index) = first_bad(members.as_slice()) {

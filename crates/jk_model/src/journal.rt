@@ -2,6 +2,9 @@ use crate::ask::Ask;
 use crate::change::Command;
 use jk_io::ListOf;
 
+/// The most bytes that an outcome tells.
+pub const MOST_BYTES: u64 = 1 << 44;
+
 /// How an exchange with a member ended.
 #[derive(Clone, Copy, Debug, PartialEq, Eq)]
 pub enum Kind {

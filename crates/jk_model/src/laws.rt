@@ -1,7 +1,7 @@
 //! What the definitions mean, as functions without a body whose contracts are laws.
 //!
 //! A past is written oldest first, as a journal keeps it. `rules` is 1 or 2.
-ghost use Rattle.std.specs.Prelude.{◌≡◌, ℕ, Bool, ◌+◌, ◌<◌, ◌≤◌, ◌==◌, ◌&&◌, ◌^◌, length, true, false, ◌∷◌, ◌++◌, reverse, sum_by};
+ghost use Rattle.std.specs.Prelude.{◌≡◌, ℕ, Bool, ◌+◌, ◌<◌, ◌≤◌, ◌==◌, ◌&&◌, length, true, false, ◌∷◌, ◌++◌, reverse, sum_by};
 ghost use Rattle.std.specs.List.{list_any};
 ghost use Rattle.jk_model.specs.Choice.{IsPick};
 ghost use Rattle.jk_model.specs.Journal.{members, next_of};
@@ -12,6 +12,7 @@ ghost use Rattle.jk_model.specs.Settings.{pool_of};
 ghost use Rattle.jk_model.specs.States.{state_of};
 ghost use Rattle.jk_model.specs.Tickets.{busy_of, gives_back, is_out, out};
 ghost use Rattle.jk_model.specs.Touches.{Untouched, gives, touches};
+ghost use Rattle.jk_model.specs.declared.validity.TheConstants.{MOST_NUMBERS};
 
 use crate::ask::Ask;
 use crate::journal::{Answer, Call, Entry, How};
@@ -82,7 +83,7 @@ pub fn history_is_bounded(rules: u8, opening: &Opening, past: &[Entry], member: 
     ensures busy { busy_of opening.now (reverse past.now) member ≤ pool_of opening.now member }
     ensures trial { (t : ℕ) → state_of rules opening.now (reverse past.now) member ≡ MemberState.Probe t
         → list_any (λ x. (x.0 == t) && (x.1 == member)) (out opening.now (reverse past.now)) ≡ true }
-    ensures room { next_of opening.now (reverse past.now) + length (out opening.now (reverse past.now)) ≤ 2 ^ 48 }
+    ensures room { next_of opening.now (reverse past.now) + length (out opening.now (reverse past.now)) ≤ MOST_NUMBERS }
 {}
 
 /// Halving twice is halving by the sum, and halving keeps order.

@@ -4,6 +4,9 @@ ghost use Rattle.jk_model.specs.Validity.{IsOpening};
 use crate::journal::EntryList;
 use crate::opening::Opening;
 
+/// The rules of a new journal. Those of number 1 are there for old texts.
+pub const MODERN_RULES: u8 = 2;
+
 /// A part of a journal: an opening and the entries after it, oldest first.
 #[derive(Debug, Drop)]
 pub struct Segment {

@@ -10,10 +10,11 @@ use crate::opening::Opening;
 use crate::state::MemberState;
 use crate::view::MemberRow;
 
-const MOST_NUMBERS: u64 = 1 << 48;
+/// The most numbers of a journal: those of its entries, with one for each ticket that is out.
+pub const MOST_NUMBERS: u64 = 1 << 48;
 
 pub(crate) fn has_room(next: u64, out: usize) -> bool
-    ensures value { IsTrue result ↔ (next + out ≤ 2 ^ 48) }
+    ensures value { IsTrue result ↔ (next + out ≤ MOST_NUMBERS) }
 {
     next <= MOST_NUMBERS && out as u64 <= MOST_NUMBERS - next
 }
@@ -89,7 +90,7 @@ fn is_busy(opening: &Opening, index: u32, busy: u32, pool: u32) -> bool
 
 // `running` is the load of the tickets that are out.
 fn is_load(opening: &Opening, running: u64, load: u128) -> bool
-    requires room { opening.now.next ≤ 2 ^ 48 }
+    requires room { opening.now.next ≤ MOST_NUMBERS }
     ensures value { IsTrue result ↔ ((load ≤ opening.now.next * 2 ^ 76) × IsRunning opening.now.config.method running load) }
 {
     load <= u128::from(opening.next) << 76 && is_running(opening.config.method, running, load)
@@ -104,7 +105,7 @@ fn is_opening_row(
 ) -> bool
     requires factor { 1 ≤ member.now.factor }
     requires common { common ≡ multiple_of (factors_in opening.now.config.members) }
-    requires room { opening.now.next ≤ 2 ^ 48 }
+    requires room { opening.now.next ≤ MOST_NUMBERS }
     ensures value { IsTrue result ↔ IsOpeningRow opening.now index member.now row.now }
 {
     let running = u64::from(row.busy) * u64::from(common / member.factor);
@@ -115,7 +116,7 @@ fn is_opening_row(
 }
 
 pub(crate) fn are_opening_rows(opening: &Opening) -> bool
-    requires room { opening.now.next ≤ 2 ^ 48 }
+    requires room { opening.now.next ≤ MOST_NUMBERS }
     ensures value { IsTrue result ↔ AreOpeningRows opening.now }
 {
     let members = opening.config.members.as_slice();

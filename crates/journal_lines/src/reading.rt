@@ -1,5 +1,5 @@
 //! Single words of a line, each taken off the front.
-ghost use Rattle.std.specs.Prelude.{◌≡◌, ◌≤◌, ◌^◌, IfSome};
+ghost use Rattle.std.specs.Prelude.{◌≡◌, ◌≤◌, IfSome};
 ghost use Rattle.std.specs.Str.{bytes_eq};
 ghost use Rattle.jk_io.specs.Decimals.{decimal_of};
 ghost use Rattle.jk_model.specs.Segments.{AreRules};
@@ -9,11 +9,8 @@ ghost use Rattle.journal_lines.specs.Wide.{wide_number};
 
 use crate::wide::wide_number;
 use jk_io::parse_decimal;
-use jk_model::{Activation, How, Kind, MemberState, Method, Redirect};
+use jk_model::{Activation, How, Kind, MOST_BYTES, MemberState, Method, Redirect};
 use play_script::Parts;
-
-/// The most bytes that one exchange moves.
-const MOST_BYTES: u64 = 1 << 44;
 
 /// Nothing, where no word is left.
 pub(crate) fn end(words: &mut Parts) -> Option<()>
@@ -71,7 +68,7 @@ pub(crate) fn short_in(words: &mut Parts) -> Option<u32>
 pub(crate) fn bytes_in(words: &mut Parts) -> Option<u64>
     ensures value { result ≡ first byte_count words.old }
     ensures past { words.new ≡ later words.old }
-    ensures small { IfSome result (λ n. n ≤ 2 ^ 44) }
+    ensures small { IfSome result (λ n. n ≤ MOST_BYTES) }
 {
     number_up_to(MOST_BYTES, words.next()?)
 }

@@ -2,6 +2,7 @@
 ghost use Rattle.std.specs.Prelude.{◌≤◌, All, length, IfOk};
 ghost use Rattle.journal_text.specs.Kept.{IsKept};
 ghost use Rattle.journal_text.specs.Reading.{ReadsText, Tells};
+ghost use Rattle.jk_io.specs.declared.whole_input.TheConstants.{MAX_INPUT_BYTES};
 
 use crate::counted::CountedList;
 use crate::reader::Reader;
@@ -11,7 +12,7 @@ use std::alloc::Global;
 
 /// The segments of a text, each with the count of its last line.
 pub(crate) fn read_counted(alloc: Global, text: &[u8]) -> Result<CountedList, TextError>
-    requires { length text.now ≤ 67108864 }
+    requires { length text.now ≤ MAX_INPUT_BYTES }
     ensures value { Tells result (ReadsText text.now) }
     ensures sound { IfOk result (All IsKept) }
 {

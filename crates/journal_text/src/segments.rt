@@ -2,6 +2,7 @@
 ghost use Rattle.std.specs.Prelude.{◌≡◌, ◌≤◌, All, length, reverse, IfOk};
 ghost use Rattle.journal_text.specs.Kept.{IsKept};
 ghost use Rattle.journal_text.specs.Pairs.{ArePairsOf, IsPairOf, IsReadAs};
+ghost use Rattle.jk_io.specs.declared.whole_input.TheConstants.{MAX_INPUT_BYTES};
 
 use crate::counted::{Counted, CountedList, SegmentList};
 use crate::reading::read_counted;
@@ -45,7 +46,7 @@ fn segments_of(alloc: Global, counted: CountedList) -> Result<Vec<(Bytes, Segmen
 /// The segments that a text spells, each with the name of its balancer, in order. The counts of their last lines may
 /// be wrong, and so may their entries: whether they are is not looked at.
 pub fn read_segments(alloc: Global, text: &[u8]) -> Result<SegmentList, TextError>
-    requires { length text.now ≤ 67108864 }
+    requires { length text.now ≤ MAX_INPUT_BYTES }
     ensures read { IsReadAs text.now result }
 {
     let counted = read_counted(alloc, text)?;

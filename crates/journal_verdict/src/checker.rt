@@ -62,6 +62,7 @@ impl Checker {
     ghost use Rattle.journal_text.specs.declared.counted.Counted.{Counted};
     ghost use Rattle.journal_verdict.specs.Checkers.{Advances, EndsBy, HasTaken, Judged, RefusesLine};
     ghost use Rattle.journal_verdict.specs.Checks.{HasRoom, verdict_of};
+    ghost use Rattle.jk_io.specs.declared.whole_input.TheConstants.{MAX_INPUT_BYTES};
 
     /// Before the first line.
     pub(crate) fn new(alloc: Global) -> Checker
@@ -113,7 +114,7 @@ impl Checker {
     /// Takes the text of a line, without its LF.
     pub(crate) fn take(self, alloc: Global, text: &[u8]) -> Result<Checker, TextError>
         requires taken { (done : List Counted) × HasTaken self done }
-        requires few { self.number ≤ 67108866 }
+        requires few { self.number ≤ MAX_INPUT_BYTES + 2 }
         ensures ok { IfOk result (Advances self text.now) }
         ensures number { IfOk result (λ new. new.number ≡ self.number + 1) }
         ensures err { IfErr result (RefusesLine self text.now) }

@@ -1,6 +1,7 @@
 //! `check_journal`: a text, checked once over from its front.
 ghost use Rattle.std.specs.Prelude.{◌≤◌, length};
 ghost use Rattle.journal_verdict.specs.Verdicts.{IsChecked};
+ghost use Rattle.jk_io.specs.declared.whole_input.TheConstants.{MAX_INPUT_BYTES};
 
 use crate::checker::Checker;
 use crate::ruling::Verdict;
@@ -12,7 +13,7 @@ use std::alloc::Global;
 /// opening is where the former segment ended, under the same name. Else the first line that differs. A line that can't
 /// be read goes before all that.
 pub fn check_journal(alloc: Global, text: &[u8]) -> Result<Verdict, TextError>
-    requires { length text.now ≤ 67108864 }
+    requires { length text.now ≤ MAX_INPUT_BYTES }
     ensures { IsChecked text.now result }
 {
     let mut lines = Parts::of(b'\n', text);

@@ -1,5 +1,5 @@
 -- What one hold of the lock does: a Maintain where one is due, and then a call, on one Book.
-use Rattle.std.specs.Prelude.{◌≡◌, ℕ, ◌+◌, ◌^◌, ◌<◌, ◌≤◌, ◌⊎◌, Bool, false, List, [], ◌∷◌, ◌++◌, length, sum_by, Option, Some, None, slice_get, slice_index, slice_set}
+use Rattle.std.specs.Prelude.{◌≡◌, ℕ, ◌+◌, ◌<◌, ◌≤◌, ◌⊎◌, Bool, false, List, [], ◌∷◌, ◌++◌, length, sum_by, Option, Some, None, slice_get, slice_index, slice_set}
 use Rattle.std.specs.List.{All}
 use Rattle.jk_model.specs.Free.{is_in}
 use Rattle.jk_model.specs.Legal.{HasValues}
@@ -29,6 +29,7 @@ use Rattle.locked_balancer.specs.Shelves.{CutsAt}
 use Rattle.locked_balancer.specs.Sites.{AreSited, At}
 use Rattle.locked_balancer.specs.declared.site.MarkKind.{MarkKind}
 use Rattle.locked_balancer.specs.declared.site.MarkKind.TheVariants as refusal
+use Rattle.jk_model.specs.declared.validity.TheConstants.{MOST_NUMBERS}
 
 -- How many tickets may be out in a Book at a time.
 abbrev pub pools_of : Journal → ℕ
@@ -168,7 +169,7 @@ pub record IsMark (lb : ℕ) (why : MarkKind) (mark : MarkNote) : Type 0 where
   pub refusal : mark.refusal ≡ why
 
 abbrev pub IsFullMark : (lb more : ℕ) → MarkNote → Type 0
-IsFullMark lb more mark = IsMark lb refusal.Full mark × (2 ^ 48 < mark.numbers.next + mark.numbers.out + more)
+IsFullMark lb more mark = IsMark lb refusal.Full mark × (MOST_NUMBERS < mark.numbers.next + mark.numbers.out + more)
 
 abbrev pub IsRoomMark : (lb more : ℕ) → RoomError MarkNote → Type 0
 IsRoomMark lb more (room.Full mark) = IsFullMark lb more mark

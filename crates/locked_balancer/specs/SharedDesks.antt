@@ -1,5 +1,5 @@
 -- What is told of a desk over a Site that is shared, and what it keeps.
-use Rattle.std.specs.Prelude.{◌≡◌, ℕ, suc, true, false, drop, slice_index_or, ◌+◌, ◌^◌, ◌<◌, ◌≤◌, ◌⊎◌, ◌↔◌, Bool, List, [], ◌∷◌, length, Option, Some, None, IfSome, IsSome, Result, Ok, Err}
+use Rattle.std.specs.Prelude.{◌≡◌, ℕ, suc, true, false, drop, slice_index_or, ◌+◌, ◌<◌, ◌≤◌, ◌⊎◌, ◌↔◌, Bool, List, [], ◌∷◌, length, Option, Some, None, IfSome, IsSome, Result, Ok, Err}
 use Rattle.std.specs.List.{All}
 use Rattle.jk_io.specs.Told.{Rose, appended}
 use Rattle.jk_model.specs.Legal.{IsLegal}
@@ -15,6 +15,7 @@ use Rattle.balancer_core.specs.declared.desk.Choice.{Choice}
 use Rattle.balancer_core.specs.declared.desk.Choice.TheVariants as choice
 use Rattle.balancer_core.specs.declared.receipt.Receipt.{Receipt}
 use Rattle.locked_balancer.specs.Notes.{MarkNote, StrayNote}
+use Rattle.locked_balancer.specs.declared.site.TheConstants.{MOST_ENTRIES}
 
 -- A desk over a shared Site: what each desk tells, its shelf, how many receipts it forgot, for how many segments the
 -- shelf wanted memory, and the stray that it met first since the last was taken.
@@ -92,7 +93,7 @@ AreKnown n held = All (λ x. x.0 < n) held
 pub record IsShared (n : ℕ) (receipts : List Receipt) (held : List (ℕ × ℕ)) (parts amount forgotten room : ℕ) : Type 0 where
   pub part : 0 < parts
   pub counted : amount ≡ length receipts + forgotten
-  pub few : amount ≤ 2 ^ 58
+  pub few : amount ≤ MOST_ENTRIES
   pub known : AreKnown n held
   pub roomy : length receipts + length held ≤ room
 

@@ -15,6 +15,7 @@ use Rattle.balancer_core.specs.Journal.{Journal, next_number, past_of, tickets_o
 use Rattle.locked_balancer.specs.Notes.{MarkNote}
 use Rattle.locked_balancer.specs.declared.site.MarkKind.{MarkKind}
 use Rattle.locked_balancer.specs.declared.site.MarkKind.TheVariants as refusal
+use Rattle.jk_model.specs.declared.validity.TheConstants.{MOST_NUMBERS}
 
 -- The mark is of this refusal of balancer lb, and has the numbers of its Book.
 pub record IsMarkOf (lb : ℕ) (why : MarkKind) (b : Journal) (mark : MarkNote) : Type 0 where
@@ -25,10 +26,10 @@ pub record IsMarkOf (lb : ℕ) (why : MarkKind) (b : Journal) (mark : MarkNote) 
 
 -- So many numbers are left beside those of the Returns to come.
 abbrev pub HasRoom : (more : ℕ) → Journal → Type 0
-HasRoom more b = next_number b + tickets_out b + more ≤ 2 ^ 48
+HasRoom more b = next_number b + tickets_out b + more ≤ MOST_NUMBERS
 
 abbrev pub IsFullAt : (lb more : ℕ) → Journal → MarkNote → Type 0
-IsFullAt lb more b mark = (2 ^ 48 < next_number b + tickets_out b + more) × IsMarkOf lb refusal.Full b mark
+IsFullAt lb more b mark = (MOST_NUMBERS < next_number b + tickets_out b + more) × IsMarkOf lb refusal.Full b mark
 
 -- Full comes exactly where so many numbers aren't left.
 abbrev pub IsRoomAt : {T : Type 0} → (lb more : ℕ) → Journal → Result T (RoomError MarkNote) → Type 0

@@ -6,6 +6,7 @@ use Rattle.balancer_core.specs.Journal.{Journal, next_number}
 use Rattle.balancer_core.specs.PlainDesks.{AreLegal, AreModern}
 use Rattle.balancer_core.specs.ToldBooks.{IsNextAt, grown_by, sizes_of}
 use Rattle.balancer_core.specs.declared.receipt.Receipt.{Receipt}
+use Rattle.jk_model.specs.declared.config.TheConstants.{MAX_BALANCERS}
 
 -- How many entries the Books ever added.
 abbrev pub added_in : List Journal → ℕ
@@ -29,7 +30,7 @@ pub record AreSited (sizes firsts : List ℕ) (books : List Journal) : Type 0 wh
   pub numbered : AreNumbered firsts books
   pub modern : AreModern books
   pub sound : AreLegal books
-  pub few : length books ≤ 1024
+  pub few : length books ≤ MAX_BALANCERS
 
 -- The call of a session at a moment added the entry of this receipt to the Book of balancer lb. It may follow those
 -- before it, and has the greater of this moment and theirs. No other Book changed.

@@ -1,5 +1,5 @@
 //! One hold of the lock, over what a desk keeps: its receipts, the pairs that it holds, and its share.
-ghost use Rattle.std.specs.Prelude.{◌≡◌, None, ◌++◌, ◌+◌, ◌<◌, ◌≤◌, ◌^◌, true, length, slice_index, vec_len, vec_capacity, IfOk, IfErr, IfSome, IsErrOf, OnOk, OnErr};
+ghost use Rattle.std.specs.Prelude.{◌≡◌, None, ◌++◌, ◌+◌, ◌<◌, ◌≤◌, true, length, slice_index, vec_len, vec_capacity, IfOk, IfErr, IfSome, IsErrOf, OnOk, OnErr};
 ghost use Rattle.jk_model.specs.Present.{IsPresent};
 ghost use Rattle.balancer_core.specs.Journal.{Journal, past_of};
 ghost use Rattle.balancer_core.specs.ToldBooks.{IsFound};
@@ -15,6 +15,8 @@ ghost use Rattle.locked_balancer.specs.SharedLists.{
   ListsTakeBack,
   lists,
 };
+ghost use Rattle.jk_model.specs.declared.journal.TheConstants.{MOST_BYTES};
+ghost use Rattle.locked_balancer.specs.declared.site.TheConstants.{MOST_ENTRIES};
 
 use crate::locked::{Cut, HandedBack};
 use crate::shared_site::SharedSite;
@@ -132,7 +134,7 @@ pub(crate) fn give_back_at<'r, L: SiteName, R: Wait>(
     requires known { back.lease.lb < length L.sizes }
     requires part { 0 < share.old.parts }
     requires room { vec_len receipts.old < vec_capacity receipts.old }
-    requires bytes { back.outcome.bytes ≤ 2 ^ 44 }
+    requires bytes { back.outcome.bytes ≤ MOST_BYTES }
     ensures ok { OnOk result (ListsTakeBack L.sizes (lists share.old.parts share.old.amount receipts.old)
         (lists share.new.parts share.new.amount receipts.new) session at back.lease back.outcome) }
     ensures length { OnOk result (length receipts.new.items ≡ length receipts.old.items + 1) }
@@ -140,7 +142,7 @@ pub(crate) fn give_back_at<'r, L: SiteName, R: Wait>(
     ensures stray { IfErr result (λ s. (s.lb ≡ back.lease.lb) × (s.stray.ticket ≡ back.lease.ticket)) }
     ensures why { IfErr result (λ s. IsNotOut L.sizes None back.lease s.stray) }
     ensures err { OnErr result ((receipts.new.items ≡ receipts.old.items) × (share.new.amount ≡ share.old.amount)) }
-    ensures few { share.new.amount ≤ 2 ^ 58 }
+    ensures few { share.new.amount ≤ MOST_ENTRIES }
     ensures parts { share.new.parts ≡ share.old.parts }
     ensures room { vec_capacity receipts.old ≤ vec_capacity receipts.new }
 {

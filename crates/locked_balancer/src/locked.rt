@@ -39,7 +39,7 @@ impl<L: SiteName> Model for Locked<L> {
 }
 
 impl<L: SiteName> Locked<L> {
-    ghost use Rattle.std.specs.Prelude.{◌≡◌, ℕ, ◌+◌, ◌<◌, ◌≤◌, ◌^◌, ◌↔◌, [], length, slice_index, vec_len, vec_capacity, None, IfOk, IfErr, IsErrOf, IsSome, OnOk, OnErr};
+    ghost use Rattle.std.specs.Prelude.{◌≡◌, ℕ, ◌+◌, ◌<◌, ◌≤◌, ◌↔◌, [], length, slice_index, vec_len, vec_capacity, None, IfOk, IfErr, IsErrOf, IsSome, OnOk, OnErr};
     ghost use Rattle.jk_model.specs.Present.{IsPresent};
     ghost use Rattle.balancer_core.specs.Desks.{IsNotOut};
     ghost use Rattle.balancer_core.specs.Journal.{Journal, past_of};
@@ -57,6 +57,8 @@ impl<L: SiteName> Locked<L> {
     };
     ghost use Rattle.locked_balancer.specs.SharedDesks.{CutsOrWants};
     ghost use Rattle.locked_balancer.specs.Sites.{AreSited, At};
+    ghost use Rattle.jk_model.specs.declared.journal.TheConstants.{MOST_BYTES};
+    ghost use Rattle.locked_balancer.specs.declared.site.TheConstants.{MOST_ENTRIES};
 
     pub(crate) fn new(site: Site<L>, cut_at: u32) -> Locked<L>
         requires named { cut_at ≡ L.cut_at }
@@ -109,7 +111,7 @@ impl<L: SiteName> Locked<L> {
             (held self.new.books receipts.new.items share.new.amount) on) }
         ensures when { CutsOrWants L.sizes L.cut_at on.lb result.0 (IsErrOf result.1 RoomError.NoMemory) }
         ensures mark { IfErr result.1 (IsRoomMark on.lb 2) }
-        ensures few { share.new.amount ≤ 2 ^ 58 }
+        ensures few { share.new.amount ≤ MOST_ENTRIES }
         ensures parts { share.new.parts ≡ share.old.parts }
         ensures room { vec_capacity receipts.old ≤ vec_capacity receipts.new }
     {
@@ -140,7 +142,7 @@ impl<L: SiteName> Locked<L> {
             (held self.new.books receipts.new.items share.new.amount) on command.now) }
         ensures when { CutsOrWants L.sizes L.cut_at on.lb result.0 (IsErrOf result.1 AdminError.NoMemory) }
         ensures mark { IfErr result.1 (IsAdminMark on.lb) }
-        ensures few { share.new.amount ≤ 2 ^ 58 }
+        ensures few { share.new.amount ≤ MOST_ENTRIES }
         ensures parts { share.new.parts ≡ share.old.parts }
         ensures room { vec_capacity receipts.old ≤ vec_capacity receipts.new }
     {
@@ -164,7 +166,7 @@ impl<L: SiteName> Locked<L> {
         receipts: &mut Vec<SiteReceipt<L>>,
     ) -> Result<(), SiteStray<L>>
         requires lb { back.lease.lb < length L.sizes }
-        requires bytes { back.outcome.bytes ≤ 2 ^ 44 }
+        requires bytes { back.outcome.bytes ≤ MOST_BYTES }
         requires part { 0 < share.old.parts }
         requires room { vec_len receipts.old < vec_capacity receipts.old }
         ensures ok { OnOk result (HoldReturns (held self.old.books receipts.old.items share.old.amount)
@@ -173,7 +175,7 @@ impl<L: SiteName> Locked<L> {
         ensures stray { IfErr result (λ s. (s.lb ≡ back.lease.lb) × (s.stray.ticket ≡ back.lease.ticket)) }
         ensures why { IfErr result (λ s. IsNotOut L.sizes None back.lease s.stray) }
         ensures err { OnErr result (held self.new.books receipts.new.items share.new.amount ≡ held self.old.books receipts.old.items share.old.amount) }
-        ensures few { share.new.amount ≤ 2 ^ 58 }
+        ensures few { share.new.amount ≤ MOST_ENTRIES }
         ensures parts { share.new.parts ≡ share.old.parts }
         ensures room { vec_capacity receipts.old ≤ vec_capacity receipts.new }
     {

@@ -163,7 +163,7 @@ impl<'s, 'r, L: SiteName, S: Shelf, R> SharedDesk<'s, 'r, L, S, R> {
 }
 
 impl<'s, 'r, L: SiteName, S: Shelf, R: Wait> Desk for SharedDesk<'s, 'r, L, S, R> {
-    ghost use Rattle.std.specs.Prelude.{◌≡◌, ◌+◌, ◌<◌, ◌≤◌, ◌^◌, ◌↔◌, true, length, slice_index, IfSome, IfOk, IfErr, IsErrOf, IsOk, OnOk};
+    ghost use Rattle.std.specs.Prelude.{◌≡◌, ◌+◌, ◌<◌, ◌≤◌, ◌↔◌, true, length, slice_index, IfSome, IfOk, IfErr, IsErrOf, IsOk, OnOk};
     ghost use Rattle.balancer_core.specs.Desks.{
       Chooses,
       Commands,
@@ -181,6 +181,7 @@ impl<'s, 'r, L: SiteName, S: Shelf, R: Wait> Desk for SharedDesk<'s, 'r, L, S, R
     };
     ghost use Rattle.locked_balancer.specs.Holds.{IsAdminMark, IsRoomMark};
     ghost use Rattle.locked_balancer.specs.SharedDesks.{PutsAwayOf, first_met};
+    ghost use Rattle.jk_model.specs.declared.journal.TheConstants.{MOST_BYTES};
 
     type Lease = SiteLease<L>;
 
@@ -237,7 +238,7 @@ impl<'s, 'r, L: SiteName, S: Shelf, R: Wait> Desk for SharedDesk<'s, 'r, L, S, R
     ) -> Result<(), Stray>
         requires caller { IfSome self.old.desk.caller (λ n. session ≡ n) }
         requires held { holds self.old.desk.held (pair_of lease) ≡ true }
-        requires bytes { outcome.bytes ≤ 2 ^ 44 }
+        requires bytes { outcome.bytes ≤ MOST_BYTES }
         ensures ok { IfOk result (λ _. TakesBack self.old.desk self.new.desk session at lease outcome) }
         ensures err { IfErr result (λ stray. MeetsStray self.old.desk self.new.desk lease stray) }
         ensures held { self.new.desk.held ≡ without_last self.old.desk.held (pair_of lease) }

@@ -12,6 +12,9 @@ use jk_model::{FullMark, Stray, View};
 use std::marker::{Brand, Model, PhantomData};
 use std::sync::ledger::{Book as Tally, Ledger};
 
+/// The most entries that the Books of a site ever add together: 1,024 times 2^48.
+pub const MOST_ENTRIES: u64 = 1 << 58;
+
 /// The ledger of one Site, with what is fixed of the Site's Books.
 pub trait SiteName: Ledger {
     ghost use Rattle.std.specs.Prelude.{List, ℕ};

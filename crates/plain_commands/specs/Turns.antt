@@ -15,10 +15,11 @@ use Rattle.play_script.specs.Play.{is_skipped, AddsCall, AsksFor, Says, SaysLine
 use Rattle.play_script.specs.Steps.{step_of}
 use Rattle.plain_commands.specs.declared.turn.Stop.{Stop}
 use Rattle.plain_commands.specs.declared.turn.Stop.TheVariants as stop
+use Rattle.jk_model.specs.declared.segment.TheConstants.{MODERN_RULES}
 
 -- The Book of a script: it has rules 2 and began with number 0 and no ticket out.
 pub record IsPlayed (b : Journal) : Type 0 where
-  pub rules : b.rules ≡ 2
+  pub rules : b.rules ≡ MODERN_RULES
   pub sound : IsSound b
   pub first : b.opening.next ≡ 0
   pub none_out : b.opening.out ≡ []

@@ -4,6 +4,7 @@ ghost use Rattle.journal_verdict.specs.Told.{verdict_text};
 ghost use Rattle.plain_commands.specs.Checked.{ChecksText, status_for, unreadable_text};
 ghost use Rattle.plain_commands.specs.Endings.{status_of};
 ghost use Rattle.plain_commands.specs.declared.play.Ending.TheVariants as Ends;
+ghost use Rattle.jk_io.specs.declared.whole_input.TheConstants.{MAX_INPUT_BYTES};
 
 use crate::play::{Ending, Output};
 use jk_io::{Bytes, NoMemory, put_decimal};
@@ -48,7 +49,7 @@ fn unreadable(alloc: Global, line: u32) -> Result<Output, NoMemory>
 
 /// What the check of a text prints.
 pub(crate) fn check(alloc: Global, text: &[u8]) -> Result<Output, NoMemory>
-    requires short { length text.now ≤ 67108864 }
+    requires short { length text.now ≤ MAX_INPUT_BYTES }
     ensures { IfOk result (λ o. ChecksText text.now o.text (status_of o.ending)) }
 {
     match check_journal(alloc, text) {

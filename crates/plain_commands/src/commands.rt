@@ -7,6 +7,7 @@ ghost use Rattle.plain_commands.specs.Endings.{Faults, ReadFails, status_of};
 ghost use Rattle.plain_commands.specs.Plain.{is_built, readings, InputIsDue, MatchesRead, Plain, PrintsOf, status_if};
 ghost use Rattle.plain_commands.specs.Readings.{has_file, Input};
 ghost use Rattle.plain_commands.specs.declared.play.Ending.TheVariants as Ends;
+ghost use Rattle.jk_io.specs.declared.whole_input.TheConstants.{MAX_INPUT_BYTES};
 
 use crate::check::check;
 use crate::dry::dry;
@@ -128,7 +129,7 @@ fn match_input<S: Source>(
     workers: &Bytes,
     map: &Bytes,
 ) -> Result<Output, IoError>
-    requires short { (length workers.now ≤ 67108864) × (length map.now ≤ 67108864) }
+    requires short { (length workers.now ≤ MAX_INPUT_BYTES) × (length map.now ≤ MAX_INPUT_BYTES) }
     ensures ok { IfOk result (λ o. (files : Option (List (List ℕ × List ℕ))) → PrintsOf (record { files = files; incoming = S.incoming input.old })
         (Input ∷ []) (MatchesRead workers.now map.now) o.text (status_of o.ending)) }
     ensures cause { HasCause (S.faults input.old) (S.faults input.new) result }

@@ -6,6 +6,7 @@ ghost use Rattle.play_script.specs.Play.{is_skipped, Stops, Runs, Starts, PlaysS
 ghost use Rattle.play_script.specs.Steps.{step_of};
 ghost use Rattle.plain_commands.specs.Endings.{status_of};
 ghost use Rattle.plain_commands.specs.Turns.{IsPlayed, AppendsRun};
+ghost use Rattle.jk_io.specs.declared.whole_input.TheConstants.{MAX_INPUT_BYTES};
 
 use crate::turn::{Stop, take_line};
 use balancer_core::Book;
@@ -121,7 +122,7 @@ fn start(
 
 /// What a script prints.
 pub(crate) fn play(alloc: Global, script: &[u8]) -> Result<Output, NoMemory>
-    requires { length script.now ≤ 67108864 }
+    requires { length script.now ≤ MAX_INPUT_BYTES }
     ensures { IfOk result (λ o. PlaysScript script.now o.text (status_of o.ending)) }
 {
     let mut lines = Parts::of(b'\n', script);

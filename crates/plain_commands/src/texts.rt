@@ -2,6 +2,7 @@
 ghost use Rattle.std.specs.Prelude.{◌≡◌, ◌<◌, ◌≤◌, Some, length, IfOk, IfSome, IfNone, IsSomeAnd};
 ghost use Rattle.jk_io.specs.Stored.{content_of};
 ghost use Rattle.jk_io.specs.Told.{HasCause};
+ghost use Rattle.jk_io.specs.declared.whole_input.TheConstants.{MAX_INPUT_BYTES};
 
 use jk_io::{Bytes, FileError, Files, IoError, Source, read_whole};
 use std::alloc::Global;
@@ -13,8 +14,8 @@ pub(crate) fn read_text<F: Files>(
     name: &Bytes,
 ) -> Result<Option<Bytes>, IoError>
     ensures there { IfOk result (λ read. IfSome read (λ text. IfSome (F.files files.old) (λ all. content_of all name.now ≡ Some text))) }
-    ensures short { IfOk result (λ read. IfSome read (λ text. length text ≤ 67108864)) }
-    ensures long { IfOk result (λ read. IfNone read (IfSome (F.files files.old) (λ all. IsSomeAnd (content_of all name.now) (λ text. 67108864 < length text)))) }
+    ensures short { IfOk result (λ read. IfSome read (λ text. length text ≤ MAX_INPUT_BYTES)) }
+    ensures long { IfOk result (λ read. IfNone read (IfSome (F.files files.old) (λ all. IsSomeAnd (content_of all name.now) (λ text. MAX_INPUT_BYTES < length text)))) }
     ensures cause { HasCause (F.faults files.old) (F.faults files.new) result }
     ensures same { F.files files.new ≡ F.files files.old }
 {
@@ -29,8 +30,8 @@ pub(crate) fn read_text<F: Files>(
 /// All of an input; none where it has more than 67,108,864 bytes.
 pub(crate) fn read_input<S: Source>(alloc: Global, input: &mut S) -> Result<Option<Bytes>, IoError>
     ensures there { IfOk result (λ read. IfSome read (λ text. IfSome (S.incoming input.old) (λ all. text ≡ all))) }
-    ensures short { IfOk result (λ read. IfSome read (λ text. length text ≤ 67108864)) }
-    ensures long { IfOk result (λ read. IfNone read (IfSome (S.incoming input.old) (λ all. 67108864 < length all))) }
+    ensures short { IfOk result (λ read. IfSome read (λ text. length text ≤ MAX_INPUT_BYTES)) }
+    ensures long { IfOk result (λ read. IfNone read (IfSome (S.incoming input.old) (λ all. MAX_INPUT_BYTES < length all))) }
     ensures cause { HasCause (S.faults input.old) (S.faults input.new) result }
 {
     match read_whole(alloc, input) {

@@ -4,11 +4,15 @@ ghost use Rattle.balancer_core.specs.Journal.{past_of};
 ghost use Rattle.play_script.specs.Play.{IsAskRefused, IsCommandRefused};
 ghost use Rattle.play_script.specs.Steps.{HasSmallBytes, IsSmall};
 ghost use Rattle.plain_commands.specs.Turns.{IsPlayed, Adds, AnsweredCall, Maintains, Said, ShownRows, Taken, Tells, Refuses, RefusesStep};
+ghost use Rattle.jk_model.specs.declared.journal.TheConstants.{MOST_BYTES};
 
 use balancer_core::{Book, Picked};
 use jk_io::{Bytes, NoMemory};
 use jk_model::{AdminError, Ask, Call, Command, Outcome, RoomError};
 use play_script::{NameList, ScriptRefusal, Step, is_skipped, put_answer, put_rows, step_of};
+
+/// A Book of a script has fewer entries than this: it has fewer than 2^32 lines, and each adds two at most.
+const ENTRIES_LIMIT: u64 = 1 << 40;
 
 /// Whose calls a script makes.
 const SESSION: u32 = 0;
@@ -39,7 +43,7 @@ fn select(
     out: &mut Bytes,
 ) -> Result<(), NoMemory>
     requires played { IsPlayed book.old }
-    requires few { length book.old.entries < 2 ^ 40 }
+    requires few { length book.old.entries < ENTRIES_LIMIT }
     ensures { OnOk result (AnsweredCall names.now at (Call.Select ask.now) book.old book.new out.old out.new) }
 {
     match book.select(SESSION, at, ask) {
@@ -56,7 +60,7 @@ fn select(
 
 fn give_back(book: &mut Book, at: u64, ticket: u64, outcome: Outcome) -> Result<(), ScriptRefusal>
     requires played { IsPlayed book.old }
-    requires small { outcome.bytes ≤ 2 ^ 44 }
+    requires small { outcome.bytes ≤ MOST_BYTES }
     ensures ok { OnOk result (Adds at (Call.Return ticket outcome) book.old book.new) }
     ensures refused { IfErr result (IsAskRefused book.old.opening (past_of book.old) (Call.Return ticket outcome)) }
     ensures err { IfErr result (λ _. book.new ≡ book.old) }
@@ -69,7 +73,7 @@ fn give_back(book: &mut Book, at: u64, ticket: u64, outcome: Outcome) -> Result<
 
 fn maintain(book: &mut Book, at: u64) -> Result<(), NoMemory>
     requires played { IsPlayed book.old }
-    requires few { length book.old.entries < 2 ^ 40 }
+    requires few { length book.old.entries < ENTRIES_LIMIT }
     ensures { OnOk result (Maintains at book.old book.new) }
 {
     match book.maintain_if_due(SESSION, at) {
@@ -81,7 +85,7 @@ fn maintain(book: &mut Book, at: u64) -> Result<(), NoMemory>
 
 fn admin(book: &mut Book, at: u64, command: &Command) -> Result<(), Stop>
     requires played { IsPlayed book.old }
-    requires few { length book.old.entries < 2 ^ 40 }
+    requires few { length book.old.entries < ENTRIES_LIMIT }
     ensures ok { OnOk result (Adds at (Call.Admin command.now) book.old book.new) }
     ensures refused { IfErr result (λ stop. Tells stop (IsCommandRefused book.old.opening (past_of book.old) command.now)) }
 {
@@ -105,7 +109,7 @@ fn show(book: &Book, out: &mut Bytes) -> Result<(), NoMemory>
 
 fn ask(names: &NameList, book: &mut Book, at: u64, call: &Call, out: &mut Bytes) -> Result<(), Stop>
     requires played { IsPlayed book.old }
-    requires few { length book.old.entries < 2 ^ 40 }
+    requires few { length book.old.entries < ENTRIES_LIMIT }
     requires small { HasSmallBytes call.now }
     ensures ok { OnOk result (AnsweredCall names.now at call.now book.old book.new out.old out.new) }
     ensures refused { IfErr result (λ stop. Tells stop (IsAskRefused book.old.opening (past_of book.old) call.now)) }
@@ -130,7 +134,7 @@ fn take_step(
     out: &mut Bytes,
 ) -> Result<u64, Stop>
     requires played { IsPlayed book.old }
-    requires few { length book.old.entries < 2 ^ 40 }
+    requires few { length book.old.entries < ENTRIES_LIMIT }
     requires small { IsSmall step.now }
     ensures ok { IfOk result (λ moment. Said names.now at step.now moment book.old book.new out.old out.new) }
     ensures refused { IfErr result (λ stop. Tells stop (RefusesStep step.now book.old out.old out.new)) }
@@ -157,7 +161,7 @@ pub(crate) fn take_line(
     out: &mut Bytes,
 ) -> Result<u64, Stop>
     requires played { IsPlayed book.old }
-    requires few { length book.old.entries < 2 ^ 40 }
+    requires few { length book.old.entries < ENTRIES_LIMIT }
     requires names { length names.now < 2 ^ 32 }
     ensures ok { IfOk result (λ moment. Taken names.now at line.now moment book.old book.new out.old out.new) }
     ensures refused { IfErr result (λ stop. Tells stop (Refuses names.now line.now book.old out.old out.new)) }

@@ -1,6 +1,7 @@
 ghost use Rattle.std.specs.Prelude.{◌≡◌, ℕ, ◌<◌, ◌^◌, List, [], length, false, true, None, Some, ◌≤◌, IfSome, option_map};
 ghost use Rattle.play_script.specs.Values.{end};
 ghost use Rattle.play_script.specs.Steps.{ask_of, old_ask, select_of, bytes_in, return_of, change_after, change_of, update_of, member_named, step_by, step_of, HasSmallBytes, IsSmall};
+ghost use Rattle.jk_model.specs.declared.journal.TheConstants.{MOST_BYTES};
 
 use crate::fields::{activation_in, number_in, redirect_in};
 use crate::names::{NameList, index_of};
@@ -58,7 +59,7 @@ fn select_of(names: &NameList, words: &mut Parts) -> Option<Ask>
 
 fn bytes_in(words: &mut Parts) -> Option<u64>
     ensures value { result ≡ bytes_in words.old }
-    ensures small { IfSome result (λ n. n ≤ 2 ^ 44) }
+    ensures small { IfSome result (λ n. n ≤ MOST_BYTES) }
 {
     let Some(word) = words.next() else {
         return Some(0);

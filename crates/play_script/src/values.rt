@@ -1,12 +1,9 @@
-ghost use Rattle.std.specs.Prelude.{◌≡◌, ◌≤◌, ◌^◌, IfSome};
+ghost use Rattle.std.specs.Prelude.{◌≡◌, ◌≤◌, IfSome};
 ghost use Rattle.play_script.specs.Values.{number_up_to, short_number, byte_count, flag_of, method_of, activation_of};
 
 use crate::parts::is;
 use jk_io::parse_decimal;
-use jk_model::{Activation, Method};
-
-/// The most bytes that one exchange moves.
-const MOST_BYTES: u64 = 1 << 44;
+use jk_model::{Activation, MOST_BYTES, Method};
 
 fn number_up_to(most: u64, text: &[u8]) -> Option<u64>
     ensures value { result ≡ number_up_to most text.now }
@@ -30,7 +27,7 @@ pub(crate) fn short_number(text: &[u8]) -> Option<u32>
 /// The bytes of an exchange.
 pub(crate) fn byte_count(text: &[u8]) -> Option<u64>
     ensures value { result ≡ byte_count text.now }
-    ensures small { IfSome result (λ n. n ≤ 2 ^ 44) }
+    ensures small { IfSome result (λ n. n ≤ MOST_BYTES) }
 {
     number_up_to(MOST_BYTES, text)
 }

@@ -6,6 +6,9 @@ ghost use Rattle.property_lines.specs.Directives.{name_of, slot_of, directive_am
 
 use crate::cut::cut_at;
 
+/// How many directives there are.
+pub const DIRECTIVE_COUNT: usize = 24;
+
 /// A directive of a worker.
 #[derive(Clone, Copy, Debug, PartialEq, Eq)]
 pub enum Directive {
@@ -35,7 +38,7 @@ pub enum Directive {
     ReadOnly,
 }
 
-pub const DIRECTIVES: [Directive; 24] = [
+pub const DIRECTIVES: [Directive; DIRECTIVE_COUNT] = [
     Directive::Kind,
     Directive::Reference,
     Directive::Host,
@@ -99,7 +102,7 @@ impl Directive {
     /// Its place in `DIRECTIVES`.
     pub fn slot(self) -> usize
         ensures place { result ≡ slot_of self }
-        ensures within { result < 24 }
+        ensures within { result < DIRECTIVE_COUNT }
     {
         self as usize
     }

@@ -5,6 +5,7 @@ ghost use Rattle.property_lines.specs.Entries.{as_property, as_properties};
 ghost use Rattle.property_lines.specs.Refusals.{Gives, code_of};
 ghost use Rattle.property_lines.specs.Properties.{is_silent, judged, property_of, said, read_text, fault_of};
 ghost use Rattle.property_lines.specs.Cut.{cut_at};
+ghost use Rattle.jk_io.specs.declared.whole_input.TheConstants.{MAX_INPUT_BYTES};
 
 use crate::cut::cut_at;
 use crate::error::{PropsError, PropsReason, refused};
@@ -69,7 +70,7 @@ pub fn read_entries(
     values: bool,
     text: &[u8],
 ) -> Result<Vec<PropertyLine<'_>>, PropsError>
-    requires { length text.now ≤ 67108864 }
+    requires { length text.now ≤ MAX_INPUT_BYTES }
     ensures entries { Gives (λ v. as_properties v.items) result (read_text values text.now) }
     ensures few { IfOk result (λ v. vec_len v ≤ length text.now) }
 {

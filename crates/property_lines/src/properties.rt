@@ -3,6 +3,7 @@ ghost use Rattle.std.specs.Prelude.{◌≡◌, ◌≤◌, false, length, IfOk};
 ghost use Rattle.property_lines.specs.Entries.{as_property};
 ghost use Rattle.property_lines.specs.Refusals.{Gives};
 ghost use Rattle.property_lines.specs.Properties.{read_text};
+ghost use Rattle.jk_io.specs.declared.whole_input.TheConstants.{MAX_INPUT_BYTES};
 
 use crate::error::PropsError;
 use crate::first_pass::read_entries;
@@ -14,7 +15,7 @@ use std::alloc::Global;
 /// The lines of a text that give a key its value, or the first refusal of 1 and 2. A name is judged by itself, a value
 /// isn't.
 pub fn read_properties(alloc: Global, text: &[u8]) -> Result<PropertyList, PropsError>
-    requires { length text.now ≤ 67108864 }
+    requires { length text.now ≤ MAX_INPUT_BYTES }
     ensures { Gives (λ properties. properties) result (read_text false text.now) }
 {
     let entries = read_entries(alloc, false, text)?;

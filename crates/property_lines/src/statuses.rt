@@ -8,6 +8,9 @@ use crate::cut::cut_at_separator;
 use crate::values::number_in;
 use std::marker::Model;
 
+/// The most statuses of a list.
+pub const MAX_STATUSES: usize = 64;
+
 /// A status, and whether a `-` stands before it.
 pub fn status_of(text: &[u8]) -> Option<(u16, bool)>
     ensures { result ≡ status_of text.now }
@@ -60,13 +63,13 @@ impl Statuses {
 
     /// Whether there are 64.
     fn is_full(&self) -> bool
-        ensures { result ≡ nat_le 64 (length self.now) }
+        ensures { result ≡ nat_le MAX_STATUSES (length self.now) }
     {
         64 <= self.count
     }
 
     fn add(&mut self, status: u16, negated: bool)
-        requires { length self.old < 64 }
+        requires { length self.old < MAX_STATUSES }
         ensures { self.new ≡ self.old ++ (status, negated) ∷ [] }
     {
         self.table[self.count] = (status, negated);

@@ -2,6 +2,7 @@
 ghost use Rattle.std.specs.Prelude.{◌≡◌, ◌≤◌, length, None};
 ghost use Rattle.serving_commands.specs.Commands.{ContainsLinks, RunsContainer, Works};
 ghost use Rattle.serving_commands.specs.Worlds.{tells, world_side};
+ghost use Rattle.jk_cli.specs.declared.plans.TheConstants.{MOST_ROUTE_BYTES};
 
 use crate::ends::{EndOf, JkdEnd, NO_MEMORY, end_by, end_of_container};
 use crate::gears::{Asked, give_back, take_gears};
@@ -55,7 +56,7 @@ pub(crate) fn container<W: World, R: Threads + Wait + Sync>(
 where
     <W::D as Door>::L: Send,
     requires none { asked.journal ≡ None }
-    requires short { length route.now ≤ 1024 }
+    requires short { length route.now ≤ MOST_ROUTE_BYTES }
     ensures { let at = world_side W.handed W.came_back W.out W.faults in
         let told = tells W.D.coming W.D.left W.D.faults W.T.talks W.K.answers W.D.L.Meanings W.S.shelved W.S.faults in
         ContainsLinks told route.now asked.entry.threads asked.entry.clients (at world.old) (at world.new) result }

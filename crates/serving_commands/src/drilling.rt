@@ -1,6 +1,7 @@
 //! `drill`: requests of many threads against a container in memory, and what their journal tells.
 ghost use Rattle.std.specs.Prelude.{◌≡◌, ◌≤◌, false};
 ghost use Rattle.serving_commands.specs.Commands.{RunsDrill, Writes};
+ghost use Rattle.drill.specs.declared.plan.TheConstants.{MAX_REQUESTS, MAX_THREADS};
 
 use crate::ends::{DONE, EndOf, JkdEnd, NO_MEMORY, OUTPUT_FAULT};
 use drill::run_drill;
@@ -57,8 +58,8 @@ pub(crate) fn do_drill<O: Sink, R: Threads + Wait + Sync>(
     order: DrillOrder,
     out: &mut O,
 ) -> JkdEnd
-    requires threads { (1 ≤ order.threads) × (order.threads ≤ 64) }
-    requires requests { (1 ≤ order.requests) × (order.requests ≤ 1000000) }
+    requires threads { (1 ≤ order.threads) × (order.threads ≤ MAX_THREADS) }
+    requires requests { (1 ≤ order.requests) × (order.requests ≤ MAX_REQUESTS) }
     requires unbuilt { order.passes ≡ false }
     ensures { RunsDrill order.seed order.threads order.requests order.text order.passes
         (O.sent out.old) (O.sent out.new) (O.faults out.old) (O.faults out.new) result }

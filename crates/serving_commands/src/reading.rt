@@ -4,6 +4,7 @@ ghost use Rattle.jk_io.specs.Stored.{content_of};
 ghost use Rattle.jk_io.specs.Told.{HasCause};
 ghost use Rattle.site_reports.specs.Reports.{refusal_line};
 ghost use Rattle.serving_commands.specs.Sites.{IsJudged, Judges};
+ghost use Rattle.jk_io.specs.declared.whole_input.TheConstants.{MAX_INPUT_BYTES};
 
 use crate::site::ReadSite;
 use jk_io::{Bytes, FileError, Files, IoError, NoMemory, put_decimal};
@@ -21,8 +22,8 @@ pub(crate) enum Judged {
 /// A file's text; none where it has more than 67,108,864 bytes.
 fn text_of<F: Files>(alloc: Global, files: &mut F, name: &Bytes) -> Result<Option<Bytes>, IoError>
     ensures there { IfOk result (λ read. IfSome read (λ text. IfSome (F.files files.old) (λ all. content_of all name.now ≡ Some text))) }
-    ensures short { IfOk result (λ read. IfSome read (λ text. length text ≤ 67108864)) }
-    ensures long { IfOk result (λ read. IfNone read (IfSome (F.files files.old) (λ all. IsSomeAnd (content_of all name.now) (λ text. 67108864 < length text)))) }
+    ensures short { IfOk result (λ read. IfSome read (λ text. length text ≤ MAX_INPUT_BYTES)) }
+    ensures long { IfOk result (λ read. IfNone read (IfSome (F.files files.old) (λ all. IsSomeAnd (content_of all name.now) (λ text. MAX_INPUT_BYTES < length text)))) }
     ensures cause { HasCause (F.faults files.old) (F.faults files.new) result }
     ensures same { F.files files.new ≡ F.files files.old }
 {
@@ -50,7 +51,7 @@ fn refused(alloc: Global, file: &[u8], line: u32, code: u8) -> Result<Judged, No
 
 /// Judges the texts of a site.
 fn judge(alloc: Global, workers: &[u8], map: &[u8]) -> Result<Judged, NoMemory>
-    requires short { (length workers.now ≤ 67108864) × (length map.now ≤ 67108864) }
+    requires short { (length workers.now ≤ MAX_INPUT_BYTES) × (length map.now ≤ MAX_INPUT_BYTES) }
     ensures { IfOk result (λ judged. Judges workers.now map.now judged) }
 {
     let cfg = match read_workers(alloc, workers) {

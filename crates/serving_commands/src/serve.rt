@@ -5,6 +5,7 @@ ghost use Rattle.plain_commands.specs.Readings.{CommandOutside};
 ghost use Rattle.serving_commands.specs.Commands.{command_side, RunsSite, Serves, Works, WritesLine, CommandSide};
 ghost use Rattle.serving_commands.specs.Ends.{end_of_run, returned};
 ghost use Rattle.serving_commands.specs.Worlds.{HandsAndTakes, tells, world_side};
+ghost use Rattle.jk_server.specs.declared.workers.TheConstants.{MAX_WORKERS};
 
 use crate::ends::{EndOf, JkdEnd, NO_MEMORY, OUTPUT_FAULT, REFUSED, end_by, end_of_run};
 use crate::gears::{Asked, GearOf, give_back, take_gears};
@@ -75,7 +76,7 @@ fn serve_site<W: World, R: Threads + Wait + Sync>(
 ) -> JkdEnd
 where
     <W::D as Door>::L: Send,
-    requires threads { (1 ≤ asked.threads) × (asked.threads ≤ 64) }
+    requires threads { (1 ≤ asked.threads) × (asked.threads ≤ MAX_WORKERS) }
     ensures { let at = world_side W.handed W.came_back W.out W.faults in
         let told = tells W.D.coming W.D.left W.D.faults W.T.talks W.K.answers W.D.L.Meanings W.S.shelved W.S.faults in
         Works asked.entry.threads (RunsSite told site.now.cfg site.now.map asked.entry.threads asked.entry.clients) (at world.old) (at world.new) result }
@@ -101,7 +102,7 @@ pub(crate) fn serve<F: Files, O: Sink, W: World, R: Threads + Wait + Sync>(
 ) -> JkdEnd
 where
     <W::D as Door>::L: Send,
-    requires threads { (1 ≤ order.asked.threads) × (order.asked.threads ≤ 64) }
+    requires threads { (1 ≤ order.asked.threads) × (order.asked.threads ≤ MAX_WORKERS) }
     ensures { (incoming : Option (List ℕ))
         → let at = command_side F.faults O.sent O.faults (world_side W.handed W.came_back W.out W.faults) in
         let told = tells W.D.coming W.D.left W.D.faults W.T.talks W.K.answers W.D.L.Meanings W.S.shelved W.S.faults in

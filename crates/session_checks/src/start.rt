@@ -1,19 +1,17 @@
 //! With what the session of a row starts: its Books, and the number of members of each balancer.
-ghost use Rattle.std.specs.Prelude.{◌≡◌, ◌≤◌, ◌^◌, [], ◌∷◌, ◌++◌, None, length, IfOk, OnOk};
+ghost use Rattle.std.specs.Prelude.{◌≡◌, ◌≤◌, [], ◌∷◌, ◌++◌, None, length, IfOk, OnOk};
 ghost use Rattle.balancer_core.specs.Journal.{IsStart};
 ghost use Rattle.exchange.specs.Requests.{sizes_of as sizes_in};
 ghost use Rattle.session_checks.specs.Starts.{AddsStarted, AreStarted, IsDeskOf};
 
 use balancer_core::{Book, BookList, PlainDesk};
 use jk_io::{ListOf, NoMemory};
+use jk_model::MOST_NUMBERS;
 use site_config::Lb;
 use std::alloc::Global;
 
-/// The greatest number with which a Book may start.
-const LAST: u64 = 1 << 48;
-
 fn started(alloc: Global, lb: &Lb, first: u64) -> Result<Book, NoMemory>
-    requires { first ≤ 2 ^ 48 }
+    requires { first ≤ MOST_NUMBERS }
     ensures { IfOk result (λ book. IsStart book lb.now.book 0 first) }
 {
     let config = lb.book.copy()?;
@@ -21,7 +19,7 @@ fn started(alloc: Global, lb: &Lb, first: u64) -> Result<Book, NoMemory>
 }
 
 fn push_started(alloc: Global, books: &mut Vec<Book>, lb: &Lb, first: u64) -> Result<(), NoMemory>
-    requires { first ≤ 2 ^ 48 }
+    requires { first ≤ MOST_NUMBERS }
     ensures { OnOk result (AddsStarted first lb.now books.old.items books.new.items) }
 {
     books.push(started(alloc, lb, first)?)?;
@@ -29,7 +27,7 @@ fn push_started(alloc: Global, books: &mut Vec<Book>, lb: &Lb, first: u64) -> Re
 }
 
 fn books_of(alloc: Global, lbs: &[Lb], first: u64) -> Result<Vec<Book>, NoMemory>
-    requires { first ≤ 2 ^ 48 }
+    requires { first ≤ MOST_NUMBERS }
     ensures { IfOk result (λ books. AreStarted first lbs.now books.items) }
 {
     let mut books = Vec::new(alloc);
@@ -43,7 +41,7 @@ fn books_of(alloc: Global, lbs: &[Lb], first: u64) -> Result<Vec<Book>, NoMemory
 pub fn desk_of(alloc: Global, lbs: &[Lb], first: u64) -> Result<PlainDesk, NoMemory>
     ensures { IfOk result (IsDeskOf lbs.now) }
 {
-    let books = books_of(alloc, lbs, first.min(LAST))?;
+    let books = books_of(alloc, lbs, first.min(MOST_NUMBERS))?;
     Ok(PlainDesk::new(alloc, BookList::from_vec(books)))
 }
 

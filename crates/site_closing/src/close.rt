@@ -5,6 +5,7 @@ ghost use Rattle.std.specs.List.Sorted.{IsPermutation};
 ghost use Rattle.locked_balancer.specs.Sites.{AreSited, added_in};
 ghost use Rattle.site_closing.specs.CloseErrors.{IsCloseError};
 ghost use Rattle.site_closing.specs.Closings.{AreUncut, Differs, IsDiscord, kept_from, noted};
+ghost use Rattle.jk_model.specs.declared.config.TheConstants.{MAX_BALANCERS};
 
 use crate::compare::{Noted, first_difference, put_in_order};
 use crate::discord::Discord;
@@ -112,7 +113,7 @@ fn end_site<'r, L: SiteName, R>(site: SharedSite<'r, L, R>, share: Share<L>) -> 
 
 // Compares receipts and kept entries, where all are there.
 fn compare<L>(forgot: bool, list: Vec<Noted>, books: &[Book]) -> Result<(), CloseError<L>>
-    requires few { length books.now ≤ 1024 }
+    requires few { length books.now ≤ MAX_BALANCERS }
     ensures once { OnOk result (forgot ≡ false → AreUncut books.now → IsPermutation list.items (kept_from 0 books.now)) }
     ensures differs { IfErr result (IsCloseError (λ d.
         (forgot ≡ false) × AreUncut books.now × IsDiscord list.items (kept_from 0 books.now) d)) }
@@ -129,7 +130,7 @@ fn compare<L>(forgot: bool, list: Vec<Noted>, books: &[Book]) -> Result<(), Clos
 
 // Compares the receipts in their order with the kept entries.
 fn compare_all<L>(list: Vec<Noted>, books: &[Book]) -> Result<(), CloseError<L>>
-    requires few { length books.now ≤ 1024 }
+    requires few { length books.now ≤ MAX_BALANCERS }
     ensures once { OnOk result (IsPermutation list.items (kept_from 0 books.now)) }
     ensures differs { IfErr result (IsCloseError (IsDiscord list.items (kept_from 0 books.now))) }
 {

@@ -1,8 +1,10 @@
 //! What the Books keep.
-ghost use Rattle.std.specs.Prelude.{◌≡◌, ◌+◌, ◌≤◌, ◌^◌, ◌++◌, ◌↔◌, length, map, true, IfOk, OnOk};
+ghost use Rattle.std.specs.Prelude.{◌≡◌, ◌+◌, ◌≤◌, ◌++◌, ◌↔◌, length, map, true, IfOk, OnOk};
 ghost use Rattle.balancer_core.specs.PlainDesks.{AreLegal};
 ghost use Rattle.locked_balancer.specs.Sites.{added_in};
 ghost use Rattle.site_closing.specs.Closings.{AreUncut, kept_from};
+ghost use Rattle.jk_model.specs.declared.config.TheConstants.{MAX_BALANCERS};
+ghost use Rattle.locked_balancer.specs.declared.site.TheConstants.{MOST_ENTRIES};
 
 use crate::compare::Noted;
 use balancer_core::Book;
@@ -12,7 +14,7 @@ use std::alloc::Global;
 
 /// The kept entries of all Books, each with its balancer, in order.
 pub(crate) fn kept_in(alloc: Global, books: &[Book]) -> Result<Vec<Noted>, NoMemory>
-    requires { length books.now ≤ 1024 }
+    requires { length books.now ≤ MAX_BALANCERS }
     ensures { IfOk result (λ kept. kept.items ≡ kept_from 0 books.now) }
 {
     let mut kept = Vec::new(alloc);
@@ -41,7 +43,7 @@ pub(crate) fn are_uncut(books: &[Book]) -> bool
 
 /// How many entries the Books added.
 pub(crate) fn added_by(books: &[Book]) -> u64
-    requires { added_in books.now ≤ 2 ^ 58 }
+    requires { added_in books.now ≤ MOST_ENTRIES }
     ensures { result ≡ added_in books.now }
 {
     let mut added = 0;

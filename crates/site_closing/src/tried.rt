@@ -4,6 +4,7 @@ ghost use Rattle.std.specs.List.{All};
 ghost use Rattle.balancer_core.specs.PlainDesks.{AreModern};
 ghost use Rattle.balancer_core.specs.ToldBooks.{sizes_of};
 ghost use Rattle.locked_balancer.specs.Sites.{added_in, nexts_of};
+ghost use Rattle.jk_model.specs.declared.segment.TheConstants.{MODERN_RULES};
 
 use crate::close::{CloseError, Closed, close_desks};
 use crate::gather::LeavingList;
@@ -31,7 +32,7 @@ pub fn try_a_site<R: Threads + Wait + Sync>(
     book: Book,
     ask: &Ask,
 ) -> Result<Closed<MemShelf>, CloseError<Brand>>
-    requires modern { book.rules ≡ 2 }
+    requires modern { book.rules ≡ MODERN_RULES }
     requires fresh { book.added ≡ 0 }
     ensures entries { IfOk result (λ c. c.entries ≡ added_in c.books) }
 {

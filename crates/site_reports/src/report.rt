@@ -5,6 +5,7 @@ ghost use Rattle.uri_map.specs.Lines.{read_text};
 ghost use Rattle.site_reports.specs.ConfigText.{config_text};
 ghost use Rattle.site_reports.specs.Matches.{match_text};
 ghost use Rattle.site_reports.specs.Reports.{OfMap, Refuses, ReportsConfig, ReportsMatches, ReportsSite, rules_line};
+ghost use Rattle.jk_io.specs.declared.whole_input.TheConstants.{MAX_INPUT_BYTES};
 
 use crate::config_text::put_config;
 use crate::match_text::put_matches;
@@ -79,7 +80,7 @@ fn of_paths(alloc: Global, config: &Config, map: &UriMap, paths: &[u8]) -> Resul
 }
 
 fn of_site(alloc: Global, config: &Config, map: &[u8]) -> Result<Report, NoMemory>
-    requires short { length map.now ≤ 67108864 }
+    requires short { length map.now ≤ MAX_INPUT_BYTES }
     ensures { IfOk result (λ r. OfMap config.now (read_text config.now map.now)
         (λ rules. config_text config.now ++ rules_line rules) r.text r.refused) }
 {
@@ -91,7 +92,7 @@ fn of_site(alloc: Global, config: &Config, map: &[u8]) -> Result<Report, NoMemor
 }
 
 fn of_matches(alloc: Global, config: &Config, map: &[u8], paths: &[u8]) -> Result<Report, NoMemory>
-    requires short { length map.now ≤ 67108864 }
+    requires short { length map.now ≤ MAX_INPUT_BYTES }
     ensures { IfOk result (λ r. OfMap config.now (read_text config.now map.now)
         (λ rules. match_text config.now rules paths.now) r.text r.refused) }
 {
@@ -104,7 +105,7 @@ fn of_matches(alloc: Global, config: &Config, map: &[u8], paths: &[u8]) -> Resul
 
 /// What `config` prints of a workers.properties: the lines of its configuration, or of its first refusal.
 pub fn report_config(alloc: Global, workers: &[u8]) -> Result<Report, NoMemory>
-    requires short { length workers.now ≤ 67108864 }
+    requires short { length workers.now ≤ MAX_INPUT_BYTES }
     ensures { IfOk result (λ r. ReportsConfig workers.now r.text r.refused) }
 {
     match read_workers(alloc, workers) {
@@ -117,7 +118,7 @@ pub fn report_config(alloc: Global, workers: &[u8]) -> Result<Report, NoMemory>
 /// What `config` prints of both files: the configuration and the number of its rules, or the line of the first
 /// refusal, those of the workers.properties before those of the map.
 pub fn report_site(alloc: Global, workers: &[u8], map: &[u8]) -> Result<Report, NoMemory>
-    requires short { (length workers.now ≤ 67108864) × (length map.now ≤ 67108864) }
+    requires short { (length workers.now ≤ MAX_INPUT_BYTES) × (length map.now ≤ MAX_INPUT_BYTES) }
     ensures { IfOk result (λ r. ReportsSite workers.now map.now r.text r.refused) }
 {
     match read_workers(alloc, workers) {
@@ -134,7 +135,7 @@ pub fn report_matches(
     map: &[u8],
     paths: &[u8],
 ) -> Result<Report, NoMemory>
-    requires short { (length workers.now ≤ 67108864) × (length map.now ≤ 67108864) }
+    requires short { (length workers.now ≤ MAX_INPUT_BYTES) × (length map.now ≤ MAX_INPUT_BYTES) }
     ensures { IfOk result (λ r. ReportsMatches workers.now map.now paths.now r.text r.refused) }
 {
     match read_workers(alloc, workers) {

@@ -1,6 +1,7 @@
 //! The member that a request's session ids name.
 ghost use Rattle.std.specs.Prelude.{◌≡◌, ◌≤◌, length};
 ghost use Rattle.sticky_routes.specs.Routes.{routed_of, member_named, member_with};
+ghost use Rattle.jk_model.specs.declared.config.TheConstants.{MAX_MEMBERS};
 
 use crate::cuts::cut_at;
 use crate::ids::IdList;
@@ -10,7 +11,7 @@ use jk_model::{MemberConfig, MemberList};
 /// The member that the first id with a member's route names; where several members have that route, the first of them.
 /// A balancer has at most 64 members. No memory is taken.
 pub fn routed(ids: &IdList, members: &MemberList) -> Option<u32>
-    requires { length members.now ≤ 64 }
+    requires { length members.now ≤ MAX_MEMBERS }
     ensures member { result ≡ routed_of ids.now members.now }
 {
     for id in ids.as_slice() {
@@ -22,7 +23,7 @@ pub fn routed(ids: &IdList, members: &MemberList) -> Option<u32>
 }
 
 fn member_named(members: &[MemberConfig], id: &Bytes) -> Option<u32>
-    requires { length members.now ≤ 64 }
+    requires { length members.now ≤ MAX_MEMBERS }
     ensures { result ≡ member_named members.now id.now }
 {
     let (_, route) = cut_at(id.as_slice(), b'.')?;

@@ -85,7 +85,7 @@ fn client_of(alloc: Global, text: &str, write: Option<u64>) -> Result<MemLink, N
 
 fn limit(most: Option<u64>) -> u64
     ensures some { 0 < result }
-    ensures most { result ≤ 1099511627776 }
+    ensures most { result ≤ NO_LIMIT }
 {
     match most {
         Some(most) if most > 0 => most.min(NO_LIMIT),
@@ -107,7 +107,7 @@ fn forward(alloc: Global) -> Result<Bytes, NoMemory>
 }
 
 fn plan_with(alloc: Global, words: &str, first: Bytes) -> Result<TalkPlan, NoMemory>
-    requires { length first ≤ 8186 }
+    requires { length first ≤ PIECE }
     ensures plan { IfOk result IsPlan }
     ensures first { IfOk result (λ plan. plan.first ≡ first) }
 {
@@ -127,7 +127,7 @@ fn plan_with(alloc: Global, words: &str, first: Bytes) -> Result<TalkPlan, NoMem
 }
 
 fn planned(alloc: Global, words: &str, first: Bytes) -> Result<TalkPlan, NoMemory>
-    requires { length first ≤ 8186 }
+    requires { length first ≤ PIECE }
     ensures plan { IfOk result IsPlan }
     ensures first { IfOk result (λ plan. plan.first ≡ first) }
 {
@@ -146,7 +146,7 @@ fn first_piece(
     requires none { taken_of reading.old.body ≡ 0 }
     requires going { failed_of reading.old.body ≡ None }
     ensures taken { IfOk result (λ piece. taken_of reading.new.body ≡ length piece) }
-    ensures short { IfOk result (λ piece. length piece ≤ 8186) }
+    ensures short { IfOk result (λ piece. length piece ≤ PIECE) }
     ensures going { IfOk result (λ piece. failed_of reading.new.body ≡ None) }
 {
     if n == 0 {

@@ -6,6 +6,7 @@ ghost use Rattle.uri_map.specs.Lines.{made_rules, read_text, rules_of, said, wit
 ghost use Rattle.uri_map.specs.Refusals.{Gives};
 ghost use Rattle.uri_map.specs.Sides.{as_patterns};
 ghost use Rattle.uri_map.specs.Sites.{stands_in};
+ghost use Rattle.jk_io.specs.declared.whole_input.TheConstants.{MAX_INPUT_BYTES};
 
 use crate::error::{MapError, MapReason, refused};
 use crate::pattern::Pattern;
@@ -110,7 +111,7 @@ fn push_line(
 
 /// The map of a text, or its first refusal.
 pub fn read_map(alloc: Global, text: &[u8], config: &Config) -> Result<UriMap, MapError>
-    requires { length text.now ≤ 67108864 }
+    requires { length text.now ≤ MAX_INPUT_BYTES }
     ensures read { Gives (λ map. map) result (read_text config.now text.now) }
 
     // All that the map names stands in the configuration.

@@ -1,7 +1,8 @@
 //! Members of a balancer by their names.
-ghost use Rattle.std.specs.Prelude.{◌≡◌, ◌≤◌, ◌<◌, ◌^◌, length, map, IfOk};
+ghost use Rattle.std.specs.Prelude.{◌≡◌, ◌≤◌, ◌<◌, length, map, IfOk};
 ghost use Rattle.property_lines.specs.Names.{words};
 ghost use Rattle.uri_map.specs.Members.{are_members, is_member, is_named, set_of};
+ghost use Rattle.jk_model.specs.declared.config.TheConstants.{MAX_MEMBERS};
 
 use jk_io::NoMemory;
 use jk_model::MemberConfig;
@@ -51,7 +52,7 @@ fn is_named(names: &[&[u8]], member: &MemberConfig) -> bool
 
 /// The set of the members that have one of these names: bit m stands for member m.
 fn set_of(members: &[MemberConfig], names: &[&[u8]]) -> u64
-    requires { length members.now ≤ 64 }
+    requires { length members.now ≤ MAX_MEMBERS }
     ensures { result ≡ set_of members.now (map (λ n. n.now) names.now) }
 {
     let mut set = 0;
@@ -69,7 +70,7 @@ pub(crate) fn listed_set(
     members: &[MemberConfig],
     list: &[u8],
 ) -> Result<u64, NoMemory>
-    requires { length members.now ≤ 64 }
+    requires { length members.now ≤ MAX_MEMBERS }
     ensures { IfOk result (λ set. set ≡ set_of members.now (words list.now)) }
 {
     let mut names = Vec::new(alloc);

@@ -6,6 +6,7 @@ ghost use Rattle.std.specs.Str.{bytes_eq};
 ghost use Rattle.uri_map.specs.PartViews.{as_part, as_parts};
 ghost use Rattle.uri_map.specs.Parts.{disabled, given_terms, is_good, is_yes, last_value, names_in, part_of, parts_of, pieces_behind, pieces_of, sticky_ignore, stopped, terms_of, value_of};
 ghost use Rattle.uri_map.specs.Members.{set_of};
+ghost use Rattle.jk_model.specs.declared.config.TheConstants.{MAX_MEMBERS};
 
 use crate::members::{listed_set, lists_members};
 use jk_io::{NoMemory, trim};
@@ -144,7 +145,7 @@ fn is_yes(value: Option<&[u8]>) -> bool
 
 /// The set of the members that a value names.
 fn set_in(alloc: Global, members: &[MemberConfig], value: Option<&[u8]>) -> Result<u64, NoMemory>
-    requires { length members.now ≤ 64 }
+    requires { length members.now ≤ MAX_MEMBERS }
     ensures { IfOk result (λ set. set ≡ set_of members.now (names_in (option_map (λ v. v.now) value.entry))) }
 {
     match value {
@@ -155,7 +156,7 @@ fn set_in(alloc: Global, members: &[MemberConfig], value: Option<&[u8]>) -> Resu
 
 #[tactic(auto, unfolding(crate::specs::Parts::sticky_ignore, crate::specs::Parts::disabled, crate::specs::Parts::stopped))]
 fn terms_of(alloc: Global, members: &[MemberConfig], parts: &[Part<'_>]) -> Result<Terms, NoMemory>
-    requires { length members.now ≤ 64 }
+    requires { length members.now ≤ MAX_MEMBERS }
     ensures { IfOk result (λ terms. terms ≡ terms_of members.now (as_parts parts.now)) }
 {
     Ok(Terms {
@@ -171,7 +172,7 @@ pub(crate) fn given_terms(
     members: &[MemberConfig],
     parts: &[Part<'_>],
 ) -> Result<Option<Terms>, NoMemory>
-    requires { length members.now ≤ 64 }
+    requires { length members.now ≤ MAX_MEMBERS }
     ensures { IfOk result (λ terms. terms ≡ given_terms members.now (as_parts parts.now)) }
 {
     if are_good(alloc, members, parts)? {

@@ -3,6 +3,7 @@ ghost use Rattle.std.specs.Prelude.{◌≡◌, ◌≤◌, length, IfOk};
 ghost use Rattle.site_config.specs.Places.{named_among};
 ghost use Rattle.uri_map.specs.Members.{members_at};
 ghost use Rattle.uri_map.specs.Workers.{IsTable};
+ghost use Rattle.jk_model.specs.declared.config.TheConstants.{MAX_MEMBERS};
 
 use jk_io::{Bytes, NoMemory};
 use jk_model::MemberConfig;
@@ -60,7 +61,7 @@ impl<'c> Workers<'c> {
     /// The members of the balancer at this place.
     pub(crate) fn members(&self, place: u32) -> &[MemberConfig]
         ensures members { result.now ≡ members_at self.now place }
-        ensures few { length result.now ≤ 64 }
+        ensures few { length result.now ≤ MAX_MEMBERS }
     {
         match self.config.lbs.get(place as usize) {
             Some(lb) => lb.book.members.as_slice(),

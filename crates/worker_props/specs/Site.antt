@@ -24,6 +24,7 @@ use Rattle.property_lines.specs.Properties.{read_text}
 use Rattle.worker_props.specs.Given.{IsChain, in_force, is_given, last_of, BreaksAt}
 use Rattle.worker_props.specs.Lists.{Listing, firsts, site_list, members_in}
 use Rattle.worker_props.specs.Settings.{IsEndpoint, IsMember, kind_in, method_in, truth_or, number_or, filled_or}
+use Rattle.jk_model.specs.declared.config.TheConstants.{MAX_BALANCERS, MAX_MEMBERS, MAX_PERIOD_SECONDS}
 
 -- the members of these names, from place i on, with how each is reached
 abbrev pub AreMembers : List Property → List (List ℕ) → ℕ → List Listing → List MemberConfig → List Endpoint → Type 0
@@ -44,7 +45,7 @@ pub record IsLb (ps : List Property) (v : Directive → Option Property) (mainta
   pub force : lb.book.force ≡ truth_or false (v directive.Force)
   pub indirect : lb.book.direct ≡ false
   pub period : lb.book.maintain ≡ maintain
-  pub recover : lb.book.recover ≡ number_or 1 86400 60 (v directive.RecoverTime)
+  pub recover : lb.book.recover ≡ number_or 1 MAX_PERIOD_SECONDS 60 (v directive.RecoverTime)
   pub members : AreMembers ps (routes_of lb.book.members) 0 ls lb.book.members lb.ends
   pub cookie : lb.cookie ≡ filled_or (codes "JSESSIONID") (v directive.Cookie)
   pub path : lb.path ≡ filled_or (codes ";jsessionid") (v directive.Path)
@@ -103,8 +104,8 @@ IsAjp13 ps l = HasKind ps l.name kind.Ajp13
 abbrev pub RefusesBook : List Property → ℕ → List Listing → LineRefusal → Type 0
 RefusesBook ps line members r =
     ((length members ≡ 0) × (r ≡ refusal line reason.NoMembers))
-    ⊎ (((64 < length members) × (r ≡ refusal line reason.TooManyMembers))
-    ⊎ ((ms : List MemberConfig) × (es : List Endpoint) × (1 ≤ length members) × (length members ≤ 64)
+    ⊎ (((MAX_MEMBERS < length members) × (r ≡ refusal line reason.TooManyMembers))
+    ⊎ ((ms : List MemberConfig) × (es : List Endpoint) × (1 ≤ length members) × (length members ≤ MAX_MEMBERS)
     × AreMembers ps (routes_of ms) 0 members ms es × (2 ^ 32 ≤ multiple_of (factors_in ms)) × (r ≡ refusal line reason.TooWide)))
 
 abbrev pub line_in : Option Property → ℕ
@@ -116,13 +117,13 @@ abbrev pub RefusesLb : List Property → ℕ → Listing → (Directive → Opti
 RefusesLb ps count l v members r =
     FirstBad (Chained ps) (Breaks ps) members r
     ⊎ ((Each (Chained ps) members × FirstBad (Known ps) (IsUnknown ps) members r)
-    ⊎ ((Each (Chained ps) members × Each (Known ps) members × (1024 ≤ count) × (r ≡ refusal l.line reason.BadValue))
-    ⊎ ((Each (Chained ps) members × Each (Known ps) members × (count < 1024) × FirstBad (IsAjp13 ps) (IsNoAjp13 ps) members r)
-    ⊎ (Each (Known ps) members × (count < 1024) × Each (IsAjp13 ps) members × RefusesBook ps (line_in (v directive.Kind)) (firsts members) r))))
+    ⊎ ((Each (Chained ps) members × Each (Known ps) members × (MAX_BALANCERS ≤ count) × (r ≡ refusal l.line reason.BadValue))
+    ⊎ ((Each (Chained ps) members × Each (Known ps) members × (count < MAX_BALANCERS) × FirstBad (IsAjp13 ps) (IsNoAjp13 ps) members r)
+    ⊎ (Each (Known ps) members × (count < MAX_BALANCERS) × Each (IsAjp13 ps) members × RefusesBook ps (line_in (v directive.Kind)) (firsts members) r))))
 
 abbrev pub RefusesKind : List Property → ℕ → Listing → (Directive → Option Property) → WorkerKind → LineRefusal → Type 0
 RefusesKind ps count l v kind.Status r = ⊥
-RefusesKind ps count l v kind.Ajp13 r = (1024 ≤ count) × (r ≡ refusal l.line reason.BadValue)
+RefusesKind ps count l v kind.Ajp13 r = (MAX_BALANCERS ≤ count) × (r ≡ refusal l.line reason.BadValue)
 RefusesKind ps count l v kind.Lb r = RefusesLb ps count l v (members_in ps (v directive.BalanceWorkers)) r
 
 -- the refusals of a listed worker after `count` balancers
@@ -145,10 +146,10 @@ abbrev pub AddsKind : List Property → ℕ → Listing → (Directive → Optio
 AddsKind ps maintain l v kind.Status old new =
     (s : Status) × (s.name ≡ l.name) × (s.read_only ≡ truth_or false (v directive.ReadOnly)) × (new ≡ with_status old l.name s)
 AddsKind ps maintain l v kind.Ajp13 old new =
-    (length old.lbs < 1024) × (lb : Lb) × IsDirect ps maintain l lb × (new ≡ with_lb old l.name lb)
+    (length old.lbs < MAX_BALANCERS) × (lb : Lb) × IsDirect ps maintain l lb × (new ≡ with_lb old l.name lb)
 AddsKind ps maintain l v kind.Lb old new =
     let members = members_in ps (v directive.BalanceWorkers) in
-    (length old.lbs < 1024) × Each (Known ps) members × Each (IsAjp13 ps) members
+    (length old.lbs < MAX_BALANCERS) × Each (Known ps) members × Each (IsAjp13 ps) members
     × (lb : Lb) × IsLb ps v maintain l.name (firsts members) lb × (new ≡ with_lb old l.name lb)
 
 abbrev pub Adds : List Property → ℕ → Listing → Draft → Draft → Type 0
@@ -171,7 +172,7 @@ abbrev pub is_maintain_line : Property → Bool
 is_maintain_line p = bytes_eq p.key maintain_key
 
 abbrev pub maintain_of : List Property → ℕ
-maintain_of ps = number_or 1 86400 60 (last_of is_maintain_line ps)
+maintain_of ps = number_or 1 MAX_PERIOD_SECONDS 60 (last_of is_maintain_line ps)
 
 -- whether a key has an effect
 abbrev pub is_built_part : Option (List ℕ × List ℕ) → List ℕ → Bool

@@ -1,5 +1,5 @@
 //! Balancers that are made of lb workers, and of ajp13 workers that are listed themselves.
-ghost use Rattle.std.specs.Prelude.{◌≡◌, ◌≤◌, ◌<◌, ◌^◌, [], ◌∷◌, length, IfOk, IfErr, OnOk};
+ghost use Rattle.std.specs.Prelude.{◌≡◌, ◌≤◌, ◌<◌, [], ◌∷◌, length, IfOk, IfErr, OnOk};
 ghost use Rattle.jk_model.specs.Multiple.{multiple_of};
 ghost use Rattle.jk_model.specs.Ranges.{AreInRange, IsPeriod, factors_in};
 ghost use Rattle.property_lines.specs.Entries.{as_properties};
@@ -8,6 +8,7 @@ ghost use Rattle.property_lines.specs.Refusals.{IsRefusal};
 ghost use Rattle.worker_props.specs.Rows.{property_at};
 ghost use Rattle.worker_props.specs.Site.{Each, IsDirect, IsLb, Known, Chained, RefusesBook, line_in};
 ghost use Rattle.worker_props.specs.Tables.{AreAtRest, lines_in};
+ghost use Rattle.jk_model.specs.declared.config.TheConstants.{MAX_MEMBERS};
 
 use crate::given::Given;
 use crate::listing::Listing;
@@ -80,7 +81,7 @@ fn lb_of<'t>(
     requires given { Each (Known (lines_in given.now)) (as_listings members.now) }
     requires chained { Each (Chained (lines_in given.now)) (as_listings members.now) }
     requires some { 1 ≤ length members.now }
-    requires few { length members.now ≤ 64 }
+    requires few { length members.now ≤ MAX_MEMBERS }
     ensures rows { OnOk result (AreAtRest given.now rows.new.items) }
     ensures lb { IfOk result (IsLb (lines_in given.now) (property_at (lines_in given.now) row.now)
         given.now.maintain listing.now.name.now (as_listings members.now)) }

@@ -4,6 +4,7 @@ ghost use Rattle.std.specs.Option.{option_map};
 ghost use Rattle.property_lines.specs.Entries.{as_properties};
 ghost use Rattle.worker_props.specs.Rows.{property_at};
 ghost use Rattle.worker_props.specs.Settings.{IsEndpoint, IsMember, redirect_in, other_at, statuses_in, text_in};
+ghost use Rattle.jk_model.specs.declared.config.TheConstants.{MAX_MEMBERS};
 
 use crate::row::Row;
 use crate::settings::{activation, number_or, text, text_or};
@@ -64,7 +65,7 @@ pub(crate) fn endpoint_of<'t>(
 
 /// The first place from `from` on, but `index`, whose route is the text.
 fn other_at(index: usize, text: &[u8], routes: &[&[u8]]) -> Option<u32>
-    requires { length routes.now < 65 }
+    requires { length routes.now < MAX_MEMBERS + 1 }
     ensures { result ≡ other_at index text.now 0 (map (λ r. r.now) routes.now) }
 {
     for (i, route) in routes.iter().enumerate() {
@@ -76,7 +77,7 @@ fn other_at(index: usize, text: &[u8], routes: &[&[u8]]) -> Option<u32>
 }
 
 fn redirect(index: usize, text: Option<&[u8]>, routes: &[&[u8]]) -> Option<u32>
-    requires { length routes.now < 65 }
+    requires { length routes.now < MAX_MEMBERS + 1 }
     ensures { result ≡ redirect_in (map (λ r. r.now) routes.now) index (option_map (λ t. t.now) text.entry) }
 {
     match text {
@@ -94,7 +95,7 @@ pub(crate) fn member_of<'t>(
     routes: &[&[u8]],
     index: usize,
 ) -> Result<MemberConfig, NoMemory>
-    requires { length routes.now < 65 }
+    requires { length routes.now < MAX_MEMBERS + 1 }
     ensures { IfOk result (IsMember (property_at (as_properties entries.now) row.now) name.now (map (λ r. r.now) routes.now) index) }
 {
     let route = text_or(entries, row, Directive::Route, name);

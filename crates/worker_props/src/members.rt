@@ -8,6 +8,7 @@ ghost use Rattle.worker_props.specs.Listings.{as_listing, as_listings};
 ghost use Rattle.property_lines.specs.Refusals.{IsRefusal};
 ghost use Rattle.worker_props.specs.Site.{AreMembers, Breaks, Chained, Each, FirstBad, IsAjp13, IsNoAjp13, IsUnknown, Known, routes_of};
 ghost use Rattle.worker_props.specs.Tables.{AreAtRest, lines_in};
+ghost use Rattle.jk_model.specs.declared.config.TheConstants.{MAX_MEMBERS};
 
 use crate::given::Given;
 use crate::listing::Listing;
@@ -131,7 +132,7 @@ fn built<'t>(
     routes: &[&[u8]],
 ) -> Result<Members, PropsError>
     requires rows { length rows.now ≡ length members.now }
-    requires routes { length routes.now < 65 }
+    requires routes { length routes.now < MAX_MEMBERS + 1 }
     ensures built { IfOk result (λ b. AreBuilt (as_properties entries.now) (map (λ r. r.now) routes.now) 0
         (as_listings members.now) rows.now b.configs.items b.ends.items) }
     ensures memory { IfErr result (λ e. e ≡ PropsError.NoMemory) }
@@ -158,7 +159,7 @@ pub(crate) fn members_of<'t>(
     requires rows { AreAtRest given.now rows.old.items }
     requires given { Each (Known (lines_in given.now)) (as_listings members.now) }
     requires chained { Each (Chained (lines_in given.now)) (as_listings members.now) }
-    requires few { length members.now ≤ 64 }
+    requires few { length members.now ≤ MAX_MEMBERS }
     ensures rows { OnOk result (AreAtRest given.now rows.new.items) }
     ensures members { IfOk result (λ b. AreMembers (lines_in given.now) (routes_of b.configs.items) 0
         (as_listings members.now) b.configs.items b.ends.items) }

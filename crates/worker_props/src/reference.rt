@@ -7,6 +7,7 @@ ghost use Rattle.worker_props.specs.Numbers.{number_of};
 ghost use Rattle.worker_props.specs.Rows.{adjusted};
 ghost use Rattle.worker_props.specs.Tables.{AreAtRest, lines_in};
 ghost use Rattle.worker_props.specs.Ways.{IsWay, IsBroken, IsSettled, Inherits, is_open, passed_row, row_of_target};
+ghost use Rattle.property_lines.specs.declared.directive.TheConstants.{DIRECTIVE_COUNT};
 
 use crate::given::Given;
 use crate::name_table::NameTable;
@@ -49,8 +50,8 @@ fn or_else(own: Option<u32>, other: Option<u32>) -> Option<u32>
 
 /// The places of a row, and those of another where it has none.
 fn inherited(own: &[Option<u32>; 24], from: &[Option<u32>; 24]) -> [Option<u32>; 24]
-    ensures wide { length result ≡ 24 }
-    ensures each { (k : ℕ) → k < 24 → slice_index_or result k None
+    ensures wide { length result ≡ DIRECTIVE_COUNT }
+    ensures each { (k : ℕ) → k < DIRECTIVE_COUNT → slice_index_or result k None
         ≡ or_else (slice_index_or own.now k None) (slice_index_or from.now k None) }
 {
     let mut places = *own;

@@ -5,6 +5,7 @@ ghost use Rattle.property_lines.specs.Directives.{slot_of};
 ghost use Rattle.property_lines.specs.Entries.{as_property, as_properties};
 ghost use Rattle.worker_props.specs.Ways.{is_whole, passed_row};
 ghost use Rattle.worker_props.specs.Rows.{place_at, picked, property_at, row_with};
+ghost use Rattle.property_lines.specs.declared.directive.TheConstants.{DIRECTIVE_COUNT};
 
 use property_lines::{Directive, PropertyLine};
 
@@ -30,7 +31,7 @@ impl Row {
     /// No line.
     pub(crate) fn new() -> Row
         ensures progress { result.progress ≡ Progress.Own }
-        ensures wide { length result.places ≡ 24 }
+        ensures wide { length result.places ≡ DIRECTIVE_COUNT }
         ensures places { (d : Directive) → place_at result d ≡ None }
     {
         Row {

@@ -5,6 +5,7 @@ ghost use Rattle.property_lines.specs.Directives.{worker_part};
 ghost use Rattle.property_lines.specs.Entries.{as_property, as_properties};
 ghost use Rattle.worker_props.specs.Site.{ignored_of, is_built, is_maintain_line, maintain_of};
 ghost use Rattle.worker_props.specs.Given.{last_of};
+ghost use Rattle.jk_model.specs.declared.config.TheConstants.{MAX_PERIOD_SECONDS};
 
 use jk_io::{Bytes, ListOf, NoMemory};
 use property_lines::{
@@ -30,7 +31,7 @@ fn maintain_line<'t>(entries: &[PropertyLine<'t>]) -> Option<PropertyLine<'t>>
 pub(crate) fn maintain_of(entries: &[PropertyLine<'_>]) -> u64
     ensures value { result ≡ maintain_of (as_properties entries.now) }
     ensures above { 1 ≤ result }
-    ensures below { result ≤ 86400 }
+    ensures below { result ≤ MAX_PERIOD_SECONDS }
 {
     match maintain_line(entries) {
         Some(entry) => match number_in(1, 86400, entry.value) {

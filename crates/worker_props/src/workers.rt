@@ -23,14 +23,12 @@ use crate::site::{check_known, force_of};
 use crate::table::{names_of, rows_of};
 use crate::whole::{ignored_of, maintain_of};
 use jk_io::{Bytes, ListOf};
+use jk_model::MAX_BALANCERS;
 use property_lines::{
     Directive, PropertyLine, PropsError, PropsReason, WorkerKind, read_entries, refused,
 };
 use site_config::{Config, Status};
 use std::alloc::Global;
-
-/// The most balancers of a configuration.
-const MAX_BALANCERS: usize = 1024;
 
 /// Adds an lb worker.
 fn add_lb<'t>(

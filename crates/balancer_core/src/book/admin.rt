@@ -1,9 +1,9 @@
 //! The call of a Book that does a command of the status worker.
 
+use super::Book;
 use super::adding::{add, take_room};
-use super::{Book, MOST_NUMBERS};
 use crate::commanded::judge;
-use jk_model::{AdminError, Answer, Call, Command, Entry, FullMark};
+use jk_model::{AdminError, Answer, Call, Command, Entry, FullMark, MOST_NUMBERS};
 
 impl Book {
     ghost use Rattle.std.specs.Prelude.{◌≡◌, IfOk, OnErr};

@@ -1,8 +1,8 @@
 //! The call of a Book that does a maintenance where one is due.
 
+use super::Book;
 use super::adding::{add, take_room};
-use super::{Book, MOST_NUMBERS};
-use jk_model::{Answer, Call, Entry, FullMark, RoomError};
+use jk_model::{Answer, Call, Entry, FullMark, MOST_NUMBERS, RoomError};
 
 impl Book {
     ghost use Rattle.std.specs.Prelude.{◌≡◌, IfOk, IfSome, MatchOption, OnErr};

@@ -9,7 +9,7 @@ use std::marker::PhantomData;
 use std::sync::ledger::{Book as Tally, Share};
 
 impl<L: SiteName> Site<L> {
-    ghost use Rattle.std.specs.Prelude.{◌≡◌, ◌+◌, ◌<◌, ◌≤◌, ◌^◌, ◌↔◌, true, false, length, slice_index, IfOk, IfErr, IfSome, IsOk, OnErr, OnOk, MatchOption, MatchResult};
+    ghost use Rattle.std.specs.Prelude.{◌≡◌, ◌+◌, ◌<◌, ◌≤◌, ◌↔◌, true, false, length, slice_index, IfOk, IfErr, IfSome, IsOk, OnErr, OnOk, MatchOption, MatchResult};
     ghost use Rattle.jk_model.specs.Choice.{IsPick};
     ghost use Rattle.jk_model.specs.Free.{is_in};
     ghost use Rattle.jk_model.specs.Tickets.{is_out};
@@ -19,6 +19,7 @@ impl<L: SiteName> Site<L> {
     ghost use Rattle.locked_balancer.specs.Notes.{lease_of};
     ghost use Rattle.locked_balancer.specs.Sites.{AddsAt, At};
     ghost use Rattle.locked_balancer.specs.SiteAnswers.{IsCommandedAt, IsMaintenanceAt, IsRoomAt};
+    ghost use Rattle.jk_model.specs.declared.journal.TheConstants.{MOST_BYTES};
 
     /// Answers an ask of a session at a moment. It takes the room for the Return of the ticket, too.
     pub fn select(
@@ -70,7 +71,7 @@ impl<L: SiteName> Site<L> {
         share: &mut Share<L>,
     ) -> Result<SiteReceipt<L>, SiteStray<L>>
         requires lb { lease.lb < length self.old }
-        requires bytes { outcome.bytes ≤ 2 ^ 44 }
+        requires bytes { outcome.bytes ≤ MOST_BYTES }
         requires part { 0 < share.old.parts }
         ensures found { At self.old lease.lb (λ b. IsOk result ↔ (is_out b.opening (past_of b) lease.ticket ≡ true)) }
         ensures ok { IfOk result (λ r. AddsAt self.old self.new lease.lb session at (Call.Return lease.ticket outcome) r) }

@@ -8,7 +8,7 @@ use std::marker::PhantomData;
 use std::sync::ledger::{Blank, Share};
 
 impl<L: SiteName> Site<L> {
-    ghost use Rattle.std.specs.Prelude.{◌≡◌, ◌<◌, ◌≤◌, ◌^◌, length, IfOk};
+    ghost use Rattle.std.specs.Prelude.{◌≡◌, ◌<◌, ◌≤◌, length, IfOk};
     ghost use Rattle.std.specs.List.{All};
     ghost use Rattle.jk_model.specs.Present.{IsPresent};
     ghost use Rattle.balancer_core.specs.Bounds.{ChoseWell, IsBounded};
@@ -17,6 +17,8 @@ impl<L: SiteName> Site<L> {
     ghost use Rattle.balancer_core.specs.ToldBooks.{sizes_of};
     ghost use Rattle.balancer_core.specs.Weights.{AreLevel, IsEvenEpoch};
     ghost use Rattle.locked_balancer.specs.Sites.{AreSited, At, added_in, nexts_of};
+    ghost use Rattle.jk_model.specs.declared.config.TheConstants.{MAX_BALANCERS};
+    ghost use Rattle.locked_balancer.specs.declared.site.TheConstants.{MOST_ENTRIES};
 
     /// Puts Books that have added no entry under the ledger of a blank. The share has all its parts. It takes no memory.
     pub fn open(blank: Blank, books: BookList) -> (Site<L>, Share<L>)
@@ -24,7 +26,7 @@ impl<L: SiteName> Site<L> {
         requires parts { blank.parts ≡ L.parts }
         requires sizes { sizes_of books ≡ L.sizes }
         requires firsts { nexts_of books ≡ L.firsts }
-        requires few { length books ≤ 1024 }
+        requires few { length books ≤ MAX_BALANCERS }
         requires modern { AreModern books }
         requires fresh { All (λ b. b.added ≡ 0) books }
         ensures books { result.0 ≡ books }
@@ -48,7 +50,7 @@ impl<L: SiteName> Site<L> {
     /// Tells how a share stands to the entries that were added, which are few.
     pub fn audit(&mut self, share: &mut Share<L>)
         ensures within { share.old.amount ≤ added_in self.old }
-        ensures few { added_in self.old ≤ 2 ^ 58 }
+        ensures few { added_in self.old ≤ MOST_ENTRIES }
         ensures named { AreSited L.sizes L.firsts self.new }
         ensures whole { share.old.parts ≡ L.parts → share.old.amount ≡ added_in self.old }
         ensures same { self.new ≡ self.old }
