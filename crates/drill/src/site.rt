@@ -8,7 +8,7 @@ ghost use Rattle.drill.specs.Sites.{IsDrillBook, IsDrillSite, member_of, two_mem
 use jk_io::{Bytes, ListOf, NoMemory};
 use jk_model::{Activation, FailList, LbConfig, MemberConfig, MemberList, Method};
 use mini_container::AppConfig;
-use site_config::{Config, EndList, Endpoint, Lb, LbList, Named, NamedList};
+use site_config::{Config, EndList, Endpoint, IgnoredList, Lb, LbList, Named, NamedList};
 use std::alloc::Global;
 use uri_map::{MapError, UriMap, read_map};
 
@@ -140,7 +140,7 @@ fn config(alloc: Global) -> Result<Config, NoMemory>
         statuses: ListOf::new(alloc),
         listed,
         maintain: MINUTE,
-        ignored: ListOf::new(alloc),
+        ignored: IgnoredList::new(alloc),
     })
 }
 

@@ -3,6 +3,7 @@ ghost use Rattle.std.specs.Prelude.{◌≡◌, ◌≤◌, length, true};
 ghost use Rattle.site_config.specs.Places.{are_places};
 
 use crate::balancer::LbList;
+use crate::ignored::IgnoredList;
 use jk_io::{Bytes, ListOf};
 
 /// A worker that shows and changes the balancers' state.
@@ -26,9 +27,6 @@ pub type StatusList = ListOf<Status>;
 /// The names of `worker.list`, in order, each once.
 pub type NamedList = ListOf<(Bytes, Named)>;
 
-/// The lines whose keys have no effect, each with its key.
-pub type IgnoredList = ListOf<(u32, Bytes)>;
-
 /// The balancers and status workers of a site.
 #[derive(Debug, Drop)]
 pub struct Config {
@@ -39,6 +37,7 @@ pub struct Config {
     pub listed: NamedList,
     /// Seconds between two maintenances, 1 to 86,400.
     pub maintain: u64,
+    /// The lines whose keys have no effect, each with its key.
     pub ignored: IgnoredList,
     pub ghost few: { length lbs ≤ 1024 },
     pub ghost placed: { are_places (length lbs) (length statuses) listed ≡ true },

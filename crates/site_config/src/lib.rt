@@ -9,7 +9,9 @@
 mod balancer;
 mod config;
 mod endpoint;
+mod ignored;
 
 pub use balancer::{Lb, LbList};
-pub use config::{Config, IgnoredList, Named, NamedList, Status, StatusList};
+pub use config::{Config, Named, NamedList, Status, StatusList};
 pub use endpoint::{EndList, Endpoint};
+pub use ignored::IgnoredList;

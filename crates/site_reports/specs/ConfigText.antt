@@ -55,6 +55,10 @@ shown_key (Some rest) line key = codes "ignored " ++ decimal line ++ codes " " +
 abbrev pub ignored_line : ℕ × List ℕ → List ℕ
 ignored_line entry = shown_key (behind_worker entry.1) entry.0 entry.1
 
+abbrev pub ignored_at : Option (ℕ × List ℕ) → List ℕ
+ignored_at None = []
+ignored_at (Some entry) = ignored_line entry
+
 abbrev pub config_text : Config → List ℕ
 config_text c =
     flat_map (listed_lines c.lbs c.statuses) c.listed

@@ -1,9 +1,10 @@
 //! The lines of a configuration.
-ghost use Rattle.std.specs.Prelude.{◌≡◌, ◌++◌, OnOk};
+ghost use Rattle.std.specs.Prelude.{◌≡◌, ◌++◌, OnOk, slice_get};
 ghost use Rattle.std.specs.List.{flat_map};
 ghost use Rattle.site_reports.specs.ConfigText.{
   balancer_lines,
   config_text,
+  ignored_at,
   ignored_line,
   kind_words,
   listed_lines,
@@ -17,7 +18,7 @@ use crate::member_line::put_member;
 use crate::words::{method_letter, put_number, put_text, truth_digit};
 use jk_io::{Bytes, NoMemory};
 use property_lines::behind_worker;
-use site_config::{Config, Lb, Named, Status};
+use site_config::{Config, IgnoredList, Lb, Named, Status};
 
 fn put_members(out: &mut Bytes, lb: &Lb) -> Result<(), NoMemory>
     ensures { OnOk result (out.new ≡ out.old ++ member_lines lb.now) }
@@ -101,11 +102,20 @@ fn put_ignored_line(out: &mut Bytes, line: u32, key: &[u8]) -> Result<(), NoMemo
     out.extend(b"\n")
 }
 
-fn put_ignored(out: &mut Bytes, ignored: &[(u32, Bytes)]) -> Result<(), NoMemory>
+fn put_ignored_at(out: &mut Bytes, ignored: &IgnoredList, place: usize) -> Result<(), NoMemory>
+    ensures { OnOk result (out.new ≡ out.old ++ ignored_at (slice_get ignored.now place)) }
+{
+    match ignored.get(place) {
+        None => Ok(()),
+        Some((line, key)) => put_ignored_line(out, line, key),
+    }
+}
+
+fn put_ignored(out: &mut Bytes, ignored: &IgnoredList) -> Result<(), NoMemory>
     ensures { OnOk result (out.new ≡ out.old ++ flat_map ignored_line ignored.now) }
 {
-    for entry in ignored {
-        put_ignored_line(out, entry.0, entry.1.as_slice())?;
+    for place in 0..ignored.len() {
+        put_ignored_at(out, ignored, place)?;
     }
     Ok(())
 }
@@ -118,5 +128,5 @@ pub fn put_config(out: &mut Bytes, config: &Config) -> Result<(), NoMemory>
     put_workers(out, config)?;
     put_number(out, b"maintain ", config.maintain)?;
     out.extend(b"\n")?;
-    put_ignored(out, config.ignored.as_slice())
+    put_ignored(out, &config.ignored)
 }

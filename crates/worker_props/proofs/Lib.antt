@@ -8,6 +8,8 @@ pub mod MemberListLemmas
 pub mod OneConfig
 pub mod OneRefusal
 pub mod RowLemmas
+pub mod SameLemmas
 pub mod TableLemmas
+pub mod ToldLemmas
 pub mod WayLemmas
 pub mod WorkerLemmas

@@ -1,5 +1,5 @@
 -- The second pass: lists, refusals, and workers one after another.
-use Rattle.std.proofs.Common.{◌≡◌, ℕ, ◌+◌, ◌<◌, true, List, [], ◌∷◌, length, drop, get_or, Option, Result, Ok, Err, OnOk, refl, sym, ◌∙◌, subst, inr, arith, ◌%◌, IfOk, IfErr}
+use Rattle.std.proofs.Common.{◌≡◌, ℕ, ◌+◌, ◌<◌, List, [], ◌∷◌, length, drop, get_or, Option, Result, Ok, Err, OnOk, refl, sym, ◌∙◌, subst, inr, arith, ◌%◌}
 use Rattle.std.proofs.lemmas.List.{drop_more}
 use Rattle.std.proofs.lemmas.Nat.Gcd.{IsGcd-from_zero, IsGcd-from_mod, IsGcd-swap}
 use Rattle.jk_model.specs.Multiple.{multiple_of}
@@ -7,8 +7,6 @@ use Rattle.jk_model.proofs.MultipleFacts.{multiple_of_two-by}
 use Rattle.property_lines.specs.declared.property.Property.{Property}
 use Rattle.property_lines.specs.declared.directive.Directive.{Directive}
 use Rattle.property_lines.specs.declared.directive.Directive.TheVariants as directive
-use Rattle.property_lines.specs.Properties.{read_text}
-use Rattle.site_config.specs.declared.config.Config.{Config}
 use Rattle.worker_props.specs.declared.draft.Draft.{Draft}
 use Rattle.property_lines.specs.declared.error.PropsError.{PropsError}
 use Rattle.property_lines.specs.declared.error.PropsError.TheVariants as errors
@@ -16,13 +14,13 @@ use Rattle.worker_props.specs.declared.listing.Listing as declared
 use Rattle.worker_props.specs.declared.row.Row.{Row}
 use Rattle.worker_props.specs.Building.{IsBuilding}
 use Rattle.worker_props.specs.Given.{in_force}
-use Rattle.worker_props.specs.Lists.{Listing, firsts, site_list}
+use Rattle.worker_props.specs.Lists.{Listing}
 use Rattle.worker_props.specs.Listings.{as_listing, as_listings}
 use Rattle.property_lines.specs.Refusals.{LineRefusal, IsRefusal}
 use Rattle.worker_props.specs.Rows.{HasForce, property_at}
 use Rattle.worker_props.specs.Settings.{kind_in}
 use Rattle.property_lines.specs.declared.values.WorkerKind.TheVariants as kind
-use Rattle.worker_props.specs.Site.{Adds, AddsKind, Builds, IsConfig, IsRefused, Known, RefusesKind, Stops, draft_of, ignored_of, maintain_of, no_workers}
+use Rattle.worker_props.specs.Site.{Adds, AddsKind, Builds, Known, RefusesKind, Stops}
 
 -- what a call makes at Ok is what its caller means
 pub on_ok : {T E : Type 0} (r : Result T E) (P Q : Type 0) → OnOk r P → (P → Q) → OnOk r Q
@@ -57,16 +55,3 @@ building_more ps maintain ls start now next i d h adds b = record {
   builds = λ new rest. b.builds new (subst (λ (xs : List Listing). Builds ps maintain xs now new) (sym (left_at ls i d h)) (next, adds, rest));
   stops = λ r rest. b.stops r (subst (λ (xs : List Listing). Stops ps maintain xs now r) (sym (left_at ls i d h)) (inr (next, adds, rest)));
 }
-
--- the configuration of a text's lines is that of the text, and so is their refusal
-pub config_is : (text : List ℕ) (ps : List Property) (r : Result Config PropsError) → read_text true text ≡ Ok ps
-    → IfOk r (λ c. Builds ps (maintain_of ps) (firsts (site_list ps)) no_workers (draft_of c)) → IfOk r (λ c. c.maintain ≡ maintain_of ps) → IfOk r (λ c. c.ignored ≡ ignored_of ps)
-    → IfOk r (IsConfig text)
-config_is text ps (Ok c) read workers maintain ignored = record { properties = ps; read = read; maintain = maintain; workers = workers; ignored = ignored }
-config_is text ps (Err e) read workers maintain ignored = tt
-
-pub refused_is : (text : List ℕ) (ps : List Property) (r : Result Config PropsError) → read_text true text ≡ Ok ps
-    → IfErr r (IsRefusal (Stops ps (maintain_of ps) (firsts (site_list ps)) no_workers)) → IfErr r (IsRefusal (IsRefused text))
-refused_is text ps (Ok c) read stops = tt
-refused_is text ps (Err (errors.Refused line code)) read stops = inr (ps, read, stops)
-refused_is text ps (Err errors.NoMemory) read stops = tt

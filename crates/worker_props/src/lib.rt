@@ -22,6 +22,7 @@ mod row;
 mod settings;
 mod site;
 mod table;
+mod told;
 mod whole;
 mod workers;
 
@@ -29,4 +30,4 @@ pub use property_lines::{Property, PropertyList, PropsError, read_properties};
 pub use site_config::{
     Config, EndList, Endpoint, IgnoredList, Lb, LbList, Named, NamedList, Status, StatusList,
 };
-pub use workers::{read_workers, workers_of};
+pub use workers::read_workers;

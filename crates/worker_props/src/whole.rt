@@ -1,18 +1,15 @@
 //! What a text says of the site as a whole.
-ghost use Rattle.std.specs.Prelude.{◌≡◌, ◌≤◌, IfOk};
+ghost use Rattle.std.specs.Prelude.{◌≡◌, ◌≤◌};
 ghost use Rattle.std.specs.Option.{option_map};
 ghost use Rattle.property_lines.specs.Directives.{worker_part};
 ghost use Rattle.property_lines.specs.Entries.{as_property, as_properties};
-ghost use Rattle.worker_props.specs.Site.{ignored_of, is_built, is_maintain_line, maintain_of};
+ghost use Rattle.worker_props.specs.Site.{is_built, is_maintain_line, maintain_of};
 ghost use Rattle.worker_props.specs.Given.{last_of};
 ghost use Rattle.jk_model.specs.declared.config.TheConstants.{MAX_PERIOD_SECONDS};
 
-use jk_io::{Bytes, ListOf, NoMemory};
 use property_lines::{
     PropertyLine, directive_of, is_list_key, is_maintain_key, number_in, worker_part,
 };
-use site_config::IgnoredList;
-use std::alloc::Global;
 
 /// The last line that gives the seconds between two maintenances.
 fn maintain_line<'t>(entries: &[PropertyLine<'t>]) -> Option<PropertyLine<'t>>
@@ -43,27 +40,11 @@ pub(crate) fn maintain_of(entries: &[PropertyLine<'_>]) -> u64
 }
 
 /// Whether a key has an effect.
-fn is_built(key: &[u8]) -> bool
+pub(crate) fn is_built(key: &[u8]) -> bool
     ensures { result ≡ is_built key.now }
 {
     match worker_part(key) {
         None => is_list_key(key) || is_maintain_key(key),
         Some((_, text)) => directive_of(text).is_some(),
     }
-}
-
-/// The lines whose keys have no effect.
-pub(crate) fn ignored_of(
-    alloc: Global,
-    entries: &[PropertyLine<'_>],
-) -> Result<IgnoredList, NoMemory>
-    ensures { IfOk result (λ l. l ≡ ignored_of (as_properties entries.now)) }
-{
-    let mut ignored = Vec::new(alloc);
-    for entry in entries {
-        if !is_built(entry.key) {
-            ignored.push((entry.line, Bytes::from_slice(alloc, entry.key)?))?;
-        }
-    }
-    Ok(ListOf::from_vec(ignored))
 }

@@ -8,7 +8,7 @@ ghost use Rattle.worker_props.specs.Lists.{firsts, site_list};
 ghost use Rattle.property_lines.specs.Refusals.{IsRefusal};
 ghost use Rattle.worker_props.specs.Rows.{HasForce, property_at};
 ghost use Rattle.worker_props.specs.Settings.{kind_in};
-ghost use Rattle.worker_props.specs.Site.{Adds, AddsKind, Builds, IsConfig, IsRefused, Known, Chained, Refuses, RefusesKind, Stops, draft_of, ignored_of, maintain_of, no_workers};
+ghost use Rattle.worker_props.specs.Site.{Adds, AddsKind, Builds, IsConfig, IsRefused, Known, Chained, Refuses, RefusesKind, Stops, draft_of, maintain_of, no_workers};
 ghost use Rattle.worker_props.specs.Tables.{AreAtRest, lines_in};
 
 use crate::books::{balanced, direct};
@@ -21,13 +21,12 @@ use crate::row::Row;
 use crate::settings::{kind, truth_or};
 use crate::site::{check_known, force_of};
 use crate::table::{names_of, rows_of};
-use crate::whole::{ignored_of, maintain_of};
+use crate::told::{Told, told_lines};
+use crate::whole::maintain_of;
 use jk_io::{Bytes, ListOf};
 use jk_model::MAX_BALANCERS;
-use property_lines::{
-    Directive, PropertyLine, PropsError, PropsReason, WorkerKind, read_entries, refused,
-};
-use site_config::{Config, Status};
+use property_lines::{Directive, PropertyLine, PropsError, PropsReason, WorkerKind, refused};
+use site_config::{Config, IgnoredList, Status};
 use std::alloc::Global;
 
 /// Adds an lb worker.
@@ -154,16 +153,19 @@ fn drafted(alloc: Global, given: &Given<'_, '_>) -> Result<Draft, PropsError>
     add_workers(alloc, given, &mut rows, listings.as_slice())
 }
 
-/// The configuration of the lines.
-fn config_of(alloc: Global, given: &Given<'_, '_>) -> Result<Config, PropsError>
+/// The configuration of the lines, beside those that have no effect.
+fn config_of(
+    alloc: Global,
+    given: &Given<'_, '_>,
+    ignored: IgnoredList,
+) -> Result<Config, PropsError>
     ensures ok { IfOk result (λ c. Builds (lines_in given.now) given.now.maintain
         (firsts (site_list (lines_in given.now))) no_workers (draft_of c)) }
     ensures maintain { IfOk result (λ c. c.maintain ≡ given.now.maintain) }
-    ensures ignored { IfOk result (λ c. c.ignored ≡ ignored_of (lines_in given.now)) }
+    ensures ignored { IfOk result (λ c. c.ignored ≡ ignored) }
     ensures refused { IfErr result (IsRefusal (Stops (lines_in given.now) given.now.maintain
         (firsts (site_list (lines_in given.now))) no_workers)) }
 {
-    let ignored = ignored_of(alloc, given.entries)?;
     let Draft {
         lbs,
         statuses,
@@ -178,14 +180,17 @@ fn config_of(alloc: Global, given: &Given<'_, '_>) -> Result<Config, PropsError>
     })
 }
 
-/// The configuration of lines that pass by themselves, as `read_entries` gives them where values count, or their first
-/// refusal.
-pub fn workers_of(alloc: Global, entries: &[PropertyLine<'_>]) -> Result<Config, PropsError>
+/// The configuration of lines that pass by themselves, beside those that have no effect.
+fn workers_of(
+    alloc: Global,
+    entries: &[PropertyLine<'_>],
+    ignored: IgnoredList,
+) -> Result<Config, PropsError>
     requires { length entries.now < 2 ^ 32 }
     ensures ok { IfOk result (λ c. Builds (as_properties entries.now) (maintain_of (as_properties entries.now))
         (firsts (site_list (as_properties entries.now))) no_workers (draft_of c)) }
     ensures maintain { IfOk result (λ c. c.maintain ≡ maintain_of (as_properties entries.now)) }
-    ensures ignored { IfOk result (λ c. c.ignored ≡ ignored_of (as_properties entries.now)) }
+    ensures ignored { IfOk result (λ c. c.ignored ≡ ignored) }
     ensures refused { IfErr result (IsRefusal (Stops (as_properties entries.now) (maintain_of (as_properties entries.now))
         (firsts (site_list (as_properties entries.now))) no_workers)) }
 {
@@ -199,7 +204,7 @@ pub fn workers_of(alloc: Global, entries: &[PropertyLine<'_>]) -> Result<Config,
         nobody: nobody.as_slice(),
         maintain: maintain_of(entries),
     };
-    config_of(alloc, &given)
+    config_of(alloc, &given, ignored)
 }
 
 /// The configuration that a workers.properties gives, or its first refusal: the first pass goes over the lines, the
@@ -209,5 +214,6 @@ pub fn read_workers(alloc: Global, text: &[u8]) -> Result<Config, PropsError>
     ensures ok { IfOk result (IsConfig text.now) }
     ensures refused { IfErr result (IsRefusal (IsRefused text.now)) }
 {
-    workers_of(alloc, read_entries(alloc, true, text)?.as_slice())
+    let Told { entries, ignored } = told_lines(alloc, text)?;
+    workers_of(alloc, entries.as_slice(), ignored)
 }
