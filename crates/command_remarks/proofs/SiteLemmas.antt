@@ -1,19 +1,28 @@
 -- What is told of a site, by the first of the files that were read and those after it.
-use Rattle.std.proofs.Common.{◌≡◌, ℕ, ◌-◌, ◌≤◌, Bool, List, [], ◌∷◌, Option, Some, Result, Ok, Err, IfOk, length, take, drop, get_or, arith, sym, subst, ◌∙◌, ap}
+use Rattle.std.proofs.Common.{◌≡◌, ℕ, ◌-◌, ◌≤◌, Bool, List, [], ◌∷◌, Option, Some, Result, Ok, Err, OnOk, length, take, drop, get_or, arith, sym, subst, ◌∙◌, ap}
 use Rattle.std.proofs.lemmas.List.{take_all}
 use Rattle.command_remarks.specs.declared.kept_files.ReadFile.{ReadFile}
 use Rattle.command_remarks.specs.Told.{AreSaid, SaysSite, map_among, text_of}
-use Rattle.site_remarks.specs.Remarks.{AreRemarks}
+use Rattle.jk_io.proofs.ToldLaws.{appended-nil}
+use Rattle.site_remarks.specs.Remarks.{AddsSaid, AreRemarks}
 
 -- what is told of the first file's text and the next one's is told of the site
-pub says_site : {E : Type 0} (effects : Bool) (reads : List ReadFile) (first : ReadFile) (workers : List ℕ × List ℕ) (map : Option (List ℕ × List ℕ)) (result : Result (List ℕ) E)
+pub says_site : (effects : Bool) (reads : List ReadFile) (first : ReadFile) (workers : List ℕ × List ℕ) (map : Option (List ℕ × List ℕ)) (out : List ℕ)
     → 1 ≤ length reads → first ≡ get_or reads 0 first → text_of first ≡ Some workers → map ≡ map_among (take (length reads - 1) (drop 1 reads))
-    → IfOk result (AreRemarks effects workers map) → IfOk result (SaysSite effects reads)
-says_site effects [] first workers map result some is text same said = absurd (omega arith)
-says_site effects (read ∷ reads) first workers map (Err e) some is text same said = tt
-says_site effects (read ∷ reads) first workers map (Ok out) some is text same said =
+    → AreRemarks effects workers map out → SaysSite effects reads out
+says_site effects [] first workers map out some is text same said = absurd (omega arith)
+says_site effects (read ∷ reads) first workers map out some is text same said =
     let it : first ≡ read = is in
     let found : text_of read ≡ Some workers = subst (λ (f : ReadFile). text_of f ≡ Some workers) it text in
     let rest : map ≡ map_among reads = same ∙ ap map_among (take_all (length (read ∷ reads) - 1) reads (omega arith)) in
     subst (λ (m : Option (List ℕ × List ℕ)). AreSaid effects (text_of read) m out) rest
     (subst (λ (w : Option (List ℕ × List ℕ)). AreSaid effects w map out) (sym found) said)
+
+-- nothing is said where nothing is to be
+pub says_none : (told : Option (List ℕ)) (so : List ℕ → Type 0) → so [] → AddsSaid told told so
+says_none told so none = ([], sym (appended-nil told), none)
+
+-- what a call makes at Ok is what its caller means
+pub on_ok : {T E : Type 0} (r : Result T E) (P Q : Type 0) → OnOk r P → (P → Q) → OnOk r Q
+on_ok (Ok x) P Q h f = f h
+on_ok (Err e) P Q h f = tt

@@ -5,7 +5,7 @@
 //! ended. Nothing here changes what the command reads, writes or answers.
 //! Contract: `remarks_on`, a clause for each status; `KeptFiles` and `CountedInput` are read as what they go round. Read first:
 //! specs/Told.antt.
-//! Errors: want of memory alone.
+//! Errors: a write that failed, and want of memory.
 #![tactic(auto)]
 
 mod counted_input;
@@ -20,3 +20,4 @@ pub use counted_input::{CountedInput, InputSeen};
 pub use kept_files::{KeptFiles, ReadFile};
 pub use last_read::unread_file;
 pub use remarks::{Ended, remarks_on};
+pub use site_remarks::RemarkOut;

@@ -1,13 +1,16 @@
 //! What a person is told of a command that ended.
-ghost use Rattle.std.specs.Prelude.{◌≡◌, ◌≢◌, [], IfOk, None, Some, true};
+ghost use Rattle.std.specs.Prelude.{◌≡◌, ◌≢◌, [], IfOk, OnOk, None, Some, true};
+ghost use Rattle.jk_io.specs.Told.{appended};
+ghost use Rattle.site_remarks.specs.Remarks.{AddsSaid};
 ghost use Rattle.command_remarks.specs.Told.{SaysEffects, SaysRefused, too_long_text, unread_name, unread_text};
 
 use crate::counted_input::InputSeen;
 use crate::kept_files::ReadFile;
 use crate::last_read::{long_file, unread_file};
-use crate::site::{effects_of, said_at, site_place};
+use crate::site::{put_effects, put_placed, site_place};
 use crate::words::said_of_words;
-use jk_io::{Bytes, MAX_INPUT_BYTES, NoMemory};
+use jk_io::{Bytes, IoError, MAX_INPUT_BYTES, NoMemory, Sink};
+use site_remarks::RemarkOut;
 use std::alloc::Global;
 
 /// A command that ended: its words, its status, and what it read.
@@ -31,22 +34,35 @@ fn too_long(alloc: Global, name: &[u8]) -> Result<Bytes, NoMemory>
     Ok(said)
 }
 
-/// Why a command refused what it read.
-fn refusal_of(
+/// Adds that a file or an input is too long.
+fn put_long<O: Sink + Drop>(
     alloc: Global,
+    out: &mut RemarkOut<O>,
+    name: &[u8],
+) -> Result<(), IoError>
+    ensures { OnOk result (out.new ≡ appended out.old (too_long_text name.now)) }
+{
+    let said = too_long(alloc, name)?;
+    out.put(said.as_slice())
+}
+
+/// Adds why a command refused what it read.
+fn put_refusal<O: Sink + Drop>(
+    alloc: Global,
+    out: &mut RemarkOut<O>,
     words: &[Bytes],
     reads: &[ReadFile],
     input: InputSeen,
-) -> Result<Bytes, NoMemory>
-    ensures { IfOk result (SaysRefused words.now reads.now input) }
+) -> Result<(), IoError>
+    ensures { OnOk result (AddsSaid out.old out.new (SaysRefused words.now reads.now input)) }
 {
     if let Some(name) = long_file(reads) {
-        return too_long(alloc, name);
+        return put_long(alloc, out, name);
     }
     if (MAX_INPUT_BYTES as u64) < input.bytes {
-        return too_long(alloc, b"standard input");
+        return put_long(alloc, out, b"standard input");
     }
-    said_at(alloc, reads, site_place(words))
+    put_placed(alloc, out, reads, site_place(words))
 }
 
 /// What can't be read.
@@ -85,24 +101,53 @@ fn unread_input(alloc: Global, failed: bool) -> Result<Bytes, NoMemory>
     }
 }
 
-/// What a person is told of a command that ended, besides what it printed: for status 2 the word at fault; for 3 the file,
-/// its line and what is wrong with it, or what is too long; for 4 the file and the system's reason; and of `config` what
-/// of its files has no effect.
-pub fn remarks_on(alloc: Global, ended: &Ended<'_>) -> Result<Bytes, NoMemory>
-    ensures effects { ended.now.status ≡ 0 → IfOk result (SaysEffects ended.now.words.now ended.now.reads.now) }
-    ensures refused { ended.now.status ≡ 3 → IfOk result (SaysRefused ended.now.words.now ended.now.reads.now ended.now.input) }
-    ensures unread { ended.now.status ≡ 4 → IfOk result (λ said. said
-        ≡ unread_text (unread_name ended.now.reads.now) ended.now.input.failed ended.now.reason.now) }
+/// Adds what can't be read.
+fn put_fault<O: Sink + Drop>(
+    alloc: Global,
+    out: &mut RemarkOut<O>,
+    ended: &Ended<'_>,
+) -> Result<(), IoError>
+    ensures { OnOk result (out.new ≡ appended out.old
+        (unread_text (unread_name ended.now.reads.now) ended.now.input.failed ended.now.reason.now)) }
+{
+    let said = fault_of(alloc, ended.reads, ended.input, ended.reason)?;
+    out.put(said.as_slice())
+}
+
+/// Adds what is wrong with words that are no command.
+fn put_words<O: Sink + Drop>(
+    alloc: Global,
+    out: &mut RemarkOut<O>,
+    words: &[Bytes],
+) -> Result<(), IoError> {
+    let said = said_of_words(alloc, words)?;
+    out.put(said.as_slice())
+}
+
+/// Adds what a person is told of a command that ended, besides what it printed: for status 2 the word at fault; for 3 the
+/// file, its line and what is wrong with it, or what is too long; for 4 the file and the system's reason; and of `config`
+/// what of its files has no effect.
+pub fn remarks_on<O: Sink + Drop>(
+    alloc: Global,
+    out: &mut RemarkOut<O>,
+    ended: &Ended<'_>,
+) -> Result<(), IoError>
+    ensures effects { ended.now.status ≡ 0
+        → OnOk result (AddsSaid out.old out.new (SaysEffects ended.now.words.now ended.now.reads.now)) }
+    ensures refused { ended.now.status ≡ 3
+        → OnOk result (AddsSaid out.old out.new (SaysRefused ended.now.words.now ended.now.reads.now ended.now.input)) }
+    ensures unread { ended.now.status ≡ 4 → OnOk result (out.new ≡ appended out.old
+        (unread_text (unread_name ended.now.reads.now) ended.now.input.failed ended.now.reason.now)) }
 
     // Of the other statuses 2 alone is told of, by its words.
     ensures other { ended.now.status ≢ 0 → ended.now.status ≢ 2 → ended.now.status ≢ 3 → ended.now.status ≢ 4
-        → IfOk result (λ said. said ≡ []) }
+        → OnOk result (out.new ≡ out.old) }
 {
     match ended.status {
-        0 => effects_of(alloc, ended.words, ended.reads),
-        2 => said_of_words(alloc, ended.words),
-        3 => refusal_of(alloc, ended.words, ended.reads, ended.input),
-        4 => fault_of(alloc, ended.reads, ended.input, ended.reason),
-        _ => Ok(Bytes::new(alloc)),
+        0 => put_effects(alloc, out, ended.words, ended.reads),
+        2 => put_words(alloc, out, ended.words),
+        3 => put_refusal(alloc, out, ended.words, ended.reads, ended.input),
+        4 => put_fault(alloc, out, ended),
+        _ => Ok(()),
     }
 }

@@ -1,14 +1,14 @@
 //! What is told of the files of a site that a command read.
-ghost use Rattle.std.specs.Prelude.{◌≡◌, IfOk, IfSome};
+ghost use Rattle.std.specs.Prelude.{◌≡◌, IfSome, OnOk};
 ghost use Rattle.std.specs.Option.{option_map};
 ghost use Rattle.jk_cli.specs.Orders.{command_of};
 ghost use Rattle.command_remarks.specs.Told.{SaysEffects, SaysEffectsAt, SaysPlaced, SaysSite, map_among, site_place, text_of};
-ghost use Rattle.site_remarks.specs.Remarks.{IsShort, as_file};
+ghost use Rattle.site_remarks.specs.Remarks.{AddsSaid, IsShort, as_file};
 
 use crate::kept_files::ReadFile;
 use jk_cli::{CommandName, command_of};
-use jk_io::{Bytes, NoMemory};
-use site_remarks::{SiteFile, SiteFiles, site_remarks};
+use jk_io::{Bytes, IoError, Sink};
+use site_remarks::{RemarkOut, SiteFile, SiteFiles, site_remarks};
 use std::alloc::Global;
 
 /// Where a command's WORKERS stands among its files, and whether what has no effect is told.
@@ -68,57 +68,64 @@ fn map_of(reads: &[ReadFile]) -> Option<SiteFile<'_>>
     }
 }
 
-/// What is told of a site whose WORKERS was read first.
-fn said_of_site(alloc: Global, reads: &[ReadFile], effects: bool) -> Result<Bytes, NoMemory>
-    ensures { IfOk result (SaysSite effects reads.now) }
+/// Adds what is told of a site whose WORKERS was read first.
+fn put_site<O: Sink + Drop>(
+    alloc: Global,
+    out: &mut RemarkOut<O>,
+    reads: &[ReadFile],
+    effects: bool,
+) -> Result<(), IoError>
+    ensures { OnOk result (AddsSaid out.old out.new (SaysSite effects reads.now)) }
 {
     let [first, rest @ ..] = reads else {
-        return Ok(Bytes::new(alloc));
+        return Ok(());
     };
     match file_of(first) {
-        None => Ok(Bytes::new(alloc)),
+        None => Ok(()),
         Some(workers) => {
             let files = SiteFiles {
                 workers,
                 map: map_of(rest),
             };
-            site_remarks(alloc, &files, effects)
+            site_remarks(alloc, out, &files, effects)
         }
     }
 }
 
-/// What is told of the site at this place among the files.
-pub(crate) fn said_at(
+/// Adds what is told of the site at this place among the files.
+pub(crate) fn put_placed<O: Sink + Drop>(
     alloc: Global,
+    out: &mut RemarkOut<O>,
     reads: &[ReadFile],
     at: Option<SitePlace>,
-) -> Result<Bytes, NoMemory>
-    ensures { IfOk result (SaysPlaced at reads.now) }
+) -> Result<(), IoError>
+    ensures { OnOk result (AddsSaid out.old out.new (SaysPlaced at reads.now)) }
 {
     let Some(at) = at else {
-        return Ok(Bytes::new(alloc));
+        return Ok(());
     };
     if reads.len() < at.place {
-        return Ok(Bytes::new(alloc));
+        return Ok(());
     }
-    said_of_site(alloc, &reads[at.place..], at.effects)
+    put_site(alloc, out, &reads[at.place..], at.effects)
 }
 
-/// What of the files of a command that was done has no effect.
-pub(crate) fn effects_of(
+/// Adds what of the files of a command that was done has no effect.
+pub(crate) fn put_effects<O: Sink + Drop>(
     alloc: Global,
+    out: &mut RemarkOut<O>,
     words: &[Bytes],
     reads: &[ReadFile],
-) -> Result<Bytes, NoMemory>
-    ensures { IfOk result (SaysEffects words.now reads.now) }
+) -> Result<(), IoError>
+    ensures { OnOk result (AddsSaid out.old out.new (SaysEffects words.now reads.now)) }
 {
     match site_place(words) {
-        None => Ok(Bytes::new(alloc)),
+        None => Ok(()),
         Some(at) => {
             if at.effects {
-                said_at(alloc, reads, Some(at))
+                put_placed(alloc, out, reads, Some(at))
             } else {
-                Ok(Bytes::new(alloc))
+                Ok(())
             }
         }
     }

@@ -9,6 +9,7 @@
 
 mod telling;
 mod words;
+mod write_sink;
 
 use command_remarks::{CountedInput, KeptFiles};
 use jk_cli::{Order, read_words as read_order};
@@ -84,7 +85,7 @@ fn main(rt: HostRuntime) -> ExitCode {
     }
     tell(
         &rt,
-        &mut rt.stderr(),
+        rt.stderr(),
         words.as_slice(),
         end.status(),
         files.reads(),

@@ -1,6 +1,7 @@
 //! What a person reads on standard error once a command ended.
-use command_remarks::{Ended, InputSeen, ReadFile, remarks_on, unread_file};
-use jk_io::{Bytes, NoMemory};
+use crate::write_sink::WriteSink;
+use command_remarks::{Ended, InputSeen, ReadFile, RemarkOut, remarks_on, unread_file};
+use jk_io::{Bytes, IoError, NoMemory};
 use std::io::{Read, Write};
 use std::rt::Files;
 use std::{fs, io, str};
@@ -29,14 +30,15 @@ fn reason<R: Files + AllocGlobal>(rt: &R, reads: &[ReadFile]) -> Result<String, 
     }
 }
 
-/// What a person is told of a command that ended with this status.
-fn remarks<R: Files + AllocGlobal>(
+/// Writes what a person is told of a command that ended with this status.
+fn write_remarks<R: Files + AllocGlobal, W: Write + Drop>(
     rt: &R,
+    err: W,
     words: &[Bytes],
     status: u8,
     reads: &[ReadFile],
     input: InputSeen,
-) -> Result<Bytes, NoMemory> {
+) -> Result<(), IoError> {
     let reason = reason(rt, reads)?;
     let ended = Ended {
         words,
@@ -45,19 +47,20 @@ fn remarks<R: Files + AllocGlobal>(
         input,
         reason: reason.as_bytes(),
     };
-    remarks_on(rt.alloc(), &ended)
+    let mut out = RemarkOut::new(rt.alloc(), WriteSink::new(err));
+    remarks_on(rt.alloc(), &mut out, &ended)?;
+    let _sink = out.finish()?;
+    Ok(())
 }
 
-/// Writes what a person is told of a command. A write that fails changes nothing, nor does want of memory.
-pub(crate) fn tell<R: Files + AllocGlobal, W: Write>(
+/// Writes what a person is told of a command. A write that fails ends it and changes nothing, and so does want of memory.
+pub(crate) fn tell<R: Files + AllocGlobal, W: Write + Drop>(
     rt: &R,
-    err: &mut W,
+    err: W,
     words: &[Bytes],
     status: u8,
     reads: &[ReadFile],
     input: InputSeen,
 ) {
-    if let Ok(remarks) = remarks(rt, words, status, reads, input) {
-        let _ = err.write_all(remarks.as_slice());
-    }
+    let _ = write_remarks(rt, err, words, status, reads, input);
 }

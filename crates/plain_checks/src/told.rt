@@ -1,7 +1,7 @@
 //! What a person is told of a command that ended.
 use crate::plain::{files_of, input_of};
 use block_rows::row::{BlockRow, RowError};
-use command_remarks::{CountedInput, Ended, KeptFiles, remarks_on};
+use command_remarks::{CountedInput, Ended, KeptFiles, RemarkOut, remarks_on};
 use jk_io::{Bytes, MemFiles, MemLink, NumberList};
 use plain_commands::run_plain;
 use std::alloc::Global;
@@ -10,7 +10,11 @@ use std::alloc::Global;
 const REASON: &[u8] = b"the reason";
 
 fn put_remarks(alloc: Global, ended: &Ended<'_>, out: &mut Bytes) -> Result<(), RowError> {
-    Ok(out.extend(remarks_on(alloc, ended)?.as_slice())?)
+    let link = MemLink::new(alloc, Bytes::new(alloc), NumberList::new(alloc));
+    let mut told = RemarkOut::new(alloc, link);
+    remarks_on(alloc, &mut told, ended).map_err(|_| RowError::NoMemory)?;
+    let link = told.finish().map_err(|_| RowError::NoMemory)?;
+    Ok(out.extend(link.sent())?)
 }
 
 fn over_input(

@@ -1,19 +1,12 @@
 -- One line more in a table of last lines.
-use Rattle.std.proofs.Common.{◌≡◌, ℕ, ◌+◌, ◌<◌, Bool, true, false, List, [], ◌∷◌, ◌++◌, Option, Some, length, take, get_or, refl, sym, ◌∙◌, ap, cond, ◌&&◌}
-use Rattle.std.proofs.lemmas.List.{map-append, take_more}
+use Rattle.std.proofs.Common.{◌≡◌, ℕ, Bool, true, false, List, [], ◌∷◌, ◌++◌, Option, Some, refl, sym, ◌∙◌, ap, cond, ◌&&◌}
 use Rattle.std.specs.Map.{update}
 use Rattle.std.specs.Option.{option_map}
 use Rattle.std.specs.Str.{bytes_eq}
-use Rattle.property_lines.specs.Entries.{as_property, as_properties}
-use Rattle.property_lines.specs.declared.property_line.PropertyLine.{PropertyLine}
 use Rattle.property_lines.specs.declared.property.Property.{Property}
 use Rattle.worker_props.proofs.RowLemmas.{last_of-snoc}
 use Rattle.worker_props.specs.Given.{last_of}
 use Rattle.site_remarks.specs.Again.{gives_single, is_single, last_line}
-
--- the lines up to the next one
-pub lines_more : (es : List PropertyLine) (i : ℕ) (d : PropertyLine) → i < length es → as_properties (take (i + 1) es) ≡ as_properties (take i es) ++ as_property (get_or es i d) ∷ []
-lines_more es i d h = rw (take_more es i d h, map-append) refl
 
 -- the last line after one more
 more : (key : List ℕ) (ps : List Property) (p : Property) (t : Bool) → gives_single key p ≡ t

@@ -1,3 +1,4 @@
 pub mod AgainLemmas
 pub mod KindLemmas
 pub mod NoticeLemmas
+pub mod WalkLemmas

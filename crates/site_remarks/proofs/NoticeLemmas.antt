@@ -1,15 +1,14 @@
 -- Notices, part after part and line after line.
-use Rattle.std.proofs.Common.{◌≡◌, ℕ, ◌+◌, ◌<◌, List, [], ◌∷◌, ◌++◌, length, take, get_or, Option, Result, Ok, Err, OnOk, refl, arith, append_assoc, append-nil}
+use Rattle.std.proofs.Common.{◌≡◌, ℕ, List, [], ◌∷◌, ◌++◌, length, Option, Result, Ok, Err, OnOk, refl, sym, ap, ◌∙◌, arith}
 use Rattle.std.proofs.lemmas.Grind.{flat_map-append}
 use Rattle.std.specs.List.{flat_map}
 use Rattle.property_lines.specs.declared.property.Property.{Property}
-use Rattle.std.proofs.lemmas.List.{map-append, take_more}
-use Rattle.property_lines.specs.Entries.{as_property, as_properties}
+use Rattle.jk_io.specs.Told.{appended}
+use Rattle.jk_io.proofs.ToldLaws.{appended-appended}
 use Rattle.property_lines.specs.Lines.{lines}
-use Rattle.property_lines.specs.declared.property_line.PropertyLine.{PropertyLine}
 use Rattle.property_lines.specs.declared.values.WorkerKind.{WorkerKind}
 use Rattle.site_remarks.specs.MapNotices.{notices_from}
-use Rattle.site_remarks.specs.Notices.{notice, notice_with, words_at}
+use Rattle.site_remarks.specs.Notices.{notice}
 
 -- what a call makes at Ok is what its caller means
 pub on_ok : {T E : Type 0} (r : Result T E) (P Q : Type 0) → OnOk r P → (P → Q) → OnOk r Q
@@ -22,11 +21,16 @@ none_left file line kinds [] none = refl
 none_left file line kinds (b ∷ bs) none = absurd (omega arith)
 
 -- the notices of one line more
-notices_step : (file : List ℕ) (kinds : List (List ℕ × WorkerKind)) (ps : List Property) (es : List PropertyLine) (i : ℕ) (d : PropertyLine) → i < length es
-    → flat_map (notice file kinds ps) (as_properties (take (i + 1) es)) ≡ flat_map (notice file kinds ps) (as_properties (take i es)) ++ notice file kinds ps (as_property (get_or es i d))
-notices_step file kinds ps es i d h = rw (take_more es i d h, map-append, flat_map-append, append-nil) refl
+pub notices_more : (file : List ℕ) (kinds : List (List ℕ × WorkerKind)) (ps front back : List Property) (start told new : Option (List ℕ))
+    → told ≡ appended start (flat_map (notice file kinds ps) front) → new ≡ appended told (flat_map (notice file kinds ps) back)
+    → new ≡ appended start (flat_map (notice file kinds ps) (front ++ back))
+notices_more file kinds ps front back start told new before more =
+    more ∙ ap (λ (t : Option (List ℕ)). appended t (flat_map (notice file kinds ps) back)) before
+    ∙ appended-appended start (flat_map (notice file kinds ps) front) (flat_map (notice file kinds ps) back)
+    ∙ ap (appended start) (sym (flat_map-append (notice file kinds ps) front back))
 
-pub notice_more : (file : List ℕ) (kinds : List (List ℕ × WorkerKind)) (ps : List Property) (es : List PropertyLine) (i : ℕ) (d : PropertyLine) → i < length es → (start out new : List ℕ) (words : Option (List ℕ))
-    → out ≡ start ++ flat_map (notice file kinds ps) (as_properties (take i es)) → words ≡ words_at kinds ps (as_property (get_or es i d)) → new ≡ out ++ notice_with file (get_or es i d).line (get_or es i d).key.now words
-    → new ≡ start ++ flat_map (notice file kinds ps) (as_properties (take (i + 1) es))
-notice_more file kinds ps es i d h start out new words before are more = rw (notices_step file kinds ps es i d h, more, before, are, append_assoc) refl
+-- a text is put by way of a buffer that was cleared
+pub line_put : (told new : Option (List ℕ)) (cleared said piece text : List ℕ) → cleared ≡ [] → said ≡ cleared ++ text → piece ≡ said → new ≡ appended told piece
+    → new ≡ appended told text
+line_put told new cleared said piece text none more same put =
+    put ∙ ap (appended told) (same ∙ more ∙ ap (λ (b : List ℕ). b ++ text) none)

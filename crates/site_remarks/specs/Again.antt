@@ -1,16 +1,22 @@
 -- Lines of a workers.properties that a later line with the same key replaces.
-use Rattle.std.specs.Prelude.{◌≡◌, ℕ, Bool, true, false, List, Option, Some, None, nat_lt, ◌&&◌}
+use Rattle.std.specs.Prelude.{◌≡◌, ℕ, Bool, true, false, List, Option, Some, None, Ok, nat_lt, ◌&&◌}
 use Rattle.std.specs.Option.{option_map}
 use Rattle.std.specs.Str.{bytes_eq}
 use Rattle.std.specs.HashMap.{HashMap, get_by}
 use Rattle.std.specs.declared.hash.FoldHasher.{FoldHasher}
 use Rattle.std.specs.declared.hash.BuildHasherDefault.{BuildHasherDefault}
+use Rattle.jk_io.specs.Decimals.{trimmed}
 use Rattle.property_lines.specs.declared.directive.Directive.{Directive}
 use Rattle.property_lines.specs.declared.directive.Directive.TheVariants as directive
 use Rattle.property_lines.specs.declared.property.Property.{Property}
 use Rattle.property_lines.specs.Directives.{directive_of, maintain_key, worker_part}
+use Rattle.property_lines.specs.Properties.{said}
 use Rattle.worker_props.specs.Given.{last_of}
 use denote.Ref.{Bor}
+
+-- what a line of this number says, if something, where it isn't refused
+abbrev pub Says : ℕ → (line : List ℕ) → Option Property → Type 0
+Says number line says = said true number (trimmed line) ≡ Ok says
 
 -- a directive that is built, but for the lists of members, which are joined
 abbrev pub is_single_directive : Option Directive → Bool

@@ -8,6 +8,7 @@ use Rattle.property_lines.specs.declared.values.WorkerKind.{WorkerKind}
 use Rattle.site_remarks.specs.Notices.{kind_among}
 use Rattle.property_lines.specs.declared.property.Property.{Property}
 use Rattle.site_remarks.specs.Again.{IsLineTable}
+use Rattle.site_remarks.specs.declared.notices.LineTables.{LineTables}
 use denote.Ref.{Bor}
 
 abbrev pub as_kinds : List (Bor (List ℕ) × WorkerKind) → List (List ℕ × WorkerKind)
@@ -17,6 +18,7 @@ as_kinds kinds = map (λ entry. (entry.0.now, entry.1)) kinds
 abbrev pub IsKindTable : HashMap (Bor (List ℕ)) WorkerKind (BuildHasherDefault FoldHasher) → List (List ℕ × WorkerKind) → Type 0
 IsKindTable table kinds = (name : List ℕ) → get_by (λ k. bytes_eq name k.now) table ≡ kind_among name kinds
 
--- the tables of these types and of these lines
-abbrev pub AreTables : HashMap (Bor (List ℕ)) WorkerKind (BuildHasherDefault FoldHasher) → HashMap (Bor (List ℕ)) ℕ (BuildHasherDefault FoldHasher) → List (List ℕ × WorkerKind) → List Property → Type 0
-AreTables kind_table line_table kinds ps = IsKindTable kind_table kinds × IsLineTable line_table ps
+-- so it is of the types and the lines of which these are the tables
+abbrev pub ForTables : LineTables → (List (List ℕ × WorkerKind) → List Property → Type 0) → Type 0
+ForTables tables so =
+    (kinds : List (List ℕ × WorkerKind)) → (ps : List Property) → IsKindTable tables.kinds.now kinds → IsLineTable tables.lines.now ps → so kinds ps

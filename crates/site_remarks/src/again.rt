@@ -1,11 +1,17 @@
 //! Which lines of a workers.properties a later line with the same key replaces.
-ghost use Rattle.std.specs.Prelude.{◌≡◌, ◌∷◌, ◌++◌, [], List, IfOk, OnOk};
+ghost use Rattle.std.specs.Prelude.{◌≡◌, ◌≤◌, ◌∷◌, ◌++◌, [], List, Ok, Option, length, true, IfOk, OnOk};
+ghost use Rattle.std.specs.Option.{option_to_list};
+ghost use Rattle.jk_io.specs.declared.whole_input.TheConstants.{MAX_INPUT_BYTES};
 ghost use Rattle.property_lines.specs.declared.property.Property.{Property};
-ghost use Rattle.property_lines.specs.Entries.{as_properties, as_property};
-ghost use Rattle.site_remarks.specs.Again.{IsLineTable, is_again, is_before, is_single, is_single_directive};
+ghost use Rattle.property_lines.specs.Entries.{as_property};
+ghost use Rattle.property_lines.specs.Properties.{read_text};
+ghost use Rattle.site_remarks.specs.Again.{IsLineTable, Says, is_again, is_before, is_single, is_single_directive};
 
+use crate::said_lines::said_at;
 use jk_io::NoMemory;
-use property_lines::{Directive, PropertyLine, directive_of, is_maintain_key, worker_part};
+use property_lines::{
+    Directive, PropertyLine, directive_of, first_line, is_maintain_key, without_mark, worker_part,
+};
 use std::alloc::Global;
 use std::collections::HashMap;
 
@@ -45,16 +51,29 @@ fn put_line<'t>(table: &mut LineTable<'t>, entry: &PropertyLine<'t>) -> Result<(
     }
 }
 
+/// Puts what a line says into the table, if it says something.
+fn put_said<'t>(table: &mut LineTable<'t>, number: u32, line: &'t [u8]) -> Result<(), NoMemory>
+    ensures { (ps : List Property) → (says : Option Property) → IsLineTable table.old ps → Says number line.now says
+        → OnOk result (IsLineTable table.new (ps ++ option_to_list says)) }
+{
+    match said_at(number, line)? {
+        None => Ok(()),
+        Some(entry) => put_line(table, &entry),
+    }
+}
+
 /// The last line of each key.
-pub(crate) fn line_table<'t>(
-    alloc: Global,
-    entries: &[PropertyLine<'t>],
-) -> Result<LineTable<'t>, NoMemory>
-    ensures { IfOk result (λ table. IsLineTable table (as_properties entries.now)) }
+pub(crate) fn line_table(alloc: Global, text: &[u8]) -> Result<LineTable<'_>, NoMemory>
+    requires { length text.now ≤ MAX_INPUT_BYTES }
+    ensures { (ps : List Property) → read_text true text.now ≡ Ok ps → IfOk result (λ table. IsLineTable table ps) }
 {
     let mut table = HashMap::new(alloc);
-    for entry in entries {
-        put_line(&mut table, entry)?;
+    let mut number: u32 = 0;
+    let mut rest = without_mark(text);
+    while let Some((line, behind)) = first_line(rest) {
+        number += 1;
+        put_said(&mut table, number, line)?;
+        rest = behind;
     }
     Ok(table)
 }

@@ -3,7 +3,7 @@
 //! Source: own rules (docs/FORMATS.md, "What a person is told"); which directives mod_jk has an effect for is its reference's,
 //! "workers.properties" and "uriworkermap.properties".
 //! Contract: `site_remarks`. Read first: specs/Remarks.antt, then specs/Explained.antt, Notices.antt and MapNotices.antt.
-//! Errors: want of memory alone.
+//! Errors: a write that failed, and want of memory.
 #![tactic(auto)]
 
 mod again;
@@ -11,9 +11,12 @@ mod explain;
 mod kinds;
 mod map_notices;
 mod notices;
+mod remark_out;
 mod remarks;
+mod said_lines;
 mod site_file;
 mod wanted;
 
+pub use remark_out::RemarkOut;
 pub use remarks::site_remarks;
 pub use site_file::{SiteFile, SiteFiles};

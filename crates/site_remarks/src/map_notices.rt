@@ -1,5 +1,7 @@
 //! What of a uriworkermap.properties has no effect.
 ghost use Rattle.std.specs.Prelude.{◌≡◌, ◌++◌, ◌≤◌, ℕ, List, length, OnOk};
+ghost use Rattle.jk_io.specs.Decimals.{trimmed};
+ghost use Rattle.jk_io.specs.Told.{appended};
 ghost use Rattle.jk_io.specs.declared.whole_input.TheConstants.{MAX_INPUT_BYTES};
 ghost use Rattle.std.specs.List.{flat_map};
 ghost use Rattle.std.specs.Option.{option_map};
@@ -13,10 +15,12 @@ ghost use Rattle.uri_map.specs.Sides.{Left, behind_byte, left_of};
 
 use crate::explain::{FileLine, put_said};
 use crate::kinds::KindTable;
+use crate::remark_out::RemarkOut;
 use crate::site_file::SiteFile;
 use crate::wanted::key_in;
-use jk_io::{Bytes, NoMemory, trim};
+use jk_io::{Bytes, IoError, NoMemory, Sink, trim};
 use property_lines::{WorkerKind, cut_at, first_line, without_mark};
+use std::alloc::Global;
 
 /// The marks before a rule's pattern: `!` makes an exclusion, `-` turns the rule off.
 #[derive(Clone, Copy)]
@@ -181,16 +185,34 @@ fn put_line(
     }
 }
 
+/// Adds the notices of a line. What `buffer` holds before doesn't count.
+fn put_line_notices<O: Sink + Drop>(
+    out: &mut RemarkOut<O>,
+    buffer: &mut Bytes,
+    table: &KindTable<'_>,
+    at: FileLine<'_>,
+    line: &[u8],
+) -> Result<(), IoError>
+    ensures { (kinds : List (List ℕ × WorkerKind)) → IsKindTable table.now kinds → OnOk result (out.new ≡ appended out.old
+        (line_notices at.entry.file.now at.entry.line kinds (trimmed line.now))) }
+{
+    buffer.clear();
+    put_line(buffer, table, at, trim(line))?;
+    out.put(buffer.as_slice())
+}
+
 /// Adds a line for each part of a map's rules that has no effect.
-pub(crate) fn put_map_notices(
-    out: &mut Bytes,
+pub(crate) fn put_map_notices<O: Sink + Drop>(
+    alloc: Global,
+    out: &mut RemarkOut<O>,
     table: &KindTable<'_>,
     map: &SiteFile<'_>,
-) -> Result<(), NoMemory>
+) -> Result<(), IoError>
     requires { length map.now.text.now ≤ MAX_INPUT_BYTES }
     ensures { (kinds : List (List ℕ × WorkerKind)) → IsKindTable table.now kinds
-        → OnOk result (out.new ≡ out.old ++ map_notices map.now.name.now kinds map.now.text.now) }
+        → OnOk result (out.new ≡ appended out.old (map_notices map.now.name.now kinds map.now.text.now)) }
 {
+    let mut buffer = Bytes::new(alloc);
     let mut line: u32 = 0;
     let mut rest = without_mark(map.text);
     while let Some((text, behind)) = first_line(rest) {
@@ -199,7 +221,7 @@ pub(crate) fn put_map_notices(
             file: map.name,
             line,
         };
-        put_line(out, table, at, trim(text))?;
+        put_line_notices(out, &mut buffer, table, at, text)?;
         rest = behind;
     }
     Ok(())

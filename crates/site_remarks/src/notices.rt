@@ -1,21 +1,29 @@
 //! What a site of mod_jk would expect to have effect, and hasn't.
-ghost use Rattle.std.specs.Prelude.{◌≡◌, ◌++◌, ℕ, List, OnOk};
-ghost use Rattle.std.specs.Option.{option_map};
+ghost use Rattle.std.specs.Prelude.{◌≡◌, ◌≤◌, ◌++◌, ℕ, List, Ok, Option, length, true, OnOk};
+ghost use Rattle.std.specs.Option.{option_map, option_to_list};
 ghost use Rattle.std.specs.List.{flat_map};
 ghost use Rattle.property_lines.specs.declared.values.WorkerKind.{WorkerKind};
 ghost use Rattle.property_lines.specs.declared.property.Property.{Property};
-ghost use Rattle.property_lines.specs.Entries.{as_property, as_properties};
-ghost use Rattle.site_remarks.specs.KindTables.{AreTables, IsKindTable};
-ghost use Rattle.site_remarks.specs.Notices.{again_words, directive_words, key_words, misplaced, notice, notice_with, owner_of, words_at, words_of};
+ghost use Rattle.jk_io.specs.Told.{appended};
+ghost use Rattle.jk_io.specs.declared.whole_input.TheConstants.{MAX_INPUT_BYTES};
+ghost use Rattle.property_lines.specs.Entries.{as_property};
+ghost use Rattle.property_lines.specs.Properties.{read_text};
+ghost use Rattle.site_remarks.specs.Again.{Says};
+ghost use Rattle.site_remarks.specs.KindTables.{ForTables, IsKindTable};
+ghost use Rattle.site_remarks.specs.Notices.{again_words, directive_words, key_words, misplaced, notice, notice_with, notices, owner_of, words_at, words_of};
 
 use crate::again::{LineTable, is_again};
 use crate::explain::{FileLine, put_said};
 use crate::kinds::KindTable;
-use jk_io::{Bytes, NoMemory};
+use crate::remark_out::RemarkOut;
+use crate::said_lines::said_at;
+use crate::site_file::SiteFile;
+use jk_io::{Bytes, IoError, NoMemory, Sink};
 use property_lines::{
-    Directive, PropertyLine, WorkerKind, behind_worker, directive_of, is_list_key, is_maintain_key,
-    worker_part,
+    Directive, PropertyLine, WorkerKind, behind_worker, directive_of, first_line, is_list_key,
+    is_maintain_key, without_mark, worker_part,
 };
+use std::alloc::Global;
 
 /// The types of a configuration's workers, and the last line of each key.
 #[derive(Clone, Copy)]
@@ -123,8 +131,7 @@ fn again_words(again: bool) -> Option<&'static [u8]>
 
 /// What is said of a line, if it has no effect.
 fn words_at(tables: &LineTables<'_>, entry: &PropertyLine<'_>) -> Option<&'static [u8]>
-    ensures { (kinds : List (List ℕ × WorkerKind)) → (ps : List Property) → AreTables tables.now.kinds.now tables.now.lines.now kinds ps
-        → option_map (λ t. t.now) result ≡ words_at kinds ps (as_property entry.now) }
+    ensures { ForTables tables.now (λ kinds ps. option_map (λ t. t.now) result ≡ words_at kinds ps (as_property entry.now)) }
 {
     match words_of(tables.kinds, entry.key) {
         Some(words) => Some(words),
@@ -147,24 +154,64 @@ fn put_words(
     }
 }
 
-/// Adds a line for each line of a workers.properties that has no effect: a key that doesn't begin with `worker.`, one that
-/// names no directive, a directive that isn't supported, one of another type of worker, and one that a later line gives
-/// again.
-pub(crate) fn put_notices(
-    out: &mut Bytes,
+/// Adds the notice of a line. What `buffer` holds before doesn't count.
+fn put_notice<O: Sink + Drop>(
+    out: &mut RemarkOut<O>,
+    buffer: &mut Bytes,
     tables: &LineTables<'_>,
     file: &[u8],
-    entries: &[PropertyLine<'_>],
-) -> Result<(), NoMemory>
-    ensures { (kinds : List (List ℕ × WorkerKind)) → (ps : List Property) → AreTables tables.now.kinds.now tables.now.lines.now kinds ps
-        → OnOk result (out.new ≡ out.old ++ flat_map (notice file.now kinds ps) (as_properties entries.now)) }
+    entry: &PropertyLine<'_>,
+) -> Result<(), IoError>
+    ensures { ForTables tables.now (λ kinds ps.
+        OnOk result (out.new ≡ appended out.old (notice file.now kinds ps (as_property entry.now)))) }
 {
-    for entry in entries {
-        let at = FileLine {
-            file,
-            line: entry.line,
-        };
-        put_words(out, at, entry.key, words_at(tables, entry))?;
+    let at = FileLine {
+        file,
+        line: entry.line,
+    };
+    buffer.clear();
+    put_words(buffer, at, entry.key, words_at(tables, entry))?;
+    out.put(buffer.as_slice())
+}
+
+/// Adds the notice of what a line says, if it says something.
+fn put_line_notice<O: Sink + Drop>(
+    out: &mut RemarkOut<O>,
+    buffer: &mut Bytes,
+    tables: &LineTables<'_>,
+    file: &[u8],
+    number: u32,
+    line: &[u8],
+) -> Result<(), IoError>
+    ensures { ForTables tables.now (λ kinds ps. (says : Option Property) → Says number line.now says
+        → OnOk result (out.new ≡ appended out.old (flat_map (notice file.now kinds ps) (option_to_list says)))) }
+{
+    match said_at(number, line)? {
+        None => Ok(()),
+        Some(entry) => put_notice(out, buffer, tables, file, &entry),
+    }
+}
+
+/// Adds a line for each line of a workers.properties that has no effect: a key that doesn't begin with `worker.`, one that
+/// names no directive, a directive that isn't supported, one of another type of worker, and one that a later line gives
+/// again. The lines are read anew, so that none of them is held.
+pub(crate) fn put_notices<O: Sink + Drop>(
+    alloc: Global,
+    out: &mut RemarkOut<O>,
+    tables: &LineTables<'_>,
+    workers: &SiteFile<'_>,
+) -> Result<(), IoError>
+    requires { length workers.now.text.now ≤ MAX_INPUT_BYTES }
+    ensures { ForTables tables.now (λ kinds ps. read_text true workers.now.text.now ≡ Ok ps
+        → OnOk result (out.new ≡ appended out.old (notices workers.now.name.now kinds ps))) }
+{
+    let mut buffer = Bytes::new(alloc);
+    let mut number: u32 = 0;
+    let mut rest = without_mark(workers.text);
+    while let Some((line, behind)) = first_line(rest) {
+        number += 1;
+        put_line_notice(out, &mut buffer, tables, workers.name, number, line)?;
+        rest = behind;
     }
     Ok(())
 }

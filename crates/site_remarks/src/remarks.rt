@@ -1,68 +1,103 @@
 //! What a person reads of a site's files: why they are refused, and what of those that are accepted has no effect.
-ghost use Rattle.std.specs.Prelude.{◌≡◌, ℕ, List, ◌++◌, ◌<◌, ◌^◌, Ok, true, length, IfOk, IfSome, OnOk};
+ghost use Rattle.std.specs.Prelude.{◌≡◌, ◌≤◌, ℕ, List, ◌++◌, Ok, true, length, IfSome, OnOk};
 ghost use Rattle.std.specs.Option.{option_map};
-ghost use Rattle.property_lines.specs.Entries.{as_properties};
+ghost use Rattle.jk_io.specs.Told.{appended};
+ghost use Rattle.jk_io.specs.declared.whole_input.TheConstants.{MAX_INPUT_BYTES};
 ghost use Rattle.property_lines.specs.Properties as properties;
+ghost use Rattle.property_lines.specs.declared.property.Property.{Property};
 ghost use Rattle.property_lines.specs.declared.values.WorkerKind.{WorkerKind as AnyKind};
 ghost use Rattle.uri_map.specs.Lines.{read_text};
 ghost use Rattle.site_config.specs.declared.config.Config.{Config};
-ghost use Rattle.worker_props.specs.Site.{IsConfig};
+ghost use Rattle.site_remarks.specs.Explained.{explained_map, explained_workers};
 ghost use Rattle.site_remarks.specs.KindTables.{IsKindTable};
 ghost use Rattle.site_remarks.specs.Notices.{kinds_of, notices};
-ghost use Rattle.site_remarks.specs.Remarks.{AddsRemarks, AreRemarks, AreShort, IsShort, as_file, map_remarks, maps_of, rules_remarks, workers_remarks};
+ghost use Rattle.site_remarks.specs.Remarks.{AddsSaid, AreRemarks, AreShort, IsShort, as_file, map_remarks, maps_of, rules_remarks, workers_remarks};
 
 use crate::again::line_table;
 use crate::explain::{explain_map, explain_workers};
 use crate::kinds::{KindTable, kind_table};
 use crate::map_notices::put_map_notices;
 use crate::notices::{LineTables, put_notices};
+use crate::remark_out::RemarkOut;
 use crate::site_file::{SiteFile, SiteFiles};
-use jk_io::{Bytes, NoMemory};
-use property_lines::{PropertyLine, PropsError, read_entries};
+use jk_io::{Bytes, IoError, Sink};
+use property_lines::PropsError;
 use site_config::Config;
 use std::alloc::Global;
 use uri_map::{MapError, read_map};
-use worker_props::workers_of;
+use worker_props::read_workers;
+
+/// Adds what is said of the first refusal of a map.
+fn put_map_refusal<O: Sink + Drop>(
+    alloc: Global,
+    out: &mut RemarkOut<O>,
+    map: &SiteFile<'_>,
+    line: u32,
+    code: u8,
+) -> Result<(), IoError>
+    ensures { OnOk result (out.new ≡ appended out.old
+        (explained_map map.now.name.now map.now.text.now (record { line = line; code = code }))) }
+{
+    let mut said = Bytes::new(alloc);
+    explain_map(&mut said, map, line, code)?;
+    out.put(said.as_slice())
+}
+
+/// Adds what is said of the first refusal of a workers.properties.
+fn put_workers_refusal<O: Sink + Drop>(
+    alloc: Global,
+    out: &mut RemarkOut<O>,
+    workers: &SiteFile<'_>,
+    line: u32,
+    code: u8,
+) -> Result<(), IoError>
+    ensures { OnOk result (out.new ≡ appended out.old
+        (explained_workers workers.now.name.now workers.now.text.now (record { line = line; code = code }))) }
+{
+    let mut said = Bytes::new(alloc);
+    explain_workers(&mut said, workers, line, code)?;
+    out.put(said.as_slice())
+}
 
 /// Adds what is said of a map.
-fn put_map(
+fn put_map<O: Sink + Drop>(
     alloc: Global,
-    out: &mut Bytes,
+    out: &mut RemarkOut<O>,
     config: &Config,
     table: &KindTable<'_>,
     map: &SiteFile<'_>,
     effects: bool,
-) -> Result<(), NoMemory>
+) -> Result<(), IoError>
     requires short { IsShort map.now }
     requires table { IsKindTable table.now (kinds_of config.now) }
-    ensures { OnOk result (out.new ≡ out.old
-        ++ rules_remarks effects config.now (as_file map.now) (read_text config.now map.now.text.now)) }
+    ensures { OnOk result (out.new ≡ appended out.old
+        (rules_remarks effects config.now (as_file map.now) (read_text config.now map.now.text.now))) }
 {
     match read_map(alloc, map.text, config) {
         Ok(_rules) => {
             if effects {
-                put_map_notices(out, table, map)
+                put_map_notices(alloc, out, table, map)
             } else {
                 Ok(())
             }
         }
-        Err(MapError::Refused { line, code }) => explain_map(out, map, line, code),
-        Err(MapError::NoMemory) => Err(NoMemory),
+        Err(MapError::Refused { line, code }) => put_map_refusal(alloc, out, map, line, code),
+        Err(MapError::NoMemory) => Err(IoError::NoMemory),
     }
 }
 
 /// Adds what is said of a map, where there is one.
-fn put_any_map(
+fn put_any_map<O: Sink + Drop>(
     alloc: Global,
-    out: &mut Bytes,
+    out: &mut RemarkOut<O>,
     config: &Config,
     table: &KindTable<'_>,
     map: Option<SiteFile<'_>>,
     effects: bool,
-) -> Result<(), NoMemory>
+) -> Result<(), IoError>
     requires short { IfSome map IsShort }
     requires table { IsKindTable table.now (kinds_of config.now) }
-    ensures { OnOk result (out.new ≡ out.old ++ map_remarks effects config.now (option_map as_file map.entry)) }
+    ensures { OnOk result (out.new ≡ appended out.old (map_remarks effects config.now (option_map as_file map.entry))) }
 {
     match map {
         None => Ok(()),
@@ -70,110 +105,81 @@ fn put_any_map(
     }
 }
 
-/// Adds what has no effect of a workers.properties with these lines.
-fn put_effects(
+/// Adds what has no effect of a workers.properties.
+fn put_effects<O: Sink + Drop>(
     alloc: Global,
-    out: &mut Bytes,
+    out: &mut RemarkOut<O>,
     table: &KindTable<'_>,
-    file: &[u8],
-    entries: &[PropertyLine<'_>],
-) -> Result<(), NoMemory>
-    ensures { (kinds : List (List ℕ × AnyKind)) → IsKindTable table.now kinds
-        → OnOk result (out.new ≡ out.old ++ notices file.now kinds (as_properties entries.now)) }
+    workers: &SiteFile<'_>,
+) -> Result<(), IoError>
+    requires { IsShort workers.now }
+    ensures { (kinds : List (List ℕ × AnyKind)) → (ps : List Property) → IsKindTable table.now kinds
+        → properties.read_text true workers.now.text.now ≡ Ok ps
+        → OnOk result (out.new ≡ appended out.old (notices workers.now.name.now kinds ps)) }
 {
-    let lines = line_table(alloc, entries)?;
+    let lines = line_table(alloc, workers.text)?;
     let tables = LineTables {
         kinds: table,
         lines: &lines,
     };
-    put_notices(out, &tables, file, entries)
+    put_notices(alloc, out, &tables, workers)
 }
 
-/// Adds what is said of a workers.properties with these lines.
-fn put_workers(
+/// Adds what is said of a workers.properties that is accepted.
+fn put_workers<O: Sink + Drop>(
     alloc: Global,
-    out: &mut Bytes,
+    out: &mut RemarkOut<O>,
     table: &KindTable<'_>,
     workers: &SiteFile<'_>,
-    entries: &[PropertyLine<'_>],
     effects: bool,
-) -> Result<(), NoMemory>
-    ensures { (config : Config) → IsKindTable table.now (kinds_of config)
-        → OnOk result (out.new ≡ out.old ++ workers_remarks effects workers.now.name.now config (as_properties entries.now)) }
+) -> Result<(), IoError>
+    requires { IsShort workers.now }
+    ensures { (config : Config) → (ps : List Property) → IsKindTable table.now (kinds_of config)
+        → properties.read_text true workers.now.text.now ≡ Ok ps
+        → OnOk result (out.new ≡ appended out.old (workers_remarks effects workers.now.name.now config ps)) }
 {
     if effects {
-        put_effects(alloc, out, table, workers.name, entries)
+        put_effects(alloc, out, table, workers)
     } else {
         Ok(())
     }
 }
 
-/// Adds what is said of files whose workers.properties gives these lines and this configuration.
-fn put_accepted(
+/// Adds what is said of files whose workers.properties gives this configuration.
+fn put_accepted<O: Sink + Drop>(
     alloc: Global,
-    out: &mut Bytes,
+    out: &mut RemarkOut<O>,
     config: &Config,
-    entries: &[PropertyLine<'_>],
     files: &SiteFiles<'_>,
     effects: bool,
-) -> Result<(), NoMemory>
+) -> Result<(), IoError>
     requires short { AreShort files.now }
-    ensures { OnOk result (out.new ≡ out.old
-        ++ workers_remarks effects files.now.workers.name.now config.now (as_properties entries.now)
-        ++ map_remarks effects config.now (maps_of files.now)) }
+    ensures { (ps : List Property) → properties.read_text true files.now.workers.text.now ≡ Ok ps
+        → OnOk result (out.new ≡ appended out.old (workers_remarks effects files.now.workers.name.now config.now ps
+        ++ map_remarks effects config.now (maps_of files.now))) }
 {
     let table = kind_table(alloc, config)?;
-    put_workers(alloc, out, &table, &files.workers, entries, effects)?;
+    put_workers(alloc, out, &table, &files.workers, effects)?;
     put_any_map(alloc, out, config, &table, files.map, effects)
 }
 
-/// Adds what is said of files whose workers.properties gives these lines.
-fn put_of_lines(
+/// Adds what a person is told of a site's files: why the first that is refused is, and, where `effects` is on, what of those
+/// that are accepted a site of mod_jk would expect to have effect and hasn't. It is written as it is found, and not held.
+pub fn site_remarks<O: Sink + Drop>(
     alloc: Global,
-    out: &mut Bytes,
-    entries: &[PropertyLine<'_>],
+    out: &mut RemarkOut<O>,
     files: &SiteFiles<'_>,
     effects: bool,
-) -> Result<(), NoMemory>
+) -> Result<(), IoError>
     requires short { AreShort files.now }
-    requires few { length entries.now < 2 ^ 32 }
-    requires lines { properties.read_text true files.now.workers.text.now ≡ Ok (as_properties entries.now) }
-    ensures { OnOk result (AddsRemarks effects files.now out.old out.new) }
+    ensures { OnOk result (AddsSaid out.old out.new
+        (AreRemarks effects (as_file files.now.workers) (maps_of files.now))) }
 {
-    match workers_of(alloc, entries) {
-        Ok(config) => put_accepted(alloc, out, &config, entries, files, effects),
+    match read_workers(alloc, files.workers.text) {
+        Ok(config) => put_accepted(alloc, out, &config, files, effects),
         Err(PropsError::Refused { line, code }) => {
-            explain_workers(out, &files.workers, line, code)
+            put_workers_refusal(alloc, out, &files.workers, line, code)
         }
-        Err(PropsError::NoMemory) => Err(NoMemory),
+        Err(PropsError::NoMemory) => Err(IoError::NoMemory),
     }
-}
-
-fn put_remarks(
-    alloc: Global,
-    out: &mut Bytes,
-    files: &SiteFiles<'_>,
-    effects: bool,
-) -> Result<(), NoMemory>
-    requires short { AreShort files.now }
-    ensures { OnOk result (AddsRemarks effects files.now out.old out.new) }
-{
-    match read_entries(alloc, true, files.workers.text) {
-        Ok(entries) => put_of_lines(alloc, out, entries.as_slice(), files, effects),
-        Err(PropsError::Refused { line, code }) => {
-            explain_workers(out, &files.workers, line, code)
-        }
-        Err(PropsError::NoMemory) => Err(NoMemory),
-    }
-}
-
-/// What a person is told of a site's files: why the first that is refused is, and, where `effects` is on, what of those
-/// that are accepted a site of mod_jk would expect to have effect and hasn't.
-pub fn site_remarks(alloc: Global, files: &SiteFiles<'_>, effects: bool) -> Result<Bytes, NoMemory>
-    requires short { AreShort files.now }
-    ensures { IfOk result (AreRemarks effects (as_file files.now.workers) (maps_of files.now)) }
-{
-    let mut out = Bytes::new(alloc);
-    put_remarks(alloc, &mut out, files, effects)?;
-    Ok(out)
 }

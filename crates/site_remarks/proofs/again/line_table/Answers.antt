@@ -1,14 +1,20 @@
-use Rattle.std.proofs.Common.{[], List, sym, subst, take, arith}
-use Rattle.property_lines.specs.declared.property_line.PropertyLine.{PropertyLine}
+use Rattle.std.proofs.Common.{◌+◌, ◌++◌, List, subst, arith}
+use Rattle.std.specs.Option.{option_to_list}
 use Rattle.property_lines.specs.declared.property.Property.{Property}
-use Rattle.property_lines.specs.Entries.{as_properties}
 use Rattle.site_remarks.specs.Again.{IsLineTable}
-use Rattle.site_remarks.proofs.AgainLemmas.{lines_more}
+use Rattle.site_remarks.proofs.WalkLemmas.{walk_end, walk_step}
 use Rattle.site_remarks.proofs.again.line_table.Goals as goal
 
-pub loop-entry-preserved : goal.loop-entry-preserved
-loop-entry-preserved c =
-    let none : PropertyLine = record { line = 0; key = record { ref_ptr = (0, 0); now = [] }; value = record { ref_ptr = (0, 0); now = [] } } in
-    let es = c.args.entries.now in
-    subst (λ (ps : List Property). IsLineTable c.put_line.new.table ps) (sym (lines_more es c.loop-entry.entry-index none (omega arith)))
-    (c.in_ok-put_line.ensures (as_properties (take c.loop-entry.entry-index es)) c.loop-entry.invariant)
+pub loop-line-preserved : goal.loop-line-preserved
+loop-line-preserved c = record {
+  count = omega (arith, c.loop-line.invariant.count, c.in-Some.ensures.shorter);
+  table = λ ps read.
+      let before = c.loop-line.invariant.table ps read in
+      let step = walk_step ps (c.loop-line.number + 1) c.loop-line.rest.now c.in-Some.line.now c.in-Some.behind.now before.0 before.1 c.in-Some.ensures.some in
+      (before.0 ++ option_to_list step.0, step.2, c.in_ok-put_said.ensures before.0 step.0 before.2 step.1);
+}
+
+pub returns : goal.returns
+returns c = λ ps read.
+    let all = c.loop-line.invariant.table ps read in
+    subst (λ (front : List Property). IsLineTable c.loop-line.table front) (walk_end ps (c.loop-line.number + 1) c.loop-line.rest.now all.0 all.1 c.in_default.ensures.none) all.2

@@ -1,4 +1,5 @@
-use Rattle.std.proofs.Common.{◌≡◌, ◌≤◌, ◌+◌, ◌++◌, ℕ, List, length}
+use Rattle.std.proofs.Common.{◌≡◌, ◌≤◌, ◌+◌, ℕ, List, length}
+use Rattle.jk_io.specs.Told.{appended}
 use Rattle.property_lines.specs.Lines.{lines}
 use Rattle.property_lines.specs.declared.values.WorkerKind.{WorkerKind}
 use Rattle.site_remarks.specs.KindTables.{IsKindTable}
@@ -10,7 +11,7 @@ abbrev pub invariant-loop-text : goal.invariant-loop-text
 invariant-loop-text l = record {
   count : l.line + length l.rest ≤ length l.map.text.now;
   said : (kinds : List (List ℕ × WorkerKind)) → IsKindTable l.table kinds
-      → l.out ++ notices_from l.map.name.now (l.line + 1) kinds (lines l.rest) ≡ l.fn.out ++ map_notices l.map.name.now kinds l.map.text.now;
+      → appended l.out (notices_from l.map.name.now (l.line + 1) kinds (lines l.rest)) ≡ appended l.fn.out (map_notices l.map.name.now kinds l.map.text.now);
 }
 
 abbrev pub decreases-loop-text : goal.decreases-loop-text

@@ -1,12 +1,20 @@
-use Rattle.std.proofs.Common.{◌≡◌, ◌++◌, ℕ, List, take}
+use Rattle.std.proofs.Common.{◌≡◌, ◌≤◌, ◌+◌, Ok, true, List, length}
 use Rattle.std.specs.List.{flat_map}
+use Rattle.jk_io.specs.Told.{appended}
 use Rattle.property_lines.specs.declared.property.Property.{Property}
-use Rattle.property_lines.specs.declared.values.WorkerKind.{WorkerKind}
-use Rattle.property_lines.specs.Entries.{as_properties}
-use Rattle.site_remarks.specs.KindTables.{AreTables}
+use Rattle.property_lines.specs.Properties.{read_text}
+use Rattle.site_remarks.specs.KindTables.{ForTables}
 use Rattle.site_remarks.specs.Notices.{notice}
+use Rattle.site_remarks.proofs.WalkLemmas.{IsWalk}
 use Rattle.site_remarks.proofs.notices.put_notices.Given as goal
 
 -- the notices so far
-abbrev pub invariant-loop-entry : goal.invariant-loop-entry
-invariant-loop-entry l = (kinds : List (List ℕ × WorkerKind)) → (ps : List Property) → AreTables l.tables.kinds.now l.tables.lines.now kinds ps → l.out ≡ l.fn.out ++ flat_map (notice l.file kinds ps) (as_properties (take l.entry-index l.entries))
+abbrev pub invariant-loop-line : goal.invariant-loop-line
+invariant-loop-line l = record {
+  count : l.number + length l.rest ≤ length l.workers.text.now;
+  said : ForTables l.tables (λ kinds ps. read_text true l.workers.text.now ≡ Ok ps
+      → (front : List Property) × IsWalk ps (l.number + 1) l.rest front × (l.out ≡ appended l.fn.out (flat_map (notice l.workers.name.now kinds ps) front)));
+}
+
+abbrev pub decreases-loop-line : goal.decreases-loop-line
+decreases-loop-line l = length l.rest

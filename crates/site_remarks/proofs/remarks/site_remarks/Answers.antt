@@ -1,10 +1,23 @@
-use Rattle.std.proofs.Common.{◌≡◌, ℕ, List, sym, subst}
-use Rattle.site_remarks.specs.Remarks.{AreRemarks, as_file, maps_of}
+use Rattle.std.proofs.Common.{◌++◌, refl, inl, inr}
+use Rattle.property_lines.specs.Refusals.{LineRefusal}
+use Rattle.worker_props.specs.Site.{IsConfig, IsRefused}
+use Rattle.site_remarks.specs.Explained.{explained_workers}
+use Rattle.site_remarks.specs.Remarks.{map_remarks, maps_of, workers_remarks}
+use Rattle.site_remarks.proofs.NoticeLemmas.{on_ok}
 use Rattle.site_remarks.proofs.remarks.site_remarks.Goals as goal
 
-pub returns : goal.returns
-returns c =
+pub returns-in-Ok : goal.returns-in-Ok
+returns-in-Ok c =
     let files = c.args.files.now in
-    let added = c.in_ok-put_remarks.ensures in
-    let whole : c.put_remarks.new.out ≡ added.0 = rw c.new-out.ensures at added.1 in
-    subst (λ (out : List ℕ). AreRemarks c.args.effects (as_file files.workers) (maps_of files) out) (sym whole) added.2
+    let config = c.in-Ok.config in
+    let is : IsConfig files.workers.text.now config = c.in-Ok.ensures.ok in
+    on_ok c.put_accepted.result _ _ (c.put_accepted.ensures is.properties is.read) (λ same.
+    (workers_remarks c.args.effects files.workers.name.now config is.properties ++ map_remarks c.args.effects config (maps_of files), same, inr (config, is, is.properties, is.read, refl)))
+
+pub returns-in-Err-Refused : goal.returns-in-Err-Refused
+returns-in-Err-Refused c =
+    let files = c.args.files.now in
+    let r : LineRefusal = record { line = c.in-Err-Refused.line; code = c.in-Err-Refused.code } in
+    let refused : IsRefused files.workers.text.now r = rw c.in-Err-Refused.field-0-is at c.in-Err-Refused.ensures.refused in
+    on_ok c.put_workers_refusal.result _ _ (rw c.in-Err-Refused.field-0-is at c.put_workers_refusal.ensures) (λ same.
+    (explained_workers files.workers.name.now files.workers.text.now r, same, inl (r, refused, refl)))
