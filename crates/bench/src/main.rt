@@ -2,7 +2,8 @@
 //!
 //! Without a word it makes one small round of each and prints no time. `ajp N`, `heads N`, `bodies N` and `book N` make
 //! N rounds, of which bench/ has the same work in plain C. `site N` and `map N` read a workers.properties and a
-//! uriworkermap.properties of N bytes, `lists N` reads N balancers that borrow one list, and `journal N` checks the text of N
+//! uriworkermap.properties of N bytes, `lines N` a workers.properties of N short lines without an effect, `lists N` N
+//! balancers that borrow one list, and `journal N` checks the text of N
 //! exchanges. They print figures.
 #![tactic(auto)]
 
@@ -11,6 +12,7 @@ mod bodies;
 mod book;
 mod heads;
 mod journal;
+mod lines;
 mod lists;
 mod map;
 mod site;
@@ -29,6 +31,7 @@ enum Subject {
     Book,
     Site,
     Map,
+    Lines,
     Lists,
     Journal,
 }
@@ -41,9 +44,10 @@ fn subject_of(word: &str) -> Result<Subject> {
         "book" => Ok(Subject::Book),
         "site" => Ok(Subject::Site),
         "map" => Ok(Subject::Map),
+        "lines" => Ok(Subject::Lines),
         "lists" => Ok(Subject::Lists),
         "journal" => Ok(Subject::Journal),
-        _ => bail!("the words are ajp, heads, bodies, book, site, map, lists and journal"),
+        _ => bail!("the words are ajp, heads, bodies, book, site, map, lines, lists and journal"),
     }
 }
 
@@ -65,6 +69,7 @@ fn small_rounds(rt: &HostRuntime) -> Result<()> {
     book::one_round(rt, rt.alloc())?;
     site::one_round(rt, rt.alloc())?;
     map::one_round(rt, rt.alloc())?;
+    lines::one_round(rt, rt.alloc())?;
     lists::one_round(rt, rt.alloc())?;
     journal::one_round(rt, rt.alloc())
 }
@@ -77,6 +82,7 @@ fn measure(rt: &HostRuntime, subject: Subject, amount: u32) -> Result<()> {
         Subject::Book => book::measure(rt, rt.alloc(), amount),
         Subject::Site => site::measure(rt, rt.alloc(), amount),
         Subject::Map => map::measure(rt, rt.alloc(), amount),
+        Subject::Lines => lines::measure(rt, rt.alloc(), amount),
         Subject::Lists => lists::measure(rt, rt.alloc(), amount),
         Subject::Journal => journal::measure(rt, rt.alloc(), amount),
     }
