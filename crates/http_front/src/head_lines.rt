@@ -37,6 +37,14 @@ impl HeadLines {
         }
     }
 
+    /// The lines of a `Vec`, in its memory.
+    pub fn from_vec(lines: Vec<(Bytes, Bytes)>) -> HeadLines
+        requires { length lines.items ≤ MAX_HEAD_LINES }
+        ensures { result ≡ lines.items }
+    {
+        HeadLines { lines }
+    }
+
     pub fn len(&self) -> usize
         ensures len { result ≡ length self.now }
         ensures few { length self.now ≤ MAX_HEAD_LINES }

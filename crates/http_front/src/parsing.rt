@@ -56,11 +56,11 @@ fn copy_lines(alloc: Global, front: &[u8], spans: &[HeaderSpan]) -> Result<HeadL
     requires few { length spans.now ≤ MAX_HEAD_LINES }
     ensures { IfOk result (λ lines. lines ≡ map (header_bytes front.now) spans.now) }
 {
-    let mut lines = HeadLines::new(alloc);
+    let mut lines = Vec::with_capacity(alloc, spans.len())?;
     for span in spans {
         let name = Bytes::from_slice(alloc, span.name.of(front))?;
         let value = Bytes::from_slice(alloc, span.value.of(front))?;
         lines.push((name, value))?;
     }
-    Ok(lines)
+    Ok(HeadLines::from_vec(lines))
 }
