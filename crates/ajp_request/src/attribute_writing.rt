@@ -20,7 +20,7 @@ pub const METHOD_ROOM: usize = 65_539;
 const ATTRIBUTE_ROOM: usize = 131_078;
 
 /// How many bytes spell a string, unless it is longer than its length can say.
-pub fn text_len(text: &Bytes) -> Option<usize>
+pub fn text_len(text: &[u8]) -> Option<usize>
     ensures value { IfSome result (λ len. len ≡ length (string text.now)) }
     ensures bound { IfSome result (λ len. len < STRING_ROOM) }
     ensures fits { IfSome result (λ _. length text.now < STRING_LIMIT) }
@@ -56,14 +56,16 @@ fn attribute_len(attribute: &Attribute) -> Option<usize>
     ensures none { IfNone result (FitsAttribute attribute.now → ⊥) }
 {
     match attribute {
-        Attribute::Plain(_, text) => Some(1 + text_len(text)?),
-        Attribute::Named(name, value) => Some(1 + text_len(name)? + text_len(value)?),
+        Attribute::Plain(_, text) => Some(1 + text_len(text.as_slice())?),
+        Attribute::Named(name, value) => Some(
+            1 + text_len(name.as_slice())? + text_len(value.as_slice())?,
+        ),
         Attribute::KeySize(_) => Some(3),
     }
 }
 
 /// How many bytes the method takes among the attributes.
-pub fn method_len(code: Option<u8>, method: &Bytes) -> Option<usize>
+pub fn method_len(code: Option<u8>, method: &[u8]) -> Option<usize>
     ensures value { IfSome result (λ len. len ≡ method_size code method.now) }
     ensures bound { IfSome result (λ len. len < METHOD_ROOM) }
     ensures fits { IfSome result (λ _. FitsMethod code method.now) }

@@ -5,7 +5,8 @@
 //! code is written before any other attribute that stores one (docs/DECISIONS.md).
 //! Shapes: a payload is what stands behind a packet's 4 bytes; a limit counts these 4 bytes too. Method codes are 1 to 27,
 //! and FF says that an attribute stores the method.
-//! Contract: `decode_forward`, clauses `found`, `none` and `exact`; `encode_forward`, clauses `ok` and `spelled`.
+//! Contract: `decode_forward`, clauses `found`, `none` and `exact`; `encode_forward` and `encode_parts`, clauses `ok`
+//! and `spelled`.
 //! Read first: specs/Spelling.antt, then specs/Reading.antt and specs/Writing.antt.
 //! Errors: `DecodeError` names the first place of the payload that can't be read; `EncodeError`.
 #![tactic(auto)]
@@ -21,6 +22,6 @@ mod tables;
 
 pub use attribute::{Attribute, AttributeList};
 pub use decoding::decode_forward;
-pub use encoding::encode_forward;
-pub use forward::Forward;
+pub use encoding::{encode_forward, encode_parts};
+pub use forward::{Forward, ForwardParts};
 pub use laws::{one_request_a_payload, written_requests_are_read_again};
