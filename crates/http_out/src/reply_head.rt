@@ -1,5 +1,5 @@
 //! The head of a container's reply, and which head may go to a client.
-ghost use Rattle.std.specs.Prelude.{◌≡◌, ◌≤◌, IsTrue, ◌↔◌, IfOk};
+ghost use Rattle.std.specs.Prelude.{◌≡◌, ◌≤◌, IsTrue, ◌↔◌};
 ghost use Rattle.std.specs.List.{list_all};
 ghost use Rattle.http_header.specs.FieldName.{is_field_name};
 ghost use Rattle.http_out.specs.Head.{is_text, is_field, IsJudgment};
@@ -7,9 +7,8 @@ ghost use Rattle.http_out.specs.Head.{is_text, is_field, IsJudgment};
 use crate::content_length::{ContentLength, content_length};
 use http::StatusCode;
 use http_front::HeadLines;
-use http_header::{HeaderName, HeaderNameError};
+use http_header::{MAX_HEADER_NAME_LEN, is_token};
 use jk_io::{Bytes, NoMemory};
-use std::alloc::Global;
 use thiserror::Error;
 
 /// The head of a container's reply, as the client is to get it but for the lines that speak of the container's link.
@@ -68,35 +67,31 @@ fn is_text(bytes: &[u8]) -> bool
 }
 
 /// A token, as `http_header` decides it.
-fn is_name(alloc: Global, name: &[u8]) -> Result<bool, NoMemory>
-    ensures { IfOk result (λ fits. fits ≡ is_field_name name.now) }
+fn is_name(name: &[u8]) -> bool
+    ensures { result ≡ is_field_name name.now }
 {
-    match HeaderName::from_bytes(alloc, name) {
-        Ok(_) => Ok(true),
-        Err(HeaderNameError::Invalid) => Ok(false),
-        Err(HeaderNameError::OutOfMemory) => Err(NoMemory),
-    }
+    is_token(name) && name.len() <= MAX_HEADER_NAME_LEN
 }
 
-fn is_field(alloc: Global, line: &(Bytes, Bytes)) -> Result<bool, NoMemory>
-    ensures { IfOk result (λ fits. fits ≡ is_field line.now) }
+fn is_field(line: &(Bytes, Bytes)) -> bool
+    ensures { result ≡ is_field line.now }
 {
-    Ok(is_name(alloc, line.0.as_slice())? && is_text(line.1.as_slice()))
+    is_name(line.0.as_slice()) && is_text(line.1.as_slice())
 }
 
-fn are_fields(alloc: Global, lines: &[(Bytes, Bytes)]) -> Result<bool, NoMemory>
-    ensures { IfOk result (λ fit. fit ≡ list_all is_field lines.now) }
+fn are_fields(lines: &[(Bytes, Bytes)]) -> bool
+    ensures { result ≡ list_all is_field lines.now }
 {
     for line in lines {
-        if !is_field(alloc, line)? {
-            return Ok(false);
+        if !is_field(line) {
+            return false;
         }
     }
-    Ok(true)
+    true
 }
 
 /// Whether the head may go to a client, and then what it says of the body's length.
-pub fn judge(alloc: Global, head: &ReplyHead) -> Result<ContentLength, OutError>
+pub fn judge(head: &ReplyHead) -> Result<ContentLength, OutError>
     ensures { IsJudgment head.now result }
 {
     if !is_final(head.status) {
@@ -105,7 +100,7 @@ pub fn judge(alloc: Global, head: &ReplyHead) -> Result<ContentLength, OutError>
     if !is_text(head.message.as_slice()) {
         return Err(OutError::BadReply);
     }
-    if !are_fields(alloc, head.headers.as_slice())? {
+    if !are_fields(head.headers.as_slice()) {
         return Err(OutError::BadReply);
     }
     match content_length(head.headers.as_slice()) {

@@ -69,7 +69,7 @@ impl ReplyWriter {
         requires { self.old.framing ≡ None }
         ensures { IsJudged head self.old self.new result }
     {
-        let said = judge(self.alloc, &head)?;
+        let said = judge(&head)?;
         let framing = framing_of(self.kind, head.status, said);
         self.text = head_text(self.alloc, self.kind, &head, framing)?;
         self.framing = Some(framing);
