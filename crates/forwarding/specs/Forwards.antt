@@ -1,5 +1,5 @@
 -- The Forward Request that a request becomes for a member.
-use Rattle.std.specs.Prelude.{ℕ, ◌<◌, ◌≤◌, Bool, false, List, [], ◌∷◌, ◌++◌, length, map, codes, Option, Some, None, if◌then◌else◌}
+use Rattle.std.specs.Prelude.{◌≡◌, ℕ, ◌<◌, ◌≤◌, Bool, false, List, [], ◌∷◌, ◌++◌, length, map, codes, Option, Some, None, if◌then◌else◌}
 use Rattle.jk_io.specs.Decimals.{trimmed}
 use Rattle.jk_model.specs.declared.member.MemberConfig.{MemberConfig}
 use Rattle.ajp_wire.specs.Packet.{packet}
@@ -35,10 +35,9 @@ attribute_for code (Some text) = Plain code text ∷ []
 abbrev pub attributes_for : (query route secret : Option (List ℕ)) → List Attribute
 attributes_for query route secret = attribute_for 5 query ++ (attribute_for 6 route ++ attribute_for 12 secret)
 
--- The Forward Request of a request from a peer, for a member that is reached by an endpoint. In a balancer that stands
--- for one worker no route is told.
-abbrev pub forward_for : Head → (peer : List ℕ) → (direct : Bool) → MemberConfig → Endpoint → Forward
-forward_for head peer direct member endpoint = record {
+-- the Forward Request of a request from a peer, with these headers and attributes
+abbrev pub forward_with : Head → (peer : List ℕ) → List Line → List Attribute → Forward
+forward_with head peer headers attributes = record {
   method = head.method;
   protocol = protocol_of head.old;
   uri = head.path;
@@ -47,9 +46,20 @@ forward_for head peer direct member endpoint = record {
   server = head.server;
   port = head.port;
   ssl = false;
-  headers = map line_for head.headers;
-  attributes = attributes_for head.query (route_for direct member) endpoint.secret;
+  headers = headers;
+  attributes = attributes;
 }
+
+-- what lines go on as: pairs that were made of them, or where there are none, the lines as they are
+abbrev pub GoOn : List Line → Option (List Line) → Type 0
+GoOn lines None = map line_for lines ≡ lines
+GoOn lines (Some pairs) = pairs ≡ map line_for lines
+
+-- The Forward Request of a request from a peer, for a member that is reached by an endpoint. In a balancer that stands
+-- for one worker no route is told.
+abbrev pub forward_for : Head → (peer : List ℕ) → (direct : Bool) → MemberConfig → Endpoint → Forward
+forward_for head peer direct member endpoint =
+    forward_with head peer (map line_for head.headers) (attributes_for head.query (route_for direct member) endpoint.secret)
 
 -- A client's request, where it came from, and the member that it goes to.
 pub record Delivery : Type 0 where

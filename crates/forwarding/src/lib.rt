@@ -16,4 +16,4 @@ pub use first_piece::{first_len, piece_of};
 pub use laws::{
     a_first_piece_fits_each_member, a_forward_is_read_again, attributes_stand_in_order,
 };
-pub use request::{forward_of, forward_packet};
+pub use request::forward_packet;

@@ -1,13 +1,14 @@
 //! A request as it is handed to a member.
 ghost use Rattle.std.specs.Prelude.{◌≡◌, ◌≤◌, length, map, IfOk, OnOk, Err};
+ghost use Rattle.std.specs.Bool.{OnTrue};
 ghost use Rattle.ajp_wire.specs.declared.errors.EncodeError.{EncodeError as AnyError};
-ghost use Rattle.ajp_request.specs.Writing.{Fits, IsForward, as_read, payload_of};
+ghost use Rattle.ajp_request.specs.Parts.{told_by};
+ghost use Rattle.ajp_request.specs.Writing.{Fits, as_read, payload_of};
 ghost use Rattle.ajp_request.specs.Spelling.{SpellsForward};
-ghost use Rattle.forwarding.specs.Forwards.{forward_for, line_for, packet_for, protocol_of as protocol_text};
-ghost use Rattle.ajp_wire.specs.declared.head_pairs.TheConstants.{MAX_HEADERS};
+ghost use Rattle.forwarding.specs.Forwards.{GoOn, forward_for, forward_with, line_for, packet_for, protocol_of as protocol_text};
 
-use crate::attributes::{attributes_for, route_for};
-use ajp_request::{Forward, encode_forward};
+use crate::attributes::attributes_of;
+use ajp_request::{Attribute, ForwardParts, encode_parts};
 use ajp_wire::{EncodeError, HeadPairs};
 use http_front::{Head, HeadLines};
 use jk_io::{Bytes, NoMemory, Peer, trim};
@@ -15,66 +16,9 @@ use jk_model::MemberConfig;
 use site_config::Endpoint;
 use std::alloc::Global;
 
-/// The texts of a Forward Request before its headers.
-#[derive(Drop)]
-struct Texts {
-    method: Bytes,
-    protocol: Bytes,
-    uri: Bytes,
-    remote_addr: Bytes,
-    remote_host: Bytes,
-    server: Bytes,
-}
-
-fn texts_of(alloc: Global, head: &Head, peer: &Peer) -> Result<Texts, NoMemory>
-    ensures line { IfOk result (λ t. (t.method ≡ head.now.method) × (t.protocol ≡ protocol_text head.now.old) × (t.uri ≡ head.now.path)) }
-    ensures ends { IfOk result (λ t. (t.remote_addr ≡ peer.now.addr) × (t.remote_host ≡ peer.now.addr) × (t.server ≡ head.now.server)) }
-{
-    Ok(Texts {
-        method: head.method.copy()?,
-        protocol: Bytes::from_slice(alloc, protocol_of(head.old))?,
-        uri: head.path.copy()?,
-        remote_addr: peer.addr.copy()?,
-        remote_host: peer.addr.copy()?,
-        server: head.server.copy()?,
-    })
-}
-
-/// The Forward Request of a request from `peer`, for a member that is reached by `endpoint`. In a balancer that is
-/// `direct` no route is told.
-pub fn forward_of(
-    alloc: Global,
-    head: &Head,
-    peer: &Peer,
-    direct: bool,
-    member: &MemberConfig,
-    endpoint: &Endpoint,
-) -> Result<Forward, NoMemory>
-    ensures value { IfOk result (λ forward. forward ≡ forward_for head.now peer.now.addr direct member.now endpoint.now) }
-    ensures writable { IfOk result IsForward }
-{
-    let port = head.port;
-    let texts = texts_of(alloc, head, peer)?;
-    Ok(Forward {
-        method: texts.method,
-        protocol: texts.protocol,
-        uri: texts.uri,
-        remote_addr: texts.remote_addr,
-        remote_host: texts.remote_host,
-        server: texts.server,
-        port,
-        ssl: false,
-        headers: headers_of(alloc, &head.headers)?,
-        attributes: attributes_for(
-            alloc,
-            head.query.as_ref(),
-            route_for(direct, member),
-            endpoint.secret.as_ref(),
-        )?,
-    })
-}
-
-/// The packet of that Forward Request, which has at most as many bytes as the member takes.
+/// The packet of the Forward Request of a request from `peer`, for a member that is reached by `endpoint`; it has at most as
+/// many bytes as the member takes. In a balancer that is `direct` no route is told. The packet is written from where the
+/// request lies.
 pub fn forward_packet(
     alloc: Global,
     head: &Head,
@@ -90,8 +34,34 @@ pub fn forward_packet(
     ensures too_large { result ≡ Err EncodeError.TooLarge
         → Fits endpoint.now.packet (forward_for head.now peer.now.addr direct member.now endpoint.now) → ⊥ }
 {
-    let forward = forward_of(alloc, head, peer, direct, member, endpoint)?;
-    encode_forward(alloc, &forward, endpoint.packet)
+    let attributes = attributes_of(alloc, head, direct, member, endpoint)?;
+    let trimmed = trimmed_lines(alloc, &head.headers)?;
+    let headers = headers_in(&trimmed, &head.headers);
+    let parts = parts_for(head, peer, headers, attributes.as_slice());
+    encode_parts(alloc, &parts, endpoint.packet)
+}
+
+/// The parts of a Forward Request with these headers and attributes.
+fn parts_for<'a>(
+    head: &'a Head,
+    peer: &'a Peer,
+    headers: &'a [(Bytes, Bytes)],
+    attributes: &'a [Attribute],
+) -> ForwardParts<'a>
+    ensures { told_by result ≡ forward_with head.now peer.now.addr headers.now attributes.now }
+{
+    ForwardParts {
+        method: head.method.as_slice(),
+        protocol: protocol_of(head.old),
+        uri: head.path.as_slice(),
+        remote_addr: peer.addr.as_slice(),
+        remote_host: peer.addr.as_slice(),
+        server: head.server.as_slice(),
+        port: head.port,
+        ssl: false,
+        headers,
+        attributes,
+    }
 }
 
 fn protocol_of(old: bool) -> &'static [u8]
@@ -100,9 +70,48 @@ fn protocol_of(old: bool) -> &'static [u8]
     if old { b"HTTP/1.0" } else { b"HTTP/1.1" }
 }
 
+/// The lines as they go on, unless they go on as they are.
+fn trimmed_lines(alloc: Global, lines: &HeadLines) -> Result<Option<HeadPairs>, NoMemory>
+    ensures lines { IfOk result (λ trimmed. GoOn lines.now trimmed) }
+    ensures few { length lines.now ≤ 100 }
+{
+    if are_trimmed(lines.as_slice()) {
+        return Ok(None);
+    }
+    Ok(Some(headers_of(alloc, lines)?))
+}
+
+/// The headers that go on: those that were made, else the lines.
+fn headers_in<'a>(trimmed: &'a Option<HeadPairs>, lines: &'a HeadLines) -> &'a [(Bytes, Bytes)]
+    requires { GoOn lines.now trimmed.now }
+    ensures { result.now ≡ map line_for lines.now }
+{
+    match trimmed {
+        Some(pairs) => pairs.as_slice(),
+        None => lines.as_slice(),
+    }
+}
+
+/// Whether all lines go on as they are.
+fn are_trimmed(lines: &[(Bytes, Bytes)]) -> bool
+    ensures { OnTrue result (map line_for lines.now ≡ lines.now) }
+{
+    for line in lines {
+        if !is_trimmed(line) {
+            return false;
+        }
+    }
+    true
+}
+
+fn is_trimmed(line: &(Bytes, Bytes)) -> bool
+    ensures { OnTrue result (line_for line.now ≡ line.now) }
+{
+    trim(line.1.as_slice()) == line.1.as_slice()
+}
+
 fn headers_of(alloc: Global, lines: &HeadLines) -> Result<HeadPairs, NoMemory>
-    ensures value { IfOk result (λ pairs. pairs ≡ map line_for lines.now) }
-    ensures few { IfOk result (λ pairs. length pairs ≤ MAX_HEADERS) }
+    ensures { IfOk result (λ pairs. pairs ≡ map line_for lines.now) }
 {
     let mut pairs = Vec::with_capacity(alloc, lines.len())?;
     for line in lines.as_slice() {
