@@ -44,7 +44,7 @@ impl Course {
     }
 
     /// Takes the head of the reply.
-    pub(crate) fn take_head(&mut self, alloc: Global, plan: &TalkPlan, parts: ReplyParts) -> Turn
+    pub(crate) fn take_head(&mut self, plan: &TalkPlan, parts: ReplyParts) -> Turn
         requires course { IsOnCourse self.old }
         requires few { length parts.headers ≤ MAX_HEADERS }
         ensures { IsHeadTurn plan.now parts self.old self.new result }
@@ -54,11 +54,7 @@ impl Course {
         }
         self.headers = true;
         let status = parts.status;
-        let head = match reply_head(alloc, parts) {
-            Ok(head) => head,
-            Err(_) => return Turn::NoMemory,
-        };
-        match self.writer.headers(head) {
+        match self.writer.headers(reply_head(parts)) {
             Ok(()) => {}
             Err(OutError::BadReply) => return Turn::Failed(Cause::BadReply),
             Err(OutError::NoMemory) => return Turn::NoMemory,

@@ -36,7 +36,7 @@ pub(crate) fn step<L: Link, C: Link>(
     ensures same { IsSameUpload upload.old upload.new }
 {
     match receive(room, line, plan.packet, plan.most, &mut course.received) {
-        Ok(Message::Headers(parts)) => course.take_head(room.alloc, plan, parts),
+        Ok(Message::Headers(parts)) => course.take_head(plan, parts),
         Ok(Message::Chunk(bytes)) => {
             let turn = course.take_chunk(plan, bytes.as_slice(), client);
             room.reuse(bytes);
