@@ -5,6 +5,8 @@ ghost use Rattle.ajp_request.specs.Tables.{method_code as code_of_method};
 ghost use Rattle.ajp_request.specs.Parts.{told_by};
 ghost use Rattle.ajp_request.specs.Spelling.{SpellsForward};
 ghost use Rattle.ajp_request.specs.Writing.{line_bytes, ends_bytes, tail_bytes, payload_of, as_read, IsForward, FieldsFit, TextsFit, Fits};
+ghost use Rattle.ajp_wire.specs.declared.head_pairs.TheConstants.{MAX_HEADERS};
+ghost use Rattle.ajp_wire.specs.declared.writing.TheConstants.{PAYLOAD_LIMIT};
 
 use crate::attribute_writing::{
     attributes_len, method_len, put_attributes, put_with_method, text_len,
@@ -17,6 +19,12 @@ use ajp_wire::{
 };
 use jk_io::{Bytes, NoMemory};
 use std::alloc::Global;
+
+/// Fewer bytes are counted for a payload than these, also for one that is too long.
+const PAYLOAD_ROOM: usize = 20_000_000;
+
+/// The fields before the headers are spelled in fewer bytes than this.
+const FRONT_ROOM: usize = 400_000;
 
 /// The packet of a request, which has at most `most` bytes.
 pub fn encode_forward(alloc: Global, forward: &Forward, most: u32) -> Result<Bytes, EncodeError>
@@ -55,12 +63,12 @@ pub fn encode_parts(alloc: Global, parts: &ForwardParts, most: u32) -> Result<By
 
 /// How many bytes the payload has, unless a field is longer than its length can say, or they are more than fit a payload.
 fn payload_len(parts: &ForwardParts, code: Option<u8>) -> Option<usize>
-    requires few { length parts.now.headers.now ≤ 100 }
+    requires few { length parts.now.headers.now ≤ MAX_HEADERS }
     requires coded { code ≡ code_of_method parts.now.method.now }
     ensures value { IfSome result (λ len. len ≡ length (payload_of (told_by parts.now))) }
-    ensures bound { IfSome result (λ len. len < 20000000) }
+    ensures bound { IfSome result (λ len. len < PAYLOAD_ROOM) }
     ensures fits { IfSome result (λ _. FieldsFit (told_by parts.now)) }
-    ensures none { IfNone result (FieldsFit (told_by parts.now) → length (payload_of (told_by parts.now)) < 65536 → ⊥) }
+    ensures none { IfNone result (FieldsFit (told_by parts.now) → length (payload_of (told_by parts.now)) < PAYLOAD_LIMIT → ⊥) }
 {
     let front = front_len(parts)?;
     let headers = 2 + headers_len(parts.headers, header_names())?;
@@ -72,7 +80,7 @@ fn payload_len(parts: &ForwardParts, code: Option<u8>) -> Option<usize>
 /// How many bytes the fields before the headers have, unless a text is longer than its length can say.
 fn front_len(parts: &ForwardParts) -> Option<usize>
     ensures value { IfSome result (λ len. len ≡ length (line_bytes (told_by parts.now) ++ ends_bytes (told_by parts.now))) }
-    ensures bound { IfSome result (λ len. len < 400000) }
+    ensures bound { IfSome result (λ len. len < FRONT_ROOM) }
     ensures fits { IfSome result (λ _. TextsFit (told_by parts.now)) }
     ensures none { IfNone result (TextsFit (told_by parts.now) → ⊥) }
 {
@@ -108,7 +116,7 @@ fn put_ends(out: &mut Bytes, parts: &ForwardParts) -> Result<(), NoMemory>
 
 #[tactic(auto, unfolding(crate::specs::Writing::payload_of))]
 fn put_payload(out: &mut Bytes, parts: &ForwardParts, code: Option<u8>) -> Result<(), NoMemory>
-    requires few { length parts.now.headers.now ≤ 100 }
+    requires few { length parts.now.headers.now ≤ MAX_HEADERS }
     requires fits { FieldsFit (told_by parts.now) }
     requires coded { code ≡ code_of_method parts.now.method.now }
     ensures { OnOk result (out.new ≡ out.old ++ payload_of (told_by parts.now)) }
