@@ -2,6 +2,7 @@
 ghost use Rattle.std.specs.Prelude.{◌≡◌, ◌≤◌, length, map, IfOk, OnOk, Err};
 ghost use Rattle.std.specs.Bool.{OnTrue};
 ghost use Rattle.ajp_wire.specs.declared.errors.EncodeError.{EncodeError as AnyError};
+ghost use Rattle.ajp_wire.specs.declared.head_pairs.TheConstants.{MAX_HEADERS};
 ghost use Rattle.ajp_request.specs.Parts.{told_by};
 ghost use Rattle.ajp_request.specs.Writing.{Fits, as_read, payload_of};
 ghost use Rattle.ajp_request.specs.Spelling.{SpellsForward};
@@ -73,7 +74,7 @@ fn protocol_of(old: bool) -> &'static [u8]
 /// The lines as they go on, unless they go on as they are.
 fn trimmed_lines(alloc: Global, lines: &HeadLines) -> Result<Option<HeadPairs>, NoMemory>
     ensures lines { IfOk result (λ trimmed. GoOn lines.now trimmed) }
-    ensures few { length lines.now ≤ 100 }
+    ensures few { length lines.now ≤ MAX_HEADERS }
 {
     if are_trimmed(lines.as_slice()) {
         return Ok(None);
