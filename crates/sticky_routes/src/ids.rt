@@ -24,7 +24,8 @@ pub fn session_ids(
     ensures ids { IfOk result (λ ids. ids ≡ ids_of head.now cookie.now path.now) }
 {
     let mut ids = IdList::new(alloc);
-    let mut mark = Bytes::from_slice(alloc, path)?;
+    let mut mark = Bytes::with_capacity(alloc, path.len().saturating_add(1))?;
+    mark.extend(path)?;
     mark.push(b'=')?;
     add_path_ids(alloc, &mut ids, mark.as_slice(), head.path.as_slice())?;
     add_line_ids(alloc, &mut ids, cookie, head.headers.as_slice())?;
