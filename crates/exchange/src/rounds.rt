@@ -19,7 +19,7 @@ use crate::planning::plan_for;
 use crate::request::Request;
 use crate::sides::{Means, Sides};
 use crate::talks::run_talks;
-use crate::target::Target;
+use crate::target::{Target, target_of};
 use crate::verdicts::{outcome_of, verdict_of};
 use ajp_wire::EncodeError;
 use balancer_core::Desk;
@@ -144,11 +144,7 @@ where
         Ok(chosen) => chosen,
         Err(verdict) => return verdict,
     };
-    let to = Target {
-        member,
-        config: &request.balancer.book.members.as_slice()[member as usize],
-        endpoint: &request.balancer.ends.as_slice()[member as usize],
-    };
+    let to = target_of(request, member);
     let ran = run_member(alloc, request, first, &to, fresh, &mut means.sides);
     let back_at = means.clock.now();
     give_back(request, &to, lease, ran, back_at, means.desk)

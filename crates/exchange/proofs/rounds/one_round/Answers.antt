@@ -1,6 +1,5 @@
 -- What the desk answered, and what came of the lease.
-use Rattle.std.proofs.Common.{length, refl, ap, arith}
-use Rattle.std.proofs.lemmas.Option.{slice_get_read}
+use Rattle.std.proofs.Common.{refl, ap, arith}
 use Rattle.balancer_core.proofs.DeskLaws.{held_again}
 use Rattle.balancer_core.specs.Desks.{pair_of}
 use Rattle.exchange.specs.Means.{around_of}
@@ -19,26 +18,29 @@ returns-in-Err-clause-held g c = none_held g.B.Desk.note g.B.Desk.numbers _ _ _ 
 pub returns-in-Err-clause-kept : goal.returns-in-Err-clause-kept
 returns-in-Err-clause-kept g c = after_none g.B.Desk.note g.B.Desk.numbers _ _ _ _ _ _ _ c.chosen.ensures.kept c.in-Err.ensures.err
 
+pub target_of-to-requires : goal.target_of-to-requires
+target_of-to-requires g c = omega (arith, c.in-Ok.ensures.ok.answered.5, c.requires.desk_size)
+
 pub give_back-requires-clause-bytes : goal.give_back-requires-clause-bytes
 give_back-requires-clause-bytes g c =
-    told_at_most (errand_of c.args.request.now) c.args.first.now c.in-Ok.chosen.0 c.index-as_slice-member.result c.index-as_slice-member-2.result c.args.fresh
+    told_at_most (errand_of c.args.request.now) c.args.first.now c.target_of-to.result.member c.target_of-to.result.config.now c.target_of-to.result.endpoint.now c.args.fresh
     (around_of g.R.Meanings g.C.Meanings c.args.means.now.sides) (around_of g.R.Meanings g.C.Meanings c.run_member-ran.new.sides)
     c.run_member-ran.result c.run_member-ran.ensures.ran
 
 pub returns-clause-step : goal.returns-clause-step
 returns-clause-step g c =
     let chose = c.in-Ok.ensures.ok in
-    let back = c.give_back.ensures.back in
+    let to = c.target_of-to.ensures in
+    let back = rw to.member at c.give_back.ensures.back in
     went_back g.B.Desk.note _ _ _ _ _ c.now-at.result c.now-back_at.result c.args.ask.now c.in-Ok.chosen.0 c.in-Ok.chosen.1
-    c.index-as_slice-member.result c.index-as_slice-member-2.result c.run_member-ran.result (g.B.Desk.state c.chosen.new.desk) (g.K.Clock.answers c.now-at.new.self) back.stray c.give_back.result
+    c.target_of-to.result.config.now c.target_of-to.result.endpoint.now c.run_member-ran.result (g.B.Desk.state c.chosen.new.desk) (g.K.Clock.answers c.now-at.new.self) back.stray c.give_back.result
     (record {
       ask_is = c.requires.ask;
       asked_at = c.now-at.ensures;
       chose = chose;
-      configured = slice_get_read c.args.request.now.balancer.now.book.members (length c.args.request.now.balancer.now.book.members) c.in-Ok.chosen.0 _ refl (omega (arith, chose.answered.5, c.requires.desk_size)) (rw c.as_slice.ensures at c.index-as_slice-member.is);
-      reached = slice_get_read c.args.request.now.balancer.now.ends (length c.args.request.now.balancer.now.ends) c.in-Ok.chosen.0 _ refl (omega (arith, chose.answered.5, c.requires.desk_size, c.args.request.now.balancer.now.paired))
-          (rw c.as_slice-2.ensures at c.index-as_slice-member-2.is);
-      talked = c.run_member-ran.ensures.ran;
+      configured = to.config;
+      reached = to.endpoint;
+      talked = rw to.member at c.run_member-ran.ensures.ran;
       handed_at = c.now-back_at.ensures;
       back = back.back;
       fulls = back.fulls;
