@@ -1,5 +1,5 @@
 -- A status worker's request, from what was asked to what its client has.
-use Rattle.std.proofs.Common.{◌≡◌, ℕ, Bool, List, Option, IsSome, Ok, Err, refl, sym, subst, inl, inr}
+use Rattle.std.proofs.Common.{◌≡◌, ℕ, Bool, List, Option, IsSome, Result, Ok, Err, refl, sym, subst, inl, inr}
 use Rattle.jk_io.specs.Moments.{Moment}
 use Rattle.http_front.specs.declared.head.Head.{Head}
 use Rattle.http_out.specs.Own.{own_of}
@@ -9,13 +9,15 @@ use Rattle.client_session.specs.Answers.{HasPage, IsStatusAnswer, IsStatusBegun,
 use Rattle.status_worker.specs.Commanding.{IsPageCode}
 use Rattle.status_worker.specs.Commands.{IsDone, TurnsAway}
 use Rattle.status_worker.specs.Pages.{IsPage}
-use Rattle.client_session.specs.Requests.{Visit}
+use Rattle.client_session.specs.Requests.{Visit, visit_of}
 use Rattle.balancer_core.specs.Desks.{DeskState}
 use Rattle.status_worker.specs.Desks.{DeskSide}
 use Rattle.client_session.specs.Standings.{Puts, PutsPart, ClientStanding}
+use Rattle.client_session.specs.Surroundings.{SendsPage, Shows}
 use Rattle.client_session.specs.Writing.{WritesOwn, WritesPart}
 use Rattle.client_session.specs.declared.ending.SessionStop.{SessionStop}
 use Rattle.client_session.specs.declared.ending.SessionStop.TheVariants as stop
+use Rattle.client_session.specs.declared.inquiry.Inquiry.{Inquiry}
 use Rattle.client_session.specs.declared.ending.Why.TheVariants as why
 use Rattle.status_worker.specs.declared.pages.Page.{Page}
 use Rattle.status_page.specs.Page.{page_of}
@@ -110,22 +112,34 @@ nothing_seen v status head last s d only done = inr (record { alone = refl; why 
 abbrev side : DeskState → Option (List ℕ) → DeskSide
 side state clock = record { state = state; clock = clock }
 
-pub unseen_at : (v : Visit) (status : Status) (head : Head) (last : Bool) (s : ClientStanding) (seen now : DeskState) (clock : Option (List ℕ)) (only : Option ℕ) → now ≡ seen
+unseen_at : (v : Visit) (status : Status) (head : Head) (last : Bool) (s : ClientStanding) (seen now : DeskState) (clock : Option (List ℕ)) (only : Option ℕ) → now ≡ seen
     → IsDone v.cfg v.session status head.query s.desk (side seen clock) only → IsStatusAnswer v status head last s (asked_on s (side now clock)) (Err stop.NoMemory)
 unseen_at v status head last s seen now clock only same done =
     subst (λ (d : DeskState). IsStatusAnswer v status head last s (asked_on s (side d clock)) (Err stop.NoMemory)) (sym same)
     (nothing_seen v status head last s (side seen clock) only done)
 
-pub answered_at : (v : Visit) (status : Status) (head : Head) (last : Bool) (s : ClientStanding) (seen now : DeskState) (clock : Option (List ℕ)) (w : Moment) (only : Option ℕ) (page : Page) → now ≡ seen
+answered_at : (v : Visit) (status : Status) (head : Head) (last : Bool) (s : ClientStanding) (seen now : DeskState) (clock : Option (List ℕ)) (w : Moment) (only : Option ℕ) (page : Page) → now ≡ seen
     → IsDone v.cfg v.session status head.query s.desk (side seen clock) only → IsPage v.cfg seen only (is_head head) last page → Puts s.client w page.reply
     → IsStatusAnswer v status head last s (written_on s (side now clock) w) (Ok page.len)
 answered_at v status head last s seen now clock w only page same done is_seen puts =
     subst (λ (d : DeskState). IsStatusAnswer v status head last s (written_on s (side d clock) w) (Ok page.len)) (sym same)
     (page_answered v status head last s (side seen clock) w only page done is_seen puts)
 
-pub broken_at : (v : Visit) (status : Status) (head : Head) (last : Bool) (s : ClientStanding) (seen now : DeskState) (clock : Option (List ℕ)) (w : Moment) (only : Option ℕ) (page : Page) (stop' : SessionStop) → now ≡ seen
+broken_at : (v : Visit) (status : Status) (head : Head) (last : Bool) (s : ClientStanding) (seen now : DeskState) (clock : Option (List ℕ)) (w : Moment) (only : Option ℕ) (page : Page) (stop' : SessionStop) → now ≡ seen
     → IsDone v.cfg v.session status head.query s.desk (side seen clock) only → IsPage v.cfg seen only (is_head head) last page
     → WritesPart {T = Unit {0}} page.reply s.client w (Err stop') → IsStatusAnswer v status head last s (written_on s (side now clock) w) (Err stop')
 broken_at v status head last s seen now clock w only page stop' same done is_seen writes =
     subst (λ (d : DeskState). IsStatusAnswer v status head last s (written_on s (side d clock) w) (Err stop')) (sym same)
     (page_broken v status head last s (side seen clock) w only page stop' done is_seen writes)
+
+-- the page was sent, or it broke off
+pub page_sent : (i : Inquiry) (status : Status) (s : ClientStanding) (seen now : DeskState) (clock : Option (List ℕ)) (w : Moment) (only : Option ℕ) (answer : Result ℕ SessionStop) → now ≡ seen
+    → IsDone i.site.now.cfg.now i.site.now.session status i.head.now.query s.desk (side seen clock) only → SendsPage i only seen s.client w answer
+    → Shows i status s (written_on s (side now clock) w) answer
+page_sent i status s seen now clock w only (Ok len) same done (page, is_page, puts, len_is) =
+    rw len_is (answered_at (visit_of i.site.now) status i.head.now i.last s seen now clock w only page same done is_page puts)
+page_sent i status s seen now clock w only (Err stop') same done sent =
+    elim sent [
+      | inl (wanted, unwritten) ↦ rw (wanted, unwritten) (unseen_at (visit_of i.site.now) status i.head.now i.last s seen now clock only same done)
+      | inr (page, is_page, writes) ↦ broken_at (visit_of i.site.now) status i.head.now i.last s seen now clock w only page stop' same done is_page writes
+    ]

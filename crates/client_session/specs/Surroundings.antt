@@ -1,5 +1,6 @@
 -- The standings of a session, by what it is served with, and a request's answer.
-use Rattle.std.specs.Prelude.{◌≡◌, ◌++◌, ℕ, List, Option, Result}
+use Rattle.std.specs.Prelude.{◌≡◌, ◌⊎◌, ◌++◌, ℕ, List, Option, Result, Ok, Err}
+use Rattle.jk_io.specs.Moments.{Moment}
 use Rattle.jk_io.specs.declared.reaching.Beside.{Beside}
 use Rattle.jk_io.specs.declared.traits.streams.Meanings.{Ghosts}
 use Rattle.http_body_in.specs.declared.body.BodyIn.{BodyIn}
@@ -7,16 +8,20 @@ use Rattle.balancer_core.specs.Desks.{DeskState}
 use Rattle.jk_model.specs.declared.served.Served.{Served}
 use Rattle.http_front.specs.declared.head.Head.{Head}
 use Rattle.site_config.specs.declared.config.Status.{Status}
-use Rattle.exchange.specs.Requests.{AtPlace}
+use Rattle.status_worker.specs.Pages.{IsPage}
+use Rattle.status_worker.specs.declared.pages.Page.{Page}
+use Rattle.exchange.specs.Requests.{AtPlace, is_head}
 use Rattle.exchange.specs.declared.ending.ExchangeEnd.{ExchangeEnd}
 use Rattle.client_session.specs.Answers.{IsAnswer, IsAnswerAt, IsForwardedAt, IsStatusAnswer, errand_at}
 use Rattle.client_session.specs.Concluding.{rows_of}
 use Rattle.client_session.specs.Requests.{Visit, visit_of}
 use Rattle.client_session.specs.Sessions.{IsSession, ReadsHead}
-use Rattle.client_session.specs.Standings.{ClientStanding, standing}
+use Rattle.client_session.specs.Standings.{Puts, ClientStanding, standing}
 use Rattle.client_session.specs.Turns.{Turns}
+use Rattle.client_session.specs.Writing.{WritesPart}
 use Rattle.client_session.specs.declared.ending.SessionEnd.{SessionEnd}
 use Rattle.client_session.specs.declared.ending.SessionStop.{SessionStop}
+use Rattle.client_session.specs.declared.ending.SessionStop.TheVariants as stop
 use Rattle.client_session.specs.declared.inquiry.Inquiry.{Inquiry}
 use Rattle.client_session.specs.declared.surroundings.Surroundings.{Surroundings}
 use Rattle.client_session.specs.declared.turn.Settled.{Settled}
@@ -54,6 +59,13 @@ ForwardsTo i lb s n body body' end = AtPlace i.site.now.cfg.now.lbs lb (λ b.
 -- The request was answered by that status worker.
 abbrev pub Shows : Inquiry → Status → (s n : ClientStanding) → Result ℕ SessionStop → Type 0
 Shows i status s n answer = IsStatusAnswer (visit_of i.site.now) status i.head.now i.last s n answer
+
+-- The page of what the desk shows was sent, or a front of it; or memory was wanted before.
+abbrev pub SendsPage : Inquiry → (only : Option ℕ) → DeskState → (s n : Moment) → Result ℕ SessionStop → Type 0
+SendsPage i only d s n (Ok len) = (page : Page) × IsPage i.site.now.cfg.now d only (is_head i.head.now) i.last page × Puts s n page.reply × (len ≡ page.len)
+SendsPage i only d s n (Err stop') =
+    ((stop' ≡ stop.NoMemory) × (n ≡ s))
+    ⊎ ((page : Page) × IsPage i.site.now.cfg.now d only (is_head i.head.now) i.last page × WritesPart {T = Unit {0}} page.reply s n (Err stop'))
 
 -- The turn of a request whose head was read, wherever its bytes began.
 abbrev pub TurnsFrom : Visit → (number : ℕ) → Head → (s n : ClientStanding) → (rows rows' : List Served) → SessionTurn → Type 0

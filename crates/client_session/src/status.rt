@@ -1,9 +1,10 @@
 //! A request of a status worker: its commands are done, and its page written.
-ghost use Rattle.std.specs.Prelude.{◌≡◌, ◌≤◌, IfSome};
+ghost use Rattle.std.specs.Prelude.{◌≡◌, ◌≤◌, ◌<◌, IfSome, length};
 ghost use Rattle.balancer_core.specs.Desks.{MeetsNone};
 ghost use Rattle.exchange.specs.Requests.{sizes_of};
 ghost use Rattle.status_worker.specs.Desks.{KeepsTickets};
-ghost use Rattle.client_session.specs.Surroundings.{AreSame, Shows, standing_of};
+ghost use Rattle.client_session.specs.Standings.{client_at};
+ghost use Rattle.client_session.specs.Surroundings.{AreSame, SendsPage, Shows, standing_of};
 
 use crate::ending::SessionStop;
 use crate::inquiry::Inquiry;
@@ -11,9 +12,9 @@ use crate::requests::is_head;
 use crate::surroundings::Surroundings;
 use crate::writing::{send, write_own};
 use balancer_core::Desk;
-use jk_io::{Clock, Link, Reach};
+use jk_io::{Clock, Link, Reach, Sink};
 use site_config::Status;
-use status_worker::{NoPage, change, page_at};
+use status_worker::{NoPage, PageRequest, change, page_at};
 use std::alloc::Global;
 
 /// Answers a request of a status worker: the page's length, or why there is none.
@@ -37,24 +38,41 @@ where
     ensures client_faults { C.faults around.old.client.now ≤ C.faults around.new.client.now }
     ensures same { AreSame around.old around.new }
 {
-    let Inquiry { site, head, last } = *of;
-    let only = match change(
-        alloc,
-        site.cfg,
-        site.session,
+    let asked = PageRequest {
+        cfg: of.site.cfg,
+        session: of.site.session,
         status,
-        &head.query,
-        around.desk,
-        around.clock,
-    ) {
-        Ok(only) => only,
-        Err(NoPage::Own(code)) => return Err(write_own(code, is_head(head), around.client)),
-        Err(NoPage::NoMemory) => return Err(SessionStop::NoMemory),
+        query: &of.head.query,
     };
-    let Ok(page) = page_at(alloc, site.cfg, only, is_head(head), last, around.desk) else {
+    match change(alloc, &asked, around.desk, around.clock) {
+        Ok(only) => send_page(alloc, of, only, around.desk, around.client),
+        Err(NoPage::Own(code)) => Err(write_own(code, is_head(of.head), around.client)),
+        Err(NoPage::NoMemory) => Err(SessionStop::NoMemory),
+    }
+}
+
+/// Makes the page of one balancer, or of all, and sends it: the page's length, or why there is none.
+fn send_page<B: Desk, C: Sink>(
+    alloc: Global,
+    of: &Inquiry,
+    only: Option<u32>,
+    desk: &mut B,
+    client: &mut C,
+) -> Result<u64, SessionStop>
+where
+    B::Shown: Drop,
+    requires within { IfSome only (λ lb. lb < length of.now.site.now.cfg.now.lbs) }
+    requires sizes { (B.state desk.old).sizes ≡ sizes_of of.now.site.now.cfg.now.lbs }
+    ensures sent { SendsPage of.now only (B.state desk.old) (client_at C.Meanings client.old) (client_at C.Meanings client.new) result }
+    ensures seen { B.state desk.new ≡ B.state desk.old }
+    ensures beside { C.beside client.new ≡ C.beside client.old }
+    ensures no_fewer { C.faults client.old ≤ C.faults client.new }
+{
+    let Inquiry { site, head, last } = *of;
+    let Ok(page) = page_at(alloc, site.cfg, only, is_head(head), last, desk) else {
         return Err(SessionStop::NoMemory);
     };
-    match send(page.reply.as_slice(), around.client) {
+    match send(page.reply.as_slice(), client) {
         Ok(()) => Ok(page.len),
         Err(stop) => Err(stop),
     }

@@ -6,11 +6,12 @@ use Rattle.jk_model.specs.declared.refusal.AdminError.TheVariants as admin
 use Rattle.jk_model.specs.declared.refusal.FullMark.{FullMark}
 use Rattle.site_config.specs.declared.config.Config.{Config}
 use Rattle.site_config.specs.declared.config.Status.{Status}
-use Rattle.status_worker.specs.Commands.{IsBroken, RefusesOne, StopsAt, TurnsAway}
+use Rattle.status_worker.specs.Commands.{IsBroken, IsDone, RefusesOne, StopsAt, TurnsAway}
 use Rattle.status_worker.specs.Desks.{DeskSide}
 use Rattle.status_worker.specs.declared.asking.NoPage.{NoPage}
 use Rattle.status_worker.specs.declared.asking.NoPage.TheVariants as no_page
 use Rattle.status_worker.specs.declared.asking.Work.{Work}
+use Rattle.status_worker.specs.declared.request.PageRequest.{PageRequest}
 
 -- a status of an own answer in a page's place
 abbrev pub IsPageCode : ℕ → Type 0
@@ -36,3 +37,11 @@ FailsWork session work s n why = (error : AdminError FullMark) × StopsAt sessio
 abbrev pub FailsChange : Config → (session : ℕ) → Status → (query : Option (List ℕ)) → DeskSide → DeskSide → NoPage → Type 0
 FailsChange cfg session status query s n (no_page.Own code) = TurnsAway cfg session status query s n code × IsPageCode code
 FailsChange cfg session status query s n no_page.NoMemory = IsBroken cfg session status query s n
+
+-- what a request asks for was done
+abbrev pub IsDoneFor : PageRequest → DeskSide → DeskSide → (only : Option ℕ) → Type 0
+IsDoneFor r s n only = IsDone r.cfg.now r.session r.status.now r.query.now s n only
+
+-- there is no page for it
+abbrev pub FailsFor : PageRequest → DeskSide → DeskSide → NoPage → Type 0
+FailsFor r s n why = FailsChange r.cfg.now r.session r.status.now r.query.now s n why

@@ -1,15 +1,15 @@
 //! A status worker's commands are done.
 ghost use Rattle.std.specs.Prelude.{◌≡◌, ◌<◌, length, IfErr, IfSome, IfOk, OnOk};
 ghost use Rattle.balancer_core.specs.Desks.{MeetsNone};
-ghost use Rattle.status_worker.specs.Commands.{Does, IsDone, WorksOn};
-ghost use Rattle.status_worker.specs.Commanding.{FailsChange, FailsOne, FailsWork, no_page_by};
+ghost use Rattle.status_worker.specs.Commands.{Does, WorksOn};
+ghost use Rattle.status_worker.specs.Commanding.{FailsFor, FailsOne, FailsWork, IsDoneFor, no_page_by};
 ghost use Rattle.status_worker.specs.Desks.{KeepsTickets, desk_side, members_in};
 
 use crate::asking::{NoPage, Work, work_of};
+use crate::request::PageRequest;
 use balancer_core::Desk;
-use jk_io::{Bytes, Clock};
+use jk_io::Clock;
 use jk_model::{AdminError, Command};
-use site_config::{Config, Status};
 use std::alloc::Global;
 
 /// What a command's refusal makes of the request.
@@ -80,26 +80,23 @@ where
 /// Does what a request asks for; answers the balancer of its page.
 pub fn change<B: Desk, K: Clock>(
     alloc: Global,
-    cfg: &Config,
-    session: u32,
-    status: &Status,
-    query: &Option<Bytes>,
+    asked: &PageRequest,
     desk: &mut B,
     clock: &mut K,
 ) -> Result<Option<u32>, NoPage>
 where
     B::Mark: Drop,
-    requires caller { IfSome (B.state desk.old).caller (λ n. session ≡ n) }
-    requires sizes { (B.state desk.old).sizes ≡ members_in cfg.now.lbs }
+    requires caller { IfSome (B.state desk.old).caller (λ n. asked.now.session ≡ n) }
+    requires sizes { (B.state desk.old).sizes ≡ members_in asked.now.cfg.now.lbs }
     ensures ok { let at = desk_side B.state K.answers in
-        IfOk result (IsDone cfg.now session status.now query.now (at desk.old clock.old) (at desk.new clock.new)) }
-    ensures within { IfOk result (λ only. IfSome only (λ lb. lb < length cfg.now.lbs)) }
+        IfOk result (IsDoneFor asked.now (at desk.old clock.old) (at desk.new clock.new)) }
+    ensures within { IfOk result (λ only. IfSome only (λ lb. lb < length asked.now.cfg.now.lbs)) }
     ensures err { let at = desk_side B.state K.answers in
-        IfErr result (FailsChange cfg.now session status.now query.now (at desk.old clock.old) (at desk.new clock.new)) }
-    ensures kept { KeepsTickets session (B.state desk.old) (B.state desk.new) }
+        IfErr result (FailsFor asked.now (at desk.old clock.old) (at desk.new clock.new)) }
+    ensures kept { KeepsTickets asked.now.session (B.state desk.old) (B.state desk.new) }
     ensures met { MeetsNone (B.state desk.old) (B.state desk.new) }
 {
-    let work = work_of(alloc, cfg, status, query)?;
-    do_work(session, &work, desk, clock)?;
+    let work = work_of(alloc, asked.cfg, asked.status, asked.query)?;
+    do_work(asked.session, &work, desk, clock)?;
     Ok(work.only)
 }

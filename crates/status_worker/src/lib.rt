@@ -10,7 +10,9 @@
 mod asking;
 mod commanding;
 mod pages;
+mod request;
 
 pub use asking::{NoPage, Work};
 pub use commanding::change;
 pub use pages::{Page, page_at};
+pub use request::PageRequest;

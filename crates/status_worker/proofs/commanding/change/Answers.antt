@@ -9,5 +9,5 @@ returns-in_err-do_work-clause-err g c =
     let p = err_from_is_err_and c.from_residual-in_err-do_work.result c.from_residual-in_err-do_work.ensures.1 in
     let why = c.in_err-do_work.field-0.0 in
     let same : c.from_residual-in_err-do_work.result ≡ Err why = cc (p.1, p.2) in
-    rw same (refused c.args.cfg.now c.args.session c.args.status.now c.args.query.now c.in_ok-work.work _ _ why c.in_ok-work.ensures.ok
+    rw same (refused c.args.asked.now.cfg.now c.args.asked.now.session c.args.asked.now.status.now c.args.asked.now.query.now c.in_ok-work.work _ _ why c.in_ok-work.ensures.ok
     c.in_err-do_work.ensures.err)

@@ -1,0 +1,14 @@
+//! `PageRequest`: what a status worker is asked.
+
+use jk_io::Bytes;
+use site_config::{Config, Status};
+
+/// A request of a status worker, and the site that it is asked of.
+#[derive(Clone, Copy)]
+pub struct PageRequest<'a> {
+    pub cfg: &'a Config,
+    /// The number of the worker that serves it.
+    pub session: u32,
+    pub status: &'a Status,
+    pub query: &'a Option<Bytes>,
+}
