@@ -11,7 +11,7 @@ use balancer_core::PlainDesk;
 use check_rows::rows::{bytes_of, number};
 use check_rows::telling::{put_bytes, put_faults, put_shown, put_word};
 use check_rows::ways::{Way, link_of, writing};
-use client_session::serve_session_with;
+use client_session::{SessionEnd, serve_session_with};
 use jk_io::{Bytes, ListOf, MemLink, MemLinkList, MemReach, NoMemory, NumberList, Peer, StepClock};
 use jk_model::ServedList;
 use site_config::Config;
@@ -186,9 +186,12 @@ fn serve(
     let peer = Peer {
         addr: Bytes::from_slice(alloc, b"127.0.0.1")?,
     };
-    serve_peer(alloc, case, &peer, desk, reach, client, out)
+    let (end, rows) = serve_peer(alloc, case, &peer, desk, reach, client);
+    put_shown(out, &end)?;
+    put_rows(rows.as_slice(), out)
 }
 
+/// The session's end, and its rows.
 fn serve_peer(
     alloc: Global,
     case: &Case<'_>,
@@ -196,8 +199,7 @@ fn serve_peer(
     desk: &mut PlainDesk,
     reach: &mut MemReach,
     client: &mut MemLink,
-    out: &mut String,
-) -> Result<(), NoMemory>
+) -> (SessionEnd, ServedList)
     requires stands { stands_in case.now.config.now case.now.map.now ≡ true }
     requires desk { IsDeskOf case.now.config.now.lbs desk.old }
     requires sizes { reach.old.sizes ≡ sizes_in case.now.config.now.lbs }
@@ -218,8 +220,7 @@ fn serve_peer(
         &mut clock,
         &mut rows,
     );
-    put_shown(out, &end)?;
-    put_rows(rows.as_slice(), out)
+    (end, rows)
 }
 
 fn put_balancers(case: &Case<'_>, desk: &mut PlainDesk, out: &mut String) -> Result<(), NoMemory>
