@@ -6,7 +6,7 @@ use Rattle.ajp_request.specs.Parts.{told_by}
 use Rattle.ajp_request.specs.Writing.{IsAttribute, IsForward}
 use Rattle.ajp_request.specs.declared.attribute.Attribute.{Attribute}
 use Rattle.ajp_request.specs.declared.forward.ForwardParts.{ForwardParts}
-use Rattle.http_front.specs.Fields.{Line}
+use Rattle.http_front.specs.Fields.{HeaderLine}
 use Rattle.http_front.specs.declared.head.Head.{Head}
 use Rattle.jk_model.specs.declared.member.MemberConfig.{MemberConfig}
 use Rattle.site_config.specs.declared.endpoint.Endpoint.{Endpoint}
@@ -31,8 +31,8 @@ forward_is_one head peer direct member endpoint port few = record {
 }
 
 -- parts with the headers and attributes that go on are the request that is told
-pub forward_told : (head : Head) (peer : List ℕ) (direct : Bool) (member : MemberConfig) (endpoint : Endpoint) (parts : ForwardParts) (lines : List Line) (attributes : List Attribute)
+pub forward_told : (head : Head) (peer : List ℕ) (direct : Bool) (member : MemberConfig) (endpoint : Endpoint) (parts : ForwardParts) (lines : List HeaderLine) (attributes : List Attribute)
     → told_by parts ≡ forward_with head peer lines attributes → lines ≡ map line_for head.headers
     → attributes ≡ attributes_for head.query (route_for direct member) endpoint.secret → told_by parts ≡ forward_for head peer direct member endpoint
 forward_told head peer direct member endpoint parts lines attributes told headers rest =
-    told ∙ ap (λ (x : List Line). forward_with head peer x attributes) headers ∙ ap (λ (x : List Attribute). forward_with head peer (map line_for head.headers) x) rest
+    told ∙ ap (λ (x : List HeaderLine). forward_with head peer x attributes) headers ∙ ap (λ (x : List Attribute). forward_with head peer (map line_for head.headers) x) rest

@@ -36,7 +36,7 @@ abbrev pub attributes_for : (query route secret : Option (List ℕ)) → List At
 attributes_for query route secret = attribute_for 5 query ++ (attribute_for 6 route ++ attribute_for 12 secret)
 
 -- the Forward Request of a request from a peer, with these headers and attributes
-abbrev pub forward_with : Head → (peer : List ℕ) → List Line → List Attribute → Forward
+abbrev pub forward_with : Head → (peer : List ℕ) → List HeaderLine → List Attribute → Forward
 forward_with head peer headers attributes = record {
   method = head.method;
   protocol = protocol_of head.old;
@@ -51,7 +51,7 @@ forward_with head peer headers attributes = record {
 }
 
 -- what lines go on as: pairs that were made of them, or where there are none, the lines as they are
-abbrev pub GoOn : List Line → Option (List Line) → Type 0
+abbrev pub GoOn : List HeaderLine → Option (List HeaderLine) → Type 0
 GoOn lines None = map line_for lines ≡ lines
 GoOn lines (Some pairs) = pairs ≡ map line_for lines
 
