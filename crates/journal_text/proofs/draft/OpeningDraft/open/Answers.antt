@@ -4,7 +4,7 @@ use Rattle.jk_model.specs.declared.opening.Opening.{Opening}
 use Rattle.journal_text.specs.Openings.{IsOpened}
 use Rattle.journal_text.proofs.OpeningFacts.{refused_none}
 use Rattle.journal_text.proofs.ReadingLaws.{same_opening}
-use Rattle.journal_text.proofs.draft.Draft.open.Goals as goal
+use Rattle.journal_text.proofs.draft.OpeningDraft.open.Goals as goal
 
 pub returns-in-Err : goal.returns-in-Err
 returns-in-Err c = λ o h _. refused_none c.args.self o.config c.in-Err.field-0 h.config c.in-Err.ensures.refused
