@@ -1,5 +1,5 @@
 //! The members of an lb worker: what is refused of them, and what is made of them.
-ghost use Rattle.std.specs.Prelude.{◌≡◌, ◌≤◌, ◌<◌, [], length, map, IfOk, IfErr, OnOk};
+ghost use Rattle.std.specs.Prelude.{◌≡◌, ◌≤◌, ◌<◌, ◌+◌, [], length, map, IfOk, IfErr, OnOk};
 ghost use Rattle.std.specs.Option.{option_map};
 ghost use Rattle.jk_model.specs.Ranges.{AreInRange};
 ghost use Rattle.worker_props.specs.Built.{HaveForce, AreBuilt, routes_at};
