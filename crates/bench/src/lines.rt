@@ -12,7 +12,7 @@ const LINE: &str = "a=b\n";
 
 const FEW_LINES: u32 = 200;
 
-/// So many lines.
+/// A text of this many lines.
 fn text_of(alloc: Global, lines: u32) -> Result<String, NoMemory> {
     let mut text = String::new(alloc);
     for _ in 0..lines {

@@ -2,9 +2,8 @@
 //!
 //! Without a word it makes one small round of each and prints no time. `ajp N`, `heads N`, `bodies N` and `book N` make
 //! N rounds, of which bench/ has the same work in plain C. `site N` and `map N` read a workers.properties and a
-//! uriworkermap.properties of N bytes, `lines N` a workers.properties of N short lines without an effect, `lists N` N
-//! balancers that borrow one list, and `journal N` checks the text of N
-//! exchanges. They print figures.
+//! uriworkermap.properties of N bytes, `lines N` a workers.properties of N short lines without effect, `lists N` N
+//! balancers that borrow one list, and `journal N` checks the text of N exchanges. They print figures.
 #![tactic(auto)]
 
 mod ajp;
