@@ -1,10 +1,13 @@
 -- What is told of a site, by the first of the files that were read and those after it.
-use Rattle.std.proofs.Common.{◌≡◌, ℕ, ◌-◌, ◌≤◌, Bool, List, [], ◌∷◌, Option, Some, Result, Ok, Err, OnOk, length, take, drop, get_or, arith, sym, subst, ◌∙◌, ap}
+use Rattle.std.proofs.Common.{◌≡◌, ℕ, ◌-◌, ◌≤◌, Bool, List, [], ◌∷◌, Option, Some, Result, Ok, Err, inl, inr, length, take, drop, get_or, arith, sym, subst, ◌∙◌, ap}
+use Rattle.std.specs.Bool.{⊤}
 use Rattle.std.proofs.lemmas.List.{take_all}
 use Rattle.command_remarks.specs.declared.kept_files.ReadFile.{ReadFile}
 use Rattle.command_remarks.specs.Told.{AreSaid, SaysSite, map_among, text_of}
 use Rattle.jk_io.proofs.ToldLaws.{appended-nil}
-use Rattle.site_remarks.specs.Remarks.{AddsSaid, AreRemarks}
+use Rattle.jk_io.specs.declared.failures.IoError.{IoError}
+use Rattle.site_remarks.specs.Added.{AddsSaid}
+use Rattle.site_remarks.specs.Remarks.{AreRemarks}
 
 -- what is told of the first file's text and the next one's is told of the site
 pub says_site : (effects : Bool) (reads : List ReadFile) (first : ReadFile) (workers : List ℕ × List ℕ) (map : Option (List ℕ × List ℕ)) (out : List ℕ)
@@ -19,10 +22,11 @@ says_site effects (read ∷ reads) first workers map out some is text same said 
     (subst (λ (w : Option (List ℕ × List ℕ)). AreSaid effects w map out) (sym found) said)
 
 -- nothing is said where nothing is to be
-pub says_none : (told : Option (List ℕ)) (so : List ℕ → Type 0) → so [] → AddsSaid told told so
-says_none told so none = ([], sym (appended-nil told), none)
+pub says_none : (told : Option (List ℕ)) (so : List ℕ → Type 0) → so [] → AddsSaid {T = ⊤} (Ok tt) told told so
+says_none told so none = ([], none, sym (appended-nil told))
 
--- what a call makes at Ok is what its caller means
-pub on_ok : {T E : Type 0} (r : Result T E) (P Q : Type 0) → OnOk r P → (P → Q) → OnOk r Q
-on_ok (Ok x) P Q h f = f h
-on_ok (Err e) P Q h f = tt
+-- what is said is what this means too
+pub says_as : {T : Type 0} (r : Result T IoError) (old new : Option (List ℕ)) (P Q : List ℕ → Type 0) → AddsSaid r old new P → ((said : List ℕ) → P said → Q said) → AddsSaid r old new Q
+says_as (Ok x) old new P Q (said, is, adds) so = (said, so said is, adds)
+says_as (Err e) old new P Q (inl none) so = inl none
+says_as (Err e) old new P Q (inr (said, is, front)) so = inr (said, so said is, front)

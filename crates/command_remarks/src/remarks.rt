@@ -1,7 +1,6 @@
 //! What a person is told of a command that ended.
 ghost use Rattle.std.specs.Prelude.{◌≡◌, ◌≢◌, [], IfOk, OnOk, None, Some, true};
-ghost use Rattle.jk_io.specs.Told.{appended};
-ghost use Rattle.site_remarks.specs.Remarks.{AddsSaid};
+ghost use Rattle.site_remarks.specs.Added.{AddsSaid, AddsText};
 ghost use Rattle.command_remarks.specs.Told.{SaysEffects, SaysRefused, too_long_text, unread_name, unread_text};
 
 use crate::counted_input::InputSeen;
@@ -40,7 +39,7 @@ fn put_long<O: Sink + Drop>(
     out: &mut RemarkOut<O>,
     name: &[u8],
 ) -> Result<(), IoError>
-    ensures { OnOk result (out.new ≡ appended out.old (too_long_text name.now)) }
+    ensures { AddsText result out.old out.new (too_long_text name.now) }
 {
     let said = too_long(alloc, name)?;
     out.put(said.as_slice())
@@ -54,7 +53,7 @@ fn put_refusal<O: Sink + Drop>(
     reads: &[ReadFile],
     input: InputSeen,
 ) -> Result<(), IoError>
-    ensures { OnOk result (AddsSaid out.old out.new (SaysRefused words.now reads.now input)) }
+    ensures { AddsSaid result out.old out.new (SaysRefused words.now reads.now input) }
 {
     if let Some(name) = long_file(reads) {
         return put_long(alloc, out, name);
@@ -107,8 +106,8 @@ fn put_fault<O: Sink + Drop>(
     out: &mut RemarkOut<O>,
     ended: &Ended<'_>,
 ) -> Result<(), IoError>
-    ensures { OnOk result (out.new ≡ appended out.old
-        (unread_text (unread_name ended.now.reads.now) ended.now.input.failed ended.now.reason.now)) }
+    ensures { AddsText result out.old out.new
+        (unread_text (unread_name ended.now.reads.now) ended.now.input.failed ended.now.reason.now) }
 {
     let said = fault_of(alloc, ended.reads, ended.input, ended.reason)?;
     out.put(said.as_slice())
@@ -133,11 +132,11 @@ pub fn remarks_on<O: Sink + Drop>(
     ended: &Ended<'_>,
 ) -> Result<(), IoError>
     ensures effects { ended.now.status ≡ 0
-        → OnOk result (AddsSaid out.old out.new (SaysEffects ended.now.words.now ended.now.reads.now)) }
+        → AddsSaid result out.old out.new (SaysEffects ended.now.words.now ended.now.reads.now) }
     ensures refused { ended.now.status ≡ 3
-        → OnOk result (AddsSaid out.old out.new (SaysRefused ended.now.words.now ended.now.reads.now ended.now.input)) }
-    ensures unread { ended.now.status ≡ 4 → OnOk result (out.new ≡ appended out.old
-        (unread_text (unread_name ended.now.reads.now) ended.now.input.failed ended.now.reason.now)) }
+        → AddsSaid result out.old out.new (SaysRefused ended.now.words.now ended.now.reads.now ended.now.input) }
+    ensures unread { ended.now.status ≡ 4 → AddsText result out.old out.new
+        (unread_text (unread_name ended.now.reads.now) ended.now.input.failed ended.now.reason.now) }
 
     // Of the other statuses 2 alone is told of, by its words.
     ensures other { ended.now.status ≢ 0 → ended.now.status ≢ 2 → ended.now.status ≢ 3 → ended.now.status ≢ 4

@@ -1,9 +1,10 @@
 //! What is told of the files of a site that a command read.
-ghost use Rattle.std.specs.Prelude.{◌≡◌, IfSome, OnOk};
+ghost use Rattle.std.specs.Prelude.{◌≡◌, IfSome};
 ghost use Rattle.std.specs.Option.{option_map};
 ghost use Rattle.jk_cli.specs.Orders.{command_of};
 ghost use Rattle.command_remarks.specs.Told.{SaysEffects, SaysEffectsAt, SaysPlaced, SaysSite, map_among, site_place, text_of};
-ghost use Rattle.site_remarks.specs.Remarks.{AddsSaid, IsShort, as_file};
+ghost use Rattle.site_remarks.specs.Added.{AddsSaid};
+ghost use Rattle.site_remarks.specs.Remarks.{IsShort, as_file};
 
 use crate::kept_files::ReadFile;
 use jk_cli::{CommandName, command_of};
@@ -75,7 +76,7 @@ fn put_site<O: Sink + Drop>(
     reads: &[ReadFile],
     effects: bool,
 ) -> Result<(), IoError>
-    ensures { OnOk result (AddsSaid out.old out.new (SaysSite effects reads.now)) }
+    ensures { AddsSaid result out.old out.new (SaysSite effects reads.now) }
 {
     let [first, rest @ ..] = reads else {
         return Ok(());
@@ -99,7 +100,7 @@ pub(crate) fn put_placed<O: Sink + Drop>(
     reads: &[ReadFile],
     at: Option<SitePlace>,
 ) -> Result<(), IoError>
-    ensures { OnOk result (AddsSaid out.old out.new (SaysPlaced at reads.now)) }
+    ensures { AddsSaid result out.old out.new (SaysPlaced at reads.now) }
 {
     let Some(at) = at else {
         return Ok(());
@@ -117,7 +118,7 @@ pub(crate) fn put_effects<O: Sink + Drop>(
     words: &[Bytes],
     reads: &[ReadFile],
 ) -> Result<(), IoError>
-    ensures { OnOk result (AddsSaid out.old out.new (SaysEffects words.now reads.now)) }
+    ensures { AddsSaid result out.old out.new (SaysEffects words.now reads.now) }
 {
     match site_place(words) {
         None => Ok(()),

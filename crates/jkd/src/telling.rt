@@ -49,8 +49,8 @@ fn write_remarks<R: Files + AllocGlobal, W: Write + Drop>(
     };
     let mut out = RemarkOut::new(rt.alloc(), WriteSink::new(err));
     remarks_on(rt.alloc(), &mut out, &ended)?;
-    let _sink = out.finish()?;
-    Ok(())
+    let (_sink, written) = out.finish();
+    written
 }
 
 /// Writes what a person is told of a command. A write that fails ends it and changes nothing, and so does want of memory.

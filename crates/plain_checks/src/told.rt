@@ -13,7 +13,8 @@ fn put_remarks(alloc: Global, ended: &Ended<'_>, out: &mut Bytes) -> Result<(), 
     let link = MemLink::new(alloc, Bytes::new(alloc), NumberList::new(alloc));
     let mut told = RemarkOut::new(alloc, link);
     remarks_on(alloc, &mut told, ended).map_err(|_| RowError::NoMemory)?;
-    let link = told.finish().map_err(|_| RowError::NoMemory)?;
+    let (link, written) = told.finish();
+    written.map_err(|_| RowError::NoMemory)?;
     Ok(out.extend(link.sent())?)
 }
 

@@ -1,3 +1,4 @@
+pub mod AddedLemmas
 pub mod AgainLemmas
 pub mod KindLemmas
 pub mod NoticeLemmas

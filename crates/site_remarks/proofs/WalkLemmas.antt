@@ -1,5 +1,5 @@
 -- The lines of a text that is accepted, one after another.
-use Rattle.std.proofs.Common.{◌≡◌, ◌+◌, ℕ, true, List, [], ◌∷◌, ◌++◌, Option, Result, Ok, Err, ⊥, refl, sym, ◌∙◌, ap, length, append_assoc, append-nil, arith}
+use Rattle.std.proofs.Common.{◌≡◌, ◌+◌, ℕ, true, List, [], ◌∷◌, ◌++◌, Option, Result, Ok, Err, refl, sym, ◌∙◌, ap, length, append_assoc, append-nil, arith}
 use Rattle.std.specs.Option.{option_to_list}
 use Rattle.jk_io.specs.Decimals.{trimmed}
 use Rattle.property_lines.specs.declared.property.Property.{Property}

@@ -1,3 +1,4 @@
+pub mod Added
 pub mod Again
 pub mod Explained
 pub mod KindTables

@@ -2,7 +2,6 @@
 -- with it, and of files that are accepted, where it is asked for, what has no effect. A file is its name and its text.
 use Rattle.std.specs.Prelude.{◌≡◌, ◌≤◌, ℕ, Bool, true, false, List, [], ◌++◌, ◌⊎◌, Option, Some, None, IfSome, Result, Ok, Err, length}
 use Rattle.std.specs.Option.{option_map}
-use Rattle.jk_io.specs.Told.{appended}
 use Rattle.jk_io.specs.declared.whole_input.TheConstants.{MAX_INPUT_BYTES}
 use Rattle.property_lines.specs.Properties as properties
 use Rattle.property_lines.specs.Refusals.{LineRefusal}
@@ -45,10 +44,6 @@ as_file file = (file.name.now, file.text.now)
 
 abbrev pub maps_of : SiteFiles → Option (List ℕ × List ℕ)
 maps_of files = option_map as_file files.map
-
--- something of which this holds is added to what was said
-abbrev pub AddsSaid : (old new : Option (List ℕ)) → (List ℕ → Type 0) → Type 0
-AddsSaid old new so = (said : List ℕ) × (new ≡ appended old said) × so said
 
 -- the text is one that a command takes
 abbrev pub IsShort : SiteFile → Type 0

@@ -1,12 +1,12 @@
 //! What of a uriworkermap.properties has no effect.
 ghost use Rattle.std.specs.Prelude.{◌≡◌, ◌++◌, ◌≤◌, ℕ, List, length, OnOk};
 ghost use Rattle.jk_io.specs.Decimals.{trimmed};
-ghost use Rattle.jk_io.specs.Told.{appended};
 ghost use Rattle.jk_io.specs.declared.whole_input.TheConstants.{MAX_INPUT_BYTES};
 ghost use Rattle.std.specs.List.{flat_map};
 ghost use Rattle.std.specs.Option.{option_map};
 ghost use Rattle.property_lines.specs.declared.values.WorkerKind.{WorkerKind};
 ghost use Rattle.property_lines.specs.Cut.{cut_at};
+ghost use Rattle.site_remarks.specs.Added.{AddsText};
 ghost use Rattle.site_remarks.specs.KindTables.{IsKindTable};
 ghost use Rattle.site_remarks.specs.MapNotices.{behind_notices, is_part_name, line_notices, map_notices, part_notice, parts_notices, side_notices};
 ghost use Rattle.property_lines.specs.Properties.{is_silent};
@@ -193,8 +193,8 @@ fn put_line_notices<O: Sink + Drop>(
     at: FileLine<'_>,
     line: &[u8],
 ) -> Result<(), IoError>
-    ensures { (kinds : List (List ℕ × WorkerKind)) → IsKindTable table.now kinds → OnOk result (out.new ≡ appended out.old
-        (line_notices at.entry.file.now at.entry.line kinds (trimmed line.now))) }
+    ensures { (kinds : List (List ℕ × WorkerKind)) → IsKindTable table.now kinds → AddsText result out.old out.new
+        (line_notices at.entry.file.now at.entry.line kinds (trimmed line.now)) }
 {
     buffer.clear();
     put_line(buffer, table, at, trim(line))?;
@@ -210,7 +210,7 @@ pub(crate) fn put_map_notices<O: Sink + Drop>(
 ) -> Result<(), IoError>
     requires { length map.now.text.now ≤ MAX_INPUT_BYTES }
     ensures { (kinds : List (List ℕ × WorkerKind)) → IsKindTable table.now kinds
-        → OnOk result (out.new ≡ appended out.old (map_notices map.now.name.now kinds map.now.text.now)) }
+        → AddsText result out.old out.new (map_notices map.now.name.now kinds map.now.text.now) }
 {
     let mut buffer = Bytes::new(alloc);
     let mut line: u32 = 0;

@@ -4,10 +4,10 @@ ghost use Rattle.std.specs.Option.{option_map, option_to_list};
 ghost use Rattle.std.specs.List.{flat_map};
 ghost use Rattle.property_lines.specs.declared.values.WorkerKind.{WorkerKind};
 ghost use Rattle.property_lines.specs.declared.property.Property.{Property};
-ghost use Rattle.jk_io.specs.Told.{appended};
 ghost use Rattle.jk_io.specs.declared.whole_input.TheConstants.{MAX_INPUT_BYTES};
 ghost use Rattle.property_lines.specs.Entries.{as_property};
 ghost use Rattle.property_lines.specs.Properties.{read_text};
+ghost use Rattle.site_remarks.specs.Added.{AddsText};
 ghost use Rattle.site_remarks.specs.Again.{Says};
 ghost use Rattle.site_remarks.specs.KindTables.{ForTables, IsKindTable};
 ghost use Rattle.site_remarks.specs.Notices.{again_words, directive_words, key_words, misplaced, notice, notice_with, notices, owner_of, words_at, words_of};
@@ -163,7 +163,7 @@ fn put_notice<O: Sink + Drop>(
     entry: &PropertyLine<'_>,
 ) -> Result<(), IoError>
     ensures { ForTables tables.now (λ kinds ps.
-        OnOk result (out.new ≡ appended out.old (notice file.now kinds ps (as_property entry.now)))) }
+        AddsText result out.old out.new (notice file.now kinds ps (as_property entry.now))) }
 {
     let at = FileLine {
         file,
@@ -184,7 +184,7 @@ fn put_line_notice<O: Sink + Drop>(
     line: &[u8],
 ) -> Result<(), IoError>
     ensures { ForTables tables.now (λ kinds ps. (says : Option Property) → Says number line.now says
-        → OnOk result (out.new ≡ appended out.old (flat_map (notice file.now kinds ps) (option_to_list says)))) }
+        → AddsText result out.old out.new (flat_map (notice file.now kinds ps) (option_to_list says))) }
 {
     match said_at(number, line)? {
         None => Ok(()),
@@ -203,7 +203,7 @@ pub(crate) fn put_notices<O: Sink + Drop>(
 ) -> Result<(), IoError>
     requires { length workers.now.text.now ≤ MAX_INPUT_BYTES }
     ensures { ForTables tables.now (λ kinds ps. read_text true workers.now.text.now ≡ Ok ps
-        → OnOk result (out.new ≡ appended out.old (notices workers.now.name.now kinds ps))) }
+        → AddsText result out.old out.new (notices workers.now.name.now kinds ps)) }
 {
     let mut buffer = Bytes::new(alloc);
     let mut number: u32 = 0;

@@ -1,16 +1,17 @@
 //! Where remarks go.
-ghost use Rattle.std.specs.Prelude.{◌≡◌, [], IfOk, OnOk};
+ghost use Rattle.std.specs.Prelude.{◌≡◌, [], OnErr, OnOk};
 ghost use Rattle.jk_io.specs.Told.{appended};
+ghost use Rattle.site_remarks.specs.Added.{AddsText, IsFront};
 
 use jk_io::{Bytes, IoError, Sink, write_all};
 use std::alloc::Global;
 use std::marker::Model;
 
-/// Fewer bytes are held; from so many on they are written.
+/// Fewer bytes are held; as many, or more, are written.
 const PIECE_BYTES: usize = 65_536;
 
 /// A sink for remarks, and the last of them, which are held so that it is given large pieces. A contract sees what the sink
-/// took and behind it what is held.
+/// took and after it what is held. After a write that failed nothing is held.
 #[derive(Drop)]
 pub struct RemarkOut<O: Sink + Drop> {
     sink: O,
@@ -26,19 +27,19 @@ impl<O: Sink + Drop> Model for RemarkOut<O> {
     ghost view = { λ r. appended (O.sent r.sink) r.held };
 }
 
-/// Writes what is held.
+/// Writes what is held, and holds nothing from then on.
 fn write_held<O: Sink>(sink: &mut O, held: &mut Bytes) -> Result<(), IoError>
-    ensures sent { OnOk result (O.sent sink.new ≡ appended (O.sent sink.old) held.old) }
-    ensures none { OnOk result (held.new ≡ []) }
+    ensures sent { AddsText result (O.sent sink.old) (O.sent sink.new) held.old }
+    ensures none { held.new ≡ [] }
 {
-    write_all(sink, held.as_slice())?;
+    let written = write_all(sink, held.as_slice());
     held.clear();
-    Ok(())
+    written
 }
 
 /// Holds a piece, and writes what is held once it is enough.
 fn put_held<O: Sink>(sink: &mut O, held: &mut Bytes, piece: &[u8]) -> Result<(), IoError>
-    ensures { OnOk result (appended (O.sent sink.new) held.new ≡ appended (appended (O.sent sink.old) held.old) piece.now) }
+    ensures { AddsText result (appended (O.sent sink.old) held.old) (appended (O.sent sink.new) held.new) piece.now }
 {
     held.extend(piece)?;
     if held.len() < PIECE_BYTES {
@@ -58,19 +59,20 @@ impl<O: Sink + Drop> RemarkOut<O> {
         }
     }
 
-    /// Adds a piece at the end. After an error some of what was added is lost, so nothing more is to be added.
+    /// Adds a piece at the end. After a write that failed the end of what was added is lost, so nothing more is to be added.
     pub fn put(&mut self, piece: &[u8]) -> Result<(), IoError>
-        ensures { OnOk result (self.new ≡ appended self.old piece.now) }
+        ensures { AddsText result self.old self.new piece.now }
     {
         put_held(&mut self.sink, &mut self.held, piece)
     }
 
-    /// The sink, which took all of it.
-    pub fn finish(self) -> Result<O, IoError>
-        ensures { IfOk result (λ sink. O.sent sink ≡ self) }
+    /// The sink, which took all of it, or a front after an error.
+    pub fn finish(self) -> (O, Result<(), IoError>)
+        ensures all { OnOk result.1 (O.sent result.0 ≡ self) }
+        ensures front { OnErr result.1 (IsFront self (O.sent result.0)) }
     {
         let RemarkOut { mut sink, held } = self;
-        write_all(&mut sink, held.as_slice())?;
-        Ok(sink)
+        let written = write_all(&mut sink, held.as_slice());
+        (sink, written)
     }
 }

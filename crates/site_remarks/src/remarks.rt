@@ -1,7 +1,6 @@
 //! What a person reads of a site's files: why they are refused, and what of those that are accepted has no effect.
 ghost use Rattle.std.specs.Prelude.{◌≡◌, ◌≤◌, ℕ, List, ◌++◌, Ok, true, length, IfSome, OnOk};
 ghost use Rattle.std.specs.Option.{option_map};
-ghost use Rattle.jk_io.specs.Told.{appended};
 ghost use Rattle.jk_io.specs.declared.whole_input.TheConstants.{MAX_INPUT_BYTES};
 ghost use Rattle.property_lines.specs.Properties as properties;
 ghost use Rattle.property_lines.specs.declared.property.Property.{Property};
@@ -11,7 +10,8 @@ ghost use Rattle.site_config.specs.declared.config.Config.{Config};
 ghost use Rattle.site_remarks.specs.Explained.{explained_map, explained_workers};
 ghost use Rattle.site_remarks.specs.KindTables.{IsKindTable};
 ghost use Rattle.site_remarks.specs.Notices.{kinds_of, notices};
-ghost use Rattle.site_remarks.specs.Remarks.{AddsSaid, AreRemarks, AreShort, IsShort, as_file, map_remarks, maps_of, rules_remarks, workers_remarks};
+ghost use Rattle.site_remarks.specs.Added.{AddsSaid, AddsText};
+ghost use Rattle.site_remarks.specs.Remarks.{AreRemarks, AreShort, IsShort, as_file, map_remarks, maps_of, rules_remarks, workers_remarks};
 
 use crate::again::line_table;
 use crate::explain::{explain_map, explain_workers};
@@ -35,8 +35,8 @@ fn put_map_refusal<O: Sink + Drop>(
     line: u32,
     code: u8,
 ) -> Result<(), IoError>
-    ensures { OnOk result (out.new ≡ appended out.old
-        (explained_map map.now.name.now map.now.text.now (record { line = line; code = code }))) }
+    ensures { AddsText result out.old out.new
+        (explained_map map.now.name.now map.now.text.now (record { line = line; code = code })) }
 {
     let mut said = Bytes::new(alloc);
     explain_map(&mut said, map, line, code)?;
@@ -51,8 +51,8 @@ fn put_workers_refusal<O: Sink + Drop>(
     line: u32,
     code: u8,
 ) -> Result<(), IoError>
-    ensures { OnOk result (out.new ≡ appended out.old
-        (explained_workers workers.now.name.now workers.now.text.now (record { line = line; code = code }))) }
+    ensures { AddsText result out.old out.new
+        (explained_workers workers.now.name.now workers.now.text.now (record { line = line; code = code })) }
 {
     let mut said = Bytes::new(alloc);
     explain_workers(&mut said, workers, line, code)?;
@@ -70,8 +70,8 @@ fn put_map<O: Sink + Drop>(
 ) -> Result<(), IoError>
     requires short { IsShort map.now }
     requires table { IsKindTable table.now (kinds_of config.now) }
-    ensures { OnOk result (out.new ≡ appended out.old
-        (rules_remarks effects config.now (as_file map.now) (read_text config.now map.now.text.now))) }
+    ensures { AddsText result out.old out.new
+        (rules_remarks effects config.now (as_file map.now) (read_text config.now map.now.text.now)) }
 {
     match read_map(alloc, map.text, config) {
         Ok(_rules) => {
@@ -97,7 +97,7 @@ fn put_any_map<O: Sink + Drop>(
 ) -> Result<(), IoError>
     requires short { IfSome map IsShort }
     requires table { IsKindTable table.now (kinds_of config.now) }
-    ensures { OnOk result (out.new ≡ appended out.old (map_remarks effects config.now (option_map as_file map.entry))) }
+    ensures { AddsText result out.old out.new (map_remarks effects config.now (option_map as_file map.entry)) }
 {
     match map {
         None => Ok(()),
@@ -115,7 +115,7 @@ fn put_effects<O: Sink + Drop>(
     requires { IsShort workers.now }
     ensures { (kinds : List (List ℕ × AnyKind)) → (ps : List Property) → IsKindTable table.now kinds
         → properties.read_text true workers.now.text.now ≡ Ok ps
-        → OnOk result (out.new ≡ appended out.old (notices workers.now.name.now kinds ps)) }
+        → AddsText result out.old out.new (notices workers.now.name.now kinds ps) }
 {
     let lines = line_table(alloc, workers.text)?;
     let tables = LineTables {
@@ -136,7 +136,7 @@ fn put_workers<O: Sink + Drop>(
     requires { IsShort workers.now }
     ensures { (config : Config) → (ps : List Property) → IsKindTable table.now (kinds_of config)
         → properties.read_text true workers.now.text.now ≡ Ok ps
-        → OnOk result (out.new ≡ appended out.old (workers_remarks effects workers.now.name.now config ps)) }
+        → AddsText result out.old out.new (workers_remarks effects workers.now.name.now config ps) }
 {
     if effects {
         put_effects(alloc, out, table, workers)
@@ -155,8 +155,8 @@ fn put_accepted<O: Sink + Drop>(
 ) -> Result<(), IoError>
     requires short { AreShort files.now }
     ensures { (ps : List Property) → properties.read_text true files.now.workers.text.now ≡ Ok ps
-        → OnOk result (out.new ≡ appended out.old (workers_remarks effects files.now.workers.name.now config.now ps
-        ++ map_remarks effects config.now (maps_of files.now))) }
+        → AddsText result out.old out.new (workers_remarks effects files.now.workers.name.now config.now ps
+        ++ map_remarks effects config.now (maps_of files.now)) }
 {
     let table = kind_table(alloc, config)?;
     put_workers(alloc, out, &table, &files.workers, effects)?;
@@ -172,8 +172,7 @@ pub fn site_remarks<O: Sink + Drop>(
     effects: bool,
 ) -> Result<(), IoError>
     requires short { AreShort files.now }
-    ensures { OnOk result (AddsSaid out.old out.new
-        (AreRemarks effects (as_file files.now.workers) (maps_of files.now))) }
+    ensures { AddsSaid result out.old out.new (AreRemarks effects (as_file files.now.workers) (maps_of files.now)) }
 {
     match read_workers(alloc, files.workers.text) {
         Ok(config) => put_accepted(alloc, out, &config, files, effects),

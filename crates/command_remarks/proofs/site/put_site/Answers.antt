@@ -1,15 +1,12 @@
-use Rattle.std.proofs.Common.{refl, sym, ◌∙◌, ap}
+use Rattle.std.proofs.Common.{sym, ◌∙◌, ap}
 use Rattle.std.specs.Option.{option_map}
-use Rattle.command_remarks.proofs.SiteLemmas.{on_ok, says_site}
+use Rattle.command_remarks.proofs.SiteLemmas.{says_as, says_site}
 use Rattle.site_remarks.specs.Remarks.{as_file}
 use Rattle.command_remarks.proofs.site.put_site.Goals as goal
 
 pub returns-in-Some : goal.returns-in-Some
-returns-in-Some c =
+returns-in-Some g c =
     let found = sym c.file_of.ensures.text ∙ ap (option_map as_file) c.in-Some.is in
-    on_ok c.site_remarks.result _ _ c.site_remarks.ensures (λ said. (
-      said.0,
-      said.1,
-      says_site c.args.effects c.args.reads.now c.first-item.result (as_file c.in-Some.workers) (option_map as_file c.map_of.result) said.0
-          c.in-len1-up.len_at_least c.first-item.is found c.map_of.ensures.text said.2,
-    ))
+    says_as c.site_remarks.result _ _ _ _ c.site_remarks.ensures
+    (λ said. says_site c.args.effects c.args.reads.now c.first-item.result (as_file c.in-Some.workers) (option_map as_file c.map_of.result) said
+    c.in-len1-up.len_at_least c.first-item.is found c.map_of.ensures.text)

@@ -1,9 +1,16 @@
-use Rattle.std.proofs.Common.{◌+◌, ◌++◌, List, subst, arith}
+use Rattle.std.proofs.Common.{◌+◌, ◌++◌, List, [], subst, arith, rules}
 use Rattle.std.specs.Option.{option_to_list}
 use Rattle.property_lines.specs.declared.property.Property.{Property}
 use Rattle.site_remarks.specs.Again.{IsLineTable}
-use Rattle.site_remarks.proofs.WalkLemmas.{walk_end, walk_step}
+use Rattle.site_remarks.proofs.WalkLemmas.{walk_end, walk_start, walk_step}
 use Rattle.site_remarks.proofs.again.line_table.Goals as goal
+
+pub loop-line-init : goal.loop-line-init
+loop-line-init c = record {
+  count = omega (arith, c.without_mark-rest.ensures.shorter);
+  table = λ ps read.
+      ([], walk_start ps c.args.text.now c.without_mark-rest.result.now read c.without_mark-rest.ensures.value, λ key. search rules);
+}
 
 pub loop-line-preserved : goal.loop-line-preserved
 loop-line-preserved c = record {

@@ -8,11 +8,11 @@ use Rattle.site_remarks.proofs.map_notices.put_map_notices.Given as goal
 
 -- the notices so far, in front of those of the lines that are left
 abbrev pub invariant-loop-text : goal.invariant-loop-text
-invariant-loop-text l = record {
+invariant-loop-text g l = record {
   count : l.line + length l.rest ≤ length l.map.text.now;
   said : (kinds : List (List ℕ × WorkerKind)) → IsKindTable l.table kinds
       → appended l.out (notices_from l.map.name.now (l.line + 1) kinds (lines l.rest)) ≡ appended l.fn.out (map_notices l.map.name.now kinds l.map.text.now);
 }
 
 abbrev pub decreases-loop-text : goal.decreases-loop-text
-decreases-loop-text l = length l.rest
+decreases-loop-text g l = length l.rest

@@ -10,11 +10,11 @@ use Rattle.site_remarks.proofs.notices.put_notices.Given as goal
 
 -- the notices so far
 abbrev pub invariant-loop-line : goal.invariant-loop-line
-invariant-loop-line l = record {
+invariant-loop-line g l = record {
   count : l.number + length l.rest ≤ length l.workers.text.now;
   said : ForTables l.tables (λ kinds ps. read_text true l.workers.text.now ≡ Ok ps
       → (front : List Property) × IsWalk ps (l.number + 1) l.rest front × (l.out ≡ appended l.fn.out (flat_map (notice l.workers.name.now kinds ps) front)));
 }
 
 abbrev pub decreases-loop-line : goal.decreases-loop-line
-decreases-loop-line l = length l.rest
+decreases-loop-line g l = length l.rest

@@ -1,0 +1,18 @@
+-- What is added to what was said, also where a write fails. Where it is untold each equation here says nothing.
+use Rattle.std.specs.Prelude.{◌≡◌, ℕ, List, ◌⊎◌, Option, Result, Ok, Err}
+use Rattle.jk_io.specs.Told.{appended}
+use Rattle.jk_io.specs.declared.failures.IoError.{IoError}
+
+-- what is there is a front of it
+abbrev pub IsFront : (whole there : Option (List ℕ)) → Type 0
+IsFront whole there = (rest : List ℕ) × (whole ≡ appended there rest)
+
+-- the text is added at the end; after an error a front of all of it is there
+abbrev pub AddsText : {T : Type 0} → Result T IoError → (old new : Option (List ℕ)) → (text : List ℕ) → Type 0
+AddsText (Ok x) old new text = new ≡ appended old text
+AddsText (Err e) old new text = IsFront (appended old text) new
+
+-- a text of which this holds is added; after an error nothing is, or a front of all of it is there
+abbrev pub AddsSaid : {T : Type 0} → Result T IoError → (old new : Option (List ℕ)) → (List ℕ → Type 0) → Type 0
+AddsSaid (Ok x) old new so = (said : List ℕ) × so said × (new ≡ appended old said)
+AddsSaid (Err e) old new so = (new ≡ old) ⊎ ((said : List ℕ) × so said × IsFront (appended old said) new)
