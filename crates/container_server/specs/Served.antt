@@ -1,5 +1,5 @@
 -- What a container's worker did at its door, and why it ended. Read this first.
-use Rattle.std.specs.Prelude.{ℕ, ◌≡◌, ◌≢◌, min, List, [], ◌∷◌, length, map}
+use Rattle.std.specs.Prelude.{ℕ, ◌≡◌, ◌≢◌, ◌<◌, min, List, [], ◌∷◌, length, map, slice_index_or}
 use Rattle.std.specs.List.{All}
 use Rattle.jk_io.specs.Told.{appended, IsEmpty, Rose}
 use Rattle.jk_io.specs.declared.traits.streams.Meanings.{Ghosts}
@@ -54,6 +54,11 @@ abbrev pub AreEachServed : {C X : Type 0} → AppConfig → Ghosts C X → (befo
 AreEachServed app told [] [] [] = Unit {0}
 AreEachServed app told (b ∷ before) (a ∷ after) (e ∷ ends) = IsServedDoor app told b a e × AreEachServed app told before after ends
 AreEachServed app told _ _ _ = ⊥
+
+-- So at each of several doors, by its place: `door` and `end` say where a worker stood, and how it ended.
+abbrev pub AreServedDoors : {S C X : Type 0} → AppConfig → Ghosts C X → (S → DoorSide C) → (S → ContainerWorker) → List S → List S → Type 0
+AreServedDoors {S} app told door end before after = (i : ℕ) (s : S) → i < length before
+    → IsServedDoor app told (door (slice_index_or before i s)) (door (slice_index_or after i s)) (end (slice_index_or after i s))
 
 -- A link was served to this end, and left at the door.
 pub record LeavesServed {C X : Type 0} (app : AppConfig) (told : Ghosts C X) (before after : DoorSide C) (link : C) (end : ContainerEnd) : Type 0 where

@@ -1,7 +1,7 @@
 //! A worker for each door.
-ghost use Rattle.std.specs.Prelude.{◌≡◌, ◌+◌, ◌<◌, ◌≤◌, ◌++◌, ℕ, [], length, map, slice_index_or, vec_capacity, vec_len, IfOk};
+ghost use Rattle.std.specs.Prelude.{◌≡◌, ◌+◌, ◌≤◌, ◌++◌, [], length, map, vec_capacity, vec_len, IfOk};
 ghost use Rattle.door_clients.specs.Doors.{side};
-ghost use Rattle.container_server.specs.Served.{AreEachServed, IsServedDoor};
+ghost use Rattle.container_server.specs.Served.{AreEachServed, AreServedDoors, IsServedDoor};
 ghost use Rattle.container_server.specs.declared.workers.Slot.{Slot as AnySlot};
 
 use crate::ends::{ContainerRunEnd, ContainerWorker};
@@ -67,9 +67,8 @@ fn serve_all<D: Door + Drop + Send, R: Threads + Wait + Sync>(
 )
 where
     D::L: Send,
-    ensures served { (i : ℕ) (d : AnySlot D) → i < length slots.old → IsServedDoor app.now D.L.Meanings
-        (side D.coming D.left D.faults (slice_index_or slots.old i d).door)
-        (side D.coming D.left D.faults (slice_index_or slots.new i d).door) (slice_index_or slots.new i d).end }
+    ensures served { AreServedDoors app.now D.L.Meanings (λ (s : AnySlot D). side D.coming D.left D.faults s.door)
+        (λ (s : AnySlot D). s.end) slots.old slots.new }
     ensures len { length slots.new ≡ length slots.old }
 {
     let count = slots.len().max(1);
