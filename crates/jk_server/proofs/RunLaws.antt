@@ -20,7 +20,7 @@ use Rattle.locked_balancer.specs.SharedDesks.{SharedState}
 use Rattle.site_config.specs.declared.config.Config.{Config}
 use Rattle.status_worker.specs.Desks.{KeepsTickets}
 use Rattle.uri_map.specs.declared.rule.Rule.{Rule}
-use Rattle.jk_server.specs.Served.{count_of, EndsAtLast, EndsBy, GoesOn, HaveRested, IsRun, IsServed, Run, ServesClient, Settles}
+use Rattle.jk_server.specs.Served.{count_of, EndsAtLast, EndsBy, GoesOn, HaveRested, IsRun, IsServed, Run, ServesClient, ServesNext, ServesOn, Settles}
 use Rattle.jk_server.specs.Worker.{forgot, IsFit, Rests, standing_with, WorkerSide}
 use Rattle.jk_server.specs.declared.part.WorkerEnd.{WorkerEnd}
 use Rattle.jk_server.specs.declared.part.WorkerEnd.TheVariants as worker
@@ -208,3 +208,30 @@ lacks visit told faults first before after s n count way none = record {
   sessions = way.sessions;
   why = inl way.rested;
 }
+
+-- ---- the next client
+
+pub serves_on : {C S L X : Type 0} → (visit : Peer → Visit) (told : Ghosts C X) (faults : S → ℕ) (before after then : DoorSide C) (s mid n : WorkerSide S) (link : C) (peer : Peer)
+    → ServesClient {L = L} visit told faults before after s mid link peer None → Rests mid n → then ≡ after
+    → ServesOn {L = L} visit told faults before then s n link peer None
+serves_on {C} {S} {L} visit told faults before after then s mid n link peer serves rests same = record {
+  mid = mid;
+  serves = subst (λ (d : DoorSide C). ServesClient {L = L} visit told faults before d s mid link peer None) (sym same) serves;
+  rests = rests;
+}
+
+pub goes_next : {C S L X : Type 0} → (visit : Peer → Visit) (told : Ghosts C X) (faults : S → ℕ) (first before mid after : DoorSide C) (s m k : WorkerSide S) (count next : ℕ) (link : C) (peer : Peer)
+    → IsUnderWay visit told faults first before s m count → Gives before mid link peer → ServesOn {L = L} visit told faults mid after m k link peer None
+    → next ≡ min (count + 1) 18446744073709551615 → IsUnderWay visit told faults first after s k next
+goes_next {C} {S} {L} visit told faults first before mid after s m k count next link peer way gives on more =
+    goes_on {L = L} visit told faults first before mid after s m on.mid k count next link peer after way gives on.serves on.rests refl more
+
+pub ends_next : {C S L X : Type 0} → (visit : Peer → Visit) (told : Ghosts C X) (faults : S → ℕ) (first before mid after : DoorSide C) (s m n : WorkerSide S) (count : ℕ) (link : C) (peer : Peer) (end : WorkerEnd L)
+    → IsUnderWay visit told faults first before s m count → Gives before mid link peer
+    → ServesNext visit told faults mid after m n link peer (Some end) → IsServed visit told faults first after s n end
+ends_next visit told faults first before mid after s m n count link peer end way gives (inl serves) =
+    ends visit told faults first before mid after s m n count link peer end way gives serves
+ends_next {C} {S} {L} visit told faults first before mid after s m n count link peer end way gives (inr wants) =
+    subst (λ (e : WorkerEnd L). IsServed visit told faults first after s n e) (sym wants.0)
+    (rest_wants {L = L} visit told faults first after s n _
+    (goes_next {L = L} visit told faults first before mid after s m n count (min (count + 1) 18446744073709551615) link peer way gives wants.1 refl))

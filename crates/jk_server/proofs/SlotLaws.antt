@@ -1,10 +1,10 @@
 -- What was done in each slot, said of the parts and of what the workers left.
-use Rattle.std.proofs.Common.{ℕ, suc, ◌≡◌, ◌+◌, ◌<◌, List, [], ◌∷◌, ◌++◌, length, map, take, refl, subst, sym, arith}
+use Rattle.std.proofs.Common.{ℕ, suc, ◌≡◌, ◌+◌, ◌<◌, List, [], ◌∷◌, ◌++◌, length, map, take, refl, subst, sym, ap, ◌∙◌, arith}
 use Rattle.std.specs.Prelude.{slice_index_or}
 use Rattle.std.specs.List.{All}
 use Rattle.std.proofs.lemmas.List.Elements.{All-cons, All-head, All-nil, All-tail}
 use Rattle.std.proofs.Math.Seq.{take-append_seam}
-use Rattle.std.proofs.lemmas.List.{append_assoc, append-nil}
+use Rattle.std.proofs.lemmas.List.{append_assoc, append-nil, map-append}
 use Rattle.jk_server.specs.Parts.{AllFour, AreEach}
 
 -- Where what was done in a slot and how it was taken apart say so of its part, they do of all parts, by their numbers.
@@ -29,6 +29,15 @@ each_part part Did Apart Is join n (a ∷ slots) (b ∷ after) (o ∷ os) (l ∷
       (λ i d lt. subst (λ (k : ℕ). Did k (slice_index_or slots i d) (slice_index_or after i d)) (omega arith) (did (suc i) d (omega (arith, lt))))
       apart.1,
 )
+
+-- ---- parts that are put into slots one after another
+
+pub part_put : {P Q : Type 0} → (part : Q → P) (slots now : List Q) (slot : Q) (rest later all : List P) (p : P) → map part slots ++ rest ≡ all → rest ≡ p ∷ later
+    → now ≡ slots ++ slot ∷ [] → part slot ≡ p → map part now ++ later ≡ all
+part_put {P} {Q} part slots now slot rest later all p whole cut more is =
+    let mapped : map part now ≡ map part slots ++ (p ∷ []) =
+    ap (λ (l : List Q). map part l) more ∙ map-append part slots (slot ∷ []) ∙ ap (λ (x : P). map part slots ++ (x ∷ [])) is in
+    ap (λ (l : List P). l ++ later) mapped ∙ append_assoc (map part slots) (p ∷ []) later ∙ ap (λ (l : List P). map part slots ++ l) (sym cut) ∙ whole
 
 -- ---- slots that are taken apart one after another
 

@@ -1,3 +1,4 @@
 pub mod Worker
 pub mod Served
+pub mod Tells
 pub mod Parts

@@ -1,16 +1,22 @@
 -- What each worker of a run did, and what it left.
-use Rattle.std.specs.Prelude.{ℕ, ◌≡◌, ◌+◌, false, List, [], ◌∷◌, Some}
+use Rattle.std.specs.Prelude.{ℕ, ◌≡◌, ◌+◌, ◌<◌, List, [], ◌∷◌, length, slice_index_or, Some}
 use Rattle.jk_io.specs.declared.reaching.Beside.{Beside}
 use Rattle.jk_io.specs.declared.traits.streams.Meanings.{Ghosts}
 use Rattle.jk_io.specs.declared.traits.surroundings.Peer.{Peer}
 use Rattle.balancer_core.specs.declared.receipt.Receipt.{Receipt}
-use Rattle.client_session.specs.Requests.{Visit}
+use Rattle.client_session.specs.Requests.{Visit, visit}
 use Rattle.door_clients.specs.Doors.{DoorSide}
 use Rattle.locked_balancer.specs.SharedDesks.{SharedState}
+use Rattle.locked_balancer.specs.declared.shared_desk.Leaving.{Leaving}
+use Rattle.locked_balancer.specs.declared.site.SiteName.{Ghosts as SiteGhosts}
 use Rattle.site_config.specs.declared.config.Config.{Config}
 use Rattle.uri_map.specs.declared.rule.Rule.{Rule}
 use Rattle.jk_server.specs.Served.{IsServed}
-use Rattle.jk_server.specs.Worker.{IsFit, WorkerSide}
+use Rattle.jk_server.specs.Tells.{Tells, worker_of}
+use Rattle.jk_server.specs.Worker.{IsFit, worker_side, WorkerSide}
+use Rattle.jk_server.specs.declared.part.Outside.{Outside}
+use Rattle.jk_server.specs.declared.part.Part.{Part}
+use Rattle.jk_server.specs.declared.part.ServeEnd.{ServeEnd}
 use Rattle.jk_server.specs.declared.part.WorkerEnd.{WorkerEnd}
 
 -- What a desk left: its receipts, how many it forgot, its shelf, and its share, whose amount is the count of entries.
@@ -21,11 +27,24 @@ pub record Leaves {S : Type 0} (desk : SharedState S) (receipts : List Receipt) 
   pub counted : amount ≡ desk.desk.added
   pub parts_left : desk.desk.parts ≡ Some parts
 
+abbrev pub DeskLeaves : {L S : Type 0} {N : SiteGhosts L} → SharedState S → Leaving L S N → Type 0
+DeskLeaves desk left = Leaves desk left.receipts left.forgotten left.shelf left.share.amount left.share.parts
+
 -- A worker served its part, and may serve on with what it has. Its share keeps its parts.
 pub record IsWorked {C S L X : Type 0} (visit : Peer → Visit) (told : Ghosts C X) (faults : S → ℕ) (cfg : Config) (rules : List Rule) (before after : DoorSide C) (s n : WorkerSide S) (beside : Beside) (end : WorkerEnd L) : Type 0 where
   pub served : IsServed visit told faults before after s n end
   pub fit : IsFit cfg rules n.desk.desk beside
   pub parts : n.desk.desk.parts ≡ s.desk.desk.parts
+
+-- What it says of the part of a worker with this number, from one moment to another.
+abbrev pub WorksPart : {L D R K S W C X : Type 0} → Tells D R K S C X → Config → List Rule → (number : ℕ) → (before after : Part L D R K S W) → WorkerEnd L → Type 0
+WorksPart told cfg rules number before after end =
+    IsWorked (visit cfg rules number) told.link told.shelf_faults cfg rules (told.door before.door) (told.door after.door)
+    (worker_of told before) (worker_of told after) (told.reach.beside after.reach) end
+
+-- So of each item of a list and of what it became, by its place.
+abbrev pub InEach : {Q : Type 0} → (ℕ → Q → Q → Type 0) → (before after : List Q) → Type 0
+InEach {Q} Did before after = (i : ℕ) (d : Q) → i < length before → Did i (slice_index_or before i d) (slice_index_or after i d)
 
 -- So of each of four lists, in order, with its number.
 abbrev pub AreEach : {P O V E : Type 0} → (ℕ → P → O → V → E → Type 0) → ℕ → List P → List O → List V → List E → Type 0
@@ -39,15 +58,24 @@ AllFour Is [] [] [] [] = Unit {0}
 AllFour Is (p ∷ ps) (o ∷ os) (l ∷ ls) (e ∷ es) = Is p o l e × AllFour Is ps os ls es
 AllFour Is _ _ _ _ = ⊥
 
--- The worker's end and the rest of what it had are these.
-pub record IsRest {D R K L : Type 0} (door : D) (reach : R) (clock : K) (end : WorkerEnd L) (door' : D) (reach' : R) (clock' : K) (end' : WorkerEnd L) : Type 0 where
-  pub same_door : door' ≡ door
-  pub same_reach : reach' ≡ reach
-  pub same_clock : clock' ≡ clock
-  pub same_end : end' ≡ end
+-- What was left of a part: its door, its reach and its clock, and what its desk left.
+pub record LeavesPart {L D R K S W : Type 0} {N : SiteGhosts L} (part : Part L D R K S W) (out : Outside D R K) (left : Leaving L S N) : Type 0 where
+  pub same_door : out.door ≡ part.door
+  pub same_reach : out.reach ≡ part.reach
+  pub same_clock : out.clock ≡ part.clock
+  pub desk : DeskLeaves part.desk left
 
 -- What a worker left was served so, of which its desk left this.
 pub record IsServedPart {C S L X : Type 0} (visit : Peer → Visit) (told : Ghosts C X) (faults : S → ℕ) (cfg : Config) (rules : List Rule) (before after : DoorSide C) (s : WorkerSide S) (with : SharedState S → WorkerSide S) (beside : Beside) (Left : SharedState S → Type 0) (end : WorkerEnd L) : Type 0 where
   pub desk : SharedState S
   pub worked : IsWorked visit told faults cfg rules before after s (with desk) beside end
   pub left : Left desk
+
+-- So of each part, by its place as the number of its worker.
+abbrev pub AreServedParts : {L D R K S W C X : Type 0} {N : SiteGhosts L} → Tells D R K S C X → Config → List Rule → List (Part L D R K S W) → ServeEnd L D R K S N → Type 0
+AreServedParts {L} {D} {R} {K} {S} {W} {N = N} told cfg rules parts ran =
+    AreEach (λ (number : ℕ) (part : Part L D R K S W) (out : Outside D R K) (left : Leaving L S N) (end : WorkerEnd L).
+    IsServedPart (visit cfg rules number) told.link told.shelf_faults cfg rules (told.door part.door) (told.door out.door) (worker_of told part)
+    (λ (desk : SharedState S). worker_side told.clock told.reach desk out.clock out.reach) (told.reach.beside out.reach)
+    (λ (desk : SharedState S). DeskLeaves desk left) end)
+    0 parts ran.outside ran.leaving ran.workers

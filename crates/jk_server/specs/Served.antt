@@ -15,6 +15,8 @@ use Rattle.client_session.specs.declared.ending.SessionEnd.TheVariants as sessio
 use Rattle.status_worker.specs.Desks.{KeepsTickets}
 use Rattle.locked_balancer.specs.SharedDesks.{SharedState}
 use Rattle.jk_server.specs.Worker.{forgot, Rests, standing_with, took, WorkerSide}
+use Rattle.jk_server.specs.Tells.{Tells, worker_of}
+use Rattle.jk_server.specs.declared.part.Part.{Part}
 use Rattle.jk_server.specs.declared.part.WorkerEnd.{WorkerEnd}
 use Rattle.jk_server.specs.declared.part.WorkerEnd.TheVariants as worker
 
@@ -135,3 +137,33 @@ pub record ServesClient {C S L X : Type 0} (visit : Peer → Visit) (told : Ghos
   pub coming : after.coming ≡ before.coming
   pub left : after.left ≡ appended before.left (back ∷ [])
   pub door_faults : after.faults ≡ before.faults
+
+-- A client was served, and then the worker rested.
+pub record ServesOn {C S L X : Type 0} (visit : Peer → Visit) (told : Ghosts C X) (faults : S → ℕ) (before after : DoorSide C) (s n : WorkerSide S) (link : C) (peer : Peer) (none : Option (WorkerEnd L)) : Type 0 where
+  pub mid : WorkerSide S
+  pub serves : ServesClient visit told faults before after s mid link peer none
+  pub rests : Rests mid n
+
+-- After a client the worker rests and goes on, or ends: at once, or since its reach wanted memory to rest.
+abbrev pub ServesNext : {C S L X : Type 0} → (visit : Peer → Visit) → (told : Ghosts C X) → (faults : S → ℕ) → (before after : DoorSide C) → (s n : WorkerSide S) → (link : C) → (peer : Peer) → Option (WorkerEnd L) → Type 0
+ServesNext {L = L} visit told faults before after s n link peer None = ServesOn {L = L} visit told faults before after s n link peer None
+ServesNext {L = L} visit told faults before after s n link peer (Some end) =
+    ServesClient visit told faults before after s n link peer (Some end)
+    ⊎ ((end ≡ worker.NoMemory) × ServesOn {L = L} visit told faults before after s n link peer None)
+
+-- ---- said of a part, from one moment to another
+
+-- What `IsServed` says of its worker.
+abbrev pub ServesPart : {L D R K S W C X : Type 0} → Tells D R K S C X → (Peer → Visit) → (before after : Part L D R K S W) → WorkerEnd L → Type 0
+ServesPart told visit before after end =
+    IsServed visit told.link told.shelf_faults (told.door before.door) (told.door after.door) (worker_of told before) (worker_of told after) end
+
+-- What `ServesClient` says.
+abbrev pub ServesPartClient : {L D R K S W C X : Type 0} → Tells D R K S C X → (Peer → Visit) → (before after : Part L D R K S W) → C → Peer → Option (WorkerEnd L) → Type 0
+ServesPartClient told visit before after link peer end =
+    ServesClient visit told.link told.shelf_faults (told.door before.door) (told.door after.door) (worker_of told before) (worker_of told after) link peer end
+
+-- What `ServesNext` says.
+abbrev pub ServesPartNext : {L D R K S W C X : Type 0} → Tells D R K S C X → (Peer → Visit) → (before after : Part L D R K S W) → C → Peer → Option (WorkerEnd L) → Type 0
+ServesPartNext told visit before after link peer end =
+    ServesNext visit told.link told.shelf_faults (told.door before.door) (told.door after.door) (worker_of told before) (worker_of told after) link peer end

@@ -1,28 +1,17 @@
 //! One client: its session, and what a worker makes of the session's end.
 ghost use Rattle.std.specs.Prelude.{◌≡◌, ◌<◌, ℕ, true, false, Some};
-ghost use Rattle.door_clients.specs.Doors.{side};
-ghost use Rattle.client_session.specs.Requests.{visit};
 ghost use Rattle.locked_balancer.specs.Notes.{StrayNote};
 ghost use Rattle.locked_balancer.specs.SharedDesks.{SharedState};
-ghost use Rattle.jk_server.specs.Served.{IsStray, ServesClient, Settles};
+ghost use Rattle.jk_server.specs.Served.{IsStray, ServesPartClient, ServesPartNext, Settles};
+ghost use Rattle.jk_server.specs.Tells.{tells, visit_at};
 ghost use Rattle.jk_server.specs.Worker.{IsFit, Rests, took, worker_side};
 
-use crate::part::{Part, WorkerEnd};
+use crate::part::{Part, Post, WorkerEnd};
 use client_session::{SessionEnd, serve_session};
 use jk_io::{Clock, Door, NoMemory, Peer, Reach};
 use locked_balancer::{SharedDesk, Shelf, SiteName};
-use site_config::Config;
 use std::alloc::Global;
 use std::sync::Wait;
-use uri_map::UriMap;
-
-/// The site that a worker serves, and the worker's number.
-#[derive(Clone, Copy)]
-pub struct Post<'a> {
-    pub cfg: &'a Config,
-    pub map: &'a UriMap,
-    pub number: u32,
-}
 
 /// What a shelf had refused at a moment: how often it failed, and how often it wanted memory.
 #[derive(Clone, Copy)]
@@ -79,7 +68,7 @@ fn end_after<L: SiteName, S: Shelf, W>(
 }
 
 /// Serves a client by one session, leaves its link, and says whether the worker ends, and how.
-pub(crate) fn serve_client<L: SiteName, D: Door, R: Reach, K: Clock, S: Shelf, W: Wait>(
+fn serve_client<L: SiteName, D: Door, R: Reach, K: Clock, S: Shelf, W: Wait>(
     alloc: Global,
     post: Post<'_>,
     part: &mut Part<'_, '_, L, D, R, K, S, W>,
@@ -88,9 +77,8 @@ pub(crate) fn serve_client<L: SiteName, D: Door, R: Reach, K: Clock, S: Shelf, W
 ) -> Option<WorkerEnd<L>>
     requires fit { IsFit post.cfg.now post.map.now part.old.desk.desk (R.beside part.old.reach) }
     requires room { 0 < D.room part.old.door }
-    ensures served { let at = side D.coming D.left D.faults in let with = worker_side K.answers R.Meanings in
-        ServesClient (visit post.entry.cfg.now post.entry.map.now post.entry.number) D.L.Meanings S.faults (at part.old.door) (at part.new.door)
-        (with part.old.desk part.old.clock part.old.reach) (with part.new.desk part.new.clock part.new.reach) link peer.now result }
+    ensures served { let told = tells D.coming D.left D.faults D.L.Meanings K.answers R.Meanings S.faults in
+        ServesPartClient told (visit_at post.entry) part.old part.new link peer.now result }
     ensures fit { IsFit post.entry.cfg.now post.entry.map.now part.new.desk.desk (R.beside part.new.reach) }
     ensures parts { part.new.desk.desk.parts ≡ part.old.desk.desk.parts }
 {
@@ -113,7 +101,7 @@ pub(crate) fn serve_client<L: SiteName, D: Door, R: Reach, K: Clock, S: Shelf, W
 }
 
 /// What a worker does between two sessions.
-pub(crate) fn rest<L: SiteName, D: Door, R: Reach, K: Clock, S: Shelf, W>(
+fn rest<L: SiteName, D: Door, R: Reach, K: Clock, S: Shelf, W>(
     alloc: Global,
     part: &mut Part<'_, '_, L, D, R, K, S, W>,
 ) -> Result<(), NoMemory>
@@ -125,4 +113,28 @@ pub(crate) fn rest<L: SiteName, D: Door, R: Reach, K: Clock, S: Shelf, W>(
 {
     let now = part.clock.now();
     part.reach.rest(alloc, now)
+}
+
+/// Serves a client, and rests where the worker goes on; says whether it ends, and how.
+pub(crate) fn serve_next<L: SiteName, D: Door, R: Reach, K: Clock, S: Shelf, W: Wait>(
+    alloc: Global,
+    post: Post<'_>,
+    part: &mut Part<'_, '_, L, D, R, K, S, W>,
+    link: D::L,
+    peer: &Peer,
+) -> Option<WorkerEnd<L>>
+    requires fit { IsFit post.cfg.now post.map.now part.old.desk.desk (R.beside part.old.reach) }
+    requires room { 0 < D.room part.old.door }
+    ensures served { let told = tells D.coming D.left D.faults D.L.Meanings K.answers R.Meanings S.faults in
+        ServesPartNext told (visit_at post.entry) part.old part.new link peer.now result }
+    ensures fit { IsFit post.entry.cfg.now post.entry.map.now part.new.desk.desk (R.beside part.new.reach) }
+    ensures parts { part.new.desk.desk.parts ≡ part.old.desk.desk.parts }
+{
+    match serve_client(alloc, post, part, link, peer) {
+        Some(end) => Some(end),
+        None => match rest(alloc, part) {
+            Ok(()) => None,
+            Err(NoMemory) => Some(WorkerEnd::NoMemory),
+        },
+    }
 }

@@ -1,11 +1,21 @@
 //! What a worker works with, why it ends, and what it leaves.
 
-use jk_io::{Clock, Door, ListOf, Reach};
+use jk_io::ListOf;
 use locked_balancer::{Leaving, SharedDesk, Shelf, SiteName, SiteStray};
+use site_config::Config;
+use uri_map::UriMap;
+
+/// The site that a worker serves, and the worker's number.
+#[derive(Clone, Copy)]
+pub struct Post<'a> {
+    pub cfg: &'a Config,
+    pub map: &'a UriMap,
+    pub number: u32,
+}
 
 /// What a worker works with.
 #[derive(Drop)]
-pub struct Part<'s, 'r, L: SiteName, D: Door, R: Reach, K: Clock, S: Shelf, W> {
+pub struct Part<'s, 'r, L: SiteName, D, R, K, S: Shelf, W> {
     pub door: D,
     pub reach: R,
     pub clock: K,
@@ -33,7 +43,7 @@ pub type WorkerEndList<L> = ListOf<WorkerEnd<L>>;
 
 /// What a worker worked with, but for its desk.
 #[derive(Drop)]
-pub struct Outside<D: Door, R: Reach, K: Clock> {
+pub struct Outside<D, R, K> {
     pub door: D,
     pub reach: R,
     pub clock: K,
@@ -44,7 +54,7 @@ pub type OutsideList<D, R, K> = ListOf<Outside<D, R, K>>;
 
 /// How the workers ended and what they left, an item for each in each list, in the order of their parts.
 #[derive(Drop)]
-pub struct ServeEnd<L: SiteName, D: Door, R: Reach, K: Clock, S> {
+pub struct ServeEnd<L: SiteName, D, R, K, S> {
     pub workers: WorkerEndList<L>,
     pub leaving: ListOf<Leaving<L, S>>,
     pub outside: OutsideList<D, R, K>,

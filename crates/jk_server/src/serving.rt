@@ -1,14 +1,14 @@
 //! The whole work of one worker.
 ghost use Rattle.std.specs.Prelude.{◌≡◌};
-ghost use Rattle.door_clients.specs.Doors.{side};
 ghost use Rattle.client_session.specs.Requests.{visit};
-ghost use Rattle.jk_server.specs.Served.{IsServed};
-ghost use Rattle.jk_server.specs.Worker.{IsFit, worker_side};
+ghost use Rattle.jk_server.specs.Served.{ServesPart};
+ghost use Rattle.jk_server.specs.Tells.{tells};
+ghost use Rattle.jk_server.specs.Worker.{IsFit};
 
-use crate::client::{Post, rest, serve_client};
-use crate::part::{Part, WorkerEnd};
+use crate::client::serve_next;
+use crate::part::{Part, Post, WorkerEnd};
 use door_clients::{Arrival, next_client};
-use jk_io::{Clock, Door, NoMemory, Reach};
+use jk_io::{Clock, Door, Reach};
 use locked_balancer::{Shelf, SiteName};
 use site_config::Config;
 use std::alloc::Global;
@@ -26,9 +26,8 @@ pub fn serve_part<L: SiteName, D: Door, R: Reach, K: Clock, S: Shelf, W: Wait>(
     part: &mut Part<'_, '_, L, D, R, K, S, W>,
 ) -> WorkerEnd<L>
     requires fit { IsFit cfg.now map.now part.old.desk.desk (R.beside part.old.reach) }
-    ensures served { let at = side D.coming D.left D.faults in let with = worker_side K.answers R.Meanings in
-        IsServed (visit cfg.now map.now number) D.L.Meanings S.faults (at part.old.door) (at part.new.door)
-        (with part.old.desk part.old.clock part.old.reach) (with part.new.desk part.new.clock part.new.reach) result }
+    ensures served { let told = tells D.coming D.left D.faults D.L.Meanings K.answers R.Meanings S.faults in
+        ServesPart told (visit cfg.now map.now number) part.old part.new result }
     ensures fit { IsFit cfg.now map.now part.new.desk.desk (R.beside part.new.reach) }
     ensures parts { part.new.desk.desk.parts ≡ part.old.desk.desk.parts }
 {
@@ -37,12 +36,9 @@ pub fn serve_part<L: SiteName, D: Door, R: Reach, K: Clock, S: Shelf, W: Wait>(
     'clients: for _ in rt.forever() {
         match next_client(alloc, &mut part.door) {
             Arrival::Client { link, peer } => {
-                match serve_client(alloc, post, part, link, &peer) {
+                match serve_next(alloc, post, part, link, &peer) {
                     Some(end) => return end,
-                    None => match rest(alloc, part) {
-                        Ok(()) => sessions = sessions.saturating_add(1),
-                        Err(NoMemory) => return WorkerEnd::NoMemory,
-                    },
+                    None => sessions = sessions.saturating_add(1),
                 }
             }
             Arrival::Closed => return WorkerEnd::Closed { sessions },

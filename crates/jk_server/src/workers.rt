@@ -1,10 +1,9 @@
 //! A worker for each part.
-ghost use Rattle.std.specs.Prelude.{◌≡◌, ◌+◌, ◌<◌, ◌≤◌, ◌++◌, ℕ, [], length, map, slice_index_or, vec_capacity, vec_len, IfOk};
+ghost use Rattle.std.specs.Prelude.{◌≡◌, ◌+◌, ◌<◌, ◌≤◌, ◌++◌, [], length, map, vec_capacity, vec_len, IfOk};
 ghost use Rattle.std.specs.List.{All};
-ghost use Rattle.client_session.specs.Requests.{visit};
-ghost use Rattle.door_clients.specs.Doors.{side};
-ghost use Rattle.jk_server.specs.Parts.{AllFour, AreEach, IsRest, IsServedPart, IsWorked, Leaves};
-ghost use Rattle.jk_server.specs.Worker.{IsFit, worker_side};
+ghost use Rattle.jk_server.specs.Parts.{AllFour, AreServedParts, InEach, LeavesPart, WorksPart};
+ghost use Rattle.jk_server.specs.Tells.{tells};
+ghost use Rattle.jk_server.specs.Worker.{IsFit};
 
 use crate::part::{Outside, Part, ServeEnd, WorkerEnd};
 use crate::serving::serve_part;
@@ -19,11 +18,20 @@ use uri_map::UriMap;
 /// The most worker threads of a run.
 pub const MAX_WORKERS: usize = 64;
 
-/// A part, and how its worker ended.
+/// What a worker works with, and how it ended.
 #[derive(Drop)]
-struct Slot<'s, 'r, L: SiteName, D: Door, R: Reach, K: Clock, S: Shelf, W> {
-    part: Part<'s, 'r, L, D, R, K, S, W>,
+struct Slot<P, L> {
+    part: P,
     end: WorkerEnd<L>,
+}
+
+/// The memory of a run: for a slot for each worker, and for what each leaves.
+#[derive(Drop)]
+struct Room<P, L, V, O> {
+    slots: Vec<Slot<P, L>>,
+    workers: Vec<WorkerEnd<L>>,
+    leaving: Vec<V>,
+    outside: Vec<O>,
 }
 
 /// Serves each part by a worker of its own, which has the part's place as its number, and waits for all of them. The desks
@@ -49,42 +57,88 @@ where
     D::L: Send,
     requires few { vec_len parts ≤ MAX_WORKERS }
     requires fit { All (λ p. IsFit cfg.now map.now p.desk.desk (R.beside p.reach)) parts.items }
-    ensures served { IfOk result (λ e. let at = side D.coming D.left D.faults in let with = worker_side K.answers R.Meanings in
-        AreEach (λ number part out left end. IsServedPart (visit cfg.now map.now number) D.L.Meanings S.faults cfg.now map.now
-        (at part.door) (at out.door) (with part.desk part.clock part.reach) (λ desk. with desk out.clock out.reach)
-        (R.beside out.reach) (λ desk. Leaves desk left.receipts left.forgotten left.shelf left.share.amount left.share.parts) end)
-        0 parts.entry.items e.outside e.leaving e.workers) }
+    ensures served { let told = tells D.coming D.left D.faults D.L.Meanings K.answers R.Meanings S.faults in
+        IfOk result (AreServedParts told cfg.now map.now parts.entry.items) }
 {
     let _site = site;
-    let count = parts.len();
-    let mut slots = Vec::with_capacity(alloc, count)?;
-    let mut workers = Vec::with_capacity(alloc, count)?;
-    let mut leaving = Vec::with_capacity(alloc, count)?;
-    let mut outside = Vec::with_capacity(alloc, count)?;
-    fill_slots(&mut slots, parts);
-    serve_all(rt, alloc, cfg, map, slots.as_mut_slice());
-    empty_slots(slots, &mut workers, &mut leaving, &mut outside);
-    Ok(ServeEnd {
-        workers: ListOf::from_vec(workers),
-        leaving: ListOf::from_vec(leaving),
-        outside: ListOf::from_vec(outside),
+    let room = room_for(alloc, parts.len())?;
+    Ok(serve_in(rt, alloc, cfg, map, parts, room))
+}
+
+/// Makes room for so many workers.
+fn room_for<P: Drop, L, V: Drop, O: Drop>(
+    alloc: Global,
+    count: usize,
+) -> Result<Room<P, L, V, O>, NoMemory>
+    ensures empty { IfOk result (λ r. (r.slots.items ≡ []) × (r.workers.items ≡ []) × (r.leaving.items ≡ []) × (r.outside.items ≡ [])) }
+    ensures slots { IfOk result (λ r. count ≤ vec_capacity r.slots) }
+    ensures workers { IfOk result (λ r. count ≤ vec_capacity r.workers) }
+    ensures leaving { IfOk result (λ r. count ≤ vec_capacity r.leaving) }
+    ensures outside { IfOk result (λ r. count ≤ vec_capacity r.outside) }
+{
+    Ok(Room {
+        slots: Vec::with_capacity(alloc, count)?,
+        workers: Vec::with_capacity(alloc, count)?,
+        leaving: Vec::with_capacity(alloc, count)?,
+        outside: Vec::with_capacity(alloc, count)?,
     })
 }
 
-/// Puts each part into a slot.
-fn fill_slots<
+/// A run in its room.
+fn serve_in<
     's,
     'r,
-    L: SiteName,
-    D: Door + Drop,
-    R: Reach + Drop,
-    K: Clock + Drop,
-    S: Shelf + Drop,
-    W,
->(slots: &mut Vec<Slot<'s, 'r, L, D, R, K, S, W>>, parts: Vec<Part<'s, 'r, L, D, R, K, S, W>>)
+    L: SiteName + Send + Sync,
+    D: Door + Drop + Send,
+    R: Reach + Drop + Send,
+    K: Clock + Drop + Send,
+    S: Shelf + Drop + Send,
+    W: Threads + Wait + Sync,
+>(
+    rt: &W,
+    alloc: Global,
+    cfg: &Config,
+    map: &UriMap,
+    parts: Vec<Part<'s, 'r, L, D, R, K, S, W>>,
+    room: Room<Part<'s, 'r, L, D, R, K, S, W>, L, Leaving<L, S>, Outside<D, R, K>>,
+) -> ServeEnd<L, D, R, K, S>
+where
+    D::L: Send,
+    requires few { vec_len parts ≤ MAX_WORKERS }
+    requires fit { All (λ p. IsFit cfg.now map.now p.desk.desk (R.beside p.reach)) parts.items }
+    requires empty { (room.slots.items ≡ []) × (room.workers.items ≡ []) × (room.leaving.items ≡ []) × (room.outside.items ≡ []) }
+    requires slots { vec_len parts ≤ vec_capacity room.slots }
+    requires workers { vec_len parts ≤ vec_capacity room.workers }
+    requires leaving { vec_len parts ≤ vec_capacity room.leaving }
+    requires outside { vec_len parts ≤ vec_capacity room.outside }
+    ensures served { let told = tells D.coming D.left D.faults D.L.Meanings K.answers R.Meanings S.faults in
+        AreServedParts told cfg.now map.now parts.entry.items result }
+{
+    let Room {
+        slots,
+        workers,
+        leaving,
+        outside,
+    } = room;
+    let mut slots = slots;
+    let mut workers = workers;
+    let mut leaving = leaving;
+    let mut outside = outside;
+    fill_slots(&mut slots, parts);
+    serve_all(rt, alloc, cfg, map, slots.as_mut_slice());
+    empty_slots(slots, &mut workers, &mut leaving, &mut outside);
+    ServeEnd {
+        workers: ListOf::from_vec(workers),
+        leaving: ListOf::from_vec(leaving),
+        outside: ListOf::from_vec(outside),
+    }
+}
+
+/// Puts each part into a slot.
+fn fill_slots<P: Drop, L>(slots: &mut Vec<Slot<P, L>>, parts: Vec<P>)
     requires none { slots.old.items ≡ [] }
     requires room { vec_len parts ≤ vec_capacity slots.old }
-    ensures { map (λ s. s.part) slots.new.items ≡ parts.entry.items }
+    ensures { map (λ s. s.part) slots.new.items ≡ parts.items }
 {
     'parts: for part in parts {
         slots.push_reserved(Slot {
@@ -104,16 +158,19 @@ fn serve_all<
     K: Clock + Drop + Send,
     S: Shelf + Drop + Send,
     W: Threads + Wait + Sync,
->(rt: &W, alloc: Global, cfg: &Config, map: &UriMap, slots: &mut [Slot<'s, 'r, L, D, R, K, S, W>])
+>(
+    rt: &W,
+    alloc: Global,
+    cfg: &Config,
+    map: &UriMap,
+    slots: &mut [Slot<Part<'s, 'r, L, D, R, K, S, W>, L>],
+)
 where
     D::L: Send,
     requires few { length slots.old ≤ MAX_WORKERS }
     requires fit { All (λ s. IsFit cfg.now map.now s.part.desk.desk (R.beside s.part.reach)) slots.old }
-    ensures worked { (i : ℕ) (d : _) → i < length slots.old
-        → let at = side D.coming D.left D.faults in let with = worker_side K.answers R.Meanings in
-        let p = (slice_index_or slots.old i d).part in let q = (slice_index_or slots.new i d).part in
-        IsWorked (visit cfg.now map.now i) D.L.Meanings S.faults cfg.now map.now (at p.door) (at q.door)
-        (with p.desk p.clock p.reach) (with q.desk q.clock q.reach) (R.beside q.reach) (slice_index_or slots.new i d).end }
+    ensures worked { let told = tells D.coming D.left D.faults D.L.Meanings K.answers R.Meanings S.faults in
+        InEach (λ i a b. WorksPart told cfg.now map.now i a.part b.part b.end) slots.old slots.new }
     ensures len { length slots.new ≡ length slots.old }
 {
     let count = slots.len().max(1);
@@ -121,13 +178,11 @@ where
         rt,
         slots,
         count,
-        &|number: usize, slot: &mut Slot<L, D, R, K, S, W>|
+        &|number: usize, slot: &mut Slot<Part<L, D, R, K, S, W>, L>|
             requires few { number < MAX_WORKERS }
             requires fit { IsFit cfg.now map.now slot.old.part.desk.desk (R.beside slot.old.part.reach) }
-            ensures { let at = side D.coming D.left D.faults in let with = worker_side K.answers R.Meanings in
-                let p = slot.old.part in let q = slot.new.part in
-                IsWorked (visit cfg.entry.now map.entry.now number) D.L.Meanings S.faults cfg.entry.now map.entry.now (at p.door) (at q.door)
-                (with p.desk p.clock p.reach) (with q.desk q.clock q.reach) (R.beside q.reach) slot.new.end }
+            ensures { let told = tells D.coming D.left D.faults D.L.Meanings K.answers R.Meanings S.faults in
+                WorksPart told cfg.entry.now map.entry.now number slot.old.part slot.new.part slot.new.end }
         {
             serve_slot(rt, alloc, cfg, map, number, slot);
         },
@@ -141,30 +196,19 @@ fn serve_slot<L: SiteName, D: Door, R: Reach, K: Clock, S: Shelf, W: Wait>(
     cfg: &Config,
     map: &UriMap,
     number: usize,
-    slot: &mut Slot<'_, '_, L, D, R, K, S, W>,
+    slot: &mut Slot<Part<'_, '_, L, D, R, K, S, W>, L>,
 )
     requires few { number < MAX_WORKERS }
     requires fit { IsFit cfg.now map.now slot.old.part.desk.desk (R.beside slot.old.part.reach) }
-    ensures worked { let at = side D.coming D.left D.faults in let with = worker_side K.answers R.Meanings in
-        let p = slot.old.part in let q = slot.new.part in
-        IsWorked (visit cfg.now map.now number) D.L.Meanings S.faults cfg.now map.now (at p.door) (at q.door)
-        (with p.desk p.clock p.reach) (with q.desk q.clock q.reach) (R.beside q.reach) slot.new.end }
+    ensures worked { let told = tells D.coming D.left D.faults D.L.Meanings K.answers R.Meanings S.faults in
+        WorksPart told cfg.now map.now number slot.old.part slot.new.part slot.new.end }
 {
     slot.end = serve_part(rt, alloc, cfg, map, number as u32, &mut slot.part);
 }
 
 /// Takes slots apart.
-fn empty_slots<
-    's,
-    'r,
-    L: SiteName,
-    D: Door + Drop,
-    R: Reach + Drop,
-    K: Clock + Drop,
-    S: Shelf + Drop,
-    W,
->(
-    slots: Vec<Slot<'s, 'r, L, D, R, K, S, W>>,
+fn empty_slots<'s, 'r, L: SiteName, D: Drop, R: Drop, K: Drop, S: Shelf + Drop, W>(
+    slots: Vec<Slot<Part<'s, 'r, L, D, R, K, S, W>, L>>,
     workers: &mut Vec<WorkerEnd<L>>,
     leaving: &mut Vec<Leaving<L, S>>,
     outside: &mut Vec<Outside<D, R, K>>,
@@ -173,20 +217,30 @@ fn empty_slots<
     requires none { (workers.old.items ≡ []) × (leaving.old.items ≡ []) × (outside.old.items ≡ []) }
     requires room { (vec_len slots ≤ vec_capacity workers.old) × (vec_len slots ≤ vec_capacity leaving.old)
         × (vec_len slots ≤ vec_capacity outside.old) }
-    ensures { AllFour (λ s out left end. IsRest s.part.door s.part.reach s.part.clock s.end out.door out.reach out.clock end
-        × Leaves s.part.desk left.receipts left.forgotten left.shelf left.share.amount left.share.parts)
+    ensures { AllFour (λ s out left end. LeavesPart s.part out left × (end ≡ s.end))
         slots.entry.items outside.new.items leaving.new.items workers.new.items }
 {
     'slots: for slot in slots {
         let Slot { part, end } = slot;
-        let Part {
-            door,
-            reach,
-            clock,
-            desk,
-        } = part;
+        let (out, left) = leave_part(part);
         workers.push_reserved(end);
-        leaving.push_reserved(desk.leave());
-        outside.push_reserved(Outside { door, reach, clock });
+        leaving.push_reserved(left);
+        outside.push_reserved(out);
     }
+}
+
+/// Takes a part apart.
+fn leave_part<L: SiteName, D, R, K, S: Shelf, W>(
+    part: Part<'_, '_, L, D, R, K, S, W>,
+) -> (Outside<D, R, K>, Leaving<L, S>)
+    requires none_held { part.desk.desk.held ≡ [] }
+    ensures { LeavesPart part.entry result.0 result.1 }
+{
+    let Part {
+        door,
+        reach,
+        clock,
+        desk,
+    } = part;
+    (Outside { door, reach, clock }, desk.leave())
 }

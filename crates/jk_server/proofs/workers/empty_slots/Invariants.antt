@@ -2,14 +2,13 @@
 use Rattle.std.proofs.Common.{◌≡◌, ◌+◌, ◌≤◌, [], length}
 use Rattle.std.specs.List.{All}
 use Rattle.std.specs.Prelude.{vec_capacity, vec_len}
-use Rattle.jk_server.specs.Parts.{IsRest, Leaves}
+use Rattle.jk_server.specs.Parts.{LeavesPart}
 use Rattle.jk_server.proofs.SlotLaws.{IsSoFar}
 use Rattle.jk_server.proofs.workers.empty_slots.Given as goal
 
 abbrev pub invariant-slots : goal.invariant-slots
 invariant-slots g l = record {
-  so_far : IsSoFar (λ s out left end. IsRest s.part.door s.part.reach s.part.clock s.end out.door out.reach out.clock end
-      × Leaves s.part.desk left.receipts left.forgotten left.shelf left.share.amount left.share.parts)
+  so_far : IsSoFar (λ s out left end. LeavesPart s.part out left × (end ≡ s.end))
       l.fn.slots.items l.slot-iterator.rest.items l.outside.items l.leaving.items l.workers.items;
   none_held : All (λ s. s.part.desk.desk.held ≡ []) l.slot-iterator.rest.items;
   ends : vec_len l.workers + length l.slot-iterator.rest.items ≤ vec_capacity l.workers;

@@ -1,4 +1,4 @@
-use Rattle.std.proofs.Common.{◌≡◌, sym}
+use Rattle.std.proofs.Common.{sym}
 use Rattle.jk_server.proofs.workers.serve_all.Goals as goal
 
 pub returns-clause-worked : goal.returns-clause-worked

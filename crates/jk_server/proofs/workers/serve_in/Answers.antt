@@ -1,13 +1,13 @@
-use Rattle.std.proofs.Common.{length, ap, ◌∙◌, arith, sym, subst}
+use Rattle.std.proofs.Common.{length, ap, arith, sym, subst}
 use Rattle.std.specs.List.{All}
 use Rattle.std.proofs.lemmas.List.{length-map}
-use Rattle.door_clients.specs.Doors.{side}
-use Rattle.client_session.specs.Requests.{visit}
-use Rattle.jk_server.specs.Parts.{IsWorked}
-use Rattle.jk_server.specs.Worker.{IsFit, worker_side}
+use Rattle.jk_server.specs.Parts.{WorksPart}
+use Rattle.jk_server.specs.Tells.{tells}
+use Rattle.jk_server.specs.Worker.{IsFit}
+use Rattle.jk_server.specs.declared.part.Part.{Part}
 use Rattle.jk_server.specs.declared.workers.Slot.{Slot}
 use Rattle.jk_server.proofs.SlotLaws.{all_of_map, parts_served, written_back}
-use Rattle.jk_server.proofs.workers.run_serve.Goals as goal
+use Rattle.jk_server.proofs.workers.serve_in.Goals as goal
 
 pub serve_all-requires-clause-few : goal.serve_all-requires-clause-few
 serve_all-requires-clause-few g c = λ κs within.
@@ -23,8 +23,7 @@ serve_all-requires-clause-fit g c = λ κs within.
     let filled = subst
     (λ ps. All (λ p. IsFit c.args.cfg.now c.args.map.now p.desk.desk (g.R.Meanings.beside p.reach)) ps) (sym c.fill_slots.ensures) c.requires.fit in
     rw c.as_mut_slice.ensures.value
-    (all_of_map
-    {Y = Slot g.row.L.Denot g.row.D.Denot g.row.R.Denot g.row.K.Denot g.row.S.Denot g.row.W.Denot g.row.D-L.Denot g.row.D-L-Beside.Denot}
+    (all_of_map {Y = Slot (Part g.row.L.Denot g.row.D.Denot g.row.R.Denot g.row.K.Denot g.row.S.Denot g.row.W.Denot) g.row.L.Denot}
     (λ p. IsFit c.args.cfg.now c.args.map.now p.desk.desk (g.R.Meanings.beside p.reach)) (λ s. s.part) c.fill_slots.new.slots.items filled)
 
 pub empty_slots-requires-clause-room : goal.empty_slots-requires-clause-room
@@ -32,11 +31,10 @@ empty_slots-requires-clause-room g c =
     let filled = ap length c.fill_slots.ensures in
     let mapped = length-map c.fill_slots.new.slots.items (λ s. s.part) in
     let whole = c.args.parts.ok.0 in
-    let slots_whole = c.fill_slots.new.slots.ok.0 in
-    let count = c.len-count.ensures in (
-      omega (arith, filled, mapped, whole, slots_whole, count, c.in_ok-workers.ensures.capacity),
-      omega (arith, filled, mapped, whole, slots_whole, count, c.in_ok-leaving.ensures.capacity),
-      omega (arith, filled, mapped, whole, slots_whole, count, c.in_ok-outside.ensures.capacity),
+    let slots_whole = c.fill_slots.new.slots.ok.0 in (
+      omega (arith, filled, mapped, whole, slots_whole, c.requires.workers),
+      omega (arith, filled, mapped, whole, slots_whole, c.requires.leaving),
+      omega (arith, filled, mapped, whole, slots_whole, c.requires.outside),
     )
 
 pub empty_slots-requires-clause-none_held : goal.empty_slots-requires-clause-none_held
@@ -52,22 +50,17 @@ returns g c =
     let same = ap length c.as_mut_slice.ensures.value in
     let len = c.serve_all.ensures.len in
     let whole = c.fill_slots.new.slots.ok.0 in
+    let told = tells g.D.Door.coming g.D.Door.left g.D.Door.faults g.D.L.Meanings g.K.Clock.answers g.R.Meanings g.S.Shelf.faults in
     record {
       served =
-          parts_served
-          {Q = Slot g.row.L.Denot g.row.D.Denot g.row.R.Denot g.row.K.Denot g.row.S.Denot g.row.W.Denot g.row.D-L.Denot g.row.D-L-Beside.Denot}
-          (λ s. s.part)
-          (λ n a b. IsWorked {L = g.row.L.Denot} (visit c.args.cfg.now c.args.map.now n) g.D.L.Meanings g.S.Shelf.faults c.args.cfg.now c.args.map.now
-          (side g.D.Door.coming g.D.Door.left g.D.Door.faults a.part.door) (side g.D.Door.coming g.D.Door.left g.D.Door.faults b.part.door)
-          (worker_side g.K.Clock.answers g.R.Meanings a.part.desk a.part.clock a.part.reach)
-          (worker_side g.K.Clock.answers g.R.Meanings b.part.desk b.part.clock b.part.reach) (g.R.Meanings.beside b.part.reach) b.end)
-          _ _
+          parts_served {Q = Slot (Part g.row.L.Denot g.row.D.Denot g.row.R.Denot g.row.K.Denot g.row.S.Denot g.row.W.Denot) g.row.L.Denot} (λ s. s.part)
+          (λ n a b. WorksPart told c.args.cfg.now c.args.map.now n a.part b.part b.end) _ _
           (λ n a b o l e did apart. record {
             desk = b.part.desk;
-            worked = rw (apart.0.same_door, apart.0.same_reach, apart.0.same_clock, apart.0.same_end) did;
-            left = apart.1;
+            worked = rw (apart.0.same_door, apart.0.same_reach, apart.0.same_clock, apart.1) did;
+            left = apart.0.desk;
           })
-          _ _ _ _ _ _ _ _ _ _ _ c.fill_slots.ensures c.as_mut_slice.ensures.value
-          (written_back c.fill_slots.new.slots.len c.serve_all.new.slots _ (omega (arith, same, len, whole))) len c.serve_all.ensures.worked
-          c.empty_slots.ensures c.from_vec-3.ensures c.from_vec-2.ensures c.from_vec.ensures;
+          c.fill_slots.new.slots.items c.as_mut_slice.result.now c.serve_all.new.slots _ c.args.parts.items _ _ _ _ _ _ c.fill_slots.ensures
+          c.as_mut_slice.ensures.value (written_back c.fill_slots.new.slots.len c.serve_all.new.slots _ (omega (arith, same, len, whole))) len
+          c.serve_all.ensures.worked c.empty_slots.ensures c.from_vec-3.ensures c.from_vec-2.ensures c.from_vec.ensures;
     }
