@@ -12,10 +12,12 @@ use Rattle.locked_balancer.specs.Sites.{AreSited}
 use Rattle.site_config.specs.declared.balancer.Lb.{Lb}
 use Rattle.worker_gears.specs.Gears.{GearSide, gear_side}
 use Rattle.worker_gears.specs.declared.world.Gear.{Gear}
-use Rattle.gear_runs.specs.Closings.{AreCuts, Closes, firsts_of, KeepsFirst, Shelves}
+use Rattle.site_closing.specs.Closings.{DiscordNote}
+use Rattle.gear_runs.specs.Closings.{AreCuts, Closes, firsts_of, IsDiscordOf, KeepsFirst, Shelves}
 use Rattle.gear_runs.specs.declared.ends.Closing.{Closing}
+use Rattle.gear_runs.specs.declared.ends.Closing.TheVariants as closing
 use Rattle.gear_runs.specs.Parts.{gear_with, gears_with, Tools, tools}
-use Rattle.gear_runs.specs.Shelved.{AddsCuts, ToFirst}
+use Rattle.gear_runs.specs.Shelved.{AddsCuts, EndsSo, IsDiscordAt, KeepsCuts, ToFirst}
 use Rattle.gear_runs.proofs.GearLaws.{told_again}
 
 -- The segments so far were kept, and with those of the other Books they are those of all.
@@ -89,13 +91,34 @@ kept_again {D} {G} {T} {K} {S} {O} {C} at talks answers Kept ts old new back len
     ∙ ap (λ (ss : List S). gears_with (gear_with at talks answers) ts ss) shelves_put))
     (first_kept at talks answers Kept ts old new len kept)
 
--- What a closing says of the Books of a Site, said of the configuration.
-pub closes_told : {C S L Y : Type 0} (shelved : S → Option (List (ℕ × Segment))) (faults : S → ℕ) (lbs : List Lb) (sizes firsts : List ℕ) (books : List Journal)
-    (with : Y → S → GearSide C S) (ts : List Y) (shelves shelves' : List S) (back : List (GearSide C S)) (closing : Closing L)
-    → sizes ≡ sizes_of lbs → firsts ≡ firsts_of lbs → AreSited sizes firsts books → shelves ≡ shelves'
-    → (AreSited (sizes_of lbs) (firsts_of lbs) books → Closes shelved faults lbs (gears_with with ts shelves) back closing)
-    → Closes shelved faults lbs (gears_with with ts shelves') back closing
-closes_told {C} {S} {L} {Y} shelved faults lbs sizes firsts books with ts shelves shelves' back closing same_sizes same_firsts sited same closes =
-    subst (λ (ss : List S). Closes shelved faults lbs (gears_with with ts ss) back closing) same
-    (closes
-    (subst (λ (ns : List ℕ). AreSited ns (firsts_of lbs) books) same_sizes (subst (λ (ns : List ℕ). AreSited sizes ns books) same_firsts sited)))
+-- What a closing says by a Site's sizes and first numbers, said of the configuration.
+kept_said : {D G T K S O C : Type 0} (at : D → DoorSide C) (talks : T → Option (List Talk)) (answers : K → Option (List ℕ)) (shelved : S → Option (List (ℕ × Segment)))
+    (lbs : List Lb) (sizes firsts : List ℕ) (ts : List (Tools D G T K)) (old : List S) (back : List (Gear D G T K S O))
+    → sizes ≡ sizes_of lbs → firsts ≡ firsts_of lbs → KeepsCuts shelved sizes firsts ts old back
+    → KeepsFirst (Shelves shelved lbs) (gears_with (gear_with at talks answers) ts old) (map (gear_side at talks answers) back)
+kept_said {D} {G} {T} {K} {S} {O} at talks answers shelved lbs sizes firsts ts old back same_sizes same_firsts keeps =
+    let sited : AreSited (sizes_of lbs) (firsts_of lbs) keeps.0 =
+    subst (λ (ns : List ℕ). AreSited ns (firsts_of lbs) keeps.0) same_sizes (subst (λ (ns : List ℕ). AreSited sizes ns keeps.0) same_firsts keeps.1) in
+    kept_again at talks answers (Shelves shelved lbs) ts old (map (λ (g : Gear D G T K S O). g.shelf) back) back keeps.2.paired
+    (first_weaker (AddsCuts shelved keeps.0) (Shelves shelved lbs) old (map (λ (g : Gear D G T K S O). g.shelf) back)
+    (λ x y cuts. last_kept shelved lbs keeps.0 x y sited cuts) keeps.2.shelves_put)
+    keeps.2.tools_put refl
+
+discord_said : (lbs : List Lb) (sizes firsts : List ℕ) (d : DiscordNote) → sizes ≡ sizes_of lbs → firsts ≡ firsts_of lbs → IsDiscordAt sizes firsts d → IsDiscordOf lbs d
+discord_said lbs sizes firsts d same_sizes same_firsts at =
+    subst (λ (ns : List ℕ). IsDiscordAt ns (firsts_of lbs) d) same_sizes (subst (λ (ns : List ℕ). IsDiscordAt sizes ns d) same_firsts at)
+
+pub closes_said : {D G T K S O L C : Type 0} (at : D → DoorSide C) (talks : T → Option (List Talk)) (answers : K → Option (List ℕ)) (shelved : S → Option (List (ℕ × Segment)))
+    (faults : S → ℕ) (lbs : List Lb) (sizes firsts : List ℕ) (ts : List (Tools D G T K)) (old : List S) (back : List (Gear D G T K S O)) (end : Closing L)
+    → sizes ≡ sizes_of lbs → firsts ≡ firsts_of lbs → EndsSo shelved faults sizes firsts ts old back end
+    → Closes shelved faults lbs (gears_with (gear_with at talks answers) ts old) (map (gear_side at talks answers) back) end
+closes_said at talks answers shelved faults lbs sizes firsts ts old back closing.Kept same_sizes same_firsts ends =
+    kept_said at talks answers shelved lbs sizes firsts ts old back same_sizes same_firsts ends
+closes_said {D} {G} {T} {K} {S} {O} at talks answers shelved faults lbs sizes firsts ts old back closing.ShelfFault same_sizes same_firsts ends =
+    kept_again at talks answers (λ (x y : S). Rose (faults x) (faults y)) ts old (map (λ (g : Gear D G T K S O). g.shelf) back) back ends.paired
+    ends.shelves_put ends.tools_put refl
+closes_said {D} {G} {T} {K} {S} {O} at talks answers shelved faults lbs sizes firsts ts old back (closing.Differs d) same_sizes same_firsts ends = (
+  discord_said lbs sizes firsts d same_sizes same_firsts ends.0,
+  ap (λ (gs : List (Gear D G T K S O)). map (gear_side at talks answers) gs) ends.1,
+)
+closes_said at talks answers shelved faults lbs sizes firsts ts old back closing.NoMemory same_sizes same_firsts ends = tt

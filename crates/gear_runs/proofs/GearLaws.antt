@@ -1,5 +1,5 @@
 -- What was done with each part, said of the gears.
-use Rattle.std.proofs.Common.{ℕ, ◌≡◌, ◌+◌, List, [], ◌∷◌, length, map, Option, refl, sym, ap, subst, arith}
+use Rattle.std.proofs.Common.{ℕ, ◌≡◌, ◌+◌, List, [], ◌∷◌, length, map, Option, refl, ap, subst, arith}
 use Rattle.std.specs.Prelude.{sum_by}
 use Rattle.std.specs.List.{All}
 use Rattle.std.proofs.lemmas.List.Elements.{All-cons, All-head, All-nil, All-tail}
@@ -36,11 +36,11 @@ gears_served visits told faults Fresh Is was with tool shelf n (p ∷ ps) (o ∷
 
 -- So of lists that are the same.
 pub gears_told : {C S L X Y : Type 0} → (visits : ℕ → Peer → Visit) (told : Ghosts C X) (faults : S → ℕ) (n : ℕ) (before before' : List (GearSide C S)) (with : Y → S → GearSide C S)
-    (ts ts' : List Y) (shelves : List S) (es : List (WorkerEnd L)) → before ≡ before' → ts' ≡ ts
-    → AreServedGears visits told faults n before (gears_with with ts shelves) es → AreServedGears visits told faults n before' (gears_with with ts' shelves) es
-gears_told {C} {S} {L} {X} {Y} visits told faults n before before' with ts ts' shelves es same_before same_tools served =
-    subst (λ (gs : List (GearSide C S)). AreServedGears visits told faults n gs (gears_with with ts' shelves) es) same_before
-    (subst (λ (us : List Y). AreServedGears visits told faults n before (gears_with with us shelves) es) (sym same_tools) served)
+    (ts ts' : List Y) (shelves shelves' : List S) (es es' : List (WorkerEnd L)) → before ≡ before' → ts' ≡ ts → shelves' ≡ shelves → es' ≡ es
+    → AreServedGears visits told faults n before (gears_with with ts shelves) es → AreServedGears visits told faults n before' (gears_with with ts' shelves') es'
+gears_told {C} {S} {L} visits told faults n before before' with ts ts' shelves shelves' es es' same_before same_tools same_shelves same_ends served =
+    rw (same_tools, same_shelves, same_ends)
+    (subst (λ (gs : List (GearSide C S)). AreServedGears visits told faults n gs (gears_with with ts shelves) es) same_before served)
 
 -- Where each worker's share has one part, all have as many as there are workers.
 pub parts_whole : {P O V E : Type 0} → (Fresh : P → Type 0) (Is : ℕ → P → O → V → E → Type 0) (part : V → ℕ)

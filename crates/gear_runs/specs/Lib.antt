@@ -4,3 +4,4 @@ pub mod Parts
 pub mod Runs
 pub mod Shelved
 pub mod Started
+pub mod Tells

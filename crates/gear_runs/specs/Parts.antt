@@ -1,11 +1,19 @@
 -- What of a gear goes where while its worker runs.
-use Rattle.std.specs.Prelude.{ℕ, false, List, [], ◌∷◌, Option, None}
+use Rattle.std.specs.Prelude.{ℕ, false, List, [], ◌∷◌, map, Option, None}
 use Rattle.jk_io.specs.declared.reaching.Talk.{Talk}
 use Rattle.conn_pool.specs.Reaches.{PooledState}
 use Rattle.door_clients.specs.Doors.{DoorSide}
 use Rattle.locked_balancer.specs.SharedDesks.{SharedState, shared_desk}
+use Rattle.locked_balancer.specs.declared.site.SiteName.{Ghosts as SiteGhosts}
 use Rattle.worker_gears.specs.Gears.{GearSide}
+use Rattle.client_session.specs.Requests.{visit}
+use Rattle.site_config.specs.declared.config.Config.{Config}
+use Rattle.uri_map.specs.declared.rule.Rule.{Rule}
 use Rattle.worker_gears.specs.declared.world.Gear.{Gear}
+use Rattle.gear_runs.specs.Runs.{AreServedGears}
+use Rattle.gear_runs.specs.Tells.{gears_at, Tells}
+use Rattle.gear_runs.specs.declared.ran.Left.{Left}
+use Rattle.gear_runs.specs.declared.ran.Ran.{Ran}
 
 -- ---- a container's gear
 
@@ -51,6 +59,10 @@ pub record Tools (D G T K : Type 0) : Type 0 where
 abbrev pub tools : {D G T K : Type 0} → D → G → T → K → Tools D G T K
 tools door dial tape clock = record { door = door; dial = dial; tape = tape; clock = clock }
 
+-- what workers left beside their desks, in order
+abbrev pub tools_of : {D G T K O : Type 0} → List (Left D G T K O) → List (Tools D G T K)
+tools_of left = map (λ l. tools l.door l.dial l.tape l.clock) left
+
 -- a gear of these parts, by what its types tell
 abbrev pub gear_with : {D G T K S C : Type 0} → (D → DoorSide C) → (T → Option (List Talk)) → (K → Option (List ℕ)) → Tools D G T K → S → GearSide C S
 gear_with at talks answers t shelf = record { door = at t.door; talks = talks t.tape; clock = answers t.clock; shelf = shelf }
@@ -60,3 +72,9 @@ abbrev pub gears_with : {C S X : Type 0} → (X → S → GearSide C S) → List
 gears_with with [] shelves = []
 gears_with with (x ∷ xs) [] = []
 gears_with with (x ∷ xs) (shelf ∷ shelves) = with x shelf ∷ gears_with with xs shelves
+
+-- Each gear was served by the worker of its place, which left its tools, and its shelf with its desk.
+abbrev pub ServesGears : {D G T K S O L C X : Type 0} {N : SiteGhosts L} → Tells D T K S C X → Config → List Rule → List (Gear D G T K S O) → Ran L D G T K S O N → Type 0
+ServesGears told cfg rules gears ran =
+    AreServedGears (visit cfg rules) told.link told.shelf_faults 0 (gears_at told gears)
+    (gears_with (gear_with told.door told.talks told.answers) (tools_of ran.left.items) (map (λ l. l.shelf) ran.leaving)) ran.workers

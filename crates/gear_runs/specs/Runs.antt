@@ -4,15 +4,20 @@ use Rattle.jk_io.specs.Answers.{Answers}
 use Rattle.jk_io.specs.declared.traits.streams.Meanings.{Ghosts}
 use Rattle.jk_io.specs.declared.traits.surroundings.Peer.{Peer}
 use Rattle.jk_model.specs.declared.segment.Segment.{Segment}
-use Rattle.client_session.specs.Requests.{Visit}
+use Rattle.client_session.specs.Requests.{Visit, visit}
 use Rattle.jk_server.specs.Served.{IsServed}
 use Rattle.jk_server.specs.Worker.{WorkerSide}
 use Rattle.jk_server.specs.declared.part.WorkerEnd.{WorkerEnd}
 use Rattle.locked_balancer.specs.SharedDesks.{SharedState}
 use Rattle.site_config.specs.declared.balancer.Lb.{Lb}
+use Rattle.site_config.specs.declared.config.Config.{Config}
+use Rattle.uri_map.specs.declared.rule.Rule.{Rule}
 use Rattle.worker_gears.specs.Gears.{GearSide}
+use Rattle.worker_gears.specs.declared.world.Gear.{Gear}
 use Rattle.gear_runs.specs.Closings.{Closes}
+use Rattle.gear_runs.specs.Tells.{gears_at, Tells}
 use Rattle.gear_runs.specs.declared.ends.Closing.{Closing}
+use Rattle.gear_runs.specs.declared.ends.SiteRun.{SiteRun}
 
 -- The worker works with this gear: with its shelf, its clock and its tape.
 pub record WorksWith {C S : Type 0} (gear : GearSide C S) (worker : WorkerSide S) : Type 0 where
@@ -57,3 +62,8 @@ pub record IsRun {C S L X : Type 0} (visits : ℕ → Peer → Visit) (told : Gh
   pub started : AreStarted before begun
   pub served : AreServedGears visits told faults 0 begun left ends
   pub closed : Closes shelved faults lbs left back closing
+
+-- It is so of the gears that were handed in, and of what the run gave back.
+abbrev pub RunsGears : {D G T K S O L C X : Type 0} → Tells D T K S C X → Config → List Rule → List (Gear D G T K S O) → SiteRun L (Gear D G T K S O) → Type 0
+RunsGears told cfg rules gears run =
+    IsRun (visit cfg rules) told.link told.shelved told.shelf_faults cfg.lbs (gears_at told gears) (gears_at told run.gears.items) run.workers run.closing

@@ -1,21 +1,15 @@
 //! The closing of a connector's run. The desks are closed, and what the journals still keep goes to the first shelf.
-ghost use Rattle.std.specs.Prelude.{◌≡◌, ◌<◌, ◌≤◌, [], List, length, map, sum_by, vec_capacity, vec_len, IsErrOf, OnOk};
-ghost use Rattle.door_clients.specs.Doors.{side};
-ghost use Rattle.exchange.specs.Requests.{sizes_of};
+ghost use Rattle.std.specs.Prelude.{◌≡◌, ◌<◌, ◌≤◌, ℕ, [], List, length, map, sum_by, vec_capacity, vec_len, IsErrOf, OnOk};
 ghost use Rattle.jk_io.specs.Told.{Rose};
 ghost use Rattle.locked_balancer.specs.Sites.{AreSited};
-ghost use Rattle.site_config.specs.declared.balancer.Lb.{Lb};
-ghost use Rattle.worker_gears.specs.Gears.{gear_side};
-ghost use Rattle.gear_runs.specs.Closings.{Closes, firsts_of};
-ghost use Rattle.gear_runs.specs.Parts.{gear_with, gears_with, tools};
-ghost use Rattle.gear_runs.specs.Shelved.{AddsCuts, ToFirst};
+ghost use Rattle.gear_runs.specs.Parts.{tools, tools_of};
+ghost use Rattle.gear_runs.specs.Shelved.{AddsCuts, EndsSo, ToFirst};
 ghost use Rattle.jk_model.specs.declared.config.TheConstants.{MAX_BALANCERS};
 
 use crate::ends::{Closing, SiteRun};
-use crate::parts::{Left, Ran};
+use crate::ran::{Left, Ran};
 use balancer_core::BookList;
-use conn_pool::Tape;
-use jk_io::{Clock, Door, IoError};
+use jk_io::IoError;
 use locked_balancer::{SharedSite, Shelf, SiteName};
 use site_closing::{CloseError, Closed, LeavingList, close_desks};
 use worker_gears::Gear;
@@ -24,10 +18,10 @@ use worker_gears::Gear;
 pub(crate) fn settle<
     'r,
     L: SiteName,
-    D: Door + Drop,
+    D: Drop,
     G: Drop,
-    T: Tape + Drop,
-    K: Clock + Drop,
+    T: Drop,
+    K: Drop,
     S: Shelf + Drop,
     O: Drop,
     R,
@@ -35,10 +29,8 @@ pub(crate) fn settle<
     requires some { 0 < length ran.leaving }
     requires whole { sum_by (λ l. l.share.parts) ran.leaving ≡ L.parts }
     ensures workers { result.workers ≡ ran.workers }
-    ensures closed { (lbs : List Lb) → L.sizes ≡ sizes_of lbs → L.firsts ≡ firsts_of lbs → let at = side D.coming D.left D.faults in
-        Closes S.shelved S.faults lbs
-        (gears_with (gear_with at T.talks K.answers) (map (λ l. tools l.door l.dial l.tape l.clock) ran.left.items) (map (λ l. l.shelf) ran.leaving))
-        (map (gear_side at T.talks K.answers) result.gears.items) result.closing }
+    ensures closed { EndsSo S.shelved S.faults L.sizes L.firsts (tools_of ran.left.items) (map (λ l. l.shelf) ran.leaving)
+        result.gears.items result.closing }
 {
     let Ran {
         workers,
@@ -56,17 +48,7 @@ pub(crate) fn settle<
 }
 
 /// Closes the desks, and puts the gears together again where that is done.
-fn close_gears<
-    'r,
-    L: SiteName,
-    D: Door + Drop,
-    G: Drop,
-    T: Tape + Drop,
-    K: Clock + Drop,
-    S: Shelf + Drop,
-    O: Drop,
-    R,
->(
+fn close_gears<'r, L: SiteName, D: Drop, G: Drop, T: Drop, K: Drop, S: Shelf + Drop, O: Drop, R>(
     site: SharedSite<'r, L, R>,
     leaving: LeavingList<L, S>,
     left: Vec<Left<D, G, T, K, O>>,
@@ -77,10 +59,7 @@ fn close_gears<
     requires none { gears.old.items ≡ [] }
     requires paired { vec_len left ≡ length leaving }
     requires room { vec_len left ≤ vec_capacity gears.old }
-    ensures { (lbs : List Lb) → L.sizes ≡ sizes_of lbs → L.firsts ≡ firsts_of lbs → let at = side D.coming D.left D.faults in
-        Closes S.shelved S.faults lbs
-        (gears_with (gear_with at T.talks K.answers) (map (λ l. tools l.door l.dial l.tape l.clock) left.items) (map (λ l. l.shelf) leaving))
-        (map (gear_side at T.talks K.answers) gears.new.items) result }
+    ensures { EndsSo S.shelved S.faults L.sizes L.firsts (tools_of left.items) (map (λ l. l.shelf) leaving) gears.new.items result }
 {
     match close_desks(site, leaving) {
         Ok(closed) => close_books(closed, left, gears),
@@ -90,15 +69,7 @@ fn close_gears<
 }
 
 /// Keeps the last segments, and puts the gears together again.
-fn close_books<
-    L,
-    D: Door + Drop,
-    G: Drop,
-    T: Tape + Drop,
-    K: Clock + Drop,
-    S: Shelf + Drop,
-    O: Drop,
->(
+fn close_books<L, D: Drop, G: Drop, T: Drop, K: Drop, S: Shelf + Drop, O: Drop>(
     closed: Closed<S>,
     left: Vec<Left<D, G, T, K, O>>,
     gears: &mut Vec<Gear<D, G, T, K, S, O>>,
@@ -108,10 +79,8 @@ fn close_books<
     requires none { gears.old.items ≡ [] }
     requires paired { vec_len left ≡ length closed.shelves }
     requires room { vec_len left ≤ vec_capacity gears.old }
-    ensures { (lbs : List Lb) → AreSited (sizes_of lbs) (firsts_of lbs) closed.books → let at = side D.coming D.left D.faults in
-        Closes S.shelved S.faults lbs
-        (gears_with (gear_with at T.talks K.answers) (map (λ l. tools l.door l.dial l.tape l.clock) left.items) closed.shelves)
-        (map (gear_side at T.talks K.answers) gears.new.items) result }
+    ensures { (sizes firsts : List ℕ) → AreSited sizes firsts closed.books
+        → EndsSo S.shelved S.faults sizes firsts (tools_of left.items) closed.shelves gears.new.items result }
 {
     let Closed {
         books,
@@ -164,8 +133,7 @@ fn gears_again<D: Drop, G: Drop, T: Drop, K: Drop, S: Drop, O: Drop>(
     requires none { gears.old.items ≡ [] }
     requires paired { vec_len left ≡ vec_len shelves }
     requires room { vec_len left ≤ vec_capacity gears.old }
-    ensures tools { map (λ g. tools g.door g.dial g.tape g.clock) gears.new.items
-        ≡ map (λ l. tools l.door l.dial l.tape l.clock) left.items }
+    ensures tools { map (λ g. tools g.door g.dial g.tape g.clock) gears.new.items ≡ tools_of left.items }
     ensures shelves { map (λ g. g.shelf) gears.new.items ≡ shelves.items }
     ensures logs { map (λ g. g.log) gears.new.items ≡ map (λ l. l.log) left.items }
 {

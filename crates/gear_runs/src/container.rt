@@ -1,9 +1,7 @@
 //! A container's run.
-ghost use Rattle.std.specs.Prelude.{◌≡◌, ◌≤◌, ℕ, [], List, Option, length, map, vec_capacity, vec_len, IfOk};
-ghost use Rattle.jk_io.specs.declared.reaching.Talk.{Talk};
+ghost use Rattle.std.specs.Prelude.{◌≡◌, ◌≤◌, [], length, map, vec_capacity, vec_len, IfOk};
 ghost use Rattle.door_clients.specs.Doors.{side};
-ghost use Rattle.worker_gears.specs.Gears.{gear_side};
-ghost use Rattle.gear_runs.specs.Containers.{IsContainerRun};
+ghost use Rattle.gear_runs.specs.Containers.{RunsContainer};
 ghost use Rattle.gear_runs.specs.Parts.{rest_with};
 
 use crate::ends::ContainerRun;
@@ -42,10 +40,7 @@ pub fn contain_gears<
 ) -> Result<ContainerRun<Gear<D, G, T, K, S, O>>, NoMemory>
 where
     D::L: Send,
-    // over what tapes and clocks tell, in whatever way
-    ensures ran { IfOk result (λ run. (talks : T → Option (List Talk)) → (answers : K → Option (List ℕ))
-        → let at = gear_side (side D.coming D.left D.faults) talks answers in
-        IsContainerRun app.now D.L.Meanings (map at gears.items) (map at run.gears.items) run.workers) }
+    ensures ran { IfOk result (RunsContainer app.now D.L.Meanings (side D.coming D.left D.faults) gears.items) }
 {
     let count = gears.len();
     let mut doors = Vec::with_capacity(alloc, count)?;

@@ -1,19 +1,17 @@
 //! The workers of a connector's run: a part for each gear, and what each leaves.
 ghost use Rattle.std.specs.Prelude.{◌≡◌, ◌<◌, ◌≤◌, [], false, is_some, length, map, sum_by, true, vec_capacity, vec_len, IfOk};
 ghost use Rattle.std.specs.List.{All};
-ghost use Rattle.client_session.specs.Requests.{visit};
 ghost use Rattle.conn_pool.specs.Idle.{counts};
-ghost use Rattle.door_clients.specs.Doors.{side};
 ghost use Rattle.exchange.specs.Requests.{sizes_of};
 ghost use Rattle.uri_map.specs.Sites.{stands_in};
-ghost use Rattle.worker_gears.specs.Gears.{gear_side};
-ghost use Rattle.gear_runs.specs.Parts.{gear_with, gears_with, start_of, start_with, tools};
-ghost use Rattle.gear_runs.specs.Runs.{AreServedGears};
+ghost use Rattle.gear_runs.specs.Parts.{ServesGears, start_of, start_with, tools, tools_of};
+ghost use Rattle.gear_runs.specs.Tells.{tells};
 
+use crate::ran::{Left, Ran};
 use conn_pool::{Idle, PooledReach, Pools, Tape};
-use jk_io::{Clock, Dial, Door, ListOf, NoMemory};
-use jk_server::{MAX_WORKERS, Outside, Part, ServeEnd, WorkerEndList, run_serve};
-use locked_balancer::{Leaving, SharedDesk, SharedSite, Shelf, SiteName};
+use jk_io::{Clock, Dial, Door, NoMemory};
+use jk_server::{MAX_WORKERS, Outside, Part, ServeEnd, run_serve};
+use locked_balancer::{SharedDesk, SharedSite, Shelf, SiteName};
 use site_config::Config;
 use std::alloc::Global;
 use std::sync::Wait;
@@ -36,26 +34,13 @@ pub(crate) struct Common<'s, 'r, L: SiteName, G: Dial, R> {
     pub(crate) pools: &'s Pools<'r, Idle<G::L>, R>,
 }
 
-/// What a worker leaves beside its desk, and its log.
+/// The memory of a run: for the parts and the logs of the gears, for what the workers leave, and for the gears again.
 #[derive(Drop)]
-pub(crate) struct Left<D, G, T, K, O> {
-    pub(crate) door: D,
-    pub(crate) dial: G,
-    pub(crate) tape: T,
-    pub(crate) clock: K,
-    pub(crate) log: Option<O>,
-}
-
-/// How the workers ended and what they left, in order, and the room for their gears.
-#[derive(Drop)]
-pub(crate) struct Ran<L: SiteName, D, G, T, K, S, O> {
-    pub(crate) workers: WorkerEndList<L>,
-    pub(crate) leaving: ListOf<Leaving<L, S>>,
-    pub(crate) left: Vec<Left<D, G, T, K, O>>,
-    pub(crate) back: Vec<Gear<D, G, T, K, S, O>>,
-    pub(crate) ghost paired: { vec_len left ≡ length leaving },
-    pub(crate) ghost none_back: { back.items ≡ [] },
-    pub(crate) ghost room: { vec_len left ≤ vec_capacity back },
+struct Memory<P, O, A, B> {
+    parts: Vec<P>,
+    logs: Vec<Option<O>>,
+    left: Vec<A>,
+    back: Vec<B>,
 }
 
 /// A worker for each gear, with one part of the share each.
@@ -87,30 +72,35 @@ where
     requires amount { share.amount ≡ 0 }
     requires desk_sizes { L.sizes ≡ sizes_of plan.cfg.now.lbs }
     requires pool_sizes { counts common.now.pools.now ≡ sizes_of plan.cfg.now.lbs }
-    ensures served { IfOk result (λ ran. let at = side D.coming D.left D.faults in
-        AreServedGears (visit plan.entry.cfg.now plan.entry.map.now) D.L.Meanings S.faults 0 (map (gear_side at T.talks K.answers) gears.items)
-        (gears_with (gear_with at T.talks K.answers) (map (λ l. tools l.door l.dial l.tape l.clock) ran.left.items) (map (λ l. l.shelf) ran.leaving))
-        ran.workers) }
+    ensures served { let told = tells D.coming D.left D.faults T.talks K.answers D.L.Meanings S.shelved S.faults in
+        IfOk result (ServesGears told plan.entry.cfg.now plan.entry.map.now gears.items) }
     ensures whole { IfOk result (λ ran. sum_by (λ l. l.share.parts) ran.leaving ≡ vec_len gears) }
     ensures each { IfOk result (λ ran. length ran.leaving ≡ vec_len gears) }
 {
-    let count = gears.len();
-    let mut logs = Vec::with_capacity(alloc, count)?;
-    let mut parts = Vec::with_capacity(alloc, count)?;
-    let mut left = Vec::with_capacity(alloc, count)?;
-    let back = Vec::with_capacity(alloc, count)?;
+    let memory = memory_for(alloc, gears.len())?;
+    let mut parts = memory.parts;
+    let mut logs = memory.logs;
     fill_parts(alloc, common, share, gears, &mut parts, &mut logs);
-    let ServeEnd {
-        workers,
-        leaving,
-        outside,
-    } = run_serve(rt, alloc, plan.cfg, plan.map, common.site, parts)?;
-    take_apart(outside.into_vec(), logs, &mut left);
-    Ok(Ran {
-        workers,
-        leaving,
-        left,
-        back,
+    let end = run_serve(rt, alloc, plan.cfg, plan.map, common.site, parts)?;
+    Ok(ran_of(end, logs, memory.left, memory.back))
+}
+
+/// Takes the memory for so many workers.
+fn memory_for<P: Drop, O: Drop, A: Drop, B: Drop>(
+    alloc: Global,
+    count: usize,
+) -> Result<Memory<P, O, A, B>, NoMemory>
+    ensures empty { IfOk result (λ m. (m.parts.items ≡ []) × (m.logs.items ≡ []) × (m.left.items ≡ []) × (m.back.items ≡ [])) }
+    ensures parts { IfOk result (λ m. count ≤ vec_capacity m.parts) }
+    ensures logs { IfOk result (λ m. count ≤ vec_capacity m.logs) }
+    ensures left { IfOk result (λ m. count ≤ vec_capacity m.left) }
+    ensures back { IfOk result (λ m. count ≤ vec_capacity m.back) }
+{
+    Ok(Memory {
+        parts: Vec::with_capacity(alloc, count)?,
+        logs: Vec::with_capacity(alloc, count)?,
+        left: Vec::with_capacity(alloc, count)?,
+        back: Vec::with_capacity(alloc, count)?,
     })
 }
 
@@ -119,13 +109,13 @@ fn fill_parts<
     's,
     'r,
     L: SiteName,
-    D: Door + Drop,
+    D: Drop,
     G: Dial + Drop,
     T: Tape + Drop,
-    K: Clock + Drop,
+    K: Drop,
     S: Shelf + Drop,
     O: Drop,
-    R: Wait,
+    R,
 >(
     alloc: Global,
     common: &Common<'s, 'r, L, G, R>,
@@ -153,7 +143,7 @@ fn fill_parts<
 }
 
 /// The part of a gear, and its log.
-fn part_of<'s, 'r, L: SiteName, D: Door, G: Dial, T: Tape, K: Clock, S: Shelf, O, R: Wait>(
+fn part_of<'s, 'r, L: SiteName, D, G: Dial, T: Tape, K, S: Shelf, O, R>(
     alloc: Global,
     common: &Common<'s, 'r, L, G, R>,
     share: Share<L>,
@@ -186,17 +176,49 @@ fn part_of<'s, 'r, L: SiteName, D: Door, G: Dial, T: Tape, K: Clock, S: Shelf, O
     (part, log)
 }
 
-/// Takes the reach of each worker apart.
-fn take_apart<
+/// What the workers left, with their logs, in the memory for it.
+fn ran_of<
     's,
     'r,
-    D: Door + Drop,
+    L: SiteName,
+    D: Drop,
     G: Dial + Drop,
     T: Tape + Drop,
-    K: Clock + Drop,
+    K: Drop,
+    S: Drop,
     O: Drop,
-    R: Wait,
+    R,
 >(
+    end: ServeEnd<L, D, PooledReach<'s, 'r, G, T, R>, K, S>,
+    logs: Vec<Option<O>>,
+    left: Vec<Left<D, G, T, K, O>>,
+    back: Vec<Gear<D, G, T, K, S, O>>,
+) -> Ran<L, D, G, T, K, S, O>
+    requires empty { (left.items ≡ []) × (back.items ≡ []) }
+    requires capacity { (vec_len logs ≤ vec_capacity left) × (vec_len logs ≤ vec_capacity back) }
+    requires paired { (length end.outside ≡ vec_len logs) × (length end.leaving ≡ vec_len logs) }
+    requires idle { All (λ o. is_some o.reach.lent ≡ false) end.outside }
+    ensures workers { result.workers ≡ end.entry.workers }
+    ensures leaving { result.leaving ≡ end.entry.leaving }
+    ensures tools { tools_of result.left.items ≡ map (λ o. tools o.door o.reach.dial o.reach.tape o.clock) end.entry.outside }
+{
+    let ServeEnd {
+        workers,
+        leaving,
+        outside,
+    } = end;
+    let mut left = left;
+    take_apart(outside.into_vec(), logs, &mut left);
+    Ran {
+        workers,
+        leaving,
+        left,
+        back,
+    }
+}
+
+/// Takes the reach of each worker apart.
+fn take_apart<'s, 'r, D: Drop, G: Dial + Drop, T: Tape + Drop, K: Drop, O: Drop, R>(
     outside: Vec<Outside<D, PooledReach<'s, 'r, G, T, R>, K>>,
     logs: Vec<Option<O>>,
     left: &mut Vec<Left<D, G, T, K, O>>,
@@ -205,21 +227,17 @@ fn take_apart<
     requires paired { vec_len outside ≡ vec_len logs }
     requires room { vec_len outside ≤ vec_capacity left.old }
     requires idle { All (λ o. is_some o.reach.lent ≡ false) outside.items }
-    ensures tools { map (λ l. tools l.door l.dial l.tape l.clock) left.new.items
+    ensures tools { tools_of left.new.items
         ≡ map (λ o. tools o.door o.reach.dial o.reach.tape o.clock) outside.entry.items }
     ensures logs { map (λ l. l.log) left.new.items ≡ logs.items }
 {
-    let mut logs = logs.into_iter();
-    'outside: for outside in outside {
-        match logs.next() {
-            Some(log) => left.push_reserved(left_of(outside, log)),
-            None => unreachable!(),
-        }
+    'outside: for (outside, log) in outside.into_iter().zip(logs) {
+        left.push_reserved(left_of(outside, log));
     }
 }
 
 /// What one worker leaves, with its log.
-fn left_of<'s, 'r, D: Door, G: Dial, T: Tape, K: Clock, O, R: Wait>(
+fn left_of<'s, 'r, D, G: Dial, T: Tape, K, O, R>(
     outside: Outside<D, PooledReach<'s, 'r, G, T, R>, K>,
     log: Option<O>,
 ) -> Left<D, G, T, K, O>

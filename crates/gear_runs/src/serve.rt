@@ -1,15 +1,15 @@
 //! A connector's run: the balancers start, the workers serve, the desks are closed.
 ghost use Rattle.std.specs.Prelude.{◌≡◌, ◌<◌, ◌≤◌, ℕ, length, map, true, vec_len, IfOk};
 ghost use Rattle.std.specs.List.{All};
-ghost use Rattle.client_session.specs.Requests.{visit};
 ghost use Rattle.conn_pool.specs.Idle.{counts};
 ghost use Rattle.door_clients.specs.Doors.{side};
 ghost use Rattle.exchange.specs.Requests.{sizes_of};
 ghost use Rattle.uri_map.specs.Sites.{stands_in};
 ghost use Rattle.worker_gears.specs.Gears.{gear_side};
 ghost use Rattle.gear_runs.specs.Closings.{firsts_of};
-ghost use Rattle.gear_runs.specs.Runs.{AreStarted, IsRun};
-ghost use Rattle.gear_runs.specs.Started.{AreNew, IsStartedRun};
+ghost use Rattle.gear_runs.specs.Runs.{AreStarted, RunsGears};
+ghost use Rattle.gear_runs.specs.Started.{AreNew, RunsStarted};
+ghost use Rattle.gear_runs.specs.Tells.{tells};
 
 use crate::closing::settle;
 use crate::ends::SiteRun;
@@ -55,9 +55,8 @@ where
     requires few { vec_len gears ≤ MAX_WORKERS }
     requires stands { stands_in cfg.now mounts.now ≡ true }
     requires idle { All (λ g. T.is_idle g.tape) gears.items }
-    ensures ran { IfOk result (λ run. let at = gear_side (side D.coming D.left D.faults) T.talks K.answers in
-        IsRun (visit cfg.now mounts.now) D.L.Meanings S.shelved S.faults cfg.now.lbs
-        (map at gears.items) (map at run.gears.items) run.workers run.closing) }
+    ensures ran { let told = tells D.coming D.left D.faults T.talks K.answers D.L.Meanings S.shelved S.faults in
+        IfOk result (RunsGears told cfg.now mounts.now gears.items) }
 {
     let mut gears = gears;
     let at = first_moment(gears.as_mut_slice());
@@ -145,9 +144,8 @@ where
     requires few { vec_len gears ≤ MAX_WORKERS }
     requires stands { stands_in plan.cfg.now plan.map.now ≡ true }
     requires idle { All (λ g. T.is_idle g.tape) gears.items }
-    ensures ran { IfOk result (λ run. let at = gear_side (side D.coming D.left D.faults) T.talks K.answers in
-        IsStartedRun (visit plan.entry.cfg.now plan.entry.map.now) D.L.Meanings S.shelved S.faults plan.entry.cfg.now.lbs
-        (map at gears.items) (map at run.gears.items) run.workers run.closing) }
+    ensures ran { let told = tells D.coming D.left D.faults T.talks K.answers D.L.Meanings S.shelved S.faults in
+        IfOk result (RunsStarted told plan.entry.cfg.now plan.entry.map.now gears.items) }
 {
     let pools = Pools::new(rt, alloc, &pool_sizes(alloc, plan.cfg.lbs.as_slice())?)?;
     let NewSite { blank, books } = new;

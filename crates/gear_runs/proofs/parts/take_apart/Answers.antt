@@ -1,4 +1,5 @@
-use Rattle.std.proofs.Common.{◌≡◌, false, ap, sym, length, arith, rules}
+use Rattle.std.proofs.Common.{◌≡◌, false, ap, inl, inr, length, sym, rules, arith}
+use Rattle.std.specs.Iterator.Adapters.{zip_first, zip_second}
 use Rattle.std.specs.Prelude.{is_some}
 use Rattle.std.proofs.lemmas.List.Elements.{All-head, All-rest, All-same}
 use Rattle.gear_runs.proofs.ListLaws.{no_more, no_more_of, one_put, one_put_as}
@@ -6,7 +7,7 @@ use Rattle.gear_runs.proofs.parts.take_apart.Goals as goal
 
 pub outside-init : goal.outside-init
 outside-init g c =
-    let same : c.into_iter-outside-iterator.result.rest.items ≡ c.args.outside.items = cc in
+    let same : (zip_first c.into_iter-outside-iterator.result).rest.items ≡ c.args.outside.items = cc in
     record {
       tools_left = search rules;
       logs_left = search rules;
@@ -17,13 +18,13 @@ outside-init g c =
 
 pub left_of-requires-clause-idle : goal.left_of-requires-clause-idle
 left_of-requires-clause-idle g c = λ κs within.
-    All-head (λ o. is_some o.reach.lent ≡ false) c.in-Some.outside c.next.new.self.rest.items
-    (All-same (λ o. is_some o.reach.lent ≡ false) _ _ (sym c.in-Some.ensures.steps.0) c.outside.invariant.idle)
+    All-head (λ o. is_some o.reach.lent ≡ false) _ _
+    (All-same (λ o. is_some o.reach.lent ≡ false) _ _ (sym c.in-Some.ensures.steps.0.0) c.outside.invariant.idle)
 
 pub outside-preserved : goal.outside-preserved
 outside-preserved g c =
-    let first = c.in-Some.ensures.steps.0 in
-    let second = c.in-Some-next.ensures.items in
+    let first = c.in-Some.ensures.steps.0.0 in
+    let second = c.in-Some.ensures.steps.1.0 in
     let more = c.push_reserved.ensures.items in
     record {
       tools_left = one_put _ _ _ _ _ _ _ _ _ c.outside.invariant.tools_left first more c.left_of.ensures.tools;
@@ -35,9 +36,12 @@ outside-preserved g c =
 
 pub returns : goal.returns
 returns g c =
-    let none : length c.outside.outside-iterator.rest.items ≡ 0 =
-    omega (arith, c.in-None.ensures.steps.0, c.outside.outside-iterator.rest.ok.0) in
-    let none_either : length c.outside.logs.rest.items ≡ 0 = omega (arith, c.outside.invariant.paired, none) in
+    let none : length (zip_first c.outside.outside-iterator).rest.items ≡ 0 =
+    elim c.in-None.ensures.steps [
+      | inl w ↦ omega (arith, w.1.0, (zip_first c.outside.outside-iterator).rest.ok.0)
+      | inr w ↦ omega (arith, w.1.0, c.outside.invariant.paired, (zip_second c.outside.outside-iterator).rest.ok.0)
+    ] in
+    let none_either : length (zip_second c.outside.outside-iterator).rest.items ≡ 0 = omega (arith, c.outside.invariant.paired, none) in
     record {
       tools = no_more_of _ _ _ _ c.outside.invariant.tools_left none;
       logs = no_more _ _ _ c.outside.invariant.logs_left none_either;

@@ -1,6 +1,5 @@
-use Rattle.std.proofs.Common.{◌≡◌, ap, length, map, false, refl, sym, subst, ◌∙◌, arith}
+use Rattle.std.proofs.Common.{◌≡◌, ap, length, map, false, refl, sym, arith}
 use Rattle.std.specs.Prelude.{is_some}
-use Rattle.std.specs.List.{All}
 use Rattle.client_session.specs.Requests.{visit}
 use Rattle.conn_pool.specs.Idle.{counts}
 use Rattle.conn_pool.specs.Reaches.{beside_of}
@@ -14,9 +13,13 @@ use Rattle.gear_runs.proofs.parts.work.Goals as goal
 
 pub run_serve-requires-clause-few : goal.run_serve-requires-clause-few
 run_serve-requires-clause-few g c = λ κs within.
-    let whole = c.args.gears.ok.0 in
-    let few = c.requires.few in
-    omega (arith, as_long _ _ _ _ c.fill_parts.ensures.starts, whole, few, c.fill_parts.new.parts.ok.0)
+    omega (
+      arith,
+      as_long _ _ _ _ c.fill_parts.ensures.starts,
+      c.args.gears.ok.0,
+      c.requires.few,
+      c.fill_parts.new.parts.ok.0,
+    )
 
 pub run_serve-requires-clause-fit : goal.run_serve-requires-clause-fit
 run_serve-requires-clause-fit g c = λ κs within.
@@ -32,75 +35,42 @@ run_serve-requires-clause-fit g c = λ κs within.
       idle = refl;
     })
 
-pub take_apart-requires-clause-paired : goal.take_apart-requires-clause-paired
-take_apart-requires-clause-paired g c = λ κs within.
-    let many = as_many _ 0 c.fill_parts.new.parts.items c.in_ok-workers.field-0.outside c.in_ok-workers.field-0.leaving c.in_ok-workers.field-0.workers c.in_ok-workers.ensures.served in
-    omega (
-      arith,
-      many.0,
-      as_long _ _ _ _ c.fill_parts.ensures.starts,
-      as_long_as _ _ _ c.fill_parts.ensures.logs,
-      ap length c.into_vec.ensures,
-      c.into_vec.result.ok.0,
-      c.fill_parts.new.logs.ok.0,
+pub ran_of-requires-clause-paired : goal.ran_of-requires-clause-paired
+ran_of-requires-clause-paired g c = λ κs within.
+    let many = as_many _ 0 c.fill_parts.new.parts.items c.in_ok-end.end.outside c.in_ok-end.end.leaving c.in_ok-end.end.workers c.in_ok-end.ensures.served in
+    let parts_len = as_long _ _ _ _ c.fill_parts.ensures.starts in
+    let logs_len = as_long_as _ _ _ c.fill_parts.ensures.logs in (
+      omega (arith, many.0, parts_len, logs_len, c.fill_parts.new.logs.ok.0),
+      omega (arith, many.1, parts_len, logs_len, c.fill_parts.new.logs.ok.0),
     )
 
-pub take_apart-requires-clause-room : goal.take_apart-requires-clause-room
-take_apart-requires-clause-room g c = λ κs within.
-    let many = as_many _ 0 c.fill_parts.new.parts.items c.in_ok-workers.field-0.outside c.in_ok-workers.field-0.leaving c.in_ok-workers.field-0.workers c.in_ok-workers.ensures.served in
-    omega (
-      arith,
-      many.0,
-      as_long _ _ _ _ c.fill_parts.ensures.starts,
-      ap length c.into_vec.ensures,
-      c.into_vec.result.ok.0,
-      c.args.gears.ok.0,
-      c.len-count.ensures,
-      c.in_ok-left.ensures.capacity,
+pub ran_of-requires-clause-capacity : goal.ran_of-requires-clause-capacity
+ran_of-requires-clause-capacity g c = λ κs within.
+    let logs_len = as_long_as _ _ _ c.fill_parts.ensures.logs in (
+      omega (arith, logs_len, c.fill_parts.new.logs.ok.0, c.args.gears.ok.0, c.len.ensures, c.in_ok-memory.ensures.left),
+      omega (arith, logs_len, c.fill_parts.new.logs.ok.0, c.args.gears.ok.0, c.len.ensures, c.in_ok-memory.ensures.back),
     )
 
-pub take_apart-requires-clause-idle : goal.take_apart-requires-clause-idle
-take_apart-requires-clause-idle g c = λ κs within.
-    subst (λ os. All (λ o. is_some o.reach.lent ≡ false) os) (sym c.into_vec.ensures)
-    (all_left _ (λ o. is_some o.reach.lent ≡ false) 0 c.fill_parts.new.parts.items c.in_ok-workers.field-0.outside
-    c.in_ok-workers.field-0.leaving c.in_ok-workers.field-0.workers c.in_ok-workers.ensures.served (λ k p o v e is. is.worked.fit.idle))
-
-pub invariant_of-result : goal.invariant_of-result
-invariant_of-result g c =
-    let many = as_many _ 0 c.fill_parts.new.parts.items c.in_ok-workers.field-0.outside c.in_ok-workers.field-0.leaving c.in_ok-workers.field-0.workers c.in_ok-workers.ensures.served in
-    let tools_len = as_long _ _ _ _ c.take_apart.ensures.tools in
-    record {
-      paired = omega (arith, many.0, many.1, tools_len, ap length c.into_vec.ensures, c.take_apart.new.left.ok.0);
-      none_back = c.in_ok-back.ensures.items;
-      room =
-          omega (
-            arith,
-            many.0,
-            tools_len,
-            as_long _ _ _ _ c.fill_parts.ensures.starts,
-            ap length c.into_vec.ensures,
-            c.take_apart.new.left.ok.0,
-            c.args.gears.ok.0,
-            c.len-count.ensures,
-            c.in_ok-back.ensures.capacity,
-          );
-    }
+pub ran_of-requires-clause-idle : goal.ran_of-requires-clause-idle
+ran_of-requires-clause-idle g c = λ κs within.
+    all_left _ (λ o. is_some o.reach.lent ≡ false) 0 c.fill_parts.new.parts.items c.in_ok-end.end.outside
+    c.in_ok-end.end.leaving c.in_ok-end.end.workers c.in_ok-end.ensures.served (λ k p o v e is. is.worked.fit.idle)
 
 pub returns-clause-served : goal.returns-clause-served
 returns-clause-served g c =
     let at = side g.D.Door.coming g.D.Door.left g.D.Door.faults in
-    gears_told (visit c.args.plan.cfg.now c.args.plan.map.now) g.D.L.Meanings g.S.Shelf.faults 0 _ _ _ _ _ _ _
+    gears_told (visit c.args.plan.cfg.now c.args.plan.map.now) g.D.L.Meanings g.S.Shelf.faults 0 _ _ _ _ _ _ _ _ _
     (starts_told at g.T.Tape.talks g.K.Clock.answers g.L.SiteName.sizes (counts c.args.common.now.pools.now)
     (λ p. start_with p.door p.reach p.clock p.desk) c.fill_parts.new.parts.items c.args.gears.items c.fill_parts.ensures.starts)
-    (c.take_apart.ensures.tools ∙ ap (λ os. map (λ o. tools o.door o.reach.dial o.reach.tape o.clock) os) c.into_vec.ensures)
+    c.ran_of.ensures.tools (ap (λ vs. map (λ v. v.shelf) vs) c.ran_of.ensures.leaving) c.ran_of.ensures.workers
     (gears_served (visit c.args.plan.cfg.now c.args.plan.map.now) g.D.L.Meanings g.S.Shelf.faults (λ p. IsBeginning p.desk) _
     (λ p. start_side at g.T.Tape.talks g.K.Clock.answers (start_with p.door p.reach p.clock p.desk))
     (gear_with at g.T.Tape.talks g.K.Clock.answers) (λ o. tools o.door o.reach.dial o.reach.tape o.clock) (λ v. v.shelf)
-    0 c.fill_parts.new.parts.items c.in_ok-workers.field-0.outside c.in_ok-workers.field-0.leaving c.in_ok-workers.field-0.workers
+    0 c.fill_parts.new.parts.items c.in_ok-end.end.outside c.in_ok-end.end.leaving c.in_ok-end.end.workers
     (starts_are g.L.SiteName.sizes (counts c.args.common.now.pools.now) (λ s. IsBeginning s.desk)
     (λ p. start_with p.door p.reach p.clock p.desk) c.fill_parts.new.parts.items c.args.gears.items c.fill_parts.ensures.starts
     (λ k d lt. (record { no_receipt = refl; none_held = refl; none_forgotten = refl; no_stray = refl }, refl)))
-    c.in_ok-workers.ensures.served
+    c.in_ok-end.ensures.served
     (λ k p o v e fresh is.
     served_gear _ _ _ _ _ _ _ _ is.worked.served (record { shelf = refl; clock = refl; talks = refl }) fresh.0
     (record { shelf = sym is.left.shelf_left; clock = refl; talks = refl })))
@@ -108,16 +78,23 @@ returns-clause-served g c =
 pub returns-clause-whole : goal.returns-clause-whole
 returns-clause-whole g c =
     let whole =
-    parts_whole (λ p. IsBeginning p.desk) _ (λ v. v.share.parts) 0 c.fill_parts.new.parts.items c.in_ok-workers.field-0.outside
-    c.in_ok-workers.field-0.leaving c.in_ok-workers.field-0.workers
+    parts_whole (λ p. IsBeginning p.desk) _ (λ v. v.share.parts) 0 c.fill_parts.new.parts.items c.in_ok-end.end.outside
+    c.in_ok-end.end.leaving c.in_ok-end.end.workers
     (starts_are g.L.SiteName.sizes (counts c.args.common.now.pools.now) (λ s. IsBeginning s.desk)
     (λ p. start_with p.door p.reach p.clock p.desk) c.fill_parts.new.parts.items c.args.gears.items c.fill_parts.ensures.starts
     (λ k d lt. (record { no_receipt = refl; none_held = refl; none_forgotten = refl; no_stray = refl }, refl)))
-    c.in_ok-workers.ensures.served
+    c.in_ok-end.ensures.served
     (λ k p o v e fresh is. one_part _ _ _ is.left.parts_left is.worked.parts fresh.1) in
-    omega (arith, whole, as_long _ _ _ _ c.fill_parts.ensures.starts, c.args.gears.ok.0)
+    rw c.ran_of.ensures.leaving
+    (omega (arith, whole, as_long _ _ _ _ c.fill_parts.ensures.starts, c.args.gears.ok.0))
 
 pub returns-clause-each : goal.returns-clause-each
 returns-clause-each g c =
-    let many = as_many _ 0 c.fill_parts.new.parts.items c.in_ok-workers.field-0.outside c.in_ok-workers.field-0.leaving c.in_ok-workers.field-0.workers c.in_ok-workers.ensures.served in
-    omega (arith, many.1, as_long _ _ _ _ c.fill_parts.ensures.starts, c.args.gears.ok.0)
+    let many = as_many _ 0 c.fill_parts.new.parts.items c.in_ok-end.end.outside c.in_ok-end.end.leaving c.in_ok-end.end.workers c.in_ok-end.ensures.served in
+    omega (
+      arith,
+      many.1,
+      ap length c.ran_of.ensures.leaving,
+      as_long _ _ _ _ c.fill_parts.ensures.starts,
+      c.args.gears.ok.0,
+    )

@@ -1,8 +1,10 @@
 use Rattle.std.proofs.Common.{◌≡◌, List, [], sym, subst, ◌∙◌, arith}
 use Rattle.balancer_core.specs.Journal.{Journal}
 use Rattle.client_session.specs.Requests.{visit}
+use Rattle.door_clients.specs.Doors.{side}
 use Rattle.locked_balancer.specs.Sites.{At}
 use Rattle.gear_runs.proofs.BookLaws.{new_added, new_count, new_empty, new_modern, new_nexts, new_sizes}
+use Rattle.gear_runs.proofs.CutLaws.{closes_said}
 use Rattle.gear_runs.proofs.StartLaws.{run_done}
 use Rattle.gear_runs.proofs.serve.over_site.Goals as goal
 
@@ -34,5 +36,6 @@ returns g c = record {
   ran =
       run_done (visit c.args.plan.cfg.now c.args.plan.map.now) g.D.L.Meanings g.S.Shelf.shelved g.S.Shelf.faults c.args.plan.cfg.now.lbs _ _ _ _ _
       _ c.in_ok-ran.ensures.served c.settle.ensures.workers
-      (c.settle.ensures.closed c.args.plan.cfg.now.lbs c.requires.sizes c.requires.firsts);
+      (closes_said (side g.D.Door.coming g.D.Door.left g.D.Door.faults) g.T.Tape.talks g.K.Clock.answers g.S.Shelf.shelved g.S.Shelf.faults
+      c.args.plan.cfg.now.lbs _ _ _ _ _ _ c.requires.sizes c.requires.firsts c.settle.ensures.closed);
 }
