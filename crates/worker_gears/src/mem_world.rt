@@ -98,6 +98,36 @@ impl<L> MemWorld<L> {
     }
 }
 
+impl<L: Drop> MemWorld<L> {
+    // Counts a call, and says whether it is one of those that are to fail.
+    fn call_fails(&mut self) -> bool
+        ensures counted { self.new.calls ≡ counted self.old.calls }
+        ensures planned { IsTrue result ↔ Contains self.old.failing self.old.calls }
+        ensures rose { result ≡ true → Rose self.old.faults self.new.faults }
+        ensures no_fewer { self.old.faults ≤ self.new.faults }
+        ensures uncounted { result ≡ false → self.new.faults ≡ self.old.faults }
+        ensures gears { (self.new.plans ≡ self.old.plans) × (self.new.handed ≡ self.old.handed) × (self.new.back ≡ self.old.back) }
+        ensures same { (self.new.logs ≡ self.old.logs) × (self.new.out ≡ self.old.out) × (self.new.failing ≡ self.old.failing) }
+    {
+        fails(&self.failing, &mut self.calls, &mut self.failed)
+    }
+
+    // Makes a gear by the next plan, and notes it as handed out.
+    fn next_gear(&mut self, alloc: Global, clients: Option<u64>) -> Result<MemGear<L>, NoMemory>
+        ensures planned { IfOk result (λ gear. gear ≡ gear_of clients (next_plan self.old.plans)) }
+        ensures later { OnOk result (self.new.plans ≡ drop 1 self.old.plans) }
+        ensures handed { IfOk result (λ gear. self.new.handed ≡ self.old.handed ++ gear ∷ []) }
+        ensures one_more { OnOk result (self.new.out ≡ self.old.out + 1) }
+        ensures err { OnErr result ((self.new.plans ≡ self.old.plans) × (self.new.handed ≡ self.old.handed) × (self.new.out ≡ self.old.out)) }
+        ensures same { (self.new.back ≡ self.old.back) × (self.new.logs ≡ self.old.logs) × (self.new.failing ≡ self.old.failing) }
+        ensures uncounted { (self.new.calls ≡ self.old.calls) × (self.new.faults ≡ self.old.faults) }
+    {
+        make_room(&mut self.back, &mut self.handed, self.out)?;
+        self.out += 1;
+        Ok(hand_out(alloc, &mut self.plans, &mut self.handed, clients))
+    }
+}
+
 // Counts a call, and says whether it is one of those that are to fail.
 fn fails(failing: &NumberList, calls: &mut u64, failed: &mut u64) -> bool
     ensures counted { calls.new ≡ counted calls.old }
@@ -196,12 +226,10 @@ impl<L: Link + Drop + Send> World for MemWorld<L> {
         ensures cause { HasCause self.old.faults self.new.faults result }
         ensures steady { self.old.failing ≡ [] → self.new.faults ≡ self.old.faults }
     {
-        if fails(&self.failing, &mut self.calls, &mut self.failed) {
+        if self.call_fails() {
             return Err(IoError::Failed);
         }
-        make_room(&mut self.back, &mut self.handed, self.out)?;
-        self.out += 1;
-        Ok(hand_out(alloc, &mut self.plans, &mut self.handed, clients))
+        Ok(self.next_gear(alloc, clients)?)
     }
 
     fn log(&mut self, alloc: Global, _dir: &Bytes, _number: u32) -> Result<MemLink, IoError>
@@ -217,7 +245,7 @@ impl<L: Link + Drop + Send> World for MemWorld<L> {
         ensures cause { HasCause self.old.faults self.new.faults result }
         ensures steady { self.old.failing ≡ [] → self.new.faults ≡ self.old.faults }
     {
-        if fails(&self.failing, &mut self.calls, &mut self.failed) {
+        if self.call_fails() {
             return Err(IoError::Failed);
         }
         match self.logs.pop() {

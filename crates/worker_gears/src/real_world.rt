@@ -160,8 +160,38 @@ impl<'r, R: Net<Stream = TcpStream, Listener = TcpListener> + Files + Clock + Ep
         self.try_names(alloc, dir, lbs)
     }
 
-    // What is done once for all gears: with the first it is tried whether a journal can be written, and with the last it is
-    // said where clients are waited for.
+    // Opens the socket where that isn't done.
+    fn open(&mut self, alloc: Global, address: &Bytes) -> Result<(), IoError>
+        ensures cause { HasCause self.old.failed self.new.failed result }
+        ensures same { self.new.out ≡ self.old.out }
+    {
+        if self.listener.is_none() {
+            self.listener(alloc, address)?;
+        }
+        Ok(())
+    }
+
+    // With the first gear it is tried whether a journal can be written that is to be kept.
+    fn try_first(
+        &mut self,
+        alloc: Global,
+        number: u32,
+        journal: Option<&Bytes>,
+        cfg: Option<&Config>,
+    ) -> Result<(), IoError>
+        ensures cause { HasCause self.old.failed self.new.failed result }
+        ensures same { self.new.out ≡ self.old.out }
+    {
+        match (journal, cfg) {
+            (Some(dir), Some(cfg)) if number == 0 => {
+                self.try_journal(alloc, dir, cfg.lbs.as_slice())
+            }
+            _ => Ok(()),
+        }
+    }
+
+    // What is done once for all gears: the socket is opened, with the first gear it is tried whether a journal can be
+    // written, and with the last it is said where clients are waited for.
     fn greet(
         &mut self,
         alloc: Global,
@@ -173,32 +203,71 @@ impl<'r, R: Net<Stream = TcpStream, Listener = TcpListener> + Files + Clock + Ep
         ensures cause { HasCause self.old.failed self.new.failed result }
         ensures same { self.new.out ≡ self.old.out }
     {
-        if number == 0
-            && let (Some(dir), Some(cfg)) = (journal, cfg)
-        {
-            self.try_journal(alloc, dir, cfg.lbs.as_slice())?;
-        }
+        self.open(alloc, address)?;
+        self.try_first(alloc, number, journal, cfg)?;
         if number.checked_add(1) == Some(self.threads) {
             self.announce(alloc, address, cfg)?;
         }
         Ok(())
     }
 
-    // Does what is done once for all gears, and says where the segments of this one's journal go.
-    fn greeted_shelf(
+    // A worker's door, for so many clients, and its dial.
+    fn door_and_dial(
         &mut self,
         alloc: Global,
-        number: u32,
         address: &Bytes,
-        journal: Option<&Bytes>,
-        cfg: Option<&Config>,
-    ) -> Result<RealShelf<'r, R>, IoError>
-        ensures shelf { IfOk result (λ shelf. IsShelfFor (option_copied journal.entry) (option_map (λ c. map (λ lb. lb.name) c.lbs) (option_copied cfg.entry)) shelf) }
+        clients: Option<u64>,
+    ) -> Result<(TcpDoor<'r, R>, TcpDial<'r, R>), IoError>
+        ensures clients { IfOk result (λ made. made.0.clients ≡ clients) }
         ensures cause { HasCause self.old.failed self.new.failed result }
         ensures same { self.new.out ≡ self.old.out }
     {
-        self.greet(alloc, number, address, journal, cfg)?;
-        Ok(self.shelf(alloc, journal, cfg)?)
+        let listener = self.listener(alloc, address)?;
+        Ok(door_and_dial(self.rt, Outbox::new(alloc)?, listener, clients)?)
+    }
+
+    // What a worker uses whose segments go to this shelf.
+    fn gear_with(
+        &mut self,
+        alloc: Global,
+        address: &Bytes,
+        clients: Option<u64>,
+        shelf: RealShelf<'r, R>,
+    ) -> Result<RealGear<'r, R>, IoError>
+        ensures unlogged { IfOk result (λ gear. gear.log ≡ None) }
+        ensures clients { IfOk result (λ gear. gear.door.clients ≡ clients) }
+        ensures shelf { IfOk result (λ gear. gear.shelf ≡ shelf.entry) }
+        ensures cause { HasCause self.old.failed self.new.failed result }
+        ensures same { self.new.out ≡ self.old.out }
+    {
+        let (door, dial) = self.door_and_dial(alloc, address, clients)?;
+        Ok(Gear {
+            door,
+            dial,
+            tape: NoTape,
+            clock: RealClock::new(self.rt),
+            shelf,
+            log: None,
+        })
+    }
+
+    // What a worker uses.
+    fn worker_gear(
+        &mut self,
+        alloc: Global,
+        address: &Bytes,
+        clients: Option<u64>,
+        journal: Option<&Bytes>,
+        cfg: Option<&Config>,
+    ) -> Result<RealGear<'r, R>, IoError>
+        ensures unlogged { IfOk result (λ gear. gear.log ≡ None) }
+        ensures clients { IfOk result (λ gear. gear.door.clients ≡ clients) }
+        ensures shelf { IfOk result (λ gear. IsShelfFor (option_copied journal.entry) (option_map (λ c. map (λ lb. lb.name) c.lbs) (option_copied cfg.entry)) gear.shelf) }
+        ensures cause { HasCause self.old.failed self.new.failed result }
+        ensures same { self.new.out ≡ self.old.out }
+    {
+        let shelf = self.shelf(alloc, journal, cfg)?;
+        self.gear_with(alloc, address, clients, shelf)
     }
 }
 
@@ -275,18 +344,10 @@ where
         let Some(out) = self.out.checked_add(1) else {
             return Err(self.fail(Trouble::TooMany));
         };
-        let listener = self.listener(alloc, address)?;
-        let shelf = self.greeted_shelf(alloc, number, address, journal, cfg)?;
-        let (door, dial) = door_and_dial(self.rt, Outbox::new(alloc)?, listener, clients)?;
+        self.greet(alloc, number, address, journal, cfg)?;
+        let gear = self.worker_gear(alloc, address, clients, journal, cfg)?;
         self.out = out;
-        Ok(Gear {
-            door,
-            dial,
-            tape: NoTape,
-            clock: RealClock::new(self.rt),
-            shelf,
-            log: None,
-        })
+        Ok(gear)
     }
 
     fn log(

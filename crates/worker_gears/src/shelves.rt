@@ -54,6 +54,14 @@ impl<'r, R: Files> FileShelf<'r, R> {
         self.failed = self.failed.saturating_add(1);
         Err(IoError::Failed)
     }
+
+    // Writes the file of a segment, and counts where that wasn't done.
+    fn keep_file(&mut self, lb: u32, segment: &Segment) -> Result<(), IoError>
+        ensures cause { HasCause self.old.failed self.new.failed result }
+    {
+        let written = self.write(lb, segment)?;
+        self.answer(written)
+    }
 }
 
 // Writes a new file, and says whether that was done whole. It isn't where the path isn't UTF-8, or is taken.
@@ -80,8 +88,7 @@ impl<'r, R: Files> Shelf for FileShelf<'r, R> {
 
     /// It fails for a balancer that has no name here, and where the file can't be made new and written whole.
     fn keep(&mut self, lb: u32, segment: Segment) -> Result<(), IoError> {
-        let written = self.write(lb, &segment)?;
-        self.answer(written)
+        self.keep_file(lb, &segment)
     }
 
     fn failed(&self) -> u64 {
