@@ -1,7 +1,7 @@
 //! How many bytes a second are read of a uriworkermap.properties that has a rule a line.
 ghost use Rattle.std.specs.Prelude.{◌≤◌, length};
 
-use crate::texts::{LINE_BYTES, input_of, put_comment, source_of};
+use crate::texts::{LINE_BYTES, input_of, put_comment, too_long};
 use crate::timed::show;
 use anyhow::Result;
 use jk_io::{Bytes, FileError, MAX_INPUT_BYTES, NoMemory};
@@ -53,11 +53,11 @@ fn figures_in(alloc: Global, config: &Config, input: &Bytes) -> Result<String, N
 }
 
 /// What a text says of its rules.
-fn figures_of(alloc: Global, config: &Config, text: &str) -> Result<String> {
-    match input_of(alloc, &mut source_of(alloc, text)?) {
+fn figures_of(alloc: Global, config: &Config, text: &str) -> Result<String, FileError> {
+    match input_of(alloc, text) {
         Ok(input) => Ok(figures_in(alloc, config, &input)?),
-        Err(FileError::TooLong) => Ok(String::from_str(alloc, "too long")?),
-        Err(error) => Err(error.into()),
+        Err(FileError::TooLong) => Ok(too_long(alloc)?),
+        Err(error) => Err(error),
     }
 }
 

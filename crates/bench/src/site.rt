@@ -4,7 +4,7 @@
 //! The text has N bytes and 100,000 workers, and is read as the program reads its files.
 ghost use Rattle.std.specs.Prelude.{◌≤◌, length};
 
-use crate::texts::{LINE_BYTES, input_of, put_comment, source_of};
+use crate::texts::{LINE_BYTES, input_of, put_comment, too_long};
 use crate::timed::show;
 use anyhow::Result;
 use jk_io::{Bytes, FileError, MAX_INPUT_BYTES, NoMemory};
@@ -81,11 +81,11 @@ fn figures_in(alloc: Global, input: &Bytes) -> Result<String, NoMemory>
 }
 
 /// What a text says of its balancers.
-pub fn figures_of(alloc: Global, text: &str) -> Result<String> {
-    match input_of(alloc, &mut source_of(alloc, text)?) {
+pub fn figures_of(alloc: Global, text: &str) -> Result<String, FileError> {
+    match input_of(alloc, text) {
         Ok(input) => Ok(figures_in(alloc, &input)?),
-        Err(FileError::TooLong) => Ok(String::from_str(alloc, "too long")?),
-        Err(error) => Err(error.into()),
+        Err(FileError::TooLong) => Ok(too_long(alloc)?),
+        Err(error) => Err(error),
     }
 }
 

@@ -16,14 +16,19 @@ pub fn put_comment(text: &mut String, bytes: u64) -> Result<(), NoMemory> {
 }
 
 /// A text as a file that is still to be read.
-pub fn source_of(alloc: Global, text: &str) -> Result<MemLink, NoMemory> {
+fn source_of(alloc: Global, text: &str) -> Result<MemLink, NoMemory> {
     let incoming = Bytes::from_slice(alloc, text.as_bytes())?;
     Ok(MemLink::new(alloc, incoming, NumberList::new(alloc)))
 }
 
-/// All of a file.
-pub fn input_of(alloc: Global, source: &mut MemLink) -> Result<Bytes, FileError>
+/// A text, read as the program reads its files.
+pub fn input_of(alloc: Global, text: &str) -> Result<Bytes, FileError>
     ensures { IfOk result (λ bytes. length bytes ≤ MAX_INPUT_BYTES) }
 {
-    read_whole(alloc, source)
+    read_whole(alloc, &mut source_of(alloc, text)?)
+}
+
+/// What is said of a text that is too long.
+pub fn too_long(alloc: Global) -> Result<String, NoMemory> {
+    Ok(String::from_str(alloc, "too long")?)
 }
