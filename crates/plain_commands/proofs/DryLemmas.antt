@@ -1,9 +1,9 @@
 -- What `dry` prints of texts that are read two by two.
 use Rattle.std.proofs.Common.{ℕ, List, [], ◌∷◌, Option, None, Some, Result, Ok, Err, IfOk, inl, inr}
 use Rattle.jk_cli.specs.declared.order.Order.TheVariants as order
-use Rattle.plain_commands.specs.Endings.{status_of}
+use Rattle.plain_commands.specs.Endings.{status_of, PlainOfFiles, PrintsOfFiles}
 use Rattle.plain_commands.specs.Plain.{DryOver, Plain, PrintsOf, readings}
-use Rattle.plain_commands.specs.Readings.{AreRead, File, CommandOutside, Reading, StopsLong}
+use Rattle.plain_commands.specs.Readings.{AreRead, File, OfFiles, CommandOutside, Reading, StopsLong}
 use Rattle.plain_commands.specs.declared.play.Output.{Output}
 
 -- what is too long before other readings is too long
@@ -30,11 +30,9 @@ then_site outside request reply workers map q p out status (first, (second, end)
 
 -- the same of an answer
 pub site_ok : {E : Type 0} (files : Option (List (List ℕ × List ℕ))) (request reply workers map q p : List ℕ) (result : Result Output E)
-    → ((incoming : Option (List ℕ)) → AreRead (record { files = files; incoming = incoming }) (File request ∷ File reply ∷ []) (q ∷ p ∷ []))
-    → IfOk result (λ o. (incoming : Option (List ℕ))
-    → PrintsOf (record { files = files; incoming = incoming }) (File workers ∷ File map ∷ []) (DryOver q p) o.text (status_of o.ending))
-    → IfOk result (λ o. (incoming : Option (List ℕ))
-    → Plain (record { files = files; incoming = incoming }) (order.Dry request reply (Some (workers, map))) o.text (status_of o.ending))
+    → OfFiles files (λ outside. AreRead outside (File request ∷ File reply ∷ []) (q ∷ p ∷ []))
+    → IfOk result (λ o. PrintsOfFiles files (File workers ∷ File map ∷ []) (DryOver q p) o)
+    → IfOk result (λ o. PlainOfFiles files (order.Dry request reply (Some (workers, map))) o)
 site_ok files request reply workers map q p (Ok o) read says =
     λ incoming. then_site (record { files = files; incoming = incoming }) request reply workers map q p o.text (status_of o.ending) (read incoming) (says incoming)
 site_ok files request reply workers map q p (Err e) read says = tt

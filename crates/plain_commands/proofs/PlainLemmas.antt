@@ -1,10 +1,10 @@
 -- Inputs that are too long, and what reports print.
-use Rattle.std.proofs.Common.{ℕ, ◌≡◌, ◌<◌, ◌⊎◌, Bool, true, List, [], ◌∷◌, ◌++◌, length, Option, Some, None, Result, Ok, Err, IfOk, IfSome, refl, sym, subst, inl, inr, arith, length-append}
+use Rattle.std.proofs.Common.{ℕ, ◌≡◌, ◌<◌, ◌⊎◌, Bool, true, List, [], ◌∷◌, length, Option, Some, None, Result, Ok, Err, IfOk, IfSome, refl, sym, subst, inl, inr, arith, length-append}
 use Rattle.jk_cli.specs.Orders.{order_of}
 use Rattle.jk_cli.specs.declared.order.Order.{Order}
 use Rattle.jk_cli.specs.declared.order.Order.TheVariants as order
 use Rattle.jk_io.specs.Told.{prepended}
-use Rattle.plain_commands.specs.Endings.{status_of}
+use Rattle.plain_commands.specs.Endings.{status_of, PrintsOfInput}
 use Rattle.plain_commands.specs.Plain.{MatchesRead, Plain, PrintsOf, Reported, status_if, readings, AreFilesDue, InputIsDue, IsInputDue}
 use Rattle.plain_commands.specs.Readings.{CommandOutside, File, Input, IsRead, has_file}
 use Rattle.plain_commands.specs.declared.play.Output.{Output}
@@ -61,8 +61,7 @@ then_input outside w m workers map out status first second (inl (inr (text, read
 then_input outside w m workers map out status first second (inr (texts, read, of)) = inr (workers ∷ map ∷ texts, (first, (second, read)), of)
 
 pub match_ok : {E : Type 0} (outside : CommandOutside) (w m workers map : List ℕ) → IsRead outside (File w) workers → IsRead outside (File m) map
-    → (result : Result Output E) → IfOk result (λ o. (files : Option (List (List ℕ × List ℕ)))
-    → PrintsOf (record { files = files; incoming = outside.incoming }) (Input ∷ []) (MatchesRead workers map) o.text (status_of o.ending))
+    → (result : Result Output E) → IfOk result (λ o. PrintsOfInput outside.incoming (Input ∷ []) (MatchesRead workers map) o)
     → IfOk result (λ o. Plain outside (order.Match w m) o.text (status_of o.ending))
 match_ok outside w m workers map first second (Ok o) says = then_input outside w m workers map o.text (status_of o.ending) first second (says outside.files)
 match_ok outside w m workers map first second (Err e) says = tt

@@ -1,10 +1,15 @@
 -- How a plain command ends.
-use Rattle.std.specs.Prelude.{◌≡◌, ℕ, true, false, ◌⊎◌, List, Option}
+use Rattle.std.specs.Prelude.{◌≡◌, ℕ, true, false, ◌⊎◌, List, Option, Some}
+use Rattle.jk_cli.specs.Orders.{order_of}
+use Rattle.jk_cli.specs.declared.order.Order.{Order}
 use Rattle.jk_io.specs.Told.{appended, PutsFront, Rose}
-use Rattle.plain_commands.specs.Plain.{is_plain, Prints, PrintsFront}
-use Rattle.plain_commands.specs.Readings.{CommandOutside}
+use Rattle.jk_io.specs.declared.traits.streams.Meanings.{Ghosts}
+use Rattle.jk_io.specs.declared.traits.surroundings.Files.{Ghosts as FilesGhosts}
+use Rattle.plain_commands.specs.Plain.{is_plain, readings, Answers, Prints, PrintsFront, PrintsOf}
+use Rattle.plain_commands.specs.Readings.{CommandOutside, Reading}
 use Rattle.plain_commands.specs.declared.play.Ending.{Ending}
 use Rattle.plain_commands.specs.declared.play.Ending.TheVariants as ending
+use Rattle.plain_commands.specs.declared.play.Output.{Output}
 use Rattle.plain_commands.specs.declared.plain.PlainEnd.{PlainEnd}
 use Rattle.plain_commands.specs.declared.plain.PlainEnd.TheVariants as end
 
@@ -43,17 +48,52 @@ pub record Faults : Type 0 where
 abbrev pub ReadFails : (old new : Faults) → Type 0
 ReadFails old new = Rose old.files new.files ⊎ Rose old.input new.input
 
+-- What is told of all that a command uses: what it may read, what its output was sent, and how often each failed.
+pub record PlainSide : Type 0 where
+  pub outside : CommandOutside
+  pub sent : Option (List ℕ)
+  pub faults : Faults
+
+-- all of it at a moment, by what the types tell: `plain_side F.Files S.Meanings O.Meanings files input out`
+abbrev pub plain_side : {F S O X Y : Type 0} → FilesGhosts F → Ghosts S X → Ghosts O Y → F → S → O → PlainSide
+plain_side of_files of_input of_output files input out = record {
+  outside = record { files = of_files.files files; incoming = of_input.incoming input };
+  sent = of_output.sent out;
+  faults = record { files = of_files.faults files; input = of_input.faults input; output = of_output.faults out };
+}
+
 -- What each end says of a command that is built.
-abbrev pub AnswersSo : (words : List (List ℕ)) → CommandOutside → (sent sent_now : Option (List ℕ)) → (old new : Faults) → PlainEnd → Type 0
-AnswersSo words outside sent sent_now old new end.Done = Prints words outside sent sent_now 0
-AnswersSo words outside sent sent_now old new end.Bad = Prints words outside sent sent_now 1
-AnswersSo words outside sent sent_now old new end.NoCommand = ⊥
-AnswersSo words outside sent sent_now old new end.Refused = Prints words outside sent sent_now 3
-AnswersSo words outside sent sent_now old new end.InputFault = (sent_now ≡ sent) × ReadFails old new
-AnswersSo words outside sent sent_now old new end.OutputFault = PrintsFront words outside sent sent_now × Rose old.output new.output
-AnswersSo words outside sent sent_now old new end.NoMemory = (sent_now ≡ sent) ⊎ PrintsFront words outside sent sent_now
+abbrev pub AnswersSo : (words : List (List ℕ)) → (s n : PlainSide) → PlainEnd → Type 0
+AnswersSo words s n end.Done = Prints words s.outside s.sent n.sent 0
+AnswersSo words s n end.Bad = Prints words s.outside s.sent n.sent 1
+AnswersSo words s n end.NoCommand = ⊥
+AnswersSo words s n end.Refused = Prints words s.outside s.sent n.sent 3
+AnswersSo words s n end.InputFault = (n.sent ≡ s.sent) × ReadFails s.faults n.faults
+AnswersSo words s n end.OutputFault = PrintsFront words s.outside s.sent n.sent × Rose s.faults.output n.faults.output
+AnswersSo words s n end.NoMemory = (n.sent ≡ s.sent) ⊎ PrintsFront words s.outside s.sent n.sent
+
+-- What each end says of an order, by whichever words it was given.
+abbrev pub AnswersOrder : Order → (s n : PlainSide) → PlainEnd → Type 0
+AnswersOrder o s n ended = (words : List (List ℕ)) → order_of words ≡ Some o → AnswersSo words s n ended
 
 -- What each end says.
-abbrev pub EndsSo : (words : List (List ℕ)) → CommandOutside → (sent sent_now : Option (List ℕ)) → (old new : Faults) → PlainEnd → Type 0
-EndsSo words outside sent sent_now old new end.NoCommand = (is_plain words ≡ false) × (sent_now ≡ sent)
-EndsSo words outside sent sent_now old new ended = (is_plain words ≡ true) × AnswersSo words outside sent sent_now old new ended
+abbrev pub EndsSo : (words : List (List ℕ)) → (s n : PlainSide) → PlainEnd → Type 0
+EndsSo words s n end.NoCommand = (is_plain words ≡ false) × (n.sent ≡ s.sent)
+EndsSo words s n ended = (is_plain words ≡ true) × AnswersSo words s n ended
+
+-- What is printed of files alone, whatever the input.
+abbrev pub PrintsOfFiles : Option (List (List ℕ × List ℕ)) → List Reading → (List (List ℕ) → List ℕ → ℕ → Type 0) → Output → Type 0
+PrintsOfFiles files readings Of o =
+    (incoming : Option (List ℕ)) → PrintsOf (record { files = files; incoming = incoming }) readings Of o.text (status_of o.ending)
+
+-- What is printed of the input alone, whatever the files.
+abbrev pub PrintsOfInput : Option (List ℕ) → List Reading → (List (List ℕ) → List ℕ → ℕ → Type 0) → Output → Type 0
+PrintsOfInput incoming readings Of o =
+    (files : Option (List (List ℕ × List ℕ))) → PrintsOf (record { files = files; incoming = incoming }) readings Of o.text (status_of o.ending)
+
+-- What a command prints that reads files alone, and one that reads the input alone.
+abbrev pub PlainOfFiles : Option (List (List ℕ × List ℕ)) → Order → Output → Type 0
+PlainOfFiles files command o = PrintsOfFiles files (readings command) (Answers command) o
+
+abbrev pub PlainOfInput : Option (List ℕ) → Order → Output → Type 0
+PlainOfInput incoming command o = PrintsOfInput incoming (readings command) (Answers command) o

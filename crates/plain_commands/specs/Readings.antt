@@ -1,5 +1,5 @@
 -- The files and the input that a command reads whole, each of at most 67,108,864 bytes.
-use Rattle.std.specs.Prelude.{◌≡◌, ℕ, Bool, true, false, ◌<◌, ◌≤◌, ◌⊎◌, List, [], ◌∷◌, length, Option, Some, None, IfSome, IsSomeAnd}
+use Rattle.std.specs.Prelude.{◌≡◌, ℕ, Bool, true, false, ◌<◌, ◌≤◌, ◌⊎◌, List, [], ◌∷◌, length, Option, Some, IfSome, IsSomeAnd}
 use Rattle.jk_io.specs.Stored.{content_of}
 use Rattle.jk_io.specs.declared.whole_input.TheConstants.{MAX_INPUT_BYTES}
 
@@ -57,3 +57,7 @@ abbrev pub StopsLong : CommandOutside → List Reading → Type 0
 StopsLong outside [] = ⊥
 StopsLong outside (reading ∷ readings) =
     IsLong outside reading ⊎ ((text : List ℕ) × IsRead outside reading text × StopsLong outside readings)
+
+-- What is so of these files, whatever the input.
+abbrev pub OfFiles : Option (List (List ℕ × List ℕ)) → (CommandOutside → Type 0) → Type 0
+OfFiles files So = (incoming : Option (List ℕ)) → So (record { files = files; incoming = incoming })

@@ -25,21 +25,36 @@ fn ask_for_text(words: &[Bytes]) -> bool {
     }
 }
 
-// The text that `clap` answers to such words.
-fn text_of(alloc: Global, words: &[Bytes]) -> Result<String, NoMemory> {
+// The words as `clap` takes them, behind the program's name.
+fn line_of<'w>(alloc: Global, words: &'w [Bytes]) -> Result<Vec<&'w str>, NoMemory> {
     let mut line = Vec::new(alloc);
     line.push("jkd")?;
     for word in words {
         line.push(str::from_utf8(word.as_slice()).unwrap_or(""))?;
     }
-    let Err(shown) = command(alloc)?.try_get_matches_from(line.as_slice()) else {
-        return Ok(String::new(alloc));
-    };
+    Ok(line)
+}
+
+// The text of an answer of `clap`.
+fn shown_text(alloc: Global, shown: &clap::Error) -> Result<String, NoMemory> {
     match shown.kind() {
         ErrorKind::OutOfMemory => Err(NoMemory),
         ErrorKind::DisplayHelp => Ok(format!(in alloc; "{shown}{BUILT}")?),
         _ => Ok(format!(in alloc; "{shown}")?),
     }
+}
+
+// The text that `clap` answers to such a line.
+fn text_for(alloc: Global, line: &[&str]) -> Result<String, NoMemory> {
+    match command(alloc)?.try_get_matches_from(line) {
+        Ok(_) => Ok(String::new(alloc)),
+        Err(shown) => shown_text(alloc, &shown),
+    }
+}
+
+// The text that `clap` answers to such words.
+fn text_of(alloc: Global, words: &[Bytes]) -> Result<String, NoMemory> {
+    text_for(alloc, line_of(alloc, words)?.as_slice())
 }
 
 /// The text that the words ask for, where they ask for one.

@@ -1,10 +1,10 @@
 //! What each plain command prints of what it reads.
-ghost use Rattle.std.specs.Prelude.{◌≡◌, ◌≤◌, ◌⊎◌, ℕ, List, [], ◌∷◌, length, Option, Some, None, true, codes, IfOk, IsErrOf};
+ghost use Rattle.std.specs.Prelude.{◌≡◌, ◌≤◌, ◌⊎◌, [], ◌∷◌, length, Some, None, true, codes, IfOk, IsErrOf};
 ghost use Rattle.jk_cli.specs.Names.{command_in};
 ghost use Rattle.jk_cli.specs.declared.order.Order.TheVariants as order;
 ghost use Rattle.jk_io.specs.Told.{HasCause, Rose};
-ghost use Rattle.plain_commands.specs.Endings.{Faults, ReadFails, status_of};
-ghost use Rattle.plain_commands.specs.Plain.{is_built, readings, InputIsDue, MatchesRead, Plain, PrintsOf, status_if};
+ghost use Rattle.plain_commands.specs.Endings.{PlainOfFiles, PlainOfInput, PrintsOfInput, status_of};
+ghost use Rattle.plain_commands.specs.Plain.{is_built, readings, InputIsDue, MatchesRead, Plain, status_if};
 ghost use Rattle.plain_commands.specs.Readings.{has_file, Input};
 ghost use Rattle.plain_commands.specs.declared.play.Ending.TheVariants as Ends;
 ghost use Rattle.jk_io.specs.declared.whole_input.TheConstants.{MAX_INPUT_BYTES};
@@ -47,8 +47,7 @@ pub(crate) fn output_of(report: Report) -> Output
 
 // `play`
 fn play_input<S: Source>(alloc: Global, input: &mut S) -> Result<Output, IoError>
-    ensures ok { IfOk result (λ o. (files : Option (List (List ℕ × List ℕ)))
-        → Plain (record { files = files; incoming = S.incoming input.old }) order.Play o.text (status_of o.ending)) }
+    ensures ok { IfOk result (λ o. PlainOfInput (S.incoming input.old) order.Play o) }
     ensures cause { HasCause (S.faults input.old) (S.faults input.new) result }
 {
     let Some(script) = read_input(alloc, input)? else {
@@ -59,8 +58,7 @@ fn play_input<S: Source>(alloc: Global, input: &mut S) -> Result<Output, IoError
 
 // `check`
 fn check_input<S: Source>(alloc: Global, input: &mut S) -> Result<Output, IoError>
-    ensures ok { IfOk result (λ o. (files : Option (List (List ℕ × List ℕ)))
-        → Plain (record { files = files; incoming = S.incoming input.old }) order.Check o.text (status_of o.ending)) }
+    ensures ok { IfOk result (λ o. PlainOfInput (S.incoming input.old) order.Check o) }
     ensures cause { HasCause (S.faults input.old) (S.faults input.new) result }
 {
     let Some(text) = read_input(alloc, input)? else {
@@ -75,8 +73,7 @@ fn config_workers<F: Files>(
     files: &mut F,
     workers: &Bytes,
 ) -> Result<Output, IoError>
-    ensures ok { IfOk result (λ o. (incoming : Option (List ℕ))
-        → Plain (record { files = F.files files.old; incoming = incoming }) (order.Config workers.now None) o.text (status_of o.ending)) }
+    ensures ok { IfOk result (λ o. PlainOfFiles (F.files files.old) (order.Config workers.now None) o) }
     ensures cause { HasCause (F.faults files.old) (F.faults files.new) result }
 {
     let Some(workers) = read_text(alloc, files, workers)? else {
@@ -92,8 +89,7 @@ fn config_site<F: Files>(
     workers: &Bytes,
     map: &Bytes,
 ) -> Result<Output, IoError>
-    ensures ok { IfOk result (λ o. (incoming : Option (List ℕ))
-        → Plain (record { files = F.files files.old; incoming = incoming }) (order.Config workers.now (Some map.now)) o.text (status_of o.ending)) }
+    ensures ok { IfOk result (λ o. PlainOfFiles (F.files files.old) (order.Config workers.now (Some map.now)) o) }
     ensures cause { HasCause (F.faults files.old) (F.faults files.new) result }
 {
     let Some(workers) = read_text(alloc, files, workers)? else {
@@ -112,8 +108,7 @@ fn config<F: Files>(
     workers: &Bytes,
     map: &Option<Bytes>,
 ) -> Result<Output, IoError>
-    ensures ok { IfOk result (λ o. (incoming : Option (List ℕ))
-        → Plain (record { files = F.files files.old; incoming = incoming }) (order.Config workers.now map.now) o.text (status_of o.ending)) }
+    ensures ok { IfOk result (λ o. PlainOfFiles (F.files files.old) (order.Config workers.now map.now) o) }
     ensures cause { HasCause (F.faults files.old) (F.faults files.new) result }
 {
     match map {
@@ -130,8 +125,7 @@ fn match_input<S: Source>(
     map: &Bytes,
 ) -> Result<Output, IoError>
     requires short { (length workers.now ≤ MAX_INPUT_BYTES) × (length map.now ≤ MAX_INPUT_BYTES) }
-    ensures ok { IfOk result (λ o. (files : Option (List (List ℕ × List ℕ))) → PrintsOf (record { files = files; incoming = S.incoming input.old })
-        (Input ∷ []) (MatchesRead workers.now map.now) o.text (status_of o.ending)) }
+    ensures ok { IfOk result (λ o. PrintsOfInput (S.incoming input.old) (Input ∷ []) (MatchesRead workers.now map.now) o) }
     ensures cause { HasCause (S.faults input.old) (S.faults input.new) result }
 {
     let Some(paths) = read_input(alloc, input)? else {

@@ -1,11 +1,11 @@
 //! `dry`: one session over what its files say.
-ghost use Rattle.std.specs.Prelude.{◌≡◌, ℕ, List, [], ◌∷◌, Option, IfOk, IfSome, IfNone};
+ghost use Rattle.std.specs.Prelude.{◌≡◌, [], ◌∷◌, IfOk, IfSome, IfNone};
 ghost use Rattle.jk_cli.specs.declared.order.Order.TheVariants as order;
 ghost use Rattle.jk_io.specs.Told.{HasCause};
 ghost use Rattle.session_reports.specs.Dry.{ReportsDry, default_map, default_workers};
-ghost use Rattle.plain_commands.specs.Endings.{status_of};
-ghost use Rattle.plain_commands.specs.Plain.{DryOver, Plain, PrintsOf, Reported};
-ghost use Rattle.plain_commands.specs.Readings.{AreRead, File, StopsLong};
+ghost use Rattle.plain_commands.specs.Endings.{PlainOfFiles, PrintsOfFiles, status_of};
+ghost use Rattle.plain_commands.specs.Plain.{DryOver, Reported};
+ghost use Rattle.plain_commands.specs.Readings.{AreRead, File, OfFiles, StopsLong};
 
 use crate::commands::{output_of, too_long};
 use crate::play::Output;
@@ -21,10 +21,10 @@ fn read_pair<F: Files>(
     first: &Bytes,
     second: &Bytes,
 ) -> Result<Option<(Bytes, Bytes)>, IoError>
-    ensures there { (incoming : Option (List ℕ)) → IfOk result (λ read. IfSome read (λ texts.
-        AreRead (record { files = F.files files.old; incoming = incoming }) (File first.now ∷ File second.now ∷ []) (texts.0 ∷ texts.1 ∷ []))) }
-    ensures long { (incoming : Option (List ℕ)) → IfOk result (λ read. IfNone read
-        (StopsLong (record { files = F.files files.old; incoming = incoming }) (File first.now ∷ File second.now ∷ []))) }
+    ensures there { OfFiles (F.files files.old) (λ outside. IfOk result (λ read. IfSome read (λ texts.
+        AreRead outside (File first.now ∷ File second.now ∷ []) (texts.0 ∷ texts.1 ∷ [])))) }
+    ensures long { OfFiles (F.files files.old) (λ outside. IfOk result (λ read. IfNone read
+        (StopsLong outside (File first.now ∷ File second.now ∷ [])))) }
     ensures cause { HasCause (F.faults files.old) (F.faults files.new) result }
     ensures same { F.files files.new ≡ F.files files.old }
 {
@@ -53,8 +53,8 @@ fn dry_site<F: Files>(
     workers: &Bytes,
     map: &Bytes,
 ) -> Result<Output, IoError>
-    ensures ok { IfOk result (λ o. (incoming : Option (List ℕ)) → PrintsOf (record { files = F.files files.old; incoming = incoming })
-        (File workers.now ∷ File map.now ∷ []) (DryOver wire.entry.request.now wire.entry.reply.now) o.text (status_of o.ending)) }
+    ensures ok { IfOk result (λ o. PrintsOfFiles (F.files files.old) (File workers.now ∷ File map.now ∷ [])
+        (DryOver wire.entry.request.now wire.entry.reply.now) o) }
     ensures cause { HasCause (F.faults files.old) (F.faults files.new) result }
 {
     let Some((workers, map)) = read_pair(alloc, files, workers, map)? else {
@@ -72,8 +72,7 @@ pub(crate) fn dry<F: Files>(
     reply: &Bytes,
     site: &Option<(Bytes, Bytes)>,
 ) -> Result<Output, IoError>
-    ensures ok { IfOk result (λ o. (incoming : Option (List ℕ))
-        → Plain (record { files = F.files files.old; incoming = incoming }) (order.Dry request.now reply.now site.now) o.text (status_of o.ending)) }
+    ensures ok { IfOk result (λ o. PlainOfFiles (F.files files.old) (order.Dry request.now reply.now site.now) o) }
     ensures cause { HasCause (F.faults files.old) (F.faults files.new) result }
 {
     let Some((request, reply)) = read_pair(alloc, files, request, reply)? else {

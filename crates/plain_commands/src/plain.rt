@@ -1,9 +1,8 @@
 //! The plain commands: those that wait for nobody but their files, input and output.
-ghost use Rattle.std.specs.Prelude.{◌≡◌, ◌↔◌, ◌⊎◌, ℕ, List, Some, true, false};
+ghost use Rattle.std.specs.Prelude.{◌≡◌, ◌↔◌, ◌⊎◌, true, false};
 ghost use Rattle.jk_cli.specs.Names.{command_in};
-ghost use Rattle.jk_cli.specs.Orders.{order_of};
 ghost use Rattle.jk_io.specs.Told.{Rose};
-ghost use Rattle.plain_commands.specs.Endings.{number_of, AnswersSo, EndsSo, Writes};
+ghost use Rattle.plain_commands.specs.Endings.{number_of, plain_side, AnswersOrder, EndsSo, Writes};
 ghost use Rattle.plain_commands.specs.Plain.{is_built, is_plain, readings, AreFilesDue, InputIsDue, IsInputDue, Prints, PrintsFront};
 ghost use Rattle.plain_commands.specs.Readings.{has_file};
 
@@ -90,10 +89,8 @@ fn answer_end<F: Files, S: Source, O: Sink>(
     out: &mut O,
 ) -> PlainEnd
     requires built { is_built (command_in order.now) ≡ true }
-    ensures answers { (words : List (List ℕ)) → order_of words ≡ Some order.now
-        → AnswersSo words (record { files = F.files files.old; incoming = S.incoming input.old }) (O.sent out.old) (O.sent out.new)
-        (record { files = F.faults files.old; input = S.faults input.old; output = O.faults out.old })
-        (record { files = F.faults files.new; input = S.faults input.new; output = O.faults out.new }) result }
+    ensures answers { let at = plain_side F.Files S.Meanings O.Meanings in
+        AnswersOrder order.now (at files.old input.old out.old) (at files.new input.new out.new) result }
     ensures files { (files.new ≡ files.old) ⊎ (has_file (readings order.now) ≡ true) }
     ensures input { (input.new ≡ input.old)
         ⊎ InputIsDue (record { files = F.files files.old; incoming = S.incoming input.old }) order.now }
@@ -112,9 +109,8 @@ fn end_of<F: Files, S: Source, O: Sink>(
     input: &mut S,
     out: &mut O,
 ) -> PlainEnd
-    ensures ends { EndsSo words.now (record { files = F.files files.old; incoming = S.incoming input.old }) (O.sent out.old) (O.sent out.new)
-        (record { files = F.faults files.old; input = S.faults input.old; output = O.faults out.old })
-        (record { files = F.faults files.new; input = S.faults input.new; output = O.faults out.new }) result }
+    ensures ends { let at = plain_side F.Files S.Meanings O.Meanings in
+        EndsSo words.now (at files.old input.old out.old) (at files.new input.new out.new) result }
     ensures files { (files.new ≡ files.old) ⊎ AreFilesDue words.now }
     ensures input { (input.new ≡ input.old)
         ⊎ IsInputDue words.now (record { files = F.files files.old; incoming = S.incoming input.old }) }

@@ -1,7 +1,8 @@
 //! A whole script, from its lines to what it prints.
-ghost use Rattle.std.specs.Prelude.{◌≡◌, ℕ, ◌+◌, ◌<◌, ◌≤◌, ◌^◌, List, ◌∷◌, ◌++◌, length, IfOk, false};
+ghost use Rattle.std.specs.Prelude.{◌≡◌, ◌+◌, ◌<◌, ◌≤◌, ◌^◌, [], ◌∷◌, length, IfOk, false};
+ghost use Rattle.std.specs.Option.{is_none};
 ghost use Rattle.balancer_core.specs.Journal.{past_of};
-ghost use Rattle.play_script.specs.Drafts.{names_in};
+ghost use Rattle.play_script.specs.Drafts.{names_in, IsConfigOf};
 ghost use Rattle.play_script.specs.Play.{is_skipped, Stops, Runs, Starts, PlaysScript};
 ghost use Rattle.play_script.specs.Steps.{step_of};
 ghost use Rattle.plain_commands.specs.Endings.{status_of};
@@ -11,6 +12,7 @@ ghost use Rattle.jk_io.specs.declared.whole_input.TheConstants.{MAX_INPUT_BYTES}
 use crate::turn::{Stop, take_line};
 use balancer_core::Book;
 use jk_io::{Bytes, NoMemory};
+use jk_model::LbConfig;
 use play_script::{
     BegunScript, DraftError, NameList, Parts, ScriptRefusal, begin, put_refusal, step_of,
 };
@@ -45,24 +47,31 @@ fn refused(alloc: Global, number: u64, reason: ScriptRefusal) -> Result<Output, 
     })
 }
 
-// The lines from the one at which the balancer starts on. The first one has the number.
+/// The number of a line, and the moment at which it is taken.
+#[derive(Clone, Copy)]
+struct LineAt {
+    number: u64,
+    at: u64,
+}
+
+// The lines from the one at which the balancer starts on.
 fn run(
     names: &NameList,
     book: &mut Book,
-    at: u64,
-    number: u64,
+    first: LineAt,
     line: &[u8],
     lines: &mut Parts,
     out: &mut Bytes,
 ) -> Result<Ending, NoMemory>
     requires played { IsPlayed book.old }
     requires names { length names.now < 2 ^ 32 }
-    requires few { number + length lines.old < 2 ^ 32 }
-    requires entries { length book.old.entries ≤ number }
-    ensures { IfOk result (λ ending. AppendsRun names.now book.old number at (line.now ∷ lines.old) (status_of ending) out.old out.new) }
+    requires few { first.number + length lines.old < 2 ^ 32 }
+    requires entries { length book.old.entries ≤ first.number }
+    ensures { IfOk result (λ ending. AppendsRun names.now book.old first.number first.at (line.now ∷ lines.old) (status_of ending)
+        out.old out.new) }
 {
-    let mut at = at;
-    let mut number = number;
+    let mut at = first.at;
+    let mut number = first.number;
     let mut line = line;
     'lines: loop {
         match take_line(names, book, at, line, out) {
@@ -81,6 +90,49 @@ fn run(
     }
 }
 
+// The lines from the one at which the balancer starts on, over its Book.
+fn run_over(
+    alloc: Global,
+    book: &mut Book,
+    begun: &BegunScript,
+    line: &[u8],
+    lines: &mut Parts,
+) -> Result<Output, NoMemory>
+    requires played { IsPlayed book.old }
+    requires names { length (names_in begun.now.draft) < 2 ^ 32 }
+    requires few { begun.now.number + length lines.old < 2 ^ 32 }
+    requires entries { length book.old.entries ≤ begun.now.number }
+    ensures { IfOk result (λ o. AppendsRun (names_in begun.now.draft) book.old begun.now.number begun.now.at (line.now ∷ lines.old)
+        (status_of o.ending) [] o.text) }
+{
+    let mut text = Bytes::new(alloc);
+    let first = LineAt {
+        number: begun.number,
+        at: begun.at,
+    };
+    let ending = run(begun.draft.names(), book, first, line, lines, &mut text)?;
+    Ok(Output { text, ending })
+}
+
+// The balancer of the draft starts at a line.
+fn start_with(
+    alloc: Global,
+    config: LbConfig,
+    begun: &BegunScript,
+    line: &[u8],
+    lines: &mut Parts,
+) -> Result<Output, NoMemory>
+    requires config { IsConfigOf begun.now.draft config }
+    requires full { is_none (step_of (names_in begun.now.draft) line.now) ≡ false }
+    requires names { length (names_in begun.now.draft) < 2 ^ 32 }
+    requires few { begun.now.number + length lines.old < 2 ^ 32 }
+    ensures { IfOk result (λ o. Starts (step_of (names_in begun.now.draft) line.now) begun.now.draft (line.now ∷ lines.old)
+        begun.now.number begun.now.at o.text (status_of o.ending)) }
+{
+    let mut book = Book::start(alloc, config, begun.at, 0)?;
+    run_over(alloc, &mut book, begun, line, lines)
+}
+
 // The balancer starts at a line.
 fn start(
     alloc: Global,
@@ -97,27 +149,11 @@ fn start(
     if step_of(draft.names(), line).is_none() {
         return refused(alloc, begun.number, ScriptRefusal::BadLine);
     }
-    let config = match draft.config() {
-        Ok(config) => config,
-        Err(DraftError::NoBalancer) => return refused(
-            alloc,
-            begun.number,
-            ScriptRefusal::BadBalancer,
-        ),
-        Err(DraftError::NoMemory) => return Err(NoMemory),
-    };
-    let mut book = Book::start(alloc, config, begun.at, 0)?;
-    let mut text = Bytes::new(alloc);
-    let ending = run(
-        draft.names(),
-        &mut book,
-        begun.at,
-        begun.number,
-        line,
-        lines,
-        &mut text,
-    )?;
-    Ok(Output { text, ending })
+    match draft.config() {
+        Ok(config) => start_with(alloc, config, begun, line, lines),
+        Err(DraftError::NoBalancer) => refused(alloc, begun.number, ScriptRefusal::BadBalancer),
+        Err(DraftError::NoMemory) => Err(NoMemory),
+    }
 }
 
 /// What a script prints.

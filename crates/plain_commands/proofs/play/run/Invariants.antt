@@ -14,7 +14,7 @@ invariant-lines l = record {
   put : l.out ≡ l.fn.out ++ text;
   runs : (rest : List ℕ) (status : ℕ)
       → Runs l.names l.book.opening (l.line ∷ l.lines) l.number l.at (past_of l.book) rest status
-      → Runs l.names l.fn.book.opening (l.fn.line ∷ l.fn.lines) l.fn.number l.fn.at (past_of l.fn.book) (text ++ rest) status;
+      → Runs l.names l.fn.book.opening (l.fn.line ∷ l.fn.lines) l.fn.first.number l.fn.first.at (past_of l.fn.book) (text ++ rest) status;
 }
 
 abbrev pub decreases-lines : goal.decreases-lines
