@@ -12,10 +12,11 @@ use Rattle.jk_io.specs.declared.failures.IoError.TheVariants as io
 use Rattle.jk_server.specs.declared.part.WorkerEnd.{WorkerEnd}
 use Rattle.jk_server.specs.declared.part.WorkerEnd.TheVariants as worker
 use Rattle.mini_container.specs.declared.app_config.AppConfig.{AppConfig}
-use Rattle.plain_commands.specs.Readings.{CommandOutside}
+use Rattle.plain_commands.specs.Plain.{readings, AreFilesDue}
+use Rattle.plain_commands.specs.Readings.{CommandOutside, has_file}
 use Rattle.serving_commands.specs.Commands.{CommandSide, ContainsLinks, DoesOrder, RunsContainer, RunsSite, Serves, Unread, Refused, Served, RunsDrill, Told, Lacked, Wanted, Works, NoGear, NoRoom, Ran, Writes}
 use Rattle.serving_commands.specs.Ends.{end_by, end_of_closing, end_of_container, end_of_run}
-use Rattle.serving_commands.specs.Words.{is_command, is_served, is_serving, IsInRange}
+use Rattle.serving_commands.specs.Words.{is_command, is_served, is_serving, AreFilesRead, IsInRange, reads_files}
 use Rattle.serving_commands.specs.Worlds.{RefusesGear, Tells, WorldSide}
 use Rattle.serving_commands.specs.declared.ends.EndOf.{EndOf}
 use Rattle.serving_commands.specs.declared.ends.EndOf.TheVariants as end
@@ -36,7 +37,7 @@ wants_room threads Runs s = NoRoom (record { gears = []; back = []; passed = not
 pub app_of : (route : List ℕ) → length route ≤ 1024 → AppConfig
 app_of route short = record { route = route; secret = None; packet = 8192; packet_at_least = lit≤ tt; packet_at_most = lit≤ tt; short_route = short }
 
-pub contains_none : {G C S X L : Type 0} (told : Tells G C S X) (route : List ℕ) (threads : ℕ) (clients : Option ℕ) (s : WorldSide G) → length route ≤ 1024
+pub contains_none : {W G C S X L : Type 0} (told : Tells W G C S X) (route : List ℕ) (threads : ℕ) (clients : Option ℕ) (s : WorldSide G) → length route ≤ 1024
     → ContainsLinks {L = L} told route threads clients s s (end.Status 6)
 unfolding app_of
 contains_none told route threads clients s short = record {
@@ -46,7 +47,7 @@ contains_none told route threads clients s short = record {
 }
 
 -- memory was wanted before the words were read
-pub does_none : {G C S X : Type 0} (L : Type 0) (told : Tells G C S X) (outside : CommandOutside) (o : Order) (s : CommandSide G) → is_served o ≡ true → IsInRange o
+pub does_none : {W G C S X : Type 0} (L : Type 0) (told : Tells W G C S X) (outside : CommandOutside) (o : Order) (s : CommandSide G) → is_served o ≡ true → IsInRange o
     → DoesOrder {L = L} told outside o s s (end.Status 6)
 does_none L told outside (order.Serve workers map address threads clients journal watch idle log format) s served range =
     Unread (record { why = inr refl; written = refl; world = refl })
@@ -103,7 +104,7 @@ works_status threads Runs s n ended k ran (Ran w) e = ran w e
 Answered : {G : Type 0} → (s n : CommandSide G) → ℕ → Type 0
 Answered s n k = IsOfRun k ⊎ (k ≡ 3) ⊎ ((k ≡ 5) × Rose s.output_faults n.output_faults)
 
-serve_status : {G C S X L : Type 0} (told : Tells G C S X) (outside : CommandOutside) (workers map : List ℕ) (threads : ℕ) (clients : Option ℕ) (s n : CommandSide G) (ended : EndOf L) (k : ℕ)
+serve_status : {W G C S X L : Type 0} (told : Tells W G C S X) (outside : CommandOutside) (workers map : List ℕ) (threads : ℕ) (clients : Option ℕ) (s n : CommandSide G) (ended : EndOf L) (k : ℕ)
     → Serves told outside workers map threads clients s n ended → ended ≡ end.Status k → Answered s n k
 unfolding IsOfRun Answered
 serve_status told outside workers map threads clients s n ended k (Unread w) e =
@@ -127,7 +128,7 @@ drill_status seed threads requests text passes s n ended k (Told w) e = written_
 drill_status seed threads requests text passes s n ended k (Lacked w) e = let ends = w.ends in cc
 drill_status seed threads requests text passes s n ended k (Wanted w) e = let status = w.status in inl (inr (inr cc))
 
-does_status : {G C S X L : Type 0} (told : Tells G C S X) (outside : CommandOutside) (o : Order) (s n : CommandSide G) (ended : EndOf L) (k : ℕ)
+does_status : {W G C S X L : Type 0} (told : Tells W G C S X) (outside : CommandOutside) (o : Order) (s n : CommandSide G) (ended : EndOf L) (k : ℕ)
     → DoesOrder told outside o s n ended → ended ≡ end.Status k → Answered s n k
 unfolding Answered
 does_status told outside (order.Serve workers map address threads clients journal watch idle log format) s n ended k does e =
@@ -146,7 +147,7 @@ does_status told outside (order.Drill seed threads requests text passes) s n end
     drill_status _ _ _ _ _ s n ended k does.runs e
 
 -- it never ends with the status of words that are no command
-pub does_done : {G C S X L : Type 0} (told : Tells G C S X) (outside : CommandOutside) (o : Order) (s n : CommandSide G) (ended : EndOf L)
+pub does_done : {W G C S X L : Type 0} (told : Tells W G C S X) (outside : CommandOutside) (o : Order) (s n : CommandSide G) (ended : EndOf L)
     → DoesOrder told outside o s n ended → ended ≢ end.Status 2
 unfolding IsOfRun Answered
 does_done told outside o s n ended does e =
@@ -156,7 +157,7 @@ does_done told outside o s n ended does e =
     ]
 
 -- it ends with status 5 only where the output's faults rose
-pub does_lose : {G C S X L : Type 0} (told : Tells G C S X) (outside : CommandOutside) (o : Order) (s n : CommandSide G) (ended : EndOf L)
+pub does_lose : {W G C S X L : Type 0} (told : Tells W G C S X) (outside : CommandOutside) (o : Order) (s n : CommandSide G) (ended : EndOf L)
     → DoesOrder told outside o s n ended → ended ≡ end.Status 5 → Rose s.output_faults n.output_faults
 unfolding IsOfRun Answered
 does_lose told outside o s n ended does e =
@@ -164,6 +165,23 @@ does_lose told outside o s n ended does e =
       | inl run ↦ absurd (elim run [ inl a ↦ omega (arith, a) | inr b ↦ elim b [ inl c ↦ omega (arith, c) | inr d ↦ omega (arith, d) ] ])
       | inr more ↦ elim more [ inl a ↦ absurd (omega (arith, a)) | inr b ↦ b.1 ]
     ]
+
+-- a plain command that has files reads some
+reads_due : (o : Order) → has_file (readings o) ≡ true → reads_files o ≡ true
+reads_due (order.Serve workers map address threads clients journal watch idle log format) due = refl
+reads_due (order.Container route address threads clients) due = due
+reads_due order.Play due = due
+reads_due (order.Dry request reply site) due = due
+reads_due (order.Config workers map) due = due
+reads_due (order.Match workers map) due = due
+reads_due order.Check due = due
+reads_due (order.Log format request reply workers map) due = due
+reads_due order.Follow due = due
+reads_due (order.Drill seed threads requests text passes) due = due
+
+pub files_read : (words : List (List ℕ)) (same : Type 0) → same ⊎ AreFilesDue words → same ⊎ AreFilesRead words
+files_read words same (inl kept) = inl kept
+files_read words same (inr due) = inr (due.0, due.1, reads_due due.0 due.2)
 
 -- words that ask for workers are a command
 pub serving_command : (words : List (List ℕ)) → is_serving words ≡ true → is_command words ≡ false → ⊥

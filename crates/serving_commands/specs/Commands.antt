@@ -1,29 +1,42 @@
 -- What `serve`, `container` and `drill` do with the outside, and how they end. Read this first; what a run does is in gear_runs'
 -- specs/Runs.antt and specs/Containers.antt, which words are which command in specs/Words.antt.
-use Rattle.std.specs.Prelude.{◌≡◌, ℕ, ◌⊎◌, Bool, List, [], length, map, Option, Some, None}
+use Rattle.std.specs.Prelude.{◌≡◌, ℕ, ◌⊎◌, Bool, true, List, [], length, map, Option, Some, None}
 use Rattle.std.specs.List.{All}
 use Rattle.balancer_core.specs.Journal.{Journal}
 use Rattle.client_session.specs.Requests.{visit}
+use Rattle.conn_pool.specs.declared.tape.Tape.{Ghosts as TapeGhosts}
 use Rattle.container_server.specs.declared.ends.ContainerWorker.{ContainerWorker}
 use Rattle.drill.specs.Ends.{IsDrill, IsDrillError}
 use Rattle.drill.specs.declared.drill_error.DrillError.{DrillError}
 use Rattle.gear_runs.specs.Containers.{IsContainerRun}
 use Rattle.gear_runs.specs.Runs.{IsRun}
 use Rattle.gear_runs.specs.declared.ends.Closing.{Closing}
+use Rattle.jk_cli.specs.Orders.{order_of}
 use Rattle.jk_cli.specs.declared.order.Order.{Order}
 use Rattle.jk_cli.specs.declared.order.Order.TheVariants as order
 use Rattle.jk_io.specs.Told.{appended, PutsFront, Rose}
+use Rattle.jk_io.specs.declared.traits.streams.Meanings.{Ghosts}
+use Rattle.jk_io.specs.declared.traits.surroundings.Clock.{Ghosts as ClockGhosts}
+use Rattle.jk_io.specs.declared.traits.surroundings.Door.{Ghosts as DoorGhosts}
+use Rattle.jk_io.specs.declared.traits.surroundings.Files.{Ghosts as FilesGhosts}
 use Rattle.jk_server.specs.declared.part.WorkerEnd.{WorkerEnd}
+use Rattle.locked_balancer.specs.declared.shelf.Shelf.{Ghosts as ShelfGhosts}
 use Rattle.mini_container.specs.declared.app_config.AppConfig.{AppConfig}
 use Rattle.plain_commands.specs.Plain.{Plain}
-use Rattle.plain_commands.specs.Readings.{CommandOutside}
+use Rattle.plain_commands.specs.Readings.{CommandOutside, OfFiles}
 use Rattle.site_config.specs.declared.config.Config.{Config}
 use Rattle.uri_map.specs.declared.rule.Rule.{Rule}
+use Rattle.worker_gears.specs.declared.world.Gear.{Gear}
+use Rattle.worker_gears.specs.declared.world.World.{Ghosts as WorldGhosts}
 use Rattle.serving_commands.specs.Ends.{end_of_container, end_of_run, returned}
 use Rattle.serving_commands.specs.Sites.{IsSite}
-use Rattle.serving_commands.specs.Worlds.{HandsAndTakes, IsMade, RefusesGear, Tells, WorldSide}
+use Rattle.serving_commands.specs.Words.{is_served}
+use Rattle.serving_commands.specs.Worlds.{tells, HandsAndTakes, IsMade, RefusesGear, Tells, WorldSide}
 use Rattle.serving_commands.specs.declared.ends.EndOf.{EndOf}
 use Rattle.serving_commands.specs.declared.ends.EndOf.TheVariants as end
+use Rattle.serving_commands.specs.declared.gears.Asked.{Asked}
+use Rattle.serving_commands.specs.declared.serve.ServeOrder.{ServeOrder}
+use Rattle.serving_commands.specs.declared.site.ReadSite.{ReadSite}
 
 -- What is told at a moment: how often the files failed, what the output was sent and how often it failed, and the world.
 pub record CommandSide (G : Type 0) : Type 0 where
@@ -32,13 +45,31 @@ pub record CommandSide (G : Type 0) : Type 0 where
   pub output_faults : ℕ
   pub world : WorldSide G
 
--- a command at a moment, by what its types tell: `command_side F.faults O.sent O.faults (world_side ..) files out world`
-abbrev pub command_side : {F O W G : Type 0} → (F → ℕ) → (O → Option (List ℕ)) → (O → ℕ) → (W → WorldSide G) → F → O → W → CommandSide G
-command_side file_faults sent output_faults at files out world = record {
-  file_faults = file_faults files;
-  sent = sent out;
-  output_faults = output_faults out;
-  world = at world;
+-- What the types of a command tell of its files, of its output, and of its world.
+pub record CommandTells (F O W G C S X : Type 0) : Type 1 where
+  pub files : F → Option (List (List ℕ × List ℕ))
+  pub file_faults : F → ℕ
+  pub sent : O → Option (List ℕ)
+  pub output_faults : O → ℕ
+  pub world : Tells W G C S X
+
+-- by their traits: `telling F.Files O.Meanings W.World W.D.Door W.T.Tape W.K.Clock W.D.L.Meanings W.S.Shelf`
+abbrev pub telling : {F P A W D G T K S O C X E Y Z : Type 0} → FilesGhosts F → Ghosts P A → WorldGhosts W D G T K S O C X E Y Z → DoorGhosts D C X → TapeGhosts T → ClockGhosts K → Ghosts C X → ShelfGhosts S → CommandTells F P W (Gear D G T K S O) C S X
+telling of_files of_output of_world of_door of_tape of_clock of_link of_shelf = record {
+  files = of_files.files;
+  file_faults = of_files.faults;
+  sent = of_output.sent;
+  output_faults = of_output.faults;
+  world = tells of_world of_door of_tape of_clock of_link of_shelf;
+}
+
+-- a command over these files, this output and this world
+abbrev pub command_side : {F O W G C S X : Type 0} → CommandTells F O W G C S X → F × O × W → CommandSide G
+command_side told over = record {
+  file_faults = told.file_faults over.0;
+  sent = told.sent over.1;
+  output_faults = told.output_faults over.1;
+  world = told.world.world over.2;
 }
 
 -- ---- with the world
@@ -65,7 +96,7 @@ pub data Works {G L : Type 0} (threads : ℕ) (Runs : WorldSide G → WorldSide 
 
 -- The workers of a site ran: the world handed out a gear for each, in order, each just made; what one run over the site made
 -- of these gears came back, in order; and the run's end is the command's.
-pub record RunsSite {G C S X L : Type 0} (told : Tells G C S X) (cfg : Config) (rules : List Rule) (threads : ℕ) (clients : Option ℕ) (s n : WorldSide G) (ended : EndOf L) : Type 0 where
+pub record RunsSite {W G C S X L : Type 0} (told : Tells W G C S X) (cfg : Config) (rules : List Rule) (threads : ℕ) (clients : Option ℕ) (s n : WorldSide G) (ended : EndOf L) : Type 0 where
   pub gears : List G
   pub left : List G
   pub count : length gears ≡ threads
@@ -77,7 +108,7 @@ pub record RunsSite {G C S X L : Type 0} (told : Tells G C S X) (cfg : Config) (
   pub status : ended ≡ end_of_run ends closing
 
 -- The workers of a container ran, in the same way.
-pub record RunsContainer {G C S X L : Type 0} (told : Tells G C S X) (app : AppConfig) (threads : ℕ) (clients : Option ℕ) (s n : WorldSide G) (ended : EndOf L) : Type 0 where
+pub record RunsContainer {W G C S X L : Type 0} (told : Tells W G C S X) (app : AppConfig) (threads : ℕ) (clients : Option ℕ) (s n : WorldSide G) (ended : EndOf L) : Type 0 where
   pub gears : List G
   pub left : List G
   pub count : length gears ≡ threads
@@ -114,7 +145,7 @@ pub record LacksFiles {G L : Type 0} (s n : CommandSide G) (ended : EndOf L) : T
   pub world : n.world ≡ s.world
 
 -- The files are a site, for which so many workers were wanted. Nothing was written.
-pub record ServesSite {G C S X L : Type 0} (told : Tells G C S X) (outside : CommandOutside) (workers map : List ℕ) (threads : ℕ) (clients : Option ℕ) (s n : CommandSide G) (ended : EndOf L) : Type 0 where
+pub record ServesSite {W G C S X L : Type 0} (told : Tells W G C S X) (outside : CommandOutside) (workers map : List ℕ) (threads : ℕ) (clients : Option ℕ) (s n : CommandSide G) (ended : EndOf L) : Type 0 where
   pub cfg : Config
   pub rules : List Rule
   pub site : IsSite outside workers map cfg rules
@@ -122,7 +153,7 @@ pub record ServesSite {G C S X L : Type 0} (told : Tells G C S X) (outside : Com
   pub written : n.sent ≡ s.sent
 
 -- `serve WORKERS MAP ADDRESS THREADS`
-pub data Serves {G C S X L : Type 0} (told : Tells G C S X) (outside : CommandOutside) (workers map : List ℕ) (threads : ℕ) (clients : Option ℕ) (s n : CommandSide G) (ended : EndOf L) : Type 0 where
+pub data Serves {W G C S X L : Type 0} (told : Tells W G C S X) (outside : CommandOutside) (workers map : List ℕ) (threads : ℕ) (clients : Option ℕ) (s n : CommandSide G) (ended : EndOf L) : Type 0 where
   Unread : LacksFiles s n ended → Serves told outside workers map threads clients s n ended
   Refused : RefusesFiles outside workers map s n ended → Serves told outside workers map threads clients s n ended
   Served : ServesSite told outside workers map threads clients s n ended → Serves told outside workers map threads clients s n ended
@@ -134,13 +165,13 @@ pub record IsAppOf (route : List ℕ) (app : AppConfig) : Type 0 where
   pub packet : app.packet ≡ 8192
 
 -- The workers of such a container were wanted.
-pub record ContainsLinks {G C S X L : Type 0} (told : Tells G C S X) (route : List ℕ) (threads : ℕ) (clients : Option ℕ) (s n : WorldSide G) (ended : EndOf L) : Type 0 where
+pub record ContainsLinks {W G C S X L : Type 0} (told : Tells W G C S X) (route : List ℕ) (threads : ℕ) (clients : Option ℕ) (s n : WorldSide G) (ended : EndOf L) : Type 0 where
   pub app : AppConfig
   pub is : IsAppOf route app
   pub works : Works threads (RunsContainer told app threads clients) s n ended
 
 -- `container ROUTE ADDRESS THREADS`. Nothing was written.
-pub record Contains {G C S X L : Type 0} (told : Tells G C S X) (route : List ℕ) (threads : ℕ) (clients : Option ℕ) (s n : CommandSide G) (ended : EndOf L) : Type 0 where
+pub record Contains {W G C S X L : Type 0} (told : Tells W G C S X) (route : List ℕ) (threads : ℕ) (clients : Option ℕ) (s n : CommandSide G) (ended : EndOf L) : Type 0 where
   pub contained : ContainsLinks told route threads clients s.world n.world ended
   pub written : n.sent ≡ s.sent
 
@@ -176,9 +207,42 @@ pub record Drills {G L : Type 0} (seed threads requests : ℕ) (text passes : Bo
   pub world : n.world ≡ s.world
 
 -- What an order that asks for workers does.
-abbrev pub DoesOrder : {G C S X L : Type 0} → Tells G C S X → CommandOutside → Order → (s n : CommandSide G) → EndOf L → Type 0
+abbrev pub DoesOrder : {W G C S X L : Type 0} → Tells W G C S X → CommandOutside → Order → (s n : CommandSide G) → EndOf L → Type 0
 DoesOrder told outside (order.Serve workers map address threads clients journal watch idle log format) s n ended =
     Serves told outside workers map threads clients s n ended
 DoesOrder told outside (order.Container route address threads clients) s n ended = Contains told route threads clients s n ended
 DoesOrder told outside (order.Drill seed threads requests text passes) s n ended = Drills seed threads requests text passes s n ended
 DoesOrder told outside other s n ended = ⊥
+
+-- ---- the same of what a command goes over, as it was before and is after it
+
+-- The workers of a site were wanted.
+abbrev pub WorksSite : {W G C S X L : Type 0} → Tells W G C S X → ReadSite → Asked → (before after : W) → EndOf L → Type 0
+WorksSite told site asked before after ended =
+    Works asked.threads (RunsSite told site.cfg site.map asked.threads asked.clients) (told.world before) (told.world after) ended
+
+-- The workers of a container were wanted.
+abbrev pub WorksContainer : {W G C S X L : Type 0} → Tells W G C S X → AppConfig → Asked → (before after : W) → EndOf L → Type 0
+WorksContainer told app asked before after ended =
+    Works asked.threads (RunsContainer told app asked.threads asked.clients) (told.world before) (told.world after) ended
+
+-- The workers of a container of this route were wanted.
+abbrev pub ContainsAsked : {W G C S X L : Type 0} → Tells W G C S X → (route : List ℕ) → Asked → (before after : W) → EndOf L → Type 0
+ContainsAsked told route asked before after ended =
+    ContainsLinks told route asked.threads asked.clients (told.world before) (told.world after) ended
+
+-- `serve` over its files, whatever the input.
+abbrev pub ServesOrder : {F O W G C S X L : Type 0} → CommandTells F O W G C S X → ServeOrder → (before after : F × O × W) → EndOf L → Type 0
+ServesOrder told order before after ended =
+    OfFiles (told.files before.0) (λ outside. Serves told.world outside order.workers.now order.map.now order.asked.threads order.asked.clients
+    (command_side told before) (command_side told after) ended)
+
+-- An order that asks for workers, whatever the input.
+abbrev pub DoesAsked : {F O W G C S X L : Type 0} → CommandTells F O W G C S X → Order → (before after : F × O × W) → EndOf L → Type 0
+DoesAsked told o before after ended =
+    OfFiles (told.files before.0) (λ outside. DoesOrder told.world outside o (command_side told before) (command_side told after) ended)
+
+-- Words that ask for workers do what their order does.
+abbrev pub DoesWords : {F O W G C S X L : Type 0} → CommandTells F O W G C S X → (words : List (List ℕ)) → (before after : F × O × W) → EndOf L → Type 0
+DoesWords told words before after ended =
+    (o : Order) → order_of words ≡ Some o → is_served o ≡ true → DoesAsked told o before after ended

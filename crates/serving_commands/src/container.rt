@@ -1,7 +1,7 @@
 //! `container`: links served as a servlet container does.
 ghost use Rattle.std.specs.Prelude.{◌≡◌, ◌≤◌, length, None};
-ghost use Rattle.serving_commands.specs.Commands.{ContainsLinks, RunsContainer, Works};
-ghost use Rattle.serving_commands.specs.Worlds.{tells, world_side};
+ghost use Rattle.serving_commands.specs.Commands.{ContainsAsked, WorksContainer};
+ghost use Rattle.serving_commands.specs.Worlds.{tells};
 ghost use Rattle.jk_cli.specs.declared.plans.TheConstants.{MOST_ROUTE_BYTES};
 
 use crate::ends::{EndOf, JkdEnd, NO_MEMORY, end_by, end_of_container};
@@ -28,9 +28,8 @@ fn contain_links<W: World, R: Threads + Wait + Sync>(
 where
     <W::D as Door>::L: Send,
     requires none { asked.journal ≡ None }
-    ensures { let at = world_side W.handed W.came_back W.out W.faults in
-        let told = tells W.D.coming W.D.left W.D.faults W.T.talks W.K.answers W.D.L.Meanings W.S.shelved W.S.faults in
-        Works asked.entry.threads (RunsContainer told app.now asked.entry.threads asked.entry.clients) (at world.old) (at world.new) result }
+    ensures { WorksContainer (tells W.World W.D.Door W.T.Tape W.K.Clock W.D.L.Meanings W.S.Shelf)
+        app.now asked.entry world.old world.new result }
 {
     let gears = match take_gears(alloc, world, asked, None) {
         Ok(gears) => gears,
@@ -57,9 +56,8 @@ where
     <W::D as Door>::L: Send,
     requires none { asked.journal ≡ None }
     requires short { length route.now ≤ MOST_ROUTE_BYTES }
-    ensures { let at = world_side W.handed W.came_back W.out W.faults in
-        let told = tells W.D.coming W.D.left W.D.faults W.T.talks W.K.answers W.D.L.Meanings W.S.shelved W.S.faults in
-        ContainsLinks told route.now asked.entry.threads asked.entry.clients (at world.old) (at world.new) result }
+    ensures { ContainsAsked (tells W.World W.D.Door W.T.Tape W.K.Clock W.D.L.Meanings W.S.Shelf)
+        route.now asked.entry world.old world.new result }
 {
     match route.copy() {
         Ok(route) => {

@@ -1,10 +1,8 @@
 //! Gears taken of a world, one for each worker, and given back.
-ghost use Rattle.std.specs.Prelude.{◌≡◌, ◌+◌, ◌<◌, ◌≤◌, [], length, vec_len, IfOk, IfSome, IsSome, OnErr};
+ghost use Rattle.std.specs.Prelude.{◌≡◌, ◌+◌, ◌<◌, ◌≤◌, [], vec_capacity, vec_len, IfOk, IsSome, OnErr, OnOk};
 ghost use Rattle.std.specs.List.{All};
-ghost use Rattle.door_clients.specs.Doors.{side};
 ghost use Rattle.jk_io.specs.Told.{HasCause, appended};
-ghost use Rattle.worker_gears.specs.Gears.{gear_side};
-ghost use Rattle.serving_commands.specs.Worlds.{HandsAndTakes, IsMade, RefusesGear, world_side};
+ghost use Rattle.serving_commands.specs.Worlds.{gear_told, HandsAndTakes, HandsNone, IsMade, RefusesGear, Takes, world_side};
 
 use jk_io::{Bytes, IoError};
 use site_config::Config;
@@ -48,6 +46,61 @@ impl<'a> Asked<'a> {
     }
 }
 
+/// Takes the gear of worker `number`, and puts it behind the others.
+fn take_gear<W: World>(
+    alloc: Global,
+    world: &mut W,
+    number: u32,
+    asked: Asked<'_>,
+    cfg: Option<&Config>,
+    gears: &mut Vec<GearOf<W>>,
+) -> Result<(), IoError>
+    requires named { IsSome asked.journal → IsSome cfg }
+    requires room { vec_len gears.old < vec_capacity gears.old }
+    ensures ok { OnOk result (let at = world_side W.World in Takes (gear_told W.D.Door W.T.Tape W.K.Clock) W.T.is_idle
+        asked.entry.clients (at world.old) (at world.new) gears.old.items gears.new.items) }
+    ensures room { OnOk result ((vec_len gears.new ≡ vec_len gears.old + 1) × (vec_capacity gears.new ≡ vec_capacity gears.old)) }
+    ensures err { OnErr result (let at = world_side W.World in HandsNone (at world.old) (at world.new)) }
+    ensures same { OnErr result (gears.new.items ≡ gears.old.items) }
+    ensures cause { HasCause (W.faults world.old) (W.faults world.new) result }
+{
+    let gear = world.gear(
+        alloc,
+        number,
+        asked.address,
+        asked.clients,
+        asked.journal,
+        cfg,
+    )?;
+    gears.push_reserved(gear);
+    Ok(())
+}
+
+/// Takes a gear for each worker, until one is refused.
+fn fill_gears<W: World>(
+    alloc: Global,
+    world: &mut W,
+    asked: Asked<'_>,
+    cfg: Option<&Config>,
+    gears: &mut Vec<GearOf<W>>,
+) -> Result<(), IoError>
+    requires named { IsSome asked.journal → IsSome cfg }
+    requires none { vec_len gears.old ≡ 0 }
+    requires room { asked.threads ≤ vec_capacity gears.old }
+    ensures passed { let at = world_side W.World in HandsAndTakes (at world.old) (at world.new) gears.new.items [] }
+    ensures count { OnOk result (vec_len gears.new ≡ asked.entry.threads) }
+    ensures made { let at = gear_told W.D.Door W.T.Tape W.K.Clock in
+        All (λ g. IsMade asked.entry.clients (at g)) gears.new.items }
+    ensures idle { All (λ g. W.T.is_idle g.tape) gears.new.items }
+    ensures fewer { OnErr result (vec_len gears.new < asked.entry.threads) }
+    ensures cause { HasCause (W.faults world.old) (W.faults world.new) result }
+{
+    'gears: for number in 0..asked.threads {
+        take_gear(alloc, world, number, asked, cfg, gears)?;
+    }
+    Ok(())
+}
+
 /// Takes a gear for each worker. Where one is refused, those before it are given back.
 pub(crate) fn take_gears<W: World>(
     alloc: Global,
@@ -56,34 +109,23 @@ pub(crate) fn take_gears<W: World>(
     cfg: Option<&Config>,
 ) -> Result<Vec<GearOf<W>>, IoError>
     requires named { IsSome asked.journal → IsSome cfg }
-    ensures taken { IfOk result (λ gears. let at = world_side W.handed W.came_back W.out W.faults in
+    ensures taken { IfOk result (λ gears. let at = world_side W.World in
         HandsAndTakes (at world.old) (at world.new) gears.items []) }
     ensures count { IfOk result (λ gears. vec_len gears ≡ asked.entry.threads) }
-    ensures made { IfOk result (λ gears. let at = gear_side (side W.D.coming W.D.left W.D.faults) W.T.talks W.K.answers in
+    ensures made { IfOk result (λ gears. let at = gear_told W.D.Door W.T.Tape W.K.Clock in
         All (λ g. IsMade asked.entry.clients (at g)) gears.items) }
     ensures idle { IfOk result (λ gears. All (λ g. W.T.is_idle g.tape) gears.items) }
-    ensures refused { OnErr result (let at = world_side W.handed W.came_back W.out W.faults in
-        RefusesGear asked.entry.threads (at world.old) (at world.new)) }
+    ensures refused { OnErr result (let at = world_side W.World in RefusesGear asked.entry.threads (at world.old) (at world.new)) }
     ensures cause { HasCause (W.faults world.old) (W.faults world.new) result }
 {
     let mut gears = Vec::with_capacity(alloc, asked.threads as usize)?;
-    'gears: for number in 0..asked.threads {
-        match world.gear(
-            alloc,
-            number,
-            asked.address,
-            asked.clients,
-            asked.journal,
-            cfg,
-        ) {
-            Ok(gear) => gears.push_reserved(gear),
-            Err(error) => {
-                give_back(world, gears);
-                return Err(error);
-            }
+    match fill_gears(alloc, world, asked, cfg, &mut gears) {
+        Ok(()) => Ok(gears),
+        Err(error) => {
+            give_back(world, gears);
+            Err(error)
         }
     }
-    Ok(gears)
 }
 
 /// Gives gears back, in order.

@@ -1,8 +1,7 @@
 //! `serve`: clients served over the balancers of a site.
-ghost use Rattle.std.specs.Prelude.{◌≡◌, ◌<◌, ◌≤◌, ℕ, List, Option, [], length};
+ghost use Rattle.std.specs.Prelude.{◌≡◌, ◌≤◌, [], length};
 ghost use Rattle.jk_io.specs.Told.{HasCause};
-ghost use Rattle.plain_commands.specs.Readings.{CommandOutside};
-ghost use Rattle.serving_commands.specs.Commands.{command_side, RunsSite, Serves, Works, WritesLine, CommandSide};
+ghost use Rattle.serving_commands.specs.Commands.{telling, ServesOrder, WorksSite, WritesLine};
 ghost use Rattle.serving_commands.specs.Ends.{end_of_run, returned};
 ghost use Rattle.serving_commands.specs.Worlds.{HandsAndTakes, tells, world_side};
 ghost use Rattle.jk_server.specs.declared.workers.TheConstants.{MAX_WORKERS};
@@ -41,7 +40,7 @@ fn refuse<O: Sink>(out: &mut O, line: &Bytes) -> JkdEnd
 /// Gives the gears of a run back, unless its closing wanted memory.
 fn give_by<W: World>(world: &mut W, closing: &Closing<Brand>, gears: Vec<GearOf<W>>)
     requires out { length (returned closing.now gears.items) ≤ W.out world.old }
-    ensures { let at = world_side W.handed W.came_back W.out W.faults in
+    ensures { let at = world_side W.World in
         HandsAndTakes (at world.old) (at world.new) [] (returned closing.now gears.items) }
 {
     match closing {
@@ -53,7 +52,7 @@ fn give_by<W: World>(world: &mut W, closing: &Closing<Brand>, gears: Vec<GearOf<
 /// Gives the gears of a run back, and answers how it ended.
 fn settle<W: World>(world: &mut W, run: SiteRun<Brand, GearOf<W>>) -> JkdEnd
     requires out { length (returned run.closing run.gears.items) ≤ W.out world.old }
-    ensures given { let at = world_side W.handed W.came_back W.out W.faults in
+    ensures given { let at = world_side W.World in
         HandsAndTakes (at world.old) (at world.new) [] (returned run.closing run.gears.items) }
     ensures ended { result ≡ end_of_run run.workers run.closing }
 {
@@ -77,9 +76,8 @@ fn serve_site<W: World, R: Threads + Wait + Sync>(
 where
     <W::D as Door>::L: Send,
     requires threads { (1 ≤ asked.threads) × (asked.threads ≤ MAX_WORKERS) }
-    ensures { let at = world_side W.handed W.came_back W.out W.faults in
-        let told = tells W.D.coming W.D.left W.D.faults W.T.talks W.K.answers W.D.L.Meanings W.S.shelved W.S.faults in
-        Works asked.entry.threads (RunsSite told site.now.cfg site.now.map asked.entry.threads asked.entry.clients) (at world.old) (at world.new) result }
+    ensures { WorksSite (tells W.World W.D.Door W.T.Tape W.K.Clock W.D.L.Meanings W.S.Shelf)
+        site.now asked.entry world.old world.new result }
 {
     let gears = match take_gears(alloc, world, asked, Some(&site.cfg)) {
         Ok(gears) => gears,
@@ -103,11 +101,8 @@ pub(crate) fn serve<F: Files, O: Sink, W: World, R: Threads + Wait + Sync>(
 where
     <W::D as Door>::L: Send,
     requires threads { (1 ≤ order.asked.threads) × (order.asked.threads ≤ MAX_WORKERS) }
-    ensures { (incoming : Option (List ℕ))
-        → let at = command_side F.faults O.sent O.faults (world_side W.handed W.came_back W.out W.faults) in
-        let told = tells W.D.coming W.D.left W.D.faults W.T.talks W.K.answers W.D.L.Meanings W.S.shelved W.S.faults in
-        Serves told (record { files = F.files files.old; incoming = incoming }) order.entry.workers.now order.entry.map.now
-        order.entry.asked.threads order.entry.asked.clients (at files.old out.old world.old) (at files.new out.new world.new) result }
+    ensures { ServesOrder (telling F.Files O.Meanings W.World W.D.Door W.T.Tape W.K.Clock W.D.L.Meanings W.S.Shelf)
+        order.entry (files.old, out.old, world.old) (files.new, out.new, world.new) result }
 {
     match read_site(alloc, files, order.workers, order.map) {
         Ok(Judged::Site(site)) => serve_site(rt, alloc, &site, order.asked, world),
