@@ -12,7 +12,7 @@ use Rattle.jk_model.specs.declared.journal.Call.{Call}
 use Rattle.jk_model.specs.declared.journal.Entry.{Entry}
 use Rattle.jk_model.specs.declared.opening.Opening.{Opening}
 use Rattle.journal_verdict.specs.Judging.{Follows, GoesOn, IsInTurn, RulesOn}
-use Rattle.journal_verdict.specs.Rulings.{Differs, IsFirstWrong, Refuses, RulesOn}
+use Rattle.journal_verdict.specs.Rulings.{Differs, IsFirstWrong, Refuses, RulesAfter}
 use Rattle.journal_verdict.specs.declared.ruling.Ruling.{Ruling}
 use Rattle.journal_verdict.specs.declared.ruling.Ruling.TheVariants as ruling
 
@@ -49,7 +49,7 @@ pub refused_so : (b : Journal) (e : Entry) (asked : Call) (ruled : Ruling) → e
 refused_so b e asked ruled is refused = subst (λ c. Refuses b.opening (past_of b) e c ruled) (sym is) refused
 
 -- the rule alone, without what became of the Book
-pub rules_of : (e : Entry) (old new : Journal) (ruled : Ruling) → RulesOn e old new ruled → RulesOn old.rules old.opening (past_of old) e ruled
+pub rules_of : (e : Entry) (old new : Journal) (ruled : Ruling) → RulesOn e old new ruled → RulesAfter old.rules old.opening (past_of old) e ruled
 rules_of e old new (ruling.Answer a) h = h.0
 rules_of e old new (ruling.Seq n) h = h
 rules_of e old new (ruling.Moment n) h = h

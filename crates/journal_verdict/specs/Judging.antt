@@ -5,7 +5,7 @@ use Rattle.jk_model.specs.Journal.{moment_of}
 use Rattle.jk_model.specs.Legal.{IsNext}
 use Rattle.jk_model.specs.Segments.{IsKeptEntry}
 use Rattle.jk_model.specs.declared.journal.Entry.{Entry}
-use Rattle.journal_verdict.specs.Rulings.{Differs, RulesOn}
+use Rattle.journal_verdict.specs.Rulings.{Differs, RulesAfter}
 use Rattle.journal_verdict.specs.declared.ruling.Ruling.{Ruling}
 use Rattle.journal_verdict.specs.declared.ruling.Ruling.TheVariants as ruling
 
@@ -25,8 +25,8 @@ pub record GoesOn (old new : Journal) (e : Entry) : Type 0 where
 -- What is ruled on an entry; with an answer the Book went on by it.
 abbrev pub RulesOn : Entry → (old new : Journal) → Ruling → Type 0
 RulesOn e old new (ruling.Answer a) =
-    RulesOn old.rules old.opening (past_of old) e (ruling.Answer a) × GoesOn old new (record e { answer = a })
-RulesOn e old new other = RulesOn old.rules old.opening (past_of old) e other
+    RulesAfter old.rules old.opening (past_of old) e (ruling.Answer a) × GoesOn old new (record e { answer = a })
+RulesOn e old new other = RulesAfter old.rules old.opening (past_of old) e other
 
 -- The entry follows, and the Book went on by it; or it differs.
 abbrev pub Follows : Entry → (old new : Journal) → Option (Ruling × Ruling) → Type 0

@@ -38,9 +38,9 @@ Refuses o p e asked ruling.Full = IsAllowed o p e.at asked × (MOST_NUMBERS < e.
 Refuses o p e asked other = ⊥
 
 -- What is ruled on an entry whose number and moment are right: the one legal answer, or why there is none.
-abbrev pub RulesOn : (v : ℕ) → Opening → List Entry → Entry → Ruling → Type 0
-RulesOn v o p e (ruling.Answer a) = IsNext v o p (record e { answer = a })
-RulesOn v o p e other = Refuses o p e e.call other
+abbrev pub RulesAfter : (v : ℕ) → Opening → List Entry → Entry → Ruling → Type 0
+RulesAfter v o p e (ruling.Answer a) = IsNext v o p (record e { answer = a })
+RulesAfter v o p e other = Refuses o p e e.call other
 
 -- What an entry has, and what it ought to have: its number, then its moment, then its answer.
 abbrev pub Differs : (v : ℕ) → Opening → List Entry → Entry → (kept ruled : Ruling) → Type 0
@@ -48,7 +48,7 @@ Differs v o p e (ruling.Seq kept) ruled = (kept ≡ e.seq) × (ruled ≡ ruling.
 Differs v o p e (ruling.Moment kept) ruled =
     (kept ≡ e.at) × (ruled ≡ ruling.Moment (moment_of o p)) × (e.seq ≡ next_of o p) × (e.at < moment_of o p)
 Differs v o p e (ruling.Answer kept) ruled =
-    (kept ≡ e.answer) × (e.seq ≡ next_of o p) × (moment_of o p ≤ e.at) × RulesOn v o p e ruled × ¬ (ruled ≡ ruling.Answer kept)
+    (kept ≡ e.answer) × (e.seq ≡ next_of o p) × (moment_of o p ≤ e.at) × RulesAfter v o p e ruled × ¬ (ruled ≡ ruling.Answer kept)
 Differs v o p e other ruled = ⊥
 
 -- The entry at this place is the first that doesn't follow from those before it.
