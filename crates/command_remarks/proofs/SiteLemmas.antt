@@ -1,10 +1,8 @@
 -- What is told of a site, by the first of the files that were read and those after it.
 use Rattle.std.proofs.Common.{◌≡◌, ℕ, ◌-◌, ◌≤◌, Bool, List, [], ◌∷◌, Option, Some, Result, Ok, Err, inl, inr, length, take, drop, get_or, arith, sym, subst, ◌∙◌, ap}
-use Rattle.std.specs.Bool.{⊤}
 use Rattle.std.proofs.lemmas.List.{take_all}
 use Rattle.command_remarks.specs.declared.kept_files.ReadFile.{ReadFile}
 use Rattle.command_remarks.specs.Told.{AreSaid, SaysSite, map_among, text_of}
-use Rattle.jk_io.proofs.ToldLaws.{appended-nil}
 use Rattle.jk_io.specs.declared.failures.IoError.{IoError}
 use Rattle.site_remarks.specs.Added.{AddsSaid}
 use Rattle.site_remarks.specs.Remarks.{AreRemarks}
@@ -20,10 +18,6 @@ says_site effects (read ∷ reads) first workers map out some is text same said 
     let rest : map ≡ map_among reads = same ∙ ap map_among (take_all (length (read ∷ reads) - 1) reads (omega arith)) in
     subst (λ (m : Option (List ℕ × List ℕ)). AreSaid effects (text_of read) m out) rest
     (subst (λ (w : Option (List ℕ × List ℕ)). AreSaid effects w map out) (sym found) said)
-
--- nothing is said where nothing is to be
-pub says_none : (told : Option (List ℕ)) (so : List ℕ → Type 0) → so [] → AddsSaid {T = ⊤} (Ok tt) told told so
-says_none told so none = ([], none, sym (appended-nil told))
 
 -- what is said is what this means too
 pub says_as : {T : Type 0} (r : Result T IoError) (old new : Option (List ℕ)) (P Q : List ℕ → Type 0) → AddsSaid r old new P → ((said : List ℕ) → P said → Q said) → AddsSaid r old new Q

@@ -1,8 +1,8 @@
 -- What is added, part after part.
-use Rattle.std.proofs.Common.{◌≡◌, ℕ, List, [], ◌++◌, Option, Result, Ok, Err, IsErrAnd, OnOk, OnErr, refl, sym, ap, ◌∙◌, subst, inl, inr}
+use Rattle.std.proofs.Common.{◌≡◌, ℕ, List, [], ◌++◌, Option, Result, Ok, Err, IsErrAnd, OnOk, OnErr, refl, sym, ap, ◌∙◌, subst, inr}
 use Rattle.jk_io.specs.Told.{appended, PutsFront}
 use Rattle.jk_io.specs.declared.failures.IoError.{IoError}
-use Rattle.jk_io.proofs.ToldLaws.{appended-appended, appended-nil}
+use Rattle.jk_io.proofs.ToldLaws.{appended-appended}
 use Rattle.site_remarks.specs.Added.{AddsSaid, AddsText, IsFront}
 
 -- nothing was added

@@ -1,7 +1,6 @@
 //! What a person reads of a site's files: why they are refused, and what of those that are accepted has no effect.
-ghost use Rattle.std.specs.Prelude.{◌≡◌, ◌≤◌, ℕ, List, ◌++◌, Ok, true, length, IfSome, OnOk};
+ghost use Rattle.std.specs.Prelude.{◌≡◌, ℕ, List, ◌++◌, Ok, true, IfSome};
 ghost use Rattle.std.specs.Option.{option_map};
-ghost use Rattle.jk_io.specs.declared.whole_input.TheConstants.{MAX_INPUT_BYTES};
 ghost use Rattle.property_lines.specs.Properties as properties;
 ghost use Rattle.property_lines.specs.declared.property.Property.{Property};
 ghost use Rattle.property_lines.specs.declared.values.WorkerKind.{WorkerKind as AnyKind};

@@ -1,4 +1,4 @@
-use Rattle.std.proofs.Common.{List, Option, OnErr, ℕ, ap, rules, subst, sym, ◌∙◌}
+use Rattle.std.proofs.Common.{List, Option, OnErr, ℕ, ap, subst, ◌∙◌}
 use Rattle.jk_io.specs.Told.{appended}
 use Rattle.site_remarks.specs.Added.{IsFront}
 use Rattle.site_remarks.proofs.AddedLemmas.{sink_front}
