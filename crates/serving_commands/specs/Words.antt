@@ -7,8 +7,9 @@ use Rattle.jk_cli.specs.declared.order.Order.{Order}
 use Rattle.jk_cli.specs.declared.order.Order.TheVariants as order
 use Rattle.plain_commands.specs.Plain.{is_plain, readings}
 use Rattle.plain_commands.specs.Readings.{has_file}
-use Rattle.jk_cli.specs.declared.plans.TheConstants.{MOST_REQUESTS, MOST_ROUTE_BYTES}
-use Rattle.jk_cli.specs.declared.values.TheConstants.{MOST_THREADS}
+use Rattle.jk_cli.specs.declared.plans.TheConstants.{MOST_ROUTE_BYTES}
+use Rattle.drill.specs.declared.plan.TheConstants.{MAX_REQUESTS, MAX_THREADS}
+use Rattle.jk_server.specs.declared.workers.TheConstants.{MAX_WORKERS}
 
 -- `serve`, `container` and `drill`. A watch, a log and passes aren't built: words with `--watch` or `--log`, beside which alone
 -- `--idle` and `--format` stand, and a drill with `passes` are no command yet.
@@ -41,10 +42,10 @@ AreFilesRead words = (o : Order) × (order_of words ≡ Some o) × (reads_files 
 
 -- Of an order that asks for workers: 1 to 64 of them, and a route of at most 1,024 bytes; of a drill 1 to 1,000,000 requests.
 abbrev pub IsInRange : Order → Type 0
-IsInRange (order.Serve workers map address threads clients journal watch idle log format) = (1 ≤ threads) × (threads ≤ MOST_THREADS)
-IsInRange (order.Container route address threads clients) = (1 ≤ threads) × (threads ≤ MOST_THREADS) × (length route ≤ MOST_ROUTE_BYTES)
+IsInRange (order.Serve workers map address threads clients journal watch idle log format) = (1 ≤ threads) × (threads ≤ MAX_WORKERS)
+IsInRange (order.Container route address threads clients) = (1 ≤ threads) × (threads ≤ MAX_WORKERS) × (length route ≤ MOST_ROUTE_BYTES)
 IsInRange (order.Drill seed threads requests text passes) =
-    (1 ≤ threads) × (threads ≤ MOST_THREADS) × (1 ≤ requests) × (requests ≤ MOST_REQUESTS)
+    (1 ≤ threads) × (threads ≤ MAX_THREADS) × (1 ≤ requests) × (requests ≤ MAX_REQUESTS)
 IsInRange other = Unit {0}
 
 -- an option of this name stands among the parts
