@@ -1,4 +1,6 @@
 //! A sink over one of std's writers.
+ghost use Rattle.std.specs.Prelude.{◌<◌, ◌≤◌, IfSome, length};
+
 use jk_io::{IoError, Meanings, Sink};
 use std::io::{ErrorKind, Write};
 
@@ -33,14 +35,26 @@ impl<W: Write + Drop> Meanings for WriteSink<W> {
 
 impl<W: Write + Drop> Sink for WriteSink<W> {
     fn write(&mut self, piece: &[u8]) -> Result<usize, IoError> {
-        for _ in 0..u64::MAX {
-            match self.writer.write(piece) {
-                Ok(n) if n > 0 => return Ok(n),
-                Err(error) if error.kind() == ErrorKind::Interrupted => {}
-                _ => break,
+        match put_some(&mut self.writer, piece) {
+            Some(n) => Ok(n),
+            None => {
+                self.failed = self.failed.saturating_add(1);
+                Err(IoError::Failed)
             }
         }
-        self.failed = self.failed.saturating_add(1);
-        Err(IoError::Failed)
     }
+}
+
+/// How many bytes of the piece one write took, at least one; a signal in its midst is no failure.
+fn put_some<W: Write>(writer: &mut W, piece: &[u8]) -> Option<usize>
+    ensures { IfSome result (λ n. (0 < n) × (n ≤ length piece.now)) }
+{
+    for _ in 0..u64::MAX {
+        match writer.write(piece) {
+            Ok(n) if n > 0 => return Some(n),
+            Err(error) if error.kind() == ErrorKind::Interrupted => {}
+            _ => return None,
+        }
+    }
+    None
 }
