@@ -48,8 +48,9 @@ fn write_remarks<R: Files + AllocGlobal, W: Write + Drop>(
         reason: reason.as_bytes(),
     };
     let mut out = RemarkOut::new(rt.alloc(), WriteSink::new(err));
-    remarks_on(rt.alloc(), &mut out, &ended)?;
+    let told = remarks_on(rt.alloc(), &mut out, &ended);
     let (_sink, written) = out.finish();
+    told?;
     written
 }
 
