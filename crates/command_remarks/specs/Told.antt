@@ -82,6 +82,10 @@ SaysEffectsAt (Some at) reads said = SaysPlaced (if at.effects then Some at else
 abbrev pub SaysEffects : (words : List (List ℕ)) → List ReadFile → (said : List ℕ) → Type 0
 SaysEffects words reads said = SaysEffectsAt (site_place (command_of words)) reads said
 
+-- a text that ends its line
+abbrev pub IsLine : (said : List ℕ) → Type 0
+IsLine said = (text : List ℕ) × (said ≡ text ++ codes "\n")
+
 -- what can't be read
 abbrev pub unread_text : Option (List ℕ) → (failed : Bool) → (reason : List ℕ) → List ℕ
 unread_text (Some name) failed reason = codes "jkd: can't read " ++ name ++ codes ": " ++ reason ++ codes "\n"

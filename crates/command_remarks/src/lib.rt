@@ -3,9 +3,9 @@
 //! Source: own rules (docs/FORMATS.md, "What a person is told").
 //! Shapes: `KeptFiles` and `CountedInput` go round the files and the input of a command, and `remarks_on` is called once it
 //! ended. Nothing here changes what the command reads, writes or answers.
-//! Contract: `remarks_on`, a clause for each status; `KeptFiles` and `CountedInput` are read as what they go round. Read first:
-//! specs/Told.antt.
-//! Errors: a write that failed, and want of memory.
+//! Contract: `remarks_on`, a clause for each status, and `cause`; `KeptFiles` and `CountedInput` are read as what they go
+//! round. Read first: specs/Told.antt.
+//! Errors: a write that failed, only where the sink's count of faults rose, and want of memory.
 #![tactic(auto)]
 
 mod counted_input;

@@ -1,7 +1,8 @@
 //! What a person is told of a command that ended.
-ghost use Rattle.std.specs.Prelude.{◌≡◌, ◌≢◌, [], IfOk, OnOk, None, Some, true};
+ghost use Rattle.std.specs.Prelude.{◌≡◌, ◌≢◌, [], IfOk, IsOk, None, Some, true};
+ghost use Rattle.jk_io.specs.Told.{HasCause};
 ghost use Rattle.site_remarks.specs.Added.{AddsSaid, AddsText};
-ghost use Rattle.command_remarks.specs.Told.{SaysEffects, SaysRefused, too_long_text, unread_name, unread_text};
+ghost use Rattle.command_remarks.specs.Told.{IsLine, SaysEffects, SaysRefused, too_long_text, unread_name, unread_text};
 
 use crate::counted_input::InputSeen;
 use crate::kept_files::ReadFile;
@@ -39,7 +40,9 @@ fn put_long<O: Sink + Drop>(
     out: &mut RemarkOut<O>,
     name: &[u8],
 ) -> Result<(), IoError>
-    ensures { AddsText result out.old out.new (too_long_text name.now) }
+    ensures added { AddsText result out.old.said out.new.said (too_long_text name.now) }
+    ensures cause { HasCause out.old.faults out.new.faults result }
+    ensures steady { IsOk result → out.new.faults ≡ out.old.faults }
 {
     let said = too_long(alloc, name)?;
     out.put(said.as_slice())
@@ -53,7 +56,9 @@ fn put_refusal<O: Sink + Drop>(
     reads: &[ReadFile],
     input: InputSeen,
 ) -> Result<(), IoError>
-    ensures { AddsSaid result out.old out.new (SaysRefused words.now reads.now input) }
+    ensures added { AddsSaid result out.old.said out.new.said (SaysRefused words.now reads.now input) }
+    ensures cause { HasCause out.old.faults out.new.faults result }
+    ensures steady { IsOk result → out.new.faults ≡ out.old.faults }
 {
     if let Some(name) = long_file(reads) {
         return put_long(alloc, out, name);
@@ -106,8 +111,10 @@ fn put_fault<O: Sink + Drop>(
     out: &mut RemarkOut<O>,
     ended: &Ended<'_>,
 ) -> Result<(), IoError>
-    ensures { AddsText result out.old out.new
+    ensures added { AddsText result out.old.said out.new.said
         (unread_text (unread_name ended.now.reads.now) ended.now.input.failed ended.now.reason.now) }
+    ensures cause { HasCause out.old.faults out.new.faults result }
+    ensures steady { IsOk result → out.new.faults ≡ out.old.faults }
 {
     let said = fault_of(alloc, ended.reads, ended.input, ended.reason)?;
     out.put(said.as_slice())
@@ -118,7 +125,11 @@ fn put_words<O: Sink + Drop>(
     alloc: Global,
     out: &mut RemarkOut<O>,
     words: &[Bytes],
-) -> Result<(), IoError> {
+) -> Result<(), IoError>
+    ensures added { AddsSaid result out.old.said out.new.said IsLine }
+    ensures cause { HasCause out.old.faults out.new.faults result }
+    ensures steady { IsOk result → out.new.faults ≡ out.old.faults }
+{
     let said = said_of_words(alloc, words)?;
     out.put(said.as_slice())
 }
@@ -132,15 +143,18 @@ pub fn remarks_on<O: Sink + Drop>(
     ended: &Ended<'_>,
 ) -> Result<(), IoError>
     ensures effects { ended.now.status ≡ 0
-        → AddsSaid result out.old out.new (SaysEffects ended.now.words.now ended.now.reads.now) }
+        → AddsSaid result out.old.said out.new.said (SaysEffects ended.now.words.now ended.now.reads.now) }
+    ensures words { ended.now.status ≡ 2 → AddsSaid result out.old.said out.new.said IsLine }
     ensures refused { ended.now.status ≡ 3
-        → AddsSaid result out.old out.new (SaysRefused ended.now.words.now ended.now.reads.now ended.now.input) }
-    ensures unread { ended.now.status ≡ 4 → AddsText result out.old out.new
+        → AddsSaid result out.old.said out.new.said (SaysRefused ended.now.words.now ended.now.reads.now ended.now.input) }
+    ensures unread { ended.now.status ≡ 4 → AddsText result out.old.said out.new.said
         (unread_text (unread_name ended.now.reads.now) ended.now.input.failed ended.now.reason.now) }
 
-    // Of the other statuses 2 alone is told of, by its words.
+    // Of the other statuses nothing is told, also where it ends with an error.
     ensures other { ended.now.status ≢ 0 → ended.now.status ≢ 2 → ended.now.status ≢ 3 → ended.now.status ≢ 4
-        → OnOk result (out.new ≡ out.old) }
+        → out.new ≡ out.old }
+    ensures cause { HasCause out.old.faults out.new.faults result }
+    ensures steady { IsOk result → out.new.faults ≡ out.old.faults }
 {
     match ended.status {
         0 => put_effects(alloc, out, ended.words, ended.reads),

@@ -1,7 +1,8 @@
 //! What is told of the files of a site that a command read.
-ghost use Rattle.std.specs.Prelude.{◌≡◌, IfSome};
+ghost use Rattle.std.specs.Prelude.{◌≡◌, IfSome, IsOk};
 ghost use Rattle.std.specs.Option.{option_map};
 ghost use Rattle.jk_cli.specs.Orders.{command_of};
+ghost use Rattle.jk_io.specs.Told.{HasCause};
 ghost use Rattle.command_remarks.specs.Told.{SaysEffects, SaysEffectsAt, SaysPlaced, SaysSite, map_among, site_place, text_of};
 ghost use Rattle.site_remarks.specs.Added.{AddsSaid};
 ghost use Rattle.site_remarks.specs.Remarks.{IsShort, as_file};
@@ -76,7 +77,9 @@ fn put_site<O: Sink + Drop>(
     reads: &[ReadFile],
     effects: bool,
 ) -> Result<(), IoError>
-    ensures { AddsSaid result out.old out.new (SaysSite effects reads.now) }
+    ensures added { AddsSaid result out.old.said out.new.said (SaysSite effects reads.now) }
+    ensures cause { HasCause out.old.faults out.new.faults result }
+    ensures steady { IsOk result → out.new.faults ≡ out.old.faults }
 {
     let [first, rest @ ..] = reads else {
         return Ok(());
@@ -100,7 +103,9 @@ pub(crate) fn put_placed<O: Sink + Drop>(
     reads: &[ReadFile],
     at: Option<SitePlace>,
 ) -> Result<(), IoError>
-    ensures { AddsSaid result out.old out.new (SaysPlaced at reads.now) }
+    ensures added { AddsSaid result out.old.said out.new.said (SaysPlaced at reads.now) }
+    ensures cause { HasCause out.old.faults out.new.faults result }
+    ensures steady { IsOk result → out.new.faults ≡ out.old.faults }
 {
     let Some(at) = at else {
         return Ok(());
@@ -118,7 +123,9 @@ pub(crate) fn put_effects<O: Sink + Drop>(
     words: &[Bytes],
     reads: &[ReadFile],
 ) -> Result<(), IoError>
-    ensures { AddsSaid result out.old out.new (SaysEffects words.now reads.now) }
+    ensures added { AddsSaid result out.old.said out.new.said (SaysEffects words.now reads.now) }
+    ensures cause { HasCause out.old.faults out.new.faults result }
+    ensures steady { IsOk result → out.new.faults ≡ out.old.faults }
 {
     match site_place(words) {
         None => Ok(()),

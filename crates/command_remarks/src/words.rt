@@ -1,4 +1,7 @@
 //! What is told where the words are no command.
+ghost use Rattle.std.specs.Prelude.{IfOk};
+ghost use Rattle.command_remarks.specs.Told.{IsLine};
+
 use crate::values::said_of_values;
 use clap::Error;
 use clap::error::ErrorKind;
@@ -59,7 +62,9 @@ fn put_undone(out: &mut Bytes, command: CommandName, words: &[Bytes]) -> Result<
 }
 
 /// What is wrong with words that are no command, or are one that isn't done.
-pub(crate) fn said_of_words(alloc: Global, words: &[Bytes]) -> Result<Bytes, NoMemory> {
+pub(crate) fn said_of_words(alloc: Global, words: &[Bytes]) -> Result<Bytes, NoMemory>
+    ensures { IfOk result IsLine }
+{
     let mut said = Bytes::new(alloc);
     match command_of(words) {
         Some(command) => put_undone(&mut said, command, words)?,

@@ -3,6 +3,11 @@ use Rattle.std.specs.Prelude.{◌≡◌, ℕ, List, ◌⊎◌, Option, Result, O
 use Rattle.jk_io.specs.Told.{appended}
 use Rattle.jk_io.specs.declared.failures.IoError.{IoError}
 
+-- what contracts see of a `RemarkOut`: what its sink took and after it what is held, and how often its sink's calls failed
+pub record RemarkOutState : Type 0 where
+  pub said : Option (List ℕ)
+  pub faults : ℕ
+
 -- what is there is a front of it
 abbrev pub IsFront : (whole there : Option (List ℕ)) → Type 0
 IsFront whole there = (rest : List ℕ) × (whole ≡ appended there rest)

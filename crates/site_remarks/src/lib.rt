@@ -3,7 +3,7 @@
 //! Source: own rules (docs/FORMATS.md, "What a person is told"); which directives mod_jk has an effect for is its reference's,
 //! "workers.properties" and "uriworkermap.properties".
 //! Contract: `site_remarks`. Read first: specs/Remarks.antt, then specs/Explained.antt, Notices.antt and MapNotices.antt.
-//! Errors: a write that failed, and want of memory.
+//! Errors: a write that failed, only where the sink's count of faults rose, and want of memory.
 #![tactic(auto)]
 
 mod again;

@@ -1,6 +1,7 @@
 //! What of a uriworkermap.properties has no effect.
-ghost use Rattle.std.specs.Prelude.{◌≡◌, ◌++◌, ◌≤◌, ℕ, List, length, OnOk};
+ghost use Rattle.std.specs.Prelude.{◌≡◌, ◌++◌, ◌≤◌, ℕ, List, length, IsOk, OnOk};
 ghost use Rattle.jk_io.specs.Decimals.{trimmed};
+ghost use Rattle.jk_io.specs.Told.{HasCause};
 ghost use Rattle.jk_io.specs.declared.whole_input.TheConstants.{MAX_INPUT_BYTES};
 ghost use Rattle.std.specs.List.{flat_map};
 ghost use Rattle.std.specs.Option.{option_map};
@@ -193,8 +194,10 @@ fn put_line_notices<O: Sink + Drop>(
     at: FileLine<'_>,
     line: &[u8],
 ) -> Result<(), IoError>
-    ensures { (kinds : List (List ℕ × WorkerKind)) → IsKindTable table.now kinds → AddsText result out.old out.new
+    ensures added { (kinds : List (List ℕ × WorkerKind)) → IsKindTable table.now kinds → AddsText result out.old.said out.new.said
         (line_notices at.entry.file.now at.entry.line kinds (trimmed line.now)) }
+    ensures cause { HasCause out.old.faults out.new.faults result }
+    ensures steady { IsOk result → out.new.faults ≡ out.old.faults }
 {
     buffer.clear();
     put_line(buffer, table, at, trim(line))?;
@@ -209,8 +212,10 @@ pub(crate) fn put_map_notices<O: Sink + Drop>(
     map: &SiteFile<'_>,
 ) -> Result<(), IoError>
     requires { length map.now.text.now ≤ MAX_INPUT_BYTES }
-    ensures { (kinds : List (List ℕ × WorkerKind)) → IsKindTable table.now kinds
-        → AddsText result out.old out.new (map_notices map.now.name.now kinds map.now.text.now) }
+    ensures added { (kinds : List (List ℕ × WorkerKind)) → IsKindTable table.now kinds
+        → AddsText result out.old.said out.new.said (map_notices map.now.name.now kinds map.now.text.now) }
+    ensures cause { HasCause out.old.faults out.new.faults result }
+    ensures steady { IsOk result → out.new.faults ≡ out.old.faults }
 {
     let mut buffer = Bytes::new(alloc);
     let mut line: u32 = 0;

@@ -1,9 +1,10 @@
 //! What a site of mod_jk would expect to have effect, and hasn't.
-ghost use Rattle.std.specs.Prelude.{◌≡◌, ◌≤◌, ◌++◌, ℕ, List, Ok, Option, length, true, OnOk};
+ghost use Rattle.std.specs.Prelude.{◌≡◌, ◌≤◌, ◌++◌, ℕ, List, Ok, Option, length, true, IsOk, OnOk};
 ghost use Rattle.std.specs.Option.{option_map, option_to_list};
 ghost use Rattle.std.specs.List.{flat_map};
 ghost use Rattle.property_lines.specs.declared.values.WorkerKind.{WorkerKind};
 ghost use Rattle.property_lines.specs.declared.property.Property.{Property};
+ghost use Rattle.jk_io.specs.Told.{HasCause};
 ghost use Rattle.jk_io.specs.declared.whole_input.TheConstants.{MAX_INPUT_BYTES};
 ghost use Rattle.property_lines.specs.Entries.{as_property};
 ghost use Rattle.property_lines.specs.Properties.{read_text};
@@ -162,8 +163,10 @@ fn put_notice<O: Sink + Drop>(
     file: &[u8],
     entry: &PropertyLine<'_>,
 ) -> Result<(), IoError>
-    ensures { ForTables tables.now (λ kinds ps.
-        AddsText result out.old out.new (notice file.now kinds ps (as_property entry.now))) }
+    ensures added { ForTables tables.now (λ kinds ps.
+        AddsText result out.old.said out.new.said (notice file.now kinds ps (as_property entry.now))) }
+    ensures cause { HasCause out.old.faults out.new.faults result }
+    ensures steady { IsOk result → out.new.faults ≡ out.old.faults }
 {
     let at = FileLine {
         file,
@@ -183,8 +186,10 @@ fn put_line_notice<O: Sink + Drop>(
     number: u32,
     line: &[u8],
 ) -> Result<(), IoError>
-    ensures { ForTables tables.now (λ kinds ps. (says : Option Property) → Says number line.now says
-        → AddsText result out.old out.new (flat_map (notice file.now kinds ps) (option_to_list says))) }
+    ensures added { ForTables tables.now (λ kinds ps. (says : Option Property) → Says number line.now says
+        → AddsText result out.old.said out.new.said (flat_map (notice file.now kinds ps) (option_to_list says))) }
+    ensures cause { HasCause out.old.faults out.new.faults result }
+    ensures steady { IsOk result → out.new.faults ≡ out.old.faults }
 {
     match said_at(number, line)? {
         None => Ok(()),
@@ -202,8 +207,10 @@ pub(crate) fn put_notices<O: Sink + Drop>(
     workers: &SiteFile<'_>,
 ) -> Result<(), IoError>
     requires { length workers.now.text.now ≤ MAX_INPUT_BYTES }
-    ensures { ForTables tables.now (λ kinds ps. read_text true workers.now.text.now ≡ Ok ps
-        → AddsText result out.old out.new (notices workers.now.name.now kinds ps)) }
+    ensures added { ForTables tables.now (λ kinds ps. read_text true workers.now.text.now ≡ Ok ps
+        → AddsText result out.old.said out.new.said (notices workers.now.name.now kinds ps)) }
+    ensures cause { HasCause out.old.faults out.new.faults result }
+    ensures steady { IsOk result → out.new.faults ≡ out.old.faults }
 {
     let mut buffer = Bytes::new(alloc);
     let mut number: u32 = 0;

@@ -1,6 +1,7 @@
 //! What a person reads of a site's files: why they are refused, and what of those that are accepted has no effect.
-ghost use Rattle.std.specs.Prelude.{◌≡◌, ℕ, List, ◌++◌, Ok, true, IfSome};
+ghost use Rattle.std.specs.Prelude.{◌≡◌, ℕ, List, ◌++◌, Ok, true, IfSome, IsOk};
 ghost use Rattle.std.specs.Option.{option_map};
+ghost use Rattle.jk_io.specs.Told.{HasCause};
 ghost use Rattle.property_lines.specs.Properties as properties;
 ghost use Rattle.property_lines.specs.declared.property.Property.{Property};
 ghost use Rattle.property_lines.specs.declared.values.WorkerKind.{WorkerKind as AnyKind};
@@ -34,8 +35,10 @@ fn put_map_refusal<O: Sink + Drop>(
     line: u32,
     code: u8,
 ) -> Result<(), IoError>
-    ensures { AddsText result out.old out.new
+    ensures added { AddsText result out.old.said out.new.said
         (explained_map map.now.name.now map.now.text.now (record { line = line; code = code })) }
+    ensures cause { HasCause out.old.faults out.new.faults result }
+    ensures steady { IsOk result → out.new.faults ≡ out.old.faults }
 {
     let mut said = Bytes::new(alloc);
     explain_map(&mut said, map, line, code)?;
@@ -50,8 +53,10 @@ fn put_workers_refusal<O: Sink + Drop>(
     line: u32,
     code: u8,
 ) -> Result<(), IoError>
-    ensures { AddsText result out.old out.new
+    ensures added { AddsText result out.old.said out.new.said
         (explained_workers workers.now.name.now workers.now.text.now (record { line = line; code = code })) }
+    ensures cause { HasCause out.old.faults out.new.faults result }
+    ensures steady { IsOk result → out.new.faults ≡ out.old.faults }
 {
     let mut said = Bytes::new(alloc);
     explain_workers(&mut said, workers, line, code)?;
@@ -69,8 +74,10 @@ fn put_map<O: Sink + Drop>(
 ) -> Result<(), IoError>
     requires short { IsShort map.now }
     requires table { IsKindTable table.now (kinds_of config.now) }
-    ensures { AddsText result out.old out.new
+    ensures added { AddsText result out.old.said out.new.said
         (rules_remarks effects config.now (as_file map.now) (read_text config.now map.now.text.now)) }
+    ensures cause { HasCause out.old.faults out.new.faults result }
+    ensures steady { IsOk result → out.new.faults ≡ out.old.faults }
 {
     match read_map(alloc, map.text, config) {
         Ok(_rules) => {
@@ -96,7 +103,9 @@ fn put_any_map<O: Sink + Drop>(
 ) -> Result<(), IoError>
     requires short { IfSome map IsShort }
     requires table { IsKindTable table.now (kinds_of config.now) }
-    ensures { AddsText result out.old out.new (map_remarks effects config.now (option_map as_file map.entry)) }
+    ensures added { AddsText result out.old.said out.new.said (map_remarks effects config.now (option_map as_file map.entry)) }
+    ensures cause { HasCause out.old.faults out.new.faults result }
+    ensures steady { IsOk result → out.new.faults ≡ out.old.faults }
 {
     match map {
         None => Ok(()),
@@ -112,9 +121,11 @@ fn put_effects<O: Sink + Drop>(
     workers: &SiteFile<'_>,
 ) -> Result<(), IoError>
     requires { IsShort workers.now }
-    ensures { (kinds : List (List ℕ × AnyKind)) → (ps : List Property) → IsKindTable table.now kinds
+    ensures added { (kinds : List (List ℕ × AnyKind)) → (ps : List Property) → IsKindTable table.now kinds
         → properties.read_text true workers.now.text.now ≡ Ok ps
-        → AddsText result out.old out.new (notices workers.now.name.now kinds ps) }
+        → AddsText result out.old.said out.new.said (notices workers.now.name.now kinds ps) }
+    ensures cause { HasCause out.old.faults out.new.faults result }
+    ensures steady { IsOk result → out.new.faults ≡ out.old.faults }
 {
     let lines = line_table(alloc, workers.text)?;
     let tables = LineTables {
@@ -133,9 +144,11 @@ fn put_workers<O: Sink + Drop>(
     effects: bool,
 ) -> Result<(), IoError>
     requires { IsShort workers.now }
-    ensures { (config : Config) → (ps : List Property) → IsKindTable table.now (kinds_of config)
+    ensures added { (config : Config) → (ps : List Property) → IsKindTable table.now (kinds_of config)
         → properties.read_text true workers.now.text.now ≡ Ok ps
-        → AddsText result out.old out.new (workers_remarks effects workers.now.name.now config ps) }
+        → AddsText result out.old.said out.new.said (workers_remarks effects workers.now.name.now config ps) }
+    ensures cause { HasCause out.old.faults out.new.faults result }
+    ensures steady { IsOk result → out.new.faults ≡ out.old.faults }
 {
     if effects {
         put_effects(alloc, out, table, workers)
@@ -153,9 +166,11 @@ fn put_accepted<O: Sink + Drop>(
     effects: bool,
 ) -> Result<(), IoError>
     requires short { AreShort files.now }
-    ensures { (ps : List Property) → properties.read_text true files.now.workers.text.now ≡ Ok ps
-        → AddsText result out.old out.new (workers_remarks effects files.now.workers.name.now config.now ps
+    ensures added { (ps : List Property) → properties.read_text true files.now.workers.text.now ≡ Ok ps
+        → AddsText result out.old.said out.new.said (workers_remarks effects files.now.workers.name.now config.now ps
         ++ map_remarks effects config.now (maps_of files.now)) }
+    ensures cause { HasCause out.old.faults out.new.faults result }
+    ensures steady { IsOk result → out.new.faults ≡ out.old.faults }
 {
     let table = kind_table(alloc, config)?;
     put_workers(alloc, out, &table, &files.workers, effects)?;
@@ -171,7 +186,9 @@ pub fn site_remarks<O: Sink + Drop>(
     effects: bool,
 ) -> Result<(), IoError>
     requires short { AreShort files.now }
-    ensures { AddsSaid result out.old out.new (AreRemarks effects (as_file files.now.workers) (maps_of files.now)) }
+    ensures added { AddsSaid result out.old.said out.new.said (AreRemarks effects (as_file files.now.workers) (maps_of files.now)) }
+    ensures cause { HasCause out.old.faults out.new.faults result }
+    ensures steady { IsOk result → out.new.faults ≡ out.old.faults }
 {
     match read_workers(alloc, files.workers.text) {
         Ok(config) => put_accepted(alloc, out, &config, files, effects),

@@ -10,8 +10,9 @@ use Rattle.site_remarks.proofs.map_notices.put_map_notices.Given as goal
 abbrev pub invariant-loop-text : goal.invariant-loop-text
 invariant-loop-text g l = record {
   count : l.line + length l.rest ≤ length l.map.text.now;
+  steady : l.out.faults ≡ l.fn.out.faults;
   said : (kinds : List (List ℕ × WorkerKind)) → IsKindTable l.table kinds
-      → appended l.out (notices_from l.map.name.now (l.line + 1) kinds (lines l.rest)) ≡ appended l.fn.out (map_notices l.map.name.now kinds l.map.text.now);
+      → appended l.out.said (notices_from l.map.name.now (l.line + 1) kinds (lines l.rest)) ≡ appended l.fn.out.said (map_notices l.map.name.now kinds l.map.text.now);
 }
 
 abbrev pub decreases-loop-text : goal.decreases-loop-text

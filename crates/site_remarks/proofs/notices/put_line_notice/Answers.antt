@@ -9,14 +9,14 @@ use Rattle.site_remarks.specs.Notices.{notice}
 use Rattle.site_remarks.proofs.AddedLemmas.{adds_same}
 use Rattle.site_remarks.proofs.notices.put_line_notice.Goals as goal
 
-pub returns-in-None : goal.returns-in-None
-returns-in-None g c = λ kinds ps is are says line.
+pub returns-in-None-clause-added : goal.returns-in-None-clause-added
+returns-in-None-clause-added g c = λ kinds ps is are says line.
     let none : None ≡ says = rw c.in-None.is at (c.in_ok-said_at.ensures says line) in
-    sym (appended-nil c.args.out.now) ∙ ap (λ (o : Option Property). appended c.args.out.now (flat_map (notice c.args.file.now kinds ps) (option_to_list o))) none
+    sym (appended-nil c.args.out.now.said) ∙ ap (λ (o : Option Property). appended c.args.out.now.said (flat_map (notice c.args.file.now kinds ps) (option_to_list o))) none
 
-pub returns-in-Some : goal.returns-in-Some
-returns-in-Some g c = λ kinds ps is are says line.
+pub returns-in-Some-clause-added : goal.returns-in-Some-clause-added
+returns-in-Some-clause-added g c = λ kinds ps is are says line.
     let some : Some (as_property c.in-Some.entry) ≡ says = rw c.in-Some.is at (c.in_ok-said_at.ensures says line) in
     let one = sym (append-nil (notice c.args.file.now kinds ps (as_property c.in-Some.entry))) in
-    adds_same c.put_notice.result _ _ _ _ (c.put_notice.ensures kinds ps is are)
+    adds_same c.put_notice.result _ _ _ _ (c.put_notice.ensures.added kinds ps is are)
     (one ∙ ap (λ (o : Option Property). flat_map (notice c.args.file.now kinds ps) (option_to_list o)) some)

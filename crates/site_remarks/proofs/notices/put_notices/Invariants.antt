@@ -12,8 +12,9 @@ use Rattle.site_remarks.proofs.notices.put_notices.Given as goal
 abbrev pub invariant-loop-line : goal.invariant-loop-line
 invariant-loop-line g l = record {
   count : l.number + length l.rest ≤ length l.workers.text.now;
+  steady : l.out.faults ≡ l.fn.out.faults;
   said : ForTables l.tables (λ kinds ps. read_text true l.workers.text.now ≡ Ok ps
-      → (front : List Property) × IsWalk ps (l.number + 1) l.rest front × (l.out ≡ appended l.fn.out (flat_map (notice l.workers.name.now kinds ps) front)));
+      → (front : List Property) × IsWalk ps (l.number + 1) l.rest front × (l.out.said ≡ appended l.fn.out.said (flat_map (notice l.workers.name.now kinds ps) front)));
 }
 
 abbrev pub decreases-loop-line : goal.decreases-loop-line
