@@ -1,3 +1,4 @@
 pub mod Idle
 pub mod Reaches
 pub mod Backs
+pub mod Begins

@@ -5,22 +5,13 @@ ghost use Rattle.jk_io.specs.Talks.{failed_talk};
 ghost use Rattle.conn_pool.specs.Idle.{HasMember};
 ghost use Rattle.conn_pool.specs.Reaches.{told_begun};
 
+use crate::asked::Asked;
 use crate::keeping::Pools;
 use crate::lent::{Idle, Lent};
 use crate::noted::counted;
 use crate::tape::Tape;
-use jk_io::{Bytes, IoError, Link, NoMemory};
+use jk_io::{IoError, Link, NoMemory};
 use std::sync::Wait;
-
-/// What a talk is begun with.
-#[derive(Clone, Copy)]
-pub(crate) struct Asked<'h> {
-    pub(crate) lb: u32,
-    pub(crate) member: u32,
-    pub(crate) host: &'h Bytes,
-    pub(crate) port: u16,
-    pub(crate) fresh: bool,
-}
 
 /// Begins a talk over an idle link of its member, and says whether there was one. Where the talk can't be noted, the link
 /// goes back to its pool.

@@ -8,6 +8,7 @@
 //! Errors: those of the dial and the links; want of memory.
 #![tactic(auto)]
 
+mod asked;
 mod beginning;
 mod keeping;
 mod lent;

@@ -8,7 +8,8 @@ ghost use Rattle.conn_pool.specs.Idle.{HasMember, counts};
 ghost use Rattle.jk_io.specs.Moments.{moment};
 ghost use Rattle.conn_pool.specs.Reaches.{beside_of, told_begun, GoesBack, ReadsLink, WritesLink, StaysLent};
 
-use crate::beginning::{Asked, begin_idle, begin_new, dialled};
+use crate::asked::{Asked, begin_dialled};
+use crate::beginning::begin_idle;
 use crate::keeping::Pools;
 use crate::lent::{Idle, Lent};
 use crate::noted::{outside_talk, read_lent, write_lent};
@@ -226,16 +227,22 @@ impl<'p, 'r, D: Dial, T: Tape, R: Wait> Reach for PooledReach<'p, 'r, D, T, R> {
             fresh,
         };
         if begin_idle(self.pools, &mut self.tape, &mut self.lent, &asked)? {
-            if let Some(lent) = &self.lent {
-                // Another worker's dial may have made it.
-                self.dial.lend(lent.link());
-            }
+            let Some(lent) = &self.lent else {
+                unreachable!()
+            };
+            // Another worker's dial may have made it.
+            self.dial.lend(lent.link());
             return Ok(false);
         }
         let answer = self.dial.dial(alloc, host, port);
-        let link = dialled(answer, &mut self.tape, &mut self.failed, &asked)?;
-        begin_new(self.pools, &mut self.tape, &mut self.lent, &asked, link)?;
-        Ok(true)
+        begin_dialled(
+            self.pools,
+            &mut self.tape,
+            &mut self.lent,
+            &mut self.failed,
+            &asked,
+            answer,
+        )
     }
 
     fn finish(&mut self, keep: bool)

@@ -36,13 +36,40 @@ pub(crate) fn gather<L: SiteName, S: Drop>(
     ensures forgot { IfOk result (λ g. (g.forgot ≡ false) ↔ All (λ l. l.forgotten ≡ 0) leaving) }
 {
     let alloc = leaving.allocator();
+    let (first, others) = split_first(leaving);
+    let mut all = begin(alloc, first, others.len())?;
+    take_all(&mut all, others)?;
+    Ok(all)
+}
+
+// What the first desk left, and what the others did.
+fn split_first<L: SiteName, S: Drop>(
+    leaving: LeavingList<L, S>,
+) -> (Leaving<L, S>, Vec<Leaving<L, S>>)
+    requires { 0 < length leaving }
+    ensures { leaving ≡ result.0 ∷ result.1.items }
+{
     let mut leaving = leaving.into_vec();
     let first = leaving.remove(0);
-    let mut all = begin(alloc, first, leaving.len())?;
+    (first, leaving)
+}
+
+// Takes what desks left, in order.
+fn take_all<L: SiteName, S: Drop>(
+    all: &mut Gathered<L, S>,
+    leaving: Vec<Leaving<L, S>>,
+) -> Result<(), NoMemory>
+    requires room { vec_len all.old.shelves + vec_len leaving ≤ vec_capacity all.old.shelves }
+    ensures parts { OnOk result (all.new.share.parts ≡ all.old.share.parts + sum_by (λ l. l.share.parts) leaving.items) }
+    ensures amount { OnOk result (all.new.share.amount ≡ all.old.share.amount + sum_by (λ l. l.share.amount) leaving.items) }
+    ensures noted { OnOk result (all.new.noted.items ≡ all.old.noted.items ++ noted (flat_map (λ l. l.receipts) leaving.items)) }
+    ensures shelves { OnOk result (all.new.shelves.items ≡ all.old.shelves.items ++ map (λ l. l.shelf) leaving.items) }
+    ensures forgot { OnOk result ((all.new.forgot ≡ false) ↔ ((all.old.forgot ≡ false) × All (λ l. l.forgotten ≡ 0) leaving.items)) }
+{
     for left in leaving {
-        take(&mut all, left)?;
+        take(all, left)?;
     }
-    Ok(all)
+    Ok(())
 }
 
 // Takes what the first desk left, and the room for `more` shelves.

@@ -1,31 +1,49 @@
--- One desk more.
-use Rattle.std.proofs.Common.{◌≡◌, [], ◌∷◌, length, ap, arith}
-use Rattle.std.proofs.lemmas.List.{length-append}
-use Rattle.site_closing.proofs.ListLaws.{all_step, map_step, noted_step, sum_step}
+-- The first desk and the others are all.
+use Rattle.std.proofs.Common.{◌≡◌}
+use Rattle.site_closing.proofs.ListLaws.{all_of, if_refused, map_of, noted_of, sum_of}
 use Rattle.site_closing.proofs.gather.gather.Goals as goal
 
-pub loop-left-preserved : goal.loop-left-preserved
-loop-left-preserved g c =
-    let is = c.in-Some.ensures.steps.0 in (
-      sum_step _ _ _ _ _ _ _ c.loop-left.invariant.0 is c.take.ensures.parts,
-      sum_step _ _ _ _ _ _ _ c.loop-left.invariant.1 is c.take.ensures.amount,
-      noted_step _ _ _ _ _ _ _ c.loop-left.invariant.2 is c.in_ok-take.ensures.noted,
-      map_step _ _ _ _ _ _ _ c.loop-left.invariant.3 is c.in_ok-take.ensures.shelves,
-      omega (
-        arith,
-        c.loop-left.invariant.4,
-        ap length is,
-        ap length c.in_ok-take.ensures.shelves,
-        length-append c.loop-left.all.shelves.items (c.in-Some.left.shelf ∷ []),
-        c.take.ensures.room,
-        c.loop-left.all.shelves.ok.0,
-        c.take.new.all.shelves.ok.0,
-      ),
-      all_step (λ x. x.forgotten ≡ 0) _ _ _ _ _ _ c.loop-left.invariant.5 is c.take.ensures.forgot,
-    )
+pub returns-in_err-all-clause-parts : goal.returns-in_err-all-clause-parts
+returns-in_err-all-clause-parts g c = if_refused c.from_residual.result _ _ c.from_residual.ensures.1
+
+pub returns-in_err-all-clause-amount : goal.returns-in_err-all-clause-amount
+returns-in_err-all-clause-amount g c = if_refused c.from_residual.result _ _ c.from_residual.ensures.1
+
+pub returns-in_err-all-clause-noted : goal.returns-in_err-all-clause-noted
+returns-in_err-all-clause-noted g c = if_refused c.from_residual.result _ _ c.from_residual.ensures.1
+
+pub returns-in_err-all-clause-shelves : goal.returns-in_err-all-clause-shelves
+returns-in_err-all-clause-shelves g c = if_refused c.from_residual.result _ _ c.from_residual.ensures.1
+
+pub returns-in_err-all-clause-forgot : goal.returns-in_err-all-clause-forgot
+returns-in_err-all-clause-forgot g c = if_refused c.from_residual.result _ _ c.from_residual.ensures.1
+
+pub returns-in_err-take_all-clause-parts : goal.returns-in_err-take_all-clause-parts
+returns-in_err-take_all-clause-parts g c = if_refused c.from_residual-in_err-take_all.result _ _ c.from_residual-in_err-take_all.ensures.1
+
+pub returns-in_err-take_all-clause-amount : goal.returns-in_err-take_all-clause-amount
+returns-in_err-take_all-clause-amount g c = if_refused c.from_residual-in_err-take_all.result _ _ c.from_residual-in_err-take_all.ensures.1
+
+pub returns-in_err-take_all-clause-noted : goal.returns-in_err-take_all-clause-noted
+returns-in_err-take_all-clause-noted g c = if_refused c.from_residual-in_err-take_all.result _ _ c.from_residual-in_err-take_all.ensures.1
+
+pub returns-in_err-take_all-clause-shelves : goal.returns-in_err-take_all-clause-shelves
+returns-in_err-take_all-clause-shelves g c = if_refused c.from_residual-in_err-take_all.result _ _ c.from_residual-in_err-take_all.ensures.1
+
+pub returns-in_err-take_all-clause-forgot : goal.returns-in_err-take_all-clause-forgot
+returns-in_err-take_all-clause-forgot g c = if_refused c.from_residual-in_err-take_all.result _ _ c.from_residual-in_err-take_all.ensures.1
+
+pub returns-clause-parts : goal.returns-clause-parts
+returns-clause-parts g c = sum_of _ _ _ _ _ _ c.split_first-first.ensures c.in_ok-all.ensures.parts c.in_ok-take_all.ensures.parts
+
+pub returns-clause-amount : goal.returns-clause-amount
+returns-clause-amount g c = sum_of _ _ _ _ _ _ c.split_first-first.ensures c.in_ok-all.ensures.amount c.in_ok-take_all.ensures.amount
+
+pub returns-clause-noted : goal.returns-clause-noted
+returns-clause-noted g c = noted_of _ _ _ _ _ _ c.split_first-first.ensures c.in_ok-all.ensures.noted c.in_ok-take_all.ensures.noted
+
+pub returns-clause-shelves : goal.returns-clause-shelves
+returns-clause-shelves g c = map_of _ _ _ _ _ _ c.split_first-first.ensures c.in_ok-all.ensures.shelves c.in_ok-take_all.ensures.shelves
 
 pub returns-clause-forgot : goal.returns-clause-forgot
-returns-clause-forgot g c = (
-  (λ none. c.loop-left.invariant.5.0 (none, λ k d lt. absurd (omega (arith, c.in-None.ensures.steps.0, c.loop-left.left-iterator.rest.ok.0, lt)))),
-  (λ all. (c.loop-left.invariant.5.1 all).0),
-)
+returns-clause-forgot g c = all_of (λ x. x.forgotten ≡ 0) _ _ _ _ _ c.split_first-first.ensures c.in_ok-all.ensures.forgot c.in_ok-take_all.ensures.forgot
