@@ -6,3 +6,4 @@ pub mod MomentLemmas
 pub mod RefusedLemmas
 pub mod TakeLemmas
 pub mod WalkLemmas
+pub mod FillLemmas

@@ -1,6 +1,6 @@
 -- How a turn is served, and how turns make a talk.
-use Rattle.std.proofs.Common.{◌≡◌, ◌≢◌, ℕ, ◌+◌, ◌<◌, Bool, true, false, IsTrue, List, [], ◌∷◌, ◌++◌, length, Err, refl, sym, ap, subst, ◌∙◌, append_assoc, arith, inl, inr, ◌⊎◌}
-use Rattle.std.specs.Prelude.{not, ◌&&◌, if◌then◌else◌, ◌^◌, All}
+use Rattle.std.proofs.Common.{◌≡◌, ◌≢◌, ℕ, ◌+◌, ◌<◌, Bool, true, false, IsTrue, List, [], ◌∷◌, ◌++◌, length, Result, Ok, Err, refl, sym, ap, subst, ◌∙◌, append_assoc, arith, inl, inr, ◌⊎◌}
+use Rattle.std.specs.Prelude.{IfOk, not, ◌&&◌, if◌then◌else◌, ◌^◌, All}
 use Rattle.std.proofs.lemmas.List.Elements.{All-from_recursion}
 use Rattle.std.proofs.lemmas.List.{append-nil}
 use Rattle.jk_io.specs.Told.{Rose}
@@ -26,7 +26,7 @@ use Rattle.mini_container.specs.Answer.{answer_of, bytes_of, IsSendable}
 use Rattle.mini_container.specs.Turns.{Taken, ContainerTurn, Idle, Ping, Request, Turns, data_of, asks_on, ask, owed_for, owed, requests_in}
 use Rattle.jk_io.specs.Moments.{Moment}
 use Rattle.mini_container.specs.Ends.{Goes, TurnPlace, Between, Within, IsRefused, Stops, StopsWithin, StopsInTurn, IsTalk, end_of}
-use Rattle.mini_container.specs.Steps.{TookPacket, NotTaken, NotSent, TookBody, asks, ServedWhole, TookTurn, Reads, is_request, kind_of, requests_of, stop_of}
+use Rattle.mini_container.specs.Steps.{TookPacket, NotTaken, NotSent, TookBody, asks, ServedWhole, TookTurn, TakesTurn, Reads, Sends, is_request, kind_of, requests_of, stop_of}
 use Rattle.mini_container.proofs.StepLaws.{packet-unkept, comes-none, comes-then, goes-none, goes-then, stops-then, stops-reading, stops-sending, stops-wanting}
 use Rattle.mini_container.proofs.FitLaws.{answer-sendable}
 use Rattle.mini_container.proofs.BodyLaws.{bytes_of-append, goes-same}
@@ -161,6 +161,12 @@ ping-served app m0 m1 m2 payload t is goes = record {
       (goes-then m0 m1 m2 t.bytes [] [] (bytes_of (Pong ∷ [])) t.goes goes);
   kind_is = refl;
 }
+
+-- a ping, whether its answer was sent or not
+pub ping-taken : (app : AppConfig) (m0 m1 m2 : Moment) (payload : List ℕ) (result : Result TurnKind Stopped) → TookPacket app.packet m0 m1 payload → payload ≡ 10 ∷ []
+    → Sends (bytes_of (Pong ∷ [])) m1 m2 result → IfOk result (λ kind. kind ≡ kinds.Ping) → TakesTurn app m0 m2 result
+ping-taken app m0 m1 m2 payload (Ok kind) t is sent ping = subst (TookTurn app m0 m2) (sym ping) (ping-served app m0 m1 m2 payload t is sent)
+ping-taken app m0 m1 m2 payload (Err stop) t is sent ping = ping-failed app m0 m1 m2 payload stop t is sent
 
 pub request-stops : (app : AppConfig) (forward : Forward) (m0 m1 m2 : Moment) (payload : List ℕ) (stop : Stopped) → TookPacket app.packet m0 m1 payload
     → SpellsForward forward payload → StopsWithin app forward m1 m2 stop → StopsInTurn app m0 m2 stop

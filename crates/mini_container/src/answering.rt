@@ -58,12 +58,39 @@ fn answer(
 fn whole(alloc: Global, app: &AppConfig, page: AppPage) -> Result<MessageList, NoMemory>
     ensures { IfOk result (λ messages. messages ≡ messages_of app.now.packet page) }
 {
+    page_messages(alloc, app, &page)
+}
+
+fn page_messages(alloc: Global, app: &AppConfig, page: &AppPage) -> Result<MessageList, NoMemory>
+    ensures { IfOk result (λ messages. messages ≡ messages_of app.now.packet page.now) }
+{
     let mut messages = MessageList::new(alloc);
-    messages.push(Message::Headers(head(alloc, &page)?))?;
-    let size = app.packet as usize - CHUNK_FRAME;
-    put_chunks(alloc, &mut messages, page.body.as_slice(), size)?;
-    messages.push(Message::End { reuse: true })?;
+    put_page(alloc, app, page, &mut messages)?;
     Ok(messages)
+}
+
+/// Adds the messages of a page at the end.
+fn put_page(
+    alloc: Global,
+    app: &AppConfig,
+    page: &AppPage,
+    messages: &mut MessageList,
+) -> Result<(), NoMemory>
+    ensures { OnOk result (messages.new ≡ messages.old ++ messages_of app.now.packet page.now) }
+{
+    put_head(alloc, page, messages)?;
+    let size = app.packet as usize - CHUNK_FRAME;
+    put_chunks(alloc, messages, page.body.as_slice(), size)?;
+    messages.push(Message::End { reuse: true })?;
+    Ok(())
+}
+
+/// Adds the head of a page at the end.
+fn put_head(alloc: Global, page: &AppPage, messages: &mut MessageList) -> Result<(), NoMemory>
+    ensures { OnOk result (messages.new ≡ messages.old ++ Message.Headers (head_of page.now) ∷ []) }
+{
+    messages.push(Message::Headers(head(alloc, page)?))?;
+    Ok(())
 }
 
 /// The head of a page.

@@ -1,5 +1,5 @@
 //! A talk with a connector, turn by turn.
-ghost use Rattle.std.specs.Prelude.{◌≡◌, ◌≤◌, [], ◌∷◌};
+ghost use Rattle.std.specs.Prelude.{◌≡◌, ◌≤◌, [], ◌∷◌, Some, IfOk};
 ghost use Rattle.jk_io.specs.Moments.{Moment};
 ghost use Rattle.jk_io.specs.Told.{Rose};
 ghost use Rattle.ajp_reply.specs.declared.message.Message.TheVariants.{Pong};
@@ -82,17 +82,28 @@ fn serve_taken<L: Link>(
     ensures same { L.beside link.new ≡ L.beside link.old }
 {
     match turn_of(payload) {
-        Some(TurnKind::Ping) => {
-            pong(alloc, link, app)?;
-            Ok(TurnKind::Ping)
-        }
-        Some(TurnKind::Request) => {
-            let forward = read_request(alloc, payload)?;
-            serve_request(alloc, link, app, &forward)?;
-            Ok(TurnKind::Request)
-        }
+        Some(TurnKind::Ping) => pong(alloc, link, app),
+        Some(TurnKind::Request) => serve_read(alloc, link, app, payload),
         None => Err(Stopped::Bad(BadPacket::Code)),
     }
+}
+
+/// Serves the request whose Forward Request was taken.
+fn serve_read<L: Link>(
+    alloc: Global,
+    link: &mut L,
+    app: &AppConfig,
+    payload: &[u8],
+) -> Result<TurnKind, Stopped>
+    requires { IsBegun payload.now (Some TurnKind.Request) }
+    ensures took { (before : Moment) → TookPacket app.now.packet before (link_at L.Meanings link.old) payload.now
+        → TakesTurn app.now before (link_at L.Meanings link.new) result }
+    ensures no_fewer { L.faults link.old ≤ L.faults link.new }
+    ensures same { L.beside link.new ≡ L.beside link.old }
+{
+    let forward = read_request(alloc, payload)?;
+    serve_request(alloc, link, app, &forward)?;
+    Ok(TurnKind::Request)
 }
 
 /// Which turn a payload begins: a CPing is the byte 0A alone, and a Forward Request begins with 02.
@@ -107,13 +118,15 @@ fn turn_of(payload: &[u8]) -> Option<TurnKind>
 }
 
 /// Answers a CPing.
-fn pong<L: Link>(alloc: Global, link: &mut L, app: &AppConfig) -> Result<(), Stopped>
+fn pong<L: Link>(alloc: Global, link: &mut L, app: &AppConfig) -> Result<TurnKind, Stopped>
+    ensures kind { IfOk result (λ kind. kind ≡ TurnKind.Ping) }
     ensures sent { Sends (bytes_of (Pong ∷ [])) (link_at L.Meanings link.old) (link_at L.Meanings link.new) result }
     ensures no_fewer { L.faults link.old ≤ L.faults link.new }
     ensures same { L.beside link.new ≡ L.beside link.old }
 {
     let messages = [Message::Pong];
-    send(alloc, link, &messages, app.packet)
+    send(alloc, link, &messages, app.packet)?;
+    Ok(TurnKind::Ping)
 }
 
 fn read_request(alloc: Global, payload: &[u8]) -> Result<Forward, Stopped>

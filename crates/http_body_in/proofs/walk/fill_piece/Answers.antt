@@ -1,30 +1,42 @@
 -- Each exit of the walk, and its two steps.
-use Rattle.std.proofs.Common.{◌≡◌, ℕ, List, ◌+◌, ◌≤◌, ◌<◌, Some, Err, length, take, arith, subst, sym, ap, ◌∙◌}
-use Rattle.std.proofs.lemmas.List.{length-take-le}
+use Rattle.std.proofs.Common.{◌≡◌, ℕ, List, ◌+◌, ◌≤◌, ◌<◌, Some, Err, length, take, inl, inr, arith, subst, sym, ap, ◌∙◌}
 use Rattle.std.proofs.lemmas.Result.{err_from_is_err_and}
 use Rattle.std.proofs.lemmas.Bool.{or_from, true≢false}
 use Rattle.jk_io.specs.Told.{prepended}
 use Rattle.http_body_in.specs.Body.{Uses}
 use Rattle.http_body_in.specs.Falls.{exact_left}
 use Rattle.http_body_in.specs.Places.{data_left, data_step, is_limited}
-use Rattle.http_body_in.specs.Walks.{Fails, IsUnder}
-use Rattle.http_body_in.specs.Wants.{Next}
+use Rattle.http_body_in.specs.Walks.{Fails}
 use Rattle.http_body_in.specs.declared.place.Place.{Place}
-use Rattle.http_body_in.proofs.QuietLemmas.{some-left}
-use Rattle.http_body_in.proofs.WalkLemmas.{fails-long, fails-bad, fails-read, uses-framing, uses-dropped, under-now, data-chunks}
+use Rattle.http_body_in.proofs.FillLemmas.{front-left, front-limit, walked}
+use Rattle.http_body_in.proofs.WalkLemmas.{fails-long, fails-bad, fails-read, uses-framing, uses-dropped, data-chunks}
 use Rattle.http_body_in.proofs.walk.fill_piece.Goals as goal
 
 pub returns-then-is_reached-clause-err : goal.returns-then-is_reached-clause-err
 returns-then-is_reached-clause-err g c =
     fails-long c.args.most c.args.taken c.saturating_add.result c.walk.count _ _ c.args.start c.walk.place c.walk.piece c.walk.invariant.within c.walk.invariant.uses c.saturating_add.ensures (sym c.is_reached.ensures ∙ c.if-is_reached.true)
 
+pub returns-then-count-piece-clause-ok : goal.returns-then-count-piece-clause-ok
+returns-then-count-piece-clause-ok g c =
+    let limit = front-limit c.args.start c.walk.place c.args.most c.args.taken c.walk.count c.saturating_add.result c.saturating_add.ensures (sym c.is_reached.ensures ∙ c.if-is_reached.false) c.walk.invariant.under (omega (arith, c.ranges.most)) in
+    walked c.args.start c.walk.place c.args.most c.args.taken c.walk.count c.saturating_add.result _ _ c.walk.piece c.walk.invariant.within c.walk.invariant.uses
+    c.saturating_add.ensures (sym c.is_reached.ensures ∙ c.if-is_reached.false) limit (inl c.if-count-piece.true)
+
+pub returns-then-is_whole-clause-ok : goal.returns-then-is_whole-clause-ok
+returns-then-is_whole-clause-ok g c =
+    let limit = front-limit c.args.start c.walk.place c.args.most c.args.taken c.walk.count c.saturating_add.result c.saturating_add.ensures (sym c.is_reached.ensures ∙ c.if-is_reached.false) c.walk.invariant.under (omega (arith, c.ranges.most)) in
+    walked c.args.start c.walk.place c.args.most c.args.taken c.walk.count c.saturating_add.result _ _ c.walk.piece c.walk.invariant.within c.walk.invariant.uses
+    c.saturating_add.ensures (sym c.is_reached.ensures ∙ c.if-is_reached.false) limit (inr (sym c.is_whole.ensures ∙ c.if-is_whole.true))
+
 pub returns-then-is_bad-clause-err : goal.returns-then-is_bad-clause-err
 returns-then-is_bad-clause-err g c =
+    let limit = front-limit c.args.start c.walk.place c.args.most c.args.taken c.walk.count c.saturating_add.result c.saturating_add.ensures (sym c.is_reached.ensures ∙ c.if-is_reached.false) c.walk.invariant.under (omega (arith, c.ranges.most)) in
     fails-bad c.args.most c.args.taken c.walk.count _ _ c.args.start c.walk.place c.walk.piece (omega (arith, c.walk.invariant.within, c.if-count-piece.false)) c.walk.invariant.uses (sym c.is_bad.ensures ∙ c.if-is_bad.true)
-    (λ limited. (under-now c.args.start c.walk.place c.args.most c.args.taken c.walk.count c.saturating_add.result c.saturating_add.ensures (sym c.is_reached.ensures ∙ c.if-is_reached.false) (λ out chunks. omega (arith, c.walk.invariant.under out chunks, c.saturating_add.ensures)) (omega (arith, c.ranges.most)) limited).1)
+    (λ limited. (limit limited).1)
 
 pub returns-in_err-place-clause-err : goal.returns-in_err-place-clause-err
 returns-in_err-place-clause-err g c =
+    let limit = front-limit c.args.start c.walk.place c.args.most c.args.taken c.walk.count c.saturating_add.result c.saturating_add.ensures (sym c.is_reached.ensures ∙ c.if-is_reached.false) c.walk.invariant.under (omega (arith, c.ranges.most)) in
     let e = c.in_err-place.ensures in
     let why = c.in_err-place.field-0.0 in
     let p = err_from_is_err_and c.from_residual.result c.from_residual.ensures.1 in
@@ -33,16 +45,17 @@ returns-in_err-place-clause-err g c =
     let fails = fails-read c.args.most c.args.taken c.walk.count _ _ _ c.args.start c.walk.place c.walk.piece why (omega (arith, c.walk.invariant.within, c.if-count-piece.false)) c.walk.invariant.uses e.err
     (or_from _ _ (sym c.is_whole.ensures ∙ c.if-is_whole.false) (sym c.is_bad.ensures ∙ c.if-is_bad.false))
     (λ is. e.end (ap Err is)) (λ is. e.kind.0 (ap Err is)) (λ is. e.kind.1 (ap Err is))
-    (λ limited. (under-now c.args.start c.walk.place c.args.most c.args.taken c.walk.count c.saturating_add.result c.saturating_add.ensures (sym c.is_reached.ensures ∙ c.if-is_reached.false) (λ out chunks. omega (arith, c.walk.invariant.under out chunks, c.saturating_add.ensures)) (omega (arith, c.ranges.most)) limited).1) in
+    (λ limited. (limit limited).1) in
     rw same fails
 
 pub walk-preserved-then-left-eq0 : goal.walk-preserved-then-left-eq0
 walk-preserved-then-left-eq0 g c =
+    let limit = front-limit c.args.start c.walk.place c.args.most c.args.taken c.walk.count c.saturating_add.result c.saturating_add.ensures (sym c.is_reached.ensures ∙ c.if-is_reached.false) c.walk.invariant.under (omega (arith, c.ranges.most)) in
     let I = c.walk.invariant in
     let e = c.in_ok-place.ensures in
     record {
       within = I.within;
-      under = λ out limited. omega (arith, (under-now c.args.start c.walk.place c.args.most c.args.taken c.walk.count c.saturating_add.result c.saturating_add.ensures (sym c.is_reached.ensures ∙ c.if-is_reached.false) (λ gone chunks. omega (arith, I.under gone chunks, c.saturating_add.ensures)) (omega (arith, c.ranges.most)) limited).0, c.saturating_add.ensures);
+      under = λ out limited. (limit limited).0;
       exact = λ limited. e.chunked;
       uses = uses-framing _ _ _ c.args.start c.walk.place c.in_ok-place.place (take c.walk.count c.walk.piece) I.uses e.ok;
       sent = e.same.0 ∙ I.sent;
@@ -50,14 +63,13 @@ walk-preserved-then-left-eq0 g c =
       steady = e.steady tt ∙ I.steady;
       quiet = λ decided.
           let q = I.quiet decided in
-          let len : length (take c.walk.count c.walk.piece) ≡ c.walk.count = length-take-le c.walk.count c.walk.piece I.within in
-          let below : IsUnder c.args.most c.args.taken c.args.start (take c.walk.count c.walk.piece) = λ limited. omega (arith, len, (under-now c.args.start c.walk.place c.args.most c.args.taken c.walk.count c.saturating_add.result c.saturating_add.ensures (sym c.is_reached.ensures ∙ c.if-is_reached.false) (λ out chunks. omega (arith, c.walk.invariant.under out chunks, c.saturating_add.ensures)) (omega (arith, c.ranges.most)) limited).1) in
-          let some = some-left (Next (length c.args.piece.now)) _ _ c.args.inbox.now c.walk.inbox c.args.start c.walk.place (take c.walk.count c.walk.piece) q.1 (or_from _ _ (sym c.is_whole.ensures ∙ c.if-is_whole.false) (sym c.is_bad.ensures ∙ c.if-is_bad.false)) (omega (arith, len, I.within, c.if-count-piece.false, c.walk.auto.piece)) below decided in
+          let some = front-left c.args.start c.walk.place c.args.most c.args.taken c.walk.count (length c.args.piece.now) c.args.inbox.now c.walk.inbox c.walk.piece c.walk.invariant.within c.if-count-piece.false (omega (arith, c.walk.auto.piece)) q.1 (sym c.is_whole.ensures ∙ c.if-is_whole.false) (sym c.is_bad.ensures ∙ c.if-is_bad.false) limit decided in
           (e.unasked some ∙ q.0, uses-framing _ _ _ c.args.start c.walk.place c.in_ok-place.place (take c.walk.count c.walk.piece) q.1 (e.inside some));
     }
 
 pub returns-in_err-came-clause-err : goal.returns-in_err-came-clause-err
 returns-in_err-came-clause-err g c =
+    let limit = front-limit c.args.start c.walk.place c.args.most c.args.taken c.walk.count c.saturating_add.result c.saturating_add.ensures (sym c.is_reached.ensures ∙ c.if-is_reached.false) c.walk.invariant.under (omega (arith, c.ranges.most)) in
     let e = c.in_err-came.ensures in
     let why = c.in_err-came.field-0.0 in
     let p = err_from_is_err_and c.from_residual-in_err-came.result c.from_residual-in_err-came.ensures.1 in
@@ -65,13 +77,14 @@ returns-in_err-came-clause-err g c =
     let fails = fails-read c.args.most c.args.taken c.walk.count _ _ _ c.args.start c.walk.place c.walk.piece why (omega (arith, c.walk.invariant.within, c.if-count-piece.false)) c.walk.invariant.uses e.err
     (or_from _ _ (sym c.is_whole.ensures ∙ c.if-is_whole.false) (sym c.is_bad.ensures ∙ c.if-is_bad.false))
     (λ is. e.end (ap Err is)) (λ is. e.kind.0 (ap Err is)) (λ is. e.kind.1 (ap Err is))
-    (λ limited. (under-now c.args.start c.walk.place c.args.most c.args.taken c.walk.count c.saturating_add.result c.saturating_add.ensures (sym c.is_reached.ensures ∙ c.if-is_reached.false) (λ out chunks. omega (arith, c.walk.invariant.under out chunks, c.saturating_add.ensures)) (omega (arith, c.ranges.most)) limited).1) in
+    (λ limited. (limit limited).1) in
     let len : length c.take_data.new.piece ≡ length c.walk.piece = omega (arith, c.take_data.auto.piece) in
     let P : ℕ → Type 0 = λ n. Fails c.args.most c.args.taken n (prepended c.args.inbox.now (g.C.Meanings.incoming c.args.client.now)) (prepended c.take_data.new.inbox (g.C.Meanings.incoming c.take_data.new.client)) c.args.start why in
     rw same (subst P (sym len) fails)
 
 pub walk-preserved : goal.walk-preserved
 walk-preserved g c =
+    let limit = front-limit c.args.start c.walk.place c.args.most c.args.taken c.walk.count c.saturating_add.result c.saturating_add.ensures (sym c.is_reached.ensures ∙ c.if-is_reached.false) c.walk.invariant.under (omega (arith, c.ranges.most)) in
     let I = c.walk.invariant in
     let e = c.in_ok-came.ensures in
     let came = c.in_ok-came.came in
@@ -93,9 +106,7 @@ walk-preserved g c =
       steady = e.steady tt ∙ I.steady;
       quiet = λ decided.
           let q = I.quiet decided in
-          let have : length (take c.walk.count c.walk.piece) ≡ c.walk.count = length-take-le c.walk.count c.walk.piece I.within in
-          let below : IsUnder c.args.most c.args.taken c.args.start (take c.walk.count c.walk.piece) = λ limited. omega (arith, have, (under-now c.args.start c.walk.place c.args.most c.args.taken c.walk.count c.saturating_add.result c.saturating_add.ensures (sym c.is_reached.ensures ∙ c.if-is_reached.false) (λ out chunks. omega (arith, c.walk.invariant.under out chunks, c.saturating_add.ensures)) (omega (arith, c.ranges.most)) limited).1) in
-          let more = some-left (Next (length c.args.piece.now)) _ _ c.args.inbox.now c.walk.inbox c.args.start c.walk.place (take c.walk.count c.walk.piece) q.1 (or_from _ _ (sym c.is_whole.ensures ∙ c.if-is_whole.false) (sym c.is_bad.ensures ∙ c.if-is_bad.false)) (omega (arith, have, I.within, c.if-count-piece.false, c.walk.auto.piece)) below decided in
+          let more = front-left c.args.start c.walk.place c.args.most c.args.taken c.walk.count (length c.args.piece.now) c.args.inbox.now c.walk.inbox c.walk.piece c.walk.invariant.within c.if-count-piece.false (omega (arith, c.walk.auto.piece)) q.1 (sym c.is_whole.ensures ∙ c.if-is_whole.false) (sym c.is_bad.ensures ∙ c.if-is_bad.false) limit decided in
           let Q : Place → Type 0 = λ p. Uses (Some c.args.inbox.now) (Some c.take_data.new.inbox) c.args.start p (take (c.walk.count + came) c.take_data.new.piece) in
           let S : List ℕ → Type 0 = λ l. Uses (Some c.args.inbox.now) (Some c.take_data.new.inbox) c.args.start (data_step c.walk.place came) l in (
             e.unasked more ∙ q.0,
@@ -118,14 +129,12 @@ returns-then-is_whole-clause-unasked g c = λ decided. (c.walk.invariant.quiet d
 
 pub returns-in_err-place-clause-unasked : goal.returns-in_err-place-clause-unasked
 returns-in_err-place-clause-unasked g c = λ decided.
+    let limit = front-limit c.args.start c.walk.place c.args.most c.args.taken c.walk.count c.saturating_add.result c.saturating_add.ensures (sym c.is_reached.ensures ∙ c.if-is_reached.false) c.walk.invariant.under (omega (arith, c.ranges.most)) in
     let q = c.walk.invariant.quiet decided in
-    let have : length (take c.walk.count c.walk.piece) ≡ c.walk.count = length-take-le c.walk.count c.walk.piece c.walk.invariant.within in
-    let below : IsUnder c.args.most c.args.taken c.args.start (take c.walk.count c.walk.piece) = λ limited. omega (arith, have, (under-now c.args.start c.walk.place c.args.most c.args.taken c.walk.count c.saturating_add.result c.saturating_add.ensures (sym c.is_reached.ensures ∙ c.if-is_reached.false) (λ out chunks. omega (arith, c.walk.invariant.under out chunks, c.saturating_add.ensures)) (omega (arith, c.ranges.most)) limited).1) in
-    c.pass_framing.ensures.unasked (some-left (Next (length c.args.piece.now)) _ _ c.args.inbox.now c.walk.inbox c.args.start c.walk.place (take c.walk.count c.walk.piece) q.1 (or_from _ _ (sym c.is_whole.ensures ∙ c.if-is_whole.false) (sym c.is_bad.ensures ∙ c.if-is_bad.false)) (omega (arith, have, c.walk.invariant.within, c.if-count-piece.false, c.walk.auto.piece)) below decided) ∙ q.0
+    c.pass_framing.ensures.unasked (front-left c.args.start c.walk.place c.args.most c.args.taken c.walk.count (length c.args.piece.now) c.args.inbox.now c.walk.inbox c.walk.piece c.walk.invariant.within c.if-count-piece.false (omega (arith, c.walk.auto.piece)) q.1 (sym c.is_whole.ensures ∙ c.if-is_whole.false) (sym c.is_bad.ensures ∙ c.if-is_bad.false) limit decided) ∙ q.0
 
 pub returns-in_err-came-clause-unasked : goal.returns-in_err-came-clause-unasked
 returns-in_err-came-clause-unasked g c = λ decided.
+    let limit = front-limit c.args.start c.walk.place c.args.most c.args.taken c.walk.count c.saturating_add.result c.saturating_add.ensures (sym c.is_reached.ensures ∙ c.if-is_reached.false) c.walk.invariant.under (omega (arith, c.ranges.most)) in
     let q = c.walk.invariant.quiet decided in
-    let have : length (take c.walk.count c.walk.piece) ≡ c.walk.count = length-take-le c.walk.count c.walk.piece c.walk.invariant.within in
-    let below : IsUnder c.args.most c.args.taken c.args.start (take c.walk.count c.walk.piece) = λ limited. omega (arith, have, (under-now c.args.start c.walk.place c.args.most c.args.taken c.walk.count c.saturating_add.result c.saturating_add.ensures (sym c.is_reached.ensures ∙ c.if-is_reached.false) (λ out chunks. omega (arith, c.walk.invariant.under out chunks, c.saturating_add.ensures)) (omega (arith, c.ranges.most)) limited).1) in
-    c.take_data.ensures.unasked (some-left (Next (length c.args.piece.now)) _ _ c.args.inbox.now c.walk.inbox c.args.start c.walk.place (take c.walk.count c.walk.piece) q.1 (or_from _ _ (sym c.is_whole.ensures ∙ c.if-is_whole.false) (sym c.is_bad.ensures ∙ c.if-is_bad.false)) (omega (arith, have, c.walk.invariant.within, c.if-count-piece.false, c.walk.auto.piece)) below decided) ∙ q.0
+    c.take_data.ensures.unasked (front-left c.args.start c.walk.place c.args.most c.args.taken c.walk.count (length c.args.piece.now) c.args.inbox.now c.walk.inbox c.walk.piece c.walk.invariant.within c.if-count-piece.false (omega (arith, c.walk.auto.piece)) q.1 (sym c.is_whole.ensures ∙ c.if-is_whole.false) (sym c.is_bad.ensures ∙ c.if-is_bad.false) limit decided) ∙ q.0
