@@ -1,10 +1,11 @@
 -- What a request is answered with by its status worker.
-use Rattle.std.proofs.Common.{◌≡◌, ◌<◌, ◌≤◌, ℕ, Bool, List, get_or, [], ◌∷◌, Option, IsSome, Some, Ok, Err, refl, sym, subst, inl, inr, ap, ◌∙◌, length, arith}
+use Rattle.std.proofs.Common.{◌≡◌, ◌<◌, ◌≤◌, ℕ, Bool, List, get_or, [], ◌∷◌, Option, IsSome, None, Some, Ok, Err, refl, sym, subst, inl, inr, ap, ◌∙◌, length, arith}
 use Rattle.std.proofs.lemmas.Option.{slice_get_read}
 use Rattle.jk_io.specs.Moments.{Moment}
 use Rattle.jk_model.specs.declared.served.Asked.{Asked}
 use Rattle.jk_model.specs.declared.served.Asked.TheVariants as asked
 use Rattle.jk_model.specs.declared.served.Served.{Served}
+use Rattle.http_front.specs.declared.head.BodyPlan.{BodyPlan}
 use Rattle.http_front.specs.declared.head.Head.{Head}
 use Rattle.http_body_in.specs.declared.body.BodyIn.{BodyIn}
 use Rattle.site_config.specs.declared.config.Named.{Named}
@@ -13,19 +14,21 @@ use Rattle.site_config.specs.declared.config.Status.{Status}
 use Rattle.balancer_core.specs.Desks.{DeskState, MeetsNone}
 use Rattle.status_worker.proofs.DeskLaws.{none_met}
 use Rattle.exchange.specs.Requests.{is_head}
-use Rattle.client_session.specs.Answers.{IsAnswer, IsAnswerAt, IsAtStatus, IsStatusAnswer, StopsEarly}
-use Rattle.client_session.specs.Concluding.{IsKnownStop, rows_of, settled_by, stopped_by}
+use Rattle.client_session.specs.Answers.{IsAnswer, IsAnswerAt, IsAtStatus, IsStatusAnswer, StopsEarly, own_for}
+use Rattle.client_session.specs.Concluding.{IsKnownStop, IsNotFound, rows_of, settled_by, stopped_by}
 use Rattle.client_session.specs.Ends.{MeetsBy, RisesBy, end_of}
-use Rattle.client_session.specs.Requests.{Visit, continue_for, mounted_at}
+use Rattle.client_session.specs.Requests.{IsNewBody, Visit, continue_for, mounted_at}
 use Rattle.client_session.specs.Rows.{worker_row}
-use Rattle.client_session.specs.Standings.{ClientStanding}
-use Rattle.client_session.specs.Turns.{MeetsInAnswer, RisesInAnswer}
-use Rattle.client_session.specs.Writing.{BreaksOff}
+use Rattle.client_session.specs.Standings.{Puts, ClientStanding}
+use Rattle.client_session.specs.Turns.{GoesOn, MeetsInAnswer, RisesInAnswer}
+use Rattle.client_session.specs.Writing.{BreaksOff, WritesOwn}
 use Rattle.client_session.specs.declared.ending.SessionStop.{SessionStop}
 use Rattle.client_session.specs.declared.ending.SessionStop.TheVariants as stop
 use Rattle.client_session.specs.declared.ending.Why.TheVariants as why
+use Rattle.client_session.specs.declared.turn.Answered.{Answered}
 use Rattle.client_session.specs.declared.turn.Answered.TheVariants as answered
 use Rattle.client_session.specs.declared.turn.Settled.{Settled}
+use Rattle.client_session.proofs.WritingLaws.{own_no_fewer}
 
 abbrev pub line_of : Head → Asked
 line_of head = asked.Line head.method head.target head.old
@@ -174,3 +177,77 @@ no_fewer_early bytes s n stop.ClientFault (inr writes) = writes.1.no_fewer
 no_fewer_early bytes s n stop.Truncated (inr writes) = absurd writes
 no_fewer_early bytes s n (stop.Stray ticket returned_at) (inr writes) = absurd writes
 no_fewer_early bytes s n stop.NoMemory (inr writes) = writes.no_fewer
+
+-- ---- a request that is mounted nowhere
+
+not_found_by : (v : Visit) (head : Head) (s : ClientStanding) (w : Moment) (x : SessionStop) → mounted_at v head ≡ None → WritesOwn 404 (is_head head) s.client w x
+    → StopsEarly v head s (record s { client = w }) (settled_by x (line_of head) (is_head head)).answered (rows_of (settled_by x (line_of head) (is_head head)).row)
+not_found_by v head s w (stop.Closed why.ByClient) none writes = absurd writes
+not_found_by v head s w (stop.Closed why.Last) none writes = absurd writes
+not_found_by v head s w (stop.Closed (why.Own code)) none writes =
+    (writes.0, none, record { puts = subst (λ (k : ℕ). Puts s.client w (own_for k (is_head head))) (sym writes.0) writes.1; alone = refl }, refl)
+not_found_by v head s w (stop.Closed why.Cut) none writes = absurd writes
+not_found_by v head s w (stop.Closed why.Unread) none writes = absurd writes
+not_found_by v head s w stop.ClientFault none writes = (refl, writes.0, inl (none, record { puts = writes.1; alone = refl }))
+not_found_by v head s w stop.Truncated none writes = absurd writes
+not_found_by v head s w (stop.Stray ticket returned_at) none writes = absurd writes
+not_found_by v head s w stop.NoMemory none writes = (refl, inr (inl (none, record { puts = writes; alone = refl })))
+
+pub not_found_answers : (v : Visit) (head : Head) (last : Bool) (s : ClientStanding) (w : Moment) (body : BodyIn) (settled : Settled) → mounted_at v head ≡ None
+    → IsNotFound head s.client w settled → IsAnswer v head last s (record s { client = w }) body body settled.answered (rows_of settled.row)
+not_found_answers v head last s w body settled none (inl (same, is)) =
+    subst (λ (x : Settled). IsAnswer v head last s (record s { client = w }) body body x.answered (rows_of x.row)) (sym is)
+    (inl (refl, inl (ap (λ (m : Moment). record s { client = m }) same)))
+not_found_answers v head last s w body settled none (inr (stop', writes, is)) =
+    subst (λ (x : Settled). IsAnswer v head last s (record s { client = w }) body body x.answered (rows_of x.row)) (sym is)
+    (inl (not_found_by v head s w stop' none writes))
+
+not_found_meets_by : (head_only : Bool) (line : Asked) (s n : Moment) (x : SessionStop) (desk : DeskState) → WritesOwn 404 head_only s n x
+    → MeetsInAnswer (settled_by x line head_only).answered desk desk
+not_found_meets_by head_only line s n (stop.Closed why.ByClient) desk writes = absurd writes
+not_found_meets_by head_only line s n (stop.Closed why.Last) desk writes = absurd writes
+not_found_meets_by head_only line s n (stop.Closed (why.Own code)) desk writes = none_met desk
+not_found_meets_by head_only line s n (stop.Closed why.Cut) desk writes = absurd writes
+not_found_meets_by head_only line s n (stop.Closed why.Unread) desk writes = absurd writes
+not_found_meets_by head_only line s n stop.ClientFault desk writes = none_met desk
+not_found_meets_by head_only line s n stop.Truncated desk writes = absurd writes
+not_found_meets_by head_only line s n (stop.Stray ticket returned_at) desk writes = absurd writes
+not_found_meets_by head_only line s n stop.NoMemory desk writes = none_met desk
+
+pub not_found_meets : (head : Head) (s n : Moment) (settled : Settled) (desk : DeskState) → IsNotFound head s n settled → MeetsInAnswer settled.answered desk desk
+not_found_meets head s n settled desk (inl (same, is)) = subst (λ (x : Settled). MeetsInAnswer x.answered desk desk) (sym is) (none_met desk)
+not_found_meets head s n settled desk (inr (stop', writes, is)) =
+    subst (λ (x : Settled). MeetsInAnswer x.answered desk desk) (sym is) (not_found_meets_by (is_head head) (line_of head) s n stop' desk writes)
+
+not_found_rises_by : (head_only : Bool) (line : Asked) (s n : Moment) (x : SessionStop) → WritesOwn 404 head_only s n x
+    → RisesInAnswer (settled_by x line head_only).answered s.faults n.faults
+not_found_rises_by head_only line s n (stop.Closed why.ByClient) writes = absurd writes
+not_found_rises_by head_only line s n (stop.Closed why.Last) writes = absurd writes
+not_found_rises_by head_only line s n (stop.Closed (why.Own code)) writes = tt
+not_found_rises_by head_only line s n (stop.Closed why.Cut) writes = absurd writes
+not_found_rises_by head_only line s n (stop.Closed why.Unread) writes = absurd writes
+not_found_rises_by head_only line s n stop.ClientFault writes = writes.0
+not_found_rises_by head_only line s n stop.Truncated writes = absurd writes
+not_found_rises_by head_only line s n (stop.Stray ticket returned_at) writes = absurd writes
+not_found_rises_by head_only line s n stop.NoMemory writes = tt
+
+pub not_found_rises : (head : Head) (s n : Moment) (settled : Settled) → IsNotFound head s n settled → RisesInAnswer settled.answered s.faults n.faults
+not_found_rises head s n settled (inl (same, is)) = subst (λ (x : Settled). RisesInAnswer x.answered s.faults n.faults) (sym is) tt
+not_found_rises head s n settled (inr (stop', writes, is)) =
+    subst (λ (x : Settled). RisesInAnswer x.answered s.faults n.faults) (sym is) (not_found_rises_by (is_head head) (line_of head) s n stop' writes)
+
+pub not_found_no_fewer : (head : Head) (s n : Moment) (settled : Settled) → IsNotFound head s n settled → s.faults ≤ n.faults
+not_found_no_fewer head s n settled (inl (same, is)) = subst (λ (m : Moment). s.faults ≤ m.faults) (sym same) (omega arith)
+not_found_no_fewer head s n settled (inr (stop', writes, is)) = own_no_fewer 404 (is_head head) s n stop' writes
+
+-- ---- a request that goes on to its worker
+
+pub told_on : (v : Visit) (head : Head) (last : Bool) (s n : ClientStanding) (w : Moment) (body body' : BodyIn) (a : Answered) (rows : List Served) (worker : Named) → mounted_at v head ≡ Some worker
+    → Puts s.client w (continue_for head) → IsAnswerAt v head last (record s { client = w }) n body body' a rows → IsAnswer v head last s n body body' a rows
+told_on v head last s n w body body' a rows worker mounted puts at =
+    inr (record s { client = w }, record { mounted = subst (λ (o : Option Named). IsSome o) (sym mounted) refl; written = record { puts = puts; alone = refl } }, at)
+
+-- no call on a new body had failed
+pub goes_on_new : (a : Answered) (plan : BodyPlan) (body : BodyIn) → IsNewBody plan body → GoesOn a body
+goes_on_new answered.Whole plan body fresh = fresh.going
+goes_on_new (answered.Not stop') plan body fresh = tt

@@ -1,6 +1,8 @@
 -- What the client's bytes decide of a session's end.
-use Rattle.std.proofs.Common.{◌≡◌, ℕ, ◌⊎◌, Bool, true, List, [], ◌++◌, Option, Some, None, IsSome, slice_get, refl, sym, subst, inl, inr, ap, ◌∙◌, arith, append_assoc, append-nil, length-append}
+use Rattle.std.proofs.Common.{◌≡◌, ℕ, ◌⊎◌, Bool, true, false, List, [], ◌++◌, Option, Some, None, IsSome, slice_get, refl, sym, subst, inl, inr, ap, ◌∙◌, arith, append_assoc, append-nil, length-append}
+use Rattle.std.proofs.lemmas.Bool.{both_ways, false≢true}
 use Rattle.std.proofs.lemmas.List.{take-append-le}
+use Rattle.std.proofs.lemmas.Option.{none-some, same_Some}
 use Rattle.jk_io.specs.Told.{prepended}
 use Rattle.jk_model.specs.declared.served.Served.{Served}
 use Rattle.http_front.specs.Answer.{UsesEnd}
@@ -17,7 +19,7 @@ use Rattle.site_config.specs.declared.config.Config.{Config}
 use Rattle.site_config.specs.declared.config.Named.TheVariants as named
 use Rattle.site_config.specs.declared.config.Status.{Status}
 use Rattle.status_page.specs.BookCommands.{commands_for}
-use Rattle.status_page.specs.Effects.{is_change}
+use Rattle.status_page.specs.Effects.{is_change, worker_of}
 use Rattle.status_page.specs.Meaning.{meaning_of}
 use Rattle.status_page.specs.declared.command.StatusCommand.{StatusCommand}
 use Rattle.status_worker.specs.Commands.{Asks, IsAllowed, IsRefused, IsWorkFor, NamesNone, TurnsAway}
@@ -34,6 +36,19 @@ use Rattle.client_session.specs.declared.ending.SessionStop.TheVariants as stop
 use Rattle.client_session.specs.declared.ending.Why.TheVariants as why
 use Rattle.client_session.specs.declared.turn.Answered.{Answered}
 use Rattle.client_session.specs.declared.turn.Answered.TheVariants as answered
+
+-- ---- an option is one thing, whatever it is computed from
+
+one_some : {A : Type 0} (o : Option A) (a b : A) → o ≡ Some a → o ≡ Some b → a ≡ b
+one_some o a b one two = same_Some a b (sym one ∙ two)
+
+not_none : {A : Type 0} (o : Option A) (a : A) → o ≡ None → o ≡ Some a → ⊥
+not_none o a none some = none-some a (sym none ∙ some)
+
+is_none : {A : Type 0} (o : Option A) → IsSome o → o ≡ None → ⊥
+is_none {A} o some none = false≢true (subst (λ (x : Option A). IsSome x) none some)
+
+-- ---- a fact of an end that neither failed nor wanted memory
 
 calmly_on : {P Q : Type 0} (end : SessionEnd) → Calmly end P → (P → Q) → Calmly end Q
 calmly_on (session_end.Closed requests why') p f = f p
@@ -99,13 +114,16 @@ end_bytes before now bytes uses told =
 
 -- ---- a status worker refuses a query in one way
 
-not_allowed : (status : Status) (a b c : StatusCommand) (query : Option (List ℕ)) → meaning_of query ≡ Some a → meaning_of query ≡ Some b → IsAllowed status a
-    → b ≡ c → is_change c ≡ true → status.read_only ≡ true → ⊥
-not_allowed status a b c query one two (inl unchanged) same changes only = let e : a ≡ b = cc in absurd cc
-not_allowed status a b c query one two (inr free) same changes only = absurd cc
+not_allowed : (status : Status) (a b : StatusCommand) → a ≡ b → IsAllowed status a → is_change b ≡ true → status.read_only ≡ true → ⊥
+not_allowed status a b same (inl unchanged) changes only =
+    both_ways (is_change b) (subst (λ (c : StatusCommand). is_change c ≡ false) same unchanged) changes
+not_allowed status a b same (inr free) changes only = both_ways status.read_only free only
+
+same_command : (query : Option (List ℕ)) (a b : StatusCommand) → meaning_of query ≡ Some a → meaning_of query ≡ Some b → a ≡ b
+same_command query a b one two = one_some (meaning_of query) a b one two
 
 none_some : (query : Option (List ℕ)) (c : StatusCommand) → meaning_of query ≡ None → meaning_of query ≡ Some c → ⊥
-none_some query c none some = absurd cc
+none_some query c none some = not_none (meaning_of query) c none some
 
 refused_one : (cfg : Config) (status : Status) (query : Option (List ℕ)) (code other : ℕ) → IsRefused cfg status query code → IsRefused cfg status query other
     → code ≡ other
@@ -114,37 +132,33 @@ refused_one cfg status query code other (inl a) (inr (inl b)) = absurd (none_som
 refused_one cfg status query code other (inl a) (inr (inr b)) = absurd (none_some query b.0 a.1 b.2)
 refused_one cfg status query code other (inr (inl a)) (inl b) = absurd (none_some query a.0 b.1 a.2)
 refused_one cfg status query code other (inr (inl a)) (inr (inl b)) = a.1 ∙ sym b.1
-refused_one cfg status query code other (inr (inl a)) (inr (inr b)) = absurd (not_allowed status b.0 a.0 a.0 query b.2 a.2 b.3 refl a.3 a.4)
+refused_one cfg status query code other (inr (inl a)) (inr (inr b)) = absurd (not_allowed status b.0 a.0 (same_command query b.0 a.0 b.2 a.2) b.3 a.3 a.4)
 refused_one cfg status query code other (inr (inr a)) (inl b) = absurd (none_some query a.0 b.1 a.2)
-refused_one cfg status query code other (inr (inr a)) (inr (inl b)) = absurd (not_allowed status a.0 b.0 b.0 query a.2 b.2 a.3 refl b.3 b.4)
+refused_one cfg status query code other (inr (inr a)) (inr (inl b)) = absurd (not_allowed status a.0 b.0 (same_command query a.0 b.0 a.2 b.2) a.3 b.3 b.4)
 refused_one cfg status query code other (inr (inr a)) (inr (inr b)) = a.1 ∙ sym b.1
 
-same_command : (a b : StatusCommand) (query : Option (List ℕ)) → meaning_of query ≡ Some a → meaning_of query ≡ Some b → a ≡ b
-same_command a b query one two = cc
+one_balancer : (a b : ℕ) → named.Balancer a ≡ named.Balancer b → a ≡ b
+one_balancer a b same = cc
 
 named_none : (cfg : Config) (c : StatusCommand) (work : Work) → NamesNone cfg c → IsWorkFor cfg c work → ⊥
-named_none cfg c work (name, of, why') (inl unnamed) = let e = unnamed.0 in absurd cc
+named_none cfg c work (name, of, why') (inl unnamed) = not_none (worker_of c) name unnamed.0 of
 named_none cfg c work (name, of, inl nowhere) (inr (name', place, lb, of', is, only, done)) =
-    let same : name' ≡ name = cc in
-    nowhere place (subst (λ (x : List ℕ). named_among x cfg.listed ≡ Some (named.Balancer place)) same is.named)
+    nowhere place (subst (λ (x : List ℕ). named_among x cfg.listed ≡ Some (named.Balancer place)) (one_some (worker_of c) name' name of' of) is.named)
 named_none cfg c work (name, of, inr (place, lb, is, none)) (inr (name', place', lb', of', is', only, done)) =
-    let same : name' ≡ name = cc in
-    let here : named_among name cfg.listed ≡ Some (named.Balancer place) = is.named in
     let there : named_among name cfg.listed ≡ Some (named.Balancer place') =
-    subst (λ (x : List ℕ). named_among x cfg.listed ≡ Some (named.Balancer place')) same is'.named in
-    let one : place ≡ place' = cc in
-    let stands : slice_get cfg.lbs place ≡ Some lb = is.stands in
-    let stands' : slice_get cfg.lbs place ≡ Some lb' = subst (λ (k : ℕ). slice_get cfg.lbs k ≡ Some lb') (sym one) is'.stands in
-    let balancer : lb ≡ lb' = cc in
-    let asked : commands_for lb.book.members c ≡ Some work.commands =
-    subst (λ (x : Lb). commands_for x.book.members c ≡ Some work.commands) (sym balancer) done in
-    absurd cc
+    subst (λ (x : List ℕ). named_among x cfg.listed ≡ Some (named.Balancer place')) (one_some (worker_of c) name' name of' of) is'.named in
+    let one : place ≡ place' =
+    one_balancer place place' (one_some (named_among name cfg.listed) (named.Balancer place) (named.Balancer place') is.named there) in
+    let stands : slice_get cfg.lbs place ≡ Some lb' = subst (λ (k : ℕ). slice_get cfg.lbs k ≡ Some lb') (sym one) is'.stands in
+    let balancer : lb ≡ lb' = one_some (slice_get cfg.lbs place) lb lb' is.stands stands in
+    not_none (commands_for lb'.book.members c) work.commands
+    (subst (λ (x : Lb). commands_for x.book.members c ≡ None) balancer none) done
 
 refused_unasked : (cfg : Config) (status : Status) (query : Option (List ℕ)) (code : ℕ) (work : Work) → IsRefused cfg status query code → Asks cfg status query work → ⊥
 refused_unasked cfg status query code work (inl none) asks = none_some query asks.0 none.1 asks.1
-refused_unasked cfg status query code work (inr (inl r)) asks = not_allowed status asks.0 r.0 r.0 query asks.1 r.2 asks.2 refl r.3 r.4
+refused_unasked cfg status query code work (inr (inl r)) asks = not_allowed status asks.0 r.0 (same_command query asks.0 r.0 asks.1 r.2) asks.2 r.3 r.4
 refused_unasked cfg status query code work (inr (inr r)) asks =
-    named_none cfg asks.0 work (subst (NamesNone cfg) (same_command r.0 asks.0 query r.2 asks.1) r.4) asks.3
+    named_none cfg asks.0 work (subst (NamesNone cfg) (same_command query r.0 asks.0 r.2 asks.1) r.4) asks.3
 
 -- ---- a request's answer, where its head is mounted nowhere, or at a status worker that refuses it
 
@@ -169,7 +183,7 @@ unmounted_own : (v : Visit) (head : Head) (last : Bool) (s n : ClientStanding) (
     → IsAnswer v head last s n body body' a rows → mounted_at v head ≡ None → IsOwnOrLess 404 a
 unmounted_own v head last s n body body' a rows (inl early) none = early_own v head s n a rows early
 unmounted_own v head last s n body body' a rows (inr (begun, told_on, at)) none =
-    let some : IsSome (mounted_at v head) = told_on.mounted in absurd cc
+    absurd (is_none (mounted_at v head) told_on.mounted none)
 
 -- a request that is mounted at a status worker was answered early by no own answer
 early_less : (v : Visit) (head : Head) (s n : ClientStanding) (a : Answered) (rows : List Served) (status : Status) (code : ℕ) → StopsEarly v head s n a rows
@@ -178,7 +192,7 @@ early_less v head s n answered.Whole rows status code early at = absurd early
 early_less v head s n (answered.Not (stop.Closed why.ByClient)) rows status code early at = absurd early
 early_less v head s n (answered.Not (stop.Closed why.Last)) rows status code early at = absurd early
 early_less v head s n (answered.Not (stop.Closed (why.Own code'))) rows status code early at =
-    absurd (let none = early.1 in let some = at.mounted in cc)
+    absurd (not_none (mounted_at v head) (named.Status at.place) early.1 at.mounted)
 early_less v head s n (answered.Not (stop.Closed why.Cut)) rows status code early at = absurd early
 early_less v head s n (answered.Not (stop.Closed why.Unread)) rows status code early at = absurd early
 early_less v head s n (answered.Not stop.ClientFault) rows status code early at = inr (inl refl)
@@ -186,17 +200,22 @@ early_less v head s n (answered.Not stop.Truncated) rows status code early at = 
 early_less v head s n (answered.Not (stop.Stray ticket returned_at)) rows status code early at = absurd early
 early_less v head s n (answered.Not stop.NoMemory) rows status code early at = inr (inr refl)
 
+two_kinds : (lb place : ℕ) → named.Balancer lb ≡ named.Status place → ⊥
+two_kinds lb place same = cc
+
+one_place : (a b : ℕ) → named.Status a ≡ named.Status b → a ≡ b
+one_place a b same = cc
+
 not_both : (v : Visit) (head : Head) (lb : ℕ) (status : Status) → mounted_at v head ≡ Some (named.Balancer lb) → IsAtStatus v head status → ⊥
-not_both v head lb status balancer at = let other = at.mounted in absurd cc
+not_both v head lb status balancer at =
+    two_kinds lb at.place (one_some (mounted_at v head) (named.Balancer lb) (named.Status at.place) balancer at.mounted)
 
 one_status : (v : Visit) (head : Head) (a b : Status) → IsAtStatus v head a → IsAtStatus v head b → a ≡ b
 one_status v head a b one two =
-    let first : mounted_at v head ≡ Some (named.Status one.place) = one.mounted in
-    let second : mounted_at v head ≡ Some (named.Status two.place) = two.mounted in
-    let same : one.place ≡ two.place = cc in
-    let here : slice_get v.cfg.statuses one.place ≡ Some a = one.stands in
-    let there : slice_get v.cfg.statuses one.place ≡ Some b = subst (λ (k : ℕ). slice_get v.cfg.statuses k ≡ Some b) (sym same) two.stands in
-    cc
+    let same : one.place ≡ two.place =
+    one_place one.place two.place (one_some (mounted_at v head) (named.Status one.place) (named.Status two.place) one.mounted two.mounted) in
+    one_some (slice_get v.cfg.statuses one.place) a b one.stands
+    (subst (λ (k : ℕ). slice_get v.cfg.statuses k ≡ Some b) (sym same) two.stands)
 
 turned_own : (cfg : Config) (session : ℕ) (status : Status) (query : Option (List ℕ)) (s n : DeskSide) (code other : ℕ) → IsRefused cfg status query code
     → TurnsAway cfg session status query s n other → other ≡ code
@@ -299,7 +318,12 @@ at_front v number s n rows (session_end.Closed requests why.ByClient) (counted, 
 at_front v number s n rows (session_end.Closed requests why.Last) (counted, (body, request, last)) =
     inr (inr (inr (at_head v number s n body _ rows _ request (whole_other number _))))
 at_front v number s n rows (session_end.Closed requests (why.Own code)) (counted, inl (refused, added)) =
-    inr (inr (inl (refused.read, refused.form, refused.reads, let is = refused.status in cc)))
+    inr (inr (inl (
+      refused.read,
+      refused.form,
+      refused.reads,
+      ap (λ (k : ℕ). session_end.Closed k (why.Own code)) counted ∙ ap (λ (k : ℕ). session_end.Closed number (why.Own k)) refused.status,
+    )))
 at_front v number s n rows (session_end.Closed requests (why.Own code)) (counted, inr (body, request)) =
     inr (inr (inr (at_head v number s n body _ rows _ request (own_other number requests code counted))))
 at_front v number s n rows (session_end.Closed requests why.Cut) (counted, (body, request)) =

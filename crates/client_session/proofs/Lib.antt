@@ -11,3 +11,4 @@ pub mod PartsLaws
 pub mod CompleteLaws
 pub mod WayLaws
 pub mod SurroundingsLaws
+pub mod NameLaws

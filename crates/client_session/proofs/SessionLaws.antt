@@ -229,6 +229,12 @@ ready_again v old new beside beside' ready kept sizes idle = record {
   idle = idle;
 }
 
+-- the same, where no talk was held
+pub ready_same : (v : Visit) (old new : DeskState) (beside beside' : Beside) → IsReady v old beside → KeepsTickets v.session old new → beside' ≡ beside
+    → IsReady v new beside'
+ready_same v old new beside beside' ready kept same =
+    ready_again v old new beside beside' ready kept (ap (λ (b : Beside). b.sizes) same) (ap (λ (b : Beside). b.runs) same ∙ ready.idle)
+
 rose_on : (before mid now : ℕ) → before ≤ mid → Rose mid now → Rose before now
 rose_on before mid now more rose = omega (arith, more, rose)
 

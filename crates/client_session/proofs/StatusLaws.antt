@@ -7,7 +7,7 @@ use Rattle.site_config.specs.declared.config.Status.{Status}
 use Rattle.exchange.specs.Requests.{is_head}
 use Rattle.client_session.specs.Answers.{HasPage, IsStatusAnswer, IsStatusBegun, own_for}
 use Rattle.status_worker.specs.Commanding.{IsPageCode}
-use Rattle.status_worker.specs.Commands.{IsDone, TurnsAway}
+use Rattle.status_worker.specs.Commands.{IsBroken, IsDone, TurnsAway}
 use Rattle.status_worker.specs.Pages.{IsPage}
 use Rattle.client_session.specs.Requests.{Visit, visit_of}
 use Rattle.balancer_core.specs.Desks.{DeskState}
@@ -143,3 +143,8 @@ page_sent i status s seen now clock w only (Err stop') same done sent =
       | inl (wanted, unwritten) ↦ rw (wanted, unwritten) (unseen_at (visit_of i.site.now) status i.head.now i.last s seen now clock only same done)
       | inr (page, is_page, writes) ↦ broken_at (visit_of i.site.now) status i.head.now i.last s seen now clock w only page stop' same done is_page writes
     ]
+
+-- memory was wanted before all that was asked was done
+pub never_done : (v : Visit) (status : Status) (head : Head) (last : Bool) (s : ClientStanding) (d : DeskSide) → IsBroken v.cfg v.session status head.query s.desk d
+    → IsStatusAnswer v status head last s (asked_on s d) (Err stop.NoMemory)
+never_done v status head last s d broken = inr (record { alone = refl; why = inl broken })

@@ -1,5 +1,5 @@
 -- What was lent came back: what is said of the struct is said of each value by itself.
-use Rattle.std.proofs.Common.{◌≡◌, ℕ, List, Option}
+use Rattle.std.proofs.Common.{◌≡◌, ◌≤◌, ℕ, List, Option, ap, arith}
 use Rattle.jk_io.specs.declared.reaching.Beside.{Beside}
 use Rattle.jk_io.specs.declared.traits.streams.Meanings.{Ghosts}
 use Rattle.jk_model.specs.declared.served.Served.{Served}
@@ -18,3 +18,11 @@ pub came_back : {B K R C X : Type 0} (state : B → DeskState) (answers : K → 
     → IsSession v s (standing state answers of_reach of_client desk clock reach client m.inbox.now) gained end
 came_back state answers of_reach of_client m desk clock reach client v s gained end is_desk is_clock is_reach is_client did =
     rw (is_desk, is_clock, is_reach, is_client) did
+
+-- what stayed as it was has no fewer faults
+pub no_fewer_at : {T : Type 0} (faults : T → ℕ) (s n : T) → n ≡ s → faults s ≤ faults n
+no_fewer_at faults s n same = let as_many = ap faults same in omega arith
+
+-- what fell at no step fell at none of two
+pub no_fewer_twice : (before mid now : ℕ) → before ≤ mid → mid ≤ now → before ≤ now
+no_fewer_twice before mid now first second = omega arith

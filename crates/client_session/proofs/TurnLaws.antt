@@ -252,3 +252,11 @@ not_last number head more below =
     let unequal = or_right head.close (number + 1 == 1000) (or_right head.old _ more) in
     let other : number + 1 ≡ 1000 → ⊥ = λ is. true≢false (sym (eq-eqb (number + 1) 1000 is) ∙ unequal) in
     omega (arith, below, other)
+
+-- the session ends, and no next request is read
+pub none_next : (stop' : SessionStop) (P : Type 0) → turn.EndsAt stop' ≡ turn.Next → P
+none_next stop' P is = absurd cc
+
+-- the faults were as many when the turn began
+pub rises_since : (turn' : SessionTurn) (before mid now : ℕ) → mid ≡ before → RisesInTurn turn' mid now → RisesInTurn turn' before now
+rises_since turn' before mid now same rises = subst (λ (k : ℕ). RisesInTurn turn' k now) same rises

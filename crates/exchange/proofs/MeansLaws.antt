@@ -1,5 +1,5 @@
 -- What was lent came back: what is said of the struct is said of each value by itself.
-use Rattle.std.proofs.Common.{◌≡◌, ℕ, List, Option}
+use Rattle.std.proofs.Common.{◌≡◌, ◌≤◌, ℕ, List, Option, arith}
 use Rattle.jk_io.specs.declared.reaching.Beside.{Beside}
 use Rattle.jk_io.specs.declared.traits.streams.Meanings.{Ghosts}
 use Rattle.balancer_core.specs.Desks.{DeskState}
@@ -18,3 +18,10 @@ pub came_back : {B K R C X : Type 0} (state : B → DeskState) (answers : K → 
     → IsExchange q s (scene_of state answers of_reach of_client m) end → IsExchange q s (scene state answers of_reach of_client desk clock reach client body inbox) end
 came_back state answers of_reach of_client m desk clock reach client body inbox q s end is_desk is_clock is_reach is_client is_body is_inbox did =
     rw (is_desk, is_clock, is_reach, is_client, is_body, is_inbox) did
+
+-- what fell at no step fell at none of two
+pub no_fewer_twice : (before mid now : ℕ) → before ≤ mid → mid ≤ now → before ≤ now
+no_fewer_twice before mid now first second = omega arith
+
+pub as_many : (n : ℕ) → n ≤ n
+as_many n = omega arith

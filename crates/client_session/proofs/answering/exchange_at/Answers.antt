@@ -1,4 +1,5 @@
 -- The exchange went by the terms of the mount.
+use Rattle.std.proofs.Common.{refl}
 use Rattle.client_session.proofs.ConcludeLaws.{forwarded_by}
 use Rattle.client_session.proofs.DeskLaws.{after_exchange}
 use Rattle.client_session.proofs.SessionLaws.{ready_again}
@@ -19,3 +20,39 @@ returns-clause-ready g c =
 
 pub returns-clause-kept : goal.returns-clause-kept
 returns-clause-kept g c = after_exchange _ _ _ _ c.exchange.ensures.kept c.exchange.ensures.held
+
+pub returns-clause-beside : goal.returns-clause-beside
+returns-clause-beside g c = c.exchange.ensures.beside
+
+pub returns-clause-reach_faults : goal.returns-clause-reach_faults
+returns-clause-reach_faults g c = c.exchange.ensures.no_fewer.0
+
+pub returns-clause-client_faults : goal.returns-clause-client_faults
+returns-clause-client_faults g c = c.exchange.ensures.no_fewer.1
+
+pub returns-clause-same : goal.returns-clause-same
+returns-clause-same g c = (refl, refl, refl, refl, refl)
+
+pub exchange-requires-clause-lb : goal.exchange-requires-clause-lb
+exchange-requires-clause-lb g c = c.requires.worker
+
+pub exchange-requires-clause-caller : goal.exchange-requires-clause-caller
+exchange-requires-clause-caller g c = c.requires.ready.caller
+
+pub exchange-requires-clause-desk_sizes : goal.exchange-requires-clause-desk_sizes
+exchange-requires-clause-desk_sizes g c = c.requires.ready.desk_sizes
+
+pub exchange-requires-clause-reach_sizes : goal.exchange-requires-clause-reach_sizes
+exchange-requires-clause-reach_sizes g c = c.requires.ready.reach_sizes
+
+pub exchange-requires-clause-idle : goal.exchange-requires-clause-idle
+exchange-requires-clause-idle g c = c.requires.ready.idle
+
+pub exchange-requires-clause-place : goal.exchange-requires-clause-place
+exchange-requires-clause-place g c = c.requires.fresh.place
+
+pub exchange-requires-clause-taken : goal.exchange-requires-clause-taken
+exchange-requires-clause-taken g c = c.requires.fresh.taken
+
+pub exchange-requires-clause-going : goal.exchange-requires-clause-going
+exchange-requires-clause-going g c = c.requires.fresh.going

@@ -55,3 +55,33 @@ returns-clause-fault g c =
     (standing_of g.B.Desk.state g.K.Clock.answers g.R.Meanings g.C.Meanings c.exchange_at-end.new.around) c.args.body.now c.exchange_at-end.new.body c.args.lb c.index-as_slice-lb.result c.exchange_at-end.result c.conclude.result
     (c.exchange_at-end.ensures.forwarded c.index-as_slice-lb.result stands)
     (concluded_by c.exchange_at-end.result c.as_slice-members.result.now c.index-as_slice-lb.result c.is_head.result c.args.of.now.head.now c.args.row.asked c.conclude.result are c.is_head.ensures c.requires.room.1.asked' c.conclude.ensures)
+
+pub returns-clause-ready : goal.returns-clause-ready
+returns-clause-ready g c = c.exchange_at-end.ensures.ready
+
+pub returns-clause-kept : goal.returns-clause-kept
+returns-clause-kept g c = c.exchange_at-end.ensures.kept
+
+pub returns-clause-beside : goal.returns-clause-beside
+returns-clause-beside g c = c.exchange_at-end.ensures.beside
+
+pub returns-clause-reach_faults : goal.returns-clause-reach_faults
+returns-clause-reach_faults g c = c.exchange_at-end.ensures.reach_faults
+
+pub returns-clause-client_faults : goal.returns-clause-client_faults
+returns-clause-client_faults g c = c.exchange_at-end.ensures.client_faults
+
+pub returns-clause-same : goal.returns-clause-same
+returns-clause-same g c = c.exchange_at-end.ensures.same
+
+pub exchange_at-end-requires-clause-ready : goal.exchange_at-end-requires-clause-ready
+exchange_at-end-requires-clause-ready g c = c.requires.ready
+
+pub exchange_at-end-requires-clause-worker : goal.exchange_at-end-requires-clause-worker
+exchange_at-end-requires-clause-worker g c = c.requires.worker
+
+pub exchange_at-end-requires-clause-fresh : goal.exchange_at-end-requires-clause-fresh
+exchange_at-end-requires-clause-fresh g c = c.requires.fresh
+
+pub conclude-requires-clause-unnamed : goal.conclude-requires-clause-unnamed
+conclude-requires-clause-unnamed g c = c.requires.room.1.unnamed

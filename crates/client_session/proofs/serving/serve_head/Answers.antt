@@ -1,10 +1,11 @@
 -- The request's turn: it ends the session, or the rest of its body was read.
-use Rattle.std.proofs.Common.{◌≡◌, false, refl, sym, ◌∙◌, arith}
+use Rattle.std.proofs.Common.{refl, sym, ◌∙◌}
 use Rattle.http_body_in.specs.Takes.{body_at}
 use Rattle.status_worker.proofs.DeskLaws.{none_met, untouched}
 use Rattle.client_session.specs.Standings.{client_at, standing}
 use Rattle.client_session.specs.Surroundings.{standing_of}
-use Rattle.client_session.proofs.TurnLaws.{follows_meets, follows_rises, not_last, turn_follows, unrowed}
+use Rattle.client_session.proofs.SurroundingsLaws.{no_fewer_twice}
+use Rattle.client_session.proofs.TurnLaws.{follows_meets, follows_rises, none_next, not_last, turn_follows, unrowed}
 use Rattle.client_session.proofs.serving.serve_head.Goals as goal
 
 pub returns-in_default-clause-turn : goal.returns-in_default-clause-turn
@@ -44,4 +45,34 @@ returns-clause-fault g c =
     c.turn_after.ensures.turned c.answer-answered.ensures.fault
 
 pub returns-clause-client_faults : goal.returns-clause-client_faults
-returns-clause-client_faults g c = omega (arith, c.answer-answered.ensures.client_faults, c.turn_after.ensures.no_fewer)
+returns-clause-client_faults g c = no_fewer_twice _ _ _ c.answer-answered.ensures.client_faults c.turn_after.ensures.no_fewer
+
+pub returns-in_default-clause-more : goal.returns-in_default-clause-more
+returns-in_default-clause-more g c = λ next. none_next _ _ next
+
+pub returns-in_default-clause-ready : goal.returns-in_default-clause-ready
+returns-in_default-clause-ready g c = c.requires.ready
+
+pub returns-in_default-clause-fault : goal.returns-in_default-clause-fault
+returns-in_default-clause-fault g c = tt
+
+pub returns-in_default-clause-beside : goal.returns-in_default-clause-beside
+returns-in_default-clause-beside g c = refl
+
+pub returns-in_default-clause-same : goal.returns-in_default-clause-same
+returns-in_default-clause-same g c = (refl, refl, refl, refl, refl)
+
+pub returns-clause-ready : goal.returns-clause-ready
+returns-clause-ready g c = c.answer-answered.ensures.ready
+
+pub returns-clause-kept : goal.returns-clause-kept
+returns-clause-kept g c = c.answer-answered.ensures.kept
+
+pub returns-clause-reach_faults : goal.returns-clause-reach_faults
+returns-clause-reach_faults g c = c.answer-answered.ensures.reach_faults
+
+pub returns-clause-same : goal.returns-clause-same
+returns-clause-same g c = c.answer-answered.ensures.same
+
+pub returns-clause-beside : goal.returns-clause-beside
+returns-clause-beside g c = c.turn_after.ensures.beside ∙ c.answer-answered.ensures.beside

@@ -5,6 +5,7 @@ use Rattle.jk_model.specs.declared.ask.Ask.{Ask}
 use Rattle.exchange.specs.Requests.{ask_for, errand_of}
 use Rattle.exchange.proofs.DeskLaws.{same_twice, untouched}
 use Rattle.exchange.proofs.ExchangeLaws.{begins, goes_own, goes_through, is_another, same_body, searches_on}
+use Rattle.exchange.proofs.MeansLaws.{as_many, no_fewer_twice}
 use Rattle.exchange.proofs.OwnLaws.{step_own}
 use Rattle.exchange.proofs.TriedLaws.{fewer_left}
 use Rattle.exchange.proofs.all_rounds.all_rounds.Goals as goal
@@ -17,8 +18,8 @@ loop-member-init g c = record {
   idle = c.requires.idle;
   sizes = refl;
   beside = refl;
-  reach_faults = omega arith;
-  client_faults = omega arith;
+  reach_faults = as_many _;
+  client_faults = as_many _;
   same = (refl, refl, refl, refl, refl, refl);
 }
 
@@ -60,8 +61,8 @@ loop-member-preserved g c = record {
   idle = c.in-Again.ensures.idle;
   sizes = c.in-Again.ensures.sizes ∙ c.loop-member.invariant.sizes;
   beside = c.in-Again.ensures.beside ∙ c.loop-member.invariant.beside;
-  reach_faults = omega (arith, c.loop-member.invariant.reach_faults, c.in-Again.ensures.reach_faults);
-  client_faults = omega (arith, c.loop-member.invariant.client_faults, c.in-Again.ensures.client_faults);
+  reach_faults = no_fewer_twice _ _ _ c.loop-member.invariant.reach_faults c.in-Again.ensures.reach_faults;
+  client_faults = no_fewer_twice _ _ _ c.loop-member.invariant.client_faults c.in-Again.ensures.client_faults;
   same = (c.in-Again.ensures.same.0 ∙ c.loop-member.invariant.same.0, c.in-Again.ensures.same.1 ∙ c.loop-member.invariant.same.1, c.in-Again.ensures.same.2 ∙ c.loop-member.invariant.same.2, c.in-Again.ensures.same.3 ∙ c.loop-member.invariant.same.3, c.in-Again.ensures.same.4 ∙ c.loop-member.invariant.same.4, c.in-Again.ensures.same.5 ∙ c.loop-member.invariant.same.5);
 }
 
@@ -87,3 +88,58 @@ returns-in-End-clause-through g c =
 
 pub returns-in-End-clause-kept : goal.returns-in-End-clause-kept
 returns-in-End-clause-kept g c = same_twice _ _ _ _ _ c.loop-member.invariant.desk c.in-End.ensures.kept
+
+pub returns-in-Answer-clause-idle : goal.returns-in-Answer-clause-idle
+returns-in-Answer-clause-idle g c = c.in-Answer.ensures.idle
+
+pub returns-in-Answer-clause-held : goal.returns-in-Answer-clause-held
+returns-in-Answer-clause-held g c = c.in-Answer.ensures.held ∙ c.loop-member.invariant.held
+
+pub returns-in-Answer-clause-sizes : goal.returns-in-Answer-clause-sizes
+returns-in-Answer-clause-sizes g c = c.in-Answer.ensures.sizes ∙ c.loop-member.invariant.sizes
+
+pub returns-in-Answer-clause-beside : goal.returns-in-Answer-clause-beside
+returns-in-Answer-clause-beside g c = c.write_own.ensures.same.1 ∙ c.in-Answer.ensures.beside ∙ c.loop-member.invariant.beside
+
+pub returns-in-Answer-clause-reach_faults : goal.returns-in-Answer-clause-reach_faults
+returns-in-Answer-clause-reach_faults g c = no_fewer_twice _ _ _ c.loop-member.invariant.reach_faults c.in-Answer.ensures.reach_faults
+
+pub returns-in-Answer-clause-client_faults : goal.returns-in-Answer-clause-client_faults
+returns-in-Answer-clause-client_faults g c =
+    no_fewer_twice _ _ _ c.loop-member.invariant.client_faults (no_fewer_twice _ _ _ c.in-Answer.ensures.client_faults c.write_own.ensures.no_fewer)
+
+pub returns-in-Answer-clause-same : goal.returns-in-Answer-clause-same
+returns-in-Answer-clause-same g c = (c.in-Answer.ensures.same.0 ∙ c.loop-member.invariant.same.0, c.in-Answer.ensures.same.1 ∙ c.loop-member.invariant.same.1, c.in-Answer.ensures.same.2 ∙ c.loop-member.invariant.same.2, c.in-Answer.ensures.same.3 ∙ c.loop-member.invariant.same.3, c.in-Answer.ensures.same.4 ∙ c.loop-member.invariant.same.4, c.in-Answer.ensures.same.5 ∙ c.loop-member.invariant.same.5)
+
+pub returns-in-End-clause-idle : goal.returns-in-End-clause-idle
+returns-in-End-clause-idle g c = c.in-End.ensures.idle
+
+pub returns-in-End-clause-held : goal.returns-in-End-clause-held
+returns-in-End-clause-held g c = c.in-End.ensures.held ∙ c.loop-member.invariant.held
+
+pub returns-in-End-clause-sizes : goal.returns-in-End-clause-sizes
+returns-in-End-clause-sizes g c = c.in-End.ensures.sizes ∙ c.loop-member.invariant.sizes
+
+pub returns-in-End-clause-beside : goal.returns-in-End-clause-beside
+returns-in-End-clause-beside g c = c.in-End.ensures.beside ∙ c.loop-member.invariant.beside
+
+pub returns-in-End-clause-reach_faults : goal.returns-in-End-clause-reach_faults
+returns-in-End-clause-reach_faults g c = no_fewer_twice _ _ _ c.loop-member.invariant.reach_faults c.in-End.ensures.reach_faults
+
+pub returns-in-End-clause-client_faults : goal.returns-in-End-clause-client_faults
+returns-in-End-clause-client_faults g c = no_fewer_twice _ _ _ c.loop-member.invariant.client_faults c.in-End.ensures.client_faults
+
+pub returns-in-End-clause-same : goal.returns-in-End-clause-same
+returns-in-End-clause-same g c = (c.in-End.ensures.same.0 ∙ c.loop-member.invariant.same.0, c.in-End.ensures.same.1 ∙ c.loop-member.invariant.same.1, c.in-End.ensures.same.2 ∙ c.loop-member.invariant.same.2, c.in-End.ensures.same.3 ∙ c.loop-member.invariant.same.3, c.in-End.ensures.same.4 ∙ c.loop-member.invariant.same.4, c.in-End.ensures.same.5 ∙ c.loop-member.invariant.same.5)
+
+pub one_round-requires-clause-lb : goal.one_round-requires-clause-lb
+one_round-requires-clause-lb g c = rw c.loop-member.invariant.desk.sizes c.requires.lb
+
+pub one_round-requires-clause-caller : goal.one_round-requires-clause-caller
+one_round-requires-clause-caller g c = rw c.loop-member.invariant.desk.caller c.requires.caller
+
+pub one_round-requires-clause-idle : goal.one_round-requires-clause-idle
+one_round-requires-clause-idle g c = c.loop-member.invariant.idle
+
+pub one_round-requires-clause-short : goal.one_round-requires-clause-short
+one_round-requires-clause-short g c = c.requires.short

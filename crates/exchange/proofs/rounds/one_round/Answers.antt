@@ -58,3 +58,54 @@ returns-clause-kept g c =
     let back = c.give_back.ensures.back in
     let own = after_back _ _ _ _ _ _ back.stray c.give_back.ensures.kept back.back in
     same_twice _ _ _ _ _ (after_choice g.B.Desk.note _ _ _ _ _ _ _ c.chosen.ensures.kept chose) (rw chose.answered.3 at own)
+
+pub returns-in-Err-clause-idle : goal.returns-in-Err-clause-idle
+returns-in-Err-clause-idle g c = c.requires.idle
+
+pub returns-in-Err-clause-sizes : goal.returns-in-Err-clause-sizes
+returns-in-Err-clause-sizes g c = refl
+
+pub returns-in-Err-clause-beside : goal.returns-in-Err-clause-beside
+returns-in-Err-clause-beside g c = refl
+
+pub returns-in-Err-clause-same : goal.returns-in-Err-clause-same
+returns-in-Err-clause-same g c = (refl, refl, refl, refl, refl, refl)
+
+pub returns-clause-idle : goal.returns-clause-idle
+returns-clause-idle g c = c.run_member-ran.ensures.idle
+
+pub returns-clause-sizes : goal.returns-clause-sizes
+returns-clause-sizes g c = c.run_member-ran.ensures.sizes
+
+pub returns-clause-beside : goal.returns-clause-beside
+returns-clause-beside g c = c.run_member-ran.ensures.beside
+
+pub returns-clause-reach_faults : goal.returns-clause-reach_faults
+returns-clause-reach_faults g c = c.run_member-ran.ensures.reach_faults
+
+pub returns-clause-client_faults : goal.returns-clause-client_faults
+returns-clause-client_faults g c = c.run_member-ran.ensures.client_faults
+
+pub returns-clause-same : goal.returns-clause-same
+returns-clause-same g c = (refl, refl, c.run_member-ran.ensures.same.0, c.run_member-ran.ensures.same.1, c.run_member-ran.ensures.same.2, c.run_member-ran.ensures.same.3)
+
+pub chosen-requires-clause-lb : goal.chosen-requires-clause-lb
+chosen-requires-clause-lb g c = c.requires.lb
+
+pub chosen-requires-clause-caller : goal.chosen-requires-clause-caller
+chosen-requires-clause-caller g c = c.requires.caller
+
+pub run_member-ran-requires-clause-idle : goal.run_member-ran-requires-clause-idle
+run_member-ran-requires-clause-idle g c = c.requires.idle
+
+pub run_member-ran-requires-clause-first : goal.run_member-ran-requires-clause-first
+run_member-ran-requires-clause-first g c = c.requires.first
+
+pub run_member-ran-requires-clause-going : goal.run_member-ran-requires-clause-going
+run_member-ran-requires-clause-going g c = c.requires.going
+
+pub run_member-ran-requires-clause-short : goal.run_member-ran-requires-clause-short
+run_member-ran-requires-clause-short g c = c.requires.short _ _ c.target_of-to.ensures.endpoint
+
+pub give_back-requires-clause-caller : goal.give_back-requires-clause-caller
+give_back-requires-clause-caller g c = rw c.chosen.ensures.kept.caller c.requires.caller
