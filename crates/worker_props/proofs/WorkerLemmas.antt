@@ -1,6 +1,6 @@
 -- The second pass: lists, refusals, and workers one after another.
-use Rattle.std.proofs.Common.{◌≡◌, ℕ, ◌+◌, ◌<◌, List, [], ◌∷◌, length, drop, get_or, Option, Result, Ok, Err, OnOk, refl, sym, ◌∙◌, subst, inr, arith, ◌%◌}
-use Rattle.std.proofs.lemmas.List.{drop_more}
+use Rattle.std.proofs.Common.{◌≡◌, ℕ, ◌+◌, ◌<◌, ◌≤◌, List, [], ◌∷◌, length, drop, get_or, Option, Result, Ok, Err, IfErr, OnOk, refl, sym, ◌∙◌, subst, inl, inr, arith, ◌%◌}
+use Rattle.std.proofs.lemmas.List.{drop_all, drop_more}
 use Rattle.std.proofs.lemmas.Nat.Gcd.{IsGcd-from_zero, IsGcd-from_mod, IsGcd-swap}
 use Rattle.jk_model.specs.Multiple.{multiple_of}
 use Rattle.jk_model.proofs.MultipleFacts.{multiple_of_two-by}
@@ -19,18 +19,31 @@ use Rattle.worker_props.specs.Listings.{as_listing, as_listings}
 use Rattle.property_lines.specs.Refusals.{LineRefusal, IsRefusal}
 use Rattle.worker_props.specs.Rows.{HasForce, property_at}
 use Rattle.worker_props.specs.Settings.{kind_in}
-use Rattle.property_lines.specs.declared.values.WorkerKind.TheVariants as kind
-use Rattle.worker_props.specs.Site.{Adds, AddsKind, Builds, Known, RefusesKind, Stops}
+use Rattle.worker_props.specs.Site.{Adds, AddsKind, Builds, Known, Refuses, Stops}
 
 -- what a call makes at Ok is what its caller means
 pub on_ok : {T E : Type 0} (r : Result T E) (P Q : Type 0) → OnOk r P → (P → Q) → OnOk r Q
 on_ok (Ok x) P Q h f = f h
 on_ok (Err e) P Q h f = tt
 
--- a refusal of an lb's members is one of the lb
-pub lb_refusal : (ps : List Property) (count : ℕ) (l : Listing) (v : Directive → Option Property) (P : LineRefusal → Type 0) (e : PropsError) → IsRefusal P e → ((r : LineRefusal) → P r → RefusesKind ps count l v kind.Lb r) → IsRefusal (RefusesKind ps count l v kind.Lb) e
-lb_refusal ps count l v P (errors.Refused line code) h f = f (record { line = line; code = code }) h
-lb_refusal ps count l v P errors.NoMemory h f = tt
+-- it holds anyway
+pub ok_anyway : {T E : Type 0} (r : Result T E) (P : Type 0) → P → OnOk r P
+ok_anyway (Ok x) P h = h
+ok_anyway (Err e) P h = tt
+
+-- a refusal of one kind is one of a wider kind
+pub wider_refusal : (P Q : LineRefusal → Type 0) (e : PropsError) → IsRefusal P e → ((r : LineRefusal) → P r → Q r) → IsRefusal Q e
+wider_refusal P Q (errors.Refused line code) h f = f (record { line = line; code = code }) h
+wider_refusal P Q errors.NoMemory h f = tt
+
+pub wider_refused : {T : Type 0} (r : Result T PropsError) (P Q : LineRefusal → Type 0) → IfErr r (IsRefusal P) → ((x : LineRefusal) → P x → Q x) → IfErr r (IsRefusal Q)
+wider_refused (Ok x) P Q h f = tt
+wider_refused (Err e) P Q h f = wider_refusal P Q e h f
+
+-- want of memory is a refusal of any kind
+pub wants_memory : {T : Type 0} (r : Result T PropsError) (P : LineRefusal → Type 0) → IfErr r (λ e. e ≡ errors.NoMemory) → IfErr r (IsRefusal P)
+wants_memory (Ok x) P h = tt
+wants_memory (Err e) P h = subst (IsRefusal P) (sym h) tt
 
 -- the least common multiple of one factor
 pub one_factor : (f : ℕ) → multiple_of (f ∷ []) ≡ f
@@ -55,3 +68,16 @@ building_more ps maintain ls start now next i d h adds b = record {
   builds = λ new rest. b.builds new (subst (λ (xs : List Listing). Builds ps maintain xs now new) (sym (left_at ls i d h)) (next, adds, rest));
   stops = λ r rest. b.stops r (subst (λ (xs : List Listing). Stops ps maintain xs now r) (sym (left_at ls i d h)) (inr (next, adds, rest)));
 }
+
+-- a worker that is refused stops it, and after the last one it is built
+pub building_stops : (ps : List Property) (maintain : ℕ) (ls : List declared.Listing) (start now : Draft) (i : ℕ) (d : declared.Listing) (e : PropsError) → i < length ls → IsRefusal (Refuses ps (length now.lbs) (as_listing (get_or ls i d))) e → IsBuilding ps maintain (as_listings ls) start (as_listings (drop i ls)) now → IsRefusal (Stops ps maintain (as_listings ls) start) e
+building_stops ps maintain ls start now i d e h bad b =
+    wider_refusal (Refuses ps (length now.lbs) (as_listing (get_or ls i d))) (Stops ps maintain (as_listings ls) start) e bad
+    (λ r refuses. b.stops r (subst (λ (xs : List Listing). Stops ps maintain xs now r) (sym (left_at ls i d h)) (inl refuses)))
+
+pub building_ends : (ps : List Property) (maintain : ℕ) (ls : List declared.Listing) (start now : Draft) (i : ℕ) → length ls ≤ i → IsBuilding ps maintain (as_listings ls) start (as_listings (drop i ls)) now → Builds ps maintain (as_listings ls) start now
+building_ends ps maintain ls start now i h b =
+    b.builds now (subst (λ (xs : List declared.Listing). Builds ps maintain (as_listings xs) now now) (sym (drop_all i ls h)) refl)
+
+pub building_starts : (ps : List Property) (maintain : ℕ) (ls : List declared.Listing) (start : Draft) → IsBuilding ps maintain (as_listings ls) start (as_listings ls) start
+building_starts ps maintain ls start = record { builds = λ new h. h; stops = λ r h. h }

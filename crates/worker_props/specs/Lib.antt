@@ -1,3 +1,4 @@
+pub mod Books
 pub mod Building
 pub mod Built
 pub mod Checks

@@ -1,8 +1,8 @@
 //! Balancers that are made of lb workers, and of ajp13 workers that are listed themselves.
-ghost use Rattle.std.specs.Prelude.{◌≡◌, ◌≤◌, ◌<◌, [], ◌∷◌, length, IfOk, IfErr, OnOk};
-ghost use Rattle.jk_model.specs.Multiple.{multiple_of};
-ghost use Rattle.jk_model.specs.Ranges.{AreInRange, IsPeriod, factors_in};
+ghost use Rattle.std.specs.Prelude.{◌≡◌, ◌≤◌, ◌<◌, length, IfOk, IfErr, OnErr, OnOk};
+ghost use Rattle.jk_model.specs.Ranges.{AreInRange};
 ghost use Rattle.property_lines.specs.Entries.{as_properties};
+ghost use Rattle.worker_props.specs.Books.{AreBookable, AreTooWide, IsBook, IsLbOf, HasParts, RefusesWide};
 ghost use Rattle.worker_props.specs.Listings.{as_listing, as_listings};
 ghost use Rattle.property_lines.specs.Refusals.{IsRefusal};
 ghost use Rattle.worker_props.specs.Rows.{property_at};
@@ -12,13 +12,13 @@ ghost use Rattle.jk_model.specs.declared.config.TheConstants.{MAX_MEMBERS};
 
 use crate::given::Given;
 use crate::listing::Listing;
-use crate::members::members_of;
+use crate::members::{Members, members_of};
 use crate::row::{Row, picked};
 use crate::settings::{filled_or, method, number_or, truth_or};
 use jk_io::{Bytes, ListOf};
-use jk_model::{LbConfig, Method};
+use jk_model::{ConfigError, LbConfig, MemberList, Method};
 use property_lines::{Directive, PropertyLine, PropsError, PropsReason, refused};
-use site_config::Lb;
+use site_config::{Endpoint, Lb};
 use std::alloc::Global;
 
 /// The line of the worker's type; 0 where none gives it.
@@ -29,6 +29,52 @@ fn type_line(entries: &[PropertyLine<'_>], row: &Row) -> u32
         Some(entry) => entry.line,
         None => 0,
     }
+}
+
+/// A balancer's own copies of its texts.
+#[derive(Drop)]
+struct LbTexts {
+    name: Bytes,
+    cookie: Bytes,
+    path: Bytes,
+}
+
+fn texts_of(alloc: Global, name: &[u8], cookie: &[u8], path: &[u8]) -> Result<LbTexts, PropsError>
+    ensures name { IfOk result (λ t. t.name ≡ name.now) }
+    ensures cookie { IfOk result (λ t. t.cookie ≡ cookie.now) }
+    ensures path { IfOk result (λ t. t.path ≡ path.now) }
+    ensures memory { IfErr result (λ e. e ≡ PropsError.NoMemory) }
+{
+    Ok(LbTexts {
+        name: Bytes::from_slice(alloc, name)?,
+        cookie: Bytes::from_slice(alloc, cookie)?,
+        path: Bytes::from_slice(alloc, path)?,
+    })
+}
+
+/// The balancer of these parts, with copies of the texts.
+fn made_of(
+    alloc: Global,
+    name: &[u8],
+    cookie: &[u8],
+    path: &[u8],
+    book: LbConfig,
+    ends: Vec<Endpoint>,
+) -> Result<Lb, PropsError>
+    requires paired { length ends.items ≡ length book.members }
+    requires cookie { 0 < length cookie.now }
+    requires path { 0 < length path.now }
+    ensures made { IfOk result (HasParts name.now cookie.now path.now book ends.items) }
+    ensures memory { IfErr result (λ e. e ≡ PropsError.NoMemory) }
+{
+    let texts = texts_of(alloc, name, cookie, path)?;
+    Ok(Lb {
+        name: texts.name,
+        book,
+        ends: ListOf::from_vec(ends),
+        cookie: texts.cookie,
+        path: texts.path,
+    })
 }
 
 /// The balancer of a worker that is listed itself.
@@ -57,14 +103,59 @@ pub(crate) fn direct<'t>(
         60,
         configs,
     ) {
-        Ok(book) => Ok(Lb {
-            name: Bytes::from_slice(alloc, listing.name)?,
+        Ok(book) => made_of(
+            alloc,
+            listing.name,
+            b"JSESSIONID",
+            b";jsessionid",
             book,
-            ends: ListOf::from_vec(members.ends),
-            cookie: Bytes::from_slice(alloc, b"JSESSIONID")?,
-            path: Bytes::from_slice(alloc, b";jsessionid")?,
-        }),
+            members.ends,
+        ),
         Err(_) => unreachable!(),
+    }
+}
+
+/// The book of an lb worker with these members, or the refusal of their factors.
+fn book_of(given: &Given<'_, '_>, row: &Row, members: MemberList) -> Result<LbConfig, ConfigError>
+    requires some { 1 ≤ length members }
+    requires few { length members ≤ MAX_MEMBERS }
+    requires within { AreInRange members }
+    ensures book { IfOk result (IsBook (property_at (lines_in given.now) row.now) given.now.maintain members) }
+    ensures wide { OnErr result (AreTooWide members) }
+{
+    let recover = number_or(given.entries, row, Directive::RecoverTime, 1, 86400, 60);
+    LbConfig::new(
+        method(given.entries, row),
+        truth_or(given.entries, row, Directive::Sticky, true),
+        truth_or(given.entries, row, Directive::Force, false),
+        false,
+        given.maintain,
+        recover,
+        members,
+    )
+}
+
+/// The balancer of an lb worker of this name with these members.
+fn lb_with<'t>(
+    alloc: Global,
+    given: &Given<'_, 't>,
+    row: &Row,
+    name: &[u8],
+    made: Members,
+) -> Result<Lb, PropsError>
+    requires { AreBookable made.configs.items made.ends.items }
+    ensures lb { IfOk result (IsLbOf (property_at (lines_in given.now) row.now) given.now.maintain
+        name.now made.configs.items made.ends.items) }
+    ensures wide { IfErr result (IsRefusal (RefusesWide made.configs.items
+        (line_in (property_at (lines_in given.now) row.now Directive.Kind)))) }
+{
+    let cookie_name: &'t [u8] = b"JSESSIONID";
+    let path_name: &'t [u8] = b";jsessionid";
+    let cookie = filled_or(given.entries, row, Directive::Cookie, cookie_name);
+    let path = filled_or(given.entries, row, Directive::Path, path_name);
+    match book_of(given, row, ListOf::from_vec(made.configs)) {
+        Ok(book) => made_of(alloc, name, cookie, path, book, made.ends),
+        Err(_) => Err(refused(type_line(given.entries, row), PropsReason::TooWide)),
     }
 }
 
@@ -88,34 +179,8 @@ fn lb_of<'t>(
     ensures wide { IfErr result (IsRefusal (RefusesBook (lines_in given.now)
         (line_in (property_at (lines_in given.now) row.now Directive.Kind)) (as_listings members.now))) }
 {
-    let cookie_name: &'t [u8] = b"JSESSIONID";
-    let path_name: &'t [u8] = b";jsessionid";
-    let line = type_line(given.entries, row);
     let made = members_of(alloc, given, rows, members)?;
-    let configs = ListOf::from_vec(made.configs);
-    let sticky = truth_or(given.entries, row, Directive::Sticky, true);
-    let force = truth_or(given.entries, row, Directive::Force, false);
-    let recover = number_or(given.entries, row, Directive::RecoverTime, 1, 86400, 60);
-    let cookie = filled_or(given.entries, row, Directive::Cookie, cookie_name);
-    let path = filled_or(given.entries, row, Directive::Path, path_name);
-    match LbConfig::new(
-        method(given.entries, row),
-        sticky,
-        force,
-        false,
-        given.maintain,
-        recover,
-        configs,
-    ) {
-        Ok(book) => Ok(Lb {
-            name: Bytes::from_slice(alloc, listing.name)?,
-            book,
-            ends: ListOf::from_vec(made.ends),
-            cookie: Bytes::from_slice(alloc, cookie)?,
-            path: Bytes::from_slice(alloc, path)?,
-        }),
-        Err(_) => Err(refused(line, PropsReason::TooWide)),
-    }
+    lb_with(alloc, given, row, listing.name, made)
 }
 
 /// The balancer of an lb worker with these members, each once, or the refusal of their number or of their factors.

@@ -3,12 +3,13 @@ ghost use Rattle.std.specs.Prelude.{◌≡◌, ◌≤◌, ◌<◌, ◌^◌, ℕ,
 ghost use Rattle.jk_io.specs.declared.whole_input.TheConstants.{MAX_INPUT_BYTES};
 ghost use Rattle.property_lines.specs.Directives.{slot_of};
 ghost use Rattle.property_lines.specs.Entries.{as_properties};
+ghost use Rattle.worker_props.specs.Books.{Pass, RefusesMembers};
 ghost use Rattle.worker_props.specs.Listings.{as_listing, as_listings};
 ghost use Rattle.worker_props.specs.Lists.{firsts, site_list};
 ghost use Rattle.property_lines.specs.Refusals.{IsRefusal};
 ghost use Rattle.worker_props.specs.Rows.{HasForce, property_at};
 ghost use Rattle.worker_props.specs.Settings.{kind_in};
-ghost use Rattle.worker_props.specs.Site.{Adds, AddsKind, Builds, IsConfig, IsRefused, Known, Chained, Refuses, RefusesKind, Stops, draft_of, maintain_of, no_workers};
+ghost use Rattle.worker_props.specs.Site.{Adds, AddsKind, Builds, IsConfig, IsRefused, Known, Chained, Refuses, RefusesKind, Stops, draft_of, maintain_of, no_workers, with_lb};
 ghost use Rattle.worker_props.specs.Tables.{AreAtRest, lines_in};
 
 use crate::books::{balanced, direct};
@@ -26,8 +27,39 @@ use crate::whole::maintain_of;
 use jk_io::{Bytes, ListOf};
 use jk_model::MAX_BALANCERS;
 use property_lines::{Directive, PropertyLine, PropsError, PropsReason, WorkerKind, refused};
-use site_config::{Config, IgnoredList, Status};
+use site_config::{Config, IgnoredList, Lb, Status};
 use std::alloc::Global;
+
+/// Adds a balancer under a copy of its name.
+fn put_lb(alloc: Global, draft: &mut Draft, name: &[u8], lb: Lb) -> Result<(), PropsError>
+    ensures ok { OnOk result (draft.new ≡ with_lb draft.old name.now lb) }
+    ensures memory { IfErr result (λ e. e ≡ PropsError.NoMemory) }
+{
+    draft.add_lb(Bytes::from_slice(alloc, name)?, lb)
+}
+
+/// Whether the members of an lb worker that is added after `count` balancers pass.
+fn check_members<'t>(
+    alloc: Global,
+    given: &Given<'_, 't>,
+    rows: &mut Vec<Row>,
+    count: usize,
+    listing: &Listing<'t>,
+    members: &[Listing<'t>],
+) -> Result<(), PropsError>
+    requires rows { AreAtRest given.now rows.old.items }
+    ensures rows { OnOk result (AreAtRest given.now rows.new.items) }
+    ensures pass { OnOk result (Pass (lines_in given.now) count (as_listings members.now)) }
+    ensures refused { IfErr result (IsRefusal (RefusesMembers (lines_in given.now) count
+        (as_listing listing.now) (as_listings members.now))) }
+{
+    check_references(alloc, given, rows, members)?;
+    check_members_known(given, members)?;
+    if count >= MAX_BALANCERS {
+        return Err(refused(listing.line, PropsReason::BadValue));
+    }
+    check_types(alloc, given, rows, members)
+}
 
 /// Adds an lb worker.
 fn add_lb<'t>(
@@ -46,14 +78,9 @@ fn add_lb<'t>(
         (as_listing listing.now) (property_at (lines_in given.now) row.now) WorkerKind.Lb)) }
 {
     let members = members_in(given, row);
-    check_references(alloc, given, rows, members)?;
-    check_members_known(given, members)?;
-    if draft.lbs.len() >= MAX_BALANCERS {
-        return Err(refused(listing.line, PropsReason::BadValue));
-    }
-    check_types(alloc, given, rows, members)?;
+    check_members(alloc, given, rows, draft.lbs.len(), listing, members)?;
     let lb = balanced(alloc, given, rows, row, listing, members)?;
-    draft.add_lb(Bytes::from_slice(alloc, listing.name)?, lb)
+    put_lb(alloc, draft, listing.name, lb)
 }
 
 /// Adds an ajp13 worker that is listed itself.
@@ -78,22 +105,22 @@ fn add_direct<'t>(
         return Err(refused(listing.line, PropsReason::BadValue));
     }
     let lb = direct(alloc, given, rows, listing)?;
-    draft.add_lb(Bytes::from_slice(alloc, listing.name)?, lb)
+    put_lb(alloc, draft, listing.name, lb)
 }
 
 /// Adds a status worker.
 fn add_status(
     alloc: Global,
-    entries: &[PropertyLine<'_>],
+    given: &Given<'_, '_>,
     draft: &mut Draft,
     row: &Row,
     listing: &Listing<'_>,
 ) -> Result<(), PropsError>
-    ensures ok { (maintain : ℕ) → OnOk result (AddsKind (as_properties entries.now) maintain (as_listing listing.now)
-        (property_at (as_properties entries.now) row.now) WorkerKind.Status draft.old draft.new) }
+    ensures ok { OnOk result (AddsKind (lines_in given.now) given.now.maintain (as_listing listing.now)
+        (property_at (lines_in given.now) row.now) WorkerKind.Status draft.old draft.new) }
     ensures memory { IfErr result (λ e. e ≡ PropsError.NoMemory) }
 {
-    let read_only = truth_or(entries, row, Directive::ReadOnly, false);
+    let read_only = truth_or(given.entries, row, Directive::ReadOnly, false);
     let status = Status {
         name: Bytes::from_slice(alloc, listing.name)?,
         read_only,
@@ -119,7 +146,7 @@ fn add_worker<'t>(
     match kind(given.entries, &row) {
         WorkerKind::Ajp13 => add_direct(alloc, given, rows, draft, &row, listing),
         WorkerKind::Lb => add_lb(alloc, given, rows, draft, &row, listing),
-        WorkerKind::Status => add_status(alloc, given.entries, draft, &row, listing),
+        WorkerKind::Status => add_status(alloc, given, draft, &row, listing),
     }
 }
 

@@ -20,5 +20,5 @@ returns-in-Status-clause-ok c =
     let ps = as_properties c.args.given.now.entries.now in
     let l = as_listing c.args.listing.now in
     let row = c.in_ok-row.row in
-    on_ok c.add_status.result _ _ (c.add_status.ensures.ok c.args.given.now.maintain) (λ added.
+    on_ok c.add_status.result _ _ c.add_status.ensures.ok (λ added.
     adds_kind ps c.args.given.now.maintain l row c.args.draft.now c.add_status.new.draft c.in_ok-check_known.ensures.ok c.in_ok-row.ensures.force (subst (λ (k : WorkerKind). AddsKind ps c.args.given.now.maintain l (property_at ps row) k c.args.draft.now c.add_status.new.draft) c.in-Status.ensures added))

@@ -1,0 +1,38 @@
+use Rattle.std.proofs.Common.{ℕ, List, length, ◌∙◌, sym, ap, subst}
+use Rattle.jk_model.specs.declared.member.MemberConfig.{MemberConfig}
+use Rattle.property_lines.specs.declared.directive.Directive.TheVariants as directive
+use Rattle.property_lines.specs.declared.error.PropsReason.TheVariants as reason
+use Rattle.property_lines.specs.Entries.{as_properties}
+use Rattle.property_lines.specs.Refusals.{refusal}
+use Rattle.worker_props.specs.Books.{AreTooWide, IsBook, RefusesWide}
+use Rattle.worker_props.specs.Rows.{property_at}
+use Rattle.worker_props.specs.Site.{line_in}
+use Rattle.worker_props.proofs.LbLemmas.{made_lb}
+use Rattle.worker_props.proofs.WorkerLemmas.{wants_memory}
+use Rattle.worker_props.proofs.books.lb_with.Goals as goal
+
+pub book_of-requires : goal.book_of-requires
+book_of-requires c = rw c.from_vec.ensures (record { some = c.requires.some; few = c.requires.few; within = c.requires.within })
+
+pub made_of-requires : goal.made_of-requires
+made_of-requires c = record {
+  paired = c.requires.paired ∙ ap (λ (ms : List MemberConfig). length ms) (sym (c.in-Ok.ensures.book.members ∙ c.from_vec.ensures));
+  cookie = c.filled_or-cookie.ensures.filled;
+  path = c.filled_or-path.ensures.filled;
+}
+
+pub returns-in-Ok-clause-lb : goal.returns-in-Ok-clause-lb
+returns-in-Ok-clause-lb c =
+    let v = property_at (as_properties c.args.given.now.entries.now) c.args.row.now in
+    let maintain = c.args.given.now.maintain in
+    let is : IsBook v maintain c.args.made.configs.items c.in-Ok.book = subst (λ (ms : List MemberConfig). IsBook v maintain ms c.in-Ok.book) c.from_vec.ensures c.in-Ok.ensures.book in
+    made_lb v maintain c.args.name.now c.filled_or-cookie.result.now c.filled_or-path.result.now c.in-Ok.book c.args.made.configs.items c.args.made.ends.items c.made_of.result is
+    c.filled_or-cookie.ensures.value c.filled_or-path.ensures.value c.made_of.ensures.made
+
+pub returns-in-Ok-clause-wide : goal.returns-in-Ok-clause-wide
+returns-in-Ok-clause-wide c =
+    wants_memory c.made_of.result (RefusesWide c.args.made.configs.items (line_in (property_at (as_properties c.args.given.now.entries.now) c.args.row.now directive.Kind))) c.made_of.ensures.memory
+
+pub returns-in-Err-clause-wide : goal.returns-in-Err-clause-wide
+returns-in-Err-clause-wide c =
+    rw c.refused.ensures (subst AreTooWide c.from_vec.ensures c.in-Err.ensures.wide, ap (λ (n : ℕ). refusal n reason.TooWide) c.type_line.ensures)

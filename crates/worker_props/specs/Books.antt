@@ -1,0 +1,71 @@
+-- What an lb worker makes of its members, as far as the lines that name them aren't looked at.
+use Rattle.std.specs.Prelude.{◌≡◌, ℕ, ◌≤◌, ◌<◌, ◌^◌, true, false, List, Option, ◌⊎◌, length, codes}
+use Rattle.jk_model.specs.Multiple.{multiple_of}
+use Rattle.jk_model.specs.Ranges.{AreInRange, factors_in}
+use Rattle.jk_model.specs.declared.config.LbConfig.{LbConfig}
+use Rattle.jk_model.specs.declared.config.TheConstants.{MAX_BALANCERS, MAX_MEMBERS, MAX_PERIOD_SECONDS}
+use Rattle.jk_model.specs.declared.member.MemberConfig.{MemberConfig}
+use Rattle.property_lines.specs.declared.directive.Directive.{Directive}
+use Rattle.property_lines.specs.declared.directive.Directive.TheVariants as directive
+use Rattle.property_lines.specs.declared.error.PropsReason.TheVariants as reason
+use Rattle.property_lines.specs.declared.property.Property.{Property}
+use Rattle.property_lines.specs.Refusals.{LineRefusal, refusal}
+use Rattle.site_config.specs.declared.balancer.Lb.{Lb}
+use Rattle.site_config.specs.declared.endpoint.Endpoint.{Endpoint}
+use Rattle.worker_props.specs.Lists.{Listing}
+use Rattle.worker_props.specs.Settings.{filled_or, method_in, number_or, truth_or}
+use Rattle.worker_props.specs.Site.{Breaks, Chained, Each, FirstBad, IsAjp13, IsNoAjp13, IsUnknown, Known}
+
+-- members that a balancer can have, where their factors aren't too wide
+pub record AreBookable (ms : List MemberConfig) (es : List Endpoint) : Type 0 where
+  pub some : 1 ≤ length ms
+  pub few : length ms ≤ MAX_MEMBERS
+  pub within : AreInRange ms
+  pub paired : length es ≡ length ms
+
+abbrev pub AreTooWide : List MemberConfig → Type 0
+AreTooWide ms = 2 ^ 32 ≤ multiple_of (factors_in ms)
+
+abbrev pub RefusesWide : List MemberConfig → (line : ℕ) → LineRefusal → Type 0
+RefusesWide ms line r = AreTooWide ms × (r ≡ refusal line reason.TooWide)
+
+-- the book of an lb worker, by the directives in force
+pub record IsBook (v : Directive → Option Property) (maintain : ℕ) (ms : List MemberConfig) (b : LbConfig) : Type 0 where
+  pub method : b.method ≡ method_in (v directive.Method)
+  pub sticky : b.sticky ≡ truth_or true (v directive.Sticky)
+  pub force : b.force ≡ truth_or false (v directive.Force)
+  pub indirect : b.direct ≡ false
+  pub period : b.maintain ≡ maintain
+  pub recover : b.recover ≡ number_or 1 MAX_PERIOD_SECONDS 60 (v directive.RecoverTime)
+  pub members : b.members ≡ ms
+
+-- a balancer of these parts
+pub record HasParts (name the_cookie the_path : List ℕ) (book : LbConfig) (es : List Endpoint) (lb : Lb) : Type 0 where
+  pub named : lb.name ≡ name
+  pub booked : lb.book ≡ book
+  pub ends : lb.ends ≡ es
+  pub cookie : lb.cookie ≡ the_cookie
+  pub path : lb.path ≡ the_path
+
+-- the balancer of an lb worker, by the directives in force
+pub record IsLbOf (v : Directive → Option Property) (maintain : ℕ) (name : List ℕ) (ms : List MemberConfig) (es : List Endpoint) (lb : Lb) : Type 0 where
+  pub named : lb.name ≡ name
+  pub booked : IsBook v maintain ms lb.book
+  pub ends : lb.ends ≡ es
+  pub cookie : lb.cookie ≡ filled_or (codes "JSESSIONID") (v directive.Cookie)
+  pub path : lb.path ≡ filled_or (codes ";jsessionid") (v directive.Path)
+
+-- what an lb worker's members pass after `count` balancers
+pub record Pass (ps : List Property) (count : ℕ) (ms : List Listing) : Type 0 where
+  pub chained : Each (Chained ps) ms
+  pub known : Each (Known ps) ms
+  pub room : count < MAX_BALANCERS
+  pub ajp13 : Each (IsAjp13 ps) ms
+
+-- their first refusal, each after those before it
+abbrev pub RefusesMembers : List Property → (count : ℕ) → Listing → List Listing → LineRefusal → Type 0
+RefusesMembers ps count l ms r =
+    FirstBad (Chained ps) (Breaks ps) ms r
+    ⊎ ((Each (Chained ps) ms × FirstBad (Known ps) (IsUnknown ps) ms r)
+    ⊎ ((Each (Chained ps) ms × Each (Known ps) ms × (MAX_BALANCERS ≤ count) × (r ≡ refusal l.line reason.BadValue))
+    ⊎ (Each (Chained ps) ms × Each (Known ps) ms × (count < MAX_BALANCERS) × FirstBad (IsAjp13 ps) (IsNoAjp13 ps) ms r)))
