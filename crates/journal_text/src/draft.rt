@@ -1,5 +1,5 @@
 //! An opening, as its lines are read.
-ghost use Rattle.std.specs.Prelude.{◌≡◌, ℕ, ◌∷◌, [], ◌++◌, ◌<◌, ◌≤◌, ◌^◌, ◌==◌, length, count_by, IfOk, MatchOption, IsTrue, ◌↔◌};
+ghost use Rattle.std.specs.Prelude.{◌≡◌, ℕ, ◌∷◌, [], ◌++◌, ◌<◌, ◌≤◌, ◌^◌, ◌==◌, length, count_by, IfOk, OnOk, MatchOption, IsTrue, ◌↔◌};
 ghost use Rattle.jk_model.specs.declared.opening.Opening.{Opening};
 ghost use Rattle.jk_model.specs.Validity.{IsOpening};
 ghost use Rattle.journal_text.specs.Openings.{AreCounted, IsOpened, config_of, row_of};
@@ -85,9 +85,21 @@ impl OpeningDraft {
         ensures { IfOk result (λ d. d ≡ with_member self name route values) }
     {
         let mut draft = self;
-        draft.rows.push(row_of(name.copy()?, &values))?;
-        draft.members.push(config_of(name, route, &values))?;
+        draft.add_member(name, route, &values)?;
         Ok(draft)
+    }
+
+    fn add_member(
+        &mut self,
+        name: Bytes,
+        route: Bytes,
+        values: &MemberValues,
+    ) -> Result<(), NoMemory>
+        ensures { OnOk result (self.new ≡ with_member self.old name route values.now) }
+    {
+        self.rows.push(row_of(name.copy()?, values))?;
+        self.members.push(config_of(name, route, values))?;
+        Ok(())
     }
 
     /// With a further ticket that is out.

@@ -5,14 +5,14 @@ ghost use Rattle.journal_lines.specs.Ranges.{IsKeptLine};
 ghost use Rattle.jk_model.specs.Segments.{AreKeptEntries};
 ghost use Rattle.jk_model.specs.Validity.{IsOpening};
 ghost use Rattle.journal_text.specs.Kept.{IsKept, IsSound};
-ghost use Rattle.journal_text.specs.Reading.{Heads, Opens, Refuses, TakesAt, TakesText, at_start, begun, continued, held, is_end, is_over, named, opened};
+ghost use Rattle.journal_text.specs.Reading.{Heads, Opens, Refuses, TakesAt, TakesText, at_start, begun, continued, held, is_end, is_over, named, opened, with_member, with_ticket};
 
 use crate::counted::{Counted, CountedList};
 use crate::draft::OpeningDraft;
 use crate::text_error::TextError;
 use jk_io::{Bytes, NoMemory};
 use jk_model::{Entry, EntryList, MemberList, Opening, RowList, TicketList};
-use journal_lines::{Beginning, Line, read_line};
+use journal_lines::{Beginning, Line, MemberValues, read_line};
 use std::alloc::Global;
 
 /// Where a text is read.
@@ -109,6 +109,51 @@ fn opened(
     })
 }
 
+// With a further member.
+fn with_member(
+    rules: u8,
+    done: CountedList,
+    draft: OpeningDraft,
+    name: Bytes,
+    route: Bytes,
+    values: MemberValues,
+) -> Result<Option<Reader>, NoMemory>
+    requires versions { AreRules rules }
+    requires sound { All IsKept done }
+    ensures sound { IfOk result (λ found. IfSome found IsSound) }
+    ensures value { IfOk result (λ found. found ≡ Some (record { rules = rules; place = TextPlace.Heading (with_member draft name route values); done = done })) }
+    ensures grown { IfOk result (λ found. IfSome found (λ q. held q.place ≤ length draft.rows + length draft.out + 1)) }
+{
+    let further = draft.with_member(name, route, values)?;
+    Ok(Some(Reader {
+        rules,
+        place: TextPlace::Heading(further),
+        done,
+    }))
+}
+
+// With a further ticket that is out.
+fn with_ticket(
+    rules: u8,
+    done: CountedList,
+    draft: OpeningDraft,
+    ticket: u64,
+    member: u32,
+) -> Result<Option<Reader>, NoMemory>
+    requires versions { AreRules rules }
+    requires sound { All IsKept done }
+    ensures sound { IfOk result (λ found. IfSome found IsSound) }
+    ensures value { IfOk result (λ found. found ≡ Some (record { rules = rules; place = TextPlace.Heading (with_ticket draft ticket member); done = done })) }
+    ensures grown { IfOk result (λ found. IfSome found (λ q. held q.place ≤ length draft.rows + length draft.out + 1)) }
+{
+    let further = draft.with_ticket(ticket, member)?;
+    Ok(Some(Reader {
+        rules,
+        place: TextPlace::Heading(further),
+        done,
+    }))
+}
+
 fn headed(
     alloc: Global,
     rules: u8,
@@ -124,21 +169,16 @@ fn headed(
     ensures grown { IfOk result (λ found. IfSome found (λ q. held q.place ≤ length draft.rows + length draft.out + 1)) }
 {
     let full = draft.is_full();
-    let further = match line {
+    match line {
         Line::Member {
             name,
             route,
             values,
-        } if !full => draft.with_member(name, route, values)?,
-        Line::Lease { ticket, member } if full => draft.with_ticket(ticket, member)?,
-        Line::From(beginning) => return Ok(opened(alloc, rules, done, draft, &beginning)),
-        _ => return Ok(None),
-    };
-    Ok(Some(Reader {
-        rules,
-        place: TextPlace::Heading(further),
-        done,
-    }))
+        } if !full => with_member(rules, done, draft, name, route, values),
+        Line::Lease { ticket, member } if full => with_ticket(rules, done, draft, ticket, member),
+        Line::From(beginning) => Ok(opened(alloc, rules, done, draft, &beginning)),
+        _ => Ok(None),
+    }
 }
 
 // With a further entry.
@@ -149,14 +189,16 @@ fn with_entry(
     opening: Opening,
     entries: EntryList,
     entry: Entry,
-) -> Result<Reader, NoMemory>
+) -> Result<Option<Reader>, NoMemory>
     requires versions { AreRules rules }
     requires valid { IsOpening opening }
     requires entries { AreKeptEntries rules entries }
     requires kept { IsKeptLine rules (Line.Entry entry) }
     requires sound { All IsKept done }
-    ensures sound { IfOk result IsSound }
-    ensures value { IfOk result (λ q. q ≡ record { rules = rules; place = TextPlace.Body name opening (entries ++ entry ∷ []); done = done }) }
+    ensures sound { IfOk result (λ found. IfSome found IsSound) }
+    ensures value { IfOk result (λ found. found
+        ≡ Some (record { rules = rules; place = TextPlace.Body name opening (entries ++ entry ∷ []); done = done })) }
+    ensures grown { IfOk result (λ found. IfSome found (λ q. held q.place ≡ 0)) }
 {
     let mut entries = entries;
     entries.push(entry)?;
@@ -165,24 +207,25 @@ fn with_entry(
         opening,
         entries,
     };
-    Ok(Reader { rules, place, done })
+    Ok(Some(Reader { rules, place, done }))
 }
 
 // Behind a further segment.
-fn with_segment(rules: u8, done: CountedList, segment: Counted) -> Result<Reader, NoMemory>
+fn with_segment(rules: u8, done: CountedList, segment: Counted) -> Result<Option<Reader>, NoMemory>
     requires versions { AreRules rules }
     requires kept { IsKept segment }
     requires sound { All IsKept done }
-    ensures sound { IfOk result IsSound }
-    ensures value { IfOk result (λ q. q ≡ record { rules = rules; place = TextPlace.Outside; done = done ++ segment ∷ [] }) }
+    ensures sound { IfOk result (λ found. IfSome found IsSound) }
+    ensures value { IfOk result (λ found. found ≡ Some (record { rules = rules; place = TextPlace.Outside; done = done ++ segment ∷ [] })) }
+    ensures grown { IfOk result (λ found. IfSome found (λ q. held q.place ≡ 0)) }
 {
     let mut done = done;
     done.push(segment)?;
-    Ok(Reader {
+    Ok(Some(Reader {
         rules,
         place: TextPlace::Outside,
         done,
-    })
+    }))
 }
 
 fn continued(
@@ -204,10 +247,7 @@ fn continued(
     ensures grown { IfOk result (λ found. IfSome found (λ q. held q.place ≡ 0)) }
 {
     match line {
-        Line::Entry(entry) => {
-            let further = with_entry(rules, done, name, opening, entries, entry)?;
-            Ok(Some(further))
-        }
+        Line::Entry(entry) => with_entry(rules, done, name, opening, entries, entry),
         Line::End(count) => {
             let segment = Counted {
                 name,
@@ -216,8 +256,7 @@ fn continued(
                 entries,
                 count,
             };
-            let further = with_segment(rules, done, segment)?;
-            Ok(Some(further))
+            with_segment(rules, done, segment)
         }
         _ => Ok(None),
     }
