@@ -1,7 +1,9 @@
 -- What is answered for want of numbers, and where a maintenance is due, over what a Book keeps.
-use Rattle.std.proofs.Common.{◌≡◌, ℕ, ◌+◌, ◌<◌, ◌≤◌, ◌^◌, List, length, reverse, Option, Some, Ok, Err, sym, ◌∙◌, subst, arith}
+use Rattle.std.proofs.Common.{◌≡◌, ℕ, ◌+◌, ◌<◌, ◌≤◌, ◌^◌, List, [], ◌∷◌, ◌++◌, length, reverse, Option, Ok, Err, OnErr, refl, sym, ◌∙◌, ap, subst, arith}
 use Rattle.std.specs.Prelude.{Result, max}
 use Rattle.std.specs.Result.{IsErr, IsErrAnd}
+use Rattle.jk_model.specs.declared.journal.Answer.{Answer}
+use Rattle.jk_model.specs.declared.journal.Call.{Call}
 use Rattle.jk_model.specs.declared.journal.Entry.{Entry}
 use Rattle.jk_model.specs.declared.opening.Opening.{Opening}
 use Rattle.jk_model.specs.declared.refusal.FullMark.{FullMark}
@@ -9,10 +11,11 @@ use Rattle.jk_model.specs.declared.refusal.RoomError.{RoomError}
 use Rattle.jk_model.specs.declared.refusal.RoomError.TheVariants as Room
 use Rattle.balancer_core.specs.declared.present.Present.{Present}
 use Rattle.balancer_core.specs.Due.{IsMaintenance, due_moment, entry_moment}
-use Rattle.balancer_core.specs.Journal.{IsFullUnless, IsMarked, Journal, next_number, tickets_out}
+use Rattle.balancer_core.specs.Journal.{AddsEntry, IsFullUnless, IsMarked, Journal, next_number, tickets_out}
 use Rattle.balancer_core.specs.Kept.{IsNow}
 use Rattle.balancer_core.proofs.AdminLaws.{journal_of}
 use Rattle.balancer_core.proofs.KeptLaws.{next_is}
+use Rattle.jk_model.proofs.ListFacts.{reverse_snoc}
 
 module _ (v : ℕ) (o : Opening) (h : List Entry) (now : Present) (added seq more : ℕ) (is : IsNow v o (reverse h) now) (number : seq ≡ o.next + length h) where
   -- The numbers of a refusal.
@@ -30,6 +33,28 @@ module _ (v : ℕ) (o : Opening) (h : List Entry) (now : Present) (added seq mor
 pub due_past : (v : ℕ) (o : Opening) (h : List Entry) (now : Present) (added at moment : ℕ) → IsNow v o (reverse h) now → moment ≡ max at now.at
     → now.maintained + o.config.maintain ≤ moment → due_moment (journal_of v o h added) ≤ entry_moment (journal_of v o h added) at
 due_past v o h now added at moment is later due = omega (arith, is.maintained, is.moment, later, due)
+
+-- None is due.
+pub early_past : (v : ℕ) (o : Opening) (h : List Entry) (now : Present) (added at moment : ℕ) → IsNow v o (reverse h) now → moment ≡ max at now.at
+    → (now.maintained + o.config.maintain ≤ moment → ⊥) → entry_moment (journal_of v o h added) at < due_moment (journal_of v o h added)
+early_past v o h now added at moment is later early = omega (arith, is.maintained, is.moment, later, early)
+
+-- The entry is added to what is kept.
+pub entry_added : (v : ℕ) (o : Opening) (h xs : List Entry) (now : Present) (added seq session at moment : ℕ) (call : Call) (a : Answer) → IsNow v o (reverse h) now → seq ≡ o.next + length h → moment ≡ max at now.at
+    → xs ≡ h ++ record { seq = seq; session = session; at = moment; call = call; answer = a } ∷ []
+    → AddsEntry (journal_of v o h added) (journal_of v o xs (added + 1)) session at call (record { seq = seq; session = session; at = moment; call = call; answer = a })
+entry_added v o h xs now added seq session at moment call a is number later items = record {
+  number = number ∙ next_is o h;
+  caller = refl;
+  moment = later ∙ ap (λ (m : ℕ). max at m) is.moment;
+  asked = refl;
+  grown = ap (λ (ys : List Entry). journal_of v o ys (added + 1)) items;
+  newest = ap (λ (ys : List Entry). reverse ys) items ∙ reverse_snoc h _;
+}
+
+pub anyway : {T E : Type 0} (r : Result T E) (P : Type 0) → P → OnErr r P
+anyway (Ok x) P h = tt
+anyway (Err e) P h = h
 
 -- Want of memory is a refusal where there are numbers.
 pub full_by : {T : Type 0} (next out more : ℕ) (r : Result T (RoomError FullMark)) → IsErr r → IsErrAnd r (λ e. e ≡ Room.NoMemory)

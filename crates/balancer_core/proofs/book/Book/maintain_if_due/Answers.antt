@@ -1,18 +1,23 @@
-use Rattle.std.proofs.Common.{◌≡◌, ◌+◌, ◌≤◌, ◌<◌, ◌^◌, ℕ, List, [], ◌∷◌, ◌++◌, length, reverse, Option, Some, None, Ok, refl, ◌∙◌, ap, subst, arith}
+use Rattle.std.proofs.Common.{◌≡◌, ◌+◌, ◌≤◌, ◌<◌, ◌^◌, ℕ, List, [], ◌∷◌, ◌++◌, length, reverse, Option, None, refl, sym, ◌∙◌, ap, subst, arith}
 use Rattle.std.specs.Prelude.{vec_capacity}
+use Rattle.std.proofs.lemmas.Bool.{false≢true}
 use Rattle.std.proofs.lemmas.List.{length-reverse}
-use Rattle.jk_model.specs.Legal.{IsNext}
+use Rattle.std.proofs.lemmas.Result.{IfOk-from_err}
+use Rattle.jk_model.specs.Legal.{IsLegal, IsNext}
 use Rattle.jk_model.specs.Tickets.{out}
+use Rattle.jk_model.specs.declared.journal.Answer.TheVariants as answer
+use Rattle.jk_model.specs.declared.journal.Call.TheVariants as call
 use Rattle.jk_model.specs.declared.journal.Entry.{Entry}
 use Rattle.jk_model.specs.declared.opening.Opening.{Opening}
 use Rattle.choice_index.specs.RuleNumbers.{rules_number}
-use Rattle.balancer_core.specs.Due.{IsMaintenance, due_moment, entry_moment}
-use Rattle.balancer_core.specs.Journal.{IsMarked, Journal, next_number, past_of, tickets_out}
+use Rattle.balancer_core.specs.Due.{due_moment, entry_moment}
+use Rattle.balancer_core.specs.Journal.{AddsEntry, IsMarked, IsSound, Journal, next_number, past_of, tickets_out}
 use Rattle.balancer_core.specs.Kept.{IsKept, IsNow}
+use Rattle.balancer_core.proofs.AdminLaws.{journal_of}
 use Rattle.balancer_core.proofs.CallLaws.{kept-called}
 use Rattle.balancer_core.proofs.KeptLaws.{kept-moved}
 use Rattle.balancer_core.proofs.MaintainLaws.{maintain_entry, next_maintained, now-maintained}
-use Rattle.balancer_core.proofs.RoomLaws.{due_past, full_marked, full_past, maintenance_by, room_left}
+use Rattle.balancer_core.proofs.RoomLaws.{anyway, due_past, early_past, entry_added, full_marked, full_past, maintenance_by, room_left}
 use Rattle.balancer_core.proofs.book.Book.maintain_if_due.Goals as goal
 
 pub invariant_of-self : goal.invariant_of-self
@@ -106,3 +111,55 @@ returns-clause-next c =
 
 pub returns-clause-sound : goal.returns-clause-sound
 returns-clause-sound c = (invariant_of-self-2 c).legal
+
+-- nothing is done without memory
+pub returns-in_err-take_room-clause-ok : goal.returns-in_err-take_room-clause-ok
+returns-in_err-take_room-clause-ok c = IfOk-from_err c.from_residual.result _ c.from_residual.ensures.0
+
+pub returns-in_err-take_room-clause-done : goal.returns-in_err-take_room-clause-done
+returns-in_err-take_room-clause-done c = IfOk-from_err c.from_residual.result _ c.from_residual.ensures.0
+
+pub returns-in_err-take_room-clause-next : goal.returns-in_err-take_room-clause-next
+returns-in_err-take_room-clause-next c = IfOk-from_err c.from_residual.result _ c.from_residual.ensures.0
+
+pub maintain-requires : goal.maintain-requires
+maintain-requires c = c.if-not-is_due.ensures.0 refl
+
+pub add-requires : goal.add-requires
+add-requires c =
+    let entries : length c.take_room.new.entries.items ≡ length c.self.inside.entries.items = ap (λ (xs : List Entry). length xs) c.take_room.ensures.items in
+    let places : length c.take_room.new.returned.items ≡ length c.self.inside.returned.items = ap (λ (xs : List (Option ℕ)). length xs) c.take_room.ensures.places in
+    record {
+      room = omega (arith, entries, c.in_ok-take_room.ensures.room);
+      places_room = omega (arith, places, c.in_ok-take_room.ensures.places_room);
+    }
+
+pub returns-then-not-is_due-clause-due : goal.returns-then-not-is_due-clause-due
+returns-then-not-is_due-clause-due c =
+    subst (λ (b : Journal). entry_moment b c.args.at < due_moment b) c.self.view_is
+    (early_past (rules_number c.self.inside.rules) c.self.inside.opening c.self.inside.entries.items c.self.inside.present c.self.inside.added c.args.at c.max-moment.result
+    c.self.invariant.present c.max-moment.ensures (λ late. false≢true (sym c.if-not-is_due.true ∙ c.is_due.ensures.1 late)))
+
+pub returns-then-not-is_due-clause-sound : goal.returns-then-not-is_due-clause-sound
+returns-then-not-is_due-clause-sound c = subst (λ (b : Journal). IsSound b) c.self.view_is c.self.invariant.legal
+
+pub returns-then-next-out-gt-MOST_NUMBERS-clause-sound : goal.returns-then-next-out-gt-MOST_NUMBERS-clause-sound
+returns-then-next-out-gt-MOST_NUMBERS-clause-sound c = subst (λ (b : Journal). IsSound b) c.self.view_is c.self.invariant.legal
+
+pub returns-in_err-take_room-clause-sound : goal.returns-in_err-take_room-clause-sound
+returns-in_err-take_room-clause-sound c =
+    subst (λ (xs : List Entry). IsLegal (rules_number c.self.inside.rules) c.self.inside.opening xs) (sym c.take_room.ensures.items) c.self.invariant.legal
+
+pub returns-in_err-take_room-clause-err : goal.returns-in_err-take_room-clause-err
+returns-in_err-take_room-clause-err c =
+    anyway c.from_residual.result _
+    (ap (λ (xs : List Entry). journal_of (rules_number c.self.inside.rules) c.self.inside.opening xs c.self.inside.added) c.take_room.ensures.items ∙ c.self.view_is)
+
+pub returns-clause-ok : goal.returns-clause-ok
+returns-clause-ok c =
+    let seq : ℕ = c.self.inside.opening.next + c.len.result in
+    let e : Entry = maintain_entry seq c.args.session c.max-moment.result in
+    let items : c.add.new.entries.items ≡ c.self.inside.entries.items ++ e ∷ [] = c.add.ensures.items ∙ ap (λ (xs : List Entry). xs ++ e ∷ []) c.take_room.ensures.items in
+    subst (λ (b : Journal). AddsEntry b (journal_of (rules_number c.self.inside.rules) c.self.inside.opening c.add.new.entries.items (c.self.inside.added + 1)) c.args.session c.args.at call.Maintain e) c.self.view_is
+    (entry_added (rules_number c.self.inside.rules) c.self.inside.opening c.self.inside.entries.items c.add.new.entries.items c.self.inside.present c.self.inside.added seq c.args.session c.args.at c.max-moment.result call.Maintain answer.Done
+    c.self.invariant.present (omega (arith, c.len.ensures, c.self.inside.entries.ok.0)) c.max-moment.ensures items)
