@@ -301,10 +301,14 @@ fn with_page<'a>(
     command.subcommand(page_command(alloc, page)?)
 }
 
+fn pages() -> &'static [Page] {
+    &PAGES
+}
+
 /// The command with its texts.
 pub fn command<'a>(alloc: Global) -> Result<Command<'a>, AllocError> {
     let mut command = flagged_command(alloc)?;
-    for page in &PAGES {
+    for page in pages() {
         command = with_page(alloc, command, page)?;
     }
     Ok(command)
