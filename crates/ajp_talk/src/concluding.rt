@@ -3,13 +3,17 @@
 ghost use Rattle.std.specs.Prelude.{◌≡◌, ◌≢◌, ◌≤◌, ◌<◌, ◌^◌, ◌&&◌, not, length};
 ghost use Rattle.ajp_talk.specs.Owed.{opening, ping_of, first_packet};
 ghost use Rattle.ajp_talk.specs.Ends.{IsPlan, stage_end, told_end, bytes_end, failed_end, done_end, gone_end, bad_end, ended_by, unanswered_end};
-ghost use Rattle.ajp_wire.specs.declared.writing.TheConstants.{MAX_PIECE_BYTES};
+ghost use Rattle.ajp_wire.specs.declared.writing.TheConstants.{MAX_PIECE_BYTES, PAYLOAD_LIMIT};
+ghost use Rattle.ajp_talk.specs.declared.concluding.TheConstants.{CPING_BYTES};
 
 use crate::course::Course;
 use crate::ending::{Cause, Stage, TalkEnd, Told};
 use crate::plan::TalkPlan;
 use crate::turn::{Turn, Unheard};
 use jk_io::NoMemory;
+
+/// The bytes of a CPing: a packet's head and one byte.
+const CPING_BYTES: u64 = 5;
 
 impl Course {
     /// The end that a turn makes, which neither lets the talk go on nor lost the client before the reply's end.
@@ -142,15 +146,15 @@ fn opening_len(plan: &TalkPlan) -> u64
 
 fn ping_len(plan: &TalkPlan) -> u64
     ensures value { result ≡ length (ping_of plan.now) }
-    ensures small { result ≤ 5 }
+    ensures small { result ≤ CPING_BYTES }
 {
-    if plan.ping { 5 } else { 0 }
+    if plan.ping { CPING_BYTES } else { 0 }
 }
 
 fn first_len(plan: &TalkPlan) -> u64
     requires { length plan.now.first ≤ MAX_PIECE_BYTES }
     ensures value { result ≡ length (first_packet plan.now.first) }
-    ensures small { result ≤ 65536 }
+    ensures small { result ≤ PAYLOAD_LIMIT }
 {
     match plan.first.as_slice() {
         [] => 0,
