@@ -6,3 +6,4 @@ pub mod Ends
 pub mod Wires
 pub mod Threads
 pub mod Sites
+pub mod Written

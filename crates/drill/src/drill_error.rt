@@ -1,4 +1,6 @@
 //! What a drill hands out, and why it hands out none.
+ghost use Rattle.std.specs.Prelude.{◌≡◌};
+ghost use Rattle.drill.specs.Written.{status_of_error};
 
 use balancer_core::Book;
 use jk_io::{Bytes, NoMemory};
@@ -22,6 +24,28 @@ pub enum DrillError {
     /// The journal of this Book lacks a request of some thread, or has one that wasn't answered whole.
     Lost(Book),
     NoMemory,
+}
+
+/// The status of receipts that aren't the kept entries.
+const DIFFERS: u8 = 1;
+
+/// The status of want of memory.
+pub(crate) const NO_MEMORY: u8 = 6;
+
+/// The status of a journal that lacks a request.
+const LOST: u8 = 7;
+
+impl DrillError {
+    /// The program's status.
+    pub fn status(&self) -> u8
+        ensures { result ≡ status_of_error self.now }
+    {
+        match self {
+            DrillError::Differs(_) => DIFFERS,
+            DrillError::Lost(_) => LOST,
+            DrillError::NoMemory => NO_MEMORY,
+        }
+    }
 }
 
 impl From<NoMemory> for DrillError {

@@ -1,6 +1,7 @@
 //! The requests of a drill, and those of one thread in its order.
 ghost use Rattle.std.specs.Prelude.{◌≡◌, ◌/◌, ◌^◌, ◌<◌, ◌++◌, ◌∷◌, [], ◌↔◌, ℕ, length, take, drop, IfOk, IfSome, IfNone, IsTrue, OnOk};
 ghost use Rattle.drill.specs.Requests.{following as following_of, request_text, requests_of, size_at, texts_of};
+ghost use Rattle.drill.specs.declared.requests.TheConstants.{SIZE_LIMIT};
 
 use crate::plan::Plan;
 use jk_io::{Bytes, NoMemory, put_decimal};
@@ -9,6 +10,9 @@ use std::marker::Model;
 
 /// The most requests of a session.
 pub(crate) const MAX_SESSION_REQUESTS: usize = 1_000;
+
+/// The size of a body is below this.
+const SIZE_LIMIT: u64 = 1_024;
 
 const FACTOR: u128 = 6_364_136_223_846_793_005;
 
@@ -24,7 +28,7 @@ pub(crate) fn following(x: u64) -> u64
 /// The size that a number gives.
 pub(crate) fn size_of(x: u64) -> u64
     ensures value { result ≡ x / 2 ^ 54 }
-    ensures few { result < 1024 }
+    ensures few { result < SIZE_LIMIT }
 {
     x >> 54
 }

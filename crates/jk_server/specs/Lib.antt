@@ -1,4 +1,15 @@
 pub mod Worker
 pub mod Served
-pub mod Tells
+pub mod PartTells
 pub mod Parts
+pub mod Closings
+pub mod Containers
+pub mod Ends
+pub mod GearParts
+pub mod RunTells
+pub mod Runs
+pub mod Shelved
+pub mod Started
+pub mod Worlds
+pub mod Sites
+pub mod Commands

@@ -12,7 +12,7 @@ use Rattle.locked_balancer.specs.declared.site.SiteName.{Ghosts as SiteGhosts}
 use Rattle.site_config.specs.declared.config.Config.{Config}
 use Rattle.uri_map.specs.declared.rule.Rule.{Rule}
 use Rattle.jk_server.specs.Served.{IsServed}
-use Rattle.jk_server.specs.Tells.{Tells, worker_of}
+use Rattle.jk_server.specs.PartTells.{PartTells, worker_of}
 use Rattle.jk_server.specs.Worker.{IsFit, worker_side, WorkerSide}
 use Rattle.jk_server.specs.declared.part.Outside.{Outside}
 use Rattle.jk_server.specs.declared.part.Part.{Part}
@@ -37,7 +37,7 @@ pub record IsWorked {C S L X : Type 0} (visit : Peer → Visit) (told : Ghosts C
   pub parts : n.desk.desk.parts ≡ s.desk.desk.parts
 
 -- What it says of the part of a worker with this number, from one moment to another.
-abbrev pub WorksPart : {L D R K S W C X : Type 0} → Tells D R K S C X → Config → List Rule → (number : ℕ) → (before after : Part L D R K S W) → WorkerEnd L → Type 0
+abbrev pub WorksPart : {L D R K S W C X : Type 0} → PartTells D R K S C X → Config → List Rule → (number : ℕ) → (before after : Part L D R K S W) → WorkerEnd L → Type 0
 WorksPart told cfg rules number before after end =
     IsWorked (visit cfg rules number) told.link told.shelf_faults cfg rules (told.door before.door) (told.door after.door)
     (worker_of told before) (worker_of told after) (told.reach.beside after.reach) end
@@ -72,7 +72,7 @@ pub record IsServedPart {C S L X : Type 0} (visit : Peer → Visit) (told : Ghos
   pub left : Left desk
 
 -- So of each part, by its place as the number of its worker.
-abbrev pub AreServedParts : {L D R K S W C X : Type 0} {N : SiteGhosts L} → Tells D R K S C X → Config → List Rule → List (Part L D R K S W) → ServeEnd L D R K S N → Type 0
+abbrev pub AreServedParts : {L D R K S W C X : Type 0} {N : SiteGhosts L} → PartTells D R K S C X → Config → List Rule → List (Part L D R K S W) → ServeEnd L D R K S N → Type 0
 AreServedParts {L} {D} {R} {K} {S} {W} {N = N} told cfg rules parts ran =
     AreEach (λ (number : ℕ) (part : Part L D R K S W) (out : Outside D R K) (left : Leaving L S N) (end : WorkerEnd L).
     IsServedPart (visit cfg rules number) told.link told.shelf_faults cfg rules (told.door part.door) (told.door out.door) (worker_of told part)

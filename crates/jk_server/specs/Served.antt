@@ -15,7 +15,7 @@ use Rattle.client_session.specs.declared.ending.SessionEnd.TheVariants as sessio
 use Rattle.status_worker.specs.Desks.{KeepsTickets}
 use Rattle.locked_balancer.specs.SharedDesks.{SharedState}
 use Rattle.jk_server.specs.Worker.{forgot, Rests, standing_with, took, WorkerSide}
-use Rattle.jk_server.specs.Tells.{Tells, worker_of}
+use Rattle.jk_server.specs.PartTells.{PartTells, worker_of}
 use Rattle.jk_server.specs.declared.part.Part.{Part}
 use Rattle.jk_server.specs.declared.part.WorkerEnd.{WorkerEnd}
 use Rattle.jk_server.specs.declared.part.WorkerEnd.TheVariants as worker
@@ -154,16 +154,16 @@ ServesNext {L = L} visit told faults before after s n link peer (Some end) =
 -- ---- said of a part, from one moment to another
 
 -- What `IsServed` says of its worker.
-abbrev pub ServesPart : {L D R K S W C X : Type 0} → Tells D R K S C X → (Peer → Visit) → (before after : Part L D R K S W) → WorkerEnd L → Type 0
+abbrev pub ServesPart : {L D R K S W C X : Type 0} → PartTells D R K S C X → (Peer → Visit) → (before after : Part L D R K S W) → WorkerEnd L → Type 0
 ServesPart told visit before after end =
     IsServed visit told.link told.shelf_faults (told.door before.door) (told.door after.door) (worker_of told before) (worker_of told after) end
 
 -- What `ServesClient` says.
-abbrev pub ServesPartClient : {L D R K S W C X : Type 0} → Tells D R K S C X → (Peer → Visit) → (before after : Part L D R K S W) → C → Peer → Option (WorkerEnd L) → Type 0
+abbrev pub ServesPartClient : {L D R K S W C X : Type 0} → PartTells D R K S C X → (Peer → Visit) → (before after : Part L D R K S W) → C → Peer → Option (WorkerEnd L) → Type 0
 ServesPartClient told visit before after link peer end =
     ServesClient visit told.link told.shelf_faults (told.door before.door) (told.door after.door) (worker_of told before) (worker_of told after) link peer end
 
 -- What `ServesNext` says.
-abbrev pub ServesPartNext : {L D R K S W C X : Type 0} → Tells D R K S C X → (Peer → Visit) → (before after : Part L D R K S W) → C → Peer → Option (WorkerEnd L) → Type 0
+abbrev pub ServesPartNext : {L D R K S W C X : Type 0} → PartTells D R K S C X → (Peer → Visit) → (before after : Part L D R K S W) → C → Peer → Option (WorkerEnd L) → Type 0
 ServesPartNext told visit before after link peer end =
     ServesNext visit told.link told.shelf_faults (told.door before.door) (told.door after.door) (worker_of told before) (worker_of told after) link peer end

@@ -3,7 +3,7 @@ ghost use Rattle.std.specs.Prelude.{◌≡◌, ◌<◌, ℕ, true, false, Some};
 ghost use Rattle.locked_balancer.specs.Notes.{StrayNote};
 ghost use Rattle.locked_balancer.specs.SharedDesks.{SharedState};
 ghost use Rattle.jk_server.specs.Served.{IsStray, ServesPartClient, ServesPartNext, Settles};
-ghost use Rattle.jk_server.specs.Tells.{tells, visit_at};
+ghost use Rattle.jk_server.specs.PartTells.{part_tells, visit_at};
 ghost use Rattle.jk_server.specs.Worker.{IsFit, Rests, took, worker_side};
 
 use crate::part::{Part, Post, WorkerEnd};
@@ -77,7 +77,7 @@ fn serve_client<L: SiteName, D: Door, R: Reach, K: Clock, S: Shelf, W: Wait>(
 ) -> Option<WorkerEnd<L>>
     requires fit { IsFit post.cfg.now post.map.now part.old.desk.desk (R.beside part.old.reach) }
     requires room { 0 < D.room part.old.door }
-    ensures served { let told = tells D.coming D.left D.faults D.L.Meanings K.answers R.Meanings S.faults in
+    ensures served { let told = part_tells D.coming D.left D.faults D.L.Meanings K.answers R.Meanings S.faults in
         ServesPartClient told (visit_at post.entry) part.old part.new link peer.now result }
     ensures fit { IsFit post.entry.cfg.now post.entry.map.now part.new.desk.desk (R.beside part.new.reach) }
     ensures parts { part.new.desk.desk.parts ≡ part.old.desk.desk.parts }
@@ -125,7 +125,7 @@ pub(crate) fn serve_next<L: SiteName, D: Door, R: Reach, K: Clock, S: Shelf, W: 
 ) -> Option<WorkerEnd<L>>
     requires fit { IsFit post.cfg.now post.map.now part.old.desk.desk (R.beside part.old.reach) }
     requires room { 0 < D.room part.old.door }
-    ensures served { let told = tells D.coming D.left D.faults D.L.Meanings K.answers R.Meanings S.faults in
+    ensures served { let told = part_tells D.coming D.left D.faults D.L.Meanings K.answers R.Meanings S.faults in
         ServesPartNext told (visit_at post.entry) part.old part.new link peer.now result }
     ensures fit { IsFit post.entry.cfg.now post.entry.map.now part.new.desk.desk (R.beside part.new.reach) }
     ensures parts { part.new.desk.desk.parts ≡ part.old.desk.desk.parts }

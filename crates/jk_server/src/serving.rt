@@ -2,7 +2,7 @@
 ghost use Rattle.std.specs.Prelude.{◌≡◌};
 ghost use Rattle.client_session.specs.Requests.{visit};
 ghost use Rattle.jk_server.specs.Served.{ServesPart};
-ghost use Rattle.jk_server.specs.Tells.{tells};
+ghost use Rattle.jk_server.specs.PartTells.{part_tells};
 ghost use Rattle.jk_server.specs.Worker.{IsFit};
 
 use crate::client::serve_next;
@@ -26,7 +26,7 @@ pub fn serve_part<L: SiteName, D: Door, R: Reach, K: Clock, S: Shelf, W: Wait>(
     part: &mut Part<'_, '_, L, D, R, K, S, W>,
 ) -> WorkerEnd<L>
     requires fit { IsFit cfg.now map.now part.old.desk.desk (R.beside part.old.reach) }
-    ensures served { let told = tells D.coming D.left D.faults D.L.Meanings K.answers R.Meanings S.faults in
+    ensures served { let told = part_tells D.coming D.left D.faults D.L.Meanings K.answers R.Meanings S.faults in
         ServesPart told (visit cfg.now map.now number) part.old part.new result }
     ensures fit { IsFit cfg.now map.now part.new.desk.desk (R.beside part.new.reach) }
     ensures parts { part.new.desk.desk.parts ≡ part.old.desk.desk.parts }

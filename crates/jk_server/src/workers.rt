@@ -2,7 +2,7 @@
 ghost use Rattle.std.specs.Prelude.{◌≡◌, ◌+◌, ◌<◌, ◌≤◌, ◌++◌, [], length, map, vec_capacity, vec_len, IfOk};
 ghost use Rattle.std.specs.List.{All};
 ghost use Rattle.jk_server.specs.Parts.{AllFour, AreServedParts, InEach, LeavesPart, WorksPart};
-ghost use Rattle.jk_server.specs.Tells.{tells};
+ghost use Rattle.jk_server.specs.PartTells.{part_tells};
 ghost use Rattle.jk_server.specs.Worker.{IsFit};
 
 use crate::part::{Outside, Part, ServeEnd, WorkerEnd};
@@ -57,7 +57,7 @@ where
     D::L: Send,
     requires few { vec_len parts ≤ MAX_WORKERS }
     requires fit { All (λ p. IsFit cfg.now map.now p.desk.desk (R.beside p.reach)) parts.items }
-    ensures served { let told = tells D.coming D.left D.faults D.L.Meanings K.answers R.Meanings S.faults in
+    ensures served { let told = part_tells D.coming D.left D.faults D.L.Meanings K.answers R.Meanings S.faults in
         IfOk result (AreServedParts told cfg.now map.now parts.entry.items) }
 {
     let _site = site;
@@ -111,7 +111,7 @@ where
     requires workers { vec_len parts ≤ vec_capacity room.workers }
     requires leaving { vec_len parts ≤ vec_capacity room.leaving }
     requires outside { vec_len parts ≤ vec_capacity room.outside }
-    ensures served { let told = tells D.coming D.left D.faults D.L.Meanings K.answers R.Meanings S.faults in
+    ensures served { let told = part_tells D.coming D.left D.faults D.L.Meanings K.answers R.Meanings S.faults in
         AreServedParts told cfg.now map.now parts.entry.items result }
 {
     let Room {
@@ -169,7 +169,7 @@ where
     D::L: Send,
     requires few { length slots.old ≤ MAX_WORKERS }
     requires fit { All (λ s. IsFit cfg.now map.now s.part.desk.desk (R.beside s.part.reach)) slots.old }
-    ensures worked { let told = tells D.coming D.left D.faults D.L.Meanings K.answers R.Meanings S.faults in
+    ensures worked { let told = part_tells D.coming D.left D.faults D.L.Meanings K.answers R.Meanings S.faults in
         InEach (λ i a b. WorksPart told cfg.now map.now i a.part b.part b.end) slots.old slots.new }
     ensures len { length slots.new ≡ length slots.old }
 {
@@ -181,7 +181,7 @@ where
         &|number: usize, slot: &mut Slot<Part<L, D, R, K, S, W>, L>|
             requires few { number < MAX_WORKERS }
             requires fit { IsFit cfg.now map.now slot.old.part.desk.desk (R.beside slot.old.part.reach) }
-            ensures { let told = tells D.coming D.left D.faults D.L.Meanings K.answers R.Meanings S.faults in
+            ensures { let told = part_tells D.coming D.left D.faults D.L.Meanings K.answers R.Meanings S.faults in
                 WorksPart told cfg.entry.now map.entry.now number slot.old.part slot.new.part slot.new.end }
         {
             serve_slot(rt, alloc, cfg, map, number, slot);
@@ -200,7 +200,7 @@ fn serve_slot<L: SiteName, D: Door, R: Reach, K: Clock, S: Shelf, W: Wait>(
 )
     requires few { number < MAX_WORKERS }
     requires fit { IsFit cfg.now map.now slot.old.part.desk.desk (R.beside slot.old.part.reach) }
-    ensures worked { let told = tells D.coming D.left D.faults D.L.Meanings K.answers R.Meanings S.faults in
+    ensures worked { let told = part_tells D.coming D.left D.faults D.L.Meanings K.answers R.Meanings S.faults in
         WorksPart told cfg.now map.now number slot.old.part slot.new.part slot.new.end }
 {
     slot.end = serve_part(rt, alloc, cfg, map, number as u32, &mut slot.part);

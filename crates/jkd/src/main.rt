@@ -1,33 +1,32 @@
 //! jkd: a connector that balances requests over servlet containers.
 //!
-//! Here stand the words of the command line and the real world alone; what is done with them is `run_jkd` of
-//! serving_commands.
+//! Here stand the words of the command line, which of the crates below does what they ask for, and the real world.
+//!
 //! Source: own rules for the commands and their statuses.
-//! Contract: `run_jkd`, a clause for each status.
-//! Errors: the statuses 1 to 7, each with its cause.
+//! Contract: `run_jkd`, a clause for each status. Read first: specs/Commands.antt.
+//! Errors: the statuses 1 to 7, each with its cause; a `Discord`, a stray and a failed drill end `run_jkd` with their values.
 #![tactic(auto)]
 
+mod arguments;
+mod command;
+mod ends;
 mod telling;
 mod words;
 mod write_sink;
 
+use arguments::{WordsError, read_words};
+use command::run_jkd;
 use command_remarks::{CountedInput, KeptFiles};
+use ends::{NO_MEMORY, OUTPUT_FAULT};
 use jk_cli::{Order, read_words as read_order};
 use jk_io::{Bytes, IoError, NoMemory, RealFiles, Sink, StdIn, StdOut, write_all};
 use plain_commands::{USAGE, asked_text};
-use serving_commands::run_jkd;
 use std::process::ExitCode;
 use telling::tell;
-use words::{WordsError, read_words};
 use worker_gears::RealWorld;
 
 /// The status of words that are no command.
 const NO_COMMAND: u8 = 2;
-
-/// The status of a write that failed, and that of want of memory.
-const OUTPUT_FAULT: u8 = 5;
-
-const NO_MEMORY: u8 = 6;
 
 fn print_text<O: Sink>(out: &mut O, text: &[u8]) -> u8 {
     match write_all(out, text) {

@@ -3,17 +3,11 @@ use Rattle.std.proofs.Common.{ℕ, List, [], ◌∷◌, Option, None, Some, Resu
 use Rattle.jk_cli.specs.declared.order.Order.TheVariants as order
 use Rattle.plain_commands.specs.Endings.{status_of, PlainOfFiles, PrintsOfFiles}
 use Rattle.plain_commands.specs.Plain.{DryOver, Plain, PrintsOf, readings}
-use Rattle.plain_commands.specs.Readings.{AreRead, File, OfFiles, CommandOutside, Reading, StopsLong}
+use Rattle.site_reports.specs.Readings.{AreRead, File, OfFiles, CommandOutside, StopsLong}
 use Rattle.plain_commands.specs.declared.play.Output.{Output}
+use Rattle.plain_commands.proofs.PlainLemmas.{stops_early}
 
--- what is too long before other readings is too long
-pub stops_early : (outside : CommandOutside) (first second : Reading) (later : List Reading) → StopsLong outside (first ∷ second ∷ [])
-    → StopsLong outside (first ∷ second ∷ later)
-stops_early outside first second later (inl long) = inl long
-stops_early outside first second later (inr (text, read, inl long)) = inr (text, read, inl long)
-stops_early outside first second later (inr (text, read, inr (other, also, none))) = absurd none
-
--- so are the first two texts of `dry`, with a site and without
+-- the first two texts of `dry`, with a site and without
 pub dry_stops : (outside : CommandOutside) (request reply : List ℕ) (site : Option (List ℕ × List ℕ)) → StopsLong outside (File request ∷ File reply ∷ [])
     → StopsLong outside (readings (order.Dry request reply site))
 dry_stops outside request reply None long = long

@@ -1,4 +1,7 @@
 pub mod DryLemmas
 pub mod TurnLemmas
 pub mod PlainLemmas
-pub mod StartLemmas
+pub mod ReachLemmas
+pub mod ScriptStartLemmas
+pub mod SessionLemmas
+pub mod SessionStartLemmas

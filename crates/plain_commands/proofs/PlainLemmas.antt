@@ -6,13 +6,20 @@ use Rattle.jk_cli.specs.declared.order.Order.TheVariants as order
 use Rattle.jk_io.specs.Told.{prepended}
 use Rattle.plain_commands.specs.Endings.{status_of, PrintsOfInput}
 use Rattle.plain_commands.specs.Plain.{MatchesRead, Plain, PrintsOf, Reported, status_if, readings, AreFilesDue, InputIsDue, IsInputDue}
-use Rattle.plain_commands.specs.Readings.{CommandOutside, File, Input, IsRead, has_file}
+use Rattle.site_reports.specs.Readings.{CommandOutside, Reading, File, Input, IsRead, StopsLong, has_file}
 use Rattle.plain_commands.specs.declared.play.Output.{Output}
 
 -- a front that is too long makes the whole too long, where that is told
 pub long_input : (bytes : List ℕ) (now : Option (List ℕ)) → 67108864 < length bytes → IfSome (prepended bytes now) (λ all. 67108864 < length all)
 long_input bytes None long = tt
 long_input bytes (Some rest) long = omega (arith, length-append bytes rest, long)
+
+-- what is too long before other readings is too long
+pub stops_early : (outside : CommandOutside) (first second : Reading) (later : List Reading) → StopsLong outside (first ∷ second ∷ [])
+    → StopsLong outside (first ∷ second ∷ later)
+stops_early outside first second later (inl long) = inl long
+stops_early outside first second later (inr (text, read, inl long)) = inr (text, read, inl long)
+stops_early outside first second later (inr (text, read, inr (other, also, none))) = absurd none
 
 -- a report is printed with its status
 pub reported : (reports : List ℕ → Bool → Type 0) (text out : List ℕ) (refused : Bool) (status : ℕ) → out ≡ text → status ≡ status_if refused

@@ -6,7 +6,7 @@ use Rattle.jk_io.specs.Told.{appended, PutsFront, Rose}
 use Rattle.jk_io.specs.declared.traits.streams.Meanings.{Ghosts}
 use Rattle.jk_io.specs.declared.traits.surroundings.Files.{Ghosts as FilesGhosts}
 use Rattle.plain_commands.specs.Plain.{is_plain, readings, Answers, Prints, PrintsFront, PrintsOf}
-use Rattle.plain_commands.specs.Readings.{CommandOutside, Reading}
+use Rattle.site_reports.specs.Readings.{CommandOutside, Reading}
 use Rattle.plain_commands.specs.declared.play.Ending.{Ending}
 use Rattle.plain_commands.specs.declared.play.Ending.TheVariants as ending
 use Rattle.plain_commands.specs.declared.play.Output.{Output}

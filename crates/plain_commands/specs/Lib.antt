@@ -1,5 +1,9 @@
 pub mod Checked
+pub mod Dry
+pub mod DryLines
+pub mod DryLinks
+pub mod DryReaches
+pub mod DryStarts
 pub mod Endings
 pub mod Plain
-pub mod Readings
 pub mod Turns

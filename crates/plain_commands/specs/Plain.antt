@@ -7,10 +7,10 @@ use Rattle.jk_cli.specs.declared.name.CommandName.TheVariants as name
 use Rattle.jk_cli.specs.declared.order.Order.{Order}
 use Rattle.jk_cli.specs.declared.order.Order.TheVariants as order
 use Rattle.play_script.specs.Play.{PlaysScript}
-use Rattle.session_reports.specs.Dry.{ReportsDry, default_map, default_workers}
+use Rattle.plain_commands.specs.Dry.{ReportsDry, default_map, default_workers}
 use Rattle.site_reports.specs.Reports.{ReportsConfig, ReportsMatches, ReportsSite}
 use Rattle.plain_commands.specs.Checked.{ChecksText}
-use Rattle.plain_commands.specs.Readings.{CommandOutside, Reading, File, Input, AreRead, StopsLong, has_file, has_input, before_input}
+use Rattle.site_reports.specs.Readings.{CommandOutside, Reading, File, Input, AreRead, StopsLong, has_file, has_input, before_input}
 
 -- The plain commands that are built; of the commands that are, each other one is none yet.
 abbrev pub is_built : CommandName → Bool

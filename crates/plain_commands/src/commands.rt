@@ -5,14 +5,14 @@ ghost use Rattle.jk_cli.specs.declared.order.Order.TheVariants as order;
 ghost use Rattle.jk_io.specs.Told.{HasCause, Rose};
 ghost use Rattle.plain_commands.specs.Endings.{PlainOfFiles, PlainOfInput, PrintsOfInput, status_of};
 ghost use Rattle.plain_commands.specs.Plain.{is_built, readings, InputIsDue, MatchesRead, Plain, status_if};
-ghost use Rattle.plain_commands.specs.Readings.{has_file, Input};
+ghost use Rattle.site_reports.specs.Readings.{has_file, Input};
 ghost use Rattle.plain_commands.specs.declared.play.Ending.TheVariants as Ends;
 ghost use Rattle.jk_io.specs.declared.whole_input.TheConstants.{MAX_INPUT_BYTES};
 
 use crate::check::check;
 use crate::dry::dry;
 use crate::play::{Ending, Output, play};
-use crate::texts::{read_input, read_text};
+use crate::texts::{read_input, read_pair, read_text};
 use jk_cli::Order;
 use jk_io::{Bytes, Files, IoError, NoMemory, Source};
 use site_reports::{Report, report_config, report_matches, report_site};
@@ -92,13 +92,11 @@ fn config_site<F: Files>(
     ensures ok { IfOk result (λ o. PlainOfFiles (F.files files.old) (order.Config workers.now (Some map.now)) o) }
     ensures cause { HasCause (F.faults files.old) (F.faults files.new) result }
 {
-    let Some(workers) = read_text(alloc, files, workers)? else {
+    let Some((workers, map)) = read_pair(alloc, files, workers, map)? else {
         return Ok(too_long(alloc)?);
     };
-    let Some(map) = read_text(alloc, files, map)? else {
-        return Ok(too_long(alloc)?);
-    };
-    Ok(output_of(report_site(alloc, workers.as_slice(), map.as_slice())?))
+    let report = report_site(alloc, workers.as_slice(), map.as_slice())?;
+    Ok(output_of(report))
 }
 
 // `config`
@@ -149,10 +147,7 @@ fn match_paths<F: Files, S: Source>(
     ensures input { (input.new ≡ input.old)
         ⊎ InputIsDue (record { files = F.files files.old; incoming = S.incoming input.old }) (order.Match workers.now map.now) }
 {
-    let Some(workers) = read_text(alloc, files, workers)? else {
-        return Ok(too_long(alloc)?);
-    };
-    let Some(map) = read_text(alloc, files, map)? else {
+    let Some((workers, map)) = read_pair(alloc, files, workers, map)? else {
         return Ok(too_long(alloc)?);
     };
     match_input(alloc, input, &workers, &map)

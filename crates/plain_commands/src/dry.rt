@@ -1,41 +1,18 @@
 //! `dry`: one session over what its files say.
-ghost use Rattle.std.specs.Prelude.{◌≡◌, [], ◌∷◌, IfOk, IfSome, IfNone};
+ghost use Rattle.std.specs.Prelude.{[], ◌∷◌, IfOk};
 ghost use Rattle.jk_cli.specs.declared.order.Order.TheVariants as order;
 ghost use Rattle.jk_io.specs.Told.{HasCause};
-ghost use Rattle.session_reports.specs.Dry.{ReportsDry, default_map, default_workers};
+ghost use Rattle.plain_commands.specs.Dry.{ReportsDry, default_map, default_workers};
 ghost use Rattle.plain_commands.specs.Endings.{PlainOfFiles, PrintsOfFiles, status_of};
 ghost use Rattle.plain_commands.specs.Plain.{DryOver, Reported};
-ghost use Rattle.plain_commands.specs.Readings.{AreRead, File, OfFiles, StopsLong};
+ghost use Rattle.site_reports.specs.Readings.{File};
 
 use crate::commands::{output_of, too_long};
 use crate::play::Output;
-use crate::texts::read_text;
+use crate::session::report::{DEFAULT_MAP, DEFAULT_WORKERS, Wire, report_dry};
+use crate::texts::read_pair;
 use jk_io::{Bytes, Files, IoError, NoMemory};
-use session_reports::{DEFAULT_MAP, DEFAULT_WORKERS, Wire, report_dry};
 use std::alloc::Global;
-
-// Two texts, the one read after the other; none where one has too many bytes.
-fn read_pair<F: Files>(
-    alloc: Global,
-    files: &mut F,
-    first: &Bytes,
-    second: &Bytes,
-) -> Result<Option<(Bytes, Bytes)>, IoError>
-    ensures there { OfFiles (F.files files.old) (λ outside. IfOk result (λ read. IfSome read (λ texts.
-        AreRead outside (File first.now ∷ File second.now ∷ []) (texts.0 ∷ texts.1 ∷ [])))) }
-    ensures long { OfFiles (F.files files.old) (λ outside. IfOk result (λ read. IfNone read
-        (StopsLong outside (File first.now ∷ File second.now ∷ [])))) }
-    ensures cause { HasCause (F.faults files.old) (F.faults files.new) result }
-    ensures same { F.files files.new ≡ F.files files.old }
-{
-    let Some(first) = read_text(alloc, files, first)? else {
-        return Ok(None);
-    };
-    let Some(second) = read_text(alloc, files, second)? else {
-        return Ok(None);
-    };
-    Ok(Some((first, second)))
-}
 
 // The session of two texts, over the site of no files.
 fn dry_alone(alloc: Global, wire: Wire<'_>) -> Result<Output, NoMemory>

@@ -4,7 +4,7 @@ ghost use Rattle.jk_cli.specs.Names.{command_in};
 ghost use Rattle.jk_io.specs.Told.{Rose};
 ghost use Rattle.plain_commands.specs.Endings.{number_of, plain_side, AnswersOrder, EndsSo, Writes};
 ghost use Rattle.plain_commands.specs.Plain.{is_built, is_plain, readings, AreFilesDue, InputIsDue, IsInputDue, Prints, PrintsFront};
-ghost use Rattle.plain_commands.specs.Readings.{has_file};
+ghost use Rattle.site_reports.specs.Readings.{has_file};
 
 use crate::commands::answer;
 use crate::play::{Ending, Output};

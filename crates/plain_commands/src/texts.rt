@@ -1,7 +1,8 @@
 //! Reading the texts of a command, each whole.
-ghost use Rattle.std.specs.Prelude.{◌≡◌, ◌<◌, ◌≤◌, Some, length, IfOk, IfSome, IfNone, IsSomeAnd};
+ghost use Rattle.std.specs.Prelude.{◌≡◌, ◌<◌, ◌≤◌, [], ◌∷◌, Some, length, IfOk, IfSome, IfNone, IsSomeAnd};
 ghost use Rattle.jk_io.specs.Stored.{content_of};
 ghost use Rattle.jk_io.specs.Told.{HasCause};
+ghost use Rattle.site_reports.specs.Readings.{AreRead, File, OfFiles, StopsLong};
 ghost use Rattle.jk_io.specs.declared.whole_input.TheConstants.{MAX_INPUT_BYTES};
 
 use jk_io::{Bytes, FileError, Files, IoError, Source, read_whole};
@@ -25,6 +26,29 @@ pub(crate) fn read_text<F: Files>(
         Err(FileError::Failed) => Err(IoError::Failed),
         Err(FileError::NoMemory) => Err(IoError::NoMemory),
     }
+}
+
+/// Two texts, the one read after the other; none where one has more than 67,108,864 bytes.
+pub(crate) fn read_pair<F: Files>(
+    alloc: Global,
+    files: &mut F,
+    first: &Bytes,
+    second: &Bytes,
+) -> Result<Option<(Bytes, Bytes)>, IoError>
+    ensures there { OfFiles (F.files files.old) (λ outside. IfOk result (λ read. IfSome read (λ texts.
+        AreRead outside (File first.now ∷ File second.now ∷ []) (texts.0 ∷ texts.1 ∷ [])))) }
+    ensures long { OfFiles (F.files files.old) (λ outside. IfOk result (λ read. IfNone read
+        (StopsLong outside (File first.now ∷ File second.now ∷ [])))) }
+    ensures cause { HasCause (F.faults files.old) (F.faults files.new) result }
+    ensures same { F.files files.new ≡ F.files files.old }
+{
+    let Some(first) = read_text(alloc, files, first)? else {
+        return Ok(None);
+    };
+    let Some(second) = read_text(alloc, files, second)? else {
+        return Ok(None);
+    };
+    Ok(Some((first, second)))
 }
 
 /// All of an input; none where it has more than 67,108,864 bytes.

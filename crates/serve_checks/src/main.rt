@@ -20,6 +20,7 @@
 //! back the links that were left at its door, its talks with members, and the segments on its shelf.
 #![tactic(auto)]
 
+mod doing;
 mod meeting;
 mod serving;
 mod told;

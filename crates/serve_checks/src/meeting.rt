@@ -7,11 +7,11 @@ ghost use Rattle.uri_map.specs.Sites.{stands_in};
 use block_rows::comparing::wants;
 use block_rows::row::{BlockRow, RowError};
 use conn_pool::NoTape;
-use gear_runs::serve_gears;
 use jk_io::{
     Bytes, ClientList, Dial, Gate, GateLink, IoError, Link, MAX_INPUT_BYTES, MemDoor, MemLink,
     NoMemory, NumberList, Peer, StepClock, Turn,
 };
+use jk_server::serve_gears;
 use locked_balancer::{KeptList, MemShelf};
 use site_config::Config;
 use std::alloc::Global;

@@ -1,10 +1,10 @@
 //! A command over files, an output and a world in memory.
+use crate::doing::status_of;
 use crate::told::put_world;
 use crate::worlds::world_of;
 use block_rows::comparing::wants;
 use block_rows::row::{BlockRow, RowError};
 use jk_io::{Bytes, MemFiles, MemLink, NumberList, put_decimal};
-use serving_commands::run_jkd;
 use std::alloc::Global;
 use std::sync::Wait;
 use std::thread::Threads;
@@ -20,18 +20,6 @@ fn files_of(alloc: Global, row: BlockRow<'_>) -> Result<MemFiles, RowError> {
     let failing = row.numbers(alloc, "file-fails")?;
     let files = row.files(alloc)?;
     Ok(MemFiles::new(files, failing))
-}
-
-fn status_of<R: Threads + Wait + Sync>(
-    rt: &R,
-    alloc: Global,
-    words: &[Bytes],
-    files: &mut MemFiles,
-    out: &mut MemLink,
-    world: &mut MemWorld<MemLink>,
-) -> u8 {
-    let mut input = MemLink::new(alloc, Bytes::new(alloc), NumberList::new(alloc));
-    run_jkd(rt, alloc, words, files, &mut input, out, world).status()
 }
 
 fn wants_told(

@@ -1,4 +1,5 @@
--- What `config` and `match` print of the texts of a site's files, and whether one of these is refused.
+-- What `config` and `match` print of the texts of a site's files, and whether one of these is refused; and which line refuses
+-- the files themselves.
 use Rattle.std.specs.Prelude.{◌≡◌, ℕ, Bool, true, false, List, [], ◌∷◌, ◌++◌, ◌⊎◌, Result, Ok, Err, codes, decimal}
 use Rattle.property_lines.specs.Refusals.{LineRefusal}
 use Rattle.site_config.specs.declared.config.Config.{Config}
@@ -8,6 +9,7 @@ use Rattle.uri_map.specs.declared.rule.Rule.{Rule}
 use Rattle.worker_props.specs.Site.{IsConfig, IsRefused}
 use Rattle.site_reports.specs.ConfigText.{config_text}
 use Rattle.site_reports.specs.Matches.{match_text}
+use Rattle.site_reports.specs.Readings.{AreRead, CommandOutside, File, StopsLong}
 
 -- the first refusal of a file
 abbrev pub refusal_line : (file : List ℕ) → LineRefusal → List ℕ
@@ -44,3 +46,19 @@ ReportsSite workers map out refused =
 abbrev pub ReportsMatches : (workers map paths out : List ℕ) → (refused : Bool) → Type 0
 ReportsMatches workers map paths out refused =
     OfWorkers workers (λ c out refused. OfMap c (read_text c map) (λ rules. match_text c rules paths) out refused) out refused
+
+-- the first of a site's two files that isn't read whole is too long
+pub record IsSiteTooLong (outside : CommandOutside) (workers map line : List ℕ) : Type 0 where
+  pub long : StopsLong outside (File workers ∷ File map ∷ [])
+  pub said : line ≡ codes "too long\n"
+
+-- both are read whole, and `config` refuses them
+pub record IsSiteRefused (outside : CommandOutside) (workers map line : List ℕ) : Type 0 where
+  pub workers_text : List ℕ
+  pub map_text : List ℕ
+  pub read : AreRead outside (File workers ∷ File map ∷ []) (workers_text ∷ map_text ∷ [])
+  pub refused : ReportsSite workers_text map_text line true
+
+-- The files of these names are refused by this line.
+abbrev pub RefusesSite : CommandOutside → (workers map : List ℕ) → (line : List ℕ) → Type 0
+RefusesSite outside workers map line = IsSiteTooLong outside workers map line ⊎ IsSiteRefused outside workers map line

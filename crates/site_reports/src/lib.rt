@@ -2,7 +2,7 @@
 //!
 //! Source: own rules for the lines (docs/FORMATS.md, "config" and "match").
 //! Contract: `put_config`, which adds `config_text`, and `put_matches`, which adds `match_text`. Read first:
-//! specs/ConfigText.antt, specs/Matches.antt.
+//! specs/ConfigText.antt, specs/Matches.antt. For the commands above, which read the files: specs/Readings.antt.
 //! Errors: want of memory alone.
 #![tactic(auto)]
 

@@ -2,7 +2,7 @@ use Rattle.std.proofs.Common.{length, ap, arith, sym, subst}
 use Rattle.std.specs.List.{All}
 use Rattle.std.proofs.lemmas.List.{length-map}
 use Rattle.jk_server.specs.Parts.{WorksPart}
-use Rattle.jk_server.specs.Tells.{tells}
+use Rattle.jk_server.specs.PartTells.{part_tells}
 use Rattle.jk_server.specs.Worker.{IsFit}
 use Rattle.jk_server.specs.declared.part.Part.{Part}
 use Rattle.jk_server.specs.declared.workers.Slot.{Slot}
@@ -50,7 +50,7 @@ returns g c =
     let same = ap length c.as_mut_slice.ensures.value in
     let len = c.serve_all.ensures.len in
     let whole = c.fill_slots.new.slots.ok.0 in
-    let told = tells g.D.Door.coming g.D.Door.left g.D.Door.faults g.D.L.Meanings g.K.Clock.answers g.R.Meanings g.S.Shelf.faults in
+    let told = part_tells g.D.Door.coming g.D.Door.left g.D.Door.faults g.D.L.Meanings g.K.Clock.answers g.R.Meanings g.S.Shelf.faults in
     record {
       served =
           parts_served {Q = Slot (Part g.row.L.Denot g.row.D.Denot g.row.R.Denot g.row.K.Denot g.row.S.Denot g.row.W.Denot) g.row.L.Denot} (λ s. s.part)

@@ -1,4 +1,4 @@
-use Rattle.session_reports.specs.Dry.{ReportsDry, default_map, default_workers}
+use Rattle.plain_commands.specs.Dry.{ReportsDry, default_map, default_workers}
 use Rattle.plain_commands.specs.Endings.{status_of}
 use Rattle.plain_commands.proofs.PlainLemmas.{reported}
 use Rattle.plain_commands.proofs.dry.dry_alone.Goals as goal

@@ -1,5 +1,5 @@
 use Rattle.std.proofs.Common.{[], ◌∷◌, None, inl, inr, refl}
-use Rattle.session_reports.specs.Dry.{ReportsDry}
+use Rattle.plain_commands.specs.Dry.{ReportsDry}
 use Rattle.plain_commands.specs.Endings.{status_of}
 use Rattle.plain_commands.proofs.PlainLemmas.{reported}
 use Rattle.plain_commands.proofs.dry.dry_site.Goals as goal

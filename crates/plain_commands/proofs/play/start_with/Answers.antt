@@ -3,7 +3,7 @@ use Rattle.std.proofs.lemmas.Result.{IfOk-weaker}
 use Rattle.play_script.specs.Drafts.{names_in}
 use Rattle.play_script.specs.Steps.{step_of}
 use Rattle.plain_commands.specs.Endings.{status_of}
-use Rattle.plain_commands.proofs.StartLemmas.{started}
+use Rattle.plain_commands.proofs.ScriptStartLemmas.{started}
 use Rattle.plain_commands.proofs.play.start_with.Goals as goal
 
 pub returns : goal.returns

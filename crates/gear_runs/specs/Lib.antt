@@ -1,7 +1,0 @@
-pub mod Closings
-pub mod Containers
-pub mod Parts
-pub mod Runs
-pub mod Shelved
-pub mod Started
-pub mod Tells

@@ -1,0 +1,93 @@
+-- What was done with each part, said of the gears.
+use Rattle.std.proofs.Common.{ℕ, ◌≡◌, ◌+◌, List, [], ◌∷◌, length, map, Option, refl, ap, subst, arith}
+use Rattle.std.specs.Prelude.{sum_by}
+use Rattle.std.specs.List.{All}
+use Rattle.std.proofs.lemmas.List.Elements.{All-cons, All-head, All-nil, All-tail}
+use Rattle.std.proofs.lemmas.List.Sums.{sum_by-cons}
+use Rattle.jk_io.specs.declared.reaching.Talk.{Talk}
+use Rattle.jk_io.specs.declared.traits.streams.Meanings.{Ghosts}
+use Rattle.jk_io.specs.declared.traits.surroundings.Peer.{Peer}
+use Rattle.client_session.specs.Requests.{Visit}
+use Rattle.door_clients.specs.Doors.{DoorSide}
+use Rattle.worker_gears.specs.Gears.{GearSide, gear_side}
+use Rattle.worker_gears.specs.declared.world.Gear.{Gear}
+use Rattle.jk_server.specs.Parts.{AreEach}
+use Rattle.jk_server.specs.declared.part.WorkerEnd.{WorkerEnd}
+use Rattle.jk_server.specs.GearParts.{gear_with, gears_with, tools}
+use Rattle.jk_server.specs.Runs.{AreServedGears, IsServedGear}
+
+-- Each gear was served by its worker, where that follows of its part, of what the worker left and of how it ended.
+pub gears_served : {P O V C S L X Y : Type 0} → (visits : ℕ → Peer → Visit) (told : Ghosts C X) (faults : S → ℕ) (Fresh : P → Type 0) (Is : ℕ → P → O → V → WorkerEnd L → Type 0)
+    (was : P → GearSide C S) (with : Y → S → GearSide C S) (tool : O → Y) (shelf : V → S)
+    (n : ℕ) (ps : List P) (os : List O) (vs : List V) (es : List (WorkerEnd L)) → All Fresh ps → AreEach Is n ps os vs es
+    → ((k : ℕ) (p : P) (o : O) (v : V) (e : WorkerEnd L) → Fresh p → Is k p o v e → IsServedGear (visits k) told faults (was p) (with (tool o) (shelf v)) e)
+    → AreServedGears visits told faults n (map was ps) (gears_with with (map tool os) (map shelf vs)) es
+gears_served visits told faults Fresh Is was with tool shelf n [] [] [] [] fresh each join = tt
+gears_served visits told faults Fresh Is was with tool shelf n [] [] [] (e ∷ es) fresh each join = absurd each
+gears_served visits told faults Fresh Is was with tool shelf n [] [] (v ∷ vs) es fresh each join = absurd each
+gears_served visits told faults Fresh Is was with tool shelf n [] (o ∷ os) vs es fresh each join = absurd each
+gears_served visits told faults Fresh Is was with tool shelf n (p ∷ ps) [] vs es fresh each join = absurd each
+gears_served visits told faults Fresh Is was with tool shelf n (p ∷ ps) (o ∷ os) [] es fresh each join = absurd each
+gears_served visits told faults Fresh Is was with tool shelf n (p ∷ ps) (o ∷ os) (v ∷ vs) [] fresh each join = absurd each
+gears_served visits told faults Fresh Is was with tool shelf n (p ∷ ps) (o ∷ os) (v ∷ vs) (e ∷ es) fresh each join = (
+  join n p o v e (All-head Fresh p ps fresh) each.0,
+  gears_served visits told faults Fresh Is was with tool shelf (n + 1) ps os vs es (All-tail Fresh p ps fresh) each.1 join,
+)
+
+-- So of lists that are the same.
+pub gears_told : {C S L X Y : Type 0} → (visits : ℕ → Peer → Visit) (told : Ghosts C X) (faults : S → ℕ) (n : ℕ) (before before' : List (GearSide C S)) (with : Y → S → GearSide C S)
+    (ts ts' : List Y) (shelves shelves' : List S) (es es' : List (WorkerEnd L)) → before ≡ before' → ts' ≡ ts → shelves' ≡ shelves → es' ≡ es
+    → AreServedGears visits told faults n before (gears_with with ts shelves) es → AreServedGears visits told faults n before' (gears_with with ts' shelves') es'
+gears_told {C} {S} {L} visits told faults n before before' with ts ts' shelves shelves' es es' same_before same_tools same_shelves same_ends served =
+    rw (same_tools, same_shelves, same_ends)
+    (subst (λ (gs : List (GearSide C S)). AreServedGears visits told faults n gs (gears_with with ts shelves) es) same_before served)
+
+-- Where each worker's share has one part, all have as many as there are workers.
+pub parts_whole : {P O V E : Type 0} → (Fresh : P → Type 0) (Is : ℕ → P → O → V → E → Type 0) (part : V → ℕ)
+    (n : ℕ) (ps : List P) (os : List O) (vs : List V) (es : List E) → All Fresh ps → AreEach Is n ps os vs es
+    → ((k : ℕ) (p : P) (o : O) (v : V) (e : E) → Fresh p → Is k p o v e → part v ≡ 1) → sum_by part vs ≡ length ps
+parts_whole Fresh Is part n [] [] [] [] fresh each one = refl
+parts_whole Fresh Is part n [] [] [] (e ∷ es) fresh each one = absurd each
+parts_whole Fresh Is part n [] [] (v ∷ vs) es fresh each one = absurd each
+parts_whole Fresh Is part n [] (o ∷ os) vs es fresh each one = absurd each
+parts_whole Fresh Is part n (p ∷ ps) [] vs es fresh each one = absurd each
+parts_whole Fresh Is part n (p ∷ ps) (o ∷ os) [] es fresh each one = absurd each
+parts_whole Fresh Is part n (p ∷ ps) (o ∷ os) (v ∷ vs) [] fresh each one = absurd each
+parts_whole Fresh Is part n (p ∷ ps) (o ∷ os) (v ∷ vs) (e ∷ es) fresh each one =
+    let here : part v ≡ 1 = one n p o v e (All-head Fresh p ps fresh) each.0 in
+    let rest : sum_by part vs ≡ length ps = parts_whole Fresh Is part (n + 1) ps os vs es (All-tail Fresh p ps fresh) each.1 one in
+    omega (arith, sum_by-cons part v vs, here, rest)
+
+-- There is an item for each worker in each list.
+pub as_many : {P O V E : Type 0} → (Is : ℕ → P → O → V → E → Type 0) (n : ℕ) (ps : List P) (os : List O) (vs : List V) (es : List E)
+    → AreEach Is n ps os vs es → (length os ≡ length ps) × (length vs ≡ length ps)
+as_many Is n [] [] [] [] each = (refl, refl)
+as_many Is n [] [] [] (e ∷ es) each = absurd each
+as_many Is n [] [] (v ∷ vs) es each = absurd each
+as_many Is n [] (o ∷ os) vs es each = absurd each
+as_many Is n (p ∷ ps) [] vs es each = absurd each
+as_many Is n (p ∷ ps) (o ∷ os) [] es each = absurd each
+as_many Is n (p ∷ ps) (o ∷ os) (v ∷ vs) [] each = absurd each
+as_many Is n (p ∷ ps) (o ∷ os) (v ∷ vs) (e ∷ es) each =
+    let rest = as_many Is (n + 1) ps os vs es each.1 in (omega (arith, rest.0), omega (arith, rest.1))
+
+-- What follows of each holds of all that the workers left.
+pub all_left : {P O V E : Type 0} → (Is : ℕ → P → O → V → E → Type 0) (Left : O → Type 0)
+    (n : ℕ) (ps : List P) (os : List O) (vs : List V) (es : List E) → AreEach Is n ps os vs es
+    → ((k : ℕ) (p : P) (o : O) (v : V) (e : E) → Is k p o v e → Left o) → All Left os
+all_left Is Left n [] [] [] [] each so = All-nil Left
+all_left Is Left n [] [] [] (e ∷ es) each so = absurd each
+all_left Is Left n [] [] (v ∷ vs) es each so = absurd each
+all_left Is Left n [] (o ∷ os) vs es each so = absurd each
+all_left Is Left n (p ∷ ps) [] vs es each so = absurd each
+all_left Is Left n (p ∷ ps) (o ∷ os) [] es each so = absurd each
+all_left Is Left n (p ∷ ps) (o ∷ os) (v ∷ vs) [] each so = absurd each
+all_left Is Left n (p ∷ ps) (o ∷ os) (v ∷ vs) (e ∷ es) each so =
+    All-cons Left o os (so n p o v e each.0) (all_left Is Left (n + 1) ps os vs es each.1 so)
+
+-- Gears that were put together are told by their tools and shelves.
+pub told_again : {D G T K S O C : Type 0} → (at : D → DoorSide C) (talks : T → Option (List Talk)) (answers : K → Option (List ℕ)) (gears : List (Gear D G T K S O))
+    → map (λ g. gear_side at talks answers g) gears ≡ gears_with (gear_with at talks answers) (map (λ g. tools g.door g.dial g.tape g.clock) gears) (map (λ g. g.shelf) gears)
+told_again at talks answers [] = refl
+told_again {S = S} {C = C} at talks answers (g ∷ gears) =
+    ap (λ (rest : List (GearSide C S)). gear_side at talks answers g ∷ rest) (told_again at talks answers gears)

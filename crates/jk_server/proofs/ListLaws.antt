@@ -1,0 +1,75 @@
+-- Lists made of others, item by item.
+use Rattle.std.proofs.Common.{ℕ, ◌≡◌, List, [], ◌∷◌, ◌++◌, length, map, take, refl, sym, ap, subst, ◌∙◌, append_assoc, arith}
+use Rattle.std.proofs.lemmas.List.{append-nil, length-map, map-append}
+use Rattle.std.proofs.Math.Seq.{take-append_seam}
+use Rattle.std.specs.List.{All}
+use Rattle.std.proofs.lemmas.List.Elements.{All-cons, All-head, All-nil, All-tail}
+
+pub map_map : {X Y Z : Type 0} (g : Y → Z) (f : X → Y) (xs : List X) → map g (map f xs) ≡ map (λ (x : X). g (f x)) xs
+map_map g f [] = refl
+map_map {Z = Z} g f (x ∷ xs) = ap (λ (zs : List Z). g (f x) ∷ zs) (map_map g f xs)
+
+-- What holds of what each is mapped to, holds of each so.
+pub all_of_map : {X Y : Type 0} (P : X → Type 0) (f : Y → X) (ys : List Y) → All P (map f ys) → All (λ (y : Y). P (f y)) ys
+all_of_map {Y = Y} P f [] all = All-nil (λ (y : Y). P (f y))
+all_of_map {Y = Y} P f (y ∷ ys) all =
+    All-cons (λ (z : Y). P (f z)) y ys (All-head P (f y) (map f ys) all) (all_of_map P f ys (All-tail P (f y) (map f ys) all))
+
+-- Nothing is left of what is put behind.
+pub no_more : {X : Type 0} (xs rest ys : List X) → xs ++ rest ≡ ys → length rest ≡ 0 → xs ≡ ys
+no_more xs [] ys all none = sym (append-nil xs) ∙ all
+no_more xs (y ∷ rest) ys all none = absurd (omega (arith, none))
+
+pub no_more_of : {X Y : Type 0} (f : Y → X) (xs : List X) (rest : List Y) (ys : List X) → xs ++ map f rest ≡ ys → length rest ≡ 0 → xs ≡ ys
+no_more_of f xs rest ys all none = no_more xs (map f rest) ys all (length-map rest f ∙ none)
+
+-- Nothing is put yet, and all is left.
+pub none_put : {X Y Z : Type 0} (f : X → Z) (g : Y → Z) (xs : List X) (rest ys : List Y) → xs ≡ [] → rest ≡ ys → map f xs ++ map g rest ≡ map g ys
+none_put f g xs rest ys none all = rw (none, all) refl
+
+pub none_put_as : {X Z : Type 0} (f : X → Z) (xs : List X) (rest ys : List Z) → xs ≡ [] → rest ≡ ys → map f xs ++ rest ≡ ys
+none_put_as f xs rest ys none all = rw (none, all) refl
+
+pub none_put_of : {Y Z : Type 0} (g : Y → Z) (xs : List Z) (rest ys : List Y) → xs ≡ [] → rest ≡ ys → xs ++ map g rest ≡ map g ys
+none_put_of g xs rest ys none all = rw (none, all) refl
+
+-- One more of what is put.
+pub one_put : {X Y Z : Type 0} (f : X → Z) (g : Y → Z) (xs xs' : List X) (x : X) (rest rest' : List Y) (y : Y) (all : List Z)
+    → map f xs ++ map g rest ≡ all → rest ≡ y ∷ rest' → xs' ≡ xs ++ x ∷ [] → f x ≡ g y → map f xs' ++ map g rest' ≡ all
+one_put {X} {Y} {Z} f g xs xs' x rest rest' y all so_far is more same =
+    ap (λ (items : List X). map f items ++ map g rest') more
+    ∙ ap (λ (zs : List Z). zs ++ map g rest') (map-append f xs (x ∷ []))
+    ∙ append_assoc (map f xs) (f x ∷ []) (map g rest')
+    ∙ ap (λ (z : Z). map f xs ++ z ∷ map g rest') same
+    ∙ ap (λ (ys : List Y). map f xs ++ map g ys) (sym is)
+    ∙ so_far
+
+pub one_put_as : {X Z : Type 0} (f : X → Z) (xs xs' : List X) (x : X) (rest rest' : List Z) (z : Z) (all : List Z)
+    → map f xs ++ rest ≡ all → rest ≡ z ∷ rest' → xs' ≡ xs ++ x ∷ [] → f x ≡ z → map f xs' ++ rest' ≡ all
+one_put_as {X} {Z} f xs xs' x rest rest' z all so_far is more same =
+    ap (λ (items : List X). map f items ++ rest') more
+    ∙ ap (λ (zs : List Z). zs ++ rest') (map-append f xs (x ∷ []))
+    ∙ append_assoc (map f xs) (f x ∷ []) rest'
+    ∙ ap (λ (y : Z). map f xs ++ y ∷ rest') same
+    ∙ ap (λ (zs : List Z). map f xs ++ zs) (sym is)
+    ∙ so_far
+
+pub one_put_of : {Y Z : Type 0} (g : Y → Z) (xs xs' : List Z) (z : Z) (rest rest' : List Y) (y : Y) (all : List Z)
+    → xs ++ map g rest ≡ all → rest ≡ y ∷ rest' → xs' ≡ xs ++ z ∷ [] → z ≡ g y → xs' ++ map g rest' ≡ all
+one_put_of {Y} {Z} g xs xs' z rest rest' y all so_far is more same =
+    ap (λ (zs : List Z). zs ++ map g rest') more
+    ∙ append_assoc xs (z ∷ []) (map g rest')
+    ∙ ap (λ (x : Z). xs ++ x ∷ map g rest') same
+    ∙ ap (λ (ys : List Y). xs ++ map g ys) (sym is)
+    ∙ so_far
+
+-- lists that give the same are as long
+pub as_long : {X Y Z : Type 0} (f : X → Z) (g : Y → Z) (xs : List X) (ys : List Y) → map f xs ≡ map g ys → length xs ≡ length ys
+as_long f g xs ys same = sym (length-map xs f) ∙ ap length same ∙ length-map ys g
+
+pub as_long_as : {X Y : Type 0} (g : Y → X) (xs : List X) (ys : List Y) → xs ≡ map g ys → length xs ≡ length ys
+as_long_as g xs ys same = ap length same ∙ length-map ys g
+
+-- what was written through a slice of a whole list is the list after it
+pub written_back : {X : Type 0} → (n : ℕ) (new rest : List X) → n ≡ length new → take n (new ++ rest) ≡ new
+written_back n new rest all = subst (λ (k : ℕ). take k (new ++ rest) ≡ new) (sym all) (take-append_seam new rest)

@@ -1,0 +1,47 @@
+use Rattle.std.proofs.Common.{◌≡◌, ap, ◌∙◌, length, map, false, sym, subst, arith}
+use Rattle.std.specs.Prelude.{is_some}
+use Rattle.std.specs.List.{All}
+use Rattle.jk_server.specs.GearParts.{tools}
+use Rattle.jk_server.proofs.ListLaws.{as_long}
+use Rattle.jk_server.proofs.runs.parts.ran_of.Goals as goal
+
+pub take_apart-requires-clause-paired : goal.take_apart-requires-clause-paired
+take_apart-requires-clause-paired g c = λ κs within.
+    omega (arith, c.requires.paired.0, ap length c.into_vec.ensures, c.into_vec.result.ok.0)
+
+pub take_apart-requires-clause-room : goal.take_apart-requires-clause-room
+take_apart-requires-clause-room g c = λ κs within.
+    omega (arith, c.requires.paired.0, c.requires.capacity.0, ap length c.into_vec.ensures, c.into_vec.result.ok.0)
+
+pub take_apart-requires-clause-idle : goal.take_apart-requires-clause-idle
+take_apart-requires-clause-idle g c = λ κs within.
+    subst (λ os. All (λ o. is_some o.reach.lent ≡ false) os) (sym c.into_vec.ensures) c.requires.idle
+
+pub invariant_of-result : goal.invariant_of-result
+invariant_of-result g c =
+    let tools_len = as_long _ _ _ _ c.take_apart.ensures.tools in
+    record {
+      paired =
+          omega (
+            arith,
+            c.requires.paired.0,
+            c.requires.paired.1,
+            tools_len,
+            ap length c.into_vec.ensures,
+            c.take_apart.new.left.ok.0,
+          );
+      none_back = c.requires.empty.1;
+      room =
+          omega (
+            arith,
+            c.requires.paired.0,
+            c.requires.capacity.1,
+            tools_len,
+            ap length c.into_vec.ensures,
+            c.take_apart.new.left.ok.0,
+          );
+    }
+
+pub returns-clause-tools : goal.returns-clause-tools
+returns-clause-tools g c =
+    c.take_apart.ensures.tools ∙ ap (λ os. map (λ o. tools o.door o.reach.dial o.reach.tape o.clock) os) c.into_vec.ensures

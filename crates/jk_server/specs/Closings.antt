@@ -1,0 +1,50 @@
+-- How the closing of a run ended: each balancer's last segment was kept on the first gear's shelf, or why not.
+use Rattle.std.specs.Prelude.{ℕ, ◌≡◌, suc, List, [], ◌∷◌, map, Option}
+use Rattle.jk_io.specs.Told.{appended, Rose}
+use Rattle.jk_model.specs.Legal.{IsLegal}
+use Rattle.jk_model.specs.declared.journal.Entry.{Entry}
+use Rattle.jk_model.specs.declared.segment.Segment.{Segment}
+use Rattle.balancer_core.specs.Journal.{IsSegmentOf, Journal}
+use Rattle.exchange.specs.Requests.{sizes_of}
+use Rattle.locked_balancer.specs.Sites.{AreSited}
+use Rattle.site_closing.specs.Closings.{Differs, DiscordNote}
+use Rattle.site_config.specs.declared.balancer.Lb.{Lb}
+use Rattle.worker_gears.specs.Gears.{GearSide}
+use Rattle.jk_server.specs.declared.runs.ends.Closing.{Closing}
+use Rattle.jk_server.specs.declared.runs.ends.Closing.TheVariants as closing
+
+-- each balancer's first number, which is 0
+abbrev pub firsts_of : List Lb → List ℕ
+firsts_of lbs = map (λ lb. 0) lbs
+
+-- What each Book kept, from balancer lb on, one segment for each in order, legal from its opening.
+abbrev pub AreCuts : (lb : ℕ) → List Journal → List (ℕ × Segment) → Type 0
+AreCuts lb [] [] = Unit {0}
+AreCuts lb (book ∷ books) (kept ∷ more) =
+    (kept.0 ≡ lb) × IsSegmentOf book kept.1 × IsLegal kept.1.rules kept.1.opening kept.1.entries × AreCuts (suc lb) books more
+AreCuts lb books kept = ⊥
+
+-- They are the last segments of the balancers of a configuration.
+abbrev pub AreLast : List Lb → List (ℕ × Segment) → Type 0
+AreLast lbs kept = (books : List Journal) × AreSited (sizes_of lbs) (firsts_of lbs) books × AreCuts 0 books kept
+
+-- The gears came back as the workers left them, but for the first one's shelf, of which this is so.
+abbrev pub KeepsFirst : {C S : Type 0} → (S → S → Type 0) → (left back : List (GearSide C S)) → Type 0
+KeepsFirst Kept (first ∷ rest) (first' ∷ rest') =
+    Kept first.shelf first'.shelf × (first' ≡ record first { shelf = first'.shelf }) × (rest' ≡ rest)
+KeepsFirst Kept left back = ⊥
+
+-- Just these segments were added to a shelf.
+abbrev pub Shelves : {S : Type 0} → (S → Option (List (ℕ × Segment))) → List Lb → (old new : S) → Type 0
+Shelves shelved lbs old new = (kept : List (ℕ × Segment)) × AreLast lbs kept × (shelved new ≡ appended (shelved old) kept)
+
+-- The receipts of the workers aren't the entries that the Books keep, and this is where they differ first.
+abbrev pub IsDiscordOf : List Lb → DiscordNote → Type 0
+IsDiscordOf lbs d = (entries : ℕ) × (receipts : List (ℕ × Entry)) × Differs (sizes_of lbs) (firsts_of lbs) entries receipts d
+
+-- What each end of the closing says.
+abbrev pub Closes : {C S L : Type 0} → (S → Option (List (ℕ × Segment))) → (S → ℕ) → List Lb → (left back : List (GearSide C S)) → Closing L → Type 0
+Closes shelved faults lbs left back closing.Kept = KeepsFirst (Shelves shelved lbs) left back
+Closes shelved faults lbs left back closing.ShelfFault = KeepsFirst (λ old new. Rose (faults old) (faults new)) left back
+Closes shelved faults lbs left back (closing.Differs d) = IsDiscordOf lbs d × (back ≡ [])
+Closes shelved faults lbs left back closing.NoMemory = Unit {0}

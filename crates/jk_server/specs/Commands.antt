@@ -1,0 +1,192 @@
+-- What `serve` and `container` do with the outside, and how they end. Read this first; what a run does is in specs/Runs.antt and
+-- specs/Containers.antt.
+use Rattle.std.specs.Prelude.{◌≡◌, ℕ, ◌⊎◌, List, [], length, map, Option, None}
+use Rattle.std.specs.List.{All}
+use Rattle.client_session.specs.Requests.{visit}
+use Rattle.conn_pool.specs.declared.tape.Tape.{Ghosts as TapeGhosts}
+use Rattle.container_server.specs.declared.ends.ContainerWorker.{ContainerWorker}
+use Rattle.jk_io.specs.Told.{appended, PutsFront, Rose}
+use Rattle.jk_io.specs.declared.traits.streams.Meanings.{Ghosts}
+use Rattle.jk_io.specs.declared.traits.surroundings.Clock.{Ghosts as ClockGhosts}
+use Rattle.jk_io.specs.declared.traits.surroundings.Door.{Ghosts as DoorGhosts}
+use Rattle.jk_io.specs.declared.traits.surroundings.Files.{Ghosts as FilesGhosts}
+use Rattle.locked_balancer.specs.declared.shelf.Shelf.{Ghosts as ShelfGhosts}
+use Rattle.mini_container.specs.declared.app_config.AppConfig.{AppConfig}
+use Rattle.site_reports.specs.Readings.{CommandOutside, OfFiles}
+use Rattle.site_reports.specs.Reports.{RefusesSite}
+use Rattle.site_config.specs.declared.config.Config.{Config}
+use Rattle.uri_map.specs.declared.rule.Rule.{Rule}
+use Rattle.worker_gears.specs.declared.world.Gear.{Gear}
+use Rattle.worker_gears.specs.declared.world.World.{Ghosts as WorldGhosts}
+use Rattle.jk_server.specs.Containers.{IsContainerRun}
+use Rattle.jk_server.specs.Runs.{IsSiteRun}
+use Rattle.jk_server.specs.declared.runs.ends.Closing.{Closing}
+use Rattle.jk_server.specs.declared.part.WorkerEnd.{WorkerEnd}
+use Rattle.jk_server.specs.Ends.{end_of_container, end_of_run, returned}
+use Rattle.jk_server.specs.Sites.{IsSite}
+use Rattle.jk_server.specs.Worlds.{tells, HandsAndTakes, IsMade, RefusesGear, Tells, WorldSide}
+use Rattle.jk_server.specs.declared.orders.ends.CommandEnd.{CommandEnd}
+use Rattle.jk_server.specs.declared.orders.ends.CommandEnd.TheVariants as end
+use Rattle.jk_server.specs.declared.orders.gears.GearOrder.{GearOrder}
+use Rattle.jk_server.specs.declared.orders.serve.ServeOrder.{ServeOrder}
+use Rattle.jk_server.specs.declared.orders.site.ReadSite.{ReadSite}
+
+-- What is told at a moment: how often the files failed, what the output was sent and how often it failed, and the world.
+pub record CommandSide (G : Type 0) : Type 0 where
+  pub file_faults : ℕ
+  pub sent : Option (List ℕ)
+  pub output_faults : ℕ
+  pub world : WorldSide G
+
+-- What the types of a command tell of its files, of its output, and of its world.
+pub record CommandTells (F O W G C S X : Type 0) : Type 1 where
+  pub files : F → Option (List (List ℕ × List ℕ))
+  pub file_faults : F → ℕ
+  pub sent : O → Option (List ℕ)
+  pub output_faults : O → ℕ
+  pub world : Tells W G C S X
+
+-- by their traits: `telling F.Files O.Meanings W.World W.D.Door W.T.Tape W.K.Clock W.D.L.Meanings W.S.Shelf`
+abbrev pub telling : {F P A W D G T K S O C X E Y Z : Type 0} → FilesGhosts F → Ghosts P A → WorldGhosts W D G T K S O C X E Y Z → DoorGhosts D C X → TapeGhosts T → ClockGhosts K → Ghosts C X → ShelfGhosts S → CommandTells F P W (Gear D G T K S O) C S X
+telling of_files of_output of_world of_door of_tape of_clock of_link of_shelf = record {
+  files = of_files.files;
+  file_faults = of_files.faults;
+  sent = of_output.sent;
+  output_faults = of_output.faults;
+  world = tells of_world of_door of_tape of_clock of_link of_shelf;
+}
+
+-- a command over these files, this output and this world
+abbrev pub command_side : {F O W G C S X : Type 0} → CommandTells F O W G C S X → F × O × W → CommandSide G
+command_side told over = record {
+  file_faults = told.file_faults over.0;
+  sent = told.sent over.1;
+  output_faults = told.output_faults over.1;
+  world = told.world.world over.2;
+}
+
+-- ---- with the world
+
+-- A gear was refused, and those before it came back as they were.
+pub record LacksGear {G L : Type 0} (threads : ℕ) (s n : WorldSide G) (ended : CommandEnd L) : Type 0 where
+  pub refused : RefusesGear threads s n
+  pub status : ended ≡ end.Status 4
+  pub cause : Rose s.faults n.faults
+
+-- Memory was wanted: the gears that were handed out came back as they were, or none did.
+pub record WantsMemory {G L : Type 0} (s n : WorldSide G) (ended : CommandEnd L) : Type 0 where
+  pub gears : List G
+  pub back : List G
+  pub passed : HandsAndTakes s n gears back
+  pub unserved : (back ≡ gears) ⊎ (back ≡ [])
+  pub status : ended ≡ end.Status 6
+
+-- What a command for so many workers does with the world, where its run is such a one.
+pub data Works {G L : Type 0} (threads : ℕ) (Runs : WorldSide G → WorldSide G → CommandEnd L → Type 0) (s n : WorldSide G) (ended : CommandEnd L) : Type 0 where
+  NoGear : LacksGear threads s n ended → Works threads Runs s n ended
+  NoRoom : WantsMemory s n ended → Works threads Runs s n ended
+  Ran : Runs s n ended → Works threads Runs s n ended
+
+-- The workers of a site ran: the world handed out a gear for each, in order, each just made; what one run over the site made
+-- of these gears came back, in order; and the run's end is the command's.
+pub record RunsSite {W G C S X L : Type 0} (told : Tells W G C S X) (cfg : Config) (rules : List Rule) (threads : ℕ) (clients : Option ℕ) (s n : WorldSide G) (ended : CommandEnd L) : Type 0 where
+  pub gears : List G
+  pub left : List G
+  pub count : length gears ≡ threads
+  pub made : All (λ g. IsMade clients (told.gear g)) gears
+  pub ends : List (WorkerEnd L)
+  pub closing : Closing L
+  pub run : IsSiteRun (visit cfg rules) told.link told.shelved told.shelf_faults cfg.lbs (map told.gear gears) (map told.gear left) ends closing
+  pub passed : HandsAndTakes s n gears (returned closing left)
+  pub status : ended ≡ end_of_run ends closing
+
+-- The workers of a container ran, in the same way.
+pub record RunsContainer {W G C S X L : Type 0} (told : Tells W G C S X) (app : AppConfig) (threads : ℕ) (clients : Option ℕ) (s n : WorldSide G) (ended : CommandEnd L) : Type 0 where
+  pub gears : List G
+  pub left : List G
+  pub count : length gears ≡ threads
+  pub made : All (λ g. IsMade clients (told.gear g)) gears
+  pub ends : List ContainerWorker
+  pub run : IsContainerRun app told.link (map told.gear gears) (map told.gear left) ends
+  pub passed : HandsAndTakes s n gears left
+  pub status : ended ≡ end_of_container ends
+
+-- ---- all that a command does
+
+-- How the writing of a text ends: it was written, which gives this status, or a front of it.
+abbrev pub Writes : {L : Type 0} → (status : ℕ) → (sent sent_now : Option (List ℕ)) → (faults faults_now : ℕ) → (text : List ℕ) → CommandEnd L → Type 0
+Writes status sent sent_now faults faults_now text ended =
+    ((sent_now ≡ appended sent text) × (ended ≡ end.Status status))
+    ⊎ (PutsFront sent sent_now text × (ended ≡ end.Status 5) × Rose faults faults_now)
+    ⊎ (PutsFront sent sent_now text × (ended ≡ end.Status 6))
+
+-- How the writing of a line that refuses ends.
+abbrev pub WritesLine : {L : Type 0} → (sent sent_now : Option (List ℕ)) → (faults faults_now : ℕ) → (line : List ℕ) → CommandEnd L → Type 0
+WritesLine sent sent_now faults faults_now line ended = Writes 3 sent sent_now faults faults_now line ended
+
+-- The files are refused, and the line that `config` prints of them was written.
+pub record RefusesFiles {G L : Type 0} (outside : CommandOutside) (workers map : List ℕ) (s n : CommandSide G) (ended : CommandEnd L) : Type 0 where
+  pub line : List ℕ
+  pub refused : RefusesSite outside workers map line
+  pub written : WritesLine s.sent n.sent s.output_faults n.output_faults line ended
+  pub world : n.world ≡ s.world
+
+-- The files couldn't be read, and nothing was done.
+pub record LacksFiles {G L : Type 0} (s n : CommandSide G) (ended : CommandEnd L) : Type 0 where
+  pub why : ((ended ≡ end.Status 4) × Rose s.file_faults n.file_faults) ⊎ (ended ≡ end.Status 6)
+  pub written : n.sent ≡ s.sent
+  pub world : n.world ≡ s.world
+
+-- The files are a site, for which so many workers were wanted. Nothing was written.
+pub record ServesSite {W G C S X L : Type 0} (told : Tells W G C S X) (outside : CommandOutside) (workers map : List ℕ) (threads : ℕ) (clients : Option ℕ) (s n : CommandSide G) (ended : CommandEnd L) : Type 0 where
+  pub cfg : Config
+  pub rules : List Rule
+  pub site : IsSite outside workers map cfg rules
+  pub works : Works threads (RunsSite told cfg rules threads clients) s.world n.world ended
+  pub written : n.sent ≡ s.sent
+
+-- `serve WORKERS MAP ADDRESS THREADS`
+pub data Serves {W G C S X L : Type 0} (told : Tells W G C S X) (outside : CommandOutside) (workers map : List ℕ) (threads : ℕ) (clients : Option ℕ) (s n : CommandSide G) (ended : CommandEnd L) : Type 0 where
+  Unread : LacksFiles s n ended → Serves told outside workers map threads clients s n ended
+  Refused : RefusesFiles outside workers map s n ended → Serves told outside workers map threads clients s n ended
+  Served : ServesSite told outside workers map threads clients s n ended → Serves told outside workers map threads clients s n ended
+
+-- The application of a container of this route: it asks for no secret, and a packet has at most 8,192 bytes.
+pub record IsAppOf (route : List ℕ) (app : AppConfig) : Type 0 where
+  pub name : app.route ≡ route
+  pub secret : app.secret ≡ None
+  pub packet : app.packet ≡ 8192
+
+-- The workers of such a container were wanted.
+pub record ContainsLinks {W G C S X L : Type 0} (told : Tells W G C S X) (route : List ℕ) (threads : ℕ) (clients : Option ℕ) (s n : WorldSide G) (ended : CommandEnd L) : Type 0 where
+  pub app : AppConfig
+  pub is : IsAppOf route app
+  pub works : Works threads (RunsContainer told app threads clients) s n ended
+
+-- `container ROUTE ADDRESS THREADS`. Nothing was written.
+pub record Contains {W G C S X L : Type 0} (told : Tells W G C S X) (route : List ℕ) (threads : ℕ) (clients : Option ℕ) (s n : CommandSide G) (ended : CommandEnd L) : Type 0 where
+  pub contained : ContainsLinks told route threads clients s.world n.world ended
+  pub written : n.sent ≡ s.sent
+
+-- ---- the same of what a command goes over, as it was before and is after it
+
+-- The workers of a site were wanted.
+abbrev pub WorksSite : {W G C S X L : Type 0} → Tells W G C S X → ReadSite → GearOrder → (before after : W) → CommandEnd L → Type 0
+WorksSite told site asked before after ended =
+    Works asked.threads (RunsSite told site.cfg site.map asked.threads asked.clients) (told.world before) (told.world after) ended
+
+-- The workers of a container were wanted.
+abbrev pub WorksContainer : {W G C S X L : Type 0} → Tells W G C S X → AppConfig → GearOrder → (before after : W) → CommandEnd L → Type 0
+WorksContainer told app asked before after ended =
+    Works asked.threads (RunsContainer told app asked.threads asked.clients) (told.world before) (told.world after) ended
+
+-- The workers of a container of this route were wanted.
+abbrev pub ContainsAsked : {W G C S X L : Type 0} → Tells W G C S X → (route : List ℕ) → GearOrder → (before after : W) → CommandEnd L → Type 0
+ContainsAsked told route asked before after ended =
+    ContainsLinks told route asked.threads asked.clients (told.world before) (told.world after) ended
+
+-- `serve` over its files, whatever the input.
+abbrev pub ServesOrder : {F O W G C S X L : Type 0} → CommandTells F O W G C S X → ServeOrder → (before after : F × O × W) → CommandEnd L → Type 0
+ServesOrder told order before after ended =
+    OfFiles (told.files before.0) (λ outside. Serves told.world outside order.workers.now order.map.now order.asked.threads order.asked.clients
+    (command_side told before) (command_side told after) ended)

@@ -1,0 +1,69 @@
+-- What a run of a connector's workers did with their gears. Read this first.
+use Rattle.std.specs.Prelude.{ℕ, ◌≡◌, ◌+◌, List, [], ◌∷◌, Option, None}
+use Rattle.jk_io.specs.Answers.{Answers}
+use Rattle.jk_io.specs.declared.traits.streams.Meanings.{Ghosts}
+use Rattle.jk_io.specs.declared.traits.surroundings.Peer.{Peer}
+use Rattle.jk_model.specs.declared.segment.Segment.{Segment}
+use Rattle.client_session.specs.Requests.{Visit, visit}
+use Rattle.locked_balancer.specs.SharedDesks.{SharedState}
+use Rattle.site_config.specs.declared.balancer.Lb.{Lb}
+use Rattle.site_config.specs.declared.config.Config.{Config}
+use Rattle.uri_map.specs.declared.rule.Rule.{Rule}
+use Rattle.worker_gears.specs.Gears.{GearSide}
+use Rattle.worker_gears.specs.declared.world.Gear.{Gear}
+use Rattle.jk_server.specs.Served.{IsServed}
+use Rattle.jk_server.specs.Worker.{WorkerSide}
+use Rattle.jk_server.specs.declared.part.WorkerEnd.{WorkerEnd}
+use Rattle.jk_server.specs.Closings.{Closes}
+use Rattle.jk_server.specs.RunTells.{gears_at, RunTells}
+use Rattle.jk_server.specs.declared.runs.ends.Closing.{Closing}
+use Rattle.jk_server.specs.declared.runs.ends.SiteRun.{SiteRun}
+
+-- The worker works with this gear: with its shelf, its clock and its tape.
+pub record WorksWith {C S : Type 0} (gear : GearSide C S) (worker : WorkerSide S) : Type 0 where
+  pub shelf : worker.desk.shelf ≡ gear.shelf
+  pub clock : worker.clock ≡ gear.clock
+  pub talks : worker.reach.talks ≡ gear.talks
+
+-- a desk of which nothing was asked yet
+pub record IsNew {S : Type 0} (desk : SharedState S) : Type 0 where
+  pub no_receipt : desk.desk.receipts ≡ []
+  pub none_held : desk.desk.held ≡ []
+  pub none_forgotten : desk.forgotten ≡ 0
+  pub no_stray : desk.met ≡ None
+
+-- A worker served the clients of its gear's door: each by one session, in order, with the talks on its tape, and ended so.
+pub record IsServedGear {C S L X : Type 0} (visit : Peer → Visit) (told : Ghosts C X) (faults : S → ℕ) (before after : GearSide C S) (end : WorkerEnd L) : Type 0 where
+  pub from : WorkerSide S
+  pub to : WorkerSide S
+  pub first : WorksWith before from
+  pub fresh : IsNew from.desk
+  pub last : WorksWith after to
+  pub served : IsServed visit told faults before.door after.door from to end
+
+-- So of each gear, in order, by the worker of its number.
+abbrev pub AreServedGears : {C S L X : Type 0} → (ℕ → Peer → Visit) → Ghosts C X → (S → ℕ) → (number : ℕ) → (before after : List (GearSide C S)) → List (WorkerEnd L) → Type 0
+AreServedGears visits told faults number [] [] [] = Unit {0}
+AreServedGears visits told faults number (b ∷ before) (a ∷ after) (e ∷ ends) =
+    IsServedGear (visits number) told faults b a e × AreServedGears visits told faults (number + 1) before after ends
+AreServedGears visits told faults number _ _ _ = ⊥
+
+-- The first gear's clock gave the moment at which the balancers start, and nothing else was done.
+abbrev pub AreStarted : {C S : Type 0} → (before after : List (GearSide C S)) → Type 0
+AreStarted [] after = after ≡ []
+AreStarted (first ∷ rest) [] = ⊥
+AreStarted (first ∷ rest) (first' ∷ rest') =
+    (now : ℕ) × Answers first.clock now first'.clock × (first' ≡ record first { clock = first'.clock }) × (rest' ≡ rest)
+
+-- The gears as they were handed in and as they came back, how each worker ended, and how the closing did.
+pub record IsSiteRun {C S L X : Type 0} (visits : ℕ → Peer → Visit) (told : Ghosts C X) (shelved : S → Option (List (ℕ × Segment))) (faults : S → ℕ) (lbs : List Lb) (before back : List (GearSide C S)) (ends : List (WorkerEnd L)) (closing : Closing L) : Type 0 where
+  pub begun : List (GearSide C S)
+  pub left : List (GearSide C S)
+  pub started : AreStarted before begun
+  pub served : AreServedGears visits told faults 0 begun left ends
+  pub closed : Closes shelved faults lbs left back closing
+
+-- It is so of the gears that were handed in, and of what the run gave back.
+abbrev pub RunsGears : {D G T K S O L C X : Type 0} → RunTells D T K S C X → Config → List Rule → List (Gear D G T K S O) → SiteRun L (Gear D G T K S O) → Type 0
+RunsGears told cfg rules gears run =
+    IsSiteRun (visit cfg rules) told.link told.shelved told.shelf_faults cfg.lbs (gears_at told gears) (gears_at told run.gears.items) run.workers run.closing

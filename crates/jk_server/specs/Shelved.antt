@@ -1,0 +1,44 @@
+-- What the last cuts of a run did with the shelves, and how the closing ended so.
+use Rattle.std.specs.Prelude.{ℕ, ◌≡◌, List, [], ◌∷◌, length, map, Option}
+use Rattle.jk_io.specs.Told.{appended, Rose}
+use Rattle.jk_model.specs.declared.journal.Entry.{Entry}
+use Rattle.jk_model.specs.declared.segment.Segment.{Segment}
+use Rattle.balancer_core.specs.Journal.{Journal}
+use Rattle.locked_balancer.specs.Sites.{AreSited}
+use Rattle.site_closing.specs.Closings.{Differs, DiscordNote}
+use Rattle.worker_gears.specs.declared.world.Gear.{Gear}
+use Rattle.jk_server.specs.Closings.{AreCuts}
+use Rattle.jk_server.specs.GearParts.{Tools, tools}
+use Rattle.jk_server.specs.declared.runs.ends.Closing.{Closing}
+use Rattle.jk_server.specs.declared.runs.ends.Closing.TheVariants as closing
+
+-- The segments of these Books were added to a shelf.
+abbrev pub AddsCuts : {S : Type 0} → (S → Option (List (ℕ × Segment))) → List Journal → (old new : S) → Type 0
+AddsCuts shelved books old new = (kept : List (ℕ × Segment)) × AreCuts 0 books kept × (shelved new ≡ appended (shelved old) kept)
+
+-- This is so of the first, and nothing else changed.
+abbrev pub ToFirst : {S : Type 0} → (S → S → Type 0) → (old new : List S) → Type 0
+ToFirst Kept (first ∷ rest) (first' ∷ rest') = Kept first first' × (rest' ≡ rest)
+ToFirst Kept old new = ⊥
+
+-- The gears came back with the tools and shelves that their workers left, but for the first shelf, of which this is so.
+pub record IsPutBack {D G T K S O : Type 0} (Kept : S → S → Type 0) (left : List (Tools D G T K)) (shelves : List S) (back : List (Gear D G T K S O)) : Type 0 where
+  pub paired : length left ≡ length shelves
+  pub tools_put : map (λ g. tools g.door g.dial g.tape g.clock) back ≡ left
+  pub shelves_put : ToFirst Kept shelves (map (λ g. g.shelf) back)
+
+-- The Books of a Site of these sizes and first numbers were cut, and their segments were kept so.
+abbrev pub KeepsCuts : {D G T K S O : Type 0} → (S → Option (List (ℕ × Segment))) → (sizes firsts : List ℕ) → List (Tools D G T K) → List S → (back : List (Gear D G T K S O)) → Type 0
+KeepsCuts shelved sizes firsts left shelves back =
+    (books : List Journal) × AreSited sizes firsts books × IsPutBack (AddsCuts shelved books) left shelves back
+
+-- Where the receipts of the workers differ first from the entries that the Books of such a Site keep.
+abbrev pub IsDiscordAt : (sizes firsts : List ℕ) → DiscordNote → Type 0
+IsDiscordAt sizes firsts d = (entries : ℕ) × (receipts : List (ℕ × Entry)) × Differs sizes firsts entries receipts d
+
+-- What each end of the closing says of the tools and shelves that the workers left, and of the gears that came back.
+abbrev pub EndsSo : {D G T K S O L : Type 0} → (S → Option (List (ℕ × Segment))) → (S → ℕ) → (sizes firsts : List ℕ) → List (Tools D G T K) → List S → (back : List (Gear D G T K S O)) → Closing L → Type 0
+EndsSo shelved faults sizes firsts left shelves back closing.Kept = KeepsCuts shelved sizes firsts left shelves back
+EndsSo shelved faults sizes firsts left shelves back closing.ShelfFault = IsPutBack (λ old new. Rose (faults old) (faults new)) left shelves back
+EndsSo shelved faults sizes firsts left shelves back (closing.Differs d) = IsDiscordAt sizes firsts d × (back ≡ [])
+EndsSo shelved faults sizes firsts left shelves back closing.NoMemory = Unit {0}

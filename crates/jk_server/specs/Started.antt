@@ -1,0 +1,34 @@
+-- A run from where its balancers started.
+use Rattle.std.specs.Prelude.{ℕ, List, Option}
+use Rattle.std.specs.List.{AllZip}
+use Rattle.jk_io.specs.declared.traits.streams.Meanings.{Ghosts}
+use Rattle.jk_io.specs.declared.traits.surroundings.Peer.{Peer}
+use Rattle.jk_model.specs.declared.segment.Segment.{Segment}
+use Rattle.balancer_core.specs.Journal.{IsStart, Journal}
+use Rattle.client_session.specs.Requests.{Visit, visit}
+use Rattle.site_config.specs.declared.balancer.Lb.{Lb}
+use Rattle.site_config.specs.declared.config.Config.{Config}
+use Rattle.uri_map.specs.declared.rule.Rule.{Rule}
+use Rattle.worker_gears.specs.Gears.{GearSide}
+use Rattle.worker_gears.specs.declared.world.Gear.{Gear}
+use Rattle.jk_server.specs.declared.part.WorkerEnd.{WorkerEnd}
+use Rattle.jk_server.specs.Closings.{Closes}
+use Rattle.jk_server.specs.Runs.{AreServedGears}
+use Rattle.jk_server.specs.RunTells.{gears_at, RunTells}
+use Rattle.jk_server.specs.declared.runs.ends.Closing.{Closing}
+use Rattle.jk_server.specs.declared.runs.ends.SiteRun.{SiteRun}
+
+-- A Book for each balancer, which starts at this moment with number 0.
+abbrev pub AreNew : List Lb → (at : ℕ) → List Journal → Type 0
+AreNew lbs at books = AllZip (λ lb b. IsStart b lb.book at 0) lbs books
+
+-- The workers served with the gears as they were then, and the closing ended so.
+pub record IsStartedRun {C S L X : Type 0} (visits : ℕ → Peer → Visit) (told : Ghosts C X) (shelved : S → Option (List (ℕ × Segment))) (faults : S → ℕ) (lbs : List Lb) (begun back : List (GearSide C S)) (ends : List (WorkerEnd L)) (closing : Closing L) : Type 0 where
+  pub left : List (GearSide C S)
+  pub served : AreServedGears visits told faults 0 begun left ends
+  pub closed : Closes shelved faults lbs left back closing
+
+-- It is so of the gears as they were then, and of what the run gave back.
+abbrev pub RunsStarted : {D G T K S O L C X : Type 0} → RunTells D T K S C X → Config → List Rule → List (Gear D G T K S O) → SiteRun L (Gear D G T K S O) → Type 0
+RunsStarted told cfg rules gears run =
+    IsStartedRun (visit cfg rules) told.link told.shelved told.shelf_faults cfg.lbs (gears_at told gears) (gears_at told run.gears.items) run.workers run.closing

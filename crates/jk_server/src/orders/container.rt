@@ -1,0 +1,81 @@
+//! `container`: links served as a servlet container does.
+ghost use Rattle.std.specs.Prelude.{◌≡◌, ◌≤◌, length, None};
+ghost use Rattle.jk_cli.specs.declared.plans.TheConstants.{MOST_ROUTE_BYTES};
+ghost use Rattle.jk_server.specs.Commands.{ContainsAsked, WorksContainer};
+ghost use Rattle.jk_server.specs.Worlds.{tells};
+
+use crate::orders::ends::{CommandEnd, NO_MEMORY, end_by, end_of_container};
+use crate::orders::gears::{GearOrder, give_back, take_gears};
+use crate::runs::container::contain_gears;
+use crate::runs::ends::ContainerRun;
+use jk_io::{Bytes, Door, NoMemory};
+use mini_container::AppConfig;
+use std::alloc::Global;
+use std::marker::Brand;
+use std::sync::Wait;
+use std::thread::Threads;
+use worker_gears::World;
+
+/// The greatest packet of the container, in bytes.
+const PACKET_BYTES: u32 = 8_192;
+
+/// What `container` is asked for.
+#[derive(Clone, Copy)]
+pub struct ContainerOrder<'a> {
+    pub route: &'a Bytes,
+    pub asked: GearOrder<'a>,
+}
+
+/// Serves links by a worker for each gear, and gives the gears back.
+fn contain_links<W: World, R: Threads + Wait + Sync>(
+    rt: &R,
+    alloc: Global,
+    app: &AppConfig,
+    asked: GearOrder<'_>,
+    world: &mut W,
+) -> CommandEnd<Brand>
+where
+    <W::D as Door>::L: Send,
+    requires none { asked.journal ≡ None }
+    ensures { WorksContainer (tells W.World W.D.Door W.T.Tape W.K.Clock W.D.L.Meanings W.S.Shelf)
+        app.now asked.entry world.old world.new result }
+{
+    let gears = match take_gears(alloc, world, asked, None) {
+        Ok(gears) => gears,
+        Err(error) => return end_by(error),
+    };
+    match contain_gears(rt, alloc, app, gears) {
+        Ok(ContainerRun { workers, gears }) => {
+            give_back(world, gears);
+            end_of_container(workers.as_slice())
+        }
+        Err(NoMemory) => CommandEnd::Status(NO_MEMORY),
+    }
+}
+
+/// `container`, with this route.
+pub fn contain<W: World, R: Threads + Wait + Sync>(
+    rt: &R,
+    alloc: Global,
+    order: ContainerOrder<'_>,
+    world: &mut W,
+) -> CommandEnd<Brand>
+where
+    <W::D as Door>::L: Send,
+    requires none { order.asked.journal ≡ None }
+    requires short { length order.route.now ≤ MOST_ROUTE_BYTES }
+    ensures contains { ContainsAsked (tells W.World W.D.Door W.T.Tape W.K.Clock W.D.L.Meanings W.S.Shelf)
+        order.entry.route.now order.entry.asked world.old world.new result }
+{
+    match order.route.copy() {
+        Ok(route) => {
+            let app = AppConfig {
+                route,
+                secret: None,
+                packet: PACKET_BYTES,
+            };
+            contain_links(rt, alloc, &app, order.asked, world)
+        }
+        Err(NoMemory) => CommandEnd::Status(NO_MEMORY),
+    }
+}

@@ -1,0 +1,113 @@
+//! `serve`: clients served over the balancers of a site.
+ghost use Rattle.std.specs.Prelude.{◌≡◌, ◌≤◌, [], length};
+ghost use Rattle.jk_io.specs.Told.{HasCause};
+ghost use Rattle.jk_server.specs.Commands.{telling, ServesOrder, WorksSite, WritesLine};
+ghost use Rattle.jk_server.specs.Ends.{end_of_run, returned};
+ghost use Rattle.jk_server.specs.Worlds.{HandsAndTakes, tells, world_side};
+ghost use Rattle.jk_server.specs.declared.workers.TheConstants.{MAX_WORKERS};
+
+use crate::orders::ends::{CommandEnd, NO_MEMORY, OUTPUT_FAULT, REFUSED, end_by, end_of_run};
+use crate::orders::gears::{GearOf, GearOrder, give_back, take_gears};
+use crate::orders::reading::{Judged, read_site};
+use crate::orders::site::ReadSite;
+use crate::runs::ends::{Closing, SiteRun};
+use crate::runs::serve::serve_gears;
+use jk_io::{Bytes, Door, Files, IoError, NoMemory, Sink, write_all};
+use std::alloc::Global;
+use std::marker::Brand;
+use std::sync::Wait;
+use std::thread::Threads;
+use worker_gears::World;
+
+/// What `serve` is asked for.
+#[derive(Clone, Copy)]
+pub struct ServeOrder<'a> {
+    pub workers: &'a Bytes,
+    pub map: &'a Bytes,
+    pub asked: GearOrder<'a>,
+}
+
+/// Writes the line that refuses a site's files.
+fn refuse<O: Sink>(out: &mut O, line: &Bytes) -> CommandEnd<Brand>
+    ensures { WritesLine (O.sent out.old) (O.sent out.new) (O.faults out.old) (O.faults out.new) line.now result }
+{
+    match write_all(out, line.as_slice()) {
+        Ok(()) => CommandEnd::Status(REFUSED),
+        Err(IoError::Failed) => CommandEnd::Status(OUTPUT_FAULT),
+        Err(IoError::NoMemory) => CommandEnd::Status(NO_MEMORY),
+    }
+}
+
+/// Gives the gears of a run back, unless its closing wanted memory.
+fn give_by<W: World>(world: &mut W, closing: &Closing<Brand>, gears: Vec<GearOf<W>>)
+    requires out { length (returned closing.now gears.items) ≤ W.out world.old }
+    ensures { let at = world_side W.World in
+        HandsAndTakes (at world.old) (at world.new) [] (returned closing.now gears.items) }
+{
+    match closing {
+        Closing::NoMemory => {}
+        Closing::Kept | Closing::ShelfFault | Closing::Differs(_) => give_back(world, gears),
+    }
+}
+
+/// Gives the gears of a run back, and answers how it ended.
+fn settle<W: World>(world: &mut W, run: SiteRun<Brand, GearOf<W>>) -> CommandEnd<Brand>
+    requires out { length (returned run.closing run.gears.items) ≤ W.out world.old }
+    ensures given { let at = world_side W.World in
+        HandsAndTakes (at world.old) (at world.new) [] (returned run.closing run.gears.items) }
+    ensures ended { result ≡ end_of_run run.workers run.closing }
+{
+    let SiteRun {
+        workers,
+        closing,
+        gears,
+    } = run;
+    give_by(world, &closing, gears);
+    end_of_run(workers.into_vec(), closing)
+}
+
+/// Serves the clients of a site by a worker for each gear, and gives the gears back.
+fn serve_site<W: World, R: Threads + Wait + Sync>(
+    rt: &R,
+    alloc: Global,
+    site: &ReadSite,
+    asked: GearOrder<'_>,
+    world: &mut W,
+) -> CommandEnd<Brand>
+where
+    <W::D as Door>::L: Send,
+    requires threads { (1 ≤ asked.threads) × (asked.threads ≤ MAX_WORKERS) }
+    ensures { WorksSite (tells W.World W.D.Door W.T.Tape W.K.Clock W.D.L.Meanings W.S.Shelf)
+        site.now asked.entry world.old world.new result }
+{
+    let gears = match take_gears(alloc, world, asked, Some(&site.cfg)) {
+        Ok(gears) => gears,
+        Err(error) => return end_by(error),
+    };
+    match serve_gears(rt, alloc, &site.cfg, &site.map, gears) {
+        Ok(ran) => settle(world, ran),
+        Err(NoMemory) => CommandEnd::Status(NO_MEMORY),
+    }
+}
+
+/// `serve`, over the files WORKERS and MAP.
+pub fn serve<F: Files, O: Sink, W: World, R: Threads + Wait + Sync>(
+    rt: &R,
+    alloc: Global,
+    order: ServeOrder<'_>,
+    files: &mut F,
+    out: &mut O,
+    world: &mut W,
+) -> CommandEnd<Brand>
+where
+    <W::D as Door>::L: Send,
+    requires threads { (1 ≤ order.asked.threads) × (order.asked.threads ≤ MAX_WORKERS) }
+    ensures serves { ServesOrder (telling F.Files O.Meanings W.World W.D.Door W.T.Tape W.K.Clock W.D.L.Meanings W.S.Shelf)
+        order.entry (files.old, out.old, world.old) (files.new, out.new, world.new) result }
+{
+    match read_site(alloc, files, order.workers, order.map) {
+        Ok(Judged::Site(site)) => serve_site(rt, alloc, &site, order.asked, world),
+        Ok(Judged::Refused(line)) => refuse(out, &line),
+        Err(error) => end_by(error),
+    }
+}

@@ -1,0 +1,185 @@
+-- How a command that asks for workers or threads ends.
+use Rattle.std.proofs.Common.{ℕ, ◌≡◌, ◌≢◌, ◌⊎◌, Bool, true, false, List, [], ◌∷◌, Option, inl, inr, refl, sym, ◌∙◌, arith}
+use Rattle.container_server.specs.declared.ends.ContainerWorker.{ContainerWorker}
+use Rattle.container_server.specs.declared.ends.ContainerWorker.TheVariants as container
+use Rattle.drill.specs.Written.{RunsDrill, Told, Lacked, Wanted}
+use Rattle.drill.specs.declared.writing.DrillEnd.{DrillEnd}
+use Rattle.drill.specs.declared.writing.DrillEnd.TheVariants as drilled
+use Rattle.jk_cli.specs.declared.order.Order.{Order}
+use Rattle.jk_cli.specs.declared.order.Order.TheVariants as order
+use Rattle.jk_io.specs.Told.{Rose}
+use Rattle.jk_server.specs.Commands.{CommandSide, RunsContainer, RunsSite, Serves, Unread, Refused, Served, Works, NoGear, NoRoom, Ran}
+use Rattle.jk_server.specs.Ends.{end_of_closing, end_of_container, end_of_run}
+use Rattle.jk_server.specs.Worlds.{Tells, WorldSide}
+use Rattle.jk_server.specs.declared.orders.ends.CommandEnd.{CommandEnd}
+use Rattle.jk_server.specs.declared.orders.ends.CommandEnd.TheVariants as server
+use Rattle.jk_server.specs.declared.part.WorkerEnd.{WorkerEnd}
+use Rattle.jk_server.specs.declared.part.WorkerEnd.TheVariants as worker
+use Rattle.jk_server.specs.declared.runs.ends.Closing.{Closing}
+use Rattle.jk_server.specs.declared.runs.ends.Closing.TheVariants as closing
+use Rattle.jk_server.proofs.CommandLaws.{contains_none}
+use Rattle.plain_commands.specs.Plain.{readings, AreFilesDue}
+use Rattle.site_reports.specs.Readings.{CommandOutside, has_file}
+use Rattle.jkd.specs.Commands.{DoesOrder}
+use Rattle.jkd.specs.Ends.{jkd_end, of_drill}
+use Rattle.jkd.specs.Words.{is_command, is_served, is_serving, AreFilesRead, IsInRange, reads_files}
+use Rattle.jkd.specs.declared.ends.EndOf.{EndOf}
+use Rattle.jkd.specs.declared.ends.EndOf.TheVariants as end
+
+-- memory was wanted before the words were read
+pub does_none : {W G C S X : Type 0} (L : Type 0) (told : Tells W G C S X) (outside : CommandOutside) (o : Order) (s : CommandSide G) → is_served o ≡ true → IsInRange o
+    → DoesOrder {L = L} told outside o s s (end.Status 6)
+does_none L told outside (order.Serve workers map address threads clients journal watch idle log format) s served range = record {
+  by = server.Status 6;
+  said = Unread (record { why = inr refl; written = refl; world = refl });
+  turned = refl;
+}
+does_none L told outside (order.Container route address threads clients) s served range = record {
+  by = server.Status 6;
+  said = record { contained = contains_none told route threads clients s.world range.2; written = refl };
+  turned = refl;
+}
+does_none L told outside order.Play s served range = cc
+does_none L told outside (order.Dry request reply site) s served range = cc
+does_none L told outside (order.Config workers map) s served range = cc
+does_none L told outside (order.Match workers map) s served range = cc
+does_none L told outside order.Check s served range = cc
+does_none L told outside (order.Log format request reply workers map) s served range = cc
+does_none L told outside order.Follow s served range = cc
+does_none L told outside (order.Drill seed threads requests text passes) s served range = record {
+  runs = record { by = drilled.NoMemory; said = Wanted (record { ends = refl; written = refl }); turned = refl };
+  world = refl;
+}
+
+-- ---- the statuses of a command that asks for workers or threads
+
+-- those of a run
+IsOfRun : ℕ → Type 0
+IsOfRun k = (k ≡ 0) ⊎ (k ≡ 4) ⊎ (k ≡ 6)
+
+closed_status : {L : Type 0} (closed : Closing L) (k : ℕ) → end_of_closing closed ≡ server.Status k → IsOfRun k
+unfolding IsOfRun
+closed_status closing.Kept k e = inl cc
+closed_status closing.ShelfFault k e = inr (inl cc)
+closed_status (closing.Differs discord) k e = cc
+closed_status closing.NoMemory k e = inr (inr cc)
+
+run_status : {L : Type 0} (ends : List (WorkerEnd L)) (closed : Closing L) (k : ℕ) → end_of_run ends closed ≡ server.Status k → IsOfRun k
+unfolding IsOfRun
+run_status [] closed k e = closed_status closed k e
+run_status (worker.Closed sessions ∷ ends) closed k e = run_status ends closed k e
+run_status (worker.DoorFault ∷ ends) closed k e = inr (inl cc)
+run_status (worker.ShelfFault ∷ ends) closed k e = inr (inl cc)
+run_status (worker.LogFault ∷ ends) closed k e = inr (inl cc)
+run_status (worker.Stray stray ∷ ends) closed k e = cc
+run_status (worker.NoMemory ∷ ends) closed k e = inr (inr cc)
+
+container_status : (L : Type 0) (ends : List ContainerWorker) (k : ℕ) → end_of_container {L = L} ends ≡ server.Status k → IsOfRun k
+unfolding IsOfRun
+container_status L [] k e = inl cc
+container_status L (container.Closed links ∷ ends) k e = container_status L ends k e
+container_status L (container.DoorFault ∷ ends) k e = inr (inl cc)
+container_status L (container.NoMemory ∷ ends) k e = inr (inr cc)
+
+works_status : {G L : Type 0} (threads : ℕ) (Runs : WorldSide G → WorldSide G → CommandEnd L → Type 0) (s n : WorldSide G) (ended : CommandEnd L) (k : ℕ)
+    → (Runs s n ended → ended ≡ server.Status k → IsOfRun k) → Works threads Runs s n ended → ended ≡ server.Status k → IsOfRun k
+unfolding IsOfRun
+works_status threads Runs s n ended k ran (NoGear w) e = let status = w.status in inr (inl cc)
+works_status threads Runs s n ended k ran (NoRoom w) e = let status = w.status in inr (inr cc)
+works_status threads Runs s n ended k ran (Ran w) e = ran w e
+
+-- those of such a command: 5 only where the output's faults rose
+Answered : {G : Type 0} → (s n : CommandSide G) → ℕ → Type 0
+Answered s n k = IsOfRun k ⊎ (k ≡ 3) ⊎ ((k ≡ 5) × Rose s.output_faults n.output_faults)
+
+serve_status : {W G C S X L : Type 0} (told : Tells W G C S X) (outside : CommandOutside) (workers map : List ℕ) (threads : ℕ) (clients : Option ℕ) (s n : CommandSide G) (ended : CommandEnd L) (k : ℕ)
+    → Serves told outside workers map threads clients s n ended → ended ≡ server.Status k → Answered s n k
+unfolding IsOfRun Answered
+serve_status told outside workers map threads clients s n ended k (Unread w) e =
+    elim w.why [ inl a ↦ let status = a.0 in inl (inr (inl cc)) | inr b ↦ inl (inr (inr cc)) ]
+serve_status told outside workers map threads clients s n ended k (Refused w) e =
+    elim w.written [ inl a ↦ let status = a.1 in inr (inl cc) | inr b ↦ elim b [ inl c ↦ let status = c.1 in inr (inr (cc, c.2)) | inr d ↦ let status = d.1 in inl (inr (inr cc)) ] ]
+serve_status told outside workers map threads clients s n ended k (Served w) e =
+    inl (works_status threads (RunsSite told w.cfg w.rules threads clients) s.world n.world ended k
+    (λ ran is. run_status ran.ends ran.closing k (sym ran.status ∙ is)) w.works e)
+
+-- a status of the command is that of the server's call
+served_status : {L : Type 0} (by : CommandEnd L) (k : ℕ) → jkd_end by ≡ end.Status k → by ≡ server.Status k
+served_status (server.Status status) k e = let same : status ≡ k = cc in rw same refl
+served_status (server.Discord discord) k e = cc
+served_status (server.Stray stray) k e = cc
+
+-- a drill's write failed only where the output's faults rose
+drill_lost : (seed threads requests : ℕ) (text passes : Bool) (sent sent_now : Option (List ℕ)) (faults faults_now : ℕ)
+    → RunsDrill seed threads requests text passes sent sent_now faults faults_now drilled.OutputFault → Rose faults faults_now
+drill_lost seed threads requests text passes sent sent_now faults faults_now (Told w) =
+    elim w.written [ inl a ↦ let ends = a.1 in cc | inr b ↦ elim b [ inl c ↦ c.2 | inr d ↦ let ends = d.1 in cc ] ]
+drill_lost seed threads requests text passes sent sent_now faults faults_now (Lacked w) = let ends = w.ends in cc
+drill_lost seed threads requests text passes sent sent_now faults faults_now (Wanted w) = let ends = w.ends in cc
+
+drill_status : {G : Type 0} (L : Type 0) (seed threads requests : ℕ) (text passes : Bool) (s n : CommandSide G) (by : DrillEnd) (k : ℕ)
+    → RunsDrill seed threads requests text passes s.sent n.sent s.output_faults n.output_faults by → of_drill {L = L} by ≡ end.Status k → Answered s n k
+unfolding IsOfRun Answered
+drill_status L seed threads requests text passes s n drilled.Written k runs e = inl (inl cc)
+drill_status L seed threads requests text passes s n drilled.OutputFault k runs e = inr (inr (cc, drill_lost _ _ _ _ _ _ _ _ _ runs))
+drill_status L seed threads requests text passes s n drilled.NoMemory k runs e = inl (inr (inr cc))
+drill_status L seed threads requests text passes s n (drilled.Lacked error) k runs e = cc
+
+does_status : {W G C S X L : Type 0} (told : Tells W G C S X) (outside : CommandOutside) (o : Order) (s n : CommandSide G) (ended : EndOf L) (k : ℕ)
+    → DoesOrder told outside o s n ended → ended ≡ end.Status k → Answered s n k
+unfolding Answered
+does_status told outside (order.Serve workers map address threads clients journal watch idle log format) s n ended k does e =
+    serve_status told outside workers map threads clients s n does.by k does.said (served_status does.by k (sym does.turned ∙ e))
+does_status told outside (order.Container route address threads clients) s n ended k does e =
+    inl (works_status threads (RunsContainer told does.said.contained.app threads clients) s.world n.world does.by k
+    (λ ran is. container_status _ ran.ends k (sym ran.status ∙ is)) does.said.contained.works (served_status does.by k (sym does.turned ∙ e)))
+does_status told outside order.Play s n ended k does e = absurd does
+does_status told outside (order.Dry request reply site) s n ended k does e = absurd does
+does_status told outside (order.Config workers map) s n ended k does e = absurd does
+does_status told outside (order.Match workers map) s n ended k does e = absurd does
+does_status told outside order.Check s n ended k does e = absurd does
+does_status told outside (order.Log format request reply workers map) s n ended k does e = absurd does
+does_status told outside order.Follow s n ended k does e = absurd does
+does_status told outside (order.Drill seed threads requests text passes) s n ended k does e =
+    drill_status _ seed threads requests text passes s n does.runs.by k does.runs.said (sym does.runs.turned ∙ e)
+
+-- it never ends with the status of words that are no command
+pub does_done : {W G C S X L : Type 0} (told : Tells W G C S X) (outside : CommandOutside) (o : Order) (s n : CommandSide G) (ended : EndOf L)
+    → DoesOrder told outside o s n ended → ended ≢ end.Status 2
+unfolding IsOfRun Answered
+does_done told outside o s n ended does e =
+    elim (does_status told outside o s n ended 2 does e) [
+      | inl run ↦ elim run [ inl a ↦ omega (arith, a) | inr b ↦ elim b [ inl c ↦ omega (arith, c) | inr d ↦ omega (arith, d) ] ]
+      | inr more ↦ elim more [ inl a ↦ omega (arith, a) | inr b ↦ omega (arith, b.0) ]
+    ]
+
+-- it ends with status 5 only where the output's faults rose
+pub does_lose : {W G C S X L : Type 0} (told : Tells W G C S X) (outside : CommandOutside) (o : Order) (s n : CommandSide G) (ended : EndOf L)
+    → DoesOrder told outside o s n ended → ended ≡ end.Status 5 → Rose s.output_faults n.output_faults
+unfolding IsOfRun Answered
+does_lose told outside o s n ended does e =
+    elim (does_status told outside o s n ended 5 does e) [
+      | inl run ↦ absurd (elim run [ inl a ↦ omega (arith, a) | inr b ↦ elim b [ inl c ↦ omega (arith, c) | inr d ↦ omega (arith, d) ] ])
+      | inr more ↦ elim more [ inl a ↦ absurd (omega (arith, a)) | inr b ↦ b.1 ]
+    ]
+
+-- a plain command that has files reads some
+reads_due : (o : Order) → has_file (readings o) ≡ true → reads_files o ≡ true
+reads_due (order.Serve workers map address threads clients journal watch idle log format) due = refl
+reads_due (order.Container route address threads clients) due = due
+reads_due order.Play due = due
+reads_due (order.Dry request reply site) due = due
+reads_due (order.Config workers map) due = due
+reads_due (order.Match workers map) due = due
+reads_due order.Check due = due
+reads_due (order.Log format request reply workers map) due = due
+reads_due order.Follow due = due
+reads_due (order.Drill seed threads requests text passes) due = due
+
+pub files_read : (words : List (List ℕ)) (same : Type 0) → same ⊎ AreFilesDue words → same ⊎ AreFilesRead words
+files_read words same (inl kept) = inl kept
+files_read words same (inr due) = inr (due.0, due.1, reads_due due.0 due.2)
+
+-- words that ask for workers are a command
+pub serving_command : (words : List (List ℕ)) → is_serving words ≡ true → is_command words ≡ false → ⊥
+serving_command words serving none = let is : is_command words ≡ true = rw serving refl in cc

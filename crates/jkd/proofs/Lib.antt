@@ -1,0 +1,3 @@
+mod CommandLaws
+mod OptionLaws
+mod OrderLaws

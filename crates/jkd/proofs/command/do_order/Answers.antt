@@ -1,0 +1,28 @@
+use Rattle.std.proofs.Common.{refl}
+use Rattle.jkd.proofs.command.do_order.Goals as goal
+
+pub returns-in-Serve-clause-does : goal.returns-in-Serve-clause-does
+returns-in-Serve-clause-does g c incoming =
+    rw c.in-Serve.is (record {
+      by = c.serve.result;
+      said = rw (c.new-asked.ensures.0, c.new-asked.ensures.1) at (c.serve.ensures.serves incoming);
+      turned = c.from.ensures;
+    })
+
+pub returns-in-Container-clause-does : goal.returns-in-Container-clause-does
+returns-in-Container-clause-does g c incoming =
+    rw c.in-Container.is (record {
+      by = c.contain.result;
+      said = record {
+        contained = rw (c.new-asked-in-Container.ensures.0, c.new-asked-in-Container.ensures.1) at c.contain.ensures.contains;
+        written = refl;
+      };
+      turned = c.from-in-Container.ensures;
+    })
+
+pub returns-in-Drill-clause-does : goal.returns-in-Drill-clause-does
+returns-in-Drill-clause-does g c incoming =
+    rw c.in-Drill.is (record {
+      runs = record { by = c.write_drill.result; said = rw c.new-order.ensures at c.write_drill.ensures; turned = c.from-in-Drill.ensures };
+      world = refl;
+    })

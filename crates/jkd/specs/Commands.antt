@@ -1,0 +1,53 @@
+-- What `serve`, `container` and `drill` do with the outside, and how they end. Read this first; what a call of the server does
+-- is in jk_server's specs/Commands.antt, what one of a drill does in drill's specs/Written.antt, and which words are which
+-- command in specs/Words.antt.
+use Rattle.std.specs.Prelude.{◌≡◌, ℕ, Bool, true, List, Some}
+use Rattle.drill.specs.Written.{RunsDrill}
+use Rattle.drill.specs.declared.writing.DrillEnd.{DrillEnd}
+use Rattle.jk_cli.specs.Orders.{order_of}
+use Rattle.jk_cli.specs.declared.order.Order.{Order}
+use Rattle.jk_cli.specs.declared.order.Order.TheVariants as order
+use Rattle.jk_server.specs.Commands.{command_side, CommandSide, CommandTells, Contains, Serves}
+use Rattle.jk_server.specs.Worlds.{Tells}
+use Rattle.jk_server.specs.declared.orders.ends.CommandEnd.{CommandEnd}
+use Rattle.site_reports.specs.Readings.{CommandOutside, OfFiles}
+use Rattle.jkd.specs.Ends.{jkd_end, of_drill}
+use Rattle.jkd.specs.Words.{is_served}
+use Rattle.jkd.specs.declared.ends.EndOf.{EndOf}
+
+-- The server was called, this is so of how its call ended, and the command ended by that.
+pub record EndsServed {L : Type 0} (Said : CommandEnd L → Type 0) (ended : EndOf L) : Type 0 where
+  pub by : CommandEnd L
+  pub said : Said by
+  pub turned : ended ≡ jkd_end by
+
+-- A drill was called, this is so of how its call ended, and the command ended by that.
+pub record EndsDrilled {L : Type 0} (Said : DrillEnd → Type 0) (ended : EndOf L) : Type 0 where
+  pub by : DrillEnd
+  pub said : Said by
+  pub turned : ended ≡ of_drill by
+
+-- `drill SEED THREADS REQUESTS`, or these and `journal` or `passes`. The world isn't asked.
+pub record Drills {G L : Type 0} (seed threads requests : ℕ) (text passes : Bool) (s n : CommandSide G) (ended : EndOf L) : Type 0 where
+  pub runs : EndsDrilled (RunsDrill seed threads requests text passes s.sent n.sent s.output_faults n.output_faults) ended
+  pub world : n.world ≡ s.world
+
+-- What an order that asks for workers or threads does.
+abbrev pub DoesOrder : {W G C S X L : Type 0} → Tells W G C S X → CommandOutside → Order → (s n : CommandSide G) → EndOf L → Type 0
+DoesOrder told outside (order.Serve workers map address threads clients journal watch idle log format) s n ended =
+    EndsServed (Serves told outside workers map threads clients s n) ended
+DoesOrder told outside (order.Container route address threads clients) s n ended = EndsServed (Contains told route threads clients s n) ended
+DoesOrder told outside (order.Drill seed threads requests text passes) s n ended = Drills seed threads requests text passes s n ended
+DoesOrder told outside other s n ended = ⊥
+
+-- ---- the same of what a command goes over, as it was before and is after it
+
+-- An order that asks for workers or threads, whatever the input.
+abbrev pub DoesAsked : {F O W G C S X L : Type 0} → CommandTells F O W G C S X → Order → (before after : F × O × W) → EndOf L → Type 0
+DoesAsked told o before after ended =
+    OfFiles (told.files before.0) (λ outside. DoesOrder told.world outside o (command_side told before) (command_side told after) ended)
+
+-- Words that ask for workers or threads do what their order does.
+abbrev pub DoesWords : {F O W G C S X L : Type 0} → CommandTells F O W G C S X → (words : List (List ℕ)) → (before after : F × O × W) → EndOf L → Type 0
+DoesWords told words before after ended =
+    (o : Order) → order_of words ≡ Some o → is_served o ≡ true → DoesAsked told o before after ended

@@ -1,0 +1,25 @@
+-- What a plain command does, in one record over its status.
+use Rattle.std.specs.Prelude.{◌≡◌, ◌↔◌, ℕ, false, ◌⊎◌, List}
+use Rattle.jk_io.specs.Told.{Rose}
+use Rattle.plain_commands.specs.Endings.{PlainSide, ReadFails}
+use Rattle.plain_commands.specs.Plain.{is_plain, Prints, PrintsFront}
+use Rattle.jkd.specs.declared.ends.EndOf.{EndOf}
+use Rattle.jkd.specs.declared.ends.EndOf.TheVariants as end
+
+-- What each status of a plain command says, of words that ask for no workers.
+pub record RunsPlain (words : List (List ℕ)) (s n : PlainSide) (status : ℕ) : Type 0 where
+  pub statuses : (status ≡ 0) ⊎ (status ≡ 1) ⊎ (status ≡ 2) ⊎ (status ≡ 3) ⊎ (status ≡ 4) ⊎ (status ≡ 5) ⊎ (status ≡ 6)
+  pub done : status ≡ 0 → Prints words s.outside s.sent n.sent 0
+  pub bad : status ≡ 1 → Prints words s.outside s.sent n.sent 1
+  pub refused : status ≡ 3 → Prints words s.outside s.sent n.sent 3
+  pub no_command : (status ≡ 2) ↔ (is_plain words ≡ false)
+  pub no_words : status ≡ 2 → n.sent ≡ s.sent
+  pub input_fault : status ≡ 4 → ReadFails s.faults n.faults
+  pub nothing : status ≡ 4 → n.sent ≡ s.sent
+  pub output_fault : status ≡ 5 → Rose s.faults.output n.faults.output
+  pub part : status ≡ 5 → PrintsFront words s.outside s.sent n.sent
+  pub wanting : status ≡ 6 → (n.sent ≡ s.sent) ⊎ PrintsFront words s.outside s.sent n.sent
+
+-- It ends with such a status.
+abbrev pub EndsPlain : {L : Type 0} → (words : List (List ℕ)) → (s n : PlainSide) → EndOf L → Type 0
+EndsPlain words s n ended = (status : ℕ) × (ended ≡ end.Status status) × RunsPlain words s n status

@@ -1,0 +1,77 @@
+-- What is known of a session over memory, and of what is printed of it, put together.
+use Rattle.std.proofs.Common.{◌≡◌, ℕ, List, [], ◌++◌, Option, Some, None, Result, Ok, Err, IfOk, OnOk, IsSomeAnd, refl, ap, subst, ◌∙◌, append_assoc}
+use Rattle.jk_io.specs.Memory.{MemLinkState}
+use Rattle.jk_io.specs.MemReaches.{MemReachState}
+use Rattle.jk_io.specs.declared.reaching.Talk.{Talk}
+use Rattle.jk_model.specs.declared.served.Served.{Served}
+use Rattle.balancer_core.specs.Desks.{DeskState}
+use Rattle.balancer_core.specs.Journal.{Journal}
+use Rattle.balancer_core.specs.PlainDesks.{plain_state}
+use Rattle.client_session.specs.Causes.{IsDecided, IsOwnCaused}
+use Rattle.client_session.specs.Complete.{EndsWhole, ServesWhole}
+use Rattle.client_session.specs.Parts.{HasParts}
+use Rattle.client_session.specs.Requests.{Visit}
+use Rattle.client_session.specs.Sessions.{InEachSession, IsServed, Serves}
+use Rattle.client_session.specs.Standings.{ClientStanding}
+use Rattle.client_session.specs.declared.ending.SessionEnd.{SessionEnd}
+use Rattle.plain_commands.specs.Dry.{IsRun, first_standing}
+use Rattle.plain_commands.specs.DryLines.{dry_text}
+
+-- what is known at first of these, where nothing of the client's bytes was read
+abbrev pub first_of : DeskState → (clock : List ℕ) → MemReachState → MemLinkState → ClientStanding
+first_of desk clock reach client = record {
+  desk = record { state = desk; clock = Some clock };
+  reach = record { talks = Some reach.book.talks; faults = reach.faults };
+  client = record { incoming = Some client.incoming; received = Some client.received; sent = Some client.sent; faults = client.faults };
+  inbox = [];
+}
+
+-- it is the first standing where nothing was done yet
+pub first_is : (desk : DeskState) (clock : List ℕ) (reach : MemReachState) (client : MemLinkState) (books : List Journal)
+    → desk ≡ plain_state books [] [] 0 0 0 → clock ≡ [] → reach.book.talks ≡ [] → reach.faults ≡ 0
+    → client.received ≡ [] → client.sent ≡ [] → client.faults ≡ 0
+    → first_of desk clock reach client ≡ first_standing books client.incoming
+first_is desk clock reach client books d k talks faults received sent failed =
+    rw (d, k, talks, faults, received, sent, failed) refl
+
+-- what a session's contract says of the way that it went
+pub run_from : (v v' : Visit) (first : ClientStanding) (at_first at_last : List ℕ → ClientStanding) (rows : List Served) (end : SessionEnd) (talks : List Talk) (sent : List ℕ)
+    → (way : Serves v at_first at_last [] rows end) → v ≡ v' → at_first [] ≡ first
+    → (at_last way.inbox).reach.talks ≡ Some talks → (at_last way.inbox).client.sent ≡ Some sent
+    → ((at_last way.inbox).reach.faults ≡ 0) × ((at_last way.inbox).client.faults ≡ 0)
+    → HasParts v (at_first []).client.incoming (at_first []).client.sent (at_last way.inbox).client.sent end
+    → InEachSession v end (IsOwnCaused v)
+    → InEachSession v end (IsDecided v)
+    → InEachSession v end (EndsWhole v)
+    → ((number : ℕ) (s n : ClientStanding) (gained : List Served) → IsServed v number s n gained → ServesWhole v number s n)
+    → IsRun v' first talks sent end
+run_from v v' first at_first at_last rows end talks sent way same begun talked written calm parts own by_bytes complete served =
+    subst (λ (w : Visit). IsRun w first talks sent end) same (subst (λ (s : ClientStanding). IsRun v s talks sent end) begun (record {
+      last = at_last way.inbox;
+      rows = way.gained;
+      session = way.session;
+      talked = talked;
+      written = written;
+      calm = calm;
+      parts = parts;
+      own = own _ _ _ way.session;
+      by_bytes = by_bytes _ _ _ way.session;
+      complete = complete _ _ _ way.session;
+      served = served;
+    }))
+
+-- ---- texts
+
+-- a word and a number that were added, as one text
+pub as_words : {T E : Type 0} (result : Result T E) (before now word number : List ℕ)
+    → OnOk result (now ≡ before ++ word ++ number) → OnOk result (now ≡ before ++ (word ++ number))
+as_words (Ok t) before now word number added = added ∙ append_assoc before word number
+as_words (Err e) before now word number added = tt
+
+-- the lines with these words
+pub with_words : {E : Type 0} (shown : Option (List ℕ)) (words : List ℕ) (talks : List Talk) (sent : List ℕ) (result : Result (List ℕ) E)
+    → IsSomeAnd shown (λ w. words ≡ w) → IfOk result (λ text. text ≡ dry_text talks sent words)
+    → IfOk result (λ text. IsSomeAnd shown (λ w. text ≡ dry_text talks sent w))
+with_words (Some w) words talks sent (Ok text) same told = told ∙ ap (λ (ws : List ℕ). dry_text talks sent ws) same
+with_words (Some w) words talks sent (Err e) same told = tt
+with_words None words talks sent result same told = absurd same

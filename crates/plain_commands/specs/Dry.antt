@@ -1,0 +1,101 @@
+-- What `dry` prints: one session over memory. Of `dry` read this first.
+use Rattle.std.specs.Prelude.{◌≡◌, ℕ, Bool, false, List, [], ◌∷◌, Some, IsSomeAnd, Result, Ok, Err, codes, reverse}
+use Rattle.property_lines.specs.Refusals.{LineRefusal}
+use Rattle.jk_io.specs.MemReaches.{MemReachState}
+use Rattle.jk_io.specs.declared.reaching.Talk.{Talk}
+use Rattle.jk_model.specs.declared.served.Served.{Served}
+use Rattle.balancer_core.specs.Journal.{IsStart, Journal}
+use Rattle.balancer_core.specs.PlainDesks.{plain_state}
+use Rattle.site_config.specs.declared.balancer.Lb.{Lb}
+use Rattle.site_config.specs.declared.config.Config.{Config}
+use Rattle.uri_map.specs.Lines.{read_text}
+use Rattle.uri_map.specs.declared.rule.Rule.{Rule}
+use Rattle.site_reports.specs.Reports.{OfWorkers, Refuses}
+use Rattle.client_session.specs.Causes.{IsDecided, IsOwnCaused}
+use Rattle.client_session.specs.Complete.{EndsWhole, ServesWhole}
+use Rattle.client_session.specs.Parts.{HasParts}
+use Rattle.client_session.specs.Requests.{Visit, visit}
+use Rattle.client_session.specs.Sessions.{IsServed, IsSession}
+use Rattle.client_session.specs.Standings.{ClientStanding}
+use Rattle.client_session.specs.declared.ending.SessionEnd.{SessionEnd}
+use Rattle.plain_commands.specs.DryLines.{dry_text, end_words}
+use Rattle.plain_commands.specs.DryLinks.{AreTalksOver, reply_link}
+
+-- ---- how it starts
+
+-- Each balancer has its Book as it starts at moment 0 with number 0.
+abbrev pub AreStarted : List Lb → List Journal → Type 0
+AreStarted [] [] = Unit {0}
+AreStarted (lb ∷ lbs) (book ∷ books) = IsStart book lb.book 0 0 × AreStarted lbs books
+AreStarted lbs books = ⊥
+
+-- the session's worker has the number 0, and its client this address
+abbrev pub dry_visit : Config → List Rule → Visit
+dry_visit c rules = visit c rules 0 (record { addr = codes "127.0.0.1" })
+
+-- Nothing was done yet: the Books as they start, a clock whose every answer is 0, no talk, and all bytes of the client are
+-- to come.
+abbrev pub first_standing : List Journal → (request : List ℕ) → ClientStanding
+first_standing books request = record {
+  desk = record { state = plain_state books [] [] 0 0 0; clock = Some [] };
+  reach = record { talks = Some []; faults = 0 };
+  client = record { incoming = Some request; received = Some []; sent = Some []; faults = 0 };
+  inbox = [];
+}
+
+-- ---- how it goes
+
+-- One session from this standing to its end, in which no call of a link failed: the talks that it had, the bytes that its
+-- client has, and its end. The client has the parts of its requests joined; an own answer has its cause; the client's bytes
+-- decide what they can; and what nothing disturbs is answered with exactly its member's reply.
+pub record IsRun (v : Visit) (first : ClientStanding) (talks : List Talk) (sent : List ℕ) (end : SessionEnd) : Type 0 where
+  pub last : ClientStanding
+  pub rows : List Served
+  pub session : IsSession v first last rows end
+  pub talked : last.reach.talks ≡ Some talks
+  pub written : last.client.sent ≡ Some sent
+  pub calm : (last.reach.faults ≡ 0) × (last.client.faults ≡ 0)
+  pub parts : HasParts v first.client.incoming first.client.sent last.client.sent end
+  pub own : IsOwnCaused v end session.number session.mid last
+  pub by_bytes : IsDecided v end session.number session.mid last
+  pub complete : EndsWhole v end session.number session.mid last
+  pub served : (number : ℕ) (s n : ClientStanding) (gained : List Served) → IsServed v number s n gained → ServesWhole v number s n
+
+-- The first link that was dialled had the reply to come, and each later one nothing.
+abbrev pub AreOverReply : (reply : List ℕ) → List Talk → Type 0
+AreOverReply reply talks =
+    (past : List Talk) × (now : MemReachState) × (talks ≡ reverse past) × AreTalksOver (reply_link reply ∷ []) past now
+
+-- One session over this site, of a client that sends these bytes, over links of which the first has that reply to come.
+pub record IsDryRun (c : Config) (rules : List Rule) (request reply : List ℕ) (talks : List Talk) (sent : List ℕ) (end : SessionEnd) : Type 0 where
+  pub books : List Journal
+  pub started : AreStarted c.lbs books
+  pub run : IsRun (dry_visit c rules) (first_standing books request) talks sent end
+  pub over : AreOverReply reply talks
+
+-- ---- what is printed
+
+-- the three lines of such a session
+pub record Dries (c : Config) (rules : List Rule) (request reply out : List ℕ) : Type 0 where
+  pub talks : List Talk
+  pub sent : List ℕ
+  pub end : SessionEnd
+  pub run : IsDryRun c rules request reply talks sent end
+  pub printed : IsSomeAnd (end_words end) (λ words. out ≡ dry_text talks sent words)
+
+-- the refusal of a map, or what is printed of a session over its rules
+abbrev pub OfRules : Config → Result (List Rule) LineRefusal → (request reply out : List ℕ) → (refused : Bool) → Type 0
+OfRules c (Err r) request reply out refused = Refuses (codes "map") r out refused
+OfRules c (Ok rules) request reply out refused = Dries c rules request reply out × (refused ≡ false)
+
+-- `dry` of a client's bytes and a reply's, over a site's two files
+abbrev pub ReportsDry : (request reply workers map out : List ℕ) → (refused : Bool) → Type 0
+ReportsDry request reply workers map out refused =
+    OfWorkers workers (λ c out refused. OfRules c (read_text c map) request reply out refused) out refused
+
+-- the site where no files are named: one worker that is listed itself, with defaults and retries 1, mounted everywhere
+abbrev pub default_workers : List ℕ
+default_workers = codes "worker.list=w1\nworker.w1.retries=1\n"
+
+abbrev pub default_map : List ℕ
+default_map = codes "/*=w1\n"

@@ -1,0 +1,219 @@
+//! One session over memory, and what is printed of it.
+ghost use Rattle.std.specs.Prelude.{◌≡◌, ◌≤◌, length, true, false, codes, IfOk, IsSomeAnd};
+ghost use Rattle.jk_io.specs.declared.whole_input.TheConstants.{MAX_INPUT_BYTES};
+ghost use Rattle.property_lines.specs.Refusals.{LineRefusal};
+ghost use Rattle.site_reports.specs.Reports.{Refuses};
+ghost use Rattle.uri_map.specs.Lines.{read_text};
+ghost use Rattle.uri_map.specs.Sites.{stands_in};
+ghost use Rattle.plain_commands.specs.Dry.{Dries, IsDryRun, OfRules, ReportsDry};
+ghost use Rattle.plain_commands.specs.DryLines.{dry_text, end_words};
+ghost use Rattle.plain_commands.specs.DryStarts.{IsFirstClient, IsFirstDesk, IsFirstReach};
+
+use crate::session::lines::{lines_of, put_number, words_of};
+use crate::session::one_reply::{OneReply, ReplyName};
+use crate::session::start::{desk_of, reach_of};
+use balancer_core::PlainDesk;
+use client_session::{SessionEnd, serve_session};
+use jk_io::{Bytes, MemLink, NoMemory, NumberList, Peer, StepClock};
+use site_config::Config;
+use site_reports::Report;
+use std::alloc::Global;
+use std::marker::Brand;
+use uri_map::{MapError, UriMap, read_map};
+use worker_props::{PropsError, read_workers};
+
+/// The workers.properties of a site whose files aren't named: one worker that is listed itself, with retries 1.
+pub(crate) const DEFAULT_WORKERS: &[u8] = b"worker.list=w1\nworker.w1.retries=1\n";
+
+/// The uriworkermap.properties of that site: the worker is mounted everywhere.
+pub(crate) const DEFAULT_MAP: &[u8] = b"/*=w1\n";
+
+/// What a client sends, and what the first link to a member has to come.
+#[derive(Clone, Copy)]
+pub(crate) struct Wire<'t> {
+    pub request: &'t [u8],
+    pub reply: &'t [u8],
+}
+
+#[derive(Clone, Copy)]
+struct Site<'t> {
+    config: &'t Config,
+    map: &'t UriMap,
+}
+
+// Serves the client. The clock answers 0 whenever it is asked.
+fn serve<N: ReplyName>(
+    alloc: Global,
+    site: &Site<'_>,
+    peer: &Peer,
+    desk: &mut PlainDesk,
+    reach: &mut OneReply<N>,
+    client: &mut MemLink,
+) -> SessionEnd
+    requires stands { stands_in site.now.config.now site.now.map.now ≡ true }
+    requires peer { peer.now.addr ≡ codes "127.0.0.1" }
+    requires desk { IsFirstDesk site.now.config.now.lbs desk.old }
+    requires reach { IsFirstReach site.now.config.now.lbs reach.old }
+    requires client { IsFirstClient client.old }
+    ensures { (reach.new.faults ≡ 0) × (client.new.faults ≡ 0) → IsDryRun site.now.config.now site.now.map.now
+        client.old.incoming N.reply reach.new.book.talks client.new.sent result }
+{
+    let mut clock = StepClock::new(NumberList::new(alloc));
+    let end = serve_session(
+        alloc,
+        site.config,
+        site.map,
+        0,
+        peer,
+        desk,
+        reach,
+        client,
+        &mut clock,
+    );
+    reach.vouch();
+    end
+}
+
+// Whether no call of a link failed. None is to fail within a talk, and a session makes none without; that it makes none
+// its contract doesn't say, so it is looked at here.
+fn is_calm<N: ReplyName>(reach: &OneReply<N>, client: &MemLink) -> bool
+    ensures { result ≡ true → (reach.now.faults ≡ 0) × (client.now.faults ≡ 0) }
+{
+    reach.faults() == 0 && client.faults() == 0
+}
+
+fn tell_end<N: ReplyName>(
+    alloc: Global,
+    end: SessionEnd,
+    reach: &OneReply<N>,
+    client: &MemLink,
+) -> Result<Bytes, NoMemory>
+    ensures { IfOk result (λ text. IsSomeAnd (end_words end) (λ words. text ≡ dry_text reach.now.book.talks client.now.sent words)) }
+{
+    let words = words_of(alloc, end)?;
+    lines_of(alloc, reach.talks(), client.sent(), words.as_slice())
+}
+
+fn tell<N: ReplyName>(
+    alloc: Global,
+    site: &Site<'_>,
+    desk: &mut PlainDesk,
+    reach: &mut OneReply<N>,
+    client: &mut MemLink,
+) -> Result<Bytes, NoMemory>
+    requires stands { stands_in site.now.config.now site.now.map.now ≡ true }
+    requires desk { IsFirstDesk site.now.config.now.lbs desk.old }
+    requires reach { IsFirstReach site.now.config.now.lbs reach.old }
+    requires client { IsFirstClient client.old }
+    ensures { IfOk result (Dries site.now.config.now site.now.map.now client.old.incoming N.reply) }
+{
+    let peer = Peer {
+        addr: Bytes::from_slice(alloc, b"127.0.0.1")?,
+    };
+    let end = serve(alloc, site, &peer, desk, reach, client);
+    if !is_calm(reach, client) {
+        return Err(NoMemory);
+    }
+    tell_end(alloc, end, reach, client)
+}
+
+fn with_client<N: ReplyName>(
+    alloc: Global,
+    site: &Site<'_>,
+    request: &[u8],
+    desk: &mut PlainDesk,
+    reach: &mut OneReply<N>,
+) -> Result<Bytes, NoMemory>
+    requires stands { stands_in site.now.config.now site.now.map.now ≡ true }
+    requires desk { IsFirstDesk site.now.config.now.lbs desk.old }
+    requires reach { IsFirstReach site.now.config.now.lbs reach.old }
+    ensures { IfOk result (Dries site.now.config.now site.now.map.now request.now N.reply) }
+{
+    let incoming = Bytes::from_slice(alloc, request)?;
+    let mut client = MemLink::new(alloc, incoming, NumberList::new(alloc));
+    tell(alloc, site, desk, reach, &mut client)
+}
+
+fn with_desk<N: ReplyName>(
+    alloc: Global,
+    site: &Site<'_>,
+    request: &[u8],
+    reach: &mut OneReply<N>,
+) -> Result<Bytes, NoMemory>
+    requires stands { stands_in site.now.config.now site.now.map.now ≡ true }
+    requires reach { IsFirstReach site.now.config.now.lbs reach.old }
+    ensures { IfOk result (Dries site.now.config.now site.now.map.now request.now N.reply) }
+{
+    let mut desk = desk_of(alloc, site.config.lbs.as_slice())?;
+    with_client(alloc, site, request, &mut desk, reach)
+}
+
+fn with_reach<N: ReplyName>(
+    alloc: Global,
+    site: &Site<'_>,
+    request: &[u8],
+    reply: &[u8],
+) -> Result<Bytes, NoMemory>
+    requires stands { stands_in site.now.config.now site.now.map.now ≡ true }
+    requires reply { reply.now ≡ N.reply }
+    ensures { IfOk result (Dries site.now.config.now site.now.map.now request.now reply.now) }
+{
+    let mut reach = reach_of::<N>(alloc, site.config.lbs.as_slice(), reply)?;
+    with_desk(alloc, site, request, &mut reach)
+}
+
+// The report of a session over this site.
+fn of_site(alloc: Global, site: &Site<'_>, wire: Wire<'_>) -> Result<Report, NoMemory>
+    requires stands { stands_in site.now.config.now site.now.map.now ≡ true }
+    ensures { IfOk result (λ r. Dries site.now.config.now site.now.map.now wire.entry.request.now wire.entry.reply.now r.text
+        × (r.refused ≡ false)) }
+{
+    let text = with_reach::<Brand>(alloc, site, wire.request, wire.reply)?;
+    Ok(Report {
+        text,
+        refused: false,
+    })
+}
+
+// The first refusal of a file.
+fn refused(alloc: Global, file: &[u8], line: u32, code: u8) -> Result<Report, NoMemory>
+    ensures { IfOk result (λ r. Refuses file.now (record { line = line; code = code }) r.text r.refused) }
+{
+    let mut text = Bytes::new(alloc);
+    text.extend(file)?;
+    put_number(&mut text, b" line ", line)?;
+    put_number(&mut text, b": refusal ", u32::from(code))?;
+    text.extend(b"\n")?;
+    Ok(Report {
+        text,
+        refused: true,
+    })
+}
+
+fn of_config(alloc: Global, config: &Config, map: &[u8], wire: Wire<'_>) -> Result<Report, NoMemory>
+    requires short { length map.now ≤ MAX_INPUT_BYTES }
+    ensures { IfOk result (λ r. OfRules config.now (read_text config.now map.now) wire.entry.request.now wire.entry.reply.now r.text r.refused) }
+{
+    match read_map(alloc, map, config) {
+        Ok(map) => of_site(alloc, &Site { config, map: &map }, wire),
+        Err(MapError::Refused { line, code }) => refused(alloc, b"map", line, code),
+        Err(MapError::NoMemory) => Err(NoMemory),
+    }
+}
+
+/// What `dry` prints: the lines of a session, or of the first refusal of the site's files.
+pub(crate) fn report_dry(
+    alloc: Global,
+    workers: &[u8],
+    map: &[u8],
+    wire: Wire<'_>,
+) -> Result<Report, NoMemory>
+    requires short { (length workers.now ≤ MAX_INPUT_BYTES) × (length map.now ≤ MAX_INPUT_BYTES) }
+    ensures { IfOk result (λ r. ReportsDry wire.entry.request.now wire.entry.reply.now workers.now map.now r.text r.refused) }
+{
+    match read_workers(alloc, workers) {
+        Ok(config) => of_config(alloc, &config, map, wire),
+        Err(PropsError::Refused { line, code }) => refused(alloc, b"workers", line, code),
+        Err(PropsError::NoMemory) => Err(NoMemory),
+    }
+}

@@ -1,7 +1,0 @@
-use Rattle.std.proofs.Common.{◌≡◌}
-use Rattle.serving_commands.specs.Ends.{end_of_run}
-use Rattle.serving_commands.proofs.ends.end_of_run.Given as goal
-
--- the workers so far closed
-abbrev pub invariant-workers : goal.invariant-workers
-invariant-workers g l = end_of_run l.worker-iterator.rest.items l.closing ≡ end_of_run l.fn.workers.items l.closing

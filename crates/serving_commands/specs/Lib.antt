@@ -1,6 +1,0 @@
-pub mod Commands
-pub mod Ends
-pub mod Plain
-pub mod Sites
-pub mod Words
-pub mod Worlds

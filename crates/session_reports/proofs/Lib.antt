@@ -1,3 +1,0 @@
-mod DryLemmas
-mod ReachLemmas
-mod StartLemmas

@@ -1,4 +1,0 @@
-use Rattle.session_reports.proofs.dry.of_site.Given as goal
-
-abbrev pub ghosts-with_reach : goal.ghosts-with_reach
-ghosts-with_reach a = record { reply = a.reply.now }

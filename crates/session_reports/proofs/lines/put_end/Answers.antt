@@ -1,9 +1,0 @@
-use Rattle.std.proofs.Common.{codes}
-use Rattle.session_reports.proofs.DryLemmas.{as_words}
-use Rattle.session_reports.proofs.lines.put_end.Goals as goal
-
-pub returns-in-ByClient : goal.returns-in-ByClient
-returns-in-ByClient c = rw (c.in-Closed.is, c.in-ByClient.is) (as_words _ _ _ (codes "by-client ") _ c.put_number.ensures)
-
-pub returns-in-Truncated : goal.returns-in-Truncated
-returns-in-Truncated c = rw c.in-Truncated.is (as_words _ _ _ (codes "truncated ") _ c.put_number-in-Truncated.ensures)

@@ -1,5 +1,0 @@
-pub mod Dry
-pub mod Lines
-pub mod Links
-pub mod Reaches
-pub mod Starts
