@@ -9,7 +9,7 @@ use balancer_core::desk::Choice;
 use jk_model::{AdminError, Ask, Command, Outcome, RoomError, Stray};
 
 /// How one exchange ended.
-#[derive(Debug, PartialEq, Eq, Drop)]
+#[derive(PartialEq, Eq, Drop)]
 pub enum Once<M> {
     /// This member was chosen, and its ticket came back.
     Returned { member: u32 },

@@ -11,7 +11,8 @@ use Rattle.jk_model.specs.declared.journal.Entry.{Entry}
 use Rattle.jk_model.specs.declared.member.Method.{Method}
 use Rattle.jk_model.specs.declared.opening.Opening.{Opening}
 use Rattle.balancer_core.specs.declared.present.Present.{Present}
-use Rattle.balancer_core.specs.Kept.{AreReturns, IsKept, IsNow}
+use Rattle.open_tickets.specs.Returns.{AreReturns}
+use Rattle.balancer_core.specs.Kept.{IsKept, IsNow}
 use Rattle.balancer_core.proofs.ReturnLaws.{returns-pushed}
 
 pub each-agree : {A : Type 0} (n : ℕ) (f g : ℕ → A) → ((j : ℕ) → j < n → f j ≡ g j) → each n f ≡ each n g

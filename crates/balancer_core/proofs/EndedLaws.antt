@@ -18,11 +18,10 @@ use Rattle.jk_model.specs.declared.member.MemberConfig.{MemberConfig}
 use Rattle.jk_model.specs.declared.opening.Opening.{Opening}
 use Rattle.choice_index.specs.declared.standing.Standing.{Standing}
 use Rattle.balancer_core.specs.Ending.{AreEarly, AreOwn, AreSettled, ending_member, still_out}
-use Rattle.balancer_core.specs.Journal.{IsReturnedAt}
-use Rattle.balancer_core.specs.Kept.{AreReturns}
+use Rattle.open_tickets.specs.Returns.{AreReturns, IsReturnedAt}
+use Rattle.open_tickets.proofs.TableLaws.{any-returned}
 use Rattle.balancer_core.proofs.CallLaws.{each-agree}
 use Rattle.balancer_core.proofs.ChoiceLaws.{nobody}
-use Rattle.balancer_core.proofs.ReturnLaws.{any-returned}
 
 -- One ticket, if it didn't come back.
 out-one : (p : List Entry) (x : Ticket) (r : Option ℕ) → IsReturnedAt p x.0 r

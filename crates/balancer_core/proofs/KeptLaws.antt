@@ -19,14 +19,16 @@ use Rattle.jk_model.specs.declared.journal.Entry.{Entry}
 use Rattle.jk_model.specs.declared.opening.Opening.{Opening}
 use Rattle.choice_index.specs.declared.standing.Standing.{Standing}
 use Rattle.balancer_core.specs.declared.present.Present.{Present}
-use Rattle.balancer_core.specs.declared.tickets.Spot.{Spot}
 use Rattle.choice_index.specs.Picks.{HasRoomFor, revives_at}
-use Rattle.balancer_core.specs.Kept.{IsNow, AreReturns, IsKept}
-use Rattle.balancer_core.specs.Spots.{AreRising, IsSpot, IsPlaced, kept_noted, early_noted}
+use Rattle.open_tickets.specs.declared.tickets.Spot.{Spot}
+use Rattle.open_tickets.specs.Returns.{AreReturns}
+use Rattle.open_tickets.specs.Spots.{AreRising, IsSpot, IsPlaced, kept_noted, early_noted}
+use Rattle.open_tickets.proofs.SpotLaws.{opening_rising, spot_made}
+use Rattle.open_tickets.proofs.TableLaws.{spot_placed}
+use Rattle.balancer_core.specs.Kept.{IsNow, IsKept}
 use Rattle.balancer_core.proofs.ChoiceLaws.{nobody}
 use Rattle.balancer_core.proofs.NowLaws.{IsSelected, IsGivenBack, now-selected, now-returned}
-use Rattle.balancer_core.proofs.ReturnLaws.{returns-pushed, returns-noted, spot_placed}
-use Rattle.balancer_core.proofs.SpotLaws.{spot_made, opening_rising}
+use Rattle.balancer_core.proofs.ReturnLaws.{returns-pushed, returns-noted}
 use Rattle.balancer_core.proofs.StepLaws.{select_entry, return_entry}
 
 pub next_is : (o : Opening) (h : List Entry) → o.next + length h ≡ next_of o (reverse h)

@@ -7,11 +7,11 @@ pub mod EndingLaws
 pub mod KeptLaws
 pub mod MaintainLaws
 pub mod NowLaws
+pub mod NumberLaws
 pub mod OpenedLaws
 pub mod ReturnLaws
 pub mod RoomLaws
 pub mod SegmentLaws
-pub mod SpotLaws
 pub mod StepLaws
 pub mod ToldLaws
 pub mod DeskLaws

@@ -27,11 +27,13 @@ use Rattle.jk_model.specs.declared.journal.Entry.{Entry}
 use Rattle.jk_model.specs.declared.view.MemberRow.{MemberRow}
 use Rattle.jk_model.specs.declared.view.View.{View}
 use Rattle.jk_model.specs.declared.opening.Opening.{Opening}
+use Rattle.choice_index.specs.Opened.{opening_row}
 use Rattle.choice_index.specs.declared.standing.Standing.{Standing}
+use Rattle.open_tickets.specs.Returns.{AreReturns}
 use Rattle.balancer_core.specs.declared.present.Present.{Present}
 use Rattle.balancer_core.specs.Journal.{Journal, past_of}
-use Rattle.balancer_core.specs.Shown.{AreShown, shown_row, AreOpened, opening_row}
-use Rattle.balancer_core.specs.Kept.{IsStanding, IsNow, AreReturns, IsKept}
+use Rattle.balancer_core.specs.Shown.{AreShown, shown_row, AreOpened}
+use Rattle.balancer_core.specs.Kept.{IsStanding, IsNow, IsKept}
 use Rattle.balancer_core.proofs.ChoiceLaws.{nobody}
 
 load-opened : (method : Method) (running load unit : ℕ) → IsRunning method running load → load ≡ load_by method running (load + unit * 0)
@@ -92,7 +94,7 @@ module _ (o : Opening) (valid : IsOpening o) where
 
   standing-opened : (v m common : ℕ) (c : MemberConfig) (r : MemberRow) → common ≡ multiple_of (factors_in o.config.members)
       → slice_get o.config.members m ≡ Some c → slice_get o.rows m ≡ Some r → IsOpeningRow o m c r
-      → IsStanding v o [] m (opening_row common c r)
+      → IsStanding v o [] m (opening_row (common / r.factor) c r)
   standing-opened v m common c r common_is configured shown is =
       let range : IsInRange (members o) m c = o.config.in_range.at m c configured in
       let setting_is : setting_of o [] m ≡ setting_in (Some c) = ap setting_in configured in
@@ -129,10 +131,11 @@ module _ (o : Opening) (valid : IsOpening o) where
       → (m : ℕ) (d : Standing) → m < members o → IsStanding v o [] m (get_or opened m d)
   now_opened v common opened common_is are m d lt =
       let has : HasRow o m = has_row o m valid lt in
-      let row_is : get_or opened m d ≡ opening_row common has.config has.row =
+      let row_is : get_or opened m d ≡ opening_row (common / has.row.factor) has.config has.row =
       are.each m has.config has.row d lt
-      ∙ ap (λ (c : MemberConfig). opening_row common c (get_or o.rows m has.row)) (get_or_from_slice_get o.config.members m has.config has.config has.configured)
-      ∙ ap (λ (r : MemberRow). opening_row common has.config r) (get_or_from_slice_get o.rows m has.row has.row has.shown) in
+      ∙ ap (λ (c : MemberConfig). opening_row (common / (get_or o.rows m has.row).factor) c (get_or o.rows m has.row))
+      (get_or_from_slice_get o.config.members m has.config has.config has.configured)
+      ∙ ap (λ (r : MemberRow). opening_row (common / r.factor) has.config r) (get_or_from_slice_get o.rows m has.row has.row has.shown) in
       subst (λ (s : Standing). IsStanding v o [] m s) (sym row_is)
       (standing-opened v m common has.config has.row common_is has.configured has.shown has.opening)
 

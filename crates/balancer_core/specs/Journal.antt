@@ -1,8 +1,7 @@
 -- What contracts see of a Book, and what its calls do with it.
-use Rattle.std.specs.Prelude.{◌≡◌, ℕ, ◌+◌, ◌<◌, ◌≤◌, ◌==◌, ◌&&◌, max, false, true, List, [], ◌∷◌, ◌++◌, length, map, reverse, Option, Some, None, Result, Ok, Err}
-use Rattle.std.specs.List.{list_any}
+use Rattle.std.specs.Prelude.{◌≡◌, ℕ, ◌+◌, ◌<◌, ◌≤◌, max, List, [], ◌∷◌, ◌++◌, length, map, reverse, None, Result, Ok, Err}
 use Rattle.jk_model.specs.Journal.{next_of, moment_of}
-use Rattle.jk_model.specs.Tickets.{gives_back, is_returned, out}
+use Rattle.jk_model.specs.Tickets.{out}
 use Rattle.jk_model.specs.Legal.{IsLegal}
 use Rattle.jk_model.specs.declared.member.MemberConfig.{MemberConfig}
 use Rattle.jk_model.specs.declared.config.LbConfig.{LbConfig}
@@ -64,11 +63,6 @@ abbrev pub IsFullUnless : {T : Type 0} → (next out more : ℕ) → Result T (R
 IsFullUnless next out more (Ok value) = next + out + more ≤ MOST_NUMBERS
 IsFullUnless next out more (Err (Room.Full mark)) = (MOST_NUMBERS < next + out + more) × IsMarked next out mark
 IsFullUnless next out more (Err Room.NoMemory) = next + out + more ≤ MOST_NUMBERS
-
--- The number of the kept entry that returned the ticket, if there is one.
-abbrev pub IsReturnedAt : List Entry → (ticket : ℕ) → Option ℕ → Type 0
-IsReturnedAt p ticket None = is_returned ticket p ≡ false
-IsReturnedAt p ticket (Some number) = list_any (λ e. e.seq == number && gives_back ticket e.call) p ≡ true
 
 -- A member's row at the start.
 abbrev pub start_row : MemberConfig → MemberRow

@@ -1,5 +1,5 @@
 -- What a Book keeps beside its journal: the balancer as the journal leaves it, and where each ticket came back.
-use Rattle.std.specs.Prelude.{◌≡◌, ℕ, ◌+◌, ◌*◌, ◌^◌, ◌<◌, ◌≤◌, List, length, reverse, Option, Some, None, IfSome, slice_get, slice_index_or}
+use Rattle.std.specs.Prelude.{◌≡◌, ℕ, ◌+◌, ◌*◌, ◌^◌, ◌<◌, ◌≤◌, List, length, reverse, Option, IfSome, slice_index_or}
 use Rattle.jk_model.specs.Journal.{members, next_of, moment_of, maintained_of, last_chosen}
 use Rattle.jk_model.specs.Settings.{activation_of, distance_of, factor_of, redirect_of, pool_of, unit_of}
 use Rattle.jk_model.specs.Tickets.{out, busy_of}
@@ -9,8 +9,8 @@ use Rattle.jk_model.specs.Legal.{IsLegal}
 use Rattle.jk_model.specs.declared.journal.Entry.{Entry}
 use Rattle.jk_model.specs.declared.opening.Opening.{Opening}
 use Rattle.choice_index.specs.declared.standing.Standing.{Standing}
+use Rattle.open_tickets.specs.Returns.{AreReturns}
 use Rattle.balancer_core.specs.declared.present.Present.{Present}
-use Rattle.balancer_core.specs.Journal.{IsReturnedAt}
 
 -- The row of member m after p, with the bounds that keep its numbers small.
 pub record IsStanding (v : ℕ) (o : Opening) (p : List Entry) (m : ℕ) (row : Standing) : Type 0 where
@@ -37,13 +37,6 @@ pub record IsNow (v : ℕ) (o : Opening) (p : List Entry) (now : Present) : Type
   pub moment : now.at ≡ moment_of o p
   pub maintained : now.maintained ≡ maintained_of o p
   pub chosen : now.chosen ≡ last_chosen o p
-
--- For each ticket the number of its Return after p: of those that entries made by place, of the opening's by theirs.
-pub record AreReturns (o : Opening) (p : List Entry) (kept early : List (Option ℕ)) : Type 0 where
-  pub whole : length kept ≡ length p
-  pub own : (k : ℕ) → k < length p → IsReturnedAt p (o.next + k) (slice_index_or kept k None)
-  pub early_whole : length early ≡ length o.out
-  pub older : (i : ℕ) (x : ℕ × ℕ) → slice_get o.out i ≡ Some x → IsReturnedAt p x.0 (slice_index_or early i None)
 
 -- A Book's fields, with the room for the Return of each ticket that is out.
 pub record IsKept (v : ℕ) (o : Opening) (h : List Entry) (now : Present) (kept early : List (Option ℕ)) (added entries_room kept_room : ℕ) : Type 0 where

@@ -3,7 +3,6 @@ pub mod Journal
 pub mod Leases
 pub mod Kept
 pub mod Revived
-pub mod Spots
 pub mod Shown
 pub mod Maintained
 pub mod Stepped

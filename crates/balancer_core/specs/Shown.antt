@@ -2,6 +2,7 @@
 use Rattle.std.specs.Prelude.{◌≡◌, ℕ, ◌/◌, ◌<◌, List, length, slice_index_or}
 use Rattle.jk_model.specs.declared.member.MemberConfig.{MemberConfig}
 use Rattle.jk_model.specs.declared.view.MemberRow.{MemberRow}
+use Rattle.choice_index.specs.Opened.{opening_row}
 use Rattle.choice_index.specs.declared.standing.Standing.{Standing}
 
 abbrev pub shown_row : MemberConfig → Standing → MemberRow
@@ -22,22 +23,9 @@ pub record AreShown (members : List MemberConfig) (rows : List Standing) (n : �
   pub each : (m : ℕ) (c : MemberConfig) (s : Standing) (r : MemberRow) → m < n
       → slice_index_or shown m r ≡ shown_row (slice_index_or members m c) (slice_index_or rows m s)
 
--- The row of a member at an opening whose factors have this common multiple.
-abbrev pub opening_row : (common : ℕ) → MemberConfig → MemberRow → Standing
-opening_row common c row = record {
-  state = row.state;
-  load = row.load;
-  busy = row.busy;
-  pool = c.pool;
-  unit = common / row.factor;
-  activation = row.activation;
-  factor = row.factor;
-  distance = row.distance;
-  redirect = row.redirect;
-}
-
--- The first n rows are those of the opening.
+-- The first n rows are those of an opening whose factors have this common multiple.
 pub record AreOpened (common : ℕ) (members : List MemberConfig) (shown : List MemberRow) (n : ℕ) (rows : List Standing) : Type 0 where
   pub whole : length rows ≡ n
   pub each : (m : ℕ) (c : MemberConfig) (r : MemberRow) (s : Standing) → m < n
-      → slice_index_or rows m s ≡ opening_row common (slice_index_or members m c) (slice_index_or shown m r)
+      → slice_index_or rows m s
+      ≡ opening_row (common / (slice_index_or shown m r).factor) (slice_index_or members m c) (slice_index_or shown m r)

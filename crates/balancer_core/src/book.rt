@@ -12,18 +12,18 @@ use crate::book::adding::{add, take_room};
 use crate::opened::start_rows;
 use crate::present::Present;
 use crate::shown::shown_rows;
-use crate::tickets::{locate, note_return};
 use choice_index::Rules;
 use jk_io::NoMemory;
 use jk_model::{
     Answer, Ask, Call, Entry, FullMark, LbConfig, MOST_NUMBERS, Opening, Outcome, RoomError,
     RowList, Stray, TicketList, View,
 };
+use open_tickets::{locate, note_return};
 use std::alloc::Global;
 use std::marker::Model;
 
 /// One balancer: the state that its journal begins with, the kept entries, and what they leave.
-#[derive(Debug, Drop)]
+#[derive(Drop)]
 pub struct Book {
     rules: Rules,
     opening: Opening,
@@ -52,7 +52,6 @@ impl Model for Book {
 }
 
 /// A ticket that a Select made, with its member. It must be spent by `Book::give_back` or `into_ticket`.
-#[derive(Debug)]
 pub struct Lease {
     member: u32,
     ticket: u64,
@@ -96,7 +95,6 @@ impl Lease {
 }
 
 /// What a Select answered. The lease is there exactly where a member was chosen.
-#[derive(Debug)]
 pub struct Picked {
     pub entry: Entry,
     pub lease: Option<Lease>,
@@ -114,13 +112,13 @@ impl Book {
     ghost use Rattle.balancer_core.specs.Journal.{
       AddsEntry,
       IsFullUnless,
-      IsReturnedAt,
       IsSound,
       IsStart,
       next_number,
       past_of,
       tickets_out,
     };
+    ghost use Rattle.open_tickets.specs.Returns.{IsReturnedAt};
     ghost use Rattle.balancer_core.specs.Leases.{IsLeaseOf};
     ghost use Rattle.balancer_core.specs.Bounds.{ChoseWell, IsBounded};
     ghost use Rattle.balancer_core.specs.Weights.{AreLevel, IsEvenEpoch};

@@ -6,7 +6,7 @@ use jk_io::NoMemory;
 use jk_model::{AdminError, Ask, Command, Outcome, RoomError, Stray, View};
 
 /// What a desk answered to an ask. A lease must be spent.
-#[derive(Debug, PartialEq, Eq)]
+#[derive(PartialEq, Eq)]
 pub enum Choice<E> {
     /// This member, for as long as the lease isn't handed back.
     Chosen { member: u32, lease: E },

@@ -8,8 +8,9 @@ ghost use Rattle.jk_model.specs.Multiple.{multiple_of};
 ghost use Rattle.jk_model.specs.Present.{IsEnding};
 ghost use Rattle.jk_model.specs.Tickets.{out, ticket_in};
 ghost use Rattle.balancer_core.specs.Ending.{AreEarly, AreEndingInRange, AreOwn, AreSettled, IsSettled, ending_member, still_out, tickets_made, unreturned};
-ghost use Rattle.balancer_core.specs.Kept.{AreReturns, IsNow};
+ghost use Rattle.balancer_core.specs.Kept.{IsNow};
 ghost use Rattle.choice_index.specs.declared.standing.Standing.{Standing};
+ghost use Rattle.open_tickets.specs.Returns.{AreReturns};
 ghost use Rattle.jk_model.specs.declared.validity.TheConstants.{MOST_NUMBERS};
 
 use crate::present::Present;
@@ -17,6 +18,7 @@ use crate::shown::shown_rows;
 use choice_index::Standing;
 use jk_io::NoMemory;
 use jk_model::{Answer, Entry, LbConfig, MemberConfig, MemberList, Opening, RowList, TicketList};
+use open_tickets::next_after;
 use std::alloc::Global;
 
 // The member's configuration with the setting of its row.
@@ -162,7 +164,7 @@ pub(crate) fn ending(
         config: ending_config(&opening.config, rows)?,
         rows: RowList::from_vec(shown),
         out: TicketList::from_vec(out),
-        next: opening.next + entries.len() as u64,
+        next: next_after(opening, entries),
         at: present.at,
         maintained: present.maintained,
         chosen: present.chosen,

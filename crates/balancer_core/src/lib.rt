@@ -28,7 +28,6 @@ mod present;
 mod receipt;
 mod shown;
 mod steps;
-mod tickets;
 
 pub use book::{Book, Lease, Picked};
 pub use desk::Desk;

@@ -11,6 +11,7 @@ use crate::present::Present;
 use crate::steps::by_method;
 use choice_index::Standing;
 use jk_model::{LbConfig, MemberState, Method, halve};
+use lb_methods::halvings;
 use member_state::{Touch, next_state};
 
 // Whether a maintenance at this moment ends the error.
@@ -35,7 +36,7 @@ fn greatest_halved(rows: &[Standing], times: u64) -> u128
 }
 
 /// A maintenance at a moment, which halves so many times, where `most` is the greatest halved load.
-#[derive(Clone, Copy, Debug)]
+#[derive(Clone, Copy)]
 pub(crate) struct Maintenance {
     pub(crate) at: u64,
     pub(crate) recover: u64,
@@ -94,7 +95,7 @@ impl Present {
         ensures maintained { self.new.maintained ≡ at }
         ensures chosen { self.new.chosen ≡ self.old.chosen }
     {
-        let times = (at - self.maintained) / config.maintain;
+        let times = halvings(self.maintained, at, config.maintain);
         let by = Maintenance {
             at,
             recover: config.recover,

@@ -1,13 +1,14 @@
 //! What a Book begins with: the rows of its opening, and the opening of a start.
 
-ghost use Rattle.std.specs.Prelude.{◌≡◌, ℕ, ◌<◌, ◌%◌, ◌^◌, List, length, map, replicate, All, IfOk, slice_index_or};
+ghost use Rattle.std.specs.Prelude.{◌≡◌, ℕ, ◌<◌, ◌/◌, ◌%◌, ◌^◌, List, length, map, replicate, All, IfOk, slice_index_or};
 ghost use Rattle.jk_model.specs.declared.view.MemberRow.{MemberRow};
 ghost use Rattle.jk_model.specs.Multiple.{multiple_of};
 ghost use Rattle.jk_model.specs.Ranges.{factors_in};
 ghost use Rattle.balancer_core.specs.Journal.{start_row};
-ghost use Rattle.balancer_core.specs.Shown.{AreOpened, opening_row};
+ghost use Rattle.balancer_core.specs.Shown.{AreOpened};
+ghost use Rattle.choice_index.specs.Opened.{opening_row};
 
-use choice_index::Standing;
+use choice_index::{Standing, opening_row};
 use jk_io::NoMemory;
 use jk_model::{MemberConfig, MemberRow, MemberState, lcm_of};
 use lb_methods::unit_of;
@@ -58,22 +59,12 @@ pub(crate) fn common_of(alloc: Global, members: &[MemberConfig]) -> Result<u32, 
     Ok(lcm_of(factors.as_slice()).unwrap())
 }
 
-fn opening_row(member: &MemberConfig, row: &MemberRow, common: u32) -> Standing
+fn opened_row(member: &MemberConfig, row: &MemberRow, common: u32) -> Standing
     requires some { 0 < row.now.factor }
     requires divides { common % row.now.factor ≡ 0 }
-    ensures { result ≡ opening_row common member.now row.now }
+    ensures { result ≡ opening_row (common / row.now.factor) member.now row.now }
 {
-    Standing {
-        state: row.state,
-        load: row.load,
-        busy: row.busy,
-        pool: member.pool,
-        unit: unit_of(row.factor, common),
-        activation: row.activation,
-        factor: row.factor,
-        distance: row.distance,
-        redirect: row.redirect,
-    }
+    opening_row(member, row, unit_of(row.factor, common))
 }
 
 /// The rows that an opening leaves.
@@ -90,7 +81,7 @@ pub(crate) fn opening_rows(
 {
     let mut opened = Vec::with_capacity(alloc, rows.len())?;
     for i in 0..rows.len() {
-        opened.push(opening_row(&members[i], &rows[i], common))?;
+        opened.push(opened_row(&members[i], &rows[i], common))?;
     }
     Ok(opened)
 }

@@ -18,14 +18,13 @@ use std::marker::Model;
 pub type BookList = ListOf<Book>;
 
 /// A ticket that a desk of one thread holds. Its `hand_back` spends it.
-#[derive(Debug)]
 pub struct PlainLease {
     lb: u32,
     lease: Lease,
 }
 
 /// A desk over Books of rules 2 that nobody else asks. It tells them, and a ticket that it holds is never a stray.
-#[derive(Debug, Drop)]
+#[derive(Drop)]
 pub struct PlainDesk {
     books: Vec<Book>,
     receipts: Vec<Receipt>,

@@ -13,7 +13,7 @@ use choice_index::{Among, Rules, SelectAnswer, Standing, passes, pick};
 use jk_model::{Answer, Ask, LbConfig, Opening, Outcome};
 
 /// The balancer as its journal leaves it.
-#[derive(Debug, Drop)]
+#[derive(Drop)]
 pub(crate) struct Present {
     /// One for each member.
     pub(crate) rows: Vec<Standing>,

@@ -3,7 +3,7 @@ use jk_io::ListOf;
 use jk_model::Entry;
 
 /// An entry that a call added, with the balancer and the moment that the call was given.
-#[derive(Clone, Copy, Debug, PartialEq, Eq)]
+#[derive(Clone, Copy, PartialEq, Eq)]
 pub struct Receipt {
     /// The balancer, by its place in the configuration.
     pub lb: u32,

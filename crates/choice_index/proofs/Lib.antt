@@ -1,2 +1,3 @@
 pub mod LeastLaws
 pub mod PickLaws
+pub mod PlaceLaws

@@ -1,3 +1,4 @@
+pub mod Opened
 pub mod Standings
 pub mod Least
 pub mod RuleNumbers

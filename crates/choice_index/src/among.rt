@@ -9,7 +9,7 @@ use crate::standing::Standing;
 use jk_model::{Activation, Ask, MemberState};
 
 /// Among which members the least one is taken.
-#[derive(Clone, Copy, Debug, PartialEq, Eq)]
+#[derive(Clone, Copy, PartialEq, Eq)]
 pub enum Among {
     Usable,
     Revivable,

@@ -17,7 +17,7 @@ use crate::standing::Standing;
 use jk_model::{Answer, Ask, How, LbConfig, MemberState};
 
 /// The answer to an ask, and whether it turns those members from Error to Recover that may be revived.
-#[derive(Clone, Copy, Debug, PartialEq, Eq)]
+#[derive(Clone, Copy, PartialEq, Eq)]
 pub struct SelectAnswer {
     pub answer: Answer,
     pub revives: bool,

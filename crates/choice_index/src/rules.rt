@@ -5,7 +5,7 @@ ghost use Rattle.jk_model.specs.Segments.{AreRules};
 ghost use Rattle.choice_index.specs.RuleNumbers.{rules_number};
 
 /// By which rules a member is chosen. Those of version 1 revive nobody, and are there for old texts.
-#[derive(Clone, Copy, Debug, PartialEq, Eq)]
+#[derive(Clone, Copy, PartialEq, Eq)]
 pub enum Rules {
     One,
     Two,

@@ -1,9 +1,12 @@
 //! A member as the journal leaves it.
 
-use jk_model::{Activation, MemberState};
+ghost use Rattle.std.specs.Prelude.{◌≡◌};
+ghost use Rattle.choice_index.specs.Opened.{opening_row};
+
+use jk_model::{Activation, MemberConfig, MemberRow, MemberState};
 
 /// A member as the journal leaves it.
-#[derive(Clone, Copy, Debug, PartialEq, Eq)]
+#[derive(Clone, Copy, PartialEq, Eq)]
 pub struct Standing {
     pub state: MemberState,
     /// In units of the balancer's method.
@@ -19,4 +22,21 @@ pub struct Standing {
     pub distance: u32,
     /// The member that takes its sessions where it doesn't serve.
     pub redirect: Option<u32>,
+}
+
+/// A member as an opening shows it, on which one request weighs `unit`.
+pub fn opening_row(member: &MemberConfig, row: &MemberRow, unit: u32) -> Standing
+    ensures { result ≡ opening_row unit member.now row.now }
+{
+    Standing {
+        state: row.state,
+        load: row.load,
+        busy: row.busy,
+        pool: member.pool,
+        unit,
+        activation: row.activation,
+        factor: row.factor,
+        distance: row.distance,
+        redirect: row.redirect,
+    }
 }

@@ -16,7 +16,7 @@ pub struct Ask {
 }
 
 /// What a mount rule says beside its worker. In each set bit m stands for member m.
-#[derive(Clone, Copy, Debug, PartialEq, Eq)]
+#[derive(Clone, Copy, PartialEq, Eq)]
 pub struct Terms {
     /// Whether the session's route is left out of the ask.
     pub sticky_ignore: bool,

@@ -19,7 +19,7 @@ pub const MAX_BALANCERS: usize = 1024;
 pub const MAX_PERIOD_SECONDS: u64 = 86_400;
 
 /// A balancer's configuration, each value in its range.
-#[derive(Debug, Drop)]
+#[derive(Drop)]
 pub struct LbConfig {
     pub method: Method,
     /// Whether a session stays with its member.

@@ -25,7 +25,7 @@ pub enum Activation {
 }
 
 /// A member of a balancer.
-#[derive(Debug, Drop)]
+#[derive(Drop)]
 pub struct MemberConfig {
     pub name: Bytes,
     /// The suffix of a session id that names this member.

@@ -9,7 +9,7 @@ use jk_io::ListOf;
 pub type TicketList = ListOf<(u64, u32)>;
 
 /// The state that a journal begins with.
-#[derive(Debug, Drop)]
+#[derive(Drop)]
 pub struct Opening {
     pub config: LbConfig,
     pub rows: RowList,

@@ -3,7 +3,7 @@ use std::alloc::AllocError;
 use thiserror::Error;
 
 /// The numbers of a Book that has no number left.
-#[derive(Clone, Copy, Debug, PartialEq, Eq)]
+#[derive(Clone, Copy, PartialEq, Eq)]
 pub struct FullMark {
     /// The number of its next entry.
     pub next: u64,

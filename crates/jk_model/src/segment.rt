@@ -8,7 +8,7 @@ use crate::opening::Opening;
 pub const MODERN_RULES: u8 = 2;
 
 /// A part of a journal: an opening and the entries after it, oldest first.
-#[derive(Debug, Drop)]
+#[derive(Drop)]
 pub struct Segment {
     /// The rules that it is judged by, 1 or 2: under rules 2 a choice may revive members in Error.
     pub rules: u8,

@@ -1,7 +1,7 @@
 use jk_io::{Bytes, ListOf};
 
 /// What the client asked for.
-#[derive(Debug, Drop)]
+#[derive(Drop)]
 pub enum Asked {
     /// The head was refused before its request line was known.
     Refused,
@@ -14,7 +14,7 @@ pub enum Asked {
 }
 
 /// A request that was answered, for the log.
-#[derive(Debug, Drop)]
+#[derive(Drop)]
 pub struct Served {
     pub asked: Asked,
     pub status: u16,

@@ -1,5 +1,5 @@
 /// The state of a member.
-#[derive(Clone, Copy, Debug, PartialEq, Eq)]
+#[derive(Clone, Copy, PartialEq, Eq)]
 pub enum MemberState {
     Ok,
     /// It failed at this moment, in seconds.

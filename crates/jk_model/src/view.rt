@@ -7,7 +7,7 @@ use jk_io::{Bytes, ListOf, NoMemory};
 use std::alloc::Global;
 
 /// What is to be seen of a member.
-#[derive(Debug, Drop)]
+#[derive(Drop)]
 pub struct MemberRow {
     pub name: Bytes,
     pub state: MemberState,
@@ -25,7 +25,7 @@ pub struct MemberRow {
 pub type RowList = ListOf<MemberRow>;
 
 /// A balancer as it is at a moment.
-#[derive(Debug, Drop)]
+#[derive(Drop)]
 pub struct View {
     /// The number of the next entry.
     pub next: u64,

@@ -10,7 +10,7 @@ use std::marker::Model;
 pub type KeptList = ListOf<(u32, Segment)>;
 
 /// A shelf that keeps its segments in a list.
-#[derive(Debug, Drop)]
+#[derive(Drop)]
 pub struct MemShelf {
     kept: KeptList,
     failing: NumberList,

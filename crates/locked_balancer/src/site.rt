@@ -60,7 +60,7 @@ impl<L: SiteName> Model for Site<L> {
 }
 
 /// The receipt of an entry that a call of this Site added. It can't be copied.
-#[derive(Debug, Drop)]
+#[derive(Drop)]
 pub struct SiteReceipt<L> {
     receipt: Receipt,
     of: PhantomData<L>,
@@ -86,7 +86,6 @@ impl<L> SiteReceipt<L> {
 }
 
 /// A ticket that a select of this Site made. Only the Site's `give_back` spends it.
-#[derive(Debug)]
 pub struct SiteLease<L> {
     lb: u32,
     member: u32,
@@ -126,7 +125,7 @@ impl<L> SiteLease<L> {
 }
 
 /// Which refusal of a Book a mark tells of.
-#[derive(Clone, Copy, Debug, PartialEq, Eq)]
+#[derive(Clone, Copy, PartialEq, Eq)]
 pub enum MarkKind {
     /// No number was left.
     Full,
@@ -135,7 +134,7 @@ pub enum MarkKind {
 }
 
 /// What a refusal of this Site left: the balancer, the refusal and the numbers of its Book. It can't be copied.
-#[derive(Debug, Drop)]
+#[derive(Drop)]
 pub struct SiteMark<L> {
     lb: u32,
     refusal: MarkKind,
@@ -152,7 +151,7 @@ impl<L> Model for SiteMark<L> {
 }
 
 /// A balancer of this Site as it was looked at. It can't be copied.
-#[derive(Debug, Drop)]
+#[derive(Drop)]
 pub struct SiteView<L> {
     lb: u32,
     view: View,
@@ -176,7 +175,7 @@ impl<L> SiteView<L> {
 }
 
 /// A ticket of this Site that came back and wasn't out. Only a refused `give_back` makes one, and it can't be copied.
-#[derive(Debug, Drop)]
+#[derive(Drop)]
 pub struct SiteStray<L> {
     lb: u32,
     stray: Stray,
@@ -201,7 +200,6 @@ impl<L> SiteStray<L> {
 }
 
 /// What a select of this Site answered. The lease is there exactly where a member was chosen.
-#[derive(Debug)]
 pub struct SitePicked<L> {
     pub receipt: SiteReceipt<L>,
     pub lease: Option<SiteLease<L>>,

@@ -1,7 +1,7 @@
 use jk_model::Kind;
 
 /// What happens to a member. Moments and times are in seconds.
-#[derive(Clone, Copy, Debug, PartialEq, Eq)]
+#[derive(Clone, Copy, PartialEq, Eq)]
 pub enum Touch {
     /// A Select chose it under this ticket.
     Chosen { ticket: u64 },

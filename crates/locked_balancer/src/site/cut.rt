@@ -7,7 +7,6 @@ use jk_model::Segment;
 use std::marker::{Model, PhantomData};
 
 /// A segment that this Site cut off the journal of a balancer. It must be spent, and only `keep_in` spends it.
-#[derive(Debug)]
 pub struct SiteSegment<L> {
     lb: u32,
     segment: Segment,

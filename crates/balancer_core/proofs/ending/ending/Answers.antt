@@ -1,4 +1,4 @@
-use Rattle.std.proofs.Common.{◌<◌, ◌^◌, ◌+◌, ℕ, List, length, reverse, get_or, sym, subst, ◌∙◌}
+use Rattle.std.proofs.Common.{◌<◌, ◌^◌, ℕ, List, length, reverse, get_or, sym, subst, ◌∙◌}
 use Rattle.jk_model.specs.Journal.{each, members}
 use Rattle.jk_model.specs.Multiple.{multiple_of}
 use Rattle.jk_model.specs.Present.{ArePresentRows}
@@ -9,7 +9,6 @@ use Rattle.choice_index.specs.declared.standing.Standing.{Standing}
 use Rattle.balancer_core.specs.Ending.{IsSettled, ending_member}
 use Rattle.balancer_core.specs.Shown.{AreShown}
 use Rattle.balancer_core.proofs.EndingLaws.{is_ending}
-use Rattle.balancer_core.proofs.KeptLaws.{next_is}
 use Rattle.balancer_core.proofs.OpenedLaws.{rows_present}
 use Rattle.balancer_core.proofs.ending.ending.Goals as goal
 
@@ -32,8 +31,8 @@ returns c = λ v legal present.
     subst (λ (rows : List Standing). IsSettled c.args.opening.now.config rows c.in_ok-ending_config.field-0) c.as_slice-rows.ensures.value
     c.in_ok-ending_config.ensures in
     is_ending v c.args.opening.now (reverse c.args.entries.now) c.args.present.now c.in_ok-ending_config.field-0 c.from_vec.result c.from_vec-2.result
-    (c.args.opening.now.next + length c.args.entries.now) present settled
+    c.next_after.result present settled
     (subst (λ (rows : List MemberRow). ArePresentRows v c.args.opening.now (reverse c.args.entries.now) (members c.args.opening.now) rows)
     (sym c.from_vec.ensures)
     (rows_present v c.args.opening.now (reverse c.args.entries.now) c.args.present.now present c.in_ok-shown.shown.items are))
-    (c.from_vec-2.ensures ∙ c.in_ok-out.ensures v legal) (next_is c.args.opening.now c.args.entries.now)
+    (c.from_vec-2.ensures ∙ c.in_ok-out.ensures v legal) c.next_after.ensures.value

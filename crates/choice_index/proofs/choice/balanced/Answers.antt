@@ -1,11 +1,13 @@
-use Rattle.std.proofs.Common.{ap, ◌∙◌, length, Some}
+use Rattle.std.proofs.Common.{refl, ap, ◌∙◌, length, Some}
 use Rattle.jk_model.specs.Choice.{begin_after}
 use Rattle.jk_model.specs.States.{is_balanced}
+use Rattle.jk_model.specs.declared.journal.Answer.TheVariants as answer
 use Rattle.jk_model.specs.declared.journal.How.TheVariants as How
 use Rattle.choice_index.specs.declared.among.Among.TheVariants as Among
 use Rattle.choice_index.specs.Least.{IsLeastRow, IsRevivalOf}
 use Rattle.choice_index.specs.RuleNumbers.{rules_number}
-use Rattle.choice_index.proofs.PickLaws.{least_usable, least_revivable, none_candidate, picked, revives-usable, revives-balanced}
+use Rattle.choice_index.proofs.PickLaws.{least_usable, least_revivable, none_candidate, picked, revives-usable, revives-balanced, revives-other}
+use Rattle.choice_index.proofs.PlaceLaws.{chosen_room, least_room}
 use Rattle.choice_index.proofs.choice.balanced.Goals as goal
 
 pub returns-in-Some-clause-pick : goal.returns-in-Some-clause-pick
@@ -47,3 +49,18 @@ returns-in-None-clause-pick c = λ config d open'. (
   none_candidate (rules_number c.args.rules) c.args.rows.now d c.args.last c.args.ask.now c.in_default.ensures.value
       c.in-None.ensures,
 )
+
+pub returns-in-Some-clause-room : goal.returns-in-Some-clause-room
+returns-in-Some-clause-room c =
+    chosen_room c.args.rows.now c.chosen.result.answer c.in-Some.member c.args.next How.Balanced _ c.chosen.ensures.answer
+    (least_room Among.Usable c.args.rows.now c.args.ask.now _ c.in-Some.member c.in-Some.ensures.value)
+
+pub returns-in-Some-least_revivable-clause-room : goal.returns-in-Some-least_revivable-clause-room
+returns-in-Some-least_revivable-clause-room c =
+    chosen_room c.args.rows.now c.chosen-in-Some-least_revivable.result.answer c.in-Some-least_revivable.member c.args.next How.Balanced _
+    c.chosen-in-Some-least_revivable.ensures.answer
+    (least_room Among.Revivable c.args.rows.now c.args.ask.now _ c.in-Some-least_revivable.member c.in-Some-least_revivable.ensures.1)
+
+pub returns-in-None-clause-revives : goal.returns-in-None-clause-revives
+returns-in-None-clause-revives c = λ d.
+    revives-other c.args.rows.now c.args.ask.now (rules_number c.args.rules) d answer.NoMember refl

@@ -4,12 +4,18 @@ use Rattle.std.proofs.lemmas.Bool.{true≢false}
 use Rattle.jk_model.specs.Legal.{IsLegal, IsNext}
 use Rattle.jk_model.specs.Tickets.{is_out}
 use Rattle.jk_model.specs.declared.journal.Entry.{Entry}
-use Rattle.balancer_core.specs.Journal.{Journal, IsReturnedAt, past_of}
+use Rattle.open_tickets.specs.Returns.{IsReturnedAt}
+use Rattle.open_tickets.specs.Spots.{kept_noted, early_noted}
+use Rattle.balancer_core.specs.Journal.{Journal, past_of, AddsEntry, IsSound}
 use Rattle.balancer_core.specs.Kept.{IsKept}
 use Rattle.choice_index.specs.RuleNumbers.{rules_number}
-use Rattle.balancer_core.specs.Spots.{kept_noted, early_noted}
 use Rattle.balancer_core.proofs.KeptLaws.{IsLocated, kept_rising, kept_located, kept-returned, kept-wider, next_returned}
 use Rattle.balancer_core.proofs.StepLaws.{return_entry}
+use Rattle.balancer_core.proofs.AdminLaws.{journal_of}
+use Rattle.jk_model.specs.declared.journal.Call.TheVariants as call
+use Rattle.jk_model.specs.declared.journal.Answer.TheVariants as answer
+use Rattle.balancer_core.proofs.RoomLaws.{entry_added}
+use Rattle.balancer_core.proofs.NumberLaws.{number_of_next, not_before}
 use Rattle.balancer_core.proofs.book.Book.return_ticket.Goals as goal
 
 pub locate-located-requires-clause-rising : goal.locate-located-requires-clause-rising
@@ -87,7 +93,7 @@ invariant_of-self c =
     kept-returned (rules_number c.self.inside.rules) c.self.inside.opening h c.self.inside.present
     c.self.inside.returned.items c.self.inside.early.items c.self.inside.added _ _ c.self.invariant
     seq c.args.session c.max.result c.args.ticket c.in-Ok.found.1 c.args.outcome c.in-Ok.found.0 c.give_back.new.self
-    (omega (arith, c.len.ensures, c.self.inside.entries.ok.0)) (omega (arith, c.max.ensures)) located.found located.is_open c.requires
+    (number_of_next c.self.inside.opening.next _ _ _ c.len.ensures c.self.inside.entries.ok.0) (not_before c.args.at c.self.inside.present.at c.max.result c.max.ensures) located.found located.is_open c.requires
     (record {
       whole = c.give_back.ensures.whole;
       row = c.give_back.ensures.row;
@@ -121,7 +127,7 @@ returns-clause-next c =
     (next_returned (rules_number c.self.inside.rules) c.self.inside.opening c.self.inside.entries.items c.self.inside.present
     c.self.inside.returned.items c.self.inside.early.items c.self.inside.added _ _ c.self.invariant
     (c.self.inside.opening.next + c.len.result) c.args.session c.max.result c.args.ticket c.args.outcome
-    (omega (arith, c.len.ensures, c.self.inside.entries.ok.0)) (omega (arith, c.max.ensures))
+    (number_of_next c.self.inside.opening.next _ _ _ c.len.ensures c.self.inside.entries.ok.0) (not_before c.args.at c.self.inside.present.at c.max.result c.max.ensures)
     (kept_located (rules_number c.self.inside.rules) c.self.inside.opening c.self.inside.entries.items c.self.inside.present
     c.self.inside.returned.items c.self.inside.early.items c.self.inside.added _ _ c.self.invariant _ c.args.ticket
     c.in-Ok.found.1 c.in-Ok.found.0 c.as_slice.ensures.value c.in-Ok.ensures.spot c.in-Ok.ensures.out).is_open
@@ -129,3 +135,17 @@ returns-clause-next c =
 
 pub returns-clause-sound : goal.returns-clause-sound
 returns-clause-sound c = (invariant_of-self c).legal
+
+pub returns-clause-ok : goal.returns-clause-ok
+returns-clause-ok c =
+    let seq : ℕ = c.self.inside.opening.next + c.len.result in
+    let e : Entry = return_entry seq c.args.session c.max.result c.args.ticket c.args.outcome in
+    let items : c.add.new.entries.items ≡ c.self.inside.entries.items ++ e ∷ [] = c.add.ensures.items in
+    subst (λ (b : Journal). AddsEntry b (journal_of (rules_number c.self.inside.rules) c.self.inside.opening c.add.new.entries.items (c.self.inside.added + 1))
+    c.args.session c.args.at (call.Return c.args.ticket c.args.outcome) e) c.self.view_is
+    (entry_added (rules_number c.self.inside.rules) c.self.inside.opening c.self.inside.entries.items c.add.new.entries.items c.self.inside.present c.self.inside.added
+    seq c.args.session c.args.at c.max.result (call.Return c.args.ticket c.args.outcome) answer.Done c.self.invariant.present
+    (number_of_next c.self.inside.opening.next _ _ _ c.len.ensures c.self.inside.entries.ok.0) c.max.ensures items)
+
+pub returns-in-Err-clause-sound : goal.returns-in-Err-clause-sound
+returns-in-Err-clause-sound c = subst (λ (b : Journal). IsSound b) c.self.view_is c.self.invariant.legal

@@ -4,15 +4,14 @@
 ghost use Rattle.std.specs.Prelude.{◌≡◌, ℕ, ◌+◌, ◌-◌, ◌<◌, ◌≤◌, List, length, reverse, true, false, IfSome, IfNone, IfOk, IfErr, OnOk, OnErr, slice_index_or, vec_capacity};
 ghost use Rattle.jk_model.specs.Legal.{IsLegal};
 ghost use Rattle.jk_model.specs.Tickets.{is_out};
-ghost use Rattle.balancer_core.specs.Journal.{IsReturnedAt};
-ghost use Rattle.balancer_core.specs.Kept.{AreReturns};
-ghost use Rattle.balancer_core.specs.Spots.{chosen_at, AreRising, IsSpot, IsNoSpot, IsPlaced, returned_in, kept_noted, early_noted};
+ghost use Rattle.open_tickets.specs.Returns.{AreReturns, IsReturnedAt};
+ghost use Rattle.open_tickets.specs.Spots.{chosen_at, AreRising, IsSpot, IsNoSpot, IsPlaced, returned_in, kept_noted, early_noted};
 
 use jk_model::{Answer, Entry, Opening, Stray};
 
 /// Where a ticket was made.
-#[derive(Clone, Copy, Debug, PartialEq, Eq)]
-pub(crate) enum Spot {
+#[derive(Clone, Copy)]
+pub enum Spot {
     /// At the kept entry at this place.
     Entry { place: usize },
     /// Before the opening; at this place among its tickets.
@@ -53,7 +52,7 @@ fn place_of(tickets: &[(u64, u32)], ticket: u64) -> Option<usize>
 }
 
 /// Where the ticket was made, and on which member.
-pub(crate) fn find(opening: &Opening, entries: &[Entry], ticket: u64) -> Option<(Spot, u32)>
+pub fn find(opening: &Opening, entries: &[Entry], ticket: u64) -> Option<(Spot, u32)>
     requires { AreRising opening.now.out }
     ensures found { IfSome result (λ x. IsSpot opening.now entries.now ticket x.1 x.0) }
     ensures none { IfNone result (IsNoSpot opening.now entries.now ticket) }
@@ -69,7 +68,7 @@ pub(crate) fn find(opening: &Opening, entries: &[Entry], ticket: u64) -> Option<
 }
 
 /// The number of the entry that returned the ticket of this spot, by the tables of those numbers.
-pub(crate) fn returned_at(spot: Spot, kept: &[Option<u64>], early: &[Option<u64>]) -> Option<u64>
+pub fn returned_at(spot: Spot, kept: &[Option<u64>], early: &[Option<u64>]) -> Option<u64>
     requires { IsPlaced spot kept.now early.now }
     ensures { result ≡ returned_in kept.now early.now spot }
 {
@@ -80,7 +79,7 @@ pub(crate) fn returned_at(spot: Spot, kept: &[Option<u64>], early: &[Option<u64>
 }
 
 /// Notes that the ticket of this spot came back with this entry.
-pub(crate) fn note_return(
+pub fn note_return(
     spot: Spot,
     number: u64,
     kept: &mut Vec<Option<u64>>,
@@ -98,7 +97,7 @@ pub(crate) fn note_return(
 }
 
 /// Where the ticket was made and on which member, if it is out.
-pub(crate) fn locate(
+pub fn locate(
     opening: &Opening,
     entries: &[Entry],
     kept: &[Option<u64>],

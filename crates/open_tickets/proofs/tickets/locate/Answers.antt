@@ -1,8 +1,8 @@
 use Rattle.std.proofs.Common.{reverse, sym}
 use Rattle.std.proofs.lemmas.List.{length-reverse}
-use Rattle.balancer_core.proofs.SpotLaws.{no_spot, unmade_is_not_out, unmade_is_not_returned}
-use Rattle.balancer_core.proofs.ReturnLaws.{spot_placed, spot_out, spot_back}
-use Rattle.balancer_core.proofs.tickets.locate.Goals as goal
+use Rattle.open_tickets.proofs.SpotLaws.{no_spot, unmade_is_not_out, unmade_is_not_returned}
+use Rattle.open_tickets.proofs.TableLaws.{spot_placed, spot_out, spot_back}
+use Rattle.open_tickets.proofs.tickets.locate.Goals as goal
 
 pub returns-in_default-clause-returned : goal.returns-in_default-clause-returned
 returns-in_default-clause-returned c = λ v legal.

@@ -1,7 +1,7 @@
 use Rattle.std.proofs.Common.{◌≡◌, ℕ, ◌+◌, ◌-◌, ◌/◌, ◌<◌, ◌≤◌, List, length, get_or, subst, sym, inl, inr, arith}
 use Rattle.std.proofs.lemmas.Bool.{cases_eq}
 use Rattle.std.proofs.lemmas.List.{get_or_default}
-use Rattle.balancer_core.proofs.tickets.place_of.Goals as goal
+use Rattle.open_tickets.proofs.tickets.place_of.Goals as goal
 
 -- What a read of a ticket says holds at any default.
 below-any : (xs : List (ℕ × ℕ)) (i t : ℕ) (d e : ℕ × ℕ) → i < length xs → (get_or xs i e).0 < t → (get_or xs i d).0 < t

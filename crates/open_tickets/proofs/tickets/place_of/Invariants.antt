@@ -1,5 +1,5 @@
 use Rattle.std.proofs.Common.{ℕ, List, ◌-◌, ◌<◌, ◌≤◌, length, get_or}
-use Rattle.balancer_core.proofs.tickets.place_of.Given as goal
+use Rattle.open_tickets.proofs.tickets.place_of.Given as goal
 
 pub record IsBetween (xs : List (ℕ × ℕ)) (ticket low high : ℕ) : Type 0 where
   pub ordered : low ≤ high

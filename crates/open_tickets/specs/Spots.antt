@@ -3,7 +3,7 @@ use Rattle.std.specs.Prelude.{◌≡◌, ℕ, ◌+◌, ◌-◌, ◌<◌, ◌≤�
 use Rattle.jk_model.specs.Journal.{chosen_in}
 use Rattle.jk_model.specs.declared.journal.Entry.{Entry}
 use Rattle.jk_model.specs.declared.opening.Opening.{Opening}
-use Rattle.balancer_core.specs.declared.tickets.Spot.{Spot}
+use Rattle.open_tickets.specs.declared.tickets.Spot.{Spot}
 
 -- The member that the entry at a place chose.
 abbrev pub chosen_at : List Entry → ℕ → Option ℕ

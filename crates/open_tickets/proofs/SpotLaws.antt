@@ -17,8 +17,8 @@ use Rattle.jk_model.specs.declared.journal.Answer.{Answer}
 use Rattle.jk_model.specs.declared.journal.Call.{Call}
 use Rattle.jk_model.specs.declared.journal.Entry.{Entry}
 use Rattle.jk_model.specs.declared.opening.Opening.{Opening}
-use Rattle.balancer_core.specs.declared.tickets.Spot.{Spot}
-use Rattle.balancer_core.specs.Spots.{chosen_at, AreRising, IsSpot, IsNoSpot}
+use Rattle.open_tickets.specs.declared.tickets.Spot.{Spot}
+use Rattle.open_tickets.specs.Spots.{chosen_at, AreRising, IsSpot, IsNoSpot}
 
 -- Tickets, newest first: each is below the bound, and later places have smaller ones.
 tickets_at : (n next : ℕ) (xs : List Ticket) → AreTickets n next xs → (i : ℕ) (d : Ticket) → i < length xs → (get_or xs i d).0 < next

@@ -1,0 +1,2 @@
+pub mod SpotLaws
+pub mod TableLaws
