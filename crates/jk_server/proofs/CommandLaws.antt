@@ -6,10 +6,10 @@ use Rattle.jk_io.specs.declared.failures.IoError.TheVariants as io
 use Rattle.mini_container.specs.declared.app_config.AppConfig.{AppConfig}
 use Rattle.jk_server.specs.Commands.{ContainsLinks, RunsContainer, Works, NoGear, NoRoom}
 use Rattle.jk_server.specs.Ends.{end_by}
-use Rattle.jk_server.specs.Worlds.{RefusesGear, Tells, WorldSide}
+use Rattle.gear_parts.specs.Worlds.{RefusesGear, Tells, WorldSide}
 use Rattle.jk_server.specs.declared.orders.ends.CommandEnd.{CommandEnd}
 use Rattle.jk_server.specs.declared.orders.ends.CommandEnd.TheVariants as end
-use Rattle.jk_server.proofs.WorldLaws.{nothing_passed}
+use Rattle.gear_parts.proofs.WorldLaws.{nothing_passed}
 
 -- a gear was refused, or memory was wanted for one
 pub works_err : {G L T : Type 0} (threads : ℕ) (Runs : WorldSide G → WorldSide G → CommandEnd L → Type 0) (s n : WorldSide G) (e : IoError) (ended : CommandEnd L)

@@ -9,11 +9,11 @@ use Rattle.jk_io.specs.declared.traits.streams.Meanings.{Ghosts}
 use Rattle.jk_io.specs.declared.traits.surroundings.Peer.{Peer}
 use Rattle.client_session.specs.Requests.{Visit}
 use Rattle.door_clients.specs.Doors.{DoorSide}
-use Rattle.worker_gears.specs.Gears.{GearSide, gear_side}
-use Rattle.worker_gears.specs.declared.world.Gear.{Gear}
+use Rattle.gear_parts.specs.Gears.{GearSide, gear_side}
+use Rattle.gear_parts.specs.declared.world.Gear.{Gear}
 use Rattle.jk_server.specs.Parts.{AreEach}
 use Rattle.jk_server.specs.declared.part.WorkerEnd.{WorkerEnd}
-use Rattle.jk_server.specs.GearParts.{gear_with, gears_with, tools}
+use Rattle.gear_parts.specs.GearParts.{gear_with, gears_with, tools}
 use Rattle.jk_server.specs.Runs.{AreServedGears, IsServedGear}
 
 -- Each gear was served by its worker, where that follows of its part, of what the worker left and of how it ended.

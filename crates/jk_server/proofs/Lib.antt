@@ -1,12 +1,8 @@
 pub mod BookLaws
 pub mod CommandLaws
-pub mod ContainerLaws
 pub mod CutLaws
 pub mod GearRunLaws
-pub mod ListLaws
 pub mod ReturnLaws
 pub mod RunLaws
-pub mod SiteLaws
 pub mod SlotLaws
 pub mod StartLaws
-pub mod WorldLaws

@@ -8,9 +8,9 @@ use Rattle.jk_io.specs.declared.traits.surroundings.Peer.{Peer}
 use Rattle.jk_model.specs.declared.segment.Segment.{Segment}
 use Rattle.mini_container.specs.declared.app_config.AppConfig.{AppConfig}
 use Rattle.site_config.specs.declared.balancer.Lb.{Lb}
-use Rattle.worker_gears.specs.Gears.{GearSide}
+use Rattle.gear_parts.specs.Gears.{GearSide}
 use Rattle.jk_server.specs.Closings.{Closes, KeepsFirst}
-use Rattle.jk_server.specs.Containers.{IsContainerRun, SameButDoors}
+use Rattle.gear_parts.specs.Containers.{IsContainerRun, SameButDoors}
 use Rattle.jk_server.specs.Runs.{AreServedGears, AreStarted, IsSiteRun}
 use Rattle.jk_server.specs.declared.runs.ends.Closing.{Closing}
 use Rattle.jk_server.specs.declared.runs.ends.Closing.TheVariants as closing

@@ -11,17 +11,17 @@ use Rattle.client_session.specs.Requests.{Visit}
 use Rattle.door_clients.specs.Doors.{DoorSide}
 use Rattle.locked_balancer.specs.SharedDesks.{SharedState}
 use Rattle.site_config.specs.declared.balancer.Lb.{Lb}
-use Rattle.worker_gears.specs.Gears.{GearSide, gear_side}
-use Rattle.worker_gears.specs.declared.world.Gear.{Gear}
+use Rattle.gear_parts.specs.Gears.{GearSide, gear_side}
+use Rattle.gear_parts.specs.declared.world.Gear.{Gear}
 use Rattle.jk_server.specs.Served.{IsServed}
 use Rattle.jk_server.specs.Worker.{WorkerSide}
 use Rattle.jk_server.specs.declared.part.WorkerEnd.{WorkerEnd}
-use Rattle.jk_server.specs.GearParts.{Start, start_of}
+use Rattle.gear_parts.specs.GearParts.{Start, start_of}
 use Rattle.jk_server.specs.Closings.{Closes}
 use Rattle.jk_server.specs.Runs.{AreServedGears, AreStarted, IsNew, IsSiteRun, IsServedGear, WorksWith}
 use Rattle.jk_server.specs.Started.{IsStartedRun}
 use Rattle.jk_server.specs.declared.runs.ends.Closing.{Closing}
-use Rattle.jk_server.proofs.ListLaws.{all_of_map, map_map}
+use Rattle.gear_parts.proofs.ListLaws.{all_of_map, map_map}
 
 -- a gear as its worker begins with it
 abbrev pub start_side : {D G T K S C X : Type 0} → (D → DoorSide C) → (T → Option (List Talk)) → (K → Option (List ℕ)) → Start D G T K S X → GearSide C S

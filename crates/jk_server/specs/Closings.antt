@@ -1,28 +1,21 @@
 -- How the closing of a run ended: each balancer's last segment was kept on the first gear's shelf, or why not.
-use Rattle.std.specs.Prelude.{ℕ, ◌≡◌, suc, List, [], ◌∷◌, map, Option}
+use Rattle.std.specs.Prelude.{ℕ, ◌≡◌, List, [], ◌∷◌, map, Option}
 use Rattle.jk_io.specs.Told.{appended, Rose}
-use Rattle.jk_model.specs.Legal.{IsLegal}
 use Rattle.jk_model.specs.declared.journal.Entry.{Entry}
 use Rattle.jk_model.specs.declared.segment.Segment.{Segment}
-use Rattle.balancer_core.specs.Journal.{IsSegmentOf, Journal}
+use Rattle.balancer_core.specs.Journal.{Journal}
 use Rattle.exchange.specs.Requests.{sizes_of}
 use Rattle.locked_balancer.specs.Sites.{AreSited}
 use Rattle.site_closing.specs.Closings.{Differs, DiscordNote}
 use Rattle.site_config.specs.declared.balancer.Lb.{Lb}
-use Rattle.worker_gears.specs.Gears.{GearSide}
+use Rattle.gear_parts.specs.Gears.{GearSide}
+use Rattle.gear_parts.specs.Cuts.{AreCuts}
 use Rattle.jk_server.specs.declared.runs.ends.Closing.{Closing}
 use Rattle.jk_server.specs.declared.runs.ends.Closing.TheVariants as closing
 
 -- each balancer's first number, which is 0
 abbrev pub firsts_of : List Lb → List ℕ
 firsts_of lbs = map (λ lb. 0) lbs
-
--- What each Book kept, from balancer lb on, one segment for each in order, legal from its opening.
-abbrev pub AreCuts : (lb : ℕ) → List Journal → List (ℕ × Segment) → Type 0
-AreCuts lb [] [] = Unit {0}
-AreCuts lb (book ∷ books) (kept ∷ more) =
-    (kept.0 ≡ lb) × IsSegmentOf book kept.1 × IsLegal kept.1.rules kept.1.opening kept.1.entries × AreCuts (suc lb) books more
-AreCuts lb books kept = ⊥
 
 -- They are the last segments of the balancers of a configuration.
 abbrev pub AreLast : List Lb → List (ℕ × Segment) → Type 0

@@ -16,20 +16,20 @@ use Rattle.site_reports.specs.Readings.{CommandOutside, OfFiles}
 use Rattle.site_reports.specs.Reports.{RefusesSite}
 use Rattle.site_config.specs.declared.config.Config.{Config}
 use Rattle.uri_map.specs.declared.rule.Rule.{Rule}
-use Rattle.worker_gears.specs.declared.world.Gear.{Gear}
-use Rattle.worker_gears.specs.declared.world.World.{Ghosts as WorldGhosts}
-use Rattle.jk_server.specs.Containers.{IsContainerRun}
+use Rattle.gear_parts.specs.declared.world.Gear.{Gear}
+use Rattle.gear_parts.specs.declared.world.World.{Ghosts as WorldGhosts}
+use Rattle.gear_parts.specs.Containers.{IsContainerRun}
 use Rattle.jk_server.specs.Runs.{IsSiteRun}
 use Rattle.jk_server.specs.declared.runs.ends.Closing.{Closing}
 use Rattle.jk_server.specs.declared.part.WorkerEnd.{WorkerEnd}
 use Rattle.jk_server.specs.Ends.{end_of_container, end_of_run, returned}
-use Rattle.jk_server.specs.Sites.{IsSite}
-use Rattle.jk_server.specs.Worlds.{tells, HandsAndTakes, IsMade, RefusesGear, Tells, WorldSide}
+use Rattle.site_reports.specs.Sites.{IsSite}
+use Rattle.gear_parts.specs.Worlds.{tells, HandsAndTakes, IsMade, RefusesGear, Tells, WorldSide}
 use Rattle.jk_server.specs.declared.orders.ends.CommandEnd.{CommandEnd}
 use Rattle.jk_server.specs.declared.orders.ends.CommandEnd.TheVariants as end
-use Rattle.jk_server.specs.declared.orders.gears.GearOrder.{GearOrder}
+use Rattle.gear_parts.specs.declared.gears.GearOrder.{GearOrder}
 use Rattle.jk_server.specs.declared.orders.serve.ServeOrder.{ServeOrder}
-use Rattle.jk_server.specs.declared.orders.site.ReadSite.{ReadSite}
+use Rattle.site_reports.specs.declared.site.ReadSite.{ReadSite}
 
 -- What is told at a moment: how often the files failed, what the output was sent and how often it failed, and the world.
 pub record CommandSide (G : Type 0) : Type 0 where

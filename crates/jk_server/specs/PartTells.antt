@@ -6,7 +6,7 @@ use Rattle.jk_io.specs.declared.traits.surroundings.Peer.{Peer}
 use Rattle.client_session.specs.Requests.{Visit, visit}
 use Rattle.door_clients.specs.Doors.{DoorSide, side}
 use Rattle.jk_server.specs.Worker.{worker_side, WorkerSide}
-use Rattle.jk_server.specs.declared.part.Part.{Part}
+use Rattle.gear_parts.specs.declared.part.Part.{Part}
 use Rattle.jk_server.specs.declared.part.Post.{Post}
 
 -- What a door tells, a client's link, a clock, a reach, and how often a shelf failed.

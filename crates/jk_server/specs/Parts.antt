@@ -14,8 +14,8 @@ use Rattle.uri_map.specs.declared.rule.Rule.{Rule}
 use Rattle.jk_server.specs.Served.{IsServed}
 use Rattle.jk_server.specs.PartTells.{PartTells, worker_of}
 use Rattle.jk_server.specs.Worker.{IsFit, worker_side, WorkerSide}
-use Rattle.jk_server.specs.declared.part.Outside.{Outside}
-use Rattle.jk_server.specs.declared.part.Part.{Part}
+use Rattle.gear_parts.specs.declared.part.Outside.{Outside}
+use Rattle.gear_parts.specs.declared.part.Part.{Part}
 use Rattle.jk_server.specs.declared.part.ServeEnd.{ServeEnd}
 use Rattle.jk_server.specs.declared.part.WorkerEnd.{WorkerEnd}
 

@@ -5,8 +5,8 @@ use Rattle.jk_io.specs.declared.traits.streams.Meanings.{Ghosts}
 use Rattle.jk_io.specs.declared.traits.surroundings.Peer.{Peer}
 use Rattle.jk_model.specs.declared.segment.Segment.{Segment}
 use Rattle.door_clients.specs.Doors.{DoorSide, side}
-use Rattle.worker_gears.specs.Gears.{gear_side, GearSide}
-use Rattle.worker_gears.specs.declared.world.Gear.{Gear}
+use Rattle.gear_parts.specs.Gears.{gear_side, GearSide}
+use Rattle.gear_parts.specs.declared.world.Gear.{Gear}
 
 -- What a door tells, a tape, a clock, a client's link, and a shelf with its faults.
 pub record RunTells (D T K S C X : Type 0) : Type 1 where

@@ -16,7 +16,7 @@ use Rattle.status_worker.specs.Desks.{KeepsTickets}
 use Rattle.locked_balancer.specs.SharedDesks.{SharedState}
 use Rattle.jk_server.specs.Worker.{forgot, Rests, standing_with, took, WorkerSide}
 use Rattle.jk_server.specs.PartTells.{PartTells, worker_of}
-use Rattle.jk_server.specs.declared.part.Part.{Part}
+use Rattle.gear_parts.specs.declared.part.Part.{Part}
 use Rattle.jk_server.specs.declared.part.WorkerEnd.{WorkerEnd}
 use Rattle.jk_server.specs.declared.part.WorkerEnd.TheVariants as worker
 

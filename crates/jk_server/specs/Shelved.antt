@@ -1,25 +1,16 @@
 -- What the last cuts of a run did with the shelves, and how the closing ended so.
 use Rattle.std.specs.Prelude.{ℕ, ◌≡◌, List, [], ◌∷◌, length, map, Option}
-use Rattle.jk_io.specs.Told.{appended, Rose}
+use Rattle.jk_io.specs.Told.{Rose}
 use Rattle.jk_model.specs.declared.journal.Entry.{Entry}
 use Rattle.jk_model.specs.declared.segment.Segment.{Segment}
 use Rattle.balancer_core.specs.Journal.{Journal}
 use Rattle.locked_balancer.specs.Sites.{AreSited}
 use Rattle.site_closing.specs.Closings.{Differs, DiscordNote}
-use Rattle.worker_gears.specs.declared.world.Gear.{Gear}
-use Rattle.jk_server.specs.Closings.{AreCuts}
-use Rattle.jk_server.specs.GearParts.{Tools, tools}
+use Rattle.gear_parts.specs.declared.world.Gear.{Gear}
+use Rattle.gear_parts.specs.Cuts.{AddsCuts, ToFirst}
+use Rattle.gear_parts.specs.GearParts.{Tools, tools}
 use Rattle.jk_server.specs.declared.runs.ends.Closing.{Closing}
 use Rattle.jk_server.specs.declared.runs.ends.Closing.TheVariants as closing
-
--- The segments of these Books were added to a shelf.
-abbrev pub AddsCuts : {S : Type 0} → (S → Option (List (ℕ × Segment))) → List Journal → (old new : S) → Type 0
-AddsCuts shelved books old new = (kept : List (ℕ × Segment)) × AreCuts 0 books kept × (shelved new ≡ appended (shelved old) kept)
-
--- This is so of the first, and nothing else changed.
-abbrev pub ToFirst : {S : Type 0} → (S → S → Type 0) → (old new : List S) → Type 0
-ToFirst Kept (first ∷ rest) (first' ∷ rest') = Kept first first' × (rest' ≡ rest)
-ToFirst Kept old new = ⊥
 
 -- The gears came back with the tools and shelves that their workers left, but for the first shelf, of which this is so.
 pub record IsPutBack {D G T K S O : Type 0} (Kept : S → S → Type 0) (left : List (Tools D G T K)) (shelves : List S) (back : List (Gear D G T K S O)) : Type 0 where

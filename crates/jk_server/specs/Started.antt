@@ -9,8 +9,8 @@ use Rattle.client_session.specs.Requests.{Visit, visit}
 use Rattle.site_config.specs.declared.balancer.Lb.{Lb}
 use Rattle.site_config.specs.declared.config.Config.{Config}
 use Rattle.uri_map.specs.declared.rule.Rule.{Rule}
-use Rattle.worker_gears.specs.Gears.{GearSide}
-use Rattle.worker_gears.specs.declared.world.Gear.{Gear}
+use Rattle.gear_parts.specs.Gears.{GearSide}
+use Rattle.gear_parts.specs.declared.world.Gear.{Gear}
 use Rattle.jk_server.specs.declared.part.WorkerEnd.{WorkerEnd}
 use Rattle.jk_server.specs.Closings.{Closes}
 use Rattle.jk_server.specs.Runs.{AreServedGears}

@@ -6,8 +6,9 @@ ghost use Rattle.jk_server.specs.Served.{IsStray, ServesPartClient, ServesPartNe
 ghost use Rattle.jk_server.specs.PartTells.{part_tells, visit_at};
 ghost use Rattle.jk_server.specs.Worker.{IsFit, Rests, took, worker_side};
 
-use crate::part::{Part, Post, WorkerEnd};
+use crate::part::{Post, WorkerEnd};
 use client_session::{SessionEnd, serve_session};
+use gear_parts::Part;
 use jk_io::{Clock, Door, NoMemory, Peer, Reach};
 use locked_balancer::{SharedDesk, Shelf, SiteName};
 use std::alloc::Global;

@@ -1,7 +1,8 @@
 //! What a worker works with, why it ends, and what it leaves.
 
+use gear_parts::OutsideList;
 use jk_io::ListOf;
-use locked_balancer::{Leaving, SharedDesk, Shelf, SiteName, SiteStray};
+use locked_balancer::{Leaving, SiteName, SiteStray};
 use site_config::Config;
 use uri_map::UriMap;
 
@@ -11,15 +12,6 @@ pub struct Post<'a> {
     pub cfg: &'a Config,
     pub map: &'a UriMap,
     pub number: u32,
-}
-
-/// What a worker works with.
-#[derive(Drop)]
-pub struct Part<'s, 'r, L: SiteName, D, R, K, S: Shelf, W> {
-    pub door: D,
-    pub reach: R,
-    pub clock: K,
-    pub desk: SharedDesk<'s, 'r, L, S, W>,
 }
 
 /// Why a worker ended.
@@ -40,17 +32,6 @@ pub enum WorkerEnd<L> {
 
 /// How the workers ended, in the order of their parts.
 pub type WorkerEndList<L> = ListOf<WorkerEnd<L>>;
-
-/// What a worker worked with, but for its desk.
-#[derive(Drop)]
-pub struct Outside<D, R, K> {
-    pub door: D,
-    pub reach: R,
-    pub clock: K,
-}
-
-/// What the workers worked with, in the order of their parts.
-pub type OutsideList<D, R, K> = ListOf<Outside<D, R, K>>;
 
 /// How the workers ended and what they left, an item for each in each list, in the order of their parts.
 #[derive(Drop)]

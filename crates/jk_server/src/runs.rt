@@ -1,6 +1,5 @@
-//! Runs of workers over gears: those of a connector, which share the balancers of a site, and those of a container.
+//! Runs of workers over gears, which share the balancers of a site.
 pub(crate) mod closing;
-pub(crate) mod container;
 pub(crate) mod ends;
 pub(crate) mod parts;
 pub(crate) mod ran;

@@ -6,8 +6,9 @@ ghost use Rattle.jk_server.specs.PartTells.{part_tells};
 ghost use Rattle.jk_server.specs.Worker.{IsFit};
 
 use crate::client::serve_next;
-use crate::part::{Part, Post, WorkerEnd};
+use crate::part::{Post, WorkerEnd};
 use door_clients::{Arrival, next_client};
+use gear_parts::Part;
 use jk_io::{Clock, Door, Reach};
 use locked_balancer::{Shelf, SiteName};
 use site_config::Config;

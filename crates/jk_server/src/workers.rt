@@ -5,8 +5,9 @@ ghost use Rattle.jk_server.specs.Parts.{AllFour, AreServedParts, InEach, LeavesP
 ghost use Rattle.jk_server.specs.PartTells.{part_tells};
 ghost use Rattle.jk_server.specs.Worker.{IsFit};
 
-use crate::part::{Outside, Part, ServeEnd, WorkerEnd};
+use crate::part::{ServeEnd, WorkerEnd};
 use crate::serving::serve_part;
+use gear_parts::{Outside, Part};
 use jk_io::{Clock, Door, ListOf, NoMemory, Reach};
 use locked_balancer::{Leaving, SharedSite, Shelf, SiteName};
 use site_config::Config;

@@ -1,2 +1,3 @@
 pub mod PathLineLemmas
 pub mod ReportLemmas
+pub mod SiteLaws

@@ -4,4 +4,5 @@ pub mod MemberLines
 pub mod PathLines
 pub mod Readings
 pub mod Reports
+pub mod Sites
 pub mod Words

@@ -1,18 +1,23 @@
-//! What a site's files are understood as, in lines of text.
+//! What a site's files are understood as: a site, or lines of text.
 //!
 //! Source: own rules for the lines (docs/FORMATS.md, "config" and "match").
 //! Contract: `put_config`, which adds `config_text`, and `put_matches`, which adds `match_text`. Read first:
-//! specs/ConfigText.antt, specs/Matches.antt. For the commands above, which read the files: specs/Readings.antt.
-//! Errors: want of memory alone.
+//! specs/ConfigText.antt, specs/Matches.antt. `read_site`, clause `ok`, reads both files and judges them: specs/Sites.antt.
+//! For the commands above, which read the files: specs/Readings.antt.
+//! Errors: want of memory, and of `read_site` a fault of the files.
 #![tactic(auto)]
 
 mod config_text;
 mod match_text;
 mod member_line;
 mod path_lines;
+mod reading;
 mod report;
+mod site;
 mod words;
 
 pub use config_text::put_config;
 pub use match_text::put_matches;
+pub use reading::{Judged, read_site};
 pub use report::{Report, report_config, report_matches, report_site};
+pub use site::ReadSite;

@@ -1,5 +1,5 @@
 pub mod Files
-pub mod Gears
+pub use Rattle.gear_parts.specs.Gears
 pub mod Notices
 pub mod Real
 pub mod Worlds

@@ -5,7 +5,7 @@ use Rattle.jk_io.specs.Memory.{MemDialState, MemLinkState}
 use Rattle.jk_io.specs.TalkBooks.{TalkBookState}
 use Rattle.locked_balancer.specs.Shelves.{MemShelfState}
 use Rattle.worker_gears.specs.declared.mem_plan.MemPlan.{MemPlan}
-use Rattle.worker_gears.specs.declared.world.Gear.{Gear}
+use Rattle.gear_parts.specs.declared.world.Gear.{Gear}
 
 -- a gear in memory
 abbrev pub MemGearState : Type 0 → Type 0

@@ -4,8 +4,8 @@
 //! what came back; the real one is made of sockets, files and the system's clock, and tells nothing of contents.
 //! Own rules: all gears of the real world accept from one socket; a segment goes into a new file named after its balancer
 //! and its first number (docs/FORMATS.md, "Journal text").
-//! Contract: the trait `World`; `MemWorld`'s own clauses; `segment_file` and the laws of `laws`.
-//! Read first: src/world.rt, then specs/Worlds.antt and specs/Files.antt.
+//! Contract: the trait `World` of gear_parts; `MemWorld`'s own clauses; `segment_file` and the laws of `laws`.
+//! Read first: src/world.rt of gear_parts, then specs/Worlds.antt and specs/Files.antt.
 //! Errors: `IoError`; a call fails only where the world's count of faults rose in it. `Trouble` says it to a person.
 #![tactic(auto)]
 
@@ -19,13 +19,12 @@ mod opening;
 mod real_world;
 mod shelves;
 mod trouble;
-mod world;
 
 pub use file_log::FileLog;
+pub use gear_parts::{Gear, World};
 pub use journal_files::{FIRST_DIGITS, SegmentFile, segment_file};
 pub use mem_plan::{MemGear, MemPlan, MemPlanList};
 pub use mem_world::MemWorld;
 pub use real_world::{RealGear, RealWorld};
 pub use shelves::{DropShelf, FileShelf, RealShelf};
 pub use trouble::Trouble;
-pub use world::{Gear, World};

@@ -2,8 +2,8 @@
 ghost use Rattle.std.specs.Prelude.{◌≡◌, [], None};
 ghost use Rattle.worker_gears.specs.Worlds.{at_most, empty_plan, gear_of};
 
-use crate::world::Gear;
 use conn_pool::MemTape;
+use gear_parts::Gear;
 use jk_io::{ClientList, ListOf, MemDial, MemDoor, MemLink, NumberList, StepClock};
 use locked_balancer::MemShelf;
 use std::alloc::Global;

@@ -5,8 +5,8 @@ ghost use Rattle.jk_io.specs.Told.{HasCause, Rose};
 ghost use Rattle.worker_gears.specs.Worlds.{gear_of, next_plan};
 
 use crate::mem_plan::{MemGear, MemPlan, MemPlanList, gear_of};
-use crate::world::World;
 use conn_pool::MemTape;
+use gear_parts::World;
 use jk_io::{
     Bytes, IoError, Link, ListOf, MemDial, MemDoor, MemLink, NoMemory, NumberList, StepClock,
 };

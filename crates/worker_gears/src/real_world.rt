@@ -10,8 +10,8 @@ use crate::opening::{
 };
 use crate::shelves::{DropShelf, FileShelf, RealShelf};
 use crate::trouble::Trouble;
-use crate::world::{Gear, World};
 use conn_pool::NoTape;
+use gear_parts::{Gear, World};
 use jk_io::{Bytes, IoError, NoMemory, Outbox, RealClock, TcpDial, TcpDoor};
 use site_config::{Config, Lb};
 use std::alloc::Global;

@@ -2,19 +2,16 @@
 ghost use Rattle.std.specs.Prelude.{◌≡◌, ◌≤◌, length, None};
 ghost use Rattle.jk_cli.specs.declared.plans.TheConstants.{MOST_ROUTE_BYTES};
 ghost use Rattle.jk_server.specs.Commands.{ContainsAsked, WorksContainer};
-ghost use Rattle.jk_server.specs.Worlds.{tells};
+ghost use Rattle.gear_parts.specs.Worlds.{tells};
 
 use crate::orders::ends::{CommandEnd, NO_MEMORY, end_by, end_of_container};
-use crate::orders::gears::{GearOrder, give_back, take_gears};
-use crate::runs::container::contain_gears;
-use crate::runs::ends::ContainerRun;
+use gear_parts::{ContainerRun, GearOrder, World, contain_gears, give_back, take_gears};
 use jk_io::{Bytes, Door, NoMemory};
 use mini_container::AppConfig;
 use std::alloc::Global;
 use std::marker::Brand;
 use std::sync::Wait;
 use std::thread::Threads;
-use worker_gears::World;
 
 /// The greatest packet of the container, in bytes.
 const PACKET_BYTES: u32 = 8_192;

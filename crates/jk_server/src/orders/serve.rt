@@ -3,21 +3,19 @@ ghost use Rattle.std.specs.Prelude.{◌≡◌, ◌≤◌, [], length};
 ghost use Rattle.jk_io.specs.Told.{HasCause};
 ghost use Rattle.jk_server.specs.Commands.{telling, ServesOrder, WorksSite, WritesLine};
 ghost use Rattle.jk_server.specs.Ends.{end_of_run, returned};
-ghost use Rattle.jk_server.specs.Worlds.{HandsAndTakes, tells, world_side};
+ghost use Rattle.gear_parts.specs.Worlds.{HandsAndTakes, tells, world_side};
 ghost use Rattle.jk_server.specs.declared.workers.TheConstants.{MAX_WORKERS};
 
 use crate::orders::ends::{CommandEnd, NO_MEMORY, OUTPUT_FAULT, REFUSED, end_by, end_of_run};
-use crate::orders::gears::{GearOf, GearOrder, give_back, take_gears};
-use crate::orders::reading::{Judged, read_site};
-use crate::orders::site::ReadSite;
 use crate::runs::ends::{Closing, SiteRun};
 use crate::runs::serve::serve_gears;
+use gear_parts::{GearOf, GearOrder, World, give_back, take_gears};
 use jk_io::{Bytes, Door, Files, IoError, NoMemory, Sink, write_all};
+use site_reports::{Judged, ReadSite, read_site};
 use std::alloc::Global;
 use std::marker::Brand;
 use std::sync::Wait;
 use std::thread::Threads;
-use worker_gears::World;
 
 /// What `serve` is asked for.
 #[derive(Clone, Copy)]

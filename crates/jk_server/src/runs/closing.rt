@@ -1,18 +1,16 @@
 //! The closing of a connector's run. The desks are closed, and what the journals still keep goes to the first shelf.
-ghost use Rattle.std.specs.Prelude.{◌≡◌, ◌<◌, ◌≤◌, ℕ, [], List, length, map, sum_by, vec_capacity, vec_len, IsErrOf, OnOk};
-ghost use Rattle.jk_io.specs.Told.{Rose};
+ghost use Rattle.std.specs.Prelude.{◌≡◌, ◌<◌, ◌≤◌, ℕ, [], List, length, map, sum_by, vec_capacity, vec_len};
 ghost use Rattle.locked_balancer.specs.Sites.{AreSited};
 ghost use Rattle.jk_model.specs.declared.config.TheConstants.{MAX_BALANCERS};
-ghost use Rattle.jk_server.specs.GearParts.{tools, tools_of};
-ghost use Rattle.jk_server.specs.Shelved.{AddsCuts, EndsSo, ToFirst};
+ghost use Rattle.gear_parts.specs.GearParts.{tools_of};
+ghost use Rattle.jk_server.specs.Shelved.{EndsSo};
 
 use crate::runs::ends::{Closing, SiteRun};
-use crate::runs::ran::{Left, Ran};
-use balancer_core::BookList;
+use crate::runs::ran::Ran;
+use gear_parts::{Gear, Left, gears_again, keep_on_first};
 use jk_io::IoError;
 use locked_balancer::{SharedSite, Shelf, SiteName};
 use site_closing::{CloseError, Closed, LeavingList, close_desks};
-use worker_gears::Gear;
 
 /// Closes the desks of a run, keeps what the journals still have, and puts the gears together again.
 pub(crate) fn settle<
@@ -94,74 +92,5 @@ fn close_books<L, D: Drop, G: Drop, T: Drop, K: Drop, S: Shelf + Drop, O: Drop>(
         Ok(()) => Closing::Kept,
         Err(IoError::Failed) => Closing::ShelfFault,
         Err(IoError::NoMemory) => Closing::NoMemory,
-    }
-}
-
-/// Keeps the last segments on the first of the shelves.
-fn keep_on_first<S: Shelf>(books: BookList, shelves: &mut [S]) -> Result<(), IoError>
-    requires some { 0 < length shelves.old }
-    requires few { length books ≤ MAX_BALANCERS }
-    ensures kept { OnOk result (ToFirst (AddsCuts S.shelved books) shelves.old shelves.new) }
-    ensures failed { IsErrOf result IoError.Failed → ToFirst (λ old new. Rose (S.faults old) (S.faults new)) shelves.old shelves.new }
-    ensures len { length shelves.new ≡ length shelves.old }
-{
-    keep_rest(books, &mut shelves[0])
-}
-
-/// Cuts each Book once more, in order, and keeps its segment.
-fn keep_rest<S: Shelf>(books: BookList, shelf: &mut S) -> Result<(), IoError>
-    requires few { length books ≤ MAX_BALANCERS }
-    ensures kept { OnOk result (AddsCuts S.shelved books shelf.old shelf.new) }
-    ensures failed { IsErrOf result IoError.Failed → Rose (S.faults shelf.old) (S.faults shelf.new) }
-{
-    let mut lb: u32 = 0;
-    'books: for book in books.into_vec() {
-        let mut book = book;
-        let segment = book.cut()?;
-        shelf.keep(lb, segment)?;
-        lb += 1;
-    }
-    Ok(())
-}
-
-/// Puts what the workers left and their shelves together.
-fn gears_again<D: Drop, G: Drop, T: Drop, K: Drop, S: Drop, O: Drop>(
-    left: Vec<Left<D, G, T, K, O>>,
-    shelves: Vec<S>,
-    gears: &mut Vec<Gear<D, G, T, K, S, O>>,
-)
-    requires none { gears.old.items ≡ [] }
-    requires paired { vec_len left ≡ vec_len shelves }
-    requires room { vec_len left ≤ vec_capacity gears.old }
-    ensures tools { map (λ g. tools g.door g.dial g.tape g.clock) gears.new.items ≡ tools_of left.items }
-    ensures shelves { map (λ g. g.shelf) gears.new.items ≡ shelves.items }
-    ensures logs { map (λ g. g.log) gears.new.items ≡ map (λ l. l.log) left.items }
-{
-    'left: for (left, shelf) in left.into_iter().zip(shelves) {
-        gears.push_reserved(gear_of(left, shelf));
-    }
-}
-
-/// Puts what a worker left and its shelf together.
-fn gear_of<D, G, T, K, S, O>(left: Left<D, G, T, K, O>, shelf: S) -> Gear<D, G, T, K, S, O>
-    ensures tools { tools result.door result.dial result.tape result.clock
-        ≡ tools left.door left.dial left.tape left.clock }
-    ensures shelf { result.shelf ≡ shelf }
-    ensures log { result.log ≡ left.log }
-{
-    let Left {
-        door,
-        dial,
-        tape,
-        clock,
-        log,
-    } = left;
-    Gear {
-        door,
-        dial,
-        tape,
-        clock,
-        shelf,
-        log,
     }
 }

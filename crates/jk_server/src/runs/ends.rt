@@ -1,7 +1,6 @@
 //! How a run ends, and what comes back of it.
 
 use crate::part::WorkerEndList;
-use container_server::ContainerWorkerList;
 use site_closing::Discord;
 
 /// How the closing of a run ended, once all workers had.
@@ -21,12 +20,5 @@ pub enum Closing<L> {
 pub struct SiteRun<L, G> {
     pub workers: WorkerEndList<L>,
     pub closing: Closing<L>,
-    pub gears: Vec<G>,
-}
-
-/// How the workers of a container ended, and their gears, in order.
-#[derive(Drop)]
-pub struct ContainerRun<G> {
-    pub workers: ContainerWorkerList,
     pub gears: Vec<G>,
 }

@@ -2,19 +2,9 @@
 ghost use Rattle.std.specs.Prelude.{◌≡◌, ◌≤◌, [], length, vec_capacity, vec_len};
 
 use crate::part::WorkerEndList;
+use gear_parts::{Gear, Left};
 use jk_io::ListOf;
 use locked_balancer::{Leaving, SiteName};
-use worker_gears::Gear;
-
-/// What a worker leaves beside its desk, and its log.
-#[derive(Drop)]
-pub(crate) struct Left<D, G, T, K, O> {
-    pub(crate) door: D,
-    pub(crate) dial: G,
-    pub(crate) tape: T,
-    pub(crate) clock: K,
-    pub(crate) log: Option<O>,
-}
 
 /// How the workers ended and what they left, in order, and the room for their gears.
 #[derive(Drop)]

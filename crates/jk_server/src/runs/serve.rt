@@ -5,7 +5,7 @@ ghost use Rattle.conn_pool.specs.Idle.{counts};
 ghost use Rattle.door_clients.specs.Doors.{side};
 ghost use Rattle.exchange.specs.Requests.{sizes_of};
 ghost use Rattle.uri_map.specs.Sites.{stands_in};
-ghost use Rattle.worker_gears.specs.Gears.{gear_side};
+ghost use Rattle.gear_parts.specs.Gears.{gear_side};
 ghost use Rattle.jk_server.specs.Closings.{firsts_of};
 ghost use Rattle.jk_server.specs.Runs.{AreStarted, RunsGears};
 ghost use Rattle.jk_server.specs.Started.{AreNew, RunsStarted};
@@ -13,10 +13,11 @@ ghost use Rattle.jk_server.specs.RunTells.{run_tells};
 
 use crate::runs::closing::settle;
 use crate::runs::ends::SiteRun;
-use crate::runs::parts::{Common, Plan, work};
+use crate::runs::parts::{Plan, work};
 use crate::workers::MAX_WORKERS;
 use balancer_core::{Book, BookList};
-use conn_pool::{Pools, Tape};
+use conn_pool::{Idle, Pools, Tape};
+use gear_parts::{Common, Gear};
 use jk_io::{Clock, Dial, Door, NoMemory, SizeList, SizeTable};
 use jk_model::MemberConfig;
 use locked_balancer::{SharedSite, Shelf, Site, SiteName};
@@ -27,7 +28,6 @@ use std::sync::Wait;
 use std::sync::ledger::Blank;
 use std::thread::Threads;
 use uri_map::UriMap;
-use worker_gears::Gear;
 
 /// The number of kept entries at which a journal is cut.
 const CUT_AT: u32 = 65_536;
@@ -108,6 +108,18 @@ fn sizes_in(alloc: Global, members: &[MemberConfig]) -> Result<SizeList, NoMemor
     Ok(SizeList::from_vec(members.iter().map(|member| member.pool).collect(alloc)?))
 }
 
+/// A pool of idle links for each member of each balancer.
+fn pools_for<'r, C: Drop, R>(
+    rt: &'r R,
+    alloc: Global,
+    lbs: &[Lb],
+) -> Result<Pools<'r, Idle<C>, R>, NoMemory>
+    ensures { IfOk result (λ pools. counts pools ≡ sizes_of lbs.now) }
+{
+    let pools = Pools::new(rt, alloc, &pool_sizes(alloc, lbs)?)?;
+    Ok(pools)
+}
+
 /// A Site that isn't open yet.
 #[derive(Drop)]
 struct NewSite {
@@ -147,13 +159,51 @@ where
     ensures ran { let told = run_tells D.coming D.left D.faults T.talks K.answers D.L.Meanings S.shelved S.faults in
         IfOk result (RunsStarted told plan.entry.cfg.now plan.entry.map.now gears.items) }
 {
-    let pools = Pools::new(rt, alloc, &pool_sizes(alloc, plan.cfg.lbs.as_slice())?)?;
+    let pools = pools_for(rt, alloc, plan.cfg.lbs.as_slice())?;
+    over_pools(rt, alloc, plan, new, gears, &pools)
+}
+
+/// So with pools of links.
+fn over_pools<
+    'r,
+    L: SiteName + Send + Sync,
+    D: Door + Drop + Send,
+    G: Dial + Drop + Send,
+    T: Tape + Drop + Send,
+    K: Clock + Drop + Send,
+    S: Shelf + Drop + Send,
+    O: Drop,
+    R: Threads + Wait + Sync,
+>(
+    rt: &'r R,
+    alloc: Global,
+    plan: Plan<'_>,
+    new: NewSite,
+    gears: Vec<Gear<D, G, T, K, S, O>>,
+    pools: &Pools<'r, Idle<G::L>, R>,
+) -> Result<SiteRun<L, Gear<D, G, T, K, S, O>>, NoMemory>
+where
+    D::L: Send,
+    requires pool_sizes { counts pools.now ≡ sizes_of plan.cfg.now.lbs }
+    requires name { (new.blank.name ≡ L.name) × (new.blank.parts ≡ L.parts) }
+    requires parts { L.parts ≡ vec_len gears }
+    requires sizes { L.sizes ≡ sizes_of plan.cfg.now.lbs }
+    requires firsts { L.firsts ≡ firsts_of plan.cfg.now.lbs }
+    requires cut_at { L.cut_at ≡ CUT_AT }
+    requires new { (at : ℕ) × AreNew plan.cfg.now.lbs at new.books }
+    requires some { 0 < vec_len gears }
+    requires few { vec_len gears ≤ MAX_WORKERS }
+    requires stands { stands_in plan.cfg.now plan.map.now ≡ true }
+    requires idle { All (λ g. T.is_idle g.tape) gears.items }
+    ensures ran { let told = run_tells D.coming D.left D.faults T.talks K.answers D.L.Meanings S.shelved S.faults in
+        IfOk result (RunsStarted told plan.entry.cfg.now plan.entry.map.now gears.items) }
+{
     let NewSite { blank, books } = new;
     let (site, share) = Site::<L>::open(blank, books);
     let shared = SharedSite::new(rt, site, CUT_AT);
     let common = Common {
         site: &shared,
-        pools: &pools,
+        pools,
     };
     let ran = work(rt, alloc, plan, &common, share, gears)?;
     Ok(settle(shared, ran))

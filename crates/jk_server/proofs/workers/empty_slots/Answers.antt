@@ -1,6 +1,6 @@
 use Rattle.std.proofs.Common.{◌≡◌, [], ap, length, refl, sym, arith}
 use Rattle.std.proofs.lemmas.List.Elements.{All-head, All-rest, All-same}
-use Rattle.jk_server.specs.declared.part.Part.{Part}
+use Rattle.gear_parts.specs.declared.part.Part.{Part}
 use Rattle.jk_server.specs.declared.workers.Slot.{Slot}
 use Rattle.jk_server.proofs.SlotLaws.{all_taken, one_taken, empty_of}
 use Rattle.jk_server.proofs.workers.empty_slots.Goals as goal

@@ -4,7 +4,7 @@ use Rattle.std.proofs.lemmas.List.{length-map}
 use Rattle.jk_server.specs.Parts.{WorksPart}
 use Rattle.jk_server.specs.PartTells.{part_tells}
 use Rattle.jk_server.specs.Worker.{IsFit}
-use Rattle.jk_server.specs.declared.part.Part.{Part}
+use Rattle.gear_parts.specs.declared.part.Part.{Part}
 use Rattle.jk_server.specs.declared.workers.Slot.{Slot}
 use Rattle.jk_server.proofs.SlotLaws.{all_of_map, parts_served, written_back}
 use Rattle.jk_server.proofs.workers.serve_in.Goals as goal

@@ -1,7 +1,7 @@
 use Rattle.std.proofs.Common.{◌≡◌, length, arith, rules}
 use Rattle.jk_server.specs.Commands.{Ran}
 use Rattle.jk_server.proofs.CommandLaws.{works_err}
-use Rattle.jk_server.proofs.WorldLaws.{all_given, few_out, then_back}
+use Rattle.gear_parts.proofs.WorldLaws.{all_given, few_out, then_back}
 use Rattle.jk_server.proofs.ReturnLaws.{all_returned}
 use Rattle.jk_server.proofs.orders.container.contain_links.Goals as goal
 

@@ -1,6 +1,6 @@
 use Rattle.std.proofs.Common.{◌≡◌, inl, inr, refl, arith}
 use Rattle.jk_server.specs.Ends.{returned}
-use Rattle.jk_server.proofs.WorldLaws.{all_given, nothing_passed}
+use Rattle.gear_parts.proofs.WorldLaws.{all_given, nothing_passed}
 use Rattle.jk_server.proofs.orders.serve.give_by.Goals as goal
 
 pub give_back-requires-clause-out : goal.give_back-requires-clause-out

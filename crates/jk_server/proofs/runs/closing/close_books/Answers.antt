@@ -2,9 +2,9 @@ use Rattle.std.proofs.Common.{◌≡◌, ap, ◌∙◌, length, Err, subst, sym,
 use Rattle.std.proofs.lemmas.List.{length-map}
 use Rattle.jk_io.specs.Told.{Rose}
 use Rattle.jk_io.specs.declared.failures.IoError.TheVariants.{Failed}
-use Rattle.jk_server.specs.GearParts.{tools}
-use Rattle.jk_server.specs.Shelved.{AddsCuts, ToFirst}
-use Rattle.jk_server.proofs.ListLaws.{written_back}
+use Rattle.gear_parts.specs.GearParts.{tools}
+use Rattle.gear_parts.specs.Cuts.{AddsCuts, ToFirst}
+use Rattle.gear_parts.proofs.ListLaws.{written_back}
 use Rattle.jk_server.proofs.runs.closing.close_books.Goals as goal
 
 pub returns-in-Ok : goal.returns-in-Ok

@@ -1,7 +1,7 @@
 use Rattle.std.proofs.Common.{subst, arith}
-use Rattle.jk_server.specs.GearParts.{tools_of}
+use Rattle.gear_parts.specs.GearParts.{tools_of}
 use Rattle.jk_server.specs.Shelved.{EndsSo}
-use Rattle.jk_server.proofs.ListLaws.{as_long_as}
+use Rattle.gear_parts.proofs.ListLaws.{as_long_as}
 use Rattle.jk_server.proofs.runs.closing.close_gears.Goals as goal
 
 pub returns-in-Ok : goal.returns-in-Ok

@@ -5,9 +5,9 @@ use Rattle.conn_pool.specs.Idle.{counts}
 use Rattle.conn_pool.specs.Reaches.{beside_of}
 use Rattle.door_clients.specs.Doors.{side}
 use Rattle.jk_server.specs.Worker.{IsFit}
-use Rattle.jk_server.specs.GearParts.{gear_with, start_with, tools}
+use Rattle.gear_parts.specs.GearParts.{gear_with, start_with, tools}
 use Rattle.jk_server.proofs.GearRunLaws.{all_left, as_many, gears_served, gears_told, parts_whole}
-use Rattle.jk_server.proofs.ListLaws.{as_long, as_long_as}
+use Rattle.gear_parts.proofs.ListLaws.{as_long, as_long_as}
 use Rattle.jk_server.proofs.StartLaws.{IsBeginning, one_part, served_gear, start_side, starts_are, starts_told}
 use Rattle.jk_server.proofs.runs.parts.work.Goals as goal
 

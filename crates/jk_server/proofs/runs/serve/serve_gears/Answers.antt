@@ -2,9 +2,9 @@ use Rattle.std.proofs.Common.{List, ap, length, subst, arith}
 use Rattle.client_session.specs.Requests.{visit}
 use Rattle.door_clients.specs.Doors.{side}
 use Rattle.site_config.specs.declared.balancer.Lb.{Lb}
-use Rattle.worker_gears.specs.Gears.{gear_side}
+use Rattle.gear_parts.specs.Gears.{gear_side}
 use Rattle.jk_server.specs.Started.{AreNew}
-use Rattle.jk_server.proofs.ListLaws.{written_back}
+use Rattle.gear_parts.proofs.ListLaws.{written_back}
 use Rattle.jk_server.proofs.StartLaws.{ok_weaker, started_run}
 use Rattle.jk_server.proofs.runs.serve.serve_gears.Goals as goal
 

@@ -1,0 +1,63 @@
+-- What a container's workers did at the doors, said of the gears.
+use Rattle.std.proofs.Common.{ℕ, ◌≡◌, List, [], ◌∷◌, length, map, Option, refl, sym, ap, ◌∙◌, subst, arith}
+use Rattle.std.proofs.lemmas.List.{length-map}
+use Rattle.jk_io.specs.declared.reaching.Talk.{Talk}
+use Rattle.jk_io.specs.declared.traits.streams.Meanings.{Ghosts}
+use Rattle.door_clients.specs.Doors.{DoorSide}
+use Rattle.container_server.specs.Served.{AreEachServed}
+use Rattle.container_server.specs.declared.ends.ContainerWorker.{ContainerWorker}
+use Rattle.mini_container.specs.declared.app_config.AppConfig.{AppConfig}
+use Rattle.gear_parts.specs.Gears.{GearSide, gear_side}
+use Rattle.gear_parts.specs.declared.world.Gear.{Gear}
+use Rattle.gear_parts.specs.Containers.{IsContainerRun, SameButDoors}
+use Rattle.gear_parts.specs.GearParts.{rest_with, RestOfGear}
+use Rattle.gear_parts.proofs.ListLaws.{map_map}
+
+as_many_doors : {C X : Type 0} → (app : AppConfig) (told : Ghosts C X) (before after : List (DoorSide C)) (ends : List ContainerWorker)
+    → AreEachServed app told before after ends → length after ≡ length before
+as_many_doors app told [] [] [] each = refl
+as_many_doors app told [] [] (e ∷ ends) each = absurd each
+as_many_doors app told [] (a ∷ after) ends each = absurd each
+as_many_doors app told (b ∷ before) [] ends each = absurd each
+as_many_doors app told (b ∷ before) (a ∷ after) [] each = absurd each
+as_many_doors app told (b ∷ before) (a ∷ after) (e ∷ ends) each =
+    let rest = as_many_doors app told before after ends each.1 in omega (arith, rest)
+
+-- As many doors come back.
+pub doors_back : {C D X : Type 0} → (app : AppConfig) (told : Ghosts C X) (at : D → DoorSide C) (before after : List D) (ends : List ContainerWorker)
+    → AreEachServed app told (map at before) (map at after) ends → length after ≡ length before
+doors_back app told at before after ends each =
+    sym (length-map after at) ∙ as_many_doors app told (map at before) (map at after) ends each ∙ length-map before at
+
+same_rests : {D G T K S O C : Type 0} → (at : D → DoorSide C) (talks : T → Option (List Talk)) (answers : K → Option (List ℕ)) (gears back : List (Gear D G T K S O))
+    → map (λ g. rest_with g.dial g.tape g.clock g.shelf g.log) back ≡ map (λ g. rest_with g.dial g.tape g.clock g.shelf g.log) gears
+    → SameButDoors (map (gear_side at talks answers) gears) (map (gear_side at talks answers) back)
+same_rests at talks answers [] [] same = tt
+same_rests at talks answers [] (b ∷ back) same = absurd cc
+same_rests at talks answers (g ∷ gears) [] same = absurd cc
+same_rests {G = G} {T = T} {K = K} {S = S} {O = O} {C = C} at talks answers (g ∷ gears) (b ∷ back) same =
+    let here : rest_with b.dial b.tape b.clock b.shelf b.log ≡ rest_with g.dial g.tape g.clock g.shelf g.log = cc in
+    let tail : map (λ x. rest_with x.dial x.tape x.clock x.shelf x.log) back ≡ map (λ x. rest_with x.dial x.tape x.clock x.shelf x.log) gears = cc in (
+      ap (λ (r : RestOfGear G T K S O). record (gear_side at talks answers g) { door = at b.door; talks = talks r.tape; clock = answers r.clock; shelf = r.shelf }) here,
+      same_rests at talks answers gears back tail,
+    )
+
+-- the doors of gears
+doors_told : {D G T K S O C : Type 0} → (at : D → DoorSide C) (talks : T → Option (List Talk)) (answers : K → Option (List ℕ)) (gears : List (Gear D G T K S O))
+    → map at (map (λ g. g.door) gears) ≡ map (λ s. s.door) (map (gear_side at talks answers) gears)
+doors_told {D} {G} {T} {K} {S} {O} {C} at talks answers gears =
+    map_map at (λ (g : Gear D G T K S O). g.door) gears ∙ sym (map_map (λ (s : GearSide C S). s.door) (gear_side at talks answers) gears)
+
+pub container_ran : {D G T K S O C X : Type 0} → (app : AppConfig) (told : Ghosts C X) (at : D → DoorSide C) (talks : T → Option (List Talk)) (answers : K → Option (List ℕ))
+    (gears back : List (Gear D G T K S O)) (doors doors' : List D) (ends : List ContainerWorker)
+    → doors ≡ map (λ g. g.door) gears → map (λ g. g.door) back ≡ doors' → AreEachServed app told (map at doors) (map at doors') ends
+    → map (λ g. rest_with g.dial g.tape g.clock g.shelf g.log) back ≡ map (λ g. rest_with g.dial g.tape g.clock g.shelf g.log) gears
+    → IsContainerRun app told (map (gear_side at talks answers) gears) (map (gear_side at talks answers) back) ends
+container_ran {D} {G} {T} {K} {S} {O} {C} app told at talks answers gears back doors doors' ends off on served same = record {
+  served =
+      subst (λ (ds : List (DoorSide C)). AreEachServed app told (map (λ s. s.door) (map (gear_side at talks answers) gears)) ds ends)
+      (ap (map at) (sym on) ∙ doors_told at talks answers back)
+      (subst (λ (ds : List (DoorSide C)). AreEachServed app told ds (map at doors') ends)
+      (ap (map at) off ∙ doors_told at talks answers gears) served);
+  same = same_rests at talks answers gears back same;
+}

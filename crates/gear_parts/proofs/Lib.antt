@@ -1,0 +1,4 @@
+pub mod ContainerLaws
+pub mod KeepingLaws
+pub mod ListLaws
+pub mod WorldLaws

@@ -1,0 +1,120 @@
+-- Gears that a world handed out and took back.
+use Rattle.std.proofs.Common.{ℕ, ◌≡◌, ◌+◌, ◌≤◌, List, [], ◌∷◌, ◌++◌, length, Option, Result, Ok, Err, zero, suc, refl, sym, ◌∙◌, ap, arith, rules, length-append}
+use Rattle.std.specs.List.{All}
+use Rattle.std.specs.Prelude.{OnErr}
+use Rattle.std.proofs.lemmas.List.Elements.{All-push}
+use Rattle.jk_io.specs.Told.{appended, HasCause}
+use Rattle.jk_io.proofs.ToldLaws.{appended-appended, appended-nil}
+use Rattle.jk_io.specs.declared.failures.IoError.{IoError}
+use Rattle.jk_io.specs.declared.failures.IoError.TheVariants as io
+use Rattle.gear_parts.specs.Worlds.{HandsAndTakes, RefusesGear, WorldSide}
+
+-- nothing was handed out, and nothing came back
+pub nothing_passed : {G : Type 0} (s : WorldSide G) → HandsAndTakes s s [] []
+nothing_passed s = record {
+  handed = sym (appended-nil s.handed);
+  came_back = sym (appended-nil s.back);
+  counted = refl;
+  no_fewer = omega arith;
+}
+
+-- one after the other
+pub passed_on : {G : Type 0} (s m n : WorldSide G) (gears more back again : List G) → HandsAndTakes s m gears back → HandsAndTakes m n more again
+    → HandsAndTakes s n (gears ++ more) (back ++ again)
+passed_on s m n gears more back again first next = record {
+  handed = next.handed ∙ ap (λ (o : Option (List _)). appended o more) first.handed ∙ appended-appended s.handed gears more;
+  came_back = next.came_back ∙ ap (λ (o : Option (List _)). appended o again) first.came_back ∙ appended-appended s.back back again;
+  counted =
+      let a = length-append gears more in
+      let b = length-append back again in
+      omega (arith, first.counted, next.counted);
+  no_fewer = omega (arith, first.no_fewer, next.no_fewer);
+}
+
+-- another gear came back, and the rest is to come
+pub back_on : {G : Type 0} (s m n : Option (List G)) (rest rest' all : List G) (gear : G) → appended m rest ≡ appended s all → rest ≡ gear ∷ rest' → n ≡ appended m (gear ∷ [])
+    → appended n rest' ≡ appended s all
+back_on {G} s m n rest rest' all gear so_far next back =
+    ap (λ (o : Option (List G)). appended o rest') back ∙ appended-appended m (gear ∷ []) rest' ∙ ap (λ (l : List G). appended m l) (sym next) ∙ so_far
+
+-- all came back
+pub back_all : {G : Type 0} (s m : Option (List G)) (rest all : List G) → appended m rest ≡ appended s all → length rest ≡ 0 → m ≡ appended s all
+back_all s m [] all so_far none = sym (appended-nil m) ∙ so_far
+back_all s m (gear ∷ rest) all so_far none = absurd (omega (arith, none))
+
+-- another gear was handed out
+pub handed_on : {G : Type 0} (s m n : WorldSide G) (gears more : List G) (gear : G) → HandsAndTakes s m gears [] → more ≡ gears ++ gear ∷ []
+    → n.handed ≡ appended m.handed (gear ∷ []) → n.back ≡ m.back → n.out ≡ m.out + 1 → m.faults ≤ n.faults → HandsAndTakes s n more []
+handed_on {G} s m n gears more gear so_far pushed handed same out no_fewer = record {
+  handed =
+      handed ∙ ap (λ (o : Option (List G)). appended o (gear ∷ [])) so_far.handed ∙ appended-appended s.handed gears (gear ∷ [])
+      ∙ ap (λ (l : List G). appended s.handed l) (sym pushed);
+  came_back = same ∙ so_far.came_back;
+  counted = let l : length more ≡ length gears + 1 = ap length pushed ∙ length-append gears (gear ∷ []) in omega (arith, so_far.counted);
+  no_fewer = omega (arith, so_far.no_fewer);
+}
+
+-- those that were handed out came back
+pub all_back : {G : Type 0} (s m n : WorldSide G) (gears : List G) → HandsAndTakes s m gears [] → n.back ≡ appended m.back gears
+    → n.out + length gears ≡ m.out → n.handed ≡ m.handed → n.faults ≡ m.faults → HandsAndTakes s n gears gears
+all_back {G} s m n gears taken back out handed faults = record {
+  handed = handed ∙ taken.handed;
+  came_back = back ∙ ap (λ (o : Option (List G)). appended o gears) (taken.came_back ∙ appended-nil s.back);
+  counted = omega (arith, taken.counted);
+  no_fewer = omega (arith, taken.no_fewer);
+}
+
+-- a refused gear was none
+pub none_handed : {G : Type 0} (s m n : WorldSide G) (gears : List G) → HandsAndTakes s m gears [] → n.handed ≡ m.handed → n.back ≡ m.back → n.out ≡ m.out
+    → m.faults ≤ n.faults → HandsAndTakes s n gears []
+none_handed s m n gears taken handed back out no_fewer = record {
+  handed = handed ∙ taken.handed;
+  came_back = back ∙ taken.came_back;
+  counted = omega (arith, taken.counted);
+  no_fewer = omega (arith, taken.no_fewer);
+}
+
+-- what is so of all and of another
+pub all_and : {X : Type 0} (P : X → Type 0) (xs more : List X) (x : X) → more ≡ xs ++ x ∷ [] → All P xs → P x → All P more
+all_and P xs more x pushed all one = rw pushed (All-push P xs x all one)
+
+-- what succeeded has no cause
+pub no_cause : {T : Type 0} (before now : ℕ) (x : T) → before ≤ now → HasCause before now (Ok x)
+no_cause before now x no_fewer = record { no_fewer = no_fewer; failed = λ failed. search rules }
+
+-- what failed has the same cause while no more faults came
+pub cause_again : {T U : Type 0} (before now later : ℕ) (e : IoError) → HasCause {T = T} before now (Err e) → later ≡ now
+    → HasCause {T = U} before later (Err e)
+cause_again before now later io.Failed cause same = record { no_fewer = rw same cause.no_fewer; failed = λ failed. rw same (cause.failed refl) }
+cause_again before now later io.NoMemory cause same = record { no_fewer = rw same cause.no_fewer; failed = λ failed. search rules }
+
+-- no memory for the gears of some workers
+pub none_taken : {G : Type 0} (threads : ℕ) (s : WorldSide G) → (threads ≡ 0 → ⊥) → RefusesGear threads s s
+none_taken zero s some = absurd (some refl)
+none_taken (suc n) s some = record { gears = []; passed = nothing_passed s; fewer = omega arith }
+
+pub on_err : {T E : Type 0} (r : Result T E) (P : Type 0) → P → OnErr r P
+on_err (Ok x) P is = tt
+on_err (Err e) P is = is
+
+-- those that came back after it was taken
+pub then_back : {G : Type 0} (s m n : WorldSide G) (gears back : List G) → HandsAndTakes s m gears [] → HandsAndTakes m n [] back → HandsAndTakes s n gears back
+then_back {G} s m n gears back taken given = record {
+  handed = given.handed ∙ appended-nil m.handed ∙ taken.handed;
+  came_back = given.came_back ∙ ap (λ (o : Option (List G)). appended o back) (taken.came_back ∙ appended-nil s.back);
+  counted = omega (arith, taken.counted, given.counted);
+  no_fewer = omega (arith, taken.no_fewer, given.no_fewer);
+}
+
+pub all_given : {G : Type 0} (m n : WorldSide G) (back : List G) → n.back ≡ appended m.back back → n.out + length back ≡ m.out → n.handed ≡ m.handed → n.faults ≡ m.faults
+    → HandsAndTakes m n [] back
+all_given m n back came_back out handed faults = record {
+  handed = handed ∙ sym (appended-nil m.handed);
+  came_back = came_back;
+  counted = omega (arith, out);
+  no_fewer = omega (arith, faults);
+}
+
+-- no more come back than are out
+pub few_out : {G : Type 0} (s m : WorldSide G) (gears : List G) (count : ℕ) → HandsAndTakes s m gears [] → count ≤ length gears → count ≤ m.out
+few_out s m gears count taken few = omega (arith, taken.counted, few)

@@ -1,0 +1,44 @@
+use Rattle.std.proofs.Common.{ap, ◌∙◌, length, arith}
+use Rattle.door_clients.specs.Doors.{side}
+use Rattle.gear_parts.proofs.ContainerLaws.{container_ran, doors_back}
+use Rattle.gear_parts.proofs.ListLaws.{as_long, as_long_as}
+use Rattle.gear_parts.proofs.container.contain_in.Goals as goal
+
+pub put_doors-requires-clause-paired : goal.put_doors-requires-clause-paired
+put_doors-requires-clause-paired g c =
+    let back =
+    doors_back c.args.app.now g.D.L.Meanings (side g.D.Door.coming g.D.Door.left g.D.Door.faults) c.take_doors.new.doors.items
+    c.in_ok-workers.field-0.doors c.in_ok-workers.field-0.workers c.in_ok-workers.ensures.served in
+    omega (
+      arith,
+      back,
+      ap length c.into_vec.ensures,
+      as_long_as _ _ _ c.take_doors.ensures.doors,
+      as_long _ _ _ _ c.take_doors.ensures.rests,
+      c.into_vec.result.ok.0,
+      c.take_doors.new.rests.ok.0,
+    )
+
+pub put_doors-requires-clause-room : goal.put_doors-requires-clause-room
+put_doors-requires-clause-room g c =
+    let back =
+    doors_back c.args.app.now g.D.L.Meanings (side g.D.Door.coming g.D.Door.left g.D.Door.faults) c.take_doors.new.doors.items
+    c.in_ok-workers.field-0.doors c.in_ok-workers.field-0.workers c.in_ok-workers.ensures.served in
+    omega (
+      arith,
+      back,
+      ap length c.into_vec.ensures,
+      as_long_as _ _ _ c.take_doors.ensures.doors,
+      c.into_vec.result.ok.0,
+      c.args.gears.ok.0,
+      c.requires.back,
+    )
+
+pub returns : goal.returns
+returns g c = record {
+  ran = λ talks answers.
+      container_ran c.args.app.now g.D.L.Meanings (side g.D.Door.coming g.D.Door.left g.D.Door.faults) talks answers c.args.gears.items
+      c.put_doors.new.gears.items c.take_doors.new.doors.items c.in_ok-workers.field-0.doors c.in_ok-workers.field-0.workers
+      c.take_doors.ensures.doors (c.put_doors.ensures.doors ∙ c.into_vec.ensures) c.in_ok-workers.ensures.served
+      (c.put_doors.ensures.rests ∙ c.take_doors.ensures.rests);
+}

@@ -1,0 +1,27 @@
+-- What a run of a container's workers did with their gears.
+use Rattle.std.specs.Prelude.{ℕ, ◌≡◌, List, [], ◌∷◌, map, Option}
+use Rattle.jk_io.specs.declared.reaching.Talk.{Talk}
+use Rattle.jk_io.specs.declared.traits.streams.Meanings.{Ghosts}
+use Rattle.container_server.specs.Served.{AreEachServed}
+use Rattle.container_server.specs.declared.ends.ContainerWorker.{ContainerWorker}
+use Rattle.mini_container.specs.declared.app_config.AppConfig.{AppConfig}
+use Rattle.door_clients.specs.Doors.{DoorSide}
+use Rattle.gear_parts.specs.Gears.{gear_side, GearSide}
+use Rattle.gear_parts.specs.declared.world.Gear.{Gear}
+use Rattle.gear_parts.specs.declared.container.ContainerRun.{ContainerRun}
+
+-- A container's worker uses its gear's door alone.
+abbrev pub SameButDoors : {C S : Type 0} → (before back : List (GearSide C S)) → Type 0
+SameButDoors [] [] = Unit {0}
+SameButDoors (b ∷ before) (a ∷ back) = (a ≡ record b { door = a.door }) × SameButDoors before back
+SameButDoors before back = ⊥
+
+-- Each worker served the links of its gear's door, and ended so.
+pub record IsContainerRun {C S X : Type 0} (app : AppConfig) (told : Ghosts C X) (before back : List (GearSide C S)) (ends : List ContainerWorker) : Type 0 where
+  pub served : AreEachServed app told (map (λ g. g.door) before) (map (λ g. g.door) back) ends
+  pub same : SameButDoors before back
+
+-- So of these gears and of those that came back, over what tapes and clocks tell, in whatever way.
+abbrev pub ContainsGears : {D G T K S O C X : Type 0} → AppConfig → Ghosts C X → (D → DoorSide C) → List (Gear D G T K S O) → ContainerRun (Gear D G T K S O) → Type 0
+ContainsGears {T = T} {K = K} app told door gears run = (talks : T → Option (List Talk)) → (answers : K → Option (List ℕ))
+    → IsContainerRun app told (map (gear_side door talks answers) gears) (map (gear_side door talks answers) run.gears.items) run.workers

@@ -1,0 +1,22 @@
+-- The last segments of Books, and the shelf on which they are kept.
+use Rattle.std.specs.Prelude.{ℕ, ◌≡◌, suc, List, [], ◌∷◌, Option}
+use Rattle.jk_io.specs.Told.{appended}
+use Rattle.jk_model.specs.Legal.{IsLegal}
+use Rattle.jk_model.specs.declared.segment.Segment.{Segment}
+use Rattle.balancer_core.specs.Journal.{IsSegmentOf, Journal}
+
+-- What each Book kept, from balancer lb on, one segment for each in order, legal from its opening.
+abbrev pub AreCuts : (lb : ℕ) → List Journal → List (ℕ × Segment) → Type 0
+AreCuts lb [] [] = Unit {0}
+AreCuts lb (book ∷ books) (kept ∷ more) =
+    (kept.0 ≡ lb) × IsSegmentOf book kept.1 × IsLegal kept.1.rules kept.1.opening kept.1.entries × AreCuts (suc lb) books more
+AreCuts lb books kept = ⊥
+
+-- The segments of these Books were added to a shelf.
+abbrev pub AddsCuts : {S : Type 0} → (S → Option (List (ℕ × Segment))) → List Journal → (old new : S) → Type 0
+AddsCuts shelved books old new = (kept : List (ℕ × Segment)) × AreCuts 0 books kept × (shelved new ≡ appended (shelved old) kept)
+
+-- This is so of the first, and nothing else changed.
+abbrev pub ToFirst : {S : Type 0} → (S → S → Type 0) → (old new : List S) → Type 0
+ToFirst Kept (first ∷ rest) (first' ∷ rest') = Kept first first' × (rest' ≡ rest)
+ToFirst Kept old new = ⊥

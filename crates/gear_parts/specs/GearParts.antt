@@ -1,0 +1,67 @@
+-- What of a gear goes where while its worker runs.
+use Rattle.std.specs.Prelude.{ℕ, false, List, [], ◌∷◌, map, Option, None}
+use Rattle.jk_io.specs.declared.reaching.Talk.{Talk}
+use Rattle.conn_pool.specs.Reaches.{PooledState}
+use Rattle.door_clients.specs.Doors.{DoorSide}
+use Rattle.locked_balancer.specs.SharedDesks.{SharedState, shared_desk}
+use Rattle.gear_parts.specs.Gears.{GearSide}
+use Rattle.gear_parts.specs.declared.world.Gear.{Gear}
+use Rattle.gear_parts.specs.declared.left.Left.{Left}
+
+-- ---- a container's gear
+
+-- a gear but for its door
+pub record RestOfGear (G T K S O : Type 0) : Type 0 where
+  pub dial : G
+  pub tape : T
+  pub clock : K
+  pub shelf : S
+  pub log : Option O
+
+abbrev pub rest_with : {G T K S O : Type 0} → G → T → K → S → Option O → RestOfGear G T K S O
+rest_with dial tape clock shelf log = record { dial = dial; tape = tape; clock = clock; shelf = shelf; log = log }
+
+-- ---- a connector's gear
+
+-- what a worker has when it begins
+pub record Start (D G T K S C : Type 0) : Type 0 where
+  pub door : D
+  pub reach : PooledState G T C
+  pub clock : K
+  pub desk : SharedState S
+
+abbrev pub start_with : {D G T K S C : Type 0} → D → PooledState G T C → K → SharedState S → Start D G T K S C
+start_with door reach clock desk = record { door = door; reach = reach; clock = clock; desk = desk }
+
+-- So the worker of a gear begins: with a desk of one part that has the gear's shelf, and a reach that has its dial and its tape.
+abbrev pub start_of : {D G T K S O C : Type 0} → (sizes pools : List ℕ) → Gear D G T K S O → Start D G T K S C
+start_of sizes pools gear = record {
+  door = gear.door;
+  reach = record { dial = gear.dial; tape = gear.tape; lent = None; back = None; sizes = pools; faults = 0 };
+  clock = gear.clock;
+  desk = record { desk = shared_desk sizes 1 [] [] 0 0 0 0 false; shelf = gear.shelf; forgotten = 0; wants = 0; met = None };
+}
+
+-- what a worker leaves beside its desk
+pub record Tools (D G T K : Type 0) : Type 0 where
+  pub door : D
+  pub dial : G
+  pub tape : T
+  pub clock : K
+
+abbrev pub tools : {D G T K : Type 0} → D → G → T → K → Tools D G T K
+tools door dial tape clock = record { door = door; dial = dial; tape = tape; clock = clock }
+
+-- what workers left beside their desks, in order
+abbrev pub tools_of : {D G T K O : Type 0} → List (Left D G T K O) → List (Tools D G T K)
+tools_of left = map (λ l. tools l.door l.dial l.tape l.clock) left
+
+-- a gear of these parts, by what its types tell
+abbrev pub gear_with : {D G T K S C : Type 0} → (D → DoorSide C) → (T → Option (List Talk)) → (K → Option (List ℕ)) → Tools D G T K → S → GearSide C S
+gear_with at talks answers t shelf = record { door = at t.door; talks = talks t.tape; clock = answers t.clock; shelf = shelf }
+
+-- gears of these tools and shelves, in order
+abbrev pub gears_with : {C S X : Type 0} → (X → S → GearSide C S) → List X → List S → List (GearSide C S)
+gears_with with [] shelves = []
+gears_with with (x ∷ xs) [] = []
+gears_with with (x ∷ xs) (shelf ∷ shelves) = with x shelf ∷ gears_with with xs shelves

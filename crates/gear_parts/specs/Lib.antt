@@ -1,0 +1,6 @@
+pub mod Containers
+pub mod Cuts
+pub mod GearParts
+pub mod Gears
+pub mod Putting
+pub mod Worlds

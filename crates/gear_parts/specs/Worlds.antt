@@ -1,0 +1,89 @@
+-- What a world tells at a moment, and what a command takes of it and gives back.
+use Rattle.std.specs.Prelude.{◌≡◌, ℕ, ◌+◌, ◌<◌, ◌≤◌, List, [], ◌∷◌, ◌++◌, length, Option, IfSome}
+use Rattle.door_clients.specs.Doors.{side}
+use Rattle.jk_io.specs.Told.{appended, IsEmpty}
+use Rattle.jk_io.specs.declared.traits.streams.Meanings.{Ghosts}
+use Rattle.jk_io.specs.declared.traits.surroundings.Clock.{Ghosts as ClockGhosts}
+use Rattle.jk_io.specs.declared.traits.surroundings.Door.{Ghosts as DoorGhosts}
+use Rattle.jk_model.specs.declared.segment.Segment.{Segment}
+use Rattle.conn_pool.specs.declared.tape.Tape.{Ghosts as TapeGhosts}
+use Rattle.locked_balancer.specs.declared.shelf.Shelf.{Ghosts as ShelfGhosts}
+use Rattle.gear_parts.specs.Gears.{gear_side, GearSide}
+use Rattle.gear_parts.specs.declared.world.Gear.{Gear}
+use Rattle.gear_parts.specs.declared.world.World.{Ghosts as WorldGhosts}
+
+-- The gears that it handed out and those that came back, each as it was then, how many are out, and how often it failed.
+pub record WorldSide (G : Type 0) : Type 0 where
+  pub handed : Option (List G)
+  pub back : Option (List G)
+  pub out : ℕ
+  pub faults : ℕ
+
+-- a world at a moment, by what its type tells: `world_side W.World world`
+abbrev pub world_side : {W D G T K S O C X E Y Z : Type 0} → WorldGhosts W D G T K S O C X E Y Z → W → WorldSide (Gear D G T K S O)
+world_side of_world world = record {
+  handed = of_world.handed world;
+  back = of_world.came_back world;
+  out = of_world.out world;
+  faults = of_world.faults world;
+}
+
+-- a gear at a moment, by what its types tell: `gear_told W.D.Door W.T.Tape W.K.Clock gear`
+abbrev pub gear_told : {D G T K S O C X : Type 0} → DoorGhosts D C X → TapeGhosts T → ClockGhosts K → Gear D G T K S O → GearSide C S
+gear_told of_door of_tape of_clock = gear_side (side of_door.coming of_door.left of_door.faults) of_tape.talks of_clock.answers
+
+-- What a world and its parts tell: the world at a moment, a gear, a client's link, and a shelf with its faults.
+pub record Tells (W G C S X : Type 0) : Type 1 where
+  pub world : W → WorldSide G
+  pub gear : G → GearSide C S
+  pub link : Ghosts C X
+  pub shelved : S → Option (List (ℕ × Segment))
+  pub shelf_faults : S → ℕ
+
+-- what they tell, by their types: `tells W.World W.D.Door W.T.Tape W.K.Clock W.D.L.Meanings W.S.Shelf`
+abbrev pub tells : {W D G T K S O C X E Y Z : Type 0} → WorldGhosts W D G T K S O C X E Y Z → DoorGhosts D C X → TapeGhosts T → ClockGhosts K → Ghosts C X → ShelfGhosts S → Tells W (Gear D G T K S O) C S X
+tells of_world of_door of_tape of_clock of_link of_shelf = record {
+  world = world_side of_world;
+  gear = gear_told of_door of_tape of_clock;
+  link = of_link;
+  shelved = of_shelf.shelved;
+  shelf_faults = of_shelf.faults;
+}
+
+-- The world handed out these gears and took those back, each list in order.
+pub record HandsAndTakes {G : Type 0} (before after : WorldSide G) (gears back : List G) : Type 0 where
+  pub handed : after.handed ≡ appended before.handed gears
+  pub came_back : after.back ≡ appended before.back back
+  pub counted : after.out + length back ≡ before.out + length gears
+  pub no_fewer : before.faults ≤ after.faults
+
+-- A gear that was just made: its door has at most so many clients to come, where that is given; no link was left there, and
+-- no talk was noted.
+pub record IsMade {C S : Type 0} (clients : Option ℕ) (gear : GearSide C S) : Type 0 where
+  pub few : IfSome clients (λ most. IfSome gear.door.coming (λ coming. length coming ≤ most))
+  pub none_left : IsEmpty gear.door.left
+  pub no_talk : IsEmpty gear.talks
+
+-- One of so many gears was refused: those that were handed out before it came back as they were.
+pub record RefusesGear {G : Type 0} (threads : ℕ) (before after : WorldSide G) : Type 0 where
+  pub gears : List G
+  pub passed : HandsAndTakes before after gears gears
+  pub fewer : length gears < threads
+
+-- The world handed out one more gear, just made and its tape idle, which was put behind the others.
+pub record Takes {D G T K S O C : Type 0} (told : Gear D G T K S O → GearSide C S) (IsIdle : T → Type 0) (clients : Option ℕ) (before after : WorldSide (Gear D G T K S O)) (gears more : List (Gear D G T K S O)) : Type 0 where
+  pub gear : Gear D G T K S O
+  pub added : more ≡ gears ++ gear ∷ []
+  pub handed : after.handed ≡ appended before.handed (gear ∷ [])
+  pub came_back : after.back ≡ before.back
+  pub counted : after.out ≡ before.out + 1
+  pub no_fewer : before.faults ≤ after.faults
+  pub made : IsMade clients (told gear)
+  pub idle : IsIdle gear.tape
+
+-- The world handed out none, and nothing else of it changed but its faults.
+pub record HandsNone {G : Type 0} (before after : WorldSide G) : Type 0 where
+  pub handed : after.handed ≡ before.handed
+  pub came_back : after.back ≡ before.back
+  pub counted : after.out ≡ before.out
+  pub no_fewer : before.faults ≤ after.faults

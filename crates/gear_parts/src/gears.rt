@@ -1,0 +1,145 @@
+//! Gears taken of a world, one for each worker, and given back.
+ghost use Rattle.std.specs.Prelude.{◌≡◌, ◌+◌, ◌<◌, ◌≤◌, [], vec_capacity, vec_len, IfOk, IsSome, OnErr, OnOk};
+ghost use Rattle.std.specs.List.{All};
+ghost use Rattle.jk_io.specs.Told.{HasCause, appended};
+ghost use Rattle.gear_parts.specs.Worlds.{gear_told, HandsAndTakes, HandsNone, IsMade, RefusesGear, Takes, world_side};
+
+use crate::world::{Gear, World};
+use jk_io::{Bytes, IoError};
+use site_config::Config;
+use std::alloc::Global;
+
+/// A gear of this world.
+pub type GearOf<W> = Gear<
+    <W as World>::D,
+    <W as World>::G,
+    <W as World>::T,
+    <W as World>::K,
+    <W as World>::S,
+    <W as World>::O,
+>;
+
+/// What gears are ordered for.
+#[derive(Clone, Copy)]
+pub struct GearOrder<'a> {
+    /// Where clients are waited for, HOST:PORT.
+    pub address: &'a Bytes,
+    /// How many workers there are, each with a gear.
+    pub threads: u32,
+    /// After how many clients each worker ends; none: it doesn't.
+    pub clients: Option<u64>,
+    /// The directory into which cut journals are written, if into any.
+    pub journal: Option<&'a Bytes>,
+}
+
+impl<'a> GearOrder<'a> {
+    pub fn new(
+        address: &'a Bytes,
+        threads: u32,
+        clients: Option<u64>,
+        journal: Option<&'a Bytes>,
+    ) -> GearOrder<'a>
+        ensures { (result.threads ≡ threads) × (result.clients ≡ clients) × (result.journal ≡ journal.entry) }
+    {
+        GearOrder {
+            address,
+            threads,
+            clients,
+            journal,
+        }
+    }
+}
+
+/// Takes the gear of worker `number`, and puts it behind the others.
+fn take_gear<W: World>(
+    alloc: Global,
+    world: &mut W,
+    number: u32,
+    asked: GearOrder<'_>,
+    cfg: Option<&Config>,
+    gears: &mut Vec<GearOf<W>>,
+) -> Result<(), IoError>
+    requires named { IsSome asked.journal → IsSome cfg }
+    requires room { vec_len gears.old < vec_capacity gears.old }
+    ensures ok { OnOk result (let at = world_side W.World in Takes (gear_told W.D.Door W.T.Tape W.K.Clock) W.T.is_idle
+        asked.entry.clients (at world.old) (at world.new) gears.old.items gears.new.items) }
+    ensures room { OnOk result ((vec_len gears.new ≡ vec_len gears.old + 1) × (vec_capacity gears.new ≡ vec_capacity gears.old)) }
+    ensures err { OnErr result (let at = world_side W.World in HandsNone (at world.old) (at world.new)) }
+    ensures same { OnErr result (gears.new.items ≡ gears.old.items) }
+    ensures cause { HasCause (W.faults world.old) (W.faults world.new) result }
+{
+    let gear = world.gear(
+        alloc,
+        number,
+        asked.address,
+        asked.clients,
+        asked.journal,
+        cfg,
+    )?;
+    gears.push_reserved(gear);
+    Ok(())
+}
+
+/// Takes a gear for each worker, until one is refused.
+fn fill_gears<W: World>(
+    alloc: Global,
+    world: &mut W,
+    asked: GearOrder<'_>,
+    cfg: Option<&Config>,
+    gears: &mut Vec<GearOf<W>>,
+) -> Result<(), IoError>
+    requires named { IsSome asked.journal → IsSome cfg }
+    requires none { vec_len gears.old ≡ 0 }
+    requires room { asked.threads ≤ vec_capacity gears.old }
+    ensures passed { let at = world_side W.World in HandsAndTakes (at world.old) (at world.new) gears.new.items [] }
+    ensures count { OnOk result (vec_len gears.new ≡ asked.entry.threads) }
+    ensures made { let at = gear_told W.D.Door W.T.Tape W.K.Clock in
+        All (λ g. IsMade asked.entry.clients (at g)) gears.new.items }
+    ensures idle { All (λ g. W.T.is_idle g.tape) gears.new.items }
+    ensures fewer { OnErr result (vec_len gears.new < asked.entry.threads) }
+    ensures cause { HasCause (W.faults world.old) (W.faults world.new) result }
+{
+    'gears: for number in 0..asked.threads {
+        take_gear(alloc, world, number, asked, cfg, gears)?;
+    }
+    Ok(())
+}
+
+/// Takes a gear for each worker. Where one is refused, those before it are given back.
+pub fn take_gears<W: World>(
+    alloc: Global,
+    world: &mut W,
+    asked: GearOrder<'_>,
+    cfg: Option<&Config>,
+) -> Result<Vec<GearOf<W>>, IoError>
+    requires named { IsSome asked.journal → IsSome cfg }
+    ensures taken { IfOk result (λ gears. let at = world_side W.World in
+        HandsAndTakes (at world.old) (at world.new) gears.items []) }
+    ensures count { IfOk result (λ gears. vec_len gears ≡ asked.entry.threads) }
+    ensures made { IfOk result (λ gears. let at = gear_told W.D.Door W.T.Tape W.K.Clock in
+        All (λ g. IsMade asked.entry.clients (at g)) gears.items) }
+    ensures idle { IfOk result (λ gears. All (λ g. W.T.is_idle g.tape) gears.items) }
+    ensures refused { OnErr result (let at = world_side W.World in RefusesGear asked.entry.threads (at world.old) (at world.new)) }
+    ensures cause { HasCause (W.faults world.old) (W.faults world.new) result }
+{
+    let mut gears = Vec::with_capacity(alloc, asked.threads as usize)?;
+    match fill_gears(alloc, world, asked, cfg, &mut gears) {
+        Ok(()) => Ok(gears),
+        Err(error) => {
+            give_back(world, gears);
+            Err(error)
+        }
+    }
+}
+
+/// Gives gears back, in order.
+pub fn give_back<W: World>(world: &mut W, gears: Vec<GearOf<W>>)
+    requires out { vec_len gears ≤ W.out world.old }
+    ensures came_back { W.came_back world.new ≡ appended (W.came_back world.old) gears.items }
+    ensures fewer { W.out world.new + vec_len gears ≡ W.out world.old }
+    ensures same { (W.handed world.new ≡ W.handed world.old) × (W.faults world.new ≡ W.faults world.old) }
+{
+    'gears: for gear in gears {
+        world.back(gear);
+    }
+}

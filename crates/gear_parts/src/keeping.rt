@@ -1,0 +1,36 @@
+//! The last segments of Books, kept on the first of the shelves.
+ghost use Rattle.std.specs.Prelude.{◌≡◌, ◌<◌, ◌≤◌, length, IsErrOf, OnOk};
+ghost use Rattle.jk_io.specs.Told.{Rose};
+ghost use Rattle.jk_model.specs.declared.config.TheConstants.{MAX_BALANCERS};
+ghost use Rattle.gear_parts.specs.Cuts.{AddsCuts, ToFirst};
+
+use balancer_core::BookList;
+use jk_io::IoError;
+use locked_balancer::Shelf;
+
+/// Keeps the last segments on the first of the shelves.
+pub fn keep_on_first<S: Shelf>(books: BookList, shelves: &mut [S]) -> Result<(), IoError>
+    requires some { 0 < length shelves.old }
+    requires few { length books ≤ MAX_BALANCERS }
+    ensures kept { OnOk result (ToFirst (AddsCuts S.shelved books) shelves.old shelves.new) }
+    ensures failed { IsErrOf result IoError.Failed → ToFirst (λ old new. Rose (S.faults old) (S.faults new)) shelves.old shelves.new }
+    ensures len { length shelves.new ≡ length shelves.old }
+{
+    keep_rest(books, &mut shelves[0])
+}
+
+/// Cuts each Book once more, in order, and keeps its segment.
+fn keep_rest<S: Shelf>(books: BookList, shelf: &mut S) -> Result<(), IoError>
+    requires few { length books ≤ MAX_BALANCERS }
+    ensures kept { OnOk result (AddsCuts S.shelved books shelf.old shelf.new) }
+    ensures failed { IsErrOf result IoError.Failed → Rose (S.faults shelf.old) (S.faults shelf.new) }
+{
+    let mut lb: u32 = 0;
+    'books: for book in books.into_vec() {
+        let mut book = book;
+        let segment = book.cut()?;
+        shelf.keep(lb, segment)?;
+        lb += 1;
+    }
+    Ok(())
+}

@@ -1,0 +1,26 @@
+//! Gears: what each worker uses of the outside, taken of a world, made into parts, put together again and given back.
+//!
+//! A gear is a door, a dial, a tape, a clock, a shelf and maybe a log. A connector's worker works with a part, which has a desk
+//! in the place of the shelf; a container's worker uses the door alone.
+//! Contract: the trait `World`; `take_gears`, clauses `taken`, `made` and `refused`, and `give_back`, clause `came_back`;
+//! `fill_parts`, clause `starts`, and `take_apart` and `gears_again`, clause `tools`; `keep_on_first`, clause `kept`;
+//! `contain_gears`, clause `ran`. Read first: src/world.rt, specs/Gears.antt, specs/Worlds.antt; then specs/GearParts.antt,
+//! specs/Cuts.antt and specs/Containers.antt.
+//! Errors: `IoError` of the world or a shelf; a container's run has want of memory alone, after which no gear comes back.
+#![tactic(auto)]
+
+mod container;
+mod gears;
+mod keeping;
+mod left;
+mod part;
+mod parts;
+mod world;
+
+pub use container::{ContainerRun, contain_gears};
+pub use gears::{GearOf, GearOrder, give_back, take_gears};
+pub use keeping::keep_on_first;
+pub use left::{Left, gears_again, take_apart};
+pub use part::{Outside, OutsideList, Part};
+pub use parts::{Common, fill_parts};
+pub use world::{Gear, World};

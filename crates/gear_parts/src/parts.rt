@@ -1,0 +1,127 @@
+//! The parts of gears, with which the workers of a connector work.
+ghost use Rattle.std.specs.Prelude.{◌≡◌, ◌+◌, ◌<◌, ◌≤◌, ◌++◌, [], ◌∷◌, map, vec_capacity, vec_len};
+ghost use Rattle.std.specs.List.{All};
+ghost use Rattle.conn_pool.specs.Idle.{counts};
+ghost use Rattle.gear_parts.specs.GearParts.{start_of, start_with};
+ghost use Rattle.gear_parts.specs.Putting.{PutsOne};
+
+use crate::part::Part;
+use crate::world::Gear;
+use conn_pool::{Idle, PooledReach, Pools, Tape};
+use jk_io::Dial;
+use locked_balancer::{SharedDesk, SharedSite, Shelf, SiteName};
+use std::alloc::Global;
+use std::sync::ledger::Share;
+
+/// What all workers ask: the balancers, and the pools of idle links.
+#[derive(Drop)]
+pub struct Common<'s, 'r, L: SiteName, G: Dial, R> {
+    pub site: &'s SharedSite<'r, L, R>,
+    pub pools: &'s Pools<'r, Idle<G::L>, R>,
+}
+
+/// A part for each gear, with one part of the share.
+pub fn fill_parts<
+    's,
+    'r,
+    L: SiteName,
+    D: Drop,
+    G: Dial + Drop,
+    T: Tape + Drop,
+    K: Drop,
+    S: Shelf + Drop,
+    O: Drop,
+    R,
+>(
+    alloc: Global,
+    common: &Common<'s, 'r, L, G, R>,
+    share: Share<L>,
+    gears: Vec<Gear<D, G, T, K, S, O>>,
+    parts: &mut Vec<Part<'s, 'r, L, D, PooledReach<'s, 'r, G, T, R>, K, S, R>>,
+    logs: &mut Vec<Option<O>>,
+)
+    requires none { (parts.old.items ≡ []) × (logs.old.items ≡ []) }
+    requires room { (vec_len gears ≤ vec_capacity parts.old) × (vec_len gears ≤ vec_capacity logs.old) }
+    requires parts { share.parts ≡ vec_len gears }
+    requires amount { share.amount ≡ 0 }
+    requires idle { All (λ g. T.is_idle g.tape) gears.items }
+    ensures starts { map (λ p. start_with p.door p.reach p.clock p.desk) parts.new.items
+        ≡ map (start_of L.sizes (counts common.now.pools.now)) gears.items }
+    ensures logs { logs.new.items ≡ map (λ g. g.log) gears.items }
+{
+    let mut share = share;
+    'gears: for gear in gears {
+        put_part(alloc, common, &mut share, gear, parts, logs);
+    }
+}
+
+/// Puts the part of a gear, and its log, behind the others.
+fn put_part<
+    's,
+    'r,
+    L: SiteName,
+    D: Drop,
+    G: Dial + Drop,
+    T: Tape + Drop,
+    K: Drop,
+    S: Shelf + Drop,
+    O: Drop,
+    R,
+>(
+    alloc: Global,
+    common: &Common<'s, 'r, L, G, R>,
+    share: &mut Share<L>,
+    gear: Gear<D, G, T, K, S, O>,
+    parts: &mut Vec<Part<'s, 'r, L, D, PooledReach<'s, 'r, G, T, R>, K, S, R>>,
+    logs: &mut Vec<Option<O>>,
+)
+    requires some { 0 < share.old.parts }
+    requires amount { share.old.amount ≡ 0 }
+    requires idle { T.is_idle gear.tape }
+    requires room { (vec_len parts.old < vec_capacity parts.old) × (vec_len logs.old < vec_capacity logs.old) }
+    ensures part { PutsOne (λ p. start_with p.door p.reach p.clock p.desk ≡ start_of L.sizes (counts common.now.pools.now) gear)
+        parts.old.items parts.new.items }
+    ensures log { logs.new.items ≡ logs.old.items ++ gear.log ∷ [] }
+    ensures share { (share.new.parts + 1 ≡ share.old.parts) × (share.new.amount ≡ 0) }
+    ensures len { (vec_len parts.new ≡ vec_len parts.old + 1) × (vec_len logs.new ≡ vec_len logs.old + 1) }
+    ensures capacity { (vec_capacity parts.new ≡ vec_capacity parts.old) × (vec_capacity logs.new ≡ vec_capacity logs.old) }
+{
+    let mine = share.split_off(1, 0);
+    let (part, log) = part_of(alloc, common, mine, gear);
+    parts.push_reserved(part);
+    logs.push_reserved(log);
+}
+
+/// The part of a gear, and its log.
+fn part_of<'s, 'r, L: SiteName, D, G: Dial, T: Tape, K, S: Shelf, O, R>(
+    alloc: Global,
+    common: &Common<'s, 'r, L, G, R>,
+    share: Share<L>,
+    gear: Gear<D, G, T, K, S, O>,
+) -> (
+    Part<'s, 'r, L, D, PooledReach<'s, 'r, G, T, R>, K, S, R>,
+    Option<O>,
+)
+    requires part { share.parts ≡ 1 }
+    requires amount { share.amount ≡ 0 }
+    requires idle { T.is_idle gear.tape }
+    ensures part { start_with result.0.door result.0.reach result.0.clock result.0.desk
+        ≡ start_of L.sizes (counts common.now.pools.now) gear }
+    ensures log { result.1 ≡ gear.log }
+{
+    let Gear {
+        door,
+        dial,
+        tape,
+        clock,
+        shelf,
+        log,
+    } = gear;
+    let part = Part {
+        door,
+        reach: PooledReach::new(common.pools, dial, tape),
+        clock,
+        desk: SharedDesk::new(alloc, common.site, share, shelf),
+    };
+    (part, log)
+}

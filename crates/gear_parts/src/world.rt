@@ -1,0 +1,95 @@
+//! The world: what hands out gears and takes them back.
+ghost use Rattle.std.specs.Prelude.{◌≡◌, ◌+◌, ◌<◌, ◌≤◌, ℕ, List, Option, Some, None, [], ◌∷◌, length, IfOk, IfSome, IsSome, OnErr, OnOk};
+ghost use Rattle.jk_io.specs.Told.{HasCause, IsEmpty, appended};
+
+use conn_pool::Tape;
+use jk_io::{Bytes, Clock, Dial, Door, IoError, Sink};
+use locked_balancer::Shelf;
+use site_config::Config;
+use std::alloc::Global;
+
+/// What one worker uses of the outside. A container's worker uses the door alone.
+#[derive(Drop)]
+pub struct Gear<D, G, T, K, S, O> {
+    /// Where its clients come from, and where their links are left.
+    pub door: D,
+    /// What makes links to members.
+    pub dial: G,
+    /// Where its talks with members are noted.
+    pub tape: T,
+    /// What tells the moments, in whole seconds.
+    pub clock: K,
+    /// Where the segments of the journals go that its worker cuts.
+    pub shelf: S,
+    /// Where its requests are logged; none where they aren't.
+    pub log: Option<O>,
+}
+
+/// What makes gears, and takes them back.
+pub trait World {
+    ghost use Rattle.std.specs.Prelude.{◌≡◌, ◌+◌, ◌<◌, ◌≤◌, ℕ, List, Option, Some, None, [], ◌∷◌, length, IfOk, IfSome, IsSome, OnErr, OnOk};
+    ghost use Rattle.jk_io.specs.Told.{HasCause, IsEmpty, appended};
+    ghost use Rattle.gear_parts.specs.declared.world.Gear.{Gear as AnyGear};
+
+    type D: Door + Drop + Send;
+
+    type G: Dial + Drop + Send;
+
+    type T: Tape + Drop + Send;
+
+    type K: Clock + Drop + Send;
+
+    type S: Shelf + Drop + Send;
+
+    type O: Sink + Drop + Send;
+
+    // the gears that were handed out, each as it was then
+    ghost handed: { Self → Option (List (AnyGear Self.D Self.G Self.T Self.K Self.S Self.O)) };
+
+    // the gears that came back, each as it was then
+    ghost came_back: { Self → Option (List (AnyGear Self.D Self.G Self.T Self.K Self.S Self.O)) };
+
+    // how many gears are out
+    ghost out: { Self → ℕ };
+
+    // how many calls failed
+    ghost faults: { Self → ℕ };
+
+    /// Makes what worker `number`, from 0, uses. Its door takes clients at `address`, and has at most `clients` to come,
+    /// where that is given. A journal is kept in the directory `journal`, by the names of the balancers of `cfg`.
+    fn gear(
+        &mut self,
+        alloc: Global,
+        number: u32,
+        address: &Bytes,
+        clients: Option<u64>,
+        journal: Option<&Bytes>,
+        cfg: Option<&Config>,
+    ) -> Result<Gear<Self::D, Self::G, Self::T, Self::K, Self::S, Self::O>, IoError>
+        requires named { IsSome journal → IsSome cfg }
+        ensures handed { IfOk result (λ gear. handed self.new ≡ appended (handed self.old) (gear ∷ [])) }
+        ensures one_more { OnOk result (out self.new ≡ out self.old + 1) }
+        ensures few { IfOk result (λ gear. IfSome clients (λ most. IfSome (Self.D.coming gear.door) (λ coming. length coming ≤ most))) }
+
+        // Nothing was done with it: no link was left at its door, and no talk runs or was noted.
+        ensures none_left { IfOk result (λ gear. IsEmpty (Self.D.left gear.door)) }
+        ensures idle { IfOk result (λ gear. Self.T.is_idle gear.tape) }
+        ensures no_talk { IfOk result (λ gear. IsEmpty (Self.T.talks gear.tape)) }
+        ensures unlogged { IfOk result (λ gear. gear.log ≡ None) }
+
+        ensures err { OnErr result ((handed self.new ≡ handed self.old) × (out self.new ≡ out self.old)) }
+        ensures same { came_back self.new ≡ came_back self.old }
+        ensures cause { HasCause (faults self.old) (faults self.new) result };
+
+    /// Makes the log of worker `number`, from 0, in a directory.
+    fn log(&mut self, alloc: Global, dir: &Bytes, number: u32) -> Result<Self::O, IoError>
+        ensures same { (handed self.new ≡ handed self.old) × (came_back self.new ≡ came_back self.old) × (out self.new ≡ out self.old) }
+        ensures cause { HasCause (faults self.old) (faults self.new) result };
+
+    /// Takes a gear back, at the end of those that came back. It takes no memory.
+    fn back(&mut self, gear: Gear<Self::D, Self::G, Self::T, Self::K, Self::S, Self::O>)
+        requires out { 0 < out self.old }
+        ensures came_back { came_back self.new ≡ appended (came_back self.old) (gear ∷ []) }
+        ensures one_less { out self.new + 1 ≡ out self.old }
+        ensures same { (handed self.new ≡ handed self.old) × (faults self.new ≡ faults self.old) };
+}
