@@ -5,7 +5,7 @@ Written from the public AJPv1.3 protocol reference ("Response Packet Structure",
 program's own code. It has two rules that the reference does not: a chunk may lack its last zero byte, and the length
 FFFF is an absent string, which reads as an empty one.
 
-    python3 vectors/ajp_reply.py > crates/wire_checks/data/reply.txt
+    python3 vectors/ajp_reply.py > crates/checks/data/wire/reply.txt
 """
 
 from ajp_data import Data, Refused

@@ -6,7 +6,7 @@ own code. It has four rules that the reference does not: the length FFFF is an a
 and a value may be; more than 100 headers are refused; an integer from A000 on in a name's place is a code; a method
 without a code is written before any other attribute that stores one, else as the last attribute.
 
-    python3 vectors/ajp_request.py > crates/wire_checks/data/request.txt
+    python3 vectors/ajp_request.py > crates/checks/data/wire/request.txt
 """
 
 from ajp_data import Data, Refused

@@ -1,6 +1,6 @@
 """What drills hand out, written from the rules of a drill and the AJPv1.3 reference, apart from the program's own code.
 
-`python3 vectors/drill.py > crates/drill_checks/stdout` writes what crates/drill_checks has to print.
+`python3 vectors/drill.py` prints the lines on drills that stand in crates/checks/stdout, from `requests 1` on.
 """
 
 MASK = (1 << 64) - 1

@@ -5,7 +5,7 @@ Written from RFC 9110, RFC 9112 and the public AJPv1.3 protocol reference, and a
 are built as the reference spells them, and replies as HTTP frames them. Own rules are the answers of the connector itself,
 the order of a request's attributes, and which member is asked (docs/FORMATS.md).
 
-    python3 vectors/dry.py > crates/plain_checks/data/dry.txt
+    python3 vectors/dry.py > crates/plain_checks/data/plain/dry.txt
 """
 from sessions import READ_ONLY, STATUS
 

@@ -7,7 +7,7 @@
                                      (every line in every form; the default)
     play.py large SEED               prints a script of up to 2,000 calls of every kind, of up to 64 members
     play.py rows                     prints the long and the large scripts with their output, as rows of plain_checks:
-                                     vectors/play.py rows > crates/plain_checks/data/plays.txt
+                                     vectors/play.py rows > crates/plain_checks/data/plain/plays.txt
 
 So the program is compared with a second reading of the rules, and not with itself. A balancer that a script starts has the
 rules of version 2, and its asks have no masks, so version 1 and masks stand in no script.
@@ -501,7 +501,7 @@ def row(name, script):
 
 
 def rows():
-    told = ["# Long and large scripts, with what they print: vectors/play.py rows > crates/plain_checks/data/plays.txt\n"]
+    told = ["# Long and large scripts, with what they print: vectors/play.py rows > crates/plain_checks/data/plain/plays.txt\n"]
     told += [row(f"long {seed}", make(seed, lines, form)) for seed, lines, form in LONG]
     return "\n".join(told + [row(f"large {seed}", large(seed)) for seed in LARGE])
 

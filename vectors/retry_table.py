@@ -7,7 +7,7 @@ container didn't get the request, or option 1 is off) and (it didn't send the he
 
 A case is a bit of a row's number: head + 2 get + 4 got + 8 headers + 16 passed + 32 beyond is its place.
 
-    python3 vectors/retry_table.py      the rows `retry` of crates/http_checks/data/routes.txt
+    python3 vectors/retry_table.py      the rows `retry` of crates/checks/data/http/routes.txt
 """
 
 

@@ -4,10 +4,10 @@
 Written from RFC 9112, the public AJPv1.3 protocol reference, and the rules of docs/FORMATS.md and docs/DECISIONS.md, and
 apart from the program's own code: replies and packets are put together by sessions.py, journals by hand.
 
-    python3 vectors/serving.py serving > crates/serve_checks/data/serving.txt
-    python3 vectors/serving.py faults > crates/serve_checks/data/faults.txt
-    python3 vectors/serving.py words > crates/serve_checks/data/words.txt
-    python3 vectors/serving.py drills > crates/serve_checks/data/drills.txt
+    python3 vectors/serving.py serving > crates/serve_checks/data/serve/serving.txt
+    python3 vectors/serving.py faults > crates/serve_checks/data/serve/faults.txt
+    python3 vectors/serving.py words > crates/serve_checks/data/serve/words.txt
+    python3 vectors/serving.py drills > crates/serve_checks/data/serve/drills.txt
 """
 import sys
 
@@ -161,5 +161,5 @@ def drills():
     yield Row("a journal behind --", "drill 1 1 -- 1 journal", out=drill.one_journal(1).encode())
 
 
-print(f"# Made by vectors/serving.py {sys.argv[1]}. How a row is written stands in src/main.rt.\n")
+print(f"# Made by vectors/serving.py {sys.argv[1]}. How a row is written stands at the head of serve_checks.\n")
 print("\n".join(row.show() for row in {"serving": serving, "faults": faults, "words": words, "drills": drills}[sys.argv[1]]()))

@@ -5,9 +5,9 @@ Written from RFC 9112, the public AJPv1.3 protocol reference, the Tomcat Connect
 docs/FORMATS.md and docs/DECISIONS.md, and apart from the program's own code: what is wanted of a row is put together by
 hand from packets and lines.
 
-    python3 vectors/sessions.py sessions > crates/session_checks/data/sessions.txt
-    python3 vectors/sessions.py failing > crates/session_checks/data/failing.txt
-    python3 vectors/sessions.py replies > crates/session_checks/data/replies.txt
+    python3 vectors/sessions.py sessions > crates/checks/data/session/sessions.txt
+    python3 vectors/sessions.py failing > crates/checks/data/session/failing.txt
+    python3 vectors/sessions.py replies > crates/checks/data/session/replies.txt
 """
 import re
 import sys

@@ -1,9 +1,12 @@
 //! Each row of a text, done once for each of its lines `with`.
 use crate::row::{BlockRow, RowError};
 use crate::texts::With;
+use anyhow::Result as Judged;
+use check_rows::files::{print_count, read_rows};
 use jk_io::NoMemory;
 use std::alloc::Global;
 use std::fmt::Write;
+use std::rt::Files;
 
 /// What rows are about.
 pub trait BlockArea {
@@ -11,11 +14,11 @@ pub trait BlockArea {
     fn holds(&self, alloc: Global, row: BlockRow<'_>) -> Result<bool, RowError>;
 }
 
-/// How many runs there were, and how many of them came out otherwise.
+/// How many runs there were, and how many of them came out as they say.
 #[derive(Clone, Copy)]
-pub struct Count {
-    pub runs: u64,
-    pub others: u64,
+struct Count {
+    runs: u64,
+    fits: u64,
 }
 
 /// The texts that stand for `\1` and `\2`.
@@ -54,11 +57,11 @@ fn judge<A: BlockArea>(
 ) -> Result<Count, NoMemory> {
     let runs = count.runs.saturating_add(1);
     if is_held(alloc, area, row)? {
-        return Ok(Count { runs, ..count });
+        let fits = count.fits.saturating_add(1);
+        return Ok(Count { runs, fits });
     }
     show(row, shown)?;
-    let others = count.others.saturating_add(1);
-    Ok(Count { runs, others })
+    Ok(Count { runs, ..count })
 }
 
 /// Does a row once for each of its lines `with`, or once where it has none.
@@ -83,16 +86,47 @@ fn judge_row<A: BlockArea>(
     judge(alloc, area, BlockRow { lines, with }, count, shown)
 }
 
-/// Does each row of a text, shows those that come out otherwise, and counts.
-pub fn judge_rows<A: BlockArea>(
+/// Does each row of a text, shows those that come out otherwise, and answers how many runs come out as they say.
+fn judge_rows<A: BlockArea>(
     alloc: Global,
     area: &A,
     text: &str,
     shown: &mut String,
-) -> Result<Count, NoMemory> {
-    let mut count = Count { runs: 0, others: 0 };
+) -> Result<u64, NoMemory> {
+    let mut count = Count { runs: 0, fits: 0 };
     for lines in text.split("\nrow ").skip(1) {
         count = judge_row(alloc, area, lines, count, shown)?;
     }
-    Ok(count)
+    Ok(count.fits)
+}
+
+fn judge_text<A: BlockArea, R: Print + AllocGlobal>(
+    rt: &R,
+    file: &str,
+    area: &A,
+    text: &str,
+) -> Judged<()> {
+    let mut shown = String::new(rt.alloc());
+    let rows = judge_rows(rt.alloc(), area, text, &mut shown)?;
+    print_count(rt, shown.as_str(), rows, "rows", file)
+}
+
+fn judge_file<A: BlockArea, R: Print + AllocGlobal + Files>(
+    rt: &R,
+    file: &str,
+    area: &A,
+) -> Judged<()> {
+    judge_text(rt, file, area, read_rows(rt, file)?.as_str())
+}
+
+/// Does each row of each file, shows those that come out otherwise, and how many come out as they say.
+pub fn judge_files<A: BlockArea, R: Print + AllocGlobal + Files>(
+    rt: &R,
+    files: &[&str],
+    area: &A,
+) -> Judged<()> {
+    for file in files {
+        judge_file(rt, file, area)?;
+    }
+    Ok(())
 }

@@ -9,7 +9,7 @@
 //!     |TEXT               the text and LF, at the end of what was begun last; `+TEXT` is the text alone
 //!     times N TEXT        the text N times; in `counted N TEXT` each `\i` is its number, from 0
 //!     again N             all that stands there N times more
-//!     KEY VALUE           what a program of checks asks for by this key
+//!     KEY VALUE           what a crate of checks asks for by this key
 //!     with A => B         the row is done once for each such line, with A for `\1` and B for `\2`
 //!
 //! In a text `\n`, `\r`, `\t` and `\s` are LF, CR, a tab and a space, `\e` is nothing, and `\xNN` is any byte.

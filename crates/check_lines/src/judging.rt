@@ -1,11 +1,11 @@
 //! The lines of rows, one after the other, and what is told of each.
 
-use anyhow::{Context, Result as Judged};
+use anyhow::Result as Judged;
+use check_rows::files::{print_count, read_rows};
 use check_rows::telling::put_plain;
 use jk_io::{Bytes, NoMemory};
 use std::alloc::Global;
 use std::fmt::Write;
-use std::fs;
 use std::rt::Files;
 
 /// Whoever tells what comes out of a line.
@@ -92,7 +92,6 @@ fn judge_rows<S: Subject>(
     Ok(fits)
 }
 
-/// Shows each line of a text that is told otherwise, and how many are told as they say.
 fn show_rows<S: Subject, R: Print + AllocGlobal>(
     rt: &R,
     file: &str,
@@ -101,8 +100,7 @@ fn show_rows<S: Subject, R: Print + AllocGlobal>(
 ) -> Judged<()> {
     let mut shown = String::new(rt.alloc());
     let lines = judge_rows(rt.alloc(), subject, text, &mut shown)?;
-    println!(rt; "{shown}{lines} lines of {file} come out as they say")?;
-    Ok(())
+    print_count(rt, shown.as_str(), lines, "lines", file)
 }
 
 /// Shows each line of a file's rows that is told otherwise, and how many are told as they say.
@@ -111,6 +109,16 @@ pub fn judge_file<S: Subject, R: Print + AllocGlobal + Files>(
     file: &str,
     subject: &S,
 ) -> Judged<()> {
-    let text = fs::read_to_string(rt, file).context(format_args!("reading {file}"))?;
-    show_rows(rt, file, subject, text.as_str())
+    show_rows(rt, file, subject, read_rows(rt, file)?.as_str())
+}
+
+/// Does so with each file, whose rows are about what stands beside it.
+pub fn judge_files<S: Subject, R: Print + AllocGlobal + Files>(
+    rt: &R,
+    files: &[(&str, S)],
+) -> Judged<()> {
+    for (file, subject) in files {
+        judge_file(rt, file, subject)?;
+    }
+    Ok(())
 }

@@ -1,10 +1,13 @@
 //! Each row of a file, done in each of its ways.
 
+use crate::files::{print_count, read_rows};
 use crate::rows::{bytes_of, expanded, fields_of};
 use crate::ways::{self, Way, way_of, ways_of};
+use anyhow::Result as Judged;
 use jk_io::NoMemory;
 use std::alloc::Global;
 use std::fmt::Write;
+use std::rt::Files;
 
 /// What a file's rows are about.
 pub trait Area {
@@ -103,7 +106,7 @@ fn judge_line<A: Area>(
 
 /// Shows each row of a text that comes out otherwise, and answers how many come out as they want. A line that begins
 /// with `#` names the rows after it.
-pub fn judge_text<A: Area>(
+fn judge_text<A: Area>(
     alloc: Global,
     area: &A,
     text: &str,
@@ -119,4 +122,35 @@ pub fn judge_text<A: Area>(
         }
     }
     Ok(rows)
+}
+
+fn judge_rows<A: Area, R: Print + AllocGlobal>(
+    rt: &R,
+    file: &str,
+    area: &A,
+    text: &str,
+) -> Judged<()> {
+    let mut shown = String::new(rt.alloc());
+    let rows = judge_text(rt.alloc(), area, text, &mut shown)?;
+    print_count(rt, shown.as_str(), rows, "rows", file)
+}
+
+/// Shows each row of a file that comes out otherwise, and how many come out as they say.
+pub fn judge_file<A: Area, R: Print + AllocGlobal + Files>(
+    rt: &R,
+    file: &str,
+    area: &A,
+) -> Judged<()> {
+    judge_rows(rt, file, area, read_rows(rt, file)?.as_str())
+}
+
+/// Does so with each file, whose rows are about what stands beside it.
+pub fn judge_files<A: Area, R: Print + AllocGlobal + Files>(
+    rt: &R,
+    files: &[(&str, A)],
+) -> Judged<()> {
+    for (file, area) in files {
+        judge_file(rt, file, area)?;
+    }
+    Ok(())
 }

@@ -5,9 +5,10 @@
 
 use ajp_reply::decode_reply;
 use ajp_request::{decode_forward, encode_forward};
-use anyhow::{Context, Result};
+use anyhow::Result;
+use check_rows::files::read_rows;
 use std::alloc::Global;
-use std::fs;
+use std::rt::Files;
 
 fn read_reply(alloc: Global, payload: &str) -> Result<String> {
     let payload = hex::decode(alloc, payload)?;
@@ -37,19 +38,19 @@ fn request(alloc: Global, act: &str, payload: &str) -> Result<String> {
 }
 
 /// Whether a row says what comes out. Shows it where it doesn't.
-fn fits(rt: &impl Print, line: &str, wanted: &str, told: &str) -> Result<bool> {
+fn fits<R: Print>(rt: &R, line: &str, wanted: &str, told: &str) -> Result<bool> {
     if told != wanted {
         println!(rt; "{line}, but it gives {told}")?;
     }
     Ok(told == wanted)
 }
 
-fn reply_fits(rt: &HostRuntime, line: &str) -> Result<bool> {
+fn reply_fits<R: Print + AllocGlobal>(rt: &R, line: &str) -> Result<bool> {
     let (payload, wanted) = line.split_once(' ').unwrap_or((line, ""));
     fits(rt, line, wanted, read_reply(rt.alloc(), payload)?.as_str())
 }
 
-fn request_fits(rt: &HostRuntime, line: &str) -> Result<bool> {
+fn request_fits<R: Print + AllocGlobal>(rt: &R, line: &str) -> Result<bool> {
     let (act, row) = line.split_once(' ').unwrap_or((line, ""));
     let (payload, wanted) = row.split_once(' ').unwrap_or((row, ""));
     fits(
@@ -68,7 +69,7 @@ enum Payloads {
 }
 
 impl Payloads {
-    fn fits(self, rt: &HostRuntime, line: &str) -> Result<bool> {
+    fn fits<R: Print + AllocGlobal>(self, rt: &R, line: &str) -> Result<bool> {
         match self {
             Payloads::Replies => reply_fits(rt, line),
             Payloads::Requests => request_fits(rt, line),
@@ -76,7 +77,7 @@ impl Payloads {
     }
 }
 
-fn count(rt: &HostRuntime, payloads: Payloads, text: &str) -> Result<u64> {
+fn count<R: Print + AllocGlobal>(rt: &R, payloads: Payloads, text: &str) -> Result<u64> {
     let mut rows = 0u64;
     for line in text.lines() {
         if payloads.fits(rt, line)? {
@@ -87,19 +88,23 @@ fn count(rt: &HostRuntime, payloads: Payloads, text: &str) -> Result<u64> {
 }
 
 /// Shows each row of a file that says otherwise, and how many say what comes out.
-fn judge(rt: &HostRuntime, file: &str, payloads: Payloads, told: &str) -> Result<()> {
-    let text = fs::read_to_string(rt, file).context(format_args!("reading {file}"))?;
-    let rows = count(rt, payloads, text.as_str())?;
+fn judge<R: Print + AllocGlobal + Files>(
+    rt: &R,
+    file: &str,
+    payloads: Payloads,
+    told: &str,
+) -> Result<()> {
+    let rows = count(rt, payloads, read_rows(rt, file)?.as_str())?;
     println!(rt; "{rows} {told}")?;
     Ok(())
 }
 
-pub fn judge_replies(rt: &HostRuntime) -> Result<()> {
+pub fn judge_replies<R: Print + AllocGlobal + Files>(rt: &R) -> Result<()> {
     let told = "payloads of the container are read as the reference says";
-    judge(rt, "reply.txt", Payloads::Replies, told)
+    judge(rt, "wire/reply.txt", Payloads::Replies, told)
 }
 
-pub fn judge_requests(rt: &HostRuntime) -> Result<()> {
+pub fn judge_requests<R: Print + AllocGlobal + Files>(rt: &R) -> Result<()> {
     let told = "rows of requests are read and written as the reference says";
-    judge(rt, "request.txt", Payloads::Requests, told)
+    judge(rt, "wire/request.txt", Payloads::Requests, told)
 }

@@ -1,21 +1,11 @@
-//! Drives a Site and desks by rows, and shows each line that comes out otherwise.
-//!
-//! What the rows of data/ want comes from the rules, worked out by hand. How a row is written stands in `check_lines`, and
-//! which lines it has at the head of each file.
-#![tactic(auto)]
+//! What the rows of each file are about.
 
-mod desks;
-mod exchanged;
-mod leases;
-mod plain;
-mod shared;
-mod site_row;
-mod sites;
-
+use crate::{desks, sites};
 use anyhow::Result;
 use check_lines::judging::{self, judge_file};
 use jk_io::NoMemory;
 use std::alloc::Global;
+use std::rt::Files;
 use std::sync::Wait;
 
 /// What the rows of a file are about.
@@ -32,7 +22,10 @@ struct Subject<'r, R> {
     rows: Rows,
 }
 
-static FILES: [(&str, Rows); 2] = [("sites.txt", Rows::Sites), ("desks.txt", Rows::Desks)];
+static FILES: [(&str, Rows); 2] = [
+    ("desk/sites.txt", Rows::Sites),
+    ("desk/desks.txt", Rows::Desks),
+];
 
 impl<'r, R: AllocGlobal + Wait> judging::Subject for Subject<'r, R> {
     fn judge(&self, _alloc: Global, row: &str, shown: &mut String) -> Result<u64, NoMemory> {
@@ -43,10 +36,11 @@ impl<'r, R: AllocGlobal + Wait> judging::Subject for Subject<'r, R> {
     }
 }
 
-fn main(rt: HostRuntime) -> Result<()> {
+/// Shows each line that is told otherwise, and how many of each file are told as they say.
+pub fn judge<R: Print + AllocGlobal + Files + Wait>(rt: &R) -> Result<()> {
     for (file, rows) in &FILES {
         let rows = *rows;
-        judge_file(&rt, file, &Subject { rt: &rt, rows })?;
+        judge_file(rt, file, &Subject { rt, rows })?;
     }
     Ok(())
 }

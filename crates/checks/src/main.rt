@@ -1,0 +1,17 @@
+//! Judges each area below jkd's commands by its rows and claims, and shows each row that comes out otherwise.
+//!
+//! Each area is a crate of checks, whose files of rows stand in folders of data/.
+#![tactic(auto)]
+
+use anyhow::Result;
+
+fn main(rt: HostRuntime) -> Result<()> {
+    wire_checks::judge(&rt)?;
+    http_checks::judge(&rt)?;
+    session_checks::judge(&rt)?;
+    value_checks::judge(&rt)?;
+    book_checks::judge(&rt)?;
+    desk_checks::judge(&rt)?;
+    outside_checks::judge(&rt)?;
+    socket_checks::judge(&rt)
+}

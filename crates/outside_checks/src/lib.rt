@@ -1,0 +1,18 @@
+//! Reads rows of data/ on objects in memory, on files, on pools and on talks over links that are kept, and then looks at the
+//! system's clock and streams. Shows each row that comes out otherwise, and each claim with whether it holds.
+//!
+//! The wanted answer stands at the end of a row, worked out by hand. How a row is written stands in `check_rows::rows`, and
+//! what its fields are at the head of crates/checks/data/outside/outside.txt.
+#![tactic(auto)]
+
+mod area;
+mod counted_dial;
+mod gates;
+mod lists;
+mod memory;
+mod pools;
+mod reaches;
+mod shared_pools;
+mod system;
+
+pub use area::judge;

@@ -1,0 +1,12 @@
+//! Looks at links over the loopback: at their reads and writes, at those that are kept, and at bytes that are held back. Then
+//! at two threads that share one pool. Shows each claim, and whether it holds.
+#![tactic(auto)]
+
+mod area;
+mod outboxes;
+mod pools;
+mod reading;
+mod sockets;
+mod threads;
+
+pub use area::judge;

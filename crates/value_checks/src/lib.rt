@@ -1,0 +1,16 @@
+//! Makes single calls of the balancer, judges openings, reads and checks journals' texts, row by row, and shows each line
+//! that comes out otherwise.
+//!
+//! What the rows of crates/checks/data/value want comes from the rules, worked out by hand. How a row is written stands in
+//! `check_lines`, and which lines it has at the head of each file.
+#![tactic(auto)]
+
+mod area;
+mod configs;
+mod journals;
+mod openings;
+mod states;
+mod values;
+mod verdicts;
+
+pub use area::judge;
