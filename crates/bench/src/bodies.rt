@@ -1,21 +1,17 @@
 //! How many bytes a second are taken of bodies of 64 KiB by each framing, and written of replies in chunks of 8 KiB.
 //!
 //! bench/bodies.c does the same in plain C.
-ghost use Rattle.std.specs.Prelude.{IfOk};
+ghost use Rattle.std.specs.Prelude.{◌<◌, IfOk, length};
+ghost use Rattle.http_front.specs.declared.head_lines.TheConstants.{MAX_HEAD_LINES};
 ghost use Rattle.http_out.specs.Writer.{IsOpen};
 
-mod repeat_link;
-
-use crate::timed::show;
-use anyhow::{Result, ensure};
-use http_body_in::{BodyFault, BodyIn};
+use crate::done::Done;
+use crate::feed::Feed;
+use http_body_in::BodyIn;
 use http_front::{BodyPlan, HeadLines, Inbox};
 use http_out::{OutError, ReplyHead, ReplyWriter};
 use jk_io::{Bytes, NoMemory};
-use repeat_link::RepeatLink;
 use std::alloc::Global;
-use std::rt::Clock;
-use std::time::Instant;
 
 const BODY_BYTES: usize = 65_536;
 
@@ -27,65 +23,106 @@ const PIECE_BYTES: usize = 8_186;
 /// No body comes near it.
 const MOST_BYTES: u64 = 1 << 40;
 
-/// Adds a chunk as its framing has it.
-fn put_chunk(text: &mut Vec<u8>, chunk: &[u8]) -> Result<(), NoMemory> {
-    text.extend_from_slice(b"2000\r\n")?;
-    text.extend_from_slice(chunk)?;
-    text.extend_from_slice(b"\r\n")?;
-    Ok(())
+static DATA: [u8; BODY_BYTES] = [b'x'; BODY_BYTES];
+
+fn told(bytes: u64) -> Done {
+    Done {
+        amount: bytes,
+        figures: [bytes, 0, 0],
+    }
 }
 
-/// The same body in chunks.
-fn put_chunks(text: &mut Vec<u8>, data: &[u8]) -> Result<(), NoMemory> {
-    for chunk in data.chunks(CHUNK_BYTES) {
+/// Adds a chunk as its framing has it.
+fn put_chunk(text: &mut Bytes, chunk: &[u8]) -> Result<(), NoMemory> {
+    text.extend(b"2000\r\n")?;
+    text.extend(chunk)?;
+    text.extend(b"\r\n")
+}
+
+/// Adds the same body in chunks.
+fn put_chunks(text: &mut Bytes) -> Result<(), NoMemory> {
+    for chunk in DATA.chunks(CHUNK_BYTES) {
         put_chunk(text, chunk)?;
     }
-    text.extend_from_slice(b"0\r\n\r\n")?;
-    Ok(())
+    text.extend(b"0\r\n\r\n")
 }
 
 /// Takes one piece, and answers whether there was one.
-fn takes(
-    alloc: Global,
-    body: &mut BodyIn,
-    inbox: &mut Inbox,
-    client: &mut RepeatLink,
-) -> Result<bool, BodyFault> {
-    Ok(!body.take(alloc, inbox, client, PIECE_BYTES)?.is_empty())
+fn takes(alloc: Global, body: &mut BodyIn, inbox: &mut Inbox, client: &mut Feed) -> bool {
+    match body.take(alloc, inbox, client, PIECE_BYTES) {
+        Ok(piece) => !piece.is_empty(),
+        Err(_) => false,
+    }
 }
 
 /// Takes a whole body in pieces, and answers how many bytes of data it has.
-fn take_body(
-    alloc: Global,
-    plan: BodyPlan,
-    inbox: &mut Inbox,
-    client: &mut RepeatLink,
-) -> Result<u64, BodyFault> {
+fn take_body(alloc: Global, plan: BodyPlan, inbox: &mut Inbox, client: &mut Feed) -> u64 {
     let mut body = BodyIn::new(plan, MOST_BYTES);
     for _ in 0..BODY_BYTES {
-        if !takes(alloc, &mut body, inbox, client)? {
+        if !takes(alloc, &mut body, inbox, client) {
             break;
         }
     }
-    Ok(body.taken())
+    body.taken()
 }
 
-fn length_line(alloc: Global, length: &[u8]) -> Result<(Bytes, Bytes), NoMemory> {
+fn take_often(
+    alloc: Global,
+    plan: BodyPlan,
+    inbox: &mut Inbox,
+    client: &mut Feed,
+    rounds: u32,
+) -> Done {
+    let mut bytes = 0u64;
+    for _ in 0..rounds {
+        bytes = bytes.saturating_add(take_body(alloc, plan, inbox, client));
+    }
+    told(bytes)
+}
+
+/// Takes bodies of a client that sends a text again and again.
+fn take(alloc: Global, plan: BodyPlan, text: &[u8], rounds: u32) -> Option<Done> {
+    match Inbox::new(alloc) {
+        Ok(mut inbox) => Some(take_often(alloc, plan, &mut inbox, &mut Feed::new(text), rounds)),
+        Err(_) => None,
+    }
+}
+
+pub fn take_by_length(alloc: Global, rounds: u32) -> Option<Done> {
+    take(alloc, BodyPlan::Exact(BODY_BYTES as u64), &DATA, rounds)
+}
+
+pub fn take_chunks(alloc: Global, rounds: u32) -> Option<Done> {
+    let mut text = Bytes::new(alloc);
+    match put_chunks(&mut text) {
+        Ok(()) => take(alloc, BodyPlan::Chunked, text.as_slice(), rounds),
+        Err(NoMemory) => None,
+    }
+}
+
+fn length_line(alloc: Global) -> Result<(Bytes, Bytes), NoMemory> {
     let name = Bytes::from_slice(alloc, b"Content-Length")?;
-    Ok((name, Bytes::from_slice(alloc, length)?))
+    Ok((name, Bytes::from_slice(alloc, b"65536")?))
 }
 
-fn lines_of(alloc: Global, length: Option<&[u8]>) -> Result<HeadLines, NoMemory> {
+fn put_length(alloc: Global, lines: &mut HeadLines) -> Result<(), NoMemory>
+    requires { length lines.old < MAX_HEAD_LINES }
+{
+    lines.push(length_line(alloc)?)?;
+    Ok(())
+}
+
+fn lines_of(alloc: Global, is_by_length: bool) -> Result<HeadLines, NoMemory> {
     let mut lines = HeadLines::new(alloc);
-    if let Some(length) = length {
-        lines.push(length_line(alloc, length)?)?;
+    if is_by_length {
+        put_length(alloc, &mut lines)?;
     }
     Ok(lines)
 }
 
 /// A head, with a length or without one.
-fn head(alloc: Global, length: Option<&[u8]>) -> Result<ReplyHead, NoMemory> {
-    let headers = lines_of(alloc, length)?;
+fn head(alloc: Global, is_by_length: bool) -> Result<ReplyHead, NoMemory> {
+    let headers = lines_of(alloc, is_by_length)?;
     Ok(ReplyHead {
         status: 200,
         message: Bytes::from_slice(alloc, b"OK")?,
@@ -94,169 +131,44 @@ fn head(alloc: Global, length: Option<&[u8]>) -> Result<ReplyHead, NoMemory> {
 }
 
 /// A writer that has taken a head.
-fn opened(alloc: Global, length: Option<&[u8]>) -> Result<ReplyWriter, OutError>
+fn opened(alloc: Global, is_by_length: bool) -> Result<ReplyWriter, OutError>
     ensures { IfOk result (λ writer. IsOpen writer) }
 {
     let mut writer = ReplyWriter::new(alloc, false, false, false);
-    writer.headers(head(alloc, length)?)?;
+    writer.headers(head(alloc, is_by_length)?)?;
     Ok(writer)
 }
 
 /// Passes a body on in chunks, and ends it.
-fn pass(writer: &mut ReplyWriter, data: &[u8], client: &mut RepeatLink) -> Result<(), OutError>
+fn pass(writer: &mut ReplyWriter, client: &mut Feed) -> Result<(), OutError>
     requires { IsOpen writer.old }
 {
-    for chunk in data.chunks(CHUNK_BYTES) {
+    for chunk in DATA.chunks(CHUNK_BYTES) {
         writer.chunk(chunk, client)?;
     }
     writer.end(client)
 }
 
-/// Writes a reply in chunks.
-fn write_reply(
-    alloc: Global,
-    length: Option<&[u8]>,
-    data: &[u8],
-    client: &mut RepeatLink,
-) -> Result<(), OutError> {
-    pass(&mut opened(alloc, length)?, data, client)
-}
-
-/// What is measured.
-#[derive(Clone, Copy)]
-enum Work {
-    TakeByLength,
-    TakeChunks,
-    WriteByLength,
-    WriteChunks,
-}
-
-impl Work {
-    /// Adds what a client sends for it.
-    fn put_text(self, text: &mut Vec<u8>, data: &[u8]) -> Result<(), NoMemory> {
-        match self {
-            Work::TakeChunks => put_chunks(text, data),
-            Work::TakeByLength | Work::WriteByLength | Work::WriteChunks => {
-                text.extend_from_slice(data)?;
-                Ok(())
-            }
-        }
-    }
-
-    fn text(self, alloc: Global, data: &[u8]) -> Result<Vec<u8>, NoMemory> {
-        let mut text = Vec::new(alloc);
-        self.put_text(&mut text, data)?;
-        Ok(text)
-    }
-
-    /// One body, or one reply: whether all bytes of data were taken.
-    fn does(self, alloc: Global, inbox: &mut Inbox, client: &mut RepeatLink, data: &[u8]) -> bool {
-        let all = data.len() as u64;
-        match self {
-            Work::TakeByLength => {
-                take_body(alloc, BodyPlan::Exact(all), inbox, client) == Ok(all)
-            }
-            Work::TakeChunks => take_body(alloc, BodyPlan::Chunked, inbox, client) == Ok(all),
-            Work::WriteByLength => write_reply(alloc, Some(b"65536"), data, client).is_ok(),
-            Work::WriteChunks => write_reply(alloc, None, data, client).is_ok(),
-        }
-    }
-
-    fn name(self) -> &'static str {
-        match self {
-            Work::TakeByLength => "bytes taken by length",
-            Work::TakeChunks => "bytes taken in chunks",
-            Work::WriteByLength => "bytes written by length",
-            Work::WriteChunks => "bytes written in chunks",
-        }
+/// Writes a reply in chunks, and answers how many bytes of data it has.
+fn write_reply(alloc: Global, is_by_length: bool, client: &mut Feed) -> u64 {
+    match opened(alloc, is_by_length) {
+        Ok(mut writer) => match pass(&mut writer, client) {
+            Ok(()) => BODY_BYTES as u64,
+            Err(_) => 0,
+        },
+        Err(_) => 0,
     }
 }
 
-fn does_often(
-    work: Work,
-    alloc: Global,
-    inbox: &mut Inbox,
-    client: &mut RepeatLink,
-    data: &[u8],
-    rounds: u32,
-) -> bool {
+fn write_often(alloc: Global, is_by_length: bool, client: &mut Feed, rounds: u32) -> Done {
+    let mut bytes = 0u64;
     for _ in 0..rounds {
-        client.rewind();
-        if !work.does(alloc, inbox, client, data) {
-            return false;
-        }
+        bytes = bytes.saturating_add(write_reply(alloc, is_by_length, client));
     }
-    true
+    told(bytes)
 }
 
-fn over_wire(work: Work, alloc: Global, text: &[u8], data: &[u8], rounds: u32) -> Result<()> {
-    let inbox = &mut Inbox::new(alloc)?;
-    ensure!(
-        does_often(work, alloc, inbox, &mut RepeatLink::new(text), data, rounds),
-        "a body was refused"
-    );
-    Ok(())
-}
-
-fn measure_text(
-    rt: &(impl Print + Clock),
-    alloc: Global,
-    work: Work,
-    text: &[u8],
-    data: &[u8],
-    rounds: u32,
-) -> Result<()> {
-    let start = Instant::now(rt)?;
-    over_wire(work, alloc, text, data, rounds)?;
-    let bytes = u64::from(rounds).saturating_mul(BODY_BYTES as u64);
-    show(rt, work.name(), bytes, start)
-}
-
-fn measure_work(
-    rt: &(impl Print + Clock),
-    alloc: Global,
-    work: Work,
-    data: &[u8],
-    rounds: u32,
-) -> Result<()> {
-    let text = work.text(alloc, data)?;
-    measure_text(rt, alloc, work, text.as_slice(), data, rounds)
-}
-
-static WORKS: [Work; 4] = [
-    Work::TakeByLength,
-    Work::TakeChunks,
-    Work::WriteByLength,
-    Work::WriteChunks,
-];
-
-fn measure_with(rt: &(impl Print + Clock), alloc: Global, data: &[u8], rounds: u32) -> Result<()> {
-    for work in &WORKS {
-        measure_work(rt, alloc, *work, data, rounds)?;
-    }
-    Ok(())
-}
-
-pub fn measure(rt: &(impl Print + Clock), alloc: Global, rounds: u32) -> Result<()> {
-    let data = vec![in alloc; b'x'; BODY_BYTES]?;
-    measure_with(rt, alloc, data.as_slice(), rounds)
-}
-
-fn once(alloc: Global, work: Work, data: &[u8]) -> Result<()> {
-    let text = work.text(alloc, data)?;
-    over_wire(work, alloc, text.as_slice(), data, 1)
-}
-
-fn each_once(rt: &impl Print, alloc: Global, data: &[u8]) -> Result<()> {
-    for work in &WORKS {
-        once(alloc, *work, data)?;
-        println!(rt; "{BODY_BYTES} {}", work.name())?;
-    }
-    Ok(())
-}
-
-/// One body, or one reply, of each kind.
-pub fn one_round(rt: &impl Print, alloc: Global) -> Result<()> {
-    let data = vec![in alloc; b'x'; BODY_BYTES]?;
-    each_once(rt, alloc, data.as_slice())
+/// Writes replies to a client.
+pub fn write(alloc: Global, is_by_length: bool, rounds: u32) -> Option<Done> {
+    Some(write_often(alloc, is_by_length, &mut Feed::new(&[]), rounds))
 }

@@ -2,11 +2,10 @@
 //!
 //! It makes N exchanges in each of nine Books: choices and returns alone, and with a maintenance and a command after
 //! each 64 exchanges. bench/scan.c picks by the same rule over plain arrays.
-ghost use Rattle.std.specs.Prelude.{◌≡◌, IfOk};
+ghost use Rattle.std.specs.Prelude.{◌≡◌, IfSome};
 ghost use Rattle.jk_model.specs.declared.segment.TheConstants.{MODERN_RULES};
 
-use crate::timed::show;
-use anyhow::Result;
+use crate::done::{Done, show, tell};
 use balancer_core::{Book, Picked};
 use jk_io::{Bytes, NoMemory};
 use jk_model::{
@@ -14,7 +13,7 @@ use jk_model::{
     Method, Outcome, Redirect,
 };
 use std::alloc::Global;
-use std::rt::Clock;
+use std::io;
 use std::time::Instant;
 
 const ASK: Ask = Ask {
@@ -68,38 +67,46 @@ fn config_of(members: MemberList) -> Result<LbConfig, ConfigError> {
     )
 }
 
-/// A Book of rules 2 with so many members.
-pub fn book_of(alloc: Global, count: u32) -> Result<Book>
-    ensures { IfOk result (λ book. book.rules ≡ MODERN_RULES) }
-{
-    let config = config_of(members_of(alloc, count)?)?;
-    Ok(Book::start(alloc, config, 0, 0)?)
+fn config(alloc: Global, members: u32) -> Option<LbConfig> {
+    match members_of(alloc, members) {
+        Ok(members) => config_of(members).ok(),
+        Err(NoMemory) => None,
+    }
 }
 
-/// A choice and its return: two holds.
-pub fn exchange(book: &mut Book, at: u64) -> Result<()>
+/// A Book of rules 2 with so many members.
+pub fn book_of(alloc: Global, members: u32) -> Option<Book>
+    ensures { IfSome result (λ book. book.rules ≡ MODERN_RULES) }
+{
+    match Book::start(alloc, config(alloc, members)?, 0, 0) {
+        Ok(book) => Some(book),
+        Err(NoMemory) => None,
+    }
+}
+
+/// A choice and its return: two holds. What is refused adds no entry.
+pub fn exchange(book: &mut Book, at: u64)
     requires { book.old.rules ≡ MODERN_RULES }
     ensures { book.new.rules ≡ MODERN_RULES }
 {
-    let Picked { entry: _, lease } = book.select(0, at, &ASK)?;
-    if let Some(lease) = lease {
-        book.give_back(0, at, lease, DONE)?;
+    if let Ok(Picked { entry: _, lease }) = book.select(0, at, &ASK) {
+        if let Some(lease) = lease {
+            let _returned = book.give_back(0, at, lease, DONE);
+        }
     }
-    Ok(())
 }
 
-fn exchanges(book: &mut Book, at: u64, count: u64) -> Result<()>
+fn exchanges(book: &mut Book, at: u64, count: u64)
     requires { book.old.rules ≡ MODERN_RULES }
     ensures { book.new.rules ≡ MODERN_RULES }
 {
     for _ in 0..count {
-        exchange(book, at)?;
+        exchange(book, at);
     }
-    Ok(())
 }
 
 /// A new distance of the first member.
-fn put_distance(book: &mut Book, at: u64, distance: u32) -> Result<()>
+fn put_distance(book: &mut Book, at: u64, distance: u32)
     requires { book.old.rules ≡ MODERN_RULES }
     ensures { book.new.rules ≡ MODERN_RULES }
 {
@@ -109,100 +116,87 @@ fn put_distance(book: &mut Book, at: u64, distance: u32) -> Result<()>
         distance: Some(distance),
         redirect: Redirect::Keep,
     };
-    book.admin(0, at, &Command::Update { member: 0, change })?;
-    Ok(())
+    let _changed = book.admin(0, at, &Command::Update { member: 0, change });
 }
 
 /// A stretch of exchanges, the maintenance that is then due, and a new distance of the first member.
-fn stretch(book: &mut Book, number: u64) -> Result<()>
+fn stretch(book: &mut Book, number: u64)
     requires { book.old.rules ≡ MODERN_RULES }
     ensures { book.new.rules ≡ MODERN_RULES }
 {
     let at = number.saturating_mul(MAINTAIN_SECONDS);
-    exchanges(book, at, STRETCH)?;
-    book.maintain_if_due(0, at)?;
-    put_distance(book, at, (number % 2) as u32)
+    exchanges(book, at, STRETCH);
+    let _maintained = book.maintain_if_due(0, at);
+    put_distance(book, at, (number % 2) as u32);
 }
 
-fn stretches(book: &mut Book, count: u64) -> Result<()>
+fn stretches(book: &mut Book, count: u64)
     requires { book.old.rules ≡ MODERN_RULES }
     ensures { book.new.rules ≡ MODERN_RULES }
 {
     for number in 0..count {
-        stretch(book, number)?;
+        stretch(book, number);
     }
-    Ok(())
 }
 
-/// A Book of so many members that keeps about so many entries.
-fn filled_book(alloc: Global, members: u32, kept: u64) -> Result<Book>
-    ensures { IfOk result (λ book. book.rules ≡ MODERN_RULES) }
-{
-    let mut book = book_of(alloc, members)?;
-    exchanges(&mut book, 0, kept / 2)?;
-    Ok(book)
-}
-
-fn measure_plain(rt: &(impl Print + Clock), book: &mut Book, rounds: u32) -> Result<()>
+fn measure_plain(rt: &HostRuntime, book: &mut Book, rounds: u64) -> io::Result<()>
     requires { book.old.rules ≡ MODERN_RULES }
     ensures { book.new.rules ≡ MODERN_RULES }
 {
     let before = book.added();
     let start = Instant::now(rt)?;
-    exchanges(book, 0, u64::from(rounds))?;
+    exchanges(book, 0, rounds);
     let holds = book.added().saturating_sub(before);
     show(rt, "holds of choices and returns", holds, start)
 }
 
-fn measure_mixed(rt: &(impl Print + Clock), book: &mut Book, rounds: u32) -> Result<()>
+fn measure_mixed(rt: &HostRuntime, book: &mut Book, rounds: u64) -> io::Result<()>
     requires { book.old.rules ≡ MODERN_RULES }
-    ensures { book.new.rules ≡ MODERN_RULES }
 {
     let before = book.added();
     let start = Instant::now(rt)?;
-    stretches(book, u64::from(rounds) / STRETCH)?;
+    stretches(book, rounds / STRETCH);
     let holds = book.added().saturating_sub(before);
     show(rt, "holds with maintenance and commands", holds, start)
 }
 
-fn measure_both(rt: &(impl Print + Clock), book: &mut Book, rounds: u32) -> Result<()>
+/// Measures a Book once it keeps about so many entries.
+fn measure_filled(rt: &HostRuntime, book: &mut Book, kept: u64, rounds: u64) -> io::Result<()>
     requires { book.old.rules ≡ MODERN_RULES }
 {
+    exchanges(book, 0, kept / 2);
     measure_plain(rt, book, rounds)?;
     measure_mixed(rt, book, rounds)
 }
 
-fn measure_book(
-    rt: &(impl Print + Clock),
-    alloc: Global,
-    members: u32,
-    kept: u64,
-    rounds: u32,
-) -> Result<()> {
-    println!(rt; "{members} members, {kept} entries kept")?;
-    measure_both(rt, &mut filled_book(alloc, members, kept)?, rounds)
+fn measure_book(rt: &HostRuntime, members: u32, kept: u64, rounds: u64) -> io::Result<()> {
+    tell(
+        rt,
+        &["", " members, ", " entries kept"],
+        &[u64::from(members), kept],
+    )?;
+    match book_of(rt.alloc(), members) {
+        Some(mut book) => measure_filled(rt, &mut book, kept, rounds),
+        None => Err(io::Error::other("the Book can't be made")),
+    }
 }
 
-pub fn measure(rt: &(impl Print + Clock), alloc: Global, rounds: u32) -> Result<()> {
+pub fn measure(rt: &HostRuntime, rounds: u32) -> io::Result<()> {
     for members in [2, 8, 64] {
         for kept in [0, 10_000, 1_000_000] {
-            measure_book(rt, alloc, members, kept, rounds)?;
+            measure_book(rt, members, kept, u64::from(rounds))?;
         }
     }
     Ok(())
 }
 
-/// How many entries a Book has after two stretches.
-fn added_by(book: &mut Book) -> Result<u64>
-    requires { book.old.rules ≡ MODERN_RULES }
-{
-    stretches(book, 2)?;
-    Ok(book.added())
-}
-
-/// Two stretches of a Book.
-pub fn one_round(rt: &impl Print, alloc: Global) -> Result<()> {
-    let added = added_by(&mut book_of(alloc, 8)?)?;
-    println!(rt; "{added} entries added")?;
-    Ok(())
+/// How many entries a Book of eight members has after so many stretches.
+pub fn add_entries(alloc: Global, rounds: u32) -> Option<Done> {
+    let mut book = book_of(alloc, 8)?;
+    stretches(&mut book, u64::from(rounds));
+    let added = book.added();
+    Some(Done {
+        amount: added,
+        figures: [added, 0, 0],
+    })
 }

@@ -3,17 +3,12 @@
 //!
 //! bench/heads.c is a plain loop over the same bytes.
 
-mod feed;
-
-use crate::timed::show;
-use anyhow::{Result, bail};
-use feed::Feed;
+use crate::done::Done;
+use crate::feed::Feed;
 use http_front::{HeadGot, Inbox, MAX_HEAD_LINES, read_head};
 use httparse::Status;
-use httparse::spans::{EMPTY_HEADER_SPAN, parse_request};
+use httparse::spans::{EMPTY_HEADER_SPAN, HeaderSpan, parse_request};
 use std::alloc::Global;
-use std::rt::Clock;
-use std::time::Instant;
 
 /// A browser's request.
 static HEAD: &str =
@@ -35,93 +30,77 @@ static HEAD: &str =
 /// So many heads stand one after the other where a read brings many.
 const HEADS_IN_A_ROW: usize = 128;
 
-/// A way to read heads.
-#[derive(Clone, Copy)]
-enum Way {
-    /// Each head comes in a read of its own.
-    Alone,
-    /// A read fills the inbox with heads.
-    Pipelined,
-    /// The parser reads the bytes of a head, and no head is made.
-    Parser,
+fn lines_of(got: &HeadGot) -> Option<u64> {
+    match got {
+        HeadGot::Head(head) => Some(head.headers.len() as u64),
+        HeadGot::End => None,
+    }
 }
 
 /// Reads a head, and answers how many header lines it has.
-fn read_lines(alloc: Global, inbox: &mut Inbox, client: &mut Feed) -> Result<u64> {
-    match read_head(alloc, inbox, client)? {
-        HeadGot::Head(head) => Ok(head.headers.len() as u64),
-        HeadGot::End => bail!("the client's bytes ended"),
+fn read_lines(alloc: Global, inbox: &mut Inbox, client: &mut Feed) -> Option<u64> {
+    match read_head(alloc, inbox, client) {
+        Ok(got) => lines_of(&got),
+        Err(_) => None,
     }
 }
 
 /// Reads heads from a client that has no end of them, and answers how many header lines they had.
-fn read_with(alloc: Global, inbox: &mut Inbox, client: &mut Feed, heads: u64) -> Result<u64> {
+fn read_often(alloc: Global, inbox: &mut Inbox, client: &mut Feed, heads: u32) -> Option<u64> {
     let mut lines = 0u64;
     for _ in 0..heads {
         lines = lines.saturating_add(read_lines(alloc, inbox, client)?);
     }
-    Ok(lines)
+    Some(lines)
 }
 
-fn read_heads(alloc: Global, text: &[u8], heads: u64) -> Result<u64> {
-    read_with(alloc, &mut Inbox::new(alloc)?, &mut Feed::new(text), heads)
+/// Reads heads of a text that goes on and on, and answers how many header lines they had.
+fn read_text(alloc: Global, text: &[u8], heads: u32) -> Option<u64> {
+    match Inbox::new(alloc) {
+        Ok(mut inbox) => read_often(alloc, &mut inbox, &mut Feed::new(text), heads),
+        Err(_) => None,
+    }
 }
 
-fn read_row(alloc: Global, head: &[u8], heads: u64) -> Result<u64> {
-    let row = head.repeat(alloc, HEADS_IN_A_ROW)?;
-    read_heads(alloc, row.as_slice(), heads)
+fn told(heads: u32, lines: u64) -> Done {
+    let heads = u64::from(heads);
+    Done {
+        amount: heads,
+        figures: [heads, lines, 0],
+    }
 }
 
-/// Has the parser read the same head so many times, and answers how many header lines it found.
-fn parse_heads(text: &[u8], heads: u64) -> Result<u64> {
+fn read_heads(alloc: Global, text: &[u8], heads: u32) -> Option<Done> {
+    Some(told(heads, read_text(alloc, text, heads)?))
+}
+
+/// Each head comes in a read of its own.
+pub fn read(alloc: Global, heads: u32) -> Option<Done> {
+    read_heads(alloc, HEAD.as_bytes(), heads)
+}
+
+/// A read fills the inbox with heads.
+pub fn read_row(alloc: Global, heads: u32) -> Option<Done> {
+    match HEAD.as_bytes().repeat(alloc, HEADS_IN_A_ROW) {
+        Ok(row) => read_heads(alloc, row.as_slice(), heads),
+        Err(_) => None,
+    }
+}
+
+/// How many header lines the parser finds in a head.
+fn parse_lines(spans: &mut [HeaderSpan]) -> Option<u64> {
+    match parse_request(HEAD.as_bytes(), spans) {
+        Ok(Status::Complete(parts)) => Some(parts.headers as u64),
+        _ => None,
+    }
+}
+
+/// The parser reads the bytes of a head, and no head is made.
+pub fn parse(heads: u32) -> Option<Done> {
     let mut spans = [EMPTY_HEADER_SPAN; MAX_HEAD_LINES];
     let mut lines = 0u64;
     for _ in 0..heads {
-        match parse_request(text, &mut spans) {
-            Ok(Status::Complete(parts)) => lines = lines.saturating_add(parts.headers as u64),
-            _ => bail!("the parser reads no head"),
-        }
+        lines = lines.saturating_add(parse_lines(&mut spans)?);
     }
-    Ok(lines)
-}
-
-/// Reads so many heads in one of the ways, and answers how many header lines they had.
-fn read_by(way: Way, alloc: Global, heads: u64) -> Result<u64> {
-    let head = HEAD.as_bytes();
-    match way {
-        Way::Alone => read_heads(alloc, head, heads),
-        Way::Pipelined => read_row(alloc, head, heads),
-        Way::Parser => parse_heads(head, heads),
-    }
-}
-
-impl Way {
-    fn name(self) -> &'static str {
-        match self {
-            Way::Alone => "heads read alone",
-            Way::Pipelined => "heads read pipelined",
-            Way::Parser => "heads read by the parser",
-        }
-    }
-}
-
-fn measure_way(rt: &(impl Print + Clock), alloc: Global, way: Way, heads: u32) -> Result<()> {
-    let start = Instant::now(rt)?;
-    read_by(way, alloc, u64::from(heads))?;
-    show(rt, way.name(), u64::from(heads), start)
-}
-
-pub fn measure(rt: &(impl Print + Clock), alloc: Global, heads: u32) -> Result<()> {
-    measure_way(rt, alloc, Way::Alone, heads)?;
-    measure_way(rt, alloc, Way::Pipelined, heads)?;
-    measure_way(rt, alloc, Way::Parser, heads)
-}
-
-/// Two hundred heads each way.
-pub fn one_round(rt: &impl Print, alloc: Global) -> Result<()> {
-    for way in [Way::Alone, Way::Pipelined, Way::Parser] {
-        let lines = read_by(way, alloc, 200)?;
-        println!(rt; "200 {}: {lines} lines", way.name())?;
-    }
-    Ok(())
+    Some(told(heads, lines))
 }

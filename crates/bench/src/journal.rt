@@ -1,4 +1,4 @@
-//! How many entries a second of a journal's text are checked, and how much memory the program had at most.
+//! How many entries a second of a journal's text are checked.
 //!
 //! The text is that of N exchanges in a Book of two members, cut where a server cuts it. It has to be whole in memory; the
 //! check itself holds one segment.
@@ -6,96 +6,88 @@ ghost use Rattle.std.specs.Prelude.{◌≡◌, ◌≤◌, length};
 ghost use Rattle.jk_model.specs.declared.segment.TheConstants.{MODERN_RULES};
 
 use crate::book::{book_of, exchange};
-use crate::timed::show;
-use anyhow::{Context, Result, bail};
+use crate::done::Done;
 use balancer_core::Book;
 use jk_io::{Bytes, MAX_INPUT_BYTES};
+use jk_model::Segment;
 use journal_text::write_segment;
 use journal_verdict::{Verdict, check_journal};
 use std::alloc::Global;
-use std::fs;
-use std::rt::{Clock, Files};
-use std::time::Instant;
 
 /// Kept entries at which a journal is cut.
 const CUT_AT: u64 = 65_536;
 
-/// The exchanges of the small text.
-const FEW: u32 = 100;
-
-/// Where the system says how much memory the program had at most.
-const STATUS: &str = "/proc/self/status";
+fn put_lines(text: &mut Bytes, segment: &Segment) -> bool {
+    match write_segment(b"lb", segment) {
+        Ok(lines) => text.extend(lines.as_slice()).is_ok(),
+        Err(_) => false,
+    }
+}
 
 /// Cuts the journal, and puts the text of what was kept.
-fn put_segment(text: &mut Bytes, book: &mut Book) -> Result<()>
+fn put_segment(text: &mut Bytes, book: &mut Book) -> bool
     requires { book.old.rules ≡ MODERN_RULES }
     ensures { book.new.rules ≡ MODERN_RULES }
 {
-    let segment = book.cut()?;
-    text.extend(write_segment(b"lb", &segment)?.as_slice())?;
-    Ok(())
-}
-
-fn put_exchange(text: &mut Bytes, book: &mut Book) -> Result<()>
-    requires { book.old.rules ≡ MODERN_RULES }
-    ensures { book.new.rules ≡ MODERN_RULES }
-{
-    exchange(book, 0)?;
-    if book.kept() >= CUT_AT {
-        put_segment(text, book)?;
+    match book.cut() {
+        Ok(segment) => put_lines(text, &segment),
+        Err(_) => false,
     }
-    Ok(())
 }
 
-fn text_of(alloc: Global, exchanges: u32) -> Result<Bytes> {
-    let mut text = Bytes::new(alloc);
-    let mut book = book_of(alloc, 2)?;
+fn put_exchange(text: &mut Bytes, book: &mut Book) -> bool
+    requires { book.old.rules ≡ MODERN_RULES }
+    ensures { book.new.rules ≡ MODERN_RULES }
+{
+    exchange(book, 0);
+    book.kept() < CUT_AT || put_segment(text, book)
+}
+
+fn put_exchanges(text: &mut Bytes, book: &mut Book, exchanges: u32) -> bool
+    requires { book.old.rules ≡ MODERN_RULES }
+{
     for _ in 0..exchanges {
-        put_exchange(&mut text, &mut book)?;
+        if !put_exchange(text, book) {
+            return false;
+        }
     }
-    put_segment(&mut text, &mut book)?;
-    Ok(text)
+    put_segment(text, book)
+}
+
+fn put_journal(alloc: Global, text: &mut Bytes, exchanges: u32) -> bool {
+    match book_of(alloc, 2) {
+        Some(mut book) => put_exchanges(text, &mut book, exchanges),
+        None => false,
+    }
+}
+
+/// The journal of so many exchanges.
+pub fn text_of(alloc: Global, exchanges: u32) -> Option<Bytes> {
+    let mut text = Bytes::new(alloc);
+    if put_journal(alloc, &mut text, exchanges) {
+        Some(text)
+    } else {
+        None
+    }
+}
+
+fn told(verdict: &Verdict) -> Option<Done> {
+    match verdict {
+        Verdict::Good { entries } => Some(Done {
+            amount: *entries,
+            figures: [*entries, 0, 0],
+        }),
+        Verdict::Bad { .. } => None,
+    }
 }
 
 /// How many entries of a text are good.
-fn good_entries(alloc: Global, text: &[u8]) -> Result<u64> {
+pub fn check(alloc: Global, text: &[u8]) -> Option<Done> {
     if text.len() > MAX_INPUT_BYTES {
-        bail!("the text is too long");
+        return None;
     }
-    match check_journal(alloc, text)? {
-        Verdict::Good { entries } => Ok(entries),
-        Verdict::Bad { .. } => bail!("the text isn't good"),
+    match check_journal(alloc, text) {
+        Ok(verdict) => told(&verdict),
+        Err(_) => None,
     }
-}
-
-/// Prints the line of the system's file that says the most memory.
-fn show_memory<R: Print + Files + AllocGlobal>(rt: &R) -> Result<()> {
-    let status = fs::read_to_string(rt, STATUS).context("reading how much memory there was")?;
-    for line in status.lines() {
-        if line.starts_with("VmHWM:") {
-            println!(rt; "at most {line}")?;
-        }
-    }
-    Ok(())
-}
-
-pub fn measure<R: Print + Clock + Files + AllocGlobal>(
-    rt: &R,
-    alloc: Global,
-    exchanges: u32,
-) -> Result<()> {
-    let text = text_of(alloc, exchanges)?;
-    println!(rt; "{} bytes", text.len())?;
-    let start = Instant::now(rt)?;
-    let entries = good_entries(alloc, text.as_slice())?;
-    show(rt, "entries checked", entries, start)?;
-    show_memory(rt)
-}
-
-/// The small text.
-pub fn one_round(rt: &impl Print, alloc: Global) -> Result<()> {
-    let text = text_of(alloc, FEW)?;
-    let entries = good_entries(alloc, text.as_slice())?;
-    println!(rt; "{entries} entries checked")?;
-    Ok(())
 }

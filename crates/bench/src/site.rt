@@ -1,28 +1,34 @@
-//! How many bytes a second are read of a workers.properties that has a directive a line, of workers whose references
-//! lead through all of them.
-//!
-//! The text has N bytes and 100,000 workers, and is read as the program reads its files.
-ghost use Rattle.std.specs.Prelude.{◌≤◌, length};
+//! How fast a workers.properties is read: one that has a directive a line, of workers whose references lead through all
+//! of them; one of short lines without effect; and one of balancers that borrow one long list of members.
 
-use crate::texts::{LINE_BYTES, input_of, put_comment, too_long};
-use crate::timed::show;
-use anyhow::Result;
-use jk_io::{Bytes, FileError, MAX_INPUT_BYTES, NoMemory};
+use crate::done::Done;
+use jk_io::{MAX_INPUT_BYTES, NoMemory};
 use std::alloc::Global;
 use std::fmt::Write;
-use std::rt::Clock;
-use std::time::Instant;
-use worker_props::{Config, PropsError, read_workers};
+use worker_props::{Config, read_workers};
 
-/// The workers and the bytes of the small text.
-const FEW_WORKERS: u64 = 100;
+/// No line of a text is longer.
+pub const LINE_BYTES: u64 = 64;
 
-const FEW_BYTES: u64 = 10_000;
+/// A site has a worker for each so many bytes.
+const BYTES_OF_A_WORKER: u64 = 100;
 
-const MANY_WORKERS: u64 = 100_000;
+/// The most workers of a site.
+const MOST_WORKERS: u64 = 100_000;
 
 /// What a worker's lines set in turn.
 const DIRECTIVES: [&str; 4] = ["host=h", "port=8009", "lbfactor=2", "socket_timeout=60"];
+
+/// The lines of the long list.
+const LIST_LINES: u32 = 500;
+
+/// Fills a text up to so many bytes, as a comment does.
+pub fn put_comment(text: &mut String, bytes: u64) -> Result<(), NoMemory> {
+    for _ in text.len() as u64..bytes {
+        text.push_str("#")?;
+    }
+    Ok(())
+}
 
 /// The first worker is listed, and each refers to the next one.
 fn put_workers(text: &mut String, workers: u64) -> Result<(), NoMemory> {
@@ -50,65 +56,78 @@ fn put_directives(text: &mut String, workers: u64, bytes: u64) -> Result<(), NoM
     Ok(())
 }
 
-/// A text of so many bytes: the first worker is listed, each refers to the next one, and directives of all workers
-/// follow until a comment fills up.
-fn text_of(alloc: Global, workers: u64, bytes: u64) -> Result<String, NoMemory> {
-    let mut text = String::new(alloc);
-    put_workers(&mut text, workers)?;
-    put_directives(&mut text, workers, bytes)?;
+/// So many bytes: the first worker is listed, each refers to the next one, and directives of all workers follow until
+/// a comment fills up.
+pub fn put_site(text: &mut String, bytes: u64) -> Result<(), NoMemory> {
+    let workers = (bytes / BYTES_OF_A_WORKER).min(MOST_WORKERS);
+    put_workers(text, workers)?;
+    put_directives(text, workers, bytes)?;
     text.push_str("\n")?;
-    put_comment(&mut text, bytes)?;
-    Ok(text)
+    put_comment(text, bytes)
 }
 
-fn figures(alloc: Global, config: &Config) -> Result<String, NoMemory> {
-    Ok(format!(in alloc;
-        "{} balancers, {} ignored lines",
-        config.lbs.len(),
-        config.ignored.len()
-    )?)
-}
-
-/// What an input says of its balancers.
-fn figures_in(alloc: Global, input: &Bytes) -> Result<String, NoMemory>
-    requires { length input.now ≤ MAX_INPUT_BYTES }
-{
-    match read_workers(alloc, input.as_slice()) {
-        Ok(config) => figures(alloc, &config),
-        Err(PropsError::NoMemory) => Err(NoMemory),
-        Err(refused) => Ok(format!(in alloc; "{refused}")?),
+/// So many short lines.
+pub fn put_lines(text: &mut String, lines: u32) -> Result<(), NoMemory> {
+    for _ in 0..lines {
+        text.push_str("a=b\n")?;
     }
-}
-
-/// What a text says of its balancers.
-pub fn figures_of(alloc: Global, text: &str) -> Result<String, FileError> {
-    match input_of(alloc, text) {
-        Ok(input) => Ok(figures_in(alloc, &input)?),
-        Err(FileError::TooLong) => Ok(too_long(alloc)?),
-        Err(error) => Err(error),
-    }
-}
-
-fn measure_text(rt: &(impl Print + Clock), alloc: Global, text: &str) -> Result<()> {
-    let start = Instant::now(rt)?;
-    let figures = figures_of(alloc, text)?;
-    println!(rt; "{figures}")?;
-    show(rt, "bytes of a site read", text.len() as u64, start)
-}
-
-pub fn measure(rt: &(impl Print + Clock), alloc: Global, bytes: u32) -> Result<()> {
-    let text = text_of(alloc, MANY_WORKERS, u64::from(bytes))?;
-    measure_text(rt, alloc, text.as_str())
-}
-
-fn show_figures(rt: &impl Print, alloc: Global, text: &str) -> Result<()> {
-    let figures = figures_of(alloc, text)?;
-    println!(rt; "{} bytes: {figures}", text.len())?;
     Ok(())
 }
 
-/// The small text.
-pub fn one_round(rt: &impl Print, alloc: Global) -> Result<()> {
-    let text = text_of(alloc, FEW_WORKERS, FEW_BYTES)?;
-    show_figures(rt, alloc, text.as_str())
+/// A balancer with a list that names two members again and again.
+fn put_list(text: &mut String) -> Result<(), NoMemory> {
+    text.push_str("worker.a.host=h\nworker.b.host=i\nworker.w0.type=lb\nworker.list=w0\n")?;
+    for _ in 0..LIST_LINES {
+        text.push_str("worker.w0.balance_workers=a,b\n")?;
+    }
+    Ok(())
+}
+
+/// So many balancers: each has the list of the first one.
+pub fn put_lists(text: &mut String, balancers: u32) -> Result<(), NoMemory> {
+    put_list(text)?;
+    for i in 1..balancers {
+        write!(text, "worker.w{i}.reference=worker.w0\nworker.list=w{i}\n")?;
+    }
+    Ok(())
+}
+
+fn counts_of(config: &Config) -> (u64, u64) {
+    (config.lbs.len() as u64, config.ignored.len() as u64)
+}
+
+/// How many balancers and how many ignored lines a text has.
+fn counts_in(alloc: Global, text: &[u8]) -> Option<(u64, u64)> {
+    if text.len() > MAX_INPUT_BYTES {
+        return None;
+    }
+    match read_workers(alloc, text) {
+        Ok(config) => Some(counts_of(&config)),
+        Err(_) => None,
+    }
+}
+
+pub fn read_site(alloc: Global, text: &[u8]) -> Option<Done> {
+    let bytes = text.len() as u64;
+    let (balancers, ignored) = counts_in(alloc, text)?;
+    Some(Done {
+        amount: bytes,
+        figures: [bytes, balancers, ignored],
+    })
+}
+
+pub fn read_lines(alloc: Global, text: &[u8]) -> Option<Done> {
+    let (balancers, ignored) = counts_in(alloc, text)?;
+    Some(Done {
+        amount: text.len() as u64,
+        figures: [balancers, ignored, 0],
+    })
+}
+
+pub fn read_lists(alloc: Global, text: &[u8], amount: u32) -> Option<Done> {
+    let (balancers, ignored) = counts_in(alloc, text)?;
+    Some(Done {
+        amount: u64::from(amount),
+        figures: [balancers, ignored, 0],
+    })
 }

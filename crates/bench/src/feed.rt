@@ -1,4 +1,4 @@
-//! A link that gives the same text again and again, and copies what it takes into one buffer.
+//! A client that has no end of bytes.
 ghost use Rattle.std.specs.Prelude.{◌≡◌, length, min};
 
 use jk_io::{IoError, Link, Meanings, Sink, Source};
@@ -6,31 +6,27 @@ use jk_io::{IoError, Link, Meanings, Sink, Source};
 /// How many bytes one write takes at most.
 const TAKEN_AT_ONCE: usize = 16_384;
 
-/// A client without a network.
+/// A link that gives a text over and over, at most to its end in one read, and copies what it takes into one buffer.
+/// It tells nothing of the bytes.
 #[derive(Drop)]
-pub struct RepeatLink<'t> {
-    text: &'t [u8],
+pub struct Feed<'a> {
+    text: &'a [u8],
     /// What is left of it to give.
-    left: &'t [u8],
+    left: &'a [u8],
     taken: [u8; TAKEN_AT_ONCE],
 }
 
-impl<'t> RepeatLink<'t> {
-    pub fn new(text: &'t [u8]) -> RepeatLink<'t> {
-        RepeatLink {
+impl<'a> Feed<'a> {
+    pub fn new(text: &'a [u8]) -> Feed<'a> {
+        Feed {
             text,
             left: text,
             taken: [0; TAKEN_AT_ONCE],
         }
     }
-
-    /// Begins the text again.
-    pub fn rewind(&mut self) {
-        self.left = self.text;
-    }
 }
 
-impl<'t> Meanings for RepeatLink<'t> {
+impl<'a> Meanings for Feed<'a> {
     ghost use Rattle.std.specs.Prelude.{None};
 
     type Beside = ();
@@ -56,18 +52,21 @@ fn copy_front(from: &[u8], to: &mut [u8]) -> usize
     count
 }
 
-impl<'t> Source for RepeatLink<'t> {
+impl<'a> Source for Feed<'a> {
     fn read(&mut self, buf: &mut [u8]) -> Result<usize, IoError> {
+        if self.left.is_empty() {
+            self.left = self.text;
+        }
         let count = copy_front(self.left, buf);
         self.left = &self.left[count..];
         Ok(count)
     }
 }
 
-impl<'t> Sink for RepeatLink<'t> {
+impl<'a> Sink for Feed<'a> {
     fn write(&mut self, piece: &[u8]) -> Result<usize, IoError> {
         Ok(copy_front(piece, &mut self.taken))
     }
 }
 
-impl<'t> Link for RepeatLink<'t> {}
+impl<'a> Link for Feed<'a> {}
