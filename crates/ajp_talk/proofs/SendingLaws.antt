@@ -1,5 +1,7 @@
 -- What a send leaves, and what an ask comes to where the body can't be taken further.
-use Rattle.std.proofs.Common.{◌≡◌, ℕ, ◌+◌, ◌-◌, ◌≤◌, true, false, List, [], ◌++◌, length, take, drop, refl, sym, ap, ◌∙◌, arith, length-take, take_all, Option, Some, None, IfSome, Result, Ok, Err, IsOk, OnOk, inl, inr}
+use Rattle.std.proofs.Common.{◌≡◌, ℕ, ◌+◌, ◌-◌, ◌≤◌, Bool, true, false, List, [], ◌++◌, length, take, drop, refl, sym, ap, subst, ◌∙◌, arith, length-take, take_all, Option, Some, None, IfSome, Result, Ok, Err, IsOk, OnOk, inl, inr}
+use Rattle.std.specs.Prelude.{IsTrue, if◌then◌else◌}
+use Rattle.ajp_wire.specs.Packet.{body_packet}
 use Rattle.std.proofs.lemmas.List.{append-nil, take-append-drop}
 use Rattle.jk_io.specs.Told.{appended, Rose, HasCause}
 use Rattle.jk_io.specs.declared.failures.IoError.{IoError}
@@ -15,8 +17,15 @@ use Rattle.jk_io.specs.Moments.{Moment}
 use Rattle.ajp_talk.specs.Moments.{BodyAt, data_at, IsSteady, IsUsed, IsFrontOf}
 use Rattle.ajp_talk.specs.declared.plan.TalkPlan.{TalkPlan}
 use Rattle.ajp_talk.specs.Owed.{answer, first_packet, request_of}
-use Rattle.ajp_talk.specs.Turns.{Sends, IsSent, IsAskTurn, fault_turn}
+use Rattle.ajp_talk.specs.Turns.{Sends, IsSent, Gives, IsAskTurn, fault_turn, turn_of_sent}
 use Rattle.ajp_talk.proofs.AskLaws.{front-none}
+
+-- a count that stayed, and one that did not fall twice
+pub no_fewer-same : (n : ℕ) → n ≤ n
+no_fewer-same n = omega arith
+
+pub no_fewer-then : (before mid now : ℕ) → before ≤ mid → mid ≤ now → before ≤ now
+no_fewer-then before mid now first next = omega arith
 
 taken-length : (n : ℕ) (bytes : List ℕ) → n ≤ length bytes → length (take (n - 0) bytes) ≡ n
 taken-length n bytes within = omega (arith, length-take (n - 0) bytes)
@@ -86,7 +95,18 @@ ask-refused n l before w w' b b' X Y fault.TooLong used short bad long failed = 
 ask-refused n l before w w' b b' X Y fault.Fault used short bad long failed = (sends-nothing l before, used, failed refl)
 ask-refused n l before w w' b b' X Y fault.NoMemory used short bad long failed = ([], sends-nothing l before, used, no-front n (data_at b))
 
--- memory was wanted for the packet of a piece
-pub ask-wanted : (n : ℕ) (l : Moment) (before : ℕ) (b b' : BodyAt) → IsUsed b b'
-    → (put : List ℕ) × Sends l l before before put × IsUsed b b' × IfSome (data_at b) (λ d. IsFrontOf put (answer n d))
-ask-wanted n l before b b' used = ([], sends-nothing l before, used, no-front n (data_at b))
+front-answer : (n : ℕ) (t : Option Data) (put piece : List ℕ) → IfSome t (λ d. (piece ≡ take n d.bytes) × IsTrue (reaches n d)) → IsFrontOf put (body_packet piece)
+    → IfSome t (λ d. IsFrontOf put (answer n d))
+front-answer n None put piece next front = tt
+front-answer n (Some d) put piece next front =
+    let there : IsFrontOf put (body_packet (take n d.bytes)) = subst (λ (l : List ℕ). IsFrontOf put (body_packet l)) next.0 front in
+    subst (λ (x : Bool). IsFrontOf put (if x then body_packet (take n d.bytes) else [])) (sym next.1) there
+
+-- the packet of a piece was sent, or a front of it
+pub ask-sent : (n : ℕ) (l l' : Moment) (before after : ℕ) (w w' : Moment) (b b' : BodyAt) (piece : List ℕ) (answered : Result Unit IoError) → Gives n b b' piece
+    → IsSent l l' before after (body_packet piece) answered
+    → IsAskTurn n (record { line = l; client = w; body = b }) (record { line = l'; client = w'; body = b' }) before after (turn_of_sent answered)
+ask-sent n l l' before after w w' b b' piece (Ok done) gives sent = (piece, gives, sent.0, sent.1)
+ask-sent n l l' before after w w' b b' piece (Err Io.Failed) gives sent = (piece, sent.0, gives, sent.1, sent.2, sent.3)
+ask-sent n l l' before after w w' b b' piece (Err Io.NoMemory) gives sent =
+    (sent.0, sent.1, record { gone = gives.uses.gone; used = gives.uses.used; most = gives.most }, front-answer n (data_at b) sent.0 piece gives.data' sent.2)

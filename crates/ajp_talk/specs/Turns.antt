@@ -246,6 +246,12 @@ pub record Gives (n : ℕ) (b b' : BodyAt) (piece : List ℕ) : Type 0 where
   pub going : failed_of b'.body ≡ None
   pub most : most_of b'.body ≡ most_of b.body
 
+-- the turn where a piece was sent, or was not
+abbrev pub turn_of_sent : Result Unit IoError → Turn
+turn_of_sent (Ok done) = turn_is.On
+turn_of_sent (Err Io.Failed) = turn_is.Failed cause_is.Line
+turn_of_sent (Err Io.NoMemory) = turn_is.NoMemory
+
 -- the answer to an ask of n bytes
 abbrev pub IsAskTurn : ℕ → TalkMoment → TalkMoment → ℕ → ℕ → Turn → Type 0
 IsAskTurn n s s' sent sent' turn_is.On = (piece : List ℕ) × Gives n s.body s'.body piece × Sends s.line s'.line sent sent' (body_packet piece) × IsSteady s.line s'.line

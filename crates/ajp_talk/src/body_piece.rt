@@ -4,7 +4,8 @@ ghost use Rattle.std.specs.Prelude.{◌≡◌, ◌<◌, ◌≤◌, None, length,
 ghost use Rattle.http_body_in.specs.State.{failed_of};
 ghost use Rattle.ajp_wire.specs.Packet.{body_packet as body_packet_of};
 ghost use Rattle.ajp_talk.specs.Owed.{want};
-ghost use Rattle.ajp_talk.specs.Turns.{IsAskTurn};
+ghost use Rattle.ajp_talk.specs.Turns.{IsAskTurn, IsSent, turn_of_sent};
+ghost use Rattle.ajp_wire.specs.Moments.{link_at};
 ghost use Rattle.ajp_talk.specs.Uploads.{IsSameUpload, talk_over};
 ghost use Rattle.ajp_wire.specs.declared.writing.TheConstants.{MAX_PIECE_BYTES};
 
@@ -57,15 +58,35 @@ pub(crate) fn answer_ask<L: Link, C: Link>(
     ensures no_fewer { (L.faults line.old ≤ L.faults line.new) × (C.faults client.old ≤ C.faults client.new) }
     ensures same { IsSameUpload upload.old upload.new }
 {
-    let piece = match upload.body.take(alloc, upload.inbox, client, n) {
-        Ok(piece) => piece,
-        Err(fault) => return fault_turn(fault),
-    };
-    let packet = match piece_packet(alloc, piece.as_slice()) {
-        Ok(packet) => packet,
-        Err(NoMemory) => return Turn::NoMemory,
-    };
-    match send(line, packet.as_slice(), sent) {
+    match upload.body.take(alloc, upload.inbox, client, n) {
+        Ok(piece) => sent_turn(send_piece(alloc, piece.as_slice(), line, sent)),
+        Err(fault) => fault_turn(fault),
+    }
+}
+
+/// Sends the packet of a piece, and adds what was taken of it to `sent`.
+fn send_piece<L: Link>(
+    alloc: Global,
+    piece: &[u8],
+    line: &mut L,
+    sent: &mut u64,
+) -> Result<(), IoError>
+    requires { length piece.now ≤ MAX_PIECE_BYTES }
+    ensures sent { IsSent (link_at L.Meanings line.old) (link_at L.Meanings line.new) sent.old sent.new (body_packet_of piece.now) result }
+    ensures beside { L.beside line.new ≡ L.beside line.old }
+    ensures no_fewer { L.faults line.old ≤ L.faults line.new }
+{
+    match piece_packet(alloc, piece) {
+        Ok(packet) => send(line, packet.as_slice(), sent),
+        Err(NoMemory) => Err(IoError::NoMemory),
+    }
+}
+
+/// What a piece that was sent, or was not, makes of the talk.
+fn sent_turn(answer: Result<(), IoError>) -> Turn
+    ensures { result ≡ turn_of_sent answer }
+{
+    match answer {
         Ok(()) => Turn::On,
         Err(IoError::Failed) => Turn::Failed(Cause::Line),
         Err(IoError::NoMemory) => Turn::NoMemory,

@@ -18,7 +18,7 @@ use jk_io::Sink;
 use std::alloc::Global;
 
 /// How far a talk has come: what was made of the container's messages, and how many bytes went and came.
-#[derive(Debug, Drop)]
+#[derive(Drop)]
 pub(crate) struct Course {
     pub(crate) writer: ReplyWriter,
     /// A Send Headers came whole.

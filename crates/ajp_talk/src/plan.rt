@@ -4,7 +4,7 @@ use jk_io::Bytes;
 use jk_model::FailList;
 
 /// What a talk sends first, and by which rules it goes.
-#[derive(Debug, Drop)]
+#[derive(Drop)]
 pub struct TalkPlan {
     /// The packet of the Forward Request.
     pub forward: Bytes,

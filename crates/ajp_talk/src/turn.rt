@@ -7,7 +7,7 @@ use crate::ending::Cause;
 use http_body_in::BodyFault;
 
 /// What became of a talk with one more message.
-#[derive(Clone, Copy, Debug, PartialEq, Eq)]
+#[derive(Clone, Copy, PartialEq, Eq)]
 pub(crate) enum Turn {
     /// It goes on.
     On,
@@ -28,7 +28,7 @@ pub(crate) enum Turn {
 }
 
 /// Why no message came.
-#[derive(Clone, Copy, Debug, PartialEq, Eq)]
+#[derive(Clone, Copy, PartialEq, Eq)]
 pub(crate) enum Unheard {
     /// The link failed.
     Line,

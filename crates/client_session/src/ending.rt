@@ -41,7 +41,7 @@ pub enum SessionEnd {
 }
 
 /// Why no further request is read.
-#[derive(Clone, Copy, Debug, PartialEq, Eq)]
+#[derive(Clone, Copy, PartialEq, Eq)]
 pub enum SessionStop {
     Closed(Why),
     ClientFault,

@@ -6,7 +6,7 @@ use crate::ending::SessionStop;
 use jk_model::Served;
 
 /// What the client has of a request's answer.
-#[derive(Clone, Copy, Debug, PartialEq, Eq)]
+#[derive(Clone, Copy, PartialEq, Eq)]
 pub enum Answered {
     /// A complete reply or page.
     Whole,
@@ -15,14 +15,14 @@ pub enum Answered {
 }
 
 /// How a request was answered, and the row that it adds, if any.
-#[derive(Debug, Drop)]
+#[derive(Drop)]
 pub struct Settled {
     pub answered: Answered,
     pub row: Option<Served>,
 }
 
 /// What follows a request.
-#[derive(Clone, Copy, Debug, PartialEq, Eq)]
+#[derive(Clone, Copy, PartialEq, Eq)]
 pub enum SessionTurn {
     /// The next request is read.
     Next,

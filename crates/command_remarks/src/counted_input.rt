@@ -4,7 +4,7 @@ ghost use Rattle.std.specs.Prelude.{◌≡◌, false};
 use jk_io::{IoError, Meanings, Source};
 
 /// What is known of an input.
-#[derive(Clone, Copy, Debug)]
+#[derive(Clone, Copy)]
 pub struct InputSeen {
     /// How many bytes it gave; the count stays at the greatest u64.
     pub bytes: u64,

@@ -86,7 +86,7 @@ pub trait Tape {
 }
 
 /// A tape that keeps the talks.
-#[derive(Debug, Drop)]
+#[derive(Drop)]
 pub struct MemTape {
     book: TalkBook,
 }
@@ -175,7 +175,7 @@ impl Tape for MemTape {
 }
 
 /// A tape that keeps nothing.
-#[derive(Debug, Drop)]
+#[derive(Drop)]
 pub struct NoTape;
 
 impl Tape for NoTape {

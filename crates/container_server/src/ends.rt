@@ -3,7 +3,7 @@
 use jk_io::ListOf;
 
 /// Why a worker thread ended.
-#[derive(Clone, Copy, Debug, PartialEq, Eq)]
+#[derive(Clone, Copy, PartialEq, Eq)]
 pub enum ContainerWorker {
     /// No client comes any more. `links` counts those that were served.
     Closed { links: u64 },

@@ -31,17 +31,55 @@ where
     ensures served { IfOk result (λ e. let at = side D.coming D.left D.faults in
         AreEachServed app.now D.L.Meanings (map at doors.items) (map at e.doors) e.workers) }
 {
-    let count = doors.len();
-    let mut slots = Vec::with_capacity(alloc, count)?;
-    let mut workers = Vec::with_capacity(alloc, count)?;
-    let mut left = Vec::with_capacity(alloc, count)?;
-    fill_slots(&mut slots, doors);
+    let mut slots = slots_of(alloc, doors)?;
+    let room = room_for(alloc, slots.len())?;
     serve_all(rt, alloc, app, slots.as_mut_slice());
+    Ok(end_of(slots, room))
+}
+
+/// The room for what a run gives back.
+#[derive(Drop)]
+struct Room<D> {
+    workers: Vec<ContainerWorker>,
+    left: Vec<D>,
+}
+
+/// Room for so many workers and doors.
+fn room_for<D: Drop>(alloc: Global, count: usize) -> Result<Room<D>, NoMemory>
+    ensures none { IfOk result (λ r. (r.workers.items ≡ []) × (r.left.items ≡ [])) }
+    ensures room { IfOk result (λ r. (count ≤ vec_capacity r.workers) × (count ≤ vec_capacity r.left)) }
+{
+    Ok(Room {
+        workers: Vec::with_capacity(alloc, count)?,
+        left: Vec::with_capacity(alloc, count)?,
+    })
+}
+
+/// What the slots hold after a run.
+fn end_of<D: Drop>(slots: Vec<Slot<D>>, room: Room<D>) -> ContainerRunEnd<D>
+    requires none { (room.workers.items ≡ []) × (room.left.items ≡ []) }
+    requires room { (vec_len slots ≤ vec_capacity room.workers) × (vec_len slots ≤ vec_capacity room.left) }
+    ensures workers { result.workers ≡ map (λ (s : AnySlot D). s.end) slots.items }
+    ensures doors { result.doors ≡ map (λ (s : AnySlot D). s.door) slots.items }
+{
+    let Room {
+        mut workers,
+        mut left,
+    } = room;
     empty_slots(slots, &mut workers, &mut left);
-    Ok(ContainerRunEnd {
+    ContainerRunEnd {
         workers: ListOf::from_vec(workers),
         doors: ListOf::from_vec(left),
-    })
+    }
+}
+
+/// A slot for each door.
+fn slots_of<D: Drop>(alloc: Global, doors: Vec<D>) -> Result<Vec<Slot<D>>, NoMemory>
+    ensures { IfOk result (λ slots. map (λ (s : AnySlot D). s.door) slots.items ≡ doors.items) }
+{
+    let mut slots = Vec::with_capacity(alloc, doors.len())?;
+    fill_slots(&mut slots, doors);
+    Ok(slots)
 }
 
 /// Puts each door into a slot.

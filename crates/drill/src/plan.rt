@@ -9,7 +9,7 @@ pub const MAX_THREADS: u32 = 64;
 pub const MAX_REQUESTS: u32 = 1_000_000;
 
 /// A drill's requests.
-#[derive(Clone, Copy, Debug)]
+#[derive(Clone, Copy)]
 pub(crate) struct Plan {
     pub(crate) seed: u64,
     pub(crate) threads: u32,

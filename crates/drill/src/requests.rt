@@ -43,7 +43,7 @@ fn put_request(out: &mut Bytes, size: u64) -> Result<(), NoMemory>
 }
 
 /// The requests that a thread has still to make. A contract sees their numbers.
-#[derive(Debug, Drop)]
+#[derive(Drop)]
 pub(crate) struct Requests {
     plan: Plan,
     thread: u32,

@@ -163,6 +163,15 @@ fn only_book(books: BookList) -> Book
     }
 }
 
+// Makes them over the drill's own site.
+fn book_of<R: Threads + Wait + Sync>(rt: &R, alloc: Global, plan: Plan) -> Result<Book, DrillError>
+    ensures book { IfOk result IsOfDrill }
+    ensures cause { IfErr result (IsDrillError plan.threads plan.requests) }
+{
+    let site = drill_site(alloc)?;
+    drilled_book(rt, alloc, &site, plan)
+}
+
 /// Makes requests by several threads over one Site: request i, from 0, is made by thread i mod `threads`, over memory
 /// against a container's application. With `text` the text is the journal's, else the summary.
 ///
@@ -196,7 +205,6 @@ pub fn run_drill<R: Threads + Wait + Sync>(
         threads,
         requests,
     };
-    let site = drill_site(alloc)?;
-    let book = drilled_book(rt, alloc, &site, plan)?;
+    let book = book_of(rt, alloc, plan)?;
     tell(alloc, plan, Wanted { text, passes }, book)
 }

@@ -7,7 +7,7 @@ use std::alloc::Global;
 use std::marker::Model;
 
 /// A wire. As a link it is its container's end.
-#[derive(Debug, Drop)]
+#[derive(Drop)]
 pub(crate) struct Wire {
     /// What the connector wrote, and how many bytes of it the container is done with.
     asked: Bytes,

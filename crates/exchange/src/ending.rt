@@ -3,7 +3,7 @@
 use ajp_talk::{TalkEnd, Told};
 
 /// How an exchange ended.
-#[derive(Clone, Copy, Debug, PartialEq, Eq)]
+#[derive(Clone, Copy, PartialEq, Eq)]
 pub enum ExchangeEnd {
     /// The client has the whole reply of this member.
     Done {
@@ -30,7 +30,7 @@ pub enum ExchangeEnd {
 }
 
 /// What was done on a member while its lease was held. `bytes` are what its talks sent and received, at most 2^44.
-#[derive(Clone, Copy, Debug, PartialEq, Eq)]
+#[derive(Clone, Copy, PartialEq, Eq)]
 pub enum Ran {
     /// The Forward Request exceeds what the member takes: there was no talk.
     TooLarge,
@@ -41,7 +41,7 @@ pub enum Ran {
 }
 
 /// What becomes of a request after a round.
-#[derive(Clone, Copy, Debug, PartialEq, Eq)]
+#[derive(Clone, Copy, PartialEq, Eq)]
 pub enum RoundVerdict {
     /// Another member is tried, and this one no more.
     Again { member: u32 },

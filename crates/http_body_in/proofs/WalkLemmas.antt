@@ -10,12 +10,19 @@ use Rattle.jk_io.specs.declared.failures.IoError.TheVariants as io
 use Rattle.http_body_in.specs.Falls.{framing_left, exact_left}
 use Rattle.http_body_in.specs.Faults.{fault_of}
 use Rattle.http_body_in.specs.Places.{data_left, data_step, is_bad, is_limited}
-use Rattle.http_body_in.specs.Walks.{Fails, is_reached, counted}
+use Rattle.http_body_in.specs.Walks.{Breaks, Fails, IsUnder, is_reached, counted}
 use Rattle.http_body_in.specs.declared.fault.BodyFault.{BodyFault}
 use Rattle.http_body_in.specs.declared.fault.BodyFault.TheVariants as fault
 use Rattle.http_body_in.specs.declared.place.Place.{Place}
 use Rattle.http_body_in.specs.declared.place.Place.TheVariants as at
 use Rattle.http_body_in.proofs.BodyLemmas.{Uses-then, data-run}
+
+-- a count that stayed, and one that stayed and then did not fall
+pub kept-count : (now before : ℕ) → now ≡ before → before ≤ now
+kept-count now before same = omega arith
+
+pub risen-count : (mid before now : ℕ) → mid ≡ before → mid ≤ now → before ≤ now
+risen-count mid before now same risen = omega arith
 
 -- the one bad place
 pub bad-place : (p : Place) → is_bad p ≡ true → p ≡ at.Bad
@@ -91,6 +98,19 @@ fails-read most taken count before now after start place piece fault.Fault withi
 fails-read most taken count before now after start place piece fault.NoMemory within uses same open_end end bad long limit =
     let len : length (take count piece) ≡ count = length-take-le count piece (omega (arith, within)) in
     record { breaks = record { place = place; data' = take count piece; uses = Uses-kept before now after start place _ same uses; meets = tt; stays = tt }; below = omega (arith, len, within) }
+
+-- the end, or a read that failed, behind the data that was passed
+pub breaks-read : (most taken : ℕ) (before now after : Option (List ℕ)) (start place : Place) (data' : List ℕ) (why : BodyFault) → Uses before now start place data'
+    → after ≡ now → is_over place ≡ false → (why ≡ fault.Truncated → IsEmpty after) → why ≢ fault.BadChunk → why ≢ fault.TooLong
+    → IsUnder most taken start data' → Breaks most taken before after start why
+breaks-read most taken before now after start place data' fault.Truncated uses same open_end end bad long under =
+    record { place = place; data' = data'; uses = Uses-kept before now after start place data' same uses; meets = (open_end, end refl); stays = under }
+breaks-read most taken before now after start place data' fault.BadChunk uses same open_end end bad long under = absurd (bad refl)
+breaks-read most taken before now after start place data' fault.TooLong uses same open_end end bad long under = absurd (long refl)
+breaks-read most taken before now after start place data' fault.Fault uses same open_end end bad long under =
+    record { place = place; data' = data'; uses = Uses-kept before now after start place data' same uses; meets = open_end; stays = under }
+breaks-read most taken before now after start place data' fault.NoMemory uses same open_end end bad long under =
+    record { place = place; data' = data'; uses = Uses-kept before now after start place data' same uses; meets = tt; stays = tt }
 
 -- data was dropped
 pub uses-dropped : (before mid now : Option (List ℕ)) (p q : Place) (passed gone : List ℕ) (count : ℕ) → length gone ≡ count → count ≤ data_left q → Uses before mid p q passed

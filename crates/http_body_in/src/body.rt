@@ -18,7 +18,7 @@ use jk_io::{Bytes, Link};
 use std::alloc::Global;
 
 /// How far a body was taken.
-#[derive(Clone, Copy, Debug, PartialEq, Eq)]
+#[derive(Clone, Copy)]
 struct Stand {
     place: Place,
     /// At how many bytes of data a chunked body is too long.
@@ -28,7 +28,7 @@ struct Stand {
 }
 
 /// A client's body, as far as it was taken.
-#[derive(Debug, Drop)]
+#[derive(Drop)]
 pub struct BodyIn {
     stand: Stand,
     failed: Option<BodyFault>,

@@ -8,7 +8,7 @@ ghost use Rattle.http_body_in.specs.Falls.{framing_left, exact_left};
 use http_front::BodyPlan;
 
 /// Where a reader of a body stands.
-#[derive(Clone, Copy, Debug, PartialEq, Eq)]
+#[derive(Clone, Copy)]
 pub enum Place {
     /// In a body by length: so many bytes of data are left.
     Exact(u64),

@@ -51,3 +51,10 @@ on_err_any (Err e) p = p
 pub on_err_map : {T E P Q : Type 0} (r : Result T E) → (P → Q) → OnErr r P → OnErr r Q
 on_err_map (Ok x) f p = tt
 on_err_map (Err e) f p = f p
+
+-- a count that stayed, and one that stayed and then did not fall
+pub kept-count : (now before : ℕ) → now ≡ before → before ≤ now
+kept-count now before same = omega arith
+
+pub risen-count : (mid before now : ℕ) → mid ≡ before → mid ≤ now → before ≤ now
+risen-count mid before now same risen = omega arith

@@ -5,7 +5,7 @@ use std::alloc::{AllocError, AllocFailed};
 use thiserror::Error;
 
 /// What stands at the front of the client's bytes.
-#[derive(Debug, Drop)]
+#[derive(Drop)]
 pub enum HeadGot {
     /// A request's head.
     Head(Head),

@@ -4,7 +4,7 @@ use jk_io::Bytes;
 use std::alloc::Global;
 
 /// How a request's body is framed (RFC 9112, section 6).
-#[derive(Clone, Copy, Debug, PartialEq, Eq)]
+#[derive(Clone, Copy, PartialEq, Eq)]
 pub enum BodyPlan {
     /// No body: neither framing stands in the head, or a Content-Length of 0.
     None,
@@ -15,7 +15,7 @@ pub enum BodyPlan {
 }
 
 /// A request's head.
-#[derive(Debug, Drop)]
+#[derive(Drop)]
 pub struct Head {
     /// The method, as the client wrote it.
     pub method: Bytes,

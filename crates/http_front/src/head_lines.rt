@@ -11,7 +11,7 @@ pub const MAX_HEAD_LINES: usize = 100;
 
 /// Field lines of a head, each a name and its value without outer blanks; at most 100 of them.
 /// A contract sees a list of pairs.
-#[derive(Debug, Drop)]
+#[derive(Drop)]
 pub struct HeadLines {
     lines: Vec<(Bytes, Bytes)>,
 }

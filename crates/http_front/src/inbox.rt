@@ -13,7 +13,7 @@ pub const MAX_HEAD_BYTES: usize = 16_384;
 
 /// The client's bytes that were read and not yet used. It holds at most 16,384 of them, in memory
 /// that it takes once; bytes that are used are left where they lie.
-#[derive(Debug, Drop)]
+#[derive(Drop)]
 pub struct Inbox {
     buffer: Vec<u8>,
     start: usize,

@@ -6,7 +6,7 @@ ghost use Rattle.http_out.specs.Head.{length_said, length_in, next_said};
 use jk_io::{Bytes, parse_decimal};
 
 /// The length of a body, as its head says it.
-#[derive(Clone, Copy, Debug, PartialEq, Eq)]
+#[derive(Clone, Copy, PartialEq, Eq)]
 pub enum ContentLength {
     /// No line says one.
     Absent,

@@ -7,7 +7,7 @@ use crate::content_length::ContentLength;
 use jk_io::{Bytes, NoMemory};
 
 /// What of a request its reply's bytes go by.
-#[derive(Clone, Copy, Debug, PartialEq, Eq)]
+#[derive(Clone, Copy, PartialEq, Eq)]
 pub struct RequestKind {
     /// A request of HTTP/1.0.
     pub old: bool,
@@ -18,7 +18,7 @@ pub struct RequestKind {
 }
 
 /// Where the body ends (RFC 9112, section 6.3).
-#[derive(Clone, Copy, Debug, PartialEq, Eq)]
+#[derive(Clone, Copy, PartialEq, Eq)]
 pub enum Framing {
     /// There is none.
     NoBody,

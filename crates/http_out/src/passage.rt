@@ -7,7 +7,7 @@ use crate::reply_head::OutError;
 use jk_io::{IoError, Sink, write_counted};
 
 /// Whether a byte was written, and whether a write failed.
-#[derive(Clone, Copy, Debug, PartialEq, Eq)]
+#[derive(Clone, Copy, PartialEq, Eq)]
 pub struct Passage {
     pub passed: bool,
     pub failed: bool,

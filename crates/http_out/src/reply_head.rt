@@ -12,7 +12,7 @@ use jk_io::{Bytes, NoMemory};
 use thiserror::Error;
 
 /// The head of a container's reply, as the client is to get it but for the lines that speak of the container's link.
-#[derive(Debug, Drop)]
+#[derive(Drop)]
 pub struct ReplyHead {
     /// The status code.
     pub status: u16,

@@ -15,7 +15,7 @@ use std::marker::Model;
 
 /// Writes one reply: its head, its chunks, its end. The head is held until the first chunk that passes, so that both
 /// go out in one write.
-#[derive(Debug, Drop)]
+#[derive(Drop)]
 pub struct ReplyWriter {
     alloc: Global,
     kind: RequestKind,

@@ -5,42 +5,97 @@
 use clap::{Arg, ArgAction, Command};
 use std::alloc::{AllocError, Global};
 
-/// What help says of a command.
+/// What help says of a command, or of the program.
 struct Page {
     name: &'static str,
     about: &'static str,
     usage: &'static str,
-    /// The words, with what each is.
-    words: &'static [(&'static str, &'static str)],
-    /// How many of the words have to stand.
-    least: usize,
-    options: &'static [Opt],
-    example: &'static str,
+    /// The words by their places, the options and the flags.
+    rows: &'static [Row],
+    after: &'static str,
 }
 
-/// What help says of an option.
-struct Opt {
+/// What help says of a word, an option or a flag.
+struct Row {
     name: &'static str,
-    value: &'static str,
     about: &'static str,
+    kind: Kind,
 }
 
-const WORKERS: (&str, &str) = ("WORKERS", "The file workers.properties");
+#[derive(Clone, Copy)]
+enum Kind {
+    /// A word that has to stand.
+    Word,
+    /// A word that may stand.
+    Spare,
+    /// An option with the name of its value, or a flag, which has none.
+    Long(&'static str, ArgAction),
+}
 
-const MAP: (&str, &str) = ("MAP", "The file uriworkermap.properties");
+const WORKERS: Row = Row {
+    name: "WORKERS",
+    about: "The file workers.properties",
+    kind: Kind::Word,
+};
 
-const REQUEST: (&str, &str) = ("REQUEST", "A file with the bytes of a client");
+const MAP: Row = Row {
+    name: "MAP",
+    about: "The file uriworkermap.properties",
+    kind: Kind::Word,
+};
 
-const REPLY: (&str, &str) = ("REPLY", "A file with the bytes of a container");
+const SPARE_WORKERS: Row = Row {
+    name: "WORKERS",
+    about: "The file workers.properties",
+    kind: Kind::Spare,
+};
 
-const ADDRESS: (&str, &str) = ("ADDRESS", "The address to listen at, as 127.0.0.1:8080");
+const SPARE_MAP: Row = Row {
+    name: "MAP",
+    about: "The file uriworkermap.properties",
+    kind: Kind::Spare,
+};
 
-const THREADS: (&str, &str) = ("THREADS", "1 to 64");
+const REQUEST: Row = Row {
+    name: "REQUEST",
+    about: "A file with the bytes of a client",
+    kind: Kind::Word,
+};
 
-const CLIENTS: Opt = Opt {
+const REPLY: Row = Row {
+    name: "REPLY",
+    about: "A file with the bytes of a container",
+    kind: Kind::Word,
+};
+
+const ADDRESS: Row = Row {
+    name: "ADDRESS",
+    about: "The address to listen at, as 127.0.0.1:8080",
+    kind: Kind::Word,
+};
+
+const THREADS: Row = Row {
+    name: "THREADS",
+    about: "1 to 64",
+    kind: Kind::Word,
+};
+
+const CLIENTS: Row = Row {
     name: "clients",
-    value: "N",
     about: "Each thread ends after N clients",
+    kind: Kind::Long("N", ArgAction::Set),
+};
+
+const HELP: Row = Row {
+    name: "help",
+    about: "Print this text",
+    kind: Kind::Long("", ArgAction::Help),
+};
+
+const VERSION: Row = Row {
+    name: "version",
+    about: "Print the version",
+    kind: Kind::Long("", ArgAction::Version),
 };
 
 static PAGES: [Page; 10] = [
@@ -48,136 +103,142 @@ static PAGES: [Page; 10] = [
         name: "play",
         about: "Play a script of a balancer, read from the input",
         usage: "jkd play < SCRIPT",
-        words: &[],
-        least: 0,
-        options: &[],
-        example: "Example: jkd play < script.txt",
+        rows: &[HELP],
+        after: "Example: jkd play < script.txt",
     },
     Page {
         name: "dry",
         about: "Forward one client's bytes to a container's bytes",
         usage: "jkd dry REQUEST REPLY [WORKERS MAP]",
-        words: &[REQUEST, REPLY, WORKERS, MAP],
-        least: 2,
-        options: &[],
-        example: "Example: jkd dry request.bin reply.bin",
+        rows: &[REQUEST, REPLY, SPARE_WORKERS, SPARE_MAP, HELP],
+        after: "Example: jkd dry request.bin reply.bin",
     },
     Page {
         name: "config",
         about: "Show what is understood of a site's files",
         usage: "jkd config WORKERS [MAP]",
-        words: &[WORKERS, MAP],
-        least: 1,
-        options: &[],
-        example: "Example: jkd config workers.properties uriworkermap.properties",
+        rows: &[WORKERS, SPARE_MAP, HELP],
+        after: "Example: jkd config workers.properties uriworkermap.properties",
     },
     Page {
         name: "match",
         about: "Show the worker of each path of the input",
         usage: "jkd match WORKERS MAP < PATHS",
-        words: &[WORKERS, MAP],
-        least: 2,
-        options: &[],
-        example: "Example: jkd match workers.properties uriworkermap.properties < paths.txt",
+        rows: &[WORKERS, MAP, HELP],
+        after: "Example: jkd match workers.properties uriworkermap.properties < paths.txt",
     },
     Page {
         name: "check",
         about: "Check the text of a journal, read from the input",
         usage: "jkd check < JOURNAL",
-        words: &[],
-        least: 0,
-        options: &[],
-        example: "Example: jkd check < balancer.journal",
+        rows: &[HELP],
+        after: "Example: jkd check < balancer.journal",
     },
     Page {
         name: "log",
         about: "Write the request log of one client's bytes",
         usage: "jkd log FORMAT REQUEST REPLY WORKERS MAP",
-        words: &[
-            ("FORMAT", "The form of a line, as '%w %m %U %s'"),
+        rows: &[
+            Row {
+                name: "FORMAT",
+                about: "The form of a line, as '%w %m %U %s'",
+                kind: Kind::Word,
+            },
             REQUEST,
             REPLY,
             WORKERS,
             MAP,
+            HELP,
         ],
-        least: 5,
-        options: &[],
-        example: "Example: jkd log '%w %m %U %s' request.bin reply.bin workers.properties uriworkermap.properties",
+        after: "Example: jkd log '%w %m %U %s' request.bin reply.bin workers.properties uriworkermap.properties",
     },
     Page {
         name: "follow",
         about: "Show the status page of a journal, read from the input",
         usage: "jkd follow < JOURNAL",
-        words: &[],
-        least: 0,
-        options: &[],
-        example: "Example: jkd follow < balancer.journal",
+        rows: &[HELP],
+        after: "Example: jkd follow < balancer.journal",
     },
     Page {
         name: "drill",
         about: "Run requests over memory from a seed",
         usage: "jkd drill SEED THREADS REQUESTS [journal|passes]",
-        words: &[
-            ("SEED", "A number"),
+        rows: &[
+            Row {
+                name: "SEED",
+                about: "A number",
+                kind: Kind::Word,
+            },
             THREADS,
-            ("REQUESTS", "1 to 1000000"),
-            (
-                "MODE",
-                "journal prints the journal's text, passes shares a book of passes",
-            ),
+            Row {
+                name: "REQUESTS",
+                about: "1 to 1000000",
+                kind: Kind::Word,
+            },
+            Row {
+                name: "MODE",
+                about: "journal prints the journal's text, passes shares a book of passes",
+                kind: Kind::Spare,
+            },
+            HELP,
         ],
-        least: 3,
-        options: &[],
-        example: "Example: jkd drill 1 4 10000 passes",
+        after: "Example: jkd drill 1 4 10000 passes",
     },
     Page {
         name: "serve",
         about: "Serve clients at an address",
         usage: "jkd serve [OPTIONS] WORKERS MAP ADDRESS THREADS",
-        words: &[WORKERS, MAP, ADDRESS, THREADS],
-        least: 4,
-        options: &[
+        rows: &[
+            WORKERS,
+            MAP,
+            ADDRESS,
+            THREADS,
             CLIENTS,
-            Opt {
+            Row {
                 name: "journal",
-                value: "DIR",
                 about: "Write the journals into DIR",
+                kind: Kind::Long("DIR", ArgAction::Set),
             },
-            Opt {
+            Row {
                 name: "watch",
-                value: "SECONDS",
                 about: "Look through idle links every so many seconds, 1 to 86400",
+                kind: Kind::Long("SECONDS", ArgAction::Set),
             },
-            Opt {
+            Row {
                 name: "idle",
-                value: "ROUNDS",
                 about: "With --watch, close a link idle for so many looks, 1 to 1000000; 10 where not given",
+                kind: Kind::Long("ROUNDS", ArgAction::Set),
             },
-            Opt {
+            Row {
                 name: "log",
-                value: "DIR",
                 about: "Write the request logs into DIR",
+                kind: Kind::Long("DIR", ArgAction::Set),
             },
-            Opt {
+            Row {
                 name: "format",
-                value: "FORMAT",
                 about: "With --log, the form of its lines",
+                kind: Kind::Long("FORMAT", ArgAction::Set),
             },
+            HELP,
         ],
-        example: "Example: jkd serve --watch 10 workers.properties uriworkermap.properties 127.0.0.1:8080 8",
+        after: "Example: jkd serve --watch 10 workers.properties uriworkermap.properties 127.0.0.1:8080 8",
     },
     Page {
         name: "container",
         about: "Run a small AJP13 container to try a site with",
         usage: "jkd container [--clients N] ROUTE ADDRESS THREADS",
-        words: &[
-            ("ROUTE", "The route of its session ids, at most 1024 bytes"),
+        rows: &[
+            Row {
+                name: "ROUTE",
+                about: "The route of its session ids, at most 1024 bytes",
+                kind: Kind::Word,
+            },
             ADDRESS,
             THREADS,
+            CLIENTS,
+            HELP,
         ],
-        least: 3,
-        options: &[CLIENTS],
-        example: "Example: jkd container a 127.0.0.1:8009 4",
+        after: "Example: jkd container a 127.0.0.1:8009 4",
     },
 ];
 
@@ -210,106 +271,105 @@ Examples:
 An option is written --name VALUE or --name=VALUE, before or between the words; words
 behind -- may begin with -. jkd COMMAND --help tells more of one command.";
 
-fn help_flag<'a>(alloc: Global) -> Arg<'a> {
-    Arg::new(alloc, "help")
-        .long("help")
-        .action(ArgAction::Help)
-        .help("Print this text")
+/// The program itself, above its commands.
+static PROGRAM: Page = Page {
+    name: "jkd",
+    about: "A connector that balances requests over servlet containers",
+    usage: "jkd COMMAND WORDS",
+    rows: &[HELP, VERSION],
+    after: BELOW,
+};
+
+fn word<'a>(alloc: Global, row: &Row, needed: bool) -> Arg<'a> {
+    Arg::new(alloc, row.name).help(row.about).required(needed)
 }
 
-fn version_flag<'a>(alloc: Global) -> Arg<'a> {
-    Arg::new(alloc, "version")
-        .long("version")
-        .action(ArgAction::Version)
-        .help("Print the version")
+fn long<'a>(alloc: Global, row: &Row, value: &'static str, action: ArgAction) -> Arg<'a> {
+    word(alloc, row, false)
+        .long(row.name)
+        .value_name(value)
+        .action(action)
 }
 
-/// The command with the words of a page.
-fn with_words<'a>(
-    alloc: Global,
-    command: Command<'a>,
-    page: &Page,
-) -> Result<Command<'a>, AllocError> {
-    let mut command = command;
-    for (place, (name, about)) in page.words.iter().enumerate() {
-        let word = Arg::new(alloc, name)
-            .required(place < page.least)
-            .help(about);
-        command = command.arg(word)?;
+fn arg_of<'a>(alloc: Global, row: &Row) -> Arg<'a> {
+    match row.kind {
+        Kind::Word => word(alloc, row, true),
+        Kind::Spare => word(alloc, row, false),
+        Kind::Long(value, action) => long(alloc, row, value, action),
     }
-    Ok(command)
 }
 
-/// The command with the options of a page.
-fn with_options<'a>(
-    alloc: Global,
-    command: Command<'a>,
-    page: &Page,
-) -> Result<Command<'a>, AllocError> {
-    let mut command = command;
-    for option in page.options {
-        let option = Arg::new(alloc, option.name)
-            .long(option.name)
-            .value_name(option.value)
-            .help(option.about);
-        command = command.arg(option)?;
+fn put<T: Drop>(list: &mut Vec<T>, item: T) -> Result<(), AllocError> {
+    list.push(item)?;
+    Ok(())
+}
+
+fn args_of<'a>(alloc: Global, rows: &[Row]) -> Result<Vec<Arg<'a>>, AllocError> {
+    let mut args = Vec::new(alloc);
+    for row in rows {
+        put(&mut args, arg_of(alloc, row))?;
     }
-    Ok(command)
+    Ok(args)
 }
 
-/// The command of a page with its texts alone.
-fn bare_page<'a>(alloc: Global, page: &Page) -> Command<'a> {
-    Command::new(alloc, page.name)
-        .about(page.about)
-        .override_usage(page.usage)
-        .after_help(page.example)
-        .disable_help_flag(true)
-}
-
-fn with_help<'a>(alloc: Global, command: Command<'a>) -> Result<Command<'a>, AllocError> {
-    command.arg(help_flag(alloc))
-}
-
-fn page_command<'a>(alloc: Global, page: &Page) -> Result<Command<'a>, AllocError> {
-    let command = with_words(alloc, bare_page(alloc, page), page)?;
-    with_help(alloc, with_options(alloc, command, page)?)
-}
-
-/// The command with its texts alone.
-fn bare_command<'a>(alloc: Global) -> Command<'a> {
-    Command::new(alloc, "jkd")
-        .version("0.1.0")
-        .about("A connector that balances requests over servlet containers")
-        .override_usage("jkd COMMAND WORDS")
-        .after_help(BELOW)
+/// The command with its flags for help and version left to the rows.
+fn flagless<'a>(alloc: Global, name: &'static str) -> Command<'a> {
+    Command::new(alloc, name)
         .disable_help_flag(true)
         .disable_version_flag(true)
+}
+
+fn versioned<'a>(alloc: Global, name: &'static str) -> Command<'a> {
+    flagless(alloc, name)
+        .version("0.1.0")
         .disable_help_subcommand(true)
 }
 
-/// The command with its flags.
-fn flagged_command<'a>(alloc: Global) -> Result<Command<'a>, AllocError> {
-    with_help(alloc, bare_command(alloc))?.arg(version_flag(alloc))
+/// The command of a page with its texts alone.
+fn bare_command<'a>(alloc: Global, page: &Page) -> Command<'a> {
+    versioned(alloc, page.name)
+        .about(page.about)
+        .override_usage(page.usage)
+        .after_help(page.after)
 }
 
-/// The command with a page as one of its own.
-fn with_page<'a>(
-    alloc: Global,
-    command: Command<'a>,
-    page: &Page,
-) -> Result<Command<'a>, AllocError> {
-    command.subcommand(page_command(alloc, page)?)
+fn page_command<'a>(alloc: Global, page: &Page) -> Result<Command<'a>, AllocError> {
+    let args = args_of(alloc, page.rows)?;
+    bare_command(alloc, page).args(args)
+}
+
+fn put_made<T: Drop>(list: &mut Vec<T>, made: Result<T, AllocError>) -> Result<(), AllocError> {
+    put(list, made?)
+}
+
+fn page_commands<'a>(alloc: Global) -> Result<Vec<Command<'a>>, AllocError> {
+    let mut commands = Vec::new(alloc);
+    for page in pages() {
+        put_made(&mut commands, page_command(alloc, page))?;
+    }
+    Ok(commands)
 }
 
 fn pages() -> &'static [Page] {
     &PAGES
 }
 
+fn program() -> &'static Page {
+    &PROGRAM
+}
+
+fn with_commands<'a>(
+    program: Result<Command<'a>, AllocError>,
+    commands: Vec<Command<'a>>,
+) -> Result<Command<'a>, AllocError> {
+    match program {
+        Ok(program) => program.subcommands(commands),
+        Err(error) => Err(error),
+    }
+}
+
 /// The command with its texts.
 pub fn command<'a>(alloc: Global) -> Result<Command<'a>, AllocError> {
-    let mut command = flagged_command(alloc)?;
-    for page in pages() {
-        command = with_page(alloc, command, page)?;
-    }
-    Ok(command)
+    let commands = page_commands(alloc)?;
+    with_commands(page_command(alloc, program()), commands)
 }

@@ -81,7 +81,7 @@ pub enum Order {
 }
 
 /// Why words give no order.
-#[derive(Clone, Copy, Debug, PartialEq, Eq, Error)]
+#[derive(Clone, Copy, Debug, Error)]
 pub enum WordsError {
     /// They are no command with its words and options.
     #[error("no command")]

@@ -239,33 +239,33 @@ impl Plan<'_> {
     pub fn order(self, alloc: Global) -> Result<Order, NoMemory>
         ensures { IfOk result (λ order. order ≡ order_in self.entry) }
     {
-        Ok(match self {
-            Plan::Play => Order::Play,
+        match self {
+            Plan::Play => Ok(Order::Play),
             Plan::Dry {
                 request,
                 reply,
                 site,
-            } => dry_order(alloc, request, reply, site)?,
-            Plan::Config { workers, map } => config_order(alloc, workers, map)?,
-            Plan::Match { workers, map } => match_order(alloc, workers, map)?,
-            Plan::Check => Order::Check,
-            Plan::Log(plan) => plan.order(alloc)?,
-            Plan::Follow => Order::Follow,
+            } => dry_order(alloc, request, reply, site),
+            Plan::Config { workers, map } => config_order(alloc, workers, map),
+            Plan::Match { workers, map } => match_order(alloc, workers, map),
+            Plan::Check => Ok(Order::Check),
+            Plan::Log(plan) => plan.order(alloc),
+            Plan::Follow => Ok(Order::Follow),
             Plan::Drill {
                 seed,
                 threads,
                 requests,
                 text,
                 passes,
-            } => Order::Drill {
+            } => Ok(Order::Drill {
                 seed,
                 threads,
                 requests,
                 text,
                 passes,
-            },
-            Plan::Serve(plan) => plan.order(alloc)?,
-            Plan::Container(plan) => plan.order(alloc)?,
-        })
+            }),
+            Plan::Serve(plan) => plan.order(alloc),
+            Plan::Container(plan) => plan.order(alloc),
+        }
     }
 }

@@ -1,18 +1,19 @@
 -- Where the calls of the objects in memory fail, and whose link a talk gets.
-use Rattle.std.proofs.Common.{◌≡◌, ℕ, ◌↔◌, ◌⊎◌, inl, inr, Bool, true, false, ◌==◌, IsTrue, HoldsAt, remove, sym, subst, ◌∙◌, true≢false}
+use Rattle.std.proofs.Common.{◌≡◌, ℕ, ◌↔◌, ◌⊎◌, inl, inr, Bool, true, false, ◌==◌, IsTrue, HoldsAt, remove, sym, subst, true≢false}
 use Rattle.std.proofs.lemmas.Bool.{and_parts, eqb-true}
 use Rattle.jk_io.specs.MemReaches.{MemReachState, IsLastOf, GivesLink, is_of}
 use Rattle.jk_io.specs.declared.memory.member_link.MemberLink.{MemberLink}
 
--- a call that wasn't planned is to fail exactly where one more is due
-pub fails_where_due : (planned more : Type 0) (fails due : Bool) → (IsTrue fails ↔ planned) → fails ≡ false → (IsTrue due ↔ more)
-    → (IsTrue due ↔ (planned ⊎ more))
-fails_where_due planned more fails due is_planned not_planned is_due = (
-  λ d. inr (is_due.0 d),
-  elim [
-    | inl p ↦ absurd (true≢false (sym (is_planned.1 p) ∙ not_planned))
-    | inr m ↦ is_due.1 m
-  ],
+due_or : (planned due more : Type 0) → (due → more) → planned ⊎ due → planned ⊎ more
+due_or planned due more f (inl p) = inl p
+due_or planned due more f (inr d) = inr (f d)
+
+-- a call fails exactly where it was planned or one more is due
+pub fails_where_due : (planned more : Type 0) (fails due : Bool) → (IsTrue fails ↔ (planned ⊎ IsTrue due)) → (IsTrue due ↔ more)
+    → (IsTrue fails ↔ (planned ⊎ more))
+fails_where_due planned more fails due is_planned is_due = (
+  λ f. due_or planned (IsTrue due) more is_due.0 (is_planned.0 f),
+  λ x. is_planned.1 (due_or planned more (IsTrue due) is_due.1 x),
 )
 
 -- whose a link is

@@ -1,10 +1,10 @@
 -- A piece that is handed on from a place, and a buffer that is filled from a place.
-use Rattle.std.proofs.Common.{◌≡◌, ℕ, ◌+◌, ◌-◌, ◌≤◌, List, ◌++◌, Option, length, take, drop, subst, sym, ap, ◌∙◌}
+use Rattle.std.proofs.Common.{◌≡◌, ℕ, ◌+◌, ◌-◌, ◌≤◌, List, ◌++◌, Option, length, take, drop, subst, sym, ap, ◌∙◌, arith}
 use Rattle.std.proofs.Math.Seq.{take-add, take-append-add}
 use Rattle.std.proofs.lemmas.List.{take_rest, take-append-drop, take-append-le, length-take-le, drop-drop}
 use borrow.Rule.Slice.PartMut.{put_mid, post_of}
 use Rattle.jk_io.specs.Told.{appended, prepended}
-use Rattle.jk_io.proofs.ToldLaws.{appended-appended, prepended-prepended}
+use Rattle.jk_io.proofs.ToldLaws.{appended-appended, appended-nil, prepended-prepended, prepended-nil}
 
 -- the first `at`, and `n` of `&p[at..]`
 pub take-next : {T : Type 0} → (p : List T) (at n : ℕ) → take (at + n) p ≡ take at p ++ take n (take (length p - at) (drop at p))
@@ -41,6 +41,28 @@ pub gave_next : (before now after : Option (List ℕ)) (xs ys : List ℕ) (at k 
 gave_next before now after xs ys at k n within more first next =
     first ∙ ap (prepended (take at xs)) next ∙ prepended-prepended (take at xs) (take n ys) after
     ∙ ap (λ x. prepended x after) (sym (take-filled xs ys at k n within more))
+
+-- what came before `at`, as the buffer holds it where nothing more came
+pub got_none : (before now after : Option (List ℕ)) (xs ys : List ℕ) (at k : ℕ) → at ≤ length xs
+    → now ≡ appended before (take at xs) → after ≡ now → after ≡ appended before (take at (put_mid at k xs ys))
+got_none before now after xs ys at k within first same =
+    let end : at + 0 ≡ at = omega arith in
+    subst (λ (m : ℕ). after ≡ appended before (take m (put_mid at k xs ys))) end
+    (got_next before now after xs ys at k 0 within (omega arith) first (same ∙ sym (appended-nil now)))
+
+pub gave_none : (before now after : Option (List ℕ)) (xs ys : List ℕ) (at k : ℕ) → at ≤ length xs
+    → before ≡ prepended (take at xs) now → after ≡ now → before ≡ prepended (take at (put_mid at k xs ys)) after
+gave_none before now after xs ys at k within first same =
+    let end : at + 0 ≡ at = omega arith in
+    subst (λ (m : ℕ). before ≡ prepended (take m (put_mid at k xs ys)) after) end
+    (gave_next before now after xs ys at k 0 within (omega arith) first (sym same ∙ sym (prepended-nil after)))
+
+-- where no byte came, the same is to come, and the same was received
+pub nothing_gave : (now after : Option (List ℕ)) (ys : List ℕ) (n : ℕ) → n ≡ 0 → now ≡ prepended (take n ys) after → after ≡ now
+nothing_gave now after ys n none gave = sym (gave ∙ ap (λ (k : ℕ). prepended (take k ys) after) none ∙ prepended-nil after)
+
+pub nothing_got : (now after : Option (List ℕ)) (ys : List ℕ) (n : ℕ) → n ≡ 0 → after ≡ appended now (take n ys) → after ≡ now
+nothing_got now after ys n none got = got ∙ ap (λ (k : ℕ). appended now (take k ys)) none ∙ appended-nil now
 
 -- what is copied from `&text[at..]` is what lay ahead at `at`
 pub gave_front : (text slice buf : List ℕ) (at n : ℕ) → slice ≡ text → take n buf ≡ take n (take (length slice - at) (drop at slice))

@@ -3,7 +3,7 @@ use crate::byte_list::Bytes;
 use crate::list_of::ListOf;
 
 /// A talk that ended, or that never began since the dial failed.
-#[derive(Debug, Drop)]
+#[derive(Drop)]
 pub struct Talk {
     pub lb: u32,
     pub member: u32,
@@ -25,7 +25,7 @@ pub struct Talk {
 pub type TalkList = ListOf<Talk>;
 
 /// What the running talk was begun with.
-#[derive(Debug, Drop)]
+#[derive(Drop)]
 pub struct Begun {
     pub lb: u32,
     pub member: u32,
@@ -37,7 +37,7 @@ pub struct Begun {
 }
 
 /// What no read and no write of a reach changes. A contract speaks of it; no value of it is made.
-#[derive(Debug, Drop)]
+#[derive(Drop)]
 pub struct Beside {
     pub runs: bool,
     /// The number of members of each balancer; it never changes.

@@ -6,7 +6,7 @@ use crate::failures::IoError;
 use crate::traits::streams::Source;
 
 /// Why `fill` read no further.
-#[derive(Clone, Copy, Debug, PartialEq, Eq)]
+#[derive(Clone, Copy, PartialEq, Eq)]
 pub enum Stop {
     /// The buffer is full.
     Full,
@@ -18,7 +18,7 @@ pub enum Stop {
 }
 
 /// What `fill` read: the bytes at the front of the buffer, and why no more.
-#[derive(Clone, Copy, Debug, PartialEq, Eq)]
+#[derive(Clone, Copy, PartialEq, Eq)]
 pub struct Filled {
     pub count: usize,
     pub stop: Stop,

@@ -10,7 +10,7 @@ use Rattle.jk_cli.specs.declared.order.Order.TheVariants as order
 use Rattle.jk_io.specs.Told.{Rose}
 use Rattle.jk_server.specs.Commands.{CommandSide, RunsContainer, RunsSite, Serves, Unread, Refused, Served, Works, NoGear, NoRoom, Ran}
 use Rattle.jk_server.specs.Ends.{end_of_closing, end_of_container, end_of_run}
-use Rattle.jk_server.specs.Worlds.{Tells, WorldSide}
+use Rattle.gear_parts.specs.Worlds.{Tells, WorldSide}
 use Rattle.jk_server.specs.declared.orders.ends.CommandEnd.{CommandEnd}
 use Rattle.jk_server.specs.declared.orders.ends.CommandEnd.TheVariants as server
 use Rattle.jk_server.specs.declared.part.WorkerEnd.{WorkerEnd}

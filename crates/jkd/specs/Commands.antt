@@ -8,7 +8,7 @@ use Rattle.jk_cli.specs.Orders.{order_of}
 use Rattle.jk_cli.specs.declared.order.Order.{Order}
 use Rattle.jk_cli.specs.declared.order.Order.TheVariants as order
 use Rattle.jk_server.specs.Commands.{command_side, CommandSide, CommandTells, Contains, Serves}
-use Rattle.jk_server.specs.Worlds.{Tells}
+use Rattle.gear_parts.specs.Worlds.{Tells}
 use Rattle.jk_server.specs.declared.orders.ends.CommandEnd.{CommandEnd}
 use Rattle.site_reports.specs.Readings.{CommandOutside, OfFiles}
 use Rattle.jkd.specs.Ends.{jkd_end, of_drill}

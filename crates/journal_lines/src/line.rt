@@ -3,7 +3,7 @@ use jk_io::Bytes;
 use jk_model::{Activation, Entry, MemberState, Method};
 
 /// The values of a balancer in its line, beside its name.
-#[derive(Clone, Copy, Debug, PartialEq, Eq)]
+#[derive(Clone, Copy)]
 pub struct BalancerValues {
     pub method: Method,
     pub sticky: bool,
@@ -18,7 +18,7 @@ pub struct BalancerValues {
 }
 
 /// The values of a member in its line, beside its name and its route.
-#[derive(Clone, Copy, Debug, PartialEq, Eq)]
+#[derive(Clone, Copy)]
 pub struct MemberValues {
     pub factor: u32,
     pub distance: u32,
@@ -30,7 +30,7 @@ pub struct MemberValues {
 }
 
 /// Where a segment begins.
-#[derive(Clone, Copy, Debug, PartialEq, Eq)]
+#[derive(Clone, Copy)]
 pub struct Beginning {
     /// The number of its first entry.
     pub next: u64,
@@ -43,7 +43,7 @@ pub struct Beginning {
 }
 
 /// A line of a journal's text.
-#[derive(Debug, Drop)]
+#[derive(Drop)]
 pub enum Line {
     /// A segment begins, of rules 1 or 2.
     Rules(u8),

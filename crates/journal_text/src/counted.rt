@@ -2,7 +2,7 @@ use jk_io::{Bytes, ListOf};
 use jk_model::{EntryList, Opening, Segment};
 
 /// A segment as a text has it.
-#[derive(Debug, Drop)]
+#[derive(Drop)]
 pub struct Counted {
     /// The name of its balancer.
     pub name: Bytes,

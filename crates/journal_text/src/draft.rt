@@ -10,7 +10,7 @@ use jk_model::{LbConfig, MemberConfig, MemberList, MemberRow, Opening, RowList, 
 use journal_lines::{BalancerValues, Beginning, MemberValues};
 
 /// An opening as far as its lines are read.
-#[derive(Debug, Drop)]
+#[derive(Drop)]
 pub struct OpeningDraft {
     pub name: Bytes,
     pub values: BalancerValues,

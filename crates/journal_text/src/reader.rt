@@ -16,7 +16,7 @@ use journal_lines::{Beginning, Line, MemberValues, read_line};
 use std::alloc::Global;
 
 /// Where a text is read.
-#[derive(Debug, Drop)]
+#[derive(Drop)]
 pub enum TextPlace {
     /// Between segments.
     Outside,
@@ -33,7 +33,7 @@ pub enum TextPlace {
 }
 
 /// The reader of a text, which takes it line by line and holds the segments that nobody took out.
-#[derive(Debug, Drop)]
+#[derive(Drop)]
 pub struct Reader {
     /// Those of the present segment, or of the last one.
     rules: u8,

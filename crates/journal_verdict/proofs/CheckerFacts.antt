@@ -1,21 +1,26 @@
 -- What a further line makes of the check of a text.
-use Rattle.std.proofs.Common.{◌≡◌, ℕ, ◌+◌, ◌≤◌, inl, inr, Bool, true, nat_lt, List, [], ◌∷◌, ◌++◌, length, reverse, Some, None, refl, sym, ap, subst, ◌∙◌, append_assoc, length-append, arith}
+use Rattle.std.proofs.Common.{◌≡◌, ℕ, ◌+◌, ◌≤◌, ◌<◌, ◌^◌, inl, inr, Bool, true, false, ◌&&◌, ◌==◌, nat_lt, List, [], ◌∷◌, ◌++◌, length, reverse, Result, Ok, Err, Some, None, refl, sym, ap, subst, ◌∙◌, append_assoc, length-append, arith}
 use Rattle.std.proofs.lemmas.Bool.{lt-ltb}
 use Rattle.std.proofs.lemmas.List.{append-nil, length-map}
 use Rattle.std.proofs.lemmas.List.Sums.{sum_by-cons, sum_by_push}
+use Rattle.std.specs.Prelude.{IsErrAnd, if◌then◌else◌}
 use Rattle.jk_model.specs.Present.{IsEnding}
 use Rattle.jk_model.specs.declared.opening.Opening.{Opening}
+use Rattle.play_script.specs.Parts.{parts_of}
 use Rattle.journal_lines.specs.declared.line.Line.TheVariants as line
 use Rattle.journal_text.specs.Kept.{IsSound}
-use Rattle.journal_text.specs.Reading.{TakesText}
+use Rattle.journal_text.specs.Reading.{TextOutcome, Reads, ReadsText, TakesText, at_start, held, is_end, is_outside, readable, unreadable}
 use Rattle.journal_text.specs.SegmentText.{entry_lines, opening_lines}
 use Rattle.journal_text.specs.Written.{lines_of}
 use Rattle.journal_text.specs.declared.counted.Counted.{Counted}
 use Rattle.journal_text.specs.declared.reader.TextPlace.{TextPlace}
+use Rattle.journal_text.specs.declared.reader.TextPlace.TheVariants as place
 use Rattle.journal_text.specs.declared.reader.Reader.{Reader}
-use Rattle.journal_verdict.specs.Checkers.{HasTaken, Judged}
+use Rattle.journal_text.specs.declared.text_error.TextError.{TextError}
+use Rattle.journal_text.specs.declared.text_error.TextError.TheVariants as error
+use Rattle.journal_verdict.specs.Checkers.{Advances, EndsBy, GoesOn, HasTaken, Judged, RefusesLine, may_end}
 use Rattle.journal_verdict.specs.Checks.{After, Comes, HasRoom, IsBad, Leads, front, lines_taken, verdict_of}
-use Rattle.journal_verdict.specs.Verdicts.{AreRight, Former, IsRight, IsVerdict, entries_in, lines_in}
+use Rattle.journal_verdict.specs.Verdicts.{AreRight, Former, IsChecked, IsRight, IsVerdict, entries_in, lines_in}
 use Rattle.journal_verdict.specs.declared.checker.Checker.{Checker}
 use Rattle.journal_verdict.specs.declared.ruling.Verdict.{Verdict}
 use Rattle.journal_verdict.specs.declared.ruling.Verdict.TheVariants as verdict
@@ -192,16 +197,22 @@ never_two r q text c d cs empty ended takes =
       | inr w ↦ two w.0 c d cs (ap (λ xs. xs ++ w.0 ∷ []) (sym empty) ∙ sym w.1 ∙ ended)
     ]
 
-pub advances : (old : Checker) (done : List Counted) (text : List ℕ) (q : Reader) (new : Checker) (ended : List Counted) → HasTaken old done
+advances_by : (old : Checker) (done : List Counted) (text : List ℕ) (q : Reader) (new : Checker) (ended : List Counted) → HasTaken old done
     → TakesText old.reader text (Some q) → IsSound new.reader → new.reader.rules ≡ q.rules → new.reader.place ≡ q.place
     → new.number ≡ old.number + 1 → q.done ≡ ended → Judged ended old.check old.some new
     → (now : List Counted) × HasTaken new now × TakesText (front done old.reader) text (Some (front now new.reader))
-advances old done text q new [] taken takes sound rules place number is judged =
+advances_by old done text q new [] taken takes sound rules place number is judged =
     let on = goes_on old done text q new taken takes sound rules place number is judged in (done, on.0, on.1)
-advances old done text q new (c ∷ []) taken takes sound rules place number is judged =
+advances_by old done text q new (c ∷ []) taken takes sound rules place number is judged =
     let over = goes_over old done text q new c taken takes sound rules place number is judged in (done ++ c ∷ [], over.0, over.1)
-advances old done text q new (c ∷ d ∷ cs) taken takes sound rules place number is judged =
+advances_by old done text q new (c ∷ d ∷ cs) taken takes sound rules place number is judged =
     absurd (never_two old.reader q text c d cs taken.empty is takes)
+
+-- the segments that were taken, and the lines of another one, go on by a line
+pub advances : (old : Checker) (text : List ℕ) (q : Reader) (new : Checker) → TakesText old.reader text (Some q)
+    → GoesOn q old.check old.some (old.number + 1) new → Advances old text new
+advances old text q new takes on =
+    λ done taken. advances_by old done text q new q.done taken takes on.sound on.versions on.stands on.counted refl on.judged
 
 -- a line ends at most one segment
 pub ended_few : (r q : Reader) (text : List ℕ) → r.done ≡ [] → TakesText r text (Some q) → length q.done ≤ 1
@@ -210,6 +221,16 @@ ended_few r q text empty takes =
       | inl w ↦ omega (arith, ap length w.0, ap length empty)
       | inr w ↦ omega (arith, ap length w.1, ap length empty, length-append r.done (w.0 ∷ []))
     ]
+
+held_within : (p : TextPlace) → held p ≤ lines_taken p
+held_within place.Outside = omega arith
+held_within place.Ruled = omega arith
+held_within (place.Heading d) = omega arith
+held_within (place.Body name o entries) = omega arith
+
+-- a reader holds few members and tickets of a text that isn't too long
+pub held_few : (c : Checker) (done : List Counted) → HasTaken c done → c.number ≤ 67108866 → held c.reader.place < 2 ^ 32
+held_few c done taken few = omega (arith, held_within c.reader.place, taken.number, few)
 
 -- ---- what becomes of the segment that a line ended
 
@@ -232,6 +253,30 @@ judged_some done rest c k some new is few left leads so =
     let one = only_one done rest c is few in
     subst (λ (d : List Counted). Judged d k some new) (sym one.1) (left ∙ one.0, leads, so)
 
+abbrev pub checker_so : Reader → Check → Bool → (number : ℕ) → Checker
+checker_so r k some number = record { reader = r; check = k; some = some; number = number }
+
+pub goes_on_none : (r q : Reader) (k : Check) (some : Bool) (number : ℕ) → IsSound q → (q.rules ≡ r.rules) × (q.place ≡ r.place)
+    → (r.done ≡ []) × (q.done ≡ []) → GoesOn r k some number (checker_so q k some number)
+goes_on_none r q k some number sound same none = record {
+  sound = sound;
+  versions = same.0;
+  stands = same.1;
+  counted = refl;
+  judged = judged_none r.done k some (checker_so q k some number) none.0 none.1 refl refl;
+}
+
+pub goes_on_some : (r q : Reader) (c : Counted) (k after : Check) (some : Bool) (number : ℕ) → IsSound q → (q.rules ≡ r.rules) × (q.place ≡ r.place)
+    → r.done ≡ q.done ++ c ∷ [] → length r.done ≤ 1 → Leads k c after
+    → GoesOn r k some number (checker_so q after true number)
+goes_on_some r q c k after some number sound same is few leads = record {
+  sound = sound;
+  versions = same.0;
+  stands = same.1;
+  counted = refl;
+  judged = judged_some r.done q.done c k some (checker_so q after true number) is few refl leads refl;
+}
+
 -- ---- the end of a text
 
 verdict_by : (done : List Counted) (k : Check) → Comes done k → IsVerdict done (verdict_of k)
@@ -241,3 +286,84 @@ verdict_by done (check.Bad (verdict.Bad line kept ruled)) comes = comes
 
 pub verdict_on : (c : Checker) (done : List Counted) → HasTaken c done → IsVerdict done (verdict_of c.check)
 verdict_on c done taken = verdict_by done c.check taken.comes
+
+and_last : (a b s : Bool) → (a && (b && s)) ≡ (s && (a && b))
+and_last true true true = refl
+and_last true true false = refl
+and_last true false true = refl
+and_last true false false = refl
+and_last false b true = refl
+and_last false b false = refl
+
+-- a text may end where its check may
+end_is : (c : Checker) (done : List Counted) (last : List ℕ) → HasTaken c done → is_end (front done c.reader) last ≡ may_end c last
+end_is c done last taken =
+    ap (λ (d : List Counted). (length last == 0) && (is_outside c.reader.place && nat_lt 0 (length d)))
+    (ap (λ (d : List Counted). done ++ d) taken.empty ∙ append-nil done)
+    ∙ ap (λ (s : Bool). (length last == 0) && (is_outside c.reader.place && s)) (sym taken.some)
+    ∙ and_last (length last == 0) (is_outside c.reader.place) c.some
+
+pub ends_good : (c : Checker) (done : List Counted) (last : List ℕ) (v : Verdict) → HasTaken c done → may_end c last ≡ true → v ≡ verdict_of c.check
+    → EndsBy done c last (Ok v)
+ends_good c done last v taken may is = (end_is c done last taken ∙ may, subst (λ x. IsVerdict done x) (sym is) (verdict_on c done taken))
+
+pub ends_unread : (c : Checker) (done : List Counted) (last : List ℕ) → HasTaken c done → may_end c last ≡ false
+    → EndsBy done c last (Err (error.Unreadable c.number))
+ends_unread c done last taken may = (refl, end_is c done last taken ∙ may)
+
+-- ---- a text, line by line
+
+-- some segments were taken, and what is read of the lines after them is what the whole text is read as
+pub record Stands (whole : List ℕ) (c : Checker) (lines : List (List ℕ)) : Type 0 where
+  pub done : List Counted
+  pub taken : HasTaken c done
+  pub reads : (o : TextOutcome) → Reads (front done c.reader) c.number lines o → ReadsText whole o
+
+pub stands_first : (whole first : List ℕ) (c : Checker) (lines : List (List ℕ)) → HasTaken c [] → c.reader ≡ at_start → c.number ≡ 1
+    → parts_of 10 whole ≡ first ∷ lines → Stands whole c (first ∷ lines)
+stands_first whole first c lines taken start number parts = record {
+  done = [];
+  taken = taken;
+  reads = λ o h.
+      subst (λ ps. Reads at_start 1 ps o) (sym parts)
+      (subst (λ n. Reads at_start n (first ∷ lines) o) number
+      (subst (λ (r : Reader). Reads r c.number (first ∷ lines) o) (ap (front []) start) h));
+}
+
+pub stands_on : (whole : List ℕ) (old new : Checker) (line next : List ℕ) (lines : List (List ℕ)) → Stands whole old (line ∷ next ∷ lines)
+    → Advances old line new → new.number ≡ old.number + 1 → Stands whole new (next ∷ lines)
+stands_on whole old new line next lines stands on number =
+    let now = on stands.done stands.taken in
+    record {
+      done = now.0;
+      taken = now.1;
+      reads = λ o h.
+          stands.reads o (Some (front now.0 new.reader), now.2, subst (λ n. Reads (front now.0 new.reader) n (next ∷ lines) o) number h);
+    }
+
+-- a line that isn't taken is where the text can't be read
+refused : (whole : List ℕ) (c : Checker) (line next : List ℕ) (lines : List (List ℕ)) (e : TextError) → Stands whole c (line ∷ next ∷ lines)
+    → RefusesLine c line e → IsChecked whole (Err e)
+refused whole c line next lines (error.Unreadable number) stands is =
+    stands.reads (unreadable number) (None, takes_front stands.done c.reader line None is.1, ap unreadable is.0)
+refused whole c line next lines error.NoMemory stands is = tt
+
+pub stands_refused : (whole : List ℕ) (c : Checker) (line next : List ℕ) (lines : List (List ℕ)) (e : TextError) (r : Result Verdict TextError)
+    → Stands whole c (line ∷ next ∷ lines) → RefusesLine c line e → IsErrAnd r (λ x. x ≡ e) → IsChecked whole r
+stands_refused whole c line next lines e (Ok v) stands is told = absurd told
+stands_refused whole c line next lines e (Err x) stands is told =
+    subst (λ (y : TextError). IsChecked whole (Err y)) (sym told) (refused whole c line next lines e stands is)
+
+pub stands_end : (whole : List ℕ) (c : Checker) (last : List ℕ) (r : Result Verdict TextError) → Stands whole c (last ∷ [])
+    → ((done : List Counted) → HasTaken c done → EndsBy done c last r) → IsChecked whole r
+stands_end whole c last (Ok v) stands ends =
+    let end = ends stands.done stands.taken in
+    let all : stands.done ++ c.reader.done ≡ stands.done = ap (λ (d : List Counted). stands.done ++ d) stands.taken.empty ∙ append-nil stands.done in
+    let ended : readable stands.done ≡ (if is_end (front stands.done c.reader) last then readable (stands.done ++ c.reader.done) else unreadable c.number) =
+    ap readable (sym all) ∙ sym (ap (λ (b : Bool). if b then readable (stands.done ++ c.reader.done) else unreadable c.number) end.0) in
+    (stands.done, stands.reads (readable stands.done) ended, end.1)
+stands_end whole c last (Err (error.Unreadable line)) stands ends =
+    let end = ends stands.done stands.taken in
+    stands.reads (unreadable line)
+    (ap unreadable end.0 ∙ sym (ap (λ (b : Bool). if b then readable (stands.done ++ c.reader.done) else unreadable c.number) end.1))
+stands_end whole c last (Err error.NoMemory) stands ends = tt

@@ -1,17 +1,17 @@
 -- What a Book's answers say of the entry that is judged.
-use Rattle.std.proofs.Common.{Bool, take, reverse, ◌≡◌, ℕ, ◌+◌, true, false, List, [], ◌∷◌, ◌++◌, Some, None, refl, sym, ap, subst, ◌∙◌}
+use Rattle.std.proofs.Common.{Bool, take, length, reverse, ◌≡◌, ◌≤◌, ℕ, ◌+◌, true, false, List, [], ◌∷◌, ◌++◌, Some, None, refl, sym, ap, subst, ◌∙◌}
 use Rattle.std.specs.Prelude.{slice_get}
 use Rattle.std.proofs.Math.Nat.{max-eq_left}
-use Rattle.std.proofs.lemmas.List.{reverse-append, take_more}
+use Rattle.std.proofs.lemmas.List.{reverse-append, take_all, take_more}
 use Rattle.std.proofs.lemmas.Option.{get_or_from_slice_get, slice_get_within}
-use Rattle.balancer_core.specs.Journal.{AddsEntry, Journal, past_of}
+use Rattle.balancer_core.specs.Journal.{AddsEntry, IsSound, Journal, past_of}
 use Rattle.jk_model.specs.Journal.{moment_of}
 use Rattle.jk_model.specs.Legal.{IsLegal, IsLegalPast, IsNext}
 use Rattle.jk_model.specs.declared.journal.Answer.{Answer}
 use Rattle.jk_model.specs.declared.journal.Call.{Call}
 use Rattle.jk_model.specs.declared.journal.Entry.{Entry}
 use Rattle.jk_model.specs.declared.opening.Opening.{Opening}
-use Rattle.journal_verdict.specs.Judging.{Follows, GoesOn, IsInTurn, RulesOn}
+use Rattle.journal_verdict.specs.Judging.{Follows, GoesOn, IsInTurn, JudgesEntries, RulesOn}
 use Rattle.journal_verdict.specs.Rulings.{Differs, IsFirstWrong, Refuses, RulesAfter}
 use Rattle.journal_verdict.specs.declared.ruling.Ruling.{Ruling}
 use Rattle.journal_verdict.specs.declared.ruling.Ruling.TheVariants as ruling
@@ -125,3 +125,22 @@ first_wrong v o entries i at old new e kept ruled found has differs = record {
       (subst (λ (p : Opening). Differs old.rules p (reverse (take i entries)) e kept ruled) has.opening
       (subst (λ (es : List Entry). Differs old.rules old.opening (reverse es) e kept ruled) has.entries_so differs));
 }
+
+-- before the first entry
+pub kept_none : (b : Journal) (entries : List Entry) (at : ℕ) → IsSound b → b.entries ≡ [] → at ≡ b.opening.at → HasKept b.rules b.opening entries 0 at b
+kept_none b entries at sound none is = record {
+  rules = refl;
+  opening = refl;
+  entries_so = none;
+  moment = is ∙ sym (ap (λ (es : List Entry). moment_of b.opening (reverse es)) none);
+  legal = subst (λ (es : List Entry). IsLegal b.rules b.opening es) none sound;
+}
+
+-- after the last one
+pub kept_all : (old new : Journal) (entries : List Entry) (i at : ℕ) → HasKept old.rules old.opening entries i at new → length entries ≤ i
+    → JudgesEntries old new entries None
+kept_all old new entries i at kept all =
+    let whole : take i entries ≡ entries = take_all i entries all in (
+      subst (λ (es : List Entry). IsLegal old.rules old.opening es) whole kept.legal,
+      record { rules = kept.rules; opening = kept.opening; entries = kept.entries_so ∙ whole },
+    )

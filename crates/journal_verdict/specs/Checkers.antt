@@ -1,8 +1,9 @@
 -- What the check of a text has, as far as the text's lines were taken.
-use Rattle.std.specs.Prelude.{◌≡◌, ℕ, ◌+◌, Bool, true, false, nat_lt, List, [], ◌∷◌, length, Some, None, Result, Ok, Err}
+use Rattle.std.specs.Prelude.{◌≡◌, ℕ, ◌+◌, ◌&&◌, Bool, true, false, nat_lt, List, [], ◌∷◌, length, Some, Result, Ok, Err}
 use Rattle.journal_text.specs.Kept.{IsSound}
-use Rattle.journal_text.specs.Reading.{TakesText, is_end}
+use Rattle.journal_text.specs.Reading.{Refuses, TakesText, is_end, is_over}
 use Rattle.journal_text.specs.declared.counted.Counted.{Counted}
+use Rattle.journal_text.specs.declared.reader.Reader.{Reader}
 use Rattle.journal_text.specs.declared.text_error.TextError.{TextError}
 use Rattle.journal_text.specs.declared.text_error.TextError.TheVariants as error
 use Rattle.journal_verdict.specs.Checks.{Comes, Leads, front, lines_taken}
@@ -31,10 +32,21 @@ Judged [] k some new = (new.reader.done ≡ []) × (new.check ≡ k) × (new.som
 Judged (c ∷ []) k some new = (new.reader.done ≡ []) × Leads k c new.check × (new.some ≡ true)
 Judged (c ∷ d ∷ cs) k some new = Unit {0}
 
--- Why a line isn't taken. Want of memory says nothing.
+-- What becomes of the reader that has taken a line, and of what the segment that ended with it, if one did, leads to.
+pub record GoesOn (r : Reader) (k : Check) (some : Bool) (number : ℕ) (new : Checker) : Type 0 where
+  pub sound : IsSound new.reader
+  pub versions : new.reader.rules ≡ r.rules
+  pub stands : new.reader.place ≡ r.place
+  pub counted : new.number ≡ number
+  pub judged : Judged r.done k some new
+
+-- A text may end here that has a segment; `last` is what stands after its last LF.
+abbrev pub may_end : Checker → (last : List ℕ) → Bool
+may_end c last = c.some && is_over c.reader last
+
+-- Why a line isn't taken.
 abbrev pub RefusesLine : Checker → (text : List ℕ) → TextError → Type 0
-RefusesLine c text (error.Unreadable line) = (line ≡ c.number) × TakesText c.reader text None
-RefusesLine c text error.NoMemory = Unit {0}
+RefusesLine c text e = Refuses c.reader c.number text e
 
 -- What is answered at the end of a text whose segments these are; `last` is what stands after its last LF.
 abbrev pub EndsBy : (done : List Counted) → Checker → (last : List ℕ) → Result Verdict TextError → Type 0

@@ -1,5 +1,6 @@
 -- What segments come to, one after the other, and how many lines of a further one are read.
-use Rattle.std.specs.Prelude.{◌≡◌, ℕ, ◌+◌, ◌^◌, ◌<◌, ◌≤◌, ◌⊎◌, List, ◌++◌, length, reverse, Some, None, Result, Ok, Err}
+use Rattle.std.specs.Prelude.{◌≡◌, ℕ, ◌+◌, ◌^◌, ◌<◌, ◌≤◌, ◌⊎◌, List, ◌++◌, length, reverse, Option, Some, None, Result, Ok, Err}
+use Rattle.balancer_core.specs.Journal.{Journal, past_of}
 use Rattle.jk_model.specs.Legal.{IsLegal}
 use Rattle.jk_model.specs.Present.{IsEnding}
 use Rattle.jk_model.specs.Validity.{IsOpening}
@@ -12,7 +13,7 @@ use Rattle.journal_text.specs.declared.reader.TextPlace.{TextPlace}
 use Rattle.journal_text.specs.declared.reader.TextPlace.TheVariants as place
 use Rattle.journal_text.specs.declared.reader.Reader.{Reader}
 use Rattle.journal_verdict.specs.Rulings.{IsFirstWrong}
-use Rattle.journal_verdict.specs.Verdicts.{AreRight, Former, IsFirstBad, IsRight, IsWrongAt, entries_in, lines_in}
+use Rattle.journal_verdict.specs.Verdicts.{AreRight, Former, IsFirstBad, IsRight, IsWrongAt, Joins, entries_in, lines_before, lines_in}
 use Rattle.journal_verdict.specs.declared.ruling.Ruling.{Ruling}
 use Rattle.journal_verdict.specs.declared.ruling.Ruling.TheVariants as ruling
 use Rattle.journal_verdict.specs.declared.ruling.Verdict.{Verdict}
@@ -42,11 +43,34 @@ IsFormer (Some (name, ending)) = IsOpening ending
 abbrev pub IsOtherCount : (place count : ℕ) → Wrong → Type 0
 IsOtherCount place count w = (w.at ≡ place) × (w.kept ≡ ruling.Count count) × (w.ruled ≡ ruling.Count place) × ¬ (count ≡ place)
 
+-- Where a Book's journal ends.
+abbrev pub EndsAt : Journal → Opening → Type 0
+EndsAt b ending = IsEnding b.rules b.opening (past_of b) ending × IsOpening ending
+
 -- Where entries and their count lead from an opening: to its end, or to the first that is wrong.
 abbrev pub Leaves : (v : ℕ) → Opening → List Entry → (count : ℕ) → Result Opening Wrong → Type 0
 Leaves v o es count (Ok ending) = IsLegal v o es × (count ≡ length es) × IsEnding v o (reverse es) ending × IsOpening ending
 Leaves v o es count (Err w) =
     (w.at ≤ length es) × (IsFirstWrong v o es w.at w.kept w.ruled ⊎ (IsLegal v o es × IsOtherCount (length es) count w))
+
+-- What is found of a segment's opening after the former segment's end.
+abbrev pub JudgesOpening : Former → Counted → Option Wrong → Type 0
+JudgesOpening former c None = Joins former c
+JudgesOpening former c (Some w) = IsWrongAt former c (1 + w.at) w.kept w.ruled × (1 + w.at < lines_before c)
+
+-- Where a segment's entries and their count lead, under its name.
+abbrev pub LeavesAs : Counted → Result (List ℕ × Opening) Wrong → Type 0
+LeavesAs c (Ok (name, ending)) = (name ≡ c.name) × Leaves c.rules c.opening c.entries c.count (Ok ending)
+LeavesAs c (Err w) = Leaves c.rules c.opening c.entries c.count (Err w)
+
+-- What a segment leads to whose opening is right, after so many lines and entries.
+abbrev pub Ends : (lines entries : ℕ) → Counted → Check → Type 0
+Ends lines entries c (check.Good q) =
+    (ending : Opening) × Leaves c.rules c.opening c.entries c.count (Ok ending)
+    × (q ≡ past (record { former = None; lines = lines; entries = entries }) c ending)
+Ends lines entries c (check.Bad v) =
+    (w : Wrong) × Leaves c.rules c.opening c.entries c.count (Err w)
+    × (v ≡ verdict.Bad (lines + (lines_before c + w.at) + 1) w.kept w.ruled)
 
 -- What a further segment leads to.
 abbrev pub After : Reached → Counted → Check → Type 0

@@ -2,12 +2,13 @@
 use Rattle.std.specs.Prelude.{◌≡◌, ◌≤◌, List, [], ◌∷◌, ◌++◌, Option, Some, None}
 use Rattle.balancer_core.specs.Journal.{Journal, next_number, past_of}
 use Rattle.jk_model.specs.Journal.{moment_of}
-use Rattle.jk_model.specs.Legal.{IsNext}
+use Rattle.jk_model.specs.Legal.{IsLegal, IsNext}
 use Rattle.jk_model.specs.Segments.{IsKeptEntry}
 use Rattle.jk_model.specs.declared.journal.Entry.{Entry}
-use Rattle.journal_verdict.specs.Rulings.{Differs, RulesAfter}
+use Rattle.journal_verdict.specs.Rulings.{Differs, IsFirstWrong, RulesAfter}
 use Rattle.journal_verdict.specs.declared.ruling.Ruling.{Ruling}
 use Rattle.journal_verdict.specs.declared.ruling.Ruling.TheVariants as ruling
+use Rattle.journal_verdict.specs.declared.ruling.Wrong.{Wrong}
 
 -- An entry that a segment can keep has the Book's next number and no moment before its last one.
 pub record IsInTurn (b : Journal) (e : Entry) : Type 0 where
@@ -38,3 +39,8 @@ pub record Replays (old new : Journal) (kept : List Entry) : Type 0 where
   pub rules : new.rules ≡ old.rules
   pub opening : new.opening ≡ old.opening
   pub entries : new.entries ≡ kept
+
+-- What is found in a list of entries: nothing where the Book went on by each of them, else the first that differs.
+abbrev pub JudgesEntries : (old new : Journal) → List Entry → Option Wrong → Type 0
+JudgesEntries old new es None = IsLegal old.rules old.opening es × Replays old new es
+JudgesEntries old new es (Some w) = IsFirstWrong old.rules old.opening es w.at w.kept w.ruled

@@ -33,6 +33,13 @@ impl Check {
         }
     }
 
+    // The error after which nobody asks what the text comes to.
+    fn after(self, error: TextError) -> TextError
+        ensures { result ≡ error }
+    {
+        error
+    }
+
     fn verdict(self) -> Verdict
         ensures { result ≡ verdict_of self }
     {
@@ -60,7 +67,7 @@ impl Checker {
     ghost use Rattle.journal_text.specs.Kept.{IsSound};
     ghost use Rattle.journal_text.specs.Reading.{at_start};
     ghost use Rattle.journal_text.specs.declared.counted.Counted.{Counted};
-    ghost use Rattle.journal_verdict.specs.Checkers.{Advances, EndsBy, HasTaken, Judged, RefusesLine};
+    ghost use Rattle.journal_verdict.specs.Checkers.{Advances, EndsBy, GoesOn, HasTaken, RefusesLine, may_end};
     ghost use Rattle.journal_verdict.specs.Checks.{HasRoom, verdict_of};
     ghost use Rattle.jk_io.specs.declared.whole_input.TheConstants.{MAX_INPUT_BYTES};
 
@@ -89,10 +96,7 @@ impl Checker {
         requires sound { IsSound reader }
         requires few { length reader.done ≤ 1 }
         requires room { (c : Counted) → reader.done ≡ c ∷ [] → HasRoom check c }
-        ensures sound { IfOk result (λ new. IsSound new.reader) }
-        ensures same { IfOk result (λ new. (new.reader.rules ≡ reader.rules) × (new.reader.place ≡ reader.place)) }
-        ensures number { IfOk result (λ new. new.number ≡ number) }
-        ensures judged { IfOk result (Judged reader.done check some) }
+        ensures { IfOk result (GoesOn reader check some number) }
     {
         let mut reader = reader;
         let Some(segment) = reader.take_segment() else {
@@ -125,9 +129,9 @@ impl Checker {
             some,
             number,
         } = self;
-        match reader.take_text(alloc, text)? {
-            Some(reader) => Ok(Checker::go_on(reader, check, some, alloc, number + 1)?),
-            None => Err(TextError::Unreadable { line: number }),
+        match reader.take_line(alloc, text, number) {
+            Ok(reader) => Ok(Checker::go_on(reader, check, some, alloc, number + 1)?),
+            Err(error) => Err(check.after(error)),
         }
     }
 
@@ -137,14 +141,24 @@ impl Checker {
         self.check.verdict()
     }
 
+    // Whether a text may end here that has a segment; `last` is what stands after its last LF.
+    fn may_end(&self, last: &[u8]) -> bool
+        ensures { result ≡ may_end self.now last.now }
+    {
+        self.some && self.reader.is_over(last)
+    }
+
     /// The verdict, where a text may end here; `last` is what stands after its last LF.
     pub(crate) fn end(self, last: &[u8]) -> Result<Verdict, TextError>
         ensures { (done : List Counted) → HasTaken self done → EndsBy done self last.now result }
     {
-        if self.some && self.reader.is_over(last) {
-            Ok(self.verdict())
+        let whole = self.may_end(last);
+        let number = self.number;
+        let said = self.verdict();
+        if whole {
+            Ok(said)
         } else {
-            Err(TextError::Unreadable { line: self.number })
+            Err(TextError::Unreadable { line: number })
         }
     }
 }

@@ -17,11 +17,11 @@ pub fn check_journal(alloc: Global, text: &[u8]) -> Result<Verdict, TextError>
     ensures { IsChecked text.now result }
 {
     let mut lines = Parts::of(b'\n', text);
-    let mut checker = Checker::new(alloc);
     let mut line = match lines.next() {
         Some(first) => first,
         None => return Err(TextError::Unreadable { line: 1 }),
     };
+    let mut checker = Checker::new(alloc);
     'lines: while let Some(next) = lines.next() {
         checker = checker.take(alloc, line)?;
         line = next;

@@ -1,12 +1,10 @@
 //! An entry of a kept journal, judged by the Book that is where the entry stands.
-ghost use Rattle.std.specs.Prelude.{◌≡◌, [], IfNone, IfOk, IfSome};
+ghost use Rattle.std.specs.Prelude.{◌≡◌, [], IfOk};
 ghost use Rattle.balancer_core.specs.Journal.{IsSound, past_of};
 ghost use Rattle.jk_model.specs.Journal.{moment_of};
-ghost use Rattle.jk_model.specs.Legal.{IsLegal};
 ghost use Rattle.jk_model.specs.Segments.{AreKeptEntries, IsKeptEntry};
 ghost use Rattle.jk_model.specs.declared.journal.Call.{Call};
-ghost use Rattle.journal_verdict.specs.Judging.{Follows, IsInTurn, Replays, RulesOn};
-ghost use Rattle.journal_verdict.specs.Rulings.{IsFirstWrong};
+ghost use Rattle.journal_verdict.specs.Judging.{Follows, IsInTurn, JudgesEntries, RulesOn};
 
 use crate::ruling::{Ruling, Wrong};
 use balancer_core::{Book, Lease, Picked};
@@ -119,10 +117,7 @@ pub(crate) fn judge_entries(
     requires empty { book.old.entries ≡ [] }
     requires at { at ≡ book.old.opening.at }
     requires kept { AreKeptEntries book.old.rules entries.now }
-    ensures legal { IfOk result (λ found. IfNone found (IsLegal book.old.rules book.old.opening entries.now)) }
-    ensures went { IfOk result (λ found. IfNone found (Replays book.old book.new entries.now)) }
-    ensures wrong { IfOk result (λ found. IfSome found (λ w.
-        IsFirstWrong book.old.rules book.old.opening entries.now w.at w.kept w.ruled)) }
+    ensures { IfOk result (JudgesEntries book.old book.new entries.now) }
 {
     let mut at = at;
     for i in 0..entries.len() {

@@ -1,13 +1,13 @@
 //! A further segment of a journal, judged after those before it.
-ghost use Rattle.std.specs.Prelude.{◌≡◌, ◌+◌, ◌<◌, ◌^◌, [], length, IfNone, IfOk, IfSome};
-ghost use Rattle.balancer_core.specs.Journal.{IsSound, past_of};
-ghost use Rattle.jk_model.specs.Present.{IsEnding};
+ghost use Rattle.std.specs.Prelude.{◌≡◌, ◌+◌, ◌<◌, ◌^◌, [], length, IfNone, IfOk, IfSome, OnOk};
+ghost use Rattle.balancer_core.specs.Ending.{IsCut};
+ghost use Rattle.balancer_core.specs.Journal.{IsSound};
 ghost use Rattle.jk_model.specs.Segments.{AreKeptEntries, AreRules};
 ghost use Rattle.jk_model.specs.Validity.{IsOpening};
 ghost use Rattle.journal_text.specs.Kept.{IsKept};
 ghost use Rattle.journal_text.specs.Written.{lines_of};
-ghost use Rattle.journal_verdict.specs.Checks.{After, IsFormer, IsOtherCount, Leaves};
-ghost use Rattle.journal_verdict.specs.Verdicts.{IsWrongAt, Joins, lines_before};
+ghost use Rattle.journal_verdict.specs.Checks.{After, Ends, EndsAt, IsFormer, IsOtherCount, JudgesOpening, Leaves, LeavesAs};
+ghost use Rattle.journal_verdict.specs.Verdicts.{lines_before};
 
 use crate::joining::first_difference;
 use crate::judging::judge_entries;
@@ -15,7 +15,7 @@ use crate::reached::{Check, Reached};
 use crate::ruling::{Ruling, Verdict, Wrong};
 use balancer_core::Book;
 use jk_io::{Bytes, NoMemory};
-use jk_model::{Entry, Opening, Segment};
+use jk_model::{Entry, EntryList, Opening, Segment};
 use journal_text::Counted;
 use std::alloc::Global;
 
@@ -35,14 +35,12 @@ fn bad(lines: u32, place: usize, wrong: Wrong) -> Verdict
 // What differs in the opening of a segment from the end of the former one.
 fn judge_opening(
     alloc: Global,
-    former: &Option<(Bytes, Opening)>,
+    former: Option<(Bytes, Opening)>,
     segment: &Counted,
 ) -> Result<Option<Wrong>, NoMemory>
     requires kept { IsKept segment.now }
-    requires former { IsFormer former.now }
-    ensures joins { IfOk result (λ found. IfNone found (Joins former.now segment.now)) }
-    ensures wrong { IfOk result (λ found. IfSome found (λ w. IsWrongAt former.now segment.now (1 + w.at) w.kept w.ruled)) }
-    ensures within { IfOk result (λ found. IfSome found (λ w. 1 + w.at < lines_before segment.now)) }
+    requires former { IsFormer former }
+    ensures { IfOk result (JudgesOpening former segment.now) }
 {
     match former {
         None => Ok(None),
@@ -51,7 +49,7 @@ fn judge_opening(
             segment.name.as_slice(),
             &segment.opening,
             name.as_slice(),
-            ending,
+            &ending,
         ),
     }
 }
@@ -71,14 +69,27 @@ fn judge_count(place: usize, count: u64) -> Option<Wrong>
     })
 }
 
-// Where a Book's journal ends.
-fn ending_of(book: &mut Book) -> Result<Opening, NoMemory>
-    ensures ending { IfOk result (IsEnding book.old.rules book.old.opening (past_of book.old)) }
-    ensures valid { IfOk result IsOpening }
+// Goes on from where the Book's journal ends, with no entry.
+fn cut_off(book: &mut Book) -> Result<(), NoMemory>
+    ensures { OnOk result (IsCut book.old book.new) }
 {
     let _kept = book.cut()?;
+    Ok(())
+}
+
+fn opening_of(book: &Book) -> Result<Opening, NoMemory>
+    ensures { IfOk result (λ o. (o ≡ book.now.opening) × IsSound book.now) }
+{
     let Segment { opening, .. } = book.segment()?;
     Ok(opening)
+}
+
+// Where a Book's journal ends.
+fn ending_of(book: &mut Book) -> Result<Opening, NoMemory>
+    ensures { IfOk result (EndsAt book.old) }
+{
+    cut_off(book)?;
+    opening_of(book)
 }
 
 // Where entries lead from the Book's opening, if they and their count are right.
@@ -119,14 +130,25 @@ fn end_of(
     replay(&mut Book::resume(opening, rules)?, at, entries, count)
 }
 
-// What comes after a segment whose opening is right and has so many lines, its first line among them.
-fn take_entries(reached: Reached, segment: Counted, before: usize) -> Result<Check, NoMemory>
+// So of entries that nobody reads after.
+fn end_of_all(
+    opening: Opening,
+    rules: u8,
+    entries: EntryList,
+    count: u64,
+) -> Result<Result<Opening, Wrong>, NoMemory>
+    requires valid { IsOpening opening }
+    requires versions { AreRules rules }
+    requires kept { AreKeptEntries rules entries }
+    ensures { IfOk result (Leaves rules opening entries count) }
+{
+    end_of(opening, rules, entries.as_slice(), count)
+}
+
+// Under which name and where a segment ends, if its entries and their count are right.
+fn leave(segment: Counted) -> Result<Result<(Bytes, Opening), Wrong>, NoMemory>
     requires kept { IsKept segment }
-    requires joins { Joins reached.former segment }
-    requires before { before ≡ lines_before segment }
-    requires few { reached.lines + length (lines_of segment) < 2 ^ 32 }
-    requires entries { reached.entries + length segment.entries < 2 ^ 64 }
-    ensures { IfOk result (After reached segment) }
+    ensures { IfOk result (LeavesAs segment) }
 {
     let Counted {
         name,
@@ -135,14 +157,9 @@ fn take_entries(reached: Reached, segment: Counted, before: usize) -> Result<Che
         entries,
         count,
     } = segment;
-    let number = entries.len();
-    match end_of(opening, rules, entries.as_slice(), count)? {
-        Err(wrong) => Ok(Check::Bad(bad(reached.lines, before, wrong))),
-        Ok(ending) => Ok(Check::Good(Reached {
-            former: Some((name, ending)),
-            lines: reached.lines + (before + number) as u32 + 1,
-            entries: reached.entries + number as u64,
-        })),
+    match end_of_all(opening, rules, entries, count)? {
+        Err(wrong) => Ok(Err(wrong)),
+        Ok(ending) => Ok(Ok((name, ending))),
     }
 }
 
@@ -154,6 +171,25 @@ fn lines_before(segment: &Counted) -> usize
 {
     let members = segment.opening.config.members.len();
     members + segment.opening.out.len() + 3
+}
+
+// What comes after a segment whose opening is right; so many lines and entries stand before it.
+fn take_entries(lines: u32, entries: u64, segment: Counted) -> Result<Check, NoMemory>
+    requires kept { IsKept segment }
+    requires few { lines + length (lines_of segment) < 2 ^ 32 }
+    requires entries { entries + length segment.entries < 2 ^ 64 }
+    ensures { IfOk result (Ends lines entries segment) }
+{
+    let before = lines_before(&segment);
+    let number = segment.entries.len();
+    match leave(segment)? {
+        Err(wrong) => Ok(Check::Bad(bad(lines, before, wrong))),
+        Ok(ended) => Ok(Check::Good(Reached {
+            former: Some(ended),
+            lines: lines + (before + number) as u32 + 1,
+            entries: entries + number as u64,
+        })),
+    }
 }
 
 /// What comes after a further segment.
@@ -168,9 +204,13 @@ pub(crate) fn take_segment(
     requires entries { reached.entries + length segment.entries < 2 ^ 64 }
     ensures { IfOk result (After reached segment) }
 {
-    if let Some(wrong) = judge_opening(alloc, &reached.former, &segment)? {
-        return Ok(Check::Bad(bad(reached.lines, 1, wrong)));
+    let Reached {
+        former,
+        lines,
+        entries,
+    } = reached;
+    match judge_opening(alloc, former, &segment)? {
+        Some(wrong) => Ok(Check::Bad(bad(lines, 1, wrong))),
+        None => take_entries(lines, entries, segment),
     }
-    let before = lines_before(&segment);
-    take_entries(reached, segment, before)
 }

@@ -1,5 +1,5 @@
 -- How a body is taken: its first packet, and the answers to asks.
-use Rattle.std.proofs.Common.{◌≡◌, ◌≢◌, ℕ, Bool, true, false, IsTrue, List, [], ◌∷◌, ◌++◌, length, Result, Ok, Err, refl, sym, ap, subst, ◌∙◌, append_assoc, add-one, arith}
+use Rattle.std.proofs.Common.{◌≡◌, ◌≢◌, ℕ, ◌≤◌, Bool, true, false, IsTrue, List, [], ◌∷◌, ◌++◌, length, Result, Ok, Err, refl, sym, ap, subst, ◌∙◌, append_assoc, add-one, arith}
 use Rattle.std.specs.Prelude.{replicate, not, ◌&&◌, if◌then◌else◌}
 use Rattle.std.proofs.lemmas.List.{append-nil, replicate_more}
 use Rattle.ajp_wire.specs.Packet.{packet, HasCome}
@@ -142,6 +142,25 @@ piece-added app forward first body m0 m1 m2 m3 body_after len a echo few sent t 
     some-data : (piece : List ℕ) → (length piece ≡ 0 → ⊥) → has_ended (piece ∷ a.past) ≡ false
     some-data [] some = absurd (some refl)
     some-data (b ∷ piece) some = refl
+
+-- a count that did not fall twice
+pub risen-then : (before mid now : ℕ) → before ≤ mid → mid ≤ now → before ≤ now
+risen-then before mid now first next = omega arith
+
+-- so much came that no more is asked for
+pub body-enough : (app : AppConfig) (forward : Forward) (first body : List ℕ) (m0 m1 : Moment) → AsksOn app forward first body m0 m1
+    → is_enough (content_length forward) (length body) ≡ true → TookRest app forward first m0 m1 body
+body-enough app forward first body m0 m1 a enough = record {
+  past = a.past;
+  asked = a.asked;
+  all = not-third (asks_body app forward) (has_ended a.past) _ (ap (λ (b : List ℕ). is_enough (content_length forward) (length b)) (sym a.body_is) ∙ enough);
+  body_is = a.body_is;
+}
+  where
+    not-third : (p q r : Bool) → r ≡ true → (p && (not q && not r)) ≡ false
+    not-third true true r e = refl
+    not-third true false r e = rw e refl
+    not-third false q r e = refl
 
 pub body-ended : (app : AppConfig) (forward : Forward) (first body : List ℕ) (m0 m1 m2 m3 : Moment) (body_after : List ℕ) (len : ℕ) (a : AsksOn app forward first body m0 m1)
     → asks_body app forward ≡ true → is_enough (content_length forward) (length body) ≡ false → Goes m1 m2 [] (bytes_of (ask app ∷ []))

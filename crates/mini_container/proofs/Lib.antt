@@ -6,3 +6,4 @@ pub mod StepLaws
 pub mod BodyLaws
 pub mod TurnLaws
 pub mod SentLaws
+pub mod PacketLaws

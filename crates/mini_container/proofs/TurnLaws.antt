@@ -26,7 +26,7 @@ use Rattle.mini_container.specs.Answer.{answer_of, bytes_of, IsSendable}
 use Rattle.mini_container.specs.Turns.{Taken, ContainerTurn, Idle, Ping, Request, Turns, data_of, asks_on, ask, owed_for, owed, requests_in}
 use Rattle.jk_io.specs.Moments.{Moment}
 use Rattle.mini_container.specs.Ends.{Goes, TurnPlace, Between, Within, IsRefused, Stops, StopsWithin, StopsInTurn, IsTalk, end_of}
-use Rattle.mini_container.specs.Steps.{TookPacket, NotTaken, NotSent, TookBody, asks, ServedWhole, TookTurn, TakesTurn, Reads, Sends, is_request, kind_of, requests_of, stop_of}
+use Rattle.mini_container.specs.Steps.{TookPacket, NotTaken, NotSent, TookBody, asks, ServedWhole, TookTurn, TakesTurn, Reads, Sends, Serves, turn_after, is_request, kind_of, requests_of, stop_of}
 use Rattle.mini_container.proofs.StepLaws.{packet-unkept, comes-none, comes-then, goes-none, goes-then, stops-then, stops-reading, stops-sending, stops-wanting}
 use Rattle.mini_container.proofs.FitLaws.{answer-sendable}
 use Rattle.mini_container.proofs.BodyLaws.{bytes_of-append, goes-same}
@@ -168,7 +168,7 @@ pub ping-taken : (app : AppConfig) (m0 m1 m2 : Moment) (payload : List ℕ) (res
 ping-taken app m0 m1 m2 payload (Ok kind) t is sent ping = subst (TookTurn app m0 m2) (sym ping) (ping-served app m0 m1 m2 payload t is sent)
 ping-taken app m0 m1 m2 payload (Err stop) t is sent ping = ping-failed app m0 m1 m2 payload stop t is sent
 
-pub request-stops : (app : AppConfig) (forward : Forward) (m0 m1 m2 : Moment) (payload : List ℕ) (stop : Stopped) → TookPacket app.packet m0 m1 payload
+request-stops : (app : AppConfig) (forward : Forward) (m0 m1 m2 : Moment) (payload : List ℕ) (stop : Stopped) → TookPacket app.packet m0 m1 payload
     → SpellsForward forward payload → StopsWithin app forward m1 m2 stop → StopsInTurn app m0 m2 stop
 request-stops app forward m0 m1 m2 payload stop t spelled s = record {
   turn = Request forward s.body;
@@ -179,7 +179,7 @@ request-stops app forward m0 m1 m2 payload stop t spelled s = record {
   stops = stops-then app.packet Within _ _ m0 m1 m2 t.bytes [] (bytes_of (owed_for app forward s.body)) s.rest stop t.goes s.stops;
 }
 
-pub request-served : (app : AppConfig) (forward : Forward) (m0 m1 m2 : Moment) (payload : List ℕ) → TookPacket app.packet m0 m1 payload
+request-served : (app : AppConfig) (forward : Forward) (m0 m1 m2 : Moment) (payload : List ℕ) → TookPacket app.packet m0 m1 payload
     → SpellsForward forward payload → ServedWhole app forward m1 m2 → TookTurn app m0 m2 kinds.Request
 request-served app forward m0 m1 m2 payload t spelled s = record {
   turn = Request forward s.body;
@@ -189,6 +189,12 @@ request-served app forward m0 m1 m2 payload t spelled s = record {
   goes = goes-then m0 m1 m2 t.bytes s.bytes [] (bytes_of (owed_for app forward s.body)) t.goes s.goes;
   kind_is = refl;
 }
+
+-- a request, whether it was served whole or not
+pub request-taken : (app : AppConfig) (forward : Forward) (m0 m1 m2 : Moment) (payload : List ℕ) (served : Result Unit Stopped) → TookPacket app.packet m0 m1 payload
+    → SpellsForward forward payload → Serves app forward m1 m2 served → TakesTurn app m0 m2 (turn_after served)
+request-taken app forward m0 m1 m2 payload (Ok done) t spelled s = request-served app forward m0 m1 m2 payload t spelled s
+request-taken app forward m0 m1 m2 payload (Err stop) t spelled s = request-stops app forward m0 m1 m2 payload stop t spelled s
 
 -- ---- a talk
 

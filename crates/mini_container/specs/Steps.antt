@@ -2,15 +2,17 @@
 use Rattle.std.specs.Prelude.{◌≡◌, ℕ, ◌⊎◌, Bool, true, false, IsTrue, List, [], ◌∷◌, ◌++◌, length, replicate, Option, Some, None, Result, Ok, Err}
 use Rattle.jk_io.specs.Told.{PutsFront}
 use Rattle.ajp_wire.specs.Packet.{IsPacket, HasCome}
+use Rattle.ajp_wire.specs.declared.errors.PacketError.{PacketError}
+use Rattle.ajp_wire.specs.declared.errors.PacketError.TheVariants as packets
 use Rattle.ajp_wire.specs.declared.errors.DecodeError.{DecodeError}
 use Rattle.ajp_wire.specs.declared.errors.DecodeError.TheVariants as errors
 use Rattle.ajp_request.specs.declared.forward.Forward.{Forward}
 use Rattle.ajp_request.specs.Spelling.{SpellsForward}
 use Rattle.ajp_reply.specs.declared.message.Message.{Message}
 use Rattle.mini_container.specs.declared.app_config.AppConfig.{AppConfig}
-use Rattle.mini_container.specs.declared.ends.BadPacket.TheVariants.{Code, Request as BadRequest}
+use Rattle.mini_container.specs.declared.ends.BadPacket.TheVariants.{Code, Magic, TooLong, Request as BadRequest}
 use Rattle.mini_container.specs.declared.ends.Stopped.{Stopped}
-use Rattle.mini_container.specs.declared.ends.Stopped.TheVariants.{Bad, NoMemory}
+use Rattle.mini_container.specs.declared.ends.Stopped.TheVariants.{Bad, Closed, LinkFault, NoMemory, Truncated}
 use Rattle.mini_container.specs.declared.serving.TurnKind.{TurnKind}
 use Rattle.mini_container.specs.declared.serving.TurnKind.TheVariants as kinds
 use Rattle.mini_container.specs.Request.{has_first}
@@ -31,6 +33,15 @@ pub record NotTaken (most : ℕ) (place : TurnPlace) (before after : Moment) (st
   pub comes : HasCome before after bytes
   pub sent : after.sent ≡ before.sent
   pub why : EndsReading most place before after bytes stop
+
+-- Where a read of a packet gave none, why the container stops.
+abbrev pub stop_missed : PacketError → Stopped
+stop_missed (packets.End count) = Closed
+stop_missed (packets.Short count) = Truncated
+stop_missed (packets.BadMagic count) = Bad Magic
+stop_missed (packets.TooLong count) = Bad TooLong
+stop_missed (packets.Fault count) = LinkFault
+stop_missed (packets.NoMemory count) = NoMemory
 
 abbrev pub TakesPacket : ℕ → TurnPlace → Moment → Moment → Result (List ℕ) Stopped → Type 0
 TakesPacket most place before after (Ok payload) = TookPacket most before after payload
@@ -97,6 +108,11 @@ pub record StopsAsking (app : AppConfig) (forward : Forward) (first : List ℕ) 
   pub comes : HasCome before after (bytes ++ rest)
   pub more : asks_on app forward first past ≡ true
   pub stops : Stops app.packet Within true false (bytes_of (asks app past ++ ask app ∷ [])) before after rest stop
+
+-- What a step answered that took into bytes which were lent to it.
+abbrev pub taken_into : Result Unit Stopped → List ℕ → Result (List ℕ) Stopped
+taken_into (Ok done) bytes = Ok bytes
+taken_into (Err stop) bytes = Err stop
 
 abbrev pub TakesRest : AppConfig → Forward → List ℕ → Moment → Moment → Result (List ℕ) Stopped → Type 0
 TakesRest app forward first before after (Ok body) = TookRest app forward first before after body
@@ -175,3 +191,8 @@ pub record TookTurn (app : AppConfig) (before after : Moment) (kind : TurnKind) 
 abbrev pub TakesTurn : AppConfig → Moment → Moment → Result TurnKind Stopped → Type 0
 TakesTurn app before after (Ok kind) = TookTurn app before after kind
 TakesTurn app before after (Err stop) = StopsInTurn app before after stop
+
+-- The turn that a request is, where it was served.
+abbrev pub turn_after : Result Unit Stopped → Result TurnKind Stopped
+turn_after (Ok done) = Ok kinds.Request
+turn_after (Err stop) = Err stop

@@ -4,7 +4,7 @@ ghost use Rattle.std.specs.Prelude.{◌≤◌, length};
 use jk_io::Bytes;
 
 /// By what the container answers.
-#[derive(Debug, Drop)]
+#[derive(Drop)]
 pub struct AppConfig {
     /// Its name among the members of a balancer, at most 1,024 bytes.
     pub route: Bytes,

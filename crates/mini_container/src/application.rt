@@ -24,7 +24,7 @@ const STATUS: &[u8] = b"/status/";
 const MAX_SIZE: u64 = 1_048_576;
 
 /// What answers a request.
-#[derive(Clone, Copy, Debug)]
+#[derive(Clone, Copy)]
 pub enum Application {
     /// None is asked: the request's secret isn't the container's.
     Forbidden,

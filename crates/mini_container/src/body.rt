@@ -1,10 +1,10 @@
 //! The body of a request, as far as the container asks for it.
-ghost use Rattle.std.specs.Prelude.{◌≡◌, ◌^◌, ◌<◌, ◌≤◌, [], ◌∷◌, length, IfOk, IsTrue};
+ghost use Rattle.std.specs.Prelude.{◌≡◌, ◌^◌, ◌<◌, ◌≤◌, [], ◌∷◌, length, IfOk, IsTrue, OnOk};
 ghost use Rattle.mini_container.specs.Answer.{bytes_of};
 ghost use Rattle.mini_container.specs.Request.{asks_body as asks_body_of};
 ghost use Rattle.mini_container.specs.Turns.{is_enough as is_enough_for, ask as ask_of};
 ghost use Rattle.ajp_wire.specs.Moments.{link_at};
-ghost use Rattle.mini_container.specs.Steps.{Sends, TakesFirst, TakesRest, TakesBody};
+ghost use Rattle.mini_container.specs.Steps.{Sends, TakesFirst, TakesRest, TakesBody, taken_into};
 
 use crate::app_config::AppConfig;
 use crate::ends::Stopped;
@@ -70,15 +70,33 @@ fn take_rest<L: Link>(
     ensures no_fewer { L.faults link.old ≤ L.faults link.new }
     ensures same { L.beside link.new ≡ L.beside link.old }
 {
+    add_rest(alloc, link, app, forward, &mut body)?;
+    Ok(body)
+}
+
+/// Adds the rest of a body to its front.
+fn add_rest<L: Link>(
+    alloc: Global,
+    link: &mut L,
+    app: &AppConfig,
+    forward: &Forward,
+    body: &mut Bytes,
+) -> Result<(), Stopped>
+    requires { IsTrue (asks_body_of app.now forward.now) }
+    ensures took { TakesRest app.now forward.now body.old (link_at L.Meanings link.old) (link_at L.Meanings link.new) (taken_into result body.new) }
+    ensures small { OnOk result (length body.new < 2 ^ 64) }
+    ensures no_fewer { L.faults link.old ≤ L.faults link.new }
+    ensures same { L.beside link.new ≡ L.beside link.old }
+{
     let named = content_length(forward);
     'asks: while !is_enough(named, body.len()) {
         ask(alloc, link, app)?;
-        let len = take_piece(alloc, link, app.packet, &mut body)?;
+        let len = take_piece(alloc, link, app.packet, body)?;
         if len == 0 {
-            return Ok(body);
+            return Ok(());
         }
     }
-    Ok(body)
+    Ok(())
 }
 
 /// Whether so many bytes are as many as the request names.

@@ -3,7 +3,7 @@ ghost use Rattle.std.specs.Prelude.{◌≡◌, ◌≤◌, ℕ, List, IfSome, IfN
 ghost use Rattle.mini_container.specs.Turns.{SpellsPiece};
 ghost use Rattle.ajp_wire.specs.Moments.{link_at};
 ghost use Rattle.mini_container.specs.Ends.{TurnPlace};
-ghost use Rattle.mini_container.specs.Steps.{TakesPacket, TakesPiece};
+ghost use Rattle.mini_container.specs.Steps.{TakesPacket, TakesPiece, stop_missed};
 
 use crate::ends::{BadPacket, Stopped};
 use ajp_wire::{PacketError, read_packet};
@@ -18,12 +18,21 @@ pub fn take_packet<L: Link>(alloc: Global, link: &mut L, most: u32) -> Result<By
 {
     match read_packet(alloc, link, false, most) {
         Ok(payload) => Ok(payload),
-        Err(PacketError::End { .. }) => Err(Stopped::Closed),
-        Err(PacketError::Short { .. }) => Err(Stopped::Truncated),
-        Err(PacketError::BadMagic { .. }) => Err(Stopped::Bad(BadPacket::Magic)),
-        Err(PacketError::TooLong { .. }) => Err(Stopped::Bad(BadPacket::TooLong)),
-        Err(PacketError::Fault { .. }) => Err(Stopped::LinkFault),
-        Err(PacketError::NoMemory { .. }) => Err(Stopped::NoMemory),
+        Err(error) => Err(stopped_as(error)),
+    }
+}
+
+/// Why no packet was taken.
+fn stopped_as(error: PacketError) -> Stopped
+    ensures { result ≡ stop_missed error }
+{
+    match error {
+        PacketError::End { .. } => Stopped::Closed,
+        PacketError::Short { .. } => Stopped::Truncated,
+        PacketError::BadMagic { .. } => Stopped::Bad(BadPacket::Magic),
+        PacketError::TooLong { .. } => Stopped::Bad(BadPacket::TooLong),
+        PacketError::Fault { .. } => Stopped::LinkFault,
+        PacketError::NoMemory { .. } => Stopped::NoMemory,
     }
 }
 

@@ -9,7 +9,7 @@ use jk_io::{Bytes, NoMemory};
 use std::alloc::Global;
 
 /// A reply, before it is cut into messages.
-#[derive(Debug, Drop)]
+#[derive(Drop)]
 pub struct AppPage {
     pub status: u16,
     /// Whether its head has a Content-Length.

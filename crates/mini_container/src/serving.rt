@@ -6,7 +6,7 @@ ghost use Rattle.ajp_reply.specs.declared.message.Message.TheVariants.{Pong};
 ghost use Rattle.mini_container.specs.Answer.{bytes_of};
 ghost use Rattle.ajp_wire.specs.Moments.{link_at};
 ghost use Rattle.mini_container.specs.Ends.{IsTalk};
-ghost use Rattle.mini_container.specs.Steps.{Sends, Serves, Reads, IsBegun, TakesTurn, TookPacket, requests_of, stop_of};
+ghost use Rattle.mini_container.specs.Steps.{Sends, Serves, Reads, IsBegun, TakesTurn, TookPacket, requests_of, stop_of, turn_after};
 
 use crate::answering::app_answer;
 use crate::app_config::AppConfig;
@@ -23,7 +23,7 @@ use jk_io::Link;
 use std::alloc::Global;
 
 /// What a turn is.
-#[derive(Clone, Copy, Debug)]
+#[derive(Clone, Copy)]
 pub enum TurnKind {
     Ping,
     Request,
@@ -102,8 +102,17 @@ fn serve_read<L: Link>(
     ensures same { L.beside link.new ≡ L.beside link.old }
 {
     let forward = read_request(alloc, payload)?;
-    serve_request(alloc, link, app, &forward)?;
-    Ok(TurnKind::Request)
+    turn_served(serve_request(alloc, link, app, &forward))
+}
+
+/// A request that was served is a turn of its kind.
+fn turn_served(served: Result<(), Stopped>) -> Result<TurnKind, Stopped>
+    ensures { result ≡ turn_after served }
+{
+    match served {
+        Ok(()) => Ok(TurnKind::Request),
+        Err(stop) => Err(stop),
+    }
 }
 
 /// Which turn a payload begins: a CPing is the byte 0A alone, and a Forward Request begins with 02.

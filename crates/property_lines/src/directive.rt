@@ -10,7 +10,7 @@ use crate::cut::cut_at;
 pub const DIRECTIVE_COUNT: usize = 24;
 
 /// A directive of a worker.
-#[derive(Clone, Copy, Debug, PartialEq, Eq)]
+#[derive(Clone, Copy, PartialEq, Eq)]
 pub enum Directive {
     Kind,
     Reference,

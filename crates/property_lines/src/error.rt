@@ -7,7 +7,7 @@ use std::alloc::{AllocError, AllocFailed};
 use thiserror::Error;
 
 /// What is wrong with a line.
-#[derive(Clone, Copy, Debug, PartialEq, Eq)]
+#[derive(Clone, Copy)]
 pub enum PropsReason {
     NoEquals,
     BadName,
@@ -20,7 +20,7 @@ pub enum PropsReason {
 }
 
 /// Why there is no configuration.
-#[derive(Clone, Copy, Debug, PartialEq, Eq, Error)]
+#[derive(Clone, Copy, Debug, Error)]
 pub enum PropsError {
     /// The first refusal, with its line, from 1, and its number: 1 no `=`, 2 a bad name, 3 an unknown worker, 4 a bad
     /// value, 5 no members, 6 too many members, 7 factors whose least common multiple is too wide, 8 a bad reference.

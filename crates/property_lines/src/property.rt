@@ -2,7 +2,7 @@
 use jk_io::{Bytes, ListOf};
 
 /// A line that gives a key its value, both without outer blanks.
-#[derive(Debug, Drop)]
+#[derive(Drop)]
 pub struct Property {
     /// From 1.
     pub line: u32,
@@ -14,7 +14,7 @@ pub struct Property {
 pub type PropertyList = ListOf<Property>;
 
 /// What is wrong with a property by itself.
-#[derive(Clone, Copy, Debug, PartialEq, Eq)]
+#[derive(Clone, Copy)]
 pub enum Fault {
     Name,
     Value,

@@ -28,7 +28,7 @@ fn has_status(statuses: &[(u16, bool)], status: u16, negated: bool) -> bool
 }
 
 /// The statuses of a `fail_on_status`, each with whether a `-` stands before it, in the order of the text.
-#[derive(Debug, Drop)]
+#[derive(Drop)]
 pub struct Statuses {
     table: [(u16, bool); 64],
     count: usize,

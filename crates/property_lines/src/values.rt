@@ -10,7 +10,7 @@ use jk_io::parse_decimal;
 use jk_model::{Activation, Method};
 
 /// The type of a worker.
-#[derive(Clone, Copy, Debug, PartialEq, Eq)]
+#[derive(Clone, Copy)]
 pub enum WorkerKind {
     Ajp13,
     Lb,

@@ -6,7 +6,7 @@ use jk_io::{Bytes, ListOf};
 use jk_model::LbConfig;
 
 /// A balancer: an lb worker, or an ajp13 worker that is listed itself.
-#[derive(Debug, Drop)]
+#[derive(Drop)]
 pub struct Lb {
     pub name: Bytes,
     pub book: LbConfig,

@@ -7,7 +7,7 @@ use crate::ignored::IgnoredList;
 use jk_io::{Bytes, ListOf};
 
 /// A worker that shows and changes the balancers' state.
-#[derive(Debug, Drop)]
+#[derive(Drop)]
 pub struct Status {
     pub name: Bytes,
     /// Whether it shows alone, and changes nothing.
@@ -15,7 +15,7 @@ pub struct Status {
 }
 
 /// What a listed name stands for, by its place.
-#[derive(Clone, Copy, Debug, PartialEq, Eq)]
+#[derive(Clone, Copy, PartialEq, Eq)]
 pub enum Named {
     Balancer(u32),
     Status(u32),
@@ -28,7 +28,7 @@ pub type StatusList = ListOf<Status>;
 pub type NamedList = ListOf<(Bytes, Named)>;
 
 /// The balancers and status workers of a site.
-#[derive(Debug, Drop)]
+#[derive(Drop)]
 pub struct Config {
     /// At most 1,024.
     pub lbs: LbList,

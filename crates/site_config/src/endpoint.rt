@@ -5,7 +5,7 @@ use jk_io::{Bytes, ListOf};
 use jk_model::FailList;
 
 /// How requests reach a member, and what its talks do.
-#[derive(Debug, Drop)]
+#[derive(Drop)]
 pub struct Endpoint {
     pub host: Bytes,
     /// 1 to 65,535.

@@ -8,14 +8,14 @@ use std::alloc::Global;
 use std::marker::Model;
 
 /// A line, and where its key ends among the keys.
-#[derive(Clone, Copy, Debug)]
+#[derive(Clone, Copy)]
 pub(crate) struct KeyEnd {
     pub(crate) line: u32,
     pub(crate) end: u32,
 }
 
 /// A line, and where its key stands among the keys.
-#[derive(Clone, Copy, Debug)]
+#[derive(Clone, Copy)]
 struct KeySpan {
     line: u32,
     start: usize,
@@ -24,7 +24,7 @@ struct KeySpan {
 
 /// Lines with their keys, in order. A contract sees a list of pairs. The keys stand one after another in one text, so that
 /// a line takes 8 bytes and its key.
-#[derive(Debug, Drop)]
+#[derive(Drop)]
 pub struct IgnoredList {
     keys: Vec<u8>,
     ends: Vec<KeyEnd>,

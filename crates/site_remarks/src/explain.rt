@@ -9,7 +9,7 @@ use jk_io::{Bytes, NoMemory, put_decimal};
 use property_lines::{first_line, without_mark};
 
 /// A line of a file, from 1.
-#[derive(Clone, Copy, Debug)]
+#[derive(Clone, Copy)]
 pub(crate) struct FileLine<'t> {
     pub(crate) file: &'t [u8],
     pub(crate) line: u32,

@@ -3,7 +3,7 @@ use jk_io::Bytes;
 use jk_model::Activation;
 
 /// What an update does with a member's redirect.
-#[derive(Debug, PartialEq, Eq, Drop)]
+#[derive(Drop)]
 pub enum NamedRedirect {
     Keep,
     None,
@@ -12,7 +12,7 @@ pub enum NamedRedirect {
 }
 
 /// New values of a member; what is `None` or `Keep` stays.
-#[derive(Debug, PartialEq, Eq, Drop)]
+#[derive(Drop)]
 pub struct NamedChange {
     pub activation: Option<Activation>,
     pub factor: Option<u32>,
@@ -21,7 +21,7 @@ pub struct NamedChange {
 }
 
 /// A command of a status worker: `w` names a balancer, `sw` one of its members.
-#[derive(Debug, PartialEq, Eq, Drop)]
+#[derive(Drop)]
 pub enum StatusCommand {
     /// The page, of `w` alone where it is given.
     List {

@@ -6,7 +6,7 @@ use std::alloc::{AllocError, AllocFailed};
 use thiserror::Error;
 
 /// Why a query gives no command.
-#[derive(Clone, Copy, Debug, PartialEq, Eq, Error)]
+#[derive(Clone, Copy, Debug, Error)]
 pub enum StatusError {
     /// The client's fault: an unknown command, or a part that is missing, repeated or can't be read.
     #[error("the query is no command")]

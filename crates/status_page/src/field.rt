@@ -2,7 +2,7 @@
 use jk_io::{Bytes, ListOf};
 
 /// A name and its value, decoded.
-#[derive(Debug, Drop)]
+#[derive(Drop)]
 pub(crate) struct Field {
     pub name: Bytes,
     pub value: Bytes,

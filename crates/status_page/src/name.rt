@@ -3,7 +3,7 @@ ghost use Rattle.std.specs.Prelude.{◌≡◌};
 ghost use Rattle.status_page.specs.Names.{text_of};
 
 /// A name that a query may give a value, by the status worker of the Tomcat Connectors reference.
-#[derive(Clone, Copy, Debug, PartialEq, Eq)]
+#[derive(Clone, Copy)]
 pub(crate) enum Name {
     /// Which command: `cmd`.
     Command,

@@ -9,7 +9,7 @@ use jk_model::{Method, View};
 use std::alloc::Global;
 
 /// What a balancer stands for.
-#[derive(Clone, Copy, Debug, PartialEq, Eq)]
+#[derive(Clone, Copy)]
 pub enum BalancerType {
     /// An lb worker.
     Lb,
@@ -18,7 +18,7 @@ pub enum BalancerType {
 }
 
 /// A balancer as the page shows it.
-#[derive(Debug, Drop)]
+#[derive(Drop)]
 pub struct PagePart {
     pub type_: BalancerType,
     pub name: Bytes,

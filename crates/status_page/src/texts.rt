@@ -9,7 +9,7 @@ use crate::name::{NAMES, Name};
 use jk_io::{Bytes, NoMemory};
 
 /// The values that an update changes, each where a field has it.
-#[derive(Debug, Drop)]
+#[derive(Drop)]
 pub(crate) struct ChangeTexts {
     pub activation: Option<Bytes>,
     pub factor: Option<Bytes>,
@@ -18,7 +18,7 @@ pub(crate) struct ChangeTexts {
 }
 
 /// The values of the known names, each where a field has it.
-#[derive(Debug, Drop)]
+#[derive(Drop)]
 pub(crate) struct Texts {
     pub command: Option<Bytes>,
     pub worker: Option<Bytes>,

@@ -5,7 +5,7 @@ ghost use Rattle.status_page.specs.Meaning.{verb_named, verb_of};
 use jk_io::Bytes;
 
 /// What a query asks for.
-#[derive(Clone, Copy, Debug, PartialEq, Eq)]
+#[derive(Clone, Copy)]
 pub(crate) enum Verb {
     List,
     Update,

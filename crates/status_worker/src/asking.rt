@@ -11,7 +11,7 @@ use status_page::{CommandList, StatusCommand, StatusError, commands_for, read_co
 use std::alloc::Global;
 
 /// Why a status worker's request gets no page.
-#[derive(Clone, Copy, Debug, PartialEq, Eq)]
+#[derive(Clone, Copy, PartialEq, Eq)]
 pub enum NoPage {
     /// An own answer with this status.
     Own(u16),

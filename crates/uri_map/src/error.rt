@@ -7,7 +7,7 @@ use std::alloc::{AllocError, AllocFailed};
 use thiserror::Error;
 
 /// What is wrong with a line.
-#[derive(Clone, Copy, Debug, PartialEq, Eq)]
+#[derive(Clone, Copy)]
 pub enum MapReason {
     /// It has no `=`, its pattern doesn't begin with `/`, or has more than one `|`.
     BadPattern,
@@ -18,7 +18,7 @@ pub enum MapReason {
 }
 
 /// Why there is no map.
-#[derive(Clone, Copy, Debug, PartialEq, Eq, Error)]
+#[derive(Clone, Copy, Debug, Error)]
 pub enum MapError {
     /// The first refusal, with its line, from 1, and its number: 1 a bad pattern, 2 an unknown worker, 3 a bad extension.
     #[error("line {line}: refusal {code}")]

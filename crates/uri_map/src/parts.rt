@@ -15,7 +15,7 @@ use property_lines::{cut_at, truth_of};
 use std::alloc::Global;
 
 /// A part, its name and value without outer blanks.
-#[derive(Clone, Copy, Debug)]
+#[derive(Clone, Copy)]
 pub(crate) struct Part<'t> {
     pub(crate) name: &'t [u8],
     pub(crate) value: &'t [u8],

@@ -7,7 +7,7 @@ use jk_io::Bytes;
 use std::marker::Model;
 
 /// What a path is matched with. A contract sees its bytes.
-#[derive(Debug, Drop)]
+#[derive(Drop)]
 pub struct Pattern {
     text: Bytes,
     wild: bool,

@@ -9,14 +9,14 @@ use jk_model::Terms;
 use site_config::Named;
 
 /// Where a rule mounts.
-#[derive(Clone, Copy, Debug, PartialEq, Eq)]
+#[derive(Clone, Copy)]
 pub struct Mount {
     pub worker: Named,
     pub terms: Terms,
 }
 
 /// What a rule does with the paths that it matches.
-#[derive(Clone, Copy, Debug, PartialEq, Eq)]
+#[derive(Clone, Copy)]
 pub enum Role {
     Mount(Mount),
     /// It takes them away from this worker, or from every worker.
@@ -24,7 +24,7 @@ pub enum Role {
 }
 
 /// A rule that is in force.
-#[derive(Debug, Drop)]
+#[derive(Drop)]
 pub struct Rule {
     /// From 1. A line `P|S` makes two rules.
     pub line: u32,

@@ -6,7 +6,7 @@ ghost use Rattle.uri_map.specs.Sides.{as_left, as_patterns, behind_byte, behind_
 use property_lines::cut_at;
 
 /// What stands before the `=` of a rule.
-#[derive(Clone, Copy, Debug)]
+#[derive(Clone, Copy)]
 pub(crate) struct Side<'t> {
     pub(crate) exclusion: bool,
     /// Whether the rule is turned off.
@@ -15,7 +15,7 @@ pub(crate) struct Side<'t> {
 }
 
 /// One pattern, or of `P|S` two: P, and P with S behind it.
-#[derive(Clone, Copy, Debug)]
+#[derive(Clone, Copy)]
 pub(crate) struct Patterns<'t> {
     pub(crate) first: &'t [u8],
     pub(crate) more: Option<&'t [u8]>,

@@ -14,7 +14,7 @@ use site_config::Named;
 use std::marker::Model;
 
 /// The rules of a uriworkermap.properties that are in force, in the order of their lines. A contract sees the list.
-#[derive(Debug, Drop)]
+#[derive(Drop)]
 pub struct UriMap {
     rules: ListOf<Rule>,
 }

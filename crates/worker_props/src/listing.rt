@@ -10,7 +10,7 @@ use property_lines::{PropertyLine, is_list_key, push_words};
 use std::alloc::Global;
 
 /// A name of a list, and the line on which it stands.
-#[derive(Clone, Copy, Debug)]
+#[derive(Clone, Copy)]
 pub(crate) struct Listing<'t> {
     pub(crate) name: &'t [u8],
     pub(crate) line: u32,

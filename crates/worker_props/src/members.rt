@@ -142,8 +142,8 @@ fn built<'t>(
     for (i, listing) in members.iter().enumerate() {
         let row = rows[i];
         let member = member_of(alloc, entries, &row, listing.name, routes, i)?;
-        let end = endpoint_of(alloc, entries, &row)?;
         configs.push(member)?;
+        let end = endpoint_of(alloc, entries, &row)?;
         ends.push(end)?;
     }
     Ok(Members { configs, ends })

@@ -10,7 +10,7 @@ ghost use Rattle.property_lines.specs.declared.directive.TheConstants.{DIRECTIVE
 use property_lines::{Directive, PropertyLine};
 
 /// How far a row has come.
-#[derive(Clone, Copy, Debug, PartialEq, Eq)]
+#[derive(Clone, Copy, PartialEq, Eq)]
 pub(crate) enum Progress {
     /// It has the worker's own lines.
     Own,
@@ -21,7 +21,7 @@ pub(crate) enum Progress {
 }
 
 /// For each directive of a worker the place of the line that gives it.
-#[derive(Clone, Copy, Debug)]
+#[derive(Clone, Copy)]
 pub(crate) struct Row {
     pub(crate) places: [Option<u32>; 24],
     pub(crate) progress: Progress,

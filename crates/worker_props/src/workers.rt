@@ -24,7 +24,7 @@ use crate::site::{check_known, force_of};
 use crate::table::{names_of, rows_of};
 use crate::told::{Told, told_lines};
 use crate::whole::maintain_of;
-use jk_io::{Bytes, ListOf};
+use jk_io::Bytes;
 use jk_model::MAX_BALANCERS;
 use property_lines::{Directive, PropertyLine, PropsError, PropsReason, WorkerKind, refused};
 use site_config::{Config, IgnoredList, Lb, Status};
@@ -223,12 +223,11 @@ fn workers_of(
 {
     let names = names_of(alloc, entries)?;
     let lists = member_lists(alloc, &names, entries)?;
-    let nobody = ListOf::new(alloc);
     let given = Given {
         entries,
         names: &names,
         lists: lists.as_slice(),
-        nobody: nobody.as_slice(),
+        nobody: &[],
         maintain: maintain_of(entries),
     };
     config_of(alloc, &given, ignored)

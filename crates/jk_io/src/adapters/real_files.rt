@@ -1,12 +1,12 @@
 //! The files and the clock of the system.
-ghost use Rattle.std.specs.Prelude.{◌≡◌, ◌≤◌};
+ghost use Rattle.std.specs.Prelude.{◌≡◌, ◌≤◌, IfOk, length};
 ghost use Rattle.jk_io.specs.Told.{Rose};
 
 use crate::adapters::std_streams::ReadSource;
 use crate::byte_list::Bytes;
 use crate::failures::FileError;
 use crate::traits::surroundings::{Clock, Files};
-use crate::whole_input::read_whole;
+use crate::whole_input::{MAX_INPUT_BYTES, read_whole};
 use std::alloc::Global;
 use std::fs;
 use std::rt::{Clock as SystemClock, Files as SystemFiles};
@@ -42,18 +42,26 @@ impl<'r, R: SystemFiles> Files for RealFiles<'r, R> {
 
     /// A name that isn't UTF-8 is that of no file.
     fn read_file(&mut self, alloc: Global, name: &Bytes) -> Result<Bytes, FileError> {
-        let Ok(path) = str::from_utf8(name.as_slice()) else {
-            return Err(self.fail());
-        };
-        let Ok(file) = fs::open(self.rt, path) else {
-            return Err(self.fail());
-        };
-        let mut source = ReadSource::new(file);
-        match read_whole(alloc, &mut source) {
+        match read_named(self.rt, alloc, name) {
             Err(FileError::Failed) => Err(self.fail()),
             answer => answer,
         }
     }
+}
+
+fn read_named<R: SystemFiles>(rt: &R, alloc: Global, name: &Bytes) -> Result<Bytes, FileError>
+    ensures { IfOk result (λ bytes. length bytes ≤ MAX_INPUT_BYTES) }
+{
+    match open_named(rt, name) {
+        Some(file) => read_whole(alloc, &mut ReadSource::new(file)),
+        None => Err(FileError::Failed),
+    }
+}
+
+// A name that isn't UTF-8 is that of no file.
+fn open_named<R: SystemFiles>(rt: &R, name: &Bytes) -> Option<R::File> {
+    let path = str::from_utf8(name.as_slice()).ok()?;
+    fs::open(rt, path).ok()
 }
 
 /// The clock of the system, in seconds since 1970; where it can't be read it stands.

@@ -190,19 +190,33 @@ impl<'r, R: Clock> Door for TcpDoor<'r, R> {
         let Some(out) = self.out.checked_add(1) else {
             return Err(self.fail());
         };
-        // Memory is taken first, so that want of it loses no client.
-        let room = ClientRoom::new(alloc, self.outbox.as_ref())?;
-        let Some((stream, address)) = accept_client(self.rt, &self.listener) else {
-            return Err(self.fail());
-        };
-        self.clients = to_come;
-        self.out = out;
-        Ok(Some(room.client(stream, address.ip())))
+        match next_client(self.rt, alloc, &self.listener, self.outbox.as_ref())? {
+            Some(client) => {
+                self.clients = to_come;
+                self.out = out;
+                Ok(Some(client))
+            }
+            None => Err(self.fail()),
+        }
     }
 
     fn leave(&mut self, link: TcpLink) {
         link.end();
         self.out -= 1;
+    }
+}
+
+// The next client, whose memory is taken first, so that want of it loses none.
+fn next_client<R: Clock>(
+    rt: &R,
+    alloc: Global,
+    listener: &TcpListener,
+    outbox: Option<&Outbox>,
+) -> Result<Option<(TcpLink, Peer)>, NoMemory> {
+    let room = ClientRoom::new(alloc, outbox)?;
+    match accept_client(rt, listener) {
+        Some((stream, address)) => Ok(Some(room.client(stream, address.ip()))),
+        None => Ok(None),
     }
 }
 

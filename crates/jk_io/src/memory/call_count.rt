@@ -1,12 +1,12 @@
 //! Which calls of an object in memory fail.
-ghost use Rattle.std.specs.Prelude.{◌≡◌, ◌≤◌, ◌↔◌, true, false, IsTrue, Contains};
+ghost use Rattle.std.specs.Prelude.{◌≡◌, ◌≤◌, ◌↔◌, ◌⊎◌, true, false, IsTrue, Contains};
 ghost use Rattle.jk_io.specs.Told.{Rose};
 ghost use Rattle.jk_io.specs.Memory.{counted};
 
 use crate::list_of::NumberList;
 
 /// The calls that an object in memory was asked, and those of them that failed.
-#[derive(Debug, Drop)]
+#[derive(Drop)]
 pub struct CallCount {
     pub(crate) calls: u64,
     pub(crate) failed: u64,
@@ -36,6 +36,23 @@ impl CallCount {
             self.fail();
         }
         fails
+    }
+
+    /// Counts a call, and says whether it is to fail, which it also is where it is due.
+    pub(crate) fn fails_or(&mut self, failing: &NumberList, due: bool) -> bool
+        ensures counted { self.new.calls ≡ counted self.old.calls }
+        ensures planned { IsTrue result ↔ (Contains failing.now self.old.calls ⊎ IsTrue due) }
+        ensures rose { result ≡ true → Rose self.old.failed self.new.failed }
+        ensures no_fewer { self.old.failed ≤ self.new.failed }
+        ensures same { result ≡ false → self.new.failed ≡ self.old.failed }
+    {
+        if self.fails(failing) {
+            return true;
+        }
+        if due {
+            self.fail();
+        }
+        due
     }
 
     /// Counts a call that failed.

@@ -48,7 +48,7 @@ impl<'r, R: Wait> Gate<'r, R> {
 }
 
 /// What a link has to do with a place of a gate.
-#[derive(Clone, Copy, Debug, PartialEq, Eq)]
+#[derive(Clone, Copy, PartialEq, Eq)]
 pub enum Turn {
     /// Its reads wait until the place was raised.
     Waits,

@@ -4,7 +4,7 @@ ghost use Rattle.std.specs.Prelude.{◌≡◌, ℕ, ◌+◌, ◌<◌, ◌≤◌,
 use crate::list_of::NumberList;
 
 /// The plan of a link in memory; no read and no write changes it.
-#[derive(Debug, Drop)]
+#[derive(Drop)]
 pub struct LinkPlan {
     /// The calls that are to fail, numbered from 0 over reads and writes.
     pub failing: NumberList,

@@ -6,7 +6,7 @@ use crate::traits::surroundings::Clock;
 use std::marker::Model;
 
 /// A clock that gives its answers in turn, and stands at the last one; without any it stands at 0.
-#[derive(Debug, Drop)]
+#[derive(Drop)]
 pub struct StepClock {
     answers: NumberList,
     /// How many answers were passed; the next one is in the list, unless the list is empty.

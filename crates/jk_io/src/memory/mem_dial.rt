@@ -1,7 +1,8 @@
 //! A dial in memory.
-ghost use Rattle.std.specs.Prelude.{◌≡◌, ◌↔◌, [], Contains, IfOk, IsOk, IsErr, IsErrOf};
+ghost use Rattle.std.specs.Prelude.{◌≡◌, ◌↔◌, [], Contains, IfOk, IsOk, IsErr, IsErrOf, reverse};
 ghost use Rattle.jk_io.specs.Told.{HasCause};
-ghost use Rattle.jk_io.specs.Memory.{DialledNext, counted};
+ghost use Rattle.jk_io.specs.Memory.{DialledNext, counted, next_incoming};
+ghost use Rattle.jk_io.specs.Memory as nothing;
 
 use crate::byte_list::Bytes;
 use crate::failures::IoError;
@@ -16,7 +17,7 @@ use std::marker::Model;
 pub type MemLinkList = ListOf<MemLink>;
 
 /// A dial that gives its links in turn, and links with nothing to come after the last.
-#[derive(Debug, Drop)]
+#[derive(Drop)]
 pub struct MemDial {
     /// The links to come, the next one last.
     links: Vec<MemLink>,
@@ -77,9 +78,23 @@ impl Dial for MemDial {
         if self.count.fails(&self.failing) {
             return Err(IoError::Failed);
         }
-        match self.links.pop() {
-            Some(link) => Ok(link),
-            None => Ok(MemLink::new(alloc, Bytes::new(alloc), NumberList::new(alloc))),
-        }
+        Ok(take_next(&mut self.links, alloc))
     }
+}
+
+// Takes out the next link, or an empty one after the last; the links stand in reverse.
+pub(crate) fn take_next(links: &mut Vec<MemLink>, alloc: Global) -> MemLink
+    ensures next { DialledNext (reverse links.old.items) result (reverse links.new.items) }
+    ensures came { result.incoming ≡ next_incoming (reverse links.old.items) }
+{
+    match links.pop() {
+        Some(link) => link,
+        None => empty_link(alloc),
+    }
+}
+
+pub(crate) fn empty_link(alloc: Global) -> MemLink
+    ensures { result ≡ nothing.empty_link }
+{
+    MemLink::new(alloc, Bytes::new(alloc), NumberList::new(alloc))
 }

@@ -18,7 +18,7 @@ use std::marker::Model;
 pub type FileList = ListOf<(Bytes, Bytes)>;
 
 /// Files in memory, and the reads that are to fail, numbered from 0.
-#[derive(Debug, Drop)]
+#[derive(Drop)]
 pub struct MemFiles {
     files: FileList,
     failing: NumberList,

@@ -13,7 +13,7 @@ use std::alloc::Global;
 use std::marker::Model;
 
 /// A link that gives the bytes it was made with, and keeps those that it takes.
-#[derive(Debug, Drop)]
+#[derive(Drop)]
 pub struct MemLink {
     text: Bytes,
     /// How many bytes of the text were given.
@@ -158,16 +158,10 @@ impl MemLink {
         ensures steady { result ≡ false → (self.new.faults ≡ self.old.faults) × (self.new.reads_failed ≡ self.old.reads_failed) }
         ensures same { self.new ≡ record self.old { calls = counted self.old.calls; reads_failed = self.new.reads_failed; faults = self.new.faults } }
     {
-        if self.count.fails(&self.plan.failing) {
-            self.reads_failed = self.reads_failed.saturating_add(1);
-            return true;
-        }
         let due = is_due(&self.plan.reads, self.at as u64, self.reads_failed);
-        if due {
-            self.reads_failed = self.reads_failed.saturating_add(1);
-            self.count.fail();
-        }
-        due
+        let fails = self.count.fails_or(&self.plan.failing, due);
+        count_try(&mut self.reads_failed, fails);
+        fails
     }
 
     /// Counts a write, and says whether it is to fail.
@@ -179,17 +173,11 @@ impl MemLink {
         ensures steady { result ≡ false → (self.new.faults ≡ self.old.faults) × (self.new.writes_failed ≡ self.old.writes_failed) }
         ensures same { self.new ≡ record self.old { calls = counted self.old.calls; writes_failed = self.new.writes_failed; faults = self.new.faults } }
     {
-        if self.count.fails(&self.plan.failing) {
-            self.writes_failed = self.writes_failed.saturating_add(1);
-            return true;
-        }
         let taken = self.sent.len() as u64;
         let due = is_due(&self.plan.writes, taken, self.writes_failed);
-        if due {
-            self.writes_failed = self.writes_failed.saturating_add(1);
-            self.count.fail();
-        }
-        due
+        let fails = self.count.fails_or(&self.plan.failing, due);
+        count_try(&mut self.writes_failed, fails);
+        fails
     }
 
     // Gives the next bytes, up to the next number of the plan.
@@ -235,6 +223,16 @@ impl MemLink {
         ensures steady { NeverFails self.now.plan → result ≡ 0 }
     {
         self.count.failed
+    }
+}
+
+// Counts a try that failed.
+fn count_try(tries: &mut u64, fails: bool)
+    ensures failed { fails ≡ true → tries.new ≡ counted tries.old }
+    ensures steady { fails ≡ false → tries.new ≡ tries.old }
+{
+    if fails {
+        *tries = tries.saturating_add(1);
     }
 }
 

@@ -1,17 +1,16 @@
 //! A reach in memory.
-ghost use Rattle.std.specs.Prelude.{◌≡◌, ◌+◌, ◌<◌, ◌≤◌, ◌++◌, [], ◌∷◌, true, false, None, Some, IsSome, IfSome, IsErr, IsErrOf, IfOk, OnOk, OnErr, is_some, is_ok, Contains, length, take, reverse, slice_index, vec_len, vec_capacity};
+ghost use Rattle.std.specs.Prelude.{◌≡◌, ◌+◌, ◌<◌, ◌≤◌, ◌++◌, ◌↔◌, [], ◌∷◌, true, false, None, Some, IsSome, IsTrue, IfSome, IsErr, IsErrOf, IfOk, OnOk, OnErr, is_some, is_ok, Contains, length, take, reverse, slice_index, vec_len, vec_capacity};
 ghost use Rattle.std.specs.List.{HoldsAt, remove};
-ghost use Rattle.jk_io.specs.Told.{HasCause};
+ghost use Rattle.jk_io.specs.Told.{HasCause, Rose};
 ghost use Rattle.jk_io.specs.Talks.{begun_with, failed_talk, talk_of};
 ghost use Rattle.jk_io.specs.Memory.{ReadIsToFail, WriteIsToFail, DialledNext, counted, next_incoming};
-ghost use Rattle.jk_io.specs.Memory as nothing;
 ghost use Rattle.jk_io.specs.MemReaches.{IsLastOf, HasNoneOf, GivesLink, NotesBegin, StaysInTalk};
 
 use crate::byte_list::Bytes;
 use crate::failures::{IoError, NoMemory};
 use crate::list_of::{ListOf, NumberList};
 use crate::memory::call_count::CallCount;
-use crate::memory::mem_dial::MemLinkList;
+use crate::memory::mem_dial::{MemLinkList, empty_link, take_next};
 use crate::memory::mem_link::MemLink;
 use crate::memory::member_link::MemberLink;
 use crate::memory::talk_book::TalkBook;
@@ -24,7 +23,7 @@ use std::mem;
 
 /// A reach that gives its links in turn, and links with nothing to come after the last. A link that was kept for a
 /// member is given again, the one kept last first.
-#[derive(Debug, Drop)]
+#[derive(Drop)]
 pub struct MemReach {
     alloc: Global,
     /// The links to come, the next one last.
@@ -106,12 +105,6 @@ fn no_link(alloc: Global) -> MemberLink {
         member: 0,
         link: empty_link(alloc),
     }
-}
-
-fn empty_link(alloc: Global) -> MemLink
-    ensures { result ≡ nothing.empty_link }
-{
-    MemLink::new(alloc, Bytes::new(alloc), NumberList::new(alloc))
 }
 
 // The place of the link that was kept last for a member, unless a fresh one is asked for.
@@ -215,6 +208,30 @@ fn note_failed(book: &mut TalkBook, asked: Asked<'_>) -> IoError
 }
 
 impl MemReach {
+    // Counts a begin, and says whether it is to fail.
+    fn begin_fails(&mut self) -> bool
+        ensures planned { IsTrue result ↔ Contains self.old.failing self.old.calls }
+        ensures rose { result ≡ true → Rose self.old.faults self.new.faults }
+        ensures no_fewer { self.old.faults ≤ self.new.faults }
+        ensures steady { result ≡ false → self.new.faults ≡ self.old.faults }
+        ensures same { self.new ≡ record self.old { calls = counted self.old.calls; faults = self.new.faults } }
+        ensures empty { self.new.book.begun ≡ None → (self.new.book.sent ≡ []) × (self.new.book.received ≡ []) }
+    {
+        self.begins.fails(&self.failing)
+    }
+
+    // Notes a talk that never began, and answers how its begin is refused.
+    fn refuse(&mut self, asked: Asked<'_>) -> IoError
+        requires idle { self.old.book.begun ≡ None }
+        ensures failed { result ≡ IoError.Failed → self.new.book.talks
+            ≡ self.old.book.talks ++ failed_talk asked.entry.lb asked.entry.member asked.entry.host.now asked.entry.port asked.entry.fresh ∷ [] }
+        ensures wanted { result ≡ IoError.NoMemory → self.new.book.talks ≡ self.old.book.talks }
+        ensures idle { (self.new.book.begun ≡ None) × (self.new.book.sent ≡ []) × (self.new.book.received ≡ []) }
+        ensures same { self.new ≡ record self.old { book = self.new.book } }
+    {
+        note_failed(&mut self.book, asked)
+    }
+
     // Begins a talk over the kept link at a place.
     fn begin_over_kept(
         &mut self,
@@ -237,8 +254,9 @@ impl MemReach {
     }
 
     // Begins a talk over the next link, or an empty one after the last, and answers that its link is new.
-    fn begin_over_next(&mut self, alloc: Global, asked: Asked<'_>) -> Result<bool, NoMemory>
+    fn begin_over_next(&mut self, alloc: Global, asked: Asked<'_>) -> Result<bool, IoError>
         requires idle { self.old.book.begun ≡ None }
+        ensures wanted { IsErrOf result IoError.Failed → ⊥ }
         ensures new_link { IfOk result (λ dialled. dialled ≡ true) }
         ensures next { OnOk result (DialledNext self.old.links self.new.running.link self.new.links) }
         ensures whose { OnOk result ((self.new.running.lb ≡ asked.entry.lb) × (self.new.running.member ≡ asked.entry.member)) }
@@ -254,8 +272,9 @@ impl MemReach {
     }
 
     // Begins a talk over the link that was kept last for its member, or over the next one, and answers whether it is new.
-    fn begin_over(&mut self, alloc: Global, asked: Asked<'_>) -> Result<bool, NoMemory>
+    fn begin_over(&mut self, alloc: Global, asked: Asked<'_>) -> Result<bool, IoError>
         requires idle { self.old.book.begun ≡ None }
+        ensures wanted { IsErrOf result IoError.Failed → ⊥ }
         ensures new_link { IfOk result (λ dialled. asked.entry.fresh ≡ true → dialled ≡ true) }
         ensures given { IfOk result (λ dialled. GivesLink asked.entry.lb asked.entry.member asked.entry.fresh dialled self.old self.new) }
         ensures begun { let a = asked.entry in
@@ -279,17 +298,6 @@ fn next_to_come(links: &[MemLink], alloc: Global) -> Result<Bytes, NoMemory>
     match links.last() {
         Some(link) => link.to_come(alloc),
         None => Ok(Bytes::new(alloc)),
-    }
-}
-
-// Takes out the next link, or an empty one after the last; the links stand in reverse.
-fn take_next(links: &mut Vec<MemLink>, alloc: Global) -> MemLink
-    ensures next { DialledNext (reverse links.old.items) result (reverse links.new.items) }
-    ensures came { result.incoming ≡ next_incoming (reverse links.old.items) }
-{
-    match links.pop() {
-        Some(link) => link,
-        None => empty_link(alloc),
     }
 }
 
@@ -523,10 +531,10 @@ impl Reach for MemReach {
             port,
             fresh,
         };
-        if self.begins.fails(&self.failing) {
-            return Err(note_failed(&mut self.book, asked));
+        if self.begin_fails() {
+            return Err(self.refuse(asked));
         }
-        Ok(self.begin_over(alloc, asked)?)
+        self.begin_over(alloc, asked)
     }
 
     fn finish(&mut self, keep: bool)

@@ -2,7 +2,7 @@
 use crate::memory::mem_link::MemLink;
 
 /// A link and the balancer and member whose it is.
-#[derive(Debug, Drop)]
+#[derive(Drop)]
 pub struct MemberLink {
     pub(crate) lb: u32,
     pub(crate) member: u32,

@@ -12,7 +12,7 @@ use std::marker::Model;
 use std::mem;
 
 /// Notes what a talk was begun with, what was sent and received in it, and the talks that ended.
-#[derive(Debug, Drop)]
+#[derive(Drop)]
 pub struct TalkBook {
     alloc: Global,
     talks: Vec<Talk>,

@@ -62,7 +62,7 @@ pub trait Dial {
 }
 
 /// Who is at the other end of a link.
-#[derive(Debug, Drop)]
+#[derive(Drop)]
 pub struct Peer {
     /// The address in text, without a port.
     pub addr: Bytes,

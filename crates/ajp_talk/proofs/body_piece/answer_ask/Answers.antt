@@ -1,6 +1,6 @@
--- Where the body can't be taken further, and where memory is wanted, nothing was sent.
+-- A piece was sent, or the body can't be taken further, and nothing was sent.
 use Rattle.ajp_wire.specs.Moments.{link_at}
-use Rattle.ajp_talk.proofs.SendingLaws.{ask-refused, ask-wanted}
+use Rattle.ajp_talk.proofs.SendingLaws.{ask-refused, ask-sent}
 use Rattle.ajp_talk.proofs.body_piece.answer_ask.Goals as goal
 
 pub returns-in-Err-clause-turn : goal.returns-in-Err-clause-turn
@@ -13,7 +13,11 @@ returns-in-Err-clause-turn g c =
     _ _ _ _ c.in-Err.fault (record { gone = e.gone; used = e.used; most = e.most })
     (λ is. e.truncated is c.requires.going) (λ is. e.bad is c.requires.going) (λ is. e.too_long is c.requires.going) (λ is. e.fault is c.requires.going))
 
-pub returns-in-Err-piece_packet-clause-turn : goal.returns-in-Err-piece_packet-clause-turn
-returns-in-Err-piece_packet-clause-turn g c =
-    let e = c.in-Ok.ensures.ok.on in
-    ask-wanted c.args.n _ c.args.sent.now _ _ (record { gone = e.uses.gone; used = e.uses.used; most = e.most })
+pub returns-in-Ok-clause-turn : goal.returns-in-Ok-clause-turn
+returns-in-Ok-clause-turn g c =
+    let e = c.in-Ok.ensures.ok in
+    let sent = rw c.as_slice.ensures at c.send_piece.ensures.sent in
+    rw c.sent_turn.ensures
+    (ask-sent c.args.n (link_at g.L.Meanings c.args.line.now) (link_at g.L.Meanings c.send_piece.new.line) c.args.sent.now c.send_piece.new.sent
+    (link_at g.C.Meanings c.args.client.now) (link_at g.C.Meanings c.take.new.client) _ _ c.in-Ok.piece c.send_piece.result
+    (record { within = e.within; data' = e.next; left = e.left; uses = e.on.uses; counts = e.on.taken; going = e.on.goes_on; most = e.on.most }) sent)

@@ -1,8 +1,9 @@
 -- What each message makes of the talk, or that none came.
-use Rattle.std.proofs.Common.{refl, ap, inl, inr}
+use Rattle.std.proofs.Common.{refl, ap, ◌∙◌, inl, inr}
 use Rattle.http_front.specs.Unread.{unread}
 use Rattle.ajp_wire.specs.Moments.{link_at}
 use Rattle.ajp_reply.specs.declared.message.Message.TheVariants.{Headers, Chunk, End, Ask, Pong}
+use Rattle.ajp_talk.proofs.SendingLaws.{no_fewer-same, no_fewer-then}
 use Rattle.ajp_talk.proofs.stepping.step.Goals as goal
 
 pub returns-in-Ok-Headers-clause-turn : goal.returns-in-Ok-Headers-clause-turn
@@ -65,3 +66,60 @@ returns-in-Ok-Pong-clause-turn g c =
 pub returns-in-Err-clause-turn : goal.returns-in-Err-clause-turn
 returns-in-Err-clause-turn g c =
     inl (record { why = c.in-Err.why; turn_is = c.turn_of.ensures; unheard = c.in-Err.ensures.unheard; course = refl; client = refl; body = record { body = refl; unread = refl } })
+
+-- ---- what each exit keeps
+
+pub returns-in-Ok-Headers-clause-beside : goal.returns-in-Ok-Headers-clause-beside
+returns-in-Ok-Headers-clause-beside g c = (c.receive.ensures.beside, refl)
+
+pub returns-in-Ok-Headers-clause-no_fewer : goal.returns-in-Ok-Headers-clause-no_fewer
+returns-in-Ok-Headers-clause-no_fewer g c = (c.receive.ensures.no_fewer, no_fewer-same _)
+
+pub returns-in-Ok-Headers-clause-same : goal.returns-in-Ok-Headers-clause-same
+returns-in-Ok-Headers-clause-same g c = (refl, refl)
+
+pub returns-in-Ok-Pong-clause-beside : goal.returns-in-Ok-Pong-clause-beside
+returns-in-Ok-Pong-clause-beside g c = (c.receive.ensures.beside, refl)
+
+pub returns-in-Ok-Pong-clause-no_fewer : goal.returns-in-Ok-Pong-clause-no_fewer
+returns-in-Ok-Pong-clause-no_fewer g c = (c.receive.ensures.no_fewer, no_fewer-same _)
+
+pub returns-in-Ok-Pong-clause-same : goal.returns-in-Ok-Pong-clause-same
+returns-in-Ok-Pong-clause-same g c = (refl, refl)
+
+pub returns-in-Err-clause-beside : goal.returns-in-Err-clause-beside
+returns-in-Err-clause-beside g c = (c.receive.ensures.beside, refl)
+
+pub returns-in-Err-clause-no_fewer : goal.returns-in-Err-clause-no_fewer
+returns-in-Err-clause-no_fewer g c = (c.receive.ensures.no_fewer, no_fewer-same _)
+
+pub returns-in-Err-clause-same : goal.returns-in-Err-clause-same
+returns-in-Err-clause-same g c = (refl, refl)
+
+pub returns-in-Ok-Chunk-clause-beside : goal.returns-in-Ok-Chunk-clause-beside
+returns-in-Ok-Chunk-clause-beside g c = (c.receive.ensures.beside, c.take_chunk-turn.ensures.same.2)
+
+pub returns-in-Ok-Chunk-clause-no_fewer : goal.returns-in-Ok-Chunk-clause-no_fewer
+returns-in-Ok-Chunk-clause-no_fewer g c = (c.receive.ensures.no_fewer, c.take_chunk-turn.ensures.no_fewer)
+
+pub returns-in-Ok-Chunk-clause-same : goal.returns-in-Ok-Chunk-clause-same
+returns-in-Ok-Chunk-clause-same g c = (refl, refl)
+
+pub returns-in-Ok-End-clause-beside : goal.returns-in-Ok-End-clause-beside
+returns-in-Ok-End-clause-beside g c = (c.receive.ensures.beside, c.finish.ensures.same.2)
+
+pub returns-in-Ok-End-clause-no_fewer : goal.returns-in-Ok-End-clause-no_fewer
+returns-in-Ok-End-clause-no_fewer g c = (c.receive.ensures.no_fewer, c.finish.ensures.no_fewer)
+
+pub returns-in-Ok-End-clause-same : goal.returns-in-Ok-End-clause-same
+returns-in-Ok-End-clause-same g c = (refl, refl)
+
+pub returns-in-Ok-Ask-clause-beside : goal.returns-in-Ok-Ask-clause-beside
+returns-in-Ok-Ask-clause-beside g c = (c.answer_ask.ensures.beside.0 ∙ c.receive.ensures.beside, c.answer_ask.ensures.beside.1)
+
+pub returns-in-Ok-Ask-clause-no_fewer : goal.returns-in-Ok-Ask-clause-no_fewer
+returns-in-Ok-Ask-clause-no_fewer g c =
+    (no_fewer-then _ _ _ c.receive.ensures.no_fewer c.answer_ask.ensures.no_fewer.0, c.answer_ask.ensures.no_fewer.1)
+
+pub returns-in-Ok-Ask-clause-same : goal.returns-in-Ok-Ask-clause-same
+returns-in-Ok-Ask-clause-same g c = c.answer_ask.ensures.same

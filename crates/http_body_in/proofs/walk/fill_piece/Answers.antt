@@ -9,7 +9,7 @@ use Rattle.http_body_in.specs.Places.{data_left, data_step, is_limited}
 use Rattle.http_body_in.specs.Walks.{Fails}
 use Rattle.http_body_in.specs.declared.place.Place.{Place}
 use Rattle.http_body_in.proofs.FillLemmas.{front-left, front-limit, walked}
-use Rattle.http_body_in.proofs.WalkLemmas.{fails-long, fails-bad, fails-read, uses-framing, uses-dropped, data-chunks}
+use Rattle.http_body_in.proofs.WalkLemmas.{kept-count, risen-count, fails-long, fails-bad, fails-read, uses-framing, uses-dropped, data-chunks}
 use Rattle.http_body_in.proofs.walk.fill_piece.Goals as goal
 
 pub returns-then-is_reached-clause-err : goal.returns-then-is_reached-clause-err
@@ -138,3 +138,63 @@ returns-in_err-came-clause-unasked g c = λ decided.
     let limit = front-limit c.args.start c.walk.place c.args.most c.args.taken c.walk.count c.saturating_add.result c.saturating_add.ensures (sym c.is_reached.ensures ∙ c.if-is_reached.false) c.walk.invariant.under (omega (arith, c.ranges.most)) in
     let q = c.walk.invariant.quiet decided in
     c.take_data.ensures.unasked (front-left c.args.start c.walk.place c.args.most c.args.taken c.walk.count (length c.args.piece.now) c.args.inbox.now c.walk.inbox c.walk.piece c.walk.invariant.within c.if-count-piece.false (omega (arith, c.walk.auto.piece)) q.1 (sym c.is_whole.ensures ∙ c.if-is_whole.false) (sym c.is_bad.ensures ∙ c.if-is_bad.false) limit decided) ∙ q.0
+
+pub returns-then-is_reached-clause-fault : goal.returns-then-is_reached-clause-fault
+returns-then-is_reached-clause-fault g c = λ is. absurd cc
+
+pub returns-then-is_reached-clause-steady : goal.returns-then-is_reached-clause-steady
+returns-then-is_reached-clause-steady g c = λ calm. c.walk.invariant.steady
+
+pub returns-then-is_reached-clause-same : goal.returns-then-is_reached-clause-same
+returns-then-is_reached-clause-same g c = (c.walk.invariant.sent, c.walk.invariant.beside)
+
+pub returns-then-is_reached-clause-no_fewer : goal.returns-then-is_reached-clause-no_fewer
+returns-then-is_reached-clause-no_fewer g c = kept-count _ _ c.walk.invariant.steady
+
+pub returns-then-is_bad-clause-fault : goal.returns-then-is_bad-clause-fault
+returns-then-is_bad-clause-fault g c = λ is. absurd cc
+
+pub returns-then-is_bad-clause-steady : goal.returns-then-is_bad-clause-steady
+returns-then-is_bad-clause-steady g c = λ calm. c.walk.invariant.steady
+
+pub returns-then-is_bad-clause-same : goal.returns-then-is_bad-clause-same
+returns-then-is_bad-clause-same g c = (c.walk.invariant.sent, c.walk.invariant.beside)
+
+pub returns-then-is_bad-clause-no_fewer : goal.returns-then-is_bad-clause-no_fewer
+returns-then-is_bad-clause-no_fewer g c = kept-count _ _ c.walk.invariant.steady
+
+pub returns-then-count-piece-clause-fault : goal.returns-then-count-piece-clause-fault
+returns-then-count-piece-clause-fault g c = λ is. absurd cc
+
+pub returns-then-count-piece-clause-steady : goal.returns-then-count-piece-clause-steady
+returns-then-count-piece-clause-steady g c = λ calm. c.walk.invariant.steady
+
+pub returns-then-count-piece-clause-same : goal.returns-then-count-piece-clause-same
+returns-then-count-piece-clause-same g c = (c.walk.invariant.sent, c.walk.invariant.beside)
+
+pub returns-then-count-piece-clause-no_fewer : goal.returns-then-count-piece-clause-no_fewer
+returns-then-count-piece-clause-no_fewer g c = kept-count _ _ c.walk.invariant.steady
+
+pub returns-then-is_whole-clause-fault : goal.returns-then-is_whole-clause-fault
+returns-then-is_whole-clause-fault g c = λ is. absurd cc
+
+pub returns-then-is_whole-clause-steady : goal.returns-then-is_whole-clause-steady
+returns-then-is_whole-clause-steady g c = λ calm. c.walk.invariant.steady
+
+pub returns-then-is_whole-clause-same : goal.returns-then-is_whole-clause-same
+returns-then-is_whole-clause-same g c = (c.walk.invariant.sent, c.walk.invariant.beside)
+
+pub returns-then-is_whole-clause-no_fewer : goal.returns-then-is_whole-clause-no_fewer
+returns-then-is_whole-clause-no_fewer g c = kept-count _ _ c.walk.invariant.steady
+
+pub returns-in_err-place-clause-same : goal.returns-in_err-place-clause-same
+returns-in_err-place-clause-same g c = (c.pass_framing.ensures.same.0 ∙ c.walk.invariant.sent, c.pass_framing.ensures.same.1 ∙ c.walk.invariant.beside)
+
+pub returns-in_err-place-clause-no_fewer : goal.returns-in_err-place-clause-no_fewer
+returns-in_err-place-clause-no_fewer g c = risen-count _ _ _ c.walk.invariant.steady c.pass_framing.ensures.no_fewer
+
+pub returns-in_err-came-clause-same : goal.returns-in_err-came-clause-same
+returns-in_err-came-clause-same g c = (c.take_data.ensures.same.0 ∙ c.walk.invariant.sent, c.take_data.ensures.same.1 ∙ c.walk.invariant.beside)
+
+pub returns-in_err-came-clause-no_fewer : goal.returns-in_err-came-clause-no_fewer
+returns-in_err-came-clause-no_fewer g c = risen-count _ _ _ c.walk.invariant.steady c.take_data.ensures.no_fewer

@@ -5,7 +5,7 @@ use Rattle.http_front.specs.Search.{IsFound, IsPart, IsSeen, IsStop}
 use Rattle.http_front.specs.declared.answers.HeadError.{HeadError}
 use Rattle.http_front.specs.declared.answers.HeadError.TheVariants as error
 use Rattle.http_front.proofs.CutLemmas.{seen-more}
-use Rattle.http_front.proofs.InboxLemmas.{nothing-came}
+use Rattle.http_front.proofs.InboxLemmas.{kept-count, nothing-came, risen-count}
 use Rattle.http_front.proofs.MakesLemmas.{part-awaits, part-full, stop-found}
 use Rattle.http_front.proofs.reading.find_head.Goals as goal
 
@@ -86,3 +86,44 @@ loop-blank-preserved g c =
       steady = e.steady tt ∙ I.steady;
       untouched = λ decided. absurd (part-awaits c.loop-blank.inbox _ c.args.inbox.now _ _ part c.as_slice.ensures.value (I.untouched decided).0 e.room decided);
     }
+
+-- ---- what each exit keeps
+
+pub returns-in-Whole-clause-ended : goal.returns-in-Whole-clause-ended
+returns-in-Whole-clause-ended g c = λ ended. absurd ended
+
+pub returns-in-Whole-clause-fault : goal.returns-in-Whole-clause-fault
+returns-in-Whole-clause-fault g c = λ is. absurd cc
+
+pub returns-in-Whole-clause-awaited : goal.returns-in-Whole-clause-awaited
+returns-in-Whole-clause-awaited g c = λ is decided. cc
+
+pub returns-in-Whole-clause-steady : goal.returns-in-Whole-clause-steady
+returns-in-Whole-clause-steady g c = λ calm. c.loop-blank.invariant.steady
+
+pub returns-in-Whole-clause-unread : goal.returns-in-Whole-clause-unread
+returns-in-Whole-clause-unread g c = c.loop-blank.invariant.unread
+
+pub returns-in-Whole-clause-same : goal.returns-in-Whole-clause-same
+returns-in-Whole-clause-same g c = (c.loop-blank.invariant.sent, c.loop-blank.invariant.beside)
+
+pub returns-in-Whole-clause-no_fewer : goal.returns-in-Whole-clause-no_fewer
+returns-in-Whole-clause-no_fewer g c = kept-count _ _ c.loop-blank.invariant.steady
+
+pub returns-in-Ok-eq0-clause-unread : goal.returns-in-Ok-eq0-clause-unread
+returns-in-Ok-eq0-clause-unread g c = c.read_on.ensures.unread ∙ c.loop-blank.invariant.unread
+
+pub returns-in-Ok-eq0-clause-same : goal.returns-in-Ok-eq0-clause-same
+returns-in-Ok-eq0-clause-same g c = (c.read_on.ensures.same.0 ∙ c.loop-blank.invariant.sent, c.read_on.ensures.same.1 ∙ c.loop-blank.invariant.beside)
+
+pub returns-in-Ok-eq0-clause-no_fewer : goal.returns-in-Ok-eq0-clause-no_fewer
+returns-in-Ok-eq0-clause-no_fewer g c = risen-count _ _ _ c.loop-blank.invariant.steady c.read_on.ensures.no_fewer
+
+pub returns-in-Err-clause-unread : goal.returns-in-Err-clause-unread
+returns-in-Err-clause-unread g c = c.read_on.ensures.unread ∙ c.loop-blank.invariant.unread
+
+pub returns-in-Err-clause-same : goal.returns-in-Err-clause-same
+returns-in-Err-clause-same g c = (c.read_on.ensures.same.0 ∙ c.loop-blank.invariant.sent, c.read_on.ensures.same.1 ∙ c.loop-blank.invariant.beside)
+
+pub returns-in-Err-clause-no_fewer : goal.returns-in-Err-clause-no_fewer
+returns-in-Err-clause-no_fewer g c = risen-count _ _ _ c.loop-blank.invariant.steady c.read_on.ensures.no_fewer

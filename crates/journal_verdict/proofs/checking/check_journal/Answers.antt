@@ -1,9 +1,7 @@
-use Rattle.std.proofs.Common.{◌≡◌, [], ◌∷◌, length, sym, ap, subst, ◌∙◌, ◌==◌, arith}
+use Rattle.std.proofs.Common.{◌≡◌, List, ◌∷◌, ℕ, length, sym, ap, subst, ◌∙◌, ◌==◌, arith}
 use Rattle.std.proofs.lemmas.List.Splits.{length-slice_split}
 use Rattle.play_script.specs.Parts.{parts_of}
-use Rattle.journal_text.specs.Reading.{Reads, at_start}
-use Rattle.journal_text.specs.declared.reader.Reader.{Reader}
-use Rattle.journal_verdict.specs.Checks.{front}
+use Rattle.journal_verdict.proofs.CheckerFacts.{Stands, stands_end, stands_first, stands_on, stands_refused}
 use Rattle.journal_verdict.proofs.checking.check_journal.Goals as goal
 
 -- a text has a part
@@ -13,16 +11,34 @@ returns-in-None c =
     absurd (omega (arith, none, length-slice_split (λ b. b == 10) c.args.text.now))
 
 pub lines-init : goal.lines-init
-lines-init c =
-    let parts : parts_of 10 c.args.text.now ≡ c.in-Some.first.now ∷ c.next.new.self = sym c.of-lines.ensures.value ∙ c.in-Some.ensures in
-    record {
-      few = omega (arith, c.of-lines.ensures.few, ap length c.in-Some.ensures, c.requires, c.new-checker.ensures.number);
-      taken = (
-        [],
-        c.new-checker.ensures.taken,
-        λ o h.
-            subst (λ ps. Reads at_start 1 ps o) (sym parts)
-            (subst (λ n. Reads at_start n (c.in-Some.first.now ∷ c.next.new.self) o) c.new-checker.ensures.number
-            (subst (λ (r : Reader). Reads r c.new-checker.result.number (c.in-Some.first.now ∷ c.next.new.self) o) (ap (front []) c.new-checker.ensures.reader) h)),
-      );
-    }
+lines-init c = record {
+  few = omega (arith, c.of-lines.ensures.few, ap length c.in-Some.ensures, c.requires, c.new-checker.ensures.number);
+  stands = stands_first c.args.text.now c.in-Some.first.now c.new-checker.result c.next.new.self c.new-checker.ensures.taken c.new-checker.ensures.reader
+      c.new-checker.ensures.number (sym c.of-lines.ensures.value ∙ c.in-Some.ensures);
+}
+
+pub take-requires : goal.take-requires
+take-requires c = record {
+  taken = (c.lines.invariant.stands.done, c.lines.invariant.stands.taken);
+  few = omega (arith, c.lines.invariant.few);
+}
+
+pub returns-in_err-checker : goal.returns-in_err-checker
+returns-in_err-checker c =
+    stands_refused c.args.text.now c.lines.checker c.lines.line.now c.in-Some-next.next.now c.next-in-lines.new.self c.in_err-checker.field-0.0 c.from_residual.result
+    (subst (λ (ps : List (List ℕ)). Stands c.args.text.now c.lines.checker (c.lines.line.now ∷ ps)) c.in-Some-next.ensures c.lines.invariant.stands)
+    c.in_err-checker.ensures.err c.from_residual.ensures.1
+
+pub lines-preserved : goal.lines-preserved
+lines-preserved c = record {
+  few = omega (arith, c.lines.invariant.few, ap length c.in-Some-next.ensures, c.in_ok-checker.ensures.number);
+  stands = stands_on c.args.text.now c.lines.checker c.in_ok-checker.checker c.lines.line.now c.in-Some-next.next.now c.next-in-lines.new.self
+      (subst (λ (ps : List (List ℕ)). Stands c.args.text.now c.lines.checker (c.lines.line.now ∷ ps)) c.in-Some-next.ensures c.lines.invariant.stands)
+      c.in_ok-checker.ensures.ok c.in_ok-checker.ensures.number;
+}
+
+pub returns : goal.returns
+returns c =
+    stands_end c.args.text.now c.lines.checker c.lines.line.now c.end.result
+    (subst (λ (ps : List (List ℕ)). Stands c.args.text.now c.lines.checker (c.lines.line.now ∷ ps)) c.in_default.ensures.0 c.lines.invariant.stands)
+    c.end.ensures

@@ -1,34 +1,7 @@
-use Rattle.std.proofs.Common.{refl, sym, ◌∙◌}
 use Rattle.std.proofs.lemmas.Result.{err_from_is_err_and}
-use Rattle.mini_container.proofs.BodyLaws.{asks-started, ask-failed, piece-failed, piece-added, body-ended}
 use Rattle.mini_container.proofs.body.take_rest.Goals as goal
 
-pub asks-init : goal.asks-init
-asks-init g c = record { asked = asks-started _ _ _ _; same = refl }
-
-pub returns-in_err-ask-clause-took : goal.returns-in_err-ask-clause-took
-returns-in_err-ask-clause-took g c =
+pub returns-in_err-add_rest-clause-took : goal.returns-in_err-add_rest-clause-took
+returns-in_err-add_rest-clause-took g c =
     let p = err_from_is_err_and c.from_residual.result c.from_residual.ensures.1 in
-    let few = rw (c.content_length-named.ensures, c.len.ensures) at (sym c.is_enough.ensures ∙ c.asks-test.true) in
-    rw (p.1, p.2) (ask-failed _ _ _ _ _ _ _ _ c.asks.invariant.asked c.requires few c.in_err-ask.ensures.sent)
-
-pub returns-in_err-len-clause-took : goal.returns-in_err-len-clause-took
-returns-in_err-len-clause-took g c =
-    let p = err_from_is_err_and c.from_residual-in_err-len.result c.from_residual-in_err-len.ensures.1 in
-    let few = rw (c.content_length-named.ensures, c.len.ensures) at (sym c.is_enough.ensures ∙ c.asks-test.true) in
-    rw (p.1, p.2)
-    (piece-failed _ _ _ _ _ _ _ _ _ c.asks.invariant.asked c.requires few c.in_ok-ask.ensures.sent c.in_err-len.ensures.took)
-
-pub returns-then-len-eq0-clause-took : goal.returns-then-len-eq0-clause-took
-returns-then-len-eq0-clause-took g c =
-    let few = rw (c.content_length-named.ensures, c.len.ensures) at (sym c.is_enough.ensures ∙ c.asks-test.true) in
-    body-ended _ _ _ _ _ _ _ _ _ _ c.asks.invariant.asked c.requires few c.in_ok-ask.ensures.sent c.in_ok-len.ensures.took c.if-len-eq0.true
-
-pub asks-preserved : goal.asks-preserved
-asks-preserved g c =
-    let few = rw (c.content_length-named.ensures, c.len.ensures) at (sym c.is_enough.ensures ∙ c.asks-test.true) in
-    record {
-      asked =
-          piece-added _ _ _ _ _ _ _ _ _ _ c.asks.invariant.asked c.requires few c.in_ok-ask.ensures.sent c.in_ok-len.ensures.took c.if-len-eq0.false;
-      same = c.in_ok-len.ensures.same ∙ c.in_ok-ask.ensures.same ∙ c.asks.invariant.same;
-    }
+    rw (p.1, p.2) c.in_err-add_rest.ensures.took

@@ -1,7 +1,7 @@
 use Rattle.std.proofs.Common.{◌≡◌, ◌-◌, ◌^◌, length}
 use Rattle.ajp_wire.specs.Moments.{link_at}
 use Rattle.mini_container.proofs.BodyLaws.{AsksOn}
-use Rattle.mini_container.proofs.body.take_rest.Given as goal
+use Rattle.mini_container.proofs.body.add_rest.Given as goal
 
 -- what was asked for so far, and that no answer was the empty body packet
 abbrev pub invariant-asks : goal.invariant-asks
