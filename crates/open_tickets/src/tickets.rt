@@ -89,6 +89,7 @@ pub fn note_return(
     ensures kept { kept.new.items ≡ kept_noted spot number kept.old.items }
     ensures early { early.new.items ≡ early_noted spot number early.old.items }
     ensures room { vec_capacity kept.new ≡ vec_capacity kept.old }
+    ensures early_room { vec_capacity early.new ≡ vec_capacity early.old }
 {
     match spot {
         Spot::Entry { place } => kept[place] = Some(number),
