@@ -8,7 +8,6 @@
 //! Errors: `IoError` and `FileError`; want of memory alone needs no cause.
 #![tactic(auto)]
 
-mod adapters;
 mod byte_list;
 mod decimals;
 mod failures;
@@ -20,10 +19,6 @@ mod traits;
 mod whole_input;
 mod writing;
 
-pub use adapters::{
-    CLIENT_SECONDS, DIAL_SECONDS, MAX_ACCEPT_TRIES, Outbox, ReadSource, RealClock, RealFiles,
-    StdIn, StdOut, TcpDial, TcpDoor, TcpLink,
-};
 pub use byte_list::Bytes;
 pub use decimals::{parse_decimal, put_decimal, trim};
 pub use failures::{FileError, IoError, NoMemory};

@@ -2,7 +2,8 @@
 
 use crate::lists::length_read;
 use crate::memory;
-use jk_io::{Clock, NoMemory, RealClock, RealFiles, StdIn, StdOut, write_all};
+use jk_io::{Clock, NoMemory, write_all};
+use real_io::{RealClock, RealFiles, StdIn, StdOut};
 use std::alloc::Global;
 use std::rt::{Clock as SystemClock, Files};
 

@@ -6,7 +6,8 @@ ghost use Rattle.drill.specs.declared.plan.TheConstants.{MAX_REQUESTS, MAX_THREA
 
 use anyhow::{Result, ensure};
 use drill::{DrillError, run_drill};
-use jk_io::{StdOut, write_all};
+use jk_io::write_all;
+use real_io::StdOut;
 use std::sync::Wait;
 use std::thread::Threads;
 

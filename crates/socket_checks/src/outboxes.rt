@@ -3,7 +3,8 @@ ghost use Rattle.std.specs.Prelude.{◌<◌};
 
 use crate::reading::length_read;
 use crate::sockets::{dialled, listener};
-use jk_io::{Dial, Door, Link, Outbox, TcpDial, TcpDoor, write_all};
+use jk_io::{Dial, Door, Link, write_all};
+use real_io::{Outbox, TcpDial, TcpDoor};
 use std::alloc::Global;
 use std::net::{Net, TcpListener, TcpStream};
 use std::rt::Clock;

@@ -5,9 +5,8 @@ ghost use Rattle.conn_pool.specs.Idle.{HasMember};
 use crate::pools::one_pool;
 use crate::reading::length_read;
 use conn_pool::{Idle, NoTape, PooledReach, Pools};
-use jk_io::{
-    Bytes, Dial, Door, IoError, Link, Peer, Reach, Stop, TcpDial, TcpDoor, TcpLink, fill, write_all,
-};
+use jk_io::{Bytes, Dial, Door, IoError, Link, Peer, Reach, Stop, fill, write_all};
+use real_io::{TcpDial, TcpDoor, TcpLink};
 use std::alloc::Global;
 use std::io;
 use std::net::{Net, TcpListener, TcpStream};

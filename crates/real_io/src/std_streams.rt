@@ -2,8 +2,7 @@
 ghost use Rattle.std.specs.Prelude.{◌≡◌, ◌≤◌, IsOk, IfOk, length};
 ghost use Rattle.jk_io.specs.Told.{HasCause};
 
-use crate::failures::IoError;
-use crate::traits::streams::{Meanings, Sink, Source};
+use jk_io::{IoError, Meanings, Sink, Source};
 use std::io::{ErrorKind, Read};
 
 /// A source over one of std's readers. It tells nothing of what is read.

@@ -2,10 +2,9 @@
 ghost use Rattle.std.specs.Prelude.{◌≡◌, ◌<◌, ◌≤◌, IfOk, IfSome, IsOk, length, vec_len};
 ghost use Rattle.jk_io.specs.Told.{HasCause};
 
-use crate::adapters::outbox::Outbox;
-use crate::adapters::std_streams::receive;
-use crate::failures::{IoError, NoMemory};
-use crate::traits::streams::{Link, Meanings, Sink, Source};
+use crate::outbox::Outbox;
+use crate::std_streams::receive;
+use jk_io::{IoError, Link, Meanings, NoMemory, Sink, Source};
 use std::alloc::Global;
 use std::io::{ErrorKind, Write};
 use std::net::TcpStream;

@@ -2,11 +2,8 @@
 ghost use Rattle.std.specs.Prelude.{◌≡◌, ◌≤◌, IfOk, length};
 ghost use Rattle.jk_io.specs.Told.{Rose};
 
-use crate::adapters::std_streams::ReadSource;
-use crate::byte_list::Bytes;
-use crate::failures::FileError;
-use crate::traits::surroundings::{Clock, Files};
-use crate::whole_input::{MAX_INPUT_BYTES, read_whole};
+use crate::std_streams::ReadSource;
+use jk_io::{Bytes, Clock, FileError, Files, MAX_INPUT_BYTES, read_whole};
 use std::alloc::Global;
 use std::fs;
 use std::rt::{Clock as SystemClock, Files as SystemFiles};

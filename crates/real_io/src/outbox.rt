@@ -2,8 +2,8 @@
 ghost use Rattle.std.specs.Prelude.{◌≡◌, ◌≤◌, IfOk, IsOk, length};
 ghost use Rattle.jk_io.specs.Told.{HasCause};
 
-use crate::adapters::std_streams::receive;
-use crate::failures::{IoError, NoMemory};
+use crate::std_streams::receive;
+use jk_io::{IoError, NoMemory};
 use std::alloc::Global;
 use std::io::Write;
 use std::net::TcpStream;

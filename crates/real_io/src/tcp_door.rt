@@ -2,11 +2,9 @@
 ghost use Rattle.std.specs.Prelude.{◌≡◌, ◌≤◌};
 ghost use Rattle.jk_io.specs.Told.{Rose};
 
-use crate::adapters::outbox::Outbox;
-use crate::adapters::tcp_link::{TcpLink, room_ahead};
-use crate::byte_list::Bytes;
-use crate::failures::{IoError, NoMemory};
-use crate::traits::surroundings::{Dial, Door, Peer};
+use crate::outbox::Outbox;
+use crate::tcp_link::{TcpLink, room_ahead};
+use jk_io::{Bytes, Dial, Door, IoError, NoMemory, Peer};
 use std::alloc::Global;
 use std::io::ErrorKind;
 use std::net::{IpAddr, Net, SocketAddr, TcpListener, TcpStream, ToSocketAddrs};

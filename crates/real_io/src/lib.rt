@@ -1,0 +1,21 @@
+//! The outside as the system gives it: TCP doors, dials and links, files, the clock, standard input and output.
+//!
+//! They meet the traits of `jk_io`, and tell nothing of what they hold.
+//! Own rule: a call fails only where the object's count of faults rose in it, and after a refusal nothing was given
+//! or taken. What a worker wrote to its client goes out before it reads or waits, by an `Outbox` that its door and its
+//! dial share.
+//! Contract: the traits' clauses. Read first: src/tcp_door.rt.
+//! Errors: `IoError` and `FileError`; want of memory alone needs no cause.
+#![tactic(auto)]
+
+mod outbox;
+mod real_files;
+mod std_streams;
+mod tcp_door;
+mod tcp_link;
+
+pub use outbox::Outbox;
+pub use real_files::{RealClock, RealFiles};
+pub use std_streams::{ReadSource, StdIn, StdOut};
+pub use tcp_door::{CLIENT_SECONDS, DIAL_SECONDS, MAX_ACCEPT_TRIES, TcpDial, TcpDoor};
+pub use tcp_link::TcpLink;
