@@ -1,3 +1,4 @@
+pub mod ChunkLaws
 pub mod DecimalLaws
 pub mod MemoryLaws
 pub mod PieceLaws

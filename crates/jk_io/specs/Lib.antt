@@ -1,4 +1,5 @@
 pub mod Answers
+pub mod Chunks
 pub mod Decimals
 pub mod Inputs
 pub mod MemDoors

@@ -1,7 +1,9 @@
 //! Inputs that are read to their end.
-ghost use Rattle.std.specs.Prelude.{◌≡◌, ℕ, ◌<◌, ◌≤◌, List, length, IsOk, IfOk, IsErrOf, OnOk, OnErr, true, false};
+ghost use Rattle.std.specs.Prelude.{◌≡◌, ℕ, ◌<◌, ◌≤◌, List, length, IsOk, IfOk, IsErrOf, OnOk, OnErr};
 ghost use Rattle.jk_io.specs.Told.{IsEmpty, Rose};
-ghost use Rattle.jk_io.specs.Inputs.{Gave, AddsChunk};
+ghost use Rattle.jk_io.specs.Chunks.{IsChunkEnd, ReadsChunk};
+ghost use Rattle.jk_io.specs.Inputs.{Gave};
+ghost use Rattle.jk_io.specs.Moments.{moment};
 
 use crate::byte_list::Bytes;
 use crate::failures::{FileError, NoMemory};
@@ -46,20 +48,23 @@ fn read_chunk<S: Source>(
     text: &mut Bytes,
 ) -> Result<bool, FileError>
     requires { 0 < length chunk.old }
-    ensures read { (more : List ℕ) × Gave S.incoming S.received source.old more source.new
-        × AddsChunk MAX_INPUT_BYTES text.old more text.new result }
-    ensures ended { result ≡ Ok false → IsEmpty (S.incoming source.new) }
-    ensures failed { IsErrOf result FileError.Failed → Rose (S.faults source.old) (S.faults source.new) }
-    ensures no_fewer { S.faults source.old ≤ S.faults source.new }
-    ensures steady { IsOk result → S.faults source.new ≡ S.faults source.old }
-    ensures same { (S.sent source.new ≡ S.sent source.old) × (S.beside source.new ≡ S.beside source.old) }
+    ensures chunk { ReadsChunk MAX_INPUT_BYTES (moment S.incoming S.received S.sent S.faults source.old)
+        (moment S.incoming S.received S.sent S.faults source.new) text.old text.new result }
+    ensures beside { S.beside source.new ≡ S.beside source.old }
 {
     let filled = fill(source, chunk);
     text.extend(&chunk[..filled.count])?;
-    if text.len() > MAX_INPUT_BYTES {
+    answer_of(filled.stop, text.len())
+}
+
+// What a chunk's stop is answered, where the text has so many bytes then.
+fn answer_of(stop: Stop, bytes: usize) -> Result<bool, FileError>
+    ensures { IsChunkEnd MAX_INPUT_BYTES stop bytes result }
+{
+    if bytes > MAX_INPUT_BYTES {
         return Err(FileError::TooLong);
     }
-    match filled.stop {
+    match stop {
         Stop::Full => Ok(true),
         Stop::End => Ok(false),
         Stop::Fault => Err(FileError::Failed),

@@ -1,46 +1,50 @@
 -- What read_whole has read: the text and a last chunk.
 use Rattle.std.proofs.Common.{◌≡◌, ◌∙◌, Ok, Err, refl, ap}
 use Rattle.jk_io.specs.declared.failures.FileError.TheVariants.{Failed, TooLong}
+use Rattle.jk_io.proofs.ChunkLaws.{kept_some}
 use Rattle.jk_io.proofs.ReadLaws.{HasRead-append, HasRead-added}
 use Rattle.jk_io.proofs.whole_input.read_whole.Goals as goal
 
-pub returns-in-Err-clause-part : goal.returns-in-Err-clause-part
-returns-in-Err-clause-part g c =
-    let last = c.in-Err.ensures.read in (
-      _,
-      HasRead-append _ _ _ _ _ _ _ _ c.loop-text.invariant.read last.1,
-      λ too_long. let same : c.in-Err.error ≡ TooLong = cc in last.2.too_long (ap Err same),
-    )
-
-pub returns-in-Err-clause-failed : goal.returns-in-Err-clause-failed
-returns-in-Err-clause-failed g c = λ failed.
-    let same : c.in-Err.error ≡ Failed = cc in rw c.loop-text.invariant.steady at c.in-Err.ensures.failed (ap Err same)
-
-pub returns-in-Err-clause-no_fewer : goal.returns-in-Err-clause-no_fewer
-returns-in-Err-clause-no_fewer g c = rw c.loop-text.invariant.steady at c.in-Err.ensures.no_fewer
-
-pub returns-in-Err-clause-same : goal.returns-in-Err-clause-same
-returns-in-Err-clause-same g c =
+pub loop-text-preserved : goal.loop-text-preserved
+loop-text-preserved g c =
     let before = c.loop-text.invariant in
-    (c.in-Err.ensures.same.0 ∙ before.sent, c.in-Err.ensures.same.1 ∙ before.beside)
+    let last = c.in-Ok-true.ensures.chunk in record {
+      read = HasRead-added _ _ _ _ _ _ _ _ _ before.read last.read last.adds.added;
+      short = last.adds.short;
+      chunk = kept_some c.loop-text.chunk.len c.loop-text.chunk.items c.as_mut_slice.result.now c.read_chunk.new.chunk _ c.loop-text.chunk.ok.0 before.chunk c.as_mut_slice.ensures.value c.read_chunk.auto.chunk;
+      sent = last.sent ∙ before.sent;
+      beside = c.in-Ok-true.ensures.beside ∙ before.beside;
+      steady = last.steady refl ∙ before.steady;
+    }
 
-pub returns-in-Ok-false-clause-whole : goal.returns-in-Ok-false-clause-whole
-returns-in-Ok-false-clause-whole g c =
-    let last = c.in-Ok-false.ensures.read in HasRead-added _ _ _ _ _ _ _ _ _ c.loop-text.invariant.read last.1 last.2.added
-
-pub returns-in-Ok-false-clause-short : goal.returns-in-Ok-false-clause-short
-returns-in-Ok-false-clause-short g c = c.in-Ok-false.ensures.read.2.short
-
-pub returns-in-Ok-false-clause-ended : goal.returns-in-Ok-false-clause-ended
-returns-in-Ok-false-clause-ended g c = c.in-Ok-false.ensures.ended (ap Ok c.in-Ok-false.field-0-test)
-
-pub returns-in-Ok-false-clause-no_fewer : goal.returns-in-Ok-false-clause-no_fewer
-returns-in-Ok-false-clause-no_fewer g c = rw c.loop-text.invariant.steady at c.in-Ok-false.ensures.no_fewer
-
-pub returns-in-Ok-false-clause-steady : goal.returns-in-Ok-false-clause-steady
-returns-in-Ok-false-clause-steady g c = λ _. c.in-Ok-false.ensures.steady refl ∙ c.loop-text.invariant.steady
-
-pub returns-in-Ok-false-clause-same : goal.returns-in-Ok-false-clause-same
-returns-in-Ok-false-clause-same g c =
+pub returns-in-Err : goal.returns-in-Err
+returns-in-Err g c =
     let before = c.loop-text.invariant in
-    (c.in-Ok-false.ensures.same.0 ∙ before.sent, c.in-Ok-false.ensures.same.1 ∙ before.beside)
+    let last = c.in-Err.ensures.chunk in record {
+      whole = tt;
+      ended = tt;
+      short = tt;
+      part = (
+        _,
+        HasRead-append _ _ _ _ _ _ _ _ before.read last.read,
+        λ too_long. let same : c.in-Err.error ≡ TooLong = cc in last.adds.too_long (ap Err same),
+      );
+      failed = λ failed. let same : c.in-Err.error ≡ Failed = cc in rw before.steady at last.failed (ap Err same);
+      no_fewer = rw before.steady at last.no_fewer;
+      steady = λ is. cc;
+      same = (last.sent ∙ before.sent, c.in-Err.ensures.beside ∙ before.beside);
+    }
+
+pub returns-in-Ok-false : goal.returns-in-Ok-false
+returns-in-Ok-false g c =
+    let before = c.loop-text.invariant in
+    let last = c.in-Ok-false.ensures.chunk in record {
+      whole = HasRead-added _ _ _ _ _ _ _ _ _ before.read last.read last.adds.added;
+      ended = last.ended (ap Ok c.in-Ok-false.field-0-test);
+      short = last.adds.short;
+      part = tt;
+      failed = λ is. cc;
+      no_fewer = rw before.steady at last.no_fewer;
+      steady = λ _. last.steady refl ∙ before.steady;
+      same = (last.sent ∙ before.sent, c.in-Ok-false.ensures.beside ∙ before.beside);
+    }
