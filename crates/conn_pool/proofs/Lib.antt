@@ -1,2 +1,4 @@
 mod BeginLaws
+mod DialLaws
+mod NotedLaws
 mod RowLaws

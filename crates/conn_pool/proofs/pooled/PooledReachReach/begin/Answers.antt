@@ -1,5 +1,5 @@
 -- What the steps say, told of the reach as it was and as it is.
-use Rattle.std.proofs.Common.{◌≡◌, false, Ok, Err, ap, subst}
+use Rattle.std.proofs.Common.{◌≡◌, false, None, Ok, Err, ap, subst}
 use Rattle.std.proofs.lemmas.Result.{err_from_is_err_and, on_err_weaker}
 use Rattle.jk_io.specs.declared.failures.IoError.TheVariants as Io
 use Rattle.conn_pool.specs.Begins.{sight_of}
@@ -69,7 +69,7 @@ returns g c =
     let d = c.dial-answer.ensures in
     let f = subst (λ (s : PooledState _ _ _). BeginFacts g.D.Dial.gives g.D.Dial.faults c.args.lb c.args.member c.args.host.now c.args.port c.args.fresh s.dial (g.T.Tape.talks s.tape) s.faults c.dial-answer.new.self (sight_of g.T.Tape.talks g.T.Tape.begun g.T.Tape.sent g.T.Tape.received c.begin_dialled.new.tape) c.begin_dialled.new.lent c.begin_dialled.new.failed c.begin_dialled.result) c.self.view_is
     (dialled_facts _ _ _ _ _ _ _ _ _ _ _ _ _ _ _ c.dial-answer.result _ c.begin_idle.ensures.same e.new_link e.began e.refused
-    (on_err_weaker c.begin_dialled.result (λ x. x.0) e.idle) e.given e.fails d.gave d.clean d.cause e.cause e.steady e.want_of_memory) in
+    (on_err_weaker {P = (c.begin_dialled.new.lent ≡ None) × g.T.Tape.is_idle c.begin_dialled.new.tape} {Q = c.begin_dialled.new.lent ≡ None} c.begin_dialled.result (λ x. x.0) e.idle) e.given e.fails d.gave d.clean d.cause e.cause e.steady e.want_of_memory) in
     record {
       runs = f.runs;
       whose = f.whose;
