@@ -1,3 +1,4 @@
+pub mod HeldLaws
 pub mod HoldLaws
 pub mod LockLaws
 pub mod PoolLaws

@@ -1,5 +1,5 @@
 //! A shelf in memory.
-ghost use Rattle.std.specs.Prelude.{◌≡◌, ◌↔◌, [], IsOk, IsErrOf};
+ghost use Rattle.std.specs.Prelude.{◌≡◌, ◌↔◌, ◌++◌, [], ◌∷◌, IsOk, IsErrOf, OnOk, OnErr};
 
 use crate::shelf::Shelf;
 use jk_io::{IoError, ListOf, NumberList};
@@ -75,13 +75,22 @@ impl Shelf for MemShelf {
             self.failed = self.failed.saturating_add(1);
             return Err(IoError::Failed);
         }
-        match self.kept.push((lb, segment)) {
-            Ok(()) => Ok(()),
-            Err(_) => Err(IoError::NoMemory),
-        }
+        put(&mut self.kept, (lb, segment))
     }
 
     fn failed(&self) -> u64 {
         self.failed
+    }
+}
+
+// Adds an item at the end.
+fn put<T: Drop>(list: &mut ListOf<T>, item: T) -> Result<(), IoError>
+    ensures ok { OnOk result (list.new ≡ list.old ++ item ∷ []) }
+    ensures err { OnErr result (list.new ≡ list.old) }
+    ensures wanted { IsErrOf result IoError.Failed → ⊥ }
+{
+    match list.push(item) {
+        Ok(()) => Ok(()),
+        Err(_) => Err(IoError::NoMemory),
     }
 }

@@ -2,8 +2,9 @@
 use Rattle.std.proofs.Common.{◌<◌, ◌∙◌, List, length, inl, refl, sym, ap, subst}
 use Rattle.balancer_core.specs.Journal.{Journal}
 use Rattle.balancer_core.specs.PlainDesks.{AreLegal}
-use Rattle.locked_balancer.specs.Holds.{AreShort, CutsFirst, HoldChooses, LockedState, held}
+use Rattle.locked_balancer.specs.Holds.{AreShort, CutsFirst, HoldChooses, HoldDenies, LockedState, held}
 use Rattle.locked_balancer.specs.Sites.{AreSited, At}
+use Rattle.locked_balancer.proofs.HeldLaws.{if_err}
 use Rattle.locked_balancer.proofs.HoldLaws.{due_none}
 use Rattle.locked_balancer.proofs.LockLaws.{cuts_when, held_moved, if_ok, short_choose, sited_within}
 use Rattle.locked_balancer.proofs.locked.Locked.choose.Goals as goal
@@ -51,3 +52,19 @@ returns-clause-ok g c =
           c.audit.new.share.amount c.args.share.now.amount c.choose_in-done.new.share.amount c.audit-2.new.share.amount mid_is c.audit.ensures.amount
           (sym c.audit-2.ensures.same) (sym c.audit-2.ensures.amount) is,
     )) c.choose_in-done.ensures.ok
+
+pub returns-clause-err : goal.returns-clause-err
+returns-clause-err g c =
+    let site_is = c.audit.ensures.same ∙ ap (λ (s : LockedState). s.books) c.self.view_is in
+    let mid_is = ap (λ (s : LockedState). s.books) c.self-2.view_is in
+    let cuts = subst (λ (xs : List Journal). CutsFirst xs c.cut_first.new.self.books c.args.on.lb c.in-Ok.segment) site_is c.in-Ok.ensures.ok in
+    if_err c.choose_in-done.result _ _
+    (λ e is. (
+      c.cut_first.new.self.books,
+      cuts,
+      c.in-Ok.ensures.sited.1,
+      held_moved (λ old new. HoldDenies old new c.args.on.lb c.args.on.session c.args.on.at e)
+          c.self-2.inside.site c.cut_first.new.self.books c.choose_in-done.new.site c.audit-2.new.self c.args.receipts.now.items c.choose_in-done.new.receipts.items
+          c.audit.new.share.amount c.args.share.now.amount c.choose_in-done.new.share.amount c.audit-2.new.share.amount mid_is c.audit.ensures.amount
+          (sym c.audit-2.ensures.same) (sym c.audit-2.ensures.amount) is,
+    )) c.choose_in-done.ensures.err

@@ -2,10 +2,11 @@
 use Rattle.std.proofs.Common.{◌<◌, ◌∙◌, List, length, inl, refl, sym, ap, subst}
 use Rattle.balancer_core.specs.Journal.{Journal}
 use Rattle.balancer_core.specs.PlainDesks.{AreLegal}
-use Rattle.locked_balancer.specs.Holds.{AreShort, LockedState, held}
+use Rattle.locked_balancer.specs.Holds.{AreShort, CutsFirst, HoldCommands, HoldRefuses, LockedState, held}
 use Rattle.locked_balancer.specs.Sites.{AreSited, At}
+use Rattle.locked_balancer.proofs.HeldLaws.{if_err, on_ok}
 use Rattle.locked_balancer.proofs.HoldLaws.{due_none}
-use Rattle.locked_balancer.proofs.LockLaws.{cuts_when, short_command, sited_within}
+use Rattle.locked_balancer.proofs.LockLaws.{cuts_when, held_moved, short_command, sited_within}
 use Rattle.locked_balancer.proofs.locked.Locked.command.Goals as goal
 
 pub invariant_of-self-2 : goal.invariant_of-self-2
@@ -35,3 +36,35 @@ returns-clause-when g c =
     inl (cuts_when g.L.SiteName.sizes g.L.SiteName.firsts g.L.SiteName.cut_at c.args.on.lb c.audit.new.self c.cut_first.new.self.books c.in-Ok.segment
     c.audit.ensures.named (sited_within g.L.SiteName.sizes g.L.SiteName.firsts c.audit.new.self c.args.on.lb c.audit.ensures.named c.requires.lb)
     c.in-Ok.ensures.ok c.in-Ok.ensures.when)
+
+pub returns-clause-ok : goal.returns-clause-ok
+returns-clause-ok g c =
+    let site_is = c.audit.ensures.same ∙ ap (λ (s : LockedState). s.books) c.self.view_is in
+    let mid_is = ap (λ (s : LockedState). s.books) c.self-2.view_is in
+    let cuts = subst (λ (xs : List Journal). CutsFirst xs c.cut_first.new.self.books c.args.on.lb c.in-Ok.segment) site_is c.in-Ok.ensures.ok in
+    on_ok c.command_in-done.result _ _
+    (λ is. (
+      c.cut_first.new.self.books,
+      cuts,
+      c.in-Ok.ensures.sited.1,
+      held_moved (λ old new. HoldCommands g.L.SiteName.sizes old new c.args.on.lb c.args.on.session c.args.on.at c.args.command.now)
+          c.self-2.inside.site c.cut_first.new.self.books c.command_in-done.new.site c.audit-2.new.self c.args.receipts.now.items c.command_in-done.new.receipts.items
+          c.audit.new.share.amount c.args.share.now.amount c.command_in-done.new.share.amount c.audit-2.new.share.amount mid_is c.audit.ensures.amount
+          (sym c.audit-2.ensures.same) (sym c.audit-2.ensures.amount) is,
+    )) c.command_in-done.ensures.ok
+
+pub returns-clause-err : goal.returns-clause-err
+returns-clause-err g c =
+    let site_is = c.audit.ensures.same ∙ ap (λ (s : LockedState). s.books) c.self.view_is in
+    let mid_is = ap (λ (s : LockedState). s.books) c.self-2.view_is in
+    let cuts = subst (λ (xs : List Journal). CutsFirst xs c.cut_first.new.self.books c.args.on.lb c.in-Ok.segment) site_is c.in-Ok.ensures.ok in
+    if_err c.command_in-done.result _ _
+    (λ e is. (
+      c.cut_first.new.self.books,
+      cuts,
+      c.in-Ok.ensures.sited.1,
+      held_moved (λ old new. HoldRefuses old new c.args.on.lb c.args.on.session c.args.on.at c.args.command.now e)
+          c.self-2.inside.site c.cut_first.new.self.books c.command_in-done.new.site c.audit-2.new.self c.args.receipts.now.items c.command_in-done.new.receipts.items
+          c.audit.new.share.amount c.args.share.now.amount c.command_in-done.new.share.amount c.audit-2.new.share.amount mid_is c.audit.ensures.amount
+          (sym c.audit-2.ensures.same) (sym c.audit-2.ensures.amount) is,
+    )) c.command_in-done.ensures.err
