@@ -17,3 +17,4 @@ pub mod UsedLaws
 pub mod OwnLaws
 pub mod SizeLaws
 pub mod MeansLaws
+pub mod KeepingLaws

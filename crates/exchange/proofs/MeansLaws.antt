@@ -1,13 +1,14 @@
 -- What was lent came back: what is said of the struct is said of each value by itself.
-use Rattle.std.proofs.Common.{◌≡◌, ◌≤◌, ℕ, List, Option, arith}
+use Rattle.std.proofs.Common.{◌≡◌, ◌≤◌, ℕ, List, Option, sym, ap, ◌∙◌, subst, arith}
 use Rattle.jk_io.specs.declared.reaching.Beside.{Beside}
 use Rattle.jk_io.specs.declared.traits.streams.Meanings.{Ghosts}
 use Rattle.balancer_core.specs.Desks.{DeskState}
 use Rattle.http_body_in.specs.declared.body.BodyIn.{BodyIn}
+use Rattle.exchange.specs.Clients.{MeetsAt}
 use Rattle.exchange.specs.Exchanges.{IsExchange}
 use Rattle.exchange.specs.Means.{scene_of}
 use Rattle.exchange.specs.Requests.{Errand}
-use Rattle.exchange.specs.Rounds.{Scene, scene}
+use Rattle.exchange.specs.Rounds.{IsDeskAfter, Scene, scene}
 use Rattle.exchange.specs.declared.ending.ExchangeEnd.{ExchangeEnd}
 use Rattle.exchange.specs.declared.sides.Means.{Means}
 
@@ -25,3 +26,19 @@ no_fewer_twice before mid now first second = omega arith
 
 pub as_many : (n : ℕ) → n ≤ n
 as_many n = omega arith
+
+-- ---- one value that was lent
+
+pub same_back : {A Y : Type 0} (f : A → Y) (now known : A) (y : Y) → now ≡ known → f known ≡ y → f now ≡ y
+same_back f now known y is said = ap f is ∙ said
+
+pub no_fewer_back : {A : Type 0} (f : A → ℕ) (before : ℕ) (now known : A) → now ≡ known → before ≤ f known → before ≤ f now
+no_fewer_back {A = A} f before now known is said = subst (λ (a : A). before ≤ f a) (sym is) said
+
+pub desk_back : {B : Type 0} (state : B → DeskState) (lb session : ℕ) (before : DeskState) (now known : B) → now ≡ known
+    → IsDeskAfter lb session before (state known) → IsDeskAfter lb session before (state now)
+desk_back {B = B} state lb session before now known is said = subst (λ (b : B). IsDeskAfter lb session before (state b)) (sym is) said
+
+pub met_back : {B : Type 0} (state : B → DeskState) (end : ExchangeEnd) (before : DeskState) (now known : B) → now ≡ known
+    → MeetsAt end before (state known) → MeetsAt end before (state now)
+met_back {B = B} state end before now known is said = subst (λ (b : B). MeetsAt end before (state b)) (sym is) said

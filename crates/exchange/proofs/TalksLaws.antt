@@ -1,5 +1,5 @@
 -- The talks of a round, one after another.
-use Rattle.std.proofs.Common.{◌≡◌, ℕ, ◌+◌, ◌-◌, ◌<◌, min, Bool, true, List, ◌∷◌, length, None, Result, Ok, Err, refl, sym, ap, ◌∙◌, subst, inl, inr, arith}
+use Rattle.std.proofs.Common.{◌≡◌, ℕ, ◌+◌, ◌-◌, ◌<◌, min, Bool, true, List, [], ◌∷◌, length, None, Result, Ok, Err, refl, sym, ap, ◌∙◌, subst, inl, inr, arith}
 use Rattle.jk_io.specs.declared.failures.NoMemory.{NoMemory}
 use Rattle.ajp_talk.specs.Ends.{IsPlan}
 use Rattle.ajp_talk.specs.declared.ending.TalkEnd.{TalkEnd}
@@ -120,3 +120,25 @@ is_wanted lb member endpoint head plan fresh s n m plan_now fresh_now bytes left
   },
   way.told,
 )
+
+-- ---- before the first talk, and after another
+
+pub no_talk_yet : (lb member : ℕ) (endpoint : Endpoint) (head : Head) (plan : TalkPlan) (fresh : Bool) (s : Around) → taken_of s.body.body ≡ length plan.first
+    → failed_of s.body.body ≡ None → IsUnderWay lb member endpoint head plan fresh s s plan fresh 0 endpoint.retries
+no_talk_yet lb member endpoint head plan fresh s taken going = record {
+  past = [];
+  failed = refl;
+  fresh_is = refl;
+  told = refl;
+  count = omega arith;
+  some = omega (arith, endpoint.retries_above);
+  same_plan = refl;
+  taken = taken;
+  going = going;
+}
+
+-- just the first piece of the plan as it stands was taken
+pub first_taken : (lb member : ℕ) (endpoint : Endpoint) (head : Head) (plan : TalkPlan) (fresh : Bool) (s n : Around) (plan_now : TalkPlan) (fresh_now : Bool)
+    (bytes left : ℕ) → IsUnderWay lb member endpoint head plan fresh s n plan_now fresh_now bytes left → taken_of n.body.body ≡ length plan_now.first
+first_taken lb member endpoint head plan fresh s n plan_now fresh_now bytes left way =
+    way.taken ∙ sym (ap (λ (p : TalkPlan). length p.first) way.same_plan)

@@ -10,3 +10,4 @@ pub mod WholeTalks
 pub mod Complete
 pub mod Steps
 pub mod Means
+pub mod Keeping

@@ -1,12 +1,9 @@
 //! The rounds of an exchange, after the first piece was taken.
-ghost use Rattle.std.specs.Prelude.{ℕ, ◌≡◌, ◌≤◌, ◌<◌, ◌^◌, false, None, Some, length, slice_get, slice_index, IfSome};
-ghost use Rattle.http_body_in.specs.State.{failed_of, taken_of};
-ghost use Rattle.forwarding.specs.FirstPiece.{piece_for};
-ghost use Rattle.site_config.specs.declared.endpoint.Endpoint.{Endpoint};
+ghost use Rattle.std.specs.Prelude.{◌≡◌};
 ghost use Rattle.exchange.specs.Exchanges.{GoesThrough};
-ghost use Rattle.exchange.specs.Means.{AreSameMeans, scene_of};
+ghost use Rattle.exchange.specs.Keeping.{KeepsMeans, MayAsk, TookFirst};
+ghost use Rattle.exchange.specs.Means.{scene_of};
 ghost use Rattle.exchange.specs.Requests.{ask_for, errand_of};
-ghost use Rattle.exchange.specs.Rounds.{IsDeskAfter};
 
 use crate::ending::{ExchangeEnd, RoundVerdict};
 use crate::methods::is_head;
@@ -31,24 +28,11 @@ pub(crate) fn all_rounds<B: Desk, R: Reach, C: Link, K: Clock>(
 where
     B::Mark: Drop,
     requires ask { ask ≡ ask_for (errand_of request.now) 0 }
-    requires lb { request.now.lb < length (B.state means.old.desk.now).sizes }
-    requires caller { IfSome (B.state means.old.desk.now).caller (λ n. request.now.session ≡ n) }
-    requires desk_size { slice_index (B.state means.old.desk.now).sizes request.now.lb ≡ length request.now.balancer.now.book.members }
-    requires reach_size { slice_index (R.beside means.old.sides.reach.now).sizes request.now.lb ≡ length request.now.balancer.now.book.members }
-    requires idle { (R.beside means.old.sides.reach.now).runs ≡ false }
-    requires short { (endpoint : Endpoint) → (m : ℕ) → slice_get request.now.balancer.now.ends m ≡ Some endpoint → length first.now ≤ piece_for endpoint }
-    requires first { taken_of means.old.sides.body.now ≡ length first.now }
-    requires going { failed_of means.old.sides.body.now ≡ None }
+    requires may { MayAsk B.state R.Meanings request.now means.old }
+    requires first { TookFirst request.now first.now means.old.sides.body.now }
     ensures through { let at = scene_of B.state K.answers R.Meanings C.Meanings in
         GoesThrough (errand_of request.now) first.now (at means.old) (at means.new) result }
-    ensures idle { (R.beside means.new.sides.reach.now).runs ≡ false }
-    ensures held { (B.state means.new.desk.now).held ≡ (B.state means.old.desk.now).held }
-    ensures sizes { (R.beside means.new.sides.reach.now).sizes ≡ (R.beside means.old.sides.reach.now).sizes }
-    ensures kept { IsDeskAfter request.now.lb request.now.session (B.state means.old.desk.now) (B.state means.new.desk.now) }
-    ensures beside { C.beside means.new.sides.client.now ≡ C.beside means.old.sides.client.now }
-    ensures reach_faults { R.faults means.old.sides.reach.now ≤ R.faults means.new.sides.reach.now }
-    ensures client_faults { C.faults means.old.sides.client.now ≤ C.faults means.new.sides.client.now }
-    ensures same { AreSameMeans means.old means.new }
+    ensures kept { KeepsMeans B.state R.Meanings C.Meanings request.now means.old means.new }
 {
     let mut ask = ask;
     let mut fresh = false;

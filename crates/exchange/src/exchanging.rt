@@ -1,5 +1,5 @@
 //! `exchange`: a request, from the first piece of its body to what its client has.
-ghost use Rattle.std.specs.Prelude.{◌≡◌, ◌≤◌, ◌<◌, ◌^◌, false, None, length, slice_index, IfSome};
+ghost use Rattle.std.specs.Prelude.{◌≡◌, ◌≤◌, ◌<◌, false, None, length, IfSome};
 ghost use Rattle.http_body_in.specs.Places.{start_of};
 ghost use Rattle.http_body_in.specs.State.{failed_of, place_of, taken_of};
 ghost use Rattle.ajp_talk.specs.Moments.{IsUsed};
@@ -7,7 +7,8 @@ ghost use Rattle.exchange.specs.Clients.{Gives, MeetsAt};
 ghost use Rattle.exchange.specs.Complete.{Completes};
 ghost use Rattle.exchange.specs.Exchanges.{InEachExchange, IsExchange};
 ghost use Rattle.exchange.specs.FirstPiece.{body_left};
-ghost use Rattle.exchange.specs.Means.{AreSameMeans, scene_of};
+ghost use Rattle.exchange.specs.Keeping.{IsAllLeft, KeepsMeans, MayAsk};
+ghost use Rattle.exchange.specs.Means.{scene_of};
 ghost use Rattle.exchange.specs.Requests.{AtPlace, errand, errand_of, sizes_of};
 ghost use Rattle.exchange.specs.Rounds.{IsDeskAfter, scene};
 ghost use Rattle.exchange.specs.WholeTalks.{GoesWholeOnce};
@@ -115,24 +116,11 @@ fn exchange_of<B: Desk, R: Reach, C: Link, K: Clock>(
 ) -> ExchangeEnd
 where
     B::Mark: Drop,
-    requires lb { request.now.lb < length (B.state means.old.desk.now).sizes }
-    requires caller { IfSome (B.state means.old.desk.now).caller (λ n. request.now.session ≡ n) }
-    requires desk_size { slice_index (B.state means.old.desk.now).sizes request.now.lb ≡ length request.now.balancer.now.book.members }
-    requires reach_size { slice_index (R.beside means.old.sides.reach.now).sizes request.now.lb ≡ length request.now.balancer.now.book.members }
-    requires idle { (R.beside means.old.sides.reach.now).runs ≡ false }
-    requires place { place_of means.old.sides.body.now ≡ start_of request.now.head.now.plan }
-    requires taken { taken_of means.old.sides.body.now ≡ 0 }
-    requires going { failed_of means.old.sides.body.now ≡ None }
+    requires may { MayAsk B.state R.Meanings request.now means.old }
+    requires whole { IsAllLeft request.now.head.now.plan means.old.sides.body.now }
     ensures exchange { let at = scene_of B.state K.answers R.Meanings C.Meanings in
         IsExchange (errand_of request.now) (at means.old) (at means.new) result }
-    ensures idle { (R.beside means.new.sides.reach.now).runs ≡ false }
-    ensures held { (B.state means.new.desk.now).held ≡ (B.state means.old.desk.now).held }
-    ensures sizes { (R.beside means.new.sides.reach.now).sizes ≡ (R.beside means.old.sides.reach.now).sizes }
-    ensures kept { IsDeskAfter request.now.lb request.now.session (B.state means.old.desk.now) (B.state means.new.desk.now) }
-    ensures beside { C.beside means.new.sides.client.now ≡ C.beside means.old.sides.client.now }
-    ensures reach_faults { R.faults means.old.sides.reach.now ≤ R.faults means.new.sides.reach.now }
-    ensures client_faults { C.faults means.old.sides.client.now ≤ C.faults means.new.sides.client.now }
-    ensures same { AreSameMeans means.old means.new }
+    ensures kept { KeepsMeans B.state R.Meanings C.Meanings request.now means.old means.new }
 {
     let ask = match ask_of(alloc, request) {
         Ok(ask) => ask,

@@ -1,10 +1,9 @@
 //! The first piece of a body, which is taken before a member is chosen.
-ghost use Rattle.std.specs.Prelude.{◌≡◌, ◌≤◌, ◌<◌, None, IfOk, IfErr};
-ghost use Rattle.http_body_in.specs.Places.{start_of};
-ghost use Rattle.http_body_in.specs.State.{failed_of, place_of, taken_of};
+ghost use Rattle.std.specs.Prelude.{◌≡◌, ◌≤◌, IfOk, IfErr};
 ghost use Rattle.ajp_talk.specs.Moments.{IsUsed};
 ghost use Rattle.forwarding.specs.FirstPiece.{first_len as first_length};
 ghost use Rattle.exchange.specs.FirstPiece.{IsFirstFailure, TakesFirst, body_left, end_by};
+ghost use Rattle.exchange.specs.Keeping.{IsAllLeft};
 
 use crate::ending::ExchangeEnd;
 use forwarding::first_len;
@@ -24,9 +23,7 @@ pub(crate) fn take_first<C: Link>(
     inbox: &mut Inbox,
     client: &mut C,
 ) -> Result<Bytes, ExchangeEnd>
-    requires place { place_of body.old ≡ start_of plan }
-    requires taken { taken_of body.old ≡ 0 }
-    requires going { failed_of body.old ≡ None }
+    requires whole { IsAllLeft plan body.old }
     ensures ok { let left = body_left C.Meanings in
         IfOk result (TakesFirst (first_length plan ends.now) (left body.old inbox.old client.old) (left body.new inbox.new client.new)) }
     ensures err { let len = first_length plan ends.now in

@@ -1,14 +1,10 @@
 //! One round: the desk is asked, talks are held, the lease goes back.
-ghost use Rattle.std.specs.Prelude.{◌≡◌, ℕ, ◌≤◌, ◌<◌, false, true, None, Some, List, length, slice_get, slice_index, IfSome, IsSome, IfOk, IfErr};
-ghost use Rattle.http_body_in.specs.State.{failed_of, taken_of};
-ghost use Rattle.http_out.specs.Own.{own_of};
-ghost use Rattle.jk_model.specs.Free.{is_in};
+ghost use Rattle.std.specs.Prelude.{◌≡◌, ◌≤◌, ◌<◌, true, length, IfSome, IfOk, IfErr};
 ghost use Rattle.balancer_core.specs.Desks.{Chooses, KeepsDesk, holds, pair_of};
 ghost use Rattle.forwarding.specs.FirstPiece.{piece_for};
-ghost use Rattle.site_config.specs.declared.endpoint.Endpoint.{Endpoint};
 ghost use Rattle.exchange.specs.Requests.{ask_for, errand_of};
-ghost use Rattle.exchange.specs.Means.{AreSameMeans, AreSameSides, around_of, scene_of};
-ghost use Rattle.exchange.specs.Rounds.{IsDeskAfter};
+ghost use Rattle.exchange.specs.Keeping.{KeepsMeans, KeepsSides, MayAsk, MaySpend, MayTalk, SpendsLease, TookFirst};
+ghost use Rattle.exchange.specs.Means.{around_of, scene_of};
 ghost use Rattle.exchange.specs.Ends.{outcome_for};
 ghost use Rattle.exchange.specs.Steps.{HandsBack, IsNoLease, IsStep};
 ghost use Rattle.exchange.specs.Talks.{HasRun};
@@ -37,19 +33,11 @@ fn run_member<R: Reach, C: Link>(
     fresh: bool,
     sides: &mut Sides<R, C>,
 ) -> Ran
-    requires idle { (R.beside sides.old.reach.now).runs ≡ false }
-    requires known { to.now.member < slice_index (R.beside sides.old.reach.now).sizes request.now.lb }
+    requires may { MayTalk R.Meanings request.now.lb to.now.member first.now sides.old }
     requires short { length first.now ≤ piece_for to.now.endpoint.now }
-    requires first { taken_of sides.old.body.now ≡ length first.now }
-    requires going { failed_of sides.old.body.now ≡ None }
     ensures ran { let at = around_of R.Meanings C.Meanings in
         HasRun (errand_of request.now) first.now to.now.member to.now.config.now to.now.endpoint.now fresh (at sides.old) (at sides.new) result }
-    ensures idle { (R.beside sides.new.reach.now).runs ≡ false }
-    ensures sizes { (R.beside sides.new.reach.now).sizes ≡ (R.beside sides.old.reach.now).sizes }
-    ensures beside { C.beside sides.new.client.now ≡ C.beside sides.old.client.now }
-    ensures reach_faults { R.faults sides.old.reach.now ≤ R.faults sides.new.reach.now }
-    ensures client_faults { C.faults sides.old.client.now ≤ C.faults sides.new.client.now }
-    ensures same { AreSameSides sides.old sides.new }
+    ensures kept { KeepsSides R.Meanings C.Meanings sides.old sides.new }
 {
     match plan_for(alloc, request, first, to.config, to.endpoint) {
         Ok(mut plan) => run_talks(alloc, request, to, &mut plan, fresh, sides),
@@ -108,6 +96,30 @@ fn give_back<B: Desk>(
     }
 }
 
+/// Holds talks on the member that the desk chose, and hands its lease back.
+fn spend<B: Desk, R: Reach, C: Link, K: Clock>(
+    alloc: Global,
+    request: &Request,
+    first: &Bytes,
+    fresh: bool,
+    chosen: (u32, B::Lease),
+    means: &mut Means<B, K, R, C>,
+) -> RoundVerdict
+    requires may { MaySpend B.state R.Meanings request.now chosen.0 (B.note chosen.1) means.old }
+    requires first { TookFirst request.now first.now means.old.sides.body.now }
+    ensures spent { let at = scene_of B.state K.answers R.Meanings C.Meanings in
+        SpendsLease (errand_of request.now) first.now fresh (at means.old) (at means.new) chosen.0 (B.note chosen.1) result }
+    ensures desk { KeepsDesk (B.state means.old.desk.now) (B.state means.new.desk.now) }
+    ensures same { (means.new.desk.ghost_name ≡ means.old.desk.ghost_name) × (means.new.clock.ghost_name ≡ means.old.clock.ghost_name) }
+    ensures sides { KeepsSides R.Meanings C.Meanings means.old.sides means.new.sides }
+{
+    let (member, lease) = chosen;
+    let to = target_of(request, member);
+    let ran = run_member(alloc, request, first, &to, fresh, &mut means.sides);
+    let back_at = means.clock.now();
+    give_back(request, &to, lease, ran, back_at, means.desk)
+}
+
 /// Asks the desk for a member that wasn't tried, holds talks on it and hands its lease back.
 pub(crate) fn one_round<B: Desk, R: Reach, C: Link, K: Clock>(
     alloc: Global,
@@ -120,32 +132,15 @@ pub(crate) fn one_round<B: Desk, R: Reach, C: Link, K: Clock>(
 where
     B::Mark: Drop,
     requires ask { ask.now ≡ ask_for (errand_of request.now) ask.now.tried }
-    requires lb { request.now.lb < length (B.state means.old.desk.now).sizes }
-    requires caller { IfSome (B.state means.old.desk.now).caller (λ n. request.now.session ≡ n) }
-    requires desk_size { slice_index (B.state means.old.desk.now).sizes request.now.lb ≡ length request.now.balancer.now.book.members }
-    requires reach_size { slice_index (R.beside means.old.sides.reach.now).sizes request.now.lb ≡ length request.now.balancer.now.book.members }
-    requires idle { (R.beside means.old.sides.reach.now).runs ≡ false }
-    requires short { (endpoint : Endpoint) → (m : ℕ) → slice_get request.now.balancer.now.ends m ≡ Some endpoint → length first.now ≤ piece_for endpoint }
-    requires first { taken_of means.old.sides.body.now ≡ length first.now }
-    requires going { failed_of means.old.sides.body.now ≡ None }
+    requires may { MayAsk B.state R.Meanings request.now means.old }
+    requires first { TookFirst request.now first.now means.old.sides.body.now }
     ensures step { let at = scene_of B.state K.answers R.Meanings C.Meanings in
         IsStep (errand_of request.now) first.now ask.now.tried fresh (at means.old) (at means.new) result }
-    ensures idle { (R.beside means.new.sides.reach.now).runs ≡ false }
-    ensures sizes { (R.beside means.new.sides.reach.now).sizes ≡ (R.beside means.old.sides.reach.now).sizes }
-    ensures held { (B.state means.new.desk.now).held ≡ (B.state means.old.desk.now).held }
-    ensures kept { IsDeskAfter request.now.lb request.now.session (B.state means.old.desk.now) (B.state means.new.desk.now) }
-    ensures beside { C.beside means.new.sides.client.now ≡ C.beside means.old.sides.client.now }
-    ensures reach_faults { R.faults means.old.sides.reach.now ≤ R.faults means.new.sides.reach.now }
-    ensures client_faults { C.faults means.old.sides.client.now ≤ C.faults means.new.sides.client.now }
-    ensures same { AreSameMeans means.old means.new }
+    ensures kept { KeepsMeans B.state R.Meanings C.Meanings request.now means.old means.new }
 {
     let at = means.clock.now();
-    let (member, lease) = match chosen(request, ask, at, means.desk) {
-        Ok(chosen) => chosen,
-        Err(verdict) => return verdict,
-    };
-    let to = target_of(request, member);
-    let ran = run_member(alloc, request, first, &to, fresh, &mut means.sides);
-    let back_at = means.clock.now();
-    give_back(request, &to, lease, ran, back_at, means.desk)
+    match chosen(request, ask, at, means.desk) {
+        Ok(chosen) => spend(alloc, request, first, fresh, chosen, means),
+        Err(verdict) => verdict,
+    }
 }

@@ -1,8 +1,8 @@
 //! The talks of one round.
-ghost use Rattle.std.specs.Prelude.{◌≡◌, ◌≤◌, ◌<◌, false, None, length, slice_index};
-ghost use Rattle.http_body_in.specs.State.{failed_of, taken_of};
+ghost use Rattle.std.specs.Prelude.{◌≡◌};
 ghost use Rattle.ajp_talk.specs.Ends.{IsPlan};
-ghost use Rattle.exchange.specs.Means.{AreSameSides, around_of};
+ghost use Rattle.exchange.specs.Keeping.{KeepsSides, MayTalk};
+ghost use Rattle.exchange.specs.Means.{around_of};
 ghost use Rattle.exchange.specs.Talks.{HaveTalked};
 ghost use Rattle.exchange.specs.Ends.{bytes_of as bytes_in, outcome_for};
 ghost use Rattle.std.specs.Prelude.{min, ◌+◌};
@@ -35,20 +35,12 @@ pub(crate) fn run_talks<R: Reach, C: Link>(
     fresh: bool,
     sides: &mut Sides<R, C>,
 ) -> Ran
-    requires idle { (R.beside sides.old.reach.now).runs ≡ false }
-    requires known { to.now.member < slice_index (R.beside sides.old.reach.now).sizes request.now.lb }
+    requires may { MayTalk R.Meanings request.now.lb to.now.member plan.now.first sides.old }
     requires plan { IsPlan plan.now }
-    requires first { taken_of sides.old.body.now ≡ length plan.now.first }
-    requires going { failed_of sides.old.body.now ≡ None }
     ensures talks { let at = around_of R.Meanings C.Meanings in
         HaveTalked request.now.lb to.now.member to.now.endpoint.now request.now.head.now plan.entry.now fresh
         (at sides.old) (at sides.new) result }
-    ensures idle { (R.beside sides.new.reach.now).runs ≡ false }
-    ensures sizes { (R.beside sides.new.reach.now).sizes ≡ (R.beside sides.old.reach.now).sizes }
-    ensures beside { C.beside sides.new.client.now ≡ C.beside sides.old.client.now }
-    ensures reach_faults { R.faults sides.old.reach.now ≤ R.faults sides.new.reach.now }
-    ensures client_faults { C.faults sides.old.client.now ≤ C.faults sides.new.client.now }
-    ensures same { AreSameSides sides.old sides.new }
+    ensures kept { KeepsSides R.Meanings C.Meanings sides.old sides.new }
 {
     let mut fresh_link = fresh;
     let mut bytes = 0;

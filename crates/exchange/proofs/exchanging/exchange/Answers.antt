@@ -1,32 +1,36 @@
--- The balancer is the one of this place.
+-- The balancer is the one of this place, and what was lent came back.
 use Rattle.std.proofs.Common.{sym}
 use Rattle.exchange.proofs.CauseLaws.{met_at}
 use Rattle.exchange.proofs.ClientLaws.{gives}
 use Rattle.exchange.proofs.CompleteLaws.{completes}
-use Rattle.exchange.proofs.MeansLaws.{came_back}
+use Rattle.exchange.proofs.MeansLaws.{came_back, desk_back, met_back, no_fewer_back, same_back}
 use Rattle.exchange.proofs.SizeLaws.{of_exchange, size_in, within_sizes}
 use Rattle.exchange.proofs.UsedLaws.{uses_all}
 use Rattle.exchange.proofs.WholeLaws.{sends_once}
 use Rattle.exchange.proofs.exchanging.exchange.Goals as goal
 
-pub exchange_of-requires-clause-lb : goal.exchange_of-requires-clause-lb
-exchange_of-requires-clause-lb g c = within_sizes _ _ _ c.requires.desk_sizes c.requires.lb
+pub exchange_of-requires-clause-may : goal.exchange_of-requires-clause-may
+exchange_of-requires-clause-may g c = record {
+  lb = within_sizes _ _ _ c.requires.desk_sizes c.requires.lb;
+  caller = c.requires.caller;
+  desk_size = size_in _ _ _ _ c.requires.desk_sizes c.requires.lb (rw c.as_slice.ensures at c.index-as_slice-lb.is);
+  reach_size = size_in _ _ _ _ c.requires.reach_sizes c.requires.lb (rw c.as_slice.ensures at c.index-as_slice-lb.is);
+  idle = c.requires.idle;
+}
 
-pub exchange_of-requires-clause-desk_size : goal.exchange_of-requires-clause-desk_size
-exchange_of-requires-clause-desk_size g c = size_in _ _ _ _ c.requires.desk_sizes c.requires.lb (rw c.as_slice.ensures at c.index-as_slice-lb.is)
-
-pub exchange_of-requires-clause-reach_size : goal.exchange_of-requires-clause-reach_size
-exchange_of-requires-clause-reach_size g c = size_in _ _ _ _ c.requires.reach_sizes c.requires.lb (rw c.as_slice.ensures at c.index-as_slice-lb.is)
+pub exchange_of-requires-clause-whole : goal.exchange_of-requires-clause-whole
+exchange_of-requires-clause-whole g c = record { place = c.requires.place; taken = c.requires.taken; going = c.requires.going }
 
 pub returns-clause-exchange : goal.returns-clause-exchange
-returns-clause-exchange g c = of_exchange _ _ _ _ _ _ c.requires.lb (rw c.as_slice.ensures at c.index-as_slice-lb.is)
+returns-clause-exchange g c =
+    of_exchange _ _ _ _ _ _ c.requires.lb (rw c.as_slice.ensures at c.index-as_slice-lb.is)
     (came_back g.B.Desk.state g.K.Clock.answers g.R.Meanings g.C.Meanings c.exchange_of.new.means _ _ _ _ _ _ _ _ _
-    (c.desk-1.given.1 (sym c.exchange_of.ensures.same.0))
-    (c.clock-1.given.1 (sym c.exchange_of.ensures.same.1))
-    (c.reach-1.given.1 (sym c.exchange_of.ensures.same.2))
-    (c.client-1.given.1 (sym c.exchange_of.ensures.same.3))
-    (c.body-1.given.1 (sym c.exchange_of.ensures.same.4))
-    (c.inbox-1.given.1 (sym c.exchange_of.ensures.same.5))
+    (c.desk-1.given.1 (sym c.exchange_of.ensures.kept.desk))
+    (c.clock-1.given.1 (sym c.exchange_of.ensures.kept.clock))
+    (c.reach-1.given.1 (sym c.exchange_of.ensures.kept.sides.same.0))
+    (c.client-1.given.1 (sym c.exchange_of.ensures.kept.sides.same.1))
+    (c.body-1.given.1 (sym c.exchange_of.ensures.kept.sides.same.2))
+    (c.inbox-1.given.1 (sym c.exchange_of.ensures.kept.sides.same.3))
     c.exchange_of.ensures.exchange)
 
 pub returns-clause-client : goal.returns-clause-client
@@ -36,9 +40,9 @@ pub returns-clause-used : goal.returns-clause-used
 returns-clause-used g c =
     let did = uses_all _ _ _ _ c.exchange_of.ensures.exchange in
     rw (
-      (c.client-1.given.1 (sym c.exchange_of.ensures.same.3)),
-      (c.body-1.given.1 (sym c.exchange_of.ensures.same.4)),
-      (c.inbox-1.given.1 (sym c.exchange_of.ensures.same.5)),
+      (c.client-1.given.1 (sym c.exchange_of.ensures.kept.sides.same.1)),
+      (c.body-1.given.1 (sym c.exchange_of.ensures.kept.sides.same.2)),
+      (c.inbox-1.given.1 (sym c.exchange_of.ensures.kept.sides.same.3)),
     ) did
 
 pub returns-clause-whole_once : goal.returns-clause-whole_once
@@ -49,38 +53,30 @@ returns-clause-complete g c = λ balancer there s n did. completes _ s n _ did
 
 pub returns-clause-met : goal.returns-clause-met
 returns-clause-met g c =
-    let did = met_at _ _ _ _ c.exchange_of.ensures.exchange in
-    rw (c.desk-1.given.1 (sym c.exchange_of.ensures.same.0)) did
+    met_back g.B.Desk.state _ _ _ _ (c.desk-1.given.1 (sym c.exchange_of.ensures.kept.desk)) (met_at _ _ _ _ c.exchange_of.ensures.exchange)
 
 pub returns-clause-idle : goal.returns-clause-idle
-returns-clause-idle g c = rw (c.reach-1.given.1 (sym c.exchange_of.ensures.same.2)) c.exchange_of.ensures.idle
+returns-clause-idle g c =
+    same_back (λ r. (g.R.Meanings.beside r).runs) _ _ _ (c.reach-1.given.1 (sym c.exchange_of.ensures.kept.sides.same.0)) c.exchange_of.ensures.kept.sides.idle
 
 pub returns-clause-held : goal.returns-clause-held
-returns-clause-held g c = rw (c.desk-1.given.1 (sym c.exchange_of.ensures.same.0)) c.exchange_of.ensures.held
+returns-clause-held g c =
+    same_back (λ d. (g.B.Desk.state d).held) _ _ _ (c.desk-1.given.1 (sym c.exchange_of.ensures.kept.desk)) c.exchange_of.ensures.kept.held
 
 pub returns-clause-sizes : goal.returns-clause-sizes
-returns-clause-sizes g c = rw (c.reach-1.given.1 (sym c.exchange_of.ensures.same.2)) c.exchange_of.ensures.sizes
+returns-clause-sizes g c =
+    same_back (λ r. (g.R.Meanings.beside r).sizes) _ _ _ (c.reach-1.given.1 (sym c.exchange_of.ensures.kept.sides.same.0)) c.exchange_of.ensures.kept.sides.sizes
 
 pub returns-clause-kept : goal.returns-clause-kept
-returns-clause-kept g c = rw (c.desk-1.given.1 (sym c.exchange_of.ensures.same.0)) c.exchange_of.ensures.kept
+returns-clause-kept g c =
+    desk_back g.B.Desk.state _ _ _ _ _ (c.desk-1.given.1 (sym c.exchange_of.ensures.kept.desk)) c.exchange_of.ensures.kept.kept
 
 pub returns-clause-beside : goal.returns-clause-beside
-returns-clause-beside g c = rw (c.client-1.given.1 (sym c.exchange_of.ensures.same.3)) c.exchange_of.ensures.beside
+returns-clause-beside g c =
+    same_back g.C.Meanings.beside _ _ _ (c.client-1.given.1 (sym c.exchange_of.ensures.kept.sides.same.1)) c.exchange_of.ensures.kept.sides.beside
 
 pub returns-clause-no_fewer : goal.returns-clause-no_fewer
-returns-clause-no_fewer g c = (rw (c.reach-1.given.1 (sym c.exchange_of.ensures.same.2)) c.exchange_of.ensures.reach_faults, rw (c.client-1.given.1 (sym c.exchange_of.ensures.same.3)) c.exchange_of.ensures.client_faults)
-
-pub exchange_of-requires-clause-caller : goal.exchange_of-requires-clause-caller
-exchange_of-requires-clause-caller g c = c.requires.caller
-
-pub exchange_of-requires-clause-idle : goal.exchange_of-requires-clause-idle
-exchange_of-requires-clause-idle g c = c.requires.idle
-
-pub exchange_of-requires-clause-place : goal.exchange_of-requires-clause-place
-exchange_of-requires-clause-place g c = c.requires.place
-
-pub exchange_of-requires-clause-taken : goal.exchange_of-requires-clause-taken
-exchange_of-requires-clause-taken g c = c.requires.taken
-
-pub exchange_of-requires-clause-going : goal.exchange_of-requires-clause-going
-exchange_of-requires-clause-going g c = c.requires.going
+returns-clause-no_fewer g c = (
+  no_fewer_back g.R.Meanings.faults _ _ _ (c.reach-1.given.1 (sym c.exchange_of.ensures.kept.sides.same.0)) c.exchange_of.ensures.kept.sides.reach_faults,
+  no_fewer_back g.C.Meanings.faults _ _ _ (c.client-1.given.1 (sym c.exchange_of.ensures.kept.sides.same.1)) c.exchange_of.ensures.kept.sides.client_faults,
+)

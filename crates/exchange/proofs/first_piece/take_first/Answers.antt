@@ -4,11 +4,11 @@ use Rattle.exchange.proofs.FirstLaws.{fails_first, takes_first, uses_first}
 use Rattle.exchange.proofs.first_piece.take_first.Goals as goal
 
 pub returns-in-Ok-clause-ok : goal.returns-in-Ok-clause-ok
-returns-in-Ok-clause-ok g c = rw c.first_len-len.ensures.value at (takes_first _ _ _ _ c.in-Ok.ensures.ok c.requires.taken (omega arith))
+returns-in-Ok-clause-ok g c = rw c.first_len-len.ensures.value at (takes_first _ _ _ _ c.in-Ok.ensures.ok c.requires.whole.taken (omega arith))
 
 pub returns-in-Err-clause-err : goal.returns-in-Err-clause-err
 returns-in-Err-clause-err g c =
-    rw c.end_of.ensures (fails_first c.args.plan c.args.ends.now _ _ _ c.in-Err.fault c.in-Err.ensures.err c.requires.place c.first_len-len.ensures.value c.if-len-eq0.false c.requires.going)
+    rw c.end_of.ensures (fails_first c.args.plan c.args.ends.now _ _ _ c.in-Err.fault c.in-Err.ensures.err c.requires.whole.place c.first_len-len.ensures.value c.if-len-eq0.false c.requires.whole.going)
 
 pub returns-in-Err-clause-used : goal.returns-in-Err-clause-used
 returns-in-Err-clause-used g c = uses_first _ _ _ c.in-Err.fault c.in-Err.ensures.err
