@@ -12,3 +12,4 @@ pub mod CompleteLaws
 pub mod WayLaws
 pub mod SurroundingsLaws
 pub mod NameLaws
+pub mod KeepingLaws

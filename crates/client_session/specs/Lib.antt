@@ -13,3 +13,4 @@ pub mod Finishing
 pub mod Parts
 pub mod Complete
 pub mod Surroundings
+pub mod Keeping

@@ -1,18 +1,17 @@
 //! One request is answered: by its worker, or by the connector itself.
-ghost use Rattle.std.specs.Prelude.{◌≡◌, ◌≤◌, ◌<◌, true, Some, IfErr, IfOk, IfSome, length};
+ghost use Rattle.std.specs.Prelude.{◌≡◌, ◌≤◌, ◌<◌, true, [], Some, IfErr, IfOk, length, vec_capacity};
 ghost use Rattle.std.specs.List.{All};
 ghost use Rattle.jk_model.specs.declared.member.MemberConfig.{MemberConfig as AnyMember};
 ghost use Rattle.http_body_in.specs.declared.body.BodyIn.{BodyIn as AnyBody};
-ghost use Rattle.exchange.specs.Requests.{sizes_of};
-ghost use Rattle.status_worker.specs.Desks.{KeepsTickets};
 ghost use Rattle.uri_map.specs.Sites.{is_worker};
 ghost use Rattle.site_config.specs.declared.config.Named.TheVariants as named_is;
-ghost use Rattle.client_session.specs.Concluding.{HasNamesWithin, HasRoom, IsNotFound};
+ghost use Rattle.client_session.specs.Concluding.{HasNamesWithin, HasRoom, IsKnownStop, IsNotFound};
+ghost use Rattle.client_session.specs.Keeping.{IsShown, KeepsAround, TellsAnswer};
 ghost use Rattle.client_session.specs.Ready.{IsReady};
 ghost use Rattle.client_session.specs.Requests.{IsNewBody, continue_for, mounted_at, visit_of};
 ghost use Rattle.client_session.specs.Standings.{Puts, client_at};
-ghost use Rattle.client_session.specs.Surroundings.{IsAnswered, IsAnsweredAt, AreSame, ForwardsTo, standing_of};
-ghost use Rattle.client_session.specs.Turns.{GoesOn, MeetsInAnswer, RisesInAnswer};
+ghost use Rattle.client_session.specs.Surroundings.{IsAnswered, IsAnsweredAt, ForwardsTo, standing_of};
+ghost use Rattle.client_session.specs.Turns.{GoesOn};
 ghost use Rattle.client_session.specs.Writing.{BreaksOff, WritesPart};
 
 use crate::concluding::{conclude, conclude_stop};
@@ -30,7 +29,7 @@ use http_body_in::BodyIn;
 use http_front::{Head, Inbox};
 use jk_io::{Clock, Link, NoMemory, Reach, Sink};
 use jk_model::MemberConfig;
-use site_config::{Config, Named};
+use site_config::{Config, Named, Status};
 use std::alloc::Global;
 
 const CONTINUE: &[u8] = b"HTTP/1.1 100 Continue\r\n\r\n";
@@ -85,12 +84,7 @@ where
     requires fresh { IsNewBody of.now.head.now.plan body.old }
     ensures forwarded { let at = standing_of B.state K.answers R.Meanings C.Meanings in
         ForwardsTo of.now lb (at around.old) (at around.new) body.old body.new result }
-    ensures ready { IsReady (visit_of of.now.site.now) (B.state around.new.desk.now) (R.beside around.new.reach.now) }
-    ensures kept { KeepsTickets of.now.site.now.session (B.state around.old.desk.now) (B.state around.new.desk.now) }
-    ensures beside { C.beside around.new.client.now ≡ C.beside around.old.client.now }
-    ensures reach_faults { R.faults around.old.reach.now ≤ R.faults around.new.reach.now }
-    ensures client_faults { C.faults around.old.client.now ≤ C.faults around.new.client.now }
-    ensures same { AreSame around.old around.new }
+    ensures kept { KeepsAround B.state R.Meanings C.Meanings (visit_of of.now.site.now) around.old around.new }
 {
     let Inquiry { site, head, last } = *of;
     let terms = site.map.terms(head.clean.as_slice());
@@ -131,14 +125,8 @@ where
     ensures answer { let at = standing_of B.state K.answers R.Meanings C.Meanings in
         IsAnsweredAt of.now (at around.old) (at around.new) body.old body.new result }
     ensures going { GoesOn result.answered body.new }
-    ensures ready { IsReady (visit_of of.now.site.now) (B.state around.new.desk.now) (R.beside around.new.reach.now) }
-    ensures kept { KeepsTickets of.now.site.now.session (B.state around.old.desk.now) (B.state around.new.desk.now) }
-    ensures met { MeetsInAnswer result.answered (B.state around.old.desk.now) (B.state around.new.desk.now) }
-    ensures fault { RisesInAnswer result.answered (C.faults around.old.client.now) (C.faults around.new.client.now) }
-    ensures beside { C.beside around.new.client.now ≡ C.beside around.old.client.now }
-    ensures reach_faults { R.faults around.old.reach.now ≤ R.faults around.new.reach.now }
-    ensures client_faults { C.faults around.old.client.now ≤ C.faults around.new.client.now }
-    ensures same { AreSame around.old around.new }
+    ensures told { TellsAnswer B.state C.Meanings result.answered around.old around.new }
+    ensures kept { KeepsAround B.state R.Meanings C.Meanings (visit_of of.now.site.now) around.old around.new }
 {
     let end = exchange_at(alloc, of, lb, body, around);
     let members = of.site.cfg.lbs.as_slice()[lb as usize]
@@ -146,6 +134,22 @@ where
         .members
         .as_slice();
     conclude(end, members, is_head(of.head), row)
+}
+
+/// What a status worker's answer means to the session, and the row of its request.
+fn shown(answer: Result<u64, SessionStop>, status: &Status, head_only: bool, row: Row) -> Settled
+    requires room { length status.now.name ≤ vec_capacity row.name }
+    requires unnamed { row.name.items ≡ [] }
+    requires known { IfErr answer IsKnownStop }
+    ensures { IsShown answer status.now.name head_only row.asked result }
+{
+    match answer {
+        Ok(len) => Settled {
+            answered: Answered::Whole,
+            row: Some(row.of_worker(200, len, status.name.as_slice())),
+        },
+        Err(stop) => conclude_stop(stop, head_only, row),
+    }
 }
 
 /// Answers a request of a status worker.
@@ -159,30 +163,18 @@ fn show<B: Desk, R: Reach, C: Link, K: Clock>(
 where
     B::Mark: Drop,
     B::Shown: Drop,
-    requires caller { IfSome (B.state around.old.desk.now).caller (λ n. of.now.site.now.session ≡ n) }
-    requires sizes { (B.state around.old.desk.now).sizes ≡ sizes_of of.now.site.now.cfg.now.lbs }
+    requires ready { IsReady (visit_of of.now.site.now) (B.state around.old.desk.now) (R.beside around.old.reach.now) }
     requires mounted { mounted_at (visit_of of.now.site.now) of.now.head.now ≡ Some (named_is.Status place) }
     requires worker { place < length of.now.site.now.cfg.now.statuses }
     requires room { HasRoom of.now.site.now.cfg.now (named_is.Status place) of.now.head.now row }
     ensures answer { (body : AnyBody) → let at = standing_of B.state K.answers R.Meanings C.Meanings in
         IsAnsweredAt of.now (at around.old) (at around.new) body body result }
-    ensures reach { around.new.reach.now ≡ around.old.reach.now }
-    ensures kept { KeepsTickets of.now.site.now.session (B.state around.old.desk.now) (B.state around.new.desk.now) }
-    ensures met { MeetsInAnswer result.answered (B.state around.old.desk.now) (B.state around.new.desk.now) }
-    ensures fault { RisesInAnswer result.answered (C.faults around.old.client.now) (C.faults around.new.client.now) }
-    ensures beside { C.beside around.new.client.now ≡ C.beside around.old.client.now }
-    ensures reach_faults { R.faults around.old.reach.now ≤ R.faults around.new.reach.now }
-    ensures client_faults { C.faults around.old.client.now ≤ C.faults around.new.client.now }
-    ensures same { AreSame around.old around.new }
+    ensures told { TellsAnswer B.state C.Meanings result.answered around.old around.new }
+    ensures kept { KeepsAround B.state R.Meanings C.Meanings (visit_of of.now.site.now) around.old around.new }
 {
     let status = &of.site.cfg.statuses.as_slice()[place as usize];
-    match serve_status(alloc, of, status, around) {
-        Ok(len) => Settled {
-            answered: Answered::Whole,
-            row: Some(row.of_worker(200, len, status.name.as_slice())),
-        },
-        Err(stop) => conclude_stop(stop, is_head(of.head), row),
-    }
+    let answer = serve_status(alloc, of, status, around);
+    shown(answer, status, is_head(of.head), row)
 }
 
 /// Answers a request that is mounted at this worker.
@@ -205,14 +197,8 @@ where
     ensures answer { let at = standing_of B.state K.answers R.Meanings C.Meanings in
         IsAnsweredAt of.now (at around.old) (at around.new) body.old body.new result }
     ensures going { GoesOn result.answered body.new }
-    ensures ready { IsReady (visit_of of.now.site.now) (B.state around.new.desk.now) (R.beside around.new.reach.now) }
-    ensures kept { KeepsTickets of.now.site.now.session (B.state around.old.desk.now) (B.state around.new.desk.now) }
-    ensures met { MeetsInAnswer result.answered (B.state around.old.desk.now) (B.state around.new.desk.now) }
-    ensures fault { RisesInAnswer result.answered (C.faults around.old.client.now) (C.faults around.new.client.now) }
-    ensures beside { C.beside around.new.client.now ≡ C.beside around.old.client.now }
-    ensures reach_faults { R.faults around.old.reach.now ≤ R.faults around.new.reach.now }
-    ensures client_faults { C.faults around.old.client.now ≤ C.faults around.new.client.now }
-    ensures same { AreSame around.old around.new }
+    ensures told { TellsAnswer B.state C.Meanings result.answered around.old around.new }
+    ensures kept { KeepsAround B.state R.Meanings C.Meanings (visit_of of.now.site.now) around.old around.new }
 {
     match worker {
         Named::Balancer(lb) => forward(alloc, of, lb, row, body, around),
@@ -277,14 +263,8 @@ where
     ensures answer { let at = standing_of B.state K.answers R.Meanings C.Meanings in
         IsAnswered of.now (at around.old) (at around.new) body.old body.new result }
     ensures going { GoesOn result.answered body.new }
-    ensures ready { IsReady (visit_of of.now.site.now) (B.state around.new.desk.now) (R.beside around.new.reach.now) }
-    ensures kept { KeepsTickets of.now.site.now.session (B.state around.old.desk.now) (B.state around.new.desk.now) }
-    ensures met { MeetsInAnswer result.answered (B.state around.old.desk.now) (B.state around.new.desk.now) }
-    ensures fault { RisesInAnswer result.answered (C.faults around.old.client.now) (C.faults around.new.client.now) }
-    ensures beside { C.beside around.new.client.now ≡ C.beside around.old.client.now }
-    ensures reach_faults { R.faults around.old.reach.now ≤ R.faults around.new.reach.now }
-    ensures client_faults { C.faults around.old.client.now ≤ C.faults around.new.client.now }
-    ensures same { AreSame around.old around.new }
+    ensures told { TellsAnswer B.state C.Meanings result.answered around.old around.new }
+    ensures kept { KeepsAround B.state R.Meanings C.Meanings (visit_of of.now.site.now) around.old around.new }
 {
     let Some(worker) = of.site.map.mount(of.head.clean.as_slice()) else {
         return not_found(alloc, of.head, around.client);

@@ -8,6 +8,7 @@ ghost use Rattle.uri_map.specs.Sites.{stands_in};
 ghost use Rattle.client_session.specs.Concluding.{rows_of};
 ghost use Rattle.client_session.specs.Ends.{MeetsBy, RisesBy};
 ghost use Rattle.client_session.specs.Finishing.{Finishes, RefusesHead, StopsWithoutHead, TurnsAfter, stop_after};
+ghost use Rattle.client_session.specs.Keeping.{KeepsAround, TellsEnd, TellsTurn};
 ghost use Rattle.client_session.specs.Ready.{IsReady};
 ghost use Rattle.client_session.specs.Requests.{visit, visit_of};
 ghost use Rattle.client_session.specs.Causes.{IsDecided, IsOwnCaused};
@@ -15,8 +16,8 @@ ghost use Rattle.client_session.specs.Complete.{EndsWhole, ServesWhole};
 ghost use Rattle.client_session.specs.Parts.{HasParts};
 ghost use Rattle.client_session.specs.Sessions.{InEachSession, IsServed, Serves};
 ghost use Rattle.client_session.specs.Standings.{ClientStanding, client_at, standing};
-ghost use Rattle.client_session.specs.Surroundings.{AddsSession, AreSame, TurnsFrom, standing_of};
-ghost use Rattle.client_session.specs.Turns.{MeetsInTurn, RisesInTurn, Turns};
+ghost use Rattle.client_session.specs.Surroundings.{AddsSession, TurnsFrom, standing_of};
+ghost use Rattle.client_session.specs.Turns.{Turns};
 
 use crate::answering::answer;
 use crate::ending::{SessionEnd, SessionStop, Why};
@@ -109,14 +110,8 @@ where
     ensures turn { let at = standing_of B.state K.answers R.Meanings C.Meanings in
         TurnsFrom (visit_of site.now) number head.now (at around.old) (at around.new) rows.old.items rows.new.items result }
     ensures more { result ≡ SessionTurn.Next → number + 1 < MAX_REQUESTS }
-    ensures ready { IsReady (visit_of site.now) (B.state around.new.desk.now) (R.beside around.new.reach.now) }
-    ensures kept { KeepsTickets site.now.session (B.state around.old.desk.now) (B.state around.new.desk.now) }
-    ensures met { MeetsInTurn result (B.state around.old.desk.now) (B.state around.new.desk.now) }
-    ensures fault { RisesInTurn result (C.faults around.old.client.now) (C.faults around.new.client.now) }
-    ensures beside { C.beside around.new.client.now ≡ C.beside around.old.client.now }
-    ensures reach_faults { R.faults around.old.reach.now ≤ R.faults around.new.reach.now }
-    ensures client_faults { C.faults around.old.client.now ≤ C.faults around.new.client.now }
-    ensures same { AreSame around.old around.new }
+    ensures told { TellsTurn B.state C.Meanings result around.old around.new }
+    ensures kept { KeepsAround B.state R.Meanings C.Meanings (visit_of site.now) around.old around.new }
 {
     let mut body = BodyIn::new(head.plan, MAX_BODY_BYTES);
     let Ok(()) = rows.reserve(1) else {
@@ -181,14 +176,8 @@ where
     ensures turn { let at = standing_of B.state K.answers R.Meanings C.Meanings in
         Turns (visit_of site.now) number (at around.old) (at around.new) rows.old.items rows.new.items result }
     ensures more { result ≡ SessionTurn.Next → number + 1 < MAX_REQUESTS }
-    ensures ready { IsReady (visit_of site.now) (B.state around.new.desk.now) (R.beside around.new.reach.now) }
-    ensures kept { KeepsTickets site.now.session (B.state around.old.desk.now) (B.state around.new.desk.now) }
-    ensures met { MeetsInTurn result (B.state around.old.desk.now) (B.state around.new.desk.now) }
-    ensures fault { RisesInTurn result (C.faults around.old.client.now) (C.faults around.new.client.now) }
-    ensures beside { C.beside around.new.client.now ≡ C.beside around.old.client.now }
-    ensures reach_faults { R.faults around.old.reach.now ≤ R.faults around.new.reach.now }
-    ensures client_faults { C.faults around.old.client.now ≤ C.faults around.new.client.now }
-    ensures same { AreSame around.old around.new }
+    ensures told { TellsTurn B.state C.Meanings result around.old around.new }
+    ensures kept { KeepsAround B.state R.Meanings C.Meanings (visit_of site.now) around.old around.new }
 {
     match read_head(alloc, around.inbox, around.client) {
         Ok(HeadGot::Head(head)) => serve_head(alloc, site, &head, number, around, rows),
@@ -210,14 +199,8 @@ where
     requires ready { IsReady (visit_of site.now) (B.state around.old.desk.now) (R.beside around.old.reach.now) }
     ensures session { let at = standing_of B.state K.answers R.Meanings C.Meanings in
         AddsSession (visit_of site.now) (at around.old) (at around.new) rows.old.items rows.new.items result }
-    ensures ready { IsReady (visit_of site.now) (B.state around.new.desk.now) (R.beside around.new.reach.now) }
-    ensures kept { KeepsTickets site.now.session (B.state around.old.desk.now) (B.state around.new.desk.now) }
-    ensures met { MeetsBy result (B.state around.old.desk.now) (B.state around.new.desk.now) }
-    ensures fault { RisesBy result (C.faults around.old.client.now) (C.faults around.new.client.now) }
-    ensures beside { C.beside around.new.client.now ≡ C.beside around.old.client.now }
-    ensures reach_faults { R.faults around.old.reach.now ≤ R.faults around.new.reach.now }
-    ensures client_faults { C.faults around.old.client.now ≤ C.faults around.new.client.now }
-    ensures same { AreSame around.old around.new }
+    ensures told { TellsEnd B.state C.Meanings result around.old around.new }
+    ensures kept { KeepsAround B.state R.Meanings C.Meanings (visit_of site.now) around.old around.new }
 {
     let mut number = 0;
     loop {

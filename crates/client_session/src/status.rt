@@ -2,9 +2,11 @@
 ghost use Rattle.std.specs.Prelude.{◌≡◌, ◌≤◌, ◌<◌, IfSome, length};
 ghost use Rattle.balancer_core.specs.Desks.{MeetsNone};
 ghost use Rattle.exchange.specs.Requests.{sizes_of};
-ghost use Rattle.status_worker.specs.Desks.{KeepsTickets};
+ghost use Rattle.client_session.specs.Keeping.{KeepsAround};
+ghost use Rattle.client_session.specs.Ready.{IsReady};
+ghost use Rattle.client_session.specs.Requests.{visit_of};
 ghost use Rattle.client_session.specs.Standings.{client_at};
-ghost use Rattle.client_session.specs.Surroundings.{AreSame, SendsPage, Shows, standing_of};
+ghost use Rattle.client_session.specs.Surroundings.{SendsPage, Shows, standing_of};
 
 use crate::ending::SessionStop;
 use crate::inquiry::Inquiry;
@@ -27,16 +29,11 @@ pub(crate) fn serve_status<B: Desk, R: Reach, C: Link, K: Clock>(
 where
     B::Mark: Drop,
     B::Shown: Drop,
-    requires caller { IfSome (B.state around.old.desk.now).caller (λ n. of.now.site.now.session ≡ n) }
-    requires sizes { (B.state around.old.desk.now).sizes ≡ sizes_of of.now.site.now.cfg.now.lbs }
+    requires { IsReady (visit_of of.now.site.now) (B.state around.old.desk.now) (R.beside around.old.reach.now) }
     ensures answer { let at = standing_of B.state K.answers R.Meanings C.Meanings in
         Shows of.now status.now (at around.old) (at around.new) result }
-    ensures reach { around.new.reach.now ≡ around.old.reach.now }
-    ensures kept { KeepsTickets of.now.site.now.session (B.state around.old.desk.now) (B.state around.new.desk.now) }
     ensures met { MeetsNone (B.state around.old.desk.now) (B.state around.new.desk.now) }
-    ensures beside { C.beside around.new.client.now ≡ C.beside around.old.client.now }
-    ensures client_faults { C.faults around.old.client.now ≤ C.faults around.new.client.now }
-    ensures same { AreSame around.old around.new }
+    ensures kept { KeepsAround B.state R.Meanings C.Meanings (visit_of of.now.site.now) around.old around.new }
 {
     let asked = PageRequest {
         cfg: of.site.cfg,

@@ -13,25 +13,17 @@ returns-clause-forwarded g c = λ balancer there.
     (c.exchange.ensures.whole_once balancer there _ _ did) (c.exchange.ensures.complete balancer there _ _ did) c.exchange.ensures.kept c.exchange.ensures.met
     c.exchange.ensures.no_fewer
 
-pub returns-clause-ready : goal.returns-clause-ready
-returns-clause-ready g c =
-    ready_again _ _ _ _ _ c.requires.ready (after_exchange _ _ _ _ c.exchange.ensures.kept c.exchange.ensures.held)
-    c.exchange.ensures.sizes c.exchange.ensures.idle
-
 pub returns-clause-kept : goal.returns-clause-kept
-returns-clause-kept g c = after_exchange _ _ _ _ c.exchange.ensures.kept c.exchange.ensures.held
-
-pub returns-clause-beside : goal.returns-clause-beside
-returns-clause-beside g c = c.exchange.ensures.beside
-
-pub returns-clause-reach_faults : goal.returns-clause-reach_faults
-returns-clause-reach_faults g c = c.exchange.ensures.no_fewer.0
-
-pub returns-clause-client_faults : goal.returns-clause-client_faults
-returns-clause-client_faults g c = c.exchange.ensures.no_fewer.1
-
-pub returns-clause-same : goal.returns-clause-same
-returns-clause-same g c = (refl, refl, refl, refl, refl)
+returns-clause-kept g c =
+    let kept = after_exchange _ _ _ _ c.exchange.ensures.kept c.exchange.ensures.held in
+    record {
+      ready = ready_again _ _ _ _ _ c.requires.ready kept c.exchange.ensures.sizes c.exchange.ensures.idle;
+      kept = kept;
+      beside = c.exchange.ensures.beside;
+      reach_faults = c.exchange.ensures.no_fewer.0;
+      client_faults = c.exchange.ensures.no_fewer.1;
+      same = (refl, refl, refl, refl, refl);
+    }
 
 pub exchange-requires-clause-lb : goal.exchange-requires-clause-lb
 exchange-requires-clause-lb g c = c.requires.worker

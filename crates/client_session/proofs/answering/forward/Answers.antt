@@ -36,43 +36,25 @@ returns-clause-going g c =
     (c.exchange_at-end.ensures.forwarded c.index-as_slice-lb.result stands)
     (concluded_by c.exchange_at-end.result c.as_slice-members.result.now c.index-as_slice-lb.result c.is_head.result c.args.of.now.head.now c.args.row.asked c.conclude.result are c.is_head.ensures c.requires.room.1.asked' c.conclude.ensures)
 
-pub returns-clause-met : goal.returns-clause-met
-returns-clause-met g c =
+pub returns-clause-told : goal.returns-clause-told
+returns-clause-told g c =
     let stands = stands_there c.args.of.now.site.now.cfg.now.lbs c.args.lb c.index-as_slice-lb.result c.requires.worker (rw c.as_slice.ensures at c.index-as_slice-lb.is) in
     let are = c.as_slice-members.ensures ∙ ap (λ (b : Lb). b.book.members) (sym c.index-as_slice-lb.is) in
-    meets (visit_of c.args.of.now.site.now) c.args.of.now.head.now c.args.of.now.last
-    (standing_of g.B.Desk.state g.K.Clock.answers g.R.Meanings g.C.Meanings c.args.around.now)
-    (standing_of g.B.Desk.state g.K.Clock.answers g.R.Meanings g.C.Meanings c.exchange_at-end.new.around) c.args.body.now c.exchange_at-end.new.body c.args.lb c.index-as_slice-lb.result c.exchange_at-end.result c.conclude.result
-    (c.exchange_at-end.ensures.forwarded c.index-as_slice-lb.result stands)
-    (concluded_by c.exchange_at-end.result c.as_slice-members.result.now c.index-as_slice-lb.result c.is_head.result c.args.of.now.head.now c.args.row.asked c.conclude.result are c.is_head.ensures c.requires.room.1.asked' c.conclude.ensures)
-
-pub returns-clause-fault : goal.returns-clause-fault
-returns-clause-fault g c =
-    let stands = stands_there c.args.of.now.site.now.cfg.now.lbs c.args.lb c.index-as_slice-lb.result c.requires.worker (rw c.as_slice.ensures at c.index-as_slice-lb.is) in
-    let are = c.as_slice-members.ensures ∙ ap (λ (b : Lb). b.book.members) (sym c.index-as_slice-lb.is) in
-    rises (visit_of c.args.of.now.site.now) c.args.of.now.head.now c.args.of.now.last
-    (standing_of g.B.Desk.state g.K.Clock.answers g.R.Meanings g.C.Meanings c.args.around.now)
-    (standing_of g.B.Desk.state g.K.Clock.answers g.R.Meanings g.C.Meanings c.exchange_at-end.new.around) c.args.body.now c.exchange_at-end.new.body c.args.lb c.index-as_slice-lb.result c.exchange_at-end.result c.conclude.result
-    (c.exchange_at-end.ensures.forwarded c.index-as_slice-lb.result stands)
-    (concluded_by c.exchange_at-end.result c.as_slice-members.result.now c.index-as_slice-lb.result c.is_head.result c.args.of.now.head.now c.args.row.asked c.conclude.result are c.is_head.ensures c.requires.room.1.asked' c.conclude.ensures)
-
-pub returns-clause-ready : goal.returns-clause-ready
-returns-clause-ready g c = c.exchange_at-end.ensures.ready
+    let forwarded = c.exchange_at-end.ensures.forwarded c.index-as_slice-lb.result stands in
+    let concluded = concluded_by c.exchange_at-end.result c.as_slice-members.result.now c.index-as_slice-lb.result c.is_head.result c.args.of.now.head.now c.args.row.asked c.conclude.result are c.is_head.ensures c.requires.room.1.asked' c.conclude.ensures in
+    record {
+      met = meets (visit_of c.args.of.now.site.now) c.args.of.now.head.now c.args.of.now.last
+          (standing_of g.B.Desk.state g.K.Clock.answers g.R.Meanings g.C.Meanings c.args.around.now)
+          (standing_of g.B.Desk.state g.K.Clock.answers g.R.Meanings g.C.Meanings c.exchange_at-end.new.around) c.args.body.now c.exchange_at-end.new.body c.args.lb c.index-as_slice-lb.result c.exchange_at-end.result c.conclude.result
+          forwarded concluded;
+      fault = rises (visit_of c.args.of.now.site.now) c.args.of.now.head.now c.args.of.now.last
+          (standing_of g.B.Desk.state g.K.Clock.answers g.R.Meanings g.C.Meanings c.args.around.now)
+          (standing_of g.B.Desk.state g.K.Clock.answers g.R.Meanings g.C.Meanings c.exchange_at-end.new.around) c.args.body.now c.exchange_at-end.new.body c.args.lb c.index-as_slice-lb.result c.exchange_at-end.result c.conclude.result
+          forwarded concluded;
+    }
 
 pub returns-clause-kept : goal.returns-clause-kept
 returns-clause-kept g c = c.exchange_at-end.ensures.kept
-
-pub returns-clause-beside : goal.returns-clause-beside
-returns-clause-beside g c = c.exchange_at-end.ensures.beside
-
-pub returns-clause-reach_faults : goal.returns-clause-reach_faults
-returns-clause-reach_faults g c = c.exchange_at-end.ensures.reach_faults
-
-pub returns-clause-client_faults : goal.returns-clause-client_faults
-returns-clause-client_faults g c = c.exchange_at-end.ensures.client_faults
-
-pub returns-clause-same : goal.returns-clause-same
-returns-clause-same g c = c.exchange_at-end.ensures.same
 
 pub exchange_at-end-requires-clause-ready : goal.exchange_at-end-requires-clause-ready
 exchange_at-end-requires-clause-ready g c = c.requires.ready

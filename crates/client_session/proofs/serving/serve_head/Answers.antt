@@ -4,7 +4,7 @@ use Rattle.http_body_in.specs.Takes.{body_at}
 use Rattle.status_worker.proofs.DeskLaws.{none_met, untouched}
 use Rattle.client_session.specs.Standings.{client_at, standing}
 use Rattle.client_session.specs.Surroundings.{standing_of}
-use Rattle.client_session.proofs.SurroundingsLaws.{no_fewer_twice}
+use Rattle.client_session.proofs.KeepingLaws.{keeps_all, keeps_by, keeps_twice}
 use Rattle.client_session.proofs.TurnLaws.{follows_meets, follows_rises, none_next, not_last, turn_follows, unrowed}
 use Rattle.client_session.proofs.serving.serve_head.Goals as goal
 
@@ -14,12 +14,6 @@ returns-in_default-clause-turn g c s reads =
     (record { place = c.new-body.ensures.place; most = c.new-body.ensures.most; taken = c.new-body.ensures.taken; going = c.new-body.ensures.failed })
     c.reserve.ensures.items reads
 
-pub returns-in_default-clause-kept : goal.returns-in_default-clause-kept
-returns-in_default-clause-kept g c = untouched _ _
-
-pub returns-in_default-clause-met : goal.returns-in_default-clause-met
-returns-in_default-clause-met g c = none_met _
-
 pub returns-clause-turn : goal.returns-clause-turn
 returns-clause-turn g c s reads =
     turn_follows _ _ s _
@@ -27,52 +21,34 @@ returns-clause-turn g c s reads =
     (standing g.B.Desk.state g.K.Clock.answers g.R.Meanings g.C.Meanings c.answer-answered.new.around.desk.now c.answer-answered.new.around.clock.now c.answer-answered.new.around.reach.now c.turn_after.new.client c.turn_after.new.inbox)
     _ c.new-body.result c.answer-answered.new.body c.turn_after.new.body c.answer-answered.result.answered c.is_last-last.result _ _ _ _ c.turn_after.result
     (record { place = c.new-body.ensures.place; most = c.new-body.ensures.most; taken = c.new-body.ensures.taken; going = c.new-body.ensures.failed })
-    c.reserve.ensures.items c.put_row.ensures c.is_last-last.ensures c.answer-answered.ensures.answer c.answer-answered.ensures.fault
+    c.reserve.ensures.items c.put_row.ensures c.is_last-last.ensures c.answer-answered.ensures.answer c.answer-answered.ensures.told.fault
     c.answer-answered.ensures.going refl c.turn_after.ensures.turned reads
 
 pub returns-clause-more : goal.returns-clause-more
 returns-clause-more g c = λ next. not_last c.args.number c.args.head.now (sym c.is_last-last.ensures ∙ c.turn_after.ensures.more next) c.requires.number
 
-pub returns-clause-met : goal.returns-clause-met
-returns-clause-met g c =
-    follows_meets c.answer-answered.result.answered c.is_last-last.result (body_at c.answer-answered.new.body c.answer-answered.new.around.inbox.now (client_at g.C.Meanings c.answer-answered.new.around.client.now))
-    (body_at c.turn_after.new.body c.turn_after.new.inbox (client_at g.C.Meanings c.turn_after.new.client)) c.turn_after.result _ _ c.turn_after.ensures.turned c.answer-answered.ensures.met
-
-pub returns-clause-fault : goal.returns-clause-fault
-returns-clause-fault g c =
-    follows_rises c.answer-answered.result.answered c.is_last-last.result (body_at c.answer-answered.new.body c.answer-answered.new.around.inbox.now (client_at g.C.Meanings c.answer-answered.new.around.client.now))
-    (body_at c.turn_after.new.body c.turn_after.new.inbox (client_at g.C.Meanings c.turn_after.new.client)) c.turn_after.result _ c.answer-answered.ensures.client_faults c.answer-answered.ensures.going
-    c.turn_after.ensures.turned c.answer-answered.ensures.fault
-
-pub returns-clause-client_faults : goal.returns-clause-client_faults
-returns-clause-client_faults g c = no_fewer_twice _ _ _ c.answer-answered.ensures.client_faults c.turn_after.ensures.no_fewer
-
 pub returns-in_default-clause-more : goal.returns-in_default-clause-more
 returns-in_default-clause-more g c = λ next. none_next _ _ next
 
-pub returns-in_default-clause-ready : goal.returns-in_default-clause-ready
-returns-in_default-clause-ready g c = c.requires.ready
+pub returns-in_default-clause-told : goal.returns-in_default-clause-told
+returns-in_default-clause-told g c = record { met = none_met _; fault = tt }
 
-pub returns-in_default-clause-fault : goal.returns-in_default-clause-fault
-returns-in_default-clause-fault g c = tt
+pub returns-in_default-clause-kept : goal.returns-in_default-clause-kept
+returns-in_default-clause-kept g c = keeps_all _ _ _ _ _ c.requires.ready
 
-pub returns-in_default-clause-beside : goal.returns-in_default-clause-beside
-returns-in_default-clause-beside g c = refl
-
-pub returns-in_default-clause-same : goal.returns-in_default-clause-same
-returns-in_default-clause-same g c = (refl, refl, refl, refl, refl)
-
-pub returns-clause-ready : goal.returns-clause-ready
-returns-clause-ready g c = c.answer-answered.ensures.ready
+pub returns-clause-told : goal.returns-clause-told
+returns-clause-told g c = record {
+  met = follows_meets c.answer-answered.result.answered c.is_last-last.result (body_at c.answer-answered.new.body c.answer-answered.new.around.inbox.now (client_at g.C.Meanings c.answer-answered.new.around.client.now))
+      (body_at c.turn_after.new.body c.turn_after.new.inbox (client_at g.C.Meanings c.turn_after.new.client)) c.turn_after.result _ _ c.turn_after.ensures.turned c.answer-answered.ensures.told.met;
+  fault = follows_rises c.answer-answered.result.answered c.is_last-last.result (body_at c.answer-answered.new.body c.answer-answered.new.around.inbox.now (client_at g.C.Meanings c.answer-answered.new.around.client.now))
+      (body_at c.turn_after.new.body c.turn_after.new.inbox (client_at g.C.Meanings c.turn_after.new.client)) c.turn_after.result _ c.answer-answered.ensures.kept.client_faults c.answer-answered.ensures.going
+      c.turn_after.ensures.turned c.answer-answered.ensures.told.fault;
+}
 
 pub returns-clause-kept : goal.returns-clause-kept
-returns-clause-kept g c = c.answer-answered.ensures.kept
+returns-clause-kept g c =
+    keeps_twice _ _ _ _ _ _ _ c.answer-answered.ensures.kept
+    (keeps_by _ _ _ _ _ _ c.answer-answered.ensures.kept.ready (untouched _ _) refl refl c.turn_after.ensures.beside c.turn_after.ensures.no_fewer (refl, refl, refl, refl, refl))
 
-pub returns-clause-reach_faults : goal.returns-clause-reach_faults
-returns-clause-reach_faults g c = c.answer-answered.ensures.reach_faults
-
-pub returns-clause-same : goal.returns-clause-same
-returns-clause-same g c = c.answer-answered.ensures.same
-
-pub returns-clause-beside : goal.returns-clause-beside
-returns-clause-beside g c = c.turn_after.ensures.beside ∙ c.answer-answered.ensures.beside
+pub answer-answered-requires-clause-ready : goal.answer-answered-requires-clause-ready
+answer-answered-requires-clause-ready g c = c.requires.ready

@@ -25,8 +25,8 @@ returns-clause-session g c = record {
   inbox = c.serve_all-end.new.around.inbox.now;
   gained = c.serve_all-end.ensures.session.0;
   session = came_back g.B.Desk.state g.K.Clock.answers g.R.Meanings g.C.Meanings c.serve_all-end.new.around _ _ _ _ _ _ _ _
-      (c.desk-1.given.1 (sym c.serve_all-end.ensures.same.0)) (c.clock-1.given.1 (sym c.serve_all-end.ensures.same.1))
-      (c.reach-1.given.1 (sym c.serve_all-end.ensures.same.2)) (c.client-1.given.1 (sym c.serve_all-end.ensures.same.3))
+      (c.desk-1.given.1 (sym c.serve_all-end.ensures.kept.same.0)) (c.clock-1.given.1 (sym c.serve_all-end.ensures.kept.same.1))
+      (c.reach-1.given.1 (sym c.serve_all-end.ensures.kept.same.2)) (c.client-1.given.1 (sym c.serve_all-end.ensures.kept.same.3))
       (rw c.in-Ok.ensures at c.serve_all-end.ensures.session.2);
   added = search rules;
 }
@@ -37,7 +37,7 @@ returns-clause-parts g c =
     (standing g.B.Desk.state g.K.Clock.answers g.R.Meanings g.C.Meanings c.args.desk.now c.args.clock.now c.args.reach.now c.args.client.now c.in-Ok.inbox)
     (standing_of g.B.Desk.state g.K.Clock.answers g.R.Meanings g.C.Meanings c.serve_all-end.new.around)
     c.serve_all-end.ensures.session.0 c.serve_all-end.result c.in-Ok.ensures c.serve_all-end.ensures.session.2 in
-    rw (c.client-1.given.1 (sym c.serve_all-end.ensures.same.3)) did
+    rw (c.client-1.given.1 (sym c.serve_all-end.ensures.kept.same.3)) did
 
 pub returns-clause-own : goal.returns-clause-own
 returns-clause-own g c = owned _ _
@@ -82,22 +82,22 @@ pub returns-in_default-clause-no_fewer : goal.returns-in_default-clause-no_fewer
 returns-in_default-clause-no_fewer g c = (no_fewer_at g.R.Meanings.faults _ _ refl, no_fewer_at g.C.Meanings.faults _ _ refl)
 
 pub returns-clause-fault : goal.returns-clause-fault
-returns-clause-fault g c = rw (c.client-1.given.1 (sym c.serve_all-end.ensures.same.3)) c.serve_all-end.ensures.fault
+returns-clause-fault g c = rw (c.client-1.given.1 (sym c.serve_all-end.ensures.kept.same.3)) c.serve_all-end.ensures.told.fault
 
 pub returns-clause-met : goal.returns-clause-met
-returns-clause-met g c = rw (c.desk-1.given.1 (sym c.serve_all-end.ensures.same.0)) c.serve_all-end.ensures.met
+returns-clause-met g c = rw (c.desk-1.given.1 (sym c.serve_all-end.ensures.kept.same.0)) c.serve_all-end.ensures.told.met
 
 pub returns-clause-idle : goal.returns-clause-idle
-returns-clause-idle g c = rw (c.reach-1.given.1 (sym c.serve_all-end.ensures.same.2)) c.serve_all-end.ensures.ready.idle
+returns-clause-idle g c = rw (c.reach-1.given.1 (sym c.serve_all-end.ensures.kept.same.2)) c.serve_all-end.ensures.kept.ready.idle
 
 pub returns-clause-kept : goal.returns-clause-kept
-returns-clause-kept g c = rw (c.desk-1.given.1 (sym c.serve_all-end.ensures.same.0)) c.serve_all-end.ensures.kept
+returns-clause-kept g c = rw (c.desk-1.given.1 (sym c.serve_all-end.ensures.kept.same.0)) c.serve_all-end.ensures.kept.kept
 
 pub returns-clause-sizes : goal.returns-clause-sizes
-returns-clause-sizes g c = rw (c.reach-1.given.1 (sym c.serve_all-end.ensures.same.2)) (c.serve_all-end.ensures.ready.reach_sizes ∙ sym c.requires.reach_sizes)
+returns-clause-sizes g c = rw (c.reach-1.given.1 (sym c.serve_all-end.ensures.kept.same.2)) (c.serve_all-end.ensures.kept.ready.reach_sizes ∙ sym c.requires.reach_sizes)
 
 pub returns-clause-beside : goal.returns-clause-beside
-returns-clause-beside g c = rw (c.client-1.given.1 (sym c.serve_all-end.ensures.same.3)) c.serve_all-end.ensures.beside
+returns-clause-beside g c = rw (c.client-1.given.1 (sym c.serve_all-end.ensures.kept.same.3)) c.serve_all-end.ensures.kept.beside
 
 pub returns-clause-no_fewer : goal.returns-clause-no_fewer
-returns-clause-no_fewer g c = (rw (c.reach-1.given.1 (sym c.serve_all-end.ensures.same.2)) c.serve_all-end.ensures.reach_faults, rw (c.client-1.given.1 (sym c.serve_all-end.ensures.same.3)) c.serve_all-end.ensures.client_faults)
+returns-clause-no_fewer g c = (rw (c.reach-1.given.1 (sym c.serve_all-end.ensures.kept.same.2)) c.serve_all-end.ensures.kept.reach_faults, rw (c.client-1.given.1 (sym c.serve_all-end.ensures.kept.same.3)) c.serve_all-end.ensures.kept.client_faults)

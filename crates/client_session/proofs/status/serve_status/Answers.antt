@@ -5,7 +5,9 @@ use Rattle.status_worker.specs.Desks.{KeepsTickets, desk_side}
 use Rattle.client_session.specs.Requests.{visit_of}
 use Rattle.client_session.specs.Standings.{client_at}
 use Rattle.client_session.specs.Surroundings.{standing_of}
+use Rattle.client_session.proofs.KeepingLaws.{keeps_by}
 use Rattle.client_session.proofs.StatusLaws.{never_done, own_answered, page_code, page_sent}
+use Rattle.client_session.proofs.SurroundingsLaws.{no_fewer_at}
 use Rattle.client_session.proofs.WritingLaws.{own_no_fewer}
 use Rattle.client_session.proofs.status.serve_status.Goals as goal
 
@@ -14,10 +16,6 @@ returns-in-Ok-clause-answer g c =
     page_sent c.args.of.now c.args.status.now (standing_of g.B.Desk.state g.K.Clock.answers g.R.Meanings g.C.Meanings c.args.around.now)
     (g.B.Desk.state c.change.new.desk) (g.B.Desk.state c.send_page.new.desk) (g.K.Clock.answers c.change.new.clock) (client_at g.C.Meanings c.send_page.new.client)
     c.in-Ok.only c.send_page.result c.send_page.ensures.seen c.in-Ok.ensures.ok c.send_page.ensures.sent
-
-pub returns-in-Ok-clause-kept : goal.returns-in-Ok-clause-kept
-returns-in-Ok-clause-kept g c =
-    subst (λ (d : DeskState). KeepsTickets c.args.of.now.site.now.session (g.B.Desk.state c.args.around.now.desk.now) d) (sym c.send_page.ensures.seen) c.change.ensures.kept
 
 pub returns-in-Ok-clause-met : goal.returns-in-Ok-clause-met
 returns-in-Ok-clause-met g c = subst (λ (d : DeskState). MeetsNone (g.B.Desk.state c.args.around.now.desk.now) d) (sym c.send_page.ensures.seen) c.change.ensures.met
@@ -29,53 +27,19 @@ returns-in-Err-Own-clause-answer g c =
     (desk_side g.B.Desk.state g.K.Clock.answers c.change.new.desk c.change.new.clock) (client_at g.C.Meanings c.write_own.new.client)
     c.in-Err-Own.code c.write_own.result failed.0 (page_code _ failed.1) (rw (c.is_head.ensures, c.in-Err-Own.code-is) at c.write_own.ensures.own)
 
-pub change-requires-clause-caller : goal.change-requires-clause-caller
-change-requires-clause-caller g c = c.requires.caller
-
-pub change-requires-clause-sizes : goal.change-requires-clause-sizes
-change-requires-clause-sizes g c = c.requires.sizes
-
 pub send_page-requires-clause-within : goal.send_page-requires-clause-within
 send_page-requires-clause-within g c = c.in-Ok.ensures.within
 
 pub send_page-requires-clause-sizes : goal.send_page-requires-clause-sizes
-send_page-requires-clause-sizes g c = c.change.ensures.kept.sizes ∙ c.requires.sizes
+send_page-requires-clause-sizes g c = c.change.ensures.kept.sizes ∙ c.requires.desk_sizes
 
 pub write_own-requires : goal.write_own-requires
 write_own-requires g c =
     let failed = rw c.in-Err-Own.field-0-is at c.in-Err-Own.ensures.err in
     rw c.in-Err-Own.code-is (page_code _ failed.1)
 
-pub returns-in-Ok-clause-reach : goal.returns-in-Ok-clause-reach
-returns-in-Ok-clause-reach g c = refl
-
-pub returns-in-Ok-clause-beside : goal.returns-in-Ok-clause-beside
-returns-in-Ok-clause-beside g c = c.send_page.ensures.beside
-
-pub returns-in-Ok-clause-client_faults : goal.returns-in-Ok-clause-client_faults
-returns-in-Ok-clause-client_faults g c = c.send_page.ensures.no_fewer
-
-pub returns-in-Ok-clause-same : goal.returns-in-Ok-clause-same
-returns-in-Ok-clause-same g c = (refl, refl, refl, refl, refl)
-
-pub returns-in-Err-Own-clause-reach : goal.returns-in-Err-Own-clause-reach
-returns-in-Err-Own-clause-reach g c = refl
-
-pub returns-in-Err-Own-clause-kept : goal.returns-in-Err-Own-clause-kept
-returns-in-Err-Own-clause-kept g c = c.change.ensures.kept
-
 pub returns-in-Err-Own-clause-met : goal.returns-in-Err-Own-clause-met
 returns-in-Err-Own-clause-met g c = c.change.ensures.met
-
-pub returns-in-Err-Own-clause-beside : goal.returns-in-Err-Own-clause-beside
-returns-in-Err-Own-clause-beside g c = c.write_own.ensures.beside
-
-pub returns-in-Err-Own-clause-client_faults : goal.returns-in-Err-Own-clause-client_faults
-returns-in-Err-Own-clause-client_faults g c =
-    own_no_fewer _ _ (client_at g.C.Meanings c.args.around.now.client.now) (client_at g.C.Meanings c.write_own.new.client) c.write_own.result c.write_own.ensures.own
-
-pub returns-in-Err-Own-clause-same : goal.returns-in-Err-Own-clause-same
-returns-in-Err-Own-clause-same g c = (refl, refl, refl, refl, refl)
 
 pub returns-in-Err-NoMemory-clause-answer : goal.returns-in-Err-NoMemory-clause-answer
 returns-in-Err-NoMemory-clause-answer g c =
@@ -83,17 +47,27 @@ returns-in-Err-NoMemory-clause-answer g c =
     (standing_of g.B.Desk.state g.K.Clock.answers g.R.Meanings g.C.Meanings c.args.around.now)
     (desk_side g.B.Desk.state g.K.Clock.answers c.change.new.desk c.change.new.clock) (rw c.in-Err-NoMemory.field-0-is at c.in-Err-NoMemory.ensures.err)
 
-pub returns-in-Err-NoMemory-clause-reach : goal.returns-in-Err-NoMemory-clause-reach
-returns-in-Err-NoMemory-clause-reach g c = refl
-
-pub returns-in-Err-NoMemory-clause-kept : goal.returns-in-Err-NoMemory-clause-kept
-returns-in-Err-NoMemory-clause-kept g c = c.change.ensures.kept
-
 pub returns-in-Err-NoMemory-clause-met : goal.returns-in-Err-NoMemory-clause-met
 returns-in-Err-NoMemory-clause-met g c = c.change.ensures.met
 
-pub returns-in-Err-NoMemory-clause-beside : goal.returns-in-Err-NoMemory-clause-beside
-returns-in-Err-NoMemory-clause-beside g c = refl
+pub change-requires-clause-caller : goal.change-requires-clause-caller
+change-requires-clause-caller g c = c.requires.caller
 
-pub returns-in-Err-NoMemory-clause-same : goal.returns-in-Err-NoMemory-clause-same
-returns-in-Err-NoMemory-clause-same g c = (refl, refl, refl, refl, refl)
+pub change-requires-clause-sizes : goal.change-requires-clause-sizes
+change-requires-clause-sizes g c = c.requires.desk_sizes
+
+pub returns-in-Ok-clause-kept : goal.returns-in-Ok-clause-kept
+returns-in-Ok-clause-kept g c =
+    keeps_by _ _ _ _ _ _ c.requires
+    (subst (λ (d : DeskState). KeepsTickets c.args.of.now.site.now.session (g.B.Desk.state c.args.around.now.desk.now) d) (sym c.send_page.ensures.seen) c.change.ensures.kept)
+    refl refl c.send_page.ensures.beside c.send_page.ensures.no_fewer (refl, refl, refl, refl, refl)
+
+pub returns-in-Err-Own-clause-kept : goal.returns-in-Err-Own-clause-kept
+returns-in-Err-Own-clause-kept g c =
+    keeps_by _ _ _ _ _ _ c.requires c.change.ensures.kept refl refl c.write_own.ensures.beside
+    (own_no_fewer _ _ (client_at g.C.Meanings c.args.around.now.client.now) (client_at g.C.Meanings c.write_own.new.client) c.write_own.result c.write_own.ensures.own)
+    (refl, refl, refl, refl, refl)
+
+pub returns-in-Err-NoMemory-clause-kept : goal.returns-in-Err-NoMemory-clause-kept
+returns-in-Err-NoMemory-clause-kept g c =
+    keeps_by _ _ _ _ _ _ c.requires c.change.ensures.kept refl refl refl (no_fewer_at g.C.Meanings.faults _ _ refl) (refl, refl, refl, refl, refl)
