@@ -9,6 +9,7 @@ use Rattle.balancer_core.specs.declared.receipt.Receipt.{Receipt}
 use Rattle.locked_balancer.specs.Notes.{MarkNote}
 use Rattle.locked_balancer.specs.SiteAnswers.{HasRoom, IsCommandedAt}
 use Rattle.locked_balancer.specs.Sites.{AddsAt}
+use Rattle.locked_balancer.proofs.SetLaws.{put_back}
 use Rattle.locked_balancer.proofs.SiteLaws.{adds_at, at_here, at_put, command_told, here_at, kept_added}
 use Rattle.locked_balancer.proofs.site.Site.admin.Goals as goal
 
@@ -49,3 +50,15 @@ returns-in-Err-clause-commanded g c =
     at_here _ c.self.inside.books.items c.args.self.now c.args.lb c.index_mut.result.now c.self.view_is here
     (subst (λ (e : AdminError MarkNote). IsCommandedAt {T = ℕ} c.args.lb c.index_mut.result.now c.args.command.now (Err e)) (sym c.admin_refused.ensures)
     (command_told c.args.lb c.index_mut.result.now c.args.command.now c.in-Err.error c.in-Err.ensures.commanded))
+
+pub returns-in-Err-clause-sound : goal.returns-in-Err-clause-sound
+returns-in-Err-clause-sound g c =
+    let here : slice_get c.self.inside.books.items c.args.lb ≡ Some c.index_mut.result.now =
+    here_at c.self.inside.books.items c.args.self.now c.args.lb c.index_mut.result.now c.self.view_is c.requires.lb c.index_mut.ensures.value in
+    at_put (λ (b : Journal). IsSound b) c.self.inside.books.items c.args.lb c.index_mut.result.now c.admin.new.self here c.in-Err.ensures.sound
+
+pub returns-in-Err-clause-err : goal.returns-in-Err-clause-err
+returns-in-Err-clause-err g c =
+    let here : slice_get c.self.inside.books.items c.args.lb ≡ Some c.index_mut.result.now =
+    here_at c.self.inside.books.items c.args.self.now c.args.lb c.index_mut.result.now c.self.view_is c.requires.lb c.index_mut.ensures.value in
+    put_back c.self.inside.books.items c.args.self.now c.args.lb c.index_mut.result.now c.admin.new.self here c.in-Err.ensures.err c.self.view_is

@@ -8,6 +8,7 @@ use Rattle.open_tickets.specs.Returns.{IsReturnedAt}
 use Rattle.balancer_core.specs.Journal.{IsSound, Journal, past_of}
 use Rattle.balancer_core.specs.declared.receipt.Receipt.{Receipt}
 use Rattle.locked_balancer.specs.Sites.{AddsAt, At}
+use Rattle.locked_balancer.proofs.SetLaws.{put_back}
 use Rattle.locked_balancer.proofs.SiteLaws.{adds_at, at_here, at_put, here_at, kept_added}
 use Rattle.locked_balancer.proofs.site.Site.give_back.Goals as goal
 
@@ -63,3 +64,18 @@ returns-in-Err-clause-returned g c =
     here_at c.self.inside.books.items c.args.self.now c.lease.inside.lb c.index_mut.result.now c.self.view_is (subst (λ (n : ℕ). n < length c.args.self.now) (sym lb_is) c.requires.lb) c.index_mut.ensures.value in
     subst (λ (l : LeaseNote). At c.args.self.now l.lb (λ (b : Journal). IsReturnedAt (past_of b) l.ticket c.in-Err.stray.returned_at)) c.lease.view_is
     (at_here (λ (b : Journal). IsReturnedAt (past_of b) c.lease.inside.ticket c.in-Err.stray.returned_at) c.self.inside.books.items c.args.self.now c.lease.inside.lb c.index_mut.result.now c.self.view_is here c.in-Err.ensures.returned)
+
+pub returns-in-Err-clause-sound : goal.returns-in-Err-clause-sound
+returns-in-Err-clause-sound g c =
+    let lb_is = ap (λ (l : LeaseNote). l.lb) c.lease.view_is in
+    let here : slice_get c.self.inside.books.items c.lease.inside.lb ≡ Some c.index_mut.result.now =
+    here_at c.self.inside.books.items c.args.self.now c.lease.inside.lb c.index_mut.result.now c.self.view_is (subst (λ (n : ℕ). n < length c.args.self.now) (sym lb_is) c.requires.lb) c.index_mut.ensures.value in
+    subst (λ (n : ℕ). At (slice_set c.self.inside.books.items c.lease.inside.lb c.return_ticket.new.self) n (λ (b : Journal). IsSound b)) lb_is
+    (at_put (λ (b : Journal). IsSound b) c.self.inside.books.items c.lease.inside.lb c.index_mut.result.now c.return_ticket.new.self here c.in-Err.ensures.sound)
+
+pub returns-in-Err-clause-err : goal.returns-in-Err-clause-err
+returns-in-Err-clause-err g c =
+    let lb_is = ap (λ (l : LeaseNote). l.lb) c.lease.view_is in
+    let here : slice_get c.self.inside.books.items c.lease.inside.lb ≡ Some c.index_mut.result.now =
+    here_at c.self.inside.books.items c.args.self.now c.lease.inside.lb c.index_mut.result.now c.self.view_is (subst (λ (n : ℕ). n < length c.args.self.now) (sym lb_is) c.requires.lb) c.index_mut.ensures.value in
+    put_back c.self.inside.books.items c.args.self.now c.lease.inside.lb c.index_mut.result.now c.return_ticket.new.self here c.in-Err.ensures.err c.self.view_is

@@ -10,6 +10,7 @@ use Rattle.balancer_core.specs.declared.receipt.Receipt.{Receipt}
 use Rattle.locked_balancer.specs.Notes.{MarkNote}
 use Rattle.locked_balancer.specs.SiteAnswers.{HasRoom, IsMaintenanceAt}
 use Rattle.locked_balancer.specs.Sites.{AddsAt}
+use Rattle.locked_balancer.proofs.SetLaws.{put_back}
 use Rattle.locked_balancer.proofs.SiteLaws.{adds_at, after_maintain, at_here, at_put, due_told, here_at, kept_added}
 use Rattle.locked_balancer.proofs.site.Site.maintain_if_due.Goals as goal
 
@@ -72,3 +73,27 @@ returns-in-Err-clause-due g c =
     at_here _ c.self.inside.books.items c.args.self.now c.args.lb c.index_mut.result.now c.self.view_is here
     (subst (λ (e : RoomError MarkNote). IsMaintenanceAt {T = ℕ} c.args.lb c.index_mut.result.now c.args.at (Err e)) (sym c.room_refused.ensures)
     (due_told c.args.lb c.index_mut.result.now c.args.at c.in-Err.error c.in-Err.ensures.due))
+
+pub returns-in-Err-clause-sound : goal.returns-in-Err-clause-sound
+returns-in-Err-clause-sound g c =
+    let here : slice_get c.self.inside.books.items c.args.lb ≡ Some c.index_mut.result.now =
+    here_at c.self.inside.books.items c.args.self.now c.args.lb c.index_mut.result.now c.self.view_is c.requires.lb c.index_mut.ensures.value in
+    at_put (λ (b : Journal). IsSound b) c.self.inside.books.items c.args.lb c.index_mut.result.now c.maintain_if_due.new.self here c.in-Err.ensures.sound
+
+pub returns-in-Err-clause-err : goal.returns-in-Err-clause-err
+returns-in-Err-clause-err g c =
+    let here : slice_get c.self.inside.books.items c.args.lb ≡ Some c.index_mut.result.now =
+    here_at c.self.inside.books.items c.args.self.now c.args.lb c.index_mut.result.now c.self.view_is c.requires.lb c.index_mut.ensures.value in
+    put_back c.self.inside.books.items c.args.self.now c.args.lb c.index_mut.result.now c.maintain_if_due.new.self here c.in-Err.ensures.err c.self.view_is
+
+pub returns-in-Ok-None-clause-sound : goal.returns-in-Ok-None-clause-sound
+returns-in-Ok-None-clause-sound g c =
+    let here : slice_get c.self.inside.books.items c.args.lb ≡ Some c.index_mut.result.now =
+    here_at c.self.inside.books.items c.args.self.now c.args.lb c.index_mut.result.now c.self.view_is c.requires.lb c.index_mut.ensures.value in
+    at_put (λ (b : Journal). IsSound b) c.self.inside.books.items c.args.lb c.index_mut.result.now c.maintain_if_due.new.self here c.in-Ok-None.ensures.sound
+
+pub returns-in-Ok-None-clause-ok : goal.returns-in-Ok-None-clause-ok
+returns-in-Ok-None-clause-ok g c =
+    let here : slice_get c.self.inside.books.items c.args.lb ≡ Some c.index_mut.result.now =
+    here_at c.self.inside.books.items c.args.self.now c.args.lb c.index_mut.result.now c.self.view_is c.requires.lb c.index_mut.ensures.value in
+    put_back c.self.inside.books.items c.args.self.now c.args.lb c.index_mut.result.now c.maintain_if_due.new.self here (rw c.in-Ok-None.field-0-is at c.in-Ok-None.ensures.ok) c.self.view_is

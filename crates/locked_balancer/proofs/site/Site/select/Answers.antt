@@ -11,6 +11,7 @@ use Rattle.balancer_core.specs.declared.receipt.Receipt.{Receipt}
 use Rattle.locked_balancer.specs.Notes.{MarkNote}
 use Rattle.locked_balancer.specs.SiteAnswers.{HasRoom, IsRoomAt}
 use Rattle.locked_balancer.specs.Sites.{AddsAt}
+use Rattle.locked_balancer.proofs.SetLaws.{put_back}
 use Rattle.locked_balancer.proofs.SiteLaws.{adds_at, at_here, at_put, chosen_known, here_at, kept_added, lease_told, room_told}
 use Rattle.locked_balancer.proofs.site.Site.select.Goals as goal
 
@@ -67,3 +68,15 @@ returns-in-Err-clause-full g c =
     at_here _ c.self.inside.books.items c.args.self.now c.args.lb c.index_mut.result.now c.self.view_is here
     (subst (λ (e : RoomError MarkNote). IsRoomAt {T = ℕ} c.args.lb 2 c.index_mut.result.now (Err e)) (sym c.room_refused.ensures)
     (room_told c.args.lb 2 c.index_mut.result.now c.in-Err.error c.in-Err.ensures.full))
+
+pub returns-in-Err-clause-sound : goal.returns-in-Err-clause-sound
+returns-in-Err-clause-sound g c =
+    let here : slice_get c.self.inside.books.items c.args.lb ≡ Some c.index_mut.result.now =
+    here_at c.self.inside.books.items c.args.self.now c.args.lb c.index_mut.result.now c.self.view_is c.requires.lb c.index_mut.ensures.value in
+    at_put (λ (b : Journal). IsSound b) c.self.inside.books.items c.args.lb c.index_mut.result.now c.select.new.self here c.in-Err.ensures.sound
+
+pub returns-in-Err-clause-err : goal.returns-in-Err-clause-err
+returns-in-Err-clause-err g c =
+    let here : slice_get c.self.inside.books.items c.args.lb ≡ Some c.index_mut.result.now =
+    here_at c.self.inside.books.items c.args.self.now c.args.lb c.index_mut.result.now c.self.view_is c.requires.lb c.index_mut.ensures.value in
+    put_back c.self.inside.books.items c.args.self.now c.args.lb c.index_mut.result.now c.select.new.self here c.in-Err.ensures.err c.self.view_is
