@@ -15,6 +15,7 @@ pub mod SegmentLaws
 pub mod StepLaws
 pub mod ToldLaws
 pub mod DeskLaws
+pub mod PlainDeskLaws
 pub mod PlainLaws
 pub mod HoldLaws
 pub mod BoundLaws
