@@ -1,3 +1,4 @@
+pub mod AwaitLemmas
 pub mod BodyLemmas
 pub mod ChunkedLemmas
 pub mod SpelledLemmas
