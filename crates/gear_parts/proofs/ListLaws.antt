@@ -1,5 +1,6 @@
 -- Lists made of others, item by item.
-use Rattle.std.proofs.Common.{ℕ, ◌≡◌, List, [], ◌∷◌, ◌++◌, length, map, take, refl, sym, ap, subst, ◌∙◌, append_assoc, arith}
+use Rattle.std.proofs.Common.{ℕ, zero, suc, true, false, ◌<◌, ◌≡◌, List, [], ◌∷◌, ◌++◌, length, map, take, refl, sym, ap, subst, ◌∙◌, append_assoc, arith}
+use Rattle.std.proofs.lemmas.Bool.{false≢true}
 use Rattle.std.proofs.lemmas.List.{append-nil, length-map, map-append}
 use Rattle.std.proofs.Math.Seq.{take-append_seam}
 use Rattle.std.specs.List.{All}
@@ -22,6 +23,11 @@ no_more xs (y ∷ rest) ys all none = absurd (omega (arith, none))
 
 pub no_more_of : {X Y : Type 0} (f : Y → X) (xs : List X) (rest : List Y) (ys : List X) → xs ++ map f rest ≡ ys → length rest ≡ 0 → xs ≡ ys
 no_more_of f xs rest ys all none = no_more xs (map f rest) ys all (length-map rest f ∙ none)
+
+-- Where the next of a list is none, none is left.
+pub none_left : (n len : ℕ) → len ≡ n → (0 < len → false ≡ true) → n ≡ 0
+none_left zero len all more = refl
+none_left (suc n) len all more = absurd (false≢true (more (omega (arith, all))))
 
 -- Nothing is put yet, and all is left.
 pub none_put : {X Y Z : Type 0} (f : X → Z) (g : Y → Z) (xs : List X) (rest ys : List Y) → xs ≡ [] → rest ≡ ys → map f xs ++ map g rest ≡ map g ys

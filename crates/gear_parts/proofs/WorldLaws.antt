@@ -1,13 +1,16 @@
 -- Gears that a world handed out and took back.
 use Rattle.std.proofs.Common.{ℕ, ◌≡◌, ◌+◌, ◌≤◌, List, [], ◌∷◌, ◌++◌, length, Option, Result, Ok, Err, zero, suc, refl, sym, ◌∙◌, ap, arith, rules, length-append}
 use Rattle.std.specs.List.{All}
-use Rattle.std.specs.Prelude.{OnErr}
-use Rattle.std.proofs.lemmas.List.Elements.{All-push}
+use Rattle.std.specs.Prelude.{IfOk, OnErr}
+use Rattle.std.proofs.lemmas.List.Elements.{All-nil, All-push}
 use Rattle.jk_io.specs.Told.{appended, HasCause}
-use Rattle.jk_io.proofs.ToldLaws.{appended-appended, appended-nil}
+use Rattle.jk_io.proofs.ToldLaws.{appended-appended, appended-nil, Rose-within}
 use Rattle.jk_io.specs.declared.failures.IoError.{IoError}
 use Rattle.jk_io.specs.declared.failures.IoError.TheVariants as io
-use Rattle.gear_parts.specs.Worlds.{HandsAndTakes, RefusesGear, WorldSide}
+use Rattle.gear_parts.specs.Gears.{GearSide}
+use Rattle.gear_parts.specs.Steps.{AreTaken}
+use Rattle.gear_parts.specs.Worlds.{HandsAndTakes, HandsNone, IsMade, RefusesGear, Takes, WorldSide}
+use Rattle.gear_parts.specs.declared.world.Gear.{Gear}
 
 -- nothing was handed out, and nothing came back
 pub nothing_passed : {G : Type 0} (s : WorldSide G) → HandsAndTakes s s [] []
@@ -78,6 +81,39 @@ none_handed s m n gears taken handed back out no_fewer = record {
 pub all_and : {X : Type 0} (P : X → Type 0) (xs more : List X) (x : X) → more ≡ xs ++ x ∷ [] → All P xs → P x → All P more
 all_and P xs more x pushed all one = rw pushed (All-push P xs x all one)
 
+-- none is taken yet
+pub none_yet : {D G T K S O C : Type 0} (told : Gear D G T K S O → GearSide C S) (IsIdle : T → Type 0) (clients : Option ℕ) (s : WorldSide (Gear D G T K S O)) (gears : List (Gear D G T K S O))
+    → length gears ≡ 0 → AreTaken told IsIdle clients s s gears
+none_yet {D} {G} {T} {K} {S} {O} told IsIdle clients s [] none = record {
+  passed = nothing_passed s;
+  made = All-nil (λ (g : Gear D G T K S O). IsMade clients (told g));
+  idle = All-nil (λ (g : Gear D G T K S O). IsIdle g.tape);
+}
+none_yet told IsIdle clients s (g ∷ gears) none = absurd (omega (arith, none))
+
+-- another one was taken
+pub taken_on : {D G T K S O C : Type 0} (told : Gear D G T K S O → GearSide C S) (IsIdle : T → Type 0) (clients : Option ℕ) (s m n : WorldSide (Gear D G T K S O)) (gears more : List (Gear D G T K S O))
+    → AreTaken told IsIdle clients s m gears → Takes told IsIdle clients m n gears more → AreTaken told IsIdle clients s n more
+taken_on {D} {G} {T} {K} {S} {O} told IsIdle clients s m n gears more so_far taken = record {
+  passed = handed_on s m n gears more taken.gear so_far.passed taken.added taken.handed taken.came_back taken.counted taken.no_fewer;
+  made = all_and (λ (g : Gear D G T K S O). IsMade clients (told g)) gears more taken.gear taken.added so_far.made taken.made;
+  idle = all_and (λ (g : Gear D G T K S O). IsIdle g.tape) gears more taken.gear taken.added so_far.idle taken.idle;
+}
+
+-- the next was refused
+pub taken_still : {D G T K S O C : Type 0} (told : Gear D G T K S O → GearSide C S) (IsIdle : T → Type 0) (clients : Option ℕ) (s m n : WorldSide (Gear D G T K S O)) (gears more : List (Gear D G T K S O))
+    → AreTaken told IsIdle clients s m gears → HandsNone m n → more ≡ gears → AreTaken told IsIdle clients s n more
+taken_still told IsIdle clients s m n gears more so_far none same = rw same (record {
+  passed = none_handed s m n gears so_far.passed none.handed none.came_back none.counted none.no_fewer;
+  made = so_far.made;
+  idle = so_far.idle;
+})
+
+-- of what succeeded this follows
+pub ok_then : {T E : Type 0} (r : Result T E) (P Q : T → Type 0) → IfOk r P → ((x : T) → P x → Q x) → IfOk r Q
+ok_then (Ok x) P Q is then = then x is
+ok_then (Err e) P Q is then = is
+
 -- what succeeded has no cause
 pub no_cause : {T : Type 0} (before now : ℕ) (x : T) → before ≤ now → HasCause before now (Ok x)
 no_cause before now x no_fewer = record { no_fewer = no_fewer; failed = λ failed. search rules }
@@ -87,6 +123,14 @@ pub cause_again : {T U : Type 0} (before now later : ℕ) (e : IoError) → HasC
     → HasCause {T = U} before later (Err e)
 cause_again before now later io.Failed cause same = record { no_fewer = rw same cause.no_fewer; failed = λ failed. rw same (cause.failed refl) }
 cause_again before now later io.NoMemory cause same = record { no_fewer = rw same cause.no_fewer; failed = λ failed. search rules }
+
+-- what failed in a part of a call has the same cause in the whole
+pub cause_on : {T U : Type 0} (first before now : ℕ) (e : IoError) → first ≤ before → HasCause {T = T} before now (Err e) → HasCause {T = U} first now (Err e)
+cause_on first before now io.Failed earlier cause = record {
+  no_fewer = omega (arith, cause.no_fewer);
+  failed = λ failed. Rose-within first before now now earlier (cause.failed refl) (omega arith);
+}
+cause_on first before now io.NoMemory earlier cause = record { no_fewer = omega (arith, cause.no_fewer); failed = λ failed. search rules }
 
 -- no memory for the gears of some workers
 pub none_taken : {G : Type 0} (threads : ℕ) (s : WorldSide G) → (threads ≡ 0 → ⊥) → RefusesGear threads s s

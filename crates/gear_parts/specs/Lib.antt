@@ -3,4 +3,5 @@ pub mod Cuts
 pub mod GearParts
 pub mod Gears
 pub mod Putting
+pub mod Steps
 pub mod Worlds

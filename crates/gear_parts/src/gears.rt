@@ -1,13 +1,15 @@
 //! Gears taken of a world, one for each worker, and given back.
-ghost use Rattle.std.specs.Prelude.{◌≡◌, ◌+◌, ◌<◌, ◌≤◌, [], vec_capacity, vec_len, IfOk, IsSome, OnErr, OnOk};
+ghost use Rattle.std.specs.Prelude.{◌≡◌, ◌+◌, ◌<◌, ◌≤◌, [], length, vec_capacity, vec_len, IfOk, IsSome, OnErr, OnOk};
 ghost use Rattle.std.specs.List.{All};
 ghost use Rattle.jk_io.specs.Told.{HasCause, appended};
+ghost use Rattle.gear_parts.specs.Steps.{AreTaken};
 ghost use Rattle.gear_parts.specs.Worlds.{gear_told, HandsAndTakes, HandsNone, IsMade, RefusesGear, Takes, world_side};
 
 use crate::world::{Gear, World};
 use jk_io::{Bytes, IoError};
 use site_config::Config;
 use std::alloc::Global;
+use std::vec::IntoIter;
 
 /// A gear of this world.
 pub type GearOf<W> = Gear<
@@ -91,11 +93,9 @@ fn fill_gears<W: World>(
     requires named { IsSome asked.journal → IsSome cfg }
     requires none { vec_len gears.old ≡ 0 }
     requires room { asked.threads ≤ vec_capacity gears.old }
-    ensures passed { let at = world_side W.World in HandsAndTakes (at world.old) (at world.new) gears.new.items [] }
+    ensures taken { let at = world_side W.World in AreTaken (gear_told W.D.Door W.T.Tape W.K.Clock) W.T.is_idle
+        asked.entry.clients (at world.old) (at world.new) gears.new.items }
     ensures count { OnOk result (vec_len gears.new ≡ asked.entry.threads) }
-    ensures made { let at = gear_told W.D.Door W.T.Tape W.K.Clock in
-        All (λ g. IsMade asked.entry.clients (at g)) gears.new.items }
-    ensures idle { All (λ g. W.T.is_idle g.tape) gears.new.items }
     ensures fewer { OnErr result (vec_len gears.new < asked.entry.threads) }
     ensures cause { HasCause (W.faults world.old) (W.faults world.new) result }
 {
@@ -122,7 +122,28 @@ pub fn take_gears<W: World>(
     ensures refused { OnErr result (let at = world_side W.World in RefusesGear asked.entry.threads (at world.old) (at world.new)) }
     ensures cause { HasCause (W.faults world.old) (W.faults world.new) result }
 {
-    let mut gears = Vec::with_capacity(alloc, asked.threads as usize)?;
+    let gears = Vec::with_capacity(alloc, asked.threads as usize)?;
+    gears_in(alloc, world, asked, cfg, gears)
+}
+
+/// So in this memory.
+fn gears_in<W: World>(
+    alloc: Global,
+    world: &mut W,
+    asked: GearOrder<'_>,
+    cfg: Option<&Config>,
+    gears: Vec<GearOf<W>>,
+) -> Result<Vec<GearOf<W>>, IoError>
+    requires named { IsSome asked.journal → IsSome cfg }
+    requires none { vec_len gears ≡ 0 }
+    requires room { asked.threads ≤ vec_capacity gears }
+    ensures taken { IfOk result (λ gears. let at = world_side W.World in AreTaken (gear_told W.D.Door W.T.Tape W.K.Clock) W.T.is_idle
+        asked.entry.clients (at world.old) (at world.new) gears.items) }
+    ensures count { IfOk result (λ gears. vec_len gears ≡ asked.entry.threads) }
+    ensures refused { OnErr result (let at = world_side W.World in RefusesGear asked.entry.threads (at world.old) (at world.new)) }
+    ensures cause { HasCause (W.faults world.old) (W.faults world.new) result }
+{
+    let mut gears = gears;
     match fill_gears(alloc, world, asked, cfg, &mut gears) {
         Ok(()) => Ok(gears),
         Err(error) => {
@@ -139,7 +160,18 @@ pub fn give_back<W: World>(world: &mut W, gears: Vec<GearOf<W>>)
     ensures fewer { W.out world.new + vec_len gears ≡ W.out world.old }
     ensures same { (W.handed world.new ≡ W.handed world.old) × (W.faults world.new ≡ W.faults world.old) }
 {
-    'gears: for gear in gears {
+    let mut gears = gears.into_iter();
+    give_each(world, &mut gears);
+}
+
+/// So of the gears that are lent.
+fn give_each<W: World>(world: &mut W, gears: &mut IntoIter<GearOf<W>>)
+    requires out { length gears.old.rest.items ≤ W.out world.old }
+    ensures came_back { W.came_back world.new ≡ appended (W.came_back world.old) gears.old.rest.items }
+    ensures fewer { W.out world.new + length gears.old.rest.items ≡ W.out world.old }
+    ensures same { (W.handed world.new ≡ W.handed world.old) × (W.faults world.new ≡ W.faults world.old) }
+{
+    'gears: while let Some(gear) = gears.next() {
         world.back(gear);
     }
 }

@@ -1,10 +1,11 @@
 //! The last segments of Books, kept on the first of the shelves.
 ghost use Rattle.std.specs.Prelude.{◌≡◌, ◌<◌, ◌≤◌, length, IsErrOf, OnOk};
-ghost use Rattle.jk_io.specs.Told.{Rose};
+ghost use Rattle.jk_io.specs.Told.{HasCause, Rose};
 ghost use Rattle.jk_model.specs.declared.config.TheConstants.{MAX_BALANCERS};
 ghost use Rattle.gear_parts.specs.Cuts.{AddsCuts, ToFirst};
+ghost use Rattle.gear_parts.specs.Steps.{AddsCut};
 
-use balancer_core::BookList;
+use balancer_core::{Book, BookList};
 use jk_io::IoError;
 use locked_balancer::Shelf;
 
@@ -27,10 +28,18 @@ fn keep_rest<S: Shelf>(books: BookList, shelf: &mut S) -> Result<(), IoError>
 {
     let mut lb: u32 = 0;
     'books: for book in books.into_vec() {
-        let mut book = book;
-        let segment = book.cut()?;
-        shelf.keep(lb, segment)?;
+        keep_last(book, lb, shelf)?;
         lb += 1;
     }
     Ok(())
+}
+
+/// Cuts a Book once more, and keeps its segment as that of balancer `lb`.
+fn keep_last<S: Shelf>(book: Book, lb: u32, shelf: &mut S) -> Result<(), IoError>
+    ensures kept { OnOk result (AddsCut S.shelved lb book shelf.old shelf.new) }
+    ensures cause { HasCause (S.faults shelf.old) (S.faults shelf.new) result }
+{
+    let mut book = book;
+    let segment = book.cut()?;
+    shelf.keep(lb, segment)
 }

@@ -52,8 +52,26 @@ fn take_all<'s, 'r, D: Drop, G: Dial + Drop, T: Tape + Drop, K: Drop, O: Drop, R
         ≡ map (λ o. tools o.door o.reach.dial o.reach.tape o.clock) outside.entry.items }
     ensures logs { map (λ l. l.log) left.new.items ≡ logs.old.rest.items }
 {
-    'outside: for outside in outside {
-        put_left(outside, logs, left);
+    let mut outside = outside.into_iter();
+    take_each(&mut outside, logs, left);
+}
+
+/// So of the workers that are lent, too.
+fn take_each<'s, 'r, D: Drop, G: Dial + Drop, T: Tape + Drop, K: Drop, O: Drop, R>(
+    outside: &mut IntoIter<Outside<D, PooledReach<'s, 'r, G, T, R>, K>>,
+    logs: &mut IntoIter<Option<O>>,
+    left: &mut Vec<Left<D, G, T, K, O>>,
+)
+    requires none { left.old.items ≡ [] }
+    requires paired { length outside.old.rest.items ≡ length logs.old.rest.items }
+    requires room { length outside.old.rest.items ≤ vec_capacity left.old }
+    requires idle { All (λ o. is_some o.reach.lent ≡ false) outside.old.rest.items }
+    ensures tools { tools_of left.new.items
+        ≡ map (λ o. tools o.door o.reach.dial o.reach.tape o.clock) outside.old.rest.items }
+    ensures logs { map (λ l. l.log) left.new.items ≡ logs.old.rest.items }
+{
+    'outside: while let Some(one) = outside.next() {
+        put_left(one, logs, left);
     }
 }
 

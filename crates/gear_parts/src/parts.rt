@@ -1,5 +1,5 @@
 //! The parts of gears, with which the workers of a connector work.
-ghost use Rattle.std.specs.Prelude.{◌≡◌, ◌+◌, ◌<◌, ◌≤◌, ◌++◌, [], ◌∷◌, map, vec_capacity, vec_len};
+ghost use Rattle.std.specs.Prelude.{◌≡◌, ◌+◌, ◌<◌, ◌≤◌, ◌++◌, [], ◌∷◌, length, map, vec_capacity, vec_len};
 ghost use Rattle.std.specs.List.{All};
 ghost use Rattle.conn_pool.specs.Idle.{counts};
 ghost use Rattle.gear_parts.specs.GearParts.{start_of, start_with};
@@ -12,6 +12,7 @@ use jk_io::Dial;
 use locked_balancer::{SharedDesk, SharedSite, Shelf, SiteName};
 use std::alloc::Global;
 use std::sync::ledger::Share;
+use std::vec::IntoIter;
 
 /// What all workers ask: the balancers, and the pools of idle links.
 #[derive(Drop)]
@@ -50,24 +51,35 @@ pub fn fill_parts<
     ensures logs { logs.new.items ≡ map (λ g. g.log) gears.items }
 {
     let mut share = share;
-    'gears: for gear in gears {
-        put_part(alloc, common, &mut share, gear, parts, logs);
+    let mut gears = gears.into_iter();
+    put_parts(alloc, common, &mut share, &mut gears, parts, logs);
+}
+
+/// So of the gears that are lent, over the share that is lent.
+fn put_parts<'s, 'r, L: SiteName, D, G: Dial, T: Tape, K, S: Shelf, O, R>(
+    alloc: Global,
+    common: &Common<'s, 'r, L, G, R>,
+    share: &mut Share<L>,
+    gears: &mut IntoIter<Gear<D, G, T, K, S, O>>,
+    parts: &mut Vec<Part<'s, 'r, L, D, PooledReach<'s, 'r, G, T, R>, K, S, R>>,
+    logs: &mut Vec<Option<O>>,
+)
+    requires none { (parts.old.items ≡ []) × (logs.old.items ≡ []) }
+    requires room { (length gears.old.rest.items ≤ vec_capacity parts.old) × (length gears.old.rest.items ≤ vec_capacity logs.old) }
+    requires parts { share.old.parts ≡ length gears.old.rest.items }
+    requires amount { share.old.amount ≡ 0 }
+    requires idle { All (λ g. T.is_idle g.tape) gears.old.rest.items }
+    ensures starts { map (λ p. start_with p.door p.reach p.clock p.desk) parts.new.items
+        ≡ map (start_of L.sizes (counts common.now.pools.now)) gears.old.rest.items }
+    ensures logs { logs.new.items ≡ map (λ g. g.log) gears.old.rest.items }
+{
+    'gears: while let Some(gear) = gears.next() {
+        put_part(alloc, common, share, gear, parts, logs);
     }
 }
 
 /// Puts the part of a gear, and its log, behind the others.
-fn put_part<
-    's,
-    'r,
-    L: SiteName,
-    D: Drop,
-    G: Dial + Drop,
-    T: Tape + Drop,
-    K: Drop,
-    S: Shelf + Drop,
-    O: Drop,
-    R,
->(
+fn put_part<'s, 'r, L: SiteName, D, G: Dial, T: Tape, K, S: Shelf, O, R>(
     alloc: Global,
     common: &Common<'s, 'r, L, G, R>,
     share: &mut Share<L>,

@@ -1,36 +1,39 @@
 use Rattle.std.proofs.Common.{refl, arith}
-use Rattle.gear_parts.specs.declared.world.Gear.{Gear}
-use Rattle.gear_parts.specs.Worlds.{gear_told, IsMade}
-use Rattle.gear_parts.proofs.WorldLaws.{all_and, handed_on, no_cause, none_handed}
+use Rattle.std.proofs.lemmas.Result.{IfOk-from_err, err_from_is_err_and}
+use Rattle.gear_parts.proofs.WorldLaws.{cause_on, no_cause, none_yet, taken_on, taken_still}
 use Rattle.gear_parts.proofs.gears.fill_gears.Goals as goal
 
+pub gears-init : goal.gears-init
+gears-init g c = record {
+  taken = none_yet _ _ _ _ _ (omega (arith, c.requires.none, c.args.gears.now.ok.0));
+  count = c.requires.none;
+  end = refl;
+  room = c.requires.room;
+}
+
 pub gears-preserved : goal.gears-preserved
-gears-preserved g c =
-    let taken = c.in_ok-take_gear.ensures.ok in record {
-      passed = handed_on _ _ _ _ _ taken.gear c.gears.invariant.passed taken.added taken.handed taken.came_back taken.counted taken.no_fewer;
-      count = omega (arith, c.gears.invariant.count, c.in_ok-take_gear.ensures.room.0);
-      end = refl;
-      room = omega (arith, c.gears.invariant.room, c.in_ok-take_gear.ensures.room.1);
-      made =
-          all_and
-          {X = Gear g.row.W-D.Denot g.row.W-G.Denot g.row.W-T.Denot g.row.W-K.Denot g.row.W-S.Denot g.row.W-O.Denot}
-          (λ x. IsMade c.args.asked.clients (gear_told g.W.D.Door g.W.T.Tape g.W.K.Clock x)) _ _ _ taken.added c.gears.invariant.made taken.made;
-      idle =
-          all_and
-          {X = Gear g.row.W-D.Denot g.row.W-G.Denot g.row.W-T.Denot g.row.W-K.Denot g.row.W-S.Denot g.row.W-O.Denot}
-          (λ x. g.W.T.Tape.is_idle x.tape) _ _ _ taken.added c.gears.invariant.idle taken.idle;
-    }
+gears-preserved g c = record {
+  taken = taken_on _ _ _ _ _ _ _ _ c.gears.invariant.taken c.in_ok-take_gear.ensures.ok;
+  count = omega (arith, c.gears.invariant.count, c.in_ok-take_gear.ensures.room.0);
+  end = refl;
+  room = omega (arith, c.gears.invariant.room, c.in_ok-take_gear.ensures.room.1);
+}
 
-pub returns-in_err-take_gear-clause-passed : goal.returns-in_err-take_gear-clause-passed
-returns-in_err-take_gear-clause-passed g c =
-    let none = c.in_err-take_gear.ensures.err in
-    rw c.in_err-take_gear.ensures.same (none_handed _ _ _ _ c.gears.invariant.passed none.handed none.came_back none.counted none.no_fewer)
+pub returns-in_err-take_gear-clause-taken : goal.returns-in_err-take_gear-clause-taken
+returns-in_err-take_gear-clause-taken g c =
+    taken_still _ _ _ _ _ _ _ _ c.gears.invariant.taken c.in_err-take_gear.ensures.err c.in_err-take_gear.ensures.same
 
-pub returns-in_err-take_gear-clause-made : goal.returns-in_err-take_gear-clause-made
-returns-in_err-take_gear-clause-made g c = rw c.in_err-take_gear.ensures.same c.gears.invariant.made
+pub returns-in_err-take_gear-clause-count : goal.returns-in_err-take_gear-clause-count
+returns-in_err-take_gear-clause-count g c = IfOk-from_err c.from_residual.result _ c.from_residual.ensures.0
 
-pub returns-in_err-take_gear-clause-idle : goal.returns-in_err-take_gear-clause-idle
-returns-in_err-take_gear-clause-idle g c = rw c.in_err-take_gear.ensures.same c.gears.invariant.idle
+pub returns-in_err-take_gear-clause-cause : goal.returns-in_err-take_gear-clause-cause
+returns-in_err-take_gear-clause-cause g c =
+    let p = err_from_is_err_and c.from_residual.result c.from_residual.ensures.1 in
+    rw (p.1, p.2)
+    (cause_on _ _ _ c.in_err-take_gear.field-0.0 c.gears.invariant.taken.passed.no_fewer c.in_err-take_gear.ensures.cause)
+
+pub returns-clause-taken : goal.returns-clause-taken
+returns-clause-taken g c = c.gears.invariant.taken
 
 pub returns-clause-cause : goal.returns-clause-cause
-returns-clause-cause g c = no_cause _ _ _ c.gears.invariant.passed.no_fewer
+returns-clause-cause g c = no_cause _ _ _ c.gears.invariant.taken.passed.no_fewer

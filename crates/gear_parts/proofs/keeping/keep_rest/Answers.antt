@@ -1,15 +1,18 @@
-use Rattle.std.proofs.Common.{length, ap, arith}
+use Rattle.std.proofs.Common.{◌≡◌, length, ap, arith}
 use Rattle.std.proofs.lemmas.List.{nil_from_length}
-use Rattle.gear_parts.proofs.KeepingLaws.{all_cut, one_cut}
+use Rattle.gear_parts.proofs.KeepingLaws.{all_cut, none_cut, one_cut}
 use Rattle.gear_parts.proofs.keeping.keep_rest.Goals as goal
+
+pub books-init : goal.books-init
+books-init g c =
+    let all : c.into_iter-book-iterator.result.rest.items ≡ c.args.books = cc in
+    record { cut = none_cut _ _ _ all; counted = omega (arith, ap length all); no_fewer = omega arith }
 
 pub books-preserved : goal.books-preserved
 books-preserved g c = record {
-  cut =
-      one_cut _ _ _ _ _ _ _ _ _ c.books.invariant.cut c.in-Some.ensures.steps.0 c.in_ok-segment.ensures.whole c.in_ok-segment.ensures.legal
-      c.in_ok-keep.ensures.kept;
+  cut = one_cut g.S.Shelf.shelved _ _ _ _ _ _ _ _ c.books.invariant.cut c.in-Some.ensures.steps.0 c.in_ok-keep_last.ensures.kept;
   counted = omega (arith, c.books.invariant.counted, ap length c.in-Some.ensures.steps.0);
-  no_fewer = omega (arith, c.books.invariant.no_fewer, c.in_ok-keep.ensures.cause.no_fewer);
+  no_fewer = omega (arith, c.books.invariant.no_fewer, c.in_ok-keep_last.ensures.cause.no_fewer);
 }
 
 pub returns-clause-kept : goal.returns-clause-kept
