@@ -7,7 +7,12 @@ use Rattle.jk_model.specs.Journal.{members}
 use Rattle.balancer_core.specs.Journal.{IsSound, IsStart, Journal}
 use Rattle.balancer_core.specs.ToldBooks.{sizes_of}
 use Rattle.locked_balancer.specs.Sites.{AreSited, nexts_of}
-use Rattle.drill.specs.Ends.{IsOfDrill, IsStarted}
+use Rattle.site_closing.specs.CloseErrors.{IsCloseError}
+use Rattle.site_closing.specs.Closings.{Differs}
+use Rattle.site_closing.specs.declared.close.CloseError.{CloseError}
+use Rattle.site_closing.specs.declared.close.CloseError.TheVariants as close
+use Rattle.jk_model.specs.declared.journal.Entry.{Entry}
+use Rattle.drill.specs.Ends.{IsFound, IsOfDrill, IsStarted}
 use Rattle.drill.specs.Sites.{IsDrillBook}
 use Rattle.jk_model.specs.declared.config.LbConfig.{LbConfig}
 
@@ -26,6 +31,18 @@ of_drill sizes firsts (b ∷ []) s sized first =
       numbered = s.numbered 0 b refl ∙ ap (λ (n : ℕ). n + b.added) at ∙ zero-add b.added;
       sound = s.sound 0 b refl;
     } in (refl, All-cons IsOfDrill b [] is (All-nil IsOfDrill))
+
+-- so of a closing's answer
+pub drill_books : {E : Type 0} (r : Result (List Journal) E) (sizes firsts : List ℕ) → sizes ≡ 2 ∷ [] → firsts ≡ 0 ∷ [] → IfOk r (AreSited sizes firsts)
+    → IfOk r (λ books. length books ≡ 1) × IfOk r (All IsOfDrill)
+drill_books (Ok books) sizes firsts sized first s = of_drill sizes firsts books s sized first
+drill_books (Err e) sizes firsts sized first s = (tt, tt)
+
+-- a discord over such a Site is a drill's
+pub drill_found : {L : Type 0} (e : CloseError L) (sizes firsts : List ℕ) (entries : ℕ) (receipts : List (ℕ × Entry)) → sizes ≡ 2 ∷ [] → firsts ≡ 0 ∷ []
+    → IsCloseError (Differs sizes firsts entries receipts) e → IsCloseError IsFound e
+drill_found (close.Differs d) sizes firsts entries receipts sized first differs = (entries, receipts, rw (← sized, ← first) differs)
+drill_found close.NoMemory sizes firsts entries receipts sized first differs = tt
 
 -- ---- the text, where there is one
 

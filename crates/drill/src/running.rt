@@ -1,9 +1,9 @@
 //! `run_drill`: the Site, its threads, the closing, and what is printed.
-ghost use Rattle.std.specs.Prelude.{◌≡◌, ◌≤◌, [], ◌∷◌, false, true, codes, length, IfOk, IfErr, IfSome, IfNone};
+ghost use Rattle.std.specs.Prelude.{◌≡◌, ◌<◌, ◌≤◌, [], ◌∷◌, false, true, codes, length, sum_by, IfOk, IfErr, IfSome, IfNone};
 ghost use Rattle.std.specs.List.{All};
 ghost use Rattle.balancer_core.specs.Journal.{Journal};
 ghost use Rattle.balancer_core.specs.ToldBooks.{sizes_of};
-ghost use Rattle.locked_balancer.specs.Sites.{nexts_of};
+ghost use Rattle.locked_balancer.specs.Sites.{AreSited, nexts_of};
 ghost use Rattle.site_closing.specs.CloseErrors.{IsCloseError};
 ghost use Rattle.drill.specs.Drills.{IsDrilled};
 ghost use Rattle.drill.specs.Ends.{IsDrillError, IsFound, IsOfDrill, IsStarted};
@@ -19,12 +19,12 @@ use crate::summary::summary;
 use balancer_core::{Book, BookList, Segment};
 use jk_io::{Bytes, NoMemory};
 use journal_text::write_segment;
-use locked_balancer::{SharedSite, Site, SiteName};
-use site_closing::{CloseError, Closed, close_desks};
+use locked_balancer::{MemShelf, SharedSite, Site, SiteName};
+use site_closing::{CloseError, Closed, LeavingList, close_desks};
 use std::alloc::Global;
 use std::marker::Brand;
 use std::sync::Wait;
-use std::sync::ledger::Blank;
+use std::sync::ledger::{Blank, Share};
 use std::thread::Threads;
 
 // The Book of a drill, as it starts.
@@ -62,8 +62,41 @@ fn drill_in<L: SiteName + Send + Sync, R: Threads + Wait + Sync>(
     ensures cause { IfErr result (IsCloseError IsFound) }
 {
     let (opened, share) = Site::<L>::open(blank, books);
-    let shared = SharedSite::new(rt, opened, 0);
+    drill_over(rt, alloc, site, plan, SharedSite::new(rt, opened, 0), share)
+}
+
+// So over a Site behind its lock, with the whole share of it.
+fn drill_over<'r, L: SiteName + Send + Sync, R: Threads + Wait + Sync>(
+    rt: &'r R,
+    alloc: Global,
+    site: &DrillSite,
+    plan: Plan,
+    shared: SharedSite<'r, L, R>,
+    share: Share<L>,
+) -> Result<BookList, CloseError<L>>
+    requires parts { (share.parts ≡ plan.threads) × (L.parts ≡ plan.threads) }
+    requires amount { share.amount ≡ 0 }
+    requires sizes { L.sizes ≡ 2 ∷ [] }
+    requires firsts { L.firsts ≡ 0 ∷ [] }
+    ensures sited { IfOk result (AreSited L.sizes L.firsts) }
+    ensures cause { IfErr result (IsCloseError IsFound) }
+{
     let leaving = serve_all(rt, alloc, site, plan, &shared, share)?;
+    close_books(shared, leaving)
+}
+
+// Closes the desks, and gives the Books back.
+fn close_books<'r, L: SiteName, R>(
+    shared: SharedSite<'r, L, R>,
+    leaving: LeavingList<L, MemShelf>,
+) -> Result<BookList, CloseError<L>>
+    requires some { 0 < length leaving }
+    requires whole { sum_by (λ l. l.share.parts) leaving ≡ L.parts }
+    requires sizes { L.sizes ≡ 2 ∷ [] }
+    requires firsts { L.firsts ≡ 0 ∷ [] }
+    ensures sited { IfOk result (AreSited L.sizes L.firsts) }
+    ensures cause { IfErr result (IsCloseError IsFound) }
+{
     let Closed { books, .. } = close_desks(shared, leaving)?;
     Ok(books)
 }

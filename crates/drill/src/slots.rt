@@ -39,29 +39,63 @@ fn slot_of<'s, 'r, L: SiteName, R>(
     }
 }
 
+// Puts a slot with a part of the ledger behind the others.
+fn put_slot<'s, 'r, L: SiteName, R>(
+    alloc: Global,
+    slots: &mut Vec<Slot<'s, 'r, L, R>>,
+    shared: &'s SharedSite<'r, L, R>,
+    share: Share<L>,
+)
+    requires part { share.parts ≡ 1 }
+    requires amount { share.amount ≡ 0 }
+    requires sizes { L.sizes ≡ 2 ∷ [] }
+    requires room { vec_len slots.old < vec_capacity slots.old }
+    ensures whole { All (λ s. IsWhole (2 ∷ []) s.desk.desk) slots.old.items
+        → All (λ s. IsWhole (2 ∷ []) s.desk.desk) slots.new.items }
+    ensures len { vec_len slots.new ≡ vec_len slots.old + 1 }
+    ensures capacity { vec_capacity slots.new ≡ vec_capacity slots.old }
+{
+    slots.push_reserved(slot_of(alloc, shared, share));
+}
+
 // A slot for each part of the share.
 fn fill_slots<'s, 'r, L: SiteName, R>(
     alloc: Global,
     slots: &mut Vec<Slot<'s, 'r, L, R>>,
     shared: &'s SharedSite<'r, L, R>,
-    share: Share<L>,
+    share: &mut Share<L>,
     threads: u32,
 )
     requires none { slots.old.items ≡ [] }
     requires room { threads ≤ vec_capacity slots.old }
-    requires some { 1 ≤ threads }
-    requires parts { share.parts ≡ threads }
-    requires amount { share.amount ≡ 0 }
+    requires parts { share.old.parts ≡ threads }
+    requires amount { share.old.amount ≡ 0 }
     requires sizes { L.sizes ≡ 2 ∷ [] }
     ensures whole { All (λ s. IsWhole (2 ∷ []) s.desk.desk) slots.new.items }
     ensures count { vec_len slots.new ≡ threads }
 {
-    let mut share = share;
-    'slots: for _ in 1..threads {
-        let part = share.split_off(1, 0);
-        slots.push_reserved(slot_of(alloc, shared, part));
+    'slots: for _ in 0..threads {
+        put_slot(alloc, slots, shared, share.split_off(1, 0));
     }
-    slots.push_reserved(slot_of(alloc, shared, share));
+}
+
+// The slots of the threads.
+fn slots_for<'s, 'r, L: SiteName, R>(
+    alloc: Global,
+    shared: &'s SharedSite<'r, L, R>,
+    share: Share<L>,
+    threads: u32,
+) -> Result<Vec<Slot<'s, 'r, L, R>>, NoMemory>
+    requires parts { share.parts ≡ threads }
+    requires amount { share.amount ≡ 0 }
+    requires sizes { L.sizes ≡ 2 ∷ [] }
+    ensures whole { IfOk result (λ slots. All (λ s. IsWhole (2 ∷ []) s.desk.desk) slots.items) }
+    ensures count { IfOk result (λ slots. vec_len slots ≡ threads) }
+{
+    let mut share = share;
+    let mut slots = Vec::with_capacity(alloc, threads as usize)?;
+    fill_slots(alloc, &mut slots, shared, &mut share, threads);
+    Ok(slots)
 }
 
 // The work of one thread.
@@ -132,6 +166,62 @@ fn empty_slots<'s, 'r, L: SiteName, R>(
     made
 }
 
+// What the desks leave, in this memory; none where a thread didn't make all its requests.
+fn left_in<'s, 'r, L: SiteName, R>(
+    slots: Vec<Slot<'s, 'r, L, R>>,
+    leaving: Vec<Leaving<L, MemShelf>>,
+) -> Result<LeavingList<L, MemShelf>, NoMemory>
+    requires whole { All (λ s. IsWhole (2 ∷ []) s.desk.desk) slots.items }
+    requires none { leaving.items ≡ [] }
+    requires room { vec_len slots ≤ vec_capacity leaving }
+    ensures parts { IfOk result (λ left. sum_by (λ l. l.share.parts) left ≡ vec_len slots.entry) }
+    ensures count { IfOk result (λ left. length left ≡ vec_len slots.entry) }
+    ensures none_forgot { IfOk result (λ left. All (λ l. l.forgotten ≡ 0) left) }
+{
+    let mut leaving = leaving;
+    if empty_slots(slots, &mut leaving) {
+        Ok(LeavingList::from_vec(leaving))
+    } else {
+        Err(NoMemory)
+    }
+}
+
+// So over the slots of a list.
+fn serve_each<'s, 'r, L: SiteName + Send + Sync, R: Threads + Wait + Sync>(
+    rt: &R,
+    alloc: Global,
+    site: &DrillSite,
+    plan: Plan,
+    slots: &mut Vec<Slot<'s, 'r, L, R>>,
+)
+    requires few { vec_len slots.old ≤ MAX_THREADS }
+    requires whole { All (λ s. IsWhole (2 ∷ []) s.desk.desk) slots.old.items }
+    ensures whole { All (λ s. IsWhole (2 ∷ []) s.desk.desk) slots.new.items }
+    ensures len { vec_len slots.new ≡ vec_len slots.old }
+{
+    serve_slots(rt, alloc, site, plan, slots.as_mut_slice());
+}
+
+// Makes all requests over these slots. The memory for what they leave is taken first.
+fn serve_and_leave<'s, 'r, L: SiteName + Send + Sync, R: Threads + Wait + Sync>(
+    rt: &R,
+    alloc: Global,
+    site: &DrillSite,
+    plan: Plan,
+    slots: Vec<Slot<'s, 'r, L, R>>,
+) -> Result<LeavingList<L, MemShelf>, NoMemory>
+    requires count { vec_len slots ≡ plan.threads }
+    requires whole { All (λ s. IsWhole (2 ∷ []) s.desk.desk) slots.items }
+    ensures parts { IfOk result (λ left. sum_by (λ l. l.share.parts) left ≡ plan.threads) }
+    ensures some { IfOk result (λ left. 0 < length left) }
+    ensures none_forgot { IfOk result (λ left. All (λ l. l.forgotten ≡ 0) left) }
+{
+    let leaving = Vec::with_capacity(alloc, slots.len())?;
+    let mut slots = slots;
+    serve_each(rt, alloc, site, plan, &mut slots);
+    left_in(slots, leaving)
+}
+
 /// Makes all requests, those of each thread over a desk of its own, and has the desks leave.
 pub(crate) fn serve_all<'s, 'r, L: SiteName + Send + Sync, R: Threads + Wait + Sync>(
     rt: &R,
@@ -148,14 +238,6 @@ pub(crate) fn serve_all<'s, 'r, L: SiteName + Send + Sync, R: Threads + Wait + S
     ensures some { IfOk result (λ left. 0 < length left) }
     ensures none_forgot { IfOk result (λ left. All (λ l. l.forgotten ≡ 0) left) }
 {
-    let count = plan.threads as usize;
-    let mut slots = Vec::with_capacity(alloc, count)?;
-    let mut leaving = Vec::with_capacity(alloc, count)?;
-    fill_slots(alloc, &mut slots, shared, share, plan.threads);
-    serve_slots(rt, alloc, site, plan, slots.as_mut_slice());
-    if empty_slots(slots, &mut leaving) {
-        Ok(LeavingList::from_vec(leaving))
-    } else {
-        Err(NoMemory)
-    }
+    let slots = slots_for(alloc, shared, share, plan.threads)?;
+    serve_and_leave(rt, alloc, site, plan, slots)
 }

@@ -1,10 +1,20 @@
 use Rattle.std.proofs.Common.{sym, ◌∙◌}
-use Rattle.drill.proofs.ClosingLaws.{of_drill, started-nexts, started-sizes}
+use Rattle.drill.proofs.ClosingLaws.{drill_books, started-nexts, started-sizes}
 use Rattle.drill.proofs.running.drill_in.Goals as goal
+
+pub returns-clause-one : goal.returns-clause-one
+returns-clause-one g c =
+    let started = c.requires.books in
+    let sized = sym c.requires.sizes ∙ started-sizes started.0 c.args.books started.1 started.2 in
+    let first = sym c.requires.firsts ∙ started-nexts started.0 c.args.books started.1 started.2 in
+    (drill_books c.drill_over.result _ _ sized first c.drill_over.ensures.sited).0
 
 pub returns-clause-books : goal.returns-clause-books
 returns-clause-books g c =
     let started = c.requires.books in
     let sized = sym c.requires.sizes ∙ started-sizes started.0 c.args.books started.1 started.2 in
     let first = sym c.requires.firsts ∙ started-nexts started.0 c.args.books started.1 started.2 in
-    (of_drill _ _ c.in_ok-books.field-0.books c.in_ok-books.ensures.sited sized first).1
+    (drill_books c.drill_over.result _ _ sized first c.drill_over.ensures.sited).1
+
+pub returns-clause-cause : goal.returns-clause-cause
+returns-clause-cause g c = c.drill_over.ensures.cause

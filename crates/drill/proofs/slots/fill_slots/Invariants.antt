@@ -8,7 +8,7 @@ use Rattle.drill.proofs.slots.fill_slots.Given as goal
 abbrev pub invariant-slots : goal.invariant-slots
 invariant-slots g l = record {
   whole : All (λ s. IsWhole (2 ∷ []) s.desk.desk) l.slots.items;
-  count : vec_len l.slots + 1 ≡ l.counter;
+  count : vec_len l.slots ≡ l.counter;
   parts : l.share.parts + vec_len l.slots ≡ l.threads;
   amount : l.share.amount ≡ 0;
   room : l.threads ≤ vec_capacity l.slots;

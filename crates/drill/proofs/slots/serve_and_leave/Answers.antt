@@ -1,0 +1,15 @@
+use Rattle.std.proofs.Common.{arith}
+use Rattle.drill.proofs.SlotLaws.{as_many, some_left}
+use Rattle.drill.proofs.slots.serve_and_leave.Goals as goal
+
+pub returns-clause-parts : goal.returns-clause-parts
+returns-clause-parts g c =
+    as_many c.left_in.result _ _ _ c.left_in.ensures.parts (omega (arith, c.requires.count, c.serve_each.ensures.len))
+
+pub returns-clause-some : goal.returns-clause-some
+returns-clause-some g c =
+    some_left c.left_in.result _ _ c.left_in.ensures.count
+    (omega (arith, c.requires.count, c.serve_each.ensures.len, c.args.plan.some_threads))
+
+pub returns-clause-none_forgot : goal.returns-clause-none_forgot
+returns-clause-none_forgot g c = c.left_in.ensures.none_forgot
