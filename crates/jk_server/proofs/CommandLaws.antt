@@ -1,15 +1,16 @@
 -- How a command that asks for workers ends where a gear is refused or memory is wanted.
-use Rattle.std.proofs.Common.{ℕ, ◌≡◌, ◌≤◌, List, [], length, Option, None, Err, inl, refl, lit≤}
-use Rattle.jk_io.specs.Told.{HasCause}
+use Rattle.std.proofs.Common.{ℕ, ◌≡◌, ◌+◌, ◌<◌, ◌≤◌, List, [], length, Option, None, Err, inl, inr, refl, arith, lit≤}
+use Rattle.jk_io.specs.Told.{appended, HasCause}
 use Rattle.jk_io.specs.declared.failures.IoError.{IoError}
 use Rattle.jk_io.specs.declared.failures.IoError.TheVariants as io
 use Rattle.mini_container.specs.declared.app_config.AppConfig.{AppConfig}
-use Rattle.jk_server.specs.Commands.{ContainsLinks, RunsContainer, Works, NoGear, NoRoom}
+use Rattle.site_reports.specs.Readings.{CommandOutside}
+use Rattle.jk_server.specs.Commands.{CommandSide, ContainsLinks, RunsContainer, Serves, Unread, Works, NoGear, NoRoom}
 use Rattle.jk_server.specs.Ends.{end_by}
-use Rattle.gear_parts.specs.Worlds.{RefusesGear, Tells, WorldSide}
+use Rattle.gear_parts.specs.Worlds.{HandsAndTakes, RefusesGear, Tells, WorldSide}
 use Rattle.jk_server.specs.declared.orders.ends.CommandEnd.{CommandEnd}
 use Rattle.jk_server.specs.declared.orders.ends.CommandEnd.TheVariants as end
-use Rattle.gear_parts.proofs.WorldLaws.{nothing_passed}
+use Rattle.gear_parts.proofs.WorldLaws.{all_given, few_out, nothing_passed, then_back}
 
 -- a gear was refused, or memory was wanted for one
 pub works_err : {G L T : Type 0} (threads : ℕ) (Runs : WorldSide G → WorldSide G → CommandEnd L → Type 0) (s n : WorldSide G) (e : IoError) (ended : CommandEnd L)
@@ -21,6 +22,32 @@ works_err threads Runs s n io.NoMemory ended refused cause is =
 -- memory was wanted before anything was done
 pub wants_room : {G L : Type 0} (threads : ℕ) (Runs : WorldSide G → WorldSide G → CommandEnd L → Type 0) (s : WorldSide G) → Works threads Runs s s (end.Status 6)
 wants_room threads Runs s = NoRoom (record { gears = []; back = []; passed = nothing_passed s; unserved = inl refl; status = refl })
+
+-- memory was wanted after gears were taken, and none came back
+pub wants_gears : {G L : Type 0} (threads : ℕ) (Runs : WorldSide G → WorldSide G → CommandEnd L → Type 0) (s n : WorldSide G) (gears : List G)
+    → HandsAndTakes s n gears [] → Works threads Runs s n (end.Status 6)
+wants_gears threads Runs s n gears taken = NoRoom (record { gears = gears; back = []; passed = taken; unserved = inr refl; status = refl })
+
+-- all that were taken come back
+pub may_come_back : {G : Type 0} (s m : WorldSide G) (gears left : List G) (count : ℕ) → HandsAndTakes s m gears [] → count ≡ length left → length left ≡ length gears → count ≤ m.out
+may_come_back s m gears left count taken whole all = few_out s m gears count taken (omega (arith, whole, all))
+
+pub all_came_back : {G : Type 0} (s m n : WorldSide G) (gears left : List G) (count : ℕ) → HandsAndTakes s m gears []
+    → n.back ≡ appended m.back left → n.out + count ≡ m.out → count ≡ length left → n.handed ≡ m.handed → n.faults ≡ m.faults → HandsAndTakes s n gears left
+all_came_back s m n gears left count taken came out whole handed faults =
+    then_back s m n gears left taken (all_given m n left came (omega (arith, out, whole)) handed faults)
+
+pub some_asked : (n count : ℕ) → n ≡ count → 1 ≤ count → 0 < n
+some_asked n count same some = omega (arith, same, some)
+
+-- the files of a site couldn't be read
+pub unread : {W G C S X L T : Type 0} (told : Tells W G C S X) (outside : CommandOutside) (workers map : List ℕ) (threads : ℕ) (clients : Option ℕ) (s n : CommandSide G) (e : IoError) (ended : CommandEnd L)
+    → HasCause {T = T} s.file_faults n.file_faults (Err e) → ended ≡ end_by e → n.sent ≡ s.sent → n.world ≡ s.world
+    → Serves told outside workers map threads clients s n ended
+unread told outside workers map threads clients s n io.Failed ended cause is written world =
+    Unread (record { why = inl (is, cause.failed refl); written = written; world = world })
+unread told outside workers map threads clients s n io.NoMemory ended cause is written world =
+    Unread (record { why = inr is; written = written; world = world })
 
 -- the application of a route that is short enough
 pub app_of : (route : List ℕ) → length route ≤ 1024 → AppConfig

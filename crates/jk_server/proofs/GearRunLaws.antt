@@ -1,5 +1,5 @@
 -- What was done with each part, said of the gears.
-use Rattle.std.proofs.Common.{ℕ, ◌≡◌, ◌+◌, List, [], ◌∷◌, length, map, Option, refl, ap, subst, arith}
+use Rattle.std.proofs.Common.{ℕ, ◌≡◌, ◌<◌, ◌≤◌, ◌+◌, List, [], ◌∷◌, length, map, Option, refl, ap, sym, ◌∙◌, subst, arith}
 use Rattle.std.specs.Prelude.{sum_by}
 use Rattle.std.specs.List.{All}
 use Rattle.std.proofs.lemmas.List.Elements.{All-cons, All-head, All-nil, All-tail}
@@ -11,8 +11,11 @@ use Rattle.client_session.specs.Requests.{Visit}
 use Rattle.door_clients.specs.Doors.{DoorSide}
 use Rattle.gear_parts.specs.Gears.{GearSide, gear_side}
 use Rattle.gear_parts.specs.declared.world.Gear.{Gear}
+use Rattle.jk_server.specs.Memories.{HasLogs}
 use Rattle.jk_server.specs.Parts.{AreEach}
 use Rattle.jk_server.specs.declared.part.WorkerEnd.{WorkerEnd}
+use Rattle.jk_server.specs.declared.runs.parts.After.{After}
+use Rattle.gear_parts.proofs.ListLaws.{as_long}
 use Rattle.gear_parts.specs.GearParts.{gear_with, gears_with, tools}
 use Rattle.jk_server.specs.Runs.{AreServedGears, IsServedGear}
 
@@ -70,6 +73,41 @@ as_many Is n (p ∷ ps) (o ∷ os) [] es each = absurd each
 as_many Is n (p ∷ ps) (o ∷ os) (v ∷ vs) [] each = absurd each
 as_many Is n (p ∷ ps) (o ∷ os) (v ∷ vs) (e ∷ es) each =
     let rest = as_many Is (n + 1) ps os vs es each.1 in (omega (arith, rest.0), omega (arith, rest.1))
+
+-- The workers left a desk for each of what else they left.
+pub all_paired : {P O V E : Type 0} → (Is : ℕ → P → O → V → E → Type 0) (ps : List P) (os : List O) (vs : List V) (es : List E)
+    → AreEach Is 0 ps os vs es → length vs ≡ length os
+all_paired Is ps os vs es each = let many = as_many Is 0 ps os vs es each in many.1 ∙ sym many.0
+
+-- There is a log for each of them, and room for it.
+pub logs_for : {P O V E X A B : Type 0} → (Is : ℕ → P → O → V → E → Type 0) (ps : List P) (os : List O) (vs : List V) (es : List E) (after : After X A B) (many count : ℕ)
+    → AreEach Is 0 ps os vs es → many ≡ length ps → many ≡ count → HasLogs count after → HasLogs (length os) after
+logs_for {X = X} {A = A} {B = B} Is ps os vs es after many count each whole same has =
+    let left : length os ≡ count = (as_many Is 0 ps os vs es each).0 ∙ sym whole ∙ same in
+    subst (λ (n : ℕ). HasLogs n after) (sym left) has
+
+-- They left so many desks.
+pub each_left : {P O V E : Type 0} → (Is : ℕ → P → O → V → E → Type 0) (ps : List P) (os : List O) (vs left : List V) (es : List E) (many count : ℕ)
+    → AreEach Is 0 ps os vs es → left ≡ vs → many ≡ length ps → many ≡ count → length left ≡ count
+each_left Is ps os vs left es many count each same whole is = ap length same ∙ (as_many Is 0 ps os vs es each).1 ∙ sym whole ∙ is
+
+pub whole_left : {P V : Type 0} → (part : V → ℕ) (ps : List P) (vs left : List V) (many count : ℕ)
+    → sum_by part vs ≡ length ps → left ≡ vs → many ≡ length ps → many ≡ count → sum_by part left ≡ count
+whole_left part ps vs left many count whole same len is = ap (sum_by part) same ∙ whole ∙ sym len ∙ is
+
+-- As many parts were made as there are gears.
+pub parts_kept : {P Y Z : Type 0} → (start : P → Z) (of : Y → Z) (ps : List P) (gears : List Y) (many count : ℕ)
+    → map start ps ≡ map of gears → many ≡ length ps → count ≡ length gears → many ≡ count
+parts_kept start of ps gears many count same whole all = whole ∙ as_long start of ps gears same ∙ sym all
+
+pub some_left : {V : Type 0} → (left : List V) (count : ℕ) → length left ≡ count → 0 < count → 0 < length left
+some_left left count each some = omega (arith, each, some)
+
+pub some_so : (n count : ℕ) → n ≡ count → 0 < count → 0 < n
+some_so n count same some = omega (arith, same, some)
+
+pub few_so : (n count most : ℕ) → n ≡ count → count ≤ most → n ≤ most
+few_so n count most same few = omega (arith, same, few)
 
 -- What follows of each holds of all that the workers left.
 pub all_left : {P O V E : Type 0} → (Is : ℕ → P → O → V → E → Type 0) (Left : O → Type 0)

@@ -1,6 +1,6 @@
 -- Clients that a worker has served so far, and what it makes of the door's next answer.
-use Rattle.std.proofs.Common.{ℕ, ◌≡◌, ◌≤◌, ◌+◌, min, List, [], ◌∷◌, ◌++◌, map, Option, Some, None, inl, inr, refl, sym, ap, subst, ◌∙◌, arith}
-use Rattle.std.specs.List.{All}
+use Rattle.std.proofs.Common.{ℕ, ◌≡◌, ◌<◌, ◌≤◌, ◌+◌, true, false, min, List, [], ◌∷◌, ◌++◌, map, Option, Some, None, inl, inr, refl, sym, ap, subst, ◌∙◌, arith}
+use Rattle.std.specs.Prelude.{IfSome}
 use Rattle.std.proofs.lemmas.List.{length-append, map-append}
 use Rattle.std.proofs.lemmas.List.Elements.{All-nil, All-push}
 use Rattle.jk_io.specs.Told.{appended, IsEmpty, Rose}
@@ -16,22 +16,16 @@ use Rattle.client_session.specs.Requests.{Visit}
 use Rattle.client_session.specs.Sessions.{Serves}
 use Rattle.client_session.specs.Standings.{client_at}
 use Rattle.client_session.specs.declared.ending.SessionEnd.{SessionEnd}
+use Rattle.client_session.specs.declared.ending.SessionEnd.TheVariants as session_end
 use Rattle.locked_balancer.specs.SharedDesks.{SharedState}
 use Rattle.site_config.specs.declared.config.Config.{Config}
 use Rattle.status_worker.specs.Desks.{KeepsTickets}
 use Rattle.uri_map.specs.declared.rule.Rule.{Rule}
-use Rattle.jk_server.specs.Served.{count_of, EndsAtLast, EndsBy, GoesOn, HaveRested, IsRun, IsServed, Run, ServesClient, ServesNext, ServesOn, Settles}
+use Rattle.jk_server.specs.Served.{EndsAtLast, EndsBy, GoesOn, HaveRested, IsRun, IsServed, IsStray, left_by, Run, ServesClient, ServesNext, ServesOn, Settles}
+use Rattle.jk_server.specs.Turns.{GoesOrEnds, IsUnderWay}
 use Rattle.jk_server.specs.Worker.{forgot, IsFit, Rests, standing_with, WorkerSide}
 use Rattle.jk_server.specs.declared.part.WorkerEnd.{WorkerEnd}
 use Rattle.jk_server.specs.declared.part.WorkerEnd.TheVariants as worker
-
--- These clients were served, and the worker rested after each.
-pub record IsUnderWay {C S X : Type 0} (visit : Peer → Visit) (told : Ghosts C X) (faults : S → ℕ) (first now : DoorSide C) (s n : WorkerSide S) (count : ℕ) : Type 0 where
-  pub runs : List (Run C S)
-  pub clients : GaveAndGot first now (map (λ r. (r.link, r.peer)) runs) (map (λ r. r.back) runs)
-  pub sessions : All (IsRun visit told) runs
-  pub rested : HaveRested faults s runs n
-  pub counted : count ≡ count_of runs
 
 pub begins : {C S X : Type 0} → (visit : Peer → Visit) (told : Ghosts C X) (faults : S → ℕ) (door : DoorSide C) (s : WorkerSide S)
     → IsUnderWay visit told faults door door s s 0
@@ -235,3 +229,87 @@ ends_next {C} {S} {L} visit told faults first before mid after s m n count link 
     subst (λ (e : WorkerEnd L). IsServed visit told faults first after s n e) (sym wants.0)
     (rest_wants {L = L} visit told faults first after s n _
     (goes_next {L = L} visit told faults first before mid after s m n count (min (count + 1) 18446744073709551615) link peer way gives wants.1 refl))
+
+-- one turn, after which the worker goes on or ends
+pub turns : {C S L X : Type 0} → (visit : Peer → Visit) (told : Ghosts C X) (faults : S → ℕ) (first before mid after : DoorSide C) (s m n : WorkerSide S) (count : ℕ) (link : C) (peer : Peer) (end : Option (WorkerEnd L))
+    → IsUnderWay visit told faults first before s m count → Gives before mid link peer → ServesNext visit told faults mid after m n link peer end
+    → GoesOrEnds visit told faults first after s n count end
+turns {L = L} visit told faults first before mid after s m n count link peer None way gives serves =
+    goes_next {L = L} visit told faults first before mid after s m n count (min (count + 1) 18446744073709551615) link peer way gives serves refl
+turns visit told faults first before mid after s m n count link peer (Some end) way gives serves =
+    ends_next visit told faults first before mid after s m n count link peer end way gives serves
+
+pub counted_so : {C S X : Type 0} → (visit : Peer → Visit) (told : Ghosts C X) (faults : S → ℕ) (first now : DoorSide C) (s n : WorkerSide S) (count next : ℕ)
+    → IsUnderWay visit told faults first now s n count → next ≡ count → IsUnderWay visit told faults first now s n next
+counted_so visit told faults first now s n count next way same = subst (λ (k : ℕ). IsUnderWay visit told faults first now s n k) (sym same) way
+
+-- ---- what a session is asked with, and what a worker may serve with after it
+
+pub no_caller : (d d' : DeskState) (P : ℕ → Type 0) → d' ≡ record d { receipts = [] } → d.caller ≡ None → IfSome d'.caller P
+no_caller d d' P same none = subst (λ (c : Option ℕ). IfSome c P) (sym (ap (λ (x : DeskState). x.caller) same ∙ none)) tt
+
+pub forgot_sizes : (d d' : DeskState) (sizes : List ℕ) → d' ≡ record d { receipts = [] } → d.sizes ≡ sizes → d'.sizes ≡ sizes
+forgot_sizes d d' sizes same is = ap (λ (x : DeskState). x.sizes) same ∙ is
+
+-- a stray was met where the session ended by one
+pub stray_met : (end : SessionEnd) (old new : DeskState) → MeetsBy end old new → IsStray end → new.met ≡ true
+stray_met (session_end.Closed requests why) old new meets stray = absurd stray
+stray_met (session_end.ClientFault requests) old new meets stray = absurd stray
+stray_met (session_end.Truncated requests) old new meets stray = absurd stray
+stray_met (session_end.Stray ticket returned_at) old new meets stray = meets.1
+stray_met session_end.NoMemory old new meets stray = absurd stray
+
+-- A desk that holds what another does, for the same caller and balancers, with the same parts.
+pub record HoldsAs (from to : DeskState) : Type 0 where
+  pub caller : to.caller ≡ from.caller
+  pub sizes : to.sizes ≡ from.sizes
+  pub held : to.held ≡ from.held
+  pub parts : to.parts ≡ from.parts
+
+holds_same : (from to : DeskState) → to ≡ from → HoldsAs from to
+holds_same from to same = record {
+  caller = ap (λ (x : DeskState). x.caller) same;
+  sizes = ap (λ (x : DeskState). x.sizes) same;
+  held = ap (λ (x : DeskState). x.held) same;
+  parts = ap (λ (x : DeskState). x.parts) same;
+}
+
+holds_took : (from to : DeskState) → to ≡ record from { met = false } → HoldsAs from to
+holds_took from to same = record {
+  caller = ap (λ (x : DeskState). x.caller) same;
+  sizes = ap (λ (x : DeskState). x.sizes) same;
+  held = ap (λ (x : DeskState). x.held) same;
+  parts = ap (λ (x : DeskState). x.parts) same;
+}
+
+left_desk : {S L : Type 0} → (end : WorkerEnd L) (to n : SharedState S) → n ≡ left_by end to → HoldsAs to.desk n.desk
+left_desk {S} (worker.Closed sessions) to n is = holds_same to.desk n.desk (ap (λ (x : SharedState S). x.desk) is)
+left_desk {S} worker.DoorFault to n is = holds_same to.desk n.desk (ap (λ (x : SharedState S). x.desk) is)
+left_desk {S} worker.ShelfFault to n is = holds_same to.desk n.desk (ap (λ (x : SharedState S). x.desk) is)
+left_desk {S} worker.LogFault to n is = holds_same to.desk n.desk (ap (λ (x : SharedState S). x.desk) is)
+left_desk {S} (worker.Stray stray) to n is = holds_took to.desk n.desk (ap (λ (x : SharedState S). x.desk) is)
+left_desk {S} worker.NoMemory to n is = holds_same to.desk n.desk (ap (λ (x : SharedState S). x.desk) is)
+
+-- So a desk is after a session, whether its worker goes on or ends.
+pub settled : {S L : Type 0} → (faults : S → ℕ) (from to n : SharedState S) (end : SessionEnd) (worker_end : Option (WorkerEnd L))
+    → Settles faults from to n end worker_end → HoldsAs to.desk n.desk
+settled {S} faults from to n end None settles = holds_same to.desk n.desk (ap (λ (x : SharedState S). x.desk) settles.1)
+settled faults from to n end (Some worker_end) settles = left_desk worker_end to n settles.1
+
+pub fit_after : (cfg : Config) (rules : List Rule) (first d to n : DeskState) (session : ℕ) (b b' : Beside) → IsFit cfg rules first b
+    → d ≡ record first { receipts = [] } → KeepsTickets session d to → HoldsAs to n → b'.sizes ≡ b.sizes → b'.runs ≡ false → IsFit cfg rules n b'
+fit_after cfg rules first d to n session b b' fit forgets kept holds sizes idle = record {
+  stands = fit.stands;
+  caller = holds.caller ∙ kept.caller ∙ ap (λ (x : DeskState). x.caller) forgets ∙ fit.caller;
+  desk_sizes = holds.sizes ∙ kept.sizes ∙ ap (λ (x : DeskState). x.sizes) forgets ∙ fit.desk_sizes;
+  reach_sizes = sizes ∙ fit.reach_sizes;
+  none_held = holds.held ∙ kept.held ∙ ap (λ (x : DeskState). x.held) forgets ∙ fit.none_held;
+  idle = idle;
+}
+
+pub parts_after : (first d to n : DeskState) (session : ℕ) → d ≡ record first { receipts = [] } → KeepsTickets session d to → HoldsAs to n → n.parts ≡ first.parts
+parts_after first d to n session forgets kept holds = holds.parts ∙ kept.parts ∙ ap (λ (x : DeskState). x.parts) forgets
+
+-- a link that came can be left
+pub room_left : (room before : ℕ) → room ≡ before + 1 → 0 < room
+room_left room before more = omega (arith, more)

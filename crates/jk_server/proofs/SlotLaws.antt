@@ -1,11 +1,14 @@
 -- What was done in each slot, said of the parts and of what the workers left.
-use Rattle.std.proofs.Common.{ℕ, suc, ◌≡◌, ◌+◌, ◌<◌, List, [], ◌∷◌, ◌++◌, length, map, take, refl, subst, sym, ap, ◌∙◌, arith}
+use Rattle.std.proofs.Common.{ℕ, suc, ◌≡◌, ◌+◌, ◌<◌, ◌≤◌, List, [], ◌∷◌, ◌++◌, length, map, take, refl, subst, sym, ap, ◌∙◌, add-one, arith}
 use Rattle.std.specs.Prelude.{slice_index_or}
 use Rattle.std.specs.List.{All}
 use Rattle.std.proofs.lemmas.List.Elements.{All-cons, All-head, All-nil, All-tail}
 use Rattle.std.proofs.Math.Seq.{take-append_seam}
-use Rattle.std.proofs.lemmas.List.{append_assoc, append-nil, map-append}
-use Rattle.jk_server.specs.Parts.{AllFour, AreEach}
+use Rattle.std.proofs.lemmas.List.{append_assoc, append-nil, length-map, map-append}
+use Rattle.jk_server.specs.Parts.{AllFour, AreEach, InEach}
+use Rattle.jk_server.specs.Rooms.{HasRoom, HasSpace, PutsLeft}
+use Rattle.jk_server.specs.declared.part.WorkerEnd.{WorkerEnd}
+use Rattle.jk_server.specs.declared.workers.Emptied.{Emptied}
 
 -- Where what was done in a slot and how it was taken apart say so of its part, they do of all parts, by their numbers.
 pub each_part : {Q P O V E : Type 0} → (part : Q → P) (Did : ℕ → Q → Q → Type 0) (Apart : Q → O → V → E → Type 0) (Is : ℕ → P → O → V → E → Type 0)
@@ -45,6 +48,11 @@ part_put {P} {Q} part slots now slot rest later all p whole cut more is =
 abbrev pub IsSoFar : {P O V E : Type 0} → (P → O → V → E → Type 0) → (slots rest : List P) → List O → List V → List E → Type 0
 IsSoFar {P} {O} {V} {E} Is slots rest outs lefts ends =
     (os : List O) (ls : List V) (es : List E) → AllFour Is rest os ls es → AllFour Is slots (outs ++ os) (lefts ++ ls) (ends ++ es)
+
+pub none_taken : {P O V E : Type 0} → (Is : P → O → V → E → Type 0) (slots rest : List P) (outs : List O) (lefts : List V) (ends : List E)
+    → outs ≡ [] → lefts ≡ [] → ends ≡ [] → rest ≡ slots → IsSoFar Is slots rest outs lefts ends
+none_taken {P} Is slots rest outs lefts ends no_out no_left no_end all os ls es is =
+    rw (no_out, no_left, no_end) (subst (λ (ps : List P). AllFour Is ps os ls es) all is)
 
 pub one_taken : {P O V E : Type 0} → (Is : P → O → V → E → Type 0) (slots rest later : List P) (outs outs' : List O) (lefts lefts' : List V) (ends ends' : List E) (p : P) (o : O) (l : V) (e : E)
     → IsSoFar Is slots rest outs lefts ends → rest ≡ p ∷ later → Is p o l e
@@ -86,6 +94,57 @@ all_of_map {X} {Y} P f [] all = All-nil (λ (y : Y). P (f y))
 all_of_map {X} {Y} P f (y ∷ ys) all =
     All-cons (λ (z : Y). P (f z)) y ys (All-head P (f y) (map f ys) all) (all_of_map P f ys (All-tail P (f y) (map f ys) all))
 
+pub all_of_parts : {P Q : Type 0} → (Is : P → Type 0) (part : Q → P) (slots : List Q) (parts : List P) → map part slots ≡ parts → All Is parts → All (λ (q : Q). Is (part q)) slots
+all_of_parts {P} Is part slots parts filled all = all_of_map Is part slots (subst (λ (ps : List P). All Is ps) (sym filled) all)
+
 pub empty_of : {X : Type 0} → (xs : List X) → length xs ≡ 0 → xs ≡ []
 empty_of [] none = refl
 empty_of (x ∷ xs) none = absurd (omega (arith, none))
+
+-- so of lists that are the same
+pub left_of_all : {P O V E : Type 0} → (Is : P → O → V → E → Type 0) (slots : List P) (os os' : List O) (ls ls' : List V) (es es' : List E)
+    → AllFour Is slots os ls es → os' ≡ os → ls' ≡ ls → es' ≡ es → AllFour Is slots os' ls' es'
+left_of_all Is slots os os' ls ls' es es' all outs lefts ends = rw (outs, lefts, ends) all
+
+-- ---- room for what is left
+
+-- Where there is room for what some workers leave, there is for the first of them.
+pub space_for_one : {L V O Q : Type 0} → (room : Emptied L V O) (rest later : List Q) (q : Q) → HasSpace (length rest) room → rest ≡ q ∷ later → HasSpace 1 room
+space_for_one room rest later q space cut =
+    let len : length rest ≡ suc (length later) = ap length cut in
+    record {
+      for_ends = omega (arith, space.for_ends, len);
+      for_lefts = omega (arith, space.for_lefts, len);
+      for_outs = omega (arith, space.for_outs, len);
+    }
+
+pub space_after : {L V O Q : Type 0} → (before after : Emptied L V O) (end : WorkerEnd L) (left : V) (out : O) (rest later : List Q) (q : Q)
+    → PutsLeft before after end left out → HasSpace (length rest) before → rest ≡ q ∷ later → HasSpace (length later) after
+space_after before after end left out rest later q put space cut = put.space (length later) (length rest) (ap length cut ∙ sym (add-one (length later))) space
+
+pub room_for_all : {L V O P Q : Type 0} → (part : Q → P) (room : Emptied L V O) (slots : List Q) (parts : List P) (count : ℕ)
+    → map part slots ≡ parts → count ≡ length parts → HasRoom count room → HasRoom (length slots) room
+room_for_all {L} {V} {O} part room slots parts count filled whole has =
+    subst (λ (n : ℕ). HasRoom n room) (whole ∙ ap length (sym filled) ∙ length-map slots part) has
+
+pub as_few : {P Q : Type 0} → (part : Q → P) (slots : List Q) (parts : List P) (count most : ℕ)
+    → map part slots ≡ parts → count ≡ length parts → count ≤ most → length slots ≤ most
+as_few part slots parts count most filled whole few = omega (arith, length-map slots part, ap length filled, whole, few)
+
+-- ---- slots that were worked in
+
+pub each_of : {Q : Type 0} → (Is : Q → Type 0) (lent slots : List Q) → lent ≡ slots → All Is slots → All Is lent
+each_of {Q} Is lent slots same all = subst (λ (l : List Q). All Is l) (sym same) all
+
+pub may_work : {Q : Type 0} → (Fits : Q → Type 0) (lent slots : List Q) (most : ℕ) → lent ≡ slots → length slots ≤ most → All Fits slots
+    → (i : ℕ) (d : Q) → i < length lent → (i < most) × Fits (slice_index_or lent i d)
+may_work Fits lent slots most same few fit i d lt = (omega (arith, lt, few, ap length same), each_of Fits lent slots same fit i d lt)
+
+-- What was written through the slice of all slots is as long.
+pub as_long_back : {Q : Type 0} → (n : ℕ) (lent slots new rest : List Q) → n ≡ length slots → lent ≡ slots → length new ≡ length lent → take n (new ++ rest) ≡ new
+as_long_back n lent slots new rest whole same len = written_back n new rest (whole ∙ sym (ap length same) ∙ sym len)
+
+pub none_held_after : {Q : Type 0} → (Did : ℕ → Q → Q → Type 0) (Is : Q → Type 0) → ((n : ℕ) (a b : Q) → Did n a b → Is b)
+    → (before after back : List Q) → back ≡ after → length after ≡ length before → InEach Did before after → All Is back
+none_held_after {Q} Did Is so before after back same len did =
+    subst (λ (l : List Q). All Is l) (sym same) (λ k d lt. so k _ _ (did k d (omega (arith, lt, len))))

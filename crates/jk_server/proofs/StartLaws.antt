@@ -105,6 +105,20 @@ started_run {D} {G} {T} {K} {S} {O} visits told shelved faults lbs at gears lent
   closed = run.closed;
 }
 
+-- So of the whole lists that were lent.
+pub started_back : {D G T K S O C : Type 0} → (at : Gear D G T K S O → GearSide C S) (gears lent new back : List (Gear D G T K S O))
+    → lent ≡ gears → back ≡ new → AreStarted (map at lent) (map at new) → AreStarted (map at gears) (map at back)
+started_back {D} {G} {T} {K} {S} {O} at gears lent new back same written started =
+    subst (λ (gs : List (Gear D G T K S O)). AreStarted (map at gs) (map at back)) same
+    (subst (λ (gs : List (Gear D G T K S O)). AreStarted (map at lent) (map at gs)) (sym written) started)
+
+pub idle_back : {D G T K S O : Type 0} → (IsIdle : T → Type 0) (gears lent new back : List (Gear D G T K S O)) → lent ≡ gears → back ≡ new
+    → (All (λ (g : Gear D G T K S O). IsIdle g.tape) lent → All (λ (g : Gear D G T K S O). IsIdle g.tape) new)
+    → All (λ (g : Gear D G T K S O). IsIdle g.tape) gears → All (λ (g : Gear D G T K S O). IsIdle g.tape) back
+idle_back {D} {G} {T} {K} {S} {O} IsIdle gears lent new back same written then all =
+    subst (λ (gs : List (Gear D G T K S O)). All (λ (g : Gear D G T K S O). IsIdle g.tape) gs) (sym written)
+    (then (subst (λ (gs : List (Gear D G T K S O)). All (λ (g : Gear D G T K S O). IsIdle g.tape) gs) (sym same) all))
+
 pub ok_weaker : {T E : Type 0} (P Q : T → Type 0) (r : Result T E) → IfOk r P → ((x : T) → P x → Q x) → IfOk r Q
 ok_weaker P Q (Ok x) is then = then x is
 ok_weaker P Q (Err e) is then = is

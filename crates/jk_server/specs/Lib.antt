@@ -2,11 +2,14 @@ pub mod Worker
 pub mod Served
 pub mod PartTells
 pub mod Parts
+pub mod Turns
 pub mod Closings
 pub use Rattle.gear_parts.specs.Containers
 pub mod Ends
 pub use Rattle.gear_parts.specs.GearParts
 pub mod RunTells
+pub mod Memories
+pub mod Rooms
 pub mod Runs
 pub mod ServedGears
 pub mod Shelved

@@ -1,26 +1,49 @@
 -- A run from where its balancers started.
-use Rattle.std.specs.Prelude.{ℕ, List, Option}
-use Rattle.std.specs.List.{AllZip}
+use Rattle.std.specs.Prelude.{ℕ, ◌≡◌, ◌<◌, ◌≤◌, true, List, Option}
+use Rattle.std.specs.List.{All, AllZip}
 use Rattle.jk_io.specs.declared.traits.streams.Meanings.{Ghosts}
 use Rattle.jk_io.specs.declared.traits.surroundings.Peer.{Peer}
 use Rattle.jk_model.specs.declared.segment.Segment.{Segment}
 use Rattle.balancer_core.specs.Journal.{IsStart, Journal}
 use Rattle.client_session.specs.Requests.{Visit, visit}
+use Rattle.exchange.specs.Requests.{sizes_of}
 use Rattle.site_config.specs.declared.balancer.Lb.{Lb}
 use Rattle.site_config.specs.declared.config.Config.{Config}
+use Rattle.uri_map.specs.Sites.{stands_in}
 use Rattle.uri_map.specs.declared.rule.Rule.{Rule}
 use Rattle.gear_parts.specs.Gears.{GearSide}
 use Rattle.gear_parts.specs.declared.world.Gear.{Gear}
 use Rattle.jk_server.specs.declared.part.WorkerEnd.{WorkerEnd}
-use Rattle.jk_server.specs.Closings.{Closes}
+use Rattle.jk_server.specs.Closings.{Closes, firsts_of}
 use Rattle.jk_server.specs.Runs.{AreServedGears}
 use Rattle.jk_server.specs.RunTells.{gears_at, RunTells}
 use Rattle.jk_server.specs.declared.runs.ends.Closing.{Closing}
 use Rattle.jk_server.specs.declared.runs.ends.SiteRun.{SiteRun}
+use Rattle.jk_server.specs.declared.runs.serve.NewSite.{NewSite}
+use Rattle.jk_server.specs.declared.runs.serve.TheConstants.{CUT_AT}
+use Rattle.jk_server.specs.declared.workers.TheConstants.{MAX_WORKERS}
 
 -- A Book for each balancer, which starts at this moment with number 0.
 abbrev pub AreNew : List Lb → (at : ℕ) → List Journal → Type 0
 AreNew lbs at books = AllZip (λ lb b. IsStart b lb.book at 0) lbs books
+
+-- A Site that isn't open yet has this name, which is so for the balancers of a configuration, and a Book for each of them.
+pub record IsNewSite (name parts : ℕ) (sizes firsts : List ℕ) (cut_at : ℕ) (lbs : List Lb) (new : NewSite) : Type 0 where
+  pub named : new.blank.name ≡ name
+  pub whole : new.blank.parts ≡ parts
+  pub sized : sizes ≡ sizes_of lbs
+  pub numbered : firsts ≡ firsts_of lbs
+  pub cut : cut_at ≡ CUT_AT
+  pub at : ℕ
+  pub books : AreNew lbs at new.books
+
+-- These gears can work, a worker with each, and each has one of the parts.
+pub record IsReady {D G T K S O : Type 0} (is_idle : T → Type 0) (parts : ℕ) (cfg : Config) (rules : List Rule) (count : ℕ) (gears : List (Gear D G T K S O)) : Type 0 where
+  pub each : parts ≡ count
+  pub some : 0 < count
+  pub few : count ≤ MAX_WORKERS
+  pub stands : stands_in cfg rules ≡ true
+  pub idle : All (λ g. is_idle g.tape) gears
 
 -- The workers served with the gears as they were then, and the closing ended so.
 pub record IsStartedRun {C S L X : Type 0} (visits : ℕ → Peer → Visit) (told : Ghosts C X) (shelved : S → Option (List (ℕ × Segment))) (faults : S → ℕ) (lbs : List Lb) (begun back : List (GearSide C S)) (ends : List (WorkerEnd L)) (closing : Closing L) : Type 0 where

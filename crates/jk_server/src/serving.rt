@@ -3,6 +3,7 @@ ghost use Rattle.std.specs.Prelude.{◌≡◌};
 ghost use Rattle.client_session.specs.Requests.{visit};
 ghost use Rattle.jk_server.specs.Served.{ServesPart};
 ghost use Rattle.jk_server.specs.PartTells.{part_tells};
+ghost use Rattle.jk_server.specs.Turns.{TurnsPart};
 ghost use Rattle.jk_server.specs.Worker.{IsFit};
 
 use crate::client::serve_next;
@@ -35,17 +36,29 @@ pub fn serve_part<L: SiteName, D: Door, R: Reach, K: Clock, S: Shelf, W: Wait>(
     let post = Post { cfg, map, number };
     let mut sessions: u64 = 0;
     'clients: for _ in rt.forever() {
-        match next_client(alloc, &mut part.door) {
-            Arrival::Client { link, peer } => {
-                match serve_next(alloc, post, part, link, &peer) {
-                    Some(end) => return end,
-                    None => sessions = sessions.saturating_add(1),
-                }
-            }
-            Arrival::Closed => return WorkerEnd::Closed { sessions },
-            Arrival::Fault => return WorkerEnd::DoorFault,
-            Arrival::NoMemory => return WorkerEnd::NoMemory,
+        match serve_turn(alloc, post, part, sessions) {
+            Some(end) => return end,
+            None => sessions = sessions.saturating_add(1),
         }
     }
     unreachable!()
+}
+
+/// Serves the next client of the part's door; says whether the worker ends, and how.
+fn serve_turn<L: SiteName, D: Door, R: Reach, K: Clock, S: Shelf, W: Wait>(
+    alloc: Global,
+    post: Post<'_>,
+    part: &mut Part<'_, '_, L, D, R, K, S, W>,
+    sessions: u64,
+) -> Option<WorkerEnd<L>>
+    requires fit { IsFit post.cfg.now post.map.now part.old.desk.desk (R.beside part.old.reach) }
+    ensures { let told = part_tells D.coming D.left D.faults D.L.Meanings K.answers R.Meanings S.faults in
+        TurnsPart told post.entry part.old part.new sessions result }
+{
+    match next_client(alloc, &mut part.door) {
+        Arrival::Client { link, peer } => serve_next(alloc, post, part, link, &peer),
+        Arrival::Closed => Some(WorkerEnd::Closed { sessions }),
+        Arrival::Fault => Some(WorkerEnd::DoorFault),
+        Arrival::NoMemory => Some(WorkerEnd::NoMemory),
+    }
 }

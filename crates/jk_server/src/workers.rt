@@ -1,8 +1,9 @@
 //! A worker for each part.
-ghost use Rattle.std.specs.Prelude.{◌≡◌, ◌+◌, ◌<◌, ◌≤◌, ◌++◌, [], length, map, vec_capacity, vec_len, IfOk};
+ghost use Rattle.std.specs.Prelude.{◌≡◌, ◌<◌, ◌≤◌, ℕ, [], length, map, slice_index_or, vec_capacity, vec_len, IfOk};
 ghost use Rattle.std.specs.List.{All};
-ghost use Rattle.jk_server.specs.Parts.{AllFour, AreServedParts, InEach, LeavesPart, WorksPart};
+ghost use Rattle.jk_server.specs.Parts.{AllFour, AreServedParts, InEach, LeavesPart};
 ghost use Rattle.jk_server.specs.PartTells.{part_tells};
+ghost use Rattle.jk_server.specs.Rooms.{HasRoom, HasSpace, PutsLeft, parts_in};
 ghost use Rattle.jk_server.specs.Worker.{IsFit};
 
 use crate::part::{ServeEnd, WorkerEnd};
@@ -21,18 +22,24 @@ pub const MAX_WORKERS: usize = 64;
 
 /// What a worker works with, and how it ended.
 #[derive(Drop)]
-struct Slot<P, L> {
-    part: P,
-    end: WorkerEnd<L>,
+pub(crate) struct Slot<P, L> {
+    pub(crate) part: P,
+    pub(crate) end: WorkerEnd<L>,
 }
 
-/// The memory of a run: for a slot for each worker, and for what each leaves.
+/// The memory for what the workers of a run leave, and what they left.
+#[derive(Drop)]
+pub(crate) struct Emptied<L, V, O> {
+    pub(crate) workers: Vec<WorkerEnd<L>>,
+    pub(crate) leaving: Vec<V>,
+    pub(crate) outside: Vec<O>,
+}
+
+/// The memory of a run: a slot for each worker, with its part, and room for what each leaves.
 #[derive(Drop)]
 struct Room<P, L, V, O> {
     slots: Vec<Slot<P, L>>,
-    workers: Vec<WorkerEnd<L>>,
-    leaving: Vec<V>,
-    outside: Vec<O>,
+    emptied: Emptied<L, V, O>,
 }
 
 /// Serves each part by a worker of its own, which has the part's place as its number, and waits for all of them. The desks
@@ -62,8 +69,23 @@ where
         IfOk result (AreServedParts told cfg.now map.now parts.entry.items) }
 {
     let _site = site;
-    let room = room_for(alloc, parts.len())?;
-    Ok(serve_in(rt, alloc, cfg, map, parts, room))
+    match room_of(alloc, parts) {
+        Ok(room) => Ok(serve_in(rt, alloc, cfg, map, room)),
+        Err(NoMemory) => Err(NoMemory),
+    }
+}
+
+/// Puts each part into a slot, and makes room for what the workers leave.
+fn room_of<P: Drop, L, V: Drop, O: Drop>(
+    alloc: Global,
+    parts: Vec<P>,
+) -> Result<Room<P, L, V, O>, NoMemory>
+    ensures filled { IfOk result (λ r. map (λ s. s.part) r.slots.items ≡ parts.items) }
+    ensures room { IfOk result (λ r. HasRoom (length r.slots.items) r.emptied) }
+{
+    let mut room = room_for(alloc, parts.len())?;
+    fill_slots(&mut room.slots, parts);
+    Ok(room)
 }
 
 /// Makes room for so many workers.
@@ -71,14 +93,24 @@ fn room_for<P: Drop, L, V: Drop, O: Drop>(
     alloc: Global,
     count: usize,
 ) -> Result<Room<P, L, V, O>, NoMemory>
-    ensures empty { IfOk result (λ r. (r.slots.items ≡ []) × (r.workers.items ≡ []) × (r.leaving.items ≡ []) × (r.outside.items ≡ [])) }
+    ensures empty { IfOk result (λ r. r.slots.items ≡ []) }
     ensures slots { IfOk result (λ r. count ≤ vec_capacity r.slots) }
-    ensures workers { IfOk result (λ r. count ≤ vec_capacity r.workers) }
-    ensures leaving { IfOk result (λ r. count ≤ vec_capacity r.leaving) }
-    ensures outside { IfOk result (λ r. count ≤ vec_capacity r.outside) }
+    ensures room { IfOk result (λ r. HasRoom count r.emptied) }
 {
     Ok(Room {
         slots: Vec::with_capacity(alloc, count)?,
+        emptied: emptied_for(alloc, count)?,
+    })
+}
+
+/// Makes room for what so many workers leave.
+fn emptied_for<L, V: Drop, O: Drop>(
+    alloc: Global,
+    count: usize,
+) -> Result<Emptied<L, V, O>, NoMemory>
+    ensures { IfOk result (λ r. HasRoom count r) }
+{
+    Ok(Emptied {
         workers: Vec::with_capacity(alloc, count)?,
         leaving: Vec::with_capacity(alloc, count)?,
         outside: Vec::with_capacity(alloc, count)?,
@@ -100,39 +132,24 @@ fn serve_in<
     alloc: Global,
     cfg: &Config,
     map: &UriMap,
-    parts: Vec<Part<'s, 'r, L, D, R, K, S, W>>,
-    room: Room<Part<'s, 'r, L, D, R, K, S, W>, L, Leaving<L, S>, Outside<D, R, K>>,
+    mut room: Room<Part<'s, 'r, L, D, R, K, S, W>, L, Leaving<L, S>, Outside<D, R, K>>,
 ) -> ServeEnd<L, D, R, K, S>
 where
     D::L: Send,
-    requires few { vec_len parts ≤ MAX_WORKERS }
-    requires fit { All (λ p. IsFit cfg.now map.now p.desk.desk (R.beside p.reach)) parts.items }
-    requires empty { (room.slots.items ≡ []) × (room.workers.items ≡ []) × (room.leaving.items ≡ []) × (room.outside.items ≡ []) }
-    requires slots { vec_len parts ≤ vec_capacity room.slots }
-    requires workers { vec_len parts ≤ vec_capacity room.workers }
-    requires leaving { vec_len parts ≤ vec_capacity room.leaving }
-    requires outside { vec_len parts ≤ vec_capacity room.outside }
+    requires few { length room.slots.items ≤ MAX_WORKERS }
+    requires fit { All (λ s. IsFit cfg.now map.now s.part.desk.desk (R.beside s.part.reach)) room.slots.items }
+    requires room { HasRoom (length room.slots.items) room.emptied }
     ensures served { let told = part_tells D.coming D.left D.faults D.L.Meanings K.answers R.Meanings S.faults in
-        AreServedParts told cfg.now map.now parts.entry.items result }
+        AreServedParts told cfg.now map.now (parts_in room.entry.slots.items) result }
 {
-    let Room {
-        slots,
-        workers,
-        leaving,
-        outside,
-    } = room;
-    let mut slots = slots;
-    let mut workers = workers;
-    let mut leaving = leaving;
-    let mut outside = outside;
-    fill_slots(&mut slots, parts);
-    serve_all(rt, alloc, cfg, map, slots.as_mut_slice());
-    empty_slots(slots, &mut workers, &mut leaving, &mut outside);
-    ServeEnd {
-        workers: ListOf::from_vec(workers),
-        leaving: ListOf::from_vec(leaving),
-        outside: ListOf::from_vec(outside),
-    }
+    let crew = Crew {
+        rt,
+        alloc,
+        cfg,
+        map,
+    };
+    work_in_all(rt, room.slots.as_mut_slice(), &crew);
+    empty_room(room)
 }
 
 /// Puts each part into a slot.
@@ -149,29 +166,25 @@ fn fill_slots<P: Drop, L>(slots: &mut Vec<Slot<P, L>>, parts: Vec<P>)
     }
 }
 
-/// A worker for each slot.
-fn serve_all<
-    's,
-    'r,
-    L: SiteName + Send + Sync,
-    D: Door + Drop + Send,
-    R: Reach + Drop + Send,
-    K: Clock + Drop + Send,
-    S: Shelf + Drop + Send,
-    W: Threads + Wait + Sync,
->(
-    rt: &W,
-    alloc: Global,
-    cfg: &Config,
-    map: &UriMap,
-    slots: &mut [Slot<Part<'s, 'r, L, D, R, K, S, W>, L>],
-)
-where
-    D::L: Send,
-    requires few { length slots.old ≤ MAX_WORKERS }
-    requires fit { All (λ s. IsFit cfg.now map.now s.part.desk.desk (R.beside s.part.reach)) slots.old }
-    ensures worked { let told = part_tells D.coming D.left D.faults D.L.Meanings K.answers R.Meanings S.faults in
-        InEach (λ i a b. WorksPart told cfg.now map.now i a.part b.part b.end) slots.old slots.new }
+/// What is done in each slot of a run, by its place.
+trait Work<Q> {
+    ghost use Rattle.std.specs.Prelude.{ℕ};
+
+    // it may be done in this slot, which has this number
+    ghost may: { Self → ℕ → Q → Type 0 };
+
+    // it was done in it
+    ghost did: { Self → ℕ → Q → Q → Type 0 };
+
+    fn work(&self, number: usize, slot: &mut Q)
+        requires { may self.now number slot.old }
+        ensures { did self.now number slot.old slot.new };
+}
+
+/// Does it in all slots, by a thread for each.
+fn work_in_all<Q: Send, X: Work<Q> + Sync, W: Threads + Sync>(rt: &W, slots: &mut [Q], todo: &X)
+    requires may { (i : ℕ) (d : Q) → i < length slots.old → X.may todo.now i (slice_index_or slots.old i d) }
+    ensures worked { InEach (X.did todo.now) slots.old slots.new }
     ensures len { length slots.new ≡ length slots.old }
 {
     let count = slots.len().max(1);
@@ -179,54 +192,138 @@ where
         rt,
         slots,
         count,
-        &|number: usize, slot: &mut Slot<Part<L, D, R, K, S, W>, L>|
-            requires few { number < MAX_WORKERS }
-            requires fit { IsFit cfg.now map.now slot.old.part.desk.desk (R.beside slot.old.part.reach) }
-            ensures { let told = part_tells D.coming D.left D.faults D.L.Meanings K.answers R.Meanings S.faults in
-                WorksPart told cfg.entry.now map.entry.now number slot.old.part slot.new.part slot.new.end }
+        &|number: usize, slot: &mut Q|
+            requires { X.may todo.now number slot.old }
+            ensures { X.did todo.entry.now number slot.old slot.new }
         {
-            serve_slot(rt, alloc, cfg, map, number, slot);
+            todo.work(number, slot);
         },
     );
 }
 
-/// The work of one worker.
-fn serve_slot<L: SiteName, D: Door, R: Reach, K: Clock, S: Shelf, W: Wait>(
-    rt: &W,
+/// What all workers of a run serve by.
+#[derive(Drop)]
+struct Crew<'a, W> {
+    rt: &'a W,
     alloc: Global,
-    cfg: &Config,
-    map: &UriMap,
-    number: usize,
-    slot: &mut Slot<Part<'_, '_, L, D, R, K, S, W>, L>,
-)
-    requires few { number < MAX_WORKERS }
-    requires fit { IsFit cfg.now map.now slot.old.part.desk.desk (R.beside slot.old.part.reach) }
-    ensures worked { let told = part_tells D.coming D.left D.faults D.L.Meanings K.answers R.Meanings S.faults in
-        WorksPart told cfg.now map.now number slot.old.part slot.new.part slot.new.end }
-{
-    slot.end = serve_part(rt, alloc, cfg, map, number as u32, &mut slot.part);
+    cfg: &'a Config,
+    map: &'a UriMap,
 }
 
-/// Takes slots apart.
-fn empty_slots<'s, 'r, L: SiteName, D: Drop, R: Drop, K: Drop, S: Shelf + Drop, W>(
-    slots: Vec<Slot<Part<'s, 'r, L, D, R, K, S, W>, L>>,
-    workers: &mut Vec<WorkerEnd<L>>,
-    leaving: &mut Vec<Leaving<L, S>>,
-    outside: &mut Vec<Outside<D, R, K>>,
-)
-    requires none_held { All (λ s. s.part.desk.desk.held ≡ []) slots.items }
-    requires none { (workers.old.items ≡ []) × (leaving.old.items ≡ []) × (outside.old.items ≡ []) }
-    requires room { (vec_len slots ≤ vec_capacity workers.old) × (vec_len slots ≤ vec_capacity leaving.old)
-        × (vec_len slots ≤ vec_capacity outside.old) }
+impl<'a, 's, 'r, L: SiteName, D: Door, R: Reach, K: Clock, S: Shelf, W: Wait> Work<
+    Slot<Part<'s, 'r, L, D, R, K, S, W>, L>,
+> for Crew<'a, W> {
+    ghost use Rattle.std.specs.Prelude.{◌<◌};
+    ghost use Rattle.jk_server.specs.declared.workers.TheConstants.{MAX_WORKERS};
+    ghost use Rattle.jk_server.specs.Parts.{WorksPart};
+    ghost use Rattle.jk_server.specs.PartTells.{part_tells};
+    ghost use Rattle.jk_server.specs.Worker.{IsFit};
+
+    ghost may = { λ crew number slot. (number < MAX_WORKERS)
+        × IsFit crew.cfg.now crew.map.now slot.part.desk.desk (R.beside slot.part.reach) };
+
+    ghost did = { λ crew number a b. let told = part_tells D.coming D.left D.faults D.L.Meanings K.answers R.Meanings S.faults in
+        WorksPart told crew.cfg.now crew.map.now number a.part b.part b.end };
+
+    fn work(&self, number: usize, slot: &mut Slot<Part<'s, 'r, L, D, R, K, S, W>, L>) {
+        slot.end = serve_part(
+            self.rt,
+            self.alloc,
+            self.cfg,
+            self.map,
+            number as u32,
+            &mut slot.part,
+        );
+    }
+}
+
+/// Takes the slots of a run apart.
+fn empty_room<'s, 'r, L: SiteName, D: Drop, R: Drop, K: Drop, S: Shelf + Drop, W>(
+    room: Room<Part<'s, 'r, L, D, R, K, S, W>, L, Leaving<L, S>, Outside<D, R, K>>,
+) -> ServeEnd<L, D, R, K, S>
+    requires none_held { All (λ s. s.part.desk.desk.held ≡ []) room.slots.items }
+    requires room { HasRoom (length room.slots.items) room.emptied }
     ensures { AllFour (λ s out left end. LeavesPart s.part out left × (end ≡ s.end))
-        slots.entry.items outside.new.items leaving.new.items workers.new.items }
+        room.entry.slots.items result.outside result.leaving result.workers }
+{
+    let Room { slots, emptied } = room;
+    let mut emptied = emptied;
+    empty_slots(slots, &mut emptied);
+    end_of(emptied)
+}
+
+/// What a slot is taken apart to.
+trait Apart<L, V, O> {
+    ghost use Rattle.jk_server.specs.declared.part.WorkerEnd.{WorkerEnd};
+
+    // it can be taken apart
+    ghost is_over: { Self → Type 0 };
+
+    // this was left of it
+    ghost leaves: { Self → O → V → WorkerEnd L → Type 0 };
+
+    fn apart(self) -> (O, V, WorkerEnd<L>)
+        requires { is_over self }
+        ensures { leaves self result.0 result.1 result.2 };
+}
+
+/// Takes all slots apart.
+fn empty_slots<Q: Apart<L, V, O> + Drop, L, V: Drop, O: Drop>(
+    slots: Vec<Q>,
+    emptied: &mut Emptied<L, V, O>,
+)
+    requires over { All (λ q. Q.is_over q) slots.items }
+    requires room { HasRoom (length slots.items) emptied.old }
+    ensures { AllFour (λ q out left end. Q.leaves q out left end)
+        slots.items emptied.new.outside.items emptied.new.leaving.items emptied.new.workers.items }
 {
     'slots: for slot in slots {
-        let Slot { part, end } = slot;
+        let (out, left, end) = slot.apart();
+        put_left(emptied, end, left, out);
+    }
+}
+
+/// Puts what a worker left behind what the others did.
+fn put_left<L, V: Drop, O: Drop>(emptied: &mut Emptied<L, V, O>, end: WorkerEnd<L>, left: V, out: O)
+    requires { HasSpace 1 emptied.old }
+    ensures { PutsLeft emptied.old emptied.new end left out }
+{
+    emptied.workers.push_reserved(end);
+    emptied.leaving.push_reserved(left);
+    emptied.outside.push_reserved(out);
+}
+
+/// How the workers of a run ended, and what they left.
+fn end_of<L: SiteName, D, R, K, S>(
+    emptied: Emptied<L, Leaving<L, S>, Outside<D, R, K>>,
+) -> ServeEnd<L, D, R, K, S>
+    ensures { (result.outside ≡ emptied.outside.items) × (result.leaving ≡ emptied.leaving.items) × (result.workers ≡ emptied.workers.items) }
+{
+    let Emptied {
+        workers,
+        leaving,
+        outside,
+    } = emptied;
+    ServeEnd {
+        workers: ListOf::from_vec(workers),
+        leaving: ListOf::from_vec(leaving),
+        outside: ListOf::from_vec(outside),
+    }
+}
+
+impl<'s, 'r, L: SiteName, D, R, K, S: Shelf, W> Apart<L, Leaving<L, S>, Outside<D, R, K>>
+    for Slot<Part<'s, 'r, L, D, R, K, S, W>, L> {
+    ghost use Rattle.std.specs.Prelude.{◌≡◌, []};
+    ghost use Rattle.jk_server.specs.Parts.{LeavesPart};
+
+    ghost is_over = { λ slot. slot.part.desk.desk.held ≡ [] };
+
+    ghost leaves = { λ slot out left end. LeavesPart slot.part out left × (end ≡ slot.end) };
+
+    fn apart(self) -> (Outside<D, R, K>, Leaving<L, S>, WorkerEnd<L>) {
+        let Slot { part, end } = self;
         let (out, left) = leave_part(part);
-        workers.push_reserved(end);
-        leaving.push_reserved(left);
-        outside.push_reserved(out);
+        (out, left, end)
     }
 }
 

@@ -4,7 +4,8 @@ ghost use Rattle.std.specs.List.{All};
 ghost use Rattle.conn_pool.specs.Idle.{counts};
 ghost use Rattle.exchange.specs.Requests.{sizes_of};
 ghost use Rattle.uri_map.specs.Sites.{stands_in};
-ghost use Rattle.gear_parts.specs.GearParts.{tools, tools_of};
+ghost use Rattle.gear_parts.specs.GearParts.{start_of, start_with, tools, tools_of};
+ghost use Rattle.jk_server.specs.Memories.{HasLogs};
 ghost use Rattle.jk_server.specs.ServedGears.{ServesGears};
 ghost use Rattle.jk_server.specs.RunTells.{run_tells};
 
@@ -12,7 +13,7 @@ use crate::part::ServeEnd;
 use crate::runs::ran::Ran;
 use crate::workers::{MAX_WORKERS, run_serve};
 use conn_pool::{PooledReach, Tape};
-use gear_parts::{Common, Gear, Left, fill_parts, take_apart};
+use gear_parts::{Common, Gear, Left, Part, fill_parts, take_apart};
 use jk_io::{Clock, Dial, Door, NoMemory};
 use locked_balancer::{Shelf, SiteName};
 use site_config::Config;
@@ -38,10 +39,10 @@ struct Memory<P, O, A, B> {
 
 /// The memory for the logs of the gears, for what the workers leave, and for the gears again.
 #[derive(Drop)]
-struct After<O, A, B> {
-    logs: Vec<Option<O>>,
-    left: Vec<A>,
-    back: Vec<B>,
+pub(crate) struct After<O, A, B> {
+    pub(crate) logs: Vec<Option<O>>,
+    pub(crate) left: Vec<A>,
+    pub(crate) back: Vec<B>,
 }
 
 /// A worker for each gear, with one part of the share each.
@@ -78,13 +79,51 @@ where
     ensures whole { IfOk result (λ ran. sum_by (λ l. l.share.parts) ran.leaving ≡ vec_len gears) }
     ensures each { IfOk result (λ ran. length ran.leaving ≡ vec_len gears) }
 {
+    match parts_for(alloc, common, share, gears) {
+        Ok(Memory { parts, after }) => {
+            match run_serve(rt, alloc, plan.cfg, plan.map, common.site, parts) {
+                Ok(end) => Ok(ran_of(end, after)),
+                Err(NoMemory) => Err(NoMemory),
+            }
+        }
+        Err(NoMemory) => Err(NoMemory),
+    }
+}
+
+/// Makes a part of each gear, with the memory for what comes after the workers.
+fn parts_for<
+    's,
+    'r,
+    L: SiteName,
+    D: Drop,
+    G: Dial + Drop,
+    T: Tape + Drop,
+    K: Drop,
+    S: Shelf + Drop,
+    O: Drop,
+    A: Drop,
+    B: Drop,
+    R,
+>(
+    alloc: Global,
+    common: &Common<'s, 'r, L, G, R>,
+    share: Share<L>,
+    gears: Vec<Gear<D, G, T, K, S, O>>,
+) -> Result<Memory<Part<'s, 'r, L, D, PooledReach<'s, 'r, G, T, R>, K, S, R>, O, A, B>, NoMemory>
+    requires parts { share.parts ≡ vec_len gears }
+    requires amount { share.amount ≡ 0 }
+    requires idle { All (λ g. T.is_idle g.tape) gears.items }
+    ensures starts { IfOk result (λ m. map (λ p. start_with p.door p.reach p.clock p.desk) m.parts.items
+        ≡ map (start_of L.sizes (counts common.now.pools.now)) gears.items) }
+    ensures count { IfOk result (λ m. vec_len m.parts ≡ vec_len gears) }
+    ensures after { IfOk result (λ m. HasLogs (vec_len gears) m.after) }
+{
     let memory = memory_for(alloc, gears.len())?;
     let Memory { parts, after } = memory;
     let mut parts = parts;
     let mut after = after;
     fill_parts(alloc, common, share, gears, &mut parts, &mut after.logs);
-    let end = run_serve(rt, alloc, plan.cfg, plan.map, common.site, parts)?;
-    Ok(ran_of(end, after))
+    Ok(Memory { parts, after })
 }
 
 /// Takes the memory for so many workers.
@@ -137,9 +176,8 @@ fn ran_of<
     end: ServeEnd<L, D, PooledReach<'s, 'r, G, T, R>, K, S>,
     after: After<O, Left<D, G, T, K, O>, Gear<D, G, T, K, S, O>>,
 ) -> Ran<L, D, G, T, K, S, O>
-    requires empty { (after.left.items ≡ []) × (after.back.items ≡ []) }
-    requires capacity { (vec_len after.logs ≤ vec_capacity after.left) × (vec_len after.logs ≤ vec_capacity after.back) }
-    requires paired { (length end.outside ≡ vec_len after.logs) × (length end.leaving ≡ vec_len after.logs) }
+    requires paired { length end.leaving ≡ length end.outside }
+    requires logs { HasLogs (length end.outside) after }
     requires idle { All (λ o. is_some o.reach.lent ≡ false) end.outside }
     ensures workers { result.workers ≡ end.entry.workers }
     ensures leaving { result.leaving ≡ end.entry.leaving }

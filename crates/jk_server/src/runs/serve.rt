@@ -1,14 +1,13 @@
 //! A connector's run: the balancers start, the workers serve, the desks are closed.
-ghost use Rattle.std.specs.Prelude.{◌≡◌, ◌<◌, ◌≤◌, ℕ, length, map, true, vec_len, IfOk};
+ghost use Rattle.std.specs.Prelude.{◌≡◌, ◌<◌, ◌≤◌, length, map, true, vec_len, IfOk};
 ghost use Rattle.std.specs.List.{All};
 ghost use Rattle.conn_pool.specs.Idle.{counts};
 ghost use Rattle.door_clients.specs.Doors.{side};
 ghost use Rattle.exchange.specs.Requests.{sizes_of};
 ghost use Rattle.uri_map.specs.Sites.{stands_in};
 ghost use Rattle.gear_parts.specs.Gears.{gear_side};
-ghost use Rattle.jk_server.specs.Closings.{firsts_of};
 ghost use Rattle.jk_server.specs.Runs.{AreStarted, RunsGears};
-ghost use Rattle.jk_server.specs.Started.{AreNew, RunsStarted};
+ghost use Rattle.jk_server.specs.Started.{AreNew, IsNewSite, IsReady, RunsStarted};
 ghost use Rattle.jk_server.specs.RunTells.{run_tells};
 
 use crate::runs::closing::settle;
@@ -25,12 +24,12 @@ use site_config::{Config, Lb};
 use std::alloc::Global;
 use std::marker::Brand;
 use std::sync::Wait;
-use std::sync::ledger::Blank;
+use std::sync::ledger::{Blank, Share};
 use std::thread::Threads;
 use uri_map::UriMap;
 
 /// The number of kept entries at which a journal is cut.
-const CUT_AT: u32 = 65_536;
+pub(crate) const CUT_AT: u32 = 65_536;
 
 /// Serves the clients of a site by a worker for each gear. The balancers start with number 0 at the moment that the first
 /// gear's clock gives. After the run each journal is cut once more, in order, and its segment goes to the first gear's shelf.
@@ -59,13 +58,30 @@ where
         IfOk result (RunsGears told cfg.now mounts.now gears.items) }
 {
     let mut gears = gears;
-    let at = first_moment(gears.as_mut_slice());
-    let books = books_of(alloc, cfg.lbs.as_slice(), at)?;
-    let new = NewSite {
-        blank: Blank::new(gears.len() as u64),
-        books,
-    };
-    over_site::<Brand, D, G, T, K, S, O, R>(rt, alloc, Plan { cfg, map: mounts }, new, gears)
+    let at = begin(&mut gears);
+    match new_site(alloc, cfg, at, gears.len()) {
+        Ok(new) => {
+            over_site::<Brand, D, G, T, K, S, O, R>(
+                rt,
+                alloc,
+                Plan { cfg, map: mounts },
+                new,
+                gears,
+            )
+        }
+        Err(NoMemory) => Err(NoMemory),
+    }
+}
+
+/// Reads the first gear's clock.
+fn begin<D: Door, G, T: Tape, K: Clock, S, O>(gears: &mut Vec<Gear<D, G, T, K, S, O>>) -> u64
+    requires some { 0 < vec_len gears.old }
+    ensures started { let at = gear_side (side D.coming D.left D.faults) T.talks K.answers in
+        AreStarted (map at gears.old.items) (map at gears.new.items) }
+    ensures idle { All (λ g. T.is_idle g.tape) gears.old.items → All (λ g. T.is_idle g.tape) gears.new.items }
+    ensures len { vec_len gears.new ≡ vec_len gears.old }
+{
+    first_moment(gears.as_mut_slice())
 }
 
 /// The moment that the first gear's clock gives.
@@ -77,6 +93,17 @@ fn first_moment<D: Door, G, T: Tape, K: Clock, S, O>(gears: &mut [Gear<D, G, T, 
     ensures len { length gears.new ≡ length gears.old }
 {
     gears[0].clock.now()
+}
+
+/// A Site for so many workers that isn't open yet.
+fn new_site(alloc: Global, cfg: &Config, at: u64, workers: usize) -> Result<NewSite, NoMemory>
+    ensures parts { IfOk result (λ new. new.blank.parts ≡ workers) }
+    ensures books { IfOk result (λ new. AreNew cfg.now.lbs at new.books) }
+{
+    Ok(NewSite {
+        blank: Blank::new(workers as u64),
+        books: books_of(alloc, cfg.lbs.as_slice(), at)?,
+    })
 }
 
 /// A Book for each balancer, with number 0 first.
@@ -112,19 +139,20 @@ fn sizes_in(alloc: Global, members: &[MemberConfig]) -> Result<SizeList, NoMemor
 fn pools_for<'r, C: Drop, R>(
     rt: &'r R,
     alloc: Global,
-    lbs: &[Lb],
+    cfg: &Config,
 ) -> Result<Pools<'r, Idle<C>, R>, NoMemory>
-    ensures { IfOk result (λ pools. counts pools ≡ sizes_of lbs.now) }
+    ensures { IfOk result (λ pools. counts pools ≡ sizes_of cfg.now.lbs) }
 {
+    let lbs = cfg.lbs.as_slice();
     let pools = Pools::new(rt, alloc, &pool_sizes(alloc, lbs)?)?;
     Ok(pools)
 }
 
 /// A Site that isn't open yet.
 #[derive(Drop)]
-struct NewSite {
-    blank: Blank,
-    books: BookList,
+pub(crate) struct NewSite {
+    pub(crate) blank: Blank,
+    pub(crate) books: BookList,
 }
 
 /// So over the Site that a name stands for.
@@ -146,21 +174,15 @@ fn over_site<
 ) -> Result<SiteRun<L, Gear<D, G, T, K, S, O>>, NoMemory>
 where
     D::L: Send,
-    requires name { (new.blank.name ≡ L.name) × (new.blank.parts ≡ L.parts) }
-    requires parts { L.parts ≡ vec_len gears }
-    requires sizes { L.sizes ≡ sizes_of plan.cfg.now.lbs }
-    requires firsts { L.firsts ≡ firsts_of plan.cfg.now.lbs }
-    requires cut_at { L.cut_at ≡ CUT_AT }
-    requires new { (at : ℕ) × AreNew plan.cfg.now.lbs at new.books }
-    requires some { 0 < vec_len gears }
-    requires few { vec_len gears ≤ MAX_WORKERS }
-    requires stands { stands_in plan.cfg.now plan.map.now ≡ true }
-    requires idle { All (λ g. T.is_idle g.tape) gears.items }
+    requires new { IsNewSite L.name L.parts L.sizes L.firsts L.cut_at plan.cfg.now.lbs new }
+    requires ready { IsReady T.is_idle L.parts plan.cfg.now plan.map.now (vec_len gears) gears.items }
     ensures ran { let told = run_tells D.coming D.left D.faults T.talks K.answers D.L.Meanings S.shelved S.faults in
         IfOk result (RunsStarted told plan.entry.cfg.now plan.entry.map.now gears.items) }
 {
-    let pools = pools_for(rt, alloc, plan.cfg.lbs.as_slice())?;
-    over_pools(rt, alloc, plan, new, gears, &pools)
+    match pools_for(rt, alloc, plan.cfg) {
+        Ok(pools) => over_pools(rt, alloc, plan, new, gears, &pools),
+        Err(NoMemory) => Err(NoMemory),
+    }
 }
 
 /// So with pools of links.
@@ -185,26 +207,33 @@ fn over_pools<
 where
     D::L: Send,
     requires pool_sizes { counts pools.now ≡ sizes_of plan.cfg.now.lbs }
-    requires name { (new.blank.name ≡ L.name) × (new.blank.parts ≡ L.parts) }
-    requires parts { L.parts ≡ vec_len gears }
-    requires sizes { L.sizes ≡ sizes_of plan.cfg.now.lbs }
-    requires firsts { L.firsts ≡ firsts_of plan.cfg.now.lbs }
-    requires cut_at { L.cut_at ≡ CUT_AT }
-    requires new { (at : ℕ) × AreNew plan.cfg.now.lbs at new.books }
-    requires some { 0 < vec_len gears }
-    requires few { vec_len gears ≤ MAX_WORKERS }
-    requires stands { stands_in plan.cfg.now plan.map.now ≡ true }
-    requires idle { All (λ g. T.is_idle g.tape) gears.items }
+    requires new { IsNewSite L.name L.parts L.sizes L.firsts L.cut_at plan.cfg.now.lbs new }
+    requires ready { IsReady T.is_idle L.parts plan.cfg.now plan.map.now (vec_len gears) gears.items }
     ensures ran { let told = run_tells D.coming D.left D.faults T.talks K.answers D.L.Meanings S.shelved S.faults in
         IfOk result (RunsStarted told plan.entry.cfg.now plan.entry.map.now gears.items) }
 {
-    let NewSite { blank, books } = new;
-    let (site, share) = Site::<L>::open(blank, books);
-    let shared = SharedSite::new(rt, site, CUT_AT);
+    let (shared, share) = shared_site::<L, R>(rt, plan.cfg, new);
     let common = Common {
         site: &shared,
         pools,
     };
-    let ran = work(rt, alloc, plan, &common, share, gears)?;
-    Ok(settle(shared, ran))
+    match work(rt, alloc, plan, &common, share, gears) {
+        Ok(ran) => Ok(settle(shared, ran)),
+        Err(NoMemory) => Err(NoMemory),
+    }
+}
+
+/// Opens a Site that workers share.
+fn shared_site<'r, L: SiteName, R>(
+    rt: &'r R,
+    cfg: &Config,
+    new: NewSite,
+) -> (SharedSite<'r, L, R>, Share<L>)
+    requires { IsNewSite L.name L.parts L.sizes L.firsts L.cut_at cfg.now.lbs new }
+    ensures { (result.1.parts ≡ L.parts) × (result.1.amount ≡ 0) }
+{
+    let NewSite { blank, books } = new;
+    let (site, share) = Site::<L>::open(blank, books);
+    let shared = SharedSite::new(rt, site, CUT_AT);
+    (shared, share)
 }

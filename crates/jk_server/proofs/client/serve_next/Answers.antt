@@ -30,3 +30,18 @@ returns-in-Err-clause-fit g c = fit_again _ _ _ _ _ _ c.serve_client.ensures.fit
 
 pub returns-in-Err-clause-parts : goal.returns-in-Err-clause-parts
 returns-in-Err-clause-parts g c = parts_again _ _ _ c.serve_client.ensures.parts c.rest.ensures.same.1
+
+pub serve_client-requires-clause-fit : goal.serve_client-requires-clause-fit
+serve_client-requires-clause-fit g c = c.requires.fit
+
+pub serve_client-requires-clause-room : goal.serve_client-requires-clause-room
+serve_client-requires-clause-room g c = c.requires.room
+
+pub rest-requires : goal.rest-requires
+rest-requires g c = c.serve_client.ensures.fit.idle
+
+pub returns-in-Some-clause-fit : goal.returns-in-Some-clause-fit
+returns-in-Some-clause-fit g c = c.serve_client.ensures.fit
+
+pub returns-in-Some-clause-parts : goal.returns-in-Some-clause-parts
+returns-in-Some-clause-parts g c = c.serve_client.ensures.parts

@@ -3,7 +3,7 @@ use Rattle.std.proofs.Common.{◌≡◌}
 use Rattle.door_clients.specs.Doors.{side}
 use Rattle.client_session.specs.Requests.{visit}
 use Rattle.jk_server.specs.Worker.{IsFit, worker_side}
-use Rattle.jk_server.proofs.RunLaws.{IsUnderWay}
+use Rattle.jk_server.specs.Turns.{IsUnderWay}
 use Rattle.jk_server.proofs.serving.serve_part.Given as goal
 
 abbrev pub invariant-clients : goal.invariant-clients

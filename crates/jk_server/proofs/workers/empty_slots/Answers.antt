@@ -1,18 +1,24 @@
-use Rattle.std.proofs.Common.{◌≡◌, [], ap, length, refl, sym, arith}
+use Rattle.std.proofs.Common.{◌≡◌, ap, length, sym, subst, arith}
 use Rattle.std.proofs.lemmas.List.Elements.{All-head, All-rest, All-same}
-use Rattle.gear_parts.specs.declared.part.Part.{Part}
-use Rattle.jk_server.specs.declared.workers.Slot.{Slot}
-use Rattle.jk_server.proofs.SlotLaws.{all_taken, one_taken, empty_of}
+use Rattle.jk_server.specs.Rooms.{HasSpace}
+use Rattle.jk_server.proofs.SlotLaws.{all_taken, empty_of, none_taken, one_taken, space_after, space_for_one}
 use Rattle.jk_server.proofs.workers.empty_slots.Goals as goal
 
-pub leave_part-out-requires : goal.leave_part-out-requires
-leave_part-out-requires g c = record {
-  none_held =
-      All-head
-      {X = Slot (Part g.row.L.Denot g.row.D.Denot g.row.R.Denot g.row.K.Denot g.row.S.Denot g.row.W.Denot) g.row.L.Denot}
-      (λ s. s.part.desk.desk.held ≡ []) _ _
-      (All-same (λ s. s.part.desk.desk.held ≡ []) _ _ (sym c.in-Some.ensures.steps.0) c.slots.invariant.none_held);
-}
+pub slots-init : goal.slots-init
+slots-init g c =
+    let all : c.into_iter-slot-iterator.result.rest.items ≡ c.args.slots.items = cc in
+    record {
+      so_far = none_taken _ _ _ _ _ _ c.requires.room.no_out c.requires.room.no_left c.requires.room.no_end all;
+      over = All-same (λ q. g.Q.Apart.is_over q) _ _ all c.requires.over;
+      space = subst (λ n. HasSpace n c.args.emptied.now) (ap length (sym all)) c.requires.room.space;
+    }
+
+pub apart-out-requires : goal.apart-out-requires
+apart-out-requires g c =
+    All-head (λ q. g.Q.Apart.is_over q) _ _ (All-same (λ q. g.Q.Apart.is_over q) _ _ (sym c.in-Some.ensures.steps.0) c.slots.invariant.over)
+
+pub put_left-requires : goal.put_left-requires
+put_left-requires g c = space_for_one _ _ _ _ c.slots.invariant.space c.in-Some.ensures.steps.0
 
 pub returns : goal.returns
 returns g c =
@@ -22,17 +28,9 @@ returns g c =
 pub slots-preserved : goal.slots-preserved
 slots-preserved g c =
     let first = c.in-Some.ensures.steps.0 in
-    let len = ap length first in
+    let put = c.put_left.ensures in
     record {
-      so_far =
-          one_taken _ _ _ _ _ _ _ _ _ _ _ _ _ _ c.slots.invariant.so_far first (c.leave_part-out.ensures, refl)
-          c.push_reserved-in-slots-2.ensures.items c.push_reserved-in-slots.ensures.items c.push_reserved.ensures.items;
-      none_held =
-          All-rest {X = Slot (Part g.row.L.Denot g.row.D.Denot g.row.R.Denot g.row.K.Denot g.row.S.Denot g.row.W.Denot) g.row.L.Denot}
-          (λ s. s.part.desk.desk.held ≡ []) _ _ _ first c.slots.invariant.none_held;
-      ends = omega (arith, len, c.slots.invariant.ends, c.push_reserved.ensures.len, c.push_reserved.ensures.capacity);
-      lefts =
-          omega (arith, len, c.slots.invariant.lefts, c.push_reserved-in-slots.ensures.len, c.push_reserved-in-slots.ensures.capacity);
-      outs =
-          omega (arith, len, c.slots.invariant.outs, c.push_reserved-in-slots-2.ensures.len, c.push_reserved-in-slots-2.ensures.capacity);
+      so_far = one_taken _ _ _ _ _ _ _ _ _ _ _ _ _ _ c.slots.invariant.so_far first c.apart-out.ensures put.outs put.lefts put.ends;
+      over = All-rest (λ q. g.Q.Apart.is_over q) _ _ _ first c.slots.invariant.over;
+      space = space_after _ _ _ _ _ _ _ _ put c.slots.invariant.space first;
     }

@@ -1,7 +1,6 @@
-use Rattle.std.proofs.Common.{◌≡◌, length, arith, rules}
+use Rattle.std.proofs.Common.{sym, ◌∙◌, rules}
 use Rattle.jk_server.specs.Commands.{Ran}
-use Rattle.jk_server.proofs.CommandLaws.{works_err}
-use Rattle.gear_parts.proofs.WorldLaws.{all_given, few_out, then_back}
+use Rattle.jk_server.proofs.CommandLaws.{all_came_back, may_come_back, wants_gears, works_err}
 use Rattle.jk_server.proofs.ReturnLaws.{all_returned}
 use Rattle.jk_server.proofs.orders.container.contain_links.Goals as goal
 
@@ -11,14 +10,15 @@ take_gears-requires-clause-named g c κs within = search rules
 pub returns-in-Err : goal.returns-in-Err
 returns-in-Err g c = works_err _ _ _ _ c.in-Err.error _ c.in-Err.ensures.refused c.in-Err.ensures.cause c.end_by.ensures
 
+pub returns-in-Err-contain_gears : goal.returns-in-Err-contain_gears
+returns-in-Err-contain_gears g c = wants_gears _ _ _ _ c.in-Ok.gears.items c.in-Ok.ensures.taken
+
 pub give_back-requires-clause-out : goal.give_back-requires-clause-out
 give_back-requires-clause-out g c κs within =
-    let gears = c.in-Ok.gears.items in
     let left = c.in-Ok-contain_gears.field-0.gears in
-    let all : length left.items ≡ length gears =
-    all_returned _ c.args.app.now g.W.D.L.Meanings gears left.items c.in-Ok-contain_gears.field-0.workers
-    (c.in-Ok-contain_gears.ensures.ran g.W.T.Tape.talks g.W.K.Clock.answers) in
-    omega (arith, few_out _ _ gears (length left.items) c.in-Ok.ensures.taken (omega (arith, all)), left.ok.0)
+    may_come_back _ _ c.in-Ok.gears.items left.items _ c.in-Ok.ensures.taken left.ok.0
+    (all_returned _ c.args.app.now g.W.D.L.Meanings c.in-Ok.gears.items left.items c.in-Ok-contain_gears.field-0.workers
+    (c.in-Ok-contain_gears.ensures.ran g.W.T.Tape.talks g.W.K.Clock.answers))
 
 pub returns-in-Ok-contain_gears : goal.returns-in-Ok-contain_gears
 returns-in-Ok-contain_gears g c =
@@ -26,12 +26,12 @@ returns-in-Ok-contain_gears g c =
     Ran (record {
       gears = c.in-Ok.gears.items;
       left = left.items;
-      count = omega (arith, c.in-Ok.ensures.count, c.in-Ok.gears.ok.0);
+      count = sym c.in-Ok.gears.ok.0 ∙ c.in-Ok.ensures.count;
       made = c.in-Ok.ensures.made;
       ends = c.in-Ok-contain_gears.field-0.workers;
       run = c.in-Ok-contain_gears.ensures.ran g.W.T.Tape.talks g.W.K.Clock.answers;
       passed =
-          then_back _ _ _ _ _ c.in-Ok.ensures.taken
-          (all_given _ _ left.items c.give_back.ensures.came_back (omega (arith, c.give_back.ensures.fewer, left.ok.0)) c.give_back.ensures.same.0 c.give_back.ensures.same.1);
+          all_came_back _ _ _ _ left.items _ c.in-Ok.ensures.taken c.give_back.ensures.came_back c.give_back.ensures.fewer left.ok.0
+          c.give_back.ensures.same.0 c.give_back.ensures.same.1;
       status = rw c.as_slice.ensures at c.end_of_container.ensures;
     })

@@ -1,5 +1,6 @@
 use Rattle.std.proofs.Common.{refl}
 use Rattle.jk_server.specs.Commands.{Refused, Served}
+use Rattle.jk_server.proofs.CommandLaws.{unread}
 use Rattle.jk_server.proofs.orders.serve.serve.Goals as goal
 
 pub returns-in-Ok-Site : goal.returns-in-Ok-Site
@@ -24,3 +25,11 @@ returns-in-Ok-Refused g c = record {
         world = refl;
       });
 }
+
+pub returns-in-Err : goal.returns-in-Err
+returns-in-Err g c = record {
+  serves = λ incoming. unread _ _ _ _ _ _ _ _ c.in-Err.error _ c.in-Err.ensures.cause c.end_by.ensures refl refl;
+}
+
+pub serve_site-requires-clause-threads : goal.serve_site-requires-clause-threads
+serve_site-requires-clause-threads g c = λ κs within. c.requires.threads

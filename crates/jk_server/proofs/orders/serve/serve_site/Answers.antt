@@ -1,13 +1,32 @@
-use Rattle.std.proofs.Common.{length, arith}
+use Rattle.std.proofs.Common.{length, refl, sym, ◌∙◌}
 use Rattle.jk_server.specs.Commands.{Ran}
 use Rattle.jk_server.specs.Ends.{returned}
-use Rattle.jk_server.proofs.CommandLaws.{works_err}
+use Rattle.jk_server.proofs.CommandLaws.{some_asked, wants_gears, works_err}
+use Rattle.jk_server.proofs.GearRunLaws.{few_so}
 use Rattle.gear_parts.proofs.WorldLaws.{few_out, then_back}
 use Rattle.jk_server.proofs.ReturnLaws.{few_returned}
 use Rattle.jk_server.proofs.orders.serve.serve_site.Goals as goal
 
 pub returns-in-Err : goal.returns-in-Err
 returns-in-Err g c = works_err _ _ _ _ c.in-Err.error _ c.in-Err.ensures.refused c.in-Err.ensures.cause c.end_by.ensures
+
+pub take_gears-requires-clause-named : goal.take_gears-requires-clause-named
+take_gears-requires-clause-named g c κs within = λ some. refl
+
+pub serve_gears-requires-clause-some : goal.serve_gears-requires-clause-some
+serve_gears-requires-clause-some g c κs within = some_asked _ _ c.in-Ok.ensures.count c.requires.threads.0
+
+pub serve_gears-requires-clause-few : goal.serve_gears-requires-clause-few
+serve_gears-requires-clause-few g c κs within = few_so _ _ _ c.in-Ok.ensures.count c.requires.threads.1
+
+pub serve_gears-requires-clause-stands : goal.serve_gears-requires-clause-stands
+serve_gears-requires-clause-stands g c κs within = c.args.site.now.stands
+
+pub serve_gears-requires-clause-idle : goal.serve_gears-requires-clause-idle
+serve_gears-requires-clause-idle g c κs within = c.in-Ok.ensures.idle
+
+pub returns-in-Err-serve_gears : goal.returns-in-Err-serve_gears
+returns-in-Err-serve_gears g c = wants_gears _ _ _ _ c.in-Ok.gears.items c.in-Ok.ensures.taken
 
 pub settle-requires-clause-out : goal.settle-requires-clause-out
 settle-requires-clause-out g c κs within =
@@ -21,7 +40,7 @@ returns-in-Ok-serve_gears g c =
     Ran (record {
       gears = c.in-Ok.gears.items;
       left = ran.gears.items;
-      count = omega (arith, c.in-Ok.ensures.count, c.in-Ok.gears.ok.0);
+      count = sym c.in-Ok.gears.ok.0 ∙ c.in-Ok.ensures.count;
       made = c.in-Ok.ensures.made;
       ends = ran.workers;
       closing = ran.closing;

@@ -1,17 +1,16 @@
-use Rattle.std.proofs.Common.{◌≡◌, ap, ◌∙◌, length, map, false, sym, subst, arith}
+use Rattle.std.proofs.Common.{◌≡◌, ap, ◌∙◌, length, map, false, sym, subst}
 use Rattle.std.specs.Prelude.{is_some}
 use Rattle.std.specs.List.{All}
 use Rattle.gear_parts.specs.GearParts.{tools}
 use Rattle.gear_parts.proofs.ListLaws.{as_long}
+use Rattle.jk_server.proofs.GearRunLaws.{few_so}
 use Rattle.jk_server.proofs.runs.parts.ran_of.Goals as goal
 
 pub take_apart-requires-clause-paired : goal.take_apart-requires-clause-paired
-take_apart-requires-clause-paired g c = λ κs within.
-    omega (arith, c.requires.paired.0, ap length c.into_vec.ensures, c.into_vec.result.ok.0)
+take_apart-requires-clause-paired g c = λ κs within. c.into_vec.result.ok.0 ∙ ap length c.into_vec.ensures ∙ sym c.requires.logs.logged
 
 pub take_apart-requires-clause-room : goal.take_apart-requires-clause-room
-take_apart-requires-clause-room g c = λ κs within.
-    omega (arith, c.requires.paired.0, c.requires.capacity.0, ap length c.into_vec.ensures, c.into_vec.result.ok.0)
+take_apart-requires-clause-room g c = λ κs within. few_so _ _ _ (c.into_vec.result.ok.0 ∙ ap length c.into_vec.ensures) c.requires.logs.for_left
 
 pub take_apart-requires-clause-idle : goal.take_apart-requires-clause-idle
 take_apart-requires-clause-idle g c = λ κs within.
@@ -19,27 +18,11 @@ take_apart-requires-clause-idle g c = λ κs within.
 
 pub invariant_of-result : goal.invariant_of-result
 invariant_of-result g c =
-    let tools_len = as_long _ _ _ _ c.take_apart.ensures.tools in
+    let left_len = c.take_apart.new.left.ok.0 ∙ as_long _ _ _ _ c.take_apart.ensures.tools ∙ ap length c.into_vec.ensures in
     record {
-      paired =
-          omega (
-            arith,
-            c.requires.paired.0,
-            c.requires.paired.1,
-            tools_len,
-            ap length c.into_vec.ensures,
-            c.take_apart.new.left.ok.0,
-          );
-      none_back = c.requires.empty.1;
-      room =
-          omega (
-            arith,
-            c.requires.paired.0,
-            c.requires.capacity.1,
-            tools_len,
-            ap length c.into_vec.ensures,
-            c.take_apart.new.left.ok.0,
-          );
+      paired = left_len ∙ sym c.requires.paired;
+      none_back = c.requires.logs.no_back;
+      room = few_so _ _ _ left_len c.requires.logs.for_back;
     }
 
 pub returns-clause-tools : goal.returns-clause-tools

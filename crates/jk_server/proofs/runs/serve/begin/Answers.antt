@@ -1,0 +1,24 @@
+use Rattle.std.proofs.Common.{sym, ◌∙◌}
+use Rattle.door_clients.specs.Doors.{side}
+use Rattle.gear_parts.specs.Gears.{gear_side}
+use Rattle.gear_parts.proofs.ListLaws.{written_back}
+use Rattle.jk_server.proofs.GearRunLaws.{some_so}
+use Rattle.jk_server.proofs.StartLaws.{idle_back, started_back}
+use Rattle.jk_server.proofs.runs.serve.begin.Goals as goal
+
+pub first_moment-requires : goal.first_moment-requires
+first_moment-requires g c = record { some = some_so _ _ c.as_mut_slice.ensures.len c.requires.some }
+
+pub returns-clause-started : goal.returns-clause-started
+returns-clause-started g c =
+    started_back (gear_side (side g.D.Door.coming g.D.Door.left g.D.Door.faults) g.T.Tape.talks g.K.Clock.answers) _ _ _ _
+    c.as_mut_slice.ensures.value
+    (written_back c.args.gears.now.len c.first_moment.new.gears _ (sym c.as_mut_slice.ensures.len ∙ sym c.first_moment.ensures.len))
+    c.first_moment.ensures.started
+
+pub returns-clause-idle : goal.returns-clause-idle
+returns-clause-idle g c = λ all.
+    idle_back g.T.Tape.is_idle _ _ _ _
+    c.as_mut_slice.ensures.value
+    (written_back c.args.gears.now.len c.first_moment.new.gears _ (sym c.as_mut_slice.ensures.len ∙ sym c.first_moment.ensures.len))
+    c.first_moment.ensures.idle all

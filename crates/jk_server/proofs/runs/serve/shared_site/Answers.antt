@@ -1,0 +1,37 @@
+use Rattle.std.proofs.Common.{◌≡◌, List, [], sym, subst, ◌∙◌, arith}
+use Rattle.balancer_core.specs.Journal.{Journal}
+use Rattle.locked_balancer.specs.Sites.{At}
+use Rattle.jk_server.proofs.BookLaws.{new_added, new_count, new_empty, new_modern, new_nexts, new_sizes}
+use Rattle.jk_server.proofs.runs.serve.shared_site.Goals as goal
+
+pub open-site-requires-clause-name : goal.open-site-requires-clause-name
+open-site-requires-clause-name g c = c.requires.named
+
+pub open-site-requires-clause-parts : goal.open-site-requires-clause-parts
+open-site-requires-clause-parts g c = c.requires.whole
+
+pub open-site-requires-clause-sizes : goal.open-site-requires-clause-sizes
+open-site-requires-clause-sizes g c =
+    new_sizes c.args.cfg.now.lbs c.requires.at c.args.new.books c.requires.books ∙ sym c.requires.sized
+
+pub open-site-requires-clause-firsts : goal.open-site-requires-clause-firsts
+open-site-requires-clause-firsts g c =
+    new_nexts c.args.cfg.now.lbs c.requires.at c.args.new.books c.requires.books ∙ sym c.requires.numbered
+
+pub open-site-requires-clause-few : goal.open-site-requires-clause-few
+open-site-requires-clause-few g c =
+    omega (arith, new_count c.args.cfg.now.lbs c.requires.at c.args.new.books c.requires.books, c.args.cfg.now.few)
+
+pub open-site-requires-clause-modern : goal.open-site-requires-clause-modern
+open-site-requires-clause-modern g c = new_modern c.args.cfg.now.lbs c.requires.at c.args.new.books c.requires.books
+
+pub open-site-requires-clause-fresh : goal.open-site-requires-clause-fresh
+open-site-requires-clause-fresh g c = new_added c.args.cfg.now.lbs c.requires.at c.args.new.books c.requires.books
+
+pub new-shared-requires-clause-uncut : goal.new-shared-requires-clause-uncut
+new-shared-requires-clause-uncut g c = λ above lb.
+    subst (λ (books : List Journal). At books lb (λ b. b.entries ≡ [])) (sym c.open-site.ensures.books)
+    (new_empty c.args.cfg.now.lbs c.requires.at c.args.new.books c.requires.books lb)
+
+pub new-shared-requires-clause-named : goal.new-shared-requires-clause-named
+new-shared-requires-clause-named g c = sym c.requires.cut
