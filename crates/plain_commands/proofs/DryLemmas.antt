@@ -3,6 +3,7 @@ use Rattle.std.proofs.Common.{ℕ, List, [], ◌∷◌, Option, None, Some, Resu
 use Rattle.jk_cli.specs.declared.order.Order.TheVariants as order
 use Rattle.plain_commands.specs.Endings.{status_of, PlainOfFiles, PrintsOfFiles}
 use Rattle.plain_commands.specs.Plain.{DryOver, Plain, PrintsOf, readings}
+use Rattle.plain_commands.specs.Printed.{PrintsSession}
 use Rattle.site_reports.specs.Readings.{AreRead, File, OfFiles, CommandOutside, StopsLong}
 use Rattle.plain_commands.specs.declared.play.Output.{Output}
 use Rattle.plain_commands.proofs.PlainLemmas.{stops_early}
@@ -30,3 +31,11 @@ pub site_ok : {E : Type 0} (files : Option (List (List ℕ × List ℕ))) (reque
 site_ok files request reply workers map q p (Ok o) read says =
     λ incoming. then_site (record { files = files; incoming = incoming }) request reply workers map q p o.text (status_of o.ending) (read incoming) (says incoming)
 site_ok files request reply workers map q p (Err e) read says = tt
+
+-- and over the site of no files, or of these
+pub session_ok : {E : Type 0} (files : Option (List (List ℕ × List ℕ))) (request reply : List ℕ) (site : Option (List ℕ × List ℕ)) (q p : List ℕ) (result : Result Output E)
+    → OfFiles files (λ outside. AreRead outside (File request ∷ File reply ∷ []) (q ∷ p ∷ []))
+    → IfOk result (PrintsSession files q p site) → IfOk result (λ o. PlainOfFiles files (order.Dry request reply site) o)
+session_ok files request reply None q p (Ok o) read says = λ incoming. inr (q ∷ p ∷ [], read incoming, says)
+session_ok files request reply None q p (Err e) read says = tt
+session_ok files request reply (Some (workers, map)) q p result read says = site_ok files request reply workers map q p result read says

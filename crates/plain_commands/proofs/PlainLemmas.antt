@@ -1,12 +1,22 @@
 -- Inputs that are too long, and what reports print.
-use Rattle.std.proofs.Common.{ℕ, ◌≡◌, ◌<◌, ◌⊎◌, Bool, true, List, [], ◌∷◌, length, Option, Some, None, Result, Ok, Err, IfOk, IfSome, refl, sym, subst, inl, inr, arith, length-append}
+use Rattle.std.proofs.Common.{ℕ, ◌≡◌, ◌<◌, ◌⊎◌, Bool, true, List, [], ◌∷◌, length, Option, Some, None, Result, Ok, Err, IfOk, IfSome, codes, refl, sym, ap, subst, inl, inr, arith, length-append}
+use Rattle.std.specs.Prelude.{option_map, IsErrOf}
+use Rattle.jk_cli.specs.Names.{command_in}
 use Rattle.jk_cli.specs.Orders.{order_of}
 use Rattle.jk_cli.specs.declared.order.Order.{Order}
 use Rattle.jk_cli.specs.declared.order.Order.TheVariants as order
-use Rattle.jk_io.specs.Told.{prepended}
-use Rattle.plain_commands.specs.Endings.{status_of, PrintsOfInput}
-use Rattle.plain_commands.specs.Plain.{MatchesRead, Plain, PrintsOf, Reported, status_if, readings, AreFilesDue, InputIsDue, IsInputDue}
-use Rattle.site_reports.specs.Readings.{CommandOutside, Reading, File, Input, IsRead, StopsLong, has_file}
+use Rattle.jk_io.specs.Told.{HasCause, prepended}
+use Rattle.jk_io.specs.declared.failures.IoError.{IoError}
+use Rattle.jk_io.specs.declared.failures.IoError.TheVariants as io
+use Rattle.jk_io.specs.declared.failures.NoMemory.{NoMemory}
+use Rattle.plain_commands.specs.Endings.{status_of, AnswersOrder, EndsSo, PlainSide, PrintsOfInput}
+use Rattle.plain_commands.specs.Plain.{is_built, is_plain, is_plain_command, MatchesRead, Plain, PrintsOf, Reported, status_if, readings, AreFilesDue, InputIsDue, IsInputDue}
+use Rattle.plain_commands.specs.Printed.{IsPrinted}
+use Rattle.site_reports.specs.Readings.{CommandOutside, Reading, File, Input, AreRead, IsRead, StopsLong, has_file}
+use Rattle.site_reports.specs.declared.report.Report.{Report}
+use Rattle.plain_commands.specs.declared.plain.PlainEnd.{PlainEnd}
+use Rattle.plain_commands.specs.declared.plain.PlainEnd.TheVariants as end
+use Rattle.plain_commands.specs.declared.play.Ending.TheVariants as ending
 use Rattle.plain_commands.specs.declared.play.Output.{Output}
 
 -- a front that is too long makes the whole too long, where that is told
@@ -72,3 +82,58 @@ pub match_ok : {E : Type 0} (outside : CommandOutside) (w m workers map : List �
     → IfOk result (λ o. Plain outside (order.Match w m) o.text (status_of o.ending))
 match_ok outside w m workers map first second (Ok o) says = then_input outside w m workers map o.text (status_of o.ending) first second (says outside.files)
 match_ok outside w m workers map first second (Err e) says = tt
+
+-- ---- how a plain command ends
+
+-- an order that plain words are is built
+pub built_by : (words : List (List ℕ)) (o : Order) → order_of words ≡ Some o → is_plain words ≡ true → is_built (command_in o) ≡ true
+built_by words o meant plain = subst (λ (x : Option Order). is_plain_command (option_map command_in x) ≡ true) meant plain
+
+-- what is answered to an order is answered to its words
+pub ends_by : (words : List (List ℕ)) (o : Order) (s n : PlainSide) (ended : PlainEnd) → order_of words ≡ Some o → is_plain words ≡ true
+    → AnswersOrder o s n ended → EndsSo words s n ended
+ends_by words o s n end.Done meant plain answers = (plain, answers words meant)
+ends_by words o s n end.Bad meant plain answers = (plain, answers words meant)
+ends_by words o s n end.NoCommand meant plain answers = absurd (answers words meant)
+ends_by words o s n end.Refused meant plain answers = (plain, answers words meant)
+ends_by words o s n end.InputFault meant plain answers = (plain, answers words meant)
+ends_by words o s n end.OutputFault meant plain answers = (plain, answers words meant)
+ends_by words o s n end.NoMemory meant plain answers = (plain, answers words meant)
+
+-- ---- what is answered to texts that are read, and to one that is too long
+
+-- a call that never fails has the cause that was known before it
+pub cause_kept : {A B : Type 0} (before now : ℕ) (known : Result A IoError) (result : Result B IoError) → HasCause before now known
+    → (IsErrOf result io.Failed → ⊥) → HasCause before now result
+cause_kept before now known result cause never = record { no_fewer = cause.no_fewer; failed = λ failed. absurd (never failed) }
+
+-- nothing was read
+pub never_caused : {B : Type 0} (before : ℕ) (result : Result B IoError) → (IsErrOf result io.Failed → ⊥) → HasCause before before result
+never_caused before result never = record { no_fewer = omega arith; failed = λ failed. absurd (never failed) }
+
+pub long_ok : {X : Type 0} (outside : X → CommandOutside) (all : List Reading) (Of : List (List ℕ) → List ℕ → ℕ → Type 0) (result : Result Output IoError)
+    → IfOk result (λ o. o.text ≡ codes "too long\n") → IfOk result (λ o. o.ending ≡ ending.Refused) → ((x : X) → StopsLong (outside x) all)
+    → IfOk result (λ o. (x : X) → PrintsOf (outside x) all Of o.text (status_of o.ending))
+long_ok outside all Of (Ok o) text is long = λ x. inl (long x, text, ap status_of is)
+long_ok outside all Of (Err e) text is long = tt
+
+pub read_ok : {X : Type 0} (outside : X → CommandOutside) (all : List Reading) (texts : List (List ℕ)) (Of : List (List ℕ) → List ℕ → ℕ → Type 0) (result : Result Output IoError)
+    → ((x : X) → AreRead (outside x) all texts) → IfOk result (λ o. Of texts o.text (status_of o.ending))
+    → IfOk result (λ o. (x : X) → PrintsOf (outside x) all Of o.text (status_of o.ending))
+read_ok outside all texts Of (Ok o) read says = λ x. inr (texts, read x, says)
+read_ok outside all texts Of (Err e) read says = tt
+
+-- the same of one outside
+pub long_at : (outside : CommandOutside) (all : List Reading) (Of : List (List ℕ) → List ℕ → ℕ → Type 0) (result : Result Output IoError)
+    → IfOk result (λ o. o.text ≡ codes "too long\n") → IfOk result (λ o. o.ending ≡ ending.Refused) → StopsLong outside all
+    → IfOk result (λ o. PrintsOf outside all Of o.text (status_of o.ending))
+long_at outside all Of (Ok o) text is long = inl (long, text, ap status_of is)
+long_at outside all Of (Err e) text is long = tt
+
+-- the report that was made is printed
+pub printed_ok : (reports : List ℕ → Bool → Type 0) (made : Result Report NoMemory) (result : Result Output IoError) → IfOk made (λ r. reports r.text r.refused)
+    → IfOk result (IsPrinted made) → IfOk result (λ o. Reported reports o.text (status_of o.ending))
+printed_ok reports made (Ok o) says (report, is, same, ended) =
+    reported reports report.text o.text report.refused (status_of o.ending) same ended
+    (subst (λ (m : Result Report NoMemory). IfOk m (λ r. reports r.text r.refused)) is says)
+printed_ok reports made (Err e) says printed = tt

@@ -6,4 +6,5 @@ pub mod DryReaches
 pub mod DryStarts
 pub mod Endings
 pub mod Plain
+pub mod Printed
 pub mod Turns

@@ -5,6 +5,7 @@ ghost use Rattle.jk_cli.specs.declared.order.Order.TheVariants as order;
 ghost use Rattle.jk_io.specs.Told.{HasCause, Rose};
 ghost use Rattle.plain_commands.specs.Endings.{PlainOfFiles, PlainOfInput, PrintsOfInput, status_of};
 ghost use Rattle.plain_commands.specs.Plain.{is_built, readings, InputIsDue, MatchesRead, Plain, status_if};
+ghost use Rattle.plain_commands.specs.Printed.{IsPrinted};
 ghost use Rattle.site_reports.specs.Readings.{has_file, Input};
 ghost use Rattle.plain_commands.specs.declared.play.Ending.TheVariants as Ends;
 ghost use Rattle.jk_io.specs.declared.whole_input.TheConstants.{MAX_INPUT_BYTES};
@@ -19,9 +20,10 @@ use site_reports::{Report, report_config, report_matches, report_site};
 use std::alloc::Global;
 
 // The answer to a text beyond the limit.
-pub(crate) fn too_long(alloc: Global) -> Result<Output, NoMemory>
+pub(crate) fn too_long(alloc: Global) -> Result<Output, IoError>
     ensures text { IfOk result (λ o. o.text ≡ codes "too long\n") }
     ensures ending { IfOk result (λ o. o.ending ≡ Ends.Refused) }
+    ensures failed { IsErrOf result IoError.Failed → ⊥ }
 {
     let text = Bytes::from_slice(alloc, b"too long\n")?;
     Ok(Output {
@@ -45,15 +47,23 @@ pub(crate) fn output_of(report: Report) -> Output
     }
 }
 
+// What is printed of a report.
+pub(crate) fn printed(report: Result<Report, NoMemory>) -> Result<Output, IoError>
+    ensures ok { IfOk result (IsPrinted report) }
+    ensures failed { IsErrOf result IoError.Failed → ⊥ }
+{
+    Ok(output_of(report?))
+}
+
 // `play`
 fn play_input<S: Source>(alloc: Global, input: &mut S) -> Result<Output, IoError>
     ensures ok { IfOk result (λ o. PlainOfInput (S.incoming input.old) order.Play o) }
     ensures cause { HasCause (S.faults input.old) (S.faults input.new) result }
 {
-    let Some(script) = read_input(alloc, input)? else {
-        return Ok(too_long(alloc)?);
-    };
-    Ok(play(alloc, script.as_slice())?)
+    match read_input(alloc, input)? {
+        None => too_long(alloc),
+        Some(script) => Ok(play(alloc, script.as_slice())?),
+    }
 }
 
 // `check`
@@ -61,10 +71,10 @@ fn check_input<S: Source>(alloc: Global, input: &mut S) -> Result<Output, IoErro
     ensures ok { IfOk result (λ o. PlainOfInput (S.incoming input.old) order.Check o) }
     ensures cause { HasCause (S.faults input.old) (S.faults input.new) result }
 {
-    let Some(text) = read_input(alloc, input)? else {
-        return Ok(too_long(alloc)?);
-    };
-    Ok(check(alloc, text.as_slice())?)
+    match read_input(alloc, input)? {
+        None => too_long(alloc),
+        Some(text) => Ok(check(alloc, text.as_slice())?),
+    }
 }
 
 // `config WORKERS`
@@ -76,10 +86,10 @@ fn config_workers<F: Files>(
     ensures ok { IfOk result (λ o. PlainOfFiles (F.files files.old) (order.Config workers.now None) o) }
     ensures cause { HasCause (F.faults files.old) (F.faults files.new) result }
 {
-    let Some(workers) = read_text(alloc, files, workers)? else {
-        return Ok(too_long(alloc)?);
-    };
-    Ok(output_of(report_config(alloc, workers.as_slice())?))
+    match read_text(alloc, files, workers)? {
+        None => too_long(alloc),
+        Some(workers) => printed(report_config(alloc, workers.as_slice())),
+    }
 }
 
 // `config WORKERS MAP`
@@ -92,11 +102,10 @@ fn config_site<F: Files>(
     ensures ok { IfOk result (λ o. PlainOfFiles (F.files files.old) (order.Config workers.now (Some map.now)) o) }
     ensures cause { HasCause (F.faults files.old) (F.faults files.new) result }
 {
-    let Some((workers, map)) = read_pair(alloc, files, workers, map)? else {
-        return Ok(too_long(alloc)?);
-    };
-    let report = report_site(alloc, workers.as_slice(), map.as_slice())?;
-    Ok(output_of(report))
+    match read_pair(alloc, files, workers, map)? {
+        None => too_long(alloc),
+        Some((workers, map)) => printed(report_site(alloc, workers.as_slice(), map.as_slice())),
+    }
 }
 
 // `config`
@@ -126,11 +135,13 @@ fn match_input<S: Source>(
     ensures ok { IfOk result (λ o. PrintsOfInput (S.incoming input.old) (Input ∷ []) (MatchesRead workers.now map.now) o) }
     ensures cause { HasCause (S.faults input.old) (S.faults input.new) result }
 {
-    let Some(paths) = read_input(alloc, input)? else {
-        return Ok(too_long(alloc)?);
-    };
-    let report = report_matches(alloc, workers.as_slice(), map.as_slice(), paths.as_slice())?;
-    Ok(output_of(report))
+    match read_input(alloc, input)? {
+        None => too_long(alloc),
+        Some(paths) => {
+            let (workers, map) = (workers.as_slice(), map.as_slice());
+            printed(report_matches(alloc, workers, map, paths.as_slice()))
+        }
+    }
 }
 
 // `match WORKERS MAP`
@@ -147,10 +158,10 @@ fn match_paths<F: Files, S: Source>(
     ensures input { (input.new ≡ input.old)
         ⊎ InputIsDue (record { files = F.files files.old; incoming = S.incoming input.old }) (order.Match workers.now map.now) }
 {
-    let Some((workers, map)) = read_pair(alloc, files, workers, map)? else {
-        return Ok(too_long(alloc)?);
-    };
-    match_input(alloc, input, &workers, &map)
+    match read_pair(alloc, files, workers, map)? {
+        None => too_long(alloc),
+        Some((workers, map)) => match_input(alloc, input, &workers, &map),
+    }
 }
 
 /// What a plain command prints of what it reads, and how that ends.

@@ -1,25 +1,26 @@
 //! `dry`: one session over what its files say.
-ghost use Rattle.std.specs.Prelude.{[], ◌∷◌, IfOk};
+ghost use Rattle.std.specs.Prelude.{[], ◌∷◌, IfOk, IsErrOf};
 ghost use Rattle.jk_cli.specs.declared.order.Order.TheVariants as order;
 ghost use Rattle.jk_io.specs.Told.{HasCause};
 ghost use Rattle.plain_commands.specs.Dry.{ReportsDry, default_map, default_workers};
 ghost use Rattle.plain_commands.specs.Endings.{PlainOfFiles, PrintsOfFiles, status_of};
 ghost use Rattle.plain_commands.specs.Plain.{DryOver, Reported};
+ghost use Rattle.plain_commands.specs.Printed.{PrintsSession};
 ghost use Rattle.site_reports.specs.Readings.{File};
 
-use crate::commands::{output_of, too_long};
+use crate::commands::{printed, too_long};
 use crate::play::Output;
 use crate::session::report::{DEFAULT_MAP, DEFAULT_WORKERS, Wire, report_dry};
 use crate::texts::read_pair;
-use jk_io::{Bytes, Files, IoError, NoMemory};
+use jk_io::{Bytes, Files, IoError};
 use std::alloc::Global;
 
 // The session of two texts, over the site of no files.
-fn dry_alone(alloc: Global, wire: Wire<'_>) -> Result<Output, NoMemory>
-    ensures { IfOk result (λ o. Reported (ReportsDry wire.entry.request.now wire.entry.reply.now default_workers default_map) o.text (status_of o.ending)) }
+fn dry_alone(alloc: Global, wire: Wire<'_>) -> Result<Output, IoError>
+    ensures ok { IfOk result (λ o. Reported (ReportsDry wire.entry.request.now wire.entry.reply.now default_workers default_map) o.text (status_of o.ending)) }
+    ensures failed { IsErrOf result IoError.Failed → ⊥ }
 {
-    let report = report_dry(alloc, DEFAULT_WORKERS, DEFAULT_MAP, wire)?;
-    Ok(output_of(report))
+    printed(report_dry(alloc, DEFAULT_WORKERS, DEFAULT_MAP, wire))
 }
 
 // The session of two texts, over the site of two files.
@@ -34,11 +35,31 @@ fn dry_site<F: Files>(
         (DryOver wire.entry.request.now wire.entry.reply.now) o) }
     ensures cause { HasCause (F.faults files.old) (F.faults files.new) result }
 {
-    let Some((workers, map)) = read_pair(alloc, files, workers, map)? else {
-        return Ok(too_long(alloc)?);
-    };
-    let report = report_dry(alloc, workers.as_slice(), map.as_slice(), wire)?;
-    Ok(output_of(report))
+    match read_pair(alloc, files, workers, map)? {
+        None => too_long(alloc),
+        Some((workers, map)) => printed(report_dry(
+            alloc,
+            workers.as_slice(),
+            map.as_slice(),
+            wire,
+        )),
+    }
+}
+
+// The session of two texts, over its site.
+fn dry_over<F: Files>(
+    alloc: Global,
+    files: &mut F,
+    wire: Wire<'_>,
+    site: &Option<(Bytes, Bytes)>,
+) -> Result<Output, IoError>
+    ensures ok { IfOk result (PrintsSession (F.files files.old) wire.entry.request.now wire.entry.reply.now site.now) }
+    ensures cause { HasCause (F.faults files.old) (F.faults files.new) result }
+{
+    match site {
+        None => dry_alone(alloc, wire),
+        Some((workers, map)) => dry_site(alloc, files, wire, workers, map),
+    }
 }
 
 /// `dry`
@@ -52,15 +73,14 @@ pub(crate) fn dry<F: Files>(
     ensures ok { IfOk result (λ o. PlainOfFiles (F.files files.old) (order.Dry request.now reply.now site.now) o) }
     ensures cause { HasCause (F.faults files.old) (F.faults files.new) result }
 {
-    let Some((request, reply)) = read_pair(alloc, files, request, reply)? else {
-        return Ok(too_long(alloc)?);
-    };
-    let wire = Wire {
-        request: request.as_slice(),
-        reply: reply.as_slice(),
-    };
-    match site {
-        None => Ok(dry_alone(alloc, wire)?),
-        Some((workers, map)) => dry_site(alloc, files, wire, workers, map),
+    match read_pair(alloc, files, request, reply)? {
+        None => too_long(alloc),
+        Some((request, reply)) => {
+            let wire = Wire {
+                request: request.as_slice(),
+                reply: reply.as_slice(),
+            };
+            dry_over(alloc, files, wire, site)
+        }
     }
 }

@@ -44,7 +44,8 @@ impl<N: ReplyName> Model for OneReply<N> {
     ghost invariant = { λ r. IsOver (reply_link N.reply ∷ []) r.reach };
 }
 
-fn link_of(alloc: Global, reply: &[u8]) -> Result<MemLink, NoMemory>
+/// A link that has these bytes to come.
+pub(crate) fn link_of(alloc: Global, reply: &[u8]) -> Result<MemLink, NoMemory>
     ensures { IfOk result (λ link. link ≡ reply_link reply.now) }
 {
     let incoming = Bytes::from_slice(alloc, reply)?;

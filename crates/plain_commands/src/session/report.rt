@@ -10,7 +10,7 @@ ghost use Rattle.plain_commands.specs.DryLines.{dry_text, end_words};
 ghost use Rattle.plain_commands.specs.DryStarts.{IsFirstClient, IsFirstDesk, IsFirstReach};
 
 use crate::session::lines::{lines_of, put_number, words_of};
-use crate::session::one_reply::{OneReply, ReplyName};
+use crate::session::one_reply::{OneReply, ReplyName, link_of};
 use crate::session::start::{desk_of, reach_of};
 use balancer_core::PlainDesk;
 use client_session::{SessionEnd, serve_session};
@@ -129,9 +129,7 @@ fn with_client<N: ReplyName>(
     requires reach { IsFirstReach site.now.config.now.lbs reach.old }
     ensures { IfOk result (Dries site.now.config.now site.now.map.now request.now N.reply) }
 {
-    let incoming = Bytes::from_slice(alloc, request)?;
-    let mut client = MemLink::new(alloc, incoming, NumberList::new(alloc));
-    tell(alloc, site, desk, reach, &mut client)
+    tell(alloc, site, desk, reach, &mut link_of(alloc, request)?)
 }
 
 fn with_desk<N: ReplyName>(
@@ -144,8 +142,8 @@ fn with_desk<N: ReplyName>(
     requires reach { IsFirstReach site.now.config.now.lbs reach.old }
     ensures { IfOk result (Dries site.now.config.now site.now.map.now request.now N.reply) }
 {
-    let mut desk = desk_of(alloc, site.config.lbs.as_slice())?;
-    with_client(alloc, site, request, &mut desk, reach)
+    let lbs = site.config.lbs.as_slice();
+    with_client(alloc, site, request, &mut desk_of(alloc, lbs)?, reach)
 }
 
 fn with_reach<N: ReplyName>(
@@ -158,8 +156,8 @@ fn with_reach<N: ReplyName>(
     requires reply { reply.now ≡ N.reply }
     ensures { IfOk result (Dries site.now.config.now site.now.map.now request.now reply.now) }
 {
-    let mut reach = reach_of::<N>(alloc, site.config.lbs.as_slice(), reply)?;
-    with_desk(alloc, site, request, &mut reach)
+    let lbs = site.config.lbs.as_slice();
+    with_desk(alloc, site, request, &mut reach_of::<N>(alloc, lbs, reply)?)
 }
 
 // The report of a session over this site.

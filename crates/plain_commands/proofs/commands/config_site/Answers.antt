@@ -1,25 +1,30 @@
-use Rattle.std.proofs.Common.{[], ◌∷◌, None, inl, inr, refl}
+use Rattle.std.proofs.Common.{[], ◌∷◌, None, Some}
+use Rattle.plain_commands.specs.Plain.{Answers}
+use Rattle.jk_cli.specs.declared.order.Order.TheVariants as order
+use Rattle.site_reports.specs.Readings.{File}
 use Rattle.site_reports.specs.Reports.{ReportsSite}
-use Rattle.plain_commands.specs.Endings.{status_of}
-use Rattle.plain_commands.proofs.PlainLemmas.{reported}
+use Rattle.plain_commands.proofs.PlainLemmas.{cause_kept, long_ok, printed_ok, read_ok}
 use Rattle.plain_commands.proofs.commands.config_site.Goals as goal
 
-pub returns-in_default-clause-ok : goal.returns-in_default-clause-ok
-returns-in_default-clause-ok g c incoming =
-    inl (rw c.in_default.is at (c.in_ok-workers.ensures.long incoming), c.in_ok-too_long.ensures.text, rw c.in_ok-too_long.ensures.ending refl)
+pub returns-in-None-clause-ok : goal.returns-in-None-clause-ok
+returns-in-None-clause-ok g c =
+    long_ok (λ incoming. record { files = g.F.Files.files c.args.files.now; incoming = incoming }) (File c.args.workers.now ∷ File c.args.map.now ∷ []) (Answers (order.Config c.args.workers.now (Some c.args.map.now))) c.too_long.result c.too_long.ensures.text c.too_long.ensures.ending
+    (λ incoming. rw c.in-None.is at (c.in_ok-read_pair.ensures.long incoming))
+
+pub returns-in-None-clause-cause : goal.returns-in-None-clause-cause
+returns-in-None-clause-cause g c = cause_kept _ _ _ _ c.read_pair.ensures.cause c.too_long.ensures.failed
 
 pub report_site-requires : goal.report_site-requires
 report_site-requires g c =
-    let read = rw c.in-Some.is at (c.in_ok-workers.ensures.there None) in
-    record { short = (rw c.as_slice.ensures read.0.1, rw c.as_slice-2.ensures read.1.0.1) }
+    let read = rw c.in-Some.is at (c.in_ok-read_pair.ensures.there None) in
+    record { short = (rw c.as_slice.ensures read.0.1, rw c.as_slice-in-Some.ensures read.1.0.1) }
 
-pub returns-clause-ok : goal.returns-clause-ok
-returns-clause-ok g c incoming =
-    let report = c.in_ok-report.report in
-    let out = c.output_of.result in
-    inr (
-      c.in-Some.workers ∷ c.in-Some.map ∷ [],
-      rw c.in-Some.is at (c.in_ok-workers.ensures.there incoming),
-      reported (ReportsSite c.in-Some.workers c.in-Some.map) report.text out.text report.refused (status_of out.ending)
-          c.output_of.ensures.text c.output_of.ensures.status (rw (c.as_slice.ensures, c.as_slice-2.ensures) at c.in_ok-report.ensures),
-    )
+pub returns-in-Some-clause-ok : goal.returns-in-Some-clause-ok
+returns-in-Some-clause-ok g c =
+    read_ok (λ incoming. record { files = g.F.Files.files c.args.files.now; incoming = incoming }) (File c.args.workers.now ∷ File c.args.map.now ∷ []) (c.in-Some.workers ∷ c.in-Some.map ∷ []) (Answers (order.Config c.args.workers.now (Some c.args.map.now))) c.printed.result
+    (λ incoming. rw c.in-Some.is at (c.in_ok-read_pair.ensures.there incoming))
+    (printed_ok (ReportsSite c.in-Some.workers c.in-Some.map) c.report_site.result c.printed.result
+    (rw (c.as_slice.ensures, c.as_slice-in-Some.ensures) at c.report_site.ensures) c.printed.ensures.ok)
+
+pub returns-in-Some-clause-cause : goal.returns-in-Some-clause-cause
+returns-in-Some-clause-cause g c = cause_kept _ _ _ _ c.read_pair.ensures.cause c.printed.ensures.failed

@@ -1,16 +1,24 @@
-use Rattle.std.proofs.Common.{[], ◌∷◌, inr}
+use Rattle.std.proofs.Common.{[], ◌∷◌, None, inl}
+use Rattle.plain_commands.specs.Plain.{Answers}
+use Rattle.jk_cli.specs.declared.order.Order.TheVariants as order
+use Rattle.site_reports.specs.Readings.{File}
 use Rattle.site_reports.specs.Reports.{ReportsConfig}
-use Rattle.plain_commands.specs.Endings.{status_of}
-use Rattle.plain_commands.proofs.PlainLemmas.{reported}
+use Rattle.plain_commands.proofs.PlainLemmas.{cause_kept, long_ok, printed_ok, read_ok}
 use Rattle.plain_commands.proofs.commands.config_workers.Goals as goal
 
-pub returns-clause-ok : goal.returns-clause-ok
-returns-clause-ok g c incoming =
-    let report = c.in_ok-report_config.field-0 in
-    let out = c.output_of.result in
-    inr (
-      c.in-Some.workers ∷ [],
-      ((rw c.in-Some.is at c.in_ok-workers.ensures.there, rw c.in-Some.is at c.in_ok-workers.ensures.short), tt),
-      reported (ReportsConfig c.in-Some.workers) report.text out.text report.refused (status_of out.ending)
-          c.output_of.ensures.text c.output_of.ensures.status (rw c.as_slice.ensures at c.in_ok-report_config.ensures),
-    )
+pub returns-in-None-clause-ok : goal.returns-in-None-clause-ok
+returns-in-None-clause-ok g c =
+    long_ok (λ incoming. record { files = g.F.Files.files c.args.files.now; incoming = incoming }) (File c.args.workers.now ∷ []) (Answers (order.Config c.args.workers.now None)) c.too_long.result c.too_long.ensures.text c.too_long.ensures.ending
+    (λ incoming. inl (rw c.in-None.is at c.in_ok-read_text.ensures.long))
+
+pub returns-in-None-clause-cause : goal.returns-in-None-clause-cause
+returns-in-None-clause-cause g c = cause_kept _ _ _ _ c.read_text.ensures.cause c.too_long.ensures.failed
+
+pub returns-in-Some-clause-ok : goal.returns-in-Some-clause-ok
+returns-in-Some-clause-ok g c =
+    read_ok (λ incoming. record { files = g.F.Files.files c.args.files.now; incoming = incoming }) (File c.args.workers.now ∷ []) (c.in-Some.workers ∷ []) (Answers (order.Config c.args.workers.now None)) c.printed.result
+    (λ incoming. ((rw c.in-Some.is at c.in_ok-read_text.ensures.there, rw c.in-Some.is at c.in_ok-read_text.ensures.short), tt))
+    (printed_ok (ReportsConfig c.in-Some.workers) c.report_config.result c.printed.result (rw c.as_slice.ensures at c.report_config.ensures) c.printed.ensures.ok)
+
+pub returns-in-Some-clause-cause : goal.returns-in-Some-clause-cause
+returns-in-Some-clause-cause g c = cause_kept _ _ _ _ c.read_text.ensures.cause c.printed.ensures.failed

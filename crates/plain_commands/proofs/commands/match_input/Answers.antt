@@ -1,16 +1,24 @@
-use Rattle.std.proofs.Common.{[], ◌∷◌, inr}
+use Rattle.std.proofs.Common.{[], ◌∷◌, inl}
+use Rattle.plain_commands.specs.Plain.{MatchesRead}
+use Rattle.site_reports.specs.Readings.{Input}
 use Rattle.site_reports.specs.Reports.{ReportsMatches}
-use Rattle.plain_commands.specs.Endings.{status_of}
-use Rattle.plain_commands.proofs.PlainLemmas.{reported}
+use Rattle.plain_commands.proofs.PlainLemmas.{cause_kept, long_ok, printed_ok, read_ok}
 use Rattle.plain_commands.proofs.commands.match_input.Goals as goal
 
-pub returns-clause-ok : goal.returns-clause-ok
-returns-clause-ok g c files =
-    let report = c.in_ok-report.report in
-    let out = c.output_of.result in
-    inr (
-      c.in-Some.paths ∷ [],
-      ((rw c.in-Some.is at c.in_ok-paths.ensures.there, rw c.in-Some.is at c.in_ok-paths.ensures.short), tt),
-      reported (ReportsMatches c.args.workers.now c.args.map.now c.in-Some.paths) report.text out.text report.refused (status_of out.ending)
-          c.output_of.ensures.text c.output_of.ensures.status (rw (c.as_slice.ensures, c.as_slice-2.ensures, c.as_slice-3.ensures) at c.in_ok-report.ensures),
-    )
+pub returns-in-None-clause-ok : goal.returns-in-None-clause-ok
+returns-in-None-clause-ok g c =
+    long_ok (λ files. record { files = files; incoming = g.S.Meanings.incoming c.args.input.now }) (Input ∷ []) (MatchesRead c.args.workers.now c.args.map.now) c.too_long.result c.too_long.ensures.text c.too_long.ensures.ending
+    (λ files. inl (rw c.in-None.is at c.in_ok-read_input.ensures.long))
+
+pub returns-in-None-clause-cause : goal.returns-in-None-clause-cause
+returns-in-None-clause-cause g c = cause_kept _ _ _ _ c.read_input.ensures.cause c.too_long.ensures.failed
+
+pub returns-in-Some-clause-ok : goal.returns-in-Some-clause-ok
+returns-in-Some-clause-ok g c =
+    read_ok (λ files. record { files = files; incoming = g.S.Meanings.incoming c.args.input.now }) (Input ∷ []) (c.in-Some.paths ∷ []) (MatchesRead c.args.workers.now c.args.map.now) c.printed.result
+    (λ files. ((rw c.in-Some.is at c.in_ok-read_input.ensures.there, rw c.in-Some.is at c.in_ok-read_input.ensures.short), tt))
+    (printed_ok (ReportsMatches c.args.workers.now c.args.map.now c.in-Some.paths) c.report_matches.result c.printed.result
+    (rw (c.as_slice-workers.ensures, c.as_slice-map.ensures, c.as_slice.ensures) at c.report_matches.ensures) c.printed.ensures.ok)
+
+pub returns-in-Some-clause-cause : goal.returns-in-Some-clause-cause
+returns-in-Some-clause-cause g c = cause_kept _ _ _ _ c.read_input.ensures.cause c.printed.ensures.failed

@@ -1,25 +1,29 @@
-use Rattle.std.proofs.Common.{[], ◌∷◌, None, inl, inr, refl}
+use Rattle.std.proofs.Common.{[], ◌∷◌, None}
+use Rattle.plain_commands.specs.Plain.{DryOver}
+use Rattle.site_reports.specs.Readings.{File}
 use Rattle.plain_commands.specs.Dry.{ReportsDry}
-use Rattle.plain_commands.specs.Endings.{status_of}
-use Rattle.plain_commands.proofs.PlainLemmas.{reported}
+use Rattle.plain_commands.proofs.PlainLemmas.{cause_kept, long_ok, printed_ok, read_ok}
 use Rattle.plain_commands.proofs.dry.dry_site.Goals as goal
 
-pub returns-in_default-clause-ok : goal.returns-in_default-clause-ok
-returns-in_default-clause-ok g c incoming =
-    inl (rw c.in_default.is at (c.in_ok-workers.ensures.long incoming), c.in_ok-too_long.ensures.text, rw c.in_ok-too_long.ensures.ending refl)
+pub returns-in-None-clause-ok : goal.returns-in-None-clause-ok
+returns-in-None-clause-ok g c =
+    long_ok (λ incoming. record { files = g.F.Files.files c.args.files.now; incoming = incoming }) (File c.args.workers.now ∷ File c.args.map.now ∷ []) (DryOver c.args.wire.request.now c.args.wire.reply.now) c.too_long.result c.too_long.ensures.text c.too_long.ensures.ending
+    (λ incoming. rw c.in-None.is at (c.in_ok-read_pair.ensures.long incoming))
+
+pub returns-in-None-clause-cause : goal.returns-in-None-clause-cause
+returns-in-None-clause-cause g c = cause_kept _ _ _ _ c.read_pair.ensures.cause c.too_long.ensures.failed
 
 pub report_dry-requires : goal.report_dry-requires
 report_dry-requires g c =
-    let read = rw c.in-Some.is at (c.in_ok-workers.ensures.there None) in
-    record { short = (rw c.as_slice.ensures read.0.1, rw c.as_slice-2.ensures read.1.0.1) }
+    let read = rw c.in-Some.is at (c.in_ok-read_pair.ensures.there None) in
+    record { short = (rw c.as_slice.ensures read.0.1, rw c.as_slice-in-Some.ensures read.1.0.1) }
 
-pub returns-clause-ok : goal.returns-clause-ok
-returns-clause-ok g c incoming =
-    let report = c.in_ok-report.report in
-    let out = c.output_of.result in
-    inr (
-      c.in-Some.workers ∷ c.in-Some.map ∷ [],
-      rw c.in-Some.is at (c.in_ok-workers.ensures.there incoming),
-      reported (ReportsDry c.args.wire.request.now c.args.wire.reply.now c.in-Some.workers c.in-Some.map) report.text out.text report.refused (status_of out.ending)
-          c.output_of.ensures.text c.output_of.ensures.status (rw (c.as_slice.ensures, c.as_slice-2.ensures) at c.in_ok-report.ensures),
-    )
+pub returns-in-Some-clause-ok : goal.returns-in-Some-clause-ok
+returns-in-Some-clause-ok g c =
+    read_ok (λ incoming. record { files = g.F.Files.files c.args.files.now; incoming = incoming }) (File c.args.workers.now ∷ File c.args.map.now ∷ []) (c.in-Some.workers ∷ c.in-Some.map ∷ []) (DryOver c.args.wire.request.now c.args.wire.reply.now) c.printed.result
+    (λ incoming. rw c.in-Some.is at (c.in_ok-read_pair.ensures.there incoming))
+    (printed_ok (ReportsDry c.args.wire.request.now c.args.wire.reply.now c.in-Some.workers c.in-Some.map) c.report_dry.result c.printed.result
+    (rw (c.as_slice.ensures, c.as_slice-in-Some.ensures) at c.report_dry.ensures) c.printed.ensures.ok)
+
+pub returns-in-Some-clause-cause : goal.returns-in-Some-clause-cause
+returns-in-Some-clause-cause g c = cause_kept _ _ _ _ c.read_pair.ensures.cause c.printed.ensures.failed
