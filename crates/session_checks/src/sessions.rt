@@ -12,16 +12,25 @@ use check_rows::rows::{bytes_of, number};
 use check_rows::telling::{put_bytes, put_faults, put_shown, put_word};
 use check_rows::ways::{Way, link_of, writing};
 use client_session::{SessionEnd, serve_session_with};
-use jk_io::{Bytes, ListOf, MemLink, MemLinkList, MemReach, NoMemory, NumberList, Peer, StepClock};
-use jk_model::ServedList;
+use jk_io::{Bytes, MemLink, MemLinkList, MemReach, NoMemory, NumberList, Peer, StepClock};
+use jk_model::{Served, ServedList};
 use site_config::Config;
 use std::alloc::Global;
 use uri_map::UriMap;
 
-/// The site of a row, and its words on what fails.
+/// A row, whose last bytes go their way: those of the client, or those of the first link.
+#[derive(Clone, Copy)]
+struct Row<'t> {
+    fields: &'t [&'t str; 8],
+    bytes: &'t [u8],
+    way: Way,
+    of_member: bool,
+}
+
+/// A row and its site.
 #[derive(Clone, Copy)]
 struct Case<'t> {
-    words: &'t str,
+    row: Row<'t>,
     config: &'t Config,
     map: &'t UriMap,
 }
@@ -34,8 +43,14 @@ pub fn tell_client(
     way: Way,
     out: &mut String,
 ) -> Result<(), NoMemory> {
-    let client = &mut link_of(alloc, bytes, way)?;
-    tell(alloc, fields, links_of(alloc, fields[4])?, client, out)
+    let of_member = false;
+    let row = Row {
+        fields,
+        bytes,
+        way,
+        of_member,
+    };
+    tell(alloc, row, out)
 }
 
 /// A session whose first link's bytes stand last in the row.
@@ -46,9 +61,14 @@ pub fn tell_member(
     way: Way,
     out: &mut String,
 ) -> Result<(), NoMemory> {
-    let links = one_link(alloc, link_of(alloc, bytes, way)?)?;
-    let client = &mut client_of(alloc, fields[4], said(fields[1], "client="))?;
-    tell(alloc, fields, links, client, out)
+    let of_member = true;
+    let row = Row {
+        fields,
+        bytes,
+        way,
+        of_member,
+    };
+    tell(alloc, row, out)
 }
 
 /// The number after such a word of a row, None where it isn't there.
@@ -58,81 +78,108 @@ fn said(words: &str, word: &str) -> Option<u64> {
 }
 
 /// A client with these bytes, of which one write fails after so many were taken.
-fn client_of(alloc: Global, text: &str, write: Option<u64>) -> Result<MemLink, NoMemory> {
+fn client_with(alloc: Global, text: &str, write: Option<u64>) -> Result<MemLink, NoMemory> {
     link_of(alloc, bytes_of(alloc, text)?.as_slice(), writing(write))
 }
 
-fn one_link(alloc: Global, link: MemLink) -> Result<MemLinkList, NoMemory> {
-    let mut links = ListOf::new(alloc);
-    links.push(link)?;
-    Ok(links)
+/// The client of a row.
+fn client_of(alloc: Global, row: Row<'_>) -> Result<MemLink, NoMemory> {
+    if row.of_member {
+        client_with(alloc, row.fields[4], said(row.fields[1], "client="))
+    } else {
+        link_of(alloc, row.bytes, row.way)
+    }
 }
 
 fn link_with(alloc: Global, text: &str) -> Result<MemLink, NoMemory> {
     Ok(MemLink::new(alloc, bytes_of(alloc, text)?, NumberList::new(alloc)))
 }
 
-/// Links with these bytes to come, in the order in which they are dialled.
-fn links_of(alloc: Global, list: &str) -> Result<MemLinkList, NoMemory> {
-    let mut links = ListOf::new(alloc);
+fn push_bytes(alloc: Global, links: &mut MemLinkList, row: Row<'_>) -> Result<(), NoMemory> {
+    links.push(link_of(alloc, row.bytes, row.way)?)?;
+    Ok(())
+}
+
+fn push_text(alloc: Global, links: &mut MemLinkList, text: &str) -> Result<(), NoMemory> {
+    links.push(link_with(alloc, text)?)?;
+    Ok(())
+}
+
+/// Adds links with these bytes to come, in the order in which they are dialled.
+fn push_list(alloc: Global, links: &mut MemLinkList, list: &str) -> Result<(), NoMemory> {
     if list != "-" {
         for item in list.split(" & ") {
-            links.push(link_with(alloc, item)?)?;
+            push_text(alloc, links, item)?;
         }
     }
+    Ok(())
+}
+
+fn push_links(alloc: Global, links: &mut MemLinkList, row: Row<'_>) -> Result<(), NoMemory> {
+    if row.of_member {
+        push_bytes(alloc, links, row)
+    } else {
+        push_list(alloc, links, row.fields[4])
+    }
+}
+
+/// The links of a row.
+fn links_of(alloc: Global, row: Row<'_>) -> Result<MemLinkList, NoMemory> {
+    let mut links = MemLinkList::new(alloc);
+    push_links(alloc, &mut links, row)?;
     Ok(links)
 }
 
-fn tell(
-    alloc: Global,
-    fields: &[&str; 8],
-    links: MemLinkList,
-    client: &mut MemLink,
-    out: &mut String,
-) -> Result<(), NoMemory> {
-    match config_of(alloc, fields[2])? {
-        Some(config) => tell_site(alloc, fields, &config, links, client, out),
+/// What comes out of a row's session.
+fn tell(alloc: Global, row: Row<'_>, out: &mut String) -> Result<(), NoMemory> {
+    match config_of(alloc, row.fields[2])? {
+        Some(config) => tell_site(alloc, row, &config, out),
         None => put_word(out, "workers refused"),
     }
 }
 
 fn tell_site(
     alloc: Global,
-    fields: &[&str; 8],
+    row: Row<'_>,
     config: &Config,
-    links: MemLinkList,
-    client: &mut MemLink,
     out: &mut String,
 ) -> Result<(), NoMemory> {
-    let words = fields[1];
-    match map_of(alloc, fields[3], config)? {
-        Some(map) => tell_case(
-            alloc,
-            &Case {
-                words,
-                config,
-                map: &map,
-            },
-            links,
-            client,
-            out,
-        ),
+    match map_of(alloc, row.fields[3], config)? {
+        Some(map) => tell_mapped(alloc, row, config, &map, out),
         None => put_word(out, "map refused"),
     }
 }
 
-fn tell_case(
+fn tell_mapped(
+    alloc: Global,
+    row: Row<'_>,
+    config: &Config,
+    map: &UriMap,
+    out: &mut String,
+) -> Result<(), NoMemory>
+    requires stands { stands_in config.now map.now ≡ true }
+{
+    tell_case(alloc, &Case { row, config, map }, out)
+}
+
+fn tell_case(alloc: Global, case: &Case<'_>, out: &mut String) -> Result<(), NoMemory>
+    requires stands { stands_in case.now.config.now case.now.map.now ≡ true }
+{
+    let first = said(case.row.fields[1], "first=").unwrap_or(0);
+    let lbs = case.config.lbs.as_slice();
+    tell_desk(alloc, case, &mut desk_of(alloc, lbs, first)?, out)
+}
+
+fn tell_desk(
     alloc: Global,
     case: &Case<'_>,
-    links: MemLinkList,
-    client: &mut MemLink,
+    desk: &mut PlainDesk,
     out: &mut String,
 ) -> Result<(), NoMemory>
     requires stands { stands_in case.now.config.now case.now.map.now ≡ true }
+    requires desk { IsDeskOf case.now.config.now.lbs desk.old }
 {
-    let first = said(case.words, "first=").unwrap_or(0);
-    let desk = &mut desk_of(alloc, case.config.lbs.as_slice(), first)?;
-    tell_over(alloc, case, desk, links, client, out)
+    tell_linked(alloc, case, desk, &mut client_of(alloc, case.row)?, out)
 }
 
 /// The numbers of the begins that fail.
@@ -144,29 +191,68 @@ fn failing(alloc: Global, begin: Option<u64>) -> Result<NumberList, NoMemory> {
     Ok(numbers)
 }
 
-fn reach_of(alloc: Global, case: &Case<'_>, links: MemLinkList) -> Result<MemReach, NoMemory>
+fn reach_over(
+    alloc: Global,
+    case: &Case<'_>,
+    links: MemLinkList,
+    failing: NumberList,
+) -> Result<MemReach, NoMemory>
     ensures sizes { IfOk result (λ reach. reach.sizes ≡ sizes_in case.now.config.now.lbs) }
     ensures idle { IfOk result (λ reach. reach.book.begun ≡ None) }
 {
     let sizes = sizes_of(alloc, case.config.lbs.as_slice())?;
-    let failing = failing(alloc, said(case.words, "dial="))?;
     Ok(MemReach::new(alloc, links, sizes, failing))
 }
 
-fn tell_over(
+fn reach_of(alloc: Global, case: &Case<'_>) -> Result<MemReach, NoMemory>
+    ensures sizes { IfOk result (λ reach. reach.sizes ≡ sizes_in case.now.config.now.lbs) }
+    ensures idle { IfOk result (λ reach. reach.book.begun ≡ None) }
+{
+    let links = links_of(alloc, case.row)?;
+    reach_over(
+        alloc,
+        case,
+        links,
+        failing(alloc, said(case.row.fields[1], "dial="))?,
+    )
+}
+
+fn tell_linked(
     alloc: Global,
     case: &Case<'_>,
     desk: &mut PlainDesk,
-    links: MemLinkList,
     client: &mut MemLink,
     out: &mut String,
 ) -> Result<(), NoMemory>
     requires stands { stands_in case.now.config.now case.now.map.now ≡ true }
     requires desk { IsDeskOf case.now.config.now.lbs desk.old }
 {
-    let reach = &mut reach_of(alloc, case, links)?;
+    tell_over(alloc, case, desk, &mut reach_of(alloc, case)?, client, out)
+}
+
+/// Serves the session, and tells what it did.
+fn tell_over(
+    alloc: Global,
+    case: &Case<'_>,
+    desk: &mut PlainDesk,
+    reach: &mut MemReach,
+    client: &mut MemLink,
+    out: &mut String,
+) -> Result<(), NoMemory>
+    requires stands { stands_in case.now.config.now case.now.map.now ≡ true }
+    requires desk { IsDeskOf case.now.config.now.lbs desk.old }
+    requires sizes { reach.old.sizes ≡ sizes_in case.now.config.now.lbs }
+    requires idle { reach.old.book.begun ≡ None }
+{
     serve(alloc, case, desk, reach, client, out)?;
     put_rest(case, desk, reach, client, out)
+}
+
+/// A client on this machine.
+fn local(alloc: Global) -> Result<Peer, NoMemory> {
+    Ok(Peer {
+        addr: Bytes::from_slice(alloc, b"127.0.0.1")?,
+    })
 }
 
 fn serve(
@@ -183,44 +269,45 @@ fn serve(
     requires idle { reach.old.book.begun ≡ None }
     ensures { desk.new.sizes ≡ desk.old.sizes }
 {
-    let peer = Peer {
-        addr: Bytes::from_slice(alloc, b"127.0.0.1")?,
-    };
-    let (end, rows) = serve_peer(alloc, case, &peer, desk, reach, client);
-    put_shown(out, &end)?;
-    put_rows(rows.as_slice(), out)
+    let mut rows = ServedList::new(alloc);
+    let end = serve_into(alloc, case, desk, reach, client, &mut rows)?;
+    put_end(end, rows.as_slice(), out)
 }
 
-/// The session's end, and its rows.
-fn serve_peer(
+fn put_end(end: SessionEnd, rows: &[Served], out: &mut String) -> Result<(), NoMemory> {
+    put_shown(out, &end)?;
+    put_rows(rows, out)
+}
+
+/// The session's end. Adds its rows.
+fn serve_into(
     alloc: Global,
     case: &Case<'_>,
-    peer: &Peer,
     desk: &mut PlainDesk,
     reach: &mut MemReach,
     client: &mut MemLink,
-) -> (SessionEnd, ServedList)
+    rows: &mut ServedList,
+) -> Result<SessionEnd, NoMemory>
     requires stands { stands_in case.now.config.now case.now.map.now ≡ true }
     requires desk { IsDeskOf case.now.config.now.lbs desk.old }
     requires sizes { reach.old.sizes ≡ sizes_in case.now.config.now.lbs }
     requires idle { reach.old.book.begun ≡ None }
     ensures { desk.new.sizes ≡ desk.old.sizes }
 {
-    let mut rows = ServedList::new(alloc);
+    let peer = local(alloc)?;
     let mut clock = StepClock::new(NumberList::new(alloc));
-    let end = serve_session_with(
+    Ok(serve_session_with(
         alloc,
         case.config,
         case.map,
         0,
-        peer,
+        &peer,
         desk,
         reach,
         client,
         &mut clock,
-        &mut rows,
-    );
-    (end, rows)
+        rows,
+    ))
 }
 
 fn put_balancers(case: &Case<'_>, desk: &mut PlainDesk, out: &mut String) -> Result<(), NoMemory>

@@ -48,9 +48,32 @@ fn tell_line(
     line: &mut MemLink,
     out: &mut String,
 ) -> Result<(), NoMemory> {
-    let client = &mut client_of(alloc, fields[3], said(fields[1], "client="))?;
-    let reading = &mut reading_of(alloc, fields[2])?;
-    tell_talk(alloc, fields[1], reading, line, client, out)
+    let written = said(fields[1], "client=");
+    tell_between(
+        alloc,
+        fields,
+        line,
+        &mut client_of(alloc, fields[3], written)?,
+        out,
+    )
+}
+
+fn tell_between(
+    alloc: Global,
+    fields: &[&str; 8],
+    line: &mut MemLink,
+    client: &mut MemLink,
+    out: &mut String,
+) -> Result<(), NoMemory> {
+    let words = fields[1];
+    tell_talk(
+        alloc,
+        words,
+        &mut reading_of(alloc, fields[2])?,
+        line,
+        client,
+        out,
+    )
 }
 
 /// How a body is framed: `none`, `chunked`, or its length.
