@@ -1,6 +1,6 @@
 //! What the rows are about.
 
-use crate::{plain, values, words};
+use crate::{plain, values};
 use anyhow::Result;
 use block_rows::judging::{BlockArea, judge_files};
 use block_rows::row::{BlockRow, RowError};
@@ -15,8 +15,6 @@ impl BlockArea for Commands {
     fn holds(&self, alloc: Global, row: BlockRow<'_>) -> Result<bool, RowError> {
         match row.value("kind") {
             None => plain::holds(alloc, row),
-            Some("words") => words::is_order(alloc, row),
-            Some("help") => words::is_help(alloc, row),
             Some(kind) => values::holds(alloc, row, kind),
         }
     }

@@ -15,6 +15,7 @@
 
 mod area;
 mod plain;
+mod row_text;
 mod scripts;
 mod sites;
 mod told;

@@ -1,24 +1,26 @@
 //! The plain commands over files, input and output in memory.
 use block_rows::comparing::wants;
 use block_rows::row::{BlockRow, RowError};
-use jk_io::{Bytes, MemFiles, MemLink, NumberList};
+use jk_io::{Bytes, MemFiles, MemLink, NoMemory, NumberList};
 use plain_commands::run_plain;
 use std::alloc::Global;
 
-/// What a command read and wrote, and its status.
-#[derive(Clone, Copy)]
-struct Shown<'s> {
+/// Whether a command ended with this status, its input gave so many bytes, and it wrote this, as its row says.
+fn wants_command(
+    alloc: Global,
+    row: BlockRow<'_>,
     status: u8,
-    /// How many bytes the input gave.
-    reads: usize,
-    written: &'s [u8],
+    reads: u64,
+    written: &[u8],
+) -> Result<bool, RowError> {
+    let is_status = row.number(alloc, "status")?.unwrap_or(0) == u64::from(status);
+    let is_read = row.number(alloc, "reads")?.unwrap_or(reads) == reads;
+    Ok(is_status && is_read && wants(alloc, row, written)?)
 }
 
-fn wants_command(alloc: Global, row: BlockRow<'_>, shown: Shown<'_>) -> Result<bool, RowError> {
-    let status = row.number(alloc, "status")?.unwrap_or(0);
-    let reads = row.number(alloc, "reads")?.unwrap_or(shown.reads as u64);
-    let numbers = u64::from(shown.status) == status && shown.reads as u64 == reads;
-    Ok(numbers && wants(alloc, row, shown.written)?)
+fn push(numbers: &mut NumberList, number: u64) -> Result<(), NoMemory> {
+    numbers.push(number)?;
+    Ok(())
 }
 
 /// An output that takes all, or what is wanted and no more.
@@ -26,9 +28,7 @@ fn output_of(alloc: Global, row: BlockRow<'_>) -> Result<MemLink, RowError> {
     let mut failing = NumberList::new(alloc);
     if row.value("output-fails").is_some() {
         let output = row.text(alloc, "output", 0)?;
-        failing
-            .push(output.len() as u64)
-            .map_err(|_| RowError::NoMemory)?;
+        push(&mut failing, output.len() as u64)?;
     }
     Ok(MemLink::failing_at(alloc, Bytes::new(alloc), NumberList::new(alloc), failing)?)
 }
@@ -56,12 +56,8 @@ fn over_input(
 ) -> Result<bool, RowError> {
     let mut out = output_of(alloc, row)?;
     let status = run_plain(alloc, words, files, input, &mut out);
-    let shown = Shown {
-        status,
-        reads: input.received().len(),
-        written: out.sent(),
-    };
-    wants_command(alloc, row, shown)
+    let reads = input.received().len() as u64;
+    wants_command(alloc, row, status, reads, out.sent())
 }
 
 fn over_files(

@@ -1,32 +1,62 @@
 //! What a person is told of a command that ended.
 use crate::plain::{files_of, input_of};
+use crate::row_text::RowText;
 use block_rows::row::{BlockRow, RowError};
 use command_remarks::{CountedInput, Ended, KeptFiles, RemarkOut, remarks_on};
-use jk_io::{Bytes, MemFiles, MemLink, NumberList};
+use jk_io::{Bytes, Files, MemFiles, MemLink, NoMemory, NumberList, Sink, Source};
 use plain_commands::run_plain;
 use std::alloc::Global;
 
 /// The reason that stands for the system's.
 const REASON: &[u8] = b"the reason";
 
-fn put_remarks(alloc: Global, ended: &Ended<'_>, out: &mut Bytes) -> Result<(), RowError> {
-    let link = MemLink::new(alloc, Bytes::new(alloc), NumberList::new(alloc));
-    let mut told = RemarkOut::new(alloc, link);
-    remarks_on(alloc, &mut told, ended).map_err(|_| RowError::NoMemory)?;
-    let (link, written) = told.finish();
-    written.map_err(|_| RowError::NoMemory)?;
-    Ok(out.extend(link.sent())?)
+/// A link from which nothing comes.
+fn empty_link(alloc: Global) -> MemLink {
+    MemLink::new(alloc, Bytes::new(alloc), NumberList::new(alloc))
 }
 
-fn over_input(
+/// A sink that says what it took.
+trait Sent {
+    fn sent(&self) -> &[u8];
+}
+
+impl Sent for MemLink {
+    fn sent(&self) -> &[u8] {
+        MemLink::sent(self)
+    }
+}
+
+/// Adds what is told, which goes through this sink.
+fn put_through<O: Sink + Sent + Drop>(
+    alloc: Global,
+    ended: &Ended<'_>,
+    sink: O,
+    out: &mut RowText,
+) -> Result<(), NoMemory> {
+    let mut told = RemarkOut::new(alloc, sink);
+    let said = remarks_on(alloc, &mut told, ended).is_ok();
+    let (sink, written) = told.finish();
+    out.put(sink.sent());
+    if said && written.is_ok() {
+        Ok(())
+    } else {
+        Err(NoMemory)
+    }
+}
+
+fn put_remarks(alloc: Global, ended: &Ended<'_>, out: &mut RowText) -> Result<(), NoMemory> {
+    put_through(alloc, ended, empty_link(alloc), out)
+}
+
+/// Does a command, whose output is let go, and adds what is told of it.
+fn over_input<F: Files + Drop, S: Source + Drop>(
     alloc: Global,
     words: &[Bytes],
-    files: &mut KeptFiles<MemFiles>,
-    input: &mut CountedInput<MemLink>,
-    out: &mut Bytes,
-) -> Result<(), RowError> {
-    let mut printed = MemLink::new(alloc, Bytes::new(alloc), NumberList::new(alloc));
-    let status = run_plain(alloc, words, files, input, &mut printed);
+    files: &mut KeptFiles<F>,
+    input: &mut CountedInput<S>,
+    out: &mut RowText,
+) -> Result<(), NoMemory> {
+    let status = run_plain(alloc, words, files, input, &mut empty_link(alloc));
     let ended = Ended {
         words,
         status,
@@ -42,14 +72,14 @@ fn over_files(
     row: BlockRow<'_>,
     words: &[Bytes],
     files: &mut KeptFiles<MemFiles>,
-    out: &mut Bytes,
+    out: &mut RowText,
 ) -> Result<(), RowError> {
     let mut input = CountedInput::new(input_of(alloc, row)?);
-    over_input(alloc, words, files, &mut input, out)
+    Ok(over_input(alloc, words, files, &mut input, out)?)
 }
 
 /// Adds what is told of the row's command, done over files and input in memory.
-pub fn put_told(alloc: Global, row: BlockRow<'_>, out: &mut Bytes) -> Result<(), RowError> {
+pub fn put_told(alloc: Global, row: BlockRow<'_>, out: &mut RowText) -> Result<(), RowError> {
     let words = row.words(alloc)?;
     let mut files = KeptFiles::new(alloc, files_of(alloc, row)?);
     over_files(alloc, row, words.as_slice(), &mut files, out)

@@ -2,56 +2,36 @@
 //!
 //! `words`: the order that the words are, or `no command`, and where the help's command doesn't take it.
 //! `help`: the text that the words ask for.
-use block_rows::comparing::wants;
+use crate::row_text::RowText;
 use block_rows::row::{BlockRow, RowError};
 use jk_cli::{Order, command, command_of, read_words};
-use jk_io::{Bytes, NoMemory, put_decimal};
+use jk_io::{Bytes, NoMemory};
 use plain_commands::asked_text;
 use std::alloc::Global;
 
-fn put_words(out: &mut Bytes, words: &[&[u8]]) -> Result<(), NoMemory> {
-    for (i, word) in words.iter().enumerate() {
-        if i > 0 {
-            out.push(b' ')?;
-        }
-        out.extend(word)?;
-    }
-    Ok(())
-}
-
-fn put_number(out: &mut Bytes, name: &[u8], number: u64) -> Result<(), NoMemory> {
-    out.extend(name)?;
-    put_decimal(out, number as u128)
-}
-
 /// An option's number, where it is given.
-fn put_given(out: &mut Bytes, name: &[u8], number: Option<u64>) -> Result<(), NoMemory> {
-    match number {
-        None => Ok(()),
-        Some(number) => put_number(out, name, number),
+fn put_given(out: &mut RowText, name: &[u8], number: Option<u64>) {
+    if let Some(number) = number {
+        out.number(name, number);
     }
 }
 
 /// An option's count of looks, where it is given.
-fn put_looks(out: &mut Bytes, name: &[u8], looks: Option<u32>) -> Result<(), NoMemory> {
-    match looks {
-        None => Ok(()),
-        Some(looks) => put_number(out, name, u64::from(looks)),
+fn put_looks(out: &mut RowText, name: &[u8], looks: Option<u32>) {
+    if let Some(looks) = looks {
+        out.number(name, u64::from(looks));
     }
 }
 
 /// An option's word, where it is given.
-fn put_text(out: &mut Bytes, name: &[u8], text: &Option<Bytes>) -> Result<(), NoMemory> {
-    match text {
-        None => Ok(()),
-        Some(text) => {
-            out.extend(name)?;
-            out.extend(text.as_slice())
-        }
+fn put_text(out: &mut RowText, name: &[u8], text: &Option<Bytes>) {
+    if let Some(text) = text {
+        out.put(name);
+        out.put(text.as_slice());
     }
 }
 
-fn put_log(out: &mut Bytes, order: &Order) -> Result<(), NoMemory> {
+fn put_log(out: &mut RowText, order: &Order) {
     let Order::Log {
         format,
         request,
@@ -60,29 +40,22 @@ fn put_log(out: &mut Bytes, order: &Order) -> Result<(), NoMemory> {
         map,
     } = order
     else {
-        return Ok(());
+        return;
     };
-    put_words(out, &[b"log", format.as_slice(), request.as_slice()])?;
-    put_words(
-        out,
-        &[b"", reply.as_slice(), workers.as_slice(), map.as_slice()],
-    )
+    out.put(b"log");
+    out.words(&[format.as_slice(), request.as_slice(), reply.as_slice()]);
+    out.words(&[workers.as_slice(), map.as_slice()]);
 }
 
-fn put_dry(
-    out: &mut Bytes,
-    request: &Bytes,
-    reply: &Bytes,
-    site: &Option<(Bytes, Bytes)>,
-) -> Result<(), NoMemory> {
-    put_words(out, &[b"dry", request.as_slice(), reply.as_slice()])?;
-    match site {
-        None => Ok(()),
-        Some((workers, map)) => put_words(out, &[b"", workers.as_slice(), map.as_slice()]),
+fn put_dry(out: &mut RowText, request: &Bytes, reply: &Bytes, site: &Option<(Bytes, Bytes)>) {
+    out.put(b"dry");
+    out.words(&[request.as_slice(), reply.as_slice()]);
+    if let Some((workers, map)) = site {
+        out.words(&[workers.as_slice(), map.as_slice()]);
     }
 }
 
-fn put_drill(out: &mut Bytes, order: &Order) -> Result<(), NoMemory> {
+fn put_drill(out: &mut RowText, order: &Order) {
     let Order::Drill {
         seed,
         threads,
@@ -91,16 +64,16 @@ fn put_drill(out: &mut Bytes, order: &Order) -> Result<(), NoMemory> {
         passes,
     } = order
     else {
-        return Ok(());
+        return;
     };
-    put_number(out, b"drill ", *seed)?;
-    put_number(out, b" ", u64::from(*threads))?;
-    put_number(out, b" ", *requests)?;
-    out.extend(if *text { b" journal" } else { b"" })?;
-    out.extend(if *passes { b" passes" } else { b"" })
+    out.number(b"drill ", *seed);
+    out.number(b" ", u64::from(*threads));
+    out.number(b" ", *requests);
+    out.put(if *text { b" journal" } else { b"" });
+    out.put(if *passes { b" passes" } else { b"" });
 }
 
-fn put_serve(out: &mut Bytes, order: &Order) -> Result<(), NoMemory> {
+fn put_serve(out: &mut RowText, order: &Order) {
     let Order::Serve {
         workers,
         map,
@@ -108,27 +81,38 @@ fn put_serve(out: &mut Bytes, order: &Order) -> Result<(), NoMemory> {
         threads,
         clients,
         journal,
+        ..
+    } = order
+    else {
+        return;
+    };
+    out.put(b"serve");
+    out.words(&[workers.as_slice(), map.as_slice(), address.as_slice()]);
+    out.number(b" ", u64::from(*threads));
+    put_given(out, b" clients ", *clients);
+    put_text(out, b" journal ", journal);
+    put_watched(out, order);
+}
+
+/// What `serve` watches and logs.
+fn put_watched(out: &mut RowText, order: &Order) {
+    let Order::Serve {
         watch,
         idle,
         log,
         format,
+        ..
     } = order
     else {
-        return Ok(());
+        return;
     };
-    let files = [b"serve".as_slice(), workers.as_slice(), map.as_slice()];
-    put_words(out, &files)?;
-    put_words(out, &[b"", address.as_slice()])?;
-    put_number(out, b" ", u64::from(*threads))?;
-    put_given(out, b" clients ", *clients)?;
-    put_text(out, b" journal ", journal)?;
-    put_given(out, b" watch ", *watch)?;
-    put_looks(out, b" idle ", *idle)?;
-    put_text(out, b" log ", log)?;
-    put_text(out, b" format ", format)
+    put_given(out, b" watch ", *watch);
+    put_looks(out, b" idle ", *idle);
+    put_text(out, b" log ", log);
+    put_text(out, b" format ", format);
 }
 
-fn put_container(out: &mut Bytes, order: &Order) -> Result<(), NoMemory> {
+fn put_container(out: &mut RowText, order: &Order) {
     let Order::Container {
         route,
         address,
@@ -136,89 +120,97 @@ fn put_container(out: &mut Bytes, order: &Order) -> Result<(), NoMemory> {
         clients,
     } = order
     else {
-        return Ok(());
+        return;
     };
-    put_words(out, &[b"container", route.as_slice(), address.as_slice()])?;
-    put_number(out, b" ", u64::from(*threads))?;
-    put_given(out, b" clients ", *clients)
+    out.put(b"container");
+    out.words(&[route.as_slice(), address.as_slice()]);
+    out.number(b" ", u64::from(*threads));
+    put_given(out, b" clients ", *clients);
 }
 
-fn put_order(out: &mut Bytes, order: &Order) -> Result<(), NoMemory> {
+fn put_order(out: &mut RowText, order: &Order) {
     match order {
-        Order::Play => out.extend(b"play"),
+        Order::Play => out.put(b"play"),
         Order::Dry {
             request,
             reply,
             site,
         } => put_dry(out, request, reply, site),
         Order::Config { workers, map } => {
-            put_words(out, &[b"config", workers.as_slice()])?;
-            put_text(out, b" ", map)
+            out.put(b"config");
+            out.words(&[workers.as_slice()]);
+            put_text(out, b" ", map);
         }
         Order::Match { workers, map } => {
-            put_words(out, &[b"match", workers.as_slice(), map.as_slice()])
+            out.put(b"match");
+            out.words(&[workers.as_slice(), map.as_slice()]);
         }
-        Order::Check => out.extend(b"check"),
+        Order::Check => out.put(b"check"),
         Order::Log { .. } => put_log(out, order),
-        Order::Follow => out.extend(b"follow"),
+        Order::Follow => out.put(b"follow"),
         Order::Drill { .. } => put_drill(out, order),
         Order::Serve { .. } => put_serve(out, order),
         Order::Container { .. } => put_container(out, order),
     }
 }
 
-fn help_takes(alloc: Global, words: &[Bytes]) -> Result<bool, NoMemory> {
+/// Lets a value go. Where it is large, the check of a function that calls this doesn't write its drop out.
+fn let_go<T: Drop>(_it: T) {}
+
+/// The words as a command line has them.
+fn line_of<'w>(alloc: Global, words: &'w [Bytes]) -> Result<Vec<&'w str>, NoMemory> {
     let mut line = Vec::new(alloc);
     line.push("jkd")?;
     for word in words {
         line.push(str::from_utf8(word.as_slice()).unwrap_or(""))?;
     }
-    Ok(
-        command(alloc)?
-            .try_get_matches_from(line.as_slice())
-            .is_ok(),
-    )
+    Ok(line)
+}
+
+fn takes_line(alloc: Global, line: &[&str]) -> Result<bool, NoMemory> {
+    let parsed = command(alloc)?.try_get_matches_from(line);
+    let takes = parsed.is_ok();
+    let_go(parsed);
+    Ok(takes)
+}
+
+fn help_takes(alloc: Global, words: &[Bytes]) -> Result<bool, NoMemory> {
+    takes_line(alloc, line_of(alloc, words)?.as_slice())
+}
+
+fn put_read(alloc: Global, words: &[Bytes], out: &mut RowText) {
+    match read_words(alloc, words) {
+        Ok(order) => {
+            put_order(out, &order);
+            let_go(order);
+        }
+        Err(_) => out.put(b"no command"),
+    }
 }
 
 /// The order that the words are. The help's command takes it too.
-fn tell_order(alloc: Global, words: &[Bytes], out: &mut Bytes) -> Result<(), NoMemory> {
-    match read_words(alloc, words) {
-        Ok(order) => put_order(out, &order)?,
-        Err(_) => out.extend(b"no command")?,
+fn tell_order(alloc: Global, words: &[Bytes], out: &mut RowText) -> Result<(), NoMemory> {
+    put_read(alloc, words, out);
+    if command_of(words).is_some() && !help_takes(alloc, words)? {
+        out.put(b", which the help doesn't take");
     }
-    match command_of(words) {
-        None => Ok(()),
-        Some(_) if help_takes(alloc, words)? => Ok(()),
-        Some(_) => out.extend(b", which the help doesn't take"),
-    }
+    Ok(())
 }
 
 /// The text that the words ask for.
-fn tell_help(alloc: Global, words: &[Bytes], out: &mut Bytes) -> Result<(), NoMemory> {
-    match asked_text(alloc, words)? {
-        None => Ok(()),
-        Some(text) => out.extend(text.as_bytes()),
+fn tell_help(alloc: Global, words: &[Bytes], out: &mut RowText) -> Result<(), NoMemory> {
+    if let Some(text) = asked_text(alloc, words)? {
+        out.put(text.as_bytes());
     }
+    Ok(())
 }
 
-fn tells_order(alloc: Global, row: BlockRow<'_>, words: &[Bytes]) -> Result<bool, RowError> {
-    let mut out = Bytes::new(alloc);
-    tell_order(alloc, words, &mut out)?;
-    wants(alloc, row, out.as_slice())
+/// Adds the order that a row's words are.
+pub fn put_words(alloc: Global, row: BlockRow<'_>, out: &mut RowText) -> Result<(), RowError> {
+    Ok(tell_order(alloc, row.words(alloc)?.as_slice(), out)?)
 }
 
-fn tells_help(alloc: Global, row: BlockRow<'_>, words: &[Bytes]) -> Result<bool, RowError> {
-    let mut out = Bytes::new(alloc);
-    tell_help(alloc, words, &mut out)?;
-    wants(alloc, row, out.as_slice())
-}
-
-/// Whether the order that a row's words are is told as it says.
-pub fn is_order(alloc: Global, row: BlockRow<'_>) -> Result<bool, RowError> {
-    tells_order(alloc, row, row.words(alloc)?.as_slice())
-}
-
-/// Whether the text that a row's words ask for is the one that it says.
-pub fn is_help(alloc: Global, row: BlockRow<'_>) -> Result<bool, RowError> {
-    tells_help(alloc, row, row.words(alloc)?.as_slice())
+/// Adds the text that a row's words ask for.
+pub fn put_help(alloc: Global, row: BlockRow<'_>, out: &mut RowText) -> Result<(), RowError> {
+    Ok(tell_help(alloc, row.words(alloc)?.as_slice(), out)?)
 }
