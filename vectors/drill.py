@@ -1,6 +1,6 @@
 """What drills hand out, written from the rules of a drill and the AJPv1.3 reference, apart from the program's own code.
 
-`python3 vectors/drill.py` prints the lines on drills that stand in crates/checks/stdout, from `requests 1` on.
+vectors/serving.py makes rows of them.
 """
 
 MASK = (1 << 64) - 1
@@ -58,7 +58,3 @@ def one_journal(seed):
     return ("jkj 2\nlb lb R 1 0 0 60 60 2\nmember a a 1 0 A - 64 ok 0\nmember b b 2 0 A - 64 ok 0\nfrom 0 0 0 -\n"
             "e 0 0 0 select - 1 0 0 0 chosen 0 balanced 0\n"
             f"e 1 0 0 return 0 done {moved(size)} done\nend 2\n")
-
-
-if __name__ == "__main__":
-    print(summary(1, 1) + one_journal(1) + summary(1, 100000) + summary(7, 7001), end="")

@@ -150,6 +150,8 @@ def drills():
     yield Row("a drill of eight threads", "drill 1 8 40", out=drill.summary(1, 40).encode())
     yield Row("more threads than requests", "drill 18446744073709551615 64 3", out=drill.summary(MOST, 3).encode())
     yield Row("a thread with more requests than a session has", "drill 7 2 2100", out=drill.summary(7, 2100).encode())
+    yield Row("eight threads with more requests than a session has", "drill 1 8 100000", out=drill.summary(1, 100000).encode())
+    yield Row("three threads with more requests than a session has", "drill 7 3 7001", out=drill.summary(7, 7001).encode())
     yield Row("the output fails", "drill 1 1 1", out=b"req", status=5, lines=["output-fails 3"])
     for name, line in (("no seed", "drill"), ("no thread", "drill 1 0 1"), ("too many threads", "drill 1 65 1"), ("no request", "drill 1 1 0"),
                        ("too many requests", "drill 1 1 1000001"), ("a seed of more than 64 bits", "drill 18446744073709551616 1 1"),

@@ -1,6 +1,5 @@
 //! Each row of each file, done once.
 
-use crate::drills::show_drills;
 use crate::{meeting, serving};
 use anyhow::Result;
 use block_rows::row::{BlockRow, RowError};
@@ -93,10 +92,10 @@ fn judge_file<R: Threads + Wait + Clock + Sync + Print + AllocGlobal + Files>(
     judge_text(rt, file, read_rows(rt, file)?.as_str())
 }
 
-/// Shows each row that comes out otherwise, how many of each file come out as they say, and then what drills hand out.
+/// Shows each row that comes out otherwise, and how many of each file come out as they say.
 pub fn judge<R: Threads + Wait + Clock + Sync + Print + AllocGlobal + Files>(rt: &R) -> Result<()> {
     for file in &FILES {
         judge_file(rt, file)?;
     }
-    show_drills(rt)
+    Ok(())
 }

@@ -1,6 +1,7 @@
 //! What the words of a row ask for, done over memory.
 ghost use Rattle.std.specs.Prelude.{◌≡◌, false, None};
 
+use crate::worlds::let_go;
 use drill::{DrillOrder, MAX_REQUESTS, MAX_THREADS, write_drill};
 use jk_cli::{Order, read_words};
 use jk_io::{Bytes, MemFiles, MemLink, NumberList};
@@ -125,7 +126,11 @@ fn status_asked<R: Threads + Wait + Sync>(
     world: &mut MemWorld<MemLink>,
 ) -> Option<u8> {
     match read_words(alloc, words) {
-        Ok(order) => status_by(rt, alloc, &order, files, out, world),
+        Ok(order) => {
+            let status = status_by(rt, alloc, &order, files, out, world);
+            let_go(order);
+            status
+        }
         Err(_) => None,
     }
 }

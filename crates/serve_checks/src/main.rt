@@ -18,13 +18,10 @@
 //!
 //! Otherwise what comes out is told so: what was written, `status N`, `faults N` of the world, and of each gear that came
 //! back the links that were left at its door, its talks with members, and the segments on its shelf.
-//!
-//! Then runs drills, and prints what each hands out.
 #![tactic(auto)]
 
 mod area;
 mod doing;
-mod drills;
 mod meeting;
 mod serving;
 mod told;

@@ -4,12 +4,13 @@
 ghost use Rattle.std.specs.Prelude.{◌≡◌, ◌<◌, true, vec_len, IfOk};
 ghost use Rattle.uri_map.specs.Sites.{stands_in};
 
+use crate::worlds::{client_by, let_go, link_of, push};
 use block_rows::comparing::wants;
 use block_rows::row::{BlockRow, RowError};
 use conn_pool::NoTape;
 use jk_io::{
     Bytes, ClientList, Dial, Gate, GateLink, IoError, Link, MAX_INPUT_BYTES, MemDoor, MemLink,
-    NoMemory, NumberList, Peer, StepClock, Turn,
+    NoMemory, NumberList, StepClock, Turn,
 };
 use jk_server::serve_gears;
 use locked_balancer::{KeptList, MemShelf};
@@ -27,7 +28,13 @@ pub trait Shown {
     fn sent(&self) -> &[u8];
 }
 
-impl<'g, 'r, R> Shown for GateLink<'g, 'r, MemLink, R> {
+impl Shown for MemLink {
+    fn sent(&self) -> &[u8] {
+        MemLink::sent(self)
+    }
+}
+
+impl<'g, 'r, L: Link + Shown + Drop, R> Shown for GateLink<'g, 'r, L, R> {
     fn sent(&self) -> &[u8] {
         self.link().sent()
     }
@@ -74,11 +81,6 @@ struct Places {
     ghost known: { (member < 64) × (client < 64) },
 }
 
-fn link_of(alloc: Global, row: BlockRow<'_>, file: usize) -> Result<MemLink, RowError> {
-    let text = row.text(alloc, "file", file)?;
-    Ok(MemLink::new(alloc, text, NumberList::new(alloc)))
-}
-
 /// A worker's links, over the texts of these files of a row: its client's, and the next, which is its member's.
 fn ends_of(alloc: Global, row: BlockRow<'_>, file: usize) -> Result<Ends<MemLink>, RowError> {
     let client = link_of(alloc, row, file)?;
@@ -87,11 +89,11 @@ fn ends_of(alloc: Global, row: BlockRow<'_>, file: usize) -> Result<Ends<MemLink
 }
 
 /// The same links, at these places of a gate.
-fn meeting<'g, 'r, R>(
-    ends: Ends<MemLink>,
+fn meeting<'g, 'r, L: Link + Drop, R>(
+    ends: Ends<L>,
     gate: &'g Gate<'r, R>,
     places: Places,
-) -> Ends<GateLink<'g, 'r, MemLink, R>> {
+) -> Ends<GateLink<'g, 'r, L, R>> {
     let Ends { client, member } = ends;
     Ends {
         client: GateLink::new(client, gate, places.client, Turn::Raises),
@@ -101,11 +103,9 @@ fn meeting<'g, 'r, R>(
 
 /// The one client of a worker.
 fn clients_of<L: Drop>(alloc: Global, link: L) -> Result<ClientList<L>, NoMemory> {
-    let peer = Peer {
-        addr: Bytes::from_slice(alloc, b"127.0.0.1")?,
-    };
+    let client = client_by(alloc, link)?;
     let mut clients = ClientList::new(alloc);
-    clients.push((link, peer)).map_err(|_| NoMemory)?;
+    push(&mut clients, client)?;
     Ok(clients)
 }
 
@@ -200,32 +200,56 @@ fn over_links<L: Link + Shown + Drop + Send, R: Threads + Wait + Sync>(
 ) -> Result<Bytes, NoMemory> {
     let gears = gears_of(alloc, first, second)?;
     let run = serve_gears(rt, alloc, served.config, served.map, gears)?;
-    told(alloc, run.gears.as_slice())
+    let told = told(alloc, run.gears.as_slice());
+    let_go(run);
+    told
 }
 
-/// So with the links of a row. The member answers the first once the second's client has its answer, and the second at
-/// once: the place that it waits for is raised from the beginning.
-fn over_gate<R: Threads + Wait + Clock + Sync>(
+/// So with links that meet at a gate. The member answers the first once the second's client has its answer, and the second
+/// at once: the place that it waits for is raised from the beginning.
+fn over_gate<L: Link + Shown + Drop + Send, R: Threads + Wait + Clock + Sync>(
     rt: &R,
     alloc: Global,
     gate: &Gate<'_, R>,
-    row: BlockRow<'_>,
     served: Served<'_>,
-) -> Result<Bytes, RowError> {
-    let first = Places {
+    first: Ends<L>,
+    second: Ends<L>,
+) -> Result<Bytes, NoMemory> {
+    gate.raise(OPEN);
+    let places = Places {
         member: SECOND_IS_ANSWERED,
         client: NOBODY_WAITS,
     };
-    let second = Places {
+    let first = meeting(first, gate, places);
+    let places = Places {
         member: OPEN,
         client: SECOND_IS_ANSWERED,
     };
-    let one = ends_of(alloc, row, 0)?;
-    let two = ends_of(alloc, row, 2)?;
-    gate.raise(OPEN);
-    let one = meeting(one, gate, first);
-    let two = meeting(two, gate, second);
-    Ok(over_links(rt, alloc, served, one, two)?)
+    over_links(rt, alloc, served, first, meeting(second, gate, places))
+}
+
+/// So at a gate of their own, where all four links could be made.
+fn over_ends<L: Link + Shown + Drop + Send, R: Threads + Wait + Clock + Sync>(
+    rt: &R,
+    alloc: Global,
+    served: Served<'_>,
+    first: Result<Ends<L>, RowError>,
+    second: Result<Ends<L>, RowError>,
+) -> Result<Bytes, RowError> {
+    let first = first?;
+    let second = second?;
+    Ok(over_gate(rt, alloc, &Gate::new(rt), served, first, second)?)
+}
+
+fn over_row<R: Threads + Wait + Clock + Sync>(
+    rt: &R,
+    alloc: Global,
+    row: BlockRow<'_>,
+    served: Served<'_>,
+) -> Result<Bytes, RowError> {
+    let first = ends_of(alloc, row, 0);
+    let second = ends_of(alloc, row, 2);
+    over_ends(rt, alloc, served, first, second)
 }
 
 fn over_site<R: Threads + Wait + Clock + Sync>(
@@ -234,7 +258,7 @@ fn over_site<R: Threads + Wait + Clock + Sync>(
     row: BlockRow<'_>,
     served: Served<'_>,
 ) -> Result<bool, RowError> {
-    let told = over_gate(rt, alloc, &Gate::new(rt), row, served)?;
+    let told = over_row(rt, alloc, row, served)?;
     wants(alloc, row, told.as_slice())
 }
 

@@ -4,7 +4,7 @@ use crate::told::put_world;
 use crate::worlds::world_of;
 use block_rows::comparing::wants;
 use block_rows::row::{BlockRow, RowError};
-use jk_io::{Bytes, MemFiles, MemLink, NumberList, put_decimal};
+use jk_io::{Bytes, MemFiles, MemLink, NoMemory, NumberList, put_decimal};
 use std::alloc::Global;
 use std::sync::Wait;
 use std::thread::Threads;
@@ -22,18 +22,33 @@ fn files_of(alloc: Global, row: BlockRow<'_>) -> Result<MemFiles, RowError> {
     Ok(MemFiles::new(files, failing))
 }
 
+fn put_status(out: &mut Bytes, status: u8) -> Result<(), NoMemory> {
+    out.extend(b"status ")?;
+    put_decimal(out, u128::from(status))?;
+    out.extend(b"\n")
+}
+
+/// Adds what is told of a command: what it wrote, its status, and the world after it.
+fn put_told(
+    status: u8,
+    written: &[u8],
+    world: &MemWorld<MemLink>,
+    out: &mut Bytes,
+) -> Result<(), NoMemory> {
+    out.extend(written)?;
+    put_status(out, status)?;
+    put_world(world, out)
+}
+
 fn wants_told(
     alloc: Global,
     row: BlockRow<'_>,
     status: u8,
-    out: &MemLink,
+    written: &[u8],
     world: &MemWorld<MemLink>,
 ) -> Result<bool, RowError> {
-    let mut told = Bytes::from_slice(alloc, out.sent())?;
-    told.extend(b"status ")?;
-    put_decimal(&mut told, u128::from(status))?;
-    told.extend(b"\n")?;
-    put_world(alloc, world, &mut told)?;
+    let mut told = Bytes::new(alloc);
+    put_told(status, written, world, &mut told)?;
     wants(alloc, row, told.as_slice())
 }
 
@@ -47,7 +62,7 @@ fn over_output<R: Threads + Wait + Sync>(
 ) -> Result<bool, RowError> {
     let mut out = output_of(alloc, row)?;
     let status = status_of(rt, alloc, words, files, &mut out, world);
-    wants_told(alloc, row, status, &out, world)
+    wants_told(alloc, row, status, out.sent(), world)
 }
 
 fn over_files<R: Threads + Wait + Sync>(

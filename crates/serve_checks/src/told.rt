@@ -2,7 +2,6 @@
 use jk_io::{Bytes, MemLink, NoMemory, Talk, put_decimal};
 use jk_model::Segment;
 use journal_text::write_segment;
-use std::alloc::Global;
 use worker_gears::{MemGear, MemWorld};
 
 fn put_number(out: &mut Bytes, word: &[u8], number: u64) -> Result<(), NoMemory> {
@@ -51,11 +50,7 @@ fn put_gear(gear: &MemGear<MemLink>, out: &mut Bytes) -> Result<(), NoMemory> {
 }
 
 /// Adds how often the world failed, and each gear that came back.
-pub fn put_world(
-    _alloc: Global,
-    world: &MemWorld<MemLink>,
-    out: &mut Bytes,
-) -> Result<(), NoMemory> {
+pub fn put_world(world: &MemWorld<MemLink>, out: &mut Bytes) -> Result<(), NoMemory> {
     put_number(out, b"faults ", world.faults())?;
     out.extend(b"\n")?;
     for gear in world.back() {

@@ -2,7 +2,7 @@
 use block_rows::row::{BlockRow, RowError};
 use jk_io::{
     Bytes, ClientList, ListOf, MemDial, MemLink, MemLinkList, NoMemory, NumberList, Peer,
-    StepClock, parse_decimal,
+    parse_decimal,
 };
 use locked_balancer::{KeptList, MemShelf};
 use std::alloc::Global;
@@ -18,15 +18,25 @@ fn counts_in(text: &str) -> Result<(u64, u64), RowError> {
     Ok((number_in(clients)?, number_in(links)?))
 }
 
-fn link_of(alloc: Global, row: BlockRow<'_>, file: usize) -> Result<MemLink, RowError> {
+/// A link that gives the text of the file with this number.
+pub fn link_of(alloc: Global, row: BlockRow<'_>, file: usize) -> Result<MemLink, RowError> {
     let text = row.text(alloc, "file", file)?;
     Ok(MemLink::new(alloc, text, NumberList::new(alloc)))
 }
 
-fn peer(alloc: Global) -> Result<Peer, NoMemory> {
-    Ok(Peer {
-        addr: Bytes::from_slice(alloc, b"127.0.0.1")?,
-    })
+/// Lets a value go. Where it is large, the check of a function that calls this doesn't write its drop out.
+pub fn let_go<T: Drop>(_it: T) {}
+
+/// Adds an item; where memory is wanted it is let go.
+pub fn push<T: Drop>(list: &mut ListOf<T>, item: T) -> Result<(), NoMemory> {
+    list.push(item)?;
+    Ok(())
+}
+
+/// A client, which comes by this link.
+pub fn client_by<L: Drop>(alloc: Global, link: L) -> Result<(L, Peer), NoMemory> {
+    let addr = Bytes::from_slice(alloc, b"127.0.0.1")?;
+    Ok((link, Peer { addr }))
 }
 
 fn push_client(
@@ -35,10 +45,8 @@ fn push_client(
     file: usize,
     clients: &mut ClientList<MemLink>,
 ) -> Result<(), RowError> {
-    let link = link_of(alloc, row, file)?;
-    let peer = peer(alloc)?;
-    clients.push((link, peer)).map_err(|_| NoMemory)?;
-    Ok(())
+    let client = client_by(alloc, link_of(alloc, row, file)?)?;
+    Ok(push(clients, client)?)
 }
 
 /// So many clients, whose bytes are those of the files from this one on.
@@ -63,8 +71,7 @@ fn push_link(
     links: &mut MemLinkList,
 ) -> Result<(), RowError> {
     let link = link_of(alloc, row, file)?;
-    links.push(link).map_err(|_| NoMemory)?;
-    Ok(())
+    Ok(push(links, link)?)
 }
 
 fn links_of(
@@ -81,22 +88,54 @@ fn links_of(
     Ok(links)
 }
 
+fn dial_of(
+    alloc: Global,
+    row: BlockRow<'_>,
+    count: u64,
+    file: &mut usize,
+) -> Result<MemDial, RowError> {
+    let links = links_of(alloc, row, count, file)?;
+    Ok(MemDial::new(links, row.numbers(alloc, "dial-fails")?))
+}
+
+fn shelf_of(alloc: Global, row: BlockRow<'_>) -> Result<MemShelf, RowError> {
+    let failing = row.numbers(alloc, "shelf-fails")?;
+    Ok(MemShelf::new(KeptList::new(alloc), failing))
+}
+
+fn set<T: Drop>(place: &mut T, value: T) {
+    *place = value;
+}
+
+/// Sets what a line `gear` says of an empty plan.
+fn fill_plan(
+    alloc: Global,
+    row: BlockRow<'_>,
+    gear: &str,
+    file: &mut usize,
+    plan: &mut MemPlan<MemLink>,
+) -> Result<(), RowError> {
+    let (clients, links) = counts_in(gear)?;
+    let clients = clients_of(alloc, row, clients, file)?;
+    set(&mut plan.clients, clients);
+    let refused = row.numbers(alloc, "door-fails")?;
+    set(&mut plan.refused, refused);
+    let dial = dial_of(alloc, row, links, file)?;
+    set(&mut plan.dial, dial);
+    let shelf = shelf_of(alloc, row)?;
+    set(&mut plan.shelf, shelf);
+    Ok(())
+}
+
 fn plan_of(
     alloc: Global,
     row: BlockRow<'_>,
     gear: &str,
     file: &mut usize,
 ) -> Result<MemPlan<MemLink>, RowError> {
-    let (clients, links) = counts_in(gear)?;
-    let clients = clients_of(alloc, row, clients, file)?;
-    let links = links_of(alloc, row, links, file)?;
-    Ok(MemPlan {
-        clients,
-        refused: row.numbers(alloc, "door-fails")?,
-        dial: MemDial::new(links, row.numbers(alloc, "dial-fails")?),
-        clock: StepClock::new(NumberList::new(alloc)),
-        shelf: MemShelf::new(KeptList::new(alloc), row.numbers(alloc, "shelf-fails")?),
-    })
+    let mut plan = MemPlan::empty(alloc);
+    fill_plan(alloc, row, gear, file, &mut plan)?;
+    Ok(plan)
 }
 
 fn push_plan(
@@ -107,8 +146,7 @@ fn push_plan(
     plans: &mut MemPlanList<MemLink>,
 ) -> Result<(), RowError> {
     let plan = plan_of(alloc, row, gear, file)?;
-    plans.push(plan).map_err(|_| NoMemory)?;
-    Ok(())
+    Ok(push(plans, plan)?)
 }
 
 fn plans_of(alloc: Global, row: BlockRow<'_>) -> Result<MemPlanList<MemLink>, RowError> {
