@@ -134,6 +134,10 @@ fn judge_left<L: SiteName>(
     judge_line(alloc, &mut LeftRow { left }, name, line, shown)
 }
 
+fn sum(lines: Result<u64, NoMemory>, left: Result<u64, NoMemory>) -> Result<u64, NoMemory> {
+    Ok(lines?.saturating_add(left?))
+}
+
 /// Asks a desk for the lines of a row, and judges its line `left` over what the desk leaves.
 fn judge_desk<'s, 'r, L: SiteName, R: Wait>(
     alloc: Global,
@@ -143,9 +147,11 @@ fn judge_desk<'s, 'r, L: SiteName, R: Wait>(
     shown: &mut String,
 ) -> Result<u64, NoMemory> {
     let mut asked = asked;
-    let fits = judge_lines(alloc, &mut asked, row, shown)?;
-    let last = judge_left(alloc, &asked.desk.leave(), row, left, shown)?;
-    Ok(fits.saturating_add(last))
+    let fits = judge_lines(alloc, &mut asked, row, shown);
+    sum(
+        fits,
+        judge_left(alloc, &asked.desk.leave(), row, left, shown),
+    )
 }
 
 fn judge_at<L: SiteName, R: Wait>(

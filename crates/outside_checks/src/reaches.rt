@@ -198,7 +198,18 @@ pub fn tell_asks(
     bytes: &[u8],
     out: &mut String,
 ) -> Result<(), NoMemory> {
-    tell_asked(alloc, &mut reach_of(alloc, failing, bytes)?, out)
+    let links = one_link(alloc, bytes)?;
+    tell_linked(alloc, links, numbers_of(alloc, failing)?, out)
+}
+
+fn tell_linked(
+    alloc: Global,
+    links: MemLinkList,
+    failing: NumberList,
+    out: &mut String,
+) -> Result<(), NoMemory> {
+    let sizes = one_size(alloc)?;
+    tell_asked(alloc, &mut MemReach::new(alloc, links, sizes, failing), out)
 }
 
 fn tell_asked(alloc: Global, reach: &mut MemReach, out: &mut String) -> Result<(), NoMemory>
@@ -220,21 +231,6 @@ fn one_size(alloc: Global) -> Result<ListOf<u32>, NoMemory>
     ensures { IfOk result (λ sizes. sizes ≡ 1 ∷ []) }
 {
     Ok(ListOf::from_vec(Vec::from_slice(alloc, &[1])?))
-}
-
-fn reach_over(alloc: Global, links: MemLinkList, failing: NumberList) -> Result<MemReach, NoMemory>
-    ensures idle { IfOk result (λ reach. reach.book.begun ≡ None) }
-    ensures sizes { IfOk result (λ reach. reach.sizes ≡ 1 ∷ []) }
-{
-    Ok(MemReach::new(alloc, links, one_size(alloc)?, failing))
-}
-
-fn reach_of(alloc: Global, failing: &str, bytes: &[u8]) -> Result<MemReach, NoMemory>
-    ensures idle { IfOk result (λ reach. reach.book.begun ≡ None) }
-    ensures sizes { IfOk result (λ reach. reach.sizes ≡ 1 ∷ []) }
-{
-    let links = one_link(alloc, bytes)?;
-    reach_over(alloc, links, numbers_of(alloc, failing)?)
 }
 
 fn ask_thrice<R: Reach>(alloc: Global, reach: &mut R, out: &mut String) -> Result<(), NoMemory>

@@ -193,6 +193,15 @@ fn keeps_its_link<R: Reach, D: Door>(alloc: Global, reach: &mut R, port: u16, do
     }
 }
 
+/// The same over a reach that ends here.
+fn keeps_own<R: Reach + Drop, D: Door>(alloc: Global, reach: R, port: u16, door: &mut D) -> bool
+    requires idle { (R.beside reach).runs ≡ false }
+    requires known { 0 < slice_index (R.beside reach).sizes 0 }
+{
+    let mut reach = reach;
+    keeps_its_link(alloc, &mut reach, port, door)
+}
+
 fn keeps_in<D: Door, R: Net<Stream = TcpStream> + Wait>(
     rt: &R,
     alloc: Global,
@@ -202,8 +211,12 @@ fn keeps_in<D: Door, R: Net<Stream = TcpStream> + Wait>(
 ) -> bool
     requires { HasMember pools.now 0 0 }
 {
-    let mut reach = PooledReach::new(pools, TcpDial::new(rt), NoTape);
-    keeps_its_link(alloc, &mut reach, port, door)
+    keeps_own(
+        alloc,
+        PooledReach::new(pools, TcpDial::new(rt), NoTape),
+        port,
+        door,
+    )
 }
 
 /// Whether a link is kept over the pool of one member, of which one link may be kept.

@@ -115,6 +115,15 @@ fn tell_write(link: &mut MemLink, piece: &[u8], out: &mut String) -> Result<(), 
     put_moved(out, link.write(piece))
 }
 
+fn tell_piece(
+    alloc: Global,
+    link: &mut MemLink,
+    piece: &str,
+    out: &mut String,
+) -> Result<(), NoMemory> {
+    tell_write(link, bytes_of(alloc, piece)?.as_slice(), out)
+}
+
 /// What each write took, and all that was sent.
 fn tell_writes(
     alloc: Global,
@@ -123,7 +132,7 @@ fn tell_writes(
     out: &mut String,
 ) -> Result<(), NoMemory> {
     for piece in pieces.split(" & ") {
-        tell_write(link, bytes_of(alloc, piece)?.as_slice(), out)?;
+        tell_piece(alloc, link, piece, out)?;
     }
     put_bytes(out, link.sent())?;
     put_faults(out, link.faults())

@@ -15,17 +15,21 @@ pub fn tell(
     bytes: &[u8],
     out: &mut String,
 ) -> Result<(), NoMemory> {
-    if fields[0] == "payload" {
-        return put_shown(out, &decode_reply(alloc, bytes));
+    match fields[0] {
+        "payload" => tell_payload(alloc, bytes, out),
+        _ => tell_written(alloc, fields, out),
     }
+}
+
+/// What is read in a payload.
+pub fn tell_payload(alloc: Global, payload: &[u8], out: &mut String) -> Result<(), NoMemory> {
+    put_shown(out, &decode_reply(alloc, payload))
+}
+
+fn tell_written(alloc: Global, fields: &[&str; 8], out: &mut String) -> Result<(), NoMemory> {
     let most = u32::try_from(number(fields[1])).unwrap_or(u32::MAX);
-    tell_message(
-        alloc,
-        fields[0] == "message",
-        &message(alloc, fields)?,
-        most,
-        out,
-    )
+    let whole = fields[0] == "message";
+    tell_message(alloc, whole, &message(alloc, fields)?, most, out)
 }
 
 fn tell_message(
@@ -71,13 +75,23 @@ fn head(alloc: Global, status: &str, text: &str, pairs: &str) -> Result<Message,
     }))
 }
 
+fn push_pair(alloc: Global, pairs: &mut HeadPairs, item: &str) -> Result<(), NoMemory> {
+    pairs.push(pair_of(alloc, item)?)?;
+    Ok(())
+}
+
+fn push_pairs(alloc: Global, pairs: &mut HeadPairs, list: &str) -> Result<(), NoMemory> {
+    for item in list.split(" & ") {
+        push_pair(alloc, pairs, item)?;
+    }
+    Ok(())
+}
+
 /// The pairs of a list.
 pub fn pairs_of(alloc: Global, list: &str) -> Result<HeadPairs, NoMemory> {
     let mut pairs = HeadPairs::new(alloc);
     if list != "-" {
-        for item in list.split(" & ") {
-            pairs.push(pair_of(alloc, item)?)?;
-        }
+        push_pairs(alloc, &mut pairs, list)?;
     }
     Ok(pairs)
 }

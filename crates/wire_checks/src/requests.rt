@@ -9,6 +9,7 @@ use check_rows::rows::{bytes_of, number};
 use check_rows::telling::{put_shown, put_word};
 use jk_io::{Bytes, NoMemory};
 use std::alloc::Global;
+use std::fmt::Write;
 
 pub fn tell(
     alloc: Global,
@@ -24,7 +25,8 @@ pub fn tell(
     }
 }
 
-fn tell_payload(alloc: Global, payload: &[u8], out: &mut String) -> Result<(), NoMemory> {
+/// What is read in a payload.
+pub fn tell_payload(alloc: Global, payload: &[u8], out: &mut String) -> Result<(), NoMemory> {
     put_shown(out, &decode_forward(alloc, payload))
 }
 
@@ -55,23 +57,25 @@ fn tell_packet(
 fn sized(alloc: Global, fields: &[&str; 8], payload: &[u8]) -> Result<Forward, NoMemory>
     ensures { IfOk result IsForward }
 {
-    let mut forward = with_headers(alloc, pairs_of(alloc, fields[3])?, payload)?;
-    forward.uri = bytes_of(alloc, fields[2])?;
-    Ok(forward)
+    let headers = pairs_of(alloc, fields[3])?;
+    with_parts(alloc, bytes_of(alloc, fields[2])?, headers, payload)
 }
 
-fn with_headers(alloc: Global, headers: HeadPairs, payload: &[u8]) -> Result<Forward, NoMemory>
+fn with_parts(
+    alloc: Global,
+    uri: Bytes,
+    headers: HeadPairs,
+    payload: &[u8],
+) -> Result<Forward, NoMemory>
     ensures { IfOk result IsForward }
 {
-    if headers.len() > MAX_HEADERS {
-        return Err(NoMemory);
-    }
     match decode_forward(alloc, payload) {
-        Ok(mut forward) => {
-            forward.headers = headers;
-            Ok(forward)
-        }
-        Err(_) => Err(NoMemory),
+        Ok(forward) if headers.len() <= MAX_HEADERS => Ok(Forward {
+            uri,
+            headers,
+            ..forward
+        }),
+        _ => Err(NoMemory),
     }
 }
 
@@ -112,10 +116,18 @@ fn tell_length(
 
 fn is_read_again(alloc: Global, forward: &Forward, packet: &Bytes) -> Result<bool, NoMemory> {
     let payload = packet.as_slice().get(HEAD_BYTES..).unwrap_or(&[]);
-    let shown = format!(in alloc; "{:?}", decode_forward(alloc, payload))?;
-    is_shown_so(alloc, forward, shown.as_str())
+    let mut read = String::new(alloc);
+    tell_payload(alloc, payload, &mut read)?;
+    is_shown_so(alloc, forward, read.as_str())
 }
 
 fn is_shown_so(alloc: Global, forward: &Forward, shown: &str) -> Result<bool, NoMemory> {
-    Ok(format!(in alloc; "Ok({forward:?})")?.as_str() == shown)
+    let mut own = String::new(alloc);
+    put_own(forward, &mut own)?;
+    Ok(own.as_str() == shown)
+}
+
+fn put_own(forward: &Forward, out: &mut String) -> Result<(), NoMemory> {
+    write!(out, "Ok({forward:?})")?;
+    Ok(())
 }

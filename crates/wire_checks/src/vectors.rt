@@ -2,63 +2,79 @@
 //!
 //! A row of reply.txt has a payload in hexadecimal digits, and what is read in it. In front of a row of request.txt stands
 //! `read`, or `write` where the packet stands that is written for what was read.
+ghost use Rattle.ajp_request.specs.Writing.{IsForward};
 
-use ajp_reply::decode_reply;
-use ajp_request::{decode_forward, encode_forward};
-use anyhow::Result;
+use crate::{messages, requests};
+use ajp_request::{Forward, decode_forward, encode_forward};
+use ajp_wire::EncodeError;
+use anyhow::Result as Judged;
 use check_rows::files::read_rows;
+use check_rows::telling::put_shown;
+use jk_io::{Bytes, NoMemory};
 use std::alloc::Global;
+use std::fmt::Write;
 use std::rt::Files;
 
-fn read_reply(alloc: Global, payload: &str) -> Result<String> {
-    let payload = hex::decode(alloc, payload)?;
-    Ok(format!(in alloc; "{:?}", decode_reply(alloc, payload.as_slice()))?)
+fn put_hex(alloc: Global, bytes: &[u8], out: &mut String) -> Result<(), NoMemory> {
+    out.push_str(hex::encode(alloc, bytes)?.as_str())?;
+    Ok(())
 }
 
-fn read_request(alloc: Global, payload: &str) -> Result<String> {
-    let payload = hex::decode(alloc, payload)?;
-    Ok(format!(in alloc; "{:?}", decode_forward(alloc, payload.as_slice()))?)
+/// Adds the digits of a packet, or why it isn't made.
+fn put_digits(
+    alloc: Global,
+    packet: &Result<Bytes, EncodeError>,
+    out: &mut String,
+) -> Result<(), NoMemory> {
+    match packet {
+        Ok(packet) => put_hex(alloc, packet.as_slice(), out),
+        Err(error) => put_shown(out, error),
+    }
 }
 
-fn rewritten(alloc: Global, payload: &[u8]) -> Result<String> {
-    let packet = encode_forward(alloc, &decode_forward(alloc, payload)?, u32::MAX)?;
-    Ok(hex::encode(alloc, packet.as_slice())?)
+fn tell_written(alloc: Global, forward: &Forward, out: &mut String) -> Result<(), NoMemory>
+    requires { IsForward forward.now }
+{
+    put_digits(alloc, &encode_forward(alloc, forward, u32::MAX), out)
 }
 
-fn write_request(alloc: Global, payload: &str) -> Result<String> {
-    rewritten(alloc, hex::decode(alloc, payload)?.as_slice())
+fn tell_rewritten(alloc: Global, payload: &[u8], out: &mut String) -> Result<(), NoMemory> {
+    match decode_forward(alloc, payload) {
+        Ok(forward) => tell_written(alloc, &forward, out),
+        Err(error) => put_shown(out, &error),
+    }
 }
 
-/// What comes out of a row of requests.
-fn request(alloc: Global, act: &str, payload: &str) -> Result<String> {
+/// What is done with a payload.
+#[derive(Clone, Copy)]
+enum Act {
+    ReadReply,
+    ReadRequest,
+    WriteRequest,
+}
+
+/// What comes out of a payload.
+fn tell(alloc: Global, act: Act, payload: &[u8], out: &mut String) -> Result<(), NoMemory> {
     match act {
-        "write" => write_request(alloc, payload),
-        _ => read_request(alloc, payload),
+        Act::ReadReply => messages::tell_payload(alloc, payload, out),
+        Act::ReadRequest => requests::tell_payload(alloc, payload, out),
+        Act::WriteRequest => tell_rewritten(alloc, payload, out),
     }
 }
 
-/// Whether a row says what comes out. Shows it where it doesn't.
-fn fits<R: Print>(rt: &R, line: &str, wanted: &str, told: &str) -> Result<bool> {
-    if told != wanted {
-        println!(rt; "{line}, but it gives {told}")?;
+/// What comes out of a payload in hexadecimal digits.
+fn tell_digits(alloc: Global, act: Act, digits: &str, out: &mut String) -> Result<(), NoMemory> {
+    match hex::decode(alloc, digits) {
+        Ok(payload) => tell(alloc, act, payload.as_slice(), out),
+        Err(error) => put_shown(out, &error),
     }
-    Ok(told == wanted)
 }
 
-fn reply_fits<R: Print + AllocGlobal>(rt: &R, line: &str) -> Result<bool> {
-    let (payload, wanted) = line.split_once(' ').unwrap_or((line, ""));
-    fits(rt, line, wanted, read_reply(rt.alloc(), payload)?.as_str())
-}
-
-fn request_fits<R: Print + AllocGlobal>(rt: &R, line: &str) -> Result<bool> {
-    let (act, row) = line.split_once(' ').unwrap_or((line, ""));
-    let (payload, wanted) = row.split_once(' ').unwrap_or((row, ""));
-    fits(
-        rt,
-        line,
-        wanted,
-        request(rt.alloc(), act, payload)?.as_str(),
-    )
+/// Whether a payload and what comes out of it stand side by side. Adds what comes out.
+fn fits(alloc: Global, act: Act, row: &str, out: &mut String) -> Result<bool, NoMemory> {
+    let (digits, wanted) = row.split_once(' ').unwrap_or((row, ""));
+    tell_digits(alloc, act, digits, out)?;
+    Ok(out.as_str() == wanted)
 }
 
 /// What the rows of a file are about.
@@ -68,23 +84,61 @@ enum Payloads {
     Requests,
 }
 
-impl Payloads {
-    fn fits<R: Print + AllocGlobal>(self, rt: &R, line: &str) -> Result<bool> {
-        match self {
-            Payloads::Replies => reply_fits(rt, line),
-            Payloads::Requests => request_fits(rt, line),
-        }
+/// What a row asks for, and the rest of it.
+fn act_of(payloads: Payloads, line: &str) -> (Act, &str) {
+    match payloads {
+        Payloads::Replies => (Act::ReadReply, line),
+        Payloads::Requests => match line.split_once(' ').unwrap_or((line, "")) {
+            ("write", row) => (Act::WriteRequest, row),
+            (_, row) => (Act::ReadRequest, row),
+        },
     }
 }
 
-fn count<R: Print + AllocGlobal>(rt: &R, payloads: Payloads, text: &str) -> Result<u64> {
+fn show(line: &str, told: &str, shown: &mut String) -> Result<(), NoMemory> {
+    write!(shown, "{line}, but it gives {told}\n")?;
+    Ok(())
+}
+
+/// Shows a row that says otherwise, and answers how many say what comes out.
+fn judge_line(
+    alloc: Global,
+    payloads: Payloads,
+    line: &str,
+    shown: &mut String,
+) -> Result<u64, NoMemory> {
+    let (act, row) = act_of(payloads, line);
+    let mut out = String::new(alloc);
+    if fits(alloc, act, row, &mut out)? {
+        return Ok(1);
+    }
+    show(line, out.as_str(), shown)?;
+    Ok(0)
+}
+
+fn count(
+    alloc: Global,
+    payloads: Payloads,
+    text: &str,
+    shown: &mut String,
+) -> Result<u64, NoMemory> {
     let mut rows = 0u64;
     for line in text.lines() {
-        if payloads.fits(rt, line)? {
-            rows = rows.saturating_add(1);
-        }
+        rows = rows.saturating_add(judge_line(alloc, payloads, line, shown)?);
     }
     Ok(rows)
+}
+
+fn judge_rows<R: Print + AllocGlobal>(
+    rt: &R,
+    payloads: Payloads,
+    text: &str,
+    told: &str,
+) -> Judged<()> {
+    let mut shown = String::new(rt.alloc());
+    let rows = count(rt.alloc(), payloads, text, &mut shown)?;
+    println!(rt; "{shown}{rows} {told}")?;
+    Ok(())
 }
 
 /// Shows each row of a file that says otherwise, and how many say what comes out.
@@ -93,18 +147,16 @@ fn judge<R: Print + AllocGlobal + Files>(
     file: &str,
     payloads: Payloads,
     told: &str,
-) -> Result<()> {
-    let rows = count(rt, payloads, read_rows(rt, file)?.as_str())?;
-    println!(rt; "{rows} {told}")?;
-    Ok(())
+) -> Judged<()> {
+    judge_rows(rt, payloads, read_rows(rt, file)?.as_str(), told)
 }
 
-pub fn judge_replies<R: Print + AllocGlobal + Files>(rt: &R) -> Result<()> {
+pub fn judge_replies<R: Print + AllocGlobal + Files>(rt: &R) -> Judged<()> {
     let told = "payloads of the container are read as the reference says";
     judge(rt, "wire/reply.txt", Payloads::Replies, told)
 }
 
-pub fn judge_requests<R: Print + AllocGlobal + Files>(rt: &R) -> Result<()> {
+pub fn judge_requests<R: Print + AllocGlobal + Files>(rt: &R) -> Judged<()> {
     let told = "rows of requests are read and written as the reference says";
     judge(rt, "wire/request.txt", Payloads::Requests, told)
 }
