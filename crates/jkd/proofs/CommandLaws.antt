@@ -1,10 +1,11 @@
 -- How a command that asks for workers or threads ends.
-use Rattle.std.proofs.Common.{ℕ, ◌≡◌, ◌≢◌, ◌⊎◌, Bool, true, false, List, [], ◌∷◌, Option, inl, inr, refl, sym, ◌∙◌, arith}
+use Rattle.std.proofs.Common.{ℕ, ◌≡◌, ◌≢◌, ◌⊎◌, Bool, true, false, List, [], ◌∷◌, Option, Some, inl, inr, refl, sym, ◌∙◌, subst, arith}
 use Rattle.container_server.specs.declared.ends.ContainerWorker.{ContainerWorker}
 use Rattle.container_server.specs.declared.ends.ContainerWorker.TheVariants as container
 use Rattle.drill.specs.Written.{RunsDrill, Told, Lacked, Wanted}
 use Rattle.drill.specs.declared.writing.DrillEnd.{DrillEnd}
 use Rattle.drill.specs.declared.writing.DrillEnd.TheVariants as drilled
+use Rattle.jk_cli.specs.Orders.{order_of}
 use Rattle.jk_cli.specs.declared.order.Order.{Order}
 use Rattle.jk_cli.specs.declared.order.Order.TheVariants as order
 use Rattle.jk_io.specs.Told.{Rose}
@@ -22,7 +23,7 @@ use Rattle.plain_commands.specs.Plain.{readings, AreFilesDue}
 use Rattle.site_reports.specs.Readings.{CommandOutside, has_file}
 use Rattle.jkd.specs.Commands.{DoesOrder}
 use Rattle.jkd.specs.Ends.{jkd_end, of_drill}
-use Rattle.jkd.specs.Words.{is_command, is_served, is_serving, AreFilesRead, IsInRange, reads_files}
+use Rattle.jkd.specs.Words.{is_command, is_served, is_served_order, is_serving, AreFilesRead, IsInRange, reads_files}
 use Rattle.jkd.specs.declared.ends.EndOf.{EndOf}
 use Rattle.jkd.specs.declared.ends.EndOf.TheVariants as end
 
@@ -183,3 +184,37 @@ files_read words same (inr due) = inr (due.0, due.1, reads_due due.0 due.2)
 -- words that ask for workers are a command
 pub serving_command : (words : List (List ℕ)) → is_serving words ≡ true → is_command words ≡ false → ⊥
 serving_command words serving none = let is : is_command words ≡ true = rw serving refl in cc
+
+-- and they aren't other words
+pub not_both : (words : List (List ℕ)) → is_serving words ≡ true → is_serving words ≡ false → ⊥
+not_both words serving none = cc
+
+-- words that ask for workers are an order that does
+pub served_by : (words : List (List ℕ)) (o : Order) → is_serving words ≡ true → order_of words ≡ Some o → is_served o ≡ true
+served_by words o serving meant = subst (λ (found : Option Order). is_served_order found ≡ true) meant serving
+
+-- other words are no such order
+pub not_served : (words : List (List ℕ)) (o : Order) → is_serving words ≡ false → order_of words ≡ Some o → is_served o ≡ true → ⊥
+not_served words o none meant served = let is : is_serving words ≡ true = subst (λ (found : Option Order). is_served_order found ≡ true) (sym meant) served in cc
+
+-- where an order reads files its words do
+pub files_by : (words : List (List ℕ)) (o : Order) (same : Type 0) → order_of words ≡ Some o → same ⊎ (reads_files o ≡ true) → same ⊎ AreFilesRead words
+files_by words o same meant (inl kept) = inl kept
+files_by words o same meant (inr due) = inr (o, meant, due)
+
+-- words are one order
+pub one_order : (words : List (List ℕ)) (o p : Order) → order_of words ≡ Some o → order_of words ≡ Some p → o ≡ p
+one_order words o p meant found = cc
+
+-- ---- an end with a status
+
+-- an end has one status
+pub status_is : {L : Type 0} (ended : EndOf L) (a b : ℕ) → ended ≡ end.Status a → ended ≡ end.Status b → a ≡ b
+status_is ended a b is e = let both = sym is ∙ e in cc
+
+-- want of memory isn't the status of words that are no command, nor that of a lost output
+pub wanted_done : {L : Type 0} (ended : EndOf L) → ended ≡ end.Status 6 → ended ≢ end.Status 2
+wanted_done ended is e = omega (arith, status_is ended 6 2 is e)
+
+pub wanted_lost : {L : Type 0} (ended : EndOf L) → ended ≡ end.Status 6 → ended ≢ end.Status 5
+wanted_lost ended is e = omega (arith, status_is ended 6 5 is e)

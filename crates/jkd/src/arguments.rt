@@ -3,18 +3,15 @@ use jk_io::{Bytes, ListOf, NoMemory};
 use std::alloc::AllocFailed;
 use std::rt::Env;
 use std::{env, io};
-use thiserror::Error;
 
 /// The command's words.
 pub(crate) type WordList = ListOf<Bytes>;
 
 /// Why the words can't be read.
-#[derive(Clone, Copy, Debug, PartialEq, Eq, Error)]
+#[derive(Clone, Copy)]
 pub(crate) enum WordsError {
     /// A word isn't UTF-8.
-    #[error("a word is no text")]
     NotText,
-    #[error("out of memory")]
     NoMemory,
 }
 

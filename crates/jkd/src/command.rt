@@ -79,6 +79,9 @@ where
     }
 }
 
+/// Lets a value go. Where it is large, the check of a function that calls this doesn't write its drop out.
+pub(crate) fn let_go<T: Drop>(_it: T) {}
+
 /// Does what words ask for that ask for workers or threads.
 fn do_words<F: Files, O: Sink, W: World, R: Threads + Wait + Sync>(
     rt: &R,
@@ -98,7 +101,11 @@ where
     ensures output_fault { result ≡ EndOf.Status 5 → Rose (O.faults out.old) (O.faults out.new) }
 {
     match read_words(alloc, words) {
-        Ok(order) => do_order(rt, alloc, &order, files, out, world),
+        Ok(order) => {
+            let end = do_order(rt, alloc, &order, files, out, world);
+            let_go(order);
+            end
+        }
         Err(_) => EndOf::Status(NO_MEMORY),
     }
 }

@@ -10,19 +10,21 @@
 mod arguments;
 mod command;
 mod ends;
+mod outside;
 mod telling;
 mod words;
 mod write_sink;
 
-use arguments::{WordsError, read_words};
-use command::run_jkd;
+use arguments::{WordList, WordsError, read_words};
+use command::let_go;
 use command_remarks::{CountedInput, KeptFiles};
 use ends::{NO_MEMORY, OUTPUT_FAULT};
-use jk_cli::{Order, read_words as read_order};
 use jk_io::{Bytes, IoError, NoMemory, Sink, write_all};
+use outside::{do_in, tell_trouble, threads_of};
 use plain_commands::{USAGE, asked_text};
 use real_io::{RealFiles, StdIn, StdOut};
 use std::process::ExitCode;
+use std::rt::Env;
 use telling::tell;
 use worker_gears::RealWorld;
 
@@ -37,11 +39,35 @@ fn print_text<O: Sink>(out: &mut O, text: &[u8]) -> u8 {
     }
 }
 
-/// How many worker threads the words ask for.
-fn threads_of<R: AllocGlobal>(rt: &R, words: &[Bytes]) -> u32 {
-    match read_order(rt.alloc(), words) {
-        Ok(Order::Serve { threads, .. } | Order::Container { threads, .. }) => threads,
-        _ => 0,
+/// Prints the text that the words ask for, and answers the status; none where they ask for no text.
+fn print_asked<R: Print + AllocGlobal>(rt: &R, words: &[Bytes]) -> Option<u8> {
+    match asked_text(rt.alloc(), words) {
+        Ok(None) => None,
+        Ok(Some(text)) => Some(print_text(&mut StdOut::new(rt), text.as_bytes())),
+        Err(NoMemory) => Some(NO_MEMORY),
+    }
+}
+
+/// The status where the words can't be read.
+fn unread<R: Eprint>(rt: &R, error: WordsError) -> u8 {
+    match error {
+        WordsError::NotText => {
+            let _ = eprintln!(rt; "jkd: a word is not UTF-8");
+            NO_COMMAND
+        }
+        WordsError::NoMemory => NO_MEMORY,
+    }
+}
+
+/// The words of a command; where there is nothing more to do, the status.
+fn words_of<R: Env + Print + Eprint + AllocGlobal>(rt: &R) -> Result<WordList, u8> {
+    let words = match read_words(rt) {
+        Ok(words) => words,
+        Err(error) => return Err(unread(rt, error)),
+    };
+    match print_asked(rt, words.as_slice()) {
+        None => Ok(words),
+        Some(status) => Err(status),
     }
 }
 
@@ -54,42 +80,18 @@ fn ended<R: Eprint>(rt: &R, status: u8) -> ExitCode {
 }
 
 fn main(rt: HostRuntime) -> ExitCode {
-    let words = match read_words(&rt) {
+    let words = match words_of(&rt) {
         Ok(words) => words,
-        Err(WordsError::NotText) => {
-            let _ = eprintln!(&rt; "jkd: a word is not UTF-8");
-            return ended(&rt, NO_COMMAND);
-        }
-        Err(WordsError::NoMemory) => return ended(&rt, NO_MEMORY),
+        Err(status) => return ended(&rt, status),
     };
-    match asked_text(rt.alloc(), words.as_slice()) {
-        Ok(None) => {}
-        Ok(Some(text)) => return ended(&rt, print_text(&mut StdOut::new(&rt), text.as_bytes())),
-        Err(NoMemory) => return ended(&rt, NO_MEMORY),
-    }
+    let words = words.as_slice();
     let mut files = KeptFiles::new(rt.alloc(), RealFiles::new(&rt));
     let mut input = CountedInput::new(StdIn::new(rt.reader()));
-    let mut out = StdOut::new(&rt);
-    let mut world = RealWorld::new(&rt, threads_of(&rt, words.as_slice()));
-    let end = run_jkd(
-        &rt,
-        rt.alloc(),
-        words.as_slice(),
-        &mut files,
-        &mut input,
-        &mut out,
-        &mut world,
-    );
-    if let Some(trouble) = world.trouble() {
-        let _ = eprintln!(&rt; "jkd: {trouble}");
-    }
-    tell(
-        &rt,
-        rt.stderr(),
-        words.as_slice(),
-        end.status(),
-        files.reads(),
-        input.seen(),
-    );
-    ended(&rt, end.status())
+    let mut world = RealWorld::new(&rt, threads_of(rt.alloc(), words));
+    let status = do_in(&rt, words, &mut files, &mut input, &mut world);
+    tell_trouble(&rt, world.trouble());
+    let_go(world);
+    tell(&rt, rt.stderr(), words, status, files.reads(), input.seen());
+    let_go(files);
+    ended(&rt, status)
 }

@@ -1,7 +1,8 @@
 //! What a person reads on standard error once a command ended.
 use crate::write_sink::WriteSink;
 use command_remarks::{Ended, InputSeen, ReadFile, RemarkOut, remarks_on, unread_file};
-use jk_io::{Bytes, IoError, NoMemory};
+use jk_io::{Bytes, NoMemory};
+use std::alloc::Global;
 use std::io::{Read, Write};
 use std::rt::Files;
 use std::{fs, io, str};
@@ -30,28 +31,11 @@ fn reason<R: Files + AllocGlobal>(rt: &R, reads: &[ReadFile]) -> Result<String, 
     }
 }
 
-/// Writes what a person is told of a command that ended with this status.
-fn write_remarks<R: Files + AllocGlobal, W: Write + Drop>(
-    rt: &R,
-    err: W,
-    words: &[Bytes],
-    status: u8,
-    reads: &[ReadFile],
-    input: InputSeen,
-) -> Result<(), IoError> {
-    let reason = reason(rt, reads)?;
-    let ended = Ended {
-        words,
-        status,
-        reads,
-        input,
-        reason: reason.as_bytes(),
-    };
-    let mut out = RemarkOut::new(rt.alloc(), WriteSink::new(err));
-    let told = remarks_on(rt.alloc(), &mut out, &ended);
-    let (_sink, written) = out.finish();
-    told?;
-    written
+/// Writes what a person is told of a command that ended.
+fn write_remarks<W: Write + Drop>(alloc: Global, err: W, ended: &Ended<'_>) {
+    let mut out = RemarkOut::new(alloc, WriteSink::new(err));
+    let _ = remarks_on(alloc, &mut out, ended);
+    let _ = out.finish();
 }
 
 /// Writes what a person is told of a command. A write that fails ends it and changes nothing, and so does want of memory.
@@ -63,5 +47,15 @@ pub(crate) fn tell<R: Files + AllocGlobal, W: Write + Drop>(
     reads: &[ReadFile],
     input: InputSeen,
 ) {
-    let _ = write_remarks(rt, err, words, status, reads, input);
+    let Ok(reason) = reason(rt, reads) else {
+        return;
+    };
+    let ended = Ended {
+        words,
+        status,
+        reads,
+        input,
+        reason: reason.as_bytes(),
+    };
+    write_remarks(rt.alloc(), err, &ended);
 }
