@@ -3,13 +3,15 @@ use Rattle.std.proofs.Common.{◌≡◌, ◌≢◌, ℕ, zero, suc, ◌<◌, ◌
 use Rattle.std.proofs.lemmas.Bool.{cases_lt, ltb-false, le-ltb, eqb-true}
 use Rattle.std.proofs.lemmas.List.{append-nil, take_at, drop_at, take-append-drop, length-take, length-append, get_or_past}
 use Rattle.ajp_wire.specs.declared.refusal.Refusal.{Refusal}
+use Rattle.ajp_wire.specs.declared.refusal.RefusalKind.{RefusalKind}
+use Rattle.ajp_wire.specs.declared.refusal.RefusalKind.TheVariants as kinds
 use Rattle.ajp_wire.specs.declared.refusal.RefusalKind.TheVariants.{Short, BadCode}
 use Rattle.ajp_wire.specs.Spelling.{int, string, SpellsText}
 use Rattle.ajp_wire.specs.declared.refusal.NotRead.{NotRead}
 use Rattle.ajp_wire.specs.declared.refusal.NotRead.TheVariants as why
 use Rattle.ajp_wire.specs.declared.errors.DecodeError.{DecodeError}
 use Rattle.ajp_wire.specs.declared.errors.DecodeError.TheVariants as errors
-use Rattle.ajp_wire.specs.Reading.{◌>>=◌, Halts, told, refused, int_at, text_at, headers_at}
+use Rattle.ajp_wire.specs.Reading.{◌>>=◌, Halts, error_at, told, refused, int_at, text_at, headers_at}
 use Rattle.ajp_wire.proofs.ReadingLaws.{IsBytes, IsBytes-rest, IsBytes-behind, Front-rest, bind_ok, ok_is, chosen, int_value, int_takes, text_takes, text_again}
 use Rattle.ajp_wire.proofs.HeaderLaws.{headers_take, headers_again}
 use Rattle.ajp_reply.specs.declared.message.Message.{Message}
@@ -17,8 +19,8 @@ use Rattle.ajp_reply.specs.declared.message.Message.TheVariants.{Headers, Chunk,
 use Rattle.ajp_reply.specs.declared.message.ReplyParts.{ReplyParts}
 use Rattle.ajp_wire.specs.Names.{headers_bytes}
 use Rattle.ajp_wire.proofs.WritingLaws.{headers-spelled, length-headers_as_read}
-use Rattle.ajp_reply.specs.Spelling.{reply_names, SpellsHead, SpellsChunk, Spells, IsMessage, FieldsFit, payload_of, as_read}
-use Rattle.ajp_reply.specs.Reading.{ended, chunk_end, chunk_at, head_at, end_at, ask_at, message_at}
+use Rattle.ajp_reply.specs.Spelling.{reply_names, SpellsHead, SpellsChunk, Spells, IsMessage, FieldsFit, TakesMemory, payload_of, as_read}
+use Rattle.ajp_reply.specs.Reading.{ended, chunk_end, chunk_at, head_at, end_at, ask_at, message_at, ReadsWithMemory}
 
 -- ---- what is read is spelled
 
@@ -182,6 +184,27 @@ spelled-writable (Chunk bytes) payload s = tt
 spelled-writable (End reuse) payload s = tt
 spelled-writable (Ask most) payload s = s.0
 spelled-writable Pong payload s = tt
+
+never_memory : (kind : RefusalKind) (at : ℕ) → error_at kind at ≡ errors.NoMemory → ⊥
+never_memory kinds.Short at e = cc
+never_memory kinds.BadCode at e = cc
+never_memory kinds.BadMark at e = cc
+never_memory kinds.BadBoolean at e = cc
+never_memory kinds.Extra at e = cc
+never_memory kinds.TooMany at e = cc
+never_memory kinds.Absent at e = cc
+
+-- want of memory is told where memory was wanted
+pub told-wanted : (stop : NotRead) (len : ℕ) (error : DecodeError) → error ≡ told len stop → ◌≡◌ {A = Result Message DecodeError} (Err error) (Err errors.NoMemory)
+    → stop ≡ why.NoMemory
+told-wanted why.NoMemory len error is e = refl
+told-wanted (why.Refused r) len error is e =
+    let same : error ≡ errors.NoMemory = cc in absurd (never_memory r.kind _ (sym is ∙ same))
+
+-- what is read as a chunk spells one
+pub memory_taken : (payload : List ℕ) → IsBytes payload → ReadsWithMemory payload → TakesMemory payload
+memory_taken payload fits (inl head) = inl head
+memory_taken payload fits (inr chunk) = inr (chunk.0, message_takes payload (Chunk chunk.0) fits chunk.1)
 
 -- where a payload is refused, it spells no message
 pub halted-none : (stop : NotRead) (len : ℕ) (error : DecodeError) (payload : List ℕ) → Halts stop (message_at payload) → error ≡ told len stop → error ≢ errors.NoMemory

@@ -1,11 +1,11 @@
 -- Reading a payload from left to right, up to the first place that can't be read.
-use Rattle.std.specs.Prelude.{ℕ, zero, suc, ◌==◌, true, List, [], ◌∷◌, length, take, drop, Result, Ok, nat_lt, if◌then◌else◌}
+use Rattle.std.specs.Prelude.{◌≡◌, ◌⊎◌, ℕ, zero, suc, ◌==◌, true, List, [], ◌∷◌, length, take, drop, Result, Ok, nat_lt, if◌then◌else◌}
 use Rattle.ajp_wire.specs.declared.refusal.Refusal.{Refusal}
 use Rattle.ajp_wire.specs.declared.refusal.RefusalKind.TheVariants.{Short, BadCode, BadMark, Extra}
 use Rattle.ajp_wire.specs.Reading.{◌>>=◌, refused, int_at, text_at, headers_at}
 use Rattle.ajp_reply.specs.declared.message.Message.{Message}
 use Rattle.ajp_reply.specs.declared.message.Message.TheVariants.{Headers, Chunk, End, Ask, Pong}
-use Rattle.ajp_reply.specs.Spelling.{reply_names}
+use Rattle.ajp_reply.specs.Spelling.{reply_names, BeginsHead}
 
 -- nothing stands behind a message
 abbrev pub ended : Message → List ℕ → Result Message Refusal
@@ -49,3 +49,7 @@ message_at (code ∷ rest) =
     else (if code == 6 then ask_at rest
     else (if code == 9 then ended Pong rest
     else refused BadCode (code ∷ rest)))))
+
+-- reading takes memory: for the texts of a head, or for the data of a chunk
+abbrev pub ReadsWithMemory : List ℕ → Type 0
+ReadsWithMemory payload = BeginsHead payload ⊎ ((bytes : List ℕ) × (message_at payload ≡ Ok (Chunk bytes)))

@@ -85,3 +85,11 @@ as_read Pong = Pong
 -- A payload spells some message.
 abbrev pub IsSpelled : List ℕ → Type 0
 IsSpelled payload = (message : Message) × Spells message payload
+
+-- A payload begins as Send Headers does.
+abbrev pub BeginsHead : List ℕ → Type 0
+BeginsHead payload = (rest : List ℕ) × (payload ≡ 4 ∷ rest)
+
+-- Reading takes memory: for the texts of a head, or for the data of a chunk.
+abbrev pub TakesMemory : List ℕ → Type 0
+TakesMemory payload = BeginsHead payload ⊎ ((bytes : List ℕ) × Spells (Chunk bytes) payload)

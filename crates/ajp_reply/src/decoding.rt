@@ -1,11 +1,11 @@
 //! Payloads of the container, read whole.
 
-ghost use Rattle.std.specs.Prelude.{◌≡◌, ◌≢◌, ◌+◌, ◌≤◌, List, [], ℕ, length, map, take, drop, Ok, IfOk, IfErr, IfSome, IfNone, vec_capacity};
+ghost use Rattle.std.specs.Prelude.{◌≡◌, ◌≢◌, ◌+◌, ◌≤◌, List, [], ℕ, length, map, take, drop, Ok, Err, IfOk, IfErr, IfSome, IfNone, vec_capacity};
 ghost use Rattle.ajp_wire.specs.FirstPlace.{IsRefused};
 ghost use Rattle.ajp_wire.specs.Reading.{Gives, Tells};
 ghost use Rattle.ajp_reply.specs.declared.message.Message.{Message};
-ghost use Rattle.ajp_reply.specs.Spelling.{Spells, IsSpelled, IsMessage};
-ghost use Rattle.ajp_reply.specs.Reading.{message_at, head_at, chunk_at, end_at, ask_at, ended as ended_at};
+ghost use Rattle.ajp_reply.specs.Spelling.{Spells, IsSpelled, IsMessage, BeginsHead, TakesMemory};
+ghost use Rattle.ajp_reply.specs.Reading.{message_at, head_at, chunk_at, end_at, ask_at, ended as ended_at, ReadsWithMemory};
 
 use crate::message::{Message, ReplyParts};
 use crate::names::reply_names;
@@ -25,6 +25,9 @@ pub fn decode_reply(alloc: Global, payload: &[u8]) -> Result<Message, DecodeErro
     // The place of a refusal is the first that can't be read, and its kind is that of the field there.
     ensures refused { IfErr result (λ error. IsRefused IsSpelled payload.now error) }
     ensures exact { Tells (length payload.now) result (message_at payload.now) }
+
+    // Memory is wanted for a head and for a chunk alone.
+    ensures wanted { result ≡ Err DecodeError.NoMemory → TakesMemory payload.now }
 {
     match message(alloc, payload) {
         Ok(message) => Ok(message),
@@ -44,6 +47,9 @@ pub fn take_reply(alloc: Global, payload: &mut Vec<u8>) -> Result<Message, Decod
     // A chunk leaves the payload with no bytes and no memory. Any other message, and an error, leave it as it was.
     ensures emptied { (bytes : List ℕ) → result ≡ Ok (Message.Chunk bytes) → (payload.new.items ≡ []) × (vec_capacity payload.new ≡ 0) }
     ensures kept { ((bytes : List ℕ) → result ≢ Ok (Message.Chunk bytes)) → payload.new ≡ payload.old }
+
+    // Memory is wanted for a head alone, so a chunk is never refused for want of it.
+    ensures wanted { result ≡ Err DecodeError.NoMemory → BeginsHead payload.old.items }
 {
     match chunk_len(payload.as_slice()) {
         Some(len) => Ok(Message::Chunk(cut_out(alloc, payload, len))),
@@ -83,7 +89,8 @@ fn cut_out(alloc: Global, payload: &mut Vec<u8>, len: usize) -> Bytes
 }
 
 fn message(alloc: Global, payload: &[u8]) -> Result<Message, NotRead>
-    ensures { Gives (λ m. m) result (message_at payload.now) }
+    ensures read { Gives (λ m. m) result (message_at payload.now) }
+    ensures wanted { IfErr result (λ stop. stop ≡ NotRead.NoMemory → ReadsWithMemory payload.now) }
 {
     match payload {
         [4, rest @ ..] => head(alloc, rest),
@@ -113,9 +120,20 @@ fn head(alloc: Global, rest: &[u8]) -> Result<Message, NotRead>
 }
 
 /// Send Body Chunk behind its first byte.
-#[tactic(auto, unfolding(crate::specs::Reading::chunk_at))]
 fn chunk(alloc: Global, rest: &[u8]) -> Result<Message, NotRead>
-    ensures { Gives (λ m. m) result (chunk_at rest.now) }
+    ensures read { Gives (λ m. m) result (chunk_at rest.now) }
+    ensures wanted { IfErr result (λ stop. stop ≡ NotRead.NoMemory
+        → (bytes : List ℕ) × (chunk_at rest.now ≡ Ok (Message.Chunk bytes))) }
+{
+    let bytes = chunk_bytes(rest)?;
+    Ok(Message::Chunk(Bytes::from_slice(alloc, bytes)?))
+}
+
+/// The data of a chunk, where they lie.
+#[tactic(auto, unfolding(crate::specs::Reading::chunk_at))]
+fn chunk_bytes(rest: &[u8]) -> Result<&[u8], NotRead>
+    ensures read { Gives (λ bytes. Message.Chunk bytes.now) result (chunk_at rest.now) }
+    ensures no_want { IfErr result (λ stop. stop ≢ NotRead.NoMemory) }
 {
     let (size, rest) = next_int(rest)?;
     let size = size as usize;
@@ -124,8 +142,7 @@ fn chunk(alloc: Global, rest: &[u8]) -> Result<Message, NotRead>
     }
     let (bytes, behind) = rest.split_at(size);
     match behind {
-        [] => Ok(Message::Chunk(Bytes::from_slice(alloc, bytes)?)),
-        [0] => Ok(Message::Chunk(Bytes::from_slice(alloc, bytes)?)),
+        [] | [0] => Ok(bytes),
         [0, extra @ ..] => Err(refused(RefusalKind::Extra, extra)),
         [_, ..] => Err(refused(RefusalKind::BadMark, behind)),
     }
@@ -133,7 +150,8 @@ fn chunk(alloc: Global, rest: &[u8]) -> Result<Message, NotRead>
 
 /// End Response behind its first byte.
 fn end(rest: &[u8]) -> Result<Message, NotRead>
-    ensures { Gives (λ m. m) result (end_at rest.now) }
+    ensures read { Gives (λ m. m) result (end_at rest.now) }
+    ensures no_want { IfErr result (λ stop. stop ≢ NotRead.NoMemory) }
 {
     match rest {
         [byte, rest @ ..] => ended(Message::End { reuse: *byte == 1 }, rest),
@@ -144,7 +162,8 @@ fn end(rest: &[u8]) -> Result<Message, NotRead>
 /// Get Body Chunk behind its first byte.
 #[tactic(auto, unfolding(crate::specs::Reading::ask_at))]
 fn ask(rest: &[u8]) -> Result<Message, NotRead>
-    ensures { Gives (λ m. m) result (ask_at rest.now) }
+    ensures read { Gives (λ m. m) result (ask_at rest.now) }
+    ensures no_want { IfErr result (λ stop. stop ≢ NotRead.NoMemory) }
 {
     let (most, rest) = next_int(rest)?;
     ended(Message::Ask(most), rest)
@@ -152,7 +171,8 @@ fn ask(rest: &[u8]) -> Result<Message, NotRead>
 
 /// The message, where nothing stands behind it.
 fn ended(message: Message, rest: &[u8]) -> Result<Message, NotRead>
-    ensures { Gives (λ m. m) result (ended_at message rest.now) }
+    ensures read { Gives (λ m. m) result (ended_at message rest.now) }
+    ensures no_want { IfErr result (λ stop. stop ≢ NotRead.NoMemory) }
 {
     if rest.is_empty() {
         Ok(message)

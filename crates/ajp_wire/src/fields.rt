@@ -1,5 +1,6 @@
-//! The field that a payload goes on with, and the bytes behind it. Nothing is copied but the text that is handed out.
-ghost use Rattle.std.specs.Prelude.{◌≡◌, ◌+◌, ◌*◌, ◌<◌, List, ℕ, length, Option, option_map};
+//! The field that a payload goes on with, and the bytes behind it. Nothing is copied but the text that `next_text` hands
+//! out, so no other of these wants memory.
+ghost use Rattle.std.specs.Prelude.{◌≡◌, ◌≢◌, ◌+◌, ◌*◌, ◌<◌, List, ℕ, length, Option, option_map, IfErr};
 ghost use Rattle.std.specs.Option.{option_copied};
 ghost use Rattle.ajp_wire.specs.Reading.{Gives, byte_at, int_at, marked_at, string_at, text_at};
 
@@ -9,7 +10,8 @@ use std::alloc::Global;
 
 /// A byte.
 pub fn next_byte(rest: &[u8]) -> Result<(u8, &[u8]), NotRead>
-    ensures { Gives (λ x. (x.0, x.1.now)) result (byte_at rest.now) }
+    ensures read { Gives (λ x. (x.0, x.1.now)) result (byte_at rest.now) }
+    ensures no_want { IfErr result (λ stop. stop ≢ NotRead.NoMemory) }
 {
     match rest {
         [byte, rest @ ..] => Ok((*byte, rest)),
@@ -19,7 +21,8 @@ pub fn next_byte(rest: &[u8]) -> Result<(u8, &[u8]), NotRead>
 
 /// An integer: two bytes, high byte first.
 pub fn next_int(rest: &[u8]) -> Result<(u16, &[u8]), NotRead>
-    ensures { Gives (λ x. (x.0, x.1.now)) result (int_at rest.now) }
+    ensures read { Gives (λ x. (x.0, x.1.now)) result (int_at rest.now) }
+    ensures no_want { IfErr result (λ stop. stop ≢ NotRead.NoMemory) }
 {
     match rest {
         [high, low, rest @ ..] => Ok((u16::from_be_bytes([*high, *low]), rest)),
@@ -30,7 +33,8 @@ pub fn next_int(rest: &[u8]) -> Result<(u16, &[u8]), NotRead>
 /// The bytes of a string whose length was read, without the zero byte that follows them.
 #[tactic(auto, unfolding(crate::specs::Reading::marked_at))]
 pub(crate) fn next_marked(len: u16, rest: &[u8]) -> Result<(&[u8], &[u8]), NotRead>
-    ensures { Gives (λ x. (x.0.now, x.1.now)) result (marked_at len rest.now) }
+    ensures read { Gives (λ x. (x.0.now, x.1.now)) result (marked_at len rest.now) }
+    ensures no_want { IfErr result (λ stop. stop ≢ NotRead.NoMemory) }
 {
     let len = len as usize;
     if rest.len() < len {
@@ -47,7 +51,8 @@ pub(crate) fn next_marked(len: u16, rest: &[u8]) -> Result<(&[u8], &[u8]), NotRe
 /// A string, or None where the length says that it is absent.
 #[tactic(auto, unfolding(crate::specs::Reading::string_at))]
 pub fn next_string(rest: &[u8]) -> Result<(Option<&[u8]>, &[u8]), NotRead>
-    ensures { Gives (λ x. (option_copied x.0, x.1.now)) result (string_at rest.now) }
+    ensures read { Gives (λ x. (option_copied x.0, x.1.now)) result (string_at rest.now) }
+    ensures no_want { IfErr result (λ stop. stop ≢ NotRead.NoMemory) }
 {
     let (len, rest) = next_int(rest)?;
     if len == 0xFFFF {

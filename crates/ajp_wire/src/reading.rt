@@ -1,6 +1,6 @@
 //! One packet at a time from a link.
 
-ghost use Rattle.std.specs.Prelude.{◌≡◌, ◌↔◌, ℕ, ◌+◌, ◌≤◌, ◌<◌, List, length, IsOk, IfOk, IfErr, IsTrue};
+ghost use Rattle.std.specs.Prelude.{◌≡◌, ◌↔◌, ℕ, ◌+◌, ◌≤◌, ◌<◌, List, [], length, IsOk, IsErr, IfOk, IfErr, IsTrue};
 ghost use Rattle.ajp_wire.specs.Moments.{link_at};
 ghost use Rattle.jk_io.specs.Told.{IsEmpty, Rose};
 ghost use Rattle.ajp_wire.specs.Packet.{HasCome, ReadsPacket, read_into, says_end, says_fault};
@@ -32,8 +32,7 @@ pub fn read_packet<L: Link>(
     Ok(Bytes::from_vec(payload))
 }
 
-/// Reads one packet as `read_packet` does, and leaves its payload alone in a buffer, whose memory is used again. After
-/// an error the buffer's bytes are any.
+/// Reads one packet as `read_packet` does, and leaves its payload alone in a buffer, whose memory is used again.
 pub fn read_packet_into<L: Link>(
     line: &mut L,
     from_container: bool,
@@ -42,6 +41,32 @@ pub fn read_packet_into<L: Link>(
 ) -> Result<(), PacketError>
     ensures packet { ReadsPacket from_container most (read_into result payload.new.items) (link_at L.Meanings line.old) (link_at L.Meanings line.new) }
 
+    // After an error no byte is left in the buffer, neither of this packet nor of an earlier one.
+    ensures none_left { IsErr result → payload.new.items ≡ [] }
+
+    ensures end { IfErr result (λ error. IsTrue (says_end error) → IsEmpty (L.incoming line.new)) }
+    ensures fault { IfErr result (λ error. IsTrue (says_fault error) → Rose (L.faults line.old) (L.faults line.new)) }
+    ensures no_fewer { L.faults line.old ≤ L.faults line.new }
+    ensures steady { IsOk result → L.faults line.new ≡ L.faults line.old }
+    ensures same { (L.sent line.new ≡ L.sent line.old) × (L.beside line.new ≡ L.beside line.old) }
+{
+    match read_over(line, from_container, most, payload) {
+        Ok(()) => Ok(()),
+        Err(error) => {
+            payload.clear();
+            Err(error)
+        }
+    }
+}
+
+/// Reads one packet into a buffer. After an error the buffer's bytes are any.
+fn read_over<L: Link>(
+    line: &mut L,
+    from_container: bool,
+    most: u32,
+    payload: &mut Vec<u8>,
+) -> Result<(), PacketError>
+    ensures packet { ReadsPacket from_container most (read_into result payload.new.items) (link_at L.Meanings line.old) (link_at L.Meanings line.new) }
     ensures end { IfErr result (λ error. IsTrue (says_end error) → IsEmpty (L.incoming line.new)) }
     ensures fault { IfErr result (λ error. IsTrue (says_fault error) → Rose (L.faults line.old) (L.faults line.new)) }
     ensures no_fewer { L.faults line.old ≤ L.faults line.new }
