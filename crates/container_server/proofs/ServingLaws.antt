@@ -1,5 +1,5 @@
 -- Links that a worker has served so far, and what it makes of the door's next answer.
-use Rattle.std.proofs.Common.{ℕ, ◌≡◌, ◌≢◌, ◌≤◌, ◌+◌, min, List, [], ◌∷◌, ◌++◌, refl, arith}
+use Rattle.std.proofs.Common.{ℕ, ◌≡◌, ◌≢◌, ◌≤◌, ◌+◌, min, List, [], ◌∷◌, ◌++◌, refl, ◌∙◌, arith}
 use Rattle.std.specs.List.{All}
 use Rattle.std.proofs.lemmas.List.{length-append, map-append}
 use Rattle.std.proofs.lemmas.List.Elements.{All-nil, All-push}
@@ -20,6 +20,7 @@ pub record IsUnderWay {C X : Type 0} (app : AppConfig) (told : Ghosts C X) (firs
   pub served : AreServed app told first now links
   pub going : All GoesOn links
   pub counted : count ≡ count_of links
+  pub steady : now.faults ≡ first.faults
 
 pub begins : {C X : Type 0} → (app : AppConfig) (told : Ghosts C X) (door : DoorSide C) → IsUnderWay app told door door 0
 begins {C} app told door = record {
@@ -27,6 +28,7 @@ begins {C} app told door = record {
   served = record { clients = none_came door; talks = All-nil (IsServed app told) };
   going = All-nil GoesOn;
   counted = refl;
+  steady = refl;
 }
 
 -- the link that came and was left
@@ -59,6 +61,7 @@ goes_on {C} app told first before mid after count next link peer end way gives l
       served = serves_more app told first before mid after way.links link peer end way.served gives leaves;
       going = All-push GoesOn way.links here way.going other;
       counted = omega (arith, len, was, more);
+      steady = leaves.faults ∙ (gives.faults ∙ way.steady);
     }
 
 -- a talk wanted memory
@@ -79,11 +82,12 @@ stays app told first before after links served none = record {
 }
 
 pub closes : {C X : Type 0} → (app : AppConfig) (told : Ghosts C X) (first before after : DoorSide C) (count : ℕ)
-    → IsUnderWay app told first before count → GivesNone before after × IsEmpty after.coming → IsServedDoor app told first after (worker.Closed count)
-closes app told first before after count way none = record {
+    → IsUnderWay app told first before count → GivesNone before after × IsEmpty after.coming → after.faults ≡ before.faults
+    → IsServedDoor app told first after (worker.Closed count)
+closes app told first before after count way none steady = record {
   links = way.links;
   served = stays app told first before after way.links way.served none.0;
-  why = (way.counted, way.going, none.1);
+  why = (way.counted, way.going, none.1, steady ∙ way.steady);
 }
 
 rose_since : (first before now : ℕ) → first ≤ before → Rose before now → Rose first now

@@ -37,9 +37,10 @@ pub record AreServed {C X : Type 0} (app : AppConfig) (told : Ghosts C X) (befor
 abbrev pub count_of : {C : Type 0} → List (ServedLink C) → ℕ
 count_of served = min (length served) 18446744073709551615
 
--- Why a worker ended that served these links.
+-- Why a worker ended that served these links. Where it ended since no client comes any more, its door had not failed.
 abbrev pub EndsBy : {C : Type 0} → (before after : DoorSide C) → List (ServedLink C) → ContainerWorker → Type 0
-EndsBy before after served (worker.Closed links) = (links ≡ count_of served) × All GoesOn served × IsEmpty after.coming
+EndsBy before after served (worker.Closed links) =
+    (links ≡ count_of served) × All GoesOn served × IsEmpty after.coming × (after.faults ≡ before.faults)
 EndsBy before after served worker.DoorFault = All GoesOn served × Rose before.faults after.faults
 EndsBy before after served worker.NoMemory = AllButLast GoesOn served
 

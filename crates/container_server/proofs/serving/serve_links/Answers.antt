@@ -1,4 +1,5 @@
-use Rattle.container_server.proofs.ServingLaws.{begins, goes_on, lacks, wants}
+use Rattle.std.proofs.Common.{refl}
+use Rattle.container_server.proofs.ServingLaws.{begins, closes, goes_on, lacks, wants}
 use Rattle.container_server.proofs.serving.serve_links.Goals as goal
 
 pub links-init : goal.links-init
@@ -15,3 +16,7 @@ pub links-preserved : goal.links-preserved
 links-preserved g c =
     goes_on _ _ _ _ _ _ _ _ _ _ _ c.links.invariant c.in-Client.ensures.arrives c.serve_link-end.ensures.served
     (c.is_want.ensures.no c.if-is_want.false) c.saturating_add-links.ensures
+
+pub returns-in-Closed : goal.returns-in-Closed
+returns-in-Closed g c =
+    record { served = closes _ _ _ _ _ _ c.links.invariant c.in-Closed.ensures.arrives (c.in-Closed.ensures.steady refl) }
