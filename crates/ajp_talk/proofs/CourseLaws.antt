@@ -120,6 +120,7 @@ stand_head plan s m n c c' count parts past came put bytes st nx none good unlis
       taken = st.taken;
       takes = subst (λ (b : BodyAt). Takes s.body b st.taken) (sym body) st.takes;
       left = ap data_at body ∙ st.left;
+      asked_for = st.asked_for;
       little = omega (arith, st.little, received, nx.more, ap (λ (b : BodyAt). taken_of b.body) body);
     }
 
@@ -213,6 +214,7 @@ stand_chunk plan s m n c c' count chunk past came put bytes fit st nx some withi
       taken = st.taken;
       takes = subst (λ (b : BodyAt). Takes s.body b st.taken) (sym body) st.takes;
       left = ap data_at body ∙ st.left;
+      asked_for = st.asked_for;
       little = omega (arith, st.little, received, nx.more, ap (λ (b : BodyAt). taken_of b.body) body);
     }
 
@@ -260,6 +262,7 @@ stand_ask plan s m n l c c' count ask piece more past came put bytes fit st nx g
       taken = st.taken ++ piece;
       takes = takes;
       left = gives.left ∙ ap (dropped (want plan.piece ask)) st.left ∙ dropped-dropped (asked plan.piece past) (want plan.piece ask) (data_at s.body);
+      asked_for = omega (arith, st.asked_for, gives.within, length-append st.taken piece);
       little = omega (arith, counts, st.little, received, nx.more, narrow);
     }
 

@@ -223,6 +223,7 @@ module _ (plan : TalkPlan) (s n : TalkMoment) (mid : Moment) (before sent receiv
         taken = [];
         takes = subst (λ (b : BodyAt). Takes s.body b []) (sym body) (takes-none s.body going);
         left = ap data_at body ∙ dropped-none (data_at s.body);
+        asked_for = omega arith;
         little = omega (arith, ap (λ (b : BodyAt). taken_of b.body) body, first, fit.first, fit.piece);
       }
 

@@ -91,6 +91,8 @@ failed_with plan s m n c c' past came put rest refused cause fit first st traffi
       counted = bytes-are c' put (pong_of plan ++ (came ++ rest)) sent_is received (few-sent plan s m c past came put fit st) small;
       taken = st.taken;
       takes = subst (λ (b : BodyAt). Takes s.body b st.taken) (sym body) st.takes;
+      left = ap data_at body ∙ st.left;
+      asked_for = st.asked_for;
       again = λ same. untaken-data s.body n.body st.taken (subst (λ (b : BodyAt). Takes s.body b st.taken) (sym body) st.takes) same;
     }
 

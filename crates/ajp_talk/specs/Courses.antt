@@ -38,6 +38,7 @@ pub record Stands (plan : TalkPlan) (s m : TalkMoment) (c : Course) (past : List
   pub taken : List ℕ
   pub takes : Takes s.body m.body taken
   pub left : data_at m.body ≡ dropped (asked plan.piece past) (data_at s.body)
+  pub asked_for : length taken ≤ asked plan.piece past
   pub little : taken_of m.body.body ≤ 65530 + 65540 * c.received
 
 -- and all that is owed was sent

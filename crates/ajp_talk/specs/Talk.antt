@@ -99,8 +99,9 @@ stage_of plan s n past refused put = record {
 }
 
 -- A talk that failed after its CPong. The messages are the accepted ones, and the rest is what came after them. The
--- client has what they make so far, and no call of the body was refused; where nothing of it was taken its data is as before.
--- Where a message was refused no call of the link had failed.
+-- client has what they make so far, and no call of the body was refused. Of the body just the data that the accepted asks
+-- want was taken, and no more also where it isn't told; where nothing was taken its data is as before. Where a message was
+-- refused no call of the link had failed.
 pub record HasFailed (plan : TalkPlan) (s n : TalkMoment) (stage : Stage) (cause : Cause) (told : Option Told) (bytes : ℕ) : Type 0 where
   pub past : List Message
   pub came : List ℕ
@@ -120,6 +121,8 @@ pub record HasFailed (plan : TalkPlan) (s n : TalkMoment) (stage : Stage) (cause
   pub counted : bytes ≡ length put + length (pong_of plan ++ (came ++ rest))
   pub taken : List ℕ
   pub takes : Takes s.body n.body taken
+  pub left : data_at n.body ≡ dropped (asked plan.piece past) (data_at s.body)
+  pub asked_for : length taken ≤ asked plan.piece past
   pub again : taken_of n.body.body ≡ taken_of s.body.body → data_at n.body ≡ data_at s.body
 
 -- no CPong stands at the front, however the bytes go on
