@@ -197,9 +197,9 @@ impl<'p, 'r, D: Dial, T: Tape, R: Wait> Reach for PooledReach<'p, 'r, D, T, R> {
         ensures begins { IfSome self.new.lent (λ lent. (lent.began ≡ lent.link.faults) × (lent.faulty ≡ false)) }
         ensures new_link { IfOk result (λ dialled. fresh ≡ true → dialled ≡ true) }
 
-        // A new link is the one that the dial gave in this begin, and no idle link is called new.
+        // A new link is the one that the dial gave in this begin for this host and port, and no idle link is called new.
         ensures dialled { IfOk result (λ dialled. IfSome self.new.lent (λ lent. lent.dialled ≡ dialled)) }
-        ensures given { result ≡ Ok true → IfSome self.new.lent (λ lent. D.gives self.old.dial lent.given self.new.dial) }
+        ensures given { result ≡ Ok true → IfSome self.new.lent (λ lent. D.gives self.old.dial host.now port lent.given self.new.dial) }
         ensures begun { IfOk result (λ dialled. IfSome (T.begun self.new.tape) (λ b. b ≡ told_begun lb member host.now port fresh dialled)) }
         ensures nothing_yet { IsEmpty (T.sent self.new.tape) × IsEmpty (T.received self.new.tape) }
 

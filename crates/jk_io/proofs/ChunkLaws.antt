@@ -43,6 +43,7 @@ chunk_added most before after text now piece why bytes (Ok result) read sent ful
     short = subst (λ (n : ℕ). n ≤ most) count end.short;
     goes_on = λ is. full (end.goes_on is);
     too_long = λ is. cc;
+    within = λ is. cc;
   };
   ended = λ is. empty (end.ended is);
   sent = sent;
@@ -58,6 +59,7 @@ chunk_added most before after text now piece why bytes (Err error) read sent ful
     short = tt;
     goes_on = λ is. full (end.goes_on is);
     too_long = λ is. subst (λ (n : ℕ). most < n) (count ∙ ap length added) (end.too_long is);
+    within = λ is. subst (λ (n : ℕ). n ≤ most) (count ∙ ap length added) (end.within is);
   };
   ended = λ is. empty (end.ended is);
   sent = sent;
@@ -74,7 +76,7 @@ chunk_unwanted most before after text now piece (Ok result) read sent no_fewer w
 chunk_unwanted most before after text now piece (Err error) read sent no_fewer wanted = record {
   more = piece;
   read = read;
-  adds = record { added = tt; short = tt; goes_on = λ is. cc; too_long = λ is. cc };
+  adds = record { added = tt; short = tt; goes_on = λ is. cc; too_long = λ is. cc; within = λ is. cc };
   ended = λ is. cc;
   sent = sent;
   failed = λ is. cc;

@@ -15,6 +15,7 @@ pub record IsChunkEnd (most : ℕ) (why : Stop) (bytes : ℕ) (result : Result B
   pub goes_on : result ≡ Ok true → why ≡ stop.Full
   pub ended : result ≡ Ok false → why ≡ stop.End
   pub failed : IsErrOf result file.Failed → why ≡ stop.Fault
+  pub within : IsErrOf result file.Failed → bytes ≤ most
 
 -- a chunk was read on, and added to the text
 pub record ReadsChunk (most : ℕ) (before after : Moment) (text now : List ℕ) (result : Result Bool FileError) : Type 0 where

@@ -2,7 +2,7 @@
 use Rattle.std.specs.Prelude.{◌≡◌, ℕ, ◌<◌, ◌≤◌, List, ◌++◌, length, Option, Result, Ok, OnOk, IsErrOf, Bool, true}
 use Rattle.jk_io.specs.Told.{appended, prepended}
 use Rattle.jk_io.specs.declared.failures.FileError.{FileError}
-use Rattle.jk_io.specs.declared.failures.FileError.TheVariants.{TooLong}
+use Rattle.jk_io.specs.declared.failures.FileError.TheVariants.{Failed, TooLong}
 
 -- these bytes, no more and no fewer, were read
 pub record HasRead (incoming received : Option (List ℕ)) (bytes : List ℕ) (incoming_now received_now : Option (List ℕ)) : Type 0 where
@@ -19,3 +19,4 @@ pub record AddsChunk (most : ℕ) (text more now : List ℕ) (result : Result Bo
   pub short : OnOk result (length now ≤ most)
   pub goes_on : result ≡ Ok true → 0 < length more
   pub too_long : IsErrOf result TooLong → most < length (text ++ more)
+  pub within : IsErrOf result Failed → length (text ++ more) ≤ most

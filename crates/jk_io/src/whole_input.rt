@@ -22,10 +22,12 @@ pub fn read_whole<S: Source>(alloc: Global, source: &mut S) -> Result<Bytes, Fil
     ensures ended { OnOk result (IsEmpty (S.incoming source.new)) }
     ensures short { IfOk result (λ bytes. length bytes ≤ MAX_INPUT_BYTES) }
 
-    // A refusal has read a part, and TooLong more than may be.
+    // A refusal has read a part, TooLong more than may be, and a read that failed no more.
     ensures part { OnErr result ((bytes : List ℕ) × Gave S.incoming S.received source.old bytes source.new
         × (IsErrOf result FileError.TooLong → MAX_INPUT_BYTES < length bytes)) }
     ensures failed { IsErrOf result FileError.Failed → Rose (S.faults source.old) (S.faults source.new) }
+    ensures within { IsErrOf result FileError.Failed → (bytes : List ℕ) × Gave S.incoming S.received source.old bytes source.new
+        × (length bytes ≤ MAX_INPUT_BYTES) }
     ensures no_fewer { S.faults source.old ≤ S.faults source.new }
     ensures steady { IsOk result → S.faults source.new ≡ S.faults source.old }
     ensures same { (S.sent source.new ≡ S.sent source.old) × (S.beside source.new ≡ S.beside source.old) }

@@ -61,7 +61,7 @@ impl Dial for MemDial {
 
     ghost faults = { λ d. d.faults };
 
-    ghost gives = { λ before link after. DialledNext before.links link after.links };
+    ghost gives = { λ before _ _ link after. DialledNext before.links link after.links };
 
     fn dial(&mut self, alloc: Global, _host: &Bytes, _port: u16) -> Result<MemLink, IoError>
         ensures next { IfOk result (λ link. DialledNext self.old.links link self.new.links) }

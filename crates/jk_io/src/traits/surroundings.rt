@@ -48,11 +48,11 @@ pub trait Dial {
 
     ghost faults: { Self → ℕ };
 
-    // before, a link that a dial gave, and after; where it isn't told, each link may be one
-    ghost gives: { Self → Self.L → Self → Type 0 } = { λ _ _ _. Unit {0} };
+    // before, the host and port of a dial, the link that it gave, and after; where it isn't told, each may be so
+    ghost gives: { Self → List ℕ → ℕ → Self.L → Self → Type 0 } = { λ _ _ _ _ _. Unit {0} };
 
     fn dial(&mut self, alloc: Global, host: &Bytes, port: u16) -> Result<Self::L, IoError>
-        ensures gave { IfOk result (λ link. gives self.old link self.new) }
+        ensures gave { IfOk result (λ link. gives self.old host.now port link self.new) }
         ensures clean { IsOk result → faults self.new ≡ faults self.old }
         ensures cause { HasCause (faults self.old) (faults self.new) result };
 

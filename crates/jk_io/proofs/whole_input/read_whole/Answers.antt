@@ -29,6 +29,11 @@ returns-in-Err g c =
         HasRead-append _ _ _ _ _ _ _ _ before.read last.read,
         λ too_long. let same : c.in-Err.error ≡ TooLong = cc in last.adds.too_long (ap Err same),
       );
+      within = λ failed. let same : c.in-Err.error ≡ Failed = cc in (
+        _,
+        HasRead-append _ _ _ _ _ _ _ _ before.read last.read,
+        last.adds.within (ap Err same),
+      );
       failed = λ failed. let same : c.in-Err.error ≡ Failed = cc in rw before.steady at last.failed (ap Err same);
       no_fewer = rw before.steady at last.no_fewer;
       steady = λ is. cc;
@@ -43,6 +48,7 @@ returns-in-Ok-false g c =
       ended = last.ended (ap Ok c.in-Ok-false.field-0-test);
       short = last.adds.short;
       part = tt;
+      within = λ is. cc;
       failed = λ is. cc;
       no_fewer = rw before.steady at last.no_fewer;
       steady = λ _. last.steady refl ∙ before.steady;

@@ -11,7 +11,7 @@ pub returns-in_err-begin_idle : goal.returns-in_err-begin_idle
 returns-in_err-begin_idle g c =
     let p = err_from_is_err_and c.from_residual.result c.from_residual.ensures.1 in
     let is : c.from_residual.result ≡ Err Io.NoMemory = cc (p.1, p.2) in
-    let f = subst (λ (s : PooledState _ _ _). BeginFacts g.D.Dial.gives g.D.Dial.faults c.args.lb c.args.member c.args.host.now c.args.port c.args.fresh s.dial (g.T.Tape.talks s.tape) s.faults c.self.inside.dial (sight_of g.T.Tape.talks g.T.Tape.begun g.T.Tape.sent g.T.Tape.received c.begin_idle.new.tape) c.begin_idle.new.lent c.self.inside.failed c.from_residual.result) c.self.view_is
+    let f = subst (λ (s : PooledState _ _ _). BeginFacts (λ before link after. g.D.Dial.gives before c.args.host.now c.args.port link after) g.D.Dial.faults c.args.lb c.args.member c.args.host.now c.args.port c.args.fresh s.dial (g.T.Tape.talks s.tape) s.faults c.self.inside.dial (sight_of g.T.Tape.talks g.T.Tape.begun g.T.Tape.sent g.T.Tape.received c.begin_idle.new.tape) c.begin_idle.new.lent c.self.inside.failed c.from_residual.result) c.self.view_is
     (wants_facts _ _ _ _ _ _ _ _ _ _ _ _ _ is c.in_err-begin_idle.ensures.err.0 c.begin_idle.ensures.empty c.begin_idle.ensures.same) in
     record {
       runs = f.runs;
@@ -38,7 +38,7 @@ returns-in_err-begin_idle g c =
 pub returns-then-branch : goal.returns-then-branch
 returns-then-branch g c =
     let e = c.in_ok-begin_idle.ensures in
-    let f = subst (λ (s : PooledState _ _ _). BeginFacts g.D.Dial.gives g.D.Dial.faults c.args.lb c.args.member c.args.host.now c.args.port c.args.fresh s.dial (g.T.Tape.talks s.tape) s.faults c.self.inside.dial (sight_of g.T.Tape.talks g.T.Tape.begun g.T.Tape.sent g.T.Tape.received c.begin_idle.new.tape) c.begin_idle.new.lent c.self.inside.failed (Ok false)) c.self.view_is
+    let f = subst (λ (s : PooledState _ _ _). BeginFacts (λ before link after. g.D.Dial.gives before c.args.host.now c.args.port link after) g.D.Dial.faults c.args.lb c.args.member c.args.host.now c.args.port c.args.fresh s.dial (g.T.Tape.talks s.tape) s.faults c.self.inside.dial (sight_of g.T.Tape.talks g.T.Tape.begun g.T.Tape.sent g.T.Tape.received c.begin_idle.new.tape) c.begin_idle.new.lent c.self.inside.failed (Ok false)) c.self.view_is
     (idle_facts _ _ _ _ _ _ _ _ _ _ _ _ _ c.if-branch.true e.there c.begin_idle.ensures.whose c.begin_idle.ensures.begins c.begin_idle.ensures.idle_link
     e.fresh e.begun c.begin_idle.ensures.empty c.begin_idle.ensures.same) in
     record {
@@ -67,7 +67,7 @@ pub returns : goal.returns
 returns g c =
     let e = c.begin_dialled.ensures in
     let d = c.dial-answer.ensures in
-    let f = subst (λ (s : PooledState _ _ _). BeginFacts g.D.Dial.gives g.D.Dial.faults c.args.lb c.args.member c.args.host.now c.args.port c.args.fresh s.dial (g.T.Tape.talks s.tape) s.faults c.dial-answer.new.self (sight_of g.T.Tape.talks g.T.Tape.begun g.T.Tape.sent g.T.Tape.received c.begin_dialled.new.tape) c.begin_dialled.new.lent c.begin_dialled.new.failed c.begin_dialled.result) c.self.view_is
+    let f = subst (λ (s : PooledState _ _ _). BeginFacts (λ before link after. g.D.Dial.gives before c.args.host.now c.args.port link after) g.D.Dial.faults c.args.lb c.args.member c.args.host.now c.args.port c.args.fresh s.dial (g.T.Tape.talks s.tape) s.faults c.dial-answer.new.self (sight_of g.T.Tape.talks g.T.Tape.begun g.T.Tape.sent g.T.Tape.received c.begin_dialled.new.tape) c.begin_dialled.new.lent c.begin_dialled.new.failed c.begin_dialled.result) c.self.view_is
     (dialled_facts _ _ _ _ _ _ _ _ _ _ _ _ _ _ _ c.dial-answer.result _ c.begin_idle.ensures.same e.new_link e.began e.refused
     (on_err_weaker {P = (c.begin_dialled.new.lent ≡ None) × g.T.Tape.is_idle c.begin_dialled.new.tape} {Q = c.begin_dialled.new.lent ≡ None} c.begin_dialled.result (λ x. x.0) e.idle) e.given e.fails d.gave d.clean d.cause e.cause e.steady e.want_of_memory) in
     record {
