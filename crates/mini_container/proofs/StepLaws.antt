@@ -53,20 +53,20 @@ pub comes-none : (m : Moment) → HasCome m m []
 comes-none m = record { used = sym (prepended-nil m.incoming); kept = sym (appended-nil m.received) }
 
 pub goes-none : (m : Moment) → Goes m m [] []
-goes-none m = record { came = comes-none m; sent = sym (appended-nil m.sent); no_fewer = omega arith }
+goes-none m = record { came = comes-none m; sent = sym (appended-nil m.sent); steady = refl }
 
 sent-then : (s0 s1 s2 : Option (List ℕ)) (x y : List ℕ) → s1 ≡ appended s0 x → s2 ≡ appended s1 y → s2 ≡ appended s0 (x ++ y)
 sent-then s0 s1 s2 x y p q = q ∙ ap (λ (s : Option (List ℕ)). appended s y) p ∙ appended-appended s0 x y
 
 pub goes-then : (m0 m1 m2 : Moment) (x y a b : List ℕ) → Goes m0 m1 x a → Goes m1 m2 y b → Goes m0 m2 (x ++ y) (a ++ b)
-goes-then m0 m1 m2 x y a b p q =
-    let before = p.no_fewer in
-    let after = q.no_fewer in
-    record {
-      came = comes-then m0 m1 m2 x y p.came q.came;
-      sent = sent-then m0.sent m1.sent m2.sent a b p.sent q.sent;
-      no_fewer = omega arith;
-    }
+goes-then m0 m1 m2 x y a b p q = record {
+  came = comes-then m0 m1 m2 x y p.came q.came;
+  sent = sent-then m0.sent m1.sent m2.sent a b p.sent q.sent;
+  steady = q.steady ∙ p.steady;
+}
+
+pub no-fewer : (m0 m1 : Moment) (x a : List ℕ) → Goes m0 m1 x a → m0.faults ≤ m1.faults
+no-fewer m0 m1 x a goes = omega (arith, goes.steady)
 
 reading-earlier : (most : ℕ) (place : TurnPlace) (m0 m1 m2 : Moment) (bytes : List ℕ) (stop : Stopped) → m0.faults ≤ m1.faults
     → EndsReading most place m1 m2 bytes stop → EndsReading most place m0 m2 bytes stop
@@ -91,12 +91,12 @@ pub stops-then : (most : ℕ) (place : TurnPlace) (waiting dropped : Bool) (m0 m
 stops-then most place waiting dropped m0 m1 m2 x a b rest stop goes (inl r) = inl (record {
   waits = r.waits;
   sent = sent-then m0.sent m1.sent m2.sent a b goes.sent r.sent;
-  why = reading-earlier most place m0 m1 m2 rest stop goes.no_fewer r.why;
+  why = reading-earlier most place m0 m1 m2 rest stop (no-fewer m0 m1 x a goes) r.why;
 })
 stops-then most place waiting dropped m0 m1 m2 x a b rest stop goes (inr (inl s)) = inr (inl (record {
   none = s.none;
   front = then_put m0.sent m1.sent m2.sent a b goes.sent s.front;
-  why = sending-earlier m0 m1 m2 stop goes.no_fewer s.why;
+  why = sending-earlier m0 m1 m2 stop (no-fewer m0 m1 x a goes) s.why;
 }))
 stops-then most place waiting dropped m0 m1 m2 x a b rest stop goes (inr (inr d)) = inr (inr (record {
   none = d.none;

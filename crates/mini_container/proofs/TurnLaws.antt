@@ -27,7 +27,7 @@ use Rattle.mini_container.specs.Turns.{Taken, ContainerTurn, Idle, Ping, Request
 use Rattle.jk_io.specs.Moments.{Moment}
 use Rattle.mini_container.specs.Ends.{Goes, TurnPlace, Between, Within, IsRefused, Stops, StopsWithin, StopsInTurn, IsTalk, end_of}
 use Rattle.mini_container.specs.Steps.{TookPacket, NotTaken, NotSent, TookBody, asks, ServedWhole, TookTurn, TakesTurn, Reads, Sends, Serves, turn_after, is_request, kind_of, requests_of, stop_of}
-use Rattle.mini_container.proofs.StepLaws.{packet-unkept, comes-none, comes-then, goes-none, goes-then, stops-then, stops-reading, stops-sending, stops-wanting}
+use Rattle.mini_container.proofs.StepLaws.{packet-unkept, comes-none, comes-then, goes-none, goes-then, no-fewer, stops-then, stops-reading, stops-sending, stops-wanting}
 use Rattle.mini_container.proofs.FitLaws.{answer-sendable}
 use Rattle.mini_container.proofs.BodyLaws.{bytes_of-append, goes-same}
 
@@ -272,7 +272,7 @@ pub talk-rose : (app : AppConfig) (m0 m1 : Moment) (end : ContainerEnd) → IsTa
 talk-rose app m0 m1 end t is =
     let fault = is-fault (requests_in t.past) t.stop (sym is ∙ t.end_is) in
     let s = subst (StopsInTurn app t.between m1) fault t.stops in
-    Rose-within m0.faults t.between.faults m1.faults m1.faults t.goes.no_fewer
+    Rose-within m0.faults t.between.faults m1.faults m1.faults (no-fewer _ _ _ _ t.goes)
     (stop-rose _ _ _ _ _ t.between m1 s.rest s.stops) (omega arith)
 
 -- ---- the same for the messages that the answer is

@@ -30,11 +30,11 @@ end_of requests Truncated = ends.Truncated
 end_of requests (Bad bad) = ends.BadPacket (code_of bad)
 end_of requests NoMemory = ends.NoMemory
 
--- Between two moments some bytes came, and others were sent.
+-- Between two moments some bytes came, and others were sent. No call of the link failed.
 pub record Goes (before after : Moment) (coming going : List ℕ) : Type 0 where
   pub came : HasCome before after coming
   pub sent : after.sent ≡ appended before.sent going
-  pub no_fewer : before.faults ≤ after.faults
+  pub steady : after.faults ≡ before.faults
 
 -- Whether a body packet is awaited, or a turn.
 pub data TurnPlace : Type 0 where

@@ -1,5 +1,6 @@
 use Rattle.std.proofs.Common.{refl, sym, ◌∙◌}
 use Rattle.std.proofs.lemmas.Result.{err_from_is_err_and}
+use Rattle.mini_container.proofs.StepLaws.{no-fewer}
 use Rattle.mini_container.proofs.BodyLaws.{risen-then, body-enough, asks-started, ask-failed, piece-failed, piece-added, body-ended}
 use Rattle.mini_container.proofs.body.add_rest.Goals as goal
 
@@ -41,18 +42,18 @@ returns-clause-took g c =
 -- ---- what each exit keeps
 
 pub returns-clause-no_fewer : goal.returns-clause-no_fewer
-returns-clause-no_fewer g c = c.asks.invariant.asked.asked.goes.no_fewer
+returns-clause-no_fewer g c = no-fewer _ _ _ _ c.asks.invariant.asked.asked.goes
 
 pub returns-in_err-ask-clause-no_fewer : goal.returns-in_err-ask-clause-no_fewer
-returns-in_err-ask-clause-no_fewer g c = risen-then _ _ _ c.asks.invariant.asked.asked.goes.no_fewer c.ask.ensures.no_fewer
+returns-in_err-ask-clause-no_fewer g c = risen-then _ _ _ (no-fewer _ _ _ _ c.asks.invariant.asked.asked.goes) c.ask.ensures.no_fewer
 
 pub returns-in_err-len-clause-no_fewer : goal.returns-in_err-len-clause-no_fewer
 returns-in_err-len-clause-no_fewer g c =
-    risen-then _ _ _ (risen-then _ _ _ c.asks.invariant.asked.asked.goes.no_fewer c.ask.ensures.no_fewer) c.take_piece.ensures.no_fewer
+    risen-then _ _ _ (risen-then _ _ _ (no-fewer _ _ _ _ c.asks.invariant.asked.asked.goes) c.ask.ensures.no_fewer) c.take_piece.ensures.no_fewer
 
 pub returns-then-len-eq0-clause-no_fewer : goal.returns-then-len-eq0-clause-no_fewer
 returns-then-len-eq0-clause-no_fewer g c =
-    risen-then _ _ _ (risen-then _ _ _ c.asks.invariant.asked.asked.goes.no_fewer c.ask.ensures.no_fewer) c.take_piece.ensures.no_fewer
+    risen-then _ _ _ (risen-then _ _ _ (no-fewer _ _ _ _ c.asks.invariant.asked.asked.goes) c.ask.ensures.no_fewer) c.take_piece.ensures.no_fewer
 
 pub returns-clause-same : goal.returns-clause-same
 returns-clause-same g c = c.asks.invariant.same
