@@ -1,6 +1,7 @@
 //! Dialling and accepting TCP streams.
-ghost use Rattle.std.specs.Prelude.{◌≡◌, ◌≤◌};
-ghost use Rattle.jk_io.specs.Told.{Rose};
+ghost use Rattle.std.specs.Prelude.{◌≡◌, ◌≢◌, ◌+◌, ◌-◌, ◌≤◌, ◌↔◌, Some, IsTrue, IsOk, IfOk, OnErr, IfSome, IfNone};
+ghost use Rattle.std.specs.Option.{option_map};
+ghost use Rattle.jk_io.specs.Told.{Rose, HasCause};
 
 use crate::outbox::Outbox;
 use crate::tcp_link::{TcpLink, room_ahead};
@@ -159,7 +160,7 @@ impl<'r, R: Clock> TcpDoor<'r, R> {
     fn fail(&mut self) -> IoError
         ensures error { result ≡ IoError.Failed }
         ensures rose { Rose self.old.failed self.new.failed × (self.old.failed ≤ self.new.failed) }
-        ensures same { self.new.out ≡ self.old.out }
+        ensures same { (self.new.out ≡ self.old.out) × (self.new.clients ≡ self.old.clients) }
     {
         self.failed = self.failed.saturating_add(1);
         IoError::Failed
@@ -179,18 +180,29 @@ impl<'r, R: Clock> Door for TcpDoor<'r, R> {
 
     ghost faults = { λ d. d.failed };
 
-    fn accept(&mut self, alloc: Global) -> Result<Option<(TcpLink, Peer)>, IoError> {
-        let to_come = match self.clients {
-            Some(0) => return Ok(None),
-            Some(n) => Some(n - 1),
-            None => None,
-        };
+    fn accept(&mut self, alloc: Global) -> Result<Option<(TcpLink, Peer)>, IoError>
+        // It is closed once it gave as many clients as it may, and not before.
+        ensures closed { IfOk result (λ answer. IfNone answer (self.old.clients ≡ Some 0)) }
+        ensures one_fewer { IfOk result (λ answer. IfSome answer (λ _. (self.old.clients ≢ Some 0)
+            × (self.new.clients ≡ option_map (λ n. n - 1) self.old.clients))) }
+        ensures as_many { OnErr result (self.new.clients ≡ self.old.clients) }
+
+        // What each door says.
+        ensures one_more { IfOk result (λ answer. IfSome answer (λ _. self.new.out ≡ self.old.out + 1)) }
+        ensures no_more { IfOk result (λ answer. IfNone answer (self.new.out ≡ self.old.out)) }
+        ensures kept_on_error { OnErr result (self.new.out ≡ self.old.out) }
+        ensures cause { HasCause self.old.failed self.new.failed result }
+        ensures steady { IsOk result → self.new.failed ≡ self.old.failed }
+    {
+        if is_used_up(self.clients) {
+            return Ok(None);
+        }
         let Some(out) = self.out.checked_add(1) else {
             return Err(self.fail());
         };
         match next_client(self.rt, alloc, &self.listener, self.outbox.as_ref())? {
             Some(client) => {
-                self.clients = to_come;
+                self.clients = one_fewer(self.clients);
                 self.out = out;
                 Ok(Some(client))
             }
@@ -201,6 +213,23 @@ impl<'r, R: Clock> Door for TcpDoor<'r, R> {
     fn leave(&mut self, link: TcpLink) {
         link.end();
         self.out -= 1;
+    }
+}
+
+// Whether a door may give no client more, by how many it may.
+fn is_used_up(clients: Option<u64>) -> bool
+    ensures { IsTrue result ↔ (clients ≡ Some 0) }
+{
+    matches!(clients, Some(0))
+}
+
+// How many clients a door may give once it gave one.
+fn one_fewer(clients: Option<u64>) -> Option<u64>
+    ensures { result ≡ option_map (λ n. n - 1) clients }
+{
+    match clients {
+        Some(n) => Some(n.saturating_sub(1)),
+        None => None,
     }
 }
 

@@ -1,5 +1,5 @@
 //! A link over a TCP stream.
-ghost use Rattle.std.specs.Prelude.{◌≡◌, ◌<◌, ◌≤◌, IfOk, IfSome, IsOk, length, vec_len};
+ghost use Rattle.std.specs.Prelude.{◌≡◌, ◌≢◌, ◌+◌, ◌<◌, ◌≤◌, ◌⊎◌, IfOk, IfSome, IsOk, length, take, drop, vec_len};
 ghost use Rattle.jk_io.specs.Told.{HasCause};
 
 use crate::outbox::Outbox;
@@ -109,6 +109,19 @@ impl TcpLink {
         }
     }
 
+    // Gives the next of the bytes that were read ahead.
+    fn give_ahead(&mut self, buf: &mut [u8]) -> usize
+        ensures count { result ≤ length buf.new }
+        ensures gave { take result buf.new ≡ take result (drop self.old.from self.old.ahead.items) }
+        ensures on { self.new.from ≡ self.old.from + result }
+        ensures same { (self.new.to ≡ self.old.to) × (self.new.ahead ≡ self.old.ahead) × (self.new.failed ≡ self.old.failed) }
+    {
+        let n = buf.len().min(self.to - self.from);
+        buf[..n].copy_from_slice(&self.ahead[self.from..self.from + n]);
+        self.from += n;
+        n
+    }
+
     // Empties the outbox whose bytes go first.
     fn let_first_go(&self) {
         if let Some(first) = &self.first
@@ -166,7 +179,19 @@ impl Meanings for TcpLink {
 }
 
 impl Source for TcpLink {
-    fn read(&mut self, buf: &mut [u8]) -> Result<usize, IoError> {
+    fn read(&mut self, buf: &mut [u8]) -> Result<usize, IoError>
+        // What was read ahead is given first, from its front on, and each byte once.
+        ensures given { IfOk result (λ n. self.old.from ≢ self.old.to → (self.new.from ≡ self.old.from + n)
+            × (take n buf.new ≡ take n (drop self.old.from self.old.ahead.items))) }
+        ensures rest { self.old.from ≢ self.old.to → (self.new.to ≡ self.old.to) × (self.new.ahead ≡ self.old.ahead) }
+        ensures filled { IfOk result (λ n. self.old.from ≡ self.old.to → (self.new.from ≡ self.new.to)
+            ⊎ ((self.new.from ≡ n) × (take n buf.new ≡ take n self.new.ahead.items))) }
+
+        // What each source says.
+        ensures count { IfOk result (λ n. n ≤ length buf.new) }
+        ensures cause { HasCause self.old.failed self.new.failed result }
+        ensures steady { IsOk result → self.new.failed ≡ self.old.failed }
+    {
         if self.from == self.to {
             self.let_first_go();
             if buf.len() >= AHEAD_BYTES {
@@ -178,10 +203,7 @@ impl Source for TcpLink {
                 .wire
                 .receive(self.ahead.as_mut_slice(), &mut self.failed)?;
         }
-        let n = buf.len().min(self.to - self.from);
-        buf[..n].copy_from_slice(&self.ahead[self.from..self.from + n]);
-        self.from += n;
-        Ok(n)
+        Ok(self.give_ahead(buf))
     }
 }
 
