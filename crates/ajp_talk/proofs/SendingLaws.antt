@@ -8,6 +8,7 @@ use Rattle.jk_io.specs.declared.failures.IoError.{IoError}
 use Rattle.jk_io.specs.declared.failures.IoError.TheVariants as Io
 use Rattle.jk_io.proofs.ToldLaws.{appended-nil}
 use Rattle.http_body_in.specs.Body.{Data, reaches}
+use Rattle.http_body_in.specs.Faults.{IsByBytes}
 use Rattle.http_body_in.specs.Places.{is_limited}
 use Rattle.http_body_in.specs.State.{place_of, taken_of, most_of}
 use Rattle.http_body_in.specs.Walks.{counted}
@@ -17,7 +18,7 @@ use Rattle.jk_io.specs.Moments.{Moment}
 use Rattle.ajp_talk.specs.Moments.{BodyAt, data_at, IsSteady, IsUsed, IsFrontOf}
 use Rattle.ajp_talk.specs.declared.plan.TalkPlan.{TalkPlan}
 use Rattle.ajp_talk.specs.Owed.{answer, first_packet, request_of}
-use Rattle.ajp_talk.specs.Turns.{Sends, IsSent, Gives, IsAskTurn, fault_turn, turn_of_sent}
+use Rattle.ajp_talk.specs.Turns.{Sends, IsSent, Gives, IsAskTurn, IsCalmTurn, fault_turn, turn_of_sent}
 use Rattle.ajp_talk.proofs.AskLaws.{front-none}
 
 -- a count that stayed, and one that did not fall twice
@@ -110,3 +111,11 @@ ask-sent n l l' before after w w' b b' piece (Ok done) gives sent = (piece, give
 ask-sent n l l' before after w w' b b' piece (Err Io.Failed) gives sent = (piece, sent.0, gives, sent.1, sent.2, sent.3)
 ask-sent n l l' before after w w' b b' piece (Err Io.NoMemory) gives sent =
     (sent.0, sent.1, record { gone = gives.uses.gone; used = gives.uses.used; most = gives.most }, front-answer n (data_at b) sent.0 piece gives.data' sent.2)
+
+-- where the body's fault is by the client's bytes alone, no read of the client failed
+pub refused-calm : (why : BodyFault) (before now : ℕ) → (IsByBytes why → now ≡ before) → IsCalmTurn (fault_turn why) → now ≡ before
+refused-calm fault.Truncated before now steady calm = steady tt
+refused-calm fault.BadChunk before now steady calm = steady tt
+refused-calm fault.TooLong before now steady calm = steady tt
+refused-calm fault.Fault before now steady calm = absurd calm
+refused-calm fault.NoMemory before now steady calm = absurd calm

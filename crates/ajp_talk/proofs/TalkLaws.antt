@@ -4,8 +4,8 @@ use Rattle.jk_io.specs.Moments.{Moment}
 use Rattle.jk_io.specs.declared.failures.NoMemory.{NoMemory}
 use Rattle.http_body_in.specs.State.{taken_of}
 use Rattle.ajp_talk.specs.Moments.{BodyAt, TalkMoment}
-use Rattle.ajp_talk.specs.Talk.{IsTalk, IsGone}
-use Rattle.ajp_talk.specs.Turns.{IsTurn}
+use Rattle.ajp_talk.specs.Talk.{IsTalk, IsCalmEnd, IsGone}
+use Rattle.ajp_talk.specs.Turns.{IsCalmTurn, IsTurn}
 use Rattle.ajp_talk.specs.Courses.{At}
 use Rattle.ajp_talk.specs.Drains.{IsLostEnd}
 use Rattle.ajp_talk.specs.Ends.{IsPlan, bytes_end, ended_by}
@@ -50,3 +50,23 @@ lost_talk plan s n p c c' (Ok end) fit a body faults (inl h) =
 lost_talk plan s n p c c' (Ok end) fit a body faults (inr h) =
     subst (λ (e : TalkEnd). IsTalk plan s p (Ok e)) (sym h.1.2) (lost_drained plan s n p c c' h.1.0 fit a h.1.1 h.0 body faults)
 lost_talk plan s n p c c' (Err want) fit a body faults h = inl (lost_wanted plan s n p c h.0 a h.1 body)
+
+-- ---- the client's count of faults
+
+-- an end that tells of no fault of the client comes of such a turn
+pub calm_turn : (want : NoMemory) (plan : TalkPlan) (c : Course) (taken : ℕ) (turn : Turn) → IsCalmEnd (ended_by want plan c taken turn) → IsCalmTurn turn
+calm_turn want plan c taken turn_is.On calm = tt
+calm_turn want plan c taken (turn_is.Done reuse) calm = tt
+calm_turn want plan c taken (turn_is.Failed cause) calm = tt
+calm_turn want plan c taken turn_is.Lost calm = calm
+calm_turn want plan c taken (turn_is.LostAtEnd reuse) calm = calm
+calm_turn want plan c taken turn_is.Unread calm = calm
+calm_turn want plan c taken turn_is.Cut calm = tt
+calm_turn want plan c taken (turn_is.Bad status) calm = tt
+calm_turn want plan c taken turn_is.NoMemory calm = calm
+
+-- and none where a write to the client failed
+pub lost_calm : (plan : TalkPlan) (l l' w w' : Moment) (c c' : Course) (answer : Result TalkEnd NoMemory) → IsLostEnd plan l l' w w' c c' answer → IsCalmEnd answer → ⊥
+lost_calm plan l l' w w' c c' (Ok end) (inl h) calm = subst (λ (e : TalkEnd). IsCalmEnd (Ok e)) h.1 calm
+lost_calm plan l l' w w' c c' (Ok end) (inr h) calm = subst (λ (e : TalkEnd). IsCalmEnd (Ok e)) h.1.2 calm
+lost_calm plan l l' w w' c c' (Err want) h calm = calm

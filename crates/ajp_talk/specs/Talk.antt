@@ -287,3 +287,12 @@ IsTalk plan s n (Ok (ends.Failed stage cause told bytes)) = HasFailed plan s n s
 IsTalk plan s n (Ok (ends.ClientGone truncated keep bytes)) = IsGone plan s n truncated keep bytes
 IsTalk plan s n (Ok (ends.BadBody status told passed bytes)) = HasBadBody plan s n status told passed bytes
 IsTalk plan s n (Err e) = HasWanted plan s n ⊎ HasWantedEarly plan s n
+
+-- An end in which the client was there: no call of it failed. Where it is gone its bytes ended.
+abbrev pub IsCalmEnd : Result TalkEnd NoMemory → Type 0
+IsCalmEnd (Ok (ends.Done told reuse bytes)) = Unit {0}
+IsCalmEnd (Ok (ends.Failed stage cause told bytes)) = Unit {0}
+IsCalmEnd (Ok (ends.ClientGone true keep bytes)) = Unit {0}
+IsCalmEnd (Ok (ends.ClientGone false keep bytes)) = ⊥
+IsCalmEnd (Ok (ends.BadBody status told passed bytes)) = Unit {0}
+IsCalmEnd (Err e) = ⊥

@@ -309,3 +309,17 @@ pub record IsMoved (plan : TalkPlan) (s n : TalkMoment) (c c' : Course) (turn : 
 
 abbrev pub IsTurn : TalkPlan → TalkMoment → TalkMoment → Course → Course → Turn → Type 0
 IsTurn plan s n c c' turn = IsSilent plan s n c c' turn ⊎ IsMoved plan s n c c' turn
+
+-- ---- the client
+
+-- the turn tells of no call of the client that failed
+abbrev pub IsCalmTurn : Turn → Type 0
+IsCalmTurn turn_is.On = Unit {0}
+IsCalmTurn (turn_is.Done reuse) = Unit {0}
+IsCalmTurn (turn_is.Failed cause) = Unit {0}
+IsCalmTurn turn_is.Lost = ⊥
+IsCalmTurn (turn_is.LostAtEnd reuse) = ⊥
+IsCalmTurn turn_is.Unread = ⊥
+IsCalmTurn turn_is.Cut = Unit {0}
+IsCalmTurn (turn_is.Bad status) = Unit {0}
+IsCalmTurn turn_is.NoMemory = ⊥

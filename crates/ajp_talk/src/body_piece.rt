@@ -4,7 +4,7 @@ ghost use Rattle.std.specs.Prelude.{◌≡◌, ◌<◌, ◌≤◌, None, length,
 ghost use Rattle.http_body_in.specs.State.{failed_of};
 ghost use Rattle.ajp_wire.specs.Packet.{body_packet as body_packet_of};
 ghost use Rattle.ajp_talk.specs.Owed.{want};
-ghost use Rattle.ajp_talk.specs.Turns.{IsAskTurn, IsSent, turn_of_sent};
+ghost use Rattle.ajp_talk.specs.Turns.{IsAskTurn, IsCalmTurn, IsSent, turn_of_sent};
 ghost use Rattle.ajp_wire.specs.Moments.{link_at};
 ghost use Rattle.ajp_talk.specs.Uploads.{IsSameUpload, talk_over};
 ghost use Rattle.ajp_wire.specs.declared.writing.TheConstants.{MAX_PIECE_BYTES};
@@ -56,6 +56,7 @@ pub(crate) fn answer_ask<L: Link, C: Link>(
     ensures written { C.sent client.new ≡ C.sent client.old }
     ensures beside { (L.beside line.new ≡ L.beside line.old) × (C.beside client.new ≡ C.beside client.old) }
     ensures no_fewer { (L.faults line.old ≤ L.faults line.new) × (C.faults client.old ≤ C.faults client.new) }
+    ensures calm { IsCalmTurn result → C.faults client.new ≡ C.faults client.old }
     ensures same { IsSameUpload upload.old upload.new }
 {
     match upload.body.take(alloc, upload.inbox, client, n) {

@@ -7,7 +7,7 @@ ghost use Rattle.ajp_talk.specs.Courses.{Begins, fresh};
 ghost use Rattle.ajp_talk.specs.Drains.{IsLostCourse, IsLostEnd};
 ghost use Rattle.ajp_talk.specs.Ends.{IsPlan};
 ghost use Rattle.ajp_talk.specs.Moments.{talk_at};
-ghost use Rattle.ajp_talk.specs.Talk.{IsTalk};
+ghost use Rattle.ajp_talk.specs.Talk.{IsCalmEnd, IsTalk};
 ghost use Rattle.ajp_talk.specs.Uploads.{IsSameUpload, talk_over};
 
 use crate::concluding::unanswered;
@@ -43,6 +43,7 @@ pub(crate) fn converse<L: Link, C: Link>(
 
     ensures beside { (L.beside line.new ≡ L.beside line.old) × (C.beside client.new ≡ C.beside client.old) }
     ensures no_fewer { (L.faults line.old ≤ L.faults line.new) × (C.faults client.old ≤ C.faults client.new) }
+    ensures calm { IsCalmEnd result → C.faults client.new ≡ C.faults client.old }
 {
     let mut course = Course::new(room.alloc, plan, 0, 0);
     let mut upload = Upload { body, inbox };
@@ -68,6 +69,7 @@ fn hold<L: Link, C: Link>(
 
     ensures beside { (L.beside line.new ≡ L.beside line.old) × (C.beside client.new ≡ C.beside client.old) }
     ensures no_fewer { (L.faults line.old ≤ L.faults line.new) × (C.faults client.old ≤ C.faults client.new) }
+    ensures calm { IsCalmEnd result → C.faults client.new ≡ C.faults client.old }
     ensures same { IsSameUpload upload.old upload.new }
 {
     match begin(room, plan, course, line) {

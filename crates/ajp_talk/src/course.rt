@@ -5,7 +5,7 @@ ghost use Rattle.http_out.specs.Framing.{has_no_body};
 ghost use Rattle.http_out.specs.Writer.{new_writer};
 ghost use Rattle.ajp_wire.specs.Moments.{link_at};
 ghost use Rattle.ajp_talk.specs.Replies.{kind_of, is_listed as is_listed_in};
-ghost use Rattle.ajp_talk.specs.Turns.{IsOnCourse, IsHeadTurn, IsChunkTurn, IsEndTurn};
+ghost use Rattle.ajp_talk.specs.Turns.{IsOnCourse, IsHeadTurn, IsCalmTurn, IsChunkTurn, IsEndTurn};
 ghost use Rattle.ajp_wire.specs.declared.head_pairs.TheConstants.{MAX_HEADERS};
 
 use crate::ending::{Cause, Told};
@@ -79,6 +79,7 @@ impl Course {
         ensures same { (C.incoming client.new ≡ C.incoming client.old) × (C.received client.new ≡ C.received client.old)
             × (C.beside client.new ≡ C.beside client.old) }
         ensures no_fewer { C.faults client.old ≤ C.faults client.new }
+        ensures calm { IsCalmTurn result → C.faults client.new ≡ C.faults client.old }
     {
         if !self.headers {
             return Turn::Failed(Cause::BadReply);
@@ -104,6 +105,7 @@ impl Course {
         ensures same { (C.incoming client.new ≡ C.incoming client.old) × (C.received client.new ≡ C.received client.old)
             × (C.beside client.new ≡ C.beside client.old) }
         ensures no_fewer { C.faults client.old ≤ C.faults client.new }
+        ensures calm { IsCalmTurn result → C.faults client.new ≡ C.faults client.old }
     {
         if !self.headers {
             return Turn::Failed(Cause::BadReply);

@@ -3,7 +3,7 @@
 ghost use Rattle.std.specs.Prelude.{◌≡◌, ◌≤◌, None};
 ghost use Rattle.http_body_in.specs.State.{failed_of};
 ghost use Rattle.ajp_talk.specs.Ends.{IsPlan};
-ghost use Rattle.ajp_talk.specs.Turns.{IsOnCourse, IsTurn};
+ghost use Rattle.ajp_talk.specs.Turns.{IsCalmTurn, IsOnCourse, IsTurn};
 ghost use Rattle.ajp_talk.specs.Uploads.{IsSameUpload, talk_over};
 
 use crate::body_piece::{answer_ask, wanted};
@@ -33,6 +33,7 @@ pub(crate) fn step<L: Link, C: Link>(
         IsTurn plan.now (at line.old client.old upload.old) (at line.new client.new upload.new) course.old course.new result }
     ensures beside { (L.beside line.new ≡ L.beside line.old) × (C.beside client.new ≡ C.beside client.old) }
     ensures no_fewer { (L.faults line.old ≤ L.faults line.new) × (C.faults client.old ≤ C.faults client.new) }
+    ensures calm { IsCalmTurn result → C.faults client.new ≡ C.faults client.old }
     ensures same { IsSameUpload upload.old upload.new }
 {
     match receive(room, line, plan.packet, plan.most, &mut course.received) {

@@ -5,7 +5,7 @@ ghost use Rattle.http_body_in.specs.State.{failed_of, taken_of};
 ghost use Rattle.ajp_talk.specs.Complete.{Completes};
 ghost use Rattle.ajp_talk.specs.Ends.{IsPlan};
 ghost use Rattle.ajp_talk.specs.Moments.{talk_at};
-ghost use Rattle.ajp_talk.specs.Talk.{IsTalk};
+ghost use Rattle.ajp_talk.specs.Talk.{IsCalmEnd, IsTalk};
 
 use crate::conversing::converse;
 use crate::ending::TalkEnd;
@@ -38,6 +38,8 @@ pub fn talk<L: Link, C: Link>(
     ensures complete { let at = talk_at L.Meanings C.Meanings in
         Completes plan.now (at line.old client.old body.old inbox.old) (at line.new client.new body.new inbox.new) result }
 
+    // The client's count of faults stands, unless it is what ended the talk, or memory was wanted.
+    ensures calm { IsCalmEnd result → C.faults client.new ≡ C.faults client.old }
     ensures beside { (L.beside line.new ≡ L.beside line.old) × (C.beside client.new ≡ C.beside client.old) }
     ensures no_fewer { (L.faults line.old ≤ L.faults line.new) × (C.faults client.old ≤ C.faults client.new) }
 {

@@ -1,6 +1,6 @@
 -- A piece was sent, or the body can't be taken further, and nothing was sent.
 use Rattle.ajp_wire.specs.Moments.{link_at}
-use Rattle.ajp_talk.proofs.SendingLaws.{ask-refused, ask-sent}
+use Rattle.ajp_talk.proofs.SendingLaws.{ask-refused, ask-sent, refused-calm}
 use Rattle.ajp_talk.proofs.body_piece.answer_ask.Goals as goal
 
 pub returns-in-Err-clause-turn : goal.returns-in-Err-clause-turn
@@ -21,3 +21,9 @@ returns-in-Ok-clause-turn g c =
     (ask-sent c.args.n (link_at g.L.Meanings c.args.line.now) (link_at g.L.Meanings c.send_piece.new.line) c.args.sent.now c.send_piece.new.sent
     (link_at g.C.Meanings c.args.client.now) (link_at g.C.Meanings c.take.new.client) _ _ c.in-Ok.piece c.send_piece.result
     (record { within = e.within; data' = e.next; left = e.left; uses = e.on.uses; counts = e.on.taken; going = e.on.goes_on; most = e.on.most }) sent)
+
+pub returns-in-Err-clause-calm : goal.returns-in-Err-clause-calm
+returns-in-Err-clause-calm g c = rw c.fault_turn.ensures (λ calm. refused-calm c.in-Err.fault _ _ c.in-Err.ensures.err.steady calm)
+
+pub returns-in-Ok-clause-calm : goal.returns-in-Ok-clause-calm
+returns-in-Ok-clause-calm g c = λ calm. c.in-Ok.ensures.ok.on.steady

@@ -4,7 +4,7 @@ use Rattle.http_front.specs.Unread.{unread}
 use Rattle.ajp_talk.proofs.AskLaws.{untaken-same}
 use Rattle.ajp_talk.proofs.EndLaws.{on, on_more, on_course}
 use Rattle.ajp_talk.proofs.LostLaws.{lost}
-use Rattle.ajp_talk.proofs.TalkLaws.{ended_talk, lost_talk}
+use Rattle.ajp_talk.proofs.TalkLaws.{calm_turn, ended_talk, lost_calm, lost_talk}
 use Rattle.ajp_talk.proofs.conversing.hold.Goals as goal
 
 pub returns-in-Some-clause-talk : goal.returns-in-Some-clause-talk
@@ -18,7 +18,7 @@ loop-room-init g c = record {
   line_beside = c.begin.ensures.beside;
   client_beside = refl;
   line_faults = c.begin.ensures.no_fewer;
-  client_faults = omega arith;
+  client_faults = refl;
   same = (refl, refl);
 }
 
@@ -30,7 +30,7 @@ loop-room-preserved g c =
       line_beside = c.step.ensures.beside.0 ∙ i.line_beside;
       client_beside = c.step.ensures.beside.1 ∙ i.client_beside;
       line_faults = omega (arith, c.step.ensures.no_fewer.0, i.line_faults);
-      client_faults = omega (arith, c.step.ensures.no_fewer.1, i.client_faults);
+      client_faults = c.in-On.ensures.calm tt ∙ i.client_faults;
       same = (c.step.ensures.same.0 ∙ i.same.0, c.step.ensures.same.1 ∙ i.same.1);
     }
 
@@ -51,14 +51,14 @@ step-requires g c =
 pub lost-requires : goal.lost-requires
 lost-requires g c =
     let i = c.loop-room.invariant in
-    let l = lost c.args.plan.now _ _ _ c.loop-room.course c.step.new.course i.stands c.requires.plan i.client_faults c.in-Lost.ensures.turn in
+    let l = lost c.args.plan.now _ _ _ c.loop-room.course c.step.new.course i.stands c.requires.plan (omega (arith, i.client_faults)) c.in-Lost.ensures.turn in
     record { plan = c.requires.plan; lost = l.lost; below = l.below }
 
 pub returns-in-Lost-clause-talk : goal.returns-in-Lost-clause-talk
 returns-in-Lost-clause-talk g c =
     let i = c.loop-room.invariant in
     lost_talk c.args.plan.now _ _ _ c.step.new.course c.lost.new.course c.lost.result c.requires.plan
-    (lost c.args.plan.now _ _ _ c.loop-room.course c.step.new.course i.stands c.requires.plan i.client_faults c.in-Lost.ensures.turn)
+    (lost c.args.plan.now _ _ _ c.loop-room.course c.step.new.course i.stands c.requires.plan (omega (arith, i.client_faults)) c.in-Lost.ensures.turn)
     (untaken-same _ _ (record { body = refl; unread = ap (unread c.step.new.upload.inbox.now) c.lost.ensures.incoming })) c.lost.ensures.no_fewer.1 c.lost.ensures.ended
 
 pub ended-requires : goal.ended-requires
@@ -70,8 +70,12 @@ returns-in_default g c =
     record {
       talk = rw c.ended.ensures
           (ended_talk c.args.plan.now _ _ _ c.loop-room.course c.step.new.course (record {}) c.taken.result c.step.result i.stands c.requires.plan c.requires.first
-          i.line_faults i.client_faults c.taken.ensures c.in_default.not-On c.in_default.not-Lost c.step.ensures.turn);
+          i.line_faults (omega (arith, i.client_faults)) c.taken.ensures c.in_default.not-On c.in_default.not-Lost c.step.ensures.turn);
       beside = (c.step.ensures.beside.0 ∙ i.line_beside, c.step.ensures.beside.1 ∙ i.client_beside);
       no_fewer = (omega (arith, c.step.ensures.no_fewer.0, i.line_faults), omega (arith, c.step.ensures.no_fewer.1, i.client_faults));
+      calm = λ calm. c.step.ensures.calm (calm_turn (record {}) c.args.plan.now c.step.new.course c.taken.result c.step.result (rw c.ended.ensures at calm)) ∙ i.client_faults;
       same = (c.step.ensures.same.0 ∙ i.same.0, c.step.ensures.same.1 ∙ i.same.1);
     }
+
+pub returns-in-Lost-clause-calm : goal.returns-in-Lost-clause-calm
+returns-in-Lost-clause-calm g c = λ calm. absurd (lost_calm c.args.plan.now _ _ _ _ c.step.new.course c.lost.new.course c.lost.result c.lost.ensures.ended calm)

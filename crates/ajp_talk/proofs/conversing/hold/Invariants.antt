@@ -10,7 +10,7 @@ invariant-loop-room g l = record {
   line_beside : g.L.Meanings.beside l.line ≡ g.L.Meanings.beside l.fn.line;
   client_beside : g.C.Meanings.beside l.client ≡ g.C.Meanings.beside l.fn.client;
   line_faults : g.L.Meanings.faults l.fn.line ≤ g.L.Meanings.faults l.line;
-  client_faults : g.C.Meanings.faults l.fn.client ≤ g.C.Meanings.faults l.client;
+  client_faults : g.C.Meanings.faults l.client ≡ g.C.Meanings.faults l.fn.client;
   same : IsSameUpload l.fn.upload l.upload;
 }
 

@@ -123,3 +123,23 @@ returns-in-Ok-Ask-clause-no_fewer g c =
 
 pub returns-in-Ok-Ask-clause-same : goal.returns-in-Ok-Ask-clause-same
 returns-in-Ok-Ask-clause-same g c = c.answer_ask.ensures.same
+
+-- ---- the client's count of faults
+
+pub returns-in-Ok-Headers-clause-calm : goal.returns-in-Ok-Headers-clause-calm
+returns-in-Ok-Headers-clause-calm g c = λ calm. refl
+
+pub returns-in-Ok-Pong-clause-calm : goal.returns-in-Ok-Pong-clause-calm
+returns-in-Ok-Pong-clause-calm g c = λ calm. refl
+
+pub returns-in-Err-clause-calm : goal.returns-in-Err-clause-calm
+returns-in-Err-clause-calm g c = λ calm. refl
+
+pub returns-in-Ok-Chunk-clause-calm : goal.returns-in-Ok-Chunk-clause-calm
+returns-in-Ok-Chunk-clause-calm g c = c.take_chunk-turn.ensures.calm
+
+pub returns-in-Ok-End-clause-calm : goal.returns-in-Ok-End-clause-calm
+returns-in-Ok-End-clause-calm g c = c.finish.ensures.calm
+
+pub returns-in-Ok-Ask-clause-calm : goal.returns-in-Ok-Ask-clause-calm
+returns-in-Ok-Ask-clause-calm g c = c.answer_ask.ensures.calm
