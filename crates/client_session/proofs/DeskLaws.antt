@@ -1,5 +1,5 @@
 -- What a desk keeps over an exchange, and over several requests.
-use Rattle.std.proofs.Common.{◌≡◌, ℕ, subst, sym}
+use Rattle.std.proofs.Common.{◌≡◌, ℕ, subst, sym, arith}
 use Rattle.balancer_core.specs.Desks.{DeskState, MeetsNone}
 use Rattle.exchange.specs.Rounds.{IsDeskAfter}
 use Rattle.status_worker.specs.Desks.{KeepsTickets}
@@ -19,7 +19,7 @@ after_exchange old new lb session after held = record {
   parts = after.parts;
   strays = after.strays;
   fulls = after.fulls;
-  wides = after.wides;
+  wides = omega (arith, after.wides);
   met = after.met;
   sound = after.sound;
   gained = after.gained;

@@ -452,7 +452,7 @@ gives_last q first s a m n past (exchange_end.Cut member told) early extends (r,
 gives_last q first s a m n past exchange_end.ClientFault early extends (inl (r, round, gone, rest)) =
     let both = lost q first s.around a m r past false early round gone in
     subst (λ (x : Scene). Rose s.around.client.faults x.around.client.faults × GetsFront q s.around x.around) (sym rest) (
-      rose_on s.around.client.faults both.0.begun.client.faults m.around.client.faults both.0.early.client_faults (both.1.talk.failed refl),
+      rose_on s.around.client.faults both.0.begun.client.faults m.around.client.faults (omega (arith, both.0.early.client_faults)) (both.1.talk.failed refl),
       front_of_one q first r.config s.around both.0.begun m.around q.lb r.member r.endpoint both.0.fresh _ both.0.early.written (inl both.1),
     )
 gives_last q first s a m n past exchange_end.ClientFault early extends (inr (status, cause, breaks, rose)) =
@@ -500,6 +500,6 @@ gives q s n end (inl none) = gives_none q s n end none.why none.written
 gives q s n end (inr rounds) =
     let start = begun_with s rounds.client rounds.body in
     gives_last q rounds.first s rounds.through.asked rounds.through.ruled n rounds.through.past end
-    (still_early q rounds.first s.around start.around rounds.through.asked.around (starts_early q rounds.first s rounds.client rounds.body rounds.took rounds.unwritten rounds.no_fewer)
+    (still_early q rounds.first s.around start.around rounds.through.asked.around (starts_early q rounds.first s rounds.client rounds.body rounds.took rounds.unwritten rounds.steady)
     (rounds_unmoved q rounds.first start rounds.through.past rounds.through.asked rounds.through.gone_on))
     (rounds_extend q rounds.first start rounds.through.past rounds.through.asked rounds.through.gone_on) rounds.through.ends_in

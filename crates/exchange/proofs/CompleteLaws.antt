@@ -188,7 +188,7 @@ whole_talk q first s n b now member config endpoint fresh t all answer has held 
         length-drop (first_len q.head.plan q.balancer.ends) has.data'.bytes,
       );
       line = λ rose. has.reach (rose_within _ held.opened.faults held.closed.faults _ (omega (arith, reach, held.faults_before)) (omega (arith, held.faults_after, grows.reach_faults)) rose);
-      client = λ rose. has.client (rose_within _ b.client.faults now.client.faults _ early.client_faults grows.client_faults rose);
+      client = λ rose. has.client (rose_within _ b.client.faults now.client.faults _ (omega (arith, early.client_faults)) grows.client_faults rose);
     }
 
 -- ---- what the first talk comes to
@@ -348,7 +348,7 @@ completes_last q first s n t all has past a m (exchange_end.Done member told) ea
       ap (λ (x : Scene). x.around.client.sent) rest ∙ done.written ∙ ap (λ (o : Option (List ℕ)). appended o (bytes_for (plan_of_note q has.data' has.config has.endpoint t) all)) early.written,
     )
 completes_last q first s n t all has past a m (exchange_end.Own status) early reach same strays (cause, writes) =
-    no_own q first s n t all has past a m status early reach same (ap (λ (x : Scene). x.around.talks) writes.rest) (own_grows m n writes.rest writes.no_fewer) cause
+    no_own q first s n t all has past a m status early reach same (ap (λ (x : Scene). x.around.talks) writes.rest) (own_grows m n writes.rest (omega (arith, writes.steady))) cause
 completes_last q first s n t all has past a m (exchange_end.Cut member told) early reach same strays (r, round, is, rest, inl (cause, given)) =
     let done = ended_first q first s n t all has _ _ a m r (ran_is.Ended _ given.ended.0) early reach same (ap (λ (x : Scene). x.around.talks) rest) (scene_grows m n rest) round given.ended.1 in
     let is : ends.Failed given.stage cause (Some told) given.moved ≡ ends.Done done.told done.reuse done.moved = done.is_done in
@@ -376,7 +376,7 @@ completes_last q first s n t all has past a m exchange_end.NoMemory early reach 
 -- how the talks and faults went on after the others
 end_grows : (q : Errand) (first : List ℕ) (past : List Round) (a m n : Scene) (end : ExchangeEnd) → EndsIn q first past a m n end → Grows m.around n.around
 end_grows q first past a m n (exchange_end.Done member told) (r, round, is, reply, rest) = scene_grows m n rest
-end_grows q first past a m n (exchange_end.Own status) (cause, writes) = own_grows m n writes.rest writes.no_fewer
+end_grows q first past a m n (exchange_end.Own status) (cause, writes) = own_grows m n writes.rest (omega (arith, writes.steady))
 end_grows q first past a m n (exchange_end.Cut member told) (r, round, is, rest, why) = scene_grows m n rest
 end_grows q first past a m n exchange_end.ClientFault (inl (r, round, gone, rest)) = scene_grows m n rest
 end_grows q first past a m n exchange_end.ClientFault (inr (status, cause, breaks, rose)) = own_grows m n breaks.rest breaks.no_fewer
@@ -424,4 +424,4 @@ completes q s n end (inl none) = λ t all has.
 completes q s n end (inr rounds) = λ t all has.
     let start = scene_with s rounds.client rounds.body in
     completes_rounds q rounds.first s n start t all has rounds.through.past rounds.through.asked rounds.through.ruled end
-    (starts_early q rounds.first s rounds.client rounds.body rounds.took rounds.unwritten rounds.no_fewer) (omega arith) refl refl rounds.through.gone_on rounds.through.ends_in
+    (starts_early q rounds.first s rounds.client rounds.body rounds.took rounds.unwritten rounds.steady) (omega arith) refl refl rounds.through.gone_on rounds.through.ends_in

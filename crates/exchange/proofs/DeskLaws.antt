@@ -24,7 +24,7 @@ untouched lb session desk = record {
   parts = refl;
   strays = omega arith;
   fulls = omega arith;
-  wides = omega arith;
+  wides = refl;
   met = λ met. met;
   sound = λ sound. sound;
   gained = [];
@@ -44,15 +44,15 @@ are_due [] is = All-nil IsKindly
 are_due (r ∷ []) is = All-cons IsKindly r [] (kind_by _ _ is tt) (All-nil IsKindly)
 are_due (r ∷ other ∷ rest) is = absurd is
 
-after_gains : (old new : DeskState) (lb session at : ℕ) (gained : List Receipt) → KeepsDesk old new → Gains old new lb session at gained
-    → All IsKindly gained → IsDeskAfter lb session old new
-after_gains old new lb session at gained kept gains kinds = record {
+after_gains : (old new : DeskState) (lb session at : ℕ) (gained : List Receipt) → KeepsDesk old new → new.wides ≡ old.wides
+    → Gains old new lb session at gained → All IsKindly gained → IsDeskAfter lb session old new
+after_gains old new lb session at gained kept wides gains kinds = record {
   caller = kept.caller;
   sizes = kept.sizes;
   parts = kept.parts;
   strays = kept.strays;
   fulls = kept.fulls;
-  wides = kept.wides;
+  wides = wides;
   met = kept.met;
   sound = λ sound. kept.sound;
   gained = gained;
@@ -64,27 +64,27 @@ after_gains old new lb session at gained kept gains kinds = record {
 pub after_choice : {T : Type 0} (note : T → LeaseNote) (old new : DeskState) (lb session at : ℕ) (ask : Ask) (c : Choice T) → KeepsDesk old new
     → Chooses note old new lb session at ask c → IsDeskAfter lb session old new
 after_choice note old new lb session at ask c kept chose =
-    after_gains old new lb session at _ kept chose.gains.gains (All-push IsKindly _ chose.last (are_due _ chose.gains.is_due) (kind_by _ _ chose.asked tt))
+    after_gains old new lb session at _ kept chose.wide chose.gains.gains (All-push IsKindly _ chose.last (are_due _ chose.gains.is_due) (kind_by _ _ chose.asked tt))
 
 pub after_refusal : {M : Type 0} (numbers : M → FullMark) (old new : DeskState) (lb session at : ℕ) (error : RoomError M) → KeepsDesk old new
     → RefusesChoice numbers old new lb session at error → IsDeskAfter lb session old new
 after_refusal numbers old new lb session at error kept refused =
-    after_gains old new lb session at _ kept refused.gains.gains (are_due _ refused.gains.is_due)
+    after_gains old new lb session at _ kept refused.wide refused.gains.gains (are_due _ refused.gains.is_due)
 
-pub after_return : (old new : DeskState) (session at : ℕ) (lease : LeaseNote) (outcome : Outcome) → KeepsDesk old new
+pub after_return : (old new : DeskState) (session at : ℕ) (lease : LeaseNote) (outcome : Outcome) → KeepsDesk old new → new.wides ≡ old.wides
     → TakesBack old new session at lease outcome → IsDeskAfter lease.lb session old new
-after_return old new session at lease outcome kept back =
-    after_gains old new lease.lb session at _ kept back.gains (All-cons IsKindly back.last [] (kind_by _ _ back.returned tt) (All-nil IsKindly))
+after_return old new session at lease outcome kept wides back =
+    after_gains old new lease.lb session at _ kept wides back.gains (All-cons IsKindly back.last [] (kind_by _ _ back.returned tt) (All-nil IsKindly))
 
-pub after_stray : (old new : DeskState) (lb session : ℕ) (lease : LeaseNote) (stray : Stray) → KeepsDesk old new
+pub after_stray : (old new : DeskState) (lb session : ℕ) (lease : LeaseNote) (stray : Stray) → KeepsDesk old new → new.wides ≡ old.wides
     → MeetsStray old new lease stray → IsDeskAfter lb session old new
-after_stray old new lb session lease stray kept met = record {
+after_stray old new lb session lease stray kept wides met = record {
   caller = kept.caller;
   sizes = kept.sizes;
   parts = kept.parts;
   strays = kept.strays;
   fulls = kept.fulls;
-  wides = kept.wides;
+  wides = wides;
   met = kept.met;
   sound = λ sound. kept.sound;
   gained = [];
@@ -100,10 +100,10 @@ after_none note numbers old new lb session at ask v kept (no_lease_as.forced fol
 after_none note numbers old new lb session at ask v kept (no_lease_as.full follows mark refused) = after_refusal numbers old new lb session at _ kept refused
 after_none note numbers old new lb session at ask v kept (no_lease_as.wanted follows refused) = after_refusal numbers old new lb session at _ kept refused
 
-pub after_back : (old new : DeskState) (session at : ℕ) (lease : LeaseNote) (outcome : Outcome) (stray : Option Stray) → KeepsDesk old new
+pub after_back : (old new : DeskState) (session at : ℕ) (lease : LeaseNote) (outcome : Outcome) (stray : Option Stray) → KeepsDesk old new → new.wides ≡ old.wides
     → IsBack old new session at lease outcome stray → IsDeskAfter lease.lb session old new
-after_back old new session at lease outcome None kept back = after_return old new session at lease outcome kept back
-after_back old new session at lease outcome (Some stray) kept met = after_stray old new lease.lb session lease stray kept met
+after_back old new session at lease outcome None kept wides back = after_return old new session at lease outcome kept wides back
+after_back old new session at lease outcome (Some stray) kept wides met = after_stray old new lease.lb session lease stray kept wides met
 
 pub same_twice : (lb session : ℕ) (old mid new : DeskState) → IsDeskAfter lb session old mid → IsDeskAfter lb session mid new
     → IsDeskAfter lb session old new
@@ -113,7 +113,7 @@ same_twice lb session old mid new first second = record {
   parts = second.parts ∙ first.parts;
   strays = omega (arith, first.strays, second.strays);
   fulls = omega (arith, first.fulls, second.fulls);
-  wides = omega (arith, first.wides, second.wides);
+  wides = second.wides ∙ first.wides;
   met = λ met. second.met (first.met met);
   sound = λ sound. second.sound (first.sound sound);
   gained = first.gained ++ second.gained;

@@ -34,7 +34,7 @@ pub record IsEarly (q : Errand) (first : List ℕ) (s n : Around) : Type 0 where
   pub takes : Takes s.body n.body first
   pub left : data_at n.body ≡ dropped (piece_len q) (data_at s.body)
   pub written : n.client.sent ≡ s.client.sent
-  pub client_faults : s.client.faults ≤ n.client.faults
+  pub client_faults : n.client.faults ≡ s.client.faults
 
 pub the_piece : (told : Option Data) (len : ℕ) (first : List ℕ) → IfSome told (λ d. (first ≡ take len d.bytes) × (reaches len d ≡ true))
     → IfSome told (λ d. first ≡ take len d.bytes)
@@ -42,13 +42,13 @@ the_piece None len first is = is
 the_piece (Some d) len first is = is.0
 
 pub starts_early : (q : Errand) (first : List ℕ) (s : Scene) (client : Moment) (body : BodyAt) → TakesFirst (piece_len q) s.around.body body first
-    → client.sent ≡ s.around.client.sent → s.around.client.faults ≤ client.faults → IsEarly q first s.around (begun_with s client body).around
-starts_early q first s client body took unwritten no_fewer = record {
+    → client.sent ≡ s.around.client.sent → client.faults ≡ s.around.client.faults → IsEarly q first s.around (begun_with s client body).around
+starts_early q first s client body took unwritten steady = record {
   piece = the_piece (data_at s.around.body) (piece_len q) first took.piece;
   takes = took.takes;
   left = took.left;
   written = unwritten;
-  client_faults = no_fewer;
+  client_faults = steady;
 }
 
 pub still_early : (q : Errand) (first : List ℕ) (s m n : Around) → IsEarly q first s m → IsUnmoved m n → IsEarly q first s n
@@ -57,7 +57,7 @@ still_early q first s m n early kept = record {
   takes = subst (Takes s.body n.body) (append-nil first) (takes_twice s.body m.body n.body first [] early.takes (kept.takes early.takes.going));
   left = kept.left ∙ early.left;
   written = kept.written ∙ early.written;
-  client_faults = omega (arith, early.client_faults, kept.client_faults);
+  client_faults = kept.client_faults ∙ early.client_faults;
 }
 
 pub rounds_unmoved : (q : Errand) (first : List ℕ) (s : Scene) (past : List Round) (n : Scene) → HaveGoneOn q first s past n → IsUnmoved s.around n.around

@@ -135,7 +135,7 @@ written_end : (q : Errand) (first : List ℕ) (past : List Round) (s m n : Scene
 written_end q first past s m n status (exchange_end.Done member told) cause rest no_fewer written = absurd written
 written_end q first past s m n status (exchange_end.Own other) cause rest no_fewer written =
     let same : status ≡ other = sym written.0 in
-    (subst (IsOwnCause q first past s m) same cause, subst (WritesOwn q m n) same (record { written = written.1; no_fewer = no_fewer; rest = rest }))
+    (subst (IsOwnCause q first past s m) same cause, subst (WritesOwn q m n) same (record { written = written.1; steady = written.2; rest = rest }))
 written_end q first past s m n status (exchange_end.Cut member told) cause rest no_fewer written = absurd written
 written_end q first past s m n status exchange_end.ClientFault cause rest no_fewer written =
     inr (status, cause, record { written = written.1; no_fewer = no_fewer; rest = rest }, written.0)

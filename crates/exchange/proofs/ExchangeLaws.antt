@@ -128,17 +128,18 @@ goes_through q first b n m e ask fresh v end way step concluded = record {
 }
 
 pub is_exchange : (q : Errand) (first : List ℕ) (s e : Scene) (client : Moment) (body : BodyAt) (end : ExchangeEnd)
-    → TakesFirst (first_len q.head.plan q.balancer.ends) s.around.body body first → client.sent ≡ s.around.client.sent → s.around.client.faults ≤ client.faults
+    → TakesFirst (first_len q.head.plan q.balancer.ends) s.around.body body first → client.sent ≡ s.around.client.sent → client.faults ≡ s.around.client.faults
     → GoesThrough q first (begun_with s client body) e end → IsExchange q s e end
-is_exchange q first s e client body end took unwritten no_fewer through =
-    inr (record { first = first; client = client; body = body; took = took; unwritten = unwritten; no_fewer = no_fewer; through = through })
+is_exchange q first s e client body end took unwritten steady through =
+    inr (record { first = first; client = client; body = body; took = took; unwritten = unwritten; steady = steady; through = through })
 
 pub never_began : (q : Errand) (s n : Scene) (end : ExchangeEnd)
     → IsFirstFailure (first_len q.head.plan q.balancer.ends) s.around.body s.around.client.faults n.around.client.faults end
-    → n.desk ≡ s.desk → n.clock ≡ s.clock → n.around.talks ≡ s.around.talks → n.around.client.sent ≡ s.around.client.sent
+    → n.desk ≡ s.desk → n.clock ≡ s.clock → n.around.talks ≡ s.around.talks → n.around.faults ≡ s.around.faults
+    → n.around.client.sent ≡ s.around.client.sent → (end ≡ exchange_end.Truncated → n.around.client.faults ≡ s.around.client.faults)
     → IsUsed s.around.body n.around.body → IsExchange q s n end
-never_began q s n end why desk clock talks written used =
-    inl (record { why = why; desk = desk; clock = clock; talks = talks; written = written; used = used })
+never_began q s n end why desk clock talks faults written steady used =
+    inl (record { why = why; desk = desk; clock = clock; talks = talks; faults = faults; written = written; steady = steady; used = used })
 
 pub goes_own : (q : Errand) (first : List ℕ) (b n m : Scene) (ask : Ask) (fresh : Bool) (status : ℕ) (client : Moment) (body : BodyAt) (end : ExchangeEnd)
     → IsSearching q first b n ask fresh → IsStep q first ask.tried fresh n m (verdict.Answer status) → body ≡ m.around.body → m.around.client.faults ≤ client.faults

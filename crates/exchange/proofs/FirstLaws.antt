@@ -8,6 +8,8 @@ use Rattle.http_body_in.specs.Wants.{Next}
 use Rattle.http_body_in.specs.declared.fault.BodyFault.{BodyFault}
 use Rattle.http_body_in.specs.declared.fault.BodyFault.TheVariants as fault
 use Rattle.exchange.specs.FirstPiece.{IsFirstFailure, TakesFirst, end_by}
+use Rattle.exchange.specs.declared.ending.ExchangeEnd.{ExchangeEnd}
+use Rattle.exchange.specs.declared.ending.ExchangeEnd.TheVariants as exchange_end
 use Rattle.http_body_in.specs.Body.{data_from, data_of, reaches}
 use Rattle.http_body_in.specs.Places.{is_limited, start_of}
 use Rattle.http_body_in.specs.Walks.{IsUnder}
@@ -85,6 +87,15 @@ fails_first plan ends len s n fault.TooLong met start is some going =
     absurd (not_limited plan ends len (place_of s.body) start is some (met.too_long refl going).0)
 fails_first plan ends len s n fault.Fault met start is some going = met.fault refl going
 fails_first plan ends len s n fault.NoMemory met start is some going = tt
+
+-- where the client's bytes ended no read had failed
+pub cut_steady : (len : ℕ) (s n : BodyMoment) (why : BodyFault) (end : ExchangeEnd) → MeetsFault s n (Next len) why → end ≡ end_by why
+    → end ≡ exchange_end.Truncated → n.client.faults ≡ s.client.faults
+cut_steady len s n fault.Truncated end met is cut = met.steady tt
+cut_steady len s n fault.BadChunk end met is cut = met.steady tt
+cut_steady len s n fault.TooLong end met is cut = met.steady tt
+cut_steady len s n fault.Fault end met is cut = absurd (let other : exchange_end.ClientFault ≡ exchange_end.Truncated = sym is ∙ cut in cc)
+cut_steady len s n fault.NoMemory end met is cut = absurd (let other : exchange_end.NoMemory ≡ exchange_end.Truncated = sym is ∙ cut in cc)
 
 pub uses_first : (len : ℕ) (s n : BodyMoment) (why : BodyFault) → MeetsFault s n (Next len) why
     → IsUsed (record { body = s.body; unread = unread_at s }) (record { body = n.body; unread = unread_at n })

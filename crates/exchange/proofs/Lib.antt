@@ -11,6 +11,7 @@ pub mod GrowLaws
 pub mod EarlyLaws
 pub mod CauseLaws
 pub mod ClientLaws
+pub mod CalmLaws
 pub mod WholeLaws
 pub mod CompleteLaws
 pub mod UsedLaws

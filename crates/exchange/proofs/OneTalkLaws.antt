@@ -8,7 +8,7 @@ use Rattle.jk_io.specs.declared.reaching.Beside.{Beside}
 use Rattle.jk_io.specs.declared.reaching.Talk.{Talk}
 use Rattle.ajp_talk.specs.Complete.{Completes}
 use Rattle.jk_io.specs.Moments.{Moment}
-use Rattle.ajp_talk.specs.Talk.{IsTalk}
+use Rattle.ajp_talk.specs.Talk.{IsCalmEnd, IsTalk}
 use Rattle.ajp_talk.specs.declared.ending.TalkEnd.{TalkEnd}
 use Rattle.ajp_talk.specs.declared.plan.TalkPlan.{TalkPlan}
 use Rattle.site_config.specs.declared.endpoint.Endpoint.{Endpoint}
@@ -27,9 +27,9 @@ pub was_held : (lb member : ℕ) (endpoint : Endpoint) (plan : TalkPlan) (fresh 
     (record { line = opened; client = s.client; body = s.body }) (record { line = closed; client = n.client; body = n.body }) answer
     → IfSome b.begun (λ begun. begun ≡ begun_with lb member endpoint fresh dialled opened) → c ≡ b → b.talks ≡ s.talks
     → ((note : Talk) → IsNoteOf c.begun closed.sent closed.received (keeps answer) note → n.talks ≡ appended c.talks (note ∷ []))
-    → s.faults ≤ opened.faults → opened.faults ≤ closed.faults → n.faults ≡ closed.faults → s.client.faults ≤ n.client.faults
-    → IsOneTalk lb member endpoint plan fresh s n answer
-was_held lb member endpoint plan fresh dialled s n opened closed answer b c new_link nothing_yet talk complete begun same talks noted before within after client =
+    → opened.faults ≡ s.faults → opened.faults ≤ closed.faults → n.faults ≡ closed.faults → s.client.faults ≤ n.client.faults
+    → (IsCalmEnd answer → n.client.faults ≡ s.client.faults) → IsOneTalk lb member endpoint plan fresh s n answer
+was_held lb member endpoint plan fresh dialled s n opened closed answer b c new_link nothing_yet talk complete begun same talks noted before within after client calm =
     let for_b : (note : Talk) → IsNoteOf b.begun closed.sent closed.received (keeps answer) note → n.talks ≡ appended b.talks (note ∷ []) =
     subst (λ (x : Beside). (note : Talk) → IsNoteOf x.begun closed.sent closed.received (keeps answer) note → n.talks ≡ appended x.talks (note ∷ [])) same noted in
     inl (record {
@@ -50,4 +50,5 @@ was_held lb member endpoint plan fresh dialled s n opened closed answer b c new_
       faults_within = within;
       faults_after = after;
       client_faults = client;
+      calm = calm;
     })

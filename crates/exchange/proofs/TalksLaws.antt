@@ -49,6 +49,7 @@ replanned lb member endpoint plan ping fresh s n answer (inl held) = inl (record
   complete = held.complete;
   noted = held.noted;
   faults_before = held.faults_before;
+  calm = held.calm;
   faults_within = held.faults_within;
   faults_after = held.faults_after;
   client_faults = held.client_faults;

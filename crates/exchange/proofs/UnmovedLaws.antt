@@ -9,7 +9,7 @@ use Rattle.ajp_reply.specs.Stream.{head_of}
 use Rattle.jk_io.specs.Moments.{Moment}
 use Rattle.ajp_talk.specs.Moments.{BodyAt, Takes, data_at}
 use Rattle.ajp_talk.specs.Replies.{chunks_of, has_passed, head_out, kind_of, passed_of}
-use Rattle.ajp_talk.specs.Talk.{HasFailed, HasNoPong, IsTalk}
+use Rattle.ajp_talk.specs.Talk.{HasFailed, HasNoPong, IsCalmEnd, IsTalk}
 use Rattle.ajp_talk.specs.declared.ending.Cause.{Cause}
 use Rattle.ajp_talk.specs.declared.ending.Stage.{Stage}
 use Rattle.ajp_talk.specs.declared.ending.TalkEnd.{TalkEnd}
@@ -35,7 +35,7 @@ pub record IsUnmoved (s n : Around) : Type 0 where
   pub left : data_at n.body ≡ data_at s.body
   pub takes : failed_of s.body.body ≡ None → Takes s.body n.body []
   pub reach_faults : s.faults ≤ n.faults
-  pub client_faults : s.client.faults ≤ n.client.faults
+  pub client_faults : n.client.faults ≡ s.client.faults
 
 -- nothing happened
 pub takes_none : (b : BodyAt) → failed_of b.body ≡ None → Takes b b []
@@ -83,7 +83,7 @@ behind_and false b both = cc
 none_taken : (before now more : ℕ) → now ≡ before + more → nat_lt before now ≡ false → now ≡ before
 none_taken before now more counted none = let below : now ≤ before = ltb-false before now none in omega (arith, counted, below)
 
-failed_unmoved : (plan : TalkPlan) (s n : Around) (opened closed : Moment) → s.faults ≤ n.faults → s.client.faults ≤ n.client.faults → (stage : Stage) (cause : Cause) (told : Option Told) (bytes : ℕ)
+failed_unmoved : (plan : TalkPlan) (s n : Around) (opened closed : Moment) → s.faults ≤ n.faults → n.client.faults ≡ s.client.faults → (stage : Stage) (cause : Cause) (told : Option Told) (bytes : ℕ)
     → HasFailed plan (record { line = opened; client = s.client; body = s.body }) (record { line = closed; client = n.client; body = n.body }) stage cause told bytes
     → stage.passed ≡ false → stage.beyond ≡ false → IsUnmoved s n
 failed_unmoved plan s n opened closed reach client stage cause told bytes failed not_passed not_beyond =
@@ -114,7 +114,7 @@ again_follows endpoint head (ends.Failed stage cause told bytes) again = behind_
 again_follows endpoint head (ends.ClientGone truncated keep bytes) again = again
 again_follows endpoint head (ends.BadBody status told passed bytes) again = again
 
-silent_unmoved : (plan : TalkPlan) (s n : Around) (opened closed : Moment) → s.faults ≤ n.faults → s.client.faults ≤ n.client.faults → (stage : Stage) (cause : Cause) (told : Option Told) (bytes : ℕ)
+silent_unmoved : (plan : TalkPlan) (s n : Around) (opened closed : Moment) → s.faults ≤ n.faults → n.client.faults ≡ s.client.faults → (stage : Stage) (cause : Cause) (told : Option Told) (bytes : ℕ)
     → HasNoPong plan (record { line = opened; client = s.client; body = s.body }) (record { line = closed; client = n.client; body = n.body }) stage cause told bytes
     → IsUnmoved s n
 silent_unmoved plan s n opened closed reach client stage cause told bytes silent = record {
@@ -127,23 +127,23 @@ silent_unmoved plan s n opened closed reach client stage cause told bytes silent
   client_faults = client;
 }
 
-held_unmoved : (endpoint : Endpoint) (head : Head) (plan : TalkPlan) (s n : Around) (opened closed : Moment) → s.faults ≤ n.faults → s.client.faults ≤ n.client.faults → (end : TalkEnd)
+held_unmoved : (endpoint : Endpoint) (head : Head) (plan : TalkPlan) (s n : Around) (opened closed : Moment) → s.faults ≤ n.faults → (end : TalkEnd) → (IsCalmEnd (Ok end) → n.client.faults ≡ s.client.faults)
     → IsTalk plan (record { line = opened; client = s.client; body = s.body }) (record { line = closed; client = n.client; body = n.body }) (Ok end)
     → may_follow endpoint head end ≡ true → IsUnmoved s n
-held_unmoved endpoint head plan s n opened closed reach client (ends.Done told reuse bytes) talk again = cc
-held_unmoved endpoint head plan s n opened closed reach client (ends.ClientGone truncated keep bytes) talk again = cc
-held_unmoved endpoint head plan s n opened closed reach client (ends.BadBody status told passed bytes) talk again = cc
-held_unmoved endpoint head plan s n opened closed reach client (ends.Failed stage cause told bytes) (inl failed) again =
+held_unmoved endpoint head plan s n opened closed reach (ends.Done told reuse bytes) client talk again = cc
+held_unmoved endpoint head plan s n opened closed reach (ends.ClientGone truncated keep bytes) client talk again = cc
+held_unmoved endpoint head plan s n opened closed reach (ends.BadBody status told passed bytes) client talk again = cc
+held_unmoved endpoint head plan s n opened closed reach (ends.Failed stage cause told bytes) client (inl failed) again =
     let early : (stage.passed ≡ false) × (stage.beyond ≡ false) =
     allowed_early endpoint.recovery (is_head head) (is_get head) stage.got stage.headers stage.passed stage.beyond again in
-    failed_unmoved plan s n opened closed reach client stage cause told bytes failed early.0 early.1
-held_unmoved endpoint head plan s n opened closed reach client (ends.Failed stage cause told bytes) (inr silent) again =
-    silent_unmoved plan s n opened closed reach client stage cause told bytes silent
+    failed_unmoved plan s n opened closed reach (client tt) stage cause told bytes failed early.0 early.1
+held_unmoved endpoint head plan s n opened closed reach (ends.Failed stage cause told bytes) client (inr silent) again =
+    silent_unmoved plan s n opened closed reach (client tt) stage cause told bytes silent
 
 pub follow_unmoved : (lb member : ℕ) (endpoint : Endpoint) (head : Head) (plan : TalkPlan) (fresh : Bool) (s n : Around) (end : TalkEnd)
     → IsOneTalk lb member endpoint plan fresh s n (Ok end) → may_follow endpoint head end ≡ true → IsUnmoved s n
 follow_unmoved lb member endpoint head plan fresh s n end (inl held) again =
-    held_unmoved endpoint head _ s n held.opened held.closed (omega (arith, held.faults_before, held.faults_within, held.faults_after)) held.client_faults end held.talk again
+    held_unmoved endpoint head _ s n held.opened held.closed (omega (arith, held.faults_before, held.faults_within, held.faults_after)) end held.calm held.talk again
 follow_unmoved lb member endpoint head plan fresh s n end (inr (inl linkless)) again = record {
   written = ap (λ (x : Moment). x.sent) linkless.1.client;
   taken = ap (λ (x : BodyAt). taken_of x.body) linkless.1.body;
@@ -151,7 +151,7 @@ follow_unmoved lb member endpoint head plan fresh s n end (inr (inl linkless)) a
   left = ap data_at linkless.1.body;
   takes = same_takes s.body n.body linkless.1.body;
   reach_faults = linkless.1.no_fewer;
-  client_faults = omega (arith, ap (λ (x : Moment). x.faults) linkless.1.client);
+  client_faults = ap (λ (x : Moment). x.faults) linkless.1.client;
 }
 follow_unmoved lb member endpoint head plan fresh s n end (inr (inr wanted)) again = absurd (let apart : Ok end ≡ Err wanted.0 = wanted.1 in cc)
 
@@ -167,12 +167,12 @@ unmoved_twice s m n first second = record {
   going = λ going. second.going (first.going going);
   left = second.left ∙ first.left;
   reach_faults = omega (arith, first.reach_faults, second.reach_faults);
-  client_faults = omega (arith, first.client_faults, second.client_faults);
+  client_faults = second.client_faults ∙ first.client_faults;
   takes = λ going. takes_twice s.body m.body n.body [] [] (first.takes going) (second.takes (first.going going));
 }
 
 pub still : (s : Around) → IsUnmoved s s
-still s = record { written = refl; taken = refl; going = λ going. going; left = refl; takes = takes_none s.body; reach_faults = omega arith; client_faults = omega arith }
+still s = record { written = refl; taken = refl; going = λ going. going; left = refl; takes = takes_none s.body; reach_faults = omega arith; client_faults = refl }
 
 pub all_unmoved : (lb member : ℕ) (endpoint : Endpoint) (head : Head) (plan : TalkPlan) (fresh : Bool) (s : Around) (past : List TalkEnd) (n : Around)
     → HaveFailed lb member endpoint head plan fresh s past n → IsUnmoved s n

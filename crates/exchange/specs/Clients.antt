@@ -166,3 +166,13 @@ MeetsAt exchange_end.ClientFault old new = MeetsNone old new
 MeetsAt exchange_end.Truncated old new = MeetsNone old new
 MeetsAt (exchange_end.Stray ticket returned_at) old new = RisesByOne old.strays new.strays × (new.met ≡ true)
 MeetsAt exchange_end.NoMemory old new = MeetsNone old new
+
+-- The client was there to the end: no call of it failed. Where its bytes ended it is gone without a fault.
+abbrev pub IsCalm : ExchangeEnd → Type 0
+IsCalm (exchange_end.Done member told) = Unit {0}
+IsCalm (exchange_end.Own status) = Unit {0}
+IsCalm (exchange_end.Cut member told) = Unit {0}
+IsCalm exchange_end.ClientFault = ⊥
+IsCalm exchange_end.Truncated = Unit {0}
+IsCalm (exchange_end.Stray ticket returned_at) = ⊥
+IsCalm exchange_end.NoMemory = ⊥

@@ -64,10 +64,10 @@ IsOwnCause q first past s n status =
     ⊎ (((status ≡ 500) × IsUnchosen q s n (IsFull q))
     ⊎ ((r : Round) × IsLast q first past s n r × IsOwnAfter q r status)))
 
--- the answer with this status was written whole, and nothing else was done
+-- the answer with this status was written whole, no write failed, and nothing else was done
 pub record WritesOwn (q : Errand) (s n : Scene) (status : ℕ) : Type 0 where
   pub written : IfSome (own_of status) (λ own. n.around.client.sent ≡ appended s.around.client.sent (own_bytes own (is_head q.head)))
-  pub no_fewer : s.around.client.faults ≤ n.around.client.faults
+  pub steady : n.around.client.faults ≡ s.around.client.faults
   pub rest : n ≡ record s { around = record s.around { client = n.around.client } }
 
 -- a front of it was written, and nothing else was done
@@ -108,23 +108,25 @@ pub record GoesThrough (q : Errand) (first : List ℕ) (s n : Scene) (end : Exch
 abbrev pub begun_with : Scene → Moment → BodyAt → Scene
 begun_with s client body = record s { around = record s.around { client = client; body = body } }
 
--- The first piece was taken of the body, and nothing was written; then rounds were gone through.
+-- The first piece was taken of the body, nothing was written, and no call of the client failed; then rounds were gone through.
 pub record HasRounds (q : Errand) (s n : Scene) (end : ExchangeEnd) : Type 0 where
   pub first : List ℕ
   pub client : Moment
   pub body : BodyAt
   pub took : TakesFirst (first_len q.head.plan q.balancer.ends) s.around.body body first
   pub unwritten : client.sent ≡ s.around.client.sent
-  pub no_fewer : s.around.client.faults ≤ client.faults
+  pub steady : client.faults ≡ s.around.client.faults
   pub through : GoesThrough q first (begun_with s client body) n end
 
--- Before a first round: the first piece couldn't be taken, or memory was wanted.
+-- Before a first round: the first piece couldn't be taken, or memory was wanted. Neither desk nor clock nor reach was asked.
 pub record HasNone (q : Errand) (s n : Scene) (end : ExchangeEnd) : Type 0 where
   pub why : IsFirstFailure (first_len q.head.plan q.balancer.ends) s.around.body s.around.client.faults n.around.client.faults end
   pub desk : n.desk ≡ s.desk
   pub clock : n.clock ≡ s.clock
   pub talks : n.around.talks ≡ s.around.talks
+  pub faults : n.around.faults ≡ s.around.faults
   pub written : n.around.client.sent ≡ s.around.client.sent
+  pub steady : end ≡ exchange_end.Truncated → n.around.client.faults ≡ s.around.client.faults
   pub used : IsUsed s.around.body n.around.body
 
 -- What an exchange's end says.

@@ -11,7 +11,7 @@ use Rattle.jk_io.specs.declared.reaching.Talk.{Talk}
 use Rattle.ajp_talk.specs.Complete.{Completes}
 use Rattle.jk_io.specs.Moments.{Moment}
 use Rattle.ajp_talk.specs.Moments.{BodyAt}
-use Rattle.ajp_talk.specs.Talk.{IsTalk}
+use Rattle.ajp_talk.specs.Talk.{IsCalmEnd, IsTalk}
 use Rattle.ajp_talk.specs.declared.ending.Cause.TheVariants as cause_is
 use Rattle.ajp_talk.specs.declared.ending.TalkEnd.{TalkEnd}
 use Rattle.ajp_talk.specs.declared.ending.TalkEnd.TheVariants as ends
@@ -79,10 +79,11 @@ pub record IsHeld (lb member : ℕ) (endpoint : Endpoint) (plan : TalkPlan) (fre
       (record { line = opened; client = s.client; body = s.body }) (record { line = closed; client = n.client; body = n.body }) answer
   pub noted : (note : Talk) → IsNoteOf (Some (begun_with lb member endpoint fresh dialled opened)) closed.sent closed.received (keeps answer) note
       → n.talks ≡ appended s.talks (note ∷ [])
-  pub faults_before : s.faults ≤ opened.faults
+  pub faults_before : opened.faults ≡ s.faults
   pub faults_within : opened.faults ≤ closed.faults
   pub faults_after : n.faults ≡ closed.faults
   pub client_faults : s.client.faults ≤ n.client.faults
+  pub calm : IsCalmEnd answer → n.client.faults ≡ s.client.faults
 
 -- A talk that had no link.
 pub record HasNoLink (lb member : ℕ) (endpoint : Endpoint) (fresh : Bool) (s n : Around) : Type 0 where

@@ -147,14 +147,15 @@ pub record IsReceiptOf (lb session : ℕ) (r : Receipt) : Type 0 where
   pub caller : r.entry.session ≡ session
   pub kind : IsAskOrReturn r.entry.call
 
--- What never changes of a desk, its counts, which never fall, and the receipts that it gained. Told Books stay sound.
+-- What never changes of a desk, its counts, which never fall, and the receipts that it gained. No command was too wide, since
+-- none is asked for. Told Books stay sound.
 pub record IsDeskAfter (lb session : ℕ) (old new : DeskState) : Type 0 where
   pub caller : new.caller ≡ old.caller
   pub sizes : new.sizes ≡ old.sizes
   pub parts : new.parts ≡ old.parts
   pub strays : old.strays ≤ new.strays
   pub fulls : old.fulls ≤ new.fulls
-  pub wides : old.wides ≤ new.wides
+  pub wides : new.wides ≡ old.wides
   pub met : old.met ≡ true → new.met ≡ true
   pub sound : AreSound old.sizes old.books → AreSound new.sizes new.books
   pub gained : List Receipt

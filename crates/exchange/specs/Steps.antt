@@ -63,6 +63,7 @@ pub record HandsBack (old new : DeskState) (session at : ℕ) (lease : LeaseNote
   pub stray : Option Stray
   pub back : IsBack old new session at lease (outcome_for endpoint ran) stray
   pub fulls : new.fulls ≡ old.fulls
+  pub wides : new.wides ≡ old.wides
   pub held : new.held ≡ without_last old.held (pair_of lease)
   pub follows : v ≡ verdict_back stray endpoint head member ran
 
@@ -89,11 +90,11 @@ IsStep q first tried fresh s n v =
     ⊎ ((r : Round) × (stray : Stray) × IsRound q first tried fresh s n r (Some stray)
     × (v ≡ verdict.End (exchange_end.Stray stray.ticket stray.returned_at))))
 
--- An own answer was written whole; or a front of it, where the client failed or memory was wanted.
+-- An own answer was written whole, by writes of which none failed; or a front of it, where the client failed or memory was wanted.
 abbrev pub IsWritten : (status : ℕ) → (head_only : Bool) → Moment → Moment → ExchangeEnd → Type 0
 IsWritten status head_only s n (exchange_end.Done member told) = ⊥
 IsWritten status head_only s n (exchange_end.Own written) =
-    (written ≡ status) × IfSome (own_of status) (λ own. n.sent ≡ appended s.sent (own_bytes own head_only))
+    (written ≡ status) × IfSome (own_of status) (λ own. n.sent ≡ appended s.sent (own_bytes own head_only)) × (n.faults ≡ s.faults)
 IsWritten status head_only s n (exchange_end.Cut member told) = ⊥
 IsWritten status head_only s n exchange_end.ClientFault =
     Rose s.faults n.faults × IfSome (own_of status) (λ own. PutsFront s.sent n.sent (own_bytes own head_only))

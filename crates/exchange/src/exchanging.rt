@@ -3,7 +3,7 @@ ghost use Rattle.std.specs.Prelude.{◌≡◌, ◌≤◌, ◌<◌, false, None, 
 ghost use Rattle.http_body_in.specs.Places.{start_of};
 ghost use Rattle.http_body_in.specs.State.{failed_of, place_of, taken_of};
 ghost use Rattle.ajp_talk.specs.Moments.{IsUsed};
-ghost use Rattle.exchange.specs.Clients.{Gives, MeetsAt};
+ghost use Rattle.exchange.specs.Clients.{Gives, IsCalm, MeetsAt};
 ghost use Rattle.exchange.specs.Complete.{Completes};
 ghost use Rattle.exchange.specs.Exchanges.{InEachExchange, IsExchange};
 ghost use Rattle.exchange.specs.FirstPiece.{body_left};
@@ -83,6 +83,8 @@ where
     ensures sizes { (R.beside reach.new).sizes ≡ (R.beside reach.old).sizes }
     ensures kept { IsDeskAfter lb session (B.state desk.old) (B.state desk.new) }
     ensures met { MeetsAt result (B.state desk.old) (B.state desk.new) }
+    // The client's count of faults stands, unless it is what ended the exchange, or a stray did, or memory was wanted.
+    ensures calm { IsCalm result → C.faults client.new ≡ C.faults client.old }
     ensures beside { C.beside client.new ≡ C.beside client.old }
     ensures no_fewer { (R.faults reach.old ≤ R.faults reach.new) × (C.faults client.old ≤ C.faults client.new) }
 {

@@ -1,5 +1,5 @@
 //! The first piece of a body, which is taken before a member is chosen.
-ghost use Rattle.std.specs.Prelude.{◌≡◌, ◌≤◌, IfOk, IfErr};
+ghost use Rattle.std.specs.Prelude.{◌≡◌, ◌≤◌, IfOk, IfErr, OnOk};
 ghost use Rattle.ajp_talk.specs.Moments.{IsUsed};
 ghost use Rattle.forwarding.specs.FirstPiece.{first_len as first_length};
 ghost use Rattle.exchange.specs.FirstPiece.{IsFirstFailure, TakesFirst, body_left, end_by};
@@ -30,6 +30,8 @@ pub(crate) fn take_first<C: Link>(
         IfErr result (IsFirstFailure len (body_left C.Meanings body.old inbox.old client.old) (C.faults client.old) (C.faults client.new)) }
     ensures used { let left = body_left C.Meanings in
         IfErr result (λ _. IsUsed (left body.old inbox.old client.old) (left body.new inbox.new client.new)) }
+    ensures steady { OnOk result (C.faults client.new ≡ C.faults client.old) }
+    ensures cut { IfErr result (λ end. end ≡ ExchangeEnd.Truncated → C.faults client.new ≡ C.faults client.old) }
     ensures same { (C.sent client.new ≡ C.sent client.old) × (C.beside client.new ≡ C.beside client.old) }
     ensures no_fewer { C.faults client.old ≤ C.faults client.new }
 {

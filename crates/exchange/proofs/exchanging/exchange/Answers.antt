@@ -1,5 +1,6 @@
 -- The balancer is the one of this place, and what was lent came back.
 use Rattle.std.proofs.Common.{sym}
+use Rattle.exchange.proofs.CalmLaws.{calm_at}
 use Rattle.exchange.proofs.CauseLaws.{met_at}
 use Rattle.exchange.proofs.ClientLaws.{gives}
 use Rattle.exchange.proofs.CompleteLaws.{completes}
@@ -70,6 +71,10 @@ returns-clause-sizes g c =
 pub returns-clause-kept : goal.returns-clause-kept
 returns-clause-kept g c =
     desk_back g.B.Desk.state _ _ _ _ _ (c.desk-1.given.1 (sym c.exchange_of.ensures.kept.desk)) c.exchange_of.ensures.kept.kept
+
+pub returns-clause-calm : goal.returns-clause-calm
+returns-clause-calm g c = λ calm.
+    same_back g.C.Meanings.faults _ _ _ (c.client-1.given.1 (sym c.exchange_of.ensures.kept.sides.same.1)) (calm_at _ _ _ _ c.exchange_of.ensures.exchange calm)
 
 pub returns-clause-beside : goal.returns-clause-beside
 returns-clause-beside g c =

@@ -31,7 +31,7 @@ all_rounds-requires-clause-first g c = record {
 
 pub returns-clause-exchange : goal.returns-clause-exchange
 returns-clause-exchange g c =
-    is_exchange _ _ _ _ _ _ _ c.in-Ok-take_first.ensures.ok c.take_first.ensures.same.0 c.take_first.ensures.no_fewer c.all_rounds.ensures.through
+    is_exchange _ _ _ _ _ _ _ c.in-Ok-take_first.ensures.ok c.take_first.ensures.same.0 c.in-Ok-take_first.ensures.steady c.all_rounds.ensures.through
 
 pub returns-clause-kept : goal.returns-clause-kept
 returns-clause-kept g c =
@@ -53,7 +53,8 @@ returns-clause-kept g c =
 
 pub returns-in-Err-take_first-clause-exchange : goal.returns-in-Err-take_first-clause-exchange
 returns-in-Err-take_first-clause-exchange g c =
-    never_began _ _ _ _ c.in-Err-take_first.ensures.err refl refl refl c.take_first.ensures.same.0 c.in-Err-take_first.ensures.used
+    never_began _ _ _ _ c.in-Err-take_first.ensures.err refl refl refl refl c.take_first.ensures.same.0 c.in-Err-take_first.ensures.cut
+    c.in-Err-take_first.ensures.used
 
 pub returns-in-Err-take_first-clause-kept : goal.returns-in-Err-take_first-clause-kept
 returns-in-Err-take_first-clause-kept g c = record {

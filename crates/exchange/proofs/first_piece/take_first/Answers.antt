@@ -1,6 +1,6 @@
 -- What the take of the first piece gave, or why it gave none.
 use Rattle.std.proofs.Common.{arith}
-use Rattle.exchange.proofs.FirstLaws.{fails_first, takes_first, uses_first}
+use Rattle.exchange.proofs.FirstLaws.{cut_steady, fails_first, takes_first, uses_first}
 use Rattle.exchange.proofs.first_piece.take_first.Goals as goal
 
 pub returns-in-Ok-clause-ok : goal.returns-in-Ok-clause-ok
@@ -12,6 +12,12 @@ returns-in-Err-clause-err g c =
 
 pub returns-in-Err-clause-used : goal.returns-in-Err-clause-used
 returns-in-Err-clause-used g c = uses_first _ _ _ c.in-Err.fault c.in-Err.ensures.err
+
+pub returns-in-Ok-clause-steady : goal.returns-in-Ok-clause-steady
+returns-in-Ok-clause-steady g c = c.in-Ok.ensures.ok.on.steady
+
+pub returns-in-Err-clause-cut : goal.returns-in-Err-clause-cut
+returns-in-Err-clause-cut g c = λ cut. cut_steady _ _ _ c.in-Err.fault _ c.in-Err.ensures.err c.end_of.ensures cut
 
 pub returns-in-Ok-clause-same : goal.returns-in-Ok-clause-same
 returns-in-Ok-clause-same g c = (c.in-Ok.ensures.ok.on.sent, c.take.ensures.beside)

@@ -1,4 +1,5 @@
 -- The talk was held on the link that was begun, and the reach noted it.
+use Rattle.std.proofs.Common.{refl}
 use Rattle.ajp_wire.specs.Moments.{link_at}
 use Rattle.exchange.proofs.OneTalkLaws.{was_held}
 use Rattle.exchange.proofs.one_talk.one_talk.Goals as goal
@@ -12,4 +13,4 @@ returns-clause-talk g c =
     c.in-Ok.ensures.new_link c.begin.ensures.nothing_yet
     (rw c.pings-plan.ensures at c.talk-end.ensures.talk) (rw c.pings-plan.ensures at c.talk-end.ensures.complete)
     c.in-Ok.ensures.begun c.talk-end.ensures.beside.0 c.in-Ok.ensures.ok (rw c.keeps.ensures at c.finish.ensures.noted)
-    c.begin.ensures.cause.no_fewer c.talk-end.ensures.no_fewer.0 c.finish.ensures.same_faults c.talk-end.ensures.no_fewer.1
+    (c.in-Ok.ensures.steady refl) c.talk-end.ensures.no_fewer.0 c.finish.ensures.same_faults c.talk-end.ensures.no_fewer.1 c.talk-end.ensures.calm

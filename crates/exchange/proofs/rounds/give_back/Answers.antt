@@ -10,6 +10,7 @@ returns-in-Ok-clause-back g c = record {
   stray = None;
   back = rw c.outcome_of.ensures at c.in-Ok.ensures.ok;
   fulls = c.hand_back.ensures.same.0;
+  wides = c.hand_back.ensures.same.1;
   held = c.hand_back.ensures.held;
   follows = c.verdict_of.ensures;
 }
@@ -19,6 +20,7 @@ returns-in-Err-clause-back g c = record {
   stray = Some c.in-Err.stray;
   back = c.in-Err.ensures.err;
   fulls = c.hand_back.ensures.same.0;
+  wides = c.hand_back.ensures.same.1;
   held = c.hand_back.ensures.held;
   follows = refl;
 }
