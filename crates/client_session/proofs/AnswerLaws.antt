@@ -95,13 +95,13 @@ stop_rises v head last s n status stop' asked' settled answer is =
   where
     by_stop : (x : SessionStop) → IsStatusAnswer v status head last s n (Err x)
         → RisesInAnswer (settled_by x asked' (is_head head)).answered s.client.faults n.client.faults
-    by_stop (stop.Closed why.ByClient) a = tt
-    by_stop (stop.Closed why.Last) a = tt
-    by_stop (stop.Closed (why.Own code)) a = tt
-    by_stop (stop.Closed why.Cut) a = tt
-    by_stop (stop.Closed why.Unread) a = tt
+    by_stop (stop.Closed why.ByClient) a = absurd a
+    by_stop (stop.Closed why.Last) a = absurd a
+    by_stop (stop.Closed (why.Own code)) a = a.2.puts.steady ∙ ap (λ (x : ClientStanding). x.client.faults) a.1.alone
+    by_stop (stop.Closed why.Cut) a = absurd a
+    by_stop (stop.Closed why.Unread) a = absurd a
     by_stop stop.ClientFault a = a.0
-    by_stop stop.Truncated a = tt
+    by_stop stop.Truncated a = absurd a
     by_stop (stop.Stray ticket returned_at) a = tt
     by_stop stop.NoMemory a = tt
 
@@ -223,7 +223,7 @@ not_found_rises_by : (head_only : Bool) (line : Asked) (s n : Moment) (x : Sessi
     → RisesInAnswer (settled_by x line head_only).answered s.faults n.faults
 not_found_rises_by head_only line s n (stop.Closed why.ByClient) writes = absurd writes
 not_found_rises_by head_only line s n (stop.Closed why.Last) writes = absurd writes
-not_found_rises_by head_only line s n (stop.Closed (why.Own code)) writes = tt
+not_found_rises_by head_only line s n (stop.Closed (why.Own code)) writes = writes.1.steady
 not_found_rises_by head_only line s n (stop.Closed why.Cut) writes = absurd writes
 not_found_rises_by head_only line s n (stop.Closed why.Unread) writes = absurd writes
 not_found_rises_by head_only line s n stop.ClientFault writes = writes.0

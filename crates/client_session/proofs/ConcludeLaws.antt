@@ -12,7 +12,7 @@ use Rattle.http_out.specs.declared.own_answers.Own.{Own}
 use Rattle.site_config.specs.declared.balancer.Lb.{Lb}
 use Rattle.site_config.specs.declared.config.Named.TheVariants as named
 use Rattle.ajp_talk.specs.Moments.{IsUsed}
-use Rattle.exchange.specs.Clients.{Gives, MeetsAt}
+use Rattle.exchange.specs.Clients.{Gives, IsCalm, MeetsAt}
 use Rattle.exchange.specs.Complete.{Completes}
 use Rattle.exchange.specs.Exchanges.{IsExchange}
 use Rattle.exchange.specs.Requests.{errand, is_head}
@@ -41,12 +41,12 @@ pub forwarded_by : (v : Visit) (head : Head) (last : Bool) (s n : ClientStanding
     → IsUsed (with_body s body).around.body (with_body n body').around.body
     → IsWholeOnce (errand head v.peer last v.session lb t balancer) (with_body s body).around (with_body n body').around
     → Completes (errand head v.peer last v.session lb t balancer) (with_body s body) (with_body n body') end
-    → IsDeskAfter lb v.session s.desk.state n.desk.state → MeetsAt end s.desk.state n.desk.state
+    → IsDeskAfter lb v.session s.desk.state n.desk.state → MeetsAt end s.desk.state n.desk.state → (IsCalm end → n.client.faults ≡ s.client.faults)
     → (s.reach.faults ≤ n.reach.faults) × (s.client.faults ≤ n.client.faults)
     → IsForwardedAt v (errand_at v head last lb balancer) s n body body' end
-forwarded_by v head last s n body body' lb balancer t end is exchange gives used whole_once complete kept met no_fewer =
+forwarded_by v head last s n body body' lb balancer t end is exchange gives used whole_once complete kept met calm no_fewer =
     subst (λ (x : Terms). IsForwardedAt v (errand head v.peer last v.session lb x balancer) s n body body' end) is
-    (record { exchange = exchange; gives = gives; used = used; whole_once = whole_once; complete = complete; kept = kept; met = met; no_fewer = no_fewer })
+    (record { exchange = exchange; gives = gives; used = used; whole_once = whole_once; complete = complete; kept = kept; met = met; calm = calm; no_fewer = no_fewer })
 
 -- the end was concluded with the balancer's members, for the method and the row of this head
 pub concluded_by : (end : ExchangeEnd) (members : List MemberConfig) (balancer : Lb) (head_only : Bool) (head : Head) (asked' : Asked) (settled : Settled)
@@ -146,15 +146,15 @@ pub rises : (v : Visit) (head : Head) (last : Bool) (s n : ClientStanding) (body
     → IsConclusion end balancer.book.members (is_head head) (asked_of head) settled
     → RisesInAnswer settled.answered s.client.faults n.client.faults
 rises v head last s n body body' lb balancer (exchange_end.Done member told) settled at concluded =
-    subst (λ (x : Settled). RisesInAnswer x.answered s.client.faults n.client.faults) (sym concluded.2) tt
+    subst (λ (x : Settled). RisesInAnswer x.answered s.client.faults n.client.faults) (sym concluded.2) (at.calm tt)
 rises v head last s n body body' lb balancer (exchange_end.Own status) settled at concluded =
-    subst (λ (x : Settled). RisesInAnswer x.answered s.client.faults n.client.faults) (sym concluded) tt
+    subst (λ (x : Settled). RisesInAnswer x.answered s.client.faults n.client.faults) (sym concluded) (at.calm tt)
 rises v head last s n body body' lb balancer (exchange_end.Cut member told) settled at concluded =
-    subst (λ (x : Settled). RisesInAnswer x.answered s.client.faults n.client.faults) (sym concluded.2) tt
+    subst (λ (x : Settled). RisesInAnswer x.answered s.client.faults n.client.faults) (sym concluded.2) (at.calm tt)
 rises v head last s n body body' lb balancer exchange_end.ClientFault settled at concluded =
     subst (λ (x : Settled). RisesInAnswer x.answered s.client.faults n.client.faults) (sym concluded) at.gives.0
 rises v head last s n body body' lb balancer exchange_end.Truncated settled at concluded =
-    subst (λ (x : Settled). RisesInAnswer x.answered s.client.faults n.client.faults) (sym concluded) tt
+    subst (λ (x : Settled). RisesInAnswer x.answered s.client.faults n.client.faults) (sym concluded) (at.calm tt)
 rises v head last s n body body' lb balancer (exchange_end.Stray ticket returned_at) settled at concluded =
     subst (λ (x : Settled). RisesInAnswer x.answered s.client.faults n.client.faults) (sym concluded) tt
 rises v head last s n body body' lb balancer exchange_end.NoMemory settled at concluded =

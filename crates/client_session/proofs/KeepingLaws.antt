@@ -1,5 +1,5 @@
 -- What is kept over several steps of a session.
-use Rattle.std.proofs.Common.{◌≡◌, ◌≤◌, ℕ, List, Result, Ok, Err, refl, ◌∙◌, subst, sym, length, get_or, ◌<◌, Bool, IfErr, arith}
+use Rattle.std.proofs.Common.{◌≡◌, ◌≤◌, ℕ, Result, Ok, Err, refl, ap, ◌∙◌, subst, sym, length, get_or, ◌<◌, Bool, IfErr, arith}
 use Rattle.std.specs.Prelude.{vec_capacity}
 use Rattle.jk_io.specs.declared.reaching.Beside.{Beside}
 use Rattle.jk_io.specs.declared.traits.streams.Meanings.{Ghosts}
@@ -94,7 +94,9 @@ shown_meets v head last s n status (Err stop') asked' settled old new answer is 
 
 pub shown_rises : (v : Visit) (head : Head) (last : Bool) (s n : ClientStanding) (status : Status) (answer : Result ℕ SessionStop) (asked' : Asked) (settled : Settled)
     → IsStatusAnswer v status head last s n answer → IsShown answer status.name (is_head head) asked' settled → RisesInAnswer settled.answered s.client.faults n.client.faults
-shown_rises v head last s n status (Ok len) asked' settled answer is = subst (λ (x : Settled). RisesInAnswer x.answered s.client.faults n.client.faults) (sym is) tt
+shown_rises v head last s n status (Ok len) asked' settled answer is =
+    subst (λ (x : Settled). RisesInAnswer x.answered s.client.faults n.client.faults) (sym is)
+    (answer.3.puts.steady ∙ ap (λ (x : ClientStanding). x.client.faults) answer.2.alone)
 shown_rises v head last s n status (Err stop') asked' settled answer is = stop_rises v head last s n status stop' asked' settled answer is
 
 pub shown_known : (v : Visit) (head : Head) (last : Bool) (s n : ClientStanding) (status : Status) (answer : Result ℕ SessionStop)

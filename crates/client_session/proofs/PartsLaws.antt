@@ -442,7 +442,7 @@ last_of v number s n rows (session_end.Closed requests why.Unread) (count, inl u
 last_of v number s n rows (session_end.Closed requests why.Unread) (count, inr unread') =
     let has = unread_whole v number s n rows _ unread' in
     (has.0, (count, has.1), has.2)
-last_of v number s n rows (session_end.ClientFault requests) (inl (count, none, rose, inl stops)) = nothing v number s n stops.sent
+last_of v number s n rows (session_end.ClientFault requests) (inl (count, none, rose, inl fails)) = nothing v number s n fails.stops.sent
 last_of v number s n rows (session_end.ClientFault requests) (inl (count, none, rose, inr (inl refusal))) = refusal_begun v number s n refusal
 last_of v number s n rows (session_end.ClientFault requests) (inl (count, none, rose, inr (inr (body, r)))) = faulted v number s n body rows r
 last_of v number s n rows (session_end.ClientFault requests) (inr (count, unread')) = unread_front v number s n rows _ unread'

@@ -8,7 +8,7 @@ use Rattle.jk_io.specs.declared.reaching.Beside.{Beside}
 use Rattle.jk_model.specs.declared.served.Served.{Served}
 use Rattle.http_front.specs.Answer.{IfRefused, IsCalm}
 use Rattle.http_front.specs.Refusal.{status_of}
-use Rattle.http_front.specs.Request.{EndsWithin, Refuses}
+use Rattle.http_front.specs.Request.{EndsWithin, IsDecided, Refuses}
 use Rattle.http_front.specs.declared.answers.Form.{Form}
 use Rattle.http_front.specs.declared.answers.HeadError.{HeadError}
 use Rattle.http_front.specs.declared.answers.HeadError.TheVariants as error
@@ -86,9 +86,13 @@ refused_meets form s n rows rows' stop.NoMemory desk (inr written) = none_met de
 refused_rises : (form : Form) (first : ℕ) (s n : Moment) (rows rows' : List Served) (stop' : SessionStop) → s.faults ≡ first → RefusesHead form s n rows rows' stop'
     → RisesBy (end_of stop' 0) first n.faults
 refused_rises form first s n rows rows' stop' steady (inl wanted) = subst (λ (x : SessionStop). RisesBy (end_of x 0) first n.faults) (sym wanted.0) tt
-refused_rises form first s n rows rows' (stop.Closed w) steady (inr written) = tt
+refused_rises form first s n rows rows' (stop.Closed why.ByClient) steady (inr written) = absurd written.0
+refused_rises form first s n rows rows' (stop.Closed why.Last) steady (inr written) = absurd written.0
+refused_rises form first s n rows rows' (stop.Closed (why.Own code)) steady (inr written) = written.0.1.steady ∙ steady
+refused_rises form first s n rows rows' (stop.Closed why.Cut) steady (inr written) = absurd written.0
+refused_rises form first s n rows rows' (stop.Closed why.Unread) steady (inr written) = absurd written.0
 refused_rises form first s n rows rows' stop.ClientFault steady (inr written) = rose_since _ _ _ steady written.0.0
-refused_rises form first s n rows rows' stop.Truncated steady (inr written) = tt
+refused_rises form first s n rows rows' stop.Truncated steady (inr written) = absurd written.0
 refused_rises form first s n rows rows' (stop.Stray ticket returned_at) steady (inr written) = tt
 refused_rises form first s n rows rows' stop.NoMemory steady (inr written) = tt
 
@@ -115,6 +119,7 @@ pub record ReadsNoHead (s read : ClientStanding) (e : HeadError) : Type 0 where
   pub refused : IfRefused (Err e) (λ status form. (status ≡ status_of form) × Refuses read.inbox form)
   pub truncated : IsErrOf {T = HeadGot} (Err e) error.Truncated → EndsWithin read.inbox × IsEmpty read.client.incoming
   pub fault : IsErrOf {T = HeadGot} (Err e) error.Fault → Rose s.client.faults read.client.faults
+  pub awaited : IsErrOf {T = HeadGot} (Err e) error.Fault → IsDecided read.inbox → ⊥
   pub steady : IsCalm {T = HeadGot} (Err e) → read.client.faults ≡ s.client.faults
 
 stays : (s read : ClientStanding) (e : HeadError) → ReadsNoHead s read e → StopsReading s read
@@ -136,7 +141,8 @@ without_head v number s read n error.Truncated rows rows' stop' reads alone stop
     ends_there v number s read n rows rows' stop' stop.Truncated alone stops
     (inl (refl, refl, inl (record { within = cut.0; over = cut.1; unused = reads.unused; on = record { alone = reads.alone; sent = reads.sent; steady = reads.steady tt } })))
 without_head v number s read n error.Fault rows rows' stop' reads alone stops =
-    ends_there v number s read n rows rows' stop' stop.ClientFault alone stops (inl (refl, refl, reads.fault refl, inl (stays s read error.Fault reads)))
+    ends_there v number s read n rows rows' stop' stop.ClientFault alone stops
+    (inl (refl, refl, reads.fault refl, inl (record { stops = stays s read error.Fault reads; awaited = reads.awaited refl })))
 without_head v number s read n error.NoMemory rows rows' stop' reads alone stops =
     ends_there v number s read n rows rows' stop' stop.NoMemory alone stops (inl (refl, inl (stays s read error.NoMemory reads)))
 
@@ -151,7 +157,9 @@ pub rises_without_head : (s read : ClientStanding) (n : Moment) (e : HeadError) 
     → StopsWithoutHead e read.client n rows rows' stop' → RisesBy (end_of stop' 0) s.client.faults n.faults
 rises_without_head s read n (error.Refused status form) rows rows' stop' reads stops =
     refused_rises form s.client.faults read.client n rows rows' stop' (reads.steady tt) stops
-rises_without_head s read n error.Truncated rows rows' stop' reads stops = subst (λ (x : SessionStop). RisesBy (end_of x 0) s.client.faults n.faults) (sym stops.0) tt
+rises_without_head s read n error.Truncated rows rows' stop' reads stops =
+    subst (λ (x : SessionStop). RisesBy (end_of x 0) s.client.faults n.faults) (sym stops.0)
+    (ap (λ (m : Moment). m.faults) stops.1 ∙ reads.steady tt)
 rises_without_head s read n error.Fault rows rows' stop' reads stops =
     subst (λ (x : SessionStop). RisesBy (end_of x 0) s.client.faults n.faults) (sym stops.0)
     (subst (λ (m : Moment). Rose s.client.faults m.faults) (sym stops.1) (reads.fault refl))
@@ -235,15 +243,12 @@ pub ready_same : (v : Visit) (old new : DeskState) (beside beside' : Beside) →
 ready_same v old new beside beside' ready kept same =
     ready_again v old new beside beside' ready kept (ap (λ (b : Beside). b.sizes) same) (ap (λ (b : Beside). b.runs) same ∙ ready.idle)
 
-rose_on : (before mid now : ℕ) → before ≤ mid → Rose mid now → Rose before now
-rose_on before mid now more rose = omega (arith, more, rose)
-
-pub rises_on : (end : SessionEnd) (before mid now : ℕ) → before ≤ mid → RisesBy end mid now → RisesBy end before now
-rises_on (session_end.Closed requests why') before mid now more rises = tt
-rises_on (session_end.ClientFault requests) before mid now more rises = rose_on before mid now more rises
-rises_on (session_end.Truncated requests) before mid now more rises = tt
-rises_on (session_end.Stray ticket returned_at) before mid now more rises = tt
-rises_on session_end.NoMemory before mid now more rises = tt
+pub rises_on : (end : SessionEnd) (before mid now : ℕ) → mid ≡ before → RisesBy end mid now → RisesBy end before now
+rises_on (session_end.Closed requests why') before mid now same rises = rises ∙ same
+rises_on (session_end.ClientFault requests) before mid now same rises = rose_since before mid now same rises
+rises_on (session_end.Truncated requests) before mid now same rises = rises ∙ same
+rises_on (session_end.Stray ticket returned_at) before mid now same rises = tt
+rises_on session_end.NoMemory before mid now same rises = tt
 
 risen_by : (stop' : SessionStop) (count before now : ℕ) → RisesBy (end_of stop' 0) before now → RisesBy (end_of stop' count) before now
 risen_by (stop.Closed why') count before now rises = rises
@@ -252,10 +257,10 @@ risen_by stop.Truncated count before now rises = rises
 risen_by (stop.Stray ticket returned_at) count before now rises = rises
 risen_by stop.NoMemory count before now rises = rises
 
-pub risen_at_end : (stop' : SessionStop) (count : ℕ) (end : SessionEnd) (before mid now : ℕ) → end ≡ end_of stop' count → before ≤ mid
+pub risen_at_end : (stop' : SessionStop) (count : ℕ) (end : SessionEnd) (before mid now : ℕ) → end ≡ end_of stop' count → mid ≡ before
     → RisesBy (end_of stop' 0) mid now → RisesBy end before now
-risen_at_end stop' count end before mid now is more rises =
-    subst (λ (x : SessionEnd). RisesBy x before now) (sym is) (rises_on (end_of stop' count) before mid now more (risen_by stop' count mid now rises))
+risen_at_end stop' count end before mid now is same rises =
+    subst (λ (x : SessionEnd). RisesBy x before now) (sym is) (rises_on (end_of stop' count) before mid now same (risen_by stop' count mid now rises))
 
 -- the last request's turn, as the end of the session
 pub ended : (v : Visit) (number : ℕ) (s mid n : ClientStanding) (rows rows_mid rows_now : List Served) (stop' : SessionStop) (count : ℕ) (end : SessionEnd)

@@ -219,28 +219,29 @@ follows_meets answered.Whole false s n turn' old new turned met = finished_meets
 rose_later : (first before now : ℕ) → first ≤ before → Rose before now → Rose first now
 rose_later first before now more rose = omega (arith, more, rose)
 
-risen_unread : (why' : BodyFault) (s n : BodyMoment) (first : ℕ) → first ≤ s.client.faults → failed_of s.body ≡ None → MeetsFault s n Rest why'
+risen_unread : (why' : BodyFault) (s n : BodyMoment) (first : ℕ) → s.client.faults ≡ first → failed_of s.body ≡ None → MeetsFault s n Rest why'
     → RisesBy (end_of (stop_after why') 0) first n.client.faults
-risen_unread fault.Truncated s n first more going meets = tt
-risen_unread fault.BadChunk s n first more going meets = tt
-risen_unread fault.TooLong s n first more going meets = tt
-risen_unread fault.Fault s n first more going meets = rose_later _ _ _ more (meets.fault refl going)
-risen_unread fault.NoMemory s n first more going meets = tt
+risen_unread fault.Truncated s n first same going meets = meets.steady tt ∙ same
+risen_unread fault.BadChunk s n first same going meets = meets.steady tt ∙ same
+risen_unread fault.TooLong s n first same going meets = meets.steady tt ∙ same
+risen_unread fault.Fault s n first same going meets = rose_later _ _ _ (omega (arith, same)) (meets.fault refl going)
+risen_unread fault.NoMemory s n first same going meets = tt
 
-finished_rises : (s n : BodyMoment) (turn' : SessionTurn) (first : ℕ) → first ≤ s.client.faults → failed_of s.body ≡ None → Finishes s n turn'
+finished_rises : (s n : BodyMoment) (turn' : SessionTurn) (first : ℕ) → s.client.faults ≡ first → failed_of s.body ≡ None → Finishes s n turn'
     → RisesInTurn turn' first n.client.faults
-finished_rises s n turn.Next first more going finished = tt
-finished_rises s n (turn.EndsAfter stop') first more going finished =
-    subst (λ (x : SessionStop). RisesBy (end_of x 0) first n.client.faults) (sym finished.2) (risen_unread finished.0 s n first more going finished.1)
-finished_rises s n (turn.EndsAt stop') first more going finished = absurd finished
+finished_rises s n turn.Next first same going finished = finished.on.steady ∙ same
+finished_rises s n (turn.EndsAfter stop') first same going finished =
+    subst (λ (x : SessionStop). RisesBy (end_of x 0) first n.client.faults) (sym finished.2) (risen_unread finished.0 s n first same going finished.1)
+finished_rises s n (turn.EndsAt stop') first same going finished = absurd finished
 
-pub follows_rises : (a : Answered) (last : Bool) (s n : BodyMoment) (turn' : SessionTurn) (first : ℕ) → first ≤ s.client.faults → GoesOn a s.body
+pub follows_rises : (a : Answered) (last : Bool) (s n : BodyMoment) (turn' : SessionTurn) (first : ℕ) → GoesOn a s.body
     → TurnsAfter a last s n turn' → RisesInAnswer a first s.client.faults → RisesInTurn turn' first n.client.faults
-follows_rises (answered.Not stop') last s n turn' first more going turned rises =
+follows_rises (answered.Not stop') last s n turn' first going turned rises =
     subst (λ (x : SessionTurn). RisesInTurn x first n.client.faults) (sym turned.0)
     (subst (λ (m : BodyMoment). RisesInTurn (turn.EndsAt stop') first m.client.faults) (sym turned.1) rises)
-follows_rises answered.Whole true s n turn' first more going turned rises = subst (λ (x : SessionTurn). RisesInTurn x first n.client.faults) (sym turned.0) tt
-follows_rises answered.Whole false s n turn' first more going turned rises = finished_rises s n turn' first more going turned
+follows_rises answered.Whole true s n turn' first going turned rises =
+    subst (λ (x : SessionTurn). RisesInTurn x first n.client.faults) (sym turned.0) (ap (λ (m : BodyMoment). m.client.faults) turned.1 ∙ rises)
+follows_rises answered.Whole false s n turn' first going turned rises = finished_rises s n turn' first rises going turned
 
 or_right : (x y : Bool) → (x || y) ≡ false → y ≡ false
 or_right true y e = absurd (true≢false e)

@@ -16,7 +16,7 @@ use Rattle.status_page.specs.declared.page.PagePart.{PagePart}
 use Rattle.uri_map.specs.Mounts.{terms}
 use Rattle.ajp_talk.specs.declared.ending.Told.{Told}
 use Rattle.ajp_talk.specs.Moments.{IsUsed}
-use Rattle.exchange.specs.Clients.{Gives, MeetsAt}
+use Rattle.exchange.specs.Clients.{Gives, IsCalm, MeetsAt}
 use Rattle.exchange.specs.Complete.{Completes}
 use Rattle.exchange.specs.Exchanges.{IsExchange}
 use Rattle.exchange.specs.Requests.{Errand, errand, is_head}
@@ -84,6 +84,7 @@ pub record IsForwardedAt (v : Visit) (q : Errand) (s n : ClientStanding) (body b
   pub complete : Completes q (with_body s body) (with_body n body') end
   pub kept : IsDeskAfter q.lb q.session s.desk.state n.desk.state
   pub met : MeetsAt end s.desk.state n.desk.state
+  pub calm : IsCalm end → n.client.faults ≡ s.client.faults
   pub no_fewer : (s.reach.faults ≤ n.reach.faults) × (s.client.faults ≤ n.client.faults)
 
 -- the errand of a request for the balancer at this place

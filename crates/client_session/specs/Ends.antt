@@ -15,11 +15,11 @@ MeetsBy (session_end.Truncated requests) old new = MeetsNone old new
 MeetsBy (session_end.Stray ticket returned_at) old new = RisesByOne old.strays new.strays × (new.met ≡ true)
 MeetsBy session_end.NoMemory old new = MeetsNone old new
 
--- The client's faults rose where the session ended by one.
+-- The client's faults rose where the session ended by one, and stand where it was closed or the client's bytes ended.
 abbrev pub RisesBy : SessionEnd → (old new : ℕ) → Type 0
-RisesBy (session_end.Closed requests why) old new = Unit {0}
+RisesBy (session_end.Closed requests why) old new = new ≡ old
 RisesBy (session_end.ClientFault requests) old new = Rose old new
-RisesBy (session_end.Truncated requests) old new = Unit {0}
+RisesBy (session_end.Truncated requests) old new = new ≡ old
 RisesBy (session_end.Stray ticket returned_at) old new = Unit {0}
 RisesBy session_end.NoMemory old new = Unit {0}
 

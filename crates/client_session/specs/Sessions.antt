@@ -20,7 +20,7 @@ use Rattle.http_body_in.specs.declared.fault.BodyFault.{BodyFault}
 use Rattle.http_body_in.specs.declared.fault.BodyFault.TheVariants as fault
 use Rattle.client_session.specs.Answers.{IsAnswer, own_for, own_len}
 use Rattle.client_session.specs.Requests.{IsNewBody, Visit, is_last}
-use Rattle.client_session.specs.Standings.{IsBegun, IsClientAlone, IsReadOn, IsWritten, ClientStanding, StopsReading, unread_at}
+use Rattle.client_session.specs.Standings.{IsBegun, IsClientAlone, IsReadOn, IsWritten, ClientStanding, FailsReading, StopsReading, unread_at}
 use Rattle.client_session.specs.declared.ending.SessionEnd.{SessionEnd}
 use Rattle.client_session.specs.declared.ending.SessionEnd.TheVariants as session_end
 use Rattle.client_session.specs.declared.ending.SessionStop.{SessionStop}
@@ -141,7 +141,7 @@ EndsIn v number s n rows (session_end.Closed requests why.Unread) =
     (requests ≡ number + 1) × (IsUnread v number s n rows fault.BadChunk ⊎ IsUnread v number s n rows fault.TooLong)
 EndsIn v number s n rows (session_end.ClientFault requests) =
     ((requests ≡ number) × (rows ≡ []) × Rose s.client.faults n.client.faults
-    × (StopsReading s n ⊎ (IsRefusalBegun s n ⊎ IsStopped v number s n rows stop.ClientFault)))
+    × (FailsReading s n ⊎ (IsRefusalBegun s n ⊎ IsStopped v number s n rows stop.ClientFault)))
     ⊎ ((requests ≡ number + 1) × IsUnread v number s n rows fault.Fault)
 EndsIn v number s n rows (session_end.Truncated requests) =
     ((requests ≡ number) × (rows ≡ []) × (ReadsCut s n ⊎ IsStopped v number s n rows stop.Truncated))

@@ -5,6 +5,7 @@ use Rattle.jk_io.specs.Told.{appended, PutsFront}
 use Rattle.jk_io.specs.declared.reaching.Beside.{Beside}
 use Rattle.jk_io.specs.declared.reaching.Talk.{Talk}
 use Rattle.jk_io.specs.declared.traits.streams.Meanings.{Ghosts}
+use Rattle.http_front.specs.Request.{IsDecided}
 use Rattle.http_front.specs.Unread.{unread}
 use Rattle.http_body_in.specs.declared.body.BodyIn.{BodyIn}
 use Rattle.balancer_core.specs.Desks.{DeskState}
@@ -77,6 +78,11 @@ pub record StopsReading (s n : ClientStanding) : Type 0 where
   pub sent : n.client.sent ≡ s.client.sent
   pub unused : unread_at n ≡ unread_at s
   pub no_fewer : s.client.faults ≤ n.client.faults
+
+-- A read failed, and it was needed: the bytes that had come by then hold neither a head's end nor as many as a head may have.
+pub record FailsReading (s n : ClientStanding) : Type 0 where
+  pub stops : StopsReading s n
+  pub awaited : IsDecided n.inbox → ⊥
 
 -- ---- writing
 

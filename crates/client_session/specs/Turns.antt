@@ -25,7 +25,7 @@ MeetsInTurn (turn.EndsAfter stop) old new = MeetsBy (end_of stop 0) old new
 MeetsInTurn (turn.EndsAt stop) old new = MeetsBy (end_of stop 0) old new
 
 abbrev pub RisesInTurn : SessionTurn → (old new : ℕ) → Type 0
-RisesInTurn turn.Next old new = Unit {0}
+RisesInTurn turn.Next old new = new ≡ old
 RisesInTurn (turn.EndsAfter stop) old new = RisesBy (end_of stop 0) old new
 RisesInTurn (turn.EndsAt stop) old new = RisesBy (end_of stop 0) old new
 
@@ -34,7 +34,7 @@ MeetsInAnswer answered.Whole old new = MeetsNone old new
 MeetsInAnswer (answered.Not stop) old new = MeetsBy (end_of stop 0) old new
 
 abbrev pub RisesInAnswer : Answered → (old new : ℕ) → Type 0
-RisesInAnswer answered.Whole old new = Unit {0}
+RisesInAnswer answered.Whole old new = new ≡ old
 RisesInAnswer (answered.Not stop) old new = RisesBy (end_of stop 0) old new
 
 -- after a whole answer no call on the body had failed

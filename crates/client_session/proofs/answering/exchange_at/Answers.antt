@@ -11,6 +11,7 @@ returns-clause-forwarded g c = λ balancer there.
     forwarded_by _ _ _ _ _ _ _ _ _ _ _ (rw c.as_slice.ensures at c.terms-terms.ensures.value)
     did (c.exchange.ensures.client balancer there _ _ did) c.exchange.ensures.used
     (c.exchange.ensures.whole_once balancer there _ _ did) (c.exchange.ensures.complete balancer there _ _ did) c.exchange.ensures.kept c.exchange.ensures.met
+    c.exchange.ensures.calm
     c.exchange.ensures.no_fewer
 
 pub returns-clause-kept : goal.returns-clause-kept

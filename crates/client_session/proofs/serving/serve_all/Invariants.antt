@@ -1,5 +1,5 @@
 -- Requests were served, and the next one is to be read; at most 1,000 are.
-use Rattle.std.proofs.Common.{◌<◌, ◌-◌}
+use Rattle.std.proofs.Common.{◌≡◌, ◌<◌, ◌-◌}
 use Rattle.balancer_core.specs.Desks.{MeetsNone}
 use Rattle.client_session.specs.Keeping.{KeepsAround}
 use Rattle.client_session.specs.Requests.{visit_of}
@@ -15,6 +15,7 @@ invariant-loop-number g l = record {
       l.fn.rows.items l.rows.items;
   few : l.number < 1000;
   met : MeetsNone (g.B.Desk.state l.fn.around.desk.now) (g.B.Desk.state l.around.desk.now);
+  calm : g.C.Meanings.faults l.around.client.now ≡ g.C.Meanings.faults l.fn.around.client.now;
   kept : KeepsAround g.B.Desk.state g.R.Meanings g.C.Meanings (visit_of l.site) l.fn.around l.around;
 }
 

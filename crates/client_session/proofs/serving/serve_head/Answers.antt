@@ -41,7 +41,7 @@ returns-clause-told g c = record {
   met = follows_meets c.answer-answered.result.answered c.is_last-last.result (body_at c.answer-answered.new.body c.answer-answered.new.around.inbox.now (client_at g.C.Meanings c.answer-answered.new.around.client.now))
       (body_at c.turn_after.new.body c.turn_after.new.inbox (client_at g.C.Meanings c.turn_after.new.client)) c.turn_after.result _ _ c.turn_after.ensures.turned c.answer-answered.ensures.told.met;
   fault = follows_rises c.answer-answered.result.answered c.is_last-last.result (body_at c.answer-answered.new.body c.answer-answered.new.around.inbox.now (client_at g.C.Meanings c.answer-answered.new.around.client.now))
-      (body_at c.turn_after.new.body c.turn_after.new.inbox (client_at g.C.Meanings c.turn_after.new.client)) c.turn_after.result _ c.answer-answered.ensures.kept.client_faults c.answer-answered.ensures.going
+      (body_at c.turn_after.new.body c.turn_after.new.inbox (client_at g.C.Meanings c.turn_after.new.client)) c.turn_after.result _ c.answer-answered.ensures.going
       c.turn_after.ensures.turned c.answer-answered.ensures.told.fault;
 }
 

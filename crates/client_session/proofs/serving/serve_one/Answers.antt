@@ -44,6 +44,7 @@ returns-in-Err-clause-turn g c =
       refused = c.in-Err.ensures.refused;
       truncated = c.in-Err.ensures.truncated;
       fault = c.in-Err.ensures.fault;
+      awaited = c.in-Err.ensures.awaited;
       steady = c.in-Err.ensures.steady;
     })
     refl c.stop_without_head.ensures.stops
@@ -77,7 +78,7 @@ returns-in-Ok-Head-clause-kept g c =
     c.serve_head.ensures.kept
 
 pub returns-in-Ok-End-clause-told : goal.returns-in-Ok-End-clause-told
-returns-in-Ok-End-clause-told g c = record { met = none_met _; fault = tt }
+returns-in-Ok-End-clause-told g c = record { met = none_met _; fault = c.in-Ok-End.ensures.steady tt }
 
 pub returns-in-Ok-End-clause-kept : goal.returns-in-Ok-End-clause-kept
 returns-in-Ok-End-clause-kept g c =
@@ -99,6 +100,7 @@ returns-in-Err-clause-told g c = record {
         refused = c.in-Err.ensures.refused;
         truncated = c.in-Err.ensures.truncated;
         fault = c.in-Err.ensures.fault;
+        awaited = c.in-Err.ensures.awaited;
         steady = c.in-Err.ensures.steady;
       })
       c.stop_without_head.ensures.stops;
