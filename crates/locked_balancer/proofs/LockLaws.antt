@@ -98,7 +98,7 @@ sited_within sizes firsts books lb are within =
     omega arith
 
 -- A journal that was cut is short.
-after_cut : (books books' : List Journal) (lb : ℕ) (cut : ℕ × Segment) (is : CutsAt books books' lb cut) → slice_get books' lb ≡ Some is.after
+pub after_cut : (books books' : List Journal) (lb : ℕ) (cut : ℕ × Segment) (is : CutsAt books books' lb cut) → slice_get books' lb ≡ Some is.after
 after_cut books books' lb cut is =
     ap (λ (xs : List Journal). slice_get xs lb) is.others ∙ get-set books lb is.after (slice_get_within books lb is.book is.found)
 

@@ -1,9 +1,9 @@
 -- What a hold of the lock is for the desk that has it.
 use Rattle.std.proofs.Common.{◌≡◌, ℕ, zero, suc, ◌+◌, ◌^◌, ◌<◌, ◌≤◌, Bool, true, false, not, List, [], ◌∷◌, ◌++◌, length, take, drop, get_or, Option, Some, None, refl, sym, ap, ◌∙◌, subst, inl, inr, arith}
-use Rattle.std.specs.Prelude.{◌&&◌, IfErr, IfOk, IfSome, OnErr, OnOk, Result, Ok, Err, slice_index}
+use Rattle.std.specs.Prelude.{◌&&◌, IfErr, IfOk, IfSome, OnErr, OnOk, Result, Ok, Err, reverse, slice_get, slice_index}
 use Rattle.std.specs.List.{AllByRecursion as ByRecursion}
 use Rattle.std.proofs.lemmas.Bool.{cases_Bool}
-use Rattle.std.proofs.lemmas.List.{append-nil, drop_all, length-append}
+use Rattle.std.proofs.lemmas.List.{append-nil, drop_all, length-append, length-reverse}
 use Rattle.std.proofs.lemmas.List.Elements.{All-append, All-from_recursion, All-nil, recursion_from_All}
 use Rattle.jk_model.specs.Present.{IsPresent}
 use Rattle.jk_model.specs.declared.ask.Ask.{Ask}
@@ -11,24 +11,27 @@ use Rattle.jk_model.specs.declared.change.Command.{Command}
 use Rattle.jk_model.specs.declared.journal.Call.TheVariants as call
 use Rattle.jk_model.specs.declared.journal.Entry.{Entry}
 use Rattle.jk_model.specs.declared.journal.Outcome.{Outcome}
+use Rattle.jk_model.specs.declared.opening.Opening.{Opening}
 use Rattle.jk_model.specs.declared.refusal.AdminError.{AdminError}
 use Rattle.jk_model.specs.declared.refusal.AdminError.TheVariants as admin
 use Rattle.jk_model.specs.declared.refusal.RoomError.{RoomError}
 use Rattle.jk_model.specs.declared.refusal.RoomError.TheVariants as room
 use Rattle.jk_model.specs.declared.segment.Segment.{Segment}
 use Rattle.balancer_core.specs.Desks.{Chooses, Commands, DeskState, KeepsDesk, RefusesChoice, RefusesCommand, Gains, GainsDue, GainsLast, IsAskRefusal, IsChoice, IsCommandRefusal, IsDue, IsOwn, LeaseNote, Shows, TakesBack, holds, is_pair, without_last}
-use Rattle.balancer_core.specs.Journal.{Journal, past_of}
-use Rattle.balancer_core.specs.ToldBooks.{AreSound, Follows, IsFound}
+use Rattle.balancer_core.specs.Journal.{Journal, next_number, past_of}
+use Rattle.balancer_core.specs.ToldBooks.{AreNextAt, AreSound, Follows, IsFound}
 use Rattle.balancer_core.specs.declared.desk.Choice.{Choice}
 use Rattle.balancer_core.specs.declared.desk.Choice.TheVariants as choice
 use Rattle.balancer_core.specs.declared.receipt.Receipt.{Receipt}
 use Rattle.balancer_core.proofs.PlainLaws.{pair_is}
+use Rattle.balancer_core.proofs.ToldLaws.{some_is}
 use Rattle.locked_balancer.specs.Holds.{CutsFirst, HeldState, HoldChooses, HoldCommands, HoldGains, HoldDenies, HoldGainsDue, HoldGainsLast, HoldRefuses, IsHoldChoice, held}
 use Rattle.locked_balancer.specs.Notes.{MarkNote, ViewNote}
+use Rattle.locked_balancer.specs.Shelves.{CutsAt}
 use Rattle.locked_balancer.specs.Sites.{AreSited}
 use Rattle.locked_balancer.proofs.HoldLaws.{sited_found}
-use Rattle.locked_balancer.proofs.LockLaws.{returned as returned_done}
-use Rattle.locked_balancer.specs.SharedDesks.{AreKnown, CountsFull, CountsRefusal, IsShared, pairs_of, shared_desk}
+use Rattle.locked_balancer.proofs.LockLaws.{after_cut, returned as returned_done}
+use Rattle.locked_balancer.specs.SharedDesks.{AreKnown, CountsFull, CountsRefusal, GoesOnFrom, IsShared, pairs_of, shared_desk}
 
 pub none_sound : (sizes : List ℕ) → AreSound sizes None
 none_sound sizes = record {
@@ -277,6 +280,34 @@ gained_due old new lb session at due is gains =
     let one : length due ≤ 1 = due_length due is in
     (due, gains.receipts, gains.amount, omega arith)
 
+-- The entry that comes first after a cut has the number that comes after the segment's.
+first_gained : (rs : List Receipt) (x : Receipt) (rest : List Receipt) → slice_get (rs ++ x ∷ rest) (length rs) ≡ Some x
+first_gained [] x rest = refl
+first_gained (y ∷ rs) x rest = first_gained rs x rest
+
+none_gained : (rs : List Receipt) (r : Receipt) → slice_get (rs ++ []) (length rs) ≡ Some r → ⊥
+none_gained [] r is = absurd cc
+none_gained (y ∷ rs) r is = none_gained rs r is
+
+number_after : (rs gained : List Receipt) (b : Journal) (at n : ℕ) → AreNextAt b at gained → next_number b ≡ n
+    → (r : Receipt) → slice_get (rs ++ gained) (length rs) ≡ Some r → r.entry.seq ≡ n
+number_after rs [] b at n next is r found = absurd (none_gained rs r found)
+number_after rs (x ∷ rest) b at n next is r found =
+    let same : x ≡ r = some_is x r (sym (first_gained rs x rest) ∙ found) in
+    sym (ap (λ (q : Receipt). q.entry.seq) same) ∙ (next.0.next.number ∙ is)
+
+goes_on_from : (before mid : List Journal) (lb : ℕ) (cut : ℕ × Segment) (rs rs' gained : List Receipt) (b : Journal) (at : ℕ) → CutsAt before mid lb cut
+    → slice_get mid lb ≡ Some b → AreNextAt b at gained → rs' ≡ rs ++ gained → GoesOnFrom cut.1 rs rs'
+goes_on_from before mid lb cut rs rs' gained b at is found next receipts =
+    let same : is.after ≡ b = some_is is.after b (sym (after_cut before mid lb cut is) ∙ found) in
+    let turned : length (reverse is.book.entries) ≡ length is.book.entries = length-reverse is.book.entries in
+    let opens : cut.1.opening.next ≡ is.book.opening.next = ap (λ (o : Opening). o.next) is.whole.opening in
+    let counts : length cut.1.entries ≡ length is.book.entries = ap (λ (es : List Entry). length es) is.whole.entries in
+    let last : next_number is.book ≡ cut.1.opening.next + length cut.1.entries = omega (arith, turned, opens, counts) in
+    let number : next_number b ≡ cut.1.opening.next + length cut.1.entries = sym (ap (λ (x : Journal). next_number x) same) ∙ (is.is_cut.next ∙ last) in
+    λ r there. number_after rs gained b at (cut.1.opening.next + length cut.1.entries) next number r
+    (sym (ap (λ (xs : List Receipt). slice_get xs (length rs)) receipts) ∙ there)
+
 module _ (sizes firsts : List ℕ) (before after : List Journal) (cut : Option (ℕ × Segment)) (rs rs' : List Receipt) (a a' : ℕ) (lb session at : ℕ) where
   -- What the locked value's choice says, and its command.
   abbrev pub ChoseOk : Ask → Choice LeaseNote → Type 0
@@ -310,6 +341,21 @@ module _ (sizes firsts : List ℕ) (before after : List Journal) (cut : Option (
   pub cut_command : {T : Type 0} (command : Command) (r : Result T (AdminError MarkNote)) → OnOk r (DidOk command) → IfErr r (λ e. DidErr command e) → IfSome cut (λ x. x.0 ≡ lb)
   cut_command command (Ok c) ok err = cut_first ok.0 cut ok.1
   cut_command command (Err e) ok err = cut_first err.0 cut err.1
+
+  next_first : (mid : List Journal) (c : Option (ℕ × Segment)) (gained : List Receipt) → CutsFirst before mid lb c
+      → HoldGains (held mid rs a) (held after rs' a') lb session at gained → IfSome c (λ x. GoesOnFrom x.1 rs rs')
+  next_first mid None gained is gains = tt
+  next_first mid (Some x) gained is gains = goes_on_from before mid lb x rs rs' gained gains.book at is gains.found gains.next gains.receipts
+
+  pub next_choose : (ask : Ask) (r : Result (Choice LeaseNote) (RoomError MarkNote)) → IfOk r (λ c. ChoseOk ask c) → IfErr r (λ e. ChoseErr e)
+      → IfSome cut (λ x. GoesOnFrom x.1 rs rs')
+  next_choose ask (Ok c) ok err = next_first ok.0 cut (ok.3.gains.due ++ ok.3.last ∷ []) ok.1 ok.3.gains.gains
+  next_choose ask (Err e) ok err = next_first err.0 cut err.3.due err.1 err.3.gains
+
+  pub next_command : {T : Type 0} (command : Command) (r : Result T (AdminError MarkNote)) → OnOk r (DidOk command) → IfErr r (λ e. DidErr command e)
+      → IfSome cut (λ x. GoesOnFrom x.1 rs rs')
+  next_command command (Ok c) ok err = next_first ok.0 cut (ok.3.gains.due ++ ok.3.last ∷ []) ok.1 ok.3.gains.gains
+  next_command command (Err e) ok err = next_first err.0 cut err.3.due err.1 err.3.gains
 
   module _ (parts parts' : ℕ) (h h' : List (ℕ × ℕ)) where
     pub ok_choose : (ask : Ask) (r : Result (Choice LeaseNote) (RoomError MarkNote)) → parts' ≡ parts → IfOk r (λ c. ChoseOk ask c) → IfOk r (λ c. h' ≡ h ++ pairs_of lb c)

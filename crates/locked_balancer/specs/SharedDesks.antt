@@ -1,5 +1,5 @@
 -- What is told of a desk over a Site that is shared, and what it keeps.
-use Rattle.std.specs.Prelude.{◌≡◌, ℕ, suc, true, false, drop, slice_index_or, ◌+◌, ◌<◌, ◌≤◌, ◌⊎◌, ◌↔◌, Bool, List, [], ◌∷◌, length, Option, Some, None, IfSome, IsSome, Result, Ok, Err}
+use Rattle.std.specs.Prelude.{◌≡◌, ℕ, suc, true, false, drop, slice_get, slice_index_or, ◌+◌, ◌<◌, ◌≤◌, ◌⊎◌, ◌↔◌, Bool, List, [], ◌∷◌, length, Option, Some, None, IfSome, IsSome, Result, Ok, Err}
 use Rattle.std.specs.List.{All}
 use Rattle.jk_io.specs.Told.{Rose, appended}
 use Rattle.jk_model.specs.Legal.{IsLegal}
@@ -48,10 +48,18 @@ pairs_of lb (choice.Chosen m lease) = (lb, lease.ticket) ∷ []
 pairs_of lb choice.NoMember = []
 pairs_of lb choice.Forced = []
 
--- Where a segment that was cut went: it was kept, or the shelf failed, or it wanted memory, which is counted.
+-- A shelf failed, or wanted memory: the one count rose, and the other stands.
+abbrev pub FailsOnce : (faults faults' wants wants' : ℕ) → Type 0
+FailsOnce faults faults' wants wants' = Rose faults faults' × (wants' ≡ wants)
+
+abbrev pub WantsOnce : (faults faults' wants wants' : ℕ) → Type 0
+WantsOnce faults faults' wants wants' = (faults' ≡ faults) × RisesByOne wants wants'
+
+-- Where a segment that was cut went: it was kept, or the shelf failed, or it wanted memory, which is counted. Only the
+-- count of what came to pass rises.
 pub record IsPutAway {S : Type 0} (shelved : S → Option (List (ℕ × Segment))) (faults : S → ℕ) (old new : S) (wants wants' : ℕ) (cut : ℕ × Segment) : Type 0 where
-  pub went : ((shelved new ≡ appended (shelved old) (cut ∷ [])) × (wants' ≡ wants))
-      ⊎ ((shelved new ≡ shelved old) × ((Rose (faults old) (faults new) × (wants' ≡ wants)) ⊎ RisesByOne wants wants'))
+  pub went : ((shelved new ≡ appended (shelved old) (cut ∷ [])) × (faults new ≡ faults old) × (wants' ≡ wants))
+      ⊎ ((shelved new ≡ shelved old) × (FailsOnce (faults old) (faults new) wants wants' ⊎ WantsOnce (faults old) (faults new) wants wants'))
   pub no_fewer : faults old ≤ faults new
 
 abbrev pub PutsAway : {S : Type 0} → (S → Option (List (ℕ × Segment))) → (S → ℕ) → (old new : S) → (wants wants' : ℕ) → Option (ℕ × Segment) → Type 0
@@ -70,11 +78,16 @@ pub record CutsWhen (sizes : List ℕ) (cut_at lb : ℕ) (cut : Option (ℕ × S
 abbrev pub CutsOrWants : (sizes : List ℕ) → (cut_at lb : ℕ) → Option (ℕ × Segment) → (Wanting : Type 0) → Type 0
 CutsOrWants sizes cut_at lb cut Wanting = CutsWhen sizes cut_at lb cut ⊎ ((cut ≡ None) × Wanting)
 
+-- The first entry that was added after these receipts, if one was, has the number that comes after the segment's.
+abbrev pub GoesOnFrom : Segment → (old new : List Receipt) → Type 0
+GoesOnFrom s old new = (r : Receipt) → slice_get new (length old) ≡ Some r → r.entry.seq ≡ s.opening.next + length s.entries
+
 -- At most one segment of balancer lb was put away, and nothing else changed beside what each desk tells.
 pub record PutsAwayOf {S : Type 0} (shelved : S → Option (List (ℕ × Segment))) (faults : S → ℕ) (sizes : List ℕ) (cut_at lb : ℕ) (old new : SharedState S) (Wanting : Type 0) : Type 0 where
   pub cut : Option (ℕ × Segment)
   pub of : IfSome cut (λ s. s.0 ≡ lb)
   pub when : CutsOrWants sizes cut_at lb cut Wanting
+  pub next : IfSome cut (λ s. GoesOnFrom s.1 old.desk.receipts new.desk.receipts)
   pub put : PutsAway shelved faults old.shelf new.shelf old.wants new.wants cut
   pub forgotten : new.forgotten ≡ old.forgotten
   pub met : new.met ≡ old.met

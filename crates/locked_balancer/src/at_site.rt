@@ -5,7 +5,7 @@ ghost use Rattle.balancer_core.specs.Journal.{Journal, past_of};
 ghost use Rattle.balancer_core.specs.ToldBooks.{IsFound};
 ghost use Rattle.balancer_core.specs.Desks.{IsNotOut, is_pair, without_last};
 ghost use Rattle.locked_balancer.specs.Holds.{IsAdminMark, IsRoomMark};
-ghost use Rattle.locked_balancer.specs.SharedDesks.{CutsOrWants, IsLastPlace, pairs_of};
+ghost use Rattle.locked_balancer.specs.SharedDesks.{CutsOrWants, GoesOnFrom, IsLastPlace, pairs_of};
 ghost use Rattle.locked_balancer.specs.SharedLists.{
   KeepsLists,
   ListsChoose,
@@ -49,6 +49,7 @@ pub(crate) fn choose_at<'r, L: SiteName, R: Wait>(
     ensures mark { IfErr result.1 (IsRoomMark on.lb 2) }
     ensures when { CutsOrWants L.sizes L.cut_at on.lb result.0 (IsErrOf result.1 RoomError.NoMemory) }
     ensures cut { IfSome result.0 (λ s. s.0 ≡ on.lb) }
+    ensures next { IfSome result.0 (λ s. GoesOnFrom s.1 receipts.old.items receipts.new.items) }
     ensures parts { share.new.parts ≡ share.old.parts }
 {
     match take_room(receipts, held) {
@@ -111,6 +112,7 @@ pub(crate) fn command_at<'r, L: SiteName, R: Wait>(
     ensures mark { IfErr result.1 (IsAdminMark on.lb) }
     ensures when { CutsOrWants L.sizes L.cut_at on.lb result.0 (IsErrOf result.1 AdminError.NoMemory) }
     ensures cut { IfSome result.0 (λ s. s.0 ≡ on.lb) }
+    ensures next { IfSome result.0 (λ s. GoesOnFrom s.1 receipts.old.items receipts.new.items) }
     ensures parts { share.new.parts ≡ share.old.parts }
 {
     match receipts.reserve(held.len() + 2) {

@@ -62,9 +62,12 @@ impl Shelf for MemShelf {
         ensures kept { OnOk result (Some self.new.kept ≡ appended (Some self.old.kept) ((lb, segment) ∷ [])) }
         ensures refused { OnErr result (Some self.new.kept ≡ Some self.old.kept) }
         ensures cause { HasCause self.old.faults self.new.faults result }
+        ensures stands { OnOk result (self.new.faults ≡ self.old.faults) }
+        ensures wanted { IsErrOf result IoError.NoMemory → self.new.faults ≡ self.old.faults }
 
-        // A call fails exactly where it was to fail.
+        // A call fails exactly where it was to fail, and counts as one fault.
         ensures planned { IsErrOf result IoError.Failed ↔ Contains self.old.failing self.old.calls }
+        ensures one { IsErrOf result IoError.Failed → self.new.faults ≡ min (self.old.faults + 1) (2 ^ 64 - 1) }
         ensures calls { self.new.calls ≡ min (self.old.calls + 1) (2 ^ 64 - 1) }
         ensures steady { self.old.failing ≡ [] → self.new.faults ≡ self.old.faults }
         ensures same { self.new.failing ≡ self.old.failing }

@@ -1,5 +1,5 @@
 //! Shelves of the real world: files in a directory, or none.
-ghost use Rattle.std.specs.Prelude.{◌≡◌, ◌≤◌, true, false, Ok, Err};
+ghost use Rattle.std.specs.Prelude.{◌≡◌, ◌≤◌, true, false, Ok, Err, IsErrOf, OnOk};
 ghost use Rattle.jk_io.specs.Told.{HasCause};
 
 use crate::journal_files::{SegmentFile, segment_file};
@@ -47,6 +47,8 @@ impl<'r, R: Files> FileShelf<'r, R> {
         ensures written { written ≡ true → result ≡ Ok tt }
         ensures failed { written ≡ false → result ≡ Err IoError.Failed }
         ensures cause { HasCause self.old.failed self.new.failed result }
+        ensures stands { OnOk result (self.new.failed ≡ self.old.failed) }
+        ensures wanted { IsErrOf result IoError.NoMemory → self.new.failed ≡ self.old.failed }
     {
         if written {
             return Ok(());
@@ -58,6 +60,8 @@ impl<'r, R: Files> FileShelf<'r, R> {
     // Writes the file of a segment, and counts where that wasn't done.
     fn keep_file(&mut self, lb: u32, segment: &Segment) -> Result<(), IoError>
         ensures cause { HasCause self.old.failed self.new.failed result }
+        ensures stands { OnOk result (self.new.failed ≡ self.old.failed) }
+        ensures wanted { IsErrOf result IoError.NoMemory → self.new.failed ≡ self.old.failed }
     {
         let written = self.write(lb, segment)?;
         self.answer(written)

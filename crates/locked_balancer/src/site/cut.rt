@@ -23,14 +23,17 @@ impl<L> Model for SiteSegment<L> {
 }
 
 impl<L> SiteSegment<L> {
-    ghost use Rattle.std.specs.Prelude.{◌≡◌, [], ◌∷◌, OnErr, OnOk};
+    ghost use Rattle.std.specs.Prelude.{◌≡◌, [], ◌∷◌, IsErrOf, OnErr, OnOk};
     ghost use Rattle.jk_io.specs.Told.{HasCause, appended};
+    ghost use Rattle.jk_io.specs.declared.failures.IoError.{IoError};
 
     /// Puts the segment on a shelf, by one `keep` of it there, whose answer this is.
     pub fn keep_in<S: Shelf>(self, shelf: &mut S) -> Result<(), IoError>
         ensures kept { OnOk result (S.shelved shelf.new ≡ appended (S.shelved shelf.old) (self ∷ [])) }
         ensures refused { OnErr result (S.shelved shelf.new ≡ S.shelved shelf.old) }
         ensures cause { HasCause (S.faults shelf.old) (S.faults shelf.new) result }
+        ensures stands { OnOk result (S.faults shelf.new ≡ S.faults shelf.old) }
+        ensures wanted { IsErrOf result IoError.NoMemory → S.faults shelf.new ≡ S.faults shelf.old }
     {
         let SiteSegment { lb, segment, of: _ } = self;
         shelf.keep(lb, segment)

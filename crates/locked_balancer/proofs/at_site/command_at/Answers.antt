@@ -2,7 +2,7 @@
 use Rattle.std.proofs.Common.{◌+◌, ◌≤◌, List, length, refl, subst, arith}
 use Rattle.std.specs.Prelude.{IfErr, OnOk, vec_capacity}
 use Rattle.balancer_core.specs.declared.receipt.Receipt.{Receipt}
-use Rattle.locked_balancer.proofs.SharedLaws.{DidErr, DidOk, cut_command, err_command, gained_command, kept_command, none_desk, ok_command, shared_none}
+use Rattle.locked_balancer.proofs.SharedLaws.{DidErr, DidOk, cut_command, err_command, gained_command, kept_command, next_command, none_desk, ok_command, shared_none}
 use Rattle.locked_balancer.proofs.at_site.command_at.Goals as goal
 
 pub returns-in-Err-clause-kept : goal.returns-in-Err-clause-kept
@@ -42,3 +42,9 @@ returns-clause-cut g c =
     let ok = subst (λ (rs : List Receipt). OnOk c.command.result.1 (DidOk g.L.SiteName.sizes g.L.SiteName.firsts c.deref_mut.result.now.books c.command.new.self.books c.command.result.0 rs c.command.new.receipts.items c.args.share.now.amount c.command.new.share.amount c.args.on.lb c.args.on.session c.args.on.at c.args.command.now)) c.reserve.ensures.items c.command.ensures.ok in
     let err = subst (λ (rs : List Receipt). IfErr c.command.result.1 (λ e. DidErr g.L.SiteName.sizes g.L.SiteName.firsts c.deref_mut.result.now.books c.command.new.self.books c.command.result.0 rs c.command.new.receipts.items c.args.share.now.amount c.command.new.share.amount c.args.on.lb c.args.on.session c.args.on.at c.args.command.now e)) c.reserve.ensures.items c.command.ensures.err in
     cut_command g.L.SiteName.sizes g.L.SiteName.firsts c.deref_mut.result.now.books c.command.new.self.books c.command.result.0 c.args.receipts.now.items c.command.new.receipts.items c.args.share.now.amount c.command.new.share.amount c.args.on.lb c.args.on.session c.args.on.at c.args.command.now c.command.result.1 ok err
+
+pub returns-clause-next : goal.returns-clause-next
+returns-clause-next g c =
+    let ok = subst (λ (rs : List Receipt). OnOk c.command.result.1 (DidOk g.L.SiteName.sizes g.L.SiteName.firsts c.deref_mut.result.now.books c.command.new.self.books c.command.result.0 rs c.command.new.receipts.items c.args.share.now.amount c.command.new.share.amount c.args.on.lb c.args.on.session c.args.on.at c.args.command.now)) c.reserve.ensures.items c.command.ensures.ok in
+    let err = subst (λ (rs : List Receipt). IfErr c.command.result.1 (λ e. DidErr g.L.SiteName.sizes g.L.SiteName.firsts c.deref_mut.result.now.books c.command.new.self.books c.command.result.0 rs c.command.new.receipts.items c.args.share.now.amount c.command.new.share.amount c.args.on.lb c.args.on.session c.args.on.at c.args.command.now e)) c.reserve.ensures.items c.command.ensures.err in
+    next_command g.L.SiteName.sizes g.L.SiteName.firsts c.deref_mut.result.now.books c.command.new.self.books c.command.result.0 c.args.receipts.now.items c.command.new.receipts.items c.args.share.now.amount c.command.new.share.amount c.args.on.lb c.args.on.session c.args.on.at c.args.command.now c.command.result.1 ok err

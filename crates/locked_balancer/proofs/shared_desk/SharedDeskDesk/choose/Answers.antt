@@ -34,6 +34,7 @@ returns-clause-shelf g c =
       cut = c.choose_at-segment.result.0;
       of = c.choose_at-segment.ensures.cut;
       when = c.choose_at-segment.ensures.when;
+      next = c.choose_at-segment.ensures.next;
       put = c.put_away.ensures;
       forgotten = refl;
       met = refl;

@@ -40,6 +40,7 @@ returns-clause-shelf g c =
       cut = c.command_at-segment.result.0;
       of = c.command_at-segment.ensures.cut;
       when = c.command_at-segment.ensures.when;
+      next = c.command_at-segment.ensures.next;
       put = c.put_away.ensures;
       forgotten = refl;
       met = refl;
