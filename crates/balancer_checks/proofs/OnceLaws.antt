@@ -1,4 +1,6 @@
 -- What two calls of a desk come to.
+use Rattle.std.specs.List.{All}
+use Rattle.std.proofs.lemmas.List.Elements.{All-head, All-tail}
 use Rattle.std.proofs.Common.{◌≡◌, ℕ, ◌+◌, ◌≤◌, true, List, [], ◌∷◌, ◌++◌, length, refl, sym, ap, ◌∙◌, subst, arith, append_assoc, length-append, slice_index, false, ◌<◌}
 use Rattle.jk_model.specs.Free.{is_in}
 use Rattle.jk_model.specs.declared.ask.Ask.{Ask}
@@ -9,7 +11,7 @@ use Rattle.jk_model.specs.declared.refusal.RoomError.{RoomError}
 use Rattle.jk_model.specs.declared.refusal.FullMark.{FullMark}
 use Rattle.jk_model.specs.declared.refusal.Stray.{Stray}
 use Rattle.jk_model.specs.declared.view.View.{View}
-use Rattle.balancer_core.specs.Desks.{Chooses, Commands, DeskState, Gains, KeepsDesk, LeaseNote, MeetsStray, RefusesChoice, RisesByOne, Shows, TakesBack}
+use Rattle.balancer_core.specs.Desks.{Chooses, Commands, DeskState, Gains, IsOwn, KeepsDesk, LeaseNote, MeetsStray, RefusesChoice, RisesByOne, Shows, TakesBack}
 use Rattle.balancer_core.specs.declared.desk.Choice.TheVariants as choice
 use Rattle.balancer_core.specs.declared.receipt.Receipt.{Receipt}
 use Rattle.balancer_checks.specs.Once.{Ends, GainsAsMany, Returns}
@@ -44,16 +46,25 @@ keeps_twice old mid new first second = record {
 two_more : (old mid new due : List Receipt) (a b : Receipt) → mid ≡ old ++ (due ++ a ∷ []) → new ≡ mid ++ b ∷ [] → new ≡ (old ++ due) ++ a ∷ b ∷ []
 two_more old mid new due a b first second = second ∙ rw first (simp append_assoc)
 
+last_own : (P : Receipt → Type 0) (rs : List Receipt) (r : Receipt) → All P (rs ++ r ∷ []) → P r
+last_own P [] r all = All-head P r [] all
+last_own P (x ∷ rs) r all = last_own P rs r (All-tail P x (rs ++ r ∷ []) all)
+
 pub ends_returned : {T : Type 0} (note : T → LeaseNote) (old mid new : DeskState) (lb session at : ℕ) (ask : Ask) (outcome : Outcome) (m : ℕ) (lease : T)
     → Chooses note old mid lb session at ask (choice.Chosen m lease) → TakesBack mid new session at (note lease) outcome
-    → Returns old new lb ask outcome × (m < slice_index old.sizes lb) × (is_in ask.tried m ≡ false)
+    → Returns old new lb ask outcome m × (m < slice_index old.sizes lb) × (is_in ask.tried m ≡ false)
 ends_returned note old mid new lb session at ask outcome m lease chose back =
-    let returns : Returns old new lb ask outcome = record {
+    let returns : Returns old new lb ask outcome m = record {
       before = chose.gains.due;
       chosen = chose.last;
       back = back.last;
       gained = two_more _ _ _ chose.gains.due chose.last back.last chose.gains.gains.receipts back.gains.receipts;
+      balancer = (
+        (last_own (IsOwn lb session at) chose.gains.due chose.last chose.gains.gains.own).balancer,
+        (All-head (IsOwn (note lease).lb session at) back.last [] back.gains.own).balancer ∙ ap (λ (n : LeaseNote). n.lb) chose.answered.3,
+      );
       asked = chose.asked;
+      answered = (chose.answered.0, chose.answered.1, chose.answered.2);
       returned = back.returned ∙ ap (λ (n : LeaseNote). call.Return n.ticket outcome) chose.answered.3;
       done = back.done;
     } in (returns, chose.answered.5, chose.answered.6)

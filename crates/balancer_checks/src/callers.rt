@@ -1,7 +1,7 @@
 //! Small callers of a desk, proved from its trait alone.
-ghost use Rattle.std.specs.Prelude.{◌≡◌, ◌+◌, ◌<◌, ◌≤◌, true, length, IfSome, IfOk, IfErr, OnOk, OnErr};
-ghost use Rattle.balancer_core.specs.Desks.{Commands, DeskState, KeepsDesk, Shows};
-ghost use Rattle.balancer_checks.specs.Once.{Ends, GainsAsMany, IsUpToDate, LeavesNoneDue};
+ghost use Rattle.std.specs.Prelude.{◌≡◌, ◌+◌, ◌<◌, ◌≤◌, ◌⊎◌, true, length, IfSome, IfOk, IfErr, OnOk, OnErr};
+ghost use Rattle.balancer_core.specs.Desks.{Commands, DeskState, KeepsDesk, RefusesChoice, RefusesCommand, Shows};
+ghost use Rattle.balancer_checks.specs.Once.{Ends, GainsAsMany, IsUpToDate, LeavesNoneDue, WhereRefused};
 ghost use Rattle.jk_model.specs.declared.journal.TheConstants.{MOST_BYTES};
 
 use balancer_core::Desk;
@@ -32,6 +32,7 @@ pub fn one_exchange<D: Desk>(
     requires bytes { outcome.bytes ≤ MOST_BYTES }
     ensures held { (D.state desk.new).held ≡ (D.state desk.old).held }
     ensures ends { Ends (D.state desk.old) (D.state desk.new) lb ask.now outcome result }
+    ensures refused { WhereRefused result (RefusesChoice D.numbers (D.state desk.old) (D.state desk.new) lb session at) }
     ensures due { LeavesNoneDue (D.state desk.new) lb at result }
     ensures added { GainsAsMany (D.state desk.old) (D.state desk.new) }
     ensures kept { KeepsDesk (D.state desk.old) (D.state desk.new) }
@@ -60,6 +61,10 @@ pub fn change_and_look<D: Desk>(
     requires caller { IfSome (D.state desk.old).caller (λ n. session ≡ n) }
     ensures page { IfOk result (λ shown. Commands (D.state desk.old) (D.state desk.new) lb session at command.now
         × Shows (D.state desk.new) lb (D.view shown)) }
+
+    // It is refused as the command is, or the look wanted memory.
+    ensures refused { IfErr result (λ e. RefusesCommand D.numbers (D.state desk.old) (D.state desk.new) lb session at command.now e
+        ⊎ (e ≡ AdminError.NoMemory)) }
     ensures due { OnOk result (IsUpToDate (D.state desk.new) lb at) }
     ensures held { (D.state desk.new).held ≡ (D.state desk.old).held }
     ensures added { GainsAsMany (D.state desk.old) (D.state desk.new) }

@@ -4,8 +4,9 @@
 //! which entries were added, shows that the clauses of the trait suffice for the crates above. One in lawful.rt cites
 //! the laws of jk_model for what a call of a Book returned, so each law's premises are met by every Book. Those in
 //! even.rt keep the premises of the law of weights.
-//! `book_checks` runs them, but for those of even.rt.
-//! Contract: `one_exchange`, clauses `held` and `ends`; `change_and_look`, clause `page`; of both `added`, `due` and `kept`.
+//! `desk_checks` runs those of callers.rt, `book_checks` those of lawful.rt.
+//! Contract: `one_exchange`, clauses `held` and `ends`; `change_and_look`, clause `page`; of both `refused`, `added`, `due` and
+//! `kept`.
 //! Errors: those of the trait and of a Book.
 #![tactic(auto)]
 
