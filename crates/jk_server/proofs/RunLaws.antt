@@ -12,7 +12,7 @@ use Rattle.door_clients.specs.Doors.{DoorSide, GaveAndGot, Gives, GivesNone}
 use Rattle.door_clients.proofs.DoorLaws.{none_came, none_more, one_more}
 use Rattle.balancer_core.specs.Desks.{DeskState}
 use Rattle.client_session.specs.Ends.{MeetsBy, RisesBy}
-use Rattle.client_session.specs.Requests.{Visit}
+use Rattle.client_session.specs.Requests.{Visit, visit}
 use Rattle.client_session.specs.Sessions.{Serves}
 use Rattle.client_session.specs.Standings.{client_at}
 use Rattle.client_session.specs.declared.ending.SessionEnd.{SessionEnd}
@@ -21,9 +21,12 @@ use Rattle.locked_balancer.specs.SharedDesks.{SharedState}
 use Rattle.site_config.specs.declared.config.Config.{Config}
 use Rattle.status_worker.specs.Desks.{KeepsTickets}
 use Rattle.uri_map.specs.declared.rule.Rule.{Rule}
-use Rattle.jk_server.specs.Served.{EndsAtLast, EndsBy, GoesOn, HaveRested, IsRun, IsServed, IsStray, left_by, Run, ServesClient, ServesNext, ServesOn, Settles}
-use Rattle.jk_server.specs.Turns.{GoesOrEnds, IsUnderWay}
+use Rattle.gear_parts.specs.declared.part.Part.{Part}
+use Rattle.jk_server.specs.PartTells.{PartTells, visit_at, worker_of}
+use Rattle.jk_server.specs.Served.{EndsAtLast, EndsBy, GoesOn, HaveRested, IsRun, IsServed, IsStray, left_by, Run, ServesClient, ServesNext, ServesOn, ServesPartNext, Settles}
+use Rattle.jk_server.specs.Turns.{EndsAtRest, GoesOrEnds, IsUnderWay, KeepsTurning, LeavesClient, NextsPart, RestsPart, TurnsPart}
 use Rattle.jk_server.specs.Worker.{forgot, IsFit, Rests, standing_with, WorkerSide}
+use Rattle.jk_server.specs.declared.part.Post.{Post}
 use Rattle.jk_server.specs.declared.part.WorkerEnd.{WorkerEnd}
 use Rattle.jk_server.specs.declared.part.WorkerEnd.TheVariants as worker
 
@@ -239,9 +242,45 @@ turns {L = L} visit told faults first before mid after s m n count link peer Non
 turns visit told faults first before mid after s m n count link peer (Some end) way gives serves =
     ends_next visit told faults first before mid after s m n count link peer end way gives serves
 
-pub counted_so : {C S X : Type 0} → (visit : Peer → Visit) (told : Ghosts C X) (faults : S → ℕ) (first now : DoorSide C) (s n : WorkerSide S) (count next : ℕ)
-    → IsUnderWay visit told faults first now s n count → next ≡ count → IsUnderWay visit told faults first now s n next
-counted_so visit told faults first now s n count next way same = subst (λ (k : ℕ). IsUnderWay visit told faults first now s n k) (sym same) way
+-- So of what the worker does at its rest.
+next_so : {L D R K S W C X : Type 0} → (told : PartTells D R K S C X) (visit : Peer → Visit) (before after : Part L D R K S W) (link : C) (peer : Peer) (end : Option (WorkerEnd L))
+    → EndsAtRest end
+    → ServesOn {L = L} visit told.link told.shelf_faults (told.door before.door) (told.door after.door) (worker_of told before) (worker_of told after) link peer None
+    → ServesPartNext told visit before after link peer end
+next_so told visit before after link peer None why on = on
+next_so told visit before after link peer (Some end) why on = inr (why, on)
+
+pub rests_next : {L D R K S W C X : Type 0} → (told : PartTells D R K S C X) (post : Post) (before mid after : Part L D R K S W) (link : C) (peer : Peer) (end : Option (WorkerEnd L))
+    → LeavesClient told post before mid link peer None → RestsPart told mid after end → NextsPart told post before after link peer end
+rests_next {L} told post before mid after link peer end left rested = record {
+  served =
+      next_so told (visit_at post) before after link peer end rested.why
+      (serves_on {L = L} (visit_at post) told.link told.shelf_faults (told.door before.door) (told.door mid.door) (told.door after.door)
+      (worker_of told before) (worker_of told mid) (worker_of told after) link peer left.served rested.rests (ap told.door rested.same_door));
+  fit = fit_again post.cfg.now post.map.now mid.desk after.desk (told.reach.beside mid.reach) (told.reach.beside after.reach) left.fit rested.same_desk rested.beside;
+  parts = parts_again mid.desk after.desk before.desk.desk.parts left.parts rested.same_desk;
+}
+
+-- ---- turns one after another
+
+pub turns_first : {L D R K S W C X : Type 0} → (told : PartTells D R K S C X) (cfg : Config) (rules : List Rule) (number : ℕ) (part : Part L D R K S W)
+    → IsFit cfg rules part.desk.desk (told.reach.beside part.reach) → KeepsTurning told cfg rules number part part 0
+turns_first told cfg rules number part fit = record {
+  way = begins (visit cfg rules number) told.link told.shelf_faults (told.door part.door) (worker_of told part);
+  fit = fit;
+  parts = refl;
+}
+
+pub turns_again : {L D R K S W C X : Type 0} → (told : PartTells D R K S C X) (post : Post) (first now next : Part L D R K S W) (count more : ℕ)
+    → TurnsPart told post now next count None → more ≡ min (count + 1) 18446744073709551615
+    → KeepsTurning told post.cfg.now post.map.now post.number first now count → KeepsTurning told post.cfg.now post.map.now post.number first next more
+turns_again told post first now next count more turn is keeps = record {
+  way =
+      subst (λ (n : ℕ). IsUnderWay (visit_at post) told.link told.shelf_faults (told.door first.door) (told.door next.door) (worker_of told first) (worker_of told next) n)
+      (sym is) (turn.turned (told.door first.door) (worker_of told first) keeps.way);
+  fit = turn.fit;
+  parts = turn.parts ∙ keeps.parts;
+}
 
 -- ---- what a session is asked with, and what a worker may serve with after it
 

@@ -3,14 +3,17 @@ use Rattle.std.specs.Prelude.{ℕ, ◌≡◌, ◌+◌, min, List, map, Option, S
 use Rattle.std.specs.List.{All}
 use Rattle.jk_io.specs.declared.traits.streams.Meanings.{Ghosts}
 use Rattle.jk_io.specs.declared.traits.surroundings.Peer.{Peer}
-use Rattle.client_session.specs.Requests.{Visit}
+use Rattle.client_session.specs.Requests.{Visit, visit}
 use Rattle.door_clients.specs.Doors.{DoorSide, GaveAndGot}
+use Rattle.site_config.specs.declared.config.Config.{Config}
+use Rattle.uri_map.specs.declared.rule.Rule.{Rule}
 use Rattle.gear_parts.specs.declared.part.Part.{Part}
 use Rattle.jk_server.specs.PartTells.{PartTells, visit_at, worker_of}
-use Rattle.jk_server.specs.Served.{count_of, HaveRested, IsRun, IsServed, Run}
-use Rattle.jk_server.specs.Worker.{IsFit, WorkerSide}
+use Rattle.jk_server.specs.Served.{count_of, HaveRested, IsRun, IsServed, Run, ServesPartClient, ServesPartNext}
+use Rattle.jk_server.specs.Worker.{IsFit, Rests, WorkerSide}
 use Rattle.jk_server.specs.declared.part.Post.{Post}
 use Rattle.jk_server.specs.declared.part.WorkerEnd.{WorkerEnd}
+use Rattle.jk_server.specs.declared.part.WorkerEnd.TheVariants as worker
 
 -- These clients were served, and the worker rested after each.
 pub record IsUnderWay {C S X : Type 0} (visit : Peer → Visit) (told : Ghosts C X) (faults : S → ℕ) (first now : DoorSide C) (s n : WorkerSide S) (count : ℕ) : Type 0 where
@@ -25,6 +28,31 @@ abbrev pub GoesOrEnds : {C S L X : Type 0} → (Peer → Visit) → Ghosts C X �
 GoesOrEnds visit told faults first now s n count None = IsUnderWay visit told faults first now s n (min (count + 1) 18446744073709551615)
 GoesOrEnds visit told faults first now s n count (Some end) = IsServed visit told faults first now s n end
 
+-- A client was served and its link was left. The worker may serve on with what it has. Its share keeps its parts.
+pub record LeavesClient {L D R K S W C X : Type 0} (told : PartTells D R K S C X) (post : Post) (before after : Part L D R K S W) (link : C) (peer : Peer) (end : Option (WorkerEnd L)) : Type 0 where
+  pub served : ServesPartClient told (visit_at post) before after link peer end
+  pub fit : IsFit post.cfg.now post.map.now after.desk.desk (told.reach.beside after.reach)
+  pub parts : after.desk.desk.parts ≡ before.desk.desk.parts
+
+-- A worker that rests ends only since its reach wanted memory.
+abbrev pub EndsAtRest : {L : Type 0} → Option (WorkerEnd L) → Type 0
+EndsAtRest None = Unit {0}
+EndsAtRest (Some end) = end ≡ worker.NoMemory
+
+-- The worker rested, and goes on or ends. Door and desk stay as they are.
+pub record RestsPart {L D R K S W C X : Type 0} (told : PartTells D R K S C X) (before after : Part L D R K S W) (end : Option (WorkerEnd L)) : Type 0 where
+  pub why : EndsAtRest end
+  pub rests : Rests (worker_of told before) (worker_of told after)
+  pub beside : told.reach.beside after.reach ≡ told.reach.beside before.reach
+  pub same_door : after.door ≡ before.door
+  pub same_desk : after.desk ≡ before.desk
+
+-- A client was served, and the worker goes on or ends. It may serve on with what it has. Its share keeps its parts.
+pub record NextsPart {L D R K S W C X : Type 0} (told : PartTells D R K S C X) (post : Post) (before after : Part L D R K S W) (link : C) (peer : Peer) (end : Option (WorkerEnd L)) : Type 0 where
+  pub served : ServesPartNext told (visit_at post) before after link peer end
+  pub fit : IsFit post.cfg.now post.map.now after.desk.desk (told.reach.beside after.reach)
+  pub parts : after.desk.desk.parts ≡ before.desk.desk.parts
+
 -- So after all that were served before, and the worker may serve on with what it has. Its share keeps its parts.
 pub record TurnsPart {L D R K S W C X : Type 0} (told : PartTells D R K S C X) (post : Post) (before after : Part L D R K S W) (count : ℕ) (end : Option (WorkerEnd L)) : Type 0 where
   pub turned : (first : DoorSide C) (s : WorkerSide S)
@@ -32,3 +60,9 @@ pub record TurnsPart {L D R K S W C X : Type 0} (told : PartTells D R K S C X) (
       → GoesOrEnds (visit_at post) told.link told.shelf_faults first (told.door after.door) s (worker_of told after) count end
   pub fit : IsFit post.cfg.now post.map.now after.desk.desk (told.reach.beside after.reach)
   pub parts : after.desk.desk.parts ≡ before.desk.desk.parts
+
+-- The clients so far were served since a moment, and the worker may serve on with what it has. Its share keeps its parts.
+pub record KeepsTurning {L D R K S W C X : Type 0} (told : PartTells D R K S C X) (cfg : Config) (rules : List Rule) (number : ℕ) (first now : Part L D R K S W) (count : ℕ) : Type 0 where
+  pub way : IsUnderWay (visit cfg rules number) told.link told.shelf_faults (told.door first.door) (told.door now.door) (worker_of told first) (worker_of told now) count
+  pub fit : IsFit cfg rules now.desk.desk (told.reach.beside now.reach)
+  pub parts : now.desk.desk.parts ≡ first.desk.desk.parts

@@ -1,10 +1,12 @@
 //! One client: its session, and what a worker makes of the session's end.
-ghost use Rattle.std.specs.Prelude.{◌≡◌, ◌<◌, ℕ, true, false, Some};
+ghost use Rattle.std.specs.Prelude.{◌≡◌, ◌<◌, ℕ, [], ◌∷◌, true, false, Some};
+ghost use Rattle.jk_io.specs.Told.{appended};
 ghost use Rattle.locked_balancer.specs.Notes.{StrayNote};
 ghost use Rattle.locked_balancer.specs.SharedDesks.{SharedState};
-ghost use Rattle.jk_server.specs.Served.{IsStray, ServesPartClient, ServesPartNext, Settles};
-ghost use Rattle.jk_server.specs.PartTells.{part_tells, visit_at};
-ghost use Rattle.jk_server.specs.Worker.{IsFit, Rests, took, worker_side};
+ghost use Rattle.jk_server.specs.Served.{IsStray, Settles};
+ghost use Rattle.jk_server.specs.PartTells.{part_tells};
+ghost use Rattle.jk_server.specs.Turns.{LeavesClient, NextsPart, RestsPart};
+ghost use Rattle.jk_server.specs.Worker.{IsFit, took};
 
 use crate::part::{Post, WorkerEnd};
 use client_session::{SessionEnd, serve_session};
@@ -28,6 +30,16 @@ fn counts<L: SiteName, S: Shelf, W>(desk: &SharedDesk<'_, '_, L, S, W>) -> Shelf
         faults: desk.shelf_faults(),
         wants: desk.shelf_wants(),
     }
+}
+
+/// Lets the desk forget the receipts of the session before, and counts what the shelf had refused until then.
+fn forget_last<L: SiteName, S: Shelf, W>(desk: &mut SharedDesk<'_, '_, L, S, W>) -> ShelfCounts
+    ensures counted { (result.faults ≡ S.faults desk.old.shelf) × (result.wants ≡ desk.old.wants) }
+    ensures receipts { desk.new.desk ≡ record desk.old.desk { receipts = [] } }
+{
+    let before = counts(desk);
+    desk.forget();
+    before
 }
 
 /// Takes the stray that a session met.
@@ -68,6 +80,25 @@ fn end_after<L: SiteName, S: Shelf, W>(
     None
 }
 
+/// Leaves a client's link at the door, and says whether the worker ends, and how.
+fn close_client<L: SiteName, D: Door, S: Shelf, W>(
+    door: &mut D,
+    desk: &mut SharedDesk<'_, '_, L, S, W>,
+    link: D::L,
+    before: ShelfCounts,
+    end: SessionEnd,
+) -> Option<WorkerEnd<L>>
+    requires room { 0 < D.room door.old }
+    requires stray { IsStray end → desk.old.desk.met ≡ true }
+    ensures left { D.left door.new ≡ appended (D.left door.old) (link ∷ []) }
+    ensures same { (D.coming door.new ≡ D.coming door.old) × (D.faults door.new ≡ D.faults door.old) }
+    ensures settled { (from : SharedState S) → before.faults ≡ S.faults from.shelf → before.wants ≡ from.wants
+        → Settles S.faults from desk.old desk.new end result }
+{
+    door.leave(link);
+    end_after(desk, before, end)
+}
+
 /// Serves a client by one session, leaves its link, and says whether the worker ends, and how.
 fn serve_client<L: SiteName, D: Door, R: Reach, K: Clock, S: Shelf, W: Wait>(
     alloc: Global,
@@ -78,13 +109,10 @@ fn serve_client<L: SiteName, D: Door, R: Reach, K: Clock, S: Shelf, W: Wait>(
 ) -> Option<WorkerEnd<L>>
     requires fit { IsFit post.cfg.now post.map.now part.old.desk.desk (R.beside part.old.reach) }
     requires room { 0 < D.room part.old.door }
-    ensures served { let told = part_tells D.coming D.left D.faults D.L.Meanings K.answers R.Meanings S.faults in
-        ServesPartClient told (visit_at post.entry) part.old part.new link peer.now result }
-    ensures fit { IsFit post.entry.cfg.now post.entry.map.now part.new.desk.desk (R.beside part.new.reach) }
-    ensures parts { part.new.desk.desk.parts ≡ part.old.desk.desk.parts }
+    ensures { let told = part_tells D.coming D.left D.faults D.L.Meanings K.answers R.Meanings S.faults in
+        LeavesClient told post.entry part.old part.new link peer.now result }
 {
-    let before = counts(&part.desk);
-    part.desk.forget();
+    let before = forget_last(&mut part.desk);
     let mut link = link;
     let end = serve_session(
         alloc,
@@ -97,23 +125,24 @@ fn serve_client<L: SiteName, D: Door, R: Reach, K: Clock, S: Shelf, W: Wait>(
         &mut link,
         &mut part.clock,
     );
-    part.door.leave(link);
-    end_after(&mut part.desk, before, end)
+    close_client(&mut part.door, &mut part.desk, link, before, end)
 }
 
-/// What a worker does between two sessions.
-fn rest<L: SiteName, D: Door, R: Reach, K: Clock, S: Shelf, W>(
+/// What a worker does between two sessions, while its desk holds no ticket. It ends where its reach wants memory to rest.
+fn go_on<L: SiteName, D: Door, R: Reach, K: Clock, S: Shelf, W>(
     alloc: Global,
     part: &mut Part<'_, '_, L, D, R, K, S, W>,
-) -> Result<(), NoMemory>
-    requires { (R.beside part.old.reach).runs ≡ false }
-    ensures rested { let with = worker_side K.answers R.Meanings in
-        Rests (with part.old.desk part.old.clock part.old.reach) (with part.new.desk part.new.clock part.new.reach) }
-    ensures beside { R.beside part.new.reach ≡ R.beside part.old.reach }
-    ensures same { (part.new.door ≡ part.old.door) × (part.new.desk ≡ part.old.desk) }
+) -> Option<WorkerEnd<L>>
+    requires idle { (R.beside part.old.reach).runs ≡ false }
+    requires none_held { part.old.desk.desk.held ≡ [] }
+    ensures { let told = part_tells D.coming D.left D.faults D.L.Meanings K.answers R.Meanings S.faults in
+        RestsPart told part.old part.new result }
 {
     let now = part.clock.now();
-    part.reach.rest(alloc, now)
+    match part.reach.rest(alloc, now) {
+        Ok(()) => None,
+        Err(NoMemory) => Some(WorkerEnd::NoMemory),
+    }
 }
 
 /// Serves a client, and rests where the worker goes on; says whether it ends, and how.
@@ -126,16 +155,11 @@ pub(crate) fn serve_next<L: SiteName, D: Door, R: Reach, K: Clock, S: Shelf, W: 
 ) -> Option<WorkerEnd<L>>
     requires fit { IsFit post.cfg.now post.map.now part.old.desk.desk (R.beside part.old.reach) }
     requires room { 0 < D.room part.old.door }
-    ensures served { let told = part_tells D.coming D.left D.faults D.L.Meanings K.answers R.Meanings S.faults in
-        ServesPartNext told (visit_at post.entry) part.old part.new link peer.now result }
-    ensures fit { IsFit post.entry.cfg.now post.entry.map.now part.new.desk.desk (R.beside part.new.reach) }
-    ensures parts { part.new.desk.desk.parts ≡ part.old.desk.desk.parts }
+    ensures { let told = part_tells D.coming D.left D.faults D.L.Meanings K.answers R.Meanings S.faults in
+        NextsPart told post.entry part.old part.new link peer.now result }
 {
     match serve_client(alloc, post, part, link, peer) {
         Some(end) => Some(end),
-        None => match rest(alloc, part) {
-            Ok(()) => None,
-            Err(NoMemory) => Some(WorkerEnd::NoMemory),
-        },
+        None => go_on(alloc, part),
     }
 }

@@ -1,5 +1,5 @@
 //! The whole work of one worker.
-ghost use Rattle.std.specs.Prelude.{◌≡◌};
+ghost use Rattle.std.specs.Prelude.{◌≡◌, []};
 ghost use Rattle.client_session.specs.Requests.{visit};
 ghost use Rattle.jk_server.specs.Served.{ServesPart};
 ghost use Rattle.jk_server.specs.PartTells.{part_tells};
@@ -52,6 +52,7 @@ fn serve_turn<L: SiteName, D: Door, R: Reach, K: Clock, S: Shelf, W: Wait>(
     sessions: u64,
 ) -> Option<WorkerEnd<L>>
     requires fit { IsFit post.cfg.now post.map.now part.old.desk.desk (R.beside part.old.reach) }
+    requires none_held { part.old.desk.desk.held ≡ [] }
     ensures { let told = part_tells D.coming D.left D.faults D.L.Meanings K.answers R.Meanings S.faults in
         TurnsPart told post.entry part.old part.new sessions result }
 {

@@ -1,19 +1,18 @@
-use Rattle.std.proofs.Common.{refl, ◌∙◌}
-use Rattle.jk_server.proofs.RunLaws.{begins, counted_so}
+use Rattle.std.proofs.Common.{◌∙◌}
+use Rattle.jk_server.proofs.RunLaws.{turns_again, turns_first}
 use Rattle.jk_server.proofs.serving.serve_part.Goals as goal
 
 pub clients-init : goal.clients-init
-clients-init g c = record { way = begins _ _ _ _ _; fit = c.requires.fit; parts = refl }
+clients-init g c = turns_first _ _ _ _ _ c.requires.fit
 
 pub clients-preserved : goal.clients-preserved
-clients-preserved g c = record {
-  way = counted_so _ _ _ _ _ _ _ _ _ (c.in-None-serve_turn.ensures.turned _ _ c.clients.invariant.way) c.saturating_add-sessions.ensures;
-  fit = c.in-None-serve_turn.ensures.fit;
-  parts = c.in-None-serve_turn.ensures.parts ∙ c.clients.invariant.parts;
-}
+clients-preserved g c = turns_again _ _ _ _ _ _ _ c.in-None-serve_turn.ensures c.saturating_add-sessions.ensures c.clients.invariant
 
-pub serve_turn-requires : goal.serve_turn-requires
-serve_turn-requires g c = record { fit = c.clients.invariant.fit }
+pub serve_turn-requires-clause-fit : goal.serve_turn-requires-clause-fit
+serve_turn-requires-clause-fit g c = c.clients.invariant.fit
+
+pub serve_turn-requires-clause-none_held : goal.serve_turn-requires-clause-none_held
+serve_turn-requires-clause-none_held g c = c.clients.invariant.fit.none_held
 
 pub returns-in-Some-serve_turn : goal.returns-in-Some-serve_turn
 returns-in-Some-serve_turn g c = record {
