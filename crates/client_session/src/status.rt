@@ -29,7 +29,7 @@ pub(crate) fn serve_status<B: Desk, R: Reach, C: Link, K: Clock>(
 where
     B::Mark: Drop,
     B::Shown: Drop,
-    requires { IsReady (visit_of of.now.site.now) (B.state around.old.desk.now) (R.beside around.old.reach.now) }
+    requires ready { IsReady (visit_of of.now.site.now) (B.state around.old.desk.now) (R.beside around.old.reach.now) }
     ensures answer { let at = standing_of B.state K.answers R.Meanings C.Meanings in
         Shows of.now status.now (at around.old) (at around.new) result }
     ensures met { MeetsNone (B.state around.old.desk.now) (B.state around.new.desk.now) }

@@ -5,7 +5,7 @@ use Rattle.client_session.proofs.KeepingLaws.{room_for_status, shown_answers, sh
 use Rattle.client_session.proofs.answering.show.Goals as goal
 
 pub serve_status-answer-requires : goal.serve_status-answer-requires
-serve_status-answer-requires g c = c.requires.ready
+serve_status-answer-requires g c = record { ready = c.requires.ready }
 
 pub shown-requires-clause-room : goal.shown-requires-clause-room
 shown-requires-clause-room g c =

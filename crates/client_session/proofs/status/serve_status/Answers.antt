@@ -31,7 +31,7 @@ pub send_page-requires-clause-within : goal.send_page-requires-clause-within
 send_page-requires-clause-within g c = c.in-Ok.ensures.within
 
 pub send_page-requires-clause-sizes : goal.send_page-requires-clause-sizes
-send_page-requires-clause-sizes g c = c.change.ensures.kept.sizes ∙ c.requires.desk_sizes
+send_page-requires-clause-sizes g c = c.change.ensures.kept.sizes ∙ c.requires.ready.desk_sizes
 
 pub write_own-requires : goal.write_own-requires
 write_own-requires g c =
@@ -51,23 +51,23 @@ pub returns-in-Err-NoMemory-clause-met : goal.returns-in-Err-NoMemory-clause-met
 returns-in-Err-NoMemory-clause-met g c = c.change.ensures.met
 
 pub change-requires-clause-caller : goal.change-requires-clause-caller
-change-requires-clause-caller g c = c.requires.caller
+change-requires-clause-caller g c = c.requires.ready.caller
 
 pub change-requires-clause-sizes : goal.change-requires-clause-sizes
-change-requires-clause-sizes g c = c.requires.desk_sizes
+change-requires-clause-sizes g c = c.requires.ready.desk_sizes
 
 pub returns-in-Ok-clause-kept : goal.returns-in-Ok-clause-kept
 returns-in-Ok-clause-kept g c =
-    keeps_by _ _ _ _ _ _ c.requires
+    keeps_by _ _ _ _ _ _ c.requires.ready
     (subst (λ (d : DeskState). KeepsTickets c.args.of.now.site.now.session (g.B.Desk.state c.args.around.now.desk.now) d) (sym c.send_page.ensures.seen) c.change.ensures.kept)
     refl refl c.send_page.ensures.beside c.send_page.ensures.no_fewer (refl, refl, refl, refl, refl)
 
 pub returns-in-Err-Own-clause-kept : goal.returns-in-Err-Own-clause-kept
 returns-in-Err-Own-clause-kept g c =
-    keeps_by _ _ _ _ _ _ c.requires c.change.ensures.kept refl refl c.write_own.ensures.beside
+    keeps_by _ _ _ _ _ _ c.requires.ready c.change.ensures.kept refl refl c.write_own.ensures.beside
     (own_no_fewer _ _ (client_at g.C.Meanings c.args.around.now.client.now) (client_at g.C.Meanings c.write_own.new.client) c.write_own.result c.write_own.ensures.own)
     (refl, refl, refl, refl, refl)
 
 pub returns-in-Err-NoMemory-clause-kept : goal.returns-in-Err-NoMemory-clause-kept
 returns-in-Err-NoMemory-clause-kept g c =
-    keeps_by _ _ _ _ _ _ c.requires c.change.ensures.kept refl refl refl (no_fewer_at g.C.Meanings.faults _ _ refl) (refl, refl, refl, refl, refl)
+    keeps_by _ _ _ _ _ _ c.requires.ready c.change.ensures.kept refl refl refl (no_fewer_at g.C.Meanings.faults _ _ refl) (refl, refl, refl, refl, refl)
