@@ -102,6 +102,9 @@ fn answer_end<F: Files, S: Source, O: Sink>(
     }
 }
 
+/// Lets a value go. Where it is large, the check of a function that calls this doesn't write its drop out.
+pub(crate) fn let_go<T: Drop>(_it: T) {}
+
 fn end_of<F: Files, S: Source, O: Sink>(
     alloc: Global,
     words: &[Bytes],
@@ -119,7 +122,11 @@ fn end_of<F: Files, S: Source, O: Sink>(
         return PlainEnd::NoCommand;
     }
     match read_words(alloc, words) {
-        Ok(order) => answer_end(alloc, &order, files, input, out),
+        Ok(order) => {
+            let end = answer_end(alloc, &order, files, input, out);
+            let_go(order);
+            end
+        }
         Err(_) => PlainEnd::NoMemory,
     }
 }

@@ -9,6 +9,7 @@ ghost use Rattle.plain_commands.specs.Dry.{Dries, IsDryRun, OfRules, ReportsDry}
 ghost use Rattle.plain_commands.specs.DryLines.{dry_text, end_words};
 ghost use Rattle.plain_commands.specs.DryStarts.{IsFirstClient, IsFirstDesk, IsFirstReach};
 
+use crate::plain::let_go;
 use crate::session::lines::{lines_of, put_number, words_of};
 use crate::session::one_reply::{OneReply, ReplyName, link_of};
 use crate::session::start::{desk_of, reach_of};
@@ -157,7 +158,14 @@ fn with_reach<N: ReplyName>(
     ensures { IfOk result (Dries site.now.config.now site.now.map.now request.now reply.now) }
 {
     let lbs = site.config.lbs.as_slice();
-    with_desk(alloc, site, request, &mut reach_of::<N>(alloc, lbs, reply)?)
+    match reach_of::<N>(alloc, lbs, reply) {
+        Ok(mut reach) => {
+            let told = with_desk(alloc, site, request, &mut reach);
+            let_go(reach);
+            told
+        }
+        Err(NoMemory) => Err(NoMemory),
+    }
 }
 
 // The report of a session over this site.

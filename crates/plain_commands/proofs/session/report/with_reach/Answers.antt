@@ -3,7 +3,7 @@ use Rattle.plain_commands.specs.Dry.{Dries}
 use Rattle.plain_commands.proofs.session.report.with_reach.Goals as goal
 
 -- the reach has the reply of its type
-pub returns : goal.returns
-returns g c =
-    subst (λ (reply : List ℕ). IfOk c.with_desk.result (Dries c.args.site.now.config.now c.args.site.now.map.now c.args.request.now reply)) (sym c.requires.reply)
-    c.with_desk.ensures
+pub returns-in-Ok : goal.returns-in-Ok
+returns-in-Ok g c =
+    subst (λ (reply : List ℕ). IfOk c.with_desk-told.result (Dries c.args.site.now.config.now c.args.site.now.map.now c.args.request.now reply)) (sym c.requires.reply)
+    c.with_desk-told.ensures
