@@ -1,5 +1,5 @@
 -- What a closing says of a drill's Book.
-use Rattle.std.proofs.Common.{◌≡◌, ℕ, ◌+◌, List, [], ◌∷◌, length, slice_index, Option, Some, None, Result, Ok, Err, refl, ap, subst, ◌∙◌, zero-add}
+use Rattle.std.proofs.Common.{◌≡◌, ℕ, ◌+◌, List, [], ◌∷◌, length, slice_index, Option, Some, None, Result, Ok, Err, refl, sym, ap, subst, ◌∙◌, zero-add}
 use Rattle.std.specs.List.{All}
 use Rattle.std.specs.Prelude.{IfOk, IfSome}
 use Rattle.std.proofs.lemmas.List.Elements.{All-cons, All-nil}
@@ -62,6 +62,8 @@ starts b config s sound is = record {
   rules = s.rules;
   two = ap (λ (c : LbConfig). length c.members) s.configured ∙ ap length is.members_are;
   first = rw (s.next, s.empty) refl;
+  moment = s.moment;
+  balancer = subst IsDrillBook (sym s.configured) is;
   added = s.added;
   sound = sound;
 }

@@ -5,6 +5,7 @@ use Rattle.jk_model.specs.declared.journal.Entry.{Entry}
 use Rattle.balancer_core.specs.Journal.{IsSound, Journal, next_number}
 use Rattle.site_closing.specs.Closings.{Differs, DiscordNote}
 use Rattle.drill.specs.Drills.{IsDrilled}
+use Rattle.drill.specs.Sites.{IsDrillBook}
 use Rattle.drill.specs.Summaries.{IsJournalText, summary_text}
 use Rattle.drill.specs.declared.drill_error.DrillError.{DrillError}
 use Rattle.drill.specs.declared.drill_error.DrillError.TheVariants as error
@@ -17,11 +18,13 @@ pub record IsOfDrill (b : Journal) : Type 0 where
   pub numbered : next_number b ≡ b.added
   pub sound : IsSound b
 
--- It has no entry yet.
+-- It is the Book of a drill's balancer at moment 0, and has no entry yet.
 pub record IsStarted (b : Journal) : Type 0 where
   pub rules : b.rules ≡ MODERN_RULES
   pub two : members b.opening ≡ 2
   pub first : next_number b ≡ 0
+  pub moment : b.opening.at ≡ 0
+  pub balancer : IsDrillBook b.opening.config
   pub added : b.added ≡ 0
   pub sound : IsSound b
 

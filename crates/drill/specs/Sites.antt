@@ -1,5 +1,5 @@
 -- The site of a drill: one balancer of two members.
-use Rattle.std.specs.Prelude.{◌≡◌, ℕ, true, List, [], ◌∷◌, None, codes}
+use Rattle.std.specs.Prelude.{◌≡◌, ℕ, true, false, List, [], ◌∷◌, None, codes}
 use Rattle.exchange.specs.Requests.{sizes_of}
 use Rattle.jk_model.specs.declared.config.LbConfig.{LbConfig}
 use Rattle.jk_model.specs.declared.member.Activation.TheVariants as activation
@@ -25,10 +25,15 @@ member_of name factor = record {
 abbrev pub two_members : List MemberConfig
 two_members = member_of (codes "a") 1 ∷ member_of (codes "b") 2 ∷ []
 
--- They are balanced by requests.
+-- They are balanced by requests, a session stays with its member, and maintenance and recovery take a minute each.
 pub record IsDrillBook (c : LbConfig) : Type 0 where
   pub method_is : c.method ≡ method.Request
   pub members_are : c.members ≡ two_members
+  pub sticks : c.sticky ≡ true
+  pub unforced : c.force ≡ false
+  pub indirect : c.direct ≡ false
+  pub maintains : c.maintain ≡ 60
+  pub recovers : c.recover ≡ 60
 
 -- A site with one such balancer, and rules that name it alone.
 pub record IsDrillSite (cfg : Config) (rules : List Rule) : Type 0 where
