@@ -35,7 +35,7 @@ pub fn decode_reply(alloc: Global, payload: &[u8]) -> Result<Message, DecodeErro
     }
 }
 
-/// As `decode_reply`, but a chunk is made of the payload's own memory, so that none is taken.
+/// As `decode_reply`, but a chunk keeps the payload's own memory, so that no more is taken.
 pub fn take_reply(alloc: Global, payload: &mut Vec<u8>) -> Result<Message, DecodeError>
     ensures found { IfOk result (λ message. Spells message payload.old.items) }
     ensures none { IfErr result (λ error. error ≢ DecodeError.NoMemory
@@ -57,7 +57,7 @@ pub fn take_reply(alloc: Global, payload: &mut Vec<u8>) -> Result<Message, Decod
     }
 }
 
-/// How many bytes of data the payload has behind its first three, where it spells a chunk.
+/// How many bytes of data come after the payload's first three, where it spells a chunk.
 #[tactic(auto, unfolding(crate::specs::Reading::chunk_at))]
 fn chunk_len(payload: &[u8]) -> Option<usize>
     ensures chunk { IfSome result (λ len. message_at payload.now ≡ Ok (Message.Chunk (take len (drop 3 payload.now)))) }
@@ -77,7 +77,7 @@ fn chunk_len(payload: &[u8]) -> Option<usize>
     }
 }
 
-/// So many bytes of a payload behind its first three, in the payload's memory.
+/// The `len` bytes after a payload's first three, in the payload's memory.
 fn cut_out(alloc: Global, payload: &mut Vec<u8>, len: usize) -> Bytes
     requires { 3 + len ≤ length payload.old.items }
     ensures value { result ≡ take len (drop 3 payload.old.items) }
@@ -103,7 +103,7 @@ fn message(alloc: Global, payload: &[u8]) -> Result<Message, NotRead>
     }
 }
 
-/// Send Headers behind its first byte.
+/// Send Headers, read from its second byte on.
 #[tactic(auto, unfolding(crate::specs::Reading::head_at))]
 fn head(alloc: Global, rest: &[u8]) -> Result<Message, NotRead>
     ensures { Gives (λ m. m) result (head_at rest.now) }
@@ -148,7 +148,7 @@ fn chunk_bytes(rest: &[u8]) -> Result<&[u8], NotRead>
     }
 }
 
-/// End Response behind its first byte.
+/// End Response, read from its second byte on.
 fn end(rest: &[u8]) -> Result<Message, NotRead>
     ensures read { Gives (λ m. m) result (end_at rest.now) }
     ensures no_want { IfErr result (λ stop. stop ≢ NotRead.NoMemory) }
@@ -159,7 +159,7 @@ fn end(rest: &[u8]) -> Result<Message, NotRead>
     }
 }
 
-/// Get Body Chunk behind its first byte.
+/// Get Body Chunk, read from its second byte on.
 #[tactic(auto, unfolding(crate::specs::Reading::ask_at))]
 fn ask(rest: &[u8]) -> Result<Message, NotRead>
     ensures read { Gives (λ m. m) result (ask_at rest.now) }
@@ -169,7 +169,7 @@ fn ask(rest: &[u8]) -> Result<Message, NotRead>
     ended(Message::Ask(most), rest)
 }
 
-/// The message, where nothing stands behind it.
+/// The message, where no byte follows it.
 fn ended(message: Message, rest: &[u8]) -> Result<Message, NotRead>
     ensures read { Gives (λ m. m) result (ended_at message rest.now) }
     ensures no_want { IfErr result (λ stop. stop ≢ NotRead.NoMemory) }

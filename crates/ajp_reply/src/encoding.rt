@@ -13,7 +13,7 @@ use ajp_wire::{
 use jk_io::{Bytes, NoMemory};
 use std::alloc::Global;
 
-/// No more bytes are counted for a payload than these, also for one that is too long.
+/// The most bytes that are counted for a payload, even for one that is too long.
 const PAYLOAD_ROOM: usize = 20_000_000;
 
 /// The packet of a message, which has at most `most` bytes.

@@ -27,7 +27,7 @@ pub fn one_reading()
         → (one ≡ other) × (rest ≡ other_rest) }
 {}
 
-/// What follows the messages of some bytes is read on behind them.
+/// After bytes that spell messages, reading goes on with the bytes that follow, and in no other way.
 pub fn readings_go_on()
     ensures behind { (most : ℕ) (past later : List Message) (bytes more : List ℕ)
         → Spelled most past bytes → Spelled most later more → Spelled most (later ++ past) (bytes ++ more) }
@@ -37,15 +37,15 @@ pub fn readings_go_on()
 
 /// Which bytes are no reply, however they go on. `ok` says which heads may stand in one.
 pub fn bytes_of_no_reply()
-    // Messages that begin no reply and are none, as where the last of them may not stand there.
+    // Messages that are neither a reply nor the front of one, as where the last one may not stand there.
     ensures other { (ok : ReplyParts → Bool) (most : ℕ) (past : List Message) (bytes : List ℕ) → Spelled most past bytes
         → (IsFront ok past → ⊥) → (IsForm ok past → ⊥) → NoReply ok most bytes }
 
-    // Bytes behind a front that begin no message.
+    // After a front, bytes that begin no message.
     ensures none { (ok : ReplyParts → Bool) (most : ℕ) (past : List Message) (came rest : List ℕ)
         → Spelled most past came → IsFront ok past → BeginsNoMessage most rest → NoReply ok most (came ++ rest) }
 
-    // Such are bytes that begin no packet, the head of one above the limit, and a packet that spells no message.
+    // No message begins where no packet begins, where the packet is above the limit, or where it spells none.
     ensures no_packet { (most : ℕ) (bytes : List ℕ) → IsNoPacket true bytes → BeginsNoMessage most bytes }
     ensures too_long { (most : ℕ) (bytes : List ℕ) → IsTooLong true most bytes → BeginsNoMessage most bytes }
     ensures unread { (most : ℕ) (payload bytes : List ℕ) → IsPacket true most payload bytes

@@ -4,7 +4,7 @@
 //! CPong Reply.
 //! Own rules: a chunk without its last zero byte is read too, and an absent string reads as an empty one
 //! (docs/DECISIONS.md).
-//! Shapes: a payload is what stands behind a packet's 4 bytes; a limit counts these 4 bytes too.
+//! Shapes: a payload is what comes after a packet's first 4 bytes; a limit counts these 4 bytes too.
 //! Contract: `decode_reply`, clauses `found` and `refused`; `encode_reply`, clause `ok`. Read first: specs/Spelling.antt.
 //! Errors: `DecodeError` names the first place of the payload that cannot be read; `EncodeError`.
 #![tactic(auto)]

@@ -12,7 +12,7 @@ pub enum Message {
     Chunk(Bytes),
     /// End Response. `reuse` means that the link may serve again.
     End { reuse: bool },
-    /// Get Body Chunk: so many bytes of the request's body are wanted, and 0 is the most that a packet holds.
+    /// Get Body Chunk: how many bytes of the request's body are wanted; 0 asks for the most that a packet holds.
     Ask(u16),
     /// CPong, the answer to CPing.
     Pong,

@@ -1,4 +1,4 @@
-//! The attributes of a Forward Request, read up to the FF behind them.
+//! The attributes of a Forward Request, read up to the FF that ends them.
 ghost use Rattle.std.specs.Prelude.{◌≡◌, length, option_map};
 ghost use Rattle.ajp_wire.specs.Reading.{Gives};
 ghost use Rattle.ajp_request.specs.Reading.{named_at, attribute_at, attributes_at, stored_in, tail_at};
@@ -49,7 +49,7 @@ fn next_attributes(alloc: Global, bytes: &[u8]) -> Result<(Vec<Attribute>, &[u8]
     Err(refused(RefusalKind::Short, &[]))
 }
 
-/// The attribute of a code that was read. `bytes` begin with the code, and `rest` is behind it.
+/// The attribute of a code that was read. `bytes` begin with the code, and `rest` comes after it.
 #[tactic(auto, unfolding(crate::specs::Reading::attribute_at))]
 fn next_attribute<'a>(
     alloc: Global,

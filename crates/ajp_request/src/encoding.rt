@@ -20,7 +20,7 @@ use ajp_wire::{
 use jk_io::{Bytes, NoMemory};
 use std::alloc::Global;
 
-/// Fewer bytes are counted for a payload than these, also for one that is too long.
+/// A payload is counted as fewer bytes than this, even one that is too long.
 const PAYLOAD_ROOM: usize = 20_000_000;
 
 /// The fields before the headers are spelled in fewer bytes than this.

@@ -3,7 +3,7 @@
 //! Source: AJPv1.3 reference, "Request Packet Structure".
 //! Own rules: an absent remote host or value reads as an empty one; more than 100 headers are refused; a method without a
 //! code is written before any other attribute that stores one (docs/DECISIONS.md).
-//! Shapes: a payload is what stands behind a packet's 4 bytes; a limit counts these 4 bytes too. Method codes are 1 to 27,
+//! Shapes: a payload is what comes after a packet's first 4 bytes; a limit counts these too. Method codes are 1 to 27,
 //! and FF says that an attribute stores the method.
 //! Contract: `decode_forward`, clauses `found`, `none` and `exact`; `encode_forward` and `encode_parts`, clauses `ok`
 //! and `spelled`.

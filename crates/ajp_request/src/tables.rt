@@ -74,7 +74,7 @@ pub const KEY_SIZE: u8 = 0x0B;
 /// The code of the attribute that stores a method.
 pub const STORED_METHOD: u8 = 0x0D;
 
-/// What stands behind the attributes.
+/// The byte after the last attribute.
 pub const END: u8 = 0xFF;
 
 /// The table of the names of headers.

@@ -16,7 +16,7 @@ use jk_io::NoMemory;
 const CPING_BYTES: u64 = 5;
 
 impl Course {
-    /// The end that a turn makes, which neither lets the talk go on nor lost the client before the reply's end.
+    /// The end that a turn makes. The turn doesn't let the talk go on, and lost no client before the reply's end.
     pub(crate) fn ended(&self, plan: &TalkPlan, taken: u64, turn: Turn) -> Result<TalkEnd, NoMemory>
         requires plan { IsPlan plan.now }
         requires over { turn ≢ Turn.On }
@@ -128,7 +128,7 @@ pub(crate) fn unanswered(sent: u64, received: u64, why: Unheard) -> Result<TalkE
     })
 }
 
-/// The link of a client that was gone at the end is kept where the end lets it serve again, unless it is to be closed.
+/// Whether the link is kept where the client was lost at the end: it may serve again, and `close_on_client` is off.
 pub(crate) fn is_kept(plan: &TalkPlan, reuse: bool) -> bool
     ensures { result ≡ (reuse && not plan.now.close_on_client) }
 {

@@ -50,7 +50,7 @@ pub(crate) fn converse<L: Link, C: Link>(
     hold(room, plan, &mut course, &mut upload, line, client)
 }
 
-/// The talk, of which nothing was sent and nothing came.
+/// The whole talk: before it nothing was sent and nothing came.
 fn hold<L: Link, C: Link>(
     room: &mut Room,
     plan: &TalkPlan,

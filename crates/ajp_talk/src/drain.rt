@@ -85,7 +85,7 @@ fn drop_message<C: Sink>(
     }
 }
 
-/// Whether more is to be dropped after a turn, and else whether the link may serve again.
+/// None where more is to be dropped after a turn; else whether the link may serve again.
 fn rest_after(turn: Turn) -> Result<Option<bool>, NoMemory>
     ensures { result ≡ rest_after_of (record {}) turn }
 {

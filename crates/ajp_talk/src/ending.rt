@@ -40,8 +40,8 @@ pub struct Told {
     pub body: u64,
 }
 
-/// How a talk ended. `bytes` counts all that it sent and received. What is `told` of a reply of which no byte was written
-/// to the client is nothing.
+/// How a talk ended. `bytes` counts all that it sent and received. `told` is None where no byte of the reply was written
+/// to the client.
 #[derive(Clone, Copy, Debug, PartialEq, Eq)]
 pub enum TalkEnd {
     /// The client has the whole reply. `reuse`: the link may serve again.

@@ -16,7 +16,7 @@ pub struct TalkPlan {
     pub packet: u32,
     /// The talk begins with CPing, which CPong must answer.
     pub ping: bool,
-    /// At so many received bytes the talk fails, 1 to 2^40.
+    /// The talk fails once it received this many bytes, 1 to 2^40.
     pub most: u64,
     /// The request is one of HTTP/1.0.
     pub old: bool,

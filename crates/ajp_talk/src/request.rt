@@ -12,7 +12,7 @@ use crate::sending::send;
 use jk_io::{Bytes, IoError, NoMemory, Sink};
 use std::alloc::Global;
 
-/// Sends the Forward Request and the first piece in one write. Where there is no first piece it goes from where it lies.
+/// Sends the Forward Request and the first piece in one write. Without a first piece the request isn't copied.
 pub(crate) fn send_request<L: Sink>(
     alloc: Global,
     plan: &TalkPlan,

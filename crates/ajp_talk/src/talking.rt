@@ -17,7 +17,7 @@ use jk_io::{Link, NoMemory};
 use std::alloc::Global;
 
 /// Sends the request over a link, answers the container's asks from the body, and passes its reply on to the client.
-/// Just the plan's first piece was taken of `body`, and no call of it was refused.
+/// Before the call exactly the plan's first piece was taken of `body`, and no call of it was refused.
 pub fn talk<L: Link, C: Link>(
     alloc: Global,
     plan: &TalkPlan,

@@ -51,7 +51,7 @@ pub enum FieldError {
     /// The bytes end within it.
     #[error("the bytes end at {at}")]
     Short { at: usize },
-    /// The byte behind it is not zero.
+    /// The byte after it is not zero.
     #[error("no zero byte at {at}")]
     BadMark { at: usize },
 }
@@ -65,13 +65,13 @@ pub enum DecodeError {
     /// A message, method, header or attribute has no such code.
     #[error("unknown code at {at}")]
     BadCode { at: usize },
-    /// The byte behind a string or a chunk is not zero.
+    /// The byte after a string or a chunk is not zero.
     #[error("no zero byte at {at}")]
     BadMark { at: usize },
     /// A boolean is neither 0 nor 1.
     #[error("no boolean at {at}")]
     BadBoolean { at: usize },
-    /// The first byte behind the message.
+    /// The first byte after the message.
     #[error("bytes behind the message at {at}")]
     Extra { at: usize },
     /// More than 100 headers are announced.

@@ -62,7 +62,7 @@ pub fn next_string(rest: &[u8]) -> Result<(Option<&[u8]>, &[u8]), NotRead>
     Ok((Some(text), rest))
 }
 
-/// A string in memory of its own, of just its length. Where it may be absent, it is then empty.
+/// A string in memory of its own, of just its length. An absent one, where it may be absent, is empty.
 #[tactic(auto, unfolding(crate::specs::Reading::text_at))]
 pub fn next_text(alloc: Global, may_be_absent: bool, rest: &[u8]) -> Result<(Bytes, &[u8]), NotRead>
     ensures { Gives (λ x. (x.0, x.1.now)) result (text_at may_be_absent rest.now) }

@@ -8,7 +8,7 @@ use crate::errors::FieldError;
 /// The length that says that a string is absent.
 const ABSENT: u16 = 0xFFFF;
 
-/// The integer at a place, and the place behind it. None where fewer than two bytes are there.
+/// The integer at a place, and the place after it. None where fewer than two bytes are there.
 pub fn take_int(bytes: &[u8], at: usize) -> Option<(u16, usize)>
     ensures found { IfSome result (λ taken. IsIntAt bytes.now at taken.0 taken.1) }
     ensures none { IfNone result (length bytes.now < at + 2) }
@@ -22,7 +22,7 @@ pub fn take_int(bytes: &[u8], at: usize) -> Option<(u16, usize)>
     }
 }
 
-/// The string at a place, as the place and the length of its text, and the place behind it. An absent one is None.
+/// The string at a place, as the place and the length of its text, and the place after it. An absent one is None.
 pub fn take_string(bytes: &[u8], at: usize) -> Result<(Option<(usize, usize)>, usize), FieldError>
     ensures found { IfOk result (λ taken. IsStringAt bytes.now at taken.0 taken.1) }
     ensures refused { IfErr result (λ error. RefusesString bytes.now at error) }

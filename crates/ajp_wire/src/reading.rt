@@ -91,7 +91,7 @@ fn read_head<L: Link>(line: &mut L, from_container: bool, most: u32) -> Result<u
     judge_head(&head[..count], stop, from_container, most)
 }
 
-/// What the front of a head says that came before a stop.
+/// Judges the front of a head that came before a stop.
 fn judge_head(came: &[u8], stop: Stop, from_container: bool, most: u32) -> Result<u16, PacketError>
     requires short { length came.now ≤ HEAD_BYTES }
     requires full { (stop ≡ Stop.Full) ↔ (length came.now ≡ HEAD_BYTES) }
@@ -118,7 +118,7 @@ fn judge_head(came: &[u8], stop: Stop, from_container: bool, most: u32) -> Resul
     }
 }
 
-/// As far as they go, the bytes are those that begin a packet.
+/// Whether the bytes, as far as they go, begin a packet.
 fn begins_packet(came: &[u8], from_container: bool) -> bool
     ensures { result ≡ begins from_container came.now }
 {
@@ -149,7 +149,7 @@ fn size_within(head: &[u8], from_container: bool, most: u32) -> Result<u16, Pack
     Ok(size)
 }
 
-/// Reads the payload behind a head into a buffer.
+/// Reads the payload after a head into a buffer.
 fn read_payload<L: Link>(line: &mut L, size: u16, payload: &mut Vec<u8>) -> Result<(), PacketError>
     ensures payload { (bytes : List ℕ) × HasCome (link_at L.Meanings line.old) (link_at L.Meanings line.new) bytes
         × PayloadCameAs size (read_into result payload.new.items) bytes }

@@ -17,15 +17,15 @@ pub enum RefusalKind {
     BadMark,
     /// A boolean that is neither 0 nor 1.
     BadBoolean,
-    /// A byte behind the end.
+    /// A byte after the end.
     Extra,
     /// More headers than are allowed.
     TooMany,
-    /// A string that may not be absent is.
+    /// A string is absent that may not be.
     Absent,
 }
 
-/// A place that can't be read. It is counted from the payload's end, so that a field needs to know only what lies behind it.
+/// A place that can't be read. It is counted from the payload's end, so that a field needs to know only what follows it.
 #[derive(Clone, Copy, Debug, PartialEq, Eq)]
 pub struct Refusal {
     pub kind: RefusalKind,

@@ -11,7 +11,7 @@ use std::alloc::Global;
 /// The most bytes of a string: its length is below the one that says absent.
 pub const MAX_STRING_BYTES: usize = 65_534;
 
-/// A string has fewer bytes than this, which as its length says that it is absent.
+/// A string has fewer bytes than this: as a length it says that the string is absent.
 pub const STRING_LIMIT: usize = 65_535;
 
 /// The most bytes of a payload, which has no more than its length can say.

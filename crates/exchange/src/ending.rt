@@ -36,7 +36,7 @@ pub enum Ran {
     TooLarge,
     /// Memory was wanted.
     Wanted { bytes: u64 },
-    /// The last talk ended so.
+    /// There was a talk; `end` is how the last one ended.
     Ended { end: TalkEnd, bytes: u64 },
 }
 

@@ -1,4 +1,4 @@
-//! How much of a body is sent right behind the Forward Request.
+//! How much of a body is sent right after the Forward Request.
 ghost use Rattle.std.specs.Prelude.{◌≡◌, ◌≤◌};
 ghost use Rattle.forwarding.specs.FirstPiece.{first_len as first_len_of, piece_for};
 ghost use Rattle.ajp_wire.specs.declared.writing.TheConstants.{MAX_PIECE_BYTES};

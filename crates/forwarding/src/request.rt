@@ -71,7 +71,7 @@ fn protocol_of(old: bool) -> &'static [u8]
     if old { b"HTTP/1.0" } else { b"HTTP/1.1" }
 }
 
-/// The lines as they go on, unless they go on as they are.
+/// The lines as they go on; None where they go on unchanged.
 fn trimmed_lines(alloc: Global, lines: &HeadLines) -> Result<Option<HeadPairs>, NoMemory>
     ensures lines { IfOk result (λ trimmed. GoOn lines.now trimmed) }
     ensures few { length lines.now ≤ MAX_HEADERS }

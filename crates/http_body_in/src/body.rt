@@ -34,7 +34,7 @@ pub struct BodyIn {
     failed: Option<BodyFault>,
 }
 
-/// A piece, and where the body stands behind it.
+/// A piece, and the place of the body after it.
 #[derive(Drop)]
 struct Piece {
     bytes: Bytes,

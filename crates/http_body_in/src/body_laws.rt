@@ -1,7 +1,7 @@
 //! Laws: the places that a reader goes through are those of the chunked coding's grammar.
 ghost use Rattle.http_body_in.specs.Chunked.{ReadsSpelled, ReadsOnlySpelled, RefusesUnspelled};
 
-/// Law: what the grammar spells is read as just its data, and as whole, and no byte behind it is used.
+/// Law: what the grammar spells is read as just its data, and as whole, and no byte after it is used.
 pub fn chunked_bodies_are_read_whole()
     ensures { ReadsSpelled }
 {}

@@ -3,7 +3,7 @@
 //! Source: RFC 9112, sections 6 and 7.1, in a strict profile: a line ends in CR LF alone, and nothing but
 //! digits and an extension stands in a chunk line.
 //! Own rules: the limits of a chunk line, of the trailer and of a chunked body's data; which byte breaks the
-//! grammar. No parser stands behind them.
+//! grammar. They rest on no parser.
 //! Shapes: a place is where a reader stands between two bytes; the data of bytes from a place on is whole, or
 //! goes to where the bytes end, or to a bad chunk line (specs/Body.antt).
 //! Contract: `BodyIn::take`, clauses `ok`, `err`, `unasked`. Read first: specs/Takes.antt over specs/Body.antt, then

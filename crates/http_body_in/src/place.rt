@@ -10,29 +10,29 @@ use http_front::BodyPlan;
 /// Where a reader of a body stands.
 #[derive(Clone, Copy)]
 pub enum Place {
-    /// In a body by length: so many bytes of data are left.
+    /// In a body by length: this many bytes of data are left.
     Exact(u64),
-    /// In a chunk line, behind `count` digits that write `size`.
+    /// In a chunk line, after `count` digits that write `size`.
     Digits { count: u64, size: u64 },
-    /// In the extension of a chunk line, behind `count` bytes of it.
+    /// In the extension of a chunk line, after `count` bytes of it.
     Extension { size: u64, count: u64 },
-    /// Behind the CR of a chunk line.
+    /// After the CR of a chunk line.
     LineFeed { size: u64 },
-    /// In a chunk: so many bytes of data are left, and then CR LF.
+    /// In a chunk: this many bytes of data are left, and then CR LF.
     Chunk(u64),
-    /// Behind the CR that follows a chunk's data.
+    /// After the CR that follows a chunk's data.
     DataFeed,
-    /// Before a line of the trailer: its lines may have so many bytes more.
+    /// Before a line of the trailer: its lines may have `left` more bytes.
     Trailer { left: u64 },
-    /// In a line of the trailer: so many bytes may stand before its CR LF, or behind it.
+    /// In a line of the trailer: `left` more bytes may stand before its CR LF, or after it.
     TrailerLine { left: u64 },
-    /// Behind the CR of a line of the trailer.
+    /// After the CR of a line of the trailer.
     TrailerLineFeed { left: u64 },
-    /// Behind the CR of the empty line that ends the body.
+    /// After the CR of the empty line that ends the body.
     TrailerFeed,
-    /// Behind the body.
+    /// After the body.
     Done,
-    /// Behind a byte that breaks the grammar.
+    /// After a byte that breaks the grammar.
     Bad,
 }
 
@@ -46,7 +46,7 @@ const MAX_SIZE_DIGITS: u64 = 10;
 /// What all digits but the last can write stays below this.
 const SIZE_STEP: u64 = 68_719_476_736;
 
-/// The most bytes of a chunk's extension behind the `;`.
+/// The most bytes of a chunk's extension after the `;`.
 const MAX_EXTENSION_BYTES: u64 = 256;
 
 /// The most bytes of the trailer's lines, their ends among them.
@@ -140,7 +140,7 @@ pub fn is_limited(place: Place) -> bool
     }
 }
 
-/// Behind `count` bytes of data.
+/// The place after `count` bytes of data.
 pub fn data_step(place: Place, count: u64) -> Place
     requires { count ≤ data_left place }
     ensures { result ≡ data_step place count }
@@ -152,7 +152,7 @@ pub fn data_step(place: Place, count: u64) -> Place
     }
 }
 
-/// Behind a byte of the framing.
+/// The place after a byte of the framing.
 pub fn step(place: Place, byte: u8) -> Place
     requires framing { data_left place ≡ 0 }
     requires open_end { is_over place ≡ false }
@@ -174,7 +174,7 @@ pub fn step(place: Place, byte: u8) -> Place
     }
 }
 
-/// The place behind the byte that has to stand there.
+/// The place `next` after the byte that has to stand there; after any other byte, Bad.
 fn if_byte(byte: u8, wanted: u8, next: Place) -> Place
     requires { exact_left next ≡ 0 }
     ensures value { result ≡ (if byte == wanted then next else Place.Bad) }
@@ -183,7 +183,7 @@ fn if_byte(byte: u8, wanted: u8, next: Place) -> Place
     if byte == wanted { next } else { Place::Bad }
 }
 
-/// Behind the LF of a chunk line.
+/// The place after the LF of a chunk line.
 fn line_feed_step(size: u64, byte: u8) -> Place
     ensures value { result ≡ (if byte == 10 then chunk_of size else Place.Bad) }
     ensures falls { framing_left result < framing_left (Place.LineFeed size) }
@@ -201,7 +201,7 @@ fn line_feed_step(size: u64, byte: u8) -> Place
     }
 }
 
-/// Behind a byte of a chunk line's digits.
+/// The place after a byte of a chunk line's digits.
 fn digits_step(count: u64, size: u64, byte: u8) -> Place
     ensures value { result ≡ digits_step count size byte }
     ensures falls { framing_left result < framing_left (Place.Digits count size) }
@@ -235,7 +235,7 @@ fn hex_value(byte: u8) -> Option<u64>
     }
 }
 
-/// Behind a byte of an extension.
+/// The place after a byte of an extension.
 fn extension_step(size: u64, count: u64, byte: u8) -> Place
     ensures value { result ≡ extension_step size count byte }
     ensures falls { framing_left result < framing_left (Place.Extension size count) }
@@ -253,7 +253,7 @@ fn extension_step(size: u64, count: u64, byte: u8) -> Place
     }
 }
 
-/// Behind a byte at the beginning of a trailer line.
+/// The place after a byte at the beginning of a trailer line.
 fn trailer_step(left: u64, byte: u8) -> Place
     ensures value { result ≡ trailer_step left byte }
     ensures falls { framing_left result < framing_left (Place.Trailer left) }
@@ -268,7 +268,7 @@ fn trailer_step(left: u64, byte: u8) -> Place
     Place::TrailerLine { left: left - 3 }
 }
 
-/// Behind a byte within a trailer line.
+/// The place after a byte within a trailer line.
 fn trailer_line_step(left: u64, byte: u8) -> Place
     ensures value { result ≡ trailer_line_step left byte }
     ensures falls { framing_left result < framing_left (Place.TrailerLine left) }

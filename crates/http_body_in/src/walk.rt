@@ -28,7 +28,7 @@ pub struct FilledPiece {
 pub struct Passed {
     /// Where it stands.
     pub place: Place,
-    /// The data of the body so far, that before the walk among it.
+    /// How many bytes of data the body had so far, also before the walk.
     pub taken: u64,
 }
 
@@ -236,7 +236,7 @@ fn drop_data<C: Link>(left: u64, inbox: &mut Inbox, client: &mut C) -> Result<u6
     Ok(count as u64)
 }
 
-/// Puts up to `left` bytes of data behind the first `count` of the piece, and answers how many came.
+/// Puts up to `left` bytes of data after the first `count` of the piece, and answers how many came.
 fn take_data<C: Link>(
     left: u64,
     count: usize,

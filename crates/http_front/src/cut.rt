@@ -48,7 +48,7 @@ fn empty_line_len_at(bytes: &[u8], at: usize) -> usize
     if bytes[at] == LF { 1 } else { 2 }
 }
 
-/// The place behind the empty lines that stand at `from`.
+/// The place after the empty lines that stand at `from`.
 pub fn skip_empty_lines(bytes: &[u8], from: usize) -> usize
     requires within { from ≤ length bytes.now }
     requires skipped { Skipped bytes.now from }

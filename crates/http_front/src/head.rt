@@ -8,7 +8,7 @@ use std::alloc::Global;
 pub enum BodyPlan {
     /// No body: neither framing stands in the head, or a Content-Length of 0.
     None,
-    /// By Content-Length: so many bytes, at least one and below 2^40.
+    /// By Content-Length: this many bytes, at least one and below 2^40.
     Exact(u64),
     /// By chunks.
     Chunked,

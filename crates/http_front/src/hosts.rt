@@ -84,7 +84,7 @@ fn ported<'a>(name: &'a [u8], port: &[u8]) -> Result<Server<'a>, Form>
     }
 }
 
-/// The place of the last colon, where no `]` stands behind it.
+/// The place of the last colon, where no `]` stands after it.
 fn split_port(host: &[u8]) -> Option<usize>
     ensures found { IfSome result (λ at. split_port host.now ≡ Some (take at host.now, drop (at + 1) host.now)) }
     ensures within { IfSome result (λ at. (at < length host.now) × (at + 1 < 2 ^ 64)) }

@@ -75,7 +75,7 @@ impl Inbox {
         self.start += n;
     }
 
-    /// Reads what the client has into the room behind the bytes, and answers how many came; 0 is the end.
+    /// Reads what the client has into the room after the bytes, and answers how many came; 0 is the end.
     pub fn read_more<C: Source>(&mut self, client: &mut C) -> Result<usize, IoError>
         requires { length self.old < MAX_HEAD_BYTES }
         ensures more { IfOk result (λ n. (came : List ℕ) × (length came ≡ n) × (self.new ≡ self.old ++ came)) }
@@ -95,7 +95,7 @@ impl Inbox {
     }
 }
 
-/// Moves the bytes from `start` to `end` to the front of the buffer where no room is behind them,
+/// Moves the bytes from `start` to `end` to the front of the buffer where no room is after them,
 /// or none of them is left, and answers where they begin.
 fn make_room(buffer: &mut Vec<u8>, start: usize, end: usize) -> usize
     requires ordered { start ≤ end }
@@ -115,7 +115,7 @@ fn make_room(buffer: &mut Vec<u8>, start: usize, end: usize) -> usize
     0
 }
 
-/// Reads into the room of the buffer behind `end`.
+/// Reads into the buffer from `end` on.
 fn read_behind<C: Source>(client: &mut C, buffer: &mut [u8], end: usize) -> Result<usize, IoError>
     requires { end < length buffer.old }
     ensures more { IfOk result (λ n. (came : List ℕ) × (length came ≡ n) × (take (end + n) buffer.new ≡ take end buffer.old ++ came)

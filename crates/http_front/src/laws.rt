@@ -1,4 +1,4 @@
-//! Laws of the definitions: a client's bytes say one thing, and a head is lines with an empty one behind them.
+//! Laws of the definitions: a client's bytes say one thing, and a head is lines with an empty one after them.
 ghost use Rattle.std.specs.Prelude.{◌≡◌, ◌<◌, ◌+◌, ℕ, List, ◌++◌, length, Some};
 ghost use Rattle.http_front.specs.Cut.{head_len, header_lines};
 ghost use Rattle.http_front.specs.Lines.{AreFullLines, IsEmptyLine, ended};
@@ -21,7 +21,7 @@ pub fn one_answer()
     ensures short_empty { (bytes : List ℕ) → AreEmptyLines bytes → EndsWithin bytes → ⊥ }
 {}
 
-/// Lines that aren't empty, and an empty line behind them, are the bytes of a head, whatever
+/// Lines that aren't empty, and an empty line after them, are the bytes of a head, whatever
 /// follows; its header lines are all of them but the first.
 pub fn a_head_is_lines()
     ensures cut { (lines : List (List ℕ)) (last rest : List ℕ) → 0 < length lines → AreFullLines lines → IsEmptyLine last

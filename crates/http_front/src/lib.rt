@@ -3,8 +3,8 @@
 //! Source: RFC 9112, sections 2, 3, 5, 6 and 9.6, and RFC 9110, sections 5.6.1 and 10.1.1, in a strict profile.
 //! Own rules: where a head ends and how its lines are counted, both limits, the order of the refusals, the
 //! clean path. What is a head of 1.0 or 1.1 is what the grammar of the parser's contract (`httparse`) reads whole.
-//! Shapes: a field line is a pair of a name and a value without outer blanks; the bytes that a client has still
-//! to be read are those in the inbox, and behind them what its link has to come (specs/Unread.antt).
+//! Shapes: a field line is a pair of a name and a value without outer blanks; the bytes of a client that are still
+//! to be read are those in the inbox, and after them what its link has to come (specs/Unread.antt).
 //! Contract: `read_head`, clauses `head`, `end`, `refused`, `truncated`, `unasked`; `clean_path`. Read first: specs/Request.antt.
 //! Errors: `HeadError`. After each of them no byte is used.
 #![tactic(auto)]

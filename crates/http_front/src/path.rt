@@ -105,7 +105,7 @@ pub fn before(bytes: &[u8], byte: u8) -> &[u8]
     }
 }
 
-/// Whether no `\` stands in the path, and behind each `%` a good escape.
+/// Whether no `\` stands in the path, and each `%` begins a good escape.
 fn has_good_bytes(path: &[u8]) -> bool
     ensures { result ≡ has_good_bytes path.now }
 {

@@ -18,16 +18,16 @@ use std::alloc::Global;
 /// What a look at the bytes in hand says.
 #[derive(Clone, Copy)]
 pub enum Look {
-    /// A head of `len` bytes stands behind `blank` bytes of empty lines.
+    /// A head of `len` bytes comes after `blank` bytes of empty lines.
     Whole { blank: usize, len: usize },
-    /// No head has its end yet; so many bytes of empty lines, and so many behind them need no second look.
+    /// No head has its end yet; `blank` bytes of empty lines, and `searched` bytes after them, need no second look.
     Part { blank: usize, searched: usize },
 }
 
 /// What stands at the front of a client's bytes.
 #[derive(Clone, Copy)]
 pub enum Found {
-    /// A head of `len` bytes stands behind `blank` bytes of empty lines.
+    /// A head of `len` bytes comes after `blank` bytes of empty lines.
     Head { blank: usize, len: usize },
     /// The bytes ended, all of them empty lines.
     End,

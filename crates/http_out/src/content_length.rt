@@ -10,7 +10,7 @@ use jk_io::{Bytes, parse_decimal};
 pub enum ContentLength {
     /// No line says one.
     Absent,
-    /// One line says so many bytes.
+    /// One line says this many bytes.
     Announced(u64),
     /// More than one line, or a value that isn't 1 to 19 digits.
     Unreadable,

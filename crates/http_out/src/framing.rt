@@ -6,7 +6,7 @@ ghost use Rattle.http_out.specs.Framing.{framing_by, hex_digits, framed, closing
 use crate::content_length::ContentLength;
 use jk_io::{Bytes, NoMemory};
 
-/// What of a request its reply's bytes go by.
+/// What of a request decides the bytes of its reply.
 #[derive(Clone, Copy, PartialEq, Eq)]
 pub struct RequestKind {
     /// A request of HTTP/1.0.
@@ -74,7 +74,7 @@ impl Framing {
         }
     }
 
-    /// A chunk of so many bytes goes beyond the length that was announced.
+    /// A chunk of this many bytes goes beyond the length that was announced.
     pub fn is_beyond(self, bytes: usize) -> bool
         ensures { result ≡ is_beyond self bytes }
     {
@@ -94,7 +94,7 @@ impl Framing {
         }
     }
 
-    /// The framing after a chunk of so many bytes.
+    /// The framing after a chunk of this many bytes.
     pub fn spent(self, bytes: usize) -> Framing
         ensures { result ≡ spent self bytes }
     {

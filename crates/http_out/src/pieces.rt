@@ -9,7 +9,7 @@ use crate::passage::{Passage, send};
 use crate::reply_head::OutError;
 use jk_io::{Bytes, NoMemory, Sink};
 
-/// Writes a chunk behind the text that is held, and leaves no text. A chunk that needs no frame goes from where it lies.
+/// Writes a chunk after the text that is held, and leaves no text. A chunk that needs no frame goes from where it lies.
 pub fn write_piece<C: Sink>(
     text: &mut Bytes,
     framing: Framing,

@@ -20,7 +20,7 @@ pub struct ReplyWriter {
     alloc: Global,
     kind: RequestKind,
     framing: Option<Framing>,
-    /// The head's bytes as long as they are held, later no byte: the memory for a chunk with its size line.
+    /// The head's bytes while they are held; later empty, and the memory for a chunk with its size line.
     text: Bytes,
     passage: Passage,
     ended: bool,
