@@ -1,7 +1,7 @@
 //! Callers that meet the premises of each law of the balancer's definitions, over every Book of rules 2.
 //!
 //! Each takes the segment of a Book before a call, does the call, and cites the laws of what it saw. That they are
-//! proved shows that no premise of a law is one that no history meets.
+//! proved shows that some history meets each law's premises.
 ghost use Rattle.std.specs.Prelude.{◌≡◌, ◌≤◌, ◌<◌, ◌∷◌, reverse, IfOk};
 ghost use Rattle.jk_model.specs.Choice.{IsPick};
 ghost use Rattle.jk_model.specs.Legal.{IsLegalPast};
@@ -65,7 +65,7 @@ pub fn return_lawfully(
     Ok(answer)
 }
 
-/// Does a Maintain where one is due: it halves the loads, but for Busyness.
+/// Does a Maintain if due: it halves the loads, except by Busyness.
 pub fn maintain_lawfully(book: &mut Book, at: u64) -> Result<Option<Entry>, RoomError<FullMark>>
     requires { book.old.rules ≡ MODERN_RULES }
     ensures rules { book.new.rules ≡ MODERN_RULES }
@@ -87,7 +87,7 @@ fn cite_maintenance(before: &Segment, entry: &Entry)
     }
 }
 
-/// Resets a member, whose state is what this last entry that touches it gives.
+/// Resets a member. Its state is then what this entry gives, the last one that touches it.
 pub fn reset_lawfully(book: &mut Book, at: u64, member: u32) -> Result<Entry, AdminError<FullMark>>
     requires { book.old.rules ≡ MODERN_RULES }
     ensures rules { book.new.rules ≡ MODERN_RULES }

@@ -210,7 +210,7 @@ impl Book {
         ensures next { IfOk result (λ picked. IsNext self.old.rules self.old.opening (past_of self.old) picked.entry) }
         ensures sound { IsSound self.new }
 
-        // Each number is kept for a Return, the Select's own and that of its ticket.
+        // Full exactly where two numbers aren't left: the Select's own, and that of its ticket's Return.
         ensures full { IsFullUnless (next_number self.old) (tickets_out self.old) 2 result }
         ensures err { OnErr result (self.new ≡ self.old) }
     {

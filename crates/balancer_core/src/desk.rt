@@ -24,10 +24,10 @@ pub struct Occasion {
     pub at: u64,
 }
 
-/// Balancers that a caller asks, over one thread as over a lock. A balancer is named by its place `lb`.
+/// Balancers that a caller asks, of one thread or behind a lock. A balancer is named by its place `lb`.
 ///
 /// Each call finds a journal that is sound and of rules 2, and its entries follow that journal. Where a desk tells its
-/// Books, it is the told one; a desk over a lock tells none, and then no more is known of it.
+/// Books, that journal is the told one; a desk over a lock tells none, and then no more is known of the journal.
 pub trait Desk {
     ghost use Rattle.std.specs.Prelude.{◌≡◌, ◌≤◌, ◌<◌, true, length, IfSome, IfOk, IfErr, OnErr};
     ghost use Rattle.balancer_core.specs.Desks.{
@@ -68,7 +68,7 @@ pub trait Desk {
 
     ghost view: { Self.Shown → View };
 
-    /// Asks for a member, after a Maintain exactly where one is due. A refusal is that of the ask, or of that Maintain.
+    /// Asks for a member, after a Maintain if due. A refusal is that of the ask, or of that Maintain.
     fn choose(
         &mut self,
         lb: u32,
@@ -100,7 +100,7 @@ pub trait Desk {
         ensures same { ((state self.new).fulls ≡ (state self.old).fulls) × ((state self.new).wides ≡ (state self.old).wides) }
         ensures kept { KeepsDesk (state self.old) (state self.new) };
 
-    /// Does a command, after a Maintain exactly where one is due. A Maintain that is refused is the answer; else the
+    /// Does a command, after a Maintain if due. Where that Maintain is refused, its refusal is the answer; else the
     /// sizes and the command decide.
     fn command(
         &mut self,

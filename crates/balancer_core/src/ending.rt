@@ -70,7 +70,7 @@ fn ending_config(config: &LbConfig, rows: &[Standing]) -> Result<LbConfig, NoMem
     })
 }
 
-// Puts a ticket behind the others, if there is one and it didn't come back.
+// Adds a ticket at the end, if there is one and it didn't come back.
 fn put_if_out(
     tickets: &mut Vec<(u64, u32)>,
     ticket: Option<(u64, u32)>,
@@ -109,7 +109,7 @@ fn early_out(
     Ok(tickets)
 }
 
-// Puts those of the entries' tickets behind the others that didn't come back.
+// Adds at the end those of the entries' tickets that didn't come back.
 fn put_own(
     tickets: &mut Vec<(u64, u32)>,
     entries: &[Entry],

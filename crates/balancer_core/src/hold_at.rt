@@ -13,7 +13,7 @@ use crate::plain_desk::{PlainLease, chosen};
 use crate::receipt::Receipt;
 use jk_model::{AdminError, Ask, Command, FullMark, Outcome, RoomError};
 
-/// A Maintain where one is due, and a Select. The room is taken before: for both receipts, for that of the ticket's
+/// A Maintain if due, and a Select. The room is taken before: for both receipts, for that of the ticket's
 /// Return, and for the ticket.
 pub(crate) fn select_at(
     books: &mut [Book],
@@ -65,7 +65,7 @@ pub(crate) fn return_at(
     take_out(held, (on.lb, ticket));
 }
 
-/// A Maintain where one is due, and a command.
+/// A Maintain if due, and a command.
 pub(crate) fn command_at(
     books: &mut [Book],
     receipts: &mut Vec<Receipt>,
@@ -94,7 +94,7 @@ fn is_pair(a: (u32, u64), b: (u32, u64)) -> bool
     a.0 == b.0 && a.1 == b.1
 }
 
-// Takes out each pair that is this.
+// Takes out every pair equal to this one.
 fn take_out(held: &mut Vec<(u32, u64)>, pair: (u32, u64))
     ensures { held.new.items ≡ filter (λ x. not (is_pair pair x)) held.old.items }
 {

@@ -1,4 +1,4 @@
-//! One hold of a Book: a Maintain where one is due, and then a call, each entry with its receipt.
+//! One hold of a Book: a Maintain if due, and then a call, each entry with its receipt.
 ghost use Rattle.std.specs.Prelude.{◌≡◌, ◌+◌, ◌≤◌, ◌<◌, ◌∷◌, [], ◌++◌, length, vec_len, vec_capacity, IfOk, IfErr, OnOk, OnErr};
 ghost use Rattle.jk_model.specs.Journal.{members};
 ghost use Rattle.jk_model.specs.Legal.{HasValues};
@@ -29,7 +29,7 @@ pub(crate) fn note(receipts: &mut Vec<Receipt>, on: Occasion, entry: Entry)
     receipts.push(receipt).unwrap();
 }
 
-/// Does a Maintain where one is due.
+/// Does a Maintain if due.
 pub(crate) fn maintain_first(
     book: &mut Book,
     receipts: &mut Vec<Receipt>,
@@ -48,7 +48,7 @@ pub(crate) fn maintain_first(
     Ok(())
 }
 
-/// Does a Maintain where one is due, and then a Select.
+/// Does a Maintain if due, and then a Select.
 pub(crate) fn select_after(
     book: &mut Book,
     receipts: &mut Vec<Receipt>,
@@ -72,7 +72,7 @@ pub(crate) fn select_after(
     Ok(picked)
 }
 
-/// Does a Maintain where one is due, and then a command.
+/// Does a Maintain if due, and then a command.
 pub(crate) fn command_after(
     book: &mut Book,
     receipts: &mut Vec<Receipt>,

@@ -24,7 +24,7 @@ fn is_over(state: MemberState, at: u64, recover: u64) -> bool
     }
 }
 
-// The greatest of the loads after so many halvings.
+// The greatest of the loads after `times` halvings.
 fn greatest_halved(rows: &[Standing], times: u64) -> u128
     ensures { (d : Standing) → result ≡ greatest_halved rows.now d times }
 {
@@ -35,7 +35,7 @@ fn greatest_halved(rows: &[Standing], times: u64) -> u128
     most
 }
 
-/// A maintenance at a moment, which halves so many times, where `most` is the greatest halved load.
+/// A maintenance at a moment, which halves `times` times; `most` is the greatest halved load.
 #[derive(Clone, Copy)]
 pub(crate) struct Maintenance {
     pub(crate) at: u64,

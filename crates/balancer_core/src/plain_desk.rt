@@ -187,7 +187,7 @@ impl Desk for PlainDesk {
     }
 }
 
-// That each journal is sound, which the type of each Book keeps, said of all of them: it reads a number of each.
+// Says that every journal is sound, which each Book's type keeps: it reads a number of each Book.
 fn vouch(books: &[Book])
     ensures { AreLegal books.now }
 {

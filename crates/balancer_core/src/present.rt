@@ -27,7 +27,7 @@ pub(crate) struct Present {
     pub(crate) chosen: Option<u32>,
 }
 
-// Turns all rows from Error to Recover that may be revived for the ask, but that of `except`.
+// Turns the rows that may be revived for the ask from Error to Recover, but not that of `except`.
 fn revive_others(rows: &mut Vec<Standing>, ask: &Ask, except: usize, direct: bool)
     requires { length rows.old.items ≤ MAX_MEMBERS }
     ensures { AreOthersRevived ask.now except (length rows.old.items) rows.old.items rows.new.items }

@@ -10,10 +10,10 @@ use jk_model::{Method, Outcome};
 use lb_methods::{gain_return, gain_select};
 use member_state::{Touch, next_state};
 
-/// Each load is below this, so that what an entry adds to it is a number too.
+/// Each load is below this, so that with what an entry adds it still fits a u128.
 pub(crate) const LOAD_LIMIT: u128 = 1 << 125;
 
-/// The load by the method: what is kept, but by Busyness what runs now.
+/// The load by the method: what is kept, or by Busyness what runs now.
 pub(crate) fn by_method(method: Method, running: u128, kept: u128) -> u128
     ensures { result ≡ load_by method running kept }
 {
@@ -23,7 +23,7 @@ pub(crate) fn by_method(method: Method, running: u128, kept: u128) -> u128
     }
 }
 
-/// The load of a row: the sum of its gains, but by Busyness what runs now.
+/// The load of a row: the sum of its gains, or by Busyness what runs now.
 pub(crate) fn load_by(method: Method, unit: u32, busy: u32, gains: u128) -> u128
     ensures { result ≡ load_by method (busy * unit) gains }
 {

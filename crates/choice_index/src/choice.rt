@@ -16,7 +16,7 @@ use crate::rules::Rules;
 use crate::standing::Standing;
 use jk_model::{Answer, Ask, How, LbConfig, MemberState};
 
-/// The answer to an ask, and whether it turns those members from Error to Recover that may be revived.
+/// The answer to an ask, and whether it turns the members that may be revived from Error to Recover.
 #[derive(Clone, Copy, PartialEq, Eq)]
 pub struct SelectAnswer {
     pub answer: Answer,
@@ -113,7 +113,7 @@ fn chosen(row: &Standing, member: u32, how: How, next: u64, revives: bool) -> Se
     }
 }
 
-// The least of those that may be revived, which rules 1 don't do.
+// The least of those that may be revived; none under rules 1, which revive nobody.
 fn least_revivable(rules: Rules, rows: &[Standing], ask: &Ask, begin: usize) -> Option<usize>
     requires few { length rows.now ≤ MAX_MEMBERS }
     ensures { IsRevivalOf (rules_number rules) rows.now ask.now begin result }

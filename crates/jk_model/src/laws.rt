@@ -30,14 +30,14 @@ pub fn choice_is_good(rules: u8, opening: &Opening, past: &[Entry], ask: &Ask, a
         → MayBeChosen rules opening.now (reverse past.now) ask.now (state_of rules opening.now (reverse past.now) m) }
 {}
 
-/// A ticket is out from the entry that makes it on.
+/// A ticket is out from the entry on that makes it.
 pub fn ticket_begins(rules: u8, opening: &Opening, past: &[Entry], entry: &Entry)
     requires { IsLegalPast rules opening.now (entry.now ∷ reverse past.now) }
     ensures { (m t : ℕ) (how : How) (p : Bool) → entry.now.answer ≡ Answer.Chosen m t how p
         → BeginsTicket opening.now (reverse past.now) entry.now m }
 {}
 
-/// It stays out through every entry that doesn't return it, and after its Return it is never out again.
+/// A ticket stays out through every entry that doesn't return it, and after its Return it is never out again.
 pub fn ticket_ends(opening: &Opening, past: &[Entry], entry: &Entry, later: &[Entry], ticket: u64)
     ensures stays { is_out opening.now (reverse past.now) ticket ≡ true → gives_back ticket entry.now.call ≡ false
         → is_out opening.now (entry.now ∷ reverse past.now) ticket ≡ true }

@@ -1,6 +1,6 @@
 ghost use Rattle.std.specs.Prelude.{◌≡◌, ◌/◌, ◌^◌};
 
-/// A load after so many halvings, rounded down.
+/// A load after `times` halvings, rounded down.
 pub fn halve(load: u128, times: u64) -> u128
     ensures value { result ≡ load / 2 ^ times }
 {

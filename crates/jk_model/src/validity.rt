@@ -28,7 +28,7 @@ pub(crate) fn is_within(members: usize, chosen: Option<u32>) -> bool
     }
 }
 
-// Each ticket from the oldest on is at least `from`, one more than the ticket before it.
+// Each ticket, oldest first, is at least `from`: one more than the ticket before it.
 pub(crate) fn are_tickets(members: usize, next: u64, out: &[(u64, u32)]) -> bool
     ensures value { IsTrue result ↔ AreTickets members next (reverse out.now) }
 {

@@ -227,7 +227,7 @@ fn balancer_after(
     })
 }
 
-/// The values of a balancer's line, behind its name.
+/// The values of a balancer's line, after its name.
 pub(crate) fn balancer_of(words: &mut Parts) -> Option<BalancerValues>
     ensures value { result ≡ balancer_of words.old }
 {
@@ -262,7 +262,7 @@ fn member_after(
     })
 }
 
-/// The values of a member's line, behind its name and its route.
+/// The values of a member's line, after its name and its route.
 pub(crate) fn member_of(words: &mut Parts) -> Option<MemberValues>
     ensures value { result ≡ member_of words.old }
 {

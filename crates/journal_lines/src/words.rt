@@ -1,11 +1,11 @@
-//! Words that are added to a line, each behind a space.
+//! Words that are added to a line, each after a space.
 ghost use Rattle.std.specs.Prelude.{◌≡◌, ◌∷◌, ◌++◌, OnOk, decimal};
 ghost use Rattle.journal_lines.specs.Words.{activation_change, activation_word, flag, how_word, kind_word, method_word, optional, redirect_change, state_word};
 
 use jk_io::{Bytes, NoMemory, put_decimal};
 use jk_model::{Activation, How, Kind, MemberState, Method, Redirect};
 
-/// Adds a word behind a space.
+/// Adds a word after a space.
 pub(crate) fn put_word(out: &mut Bytes, word: &[u8]) -> Result<(), NoMemory>
     ensures { OnOk result (out.new ≡ out.old ++ (32 ∷ word.now)) }
 {

@@ -86,7 +86,7 @@ fn put_call(out: &mut Bytes, rules: u8, call: &Call) -> Result<(), NoMemory>
     }
 }
 
-/// Adds the words of an answer, each behind a space.
+/// Adds the words of an answer, each after a space.
 pub fn put_answer(out: &mut Bytes, answer: &Answer) -> Result<(), NoMemory>
     ensures { OnOk result (out.new ≡ out.old ++ spaced (answer_words answer.now)) }
 {

@@ -20,9 +20,9 @@ use std::alloc::Global;
 pub enum TextPlace {
     /// Between segments.
     Outside,
-    /// Behind the line of a segment's rules.
+    /// After the line of a segment's rules.
     Ruled,
-    /// In an opening, behind its balancer's line.
+    /// In an opening, after its balancer's line.
     Heading(OpeningDraft),
     /// Among the entries of a segment.
     Body {
@@ -210,7 +210,7 @@ fn with_entry(
     Ok(Some(Reader { rules, place, done }))
 }
 
-// Behind a further segment.
+// After a further segment.
 fn with_segment(rules: u8, done: CountedList, segment: Counted) -> Result<Option<Reader>, NoMemory>
     requires versions { AreRules rules }
     requires kept { IsKept segment }
@@ -338,7 +338,7 @@ impl Reader {
         }
     }
 
-    /// The segments that were read, where a text may end here; `last` is what stands behind its last LF.
+    /// The segments that were read, where a text may end here; `last` is what stands after its last LF.
     pub(crate) fn end(self, last: &[u8]) -> Option<CountedList>
         requires sound { IsSound self }
         ensures sound { IfSome result (All IsKept) }
@@ -357,7 +357,7 @@ impl Reader {
         self.done
     }
 
-    /// Takes the last segment out that was read, where there is one.
+    /// Takes out the segment that was read last, where there is one.
     pub fn take_segment(&mut self) -> Option<Counted>
         requires sound { IsSound self.old }
         ensures none { IfNone result ((self.old.done ≡ []) × (self.new.done ≡ [])) }

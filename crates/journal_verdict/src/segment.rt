@@ -130,7 +130,7 @@ fn end_of(
     replay(&mut Book::resume(opening, rules)?, at, entries, count)
 }
 
-// So of entries that nobody reads after.
+// As `end_of`, of entries that nobody reads after that.
 fn end_of_all(
     opening: Opening,
     rules: u8,
@@ -173,7 +173,7 @@ fn lines_before(segment: &Counted) -> usize
     members + segment.opening.out.len() + 3
 }
 
-// What comes after a segment whose opening is right; so many lines and entries stand before it.
+// What comes after a segment whose opening is right; `lines` and `entries` count what stands before it.
 fn take_entries(lines: u32, entries: u64, segment: Counted) -> Result<Check, NoMemory>
     requires kept { IsKept segment }
     requires few { lines + length (lines_of segment) < 2 ^ 32 }

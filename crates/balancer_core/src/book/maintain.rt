@@ -1,4 +1,4 @@
-//! The call of a Book that does a maintenance where one is due.
+//! The call of a Book that does a maintenance if due.
 
 use super::Book;
 use super::adding::{add, take_room};
@@ -10,7 +10,7 @@ impl Book {
     ghost use Rattle.balancer_core.specs.Due.{IsMaintenance};
     ghost use Rattle.balancer_core.specs.Journal.{AddsEntry, IsSound, past_of};
 
-    /// Halves the loads and ends the errors that are over, where that is due: at least the maintenance time after the
+    /// Halves the loads and ends the errors that are over, if due: at least the maintenance time after the
     /// last time. It goes over the members once, however long the journal is.
     pub fn maintain_if_due(
         &mut self,
@@ -23,7 +23,7 @@ impl Book {
         ensures next { IfOk result (λ found. IfSome found (λ e. IsNext self.old.rules self.old.opening (past_of self.old) e)) }
         ensures sound { IsSound self.new }
 
-        // None is done exactly where none is due, and none is refused there.
+        // Nothing is done exactly where nothing is due, and nothing is refused there.
         ensures due { IsMaintenance self.old at result }
         ensures err { OnErr result (self.new ≡ self.old) }
     {
