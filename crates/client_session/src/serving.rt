@@ -38,7 +38,7 @@ use std::alloc::Global;
 use std::mem;
 use uri_map::UriMap;
 
-/// What it makes of the session that the rest of a body can't be read.
+/// Why the session stops where the rest of a body can't be read.
 fn stop_for(fault: BodyFault) -> SessionStop
     ensures { result ≡ stop_after fault }
 {

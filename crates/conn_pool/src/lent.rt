@@ -1,4 +1,4 @@
-//! The link of a running talk, and an idle link between its talks. Each says whose it is.
+//! The link of a running talk, and an idle link between its talks. Each tells its balancer and member.
 ghost use Rattle.std.specs.Prelude.{◌≡◌, ◌<◌, ◌≤◌, ◌↔◌, true, false, None, IsSome, IsTrue, IfOk, IfSome, OnOk, OnErr, length};
 ghost use Rattle.jk_io.specs.Moments.{moment};
 ghost use Rattle.conn_pool.specs.Reaches.{ReadsLink, WritesLink};
@@ -7,7 +7,7 @@ use jk_io::{IoError, Link};
 use std::marker::Model;
 use std::snapshot::Snapshot;
 
-/// A link between its talks, and the balancer and member whose it is. A talk that ends makes one, and no other call.
+/// A link between its talks, with its balancer and member. The end of a talk makes one, and no other call does.
 #[derive(Drop)]
 pub struct Idle<L> {
     pub(crate) lb: u32,
@@ -24,7 +24,7 @@ impl<L> Idle<L> {
     }
 }
 
-/// A link while a talk runs over it, and whose it is. The link comes out by `kept` alone.
+/// A link while a talk runs over it, with its balancer and member. The link comes out by `kept` alone.
 #[derive(Drop)]
 pub(crate) struct Lent<L: Link + Drop> {
     lb: u32,

@@ -208,7 +208,7 @@ impl<'p, 'r, D: Dial, T: Tape, R: Wait> Reach for PooledReach<'p, 'r, D, T, R> {
         ensures clean { IsOk result → D.faults self.new.dial ≡ D.faults self.old.dial }
         ensures dial_failed { IsErrOf result IoError.Failed → Rose (D.faults self.old.dial) (D.faults self.new.dial) }
 
-        // A begin that failed is a talk, one that wanted memory is none.
+        // A begin that failed counts as an ended talk; one that wanted memory doesn't.
         ensures ok { OnOk result (T.talks self.new.tape ≡ T.talks self.old.tape) }
         ensures failed { IsErrOf result IoError.Failed
             → T.talks self.new.tape ≡ appended (T.talks self.old.tape) (failed_talk lb member host.now port fresh ∷ []) }
@@ -269,7 +269,7 @@ impl<'p, 'r, D: Dial, T: Tape, R: Wait> Reach for PooledReach<'p, 'r, D, T, R> {
     ghost open_in_talk = { λ r. refl };
 }
 
-// Hands a lent link to the pool of its member where it is to be kept and may be. Where the pool is full it is closed.
+// Hands a talk's link to the pool of its member if it is to be kept and may be. Where the pool is full it is closed.
 fn put_back<L: Link + Drop, R: Wait>(
     pools: &Pools<'_, Idle<L>, R>,
     lent: Lent<L>,

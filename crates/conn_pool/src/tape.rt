@@ -28,12 +28,12 @@ pub trait Tape {
 
     ghost received: { Self → Option (List ℕ) };
 
-    // as far as it is told, no talk runs, or one does
+    // no talk runs; with `is_running`, one does; each as far as it is told
     ghost is_idle: { Self → Type 0 };
 
     ghost is_running: { Self → Type 0 };
 
-    // so many bytes can be noted without memory
+    // this many bytes can be noted without taking memory
     ghost has_room: { Self → ℕ → Type 0 };
 
     fn begin(
@@ -52,7 +52,7 @@ pub trait Tape {
         ensures empty { IsEmpty (sent self.new) × IsEmpty (received self.new) }
         ensures talks { talks self.new ≡ talks self.old };
 
-    /// Takes the room to note up to so many bytes.
+    /// Takes the room to note up to `n` bytes.
     fn room(&mut self, n: usize) -> Result<(), NoMemory>
         requires { is_running self.old }
         ensures room { OnOk result ((m : ℕ) → m ≤ n → has_room self.new m) }

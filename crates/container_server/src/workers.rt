@@ -44,7 +44,7 @@ struct Room<D> {
     left: Vec<D>,
 }
 
-/// Room for so many workers and doors.
+/// Room for `count` workers and doors.
 fn room_for<D: Drop>(alloc: Global, count: usize) -> Result<Room<D>, NoMemory>
     ensures none { IfOk result (λ r. (r.workers.items ≡ []) × (r.left.items ≡ [])) }
     ensures room { IfOk result (λ r. (count ≤ vec_capacity r.workers) × (count ≤ vec_capacity r.left)) }

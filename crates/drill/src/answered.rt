@@ -44,7 +44,7 @@ fn gives_back(entry: Entry, ticket: u64) -> bool
 }
 
 impl Progress {
-    /// What the thread's next entry makes of that. None: no request that was answered whole has it there.
+    /// The progress after the thread's next entry. None: no request that is answered whole has that entry there.
     fn after(self, entry: Entry) -> Option<Progress>
         requires few { self.whole < 2 ^ 63 }
         ensures some { IfSome result (λ p. (xs : List Entry) → IsSoFar xs self.whole self.ticket
@@ -59,7 +59,7 @@ impl Progress {
         }
     }
 
-    // Where no request is under way.
+    // As `after`, where no request is under way.
     fn begun(self, entry: Entry) -> Option<Progress>
         ensures some { IfSome result (λ p. (xs : List Entry) → IsSoFar xs self.whole None
             → IsSoFar (xs ++ entry ∷ []) p.whole p.ticket) }
@@ -76,7 +76,7 @@ impl Progress {
         }
     }
 
-    // Where this ticket is out.
+    // As `after`, where this ticket is out.
     fn ended(self, ticket: u64, entry: Entry) -> Option<Progress>
         requires few { self.whole < 2 ^ 63 }
         ensures some { IfSome result (λ p. (xs : List Entry) → IsSoFar xs self.whole (Some ticket)
@@ -95,7 +95,7 @@ impl Progress {
         }
     }
 
-    /// What the next entry of all makes of that, where other threads have entries too.
+    /// The progress after the next entry of a journal, in which other threads have entries too.
     fn seen(self, thread: u32, entry: Entry) -> Option<Progress>
         requires few { self.whole < 2 ^ 63 }
         ensures some { IfSome result (λ p. (xs : List Entry) → IsSoFar (entries_of thread xs) self.whole self.ticket
@@ -111,7 +111,7 @@ impl Progress {
         }
     }
 
-    /// Whether these are so many requests, and no more.
+    /// Whether exactly `requests` requests were answered whole, and none is under way.
     fn is_done(self, requests: u32) -> bool
         ensures yes { IsTrue result → (xs : List Entry) → IsSoFar xs self.whole self.ticket → AreAnswered requests xs }
         ensures no { IsFalse result → (xs : List Entry) → IsSoFar xs self.whole self.ticket → AreAnswered requests xs → ⊥ }
@@ -123,7 +123,7 @@ impl Progress {
     }
 }
 
-/// Whether the entries of a thread are those of so many requests, each answered whole.
+/// Whether the entries of a thread are those of `requests` requests, each answered whole.
 fn is_answered(entries: &[Entry], thread: u32, requests: u32) -> bool
     ensures { IsTrue result ↔ AreAnswered requests (entries_of thread entries.now) }
 {

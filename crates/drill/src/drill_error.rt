@@ -16,7 +16,7 @@ pub struct Drilled {
     pub book: Book,
 }
 
-/// Why a drill hands out nothing of that.
+/// Why a drill hands out nothing.
 #[derive(Drop)]
 pub enum DrillError {
     /// The receipts of the threads aren't the kept entries.

@@ -49,7 +49,7 @@ pub(crate) struct Requests {
     thread: u32,
     /// The first request of all threads that was not looked at.
     next: u32,
-    /// Its number is the one after this.
+    /// The number before that of request `next`.
     number: u64,
 }
 

@@ -65,7 +65,7 @@ fn drill_in<L: SiteName + Send + Sync, R: Threads + Wait + Sync>(
     drill_over(rt, alloc, site, plan, SharedSite::new(rt, opened, 0), share)
 }
 
-// So over a Site behind its lock, with the whole share of it.
+// As `drill_in`, over a Site behind its lock, with the whole share of it.
 fn drill_over<'r, L: SiteName + Send + Sync, R: Threads + Wait + Sync>(
     rt: &'r R,
     alloc: Global,
@@ -132,7 +132,7 @@ fn text_in(
     }
 }
 
-// So of a Book.
+// As `text_in`, of a Book's journal.
 fn text_of(
     alloc: Global,
     plan: Plan,
@@ -196,7 +196,7 @@ fn only_book(books: BookList) -> Book
     }
 }
 
-// Makes them over the drill's own site.
+// As `drilled_book`, over the drill's own site.
 fn book_of<R: Threads + Wait + Sync>(rt: &R, alloc: Global, plan: Plan) -> Result<Book, DrillError>
     ensures book { IfOk result IsOfDrill }
     ensures cause { IfErr result (IsDrillError plan.threads plan.requests) }

@@ -39,7 +39,7 @@ fn slot_of<'s, 'r, L: SiteName, R>(
     }
 }
 
-// Puts a slot with a part of the ledger behind the others.
+// Adds a slot with a part of the ledger at the end.
 fn put_slot<'s, 'r, L: SiteName, R>(
     alloc: Global,
     slots: &mut Vec<Slot<'s, 'r, L, R>>,
@@ -186,7 +186,7 @@ fn left_in<'s, 'r, L: SiteName, R>(
     }
 }
 
-// So over the slots of a list.
+// As `serve_slots`, over the slots of a list.
 fn serve_each<'s, 'r, L: SiteName + Send + Sync, R: Threads + Wait + Sync>(
     rt: &R,
     alloc: Global,

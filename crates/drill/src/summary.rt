@@ -52,7 +52,7 @@ fn put_line(out: &mut Bytes, word: &[u8], number: u64) -> Result<(), NoMemory>
     out.push(b'\n')
 }
 
-/// Adds the line on the receipts, or over passes that on their number.
+/// Adds the line on the receipts; over passes, the line on their number.
 fn put_compared(out: &mut Bytes, threads: u32, passes: bool) -> Result<(), NoMemory>
     ensures { OnOk result (out.new ≡ out.old ++ compared_line threads passes) }
 {

@@ -62,7 +62,7 @@ where
     contain_in(rt, alloc, app, gears, memory)
 }
 
-/// Takes the memory for so many gears.
+/// Takes the memory for `count` gears.
 fn memory_for<D: Drop, X: Drop, B: Drop>(
     alloc: Global,
     count: usize,
@@ -176,7 +176,7 @@ fn put_doors<D: Drop, G: Drop, T: Drop, K: Drop, S: Drop, O: Drop>(
     put_all(doors, &mut rests, gears);
 }
 
-/// So with the rests that are lent, the next of which is that of the next door.
+/// As `put_doors`, over rests that the caller lends; the next rest belongs to the next door.
 fn put_all<D: Drop, G: Drop, T: Drop, K: Drop, S: Drop, O: Drop>(
     doors: Vec<D>,
     rests: &mut IntoIter<Rest<G, T, K, S, O>>,
@@ -194,7 +194,7 @@ fn put_all<D: Drop, G: Drop, T: Drop, K: Drop, S: Drop, O: Drop>(
     }
 }
 
-/// Puts a gear of a door and the next rest behind the others.
+/// Adds a gear of a door and the next rest at the end.
 fn put_door<D: Drop, G: Drop, T: Drop, K: Drop, S: Drop, O: Drop>(
     door: D,
     rests: &mut IntoIter<Rest<G, T, K, S, O>>,

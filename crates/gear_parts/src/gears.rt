@@ -52,7 +52,7 @@ impl<'a> GearOrder<'a> {
     }
 }
 
-/// Takes the gear of worker `number`, and puts it behind the others.
+/// Takes the gear of worker `number`, and adds it at the end.
 fn take_gear<W: World>(
     alloc: Global,
     world: &mut W,
@@ -126,7 +126,7 @@ pub fn take_gears<W: World>(
     gears_in(alloc, world, asked, cfg, gears)
 }
 
-/// So in this memory.
+/// As `take_gears`, in the memory of `gears`.
 fn gears_in<W: World>(
     alloc: Global,
     world: &mut W,
@@ -164,7 +164,7 @@ pub fn give_back<W: World>(world: &mut W, gears: Vec<GearOf<W>>)
     give_each(world, &mut gears);
 }
 
-/// So of the gears that are lent.
+/// As `give_back`, over gears that the caller lends.
 fn give_each<W: World>(world: &mut W, gears: &mut IntoIter<GearOf<W>>)
     requires out { length gears.old.rest.items ≤ W.out world.old }
     ensures came_back { W.came_back world.new ≡ appended (W.came_back world.old) gears.old.rest.items }

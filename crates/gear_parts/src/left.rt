@@ -38,7 +38,7 @@ pub fn take_apart<'s, 'r, D: Drop, G: Dial + Drop, T: Tape + Drop, K: Drop, O: D
     take_all(outside, &mut logs, left);
 }
 
-/// So with the logs that are lent, the next of which is that of the next worker.
+/// As `take_apart`, over logs that the caller lends; the next log belongs to the next worker.
 fn take_all<'s, 'r, D: Drop, G: Dial + Drop, T: Tape + Drop, K: Drop, O: Drop, R>(
     outside: Vec<Outside<D, PooledReach<'s, 'r, G, T, R>, K>>,
     logs: &mut IntoIter<Option<O>>,
@@ -56,7 +56,7 @@ fn take_all<'s, 'r, D: Drop, G: Dial + Drop, T: Tape + Drop, K: Drop, O: Drop, R
     take_each(&mut outside, logs, left);
 }
 
-/// So of the workers that are lent, too.
+/// As `take_all`, over workers that the caller lends too.
 fn take_each<'s, 'r, D: Drop, G: Dial + Drop, T: Tape + Drop, K: Drop, O: Drop, R>(
     outside: &mut IntoIter<Outside<D, PooledReach<'s, 'r, G, T, R>, K>>,
     logs: &mut IntoIter<Option<O>>,
@@ -75,7 +75,7 @@ fn take_each<'s, 'r, D: Drop, G: Dial + Drop, T: Tape + Drop, K: Drop, O: Drop, 
     }
 }
 
-/// Puts what one worker leaves, with the next log, behind the others.
+/// Adds what one worker leaves, with the next log, at the end.
 fn put_left<'s, 'r, D: Drop, G: Dial + Drop, T: Tape + Drop, K: Drop, O: Drop, R>(
     outside: Outside<D, PooledReach<'s, 'r, G, T, R>, K>,
     logs: &mut IntoIter<Option<O>>,
@@ -134,7 +134,7 @@ pub fn gears_again<D: Drop, G: Drop, T: Drop, K: Drop, S: Drop, O: Drop>(
     put_all(left, &mut shelves, gears);
 }
 
-/// So with the shelves that are lent, the next of which is that of the next worker.
+/// As `gears_again`, over shelves that the caller lends; the next shelf belongs to the next worker.
 fn put_all<D: Drop, G: Drop, T: Drop, K: Drop, S: Drop, O: Drop>(
     left: Vec<Left<D, G, T, K, O>>,
     shelves: &mut IntoIter<S>,
@@ -152,7 +152,7 @@ fn put_all<D: Drop, G: Drop, T: Drop, K: Drop, S: Drop, O: Drop>(
     }
 }
 
-/// Puts a gear of what one worker left and the next shelf behind the others.
+/// Adds a gear of what one worker left and the next shelf at the end.
 fn put_gear<D: Drop, G: Drop, T: Drop, K: Drop, S: Drop, O: Drop>(
     left: Left<D, G, T, K, O>,
     shelves: &mut IntoIter<S>,

@@ -55,7 +55,7 @@ pub fn fill_parts<
     put_parts(alloc, common, &mut share, &mut gears, parts, logs);
 }
 
-/// So of the gears that are lent, over the share that is lent.
+/// As `fill_parts`, over gears and a share that the caller lends.
 fn put_parts<'s, 'r, L: SiteName, D, G: Dial, T: Tape, K, S: Shelf, O, R>(
     alloc: Global,
     common: &Common<'s, 'r, L, G, R>,
@@ -78,7 +78,7 @@ fn put_parts<'s, 'r, L: SiteName, D, G: Dial, T: Tape, K, S: Shelf, O, R>(
     }
 }
 
-/// Puts the part of a gear, and its log, behind the others.
+/// Adds the part of a gear, and its log, at the end.
 fn put_part<'s, 'r, L: SiteName, D, G: Dial, T: Tape, K, S: Shelf, O, R>(
     alloc: Global,
     common: &Common<'s, 'r, L, G, R>,

@@ -73,7 +73,7 @@ pub fn ask<R: Reach>(
     }
 }
 
-/// Reads of a reach and writes to it between its talks, which it refuses: false says that it did.
+/// Reads from a reach and writes to it between its talks; false says that it refused both.
 pub fn speaks_between_talks<R: Reach>(reach: &mut R, piece: &[u8], buf: &mut [u8]) -> bool
     requires idle { (R.beside reach.old).runs ≡ false }
     requires some { (0 < length piece.now) × (0 < length buf.old) }

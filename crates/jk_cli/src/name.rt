@@ -78,7 +78,7 @@ fn may_stand(command: CommandName, part: Part) -> bool
     }
 }
 
-/// Whether each part of the words may stand behind the command.
+/// Whether each part of the words may stand after the command.
 pub(crate) fn all_may_stand(command: CommandName, words: &[Bytes]) -> bool
     ensures { result ≡ list_all (may_stand command) (parts_of words.now) }
 {

@@ -1,4 +1,4 @@
-//! The words behind a command's name, part by part.
+//! The words after a command's name, part by part.
 ghost use Rattle.std.specs.Prelude.{◌≡◌, [], ◌∷◌, MatchOption, position};
 ghost use Rattle.std.specs.Str.{bytes_eq};
 ghost use Rattle.jk_cli.specs.Parts.{is_dashed, is_end, asks_value, equals_in, alone, given_at, part_of, parts_of};

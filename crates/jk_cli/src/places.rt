@@ -23,7 +23,7 @@ impl<'a> Model for Places<'a> {
 }
 
 impl<'a> Places<'a> {
-    /// All such words of these.
+    /// All words of these that are read by their place.
     pub fn of(words: &'a [Bytes]) -> Places<'a>
         ensures { result ≡ places_in (parts_of words.now) }
     {

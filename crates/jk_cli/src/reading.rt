@@ -1,4 +1,4 @@
-//! The order that words are.
+//! The order that words stand for.
 ghost use Rattle.std.specs.Prelude.{◌≡◌, ◌↔◌, Some, None, IfOk, Err};
 ghost use Rattle.jk_cli.specs.Orders.{order_of, command_of};
 
@@ -8,7 +8,7 @@ use crate::plans::plan_of;
 use jk_io::Bytes;
 use std::alloc::Global;
 
-/// The command that the words are, with its words and options. It takes no memory.
+/// The command that the words, with its words and options, stand for. It takes no memory.
 pub fn command_of(words: &[Bytes]) -> Option<CommandName>
     ensures { result ≡ command_of words.now }
 {
@@ -16,7 +16,7 @@ pub fn command_of(words: &[Bytes]) -> Option<CommandName>
     Some(plan.command())
 }
 
-/// The order that the words behind the program's name are.
+/// The order that the words after the program's name stand for.
 pub fn read_words(alloc: Global, words: &[Bytes]) -> Result<Order, WordsError>
     ensures ok { IfOk result (λ order. order_of words.now ≡ Some order) }
     ensures bad { (result ≡ Err WordsError.Bad) ↔ (order_of words.now ≡ None) }

@@ -59,7 +59,7 @@ fn read_chunk<S: Source>(
     answer_of(filled.stop, text.len())
 }
 
-// What a chunk's stop is answered, where the text has so many bytes then.
+// What is answered at a chunk's stop, where the text has `bytes` bytes then.
 fn answer_of(stop: Stop, bytes: usize) -> Result<bool, FileError>
     ensures { IsChunkEnd MAX_INPUT_BYTES stop bytes result }
 {

@@ -38,7 +38,7 @@ impl CallCount {
         fails
     }
 
-    /// Counts a call, and says whether it is to fail, which it also is where it is due.
+    /// Counts a call, and says whether it is to fail: as one of `failing`, numbered from 0, or since a failure is due.
     pub(crate) fn fails_or(&mut self, failing: &NumberList, due: bool) -> bool
         ensures counted { self.new.calls ≡ counted self.old.calls }
         ensures planned { IsTrue result ↔ (Contains failing.now self.old.calls ⊎ IsTrue due) }

@@ -8,11 +8,11 @@ use crate::list_of::NumberList;
 pub struct LinkPlan {
     /// The calls that are to fail, numbered from 0 over reads and writes.
     pub failing: NumberList,
-    /// For each number here one read fails when exactly so many bytes were given.
+    /// For each number here one read fails when exactly that many bytes were given.
     pub reads: NumberList,
-    /// For each number here one write fails when exactly so many bytes were taken.
+    /// For each number here one write fails when exactly that many bytes were taken.
     pub writes: NumberList,
-    /// No read gives bytes across such a number of bytes.
+    /// No read goes across any of these numbers of bytes.
     pub cuts: NumberList,
 }
 
@@ -32,7 +32,7 @@ pub(crate) fn up_to_next(numbers: &NumberList, done: u64, want: usize) -> usize
     room
 }
 
-/// Whether one more call is to fail after `done` bytes, where `tried` of them failed there.
+/// Whether one more call is to fail after `done` bytes, where `tried` calls failed there.
 pub(crate) fn is_due(numbers: &NumberList, done: u64, tried: u64) -> bool
     ensures { IsTrue result ↔ (tried < count_by (λ n. n == done) numbers.now) }
 {

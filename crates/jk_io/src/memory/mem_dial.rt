@@ -70,7 +70,7 @@ impl Dial for MemDial {
         ensures cause { HasCause self.old.faults self.new.faults result }
         ensures same { self.new.failing ≡ self.old.failing }
 
-        // It fails exactly at the dials that it was told.
+        // It fails exactly at the dials that it was told to fail.
         ensures planned { IsErrOf result IoError.Failed ↔ Contains self.old.failing self.old.calls }
         ensures counted { self.new.calls ≡ counted self.old.calls }
         ensures steady { self.old.failing ≡ [] → self.new.faults ≡ self.old.faults }

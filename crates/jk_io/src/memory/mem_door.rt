@@ -90,7 +90,7 @@ impl<L: Link + Drop> Door for MemDoor<L> {
         ensures kept_on_error { OnErr result ((self.new.coming ≡ self.old.coming) × (self.new.room ≡ self.old.room)) }
         ensures same { (self.new.left ≡ self.old.left) × (self.new.failing ≡ self.old.failing) }
 
-        // It fails exactly at the accepts that it was told.
+        // It fails exactly at the accepts that it was told to fail.
         ensures planned { IsErrOf result IoError.Failed ↔ Contains self.old.failing self.old.calls }
         ensures counted { self.new.calls ≡ counted self.old.calls }
         ensures cause { HasCause self.old.faults self.new.faults result }

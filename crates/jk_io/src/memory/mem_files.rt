@@ -67,7 +67,7 @@ impl Files for MemFiles {
         ensures no_fewer { self.old.faults ≤ self.new.faults }
         ensures same { (self.new.files ≡ self.old.files) × (self.new.failing ≡ self.old.failing) }
 
-        // It fails exactly at the reads that it was told, and at a name that no file has.
+        // It fails exactly at the reads that it was told to fail, and at a name that no file has.
         ensures planned { IsErrOf result FileError.Failed ↔ Contains self.old.failing self.old.calls ⊎ (content_of self.old.files name.now ≡ None) }
         ensures counted { self.new.calls ≡ counted self.old.calls }
         ensures steady { self.old.failing ≡ [] → IsSome (content_of self.old.files name.now) → self.new.faults ≡ self.old.faults }

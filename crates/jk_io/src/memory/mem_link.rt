@@ -278,7 +278,7 @@ impl Source for MemLink {
     }
 }
 
-// Copies the front of a text to the front of a buffer, at most so many bytes.
+// Copies the front of a text to the front of a buffer, at most `most` bytes.
 fn copy_front(text: &[u8], most: usize, buf: &mut [u8]) -> usize
     ensures count { result ≡ min most (min (length text.now) (length buf.old)) }
     ensures copied { take result buf.new ≡ take result text.now }
@@ -300,7 +300,7 @@ impl Sink for MemLink {
         ensures cause { HasCause self.old.faults self.new.faults result }
         ensures steady { IsOk result → self.new.faults ≡ self.old.faults }
 
-        // It fails exactly where it was told to; a write that is told to also goes before want of memory.
+        // It fails exactly where it was told to, even where memory would be wanted too.
         ensures failed { IsErrOf result IoError.Failed ↔ WriteIsToFail self.old }
         ensures counted { self.new.calls ≡ counted self.old.calls }
         ensures tried { IsErrOf result IoError.Failed → self.new.writes_failed ≡ counted self.old.writes_failed }

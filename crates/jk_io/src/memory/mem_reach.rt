@@ -59,7 +59,7 @@ impl Model for MemReach {
 }
 
 impl MemReach {
-    /// A reach over balancers with so many members each. The begins of `failing`, numbered from 0, fail.
+    /// A reach over balancers; `sizes` counts the members of each. The begins of `failing`, numbered from 0, fail.
     pub fn new(
         alloc: Global,
         links: MemLinkList,
@@ -346,7 +346,7 @@ fn end_run(running: &mut MemberLink, alloc: Global, kept: &mut Vec<MemberLink>, 
     }
 }
 
-// Takes the room to note a read or a write of at most so many bytes. Where no talk runs it is a call that failed.
+// Takes the room to note a read or a write of at most `most` bytes. Where no talk runs it is a call that failed.
 fn get_ready(book: &mut TalkBook, begins: &mut CallCount, most: usize) -> Result<(), IoError>
     ensures shut { is_some book.old.begun ≡ false → IsErrOf result IoError.Failed }
     ensures failed { IsErrOf result IoError.Failed → is_some book.old.begun ≡ false }
@@ -510,14 +510,14 @@ impl Reach for MemReach {
         ensures given { IfOk result (λ dialled. GivesLink lb member fresh dialled self.old self.new) }
         ensures not_given { OnErr result ((self.new.links ≡ self.old.links) × (self.new.kept ≡ self.old.kept)) }
 
-        // A begin that failed is a talk, one that wanted memory is none.
+        // A begin that failed counts as an ended talk; one that wanted memory doesn't.
         ensures ok { OnOk result (self.new.book.talks ≡ self.old.book.talks) }
         ensures failed { IsErrOf result IoError.Failed
             → self.new.book.talks ≡ self.old.book.talks ++ failed_talk lb member host.now port fresh ∷ [] }
         ensures wanted { IsErrOf result IoError.NoMemory → self.new.book.talks ≡ self.old.book.talks }
         ensures same { (self.new.sizes ≡ self.old.sizes) × (self.new.failing ≡ self.old.failing) }
 
-        // It fails exactly at the begins that it was told, unless memory is wanted there.
+        // It fails exactly at the begins that it was told to fail, unless memory is wanted there.
         ensures planned { IsErrOf result IoError.Failed → Contains self.old.failing self.old.calls }
         ensures told { Contains self.old.failing self.old.calls → IsErr result }
         ensures counted { self.new.calls ≡ counted self.old.calls }

@@ -1,7 +1,7 @@
-//! A link of a reach in memory, and the member whose it is.
+//! A link of a reach in memory, and the member that it leads to.
 use crate::memory::mem_link::MemLink;
 
-/// A link and the balancer and member whose it is.
+/// A link, with the balancer and the member that it leads to.
 #[derive(Drop)]
 pub struct MemberLink {
     pub(crate) lb: u32,

@@ -99,7 +99,7 @@ impl TalkBook {
         self.begun = None;
     }
 
-    /// Takes the room to note so many bytes.
+    /// Takes the room to note `n` bytes.
     pub fn reserve(&mut self, n: usize) -> Result<(), NoMemory>
         ensures same { self.new ≡ record self.old { room = self.new.room } }
         ensures ok { OnOk result (n ≤ self.new.room) }

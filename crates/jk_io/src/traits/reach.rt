@@ -31,7 +31,7 @@ pub trait Reach: Link + Meanings<Beside = Beside> {
             (λ b. b ≡ begun_with lb member host.now port fresh dialled (Self.incoming self.new))) }
         ensures nothing_yet { IsEmpty (Self.sent self.new) × IsEmpty (Self.received self.new) }
 
-        // A begin that failed is a talk, one that wanted memory is none.
+        // A begin that failed counts as an ended talk; one that wanted memory doesn't.
         ensures ok { OnOk result ((Self.beside self.new).talks ≡ (Self.beside self.old).talks) }
         ensures failed { IsErrOf result IoError.Failed
             → (Self.beside self.new).talks ≡ appended (Self.beside self.old).talks (failed_talk lb member host.now port fresh ∷ []) }

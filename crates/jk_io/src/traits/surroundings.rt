@@ -56,7 +56,7 @@ pub trait Dial {
         ensures clean { IsOk result → faults self.new ≡ faults self.old }
         ensures cause { HasCause (faults self.old) (faults self.new) result };
 
-    /// Is told that a link serves the worker of this dial from now on, which another worker's dial may have made. Only the
+    /// Is told that a link, which another worker's dial may have made, serves this dial's worker from now on. Only the
     /// real thing has a use for it.
     fn lend(&self, _link: &Self::L) {}
 }
