@@ -74,7 +74,7 @@ fn config(alloc: Global, members: u32) -> Option<LbConfig> {
     }
 }
 
-/// A Book of rules 2 with so many members.
+/// A Book of rules 2 with this many members.
 pub fn book_of(alloc: Global, members: u32) -> Option<Book>
     ensures { IfSome result (λ book. book.rules ≡ MODERN_RULES) }
 {
@@ -160,7 +160,7 @@ fn measure_mixed(rt: &HostRuntime, book: &mut Book, rounds: u64) -> io::Result<(
     show(rt, "holds with maintenance and commands", holds, start)
 }
 
-/// Measures a Book once it keeps about so many entries.
+/// Measures a Book once it keeps about `kept` entries.
 fn measure_filled(rt: &HostRuntime, book: &mut Book, kept: u64, rounds: u64) -> io::Result<()>
     requires { book.old.rules ≡ MODERN_RULES }
 {
@@ -190,7 +190,7 @@ pub fn measure(rt: &HostRuntime, rounds: u32) -> io::Result<()> {
     Ok(())
 }
 
-/// How many entries a Book of eight members has after so many stretches.
+/// How many entries a Book of eight members has after this many stretches.
 pub fn add_entries(alloc: Global, rounds: u32) -> Option<Done> {
     let mut book = book_of(alloc, 8)?;
     stretches(&mut book, u64::from(rounds));

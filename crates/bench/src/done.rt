@@ -6,9 +6,9 @@ use std::time::Instant;
 /// What was done.
 #[derive(Clone, Copy)]
 pub struct Done {
-    /// How much of what is counted a second.
+    /// How much was done; its rate a second may be shown.
     pub amount: u64,
-    /// What is told of it.
+    /// The figures of its line.
     pub figures: [u64; 3],
 }
 
@@ -35,7 +35,7 @@ fn rate_since(rt: &HostRuntime, amount: u64, start: Instant) -> io::Result<u64> 
     Ok(rate.min(u128::from(u64::MAX)) as u64)
 }
 
-/// Prints how much a second was done of something since the start.
+/// Prints how much of something was done a second since the start.
 pub fn show(rt: &HostRuntime, what: &str, amount: u64, start: Instant) -> io::Result<()> {
     rt.print(what)?;
     tell(rt, &[": ", " a second"], &[rate_since(rt, amount, start)?])

@@ -1,4 +1,4 @@
-//! A client that has no end of bytes.
+//! A client whose bytes never end.
 ghost use Rattle.std.specs.Prelude.{◌≡◌, length, min};
 
 use jk_io::{IoError, Link, Meanings, Sink, Source};

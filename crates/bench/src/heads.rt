@@ -27,7 +27,7 @@ static HEAD: &str =
     X-Forwarded-For: 192.0.2.17\r\n\
     \r\n";
 
-/// So many heads stand one after the other where a read brings many.
+/// How many heads stand one after the other where a read brings many.
 const HEADS_IN_A_ROW: usize = 128;
 
 fn lines_of(got: &HeadGot) -> Option<u64> {
@@ -45,7 +45,7 @@ fn read_lines(alloc: Global, inbox: &mut Inbox, client: &mut Feed) -> Option<u64
     }
 }
 
-/// Reads heads from a client that has no end of them, and answers how many header lines they had.
+/// Reads heads from a client whose heads never end, and answers how many header lines they had.
 fn read_often(alloc: Global, inbox: &mut Inbox, client: &mut Feed, heads: u32) -> Option<u64> {
     let mut lines = 0u64;
     for _ in 0..heads {

@@ -61,7 +61,7 @@ fn put_journal(alloc: Global, text: &mut Bytes, exchanges: u32) -> bool {
     }
 }
 
-/// The journal of so many exchanges.
+/// The text of a journal of this many exchanges.
 pub fn text_of(alloc: Global, exchanges: u32) -> Option<Bytes> {
     let mut text = Bytes::new(alloc);
     if put_journal(alloc, &mut text, exchanges) {

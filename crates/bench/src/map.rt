@@ -14,7 +14,7 @@ use worker_props::{Config, read_workers};
 const WORKERS: &str =
     "worker.list=lb\nworker.lb.type=lb\nworker.lb.balance_workers=a,b\nworker.a.host=h\nworker.b.host=i\n";
 
-/// Rules with a part, while there is room for a line within so many bytes.
+/// Rules with a part, as long as one more line fits into `bytes` bytes.
 fn put_rules(text: &mut String, bytes: u64) -> Result<(), NoMemory> {
     for i in 0..bytes {
         if bytes.saturating_sub(text.len() as u64) < LINE_BYTES {
@@ -25,7 +25,7 @@ fn put_rules(text: &mut String, bytes: u64) -> Result<(), NoMemory> {
     Ok(())
 }
 
-/// So many bytes: rules, until a comment fills up.
+/// A text of `bytes` bytes: rules, and a comment for the rest.
 pub fn put_map(text: &mut String, bytes: u64) -> Result<(), NoMemory> {
     put_rules(text, bytes)?;
     put_comment(text, bytes)
@@ -44,7 +44,7 @@ fn read_rules(alloc: Global, text: &[u8], config: &Config) -> Option<Done>
     }
 }
 
-/// How many rules a text has that names these workers.
+/// How many rules a text has that names the workers of `WORKERS`.
 pub fn read(alloc: Global, text: &[u8]) -> Option<Done> {
     if text.len() > MAX_INPUT_BYTES {
         return None;

@@ -1,5 +1,5 @@
 //! How many replies of 8 KiB are written and are read a second: a head with six headers, a chunk that fills its packet,
-//! and the end. So many heads are done, then so many chunks, then so many ends.
+//! and the end. Of N replies, N heads are done first, then N chunks, then N ends.
 //!
 //! bench/ajp_copy.c copies as many bytes by a plain loop.
 ghost use Rattle.ajp_reply.specs.Spelling.{IsMessage};
@@ -35,7 +35,7 @@ fn payload(packet: &[u8]) -> &[u8] {
     packet.get(HEAD_BYTES..).unwrap_or(&[])
 }
 
-/// Whether a message is written so many times.
+/// Whether a message is written `rounds` times.
 fn is_written(alloc: Global, message: &Message, rounds: u32) -> bool
     requires { IsMessage message.now }
 {
@@ -47,7 +47,7 @@ fn is_written(alloc: Global, message: &Message, rounds: u32) -> bool
     true
 }
 
-/// Whether the message of a packet is written so many times.
+/// Whether the message of a packet is written `rounds` times.
 fn write_packet(alloc: Global, packet: &[u8], rounds: u32) -> bool {
     match decode_reply(alloc, payload(packet)) {
         Ok(message) => is_written(alloc, &message, rounds),
@@ -55,7 +55,7 @@ fn write_packet(alloc: Global, packet: &[u8], rounds: u32) -> bool {
     }
 }
 
-/// Whether the message of a packet is read so many times.
+/// Whether the message of a packet is read `rounds` times.
 fn read_packet(alloc: Global, packet: &[u8], rounds: u32) -> bool {
     for _ in 0..rounds {
         if decode_reply(alloc, payload(packet)).is_err() {
@@ -76,7 +76,7 @@ fn told(all: bool, rounds: u32) -> Option<Done> {
     })
 }
 
-/// Writes the reply so many times.
+/// Writes the reply `rounds` times.
 pub fn write(alloc: Global, rounds: u32) -> Option<Done> {
     let chunk = chunk();
     let all = write_packet(alloc, HEAD, rounds)
@@ -85,7 +85,7 @@ pub fn write(alloc: Global, rounds: u32) -> Option<Done> {
     told(all, rounds)
 }
 
-/// Reads the reply so many times.
+/// Reads the reply `rounds` times.
 pub fn read(alloc: Global, rounds: u32) -> Option<Done> {
     let chunk = chunk();
     let all = read_packet(alloc, HEAD, rounds)

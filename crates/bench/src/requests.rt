@@ -35,7 +35,7 @@ fn payload() -> &'static [u8] {
     PACKET.get(HEAD_BYTES..).unwrap_or(&[])
 }
 
-/// What is told of so many rounds.
+/// What is told of this many rounds.
 fn told(rounds: u32) -> Done {
     Done {
         amount: u64::from(rounds),
@@ -54,7 +54,7 @@ fn write_often(alloc: Global, request: &Forward, rounds: u32) -> Option<Done>
     Some(told(rounds))
 }
 
-/// Writes the request so many times.
+/// Writes the request `rounds` times.
 pub fn write(alloc: Global, rounds: u32) -> Option<Done> {
     match decode_forward(alloc, payload()) {
         Ok(request) => write_often(alloc, &request, rounds),
@@ -62,7 +62,7 @@ pub fn write(alloc: Global, rounds: u32) -> Option<Done> {
     }
 }
 
-/// Reads the request so many times.
+/// Reads the request `rounds` times.
 pub fn read(alloc: Global, rounds: u32) -> Option<Done> {
     for _ in 0..rounds {
         if decode_forward(alloc, payload()).is_err() {

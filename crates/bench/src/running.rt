@@ -45,7 +45,7 @@ fn read(work: Work, alloc: Global, text: &[u8], amount: u32) -> Option<Done> {
     }
 }
 
-/// Does a work so many times: none where something is refused.
+/// Does a work `rounds` times; None where something is refused.
 fn does(work: Work, alloc: Global, text: &[u8], rounds: u32) -> Option<Done> {
     match work {
         Work::WriteRequests => requests::write(alloc, rounds),

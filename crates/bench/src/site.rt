@@ -1,5 +1,5 @@
-//! How fast a workers.properties is read: one that has a directive a line, of workers whose references lead through all
-//! of them; one of short lines without effect; and one of balancers that borrow one long list of members.
+//! How fast a workers.properties is read: one that has a directive a line, of workers that each refer to the next
+//! one; one of short lines without effect; and one of balancers that borrow one long list of members.
 
 use crate::done::Done;
 use jk_io::{MAX_INPUT_BYTES, NoMemory};
@@ -10,7 +10,7 @@ use worker_props::{Config, read_workers};
 /// No line of a text is longer.
 pub const LINE_BYTES: u64 = 64;
 
-/// A site has a worker for each so many bytes.
+/// How many bytes a site has for each worker.
 const BYTES_OF_A_WORKER: u64 = 100;
 
 /// The most workers of a site.
@@ -22,7 +22,7 @@ const DIRECTIVES: [&str; 4] = ["host=h", "port=8009", "lbfactor=2", "socket_time
 /// The lines of the long list.
 const LIST_LINES: u32 = 500;
 
-/// Fills a text up to so many bytes, as a comment does.
+/// Fills a text up to `bytes` bytes with a comment.
 pub fn put_comment(text: &mut String, bytes: u64) -> Result<(), NoMemory> {
     for _ in text.len() as u64..bytes {
         text.push_str("#")?;
@@ -45,7 +45,7 @@ fn put_directive(text: &mut String, i: u64, workers: u64) -> Result<(), NoMemory
     Ok(())
 }
 
-/// Directives of all workers, while there is room for a line within so many bytes.
+/// Directives of all workers, as long as one more line fits into `bytes` bytes.
 fn put_directives(text: &mut String, workers: u64, bytes: u64) -> Result<(), NoMemory> {
     for i in 0..bytes {
         if bytes.saturating_sub(text.len() as u64) < LINE_BYTES {
@@ -56,8 +56,8 @@ fn put_directives(text: &mut String, workers: u64, bytes: u64) -> Result<(), NoM
     Ok(())
 }
 
-/// So many bytes: the first worker is listed, each refers to the next one, and directives of all workers follow until
-/// a comment fills up.
+/// A text of `bytes` bytes: the first worker is listed, each refers to the next one, directives of all workers follow,
+/// and a comment fills the rest.
 pub fn put_site(text: &mut String, bytes: u64) -> Result<(), NoMemory> {
     let workers = (bytes / BYTES_OF_A_WORKER).min(MOST_WORKERS);
     put_workers(text, workers)?;
@@ -66,7 +66,7 @@ pub fn put_site(text: &mut String, bytes: u64) -> Result<(), NoMemory> {
     put_comment(text, bytes)
 }
 
-/// So many short lines.
+/// This many short lines without effect.
 pub fn put_lines(text: &mut String, lines: u32) -> Result<(), NoMemory> {
     for _ in 0..lines {
         text.push_str("a=b\n")?;
@@ -83,7 +83,7 @@ fn put_list(text: &mut String) -> Result<(), NoMemory> {
     Ok(())
 }
 
-/// So many balancers: each has the list of the first one.
+/// This many balancers: each has the list of the first one.
 pub fn put_lists(text: &mut String, balancers: u32) -> Result<(), NoMemory> {
     put_list(text)?;
     for i in 1..balancers {

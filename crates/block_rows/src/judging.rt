@@ -32,7 +32,7 @@ fn with_of(line: &str) -> With<'_> {
     }
 }
 
-/// Whether a row comes out as it says; not, where it can't be read.
+/// Whether a row comes out as it says; false where it can't be read.
 fn is_held<A: BlockArea>(alloc: Global, area: &A, row: BlockRow<'_>) -> Result<bool, NoMemory> {
     match area.holds(alloc, row) {
         Ok(held) => Ok(held),

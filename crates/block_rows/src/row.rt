@@ -65,7 +65,7 @@ fn put_again(out: &mut Bytes, times: &str) -> Result<(), RowError> {
     Ok(())
 }
 
-/// A line of a text; another line is none.
+/// Adds a line of a text; a line of another kind adds nothing.
 fn put_line(out: &mut Bytes, line: &str, with: With<'_>) -> Result<(), RowError> {
     if let Some(text) = line.strip_prefix('|') {
         put_text(out, text, with, 0)?;
@@ -180,7 +180,7 @@ impl<'r> BlockRow<'r> {
         Ok(numbers)
     }
 
-    /// The text below the line of this word before which so many others of that word stand; none without such a line.
+    /// The text below the line of this word that `before` others of that word precede; empty without such a line.
     pub fn text(self, alloc: Global, key: &str, before: usize) -> Result<Bytes, RowError> {
         let mut text = Bytes::new(alloc);
         let place = Place {

@@ -220,7 +220,7 @@ fn tell_number(book: &Book, word: &str, out: &mut Bytes) -> Result<bool, NoMemor
     }
 }
 
-/// Tells what a Book is, which stays as it is.
+/// Tells what a word asks of a Book, which stays as it is.
 fn tell_state(book: &Book, word: &str, out: &mut Bytes) -> Result<bool, NoMemory> {
     match word {
         "show" => tell_rows(book, out),

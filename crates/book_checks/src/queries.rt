@@ -40,7 +40,7 @@ fn commands_of(
     }
 }
 
-/// What a query asks the balancer for whose opening these lines are.
+/// What a query asks for, of the balancer whose opening these lines are.
 pub fn commands_asked(
     alloc: Global,
     lines: &[u8],

@@ -61,7 +61,7 @@ pub fn judge_line<T: Teller>(
     Ok(0)
 }
 
-/// Has each line of a row told, shows each that is told otherwise, and answers how many are told as they want.
+/// Has each line of a row told, shows the lines told otherwise, and answers how many are told as they want.
 pub fn judge_lines<T: Teller>(
     alloc: Global,
     teller: &mut T,
@@ -112,7 +112,7 @@ pub fn judge_file<S: Subject, R: Print + AllocGlobal + Files>(
     show_rows(rt, file, subject, read_rows(rt, file)?.as_str())
 }
 
-/// Does so with each file, whose rows are about what stands beside it.
+/// As `judge_file`, for each file, whose rows are about the subject beside it.
 pub fn judge_files<S: Subject, R: Print + AllocGlobal + Files>(
     rt: &R,
     files: &[(&str, S)],

@@ -9,7 +9,7 @@ pub fn read_rows<R: AllocGlobal + Files>(rt: &R, file: &str) -> Judged<String> {
     fs::read_to_string(rt, file).context(file)
 }
 
-/// Prints what came out otherwise, and of how many rows or lines of a file, as `unit` says, all came out as they say.
+/// Prints what came out otherwise, and how many rows or lines of a file, as `unit` says, came out as they say.
 pub fn print_count<R: Print>(
     rt: &R,
     shown: &str,

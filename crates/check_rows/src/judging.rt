@@ -22,7 +22,7 @@ pub trait Area {
     ) -> Result<(), NoMemory>;
 }
 
-/// What comes out of a row first that isn't what it wants, else what it wants.
+/// The first outcome of a row, over all its ways, that isn't what it wants; else what it wants.
 fn tell_in_each_way<A: Area>(
     alloc: Global,
     area: &A,
@@ -144,7 +144,7 @@ pub fn judge_file<A: Area, R: Print + AllocGlobal + Files>(
     judge_rows(rt, file, area, read_rows(rt, file)?.as_str())
 }
 
-/// Does so with each file, whose rows are about what stands beside it.
+/// As `judge_file`, for each file, whose rows are about the area beside it.
 pub fn judge_files<A: Area, R: Print + AllocGlobal + Files>(
     rt: &R,
     files: &[(&str, A)],

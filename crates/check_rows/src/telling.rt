@@ -24,7 +24,7 @@ pub fn put_count(out: &mut String, word: &str, count: u64) -> Result<(), NoMemor
     Ok(())
 }
 
-/// Adds bytes in quotes, each that isn't a plain letter as an escape.
+/// Adds bytes in quotes, with escapes for the backslash and for what isn't printable ASCII.
 pub fn put_bytes(out: &mut String, bytes: &[u8]) -> Result<(), NoMemory> {
     part(out)?;
     out.push('"')?;

@@ -26,12 +26,12 @@ const WHOLE: Way = Way {
     write: None,
 };
 
-/// The words on ways behind the first word of a field.
+/// The words on ways after the first word of a field.
 pub fn ways_of(field: &str) -> &str {
     field.split_once(' ').map_or("whole", |cut| cut.1)
 }
 
-/// The first place of `K..M` or `K`, and the one that is after the last.
+/// The first place of `K..M` or `K`, and the place after the last.
 fn range_of(text: &str) -> (u64, u64) {
     match text.split_once("..") {
         Some((first, end)) => (number(first), number(end)),
@@ -39,7 +39,7 @@ fn range_of(text: &str) -> (u64, u64) {
     }
 }
 
-/// How many places a way's word speaks of, for so many bytes.
+/// How many places a way's word speaks of, for `len` bytes.
 pub fn count(word: &str, len: usize) -> usize {
     match word.split_once('@') {
         Some((_, range)) => {
@@ -78,7 +78,7 @@ fn failing(what: &str, at: u64) -> Way {
     }
 }
 
-/// One write fails after so many bytes.
+/// One write fails after this many bytes, if they are given.
 pub fn writing(write: Option<u64>) -> Way {
     Way { write, ..WHOLE }
 }

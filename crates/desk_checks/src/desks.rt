@@ -11,11 +11,11 @@ use std::marker::Brand;
 use std::sync::Wait;
 use std::sync::ledger::Blank;
 
-/// Over what a row's desk stands.
+/// What a row's desk stands over.
 #[derive(Clone, Copy)]
 enum Over {
     Book,
-    /// A Site whose journal is cut where it has so many entries.
+    /// A Site whose journal is cut where it has this many entries.
     Site(u32),
 }
 

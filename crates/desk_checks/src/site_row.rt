@@ -216,7 +216,7 @@ impl<L: SiteName> SiteRow<L> {
         }
     }
 
-    /// A maintenance where one is due.
+    /// Does a maintenance if due.
     #[tactic(auto, using(crate::proofs::SiteFacts::adds_same))]
     fn maintain(&mut self, session: u32, at: u64, out: &mut Bytes) -> Result<bool, NoMemory> {
         let done = self.site.maintain_if_due(0, session, at, &mut self.share);
