@@ -128,7 +128,7 @@ GoodChunk bytes = (data_is : List ℕ) × SpellsChunk data_is (3 ∷ bytes)
 abbrev after_size : ℕ × List ℕ → Result Message Refusal
 after_size size = cond (ltb (length size.1) size.0) (refused Short []) (chunk_end (take size.0 size.1) (drop size.0 size.1))
 
--- what can't stand behind a chunk's data
+-- what can't stand after a chunk's data
 abbrev IsTail : List ℕ → Type 0
 IsTail tail = (tail ≡ []) ⊎ (tail ≡ 0 ∷ [])
 
@@ -248,7 +248,7 @@ ask_stops bytes r fits e =
 
 -- ---- a message, by its first byte
 
--- a message behind its first byte
+-- a message after its first byte
 coded_stops : (Good : List ℕ → Type 0) (read : List ℕ → Result Message Refusal) (code : ℕ) (rest : List ℕ) (r : Refusal) → Stops Good read rest r
     → ((b : List ℕ) → Good b → IsSpelled (code ∷ b)) → ((y : List ℕ) → Fails (read y) → Fails (message_at (code ∷ y))) → Stops IsSpelled message_at (code ∷ rest) r
 coded_stops Good read code rest r s grow carry =

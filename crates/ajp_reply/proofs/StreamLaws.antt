@@ -92,7 +92,7 @@ goes_on most past all bytes more s t =
     ∙ ap (turned on.0) (turned-back past) ∙ turned-onto on.0 [] past in
     (turned on.0 [], same, spelled most on.0 more on.2)
 
--- the bytes behind a reading are read behind it
+-- the bytes after a reading are read after it
 pub spelled-behind : (most : ℕ) (past later : List Message) (bytes more : List ℕ) → Spelled most past bytes → Spelled most later more → Spelled most (later ++ past) (bytes ++ more)
 spelled-behind most past later bytes more s t =
     subst (λ (l : List Message). Spelled most l (bytes ++ more)) (turned-onto (turned later []) [] past ∙ ap (λ (l : List Message). l ++ past) (turned-back later))
@@ -150,7 +150,7 @@ not_both good (End reuse ∷ past) f g = f
 not_both good (Ask most ∷ past) f g = g
 not_both good (Pong ∷ past) f g = f
 
--- a reply that goes on behind some messages has them as a front
+-- a reply that goes on after some messages has them as a front
 form-behind : (good : ReplyParts → Bool) (later past : List Message) → IsForm good (later ++ past) → (later ≡ []) ⊎ IsFront good past
 form-behind good [] past f = inl refl
 form-behind good (m ∷ later) past f = inr (form-front good m later past f)

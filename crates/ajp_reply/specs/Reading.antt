@@ -7,12 +7,12 @@ use Rattle.ajp_reply.specs.declared.message.Message.{Message}
 use Rattle.ajp_reply.specs.declared.message.Message.TheVariants.{Headers, Chunk, End, Ask, Pong}
 use Rattle.ajp_reply.specs.Spelling.{reply_names, BeginsHead}
 
--- nothing stands behind a message
+-- nothing stands after a message
 abbrev pub ended : Message → List ℕ → Result Message Refusal
 ended message [] = Ok message
 ended message (byte ∷ rest) = refused Extra (byte ∷ rest)
 
--- a chunk's data, and what stands behind them: nothing, or the zero byte
+-- a chunk's data, and what stands after them: nothing, or the zero byte
 abbrev pub chunk_end : List ℕ → List ℕ → Result Message Refusal
 chunk_end bytes [] = Ok (Chunk bytes)
 chunk_end bytes (zero ∷ rest) = ended (Chunk bytes) rest

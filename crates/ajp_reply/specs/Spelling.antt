@@ -25,7 +25,7 @@ pub record SpellsHead (parts : ReplyParts) (payload : List ℕ) : Type 0 where
   pub few : length parts.headers ≤ MAX_HEADERS
   pub each : SpellsHeaders reply_names true parts.headers headers
 
--- Send Body Chunk: 03, the length, and the bytes, with a zero byte behind them or without.
+-- Send Body Chunk: 03, the length, and the bytes, with a zero byte after them or without.
 pub record SpellsChunk (bytes payload : List ℕ) : Type 0 where
   pub narrow : length bytes < 65536
   pub whole : (payload ≡ 3 ∷ int (length bytes) ++ (bytes ++ 0 ∷ [])) ⊎ (payload ≡ 3 ∷ int (length bytes) ++ bytes)
@@ -61,7 +61,7 @@ FieldsFit (End reuse) = Unit {0}
 FieldsFit (Ask most) = Unit {0}
 FieldsFit Pong = Unit {0}
 
--- A message that can be written into a packet of at most so many bytes.
+-- A message that can be written into a packet of at most this many bytes.
 pub record Fits (most : ℕ) (message : Message) : Type 0 where
   pub fields : FieldsFit message
   pub packet : FitsPacket most (payload_of message)

@@ -7,7 +7,7 @@ use Rattle.ajp_reply.specs.declared.message.Message.TheVariants.{Headers, Chunk,
 use Rattle.ajp_reply.specs.declared.message.ReplyParts.{ReplyParts}
 use Rattle.ajp_reply.specs.Spelling.{Spells}
 
--- A packet of at most so many bytes that spells a message.
+-- A packet of at most this many bytes that spells a message.
 pub record IsPacketOf (most : ℕ) (message : Message) (bytes : List ℕ) : Type 0 where
   pub payload : List ℕ
   pub packet : IsPacket true most payload bytes
@@ -39,7 +39,7 @@ head_of (End reuse ∷ past) = head_of past
 head_of (Ask most ∷ past) = head_of past
 head_of (Pong ∷ past) = head_of past
 
--- The messages begin a reply: at most one head, which is a good one, chunks behind it, asks anywhere.
+-- The messages begin a reply: at most one head, which is a good one, chunks after it, asks anywhere.
 abbrev pub IsFront : (ReplyParts → Bool) → List Message → Type 0
 IsFront good [] = Unit {0}
 IsFront good (Headers parts ∷ past) = IsNone (head_of past) × IsTrue (good parts) × IsFront good past
@@ -48,7 +48,7 @@ IsFront good (End reuse ∷ past) = ⊥
 IsFront good (Ask most ∷ past) = IsFront good past
 IsFront good (Pong ∷ past) = ⊥
 
--- The messages are a reply: a front with a head, and End Response behind it.
+-- The messages are a reply: a front with a head, and End Response after it.
 abbrev pub IsForm : (ReplyParts → Bool) → List Message → Type 0
 IsForm good [] = ⊥
 IsForm good (Headers parts ∷ past) = ⊥

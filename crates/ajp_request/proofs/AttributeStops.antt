@@ -77,7 +77,7 @@ plain_of : (code : ℕ) (b : List ℕ) → is_plain code ≡ true → Then (Spel
 plain_of code b plain (text, front, none, spells, nothing, parts) =
     (Plain code text, (front, plain, spells, ap (λ (z : List ℕ). code ∷ z) (parts ∙ ap (λ (z : List ℕ). front ++ z) nothing ∙ append-nil front)))
 
--- an attribute behind its code, whatever its kind
+-- an attribute after its code, whatever its kind
 behind_code : (Good : List ℕ → Type 0) (read : List ℕ → Reading Attribute) (code one : ℕ) (rest : List ℕ) (r : Refusal) → code ≡ one → Stops Good read rest r
     → ((b : List ℕ) → Good b → AnyAttribute (one ∷ b)) → ((y : List ℕ) → Fails (read y) → Fails (one_at (one ∷ y))) → Stops AnyAttribute one_at (code ∷ rest) r
 behind_code Good read code one rest r is s grow carry =
@@ -207,7 +207,7 @@ fails_first : (code : ℕ) (rest : List ℕ) → eqb code 255 ≡ false → Fail
 unfolding attributes_at
 fails_first code rest other h = rw other (fails-bind (attribute_at code (code ∷ rest) rest) (more_of (length rest)) h)
 
--- what begins with a byte still does where something else stands behind
+-- what begins with a byte still does where something else follows
 head_stays : (code : ℕ) (rest front there behind y : List ℕ) → (code ∷ rest) ≡ front ++ (there ++ behind) → 0 < length there → (tail : List ℕ) × (front ++ (there ++ y) ≡ code ∷ tail)
 head_stays code rest [] [] behind y parts some = absurd (omega arith)
 head_stays code rest [] (c ∷ there) behind y parts some = let same : code ≡ c = cc in (there ++ y, ap (λ (k : ℕ). k ∷ (there ++ y)) (sym same))

@@ -1,4 +1,4 @@
--- Where the reading of several fields, one behind the other, stops.
+-- Where the reading of several fields, one after the other, stops.
 use Rattle.std.proofs.Common.{◌≡◌, ℕ, zero, suc, ◌+◌, ◌<◌, ◌≤◌, Bool, true, List, [], ◌∷◌, ◌++◌, length, Result, Ok, Err, refl, sym, ap, subst, ◌∙◌, arith, ◌⊎◌, inl, inr}
 use Rattle.std.proofs.lemmas.List.{append-nil}
 use Rattle.ajp_wire.specs.declared.refusal.Refusal.{Refusal}
@@ -14,7 +14,7 @@ pub record Word {A : Type 0} (read : List ℕ → Reading A) (Spelt : A → List
   pub again : (x : A) (front rest : List ℕ) → Spelt x front → read (front ++ rest) ≡ Ok (x, rest)
   pub stops : (bytes : List ℕ) (r : Refusal) → IsBytes bytes → read bytes ≡ Err r → Stops (λ b. (x : A) × Spelt x b) read bytes r
 
--- a field, and behind it what may follow it
+-- a field, and after it what may follow it
 abbrev pub Then : {A : Type 0} → (A → List ℕ → Type 0) → (A → List ℕ → Type 0) → List ℕ → Type 0
 Then {A} Spelt Follows bytes = (x : A) × (front : List ℕ) × (rest : List ℕ) × Spelt x front × Follows x rest × (bytes ≡ front ++ rest)
 

@@ -33,7 +33,7 @@ length_boolean : (b : Bool) → length (boolean b) ≡ 1
 length_boolean false = refl
 length_boolean true = refl
 
--- the bytes of attributes one behind the other
+-- the bytes of attributes one after the other
 length_joined : (xs ys : List Attribute) → length (attributes_bytes (xs ++ ys)) ≡ length (attributes_bytes xs) + length (attributes_bytes ys)
 length_joined xs ys = ap length (flat_map-append attribute_bytes xs ys) ∙ length-append (attributes_bytes xs) (attributes_bytes ys)
 

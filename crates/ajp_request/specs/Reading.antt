@@ -63,7 +63,7 @@ plain_at code bytes = do
   text ← text_at false bytes
   Ok (Plain code text.0, text.1)
 
--- an attribute whose code was read; `bytes` begin with the code, and `rest` is behind it
+-- an attribute whose code was read; `bytes` begin with the code, and `rest` is after it
 unfoldable pub attribute_at : ℕ → List ℕ → List ℕ → Reading Attribute
 attribute_at code bytes rest =
     if code == 10 then named_at rest
@@ -123,7 +123,7 @@ made_of line ends headers tail = record {
   attributes = tail.1;
 }
 
--- The attributes and the end, behind the parts that were read.
+-- The attributes and the end, after the parts that were read.
 abbrev pub behind_headers : RequestLine → Ends → List (List ℕ × List ℕ) → List ℕ → Result Forward Refusal
 behind_headers line ends headers bytes = do
   tail ← tail_at line.method bytes

@@ -106,7 +106,7 @@ pub record TextsFit (forward : Forward) : Type 0 where
   pub remote_host : length forward.remote_host < 65535
   pub server : length forward.server < 65535
 
--- A request that can be written into a packet of at most so many bytes.
+-- A request that can be written into a packet of at most this many bytes.
 pub record Fits (most : ℕ) (forward : Forward) : Type 0 where
   pub fields : FieldsFit forward
   pub packet : FitsPacket most (payload_of forward)

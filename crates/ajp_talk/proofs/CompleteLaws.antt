@@ -100,7 +100,7 @@ sum-grows (Pong ∷ later) past = sum-grows later past
 
 -- ---- readings
 
--- the oldest of some messages, and those behind it
+-- the oldest of some messages, and those after it
 pub record Oldest (most : ℕ) (all : List Message) (bytes : List ℕ) : Type 0 where
   pub message : Message
   pub later : List Message
@@ -298,7 +298,7 @@ told-left : (front xs : List ℕ) (o : Option (List ℕ)) → Some xs ≡ prepen
 told-left front xs None e = absurd cc
 told-left front xs (Some inc) e = (inc, refl, (let same : xs ≡ front ++ inc = cc in same))
 
--- what came behind CPong is where the reply is
+-- what came after CPong is where the reply is
 at-reply : (pong reply more got inc : List ℕ) → (pong ++ reply) ++ more ≡ (pong ++ got) ++ inc → got ++ inc ≡ reply ++ more
 at-reply pong reply more got inc e =
     cancel-front pong (got ++ inc) (reply ++ more) (sym (append_assoc pong got inc) ∙ sym e ∙ append_assoc pong reply more)

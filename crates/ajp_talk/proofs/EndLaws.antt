@@ -357,7 +357,7 @@ module _ (plan : TalkPlan) (s m n : TalkMoment) (c c' : Course) where
 
   -- ---- memory was wanted
 
-  -- nothing was made of what came behind the accepted messages
+  -- nothing was made of what came after the accepted messages
   still_broken : (a : At plan s m c) (rest : List ℕ) → Traffic s.line n.line (pong_of plan ++ (a.came ++ rest)) a.put → n.client.sent ≡ m.client.sent → n.body ≡ m.body
       → HasWanted plan s n
   still_broken a rest traffic written body = record {
@@ -466,7 +466,7 @@ module _ (plan : TalkPlan) (s m n : TalkMoment) (c c' : Course) where
   wanted a fit (inl t) = silent_wanted a t.why t.unheard t.client t.body
   wanted a fit (inr t) = wanted_message a t.message t.mid t.count fit t.heard t.acts
 
--- a message that the talk goes on behind was counted
+-- a message that the talk goes on after was counted
 pub on_more : (plan : TalkPlan) (s m n : TalkMoment) (c c' : Course) → At plan s m c → IsPlan plan → IsTurn plan m n c c' turn_is.On → c.received < c'.received
 on_more plan s m n c c' a fit (inl t) = absurd (no_turn t.why turn_is.On t.turn_is (λ cause e. absurd cc) (λ e. absurd cc))
 on_more plan s m n c c' a fit (inr t) = of t.message t.mid t.count t.heard t.acts

@@ -1,4 +1,4 @@
--- A client that is gone, and what is read of the reply behind that.
+-- A client that is gone, and what is read of the reply after that.
 use Rattle.std.proofs.Common.{◌≡◌, ◌≢◌, ℕ, ◌+◌, ◌-◌, ◌≤◌, ◌<◌, Bool, true, false, ◌&&◌, not, List, [], ◌∷◌, ◌++◌, length, refl, sym, ap, subst, ◌∙◌, arith, append-nil, append_assoc, Option, Some, IfSome, is_some, inl, inr, unwrap_or, ◌⊎◌}
 use Rattle.std.proofs.lemmas.Bool.{and_parts, ltb-false, not-true, and_cases, not-false}
 use Rattle.jk_io.specs.Told.{Rose}
@@ -33,7 +33,7 @@ use Rattle.ajp_talk.proofs.CourseLaws.{Next, next, longer, chunk-sum, end-sum}
 use Rattle.ajp_talk.proofs.TurnLaws.{bytes-are, few-sent}
 use Rattle.ajp_talk.proofs.EndLaws.{no_turn, chunk_broken, end_broken}
 
--- A write to the client failed behind a head: what had been accepted by then, and what was due of the body.
+-- A write to the client failed after a head: what had been accepted by then, and what was due of the body.
 pub record LostAt (plan : TalkPlan) (s n : TalkMoment) (c : Course) : Type 0 where
   pub past : List Message
   pub came : List ℕ
@@ -73,7 +73,7 @@ exceeds-later (By.Length due) chunks n w =
 exceeds-later By.Closing chunks n w = ap (λ (f : Framing). exceeds f n) (framing_after-closing chunks)
 exceeds-later By.Chunks chunks n w = ap (λ (f : Framing). exceeds f n) (framing_after-chunks chunks)
 
--- ---- chunks behind other messages
+-- ---- chunks after other messages
 
 head-behind : (chunks : List (List ℕ)) (past : List Message) → head_of (chunk_messages chunks ++ past) ≡ head_of past
 head-behind [] past = refl
@@ -154,7 +154,7 @@ head-later (End reuse ∷ later) past parts h f = absurd f
 head-later (Ask most ∷ later) past parts h f = head-later later past parts h f
 head-later (Pong ∷ later) past parts h f = absurd f
 
--- what came behind the accepted messages doesn't end the reply
+-- what came after the accepted messages doesn't end the reply
 pub no_end-from : (plan : TalkPlan) (s n : TalkMoment) (c c' : Course) (a : LostAt plan s n c) (bytes : List ℕ) → (c'.received < plan.most → IsNoTail plan c bytes)
     → c'.received ≡ length (pong_of plan ++ (a.came ++ bytes)) → IsNoEnd plan (a.came ++ bytes)
 no_end-from plan s n c c' a bytes none received = λ all r below.
@@ -322,7 +322,7 @@ lost_gone plan s n c fit closes a = record {
   at_once = λ e. refl;
 }
 
--- what was broken off, and what came behind it
+-- what was broken off, and what came after it
 broken-behind : (plan : TalkPlan) (s n p : TalkMoment) (past : List Message) (came put bytes : List ℕ) → IsBrokenOff plan s n past came [] put
     → IsDropped n.line p.line n.client p.client bytes → p.body ≡ n.body → IsBrokenOff plan s p past came bytes put
 broken-behind plan s n p past came put bytes b d body =
@@ -337,7 +337,7 @@ broken-behind plan s n p past came put bytes b d body =
       body = subst (λ (x : BodyAt). IsUsed s.body x) (sym body) b.body;
     }
 
--- why the rest wasn't read on, as it is said of all that came behind CPong
+-- why the rest wasn't read on, as it is said of all that came after CPong
 module _ (plan : TalkPlan) (s n p : TalkMoment) (c c' : Course) (a : LostAt plan s n c) (bytes : List ℕ) where
   stopped : (t : IsStopped plan c bytes) (message : Message) → t.message ≡ message → EndsRest c t.chunks message → (why : Halt) × IsHalted plan s p (a.came ++ bytes) why
   stopped t message is stops = of message (subst (λ (x : Message). Spelled plan.packet (x ∷ chunk_messages t.chunks) bytes) is t.spelled) stops

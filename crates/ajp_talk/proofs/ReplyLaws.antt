@@ -1,4 +1,4 @@
--- The writer behind some messages, and the rule of the sum as it counts down.
+-- The writer after some messages, and the rule of the sum as it counts down.
 use Rattle.std.proofs.Common.{◌≡◌, ◌≢◌, ℕ, ◌+◌, ◌-◌, ◌<◌, true, false, ◌==◌, List, [], ◌∷◌, length, refl, sym, ap, subst, ◌∙◌, ◌⊎◌, arith, inl, inr, Ok, Err, Option, Some, None, IfSome, is_some, eq-eqb, ne_eqb}
 use Rattle.std.specs.Prelude.{nat_lt, nat_le, if◌then◌else◌}
 use Rattle.std.specs.List.{list_all}

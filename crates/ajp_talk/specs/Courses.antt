@@ -18,7 +18,7 @@ use Rattle.ajp_talk.specs.declared.plan.TalkPlan.{TalkPlan}
 use Rattle.ajp_talk.specs.declared.course.Course.{Course}
 use Rattle.ajp_talk.specs.declared.ending.TalkEnd.{TalkEnd}
 
--- the writer behind a head, if one came, and chunks
+-- the writer after a head, if one came, and chunks
 abbrev pub writer_for : RequestKind → Option ReplyParts → List (List ℕ) → Writer
 writer_for kind None chunks = new_writer kind
 writer_for kind (Some parts) chunks = writer_after kind (head_out parts) chunks

@@ -41,7 +41,7 @@ pub record Spoiled {A : Type 0} (read : List ℕ → Result A Refusal) (r : Refu
   pub few : length there ≤ 2
   pub always : (y : List ℕ) → Fails (read (front ++ (there ++ y)))
 
--- Reading stops there, behind a front that begins something good.
+-- Reading stops there, after a front that begins something good.
 pub record Stops {A : Type 0} (Good : List ℕ → Type 0) (read : List ℕ → Result A Refusal) (bytes : List ℕ) (r : Refusal) : Type 0 where
   pub front : List ℕ
   pub there : List ℕ
@@ -83,7 +83,7 @@ starts Good read bytes r more kind left few good = record {
   how = inl (record { kind = kind; left = left; few = few; last = refl });
 }
 
--- what stops behind something that was read
+-- what stops after something that was read
 pub behind_it : {A B : Type 0} (Good Whole : List ℕ → Type 0) (read : List ℕ → Result A Refusal) (both : List ℕ → Result B Refusal) (first bytes after : List ℕ) (r : Refusal)
     → bytes ≡ first ++ after → Stops Good read after r
     → ((b : List ℕ) → Good b → (m : List ℕ) × Whole (first ++ (b ++ m)))

@@ -38,7 +38,7 @@ is_done table absent_names front count i bytes total le so_far =
     let one : with_front front (header_list_at table absent_names (count - i) bytes) ≡ Ok (front, bytes) = rw k (ap (λ (xs : List (List ℕ × List ℕ)). Ok (xs, bytes)) (append-nil front)) in
     sym so_far ∙ one
 
--- a code that is not that of a row is looked for behind the row
+-- a code that is not that of a row is looked for after the row
 pub named_step : (code wanted : ℕ) (rows : List (Bor (List ℕ))) (i : ℕ) → i < length rows → eqb code wanted ≡ false
     → named_from (code + 1) (map (λ row. row.now) (drop (suc i) rows)) wanted ≡ named_from code (map (λ row. row.now) (drop i rows)) wanted
 named_step code wanted [] i lt other = absurd (omega arith)

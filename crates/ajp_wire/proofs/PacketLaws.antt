@@ -21,7 +21,7 @@ fronts-only p q x y l e = (
   sym (drop-append_seam p x) ∙ ap (λ n. drop n (p ++ x)) l ∙ ap (drop (length q)) e ∙ drop-append_seam q y,
 )
 
--- no packet is a proper prefix of another, and what stands behind one is known too
+-- no packet is a proper prefix of another, and what stands after one is known too
 pub packet-only : (from_container : Bool) (p q x y : List ℕ) → packet from_container p ++ x ≡ packet from_container q ++ y → (p ≡ q) × (x ≡ y)
 packet-only true p q x y e =
     let behind : int (length p) ++ (p ++ x) ≡ int (length q) ++ (q ++ y) = cc in
@@ -45,7 +45,7 @@ both : (a b : Bool) → (a && b) ≡ true → (a ≡ true) × (b ≡ true)
 both true b e = (refl, e)
 both false b e = absurd cc
 
--- so many zero bytes
+-- this many zero bytes
 abbrev zeros : ℕ → List ℕ
 zeros n = replicate n 0
 
@@ -103,7 +103,7 @@ part-before_size false most (a ∷ b ∷ h ∷ []) e short fits =
     third false most a b h (rw (first, second) refl) (fits 2)
 part-before_size from_container most (a ∷ b ∷ c ∷ d ∷ bytes) e short fits = absurd (omega arith)
 
--- a head with less than its payload behind it is a part of a packet
+-- a head with less than its payload after it is a part of a packet
 pub part-behind_head : (from_container : Bool) (most size count : ℕ) (front bytes : List ℕ) → IsHead from_container most size front → Lacks size count bytes
     → IsPart from_container most (front ++ bytes)
 part-behind_head from_container most size count front bytes h lacks =

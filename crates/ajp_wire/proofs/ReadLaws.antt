@@ -1,4 +1,4 @@
--- A packet that is read in two parts: its head, and the payload behind it.
+-- A packet that is read in two parts: its head, and the payload after it.
 use Rattle.std.proofs.Common.{◌≡◌, ℕ, ◌<◌, length, List, ◌++◌, Option, Result, Ok, Err, Bool, true, false, refl, sym, ap, ◌∙◌, arith, length-append}
 use Rattle.jk_io.specs.Moments.{Moment}
 use Rattle.jk_io.specs.Told.{appended, prepended}
@@ -18,7 +18,7 @@ HasCome-then l m n x y p q = record {
 length-head : (from_container : Bool) (size : ℕ) → length (head from_container size) ≡ 4
 length-head b size = elim b as (λ v. length (head v size) ≡ 4) [ true ↦ refl | false ↦ refl ]
 
--- the bytes of a head and what came behind it, and their number
+-- the bytes of a head and what came after it, and their number
 counted : (from_container : Bool) (most size count : ℕ) (front bytes : List ℕ) → IsHead from_container most size front → Lacks size count bytes → count ≡ length (front ++ bytes)
 counted b most size count front bytes h lacks =
     let four : length front ≡ 4 = ap length h.whole ∙ length-head b size in

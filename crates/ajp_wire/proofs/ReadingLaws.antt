@@ -26,7 +26,7 @@ pub record Front (Spells : List ℕ → Type 0) (bytes rest : List ℕ) : Type 0
 pub Front-rest : (Spells : List ℕ → Type 0) (bytes rest : List ℕ) → Front Spells bytes rest → IsBytes bytes → IsBytes rest
 Front-rest Spells bytes rest f fits = IsBytes-behind f.front rest (subst IsBytes f.parts fits)
 
--- one spelling behind the other
+-- one spelling after the other
 pub joined : (bytes first after second rest : List ℕ) → bytes ≡ first ++ after → after ≡ second ++ rest → bytes ≡ (first ++ second) ++ rest
 joined bytes first after second rest p q = p ∙ ap (λ (r : List ℕ). first ++ r) q ∙ sym (append_assoc first second rest)
 

@@ -15,7 +15,7 @@ use Rattle.ajp_wire.proofs.FirstPlaces.{is_placed, Fails, Stops, fails-bind, bin
 abbrev pub GoodString : List ℕ → Type 0
 GoodString bytes = (text : List ℕ) × SpellsString (Some text) bytes
 
--- a text of that length behind its length
+-- a text of that length after its length
 text_of : (len : ℕ) (bytes : List ℕ) → GoodMarked len bytes → (text : List ℕ) × (length text ≡ len) × (int len ++ (bytes ++ []) ≡ string text)
 text_of len bytes (text, long, whole) =
     (text, long, ap (λ (b : List ℕ). int len ++ b) (append-nil bytes ∙ whole) ∙ ap (λ (n : ℕ). int n ++ (text ++ 0 ∷ [])) (sym long))
@@ -174,7 +174,7 @@ header_stops table absent_names bytes r few fits e =
 abbrev pub GoodList : List (List ℕ) → Bool → ℕ → List ℕ → Type 0
 GoodList table absent_names count bytes = (headers : List (List ℕ × List ℕ)) × (length headers ≡ count) × SpellsHeaders table absent_names headers bytes
 
--- so many headers of two empty strings
+-- this many headers of two empty strings
 pub filled : (table : List (List ℕ)) (absent_names : Bool) (count : ℕ) → (bytes : List ℕ) × GoodList table absent_names count bytes
 unfolding empty_name
 filled table absent_names zero = ([], ([], refl, refl))
@@ -211,7 +211,7 @@ list_stops table absent_names (suc count) bytes r few fits e =
           ]
     ]
 
--- a count and so many headers, at most 100
+-- a count and this many headers, at most 100
 abbrev pub GoodHeaders : List (List ℕ) → Bool → List ℕ → Type 0
 GoodHeaders table absent_names bytes =
     (headers : List (List ℕ × List ℕ)) × (listed : List ℕ) × (length headers ≤ 100) × SpellsHeaders table absent_names headers listed × (bytes ≡ int (length headers) ++ listed)

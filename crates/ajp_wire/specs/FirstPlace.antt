@@ -20,7 +20,7 @@ pub record IsFirstBad (Whole : List ℕ → Type 0) (payload : List ℕ) (at : �
   pub begins : Begins Whole front
   pub bad : Begins Whole (front ++ there) → ⊥
 
--- The payload ends within what it begins, perhaps behind the first byte of an integer. The place is its end.
+-- The payload ends within what it begins, perhaps after the first byte of an integer. The place is its end.
 pub record EndsWithin (Whole : List ℕ → Type 0) (payload : List ℕ) (at : ℕ) : Type 0 where
   pub front : List ℕ
   pub half : List ℕ

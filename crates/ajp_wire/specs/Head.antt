@@ -1,4 +1,4 @@
--- The head of a packet that is read, and the payload behind it.
+-- The head of a packet that is read, and the payload after it.
 use Rattle.std.specs.Prelude.{◌≡◌, ℕ, ◌+◌, ◌<◌, ◌≤◌, ◌==◌, ◌&&◌, Bool, true, false, List, [], ◌∷◌, length, Result, Ok, Err}
 use Rattle.ajp_wire.specs.declared.errors.PacketError.{PacketError}
 use Rattle.ajp_wire.specs.declared.errors.PacketError.TheVariants.{End, Short, BadMagic, TooLong, Fault, NoMemory}

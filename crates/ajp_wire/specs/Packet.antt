@@ -18,7 +18,7 @@ head from_container size = magic from_container ++ int size
 abbrev pub packet : Bool → List ℕ → List ℕ
 packet from_container payload = head from_container (length payload) ++ payload
 
--- A packet of this payload has at most so many bytes, and its length fits an integer.
+-- A packet of this payload has at most this many bytes, and its length fits an integer.
 pub record FitsPacket (most : ℕ) (payload : List ℕ) : Type 0 where
   pub within : length payload + 4 ≤ most
   pub narrow : length payload < 65536

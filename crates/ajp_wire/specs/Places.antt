@@ -4,7 +4,7 @@ use Rattle.ajp_wire.specs.Spelling.{int, string, absent}
 use Rattle.ajp_wire.specs.declared.errors.FieldError.{FieldError}
 use Rattle.ajp_wire.specs.declared.errors.FieldError.TheVariants.{Short, BadMark}
 
--- An integer stands at a place, and `next` is the place behind it.
+-- An integer stands at a place, and `next` is the place after it.
 pub record IsIntAt (bytes : List ℕ) (at n next : ℕ) : Type 0 where
   pub spelled : drop at bytes ≡ int n ++ drop next bytes
   pub behind : next ≡ at + 2
@@ -28,12 +28,12 @@ abbrev pub IsStringAt : List ℕ → ℕ → Option (ℕ × ℕ) → ℕ → Typ
 IsStringAt bytes at (Some text) next = IsTextAt bytes at text.0 text.1 next
 IsStringAt bytes at None next = IsAbsentAt bytes at next
 
--- The bytes end within a string: within its length, or behind a length with no room for as many bytes and the zero byte.
+-- The bytes end within a string: within its length, or after a length with no room for as many bytes and the zero byte.
 abbrev pub EndsWithinString : List ℕ → Type 0
 EndsWithinString bytes =
     (length bytes < 2) ⊎ ((size : ℕ) × (behind : List ℕ) × (size < 65535) × (bytes ≡ int size ++ behind) × (length behind ≤ size))
 
--- A string at a place, but for another byte than zero behind it, at `mark`.
+-- A string at a place, but for another byte than zero after it, at `mark`.
 pub record HasBadMark (bytes : List ℕ) (at mark : ℕ) : Type 0 where
   pub text : List ℕ
   pub other : ℕ

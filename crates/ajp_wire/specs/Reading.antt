@@ -67,7 +67,7 @@ mark_at text [] = refused Short []
 mark_at text (zero ∷ rest) = Ok (text, rest)
 mark_at text (suc b ∷ rest) = refused BadMark (suc b ∷ rest)
 
--- a string's bytes, behind its length
+-- a string's bytes, after its length
 unfoldable pub marked_at : ℕ → List ℕ → Reading (List ℕ)
 marked_at len bytes = mark_at (take len bytes) (drop len bytes)
 

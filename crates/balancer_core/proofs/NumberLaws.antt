@@ -14,7 +14,7 @@ not_before at now moment is = omega arith
 pub numbers_left : (seq tickets outs more : ℕ) → tickets ≡ outs → seq + tickets + more ≤ 2 ^ 48 → seq + outs + more ≤ 2 ^ 48
 numbers_left seq tickets outs more same left = omega arith
 
--- The room that was taken for so many entries is there, and beside them for their Returns.
+-- The room that was taken for this many entries is there, and beside them for their Returns.
 pub room_taken : (n tickets outs more cap cap' : ℕ) → n + (tickets + more) ≤ cap → cap ≤ cap' → tickets ≡ outs → n + (outs + more) ≤ cap'
 room_taken n tickets outs more cap cap' room wider same = omega arith
 

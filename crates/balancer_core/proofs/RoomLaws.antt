@@ -22,7 +22,7 @@ module _ (v : ℕ) (o : Opening) (h : List Entry) (now : Present) (added seq mor
   pub full_marked : IsMarked (next_number (journal_of v o h added)) (tickets_out (journal_of v o h added)) (record { next = seq; out = now.out })
   full_marked = (number ∙ next_is o h, is.tickets)
 
-  -- So many numbers are wanted, or are left.
+  -- This many numbers are wanted, or are left.
   pub full_past : 2 ^ 48 < seq + now.out + more → 2 ^ 48 < next_number (journal_of v o h added) + tickets_out (journal_of v o h added) + more
   full_past full = omega (arith, number, next_is o h, is.tickets, full)
 

@@ -7,7 +7,7 @@ use Rattle.jk_model.specs.declared.member.Method.{Method}
 use Rattle.choice_index.specs.declared.standing.Standing.{Standing}
 use Rattle.balancer_core.specs.Stepped.{AreStepped}
 
--- The greatest of the loads after so many halvings; d stands where there is no row.
+-- The greatest of the loads after this many halvings; d stands where there is no row.
 abbrev pub greatest_halved : List Standing → Standing → (times : ℕ) → ℕ
 greatest_halved rows d times = greatest (length rows) (λ j. halved (slice_index_or rows j d).load times)
 

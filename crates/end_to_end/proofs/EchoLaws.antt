@@ -78,7 +78,7 @@ reverse-plain (Pong ∷ a) p = absurd p
 
 -- ---- where a body reaches
 
--- an ask that comes after so many others is met
+-- an ask that comes after this many others is met
 abbrev Met : (w n : ℕ) → Data → ℕ → Type 0
 Met w n d k = reaches (want w n) (behind_first (asked w (replicate k (Ask n))) d) ≡ true
 
@@ -316,7 +316,7 @@ pub record AreOwn (f : Forward) (p : BodyPlan) (ends : List Endpoint) (own : Dat
   pub names : Names p (content_length f)
   pub first_is : first ≡ take (first_len p ends) own.bytes
 
--- what was sent behind the Forward Request for these messages
+-- what was sent after the Forward Request for these messages
 abbrev pub behind_request : (w : ℕ) (p : BodyPlan) (ends : List Endpoint) (own : Data) (first : List ℕ) (past : List Message) → List ℕ
 behind_request w p ends own first past = first_packet first ++ answers w (behind_first (first_len p ends) own) past
 

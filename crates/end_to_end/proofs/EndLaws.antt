@@ -43,7 +43,7 @@ some-bytes most m past bytes s none =
     let empty : length bytes ≡ 0 = ap length none in
     absurd (omega (arith, few, empty))
 
--- behind the ping, where there is one
+-- after the ping, where there is one
 behind_ping : (app : AppConfig) (f : Forward) (b : Bool) (put came : List ℕ)
     → SomeTalk app ((if b then packet false (10 ∷ []) else []) ++ put) ((if b then packet true (9 ∷ []) else []) ++ came) → (came ≡ [] → ⊥)
     → SomeTalk app put came

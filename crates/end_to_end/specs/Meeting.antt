@@ -45,7 +45,7 @@ pub record IsRequest (head : Head) (own : Data) : Type 0 where
 abbrev pub forwarded : Errand → MemberConfig → Endpoint → Forward
 forwarded q member endpoint = forward_for q.head q.peer q.balancer.book.direct member endpoint
 
--- how much of its data is sent right behind the Forward Request
+-- how much of its data is sent right after the Forward Request
 abbrev pub front_of : Errand → ℕ
 front_of q = first_len q.head.plan q.balancer.ends
 

@@ -10,7 +10,7 @@ one_written : (code : ℕ) (text : Option (List ℕ)) (rest : List Attribute)
 one_written code None rest = refl
 one_written code (Some text) rest = refl
 
--- none of the three stores a method, so the method's own attribute stands behind them
+-- none of the three stores a method, so the method's own attribute stands after them
 method_last : (method : List ℕ) (query route secret : Option (List ℕ))
     → with_method method (attributes_for query route secret)
     ≡ attribute_for 5 query ++ (attribute_for 6 route ++ (attribute_for 12 secret ++ attribute_for 13 (Some method)))

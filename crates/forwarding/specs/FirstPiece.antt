@@ -1,4 +1,4 @@
--- How much of a body is sent right behind the Forward Request, whichever member is chosen.
+-- How much of a body is sent right after the Forward Request, whichever member is chosen.
 use Rattle.std.specs.Prelude.{ℕ, ◌-◌, min, List, fold}
 use Rattle.http_front.specs.declared.head.BodyPlan.{BodyPlan}
 use Rattle.http_front.specs.declared.head.BodyPlan.TheVariants as plan

@@ -16,7 +16,7 @@ all_of_map {Y = Y} P f [] all = All-nil (λ (y : Y). P (f y))
 all_of_map {Y = Y} P f (y ∷ ys) all =
     All-cons (λ (z : Y). P (f z)) y ys (All-head P (f y) (map f ys) all) (all_of_map P f ys (All-tail P (f y) (map f ys) all))
 
--- Nothing is left of what is put behind.
+-- Nothing is left of what is put at the end.
 pub no_more : {X : Type 0} (xs rest ys : List X) → xs ++ rest ≡ ys → length rest ≡ 0 → xs ≡ ys
 no_more xs [] ys all none = sym (append-nil xs) ∙ all
 no_more xs (y ∷ rest) ys all none = absurd (omega (arith, none))

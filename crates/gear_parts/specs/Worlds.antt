@@ -57,20 +57,20 @@ pub record HandsAndTakes {G : Type 0} (before after : WorldSide G) (gears back :
   pub counted : after.out + length back ≡ before.out + length gears
   pub no_fewer : before.faults ≤ after.faults
 
--- A gear that was just made: its door has at most so many clients to come, where that is given; no link was left there, and
+-- A gear that was just made: its door has at most this many clients to come, where that is given; no link was left there, and
 -- no talk was noted.
 pub record IsMade {C S : Type 0} (clients : Option ℕ) (gear : GearSide C S) : Type 0 where
   pub few : IfSome clients (λ most. IfSome gear.door.coming (λ coming. length coming ≤ most))
   pub none_left : IsEmpty gear.door.left
   pub no_talk : IsEmpty gear.talks
 
--- One of so many gears was refused: those that were handed out before it came back as they were.
+-- One of this many gears was refused: those that were handed out before it came back as they were.
 pub record RefusesGear {G : Type 0} (threads : ℕ) (before after : WorldSide G) : Type 0 where
   pub gears : List G
   pub passed : HandsAndTakes before after gears gears
   pub fewer : length gears < threads
 
--- The world handed out one more gear, just made and its tape idle, which was put behind the others.
+-- The world handed out one more gear, just made and its tape idle, which was put after the others.
 pub record Takes {D G T K S O C : Type 0} (told : Gear D G T K S O → GearSide C S) (IsIdle : T → Type 0) (clients : Option ℕ) (before after : WorldSide (Gear D G T K S O)) (gears more : List (Gear D G T K S O)) : Type 0 where
   pub gear : Gear D G T K S O
   pub added : more ≡ gears ++ gear ∷ []

@@ -42,7 +42,7 @@ place_behind-append (b ∷ xs) ys p q r e f =
 pub Uses-nil : (now : Option (List ℕ)) (p : Place) → Uses now now p p []
 Uses-nil now p = record { gone = []; used = sym (prepended-nil now); own = refl; brings = refl }
 
--- one use behind another
+-- one use after another
 pub Uses-then : (before mid now : Option (List ℕ)) (p q r : Place) (d e : List ℕ) → Uses before mid p q d → Uses mid now q r e → Uses before now p r (d ++ e)
 Uses-then before mid now p q r d e one two = record {
   gone = one.gone ++ two.gone;

@@ -37,7 +37,7 @@ leads-line_end : (p q r : Place) → data_left p ≡ 0 → is_over p ≡ false �
 leads-line_end p q r none open_end cr none' open_end' lf =
     leads-byte 13 (10 ∷ []) p q r [] none open_end cr (leads-byte 10 [] q r r [] none' open_end' lf (leads-nil r))
 
--- what so many digits write stays below this
+-- what this many digits write stays below this
 abbrev pub bound : ℕ → ℕ
 bound zero = 1
 bound (suc count) = 16 * bound count
@@ -87,7 +87,7 @@ extension-leads (b ∷ text) size count few inner =
     let P : ℕ → Type 0 = λ n. Leads text (at.Extension size (count + 1)) (at.Extension size n) [] in
     leads-byte b text (at.Extension size count) (at.Extension size (count + 1)) _ [] refl refl steps (subst P (omega arith) rest)
 
--- what stands behind the digits of a size
+-- what stands after the digits of a size
 behind-digits : (extension : Option (List ℕ)) (count size : ℕ) → 0 < count → IsExtension extension
     → Leads (extension_bytes extension ++ line_end) (at.Digits count size) (chunk_of size) []
 behind-digits None count size some good =

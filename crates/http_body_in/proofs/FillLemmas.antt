@@ -11,7 +11,7 @@ use Rattle.http_body_in.specs.declared.place.Place.{Place}
 use Rattle.http_body_in.proofs.QuietLemmas.{some-left}
 use Rattle.http_body_in.proofs.WalkLemmas.{under-now}
 
--- behind the look at the limit, the data in front is below it
+-- after the look at the limit, the data in front is below it
 pub front-limit : (start place : Place) (most taken count sum : ℕ) → sum ≡ counted taken count → is_reached place most sum ≡ false
     → (is_limited place ≡ false → is_limited start ≡ true → counted taken count < most) → most ≤ 18446744073709551615
     → is_limited start ≡ true → (counted taken count < most) × (taken + count < most)

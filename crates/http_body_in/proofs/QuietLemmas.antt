@@ -14,7 +14,7 @@ abbrev pub Lacks : Want → List ℕ → Type 0
 Lacks (Next n) data' = length data' < n
 Lacks Rest data' = Unit {0}
 
--- the body's own bytes bring their data up to the place behind them
+-- the body's own bytes bring their data up to the place after them
 used-data : (gone : List ℕ) (start place : Place) (data' : List ℕ) → place_behind gone start ≡ Some place → (data_from gone start).bytes ≡ data'
     → data_from gone start ≡ record { bytes = data'; whole = is_whole place; bad = is_bad place }
 used-data gone start place data' own brings =

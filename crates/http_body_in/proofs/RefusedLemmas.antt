@@ -76,7 +76,7 @@ finishes at.TrailerFeed good = byte-finishes 10 at.TrailerFeed at.Done refl refl
 finishes at.Done good = record { bytes = []; end = at.Done; own = refl; whole = refl }
 finishes at.Bad good = absurd (true≢false good)
 
--- the bytes, and more behind them, begin with a whole body
+-- the bytes, and more after them, begin with a whole body
 record GoesOn (bytes : List ℕ) (p : Place) : Type 0 where
   more : List ℕ
   front : List ℕ

@@ -1,4 +1,4 @@
--- A body that is read as whole is one that the grammar spells: what stands behind each place.
+-- A body that is read as whole is one that the grammar spells: what stands after each place.
 use Rattle.std.proofs.Common.{◌≡◌, ℕ, zero, suc, ◌+◌, ◌-◌, ◌*◌, ◌%◌, ◌≤◌, ◌<◌, ◌==◌, Bool, true, false, List, [], ◌∷◌, ◌++◌, length, Option, Some, None, refl, sym, ap, subst, ◌∙◌, inl, inr, ◌⊎◌, arith, append_assoc, length-append}
 use Rattle.std.specs.Prelude.{if◌then◌else◌, nat_lt, ⊤}
 use Rattle.std.specs.Char.{is_digit, digit_value}
@@ -15,7 +15,7 @@ use Rattle.http_body_in.proofs.ChunkedLemmas.{bound, whole-size, size-more}
 abbrev pub IsSpelled : List ℕ → Type 0
 IsSpelled bytes = (b : ChunkedBody) × IsChunkedBody b × (bytes ≡ spelled b)
 
--- the LF of a line's end, and what stands behind it
+-- the LF of a line's end, and what stands after it
 abbrev pub Fed : (List ℕ → Type 0) → List ℕ → Type 0
 Fed T bytes = (tail : List ℕ) × (bytes ≡ 10 ∷ tail) × T tail
 
@@ -26,7 +26,7 @@ pub record TrailerTail (left : ℕ) (bytes : List ℕ) : Type 0 where
   pub fits : length (trailer_bytes lines) ≤ left
   pub is : bytes ≡ trailer_bytes lines ++ line_end
 
--- the rest of a line of a trailer, and what stands behind it
+-- the rest of a line of a trailer, and what stands after it
 pub record LineTail (left : ℕ) (bytes : List ℕ) : Type 0 where
   pub line : List ℕ
   pub tail : List ℕ
@@ -35,7 +35,7 @@ pub record LineTail (left : ℕ) (bytes : List ℕ) : Type 0 where
   pub is : bytes ≡ line ++ (13 ∷ 10 ∷ tail)
   pub rest : TrailerTail (left - length line) tail
 
--- n bytes of a chunk's data, and the chunks behind it
+-- n bytes of a chunk's data, and the chunks after it
 pub record DataTail (n : ℕ) (bytes : List ℕ) : Type 0 where
   pub data' : List ℕ
   pub tail : List ℕ
@@ -43,7 +43,7 @@ pub record DataTail (n : ℕ) (bytes : List ℕ) : Type 0 where
   pub is : bytes ≡ data' ++ (13 ∷ 10 ∷ tail)
   pub rest : IsSpelled tail
 
--- behind the line of a size
+-- after the line of a size
 abbrev pub SizeTail : ℕ → List ℕ → Type 0
 SizeTail zero bytes = TrailerTail 16384 bytes
 SizeTail (suc n) bytes = DataTail (suc n) bytes
@@ -67,7 +67,7 @@ pub record DigitsTail (count size : ℕ) (bytes : List ℕ) : Type 0 where
   pub is : bytes ≡ digits ++ (extension_bytes extension ++ (13 ∷ 10 ∷ tail))
   pub rest : SizeTail (written_from size digits) tail
 
--- what stands behind a place in a whole body
+-- what stands after a place in a whole body
 abbrev pub Behind : Place → List ℕ → Type 0
 Behind (at.Exact n) bytes = ⊤
 Behind (at.Digits count size) bytes = count ≤ 10 → size < bound count → DigitsTail count size bytes
@@ -247,7 +247,7 @@ line_behind left b bytes t =
 line-and : (digits extension tail : List ℕ) → (digits ++ (extension ++ line_end)) ++ tail ≡ digits ++ (extension ++ (13 ∷ 10 ∷ tail))
 line-and digits extension tail = append_assoc digits (extension ++ line_end) tail ∙ ap (λ (l : List ℕ). digits ++ l) (append_assoc extension line_end tail)
 
--- a whole size line and what stands behind it are a body
+-- a whole size line and what stands after it are a body
 body-spelled : (n : ℕ) (digits : List ℕ) (extension : Option (List ℕ)) (tail : List ℕ) → IsSize digits n → IsExtension extension → SizeTail n tail
     → IsSpelled (digits ++ (extension_bytes extension ++ (13 ∷ 10 ∷ tail)))
 body-spelled zero digits extension tail size good t = (

@@ -10,7 +10,7 @@ use Rattle.http_body_in.specs.declared.place.Place.{Place}
 use Rattle.http_body_in.specs.declared.place.Place.TheVariants as at
 use Rattle.http_body_in.proofs.BodyLemmas.{data_from-append, next-place}
 
--- where nothing is told before, nothing is behind
+-- where nothing is told before, nothing is told after
 untold-data : (before : Option (List ℕ)) (start place : Place) (d : List ℕ) → Uses before None start place d → data_of start before ≡ None
 untold-data before start place d uses = ap (data_of start) uses.used
 
@@ -20,7 +20,7 @@ told-data before ys start place d uses =
     ap (data_of start) uses.used
     ∙ ap Some (data_from-append uses.gone ys start place uses.own ∙ ap (λ (l : List ℕ). behind l (data_from ys place)) uses.brings)
 
--- behind the end no data stands
+-- after the end no data stands
 pub over-data : (ys : List ℕ) (place : Place) → is_over place ≡ true → data_from ys place ≡ ended_at place
 over-data [] place over = refl
 over-data (b ∷ ys) place over = cond-true _ _ _ over
@@ -64,7 +64,7 @@ left-facts n piece d whole within all end =
           left.0 ∙ sym (ap (drop n) nothing ∙ drop_all n piece within)
     ]
 
--- what is left is the data behind them
+-- what is left is the data after them
 pub takes-left : (most taken n : ℕ) (before now : Option (List ℕ)) (start place : Place) (piece : List ℕ) → Walks most taken n before now start place piece → data_of place now ≡ dropped n (data_of start before)
 takes-left most taken n before None start place piece walks = sym (ap (dropped n) (untold-data before start place piece walks.uses))
 takes-left most taken n before (Some ys) start place piece walks =

@@ -39,7 +39,7 @@ bad-place (at.TrailerLineFeed l) e = absurd (false≢true e)
 bad-place at.TrailerFeed e = absurd (false≢true e)
 bad-place at.Done e = absurd (false≢true e)
 
--- behind data little framing can stand
+-- after data little framing can stand
 pub data-falls : (p : Place) (k : ℕ) → (data_left p ≡ 0 → ⊥) → framing_left (data_step p k) ≤ 33042
 data-falls (at.Exact n) k some = omega arith
 data-falls (at.Chunk n) k some = chunk-falls (n - k)
@@ -99,7 +99,7 @@ fails-read most taken count before now after start place piece fault.NoMemory wi
     let len : length (take count piece) ≡ count = length-take-le count piece (omega (arith, within)) in
     record { breaks = record { place = place; data' = take count piece; uses = Uses-kept before now after start place _ same uses; meets = tt; stays = tt }; below = omega (arith, len, within) }
 
--- the end, or a read that failed, behind the data that was passed
+-- the end, or a read that failed, after the data that was passed
 pub breaks-read : (most taken : ℕ) (before now after : Option (List ℕ)) (start place : Place) (data' : List ℕ) (why : BodyFault) → Uses before now start place data'
     → after ≡ now → is_over place ≡ false → (why ≡ fault.Truncated → IsEmpty after) → why ≢ fault.BadChunk → why ≢ fault.TooLong
     → IsUnder most taken start data' → Breaks most taken before after start why
@@ -151,7 +151,7 @@ and-true : (x y : Bool) → x ≡ true → (x && y) ≡ y
 and-true true y e = refl
 and-true false y e = absurd (false≢true e)
 
--- behind the look at the limit, a body that was chunked from its start is below it
+-- after the look at the limit, a body that was chunked from its start is below it
 pub under-now : (start place : Place) (most taken count sum : ℕ) → sum ≡ counted taken count → is_reached place most sum ≡ false
     → (is_limited place ≡ false → is_limited start ≡ true → sum < most) → most ≤ 18446744073709551615 → is_limited start ≡ true → (sum < most) × (taken + count < most)
 under-now start place most taken count sum counts under before small limited =
@@ -174,7 +174,7 @@ start-exact at.TrailerFeed e = refl
 start-exact at.Done e = refl
 start-exact at.Bad e = refl
 
--- within its chunks a body stays behind data
+-- within its chunks a body stays after data
 pub data-chunks : (p : Place) (k : ℕ) → 0 < data_left p → exact_left p ≡ 0 → (is_limited (data_step p k) ≡ true) × (exact_left (data_step p k) ≡ 0)
 data-chunks (at.Exact n) k some none = absurd (omega (arith, some, none))
 data-chunks (at.Chunk n) k some none = (refl, refl)

@@ -24,7 +24,7 @@ given_of (suc left) b = b ∷ []
 abbrev pub given : Place → ℕ → List ℕ
 given place b = given_of (data_left place) b
 
--- data behind other data
+-- data after other data
 abbrev pub behind : List ℕ → Data → Data
 behind front data' = record { bytes = front ++ data'.bytes; whole = data'.whole; bad = data'.bad }
 
@@ -37,7 +37,7 @@ abbrev pub data_from : List ℕ → Place → Data
 data_from [] place = ended_at place
 data_from (b ∷ bytes) place = if is_over place then ended_at place else behind (given place b) (data_from bytes (step place b))
 
--- the place behind bytes that are all the body's own
+-- the place after bytes that are all the body's own
 abbrev pub place_behind : List ℕ → Place → Option Place
 place_behind [] place = Some place
 place_behind (b ∷ bytes) place = if is_over place then None else place_behind bytes (step place b)
@@ -58,6 +58,6 @@ data_of place (Some bytes) = Some (data_from bytes place)
 abbrev pub reaches : ℕ → Data → Bool
 reaches n d = nat_le n (length d.bytes) || d.whole
 
--- the data behind the first n bytes of data
+-- the data after the first n bytes of data
 abbrev pub dropped : ℕ → Option Data → Option Data
 dropped n told = option_map (λ d. record { bytes = drop n d.bytes; whole = d.whole; bad = d.bad }) told

@@ -18,7 +18,7 @@ use Rattle.http_body_in.specs.declared.place.TheConstants.{MAX_SIZE_DIGITS, MAX_
 abbrev pub line_end : List ℕ
 line_end = 13 ∷ 10 ∷ []
 
--- the number that hexadecimal digits write behind the digits of n
+-- the number that hexadecimal digits write after the digits of n
 abbrev pub written_from : ℕ → List ℕ → ℕ
 written_from n [] = n
 written_from n (d ∷ digits) = written_from (16 * n + digit_value d) digits
@@ -95,7 +95,7 @@ spelled b = flat_map chunk_bytes b.chunks ++ (size_line b.last b.extension ++ (t
 abbrev pub data_in : ChunkedBody → List ℕ
 data_in b = flat_map (λ c. c.data') b.chunks
 
--- what the grammar spells is read as its data, and as whole, and nothing behind it is used
+-- what the grammar spells is read as its data, and as whole, and nothing after it is used
 abbrev pub ReadsSpelled : Type 0
 ReadsSpelled = (b : ChunkedBody) (rest : List ℕ) → IsChunkedBody b
     → (data_from (spelled b ++ rest) (start_of plan.Chunked) ≡ record { bytes = data_in b; whole = true; bad = false })

@@ -1,4 +1,4 @@
--- Why a walk over the framing ends: at most so many bytes stand before the next byte of data, or the end.
+-- Why a walk over the framing ends: at most this many bytes stand before the next byte of data, or the end.
 use Rattle.std.specs.Prelude.{ℕ, zero, suc, ◌+◌, ◌-◌, ◌*◌}
 use Rattle.http_body_in.specs.declared.place.Place.{Place}
 use Rattle.http_body_in.specs.declared.place.TheConstants.{MAX_SIZE_DIGITS, MAX_EXTENSION_BYTES}

@@ -15,12 +15,12 @@ start_of plan.None = at.Done
 start_of (plan.Exact n) = at.Exact n
 start_of plan.Chunked = at.Digits 0 0
 
--- behind the LF of a chunk line: the chunk's data, or the trailer behind a size of 0
+-- after the LF of a chunk line: the chunk's data, or the trailer after a size of 0
 abbrev pub chunk_of : ℕ → Place
 chunk_of zero = at.Trailer MAX_TRAILER_BYTES
 chunk_of (suc size) = at.Chunk (suc size)
 
--- behind a byte of a chunk line's digits; nine of them write less than 2^36
+-- after a byte of a chunk line's digits; nine of them write less than 2^36
 abbrev pub digits_step : ℕ → ℕ → ℕ → Place
 digits_step count size b =
     if is_digit b 16 then (if nat_lt count MAX_SIZE_DIGITS then at.Digits (count + 1) (16 * (size % SIZE_STEP) + digit_value b) else at.Bad)
@@ -29,7 +29,7 @@ digits_step count size b =
     else if b == 13 then at.LineFeed size
     else at.Bad
 
--- behind a byte of an extension
+-- after a byte of an extension
 abbrev pub extension_step : ℕ → ℕ → ℕ → Place
 extension_step size count b =
     if b == 13 then at.LineFeed size
@@ -37,7 +37,7 @@ extension_step size count b =
     else if nat_lt count MAX_EXTENSION_BYTES then at.Extension size (count + 1)
     else at.Bad
 
--- behind a byte at the beginning of a trailer line: with its own CR LF it must fit
+-- after a byte at the beginning of a trailer line: with its own CR LF it must fit
 abbrev pub trailer_step : ℕ → ℕ → Place
 trailer_step left b =
     if b == 13 then at.TrailerFeed
@@ -45,7 +45,7 @@ trailer_step left b =
     else if nat_lt left 3 then at.Bad
     else at.TrailerLine (left - 3)
 
--- behind a byte within a trailer line
+-- after a byte within a trailer line
 abbrev pub trailer_line_step : ℕ → ℕ → Place
 trailer_line_step left b =
     if b == 13 then at.TrailerLineFeed left
@@ -53,7 +53,7 @@ trailer_line_step left b =
     else if left == 0 then at.Bad
     else at.TrailerLine (left - 1)
 
--- behind a byte
+-- after a byte
 abbrev pub step : Place → ℕ → Place
 step (at.Exact n) b = at.Exact (n - 1)
 step (at.Digits count size) b = digits_step count size b
@@ -84,7 +84,7 @@ data_left at.TrailerFeed = 0
 data_left at.Done = 0
 data_left at.Bad = 0
 
--- the body is whole: no byte behind is its own
+-- the body is whole: no byte after it is its own
 abbrev pub is_whole : Place → Bool
 is_whole (at.Exact n) = n == 0
 is_whole at.Done = true
@@ -114,7 +114,7 @@ is_bad (at.TrailerLine left) = false
 is_bad (at.TrailerLineFeed left) = false
 is_bad at.TrailerFeed = false
 
--- behind count bytes of data
+-- after count bytes of data
 abbrev pub data_step : Place → ℕ → Place
 data_step (at.Exact n) count = at.Exact (n - count)
 data_step (at.Chunk left) count = at.Chunk (left - count)

@@ -29,7 +29,7 @@ StaysUnder most taken start data' fault.TooLong = Unit {0}
 StaysUnder most taken start data' fault.Fault = IsUnder most taken start data'
 StaysUnder most taken start data' fault.NoMemory = Unit {0}
 
--- what a walk met behind the data that it used
+-- what a walk met after the data that it used
 abbrev pub Meets : ℕ → ℕ → Option (List ℕ) → Place → List ℕ → BodyFault → Type 0
 Meets most taken now place data' fault.Truncated = (is_over place ≡ false) × IsEmpty now
 Meets most taken now place data' fault.BadChunk = place ≡ at.Bad
@@ -52,7 +52,7 @@ pub record IsDropped (n : ℕ) (inbox inbox_now : List ℕ) (incoming incoming_n
   pub used : unread inbox incoming ≡ prepended gone (unread inbox_now incoming_now)
   pub inside : 0 < length inbox → inbox ≡ gone ++ inbox_now
 
--- n bytes were dropped, and put behind the first count of the piece
+-- n bytes were dropped, and put after the first count of the piece
 pub record IsPut (n count : ℕ) (piece piece_now inbox inbox_now : List ℕ) (incoming incoming_now : Option (List ℕ)) : Type 0 where
   pub dropped : IsDropped n inbox inbox_now incoming incoming_now
   pub put : take (count + n) piece_now ≡ take count piece ++ dropped.gone

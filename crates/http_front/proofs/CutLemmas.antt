@@ -37,7 +37,7 @@ option_map-twice : (k : ℕ) (o : Option ℕ) → option_map (λ n. k + n) (opti
 option_map-twice k None = refl
 option_map-twice k (Some n) = ap Some (sym (add_assoc k 1 n))
 
--- one more byte behind which no empty line stands
+-- one more byte, after which no empty line stands
 pub Searched-more : (xs : List ℕ) (i : ℕ) → i < length xs → ((more : List ℕ) → (get_or xs i 0 == 10 && begins_empty (drop (i + 1) xs ++ more)) ≡ false) → Searched xs i → Searched xs (i + 1)
 Searched-more xs i within none searched more =
     let split = drop_more xs i 0 within in
@@ -49,7 +49,7 @@ pub empty_line_len-append : (xs more : List ℕ) → begins_empty xs ≡ true �
 empty_line_len-append [] more e = absurd (false≢true e)
 empty_line_len-append (b ∷ xs) more e = refl
 
--- an empty line behind the line that ends here
+-- an empty line after the line that ends here
 pub head_len-ends : (xs : List ℕ) (i : ℕ) → i < length xs → get_or xs i 0 ≡ 10 → begins_empty (drop (i + 1) xs) ≡ true → Searched xs i → (more : List ℕ) → head_len (xs ++ more) ≡ Some (i + 1 + empty_line_len (drop (i + 1) xs))
 head_len-ends xs i within is empty searched more =
     let split = drop_more xs i 0 within in
@@ -66,7 +66,7 @@ head_len-open xs i searched none =
     let front : head_len xs ≡ option_map (λ n. i + n) (head_len (drop i xs)) = rw (append-nil, append-nil) at whole in
     front ∙ ap (option_map (λ n. i + n)) none
 
--- a line's end behind which nothing ends
+-- a line's end, after which nothing ends
 pub head_len-none : (xs : List ℕ) (i : ℕ) → i < length xs → begins_empty (drop (i + 1) xs) ≡ false → head_len (drop (i + 1) xs) ≡ None → head_len (drop i xs) ≡ None
 head_len-none xs i within text none =
     let test : (get_or xs i 0 == 10 && begins_empty (drop (i + 1) xs)) ≡ false = and_right _ _ text in
@@ -265,7 +265,7 @@ part-made bytes front blank at is fits skipped stops search =
 pub seen-none : (bytes : List ℕ) → IsSeen bytes 0 0
 seen-none bytes = record { within = omega arith; skipped = λ more. sym (zero-add _); none = Searched-zero bytes }
 
--- what was seen holds with more bytes behind
+-- what was seen holds with more bytes after them
 pub seen-more : (bytes came : List ℕ) (blank searched : ℕ) → IsSeen bytes blank searched → IsSeen (bytes ++ came) blank searched
 seen-more bytes came blank searched seen =
     let left : drop blank (bytes ++ came) ≡ drop blank bytes ++ came = drop-append-le blank bytes came (omega (arith, seen.within)) in

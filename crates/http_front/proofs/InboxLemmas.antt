@@ -14,7 +14,7 @@ between-skip s e n xs within =
     let left : e - s ≡ n + (e - (s + n)) = omega arith in
     sym (ap (λ (k : ℕ). drop n (take k (drop s xs))) left ∙ drop-take n (e - (s + n)) (drop s xs) ∙ ap (λ (ys : List ℕ). take (e - (s + n)) ys) (drop-drop n s xs))
 
--- bytes that came behind
+-- bytes that came after
 pub between-more : (start end n : ℕ) (before after came : List ℕ) → start ≤ end → end ≤ length before → take (end + n) after ≡ take end before ++ came → between start (end + n) after ≡ between start end before ++ came
 between-more start end n before after came ordered within more =
     between_is after start (end + n)
@@ -32,7 +32,7 @@ pub unread-more : (view old came : List ℕ) (before after : Option (List ℕ)) 
 unread-more view old came before after more gave =
     ap (λ (l : List ℕ). prepended l after) more ∙ sym (prepended-prepended old came after) ∙ ap (prepended old) (sym gave)
 
--- what a read behind the end gives
+-- what a read after the end gives
 pub behind-more : {E : Type 0} (r : Result ℕ E) (buffer part : List ℕ) (end k : ℕ) (before after : Option (List ℕ)) → end ≤ length buffer
     → IfOk r (λ n. n ≤ length part) → IfOk r (λ n. before ≡ prepended (take n part) after)
     → IfOk r (λ n. (came : List ℕ) × (length came ≡ n) × (take (end + n) (put_mid end k buffer part) ≡ take end buffer ++ came) × (before ≡ prepended came after))

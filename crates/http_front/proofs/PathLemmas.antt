@@ -98,7 +98,7 @@ pub last-dots : (path rest : List ℕ) → position_or_len (λ b. b == 47) rest 
     → is_dots (clean_segment rest) ≡ false → list_any is_dots (map clean_segment (segments path)) ≡ false
 last-dots path rest last dots clean = sym dots ∙ dots-whole rest last ∙ or_from _ _ clean refl
 
--- the path is clean where its bytes are good and no dot segment stands behind the slash
+-- the path is clean where its bytes are good and no dot segment stands after the slash
 pub clean-made : (raw rest clean : List ℕ) → bytes_eq raw (codes "*") ≡ false → (slice_index raw 0 == 47) ≡ true → has_good_bytes raw ≡ true → rest ≡ drop 1 raw
     → list_any is_dots (map clean_segment (segments rest)) ≡ false → clean ≡ 47 ∷ joined rest → clean_of raw ≡ Some clean
 clean-made raw rest clean star slash good left dots whole =
@@ -106,7 +106,7 @@ clean-made raw rest clean star slash good left dots whole =
     let is : is_clean raw ≡ true = rw (slash, good, none) refl in
     rw (star, is) (ap Some (sym (whole ∙ ap (λ (l : List ℕ). 47 ∷ joined l) left)))
 
--- the query behind the first `?`
+-- the query after the first `?`
 pub query-some : (target : List ℕ) (at : ℕ) → at ≡ position_or_len (λ b. b == 63) target → at < length target → query_of target ≡ Some (take (length target - (at + 1)) (drop (at + 1) target))
 query-some target at e within =
     let first : position_or_len (λ b. b == 63) target < length target = omega (arith, e, within) in

@@ -17,7 +17,7 @@ abbrev pub blank_len : List ℕ → ℕ
 blank_len [] = 0
 blank_len (b ∷ bytes) = if begins_empty (b ∷ bytes) then 1 + blank_len bytes else 0
 
--- how many bytes there are up to the first empty line behind the end of another, and with it
+-- how many bytes there are up to the first empty line after the end of another, and with it
 abbrev pub head_len : List ℕ → Option ℕ
 head_len [] = None
 head_len (b ∷ bytes) = if b == line_feed && begins_empty bytes then Some (1 + empty_line_len bytes) else option_map (λ n. 1 + n) (head_len bytes)

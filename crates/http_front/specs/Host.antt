@@ -15,7 +15,7 @@ localhost = codes "localhost"
 abbrev pub onto_name : ℕ → List ℕ × List ℕ → List ℕ × List ℕ
 onto_name b parts = (b ∷ parts.0, parts.1)
 
--- what stands before and behind a colon at the front, where it is the last one and no `]` follows
+-- what stands before and after a colon at the front, where it is the last one and no `]` follows
 abbrev pub split_here : ℕ → List ℕ → Option (List ℕ × List ℕ)
 split_here b bytes = if b == colon && not (list_any (λ c. c == close_bracket) bytes) then Some ([], bytes) else None
 
@@ -24,7 +24,7 @@ abbrev pub split_or : ℕ → List ℕ → Option (List ℕ × List ℕ) → Opt
 split_or b bytes None = split_here b bytes
 split_or b bytes (Some parts) = Some (onto_name b parts)
 
--- the name and the port, around the last colon where no `]` stands behind it
+-- the name and the port, around the last colon where no `]` stands after it
 abbrev pub split_port : List ℕ → Option (List ℕ × List ℕ)
 split_port [] = None
 split_port (b ∷ bytes) = split_or b bytes (split_port bytes)

@@ -24,7 +24,7 @@ begins_escape bytes =
     is_digit (slice_index bytes 0) 16 && is_digit (slice_index bytes 1) 16
     && not (is_refused_byte (16 * digit_value (slice_index bytes 0) + digit_value (slice_index bytes 1)))
 
--- no `\` stands there, and behind each `%` a good escape
+-- no `\` stands there, and after each `%` a good escape
 abbrev pub has_good_bytes : List ℕ → Bool
 has_good_bytes [] = true
 has_good_bytes (b ∷ bytes) = not (b == backslash) && (not (b == percent) || begins_escape bytes) && has_good_bytes bytes

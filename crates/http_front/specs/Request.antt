@@ -47,7 +47,7 @@ abbrev pub RefusesFront : List ℕ → Form → Type 0
 RefusesFront front form =
     ((form ≡ TooBig) × HasTooManyLines front) ⊎ ((form ≡ BadHead) × IsNoHead front) ⊎ IsJudged front form
 
--- a head that is refused stands behind empty lines at the front
+-- a head that is refused stands after empty lines at the front
 pub record RefusesHead (bytes : List ℕ) (form : Form) : Type 0 where
   pub blank : List ℕ
   pub front : List ℕ

@@ -14,11 +14,11 @@ use Rattle.http_front.specs.declared.answers.HeadError.TheVariants as error
 use Rattle.http_front.specs.declared.answers.Form.TheVariants.{TooBig}
 use Rattle.http_front.specs.declared.inbox.TheConstants.{MAX_HEAD_BYTES}
 
--- the first at bytes are empty lines, whatever comes behind bytes
+-- the first at bytes are empty lines, whatever comes after bytes
 abbrev pub Skipped : List ℕ → ℕ → Type 0
 Skipped bytes at = (more : List ℕ) → blank_len (bytes ++ more) ≡ at + blank_len (drop at bytes ++ more)
 
--- no head's empty line begins behind one of the first at bytes, whatever comes behind front
+-- no head's empty line begins after one of the first at bytes, whatever comes after front
 abbrev pub Searched : List ℕ → ℕ → Type 0
 Searched front at = (more : List ℕ) → head_len (front ++ more) ≡ option_map (λ n. at + n) (head_len (drop at front ++ more))
 
@@ -27,13 +27,13 @@ abbrev pub IsSearchOf : List ℕ → Search → Type 0
 IsSearchOf front (Ends n) = (n ≤ length front) × ((more : List ℕ) → head_len (front ++ more) ≡ Some n)
 IsSearchOf front (Open at) = (at ≤ length front) × (head_len front ≡ None) × Searched front at
 
--- so many bytes are empty lines, and so many behind them were searched
+-- this many bytes are empty lines, and this many after them were searched
 pub record IsSeen (bytes : List ℕ) (blank searched : ℕ) : Type 0 where
   pub within : blank + searched ≤ length bytes
   pub skipped : Skipped bytes blank
   pub none : Searched (drop blank bytes) searched
 
--- a head of len bytes stands behind blank bytes of empty lines
+-- a head of len bytes stands after blank bytes of empty lines
 pub record IsWhole (bytes : List ℕ) (blank len : ℕ) : Type 0 where
   pub within : blank + len ≤ length bytes
   pub cut : Cuts bytes (take blank bytes) (take len (drop blank bytes)) (drop len (drop blank bytes))
@@ -49,7 +49,7 @@ abbrev pub IsLook : List ℕ → Look → Type 0
 IsLook bytes (Whole blank len) = IsWhole bytes blank len
 IsLook bytes (Part blank searched) = IsPart bytes blank searched
 
--- why no more of a head is read behind these bytes
+-- why no more of a head is read after these bytes
 abbrev pub IsStop : List ℕ → HeadError → Type 0
 IsStop bytes (error.Refused status form) = (status ≡ 431) × (form ≡ TooBig) × (length bytes ≡ MAX_HEAD_BYTES)
 IsStop bytes error.Truncated = ⊥

@@ -1,4 +1,4 @@
--- The client's bytes that are not yet used: those in the inbox, and behind them what is still to come.
+-- The client's bytes that are not yet used: those in the inbox, and after them what is still to come.
 use Rattle.std.specs.Prelude.{ℕ, List, Option}
 use Rattle.jk_io.specs.Told.{prepended}
 

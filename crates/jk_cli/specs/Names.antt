@@ -30,7 +30,7 @@ takes name.Serve option =
 takes name.Container option = bytes_eq option (codes "clients")
 takes command option = false
 
--- a part that may stand behind a command: a word, or an option that it takes
+-- a part that may stand after a command: a word, or an option that it takes
 abbrev pub may_stand : CommandName → Part → Bool
 may_stand command (Place word) = true
 may_stand command (Given option value) = takes command option

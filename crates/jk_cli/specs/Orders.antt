@@ -155,7 +155,7 @@ order_by name.Drill parts places = drill_of places
 order_by name.Serve parts places = serve_of parts places
 order_by name.Container parts places = container_of parts places
 
--- the parts behind a command, where each may stand there
+-- the parts after a command, where each may stand there
 abbrev pub order_from : CommandName → List Part → Option Order
 order_from command parts = if list_all (may_stand command) parts then order_by command parts (places_in parts) else None
 

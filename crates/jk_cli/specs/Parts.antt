@@ -1,4 +1,4 @@
--- The words behind a command's name: words that are read by their place, and options.
+-- The words after a command's name: words that are read by their place, and options.
 use Rattle.std.specs.Prelude.{ℕ, ◌+◌, Bool, false, not, ◌==◌, ◌&&◌, nat_eq, List, [], ◌∷◌, take, drop, map, position, Option, Some, None, is_none, codes, if◌then◌else◌}
 use Rattle.std.specs.List.{starts_with}
 use Rattle.std.specs.Str.{bytes_eq}
@@ -43,7 +43,7 @@ alone word =
     if not (is_dashed word) then Place word
     else (if starts_with nat_eq word (codes "--") then given_at (equals_in (drop 2 word)) (drop 2 word) else Stray)
 
--- the parts of words; behind `--` each word is read by its place
+-- the parts of words; after `--` each word is read by its place
 abbrev pub parts_of : List (List ℕ) → List Part
 parts_of [] = []
 parts_of (word ∷ []) = if is_end word then [] else alone word ∷ []
@@ -87,6 +87,6 @@ part_of (read.Place word) = Place word.now
 part_of (read.Given name value) = Given name.now value.now
 part_of read.Stray = Stray
 
--- the parts that are left, behind `--` or before it
+-- the parts that are left, after `--` or before it
 abbrev pub parts_left : Bool → List (List ℕ) → List Part
 parts_left ended words = if ended then map Place words else parts_of words

@@ -18,7 +18,7 @@ take-filled {T} xs ys at k n within more =
     subst P (length-take-le at xs within)
     (take-append-add (take at xs) (ys ++ post_of at k xs) n ∙ ap (λ x. take at xs ++ x) (take-append-le n ys (post_of at k xs) more))
 
--- what was put before `at`, and `n` of `&p[at..]` behind it
+-- what was put before `at`, and `n` of `&p[at..]` after it
 pub put_next : (before now after : Option (List ℕ)) (p : List ℕ) (at n : ℕ)
     → now ≡ appended before (take at p) → after ≡ appended now (take n (take (length p - at) (drop at p)))
     → after ≡ appended before (take (at + n) p)
@@ -27,7 +27,7 @@ put_next before now after p at n first next =
     ∙ appended-appended before (take at p) (take n (take (length p - at) (drop at p)))
     ∙ ap (appended before) (sym (take-next p at n))
 
--- what came before `at`, and `n` more behind it, as the buffer holds them
+-- what came before `at`, and `n` more after it, as the buffer holds them
 pub got_next : (before now after : Option (List ℕ)) (xs ys : List ℕ) (at k n : ℕ) → at ≤ length xs → n ≤ length ys
     → now ≡ appended before (take at xs) → after ≡ appended now (take n ys)
     → after ≡ appended before (take (at + n) (put_mid at k xs ys))

@@ -8,7 +8,7 @@ use Rattle.jk_io.specs.declared.failures.FileError.TheVariants as file
 use Rattle.jk_io.specs.declared.reading.Stop.{Stop}
 use Rattle.jk_io.specs.declared.reading.Stop.TheVariants as stop
 
--- what a chunk's stop is answered, where the text has so many bytes then; true says that there may be more
+-- what a chunk's stop is answered, where the text has this many bytes then; true says that there may be more
 pub record IsChunkEnd (most : ℕ) (why : Stop) (bytes : ℕ) (result : Result Bool FileError) : Type 0 where
   pub short : OnOk result (bytes ≤ most)
   pub too_long : IsErrOf result file.TooLong → most < bytes

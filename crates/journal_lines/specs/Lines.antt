@@ -42,7 +42,7 @@ line_words rules (line.From beginning) = codes "from" ∷ beginning_words beginn
 line_words rules (line.Entry entry) = codes "e" ∷ entry_words rules entry
 line_words rules (line.End count) = codes "end" ∷ decimal count ∷ []
 
--- words behind single spaces
+-- words after single spaces
 abbrev pub spaced : List (List ℕ) → List ℕ
 spaced words = flat_map (λ word. 32 ∷ word) words
 

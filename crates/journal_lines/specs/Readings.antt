@@ -39,12 +39,12 @@ abbrev pub first : {A : Type 0} → (List ℕ → Option A) → List (List ℕ) 
 first read [] = None
 first read (word ∷ words) = read word
 
--- the words behind the first one
+-- the words after the first one
 abbrev pub later : List (List ℕ) → List (List ℕ)
 later [] = []
 later (word ∷ words) = words
 
--- the words behind the first n
+-- the words after the first n
 abbrev pub past : (n : ℕ) → List (List ℕ) → List (List ℕ)
 past zero words = words
 past (suc n) words = past n (later words)
@@ -65,7 +65,7 @@ activation_of word =
     else (if bytes_eq word (codes "S") then Some activation.Stopped
     else None))
 
--- the number behind a key
+-- the number after a key
 abbrev pub keyed : (key word : List ℕ) → Option ℕ
 keyed key word = if starts_with nat_eq word key then decimal_of (drop (length key) word) else None
 

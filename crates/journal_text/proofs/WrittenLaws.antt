@@ -238,7 +238,7 @@ entries_run r name o former (e ∷ entries) fits =
     let end = ap (λ (x : List Entry). record { rules = r.rules; place = place.Body name o x; done = r.done }) (append_assoc former (e ∷ []) entries) in
     (there, step, subst (λ q. Run there (texts r.rules (entry_lines entries)) q) end (entries_run r name o (former ++ e ∷ []) entries fits.1))
 
--- ---- whole segments, one behind the other
+-- ---- whole segments, one after the other
 
 segment_run : (former : ℕ) (done : List Counted) (c : Counted) → CanStand former c
     → Run (record { rules = former; place = place.Outside; done = done }) (texts c.rules (lines_of c))

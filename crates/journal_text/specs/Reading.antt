@@ -117,7 +117,7 @@ held other = 0
 abbrev pub is_over : Reader → (last : List ℕ) → Bool
 is_over r last = (length last == 0) && is_outside r.place
 
--- At the end of the text `last` is what stands behind the last LF.
+-- At the end of the text `last` is what stands after the last LF.
 abbrev pub is_end : Reader → (last : List ℕ) → Bool
 is_end r last = (length last == 0) && (is_outside r.place && nat_lt 0 (length r.done))
 

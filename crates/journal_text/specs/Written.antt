@@ -17,7 +17,7 @@ AllFit rules (l ∷ lines) = FitsLine rules l × AllFit rules lines
 abbrev pub lines_of : Counted → List Line
 lines_of c = whole_lines c.name c.rules c.opening c.entries c.count
 
--- a segment, with the count of its last line, can stand behind one of the former rules
+-- a segment, with the count of its last line, can stand after one of the former rules
 pub record CanStand (former : ℕ) (c : Counted) : Type 0 where
   pub later : former ≤ c.rules
   pub values : AllFit c.rules (lines_of c)
@@ -27,6 +27,6 @@ abbrev pub CanFollow : (former : ℕ) → List Counted → Type 0
 CanFollow former [] = Unit {0}
 CanFollow former (c ∷ segments) = CanStand former c × CanFollow c.rules segments
 
--- the texts of segments, one behind the other
+-- the texts of segments, one after the other
 abbrev pub texts_of : List Counted → List ℕ
 texts_of segments = flat_map (λ c. lines_text c.rules (lines_of c)) segments

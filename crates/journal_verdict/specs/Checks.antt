@@ -63,7 +63,7 @@ abbrev pub LeavesAs : Counted → Result (List ℕ × Opening) Wrong → Type 0
 LeavesAs c (Ok (name, ending)) = (name ≡ c.name) × Leaves c.rules c.opening c.entries c.count (Ok ending)
 LeavesAs c (Err w) = Leaves c.rules c.opening c.entries c.count (Err w)
 
--- What a segment leads to whose opening is right, after so many lines and entries.
+-- What a segment leads to whose opening is right, after this many lines and entries.
 abbrev pub Ends : (lines entries : ℕ) → Counted → Check → Type 0
 Ends lines entries c (check.Good q) =
     (ending : Opening) × Leaves c.rules c.opening c.entries c.count (Ok ending)

@@ -4,7 +4,7 @@ use Rattle.gear_parts.specs.Steps.{AreTaken}
 use Rattle.gear_parts.specs.Worlds.{gear_told, world_side}
 use Rattle.gear_parts.proofs.gears.fill_gears.Given as goal
 
--- so many gears were handed out, each as it was asked for
+-- this many gears were handed out, each as it was asked for
 abbrev pub invariant-gears : goal.invariant-gears
 invariant-gears g l = record {
   taken : let at = world_side g.W.World in AreTaken (gear_told g.W.D.Door g.W.T.Tape g.W.K.Clock) g.W.T.Tape.is_idle l.asked.clients (at l.initial.world) (at l.world) l.gears.items;

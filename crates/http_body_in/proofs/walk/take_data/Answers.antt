@@ -1,4 +1,4 @@
--- The data that came stands behind the front of the piece; or none did.
+-- The data that came stands after the front of the piece; or none did.
 use Rattle.std.proofs.Common.{◌≡◌, ℕ, ◌+◌, ◌-◌, ◌≤◌, length, take, arith, sym, ap, ◌∙◌}
 use Rattle.std.proofs.lemmas.List.{length-take-le}
 use Rattle.std.proofs.lemmas.Grind.{common_steps}

@@ -3,7 +3,7 @@ use Rattle.std.specs.List.{list_any}
 use Rattle.http_front.specs.Host.{split_port}
 use Rattle.http_front.proofs.hosts.split_port.Given as goal
 
--- behind this place stands neither a colon nor a bracket
+-- after this place stands neither a colon nor a bracket
 abbrev pub invariant-loop-at : goal.invariant-loop-at
 invariant-loop-at l = record {
   within : l.at ≤ length l.host;

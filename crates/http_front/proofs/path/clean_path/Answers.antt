@@ -1,4 +1,4 @@
--- The bytes behind the slash are clean.
+-- The bytes after the slash are clean.
 use Rattle.std.proofs.Common.{◌∙◌, ap, ◌++◌, List, [], ◌∷◌, ℕ, ◌-◌, length, take, drop, rules}
 use Rattle.std.proofs.lemmas.List.{take_rest}
 use Rattle.http_front.specs.Path.{joined}

@@ -1,4 +1,4 @@
--- The bytes that came stand behind those that were there.
+-- The bytes that came stand after those that were there.
 use Rattle.std.proofs.Common.{ℕ, ◌+◌, ◌-◌, List, ◌++◌, take, ap, ◌∙◌, arith}
 use Rattle.std.proofs.lemmas.List.{with_items_is}
 use Rattle.std.specs.List.{between}
