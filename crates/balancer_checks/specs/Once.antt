@@ -58,7 +58,7 @@ WhereRefused (once.Stray stray) P = Unit {0}
 abbrev pub IsUpToDate : DeskState → (lb at : ℕ) → Type 0
 IsUpToDate desk lb at = WhereTold desk.books lb (λ b. IsNoneDue b at)
 
--- So it is after an exchange that was not refused.
+-- After an exchange that was not refused no Maintain is due.
 abbrev pub LeavesNoneDue : {M : Type 0} → DeskState → (lb at : ℕ) → Once M → Type 0
 LeavesNoneDue new lb at (once.Returned m) = IsUpToDate new lb at
 LeavesNoneDue new lb at once.Unchosen = IsUpToDate new lb at

@@ -209,7 +209,7 @@ epoch_level v o (e ∷ p) legal request level even i j lt lt' =
           (λ k n k_lt n_lt. epoch_level v o p legal.1 request before both.1 k n k_lt n_lt) i j lt lt'
     ]
 
--- So the view of a sound Book shows it.
+-- The view of a sound Book shows that loads are level.
 pub view_level : (b : Journal) (view : View) → IsSound b → IsPresent b.rules b.opening (past_of b) view
     → IsEvenEpoch b.rules b.opening (past_of b) → AreLevel b view
 view_level b view sound present even i j row other found found' =

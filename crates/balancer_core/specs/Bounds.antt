@@ -20,7 +20,7 @@ pub record IsBoundedRow (b : Journal) (m : ℕ) (row : MemberRow) : Type 0 where
   pub busy : row.busy ≤ pool_of b.opening m
   pub trial : (t : ℕ) → row.state ≡ state.Probe t → list_any (λ x. (x.0 == t) && (x.1 == m)) (out b.opening (past_of b)) ≡ true
 
--- So of each member.
+-- Each member's row is bounded so.
 abbrev pub IsBounded : Journal → View → Type 0
 IsBounded b view = (m : ℕ) (row : MemberRow) → slice_get view.rows m ≡ Some row → IsBoundedRow b m row
 

@@ -16,7 +16,7 @@ entry_moment b at = max at (moment_of b.opening (past_of b))
 abbrev pub due_moment : Journal → ℕ
 due_moment b = maintained_of b.opening (past_of b) + b.opening.config.maintain
 
--- Nothing is done exactly where no maintenance is due; where one is due, a number is left for it, or it is refused.
+-- Nothing is done exactly if no maintenance is due; if one is, a number is left for it, or it is refused.
 abbrev pub IsMaintenance : Journal → (at : ℕ) → Result (Option Entry) (RoomError FullMark) → Type 0
 IsMaintenance b at (Ok None) = entry_moment b at < due_moment b
 IsMaintenance b at (Ok (Some e)) =

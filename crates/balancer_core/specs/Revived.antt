@@ -26,7 +26,7 @@ abbrev pub row_selected : Method → (seq : ℕ) → Ask → Answer → (revives
 row_selected method seq ask answer revives m row =
     (if chose m answer then chosen_row method seq ask.fresh row else (if revives then row_revived ask m row else row))
 
--- So of all rows.
+-- All rows after a Select.
 abbrev pub AreSelected : Method → (seq : ℕ) → Ask → SelectAnswer → (old new : List Standing) → Type 0
 AreSelected method seq ask c old new =
     (m : ℕ) (d : Standing) → m < length old

@@ -38,7 +38,7 @@ pub record IsNextAt (b : Journal) (at : ℕ) (e : Entry) : Type 0 where
   pub next : IsNext b.rules b.opening (past_of b) e
   pub moment : e.at ≡ entry_moment b at
 
--- So may the entries of these receipts, one after the other.
+-- The entries of these receipts may follow one after the other, each at that moment.
 abbrev pub AreNextAt : Journal → (at : ℕ) → List Receipt → Type 0
 AreNextAt b at [] = Unit {0}
 AreNextAt b at (r ∷ rest) = IsNextAt b at r.entry × AreNextAt (grown_by b (r ∷ [])) at rest

@@ -22,14 +22,14 @@ room_of right tried active busy pool is =
     let parts = and_parts (not tried) (nat_lt busy pool) roomy.1 in
     ltb-true busy pool parts.1
 
--- A row that passes has one.
+-- A row that passes has a place left in its pool.
 passes_room : (among : Among) (ask : Ask) (m : ℕ) (row : Standing) → passes among ask m row ≡ true → row.busy < row.pool
 passes_room Among.Usable ask m row is =
     room_of (is_ready row.state) (is_in ask.tried m) (is_active (counted_row ask m row)) row.busy row.pool is
 passes_room Among.Revivable ask m row is =
     room_of (is_error row.state) (is_in ask.tried m) (is_active (counted_row ask m row)) row.busy row.pool is
 
--- So the least row has one.
+-- The least row has a place left in its pool.
 pub least_room : (among : Among) (rows : List Standing) (ask : Ask) (begin m : ℕ) → IsLeastRow among rows ask begin (length rows) m → HasRoomAt rows m
 least_room among rows ask begin m first = (first.within, λ d. passes_room among ask m (slice_index_or rows m d) (first.passing d))
 

@@ -34,12 +34,12 @@ pub record TellsAnswer {B K R C X : Type 0} (state : B → DeskState) (of_client
   pub met : MeetsInAnswer answered (state s.desk.now) (state n.desk.now)
   pub fault : RisesInAnswer answered (of_client.faults s.client.now) (of_client.faults n.client.now)
 
--- So a turn.
+-- What a turn tells of them.
 pub record TellsTurn {B K R C X : Type 0} (state : B → DeskState) (of_client : Ghosts C X) (turn : SessionTurn) (s n : Surroundings B K R C) : Type 0 where
   pub met : MeetsInTurn turn (state s.desk.now) (state n.desk.now)
   pub fault : RisesInTurn turn (of_client.faults s.client.now) (of_client.faults n.client.now)
 
--- So a session's end.
+-- What a session's end tells of them.
 pub record TellsEnd {B K R C X : Type 0} (state : B → DeskState) (of_client : Ghosts C X) (end : SessionEnd) (s n : Surroundings B K R C) : Type 0 where
   pub met : MeetsBy end (state s.desk.now) (state n.desk.now)
   pub fault : RisesBy end (of_client.faults s.client.now) (of_client.faults n.client.now)

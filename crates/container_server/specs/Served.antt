@@ -50,13 +50,13 @@ pub record IsServedDoor {C X : Type 0} (app : AppConfig) (told : Ghosts C X) (be
   pub served : AreServed app told before after links
   pub why : EndsBy before after links end
 
--- So at each of several doors, in order.
+-- The workers of several doors, in order.
 abbrev pub AreEachServed : {C X : Type 0} → AppConfig → Ghosts C X → (before after : List (DoorSide C)) → List ContainerWorker → Type 0
 AreEachServed app told [] [] [] = Unit {0}
 AreEachServed app told (b ∷ before) (a ∷ after) (e ∷ ends) = IsServedDoor app told b a e × AreEachServed app told before after ends
 AreEachServed app told _ _ _ = ⊥
 
--- So at each of several doors, by its place: `door` and `end` say where a worker stood, and how it ended.
+-- The workers of several doors, by place: `door` and `end` say where a worker stood, and how it ended.
 abbrev pub AreServedDoors : {S C X : Type 0} → AppConfig → Ghosts C X → (S → DoorSide C) → (S → ContainerWorker) → List S → List S → Type 0
 AreServedDoors {S} app told door end before after = (i : ℕ) (s : S) → i < length before
     → IsServedDoor app told (door (slice_index_or before i s)) (door (slice_index_or after i s)) (end (slice_index_or after i s))

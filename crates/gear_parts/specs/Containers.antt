@@ -16,12 +16,12 @@ SameButDoors [] [] = Unit {0}
 SameButDoors (b ∷ before) (a ∷ back) = (a ≡ record b { door = a.door }) × SameButDoors before back
 SameButDoors before back = ⊥
 
--- Each worker served the links of its gear's door, and ended so.
+-- Each worker served the links of its gear's door, and how it ended.
 pub record IsContainerRun {C S X : Type 0} (app : AppConfig) (told : Ghosts C X) (before back : List (GearSide C S)) (ends : List ContainerWorker) : Type 0 where
   pub served : AreEachServed app told (map (λ g. g.door) before) (map (λ g. g.door) back) ends
   pub same : SameButDoors before back
 
--- So of these gears and of those that came back, over what tapes and clocks tell, in whatever way.
+-- Such a run led from these gears to those that came back, whatever their tapes and clocks tell.
 abbrev pub ContainsGears : {D G T K S O C X : Type 0} → AppConfig → Ghosts C X → (D → DoorSide C) → List (Gear D G T K S O) → ContainerRun (Gear D G T K S O) → Type 0
 ContainsGears {T = T} {K = K} app told door gears run = (talks : T → Option (List Talk)) → (answers : K → Option (List ℕ))
     → IsContainerRun app told (map (gear_side door talks answers) gears) (map (gear_side door talks answers) run.gears.items) run.workers

@@ -33,7 +33,7 @@ pub record Start (D G T K S C : Type 0) : Type 0 where
 abbrev pub start_with : {D G T K S C : Type 0} → D → PooledState G T C → K → SharedState S → Start D G T K S C
 start_with door reach clock desk = record { door = door; reach = reach; clock = clock; desk = desk }
 
--- So the worker of a gear begins: with a desk of one part that has the gear's shelf, and a reach that has its dial and its tape.
+-- What the worker of a gear begins with: a desk of one part that has the gear's shelf, and a reach with its dial and its tape.
 abbrev pub start_of : {D G T K S O C : Type 0} → (sizes pools : List ℕ) → Gear D G T K S O → Start D G T K S C
 start_of sizes pools gear = record {
   door = gear.door;

@@ -1,7 +1,7 @@
 -- One more item of a list, made of something else.
 use Rattle.std.specs.Prelude.{◌≡◌, List, [], ◌∷◌, ◌++◌}
 
--- The next of the rest was taken, and an item was put after the others that is so by it.
+-- The next of the rest was taken, and an item made of it was put at the end.
 pub record PutsNext {A C : Type 0} (Is : A → C → Type 0) (rest later : List A) (before after : List C) : Type 0 where
   pub next : A
   pub item : C
@@ -9,7 +9,7 @@ pub record PutsNext {A C : Type 0} (Is : A → C → Type 0) (rest later : List 
   pub added : after ≡ before ++ item ∷ []
   pub is : Is next item
 
--- An item was put after the others that is so.
+-- An item of this kind was put at the end.
 pub record PutsOne {C : Type 0} (Is : C → Type 0) (before after : List C) : Type 0 where
   pub item : C
   pub added : after ≡ before ++ item ∷ []
