@@ -17,17 +17,17 @@ use Rattle.jk_server.specs.declared.runs.ends.Closing.TheVariants as closing
 abbrev pub firsts_of : List Lb → List ℕ
 firsts_of lbs = map (λ lb. 0) lbs
 
--- They are the last segments of the balancers of a configuration.
+-- These are the last segments of the balancers of a configuration.
 abbrev pub AreLast : List Lb → List (ℕ × Segment) → Type 0
 AreLast lbs kept = (books : List Journal) × AreSited (sizes_of lbs) (firsts_of lbs) books × AreCuts 0 books kept
 
--- The gears came back as the workers left them, but for the first one's shelf, of which this is so.
+-- The gears came back as the workers left them, but for the first one's shelf, for which `Kept` holds.
 abbrev pub KeepsFirst : {C S : Type 0} → (S → S → Type 0) → (left back : List (GearSide C S)) → Type 0
 KeepsFirst Kept (first ∷ rest) (first' ∷ rest') =
     Kept first.shelf first'.shelf × (first' ≡ record first { shelf = first'.shelf }) × (rest' ≡ rest)
 KeepsFirst Kept left back = ⊥
 
--- Just these segments were added to a shelf.
+-- Just the last segments were added to a shelf.
 abbrev pub Shelves : {S : Type 0} → (S → Option (List (ℕ × Segment))) → List Lb → (old new : S) → Type 0
 Shelves shelved lbs old new = (kept : List (ℕ × Segment)) × AreLast lbs kept × (shelved new ≡ appended (shelved old) kept)
 

@@ -81,7 +81,7 @@ pub record WantsMemory {G L : Type 0} (s n : WorldSide G) (ended : CommandEnd L)
   pub unserved : (back ≡ gears) ⊎ (back ≡ [])
   pub status : ended ≡ end.Status 6
 
--- What a command for so many workers does with the world, where its run is such a one.
+-- What a command for this many workers does with the world; `Runs` says what its run does.
 pub data Works {G L : Type 0} (threads : ℕ) (Runs : WorldSide G → WorldSide G → CommandEnd L → Type 0) (s n : WorldSide G) (ended : CommandEnd L) : Type 0 where
   NoGear : LacksGear threads s n ended → Works threads Runs s n ended
   NoRoom : WantsMemory s n ended → Works threads Runs s n ended
@@ -137,7 +137,7 @@ pub record LacksFiles {G L : Type 0} (s n : CommandSide G) (ended : CommandEnd L
   pub written : n.sent ≡ s.sent
   pub world : n.world ≡ s.world
 
--- The files are a site, for which so many workers were wanted. Nothing was written.
+-- The files are a site, for which this many workers were wanted. Nothing was written.
 pub record ServesSite {W G C S X L : Type 0} (told : Tells W G C S X) (outside : CommandOutside) (workers map : List ℕ) (threads : ℕ) (clients : Option ℕ) (s n : CommandSide G) (ended : CommandEnd L) : Type 0 where
   pub cfg : Config
   pub rules : List Rule
@@ -157,7 +157,7 @@ pub record IsAppOf (route : List ℕ) (app : AppConfig) : Type 0 where
   pub secret : app.secret ≡ None
   pub packet : app.packet ≡ 8192
 
--- The workers of such a container were wanted.
+-- The workers of a container of this route were wanted of the world.
 pub record ContainsLinks {W G C S X L : Type 0} (told : Tells W G C S X) (route : List ℕ) (threads : ℕ) (clients : Option ℕ) (s n : WorldSide G) (ended : CommandEnd L) : Type 0 where
   pub app : AppConfig
   pub is : IsAppOf route app

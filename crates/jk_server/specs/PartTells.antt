@@ -9,7 +9,7 @@ use Rattle.jk_server.specs.Worker.{worker_side, WorkerSide}
 use Rattle.gear_parts.specs.declared.part.Part.{Part}
 use Rattle.jk_server.specs.declared.part.Post.{Post}
 
--- What a door tells, a client's link, a clock, a reach, and how often a shelf failed.
+-- What a door, a client's link, a clock and a reach tell, and how often a shelf failed.
 pub record PartTells (D R K S C X : Type 0) : Type 1 where
   pub door : D → DoorSide C
   pub link : Ghosts C X

@@ -36,23 +36,23 @@ pub record IsWorked {C S L X : Type 0} (visit : Peer → Visit) (told : Ghosts C
   pub fit : IsFit cfg rules n.desk.desk beside
   pub parts : n.desk.desk.parts ≡ s.desk.desk.parts
 
--- What it says of the part of a worker with this number, from one moment to another.
+-- What `IsWorked` says of the part of a worker with this number, from one moment to another.
 abbrev pub WorksPart : {L D R K S W C X : Type 0} → PartTells D R K S C X → Config → List Rule → (number : ℕ) → (before after : Part L D R K S W) → WorkerEnd L → Type 0
 WorksPart told cfg rules number before after end =
     IsWorked (visit cfg rules number) told.link told.shelf_faults cfg rules (told.door before.door) (told.door after.door)
     (worker_of told before) (worker_of told after) (told.reach.beside after.reach) end
 
--- So of each item of a list and of what it became, by its place.
+-- `Did` holds of each item of a list and of what it became, by its place.
 abbrev pub InEach : {Q : Type 0} → (ℕ → Q → Q → Type 0) → (before after : List Q) → Type 0
 InEach {Q} Did before after = (i : ℕ) (d : Q) → i < length before → Did i (slice_index_or before i d) (slice_index_or after i d)
 
--- So of each of four lists, in order, with its number.
+-- `Is` holds of the items of four lists, taken together in order, with their number, the first of which is n.
 abbrev pub AreEach : {P O V E : Type 0} → (ℕ → P → O → V → E → Type 0) → ℕ → List P → List O → List V → List E → Type 0
 AreEach Is n [] [] [] [] = Unit {0}
 AreEach Is n (p ∷ ps) (o ∷ os) (l ∷ ls) (e ∷ es) = Is n p o l e × AreEach Is (n + 1) ps os ls es
 AreEach Is n _ _ _ _ = ⊥
 
--- So without numbers.
+-- As `AreEach`, without numbers.
 abbrev pub AllFour : {P O V E : Type 0} → (P → O → V → E → Type 0) → List P → List O → List V → List E → Type 0
 AllFour Is [] [] [] [] = Unit {0}
 AllFour Is (p ∷ ps) (o ∷ os) (l ∷ ls) (e ∷ es) = Is p o l e × AllFour Is ps os ls es
@@ -65,13 +65,13 @@ pub record LeavesPart {L D R K S W : Type 0} {N : SiteGhosts L} (part : Part L D
   pub same_clock : out.clock ≡ part.clock
   pub desk : DeskLeaves part.desk left
 
--- What a worker left was served so, of which its desk left this.
+-- A worker served its part, and `Left` holds of the desk that it had then.
 pub record IsServedPart {C S L X : Type 0} (visit : Peer → Visit) (told : Ghosts C X) (faults : S → ℕ) (cfg : Config) (rules : List Rule) (before after : DoorSide C) (s : WorkerSide S) (with : SharedState S → WorkerSide S) (beside : Beside) (Left : SharedState S → Type 0) (end : WorkerEnd L) : Type 0 where
   pub desk : SharedState S
   pub worked : IsWorked visit told faults cfg rules before after s (with desk) beside end
   pub left : Left desk
 
--- So of each part, by its place as the number of its worker.
+-- Each part was served and left, by the worker whose number is the part's place.
 abbrev pub AreServedParts : {L D R K S W C X : Type 0} {N : SiteGhosts L} → PartTells D R K S C X → Config → List Rule → List (Part L D R K S W) → ServeEnd L D R K S N → Type 0
 AreServedParts {L} {D} {R} {K} {S} {W} {N = N} told cfg rules parts ran =
     AreEach (λ (number : ℕ) (part : Part L D R K S W) (out : Outside D R K) (left : Leaving L S N) (end : WorkerEnd L).

@@ -4,20 +4,20 @@ use Rattle.jk_server.specs.declared.part.WorkerEnd.{WorkerEnd}
 use Rattle.jk_server.specs.declared.workers.Emptied.{Emptied}
 use Rattle.jk_server.specs.declared.workers.Slot.{Slot}
 
--- There is room for what so many more workers leave.
+-- There is room for what `count` more workers leave.
 pub record HasSpace {L V O : Type 0} (count : ℕ) (room : Emptied L V O) : Type 0 where
   pub for_ends : vec_len room.workers + count ≤ vec_capacity room.workers
   pub for_lefts : vec_len room.leaving + count ≤ vec_capacity room.leaving
   pub for_outs : vec_len room.outside + count ≤ vec_capacity room.outside
 
--- Nothing was left yet, and there is room for what so many workers leave.
+-- Nothing was left yet, and there is room for what `count` workers leave.
 pub record HasRoom {L V O : Type 0} (count : ℕ) (room : Emptied L V O) : Type 0 where
   pub no_end : room.workers.items ≡ []
   pub no_left : room.leaving.items ≡ []
   pub no_out : room.outside.items ≡ []
   pub space : HasSpace count room
 
--- What one more worker left was put behind the rest.
+-- What one more worker left was put after the rest.
 pub record PutsLeft {L V O : Type 0} (before after : Emptied L V O) (end : WorkerEnd L) (left : V) (out : O) : Type 0 where
   pub ends : after.workers.items ≡ before.workers.items ++ end ∷ []
   pub lefts : after.leaving.items ≡ before.leaving.items ++ left ∷ []

@@ -8,7 +8,7 @@ use Rattle.door_clients.specs.Doors.{DoorSide, side}
 use Rattle.gear_parts.specs.Gears.{gear_side, GearSide}
 use Rattle.gear_parts.specs.declared.world.Gear.{Gear}
 
--- What a door tells, a tape, a clock, a client's link, and a shelf with its faults.
+-- What a door, a tape, a clock and a client's link tell, and a shelf with its faults.
 pub record RunTells (D T K S C X : Type 0) : Type 1 where
   pub door : D → DoorSide C
   pub talks : T → Option (List Talk)

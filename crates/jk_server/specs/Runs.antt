@@ -32,7 +32,7 @@ pub record IsNew {S : Type 0} (desk : SharedState S) : Type 0 where
   pub none_forgotten : desk.forgotten ≡ 0
   pub no_stray : desk.met ≡ None
 
--- A worker served the clients of its gear's door: each by one session, in order, with the talks on its tape, and ended so.
+-- A worker served the clients of its gear's door, each by one session, in order, with the talks on its tape; `end` is its end.
 pub record IsServedGear {C S L X : Type 0} (visit : Peer → Visit) (told : Ghosts C X) (faults : S → ℕ) (before after : GearSide C S) (end : WorkerEnd L) : Type 0 where
   pub from : WorkerSide S
   pub to : WorkerSide S
@@ -41,7 +41,7 @@ pub record IsServedGear {C S L X : Type 0} (visit : Peer → Visit) (told : Ghos
   pub last : WorksWith after to
   pub served : IsServed visit told faults before.door after.door from to end
 
--- So of each gear, in order, by the worker of its number.
+-- Each gear was served, in order, by the worker of its number.
 abbrev pub AreServedGears : {C S L X : Type 0} → (ℕ → Peer → Visit) → Ghosts C X → (S → ℕ) → (number : ℕ) → (before after : List (GearSide C S)) → List (WorkerEnd L) → Type 0
 AreServedGears visits told faults number [] [] [] = Unit {0}
 AreServedGears visits told faults number (b ∷ before) (a ∷ after) (e ∷ ends) =
@@ -63,7 +63,7 @@ pub record IsSiteRun {C S L X : Type 0} (visits : ℕ → Peer → Visit) (told 
   pub served : AreServedGears visits told faults 0 begun left ends
   pub closed : Closes shelved faults lbs left back closing
 
--- It is so of the gears that were handed in, and of what the run gave back.
+-- What `IsSiteRun` says of the gears that were handed in, and of what the run gave back.
 abbrev pub RunsGears : {D G T K S O L C X : Type 0} → RunTells D T K S C X → Config → List Rule → List (Gear D G T K S O) → SiteRun L (Gear D G T K S O) → Type 0
 RunsGears told cfg rules gears run =
     IsSiteRun (visit cfg rules) told.link told.shelved told.shelf_faults cfg.lbs (gears_at told gears) (gears_at told run.gears.items) run.workers run.closing

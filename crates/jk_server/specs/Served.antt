@@ -30,8 +30,8 @@ pub record Run (C S : Type 0) : Type 0 where
   pub to : WorkerSide S
   pub end : SessionEnd
 
--- It was one session, for this client and by this worker, with the cause of its end. It gained receipts of this worker
--- alone, and the desk holds the tickets that it held.
+-- The client was served by one session of this worker, with the cause of its end. The session gained receipts of this
+-- worker alone, and the desk holds the tickets that it held.
 pub record IsRun {C S X : Type 0} (visit : Peer → Visit) (told : Ghosts C X) (r : Run C S) : Type 0 where
   pub rows : List AnyServed
   pub session : Serves (visit r.peer) (standing_with r.from (client_at told r.link)) (standing_with r.to (client_at told r.back)) [] rows r.end
@@ -54,7 +54,7 @@ IsStray (session_end.Truncated requests) = ⊥
 IsStray (session_end.Stray ticket returned_at) = Unit {0}
 IsStray session_end.NoMemory = ⊥
 
--- It does so where the shelf kept all that was cut in it, too.
+-- A worker goes on after a session that ended so, if the shelf kept all that was cut in it.
 pub record GoesOn {S : Type 0} (faults : S → ℕ) (from to : SharedState S) (end : SessionEnd) : Type 0 where
   pub can : CanGoOn end
   pub kept : faults to.shelf ≤ faults from.shelf
@@ -69,7 +69,7 @@ EndsAfter faults from to end worker.LogFault = ⊥
 EndsAfter faults from to end (worker.Stray stray) = IsStray end × (to.met ≡ Some stray)
 EndsAfter faults from to end worker.NoMemory = (end ≡ session_end.NoMemory) ⊎ (from.wants < to.wants)
 
--- the desk once its worker ended; where that took the stray, it is no more with the desk
+-- the desk once its worker ended; a stray that the worker took is no more with the desk
 abbrev pub left_by : {S L : Type 0} → WorkerEnd L → SharedState S → SharedState S
 left_by (worker.Closed sessions) d = d
 left_by worker.DoorFault d = d
@@ -79,7 +79,7 @@ left_by (worker.Stray stray) d = took d
 left_by worker.NoMemory d = d
 
 -- Sessions one after another, after each of which the worker rested and went on. Each begins with what the one before
--- left: so their talks, joined in order, are those that the reach gained, and so are their receipts of the desk's.
+-- left: their talks, joined in order, are those that the reach gained, and their receipts those that the desk gained.
 abbrev pub HaveRested : {C S : Type 0} → (S → ℕ) → WorkerSide S → List (Run C S) → WorkerSide S → Type 0
 HaveRested faults s [] n = n ≡ s
 HaveRested {C} {S} faults s (r ∷ runs) n =
@@ -126,7 +126,7 @@ abbrev pub Settles : {S L : Type 0} → (S → ℕ) → (from to n : SharedState
 Settles faults from to n end None = GoesOn faults from to end × (n ≡ to)
 Settles faults from to n end (Some worker_end) = EndsAfter faults from to end worker_end × (n ≡ left_by worker_end to)
 
--- A client was served by one session, its link was left, and so the worker goes on or ends.
+-- A client was served by one session, its link was left, and the worker goes on or ends by that session.
 pub record ServesClient {C S L X : Type 0} (visit : Peer → Visit) (told : Ghosts C X) (faults : S → ℕ) (before after : DoorSide C) (s n : WorkerSide S) (link : C) (peer : Peer) (end : Option (WorkerEnd L)) : Type 0 where
   pub back : C
   pub to : WorkerSide S
@@ -144,7 +144,7 @@ pub record ServesOn {C S L X : Type 0} (visit : Peer → Visit) (told : Ghosts C
   pub serves : ServesClient visit told faults before after s mid link peer none
   pub rests : Rests mid n
 
--- After a client the worker rests and goes on, or ends: at once, or since its reach wanted memory to rest.
+-- After a client the worker rests and goes on, or ends: at once, or because its reach wanted memory to rest.
 abbrev pub ServesNext : {C S L X : Type 0} → (visit : Peer → Visit) → (told : Ghosts C X) → (faults : S → ℕ) → (before after : DoorSide C) → (s n : WorkerSide S) → (link : C) → (peer : Peer) → Option (WorkerEnd L) → Type 0
 ServesNext {L = L} visit told faults before after s n link peer None = ServesOn {L = L} visit told faults before after s n link peer None
 ServesNext {L = L} visit told faults before after s n link peer (Some end) =

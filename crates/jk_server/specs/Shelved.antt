@@ -1,4 +1,4 @@
--- What the last cuts of a run did with the shelves, and how the closing ended so.
+-- What the last cuts of a run did with the shelves, and how the closing ended by that.
 use Rattle.std.specs.Prelude.{ℕ, ◌≡◌, List, [], ◌∷◌, length, map, Option}
 use Rattle.jk_io.specs.Told.{Rose}
 use Rattle.jk_model.specs.declared.journal.Entry.{Entry}
@@ -12,18 +12,18 @@ use Rattle.gear_parts.specs.GearParts.{Tools, tools}
 use Rattle.jk_server.specs.declared.runs.ends.Closing.{Closing}
 use Rattle.jk_server.specs.declared.runs.ends.Closing.TheVariants as closing
 
--- The gears came back with the tools and shelves that their workers left, but for the first shelf, of which this is so.
+-- The gears came back with the tools and shelves that their workers left, but for the first shelf, for which `Kept` holds.
 pub record IsPutBack {D G T K S O : Type 0} (Kept : S → S → Type 0) (left : List (Tools D G T K)) (shelves : List S) (back : List (Gear D G T K S O)) : Type 0 where
   pub paired : length left ≡ length shelves
   pub tools_put : map (λ g. tools g.door g.dial g.tape g.clock) back ≡ left
   pub shelves_put : ToFirst Kept shelves (map (λ g. g.shelf) back)
 
--- The Books of a Site of these sizes and first numbers were cut, and their segments were kept so.
+-- The Books of a Site of these sizes and first numbers were cut, and their segments were added to the first shelf.
 abbrev pub KeepsCuts : {D G T K S O : Type 0} → (S → Option (List (ℕ × Segment))) → (sizes firsts : List ℕ) → List (Tools D G T K) → List S → (back : List (Gear D G T K S O)) → Type 0
 KeepsCuts shelved sizes firsts left shelves back =
     (books : List Journal) × AreSited sizes firsts books × IsPutBack (AddsCuts shelved books) left shelves back
 
--- Where the receipts of the workers differ first from the entries that the Books of such a Site keep.
+-- Where the receipts of the workers differ first from the entries that the Books of a Site of this kind keep.
 abbrev pub IsDiscordAt : (sizes firsts : List ℕ) → DiscordNote → Type 0
 IsDiscordAt sizes firsts d = (entries : ℕ) × (receipts : List (ℕ × Entry)) × Differs sizes firsts entries receipts d
 

@@ -27,7 +27,7 @@ use Rattle.jk_server.specs.declared.workers.TheConstants.{MAX_WORKERS}
 abbrev pub AreNew : List Lb → (at : ℕ) → List Journal → Type 0
 AreNew lbs at books = AllZip (λ lb b. IsStart b lb.book at 0) lbs books
 
--- A Site that isn't open yet has this name, which is so for the balancers of a configuration, and a Book for each of them.
+-- A Site that isn't open yet has this name, whose values are those of these balancers, and a Book for each balancer.
 pub record IsNewSite (name parts : ℕ) (sizes firsts : List ℕ) (cut_at : ℕ) (lbs : List Lb) (new : NewSite) : Type 0 where
   pub named : new.blank.name ≡ name
   pub whole : new.blank.parts ≡ parts
@@ -45,13 +45,13 @@ pub record IsReady {D G T K S O : Type 0} (is_idle : T → Type 0) (parts : ℕ)
   pub stands : stands_in cfg rules ≡ true
   pub idle : All (λ g. is_idle g.tape) gears
 
--- The workers served with the gears as they were then, and the closing ended so.
+-- The workers served with the gears as they were at the start, and the closing ended so.
 pub record IsStartedRun {C S L X : Type 0} (visits : ℕ → Peer → Visit) (told : Ghosts C X) (shelved : S → Option (List (ℕ × Segment))) (faults : S → ℕ) (lbs : List Lb) (begun back : List (GearSide C S)) (ends : List (WorkerEnd L)) (closing : Closing L) : Type 0 where
   pub left : List (GearSide C S)
   pub served : AreServedGears visits told faults 0 begun left ends
   pub closed : Closes shelved faults lbs left back closing
 
--- It is so of the gears as they were then, and of what the run gave back.
+-- What `IsStartedRun` says of the gears as they were at the start, and of what the run gave back.
 abbrev pub RunsStarted : {D G T K S O L C X : Type 0} → RunTells D T K S C X → Config → List Rule → List (Gear D G T K S O) → SiteRun L (Gear D G T K S O) → Type 0
 RunsStarted told cfg rules gears run =
     IsStartedRun (visit cfg rules) told.link told.shelved told.shelf_faults cfg.lbs (gears_at told gears) (gears_at told run.gears.items) run.workers run.closing

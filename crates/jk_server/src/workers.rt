@@ -88,7 +88,7 @@ fn room_of<P: Drop, L, V: Drop, O: Drop>(
     Ok(room)
 }
 
-/// Makes room for so many workers.
+/// Makes room for `count` workers.
 fn room_for<P: Drop, L, V: Drop, O: Drop>(
     alloc: Global,
     count: usize,
@@ -103,7 +103,7 @@ fn room_for<P: Drop, L, V: Drop, O: Drop>(
     })
 }
 
-/// Makes room for what so many workers leave.
+/// Makes room for what `count` workers leave.
 fn emptied_for<L, V: Drop, O: Drop>(
     alloc: Global,
     count: usize,
@@ -166,14 +166,14 @@ fn fill_slots<P: Drop, L>(slots: &mut Vec<Slot<P, L>>, parts: Vec<P>)
     }
 }
 
-/// What is done in each slot of a run, by its place.
+/// Work that is done in each slot of a run, by the slot's place.
 trait Work<Q> {
     ghost use Rattle.std.specs.Prelude.{ℕ};
 
-    // it may be done in this slot, which has this number
+    // the work may be done in this slot, of this number
     ghost may: { Self → ℕ → Q → Type 0 };
 
-    // it was done in it
+    // the work was done in this slot, of this number
     ghost did: { Self → ℕ → Q → Q → Type 0 };
 
     fn work(&self, number: usize, slot: &mut Q)
@@ -181,7 +181,7 @@ trait Work<Q> {
         ensures { did self.now number slot.old slot.new };
 }
 
-/// Does it in all slots, by a thread for each.
+/// Does the work in all slots, by a thread for each.
 fn work_in_all<Q: Send, X: Work<Q> + Sync, W: Threads + Sync>(rt: &W, slots: &mut [Q], todo: &X)
     requires may { (i : ℕ) (d : Q) → i < length slots.old → X.may todo.now i (slice_index_or slots.old i d) }
     ensures worked { InEach (X.did todo.now) slots.old slots.new }
@@ -252,14 +252,14 @@ fn empty_room<'s, 'r, L: SiteName, D: Drop, R: Drop, K: Drop, S: Shelf + Drop, W
     end_of(emptied)
 }
 
-/// What a slot is taken apart to.
+/// A slot that can be taken apart into what its worker leaves.
 trait Apart<L, V, O> {
     ghost use Rattle.jk_server.specs.declared.part.WorkerEnd.{WorkerEnd};
 
     // it can be taken apart
     ghost is_over: { Self → Type 0 };
 
-    // this was left of it
+    // taken apart, it leaves these
     ghost leaves: { Self → O → V → WorkerEnd L → Type 0 };
 
     fn apart(self) -> (O, V, WorkerEnd<L>)
@@ -283,7 +283,7 @@ fn empty_slots<Q: Apart<L, V, O> + Drop, L, V: Drop, O: Drop>(
     }
 }
 
-/// Puts what a worker left behind what the others did.
+/// Adds what a worker left, after what the workers before it left.
 fn put_left<L, V: Drop, O: Drop>(emptied: &mut Emptied<L, V, O>, end: WorkerEnd<L>, left: V, out: O)
     requires { HasSpace 1 emptied.old }
     ensures { PutsLeft emptied.old emptied.new end left out }

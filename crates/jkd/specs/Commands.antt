@@ -15,13 +15,13 @@ use Rattle.jkd.specs.Ends.{jkd_end, of_drill}
 use Rattle.jkd.specs.Words.{is_served}
 use Rattle.jkd.specs.declared.ends.EndOf.{EndOf}
 
--- The server was called, this is so of how its call ended, and the command ended by that.
+-- The server was called, `Said` holds of how its call ended, and the command ended by that.
 pub record EndsServed {L : Type 0} (Said : CommandEnd L → Type 0) (ended : EndOf L) : Type 0 where
   pub by : CommandEnd L
   pub said : Said by
   pub turned : ended ≡ jkd_end by
 
--- A drill was called, this is so of how its call ended, and the command ended by that.
+-- A drill was called, `Said` holds of how its call ended, and the command ended by that.
 pub record EndsDrilled {L : Type 0} (Said : DrillEnd → Type 0) (ended : EndOf L) : Type 0 where
   pub by : DrillEnd
   pub said : Said by

@@ -20,6 +20,6 @@ pub record RunsPlain (words : List (List ℕ)) (s n : PlainSide) (status : ℕ) 
   pub part : status ≡ 5 → PrintsFront words s.outside s.sent n.sent
   pub wanting : status ≡ 6 → (n.sent ≡ s.sent) ⊎ PrintsFront words s.outside s.sent n.sent
 
--- It ends with such a status.
+-- A command ends with a status of which `RunsPlain` holds.
 abbrev pub EndsPlain : {L : Type 0} → (words : List (List ℕ)) → (s n : PlainSide) → EndOf L → Type 0
 EndsPlain words s n ended = (status : ℕ) × (ended ≡ end.Status status) × RunsPlain words s n status

@@ -11,8 +11,8 @@ use Rattle.jk_cli.specs.declared.plans.TheConstants.{MOST_ROUTE_BYTES}
 use Rattle.drill.specs.declared.plan.TheConstants.{MAX_REQUESTS, MAX_THREADS}
 use Rattle.jk_server.specs.declared.workers.TheConstants.{MAX_WORKERS}
 
--- `serve`, `container` and `drill`. A watch, a log and passes aren't built: words with `--watch` or `--log`, beside which alone
--- `--idle` and `--format` stand, and a drill with `passes` are no command yet.
+-- `serve`, `container` and `drill`. A watch, a log and passes aren't built: words with `--watch` or `--log`, without which
+-- `--idle` and `--format` can't stand, and a drill with `passes` are no command yet.
 abbrev pub is_served : Order → Bool
 is_served (order.Serve workers map address threads clients journal watch idle log format) = is_none watch && is_none log
 is_served (order.Container route address threads clients) = true

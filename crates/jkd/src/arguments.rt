@@ -1,4 +1,4 @@
-//! The words behind the program's name, as the system has them.
+//! The words after the program's name, as the system has them.
 use jk_io::{Bytes, ListOf, NoMemory};
 use std::alloc::AllocFailed;
 use std::rt::Env;
@@ -36,7 +36,7 @@ impl From<io::Error> for WordsError {
     }
 }
 
-/// The words behind the program's name.
+/// The words after the program's name.
 pub(crate) fn read_words<R: Env + AllocGlobal>(rt: &R) -> Result<WordList, WordsError> {
     let mut words = WordList::new(rt.alloc());
     for word in env::args(rt)?.skip(1) {

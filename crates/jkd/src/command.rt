@@ -79,10 +79,10 @@ where
     }
 }
 
-/// Lets a value go. Where it is large, the check of a function that calls this doesn't write its drop out.
+/// Lets a value go. A caller's check then doesn't write out the drop of a large value.
 pub(crate) fn let_go<T: Drop>(_it: T) {}
 
-/// Does what words ask for that ask for workers or threads.
+/// Does the command of words that ask for workers or threads.
 fn do_words<F: Files, O: Sink, W: World, R: Threads + Wait + Sync>(
     rt: &R,
     alloc: Global,

@@ -7,7 +7,7 @@ use std::io::{Read, Write};
 use std::rt::Files;
 use std::{fs, io, str};
 
-/// What is asked again of a file that the system didn't give.
+/// Opens and reads once more a file that the system didn't give, to learn why.
 fn probe<R: Files>(rt: &R, path: &str) -> io::Result<usize> {
     let mut byte = [0u8; 1];
     fs::open(rt, path)?.read(&mut byte)

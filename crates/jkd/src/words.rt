@@ -15,14 +15,14 @@ fn is(word: &[u8], text: &[u8]) -> bool
     word == text
 }
 
-/// `--`, behind which no option stands.
+/// Whether the word is `--`, after which no option stands.
 fn is_end(word: &[u8]) -> bool
     ensures { result ≡ is_end word.now }
 {
     is(word, b"--")
 }
 
-/// A word with a leading `-`; `-` alone isn't one.
+/// Whether the word has a leading `-` and more; `-` alone doesn't count.
 fn is_dashed(word: &[u8]) -> bool
     ensures { result ≡ is_dashed word.now }
 {
@@ -32,14 +32,14 @@ fn is_dashed(word: &[u8]) -> bool
     }
 }
 
-/// The first `=`.
+/// The place of the first `=`.
 fn equals_in(word: &[u8]) -> Option<usize>
     ensures { result ≡ equals_in word.now }
 {
     word.iter().position(|b| *b == b'=')
 }
 
-/// `--name`, whose value is the next word.
+/// Whether the word is `--name`, whose value is the next word.
 fn asks_value(word: &[u8]) -> bool
     ensures { result ≡ asks_value word.now }
 {
@@ -97,14 +97,14 @@ fn gives(words: &[Bytes], key: &[u8]) -> bool
     false
 }
 
-/// Whether words behind `serve` give neither a watch nor a log.
+/// Whether the words after `serve` give neither a watch nor a log.
 fn is_built(behind: &[Bytes]) -> bool
     ensures { result ≡ (not (is_given (codes "watch") (parts_of behind.now)) && not (is_given (codes "log") (parts_of behind.now))) }
 {
     !gives(behind, b"watch") && !gives(behind, b"log")
 }
 
-/// Whether `passes` is among words of `drill`.
+/// Whether `passes` is among the words after `drill`.
 fn asks_passes(behind: &[Bytes]) -> bool
     ensures { result ≡ list_any (λ word. bytes_eq word (codes "passes")) behind.now }
 {

@@ -15,7 +15,7 @@ use worker_gears::MemWorld;
 /// The most bytes of a container's route.
 const MOST_ROUTE_BYTES: usize = 1_024;
 
-/// The status of `serve`; none where nobody may ask for so many workers.
+/// The status of `serve`; none where nobody may ask for this number of workers.
 fn served<R: Threads + Wait + Sync>(
     rt: &R,
     alloc: Global,
@@ -46,7 +46,7 @@ fn contained<R: Threads + Wait + Sync>(
     Some(contain(rt, alloc, order, world).status())
 }
 
-/// The status of `drill`; none where nobody may ask for so many threads or requests.
+/// The status of `drill`; none where nobody may ask for this number of threads or of requests.
 fn drilled<R: Threads + Wait + Sync>(
     rt: &R,
     alloc: Global,
@@ -116,7 +116,7 @@ fn status_by<R: Threads + Wait + Sync>(
     }
 }
 
-/// So of words.
+/// As `status_by`, of the order that the words are; none where they are no order.
 fn status_asked<R: Threads + Wait + Sync>(
     rt: &R,
     alloc: Global,

@@ -1,10 +1,10 @@
 //! Does all commands over files, an output and a world in memory, row by row, and shows each row that comes out otherwise.
 //!
-//! The rows stand in crates/serve_checks/data/serve, and what they want comes from the rules, worked out by hand or by vectors/serving.py. How a row
-//! is written stands in `block_rows`. Here its keys are:
+//! The rows stand in crates/serve_checks/data/serve, and what they want comes from the rules, worked out by hand or by
+//! vectors/serving.py. How a row is written stands in `block_rows`. Here its keys are:
 //!
-//!     gear CLIENTS LINKS  a gear that is handed out, in order, with so many clients to come to its door and so many links
-//!                         to be dialled; the bytes of each are those of the next `file`, clients first
+//!     gear CLIENTS LINKS  a gear that is handed out, in order, with CLIENTS clients to come to its door and LINKS links to
+//!                         be dialled; the bytes of each are those of the next `file`, clients first
 //!     gear-fails N        the call for a gear with this number, from 0, fails
 //!     door-fails N        the accept with this number, from 0, fails at each door
 //!     dial-fails N        the dial with this number fails in each gear
@@ -16,8 +16,8 @@
 //! first only once the second's client has its own answer. Its first four `file`s are the bytes of the first client and of
 //! its member, and of the second's. What comes out is what was sent on the links that were left.
 //!
-//! Otherwise what comes out is told so: what was written, `status N`, `faults N` of the world, and of each gear that came
-//! back the links that were left at its door, its talks with members, and the segments on its shelf.
+//! Otherwise what comes out is: what was written, `status N`, `faults N` of the world, and of each gear that came back
+//! the links that were left at its door, its talks with members, and the segments on its shelf.
 #![tactic(auto)]
 
 mod area;

@@ -73,7 +73,7 @@ const OPEN: u32 = 1;
 /// A place that is raised, and for which nobody waits.
 const NOBODY_WAITS: u32 = 2;
 
-/// At which place the member's answer to a worker waits, and which the worker's client raises once it has its answer.
+/// The place at which the member's answer to a worker waits, and the one that the worker's client raises once it has its answer.
 #[derive(Clone, Copy)]
 struct Places {
     member: u32,
@@ -205,8 +205,8 @@ fn over_links<L: Link + Shown + Drop + Send, R: Threads + Wait + Sync>(
     told
 }
 
-/// So with links that meet at a gate. The member answers the first once the second's client has its answer, and the second
-/// at once: the place that it waits for is raised from the beginning.
+/// As `over_links`, with links that meet at a gate. The member answers the first once the second's client has its answer,
+/// and the second at once: the place that it waits for is raised from the beginning.
 fn over_gate<L: Link + Shown + Drop + Send, R: Threads + Wait + Clock + Sync>(
     rt: &R,
     alloc: Global,
@@ -228,7 +228,7 @@ fn over_gate<L: Link + Shown + Drop + Send, R: Threads + Wait + Clock + Sync>(
     over_links(rt, alloc, served, first, meeting(second, gate, places))
 }
 
-/// So at a gate of their own, where all four links could be made.
+/// As `over_gate`, at a gate of their own, where all four links could be made.
 fn over_ends<L: Link + Shown + Drop + Send, R: Threads + Wait + Clock + Sync>(
     rt: &R,
     alloc: Global,

@@ -10,7 +10,7 @@ use std::sync::Wait;
 use std::thread::Threads;
 use worker_gears::MemWorld;
 
-/// An output that takes all, or so many bytes and no more.
+/// An output that takes all, or in which a write fails after as many bytes as its row says.
 fn output_of(alloc: Global, row: BlockRow<'_>) -> Result<MemLink, RowError> {
     let failing = row.numbers(alloc, "output-fails")?;
     Ok(MemLink::failing_at(alloc, Bytes::new(alloc), NumberList::new(alloc), failing)?)

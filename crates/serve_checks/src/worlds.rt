@@ -24,7 +24,7 @@ pub fn link_of(alloc: Global, row: BlockRow<'_>, file: usize) -> Result<MemLink,
     Ok(MemLink::new(alloc, text, NumberList::new(alloc)))
 }
 
-/// Lets a value go. Where it is large, the check of a function that calls this doesn't write its drop out.
+/// Lets a value go. A caller's check then doesn't write out the drop of a large value.
 pub fn let_go<T: Drop>(_it: T) {}
 
 /// Adds an item; where memory is wanted it is let go.
@@ -49,7 +49,7 @@ fn push_client(
     Ok(push(clients, client)?)
 }
 
-/// So many clients, whose bytes are those of the files from this one on.
+/// `count` clients, whose bytes are those of the files from this one on.
 fn clients_of(
     alloc: Global,
     row: BlockRow<'_>,

@@ -45,7 +45,7 @@ pub(crate) fn settle<
     }
 }
 
-/// Closes the desks, and puts the gears together again where that is done.
+/// Closes the desks, and if that succeeds, puts the gears together again.
 fn close_gears<'r, L: SiteName, D: Drop, G: Drop, T: Drop, K: Drop, S: Shelf + Drop, O: Drop, R>(
     site: SharedSite<'r, L, R>,
     leaving: LeavingList<L, S>,

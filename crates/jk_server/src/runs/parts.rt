@@ -23,7 +23,7 @@ use std::sync::ledger::Share;
 use std::thread::Threads;
 use uri_map::UriMap;
 
-/// By what the clients are served.
+/// The site by which the clients are served.
 #[derive(Clone, Copy)]
 pub(crate) struct Plan<'a> {
     pub(crate) cfg: &'a Config,
@@ -126,7 +126,7 @@ fn parts_for<
     Ok(Memory { parts, after })
 }
 
-/// Takes the memory for so many workers.
+/// Takes the memory for `count` workers.
 fn memory_for<P: Drop, O: Drop, A: Drop, B: Drop>(
     alloc: Global,
     count: usize,
@@ -143,7 +143,7 @@ fn memory_for<P: Drop, O: Drop, A: Drop, B: Drop>(
     })
 }
 
-/// Takes the memory for what so many workers leave.
+/// Takes the memory for what comes after `count` workers.
 fn after_for<O: Drop, A: Drop, B: Drop>(
     alloc: Global,
     count: usize,

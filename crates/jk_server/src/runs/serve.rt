@@ -95,7 +95,7 @@ fn first_moment<D: Door, G, T: Tape, K: Clock, S, O>(gears: &mut [Gear<D, G, T, 
     gears[0].clock.now()
 }
 
-/// A Site for so many workers that isn't open yet.
+/// A Site for this many workers that isn't open yet.
 fn new_site(alloc: Global, cfg: &Config, at: u64, workers: usize) -> Result<NewSite, NoMemory>
     ensures parts { IfOk result (λ new. new.blank.parts ≡ workers) }
     ensures books { IfOk result (λ new. AreNew cfg.now.lbs at new.books) }
@@ -106,7 +106,7 @@ fn new_site(alloc: Global, cfg: &Config, at: u64, workers: usize) -> Result<NewS
     })
 }
 
-/// A Book for each balancer, with number 0 first.
+/// A Book for each balancer, whose first entry has the number 0.
 fn books_of(alloc: Global, lbs: &[Lb], at: u64) -> Result<BookList, NoMemory>
     ensures { IfOk result (AreNew lbs.now at) }
 {
@@ -155,7 +155,7 @@ pub(crate) struct NewSite {
     pub(crate) books: BookList,
 }
 
-/// So over the Site that a name stands for.
+/// Serves over the Site with this name: makes the pools of idle links, and runs the workers with them.
 fn over_site<
     L: SiteName + Send + Sync,
     D: Door + Drop + Send,
@@ -185,7 +185,7 @@ where
     }
 }
 
-/// So with pools of links.
+/// As `over_site`, with these pools of idle links.
 fn over_pools<
     'r,
     L: SiteName + Send + Sync,
