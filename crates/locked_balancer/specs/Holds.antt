@@ -1,4 +1,4 @@
--- What one hold of the lock does: a Maintain where one is due, and then a call, on one Book.
+-- What one hold of the lock does: a Maintain if due, and then a call, on one Book.
 use Rattle.std.specs.Prelude.{◌≡◌, ℕ, ◌+◌, ◌<◌, ◌≤◌, ◌⊎◌, Bool, false, List, [], ◌∷◌, ◌++◌, length, sum_by, Option, Some, None, slice_get, slice_index, slice_set}
 use Rattle.std.specs.List.{All}
 use Rattle.jk_model.specs.Free.{is_in}
@@ -40,7 +40,7 @@ pub record LockedState : Type 0 where
   pub books : List Journal
   pub cut_at : ℕ
 
--- Where journals are cut, none is much longer than where it is cut.
+-- Where journals are cut, none is much longer than the length at which it is cut.
 abbrev pub AreShort : (cut_at : ℕ) → List Journal → Type 0
 AreShort cut_at books =
     0 < cut_at → (lb : ℕ) → At books lb (λ b. length b.entries + tickets_out b ≤ cut_at + 1 + pools_of b)
@@ -54,7 +54,7 @@ pub record HeldState : Type 0 where
 abbrev pub held : List Journal → List Receipt → (amount : ℕ) → HeldState
 held books receipts amount = record { books = books; receipts = receipts; amount = amount }
 
--- What there is, as a list.
+-- A receipt, if there is one, as a list.
 abbrev pub listed : Option Receipt → List Receipt
 listed None = []
 listed (Some r) = r ∷ []
@@ -69,7 +69,7 @@ pub record HoldGains (old new : HeldState) (lb session at : ℕ) (gained : List 
   pub own : All (IsOwn lb session at) gained
   pub amount : new.amount ≡ old.amount + length gained
 
--- A Maintain or nothing, by this account of the journal that was found; or nothing for want of memory.
+-- A Maintain or nothing, as `Account` says of the journal that was found; or nothing for want of memory.
 pub record HoldGainsDue (old new : HeldState) (lb session at : ℕ) (Wanting : Type 0) (Account : Journal → List Receipt → Type 0) : Type 0 where
   pub due : List Receipt
   pub is_due : IsDue due
@@ -93,7 +93,7 @@ pub record HoldMaintains (old new : HeldState) (lb session at : ℕ) : Type 0 wh
   pub gains : HoldGains old new lb session at due
   pub maintained : IsMaintained gains.book at due
 
--- So, and then the entry of this receipt.
+-- As `HoldMaintains`, and then the entry of this receipt.
 pub record HoldGainsLast (old new : HeldState) (lb session at : ℕ) (last : Receipt) : Type 0 where
   pub due : List Receipt
   pub is_due : IsDue due
@@ -141,8 +141,8 @@ abbrev pub HoldReturns : (old new : HeldState) → (session at : ℕ) → LeaseN
 HoldReturns old new session at lease outcome =
     (r : Receipt) × (r.entry.call ≡ call.Return lease.ticket outcome) × HoldGains old new lease.lb session at (r ∷ [])
 
--- A hold cut where that was due, and then it chose, refused the ask, did the command or refused it. `mid` has the Books
--- of the Site between the two.
+-- A hold cut if due, and then it chose, refused the ask, did the command or refused it. `mid` has the Books of the Site
+-- between the two.
 abbrev pub CutChooses : (sizes firsts : List ℕ) → Option (ℕ × Segment) → (old new : HeldState) → Occasion → Ask → Choice LeaseNote → Type 0
 CutChooses sizes firsts cut old new on ask c =
     (mid : List Journal) × CutsFirst old.books mid on.lb cut × AreSited sizes firsts mid
@@ -163,7 +163,7 @@ CutRefuses sizes firsts cut old new on command e =
     (mid : List Journal) × CutsFirst old.books mid on.lb cut × AreSited sizes firsts mid
     × HoldRefuses (held mid old.receipts old.amount) new on.lb on.session on.at command e
 
--- A mark of this refusal of balancer lb; that of a Full has the numbers of a Book without so many left.
+-- A mark of this refusal of balancer lb; that of a Full has the numbers of a Book with fewer than `more` left.
 pub record IsMark (lb : ℕ) (why : MarkKind) (mark : MarkNote) : Type 0 where
   pub of : mark.lb ≡ lb
   pub refusal : mark.refusal ≡ why

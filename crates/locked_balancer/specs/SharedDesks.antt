@@ -18,7 +18,7 @@ use Rattle.locked_balancer.specs.Notes.{MarkNote, StrayNote}
 use Rattle.locked_balancer.specs.declared.site.TheConstants.{MOST_ENTRIES}
 
 -- A desk over a shared Site: what each desk tells, its shelf, how many receipts it forgot, for how many segments the
--- shelf wanted memory, and the stray that it met first since the last was taken.
+-- shelf wanted memory, and the first stray that it met since the last was taken.
 pub record SharedState (S : Type 0) : Type 0 where
   pub desk : DeskState
   pub shelf : S
@@ -26,7 +26,7 @@ pub record SharedState (S : Type 0) : Type 0 where
   pub wants : ℕ
   pub met : Option StrayNote
 
--- What is told as of each desk. The Books behind the lock aren't told.
+-- What this desk tells, as each desk does. The Books behind the lock aren't told.
 abbrev pub shared_desk : (sizes : List ℕ) (parts : ℕ) → List Receipt → (held : List (ℕ × ℕ)) → (amount strays fulls wides : ℕ) → (met : Bool) → DeskState
 shared_desk sizes parts receipts held amount strays fulls wides met = record {
   receipts = receipts;
@@ -74,7 +74,7 @@ pub record CutsWhen (sizes : List ℕ) (cut_at lb : ℕ) (cut : Option (ℕ × S
   pub whole : IfSome cut (λ s. IsSegmentOf before s.1)
   pub legal : IfSome cut (λ s. IsLegal s.1.rules s.1.opening s.1.entries)
 
--- So, or nothing was cut for want of memory.
+-- As `CutsWhen`, or nothing was cut for want of memory.
 abbrev pub CutsOrWants : (sizes : List ℕ) → (cut_at lb : ℕ) → Option (ℕ × Segment) → (Wanting : Type 0) → Type 0
 CutsOrWants sizes cut_at lb cut Wanting = CutsWhen sizes cut_at lb cut ⊎ ((cut ≡ None) × Wanting)
 
@@ -92,12 +92,12 @@ pub record PutsAwayOf {S : Type 0} (shelved : S → Option (List (ℕ × Segment
   pub forgotten : new.forgotten ≡ old.forgotten
   pub met : new.met ≡ old.met
 
--- The place of the last pair that is this, if there is one.
+-- The place of the last copy of this pair, if there is one.
 abbrev pub IsLastPlace : List (ℕ × ℕ) → ℕ × ℕ → Option ℕ → Type 0
 IsLastPlace held pair None = holds held pair ≡ false
 IsLastPlace held pair (Some i) = (i < length held) × (is_pair pair (slice_index_or held i (0, 0)) ≡ true) × (holds (drop (suc i) held) pair ≡ false)
 
--- A pair's balancer is one of n.
+-- Each pair's balancer is one of n.
 abbrev pub AreKnown : (n : ℕ) → List (ℕ × ℕ) → Type 0
 AreKnown n held = All (λ x. x.0 < n) held
 
@@ -110,13 +110,13 @@ pub record IsShared (n : ℕ) (receipts : List Receipt) (held : List (ℕ × ℕ
   pub known : AreKnown n held
   pub roomy : length receipts + length held ≤ room
 
--- Just a Full is counted.
+-- A Full is counted, and nothing else.
 abbrev pub CountsFull : {T : Type 0} → (before now : ℕ) → Result T (RoomError MarkNote) → Type 0
 CountsFull before now (Ok done) = now ≡ before
 CountsFull before now (Err (room.Full mark)) = RisesByOne before now
 CountsFull before now (Err room.NoMemory) = now ≡ before
 
--- Just a Full and a TooWide are counted, each by its own count.
+-- A Full and a TooWide are counted, each by its own count, and nothing else.
 abbrev pub CountsRefusal : {T : Type 0} → (fulls fulls' wides wides' : ℕ) → Result T (AdminError MarkNote) → Type 0
 CountsRefusal fulls fulls' wides wides' (Ok done) = (fulls' ≡ fulls) × (wides' ≡ wides)
 CountsRefusal fulls fulls' wides wides' (Err admin.UnknownMember) = (fulls' ≡ fulls) × (wides' ≡ wides)

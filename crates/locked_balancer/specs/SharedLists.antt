@@ -1,4 +1,4 @@
--- What a hold of the lock is for the lists of a desk, whatever the desk counted.
+-- What a hold of the lock does with the lists of a desk, whatever the desk counted.
 use Rattle.std.specs.Prelude.{◌≡◌, ℕ, Bool, List, Vec, vec_capacity}
 use Rattle.jk_model.specs.declared.ask.Ask.{Ask}
 use Rattle.jk_model.specs.declared.change.Command.{Command}
@@ -35,7 +35,7 @@ lists parts amount receipts held = record {
 abbrev pub told_of : (sizes : List ℕ) → SharedLists → (strays fulls wides : ℕ) → (met : Bool) → DeskState
 told_of sizes l strays fulls wides met = shared_desk sizes l.parts l.receipts l.held l.amount strays fulls wides met
 
--- A desk over n balancers keeps what it does, however many receipts it forgot.
+-- A desk over n balancers keeps what `IsShared` says of its lists, however many receipts it forgot.
 abbrev pub KeepsLists : (n : ℕ) → (old new : SharedLists) → Type 0
 KeepsLists n old new =
     (forgotten : ℕ) → IsShared n old.receipts old.held old.parts old.amount forgotten old.room

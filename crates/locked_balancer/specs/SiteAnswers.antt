@@ -24,27 +24,27 @@ pub record IsMarkOf (lb : ℕ) (why : MarkKind) (b : Journal) (mark : MarkNote) 
   pub next : mark.numbers.next ≡ next_number b
   pub out : mark.numbers.out ≡ tickets_out b
 
--- So many numbers are left beside those of the Returns to come.
+-- At least `more` numbers are left beside those of the Returns to come.
 abbrev pub HasRoom : (more : ℕ) → Journal → Type 0
 HasRoom more b = next_number b + tickets_out b + more ≤ MOST_NUMBERS
 
 abbrev pub IsFullAt : (lb more : ℕ) → Journal → MarkNote → Type 0
 IsFullAt lb more b mark = (MOST_NUMBERS < next_number b + tickets_out b + more) × IsMarkOf lb refusal.Full b mark
 
--- Full comes exactly where so many numbers aren't left.
+-- Full comes exactly where fewer than `more` numbers are left.
 abbrev pub IsRoomAt : {T : Type 0} → (lb more : ℕ) → Journal → Result T (RoomError MarkNote) → Type 0
 IsRoomAt lb more b (Ok done) = HasRoom more b
 IsRoomAt lb more b (Err (room.Full mark)) = IsFullAt lb more b mark
 IsRoomAt lb more b (Err room.NoMemory) = HasRoom more b
 
--- Nothing is done exactly where no maintenance is due, and none is refused there.
+-- Nothing is done exactly where no maintenance is due, and there none is refused.
 abbrev pub IsMaintenanceAt : {T : Type 0} → (lb : ℕ) → Journal → (at : ℕ) → Result (Option T) (RoomError MarkNote) → Type 0
 IsMaintenanceAt lb b at (Ok None) = entry_moment b at < due_moment b
 IsMaintenanceAt lb b at (Ok (Some done)) = (due_moment b ≤ entry_moment b at) × HasRoom 1 b
 IsMaintenanceAt lb b at (Err (room.Full mark)) = (due_moment b ≤ entry_moment b at) × IsFullAt lb 1 b mark
 IsMaintenanceAt lb b at (Err room.NoMemory) = (due_moment b ≤ entry_moment b at) × HasRoom 1 b
 
--- What is answered to a command, by what holds of it: each refusal after those before it.
+-- What a command is answered, by what holds of it: each refusal comes after those before it.
 abbrev pub IsCommandedAt : {T : Type 0} → (lb : ℕ) → Journal → Command → Result T (AdminError MarkNote) → Type 0
 IsCommandedAt lb b c (Ok done) = IsDoable b.opening (past_of b) c × HasRoom 1 b
 IsCommandedAt lb b c (Err admin.UnknownMember) = ¬ IsKnown (members b.opening) c

@@ -27,7 +27,7 @@ use jk_model::{AdminError, Ask, Command, RoomError};
 use std::sync::Wait;
 use std::sync::ledger::Share;
 
-/// A Maintain where one is due, and a Select. The room is taken before the hold: for both receipts, for that of the
+/// A Maintain, if due, and a Select. The room is taken before the hold: for both receipts, for that of the
 /// ticket's Return, and for the ticket.
 pub(crate) fn choose_at<'r, L: SiteName, R: Wait>(
     site: &SharedSite<'r, L, R>,
@@ -92,7 +92,7 @@ fn hold_pair<L>(
     }
 }
 
-/// A Maintain where one is due, and a command. The room for the receipts is taken before the hold.
+/// A Maintain, if due, and a command. The room for the receipts is taken before the hold.
 pub(crate) fn command_at<'r, L: SiteName, R: Wait>(
     site: &SharedSite<'r, L, R>,
     share: &mut Share<L>,
@@ -177,7 +177,7 @@ fn is_pair(a: (u32, u64), b: (u32, u64)) -> bool
     a.0 == b.0 && a.1 == b.1
 }
 
-/// Takes out the last pair that is this, where there is one.
+/// Takes out the last copy of this pair, if there is one.
 pub(crate) fn take_last(held: &mut Vec<(u32, u64)>, pair: (u32, u64))
     ensures held { held.new.items ≡ without_last held.old.items pair }
     ensures room { vec_capacity held.old ≤ vec_capacity held.new }
@@ -190,7 +190,7 @@ pub(crate) fn take_last(held: &mut Vec<(u32, u64)>, pair: (u32, u64))
     }
 }
 
-// The place of the last pair that is this.
+// The place of the last copy of this pair.
 fn last_place(held: &[(u32, u64)], pair: (u32, u64)) -> Option<usize>
     ensures { IsLastPlace held.now pair result }
 {

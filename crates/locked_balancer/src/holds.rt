@@ -1,4 +1,4 @@
-//! What is done under the lock, on one Book: a Maintain where one is due, and then a call, each entry with its receipt.
+//! What is done under the lock, on one Book: a Maintain if due, and then a call, each entry with its receipt.
 ghost use Rattle.std.specs.Prelude.{◌≡◌, ◌≢◌, [], ◌∷◌, ◌++◌, ◌+◌, ◌<◌, ◌≤◌, length, slice_index, vec_len, vec_capacity, IfOk, IfErr, OnOk, OnErr};
 ghost use Rattle.jk_model.specs.declared.journal.Answer.{Answer};
 ghost use Rattle.balancer_core.specs.Refused.{RefusesMaintain};
@@ -23,7 +23,7 @@ use balancer_core::desk::{Choice, Occasion};
 use jk_model::{AdminError, Answer, Ask, Command, RoomError};
 use std::sync::ledger::Share;
 
-// Does a Maintain where one is due.
+// Does a Maintain if due.
 fn maintain_first<L: SiteName>(
     site: &mut Site<L>,
     on: Occasion,
@@ -68,7 +68,7 @@ pub(crate) fn note<L>(receipts: &mut Vec<SiteReceipt<L>>, receipt: SiteReceipt<L
     receipts.push(receipt).unwrap();
 }
 
-/// Does a Maintain where one is due, and then a Select.
+/// Does a Maintain if due, and then a Select.
 pub(crate) fn choose_in<L: SiteName>(
     site: &mut Site<L>,
     on: Occasion,
@@ -110,7 +110,7 @@ fn choice_of<L>(lb: u32, answer: Answer, lease: Option<SiteLease<L>>) -> Choice<
     }
 }
 
-/// Does a Maintain where one is due, and then a command.
+/// Does a Maintain if due, and then a command.
 pub(crate) fn command_in<L: SiteName>(
     site: &mut Site<L>,
     on: Occasion,

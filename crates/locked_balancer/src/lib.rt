@@ -1,6 +1,6 @@
 //! Balancers behind one lock: their Books, counted by one ledger, and a desk for each thread that asks them.
 //!
-//! Source: Tomcat Connectors reference, LoadBalancer HowTo; that one lock stands round all balancers is an own rule.
+//! Source: Tomcat Connectors reference, LoadBalancer HowTo; one lock round all balancers is an own rule.
 //! Shapes: a `Site` is in contracts the list of its Books' journals; the amount of a share of its ledger is the number
 //! of entries that were added through it. Receipts, leases, marks, views, strays and segments name the Site in their type.
 //! Contract: each call of a `Site`, clauses `ok`, `amount` and `err`; `Site::close`, clause `counted`; `SharedDesk` is a

@@ -75,7 +75,7 @@ impl<L: SiteName> Locked<L> {
         self.site
     }
 
-    // Cuts a journal that has come to the length at which it is cut.
+    // Cuts a journal, if it has come to the length at which it is cut.
     fn cut_first(&mut self, lb: u32) -> Result<Option<SiteSegment<L>>, NoMemory>
         requires lb { lb < length self.old.books }
         ensures ok { IfOk result (CutsFirst self.old.books self.new.books lb) }
@@ -94,7 +94,7 @@ impl<L: SiteName> Locked<L> {
         Ok(Some(segment))
     }
 
-    /// Cuts where that is due, does a Maintain where one is due, and then a Select.
+    /// Cuts the journal if due, does a Maintain if due, and then a Select.
     pub(crate) fn choose(
         &mut self,
         on: Occasion,
@@ -125,7 +125,7 @@ impl<L: SiteName> Locked<L> {
         (segment, done)
     }
 
-    /// Cuts where that is due, does a Maintain where one is due, and then a command.
+    /// Cuts the journal if due, does a Maintain if due, and then a command.
     pub(crate) fn command(
         &mut self,
         on: Occasion,

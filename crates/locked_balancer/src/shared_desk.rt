@@ -27,7 +27,7 @@ pub struct SharedDesk<'s, 'r, L: SiteName, S: Shelf, R> {
     /// Balancer and ticket of each lease that is out, in the order of the choices.
     held: Vec<(u32, u64)>,
     shelf: S,
-    /// The stray that was met first since the last was taken.
+    /// The first stray that was met since the last was taken.
     met: Option<SiteStray<L>>,
     strays: u64,
     fulls: u64,
@@ -107,7 +107,7 @@ impl<'s, 'r, L: SiteName, S: Shelf, R> SharedDesk<'s, 'r, L, S, R> {
         self.receipts.clear();
     }
 
-    /// The first stray that was met since the last such call.
+    /// Takes the first stray that was met since this was called last.
     pub fn take_stray(&mut self) -> Option<SiteStray<L>>
         ensures value { result ≡ self.old.met }
         ensures met { IsSome result ↔ (self.old.desk.met ≡ true) }
@@ -123,7 +123,7 @@ impl<'s, 'r, L: SiteName, S: Shelf, R> SharedDesk<'s, 'r, L, S, R> {
         self.shelf.failed()
     }
 
-    /// For how many segments the shelf wanted memory.
+    /// The number of segments for which the shelf wanted memory.
     pub fn shelf_wants(&self) -> u64
         ensures { result ≡ self.now.wants }
     {
@@ -250,7 +250,7 @@ impl<'s, 'r, L: SiteName, S: Shelf, R: Wait> Desk for SharedDesk<'s, 'r, L, S, R
 
         ensures shelf { (self.new.shelf ≡ self.old.shelf) × (self.new.wants ≡ self.old.wants) × (self.new.forgotten ≡ self.old.forgotten) }
 
-        // A stray is kept until it is taken, the first one of several.
+        // The first stray is kept until it is taken.
         ensures none_met { OnOk result (self.new.met ≡ self.old.met) }
         ensures met { IfErr result (λ stray. self.new.met ≡ first_met self.old.met (record { lb = lease.lb; stray = stray })) }
     {

@@ -1,4 +1,4 @@
-//! That desks may go to threads which all ask one Site: the compiler proves it of their types here.
+//! Here the compiler proves that desks may go to threads that all ask one Site.
 
 use crate::shared_desk::SharedDesk;
 use crate::shared_site::SharedSite;

@@ -36,7 +36,7 @@ fn after_return(state: MemberState, ticket: u64, kind: Kind, at: u64, direct: bo
     }
 }
 
-// The client left: only the trial that this very ticket was is undone.
+// After a client left: a trial is undone only if it was this very ticket's.
 fn after_leaving(state: MemberState, ticket: u64) -> MemberState
     ensures { result ≡ left_state ticket state }
 {

@@ -22,7 +22,7 @@ pub fn an_ask_has_one_pick(
     ensures { one ≡ other }
 {}
 
-/// An ask has no member exactly where none is left for it, and its session isn't served either.
+/// An ask gets no member exactly where none is left for it, and its session isn't served either.
 pub fn no_member_means(rules: u8, opening: &Opening, past: &[Entry], ask: &Ask)
     ensures { IsPick rules opening.now (reverse past.now) ask.now Answer.NoMember
         ↔ IsUnanswered rules opening.now (reverse past.now) ask.now }

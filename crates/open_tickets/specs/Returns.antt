@@ -10,7 +10,8 @@ abbrev pub IsReturnedAt : List Entry → (ticket : ℕ) → Option ℕ → Type 
 IsReturnedAt p ticket None = is_returned ticket p ≡ false
 IsReturnedAt p ticket (Some number) = list_any (λ e. e.seq == number && gives_back ticket e.call) p ≡ true
 
--- For each ticket the number of its Return after p: of those that entries made by place, of the opening's by theirs.
+-- The number of each ticket's Return after p: `kept` by the place of the entry that made the ticket, `early` by the
+-- ticket's place in the opening.
 pub record AreReturns (o : Opening) (p : List Entry) (kept early : List (Option ℕ)) : Type 0 where
   pub whole : length kept ≡ length p
   pub own : (k : ℕ) → k < length p → IsReturnedAt p (o.next + k) (slice_index_or kept k None)

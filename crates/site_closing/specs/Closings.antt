@@ -34,7 +34,7 @@ pub record DiscordNote : Type 0 where
   pub receipt : Option Entry
   pub entry : Option Entry
 
--- Of the entries that two lists have at a place, the earlier one's balancer and number.
+-- An entry's balancer and number; `first_number` takes the earlier of the entries that two lists have at a place.
 abbrev pub number_of : ℕ × Entry → ℕ × ℕ
 number_of x = (x.0, x.1.seq)
 
@@ -65,7 +65,7 @@ pub record IsDiscord (receipts kept : List (ℕ × Entry)) (d : DiscordNote) : T
   pub ordered : IsNonDecreasingBy rank_of sorted
   pub first : IsFirstDifference sorted kept d
 
--- So of the Books of a Site that keep every entry, of which they have this number.
+-- A discord with the Books of a Site that added this number of entries and keep each of them.
 pub record Differs (sizes firsts : List ℕ) (entries : ℕ) (receipts : List (ℕ × Entry)) (d : DiscordNote) : Type 0 where
   pub books : List Journal
   pub sited : AreSited sizes firsts books

@@ -18,7 +18,7 @@ use std::alloc::AllocError;
 use std::sync::ledger::Share;
 use thiserror::Error;
 
-/// What stands after the desks are closed.
+/// What is left once the desks are closed.
 #[derive(Drop)]
 pub struct Closed<S> {
     pub books: BookList,

@@ -24,7 +24,7 @@ pub(crate) struct Gathered<L: SiteName, S> {
     pub(crate) forgot: bool,
 }
 
-/// Takes everything that desks left together.
+/// Puts together all that desks left.
 pub(crate) fn gather<L: SiteName, S: Drop>(
     leaving: LeavingList<L, S>,
 ) -> Result<Gathered<L, S>, NoMemory>

@@ -1,4 +1,4 @@
-//! Whether two entries are the same: each part decides it.
+//! Whether two entries are the same in each part.
 ghost use Rattle.std.specs.Prelude.{◌≡◌, ◌↔◌, true};
 
 use crate::compare::Noted;

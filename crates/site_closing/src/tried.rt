@@ -48,7 +48,7 @@ fn one_book(alloc: Global, book: Book) -> Result<BookList, NoMemory>
     Ok(books)
 }
 
-// So over the Site that a name stands for.
+// As `try_a_site`, over the Site with this name.
 fn in_site<L: SiteName + Send + Sync, R: Threads + Wait + Sync>(
     rt: &R,
     alloc: Global,

@@ -44,7 +44,7 @@ impl<L: SiteName> Site<L> {
             (lease.member < slice_index L.sizes lb) × (is_in ask.now.tried lease.member ≡ false))) }
         ensures sound { At self.new lb IsSound }
 
-        // Full comes exactly where the number of the entry and that of its ticket's Return aren't left.
+        // Full comes exactly where no two numbers are left for the entry and its ticket's Return.
         ensures full { At self.old lb (λ b. IsRoomAt lb 2 b result) }
         ensures err { OnErr result (self.new ≡ self.old) }
         ensures amount { MatchResult result (λ _. share.new.amount ≡ share.old.amount + 1) (λ _. share.new.amount ≡ share.old.amount) }
@@ -104,7 +104,7 @@ impl<L: SiteName> Site<L> {
         }
     }
 
-    /// Does a maintenance where one is due.
+    /// Does a maintenance if due.
     pub fn maintain_if_due(
         &mut self,
         lb: u32,
@@ -117,10 +117,10 @@ impl<L: SiteName> Site<L> {
         ensures ok { IfOk result (λ found. MatchOption found (self.new ≡ self.old) (λ r. AddsAt self.old self.new lb session at Call.Maintain r)) }
         ensures sound { At self.new lb IsSound }
 
-        // None is due any more for a call at this moment.
+        // No maintenance is due any more for a call at this moment.
         ensures up_to_date { OnOk result (At self.new lb (λ b. IsNoneDue b at)) }
 
-        // None is done exactly where none is due, and none is refused there.
+        // No maintenance is done exactly where none is due, and there none is refused.
         ensures due { At self.old lb (λ b. IsMaintenanceAt lb b at result) }
         ensures err { OnErr result (self.new ≡ self.old) }
         ensures amount { MatchResult result
@@ -153,7 +153,7 @@ impl<L: SiteName> Site<L> {
         ensures ok { IfOk result (λ r. AddsAt self.old self.new lb session at (Call.Admin command.now) r) }
         ensures sound { At self.new lb IsSound }
 
-        // Each refusal where it is the first one that holds, and an entry where none does.
+        // The first refusal that holds is the answer; where none holds, an entry is added.
         ensures commanded { At self.old lb (λ b. IsCommandedAt lb b command.now result) }
         ensures err { OnErr result (self.new ≡ self.old) }
         ensures amount { MatchResult result (λ _. share.new.amount ≡ share.old.amount + 1) (λ _. share.new.amount ≡ share.old.amount) }

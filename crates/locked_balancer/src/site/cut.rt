@@ -27,7 +27,7 @@ impl<L> SiteSegment<L> {
     ghost use Rattle.jk_io.specs.Told.{HasCause, appended};
     ghost use Rattle.jk_io.specs.declared.failures.IoError.{IoError};
 
-    /// Puts the segment on a shelf, by one `keep` of it there, whose answer this is.
+    /// Puts the segment on a shelf by one call of the shelf's `keep`, and gives the answer of that call.
     pub fn keep_in<S: Shelf>(self, shelf: &mut S) -> Result<(), IoError>
         ensures kept { OnOk result (S.shelved shelf.new ≡ appended (S.shelved shelf.old) (self ∷ [])) }
         ensures refused { OnErr result (S.shelved shelf.new ≡ S.shelved shelf.old) }

@@ -47,7 +47,7 @@ impl<L: SiteName> Site<L> {
         self.books.len()
     }
 
-    /// Tells how a share stands to the entries that were added, which are few.
+    /// Tells that a share counts no more entries than were added, a whole share all of them, and that these are few.
     pub fn audit(&mut self, share: &mut Share<L>)
         ensures within { share.old.amount ≤ added_in self.old }
         ensures few { added_in self.old ≤ MOST_ENTRIES }
@@ -102,7 +102,7 @@ impl<L: SiteName> Site<L> {
     }
 }
 
-// That each journal is sound, which the type of each Book keeps, said of all of them: it reads a number of each.
+// Tells that each journal is legal, which the type of each Book keeps: it reads a number of each Book.
 fn vouch(books: &[Book])
     ensures { AreLegal books.now }
 {
