@@ -42,7 +42,7 @@ head_of page = record {
   headers = length_line page.counted page.body ++ cookie_line page.cookie;
 }
 
--- A page whole: its head, its body in chunks that fill a packet, and End Response, after which the link may serve again.
+-- A whole page: its head, its body in chunks that fill a packet, and End Response, after which the link may serve again.
 abbrev pub messages_of : ℕ → AppPage → List Message
 messages_of packet page = Headers (head_of page) ∷ map Chunk (cut (packet - 8) page.body) ++ End true ∷ []
 
@@ -67,7 +67,7 @@ answer_by app forward body Unknown = messages_of app.packet unknown
 abbrev pub answer_of : AppConfig → Forward → List ℕ → List Message
 answer_of app forward body = answer_by app forward body (application_of app forward)
 
--- A message of the program that goes into a packet of at most so many bytes.
+-- A message of the program that goes into a packet of at most `most` bytes.
 pub record IsSendable (most : ℕ) (message : Message) : Type 0 where
   pub small : IsMessage message
   pub fits : Fits most message

@@ -6,7 +6,7 @@ use Rattle.jk_io.specs.Decimals.{decimal_of}
 use Rattle.mini_container.specs.declared.application.Application.{Application}
 use Rattle.mini_container.specs.declared.application.Application.TheVariants.{Forbidden, Who, Echo, Size, Status, Session, DropAtOnce, DropBehindHead, DropBehindChunk, Unknown}
 
--- the number that the path is behind a front
+-- the number that the path has after a front
 abbrev pub number_behind : List ℕ → List ℕ → Option ℕ
 number_behind front path = if starts_with nat_eq path front then decimal_of (drop (length front) path) else None
 

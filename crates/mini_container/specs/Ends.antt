@@ -65,7 +65,7 @@ IsBadBy most place Piece bytes = (payload : List ℕ) × IsPacket false most pay
 abbrev pub IsFront : ℕ → List ℕ → Type 0
 IsFront most bytes = IsPart false most bytes ⊎ ((payload : List ℕ) × IsPacket false most payload bytes)
 
--- Why a packet wasn't taken of which these bytes came.
+-- Why a packet, of which these bytes came, wasn't taken.
 abbrev pub EndsReading : ℕ → TurnPlace → Moment → Moment → List ℕ → Stopped → Type 0
 EndsReading most place before after bytes Closed = (bytes ≡ []) × IsEmpty after.incoming
 EndsReading most place before after bytes Dropped = ⊥
@@ -108,11 +108,11 @@ Stops most place waiting dropped going before after rest stop =
     StopsReading most place waiting going before after rest stop
     ⊎ (StopsSending going before after rest stop ⊎ StopsDropped dropped going before after rest stop)
 
--- Whether the link is to be closed behind a body that was taken so far.
+-- Whether the link is to be closed after a body that was taken so far.
 abbrev pub drops_at : AppConfig → Forward → Body → Bool
 drops_at app forward body = is_dropped app (Request forward body)
 
--- The container stopped within a body: what came of it, and behind that of a packet more.
+-- The container stopped within a body: what came of it, and after that of a further packet.
 pub record StopsWithin (app : AppConfig) (forward : Forward) (before after : Moment) (stop : Stopped) : Type 0 where
   pub body : Body
   pub front : List ℕ

@@ -32,7 +32,7 @@ pub record IsReply (size status : ℕ) (counted : Bool) (body : List ℕ) (messa
   pub status_is : head.status ≡ status
   pub length_is : value_named (codes "Content-Length") head.headers ≡ length_told counted (concat chunks)
 
--- So with some status, some body, and a length or none.
+-- The messages are a reply with some status, some body, and a length or none.
 abbrev pub IsSomeReply : ℕ → List Message → Type 0
 IsSomeReply size messages = (status : ℕ) × (counted : Bool) × (body : List ℕ) × IsReply size status counted body messages
 

@@ -21,7 +21,7 @@ abbrev pub first_of : Option (List ℕ) → Option (List ℕ) → Option (List �
 first_of None later = later
 first_of (Some text) later = Some text
 
--- The secret of a request is that of its first such attribute.
+-- The secret of a request is that of its first attribute that holds one.
 abbrev pub secret_in : List Attribute → Option (List ℕ)
 secret_in [] = None
 secret_in (attribute ∷ attributes) = first_of (secret_of attribute) (secret_in attributes)

@@ -27,14 +27,14 @@ pub record TookPacket (most : ℕ) (before after : Moment) (payload : List ℕ) 
   pub packet : IsPacket false most payload bytes
   pub goes : Goes before after bytes []
 
--- None was taken.
+-- No packet was taken.
 pub record NotTaken (most : ℕ) (place : TurnPlace) (before after : Moment) (stop : Stopped) : Type 0 where
   pub bytes : List ℕ
   pub comes : HasCome before after bytes
   pub sent : after.sent ≡ before.sent
   pub why : EndsReading most place before after bytes stop
 
--- Where a read of a packet gave none, why the container stops.
+-- Why the container stops where a read of a packet gave none.
 abbrev pub stop_missed : PacketError → Stopped
 stop_missed (packets.End count) = Closed
 stop_missed (packets.Short count) = Truncated
@@ -91,14 +91,14 @@ pub record AnsweredAsks (app : AppConfig) (forward : Forward) (first : List ℕ)
   pub asked : AskedFor app forward first past
   pub goes : Goes before after bytes (bytes_of (asks app past))
 
--- The rest of the body was asked for, as far as it is.
+-- The rest of the body was asked for, as far as the container asks for it.
 pub record TookRest (app : AppConfig) (forward : Forward) (first : List ℕ) (before after : Moment) (body : List ℕ) : Type 0 where
   pub past : List (List ℕ)
   pub asked : AnsweredAsks app forward first before after past
   pub all : asks_on app forward first past ≡ false
   pub body_is : body ≡ data_of first past
 
--- It couldn't be had.
+-- The rest of the body couldn't be had.
 pub record StopsAsking (app : AppConfig) (forward : Forward) (first : List ℕ) (before after : Moment) (stop : Stopped) : Type 0 where
   pub past : List (List ℕ)
   pub bytes : List ℕ
@@ -109,7 +109,7 @@ pub record StopsAsking (app : AppConfig) (forward : Forward) (first : List ℕ) 
   pub more : asks_on app forward first past ≡ true
   pub stops : Stops app.packet Within true false (bytes_of (asks app past ++ ask app ∷ [])) before after rest stop
 
--- What a step answered that took into bytes which were lent to it.
+-- The answer of a step that adds to bytes that its caller lends: these bytes, or why it stopped.
 abbrev pub taken_into : Result Unit Stopped → List ℕ → Result (List ℕ) Stopped
 taken_into (Ok done) bytes = Ok bytes
 taken_into (Err stop) bytes = Err stop
@@ -132,7 +132,7 @@ abbrev pub TakesBody : AppConfig → Forward → Moment → Moment → Result (L
 TakesBody app forward before after (Ok body) = TookBody app forward before after body
 TakesBody app forward before after (Err stop) = StopsWithin app forward before after stop
 
--- A request was served whole, behind its Forward Request.
+-- A request was served whole, after its Forward Request.
 pub record ServedWhole (app : AppConfig) (forward : Forward) (before after : Moment) : Type 0 where
   pub body : Body
   pub bytes : List ℕ
@@ -179,7 +179,7 @@ IsBegun payload (Some kinds.Ping) = payload ≡ 10 ∷ []
 IsBegun payload (Some kinds.Request) = (rest : List ℕ) × (payload ≡ 2 ∷ rest)
 IsBegun payload None = IsRefused Between Code payload
 
--- A turn is over: what came, and that all was sent that is owed for it.
+-- A turn is over: what came of it, and all that is owed for it was sent.
 pub record TookTurn (app : AppConfig) (before after : Moment) (kind : TurnKind) : Type 0 where
   pub turn : ContainerTurn
   pub bytes : List ℕ

@@ -126,7 +126,7 @@ waits app Idle = true
 waits app Ping = false
 waits app (Request forward body) = awaits app forward body
 
--- The link is closed behind what is owed.
+-- The link is closed after what is owed.
 abbrev pub is_dropped : AppConfig → ContainerTurn → Bool
 is_dropped app Idle = false
 is_dropped app Ping = false

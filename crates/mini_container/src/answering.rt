@@ -54,7 +54,7 @@ fn answer(
     }
 }
 
-/// A page whole.
+/// The messages of a whole page.
 fn whole(alloc: Global, app: &AppConfig, page: AppPage) -> Result<MessageList, NoMemory>
     ensures { IfOk result (λ messages. messages ≡ messages_of app.now.packet page) }
 {
@@ -121,14 +121,14 @@ fn put_length(alloc: Global, headers: &mut HeadPairs, len: usize) -> Result<(), 
     Ok(())
 }
 
-/// What a status line says beside the status.
+/// The text that a status line has after the status.
 fn message(status: u16) -> &'static [u8]
     ensures { result.now ≡ message_of status }
 {
     if status == 200 { b"OK" } else { b"Status" }
 }
 
-/// The head of a reply with 10 bytes, and nothing behind it.
+/// The head of a reply with 10 bytes, and nothing after it.
 fn broken_off(alloc: Global) -> Result<MessageList, NoMemory>
     ensures { IfOk result (λ messages. messages ≡ Message.Headers broken ∷ []) }
 {
@@ -143,7 +143,7 @@ fn broken_off(alloc: Global) -> Result<MessageList, NoMemory>
     Ok(messages)
 }
 
-/// The same, and 3 bytes of its body.
+/// The same head, and 3 bytes of the body.
 fn broken_off_in_body(alloc: Global) -> Result<MessageList, NoMemory>
     ensures { IfOk result (λ messages. messages ≡ Message.Headers broken ∷ Message.Chunk (codes "xxx") ∷ []) }
 {

@@ -1,9 +1,9 @@
-//! By what the container answers.
+//! The settings of the container.
 ghost use Rattle.std.specs.Prelude.{◌≤◌, length};
 
 use jk_io::Bytes;
 
-/// By what the container answers.
+/// The settings by which the container answers.
 #[derive(Drop)]
 pub struct AppConfig {
     /// Its name among the members of a balancer, at most 1,024 bytes.

@@ -32,7 +32,7 @@ pub enum Application {
     Who,
     /// The request's own body.
     Echo,
-    /// So many bytes.
+    /// This many bytes.
     Size(u32),
     /// No body, with this status.
     Status(u16),
@@ -40,9 +40,9 @@ pub enum Application {
     Session,
     /// The link is closed, and nothing is sent.
     DropAtOnce,
-    /// The link is closed behind the head.
+    /// The link is closed after the head.
     DropBehindHead,
-    /// The link is closed behind the first bytes of the body.
+    /// The link is closed after the first bytes of the body.
     DropBehindChunk,
     /// No application has the path.
     Unknown,
@@ -91,7 +91,7 @@ fn numbered(path: &[u8]) -> Application
     Application::Unknown
 }
 
-/// The number that a path is behind this front.
+/// The number that a path has after this front.
 fn number_behind(path: &[u8], front: &[u8]) -> Option<u64>
     ensures { result ≡ number_behind_of front.now path.now }
 {

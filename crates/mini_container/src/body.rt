@@ -99,7 +99,7 @@ fn add_rest<L: Link>(
     Ok(())
 }
 
-/// Whether so many bytes are as many as the request names.
+/// Whether `len` bytes are as many as the request names.
 fn is_enough(named: Option<u64>, len: usize) -> bool
     ensures { result ≡ is_enough_for named len }
 {

@@ -42,7 +42,7 @@ pub enum Stopped {
     NoMemory,
 }
 
-/// How the talk ends where a turn isn't over, behind so many requests.
+/// How the talk ends where a turn isn't over, after this many requests.
 pub fn end_of(requests: u64, stopped: Stopped) -> ContainerEnd
     ensures { result ≡ end_of requests stopped }
 {

@@ -42,8 +42,8 @@ pub fn what_is_sent_is_spelled()
     ensures { (app : AppConfig) (turn : ContainerTurn) → IsShortTurn turn → Spelled app.packet (reverse (owed app turn)) (bytes_of (owed app turn)) }
 {}
 
-/// A body is asked for only where it is the answer, and then until the last ask is answered by no data, or there are as
-/// many as the request names.
+/// A body is asked for only where it is the answer, and then until the last ask brings no data, or as many bytes came as
+/// the request names.
 pub fn a_body_is_asked_for_to_its_end()
     ensures all { (app : AppConfig) (forward : Forward) (first : List ℕ) (past : List (List ℕ)) → WasAsked app forward first past
         → HasAll (content_length forward) first past }

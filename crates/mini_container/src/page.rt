@@ -58,7 +58,7 @@ pub fn echo(forward: &Forward, body: Bytes) -> AppPage
     }
 }
 
-/// So many bytes.
+/// `len` bytes, each an `x`.
 pub fn sized(alloc: Global, len: u32) -> Result<AppPage, NoMemory>
     ensures { IfOk result (λ page. page ≡ sized_page len) }
 {
@@ -66,14 +66,14 @@ pub fn sized(alloc: Global, len: u32) -> Result<AppPage, NoMemory>
     Ok(with_length(200, body))
 }
 
-/// A status alone.
+/// A status without a body.
 pub fn empty(alloc: Global, status: u16) -> AppPage
     ensures { result ≡ empty_page status }
 {
     with_length(status, Bytes::new(alloc))
 }
 
-/// Whether the client has a session, and one that begins where it has none.
+/// Says whether the client has a session, and begins one where it has none.
 pub fn session(alloc: Global, app: &AppConfig, forward: &Forward) -> Result<AppPage, NoMemory>
     ensures { IfOk result (λ page. page ≡ session_page app.now forward.now) }
 {

@@ -24,7 +24,7 @@ pub fn application_of(app: &AppConfig, forward: &Forward) -> Application
     application_at(forward.uri.as_slice())
 }
 
-/// Whether a request with this secret is let in by a container with that one.
+/// Whether a container with the secret `secret` lets in a request that gives `given`.
 fn lets_in(secret: Option<&Bytes>, given: Option<&[u8]>) -> bool
     ensures { result ≡ lets_in_by (option_copied secret.entry) (option_copied given.entry) }
 {

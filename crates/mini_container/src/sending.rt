@@ -12,7 +12,7 @@ use ajp_wire::EncodeError;
 use jk_io::{Bytes, IoError, Link, NoMemory, write_all};
 use std::alloc::Global;
 
-/// Sends messages, one packet behind the other, in as few writes as the link allows.
+/// Sends messages, one packet after the other, in as few writes as the link allows.
 pub fn send<L: Link>(
     alloc: Global,
     link: &mut L,
@@ -32,7 +32,7 @@ pub fn send<L: Link>(
     }
 }
 
-/// The bytes of messages, one packet behind the other.
+/// The bytes of messages, one packet after the other.
 fn packets(alloc: Global, messages: &[Message], most: u32) -> Result<Bytes, NoMemory>
     requires { All (IsSendable most) messages.now }
     ensures { IfOk result (λ bytes. bytes ≡ bytes_of messages.now) }

@@ -105,7 +105,7 @@ fn serve_read<L: Link>(
     turn_served(serve_request(alloc, link, app, &forward))
 }
 
-/// A request that was served is a turn of its kind.
+/// A request that was served is a turn of the kind `Request`.
 fn turn_served(served: Result<(), Stopped>) -> Result<TurnKind, Stopped>
     ensures { result ≡ turn_after served }
 {
@@ -162,7 +162,7 @@ fn stopped_by(error: DecodeError) -> Stopped
     }
 }
 
-/// Serves a request behind its Forward Request.
+/// Serves a request, once its Forward Request was read.
 fn serve_request<L: Link>(
     alloc: Global,
     link: &mut L,

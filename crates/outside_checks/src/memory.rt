@@ -36,7 +36,7 @@ fn door_of(alloc: Global, failing: &str) -> Result<MemDoor<MemLink>, NoMemory> {
     Ok(MemDoor::new(alloc, clients(alloc)?, failing))
 }
 
-/// What three accepts answer, each of whose links is left, and how many were left.
+/// What three accepts answer, and how many links were left; each link is left before the next accept.
 fn tell_door(alloc: Global, door: &mut MemDoor<MemLink>, out: &mut String) -> Result<(), NoMemory> {
     for _ in 0..3 {
         let passed = pass_on(alloc, door);

@@ -9,7 +9,7 @@ use std::alloc::Global;
 /// The most links that a row puts at once.
 const MOST_LINKS: usize = 100;
 
-/// What comes of calls of a pool of so many links.
+/// What comes of calls of a pool with the size that the row gives.
 pub fn tell(alloc: Global, fields: &[&str; 8], out: &mut String) -> Result<(), NoMemory> {
     let size = small(fields[1]);
     tell_acts(alloc, &mut Pool::new(alloc, size)?, fields[2], out)
@@ -48,7 +48,7 @@ fn do_act(
     }
 }
 
-/// The links of a list, of which there are few.
+/// The links of a list; it has few.
 pub fn links_of(alloc: Global, list: &str) -> Result<LinkList<u32>, NoMemory> {
     let mut links = LinkList::new(alloc);
     for link in list.split(' ') {

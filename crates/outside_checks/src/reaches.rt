@@ -18,8 +18,8 @@ use std::sync::Wait;
 
 const PONGS: &[u8] = b"pongpongpongpong";
 
-/// What talks come to with two members, of each of which so many links may be kept, over two links of which the first
-/// fails as is told, and what was noted of them.
+/// What comes of talks with two members, for each of which `size` links may be kept, over two links, the first of which
+/// fails as the row tells; and what was noted of the talks.
 pub fn tell<R: Wait>(
     rt: &R,
     alloc: Global,
@@ -53,7 +53,7 @@ fn first_link(alloc: Global, fields: &[&str; 8]) -> Result<MemLink, NoMemory> {
     failing_link(alloc, numbers_of(alloc, fields[2])?, fields[3])
 }
 
-/// Two links with the same bytes to come, of which the first fails as is told.
+/// Two links with the same bytes to come, the first of which fails as the row tells.
 fn two_links(alloc: Global, fields: &[&str; 8]) -> Result<MemLinkList, NoMemory> {
     let mut links = MemLinkList::new(alloc);
     links.push(first_link(alloc, fields)?)?;
@@ -191,7 +191,7 @@ fn put_talk(talk: &Talk, out: &mut String) -> Result<(), NoMemory> {
     put_mark(out, "keep", talk.keep)
 }
 
-/// What three asks of a reach in memory answer whose begins of `failing` fail, and whose link has these bytes to come.
+/// What three asks of a reach in memory answer. Its begins of `failing` fail, and its link has these bytes to come.
 pub fn tell_asks(
     alloc: Global,
     failing: &str,

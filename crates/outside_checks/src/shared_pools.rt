@@ -43,7 +43,7 @@ fn tell_acts<R: Wait>(
     Ok(())
 }
 
-/// An act begins with its balancer and member.
+/// Does an act, which begins with its balancer and member.
 fn do_act<R: Wait>(
     alloc: Global,
     pools: &Pools<'_, u32, R>,

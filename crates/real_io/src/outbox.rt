@@ -35,7 +35,7 @@ impl Held {
         !self.is_broken
     }
 
-    // Holds a piece back; what is held goes out before where there is no room for it.
+    // Holds a piece back. If there is no room for it, what is held goes out first.
     fn put(&mut self, piece: &[u8]) -> bool {
         if self.bytes.len() + piece.len() > HELD_BYTES && !self.flush() {
             return false;
@@ -99,7 +99,7 @@ impl Outbox {
         })
     }
 
-    // Begins with a client's stream; it comes back where another client is served.
+    // Takes a client's stream; gives it back if another client is served.
     pub(crate) fn open(&self, stream: TcpStream) -> Option<TcpStream> {
         match self.held.try_lock() {
             Some(mut held) if held.stream.is_none() => {

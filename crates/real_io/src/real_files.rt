@@ -61,7 +61,7 @@ fn open_named<R: SystemFiles>(rt: &R, name: &Bytes) -> Option<R::File> {
     fs::open(rt, path).ok()
 }
 
-/// The clock of the system, in seconds since 1970; where it can't be read it stands.
+/// The clock of the system, in seconds since 1970; while it can't be read it stands still.
 #[derive(Drop)]
 pub struct RealClock<'r, R: SystemClock> {
     rt: &'r R,

@@ -12,16 +12,16 @@ use std::net::{IpAddr, Net, SocketAddr, TcpListener, TcpStream, ToSocketAddrs};
 use std::time::{Clock, Duration};
 use std::{io, thread};
 
-/// For so long a dial waits for each address of a host.
+/// The seconds that a dial waits for each address of a host.
 pub const DIAL_SECONDS: u64 = 10;
 
-/// A client's link fails when for so long no byte came, or none was taken.
+/// A client's link fails after this many seconds in which no byte came, or none was taken.
 pub const CLIENT_SECONDS: u64 = 60;
 
-/// How often an accept is tried again that failed for a passing reason.
+/// How often an accept that fails for a passing reason is tried.
 pub const MAX_ACCEPT_TRIES: u32 = 1_000;
 
-/// So many milliseconds lie between two such tries.
+/// The milliseconds between two such tries.
 const TRY_AGAIN_MILLIS: u64 = 10;
 
 /// The most bytes that the text of an address has.
@@ -31,7 +31,7 @@ const MAX_ADDRESS_BYTES: usize = 45;
 #[derive(Drop)]
 pub struct TcpDial<'r, R: Net<Stream = TcpStream>> {
     rt: &'r R,
-    /// What is sent before a member is dialled, and before its link waits or writes.
+    /// The outbox that is emptied before a member is dialled, and before its link waits or writes.
     first: Option<Outbox>,
     failed: u64,
 }
@@ -47,8 +47,8 @@ impl<'r, R: Net<Stream = TcpStream>> TcpDial<'r, R> {
         }
     }
 
-    /// It empties this outbox before it dials, as its links do before they wait or write. It is that of the door of the
-    /// same worker.
+    /// A dial that empties this outbox before it dials, as its links do before they wait or write. The door of the same
+    /// worker has the same outbox.
     pub fn with_outbox(rt: &'r R, outbox: Outbox) -> TcpDial<'r, R>
         ensures { result.failed ≡ 0 }
     {
@@ -108,8 +108,8 @@ fn connect<R: Net<Stream = TcpStream>>(rt: &R, host: &Bytes, port: u16) -> Optio
     None
 }
 
-/// Accepts TCP streams, at most so many where a number is given. On its links a read or a write fails that waits
-/// longer than `CLIENT_SECONDS`.
+/// Accepts TCP streams, at most `clients` if that is given. A read or a write on its links fails if it waits longer
+/// than `CLIENT_SECONDS`.
 #[derive(Drop)]
 pub struct TcpDoor<'r, R: Clock> {
     rt: &'r R,
@@ -138,7 +138,7 @@ impl<'r, R: Clock> TcpDoor<'r, R> {
     }
 
     /// What is written to a client is held back in this outbox, until its link is read or left, or a link to a member
-    /// that was dialled with the same outbox waits or writes. Of clients at once the first alone has it.
+    /// that was dialled with the same outbox waits or writes. Of several clients at once only the first has it.
     pub fn with_outbox(
         rt: &'r R,
         listener: TcpListener,
@@ -268,7 +268,7 @@ impl ClientRoom {
         })
     }
 
-    // The room serves, so the address is written whole.
+    // The text has room for any address, so this one is written whole.
     fn client(self, stream: TcpStream, ip: IpAddr) -> (TcpLink, Peer) {
         let ClientRoom {
             outbox,
@@ -286,7 +286,7 @@ impl ClientRoom {
     }
 }
 
-// A stream on which a read or a write waits no longer than a client may. One that refuses this is broken.
+// A stream on which a read or a write waits `CLIENT_SECONDS` at most. One that refuses this is broken.
 fn patient(stream: TcpStream) -> TcpStream {
     let wait = Some(Duration::from_secs(CLIENT_SECONDS));
     let _ = stream.set_read_timeout(wait);

@@ -22,12 +22,12 @@ enum Wire {
     Outbox(Outbox),
 }
 
-/// A TCP stream that reads ahead. It writes at once, but for a client's that has an outbox. It tells nothing of what is read
+/// A TCP stream that reads ahead. It writes at once, unless it is a client's with an outbox. It tells nothing of what is read
 /// and written.
 #[derive(Drop)]
 pub struct TcpLink {
     wire: Wire,
-    /// Whose bytes go out before a member's link waits or writes: those for the client of the worker that it serves.
+    /// The outbox that is emptied before a member's link waits or writes: that of the worker that it serves.
     first: Option<Arc<Mutex<Outbox>>>,
     /// What was read ahead lies from `from` to `to`.
     ahead: Vec<u8>,
@@ -59,7 +59,7 @@ impl TcpLink {
         Ok(link)
     }
 
-    /// From now on this outbox is emptied, where the link was made with one.
+    /// From now on this outbox is emptied first, if the link was made with one.
     pub(crate) fn serve(&self, outbox: &Outbox) {
         if let Some(first) = &self.first
             && let Some(mut first) = first.try_lock()
@@ -78,7 +78,8 @@ impl TcpLink {
         TcpLink::on(Wire::Stream(stream), ahead)
     }
 
-    /// A client's link, whose stream an outbox has, or where that has another one, this stream. It takes no memory.
+    /// A client's link over an outbox that takes this stream, or over the stream itself if the outbox has another one.
+    /// It takes no memory.
     pub(crate) fn held_by(outbox: Outbox, stream: TcpStream, ahead: Vec<u8>) -> TcpLink
         ensures { (result.failed ≡ 0) × (result.from ≡ result.to) }
     {

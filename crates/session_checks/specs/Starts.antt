@@ -1,4 +1,4 @@
--- With what the session of a row starts.
+-- What the session of a row starts with.
 use Rattle.std.specs.Prelude.{◌≡◌, ℕ, List, [], ◌∷◌, ◌++◌, None}
 use Rattle.balancer_core.specs.Desks.{DeskState}
 use Rattle.balancer_core.specs.Journal.{IsStart, Journal}

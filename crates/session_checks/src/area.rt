@@ -8,7 +8,7 @@ use jk_io::NoMemory;
 use std::alloc::Global;
 use std::rt::Files;
 
-/// Which side of a talk is looked at, or whose bytes stand last in a row on a session, and go in its ways.
+/// Which side of a talk is looked at, or whose bytes stand last in a row on a session, and come in the row's ways.
 #[derive(Clone, Copy)]
 enum Area {
     Containers,

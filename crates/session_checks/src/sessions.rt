@@ -18,7 +18,7 @@ use site_config::Config;
 use std::alloc::Global;
 use uri_map::UriMap;
 
-/// A row, whose last bytes go their way: those of the client, or those of the first link.
+/// A row, and how its last bytes come: those of the client, or those of the first link.
 #[derive(Clone, Copy)]
 struct Row<'t> {
     fields: &'t [&'t str; 8],
@@ -71,13 +71,13 @@ pub fn tell_member(
     tell(alloc, row, out)
 }
 
-/// The number after such a word of a row, None where it isn't there.
+/// The number after this word of a row; None where the word isn't there.
 fn said(words: &str, word: &str) -> Option<u64> {
     let (_, rest) = words.split_once(word)?;
     Some(number(rest.split_once(' ').map_or(rest, |cut| cut.0)))
 }
 
-/// A client with these bytes, of which one write fails after so many were taken.
+/// A client with these bytes to come; if `write` is given, one write to it fails after `write` bytes were taken.
 fn client_with(alloc: Global, text: &str, write: Option<u64>) -> Result<MemLink, NoMemory> {
     link_of(alloc, bytes_of(alloc, text)?.as_slice(), writing(write))
 }

@@ -1,4 +1,4 @@
-//! With what the session of a row starts: its Books, and the number of members of each balancer.
+//! What the session of a row starts with: its Books, and the number of members of each balancer.
 ghost use Rattle.std.specs.Prelude.{◌≡◌, ◌≤◌, [], ◌∷◌, ◌++◌, None, length, IfOk, OnOk};
 ghost use Rattle.balancer_core.specs.Journal.{IsStart};
 ghost use Rattle.exchange.specs.Requests.{sizes_of as sizes_in};

@@ -85,7 +85,7 @@ fn plan_of(word: &str) -> BodyPlan {
     }
 }
 
-/// The number after such a word of a plan, None where it isn't there.
+/// The number after this word of a plan; None where the word isn't there.
 fn said(plan: &str, word: &str) -> Option<u64> {
     let (_, rest) = plan.split_once(word)?;
     Some(number(rest.split_once(' ').map_or(rest, |cut| cut.0)))
@@ -101,7 +101,7 @@ fn reading_of(alloc: Global, plan: &str) -> Result<Reading, NoMemory>
     })
 }
 
-/// A client with these bytes, of which one write fails after so many were taken.
+/// A client with these bytes to come; if `write` is given, one write to it fails after `write` bytes were taken.
 fn client_of(alloc: Global, text: &str, write: Option<u64>) -> Result<MemLink, NoMemory> {
     link_of(alloc, bytes_of(alloc, text)?.as_slice(), writing(write))
 }

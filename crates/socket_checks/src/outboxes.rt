@@ -47,7 +47,7 @@ fn comes_before_a_read<A: Link, B: Link>(client: &mut A, worker: &mut B) -> bool
         && length_read(client) == 2
 }
 
-/// Whether all this holds of a client and its worker's link, with a member whose container has the other end.
+/// Whether a piece comes in time in all three cases, for a client, its worker's link, a member's link and its container's end.
 fn comes_in_time<A: Link, B: Link, M: Link, K: Link>(
     client: &mut A,
     worker: &mut B,
@@ -64,7 +64,7 @@ fn came_at_the_end<A: Link>(client: &mut A) -> bool {
     length_read(client) == 2 && length_read(client) == 0
 }
 
-/// Whether all comes in time, and the last piece once the door is left its link.
+/// Whether all comes in time, and the last piece once the door leaves the worker's link.
 fn serves<A: Link, D: Door, M: Link, K: Link>(
     client: &mut A,
     door: &mut D,
@@ -81,7 +81,7 @@ fn serves<A: Link, D: Door, M: Link, K: Link>(
     held && written && came_at_the_end(client)
 }
 
-/// Where a worker accepts, and its dial, which share an outbox.
+/// A worker's door, with its port, and its dial, which share an outbox.
 #[derive(Drop)]
 struct Worker<D, E> {
     door: D,
@@ -89,7 +89,7 @@ struct Worker<D, E> {
     dial: E,
 }
 
-/// The same of a worker's next client, with a member's link that is lent by the worker's dial.
+/// As `serves`, for a worker's next client, with a member's link that the worker's dial lends.
 fn serves_next<A: Link, D: Door, E: Dial, K: Link>(
     alloc: Global,
     client: &mut A,
@@ -106,7 +106,7 @@ fn serves_next<A: Link, D: Door, E: Dial, K: Link>(
     }
 }
 
-/// The same with this link of a container, which is left then.
+/// As `serves_next`, with this link of a container, which is left then.
 fn serves_with<A: Link, D: Door, E: Dial, K: Door>(
     alloc: Global,
     client: &mut A,
@@ -123,7 +123,7 @@ fn serves_with<A: Link, D: Door, E: Dial, K: Door>(
     served
 }
 
-/// The same, once the container's end of the member's link is there.
+/// As `serves_with`, once the container's end of the member's link is there.
 fn with_container<A: Link, D: Door, E: Dial, K: Door>(
     alloc: Global,
     client: &mut A,
@@ -139,7 +139,7 @@ fn with_container<A: Link, D: Door, E: Dial, K: Door>(
     }
 }
 
-/// The same of a client that is dialled.
+/// As `with_container`, for a client that is dialled here.
 fn with_client<D: Door, E: Dial, K: Door>(
     alloc: Global,
     worker: &mut Worker<D, E>,
@@ -156,7 +156,7 @@ fn with_client<D: Door, E: Dial, K: Door>(
     }
 }
 
-/// The same, where the member is dialled by another dial, as that of another worker is.
+/// As `with_client`, where the dial of another worker dials the member.
 fn with_member<D: Door, E: Dial, K: Door>(
     alloc: Global,
     worker: &mut Worker<D, E>,

@@ -10,7 +10,7 @@ fn sizes(alloc: Global, size: u32) -> Result<SizeList, NoMemory>
     Ok(ListOf::from_vec(Vec::from_slice(alloc, &[size])?))
 }
 
-/// One balancer with one member, of which so many links may be kept.
+/// One balancer with one member, of which `size` links may be kept.
 pub fn one_pool(alloc: Global, size: u32) -> Result<SizeTable, NoMemory>
     ensures { IfOk result (λ table. table ≡ (size ∷ []) ∷ []) }
 {

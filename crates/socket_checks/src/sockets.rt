@@ -95,7 +95,7 @@ pub fn answer<R: Net<Listener = TcpListener, Stream = TcpStream> + Clock>(
     }
 }
 
-/// Whether a piece comes whole from one end to the other, which has so many bytes of room.
+/// Whether a piece comes whole from one end to the other, where it fills the room.
 fn carries<A: Link, B: Link>(from: &mut A, to: &mut B, piece: &[u8], room: &mut [u8]) -> bool
     ensures from { A.beside from.new ≡ A.beside from.old }
     ensures to { B.beside to.new ≡ B.beside to.old }
@@ -193,7 +193,7 @@ fn keeps_its_link<R: Reach, D: Door>(alloc: Global, reach: &mut R, port: u16, do
     }
 }
 
-/// The same over a reach that ends here.
+/// As `keeps_its_link`, over a reach that ends here.
 fn keeps_own<R: Reach + Drop, D: Door>(alloc: Global, reach: R, port: u16, door: &mut D) -> bool
     requires idle { (R.beside reach).runs ≡ false }
     requires known { 0 < slice_index (R.beside reach).sizes 0 }
@@ -219,7 +219,7 @@ fn keeps_in<D: Door, R: Net<Stream = TcpStream> + Wait>(
     )
 }
 
-/// Whether a link is kept over the pool of one member, of which one link may be kept.
+/// Whether a link is kept over the pool of one member, which has room for one link.
 fn keeps_over<D: Door, R: Net<Stream = TcpStream> + Wait>(
     rt: &R,
     alloc: Global,

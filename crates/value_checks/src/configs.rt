@@ -8,7 +8,7 @@ use jk_model::{
 };
 use std::alloc::Global;
 
-/// What is given of a configuration: so many members of factor 1, and one with these values after them.
+/// What is given of a configuration: `before` members of factor 1, and one with these values after them.
 #[derive(Clone, Copy)]
 struct Given {
     before: u64,

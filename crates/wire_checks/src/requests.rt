@@ -53,7 +53,7 @@ fn tell_packet(
     put_packet(out, true, &encode_forward(alloc, forward, most))
 }
 
-/// The request of a payload with this path and these headers in the place of its own, of which there are at most a hundred.
+/// The request of a payload, with this path and these headers, at most a hundred, in the place of its own.
 fn sized(alloc: Global, fields: &[&str; 8], payload: &[u8]) -> Result<Forward, NoMemory>
     ensures { IfOk result IsForward }
 {

@@ -1,7 +1,7 @@
 //! Payloads that the scripts of vectors/ made from the AJPv1.3 reference.
 //!
-//! A row of reply.txt has a payload in hexadecimal digits, and what is read in it. In front of a row of request.txt stands
-//! `read`, or `write` where the packet stands that is written for what was read.
+//! A row of reply.txt has a payload in hexadecimal digits, and what is read in it. A row of request.txt has `read` in front,
+//! or `write` where the packet that is written for what was read stands in it.
 ghost use Rattle.ajp_request.specs.Writing.{IsForward};
 
 use crate::{messages, requests};

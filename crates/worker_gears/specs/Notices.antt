@@ -4,7 +4,7 @@ use Rattle.std.specs.Prelude.{ℕ, ◌==◌, List, [], ◌∷◌, ◌++◌, Opti
 use Rattle.std.specs.List.{flat_map}
 use Rattle.site_config.specs.declared.config.Named.{Named}
 
--- so many threads
+-- a number of threads, in words
 abbrev pub threads_text : ℕ → List ℕ
 threads_text threads = decimal threads ++ (if threads == 1 then codes " thread" else codes " threads")
 

@@ -23,12 +23,12 @@ pub record MemWorldState (L : Type 0) : Type 0 where
   pub calls : ℕ
   pub faults : ℕ
 
--- the first of them, where there is a most
+-- the first `most` items, where a most is given
 abbrev pub at_most : {T : Type 0} → Option ℕ → List T → List T
 at_most None items = items
 at_most (Some most) items = take most items
 
--- what a plan asks for, with at most so many of its clients
+-- the gear of a plan, with `most` of its clients at most, where a most is given
 abbrev pub gear_of : {L : Type 0} → Option ℕ → MemPlan L → MemGearState L
 gear_of most plan = record {
   door = record { coming = at_most most plan.clients; left = []; room = 0; failing = plan.refused; calls = 0; faults = 0 };

@@ -8,8 +8,8 @@ use jk_io::{ClientList, ListOf, MemDial, MemDoor, MemLink, NumberList, StepClock
 use locked_balancer::MemShelf;
 use std::alloc::Global;
 
-/// What a gear in memory is made of: the clients that come to its door, by links of type L, the accepts of the door, numbered from 0, that
-/// are to fail, and the rest of the gear. Its tape is empty.
+/// What a gear in memory is made of: the clients that come to its door, by links of type L, the accepts of the door, numbered
+/// from 0, that are to fail, and the rest of the gear. Its tape is empty.
 #[derive(Drop)]
 pub struct MemPlan<L> {
     pub clients: ClientList<L>,
@@ -40,7 +40,7 @@ impl<L: Drop> MemPlan<L> {
     }
 }
 
-/// The gear of a plan, with at most so many of its clients where a number is given. No memory is taken.
+/// The gear of a plan, with `most` of its clients at most if that is given. No memory is taken.
 pub(crate) fn gear_of<L: Drop>(alloc: Global, plan: MemPlan<L>, most: Option<u64>) -> MemGear<L>
     ensures { result ≡ gear_of most plan }
 {

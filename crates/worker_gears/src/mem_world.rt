@@ -82,7 +82,7 @@ impl<L> MemWorld<L> {
         }
     }
 
-    /// The gears that came back, in order; of those that were handed out all others are out.
+    /// The gears that came back, in order; all others that were handed out are out.
     pub fn back(&self) -> &[MemGear<L>]
         ensures back { result.now ≡ self.now.back }
         ensures others { length self.now.handed ≡ length result.now + self.now.out }
@@ -233,7 +233,7 @@ impl<L: Link + Drop + Send> World for MemWorld<L> {
     }
 
     fn log(&mut self, alloc: Global, _dir: &Bytes, _number: u32) -> Result<MemLink, IoError>
-        // The logs are given in their order, and ones with nothing to come after the last.
+        // The logs are given in their order, and after the last one logs with nothing to come.
         ensures next { IfOk result (λ log. DialledNext self.old.logs log self.new.logs) }
         ensures err { OnErr result (self.new.logs ≡ self.old.logs) }
         ensures same { (self.new.plans ≡ self.old.plans) × (self.new.handed ≡ self.old.handed) × (self.new.back ≡ self.old.back)

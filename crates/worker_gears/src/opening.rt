@@ -13,7 +13,7 @@ use std::rt::Files;
 /// The number with which the journals of a run begin.
 const FIRST_NUMBER: u64 = 0;
 
-// The text of bytes that are to be one.
+// The bytes as a text; an error where they aren't UTF-8.
 fn as_text(bytes: &Bytes) -> io::Result<&str> {
     match str::from_utf8(bytes.as_slice()) {
         Ok(text) => Ok(text),
@@ -27,7 +27,7 @@ pub(crate) fn shown(alloc: Global, bytes: &Bytes) -> Result<String, NoMemory> {
     Ok(String::from_str(alloc, text)?)
 }
 
-/// Opens the socket where that isn't done, and gives a further handle of it.
+/// Opens the socket unless it is open, and gives a further handle of it.
 pub(crate) fn listen<R: Net<Stream = TcpStream, Listener = TcpListener>>(
     rt: &R,
     listener: &mut Option<TcpListener>,
@@ -80,7 +80,7 @@ pub(crate) fn log_path(dir: &Bytes, number: u32) -> Result<Bytes, NoMemory>
     Ok(path)
 }
 
-/// The file that a balancer's journal would begin with and that is there already, if there is one.
+/// The first file that is there already of those with which the balancers' journals would begin, if there is one.
 pub(crate) fn taken<R: Files>(rt: &R, dir: &Bytes, lbs: &[Lb]) -> Result<Option<Bytes>, NoMemory> {
     for lb in lbs {
         let path = path_of(dir, lb.name.as_slice(), FIRST_NUMBER)?;

@@ -81,7 +81,7 @@ impl<'r, R: Net<Stream = TcpStream, Listener = TcpListener> + Files + Clock + Ep
         IoError::Failed
     }
 
-    // A handle of the socket, which is opened where that isn't done.
+    // A handle of the socket, which is opened unless it is open.
     fn listener(&mut self, alloc: Global, address: &Bytes) -> Result<TcpListener, IoError>
         ensures cause { HasCause self.old.failed self.new.failed result }
         ensures same { self.new.out ≡ self.old.out }
@@ -161,7 +161,7 @@ impl<'r, R: Net<Stream = TcpStream, Listener = TcpListener> + Files + Clock + Ep
         self.try_names(alloc, dir, lbs)
     }
 
-    // Opens the socket where that isn't done.
+    // Opens the socket unless it is open.
     fn open(&mut self, alloc: Global, address: &Bytes) -> Result<(), IoError>
         ensures cause { HasCause self.old.failed self.new.failed result }
         ensures same { self.new.out ≡ self.old.out }
@@ -172,7 +172,7 @@ impl<'r, R: Net<Stream = TcpStream, Listener = TcpListener> + Files + Clock + Ep
         Ok(())
     }
 
-    // With the first gear it is tried whether a journal can be written that is to be kept.
+    // With the first gear, tries whether a journal that is to be kept can be written.
     fn try_first(
         &mut self,
         alloc: Global,
@@ -212,7 +212,7 @@ impl<'r, R: Net<Stream = TcpStream, Listener = TcpListener> + Files + Clock + Ep
         Ok(())
     }
 
-    // A worker's door, for so many clients, and its dial.
+    // A worker's door, for at most `clients` clients, and its dial.
     fn door_and_dial(
         &mut self,
         alloc: Global,
@@ -227,7 +227,7 @@ impl<'r, R: Net<Stream = TcpStream, Listener = TcpListener> + Files + Clock + Ep
         Ok(door_and_dial(self.rt, Outbox::new(alloc)?, listener, clients)?)
     }
 
-    // What a worker uses whose segments go to this shelf.
+    // What a worker uses, with this shelf for its segments.
     fn gear_with(
         &mut self,
         alloc: Global,
@@ -272,7 +272,7 @@ impl<'r, R: Net<Stream = TcpStream, Listener = TcpListener> + Files + Clock + Ep
     }
 }
 
-// A worker's door on a listener, for so many clients, and its dial, which shares the door's outbox.
+// A worker's door on a listener, for at most `clients` clients, and its dial, which shares the door's outbox.
 fn door_and_dial<'r, R: Net<Stream = TcpStream> + Clock>(
     rt: &'r R,
     outbox: Outbox,

@@ -15,7 +15,7 @@ pub enum Trouble {
     Taken { path: String },
     #[error("can't write a log in {dir}: {reason}")]
     Log { dir: String, reason: io::Error },
-    /// There are as many as a u64 can count.
+    /// As many gears are out as a u64 can count.
     #[error("too many gears are out")]
     TooMany,
 }
