@@ -5,7 +5,7 @@ use jk_io::{Bytes, MemFiles, MemLink, NoMemory, NumberList};
 use plain_commands::run_plain;
 use std::alloc::Global;
 
-/// Whether a command ended with this status, its input gave so many bytes, and it wrote this, as its row says.
+/// Whether the status of a command, the bytes that its input gave and what it wrote are as its row says.
 fn wants_command(
     alloc: Global,
     row: BlockRow<'_>,

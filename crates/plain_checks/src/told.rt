@@ -48,7 +48,7 @@ fn put_remarks(alloc: Global, ended: &Ended<'_>, out: &mut RowText) -> Result<()
     put_through(alloc, ended, empty_link(alloc), out)
 }
 
-/// Does a command, whose output is let go, and adds what is told of it.
+/// Does a command, lets its output go, and adds what is told of the command.
 fn over_input<F: Files + Drop, S: Source + Drop>(
     alloc: Global,
     words: &[Bytes],

@@ -154,7 +154,7 @@ fn put_order(out: &mut RowText, order: &Order) {
     }
 }
 
-/// Lets a value go. Where it is large, the check of a function that calls this doesn't write its drop out.
+/// Lets a value go. A caller's check then doesn't write out the drop of a large value.
 fn let_go<T: Drop>(_it: T) {}
 
 /// The words as a command line has them.

@@ -66,7 +66,7 @@ abbrev pub AreOverReply : (reply : List ℕ) → List Talk → Type 0
 AreOverReply reply talks =
     (past : List Talk) × (now : MemReachState) × (talks ≡ reverse past) × AreTalksOver (reply_link reply ∷ []) past now
 
--- One session over this site, of a client that sends these bytes, over links of which the first has that reply to come.
+-- One session over this site, of a client that sends these bytes; the first link to a member has that reply to come.
 pub record IsDryRun (c : Config) (rules : List Rule) (request reply : List ℕ) (talks : List Talk) (sent : List ℕ) (end : SessionEnd) : Type 0 where
   pub books : List Journal
   pub started : AreStarted c.lbs books

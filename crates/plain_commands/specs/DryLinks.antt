@@ -17,7 +17,7 @@ pub record IsTalkOver (before after : MemReachState) (t : Talk) : Type 0 where
   pub links : after.links ≡ begun.links
   pub kept : after.kept ≡ (if t.keep then begun.kept ++ last ∷ [] else begun.kept)
 
--- These talks, the newest first, were done over links of which these were to come at first, and none was kept.
+-- These talks, the newest first, were done by a reach that at first had these links to come and had kept none.
 abbrev pub AreTalksOver : (first : List MemLinkState) → (past : List Talk) → (now : MemReachState) → Type 0
 AreTalksOver first [] now = (now.links ≡ first) × (now.kept ≡ [])
 AreTalksOver first (t ∷ past) now = (before : MemReachState) × AreTalksOver first past before × IsTalkOver before now t

@@ -1,4 +1,4 @@
--- With what a session over memory starts.
+-- What a session over memory starts with.
 use Rattle.std.specs.Prelude.{◌≡◌, List, [], ◌∷◌, ◌++◌, None}
 use Rattle.jk_io.specs.Memory.{MemLinkState}
 use Rattle.jk_io.specs.MemReaches.{MemReachState}
@@ -19,14 +19,14 @@ pub record IsFirstDesk (lbs : List Lb) (desk : DeskState) : Type 0 where
   pub started : AreStarted lbs books
   pub is : desk ≡ plain_state books [] [] 0 0 0
 
--- The reach as no talk was begun.
+-- The reach before any talk.
 pub record IsFirstReach (lbs : List Lb) (reach : MemReachState) : Type 0 where
   pub idle : reach.book.begun ≡ None
   pub no_talk : reach.book.talks ≡ []
   pub sizes : reach.sizes ≡ sizes_of lbs
   pub no_fault : reach.faults ≡ 0
 
--- The client's link as nothing was read of it and nothing was written.
+-- The client's link before anything was read or written.
 pub record IsFirstClient (client : MemLinkState) : Type 0 where
   pub received : client.received ≡ []
   pub sent : client.sent ≡ []

@@ -28,7 +28,7 @@ number_of end.InputFault = 4
 number_of end.OutputFault = 5
 number_of end.NoMemory = 6
 
--- How the writing of a text ends, where the command was answered so.
+-- How the writing of a text ends, after a command that was answered with this ending.
 abbrev pub Writes : (faults faults_now : ℕ) (sent sent_now : Option (List ℕ)) (text : List ℕ) → Ending → PlainEnd → Type 0
 Writes faults faults_now sent sent_now text answered end.Done = (answered ≡ ending.Done) × (sent_now ≡ appended sent text)
 Writes faults faults_now sent sent_now text answered end.Bad = (answered ≡ ending.Bad) × (sent_now ≡ appended sent text)
@@ -38,7 +38,7 @@ Writes faults faults_now sent sent_now text answered end.InputFault = ⊥
 Writes faults faults_now sent sent_now text answered end.OutputFault = Rose faults faults_now × PutsFront sent sent_now text
 Writes faults faults_now sent sent_now text answered end.NoMemory = PutsFront sent sent_now text
 
--- The faults of what a command reads, before and after it, and those of its output.
+-- How often the files, the input and the output of a command failed.
 pub record Faults : Type 0 where
   pub files : ℕ
   pub input : ℕ

@@ -12,7 +12,7 @@ use Rattle.site_reports.specs.Reports.{ReportsConfig, ReportsMatches, ReportsSit
 use Rattle.plain_commands.specs.Checked.{ChecksText}
 use Rattle.site_reports.specs.Readings.{CommandOutside, Reading, File, Input, AreRead, StopsLong, has_file, has_input, before_input}
 
--- The plain commands that are built; of the commands that are, each other one is none yet.
+-- The plain commands that are built; each other command is none of them yet.
 abbrev pub is_built : CommandName → Bool
 is_built name.Play = true
 is_built name.Config = true
@@ -40,7 +40,7 @@ readings (order.Dry request reply (Some site)) = File request ∷ File reply ∷
 readings order.Check = Input ∷ []
 readings other = []
 
--- A command has an input, and each of its files is there and not too long, as far as files are told: else nothing is read of it.
+-- A command has an input, and each of its files is there and not too long, as far as files are told: else no input is read.
 abbrev pub InputIsDue : CommandOutside → Order → Type 0
 InputIsDue outside o =
     (has_input (readings o) ≡ true) × ((texts : List (List ℕ)) × AreRead outside (before_input (readings o)) texts)
@@ -83,8 +83,8 @@ Answers (order.Dry q p (Some site)) (request ∷ reply ∷ texts) out status = D
 Answers order.Check (text ∷ []) out status = ChecksText text out status
 Answers other texts out status = ⊥
 
--- What is printed of texts that are read whole, and its status. All are read before one is judged, and a text that is too
--- long is none.
+-- What is printed of texts, and its status. All are read whole before one is judged; if one is too long, that alone is
+-- printed.
 abbrev pub PrintsOf : CommandOutside → List Reading → (List (List ℕ) → List ℕ → ℕ → Type 0) → (out : List ℕ) → (status : ℕ) → Type 0
 PrintsOf outside readings Of out status =
     (StopsLong outside readings × (out ≡ codes "too long\n") × (status ≡ 3))

@@ -25,7 +25,7 @@ fn ask_for_text(words: &[Bytes]) -> bool {
     }
 }
 
-// The words as `clap` takes them, behind the program's name.
+// The words as `clap` takes them, after the program's name.
 fn line_of<'w>(alloc: Global, words: &'w [Bytes]) -> Result<Vec<&'w str>, NoMemory> {
     let mut line = Vec::new(alloc);
     line.push("jkd")?;
@@ -44,7 +44,7 @@ fn shown_text(alloc: Global, shown: &clap::Error) -> Result<String, NoMemory> {
     }
 }
 
-// The text that `clap` answers to such a line.
+// The text that `clap` answers to this line.
 fn text_for(alloc: Global, line: &[&str]) -> Result<String, NoMemory> {
     match command(alloc)?.try_get_matches_from(line) {
         Ok(_) => Ok(String::new(alloc)),
@@ -52,7 +52,7 @@ fn text_for(alloc: Global, line: &[&str]) -> Result<String, NoMemory> {
     }
 }
 
-// The text that `clap` answers to such words.
+// The text that `clap` answers to these words.
 fn text_of(alloc: Global, words: &[Bytes]) -> Result<String, NoMemory> {
     text_for(alloc, line_of(alloc, words)?.as_slice())
 }

@@ -4,7 +4,7 @@
 //! Source: own rules for the commands, their statuses and what they print (docs/FORMATS.md). What `play` prints is in
 //! play_script's specs/Play.antt, what `config` and `match` print in site_reports' specs/Reports.antt, the verdict of `check`
 //! in journal_verdict's specs/Verdicts.antt, what `dry` prints in specs/Dry.antt; its session is that of `client_session`.
-//! Shapes: talks are listed with the newest first where it is said over which links they were done.
+//! Shapes: talks are listed newest first where a definition tells over which links they were done.
 //! Contract: `run_plain`, a clause for each status. Read first: specs/Plain.antt, then site_reports' specs/Readings.antt; of
 //! `dry` specs/Dry.antt, then specs/DryLines.antt and specs/DryLinks.antt.
 //! Errors: the statuses 1 to 6, each with its cause.

@@ -18,7 +18,7 @@ use play_script::{
 };
 use std::alloc::Global;
 
-/// How a plain command ends that was read and answered.
+/// How a plain command ends, once it was read and answered.
 #[derive(Clone, Copy)]
 pub(crate) enum Ending {
     Done,
@@ -35,7 +35,7 @@ pub(crate) struct Output {
     pub ending: Ending,
 }
 
-// The script ends at this line.
+// What is printed of a script that is refused at this line.
 fn refused(alloc: Global, number: u64, reason: ScriptRefusal) -> Result<Output, NoMemory>
     ensures { IfOk result (λ o. Stops number reason o.text (status_of o.ending)) }
 {
@@ -54,7 +54,7 @@ struct LineAt {
     at: u64,
 }
 
-// The lines from the one at which the balancer starts on.
+// Takes the lines on the Book, from the one at which the balancer starts.
 fn run(
     names: &NameList,
     book: &mut Book,
@@ -90,7 +90,7 @@ fn run(
     }
 }
 
-// The lines from the one at which the balancer starts on, over its Book.
+// What a script prints from the line on at which the balancer starts, over its Book.
 fn run_over(
     alloc: Global,
     book: &mut Book,

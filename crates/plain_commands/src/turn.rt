@@ -11,10 +11,10 @@ use jk_io::{Bytes, NoMemory};
 use jk_model::{AdminError, Ask, Call, Command, Outcome, RoomError};
 use play_script::{NameList, ScriptRefusal, Step, is_skipped, put_answer, put_rows, step_of};
 
-/// A Book of a script has fewer entries than this: it has fewer than 2^32 lines, and each adds two at most.
+/// A Book of a script has fewer entries than this: a script has fewer than 2^32 lines, and each adds two at most.
 const ENTRIES_LIMIT: u64 = 1 << 40;
 
-/// Whose calls a script makes.
+/// The session whose calls a script makes.
 const SESSION: u32 = 0;
 
 /// Why a script goes no further.

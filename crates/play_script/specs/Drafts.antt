@@ -1,4 +1,4 @@
--- A balancer as its lines describe it, and the one that is made of it.
+-- A balancer as its lines describe it, and the configuration and start that are made of that.
 use Rattle.std.specs.Prelude.{◌≡◌, ℕ, Bool, true, false, ◌⊎◌, List, [], ◌∷◌, ◌++◌, map, Option, Some, None, is_some, option_and_then}
 use Rattle.std.specs.List.{list_all}
 use Rattle.jk_model.specs.Ranges.{IsRefused}

@@ -15,7 +15,7 @@ given read (Some text) = option_map Some (read text)
 abbrev pub activation_in : List (List ℕ) → Option (Option Activation)
 activation_in words = given activation_of (value_of (codes "activation=") words)
 
--- a number of 32 bits behind a key
+-- a number of 32 bits after a key
 abbrev pub number_in : List ℕ → List (List ℕ) → Option (Option ℕ)
 number_in key words = given short_number (value_of key words)
 

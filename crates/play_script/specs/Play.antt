@@ -29,7 +29,7 @@ abbrev pub is_skipped : List ℕ → Bool
 is_skipped [] = true
 is_skipped (byte ∷ text) = byte == 35
 
--- The script is refused at a line: its refusal is printed, and nothing behind it is looked at.
+-- The script is refused at a line: its refusal is printed, and nothing after it is looked at.
 pub record Stops (number : ℕ) (reason : ScriptRefusal) (out : List ℕ) (status : ℕ) : Type 0 where
   pub printed : out ≡ refusal_line number reason
   pub ended : status ≡ 3
@@ -93,14 +93,14 @@ abbrev pub SaysLine : List (List ℕ) → Opening → (at : ℕ) → List Entry 
 SaysLine names o at p None printed moment q = ⊥
 SaysLine names o at p (Some said) printed moment q = Says names o at p said printed moment q
 
--- A line prints its part and the lines behind it theirs (Rest), or it ends the script.
+-- A line prints its part and the lines after it theirs (Rest), or it ends the script.
 abbrev pub Takes : List (List ℕ) → Opening → (number at : ℕ) → List Entry → Option Step → (Rest : ℕ → List Entry → List ℕ → ℕ → Type 0) → List ℕ → ℕ → Type 0
 Takes names o number at p said Rest out status =
     ((reason : ScriptRefusal) × IsRefusedLine o p said reason × Stops number reason out status)
     ⊎ ((printed : List ℕ) × (behind : List ℕ) × (moment : ℕ) × (q : List Entry)
     × SaysLine names o at p said printed moment q × (out ≡ printed ++ behind) × Rest moment q behind status)
 
--- What lines print from the balancer's start on, of which the first has this number.
+-- What lines print from the balancer's start on; the first line has this number.
 abbrev pub Runs : List (List ℕ) → Opening → List (List ℕ) → (number at : ℕ) → List Entry → List ℕ → ℕ → Type 0
 Runs names o [] number at p out status = (out ≡ []) × (status ≡ 0)
 Runs names o (line ∷ lines) number at p out status =
@@ -115,7 +115,7 @@ Starts (Some said) draft lines number at out status =
     (IsNoBalancer draft × Stops number refusal.BadBalancer out status)
     ⊎ ((o : Opening) × IsStart draft at o × Runs (names_in draft) o lines number at [] out status)
 
--- What lines print, of which the first has this number, where the lines before it gave this draft of a balancer.
+-- What lines print, the first of which has this number, where the lines before it gave this draft of a balancer.
 abbrev pub Plays : List (List ℕ) → DraftWords → (number at : ℕ) → List ℕ → ℕ → Type 0
 Plays [] draft number at out status = (out ≡ []) × (status ≡ 0)
 Plays (line ∷ lines) draft number at out status =
@@ -129,7 +129,7 @@ Plays (line ∷ lines) draft number at out status =
 abbrev pub PlaysScript : List ℕ → List ℕ → ℕ → Type 0
 PlaysScript script out status = Plays (parts_of 10 script) empty_draft 1 0 out status
 
--- The lines print what they print from the balancer's start on, at the line that was read last. Where there is none,
+-- All lines print what `Starts` says of the line at which the balancer starts, which was read last. Without such a line
 -- they print nothing.
 abbrev pub LeadsTo : List (List ℕ) → DraftWords → Option (List ℕ) → List (List ℕ) → (number at : ℕ) → Type 0
 LeadsTo lines draft None rest number at = Plays lines empty_draft 1 0 [] 0

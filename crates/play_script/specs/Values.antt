@@ -51,18 +51,18 @@ abbrev pub end : List (List ℕ) → Option (Unit {0})
 end [] = Some tt
 end (word ∷ words) = None
 
--- the one word that there is
+-- the only word that is left
 abbrev pub only : List (List ℕ) → Option (List ℕ)
 only [] = None
 only (word ∷ []) = Some word
 only (word ∷ next ∷ more) = None
 
--- what stands behind the key in the first word, where it begins with the key
+-- what follows the key in the first word, where it begins with the key
 abbrev pub value_of : List ℕ → List (List ℕ) → Option (List ℕ)
 value_of key [] = None
 value_of key (word ∷ words) = if starts_with nat_eq word key then Some (drop (length key) word) else None
 
--- the words behind that one
+-- the words after that one
 abbrev pub past : List ℕ → List (List ℕ) → List (List ℕ)
 past key [] = []
 past key (word ∷ words) = if starts_with nat_eq word key then words else word ∷ words

@@ -36,7 +36,7 @@ fn find(byte: u8, text: &[u8]) -> Option<usize>
     text.iter().position(|b| *b == byte)
 }
 
-/// What stands before the byte's first place, and what stands behind it, where there is one.
+/// What stands before the byte's first place, and what follows it, where there is one.
 fn cut(byte: u8, text: &[u8]) -> (&[u8], Option<&[u8]>)
     ensures { parts_of byte text.now ≡ result.0.now ∷ parts_left byte (option_copied result.1) }
 {
@@ -88,7 +88,7 @@ impl<'a> Parts<'a> {
         Some(part)
     }
 
-    /// Takes the first part where it begins with the key, and gives what stands behind the key.
+    /// Takes the first part where it begins with the key, and gives what follows the key.
     pub(crate) fn take_value(&mut self, key: &[u8]) -> Option<&'a [u8]>
         ensures value { option_copied result ≡ value_of key.now self.old }
         ensures past { self.new ≡ past key.now self.old }

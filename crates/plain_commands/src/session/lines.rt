@@ -57,8 +57,8 @@ fn put_own(out: &mut Bytes, status: u16, requests: u32) -> Result<(), NoMemory>
     put_number(out, b" ", requests)
 }
 
-// An end that shows nothing is answered as want of memory: a link of which no call fails and a desk of one thread know
-// no other one.
+// An end that shows nothing is answered as want of memory: where no call of a link fails and one thread has the desk,
+// no other such end comes.
 fn put_end(out: &mut Bytes, end: SessionEnd) -> Result<(), NoMemory>
     ensures { OnOk result (IsSomeAnd (end_words end) (λ words. out.new ≡ out.old ++ words)) }
 {

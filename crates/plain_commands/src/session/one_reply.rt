@@ -61,7 +61,7 @@ fn one_link(alloc: Global, reply: &[u8]) -> Result<ListOf<MemLink>, NoMemory>
 }
 
 impl<N: ReplyName> OneReply<N> {
-    /// A reach over balancers with so many members each.
+    /// A reach over balancers of these numbers of members.
     pub fn new(alloc: Global, reply: &[u8], sizes: ListOf<u32>) -> Result<OneReply<N>, NoMemory>
         requires reply { reply.now ≡ N.reply }
         ensures idle { IfOk result (λ r. (r.book.begun ≡ None) × (r.book.talks ≡ [])) }
@@ -88,7 +88,7 @@ impl<N: ReplyName> OneReply<N> {
         self.reach.faults()
     }
 
-    // That its talks were done over these links, which its type keeps.
+    // Tells what the type keeps: its talks were done over these links.
     pub fn vouch(&self)
         ensures { IsOver (reply_link N.reply ∷ []) self.now }
     {

@@ -75,8 +75,8 @@ fn serve<N: ReplyName>(
     end
 }
 
-// Whether no call of a link failed. None is to fail within a talk, and a session makes none without; that it makes none
-// its contract doesn't say, so it is looked at here.
+// Whether no call of a link failed. Within a talk none is to fail, and a session makes no call outside of a talk; its
+// contract doesn't say the latter, so it is checked here.
 fn is_calm<N: ReplyName>(reach: &OneReply<N>, client: &MemLink) -> bool
     ensures { result ≡ true → (reach.now.faults ≡ 0) × (client.now.faults ≡ 0) }
 {

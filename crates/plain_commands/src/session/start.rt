@@ -61,7 +61,7 @@ fn sizes_of(alloc: Global, lbs: &[Lb]) -> Result<ListOf<u32>, NoMemory>
     Ok(ListOf::from_vec(sizes))
 }
 
-/// The reach of a reply over the balancers' members as no talk was begun.
+/// The reach of a reply over the balancers' members, before any talk.
 pub(crate) fn reach_of<N: ReplyName>(
     alloc: Global,
     lbs: &[Lb],
