@@ -1,4 +1,4 @@
--- Where a text is cut in two: what stands before the first byte that passes a test, and what stands behind it.
+-- Where a text is cut in two: what stands before the first byte that passes a test, and what follows it.
 use Rattle.std.specs.Prelude.{ℕ, Bool, List, [], ◌∷◌, Option, Some, None, if◌then◌else◌, ◌==◌, ◌||◌}
 use Rattle.std.specs.Option.{option_map}
 

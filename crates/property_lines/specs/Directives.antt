@@ -77,7 +77,7 @@ directive_of text = directive_among directives text
 unfoldable pub worker_prefix : List ℕ
 worker_prefix = codes "worker."
 
--- what stands behind `worker.`
+-- what follows `worker.` at the start of a text
 abbrev pub behind_worker : List ℕ → Option (List ℕ)
 behind_worker text = if starts_with nat_eq text worker_prefix then Some (drop 7 text) else None
 

@@ -14,7 +14,7 @@ is_name_byte b = is_letter_or_digit b || ((b == 45) || (b == 95))
 abbrev pub is_name : List ℕ → Bool
 is_name text = nat_lt 0 (length text) && list_all is_name_byte text
 
--- a word in front of others, where it has a byte
+-- a word in front of others, unless it is empty
 abbrev pub word_first : List ℕ → List (List ℕ) → List (List ℕ)
 word_first word more = if nat_lt 0 (length word) then word ∷ more else more
 

@@ -19,7 +19,7 @@ use Rattle.property_lines.specs.Values.{is_value, target_of, number_in}
 use Rattle.property_lines.specs.Refusals.{LineRefusal, refusal}
 use Rattle.jk_model.specs.declared.config.TheConstants.{MAX_PERIOD_SECONDS}
 
--- a list whose names are all names
+-- each word of a list is a name
 abbrev pub are_names : List ℕ → Bool
 are_names text = list_all is_name (words text)
 

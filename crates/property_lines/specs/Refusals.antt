@@ -28,7 +28,7 @@ Gives view (Ok x) read = read ≡ Ok (view x)
 Gives view (Err (errors.Refused line code)) read = read ≡ Err (record { line = line; code = code })
 Gives view (Err errors.NoMemory) read = Unit {0}
 
--- the refusal of a call's error is so; want of memory may come
+-- `so` holds of the refusal of a call's error; want of memory may come
 abbrev pub IsRefusal : (LineRefusal → Type 0) → PropsError → Type 0
 IsRefusal so (errors.Refused line code) = so (record { line = line; code = code })
 IsRefusal so errors.NoMemory = Unit {0}

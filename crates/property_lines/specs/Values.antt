@@ -108,7 +108,7 @@ statuses_of text = some_statuses (statuses_after (Some []) (words text))
 abbrev pub target_of : List ℕ → Option (List ℕ)
 target_of text = behind_worker text
 
--- whether a value is one of its directive, but for the names in it
+-- whether the directive takes a value; the names in it aren't judged
 abbrev pub is_value : Directive → List ℕ → Bool
 is_value directive.Kind text = is_some (kind_of text)
 is_value directive.Reference text = is_some (target_of text)

@@ -3,7 +3,7 @@ ghost use Rattle.std.specs.Prelude.{◌≡◌, ◌==◌};
 ghost use Rattle.std.specs.Option.{option_map};
 ghost use Rattle.property_lines.specs.Cut.{cut, cut_at, is_separator};
 
-/// The parts before and behind the first such byte.
+/// The parts before and after the first such byte.
 pub fn cut_at(text: &[u8], byte: u8) -> Option<(&[u8], &[u8])>
     ensures { option_map (λ parts. (parts.0.now, parts.1.now)) result ≡ cut_at byte text.now }
 {
@@ -22,7 +22,7 @@ pub fn is_separator(b: u8) -> bool
     b == b',' || (b == b' ' || b == b'\t')
 }
 
-/// The parts before and behind the first separator.
+/// The parts before and after the first separator.
 pub fn cut_at_separator(text: &[u8]) -> Option<(&[u8], &[u8])>
     ensures { option_map (λ parts. (parts.0.now, parts.1.now)) result ≡ cut is_separator text.now }
 {

@@ -127,7 +127,7 @@ pub fn directive_of(text: &[u8]) -> Option<Directive>
     directive_among(&DIRECTIVES, text)
 }
 
-/// What stands behind `worker.`
+/// What follows `worker.` at the start of a text.
 #[tactic(auto, unfolding(crate::specs::Directives::worker_prefix))]
 pub fn behind_worker(text: &[u8]) -> Option<&[u8]>
     ensures { option_map (λ t. t.now) result ≡ behind_worker text.now }

@@ -23,7 +23,7 @@ fn is_silent(text: &[u8]) -> bool
     text.is_empty() || text[0] == b'#'
 }
 
-/// The property, unless its fault is to be refused: a bad value is where `values` is on.
+/// The property, unless its fault is refused; a bad value is refused only where `values` is on.
 fn judged<'t>(
     values: bool,
     entry: PropertyLine<'t>,

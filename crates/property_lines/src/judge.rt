@@ -14,7 +14,7 @@ use crate::names::is_name;
 use crate::property::Fault;
 use crate::values::{is_value, number_in};
 
-/// Whether a word is a name, or has no byte.
+/// Whether a word is a name, or is empty.
 fn is_word_a_name(word: &[u8]) -> bool
     ensures { result ≡ list_all is_name (word_first word.now []) }
 {

@@ -31,7 +31,7 @@ pub fn is_name(text: &[u8]) -> bool
     !text.is_empty() && are_name_bytes(text)
 }
 
-/// Adds a word at the end, where it has a byte.
+/// Adds a word at the end, unless it is empty.
 fn push_word<'t>(out: &mut Vec<&'t [u8]>, word: &'t [u8]) -> Result<(), NoMemory>
     ensures { OnOk result (map (λ w. w.now) out.new.items ≡ map (λ w. w.now) out.old.items ++ word_first word.now []) }
 {

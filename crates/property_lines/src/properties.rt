@@ -12,8 +12,8 @@ use crate::property_line::PropertyLine;
 use jk_io::{Bytes, ListOf, NoMemory};
 use std::alloc::Global;
 
-/// The lines of a text that give a key its value, or the first refusal of 1 and 2. A name is judged by itself, a value
-/// isn't.
+/// The lines of a text that give a key its value, or the first refusal with the number 1 or 2. Names are judged, values
+/// aren't.
 pub fn read_properties(alloc: Global, text: &[u8]) -> Result<PropertyList, PropsError>
     requires { length text.now ≤ MAX_INPUT_BYTES }
     ensures { Gives (λ properties. properties) result (read_text false text.now) }

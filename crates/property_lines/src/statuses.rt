@@ -77,8 +77,8 @@ impl Statuses {
     }
 }
 
-/// These statuses and one more, which adds nothing where it is there. None where it is there with the other sign, or
-/// where 64 others are.
+/// These statuses and one more, which adds nothing if it is there already. None if it is there with the other sign, or if
+/// 64 others are.
 fn status_after(mut before: Statuses, status: Option<(u16, bool)>) -> Option<Statuses>
     ensures { result ≡ status_after before status }
 {

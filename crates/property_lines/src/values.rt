@@ -96,7 +96,7 @@ pub fn kind_of(text: &[u8]) -> Option<WorkerKind>
     }
 }
 
-/// The activation of which the text has the first letter.
+/// The activation whose first letter the text begins with, in either case.
 pub fn activation_of(text: &[u8]) -> Option<Activation>
     ensures { result ≡ activation_of text.now }
 {
@@ -108,7 +108,7 @@ pub fn activation_of(text: &[u8]) -> Option<Activation>
     }
 }
 
-/// The method of which the text has the first letter.
+/// The method whose first letter the text begins with, in either case.
 pub fn method_of(text: &[u8]) -> Option<Method>
     ensures { result ≡ method_of text.now }
 {
@@ -127,14 +127,14 @@ fn is_ping_letter(b: u8) -> bool
     lower(b) == b'c' || (lower(b) == b'p' || (lower(b) == b'i' || lower(b) == b'a'))
 }
 
-/// Whether the text has letters of pings alone.
+/// Whether the text has no other letters than those of pings.
 pub fn is_ping(text: &[u8]) -> bool
     ensures { result ≡ is_ping text.now }
 {
     text.iter().all(|b| is_ping_letter(*b))
 }
 
-/// Whether the text has this letter, a small one, or the one that stands for all.
+/// Whether the text has this letter, which is given small, or `a`, which stands for all pings.
 pub fn pings(letter: u8, text: &[u8]) -> bool
     ensures { result ≡ pings letter text.now }
 {
@@ -142,7 +142,7 @@ pub fn pings(letter: u8, text: &[u8]) -> bool
         .any(|b| lower(*b) == letter || lower(*b) == b'a')
 }
 
-/// Whether a value is one of its directive, but for the names in it.
+/// Whether the directive takes this value; the names in it aren't judged.
 pub fn is_value(directive: Directive, text: &[u8]) -> bool
     ensures { result ≡ is_value directive text.now }
 {

@@ -18,7 +18,7 @@ use denote.Ref.{Bor}
 abbrev pub Says : ℕ → (line : List ℕ) → Option Property → Type 0
 Says number line says = said true number (trimmed line) ≡ Ok says
 
--- a directive that is built, but for the lists of members, which are joined
+-- a directive that is built, other than the lists of members, which are joined
 abbrev pub is_single_directive : Option Directive → Bool
 is_single_directive None = false
 is_single_directive (Some directive.BalanceWorkers) = false

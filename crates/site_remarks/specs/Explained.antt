@@ -1,4 +1,4 @@
--- What is said of a file that is refused: in words what is wrong with a line of it, and the line as it stands.
+-- What is said of a refused file: what is wrong with a line of it, in words, and the line as it stands.
 use Rattle.std.specs.Prelude.{ℕ, ◌-◌, List, [], ◌++◌, codes, decimal, slice_get, unwrap_or, if◌then◌else◌, ◌==◌}
 use Rattle.property_lines.specs.Lines.{lines, without_mark}
 use Rattle.property_lines.specs.Refusals.{LineRefusal}

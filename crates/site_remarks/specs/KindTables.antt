@@ -18,7 +18,7 @@ as_kinds kinds = map (λ entry. (entry.0.now, entry.1)) kinds
 abbrev pub IsKindTable : HashMap (Bor (List ℕ)) WorkerKind (BuildHasherDefault FoldHasher) → List (List ℕ × WorkerKind) → Type 0
 IsKindTable table kinds = (name : List ℕ) → get_by (λ k. bytes_eq name k.now) table ≡ kind_among name kinds
 
--- so it is of the types and the lines of which these are the tables
+-- `so` holds of the types and the lines of which these are the tables
 abbrev pub ForTables : LineTables → (List (List ℕ × WorkerKind) → List Property → Type 0) → Type 0
 ForTables tables so =
     (kinds : List (List ℕ × WorkerKind)) → (ps : List Property) → IsKindTable tables.kinds.now kinds → IsLineTable tables.lines.now ps → so kinds ps

@@ -1,4 +1,4 @@
--- What of a uriworkermap.properties has no effect: what follows the worker of an exclusion or a worker of type status,
+-- What in a uriworkermap.properties has no effect: what follows the worker of an exclusion or a worker of type status,
 -- and parts of other names than a rule's.
 use Rattle.std.specs.Prelude.{ℕ, ◌+◌, Bool, true, false, List, [], ◌∷◌, ◌++◌, Option, Some, None, codes, if◌then◌else◌, ◌||◌}
 use Rattle.std.specs.List.{flat_map}

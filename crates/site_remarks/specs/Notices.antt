@@ -37,7 +37,7 @@ abbrev pub kind_among : List ℕ → List (List ℕ × WorkerKind) → Option Wo
 kind_among name [] = None
 kind_among name (entry ∷ kinds) = or_else (kind_among name kinds) (if bytes_eq entry.0 name then Some entry.1 else None)
 
--- the type of worker that a directive is of; `type` and `reference` are of each
+-- the type of worker that a directive is for; `type` and `reference` are for each
 abbrev pub owner_of : Directive → Option WorkerKind
 owner_of directive.Kind = None
 owner_of directive.Reference = None
@@ -51,7 +51,7 @@ owner_of directive.Path = Some kind.Lb
 owner_of directive.ReadOnly = Some kind.Status
 owner_of d = Some kind.Ajp13
 
--- what is said of a directive of the first type at a worker of the second
+-- what is said of a directive for the first type of worker that is given to a worker of the second
 abbrev pub misplaced : WorkerKind → WorkerKind → Option (List ℕ)
 misplaced kind.Ajp13 kind.Ajp13 = None
 misplaced kind.Lb kind.Lb = None
@@ -65,7 +65,7 @@ misplaced_at None at = None
 misplaced_at (Some of) None = None
 misplaced_at (Some of) (Some at) = misplaced of at
 
--- what is said of a directive at a worker of this type, or at one that has no part in the configuration
+-- what is said of a directive that is given to a worker of this type, or to one that has no part in the configuration
 abbrev pub directive_words : Option Directive → Option WorkerKind → Option (List ℕ)
 directive_words None at = Some (codes " is not supported and has no effect")
 directive_words (Some d) at = misplaced_at (owner_of d) at

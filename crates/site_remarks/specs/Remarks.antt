@@ -31,7 +31,7 @@ abbrev pub map_remarks : (effects : Bool) → Config → Option (List ℕ × Lis
 map_remarks effects c None = []
 map_remarks effects c (Some map) = rules_remarks effects c map (read_text c map.1)
 
--- of both files: why the first that is refused is, and what of those that are accepted has no effect
+-- of both files: why the first refused one is refused, and what in accepted ones has no effect
 abbrev pub AreRemarks : (effects : Bool) → (workers : List ℕ × List ℕ) → (map : Option (List ℕ × List ℕ)) → (out : List ℕ) → Type 0
 AreRemarks effects workers map out =
     ((r : LineRefusal) × IsRefused workers.1 r × (out ≡ explained_workers workers.0 workers.1 r))

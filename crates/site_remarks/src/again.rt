@@ -18,7 +18,7 @@ use std::collections::HashMap;
 /// Keys, each with its last line.
 pub(crate) type LineTable<'t> = HashMap<&'t [u8], u32>;
 
-/// Whether it is a directive that is built, but for the lists of members, which are joined.
+/// Whether it is a directive that is built, other than the lists of members, which are joined.
 fn is_single_directive(directive: Option<Directive>) -> bool
     ensures { result ≡ is_single_directive directive }
 {

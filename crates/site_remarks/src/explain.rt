@@ -1,4 +1,4 @@
-//! What is said of a file that is refused: in words what is wrong with a line of it, and the line as it stands.
+//! What is said of a refused file: what is wrong with a line of it, in words, and the line as it stands.
 ghost use Rattle.std.specs.Prelude.{◌≡◌, ◌++◌, codes, OnOk};
 ghost use Rattle.property_lines.specs.Refusals.{LineRefusal};
 ghost use Rattle.site_remarks.specs.Explained.{explained_map, explained_workers, line_at, map_words, said_of, told_of, workers_words};

@@ -1,6 +1,6 @@
 //! What a person is told of a site's files: why a line is refused, and which lines have no effect.
 //!
-//! Source: own rules (docs/FORMATS.md, "What a person is told"); which directives mod_jk has an effect for is its reference's,
+//! Source: own rules (docs/FORMATS.md, "What a person is told"); which directives have an effect in mod_jk: its reference,
 //! "workers.properties" and "uriworkermap.properties".
 //! Contract: `site_remarks`. Read first: specs/Remarks.antt, then specs/Explained.antt, Notices.antt and MapNotices.antt.
 //! Errors: a write that failed, only where the sink's count of faults rose, and want of memory.

@@ -1,4 +1,4 @@
-//! What of a uriworkermap.properties has no effect.
+//! What in a uriworkermap.properties has no effect.
 ghost use Rattle.std.specs.Prelude.{◌≡◌, ◌++◌, ◌≤◌, ℕ, List, length, IsOk, OnOk};
 ghost use Rattle.jk_io.specs.Decimals.{trimmed};
 ghost use Rattle.jk_io.specs.Told.{HasCause};

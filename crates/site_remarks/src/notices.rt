@@ -33,7 +33,7 @@ pub(crate) struct LineTables<'a> {
     pub(crate) lines: &'a LineTable<'a>,
 }
 
-/// The type of worker that a directive is of; none where it is of each.
+/// The type of worker that a directive is for; none where it is for each type.
 fn owner_of(directive: Directive) -> Option<WorkerKind>
     ensures { result ≡ owner_of directive }
 {
@@ -64,7 +64,7 @@ fn owner_of(directive: Directive) -> Option<WorkerKind>
     }
 }
 
-/// What is said of a directive of the first type at a worker of the second.
+/// What is said of a directive for one type of worker that is given to a worker of another type.
 fn misplaced(of: WorkerKind, at: WorkerKind) -> Option<&'static [u8]>
     ensures { option_map (λ t. t.now) result ≡ misplaced of at }
 {
@@ -85,7 +85,7 @@ fn misplaced(of: WorkerKind, at: WorkerKind) -> Option<&'static [u8]>
     }
 }
 
-/// What is said of a directive at a worker of this type.
+/// What is said of a directive that is given to a worker of this type.
 fn directive_words(directive: Option<Directive>, at: Option<WorkerKind>) -> Option<&'static [u8]>
     ensures { option_map (λ t. t.now) result ≡ directive_words directive at }
 {

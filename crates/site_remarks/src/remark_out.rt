@@ -7,11 +7,11 @@ use jk_io::{Bytes, IoError, Sink, write_all};
 use std::alloc::Global;
 use std::marker::Model;
 
-/// Fewer bytes are held; as many, or more, are written.
+/// Fewer bytes than these are held; this many or more are written.
 const PIECE_BYTES: usize = 65_536;
 
-/// A sink for remarks, and the last of them, which are held so that it is given large pieces. A contract sees what the sink
-/// took and after it what is held, and how often the sink failed. After a write that failed nothing is held.
+/// A sink for remarks. The last of them are held, so that it gets large pieces. A contract sees what the sink took, after
+/// it what is held, and how often the sink failed. After a write that failed nothing is held.
 #[derive(Drop)]
 pub struct RemarkOut<O: Sink + Drop> {
     sink: O,

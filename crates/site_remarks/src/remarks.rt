@@ -113,7 +113,7 @@ fn put_any_map<O: Sink + Drop>(
     }
 }
 
-/// Adds what has no effect of a workers.properties.
+/// Adds what in a workers.properties has no effect.
 fn put_effects<O: Sink + Drop>(
     alloc: Global,
     out: &mut RemarkOut<O>,
@@ -177,8 +177,8 @@ fn put_accepted<O: Sink + Drop>(
     put_any_map(alloc, out, config, &table, files.map, effects)
 }
 
-/// Adds what a person is told of a site's files: why the first that is refused is, and, where `effects` is on, what of those
-/// that are accepted a site of mod_jk would expect to have effect and hasn't. It is written as it is found, and not held.
+/// Adds what a person is told of a site's files: why the first refused one is refused, and, where `effects` is on, what in
+/// accepted ones a site of mod_jk would expect to have effect and hasn't. It is written as it is found, and not held.
 pub fn site_remarks<O: Sink + Drop>(
     alloc: Global,
     out: &mut RemarkOut<O>,

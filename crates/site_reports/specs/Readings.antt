@@ -3,7 +3,7 @@ use Rattle.std.specs.Prelude.{◌≡◌, ℕ, Bool, true, false, ◌<◌, ◌≤
 use Rattle.jk_io.specs.Stored.{content_of}
 use Rattle.jk_io.specs.declared.whole_input.TheConstants.{MAX_INPUT_BYTES}
 
--- What a command may read: files, each a name and a content, and an input; none is told of the real ones.
+-- What a command may read: files, each a name and a content, and an input; of the real ones nothing is told.
 pub record CommandOutside : Type 0 where
   pub files : Option (List (List ℕ × List ℕ))
   pub incoming : Option (List ℕ)
@@ -58,6 +58,6 @@ StopsLong outside [] = ⊥
 StopsLong outside (reading ∷ readings) =
     IsLong outside reading ⊎ ((text : List ℕ) × IsRead outside reading text × StopsLong outside readings)
 
--- What is so of these files, whatever the input.
+-- `So` holds of these files, whatever the input.
 abbrev pub OfFiles : Option (List (List ℕ × List ℕ)) → (CommandOutside → Type 0) → Type 0
 OfFiles files So = (incoming : Option (List ℕ)) → So (record { files = files; incoming = incoming })

@@ -42,7 +42,7 @@ fn put_status(out: &mut Bytes, entry: (u16, bool)) -> Result<(), NoMemory>
     put_decimal(out, u128::from(status))
 }
 
-// Each status behind a comma.
+// Each status after a comma.
 fn put_more(out: &mut Bytes, statuses: &[(u16, bool)]) -> Result<(), NoMemory>
     ensures { OnOk result (out.new ≡ out.old ++ flat_map next_status statuses.now) }
 {

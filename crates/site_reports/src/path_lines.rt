@@ -4,7 +4,7 @@ ghost use Rattle.site_reports.specs.PathLines.{path_lines};
 
 use property_lines::cut_at;
 
-/// The first line and the text behind it; none in an empty text.
+/// The first line and the text after it; none in an empty text.
 pub(crate) fn first_line(text: &[u8]) -> Option<(&[u8], &[u8])>
     ensures some { IfSome result (λ parts. path_lines text.now ≡ parts.0.now ∷ path_lines parts.1.now) }
     ensures shorter { IfSome result (λ parts. length parts.1.now < length text.now) }

@@ -6,7 +6,7 @@ use Rattle.std.specs.Char.{is_digit}
 abbrev pub begins_with_digits : List ℕ → Bool
 begins_with_digits bytes = is_digit (slice_index bytes 0) 16 && is_digit (slice_index bytes 1) 16
 
--- behind each `%` two hexadecimal digits
+-- two hexadecimal digits follow each `%`
 abbrev pub has_good_escapes : List ℕ → Bool
 has_good_escapes [] = true
 has_good_escapes (b ∷ bytes) = (not (b == 37) || begins_with_digits bytes) && has_good_escapes bytes

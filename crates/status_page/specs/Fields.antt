@@ -6,11 +6,11 @@ use Rattle.percent_encoding.specs.Percent.{percent_decode}
 use Rattle.status_page.specs.declared.field.Field.{Field}
 use Rattle.status_page.specs.Escapes.{has_good_escapes}
 
--- what stands before a place and what stands behind it
+-- what stands before a place and what follows it
 abbrev pub around : List ℕ → ℕ → List ℕ × List ℕ
 around text at = (take at text, drop (at + 1) text)
 
--- what stands before the first such byte and what stands behind it, where there is one
+-- what stands before the first such byte and what follows it, where there is one
 abbrev pub cut_at : ℕ → List ℕ → Option (List ℕ × List ℕ)
 cut_at byte text = option_map (around text) (position (λ b. b == byte) text)
 
@@ -21,12 +21,12 @@ decoded_field cut = record { name = percent_decode cut.0; value = percent_decode
 abbrev pub field_of : List ℕ → Option Field
 field_of part = if has_good_escapes part then option_map decoded_field (cut_at 61 part) else None
 
--- one more in front, where all are there
+-- one more item in front, where all are there
 abbrev pub in_front : {A : Type 0} → Option A → Option (List A) → Option (List A)
 in_front None xs = None
 in_front (Some x) xs = option_map (λ more. x ∷ more) xs
 
--- all of them, where each is there
+-- the items of a list, where each is there
 abbrev pub all_there : {A : Type 0} → List (Option A) → Option (List A)
 all_there [] = Some []
 all_there (o ∷ os) = in_front o (all_there os)
@@ -43,6 +43,6 @@ parts_of query = slice_split (λ b. b == 38) query
 abbrev pub fields_of : List ℕ → Option (List Field)
 fields_of query = fields_in (parts_of query)
 
--- more behind these, where there is more
+-- these items and further ones, where the further ones are there
 abbrev pub behind : {A : Type 0} → List A → Option (List A) → Option (List A)
 behind front more = option_map (λ xs. front ++ xs) more

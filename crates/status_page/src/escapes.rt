@@ -21,7 +21,7 @@ fn begins_with_digits(bytes: &[u8]) -> bool
     bytes.len() >= 2 && is_hex_digit(bytes[0]) && is_hex_digit(bytes[1])
 }
 
-/// Whether two hexadecimal digits stand behind each `%`.
+/// Whether two hexadecimal digits follow each `%`.
 pub(crate) fn has_good_escapes(part: &[u8]) -> bool
     ensures { result ≡ has_good_escapes part.now }
 {

@@ -27,7 +27,7 @@ pub fn written_fields_are_read()
     ensures joined { (query : List ℕ) → join_with_byte 38 (parts_of query) ≡ query }
 {}
 
-/// Each command that a query can ask for is asked for by its fields: so a query that is written for them means it.
+/// Each command that a query can ask for is asked for by its fields: a query that is written for them means it.
 pub fn asked_commands_are_read()
     ensures fields { (c : StatusCommand) → IsAsked c → command_in (fields_for c) ≡ Some c }
     ensures query { (set : AsciiSet) (c : StatusCommand) → EscapesMarks set → All HasBytes (fields_for c) → IsAsked c
@@ -35,7 +35,7 @@ pub fn asked_commands_are_read()
 {}
 
 /// The fields of a query mean a command exactly where each known name has at most one value, and the table of commands
-/// has the command for these values; so they mean no other command.
+/// has the command for these values; they mean no other command.
 pub fn commands_are_those_of_the_table()
     ensures read { (fields : List Field) (t : Texts) (c : StatusCommand)
         → AreGiven fields t → Asks t c → command_in fields ≡ Some c }

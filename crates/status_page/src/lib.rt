@@ -3,7 +3,7 @@
 //! Source: the status worker of the Tomcat Connectors reference (names and commands), RFC 3986, section 2.1 (escapes).
 //! Own rules: the page's text, a redirect by its member's name, what makes a query bad (docs/FORMATS.md, "The status
 //! worker").
-//! Shapes: a query is what stands behind a target's first `?`; a page is a line for each balancer and each member.
+//! Shapes: a query is what follows a target's first `?`; a page is a line for each balancer and each member.
 //! Contract: `read_command`, clauses `ok` and `bad`; `commands_for`; `render`; the laws of `laws`. Read first:
 //! specs/Fields.antt and specs/Meaning.antt, with the table in specs/Commands.antt, then specs/Page.antt.
 //! Errors: `StatusError`; of a page want of memory alone.

@@ -16,7 +16,7 @@ fn find(text: &[u8], byte: u8) -> Option<usize>
     text.iter().position(|b| *b == byte)
 }
 
-/// What stands before the first such byte, and what stands behind it.
+/// What stands before the first such byte, and what follows it.
 fn cut_at(text: &[u8], byte: u8) -> Option<(&[u8], &[u8])>
     ensures cut { option_map (λ parts. (parts.0.now, parts.1.now)) result ≡ cut_at byte text.now }
     ensures shorter { IfSome result (λ parts. length parts.1.now < length text.now) }

@@ -37,7 +37,7 @@ pub(crate) fn state_word(state: MemberState) -> &'static [u8]
     }
 }
 
-/// Adds a text behind a space.
+/// Adds a space and a text.
 pub(crate) fn put_word(out: &mut Bytes, word: &[u8]) -> Result<(), NoMemory>
     ensures { OnOk result (out.new ≡ out.old ++ codes " " ++ word.now) }
 {
@@ -45,7 +45,7 @@ pub(crate) fn put_word(out: &mut Bytes, word: &[u8]) -> Result<(), NoMemory>
     out.extend(word)
 }
 
-/// Adds a number behind a space.
+/// Adds a space and a number.
 pub(crate) fn put_number(out: &mut Bytes, number: u128) -> Result<(), NoMemory>
     ensures { OnOk result (out.new ≡ out.old ++ codes " " ++ decimal number) }
 {

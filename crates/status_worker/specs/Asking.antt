@@ -10,7 +10,7 @@ use Rattle.status_worker.specs.declared.asking.NoPage.{NoPage}
 use Rattle.status_worker.specs.declared.asking.NoPage.TheVariants as no_page
 use Rattle.status_worker.specs.declared.asking.Work.{Work}
 
--- P of the status of an own answer
+-- P holds of the status of an own answer
 abbrev pub IfCode : (ℕ → Type 0) → NoPage → Type 0
 IfCode P (no_page.Own code) = P code
 IfCode P no_page.NoMemory = Unit {0}

@@ -18,8 +18,8 @@ desk_side state answers desk clock = record { state = state desk; clock = answer
 abbrev pub members_in : List Lb → List ℕ
 members_in lbs = map (λ lb. length lb.book.members) lbs
 
--- The desk holds the tickets that it held before. What never changes of it, its counts, which never fall, and the
--- receipts that it gained, which are this session's.
+-- The desk holds the tickets that it held before; its caller, sizes and parts never change, its counts never fall, and
+-- the receipts that it gained are this session's.
 pub record KeepsTickets (session : ℕ) (old new : DeskState) : Type 0 where
   pub held : new.held ≡ old.held
   pub caller : new.caller ≡ old.caller

@@ -1,4 +1,4 @@
-//! A status worker's commands are done.
+//! Doing a status worker's commands.
 ghost use Rattle.std.specs.Prelude.{◌≡◌, ◌<◌, length, IfErr, IfSome, IfOk, OnOk};
 ghost use Rattle.balancer_core.specs.Desks.{MeetsNone};
 ghost use Rattle.status_worker.specs.Commands.{Does, WorksOn};

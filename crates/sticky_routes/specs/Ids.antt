@@ -6,7 +6,7 @@ use Rattle.jk_io.specs.Decimals.{trimmed}
 use Rattle.http_front.specs.Fields.{named}
 use Rattle.http_front.specs.declared.head.Head.{Head}
 
--- what stands before the first byte of this value and behind it, where there is one
+-- what stands before the first byte of this value and after it, where there is one
 abbrev pub cut_at : ℕ → List ℕ → Option (List ℕ × List ℕ)
 cut_at byte text = option_map (λ at. (take at text, drop (at + 1) text)) (position (λ b. b == byte) text)
 
@@ -22,7 +22,7 @@ upto_end text = take (unwrap_or (position ends_id text) (length text)) text
 abbrev pub id_here : List ℕ → List ℕ → List (List ℕ)
 id_here mark text = if starts_with nat_eq text mark then upto_end (drop (length mark) text) ∷ [] else []
 
--- the ids behind each place of the mark, in order
+-- the ids after each place of the mark, in order
 abbrev pub path_ids : List ℕ → List ℕ → List (List ℕ)
 path_ids mark [] = []
 path_ids mark (byte ∷ path) = id_here mark (byte ∷ path) ++ path_ids mark path

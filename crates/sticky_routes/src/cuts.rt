@@ -2,7 +2,7 @@
 ghost use Rattle.std.specs.Prelude.{◌≡◌, IfSome, IfNone, Some, None, position, ◌==◌};
 ghost use Rattle.sticky_routes.specs.Ids.{cut_at};
 
-/// What stands before the first byte of this value and behind it, where there is one.
+/// What stands before the first byte of this value and after it, where there is one.
 pub fn cut_at(text: &[u8], byte: u8) -> Option<(&[u8], &[u8])>
     ensures some { IfSome result (λ cut. cut_at byte text.now ≡ Some (cut.0.now, cut.1.now)) }
     ensures none { IfNone result (cut_at byte text.now ≡ None) }

@@ -13,7 +13,7 @@ use std::alloc::Global;
 /// Session ids in order, each as the client sent it.
 pub type IdList = ListOf<Bytes>;
 
-/// The session ids of a request, for a balancer whose sessions stand in a cookie of this name, or in the path behind
+/// The session ids of a request, for a balancer whose sessions stand in a cookie of this name, or in the path after
 /// this text and `=`. Ids of the path come first; a request without an id is fresh.
 pub fn session_ids(
     alloc: Global,

@@ -6,7 +6,7 @@ use crate::ids::IdList;
 use jk_io::{Bytes, NoMemory};
 use std::alloc::Global;
 
-/// Adds the ids that stand behind a mark in a path, each up to the next `;` or `/`.
+/// Adds the ids that follow a mark in a path, each up to the next `;` or `/`.
 pub fn add_path_ids(
     alloc: Global,
     ids: &mut IdList,

@@ -35,7 +35,7 @@ abbrev pub exclusion_of : Config → ℕ → List ℕ → Result Role LineRefusa
 exclusion_of config line name =
     if bytes_eq name (42 ∷ []) then Ok (role.Exclusion None) else excluded_worker (known config line name)
 
--- a status worker takes no part
+-- at a status worker parts have no effect
 abbrev pub terms_at : Config → Named → List (List ℕ × List ℕ) → Option Terms
 terms_at config (named.Balancer i) parts = given_terms (members_at config i) parts
 terms_at config (named.Status i) parts = Some no_terms
@@ -48,7 +48,7 @@ mount_with config line texts (Err refused) = Err refused
 mount_with config line texts (Ok worker) =
     or_refused line reason.BadExtension (option_map (mount_at worker) (option_and_then (terms_at config worker) (parts_of texts)))
 
--- a mount's worker, and the parts behind it
+-- a mount's worker, and the parts after it
 abbrev pub mount_of : Config → ℕ → List ℕ → List (List ℕ) → Result Role LineRefusal
 mount_of config line name texts = mount_with config line texts (known config line name)
 

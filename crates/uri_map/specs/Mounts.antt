@@ -39,7 +39,7 @@ best rules path = find (is_best rules path) rules
 abbrev pub is_excluded : List Rule → List ℕ → Named → Bool
 is_excluded rules path worker = list_any (λ r. excludes r.role worker && matches r.pattern path) rules
 
--- exclusions are looked at once the best rule is known
+-- exclusions are looked at after the best rule is found
 abbrev pub unless_excluded : List Rule → List ℕ → Option Mount → Option Mount
 unless_excluded rules path None = None
 unless_excluded rules path (Some m) = if is_excluded rules path m.worker then None else Some m
@@ -62,7 +62,7 @@ terms_by (Some m) = m.terms
 abbrev pub terms : List Rule → List ℕ → Terms
 terms rules path = terms_by (taken rules path)
 
--- how many other lines rules stand on behind one of this line; the rules of one line stand together
+-- how many other lines rules stand on after one of this line; the rules of one line stand together
 abbrev pub lines_behind : ℕ → List Rule → ℕ
 lines_behind line [] = 0
 lines_behind line (r ∷ rules) = if r.line == line then lines_behind line rules else lines_behind r.line rules + 1

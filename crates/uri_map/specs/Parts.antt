@@ -1,4 +1,4 @@
--- The parts `name=value` behind a rule's worker, and the terms that they give.
+-- The parts `name=value` after a rule's worker, and the terms that they give.
 use Rattle.std.specs.Prelude.{ℕ, Bool, true, false, List, [], ◌∷◌, Option, Some, None, is_some, if◌then◌else◌, ◌==◌, ◌||◌, codes, unwrap_or}
 use Rattle.std.specs.Option.{option_map, option_and_then, option_or}
 use Rattle.std.specs.List.{list_all, slice_split}
@@ -70,7 +70,7 @@ terms_of members parts = record {
 abbrev pub given_terms : List MemberConfig → List (List ℕ × List ℕ) → Option Terms
 given_terms members parts = if list_all (is_good members) parts then Some (terms_of members parts) else None
 
--- the pieces behind a worker, where a `;` stands there
+-- the pieces after a worker, where a `;` stands there
 abbrev pub pieces_behind : Option (List ℕ) → List (List ℕ)
 pieces_behind None = []
 pieces_behind (Some text) = pieces_of text

@@ -20,12 +20,12 @@ abbrev pub is_empty : List ℕ → Bool
 is_empty [] = true
 is_empty (b ∷ bs) = false
 
--- the path passes, or what is left of it behind some byte
+-- the path passes, or what is left of it after some byte
 abbrev pub some_end : (List ℕ → Bool) → List ℕ → Bool
 some_end p [] = p []
 some_end p (b ∷ bs) = p (b ∷ bs) || some_end p bs
 
--- this byte stands for the path's first one, and what is behind that passes
+-- this byte stands for the path's first one, and what follows that passes
 abbrev pub one_byte : ℕ → (List ℕ → Bool) → List ℕ → Bool
 one_byte c p [] = false
 one_byte c p (b ∷ bs) = stands_for c b && p bs

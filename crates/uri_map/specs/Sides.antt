@@ -14,12 +14,12 @@ pub record Left : Type 0 where
 abbrev pub left : Bool → Bool → List ℕ → Left
 left exclusion off pattern = record { exclusion = exclusion; off = off; pattern = pattern }
 
--- what is behind a byte with which the text begins
+-- what follows a byte with which the text begins
 abbrev pub behind_byte : ℕ → List ℕ → Option (List ℕ)
 behind_byte byte [] = None
 behind_byte byte (b ∷ bs) = if b == byte then Some bs else None
 
--- behind a mark the other one may stand
+-- after a mark the other one may stand
 abbrev pub behind_exclusion : List ℕ → Left
 behind_exclusion text = option_map_or (left true true) (behind_byte 45 text) (left true false text)
 
@@ -30,7 +30,7 @@ abbrev pub left_of : List ℕ → Left
 left_of text =
     option_map_or behind_exclusion (behind_byte 33 text) (option_map_or behind_off (behind_byte 45 text) (left false false text))
 
--- `P|S` means P, and P with S behind it
+-- `P|S` means P, and P with S after it
 abbrev pub two_patterns : List ℕ → Option (List ℕ) → List (List ℕ)
 two_patterns first None = first ∷ []
 two_patterns first (Some more) = first ∷ (first ++ more) ∷ []

@@ -25,7 +25,7 @@ abbrev pub members_of : Config → Named → ℕ
 members_of config (named.Balancer i) = member_count (slice_get config.lbs i)
 members_of config (named.Status i) = 0
 
--- each bit stands for one of so many members
+-- each bit stands for one of `count` members
 abbrev pub names_members : ℕ → Terms → Bool
 names_members count terms = nat_lt terms.disabled (2 ^ count) && nat_lt terms.stopped (2 ^ count)
 

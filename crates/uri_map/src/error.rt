@@ -13,7 +13,7 @@ pub enum MapReason {
     BadPattern,
     /// The worker isn't listed.
     UnknownWorker,
-    /// A part behind the worker has no `=`, a bad truth value, or a name that is no member's.
+    /// A part after the worker has no `=`, a bad truth value, or a name that is no member's.
     BadExtension,
 }
 

@@ -20,7 +20,7 @@ use property_lines::{cut_at, first_line, without_mark};
 use site_config::Config;
 use std::alloc::Global;
 
-/// The pattern P, or P with S behind it.
+/// The pattern P, or P with S after it.
 fn pattern_with(alloc: Global, first: &[u8], more: &[u8]) -> Result<Pattern, NoMemory>
     ensures { IfOk result (λ p. p ≡ first.now ++ more.now) }
 {

@@ -14,7 +14,7 @@ fn stands_for(c: u8, b: u8) -> bool
     c == b'?' || c == b
 }
 
-/// What is behind the piece, where the path begins with it.
+/// What follows the piece, where the path begins with it.
 fn behind<'t>(piece: &[u8], path: &'t [u8]) -> Option<&'t [u8]>
     ensures { option_map (λ rest. rest.now) result ≡ behind piece.now path.now }
 {
@@ -31,7 +31,7 @@ fn behind<'t>(piece: &[u8], path: &'t [u8]) -> Option<&'t [u8]>
     Some(rest)
 }
 
-/// What is behind the first place where the piece stands.
+/// What follows the first place where the piece stands.
 fn first_behind<'t>(piece: &[u8], path: &'t [u8]) -> Option<&'t [u8]>
     ensures { option_map (λ rest. rest.now) result ≡ first_behind piece.now path.now }
 {

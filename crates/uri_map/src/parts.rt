@@ -1,4 +1,4 @@
-//! The parts `name=value` behind a rule's worker, and the terms that they give.
+//! The parts `name=value` after a rule's worker, and the terms that they give.
 ghost use Rattle.std.specs.Prelude.{◌≡◌, ◌≤◌, ◌||◌, if◌then◌else◌, Some, None, length, true, IfOk};
 ghost use Rattle.std.specs.Option.{option_map};
 ghost use Rattle.std.specs.List.{list_all};
@@ -58,7 +58,7 @@ fn parts_of(alloc: Global, text: &[u8]) -> Result<Option<Vec<Part<'_>>>, NoMemor
     }
 }
 
-/// The parts behind a worker, if any stand there; none where one has no `=`.
+/// The parts after a worker, if any stand there; none where one has no `=`.
 pub(crate) fn parts_behind(
     alloc: Global,
     text: Option<&[u8]>,

@@ -1,4 +1,4 @@
-//! The right side of a rule: its worker, and the parts behind it.
+//! The right side of a rule: its worker, and the parts after it.
 ghost use Rattle.std.specs.Prelude.{◌≡◌, ◌∷◌, IfOk};
 ghost use Rattle.std.specs.Option.{option_map, option_and_then};
 ghost use Rattle.uri_map.specs.Lines.{exclusion_of, known, mount_of, role_of, terms_at};
@@ -36,7 +36,7 @@ fn exclusion_of(workers: &Workers<'_>, line: u32, name: &[u8]) -> Result<Role, M
     }
 }
 
-/// The terms of a mount at this worker; a status worker takes no part.
+/// The terms of a mount at this worker; at a status worker parts have no effect.
 fn terms_at(
     alloc: Global,
     workers: &Workers<'_>,
@@ -51,7 +51,7 @@ fn terms_at(
     }
 }
 
-/// The terms that the text behind a worker gives; none where a part isn't good.
+/// The terms that the text after a worker gives; none where a part isn't good.
 fn terms_behind(
     alloc: Global,
     workers: &Workers<'_>,
@@ -84,7 +84,7 @@ fn mount_of(
     }
 }
 
-/// The worker's text, and what is behind the first `;`.
+/// The worker's text, and what follows the first `;`.
 fn split_parts(text: &[u8]) -> (&[u8], Option<&[u8]>)
     ensures { pieces_of text.now ≡ result.0.now ∷ pieces_behind (option_map (λ t. t.now) result.1) }
 {
@@ -94,7 +94,7 @@ fn split_parts(text: &[u8]) -> (&[u8], Option<&[u8]>)
     }
 }
 
-/// What a rule's right side says. Of an exclusion what is behind a `;` is ignored.
+/// What a rule's right side says. In an exclusion, what follows a `;` is ignored.
 pub(crate) fn role_of(
     alloc: Global,
     workers: &Workers<'_>,

@@ -14,14 +14,14 @@ pub(crate) struct Side<'t> {
     pub(crate) pattern: &'t [u8],
 }
 
-/// One pattern, or of `P|S` two: P, and P with S behind it.
+/// One pattern, or of `P|S` two: P, and P with S after it.
 #[derive(Clone, Copy)]
 pub(crate) struct Patterns<'t> {
     pub(crate) first: &'t [u8],
     pub(crate) more: Option<&'t [u8]>,
 }
 
-/// What is behind the byte, where the text begins with it.
+/// What follows the byte, where the text begins with it.
 fn behind_byte(byte: u8, text: &[u8]) -> Option<&[u8]>
     ensures { option_map (λ t. t.now) result ≡ behind_byte byte text.now }
 {
@@ -31,7 +31,7 @@ fn behind_byte(byte: u8, text: &[u8]) -> Option<&[u8]>
     }
 }
 
-/// The side behind a `!`.
+/// The side after a `!`.
 fn behind_exclusion(text: &[u8]) -> Side<'_>
     ensures { as_left result ≡ behind_exclusion text.now }
 {
@@ -49,7 +49,7 @@ fn behind_exclusion(text: &[u8]) -> Side<'_>
     }
 }
 
-/// The side behind a `-`.
+/// The side after a `-`.
 fn behind_off(text: &[u8]) -> Side<'_>
     ensures { as_left result ≡ behind_off text.now }
 {

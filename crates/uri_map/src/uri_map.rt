@@ -89,7 +89,7 @@ impl UriMap {
     pub fn mount(&self, path: &[u8]) -> Option<Named>
         ensures value { result ≡ mount self.now path.now }
 
-        // Of a configuration in which all that the map names stands, it is a worker.
+        // It is a worker of each configuration in which all that the map names stands.
         ensures placed { IfSome result (λ worker. (config : Config) → stands_in config self.now ≡ true
             → is_worker config worker ≡ true) }
     {
@@ -100,7 +100,7 @@ impl UriMap {
     pub fn terms(&self, path: &[u8]) -> Terms
         ensures value { result ≡ terms self.now path.now }
 
-        // Of such a configuration, they name members of that worker.
+        // In such a configuration they name members of that worker.
         ensures members { IfSome (mount self.now path.now) (λ worker. (config : Config) → stands_in config self.now ≡ true
             → names_members (members_of config worker) result ≡ true) }
     {
@@ -110,7 +110,7 @@ impl UriMap {
         }
     }
 
-    /// How many rules there are, exclusions among them and each line once; those that are turned off are none.
+    /// How many lines have rules, exclusions among them; lines that are turned off have none.
     pub fn rules(&self) -> u32
         ensures { result ≡ line_count self.now }
     {

@@ -1,4 +1,4 @@
--- What an lb worker makes of its members, as far as the lines that name them aren't looked at.
+-- What an lb worker makes of its members, without a look at the lines that name them.
 use Rattle.std.specs.Prelude.{◌≡◌, ℕ, ◌≤◌, ◌<◌, ◌^◌, true, false, List, Option, ◌⊎◌, length, codes}
 use Rattle.jk_model.specs.Multiple.{multiple_of}
 use Rattle.jk_model.specs.Ranges.{AreInRange, factors_in}

@@ -22,7 +22,7 @@ HaveLines ps names lists = AreRows (λ name list. as_listings list ≡ own_membe
 abbrev pub HaveMembers : List Property → List (List ℕ) → List (List declared.Listing) → Type 0
 HaveMembers ps names lists = AreRows (λ name list. as_listings list ≡ firsts (own_members ps name)) names lists
 
--- the lists after a line: that of the worker to which it gives members has their names more
+-- the lists after a line: the names of the members that it gives a worker are added to that worker's list
 pub record AddsLine (names : List (List ℕ)) (p : Property) (old new : List (List declared.Listing)) : Type 0 where
   pub count : length new ≡ length old
   pub each : (name : List ℕ) (i : ℕ) (list : List declared.Listing) → number_of name names ≡ Some i → slice_get new i ≡ Some list

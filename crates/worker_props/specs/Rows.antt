@@ -34,12 +34,12 @@ HasOwn ps n name row = HasLines ps (last_given (take n ps) name) row × (row.pro
 abbrev pub HasForce : List Property → List ℕ → Row → Type 0
 HasForce ps name row = (more : List (List ℕ)) × IsChain ps name more × HasLines ps (in_force ps name more) row
 
--- each name's row, or what else stands at its number, is so
+-- `fits` holds of each name and of the row, or whatever else, at its number
 pub record AreRows {A : Type 0} (fits : List ℕ → A → Type 0) (names : List (List ℕ)) (rows : List A) : Type 0 where
   pub count : length rows ≡ length names
   pub each : (name : List ℕ) (i : ℕ) (row : A) → number_of name names ≡ Some i → slice_get rows i ≡ Some row → fits name row
 
--- the row with a line more
+-- the row with one more line
 abbrev pub row_with : Directive → ℕ → Row → Row
 row_with d place row = record row { places = slice_set row.places (slot_of d) (Some place) }
 

@@ -23,7 +23,7 @@ text_in (Some p) = Some p.value
 abbrev pub text_or : List ℕ → Option Property → List ℕ
 text_or default p = unwrap_or (text_in p) default
 
--- a value that has a byte
+-- a value, or the default where it is empty
 abbrev pub filled : List ℕ → List ℕ → List ℕ
 filled default text = if nat_lt 0 (length text) then text else default
 
@@ -61,7 +61,7 @@ pub record IsEndpoint (v : Directive → Option Property) (e : Endpoint) : Type 
   pub ping_idle : e.ping_idle ≡ pings 105 (text_or [] (v directive.PingMode))
   pub fail_on : e.fail_on ≡ statuses_in (v directive.FailOnStatus)
 
--- the first of these routes, whose places begin at j, that is the text and not that of place i
+-- the place of the first route that is the text, other than place i; the routes' places begin at j
 abbrev pub other_at : ℕ → List ℕ → ℕ → List (List ℕ) → Option ℕ
 other_at i text j [] = None
 other_at i text j (route ∷ routes) = if bytes_eq route text && not (j == i) then Some j else other_at i text (j + 1) routes

@@ -63,7 +63,7 @@ pub record IsDirect (ps : List Property) (maintain : ℕ) (l : Listing) (lb : Lb
   pub cookie : lb.cookie ≡ codes "JSESSIONID"
   pub path : lb.path ≡ codes ";jsessionid"
 
--- what holds of each
+-- `fine` holds of each
 abbrev pub Each : (Listing → Type 0) → List Listing → Type 0
 Each fine [] = Unit {0}
 Each fine (l ∷ ls) = fine l × Each fine ls
@@ -89,8 +89,7 @@ IsUnknown ps l r = (is_given ps l.name ≡ false) × (r ≡ refusal l.line reaso
 abbrev pub IsNoAjp13 : List Property → Listing → LineRefusal → Type 0
 IsNoAjp13 ps l r = ((k : WorkerKind) × (k ≢ kind.Ajp13) × HasKind ps l.name k) × (r ≡ refusal l.line reason.BadValue)
 
--- the lists' names so far: those of the lb's members pass when their references lead on, they have a directive, and
--- their type is ajp13
+-- what each member of an lb worker passes: its references lead on, it has a directive, and its type is ajp13
 abbrev pub Chained : List Property → Listing → Type 0
 Chained ps l = HasChain ps l.name
 

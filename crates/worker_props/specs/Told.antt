@@ -36,7 +36,7 @@ pub record TakesLine (number : ℕ) (line : List ℕ) (old new : Told) : Type 0 
   pub told_are : as_properties new.entries.items ≡ as_properties old.entries.items ++ telling (option_to_list says)
   pub ignored_are : new.ignored ≡ old.ignored ++ ignored_of (option_to_list says)
 
--- the lines before this one, of which these tell something and these have no effect, stand in front of the rest
+-- the lines before this one stand in front of the rest: these of them tell something, and these have no effect
 pub record IsTelling (text : List ℕ) (line : ℕ) (rest : List ℕ) (told : List Property) (ignored : List (ℕ × List ℕ)) : Type 0 where
   pub front : List Property
   pub told_are : told ≡ telling front

@@ -101,8 +101,8 @@ fn next_on_way<'t>(
     }
 }
 
-/// Walks along references from a worker, up to one without, or one whose row is whole. The workers that it passed, in
-/// order, or the line of the first reference to a worker without a directive or to one that was passed before.
+/// Walks along references from a worker, up to one without a reference, or one whose row is whole. The answer is the workers
+/// that it passed, in order, or the line of the first reference to one without a directive or to one passed before.
 fn walk<'t>(
     alloc: Global,
     given: &Given<'_, 't>,

@@ -14,7 +14,7 @@ use property_lines::{Directive, PropertyLine};
 pub(crate) enum Progress {
     /// It has the worker's own lines.
     Own,
-    /// So it has, and a walk along references has passed the worker.
+    /// It has the worker's own lines, and a walk along references has passed the worker.
     Passed,
     /// It has the lines that are in force.
     Whole,

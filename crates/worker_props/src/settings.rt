@@ -39,7 +39,7 @@ pub(crate) fn text_or<'t>(
     }
 }
 
-/// The value, where it has a byte.
+/// The value, or the default where it is empty.
 pub(crate) fn filled_or<'t>(
     entries: &[PropertyLine<'t>],
     row: &Row,

@@ -180,7 +180,7 @@ fn drafted(alloc: Global, given: &Given<'_, '_>) -> Result<Draft, PropsError>
     add_workers(alloc, given, &mut rows, listings.as_slice())
 }
 
-/// The configuration of the lines, beside those that have no effect.
+/// The configuration that the lines give, with the lines that have no effect kept beside it.
 fn config_of(
     alloc: Global,
     given: &Given<'_, '_>,
@@ -207,7 +207,7 @@ fn config_of(
     })
 }
 
-/// The configuration of lines that pass by themselves, beside those that have no effect.
+/// The configuration that lines give, each of which passes by itself, with those that have no effect kept beside it.
 fn workers_of(
     alloc: Global,
     entries: &[PropertyLine<'_>],
