@@ -44,7 +44,7 @@ part_put {P} {Q} part slots now slot rest later all p whole cut more is =
 
 -- ---- slots that are taken apart one after another
 
--- what the slots so far left, with what the others leave put behind it, is what all leave
+-- what the slots so far left, with what the others leave put after it, is what all leave
 abbrev pub IsSoFar : {P O V E : Type 0} → (P → O → V → E → Type 0) → (slots rest : List P) → List O → List V → List E → Type 0
 IsSoFar {P} {O} {V} {E} Is slots rest outs lefts ends =
     (os : List O) (ls : List V) (es : List E) → AllFour Is rest os ls es → AllFour Is slots (outs ++ os) (lefts ++ ls) (ends ++ es)

@@ -38,7 +38,7 @@ places_give : (key : List ℕ) (words : List (List ℕ)) → is_given key (map P
 places_give key [] = refl
 places_give key (word ∷ words) = places_give key words
 
--- behind `--` no option is given
+-- after `--` no option is given
 pub given_end : (key word : List ℕ) (behind : List (List ℕ)) → is_end word ≡ true → is_given key (parts_of (word ∷ behind)) ≡ false
 given_end key word [] e = rw e refl
 given_end key word (next ∷ more) e = rw e (places_give key (next ∷ more))

@@ -30,7 +30,7 @@ if_some false x a e = cc
 abbrev is_passes : List ℕ → Bool
 is_passes word = bytes_eq word (codes "passes")
 
--- What an order for workers says of the parts behind the command.
+-- What an order for workers says of the parts after the command.
 abbrev pub FitsParts : List Part → Order → Type 0
 FitsParts parts (order.Serve workers map address threads clients journal watch idle log format) =
     (is_given (codes "watch") parts ≡ is_some watch) × (is_given (codes "log") parts ≡ is_some log) × (1 ≤ threads) × (threads ≤ 64)

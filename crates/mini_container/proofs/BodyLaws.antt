@@ -205,7 +205,7 @@ first-alone app forward m0 m1 first t no_echo = record {
   goes = t.goes;
 }
 
--- the rest behind the first packet
+-- the rest after the first packet
 pub body-taken : (app : AppConfig) (forward : Forward) (m0 m1 m2 : Moment) (first : List ℕ) (result : Result (List ℕ) Stopped) → TookFirst app forward m0 m1 first
     → TakesRest app forward first m1 m2 result → TakesBody app forward m0 m2 result
 body-taken app forward m0 m1 m2 first (Ok body) t r = record {

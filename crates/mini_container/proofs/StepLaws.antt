@@ -85,7 +85,7 @@ sending-earlier m0 m1 m2 Truncated f why = why
 sending-earlier m0 m1 m2 (Bad bad) f why = why
 sending-earlier m0 m1 m2 NoMemory f why = why
 
--- what stops behind a step that was done stops behind what that step sent
+-- what stops after a step that was done stops after what that step sent
 pub stops-then : (most : ℕ) (place : TurnPlace) (waiting dropped : Bool) (m0 m1 m2 : Moment) (x a b rest : List ℕ) (stop : Stopped) → Goes m0 m1 x a
     → Stops most place waiting dropped b m1 m2 rest stop → Stops most place waiting dropped (a ++ b) m0 m2 rest stop
 stops-then most place waiting dropped m0 m1 m2 x a b rest stop goes (inl r) = inl (record {

@@ -31,9 +31,9 @@ use Rattle.mini_container.proofs.StepLaws.{packet-unkept, comes-none, comes-then
 use Rattle.mini_container.proofs.FitLaws.{answer-sendable}
 use Rattle.mini_container.proofs.BodyLaws.{bytes_of-append, goes-same}
 
--- ---- a request behind its Forward Request
+-- ---- a request after its Forward Request
 
--- what stops behind a whole body stops within the answer
+-- what stops after a whole body stops within the answer
 answer-stops : (app : AppConfig) (forward : Forward) (m0 m1 m2 : Moment) (body : List ℕ) (stop : Stopped) → TookBody app forward m0 m1 body
     → HasCome m1 m2 [] → Stops app.packet Within false (drops (application_of app forward)) (bytes_of (answer_of app forward body)) m1 m2 [] stop
     → StopsWithin app forward m0 m2 stop

@@ -64,7 +64,7 @@ module _ (old new : Journal) (at : ℕ) (call : Call) (e : Entry) (played : IsPl
   added_past = adds.newest
 
 module _ (names : List (List ℕ)) (old new : Journal) (at : ℕ) (line : List ℕ) (part : List ℕ) (moment : ℕ) (number : ℕ) (lines : List (List ℕ)) where
-  -- a line's part, and then those of the lines behind it
+  -- a line's part, and then those of the lines after it
   pub turned : Turns names old at line part moment new → new.opening ≡ old.opening → (behind : List ℕ) (status : ℕ)
       → Runs names new.opening lines (number + 1) moment (past_of new) behind status
       → Runs names old.opening (line ∷ lines) number at (past_of old) (part ++ behind) status
@@ -93,7 +93,7 @@ module _ (names : List (List ℕ)) (b0 b : Journal) (n0 a0 number at : ℕ) (ls0
   pub goes_on : (new : Journal) (moment : ℕ) (after : List ℕ) (t : Taken names at line moment b new out after) → after ≡ out0 ++ (text ++ t.part)
   goes_on new moment after t = t.put ∙ ap (λ o. o ++ t.part) put ∙ append_assoc out0 text t.part
 
-  -- what the lines behind it print, is printed after that
+  -- what the lines after it print, is printed after that
   pub goes_on_runs : (new : Journal) (moment : ℕ) (after : List ℕ) (t : Taken names at line moment b new out after) (rest : List ℕ) (status : ℕ)
       → Runs names new.opening lines (number + 1) moment (past_of new) rest status
       → Runs names b0.opening ls0 n0 a0 (past_of b0) ((text ++ t.part) ++ rest) status
@@ -102,7 +102,7 @@ module _ (names : List (List ℕ)) (b0 b : Journal) (n0 a0 number at : ℕ) (ls0
       runs (t.part ++ rest) status (turned names b new at line t.part moment number lines t.turns t.keeps.opening rest status behind) in
       subst (λ o. Runs names b0.opening ls0 n0 a0 (past_of b0) o status) (sym (append_assoc text t.part rest)) here
 
-  -- the script ends behind its last line
+  -- the script ends after its last line
   pub comes_to_end : (new : Journal) (moment : ℕ) (after : List ℕ) → Taken names at line moment b new out after → lines ≡ []
       → AppendsRun names b0 n0 a0 ls0 0 out0 after
   comes_to_end new moment after t last = record {

@@ -40,7 +40,7 @@ module _ (names : List (List ℕ)) (o : Opening) (line : List ℕ) (lines : List
       → Runs names o lines (number + 1) at p out status → Runs names o (line ∷ lines) number at p out status
   runs_skipped out status skipped rest = at_true _ _ skipped rest
 
-  -- a line prints its part, and the lines behind it theirs
+  -- a line prints its part, and the lines after it theirs
   pub runs_said : (printed behind : List ℕ) (moment : ℕ) (q : List Entry) (status : ℕ) → is_skipped line ≡ false
       → SaysLine names o at p (step_of names line) printed moment q
       → Runs names o lines (number + 1) moment q behind status

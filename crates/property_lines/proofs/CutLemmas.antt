@@ -41,6 +41,6 @@ shorter p (b ∷ bs) = by_test (p b) (shorter p bs)
     by_test true h = omega arith
     by_test false h = shorter_behind b bs (cut p bs) h
 
--- what stands behind a cut is shorter than the text
+-- what stands after a cut is shorter than the text
 pub cut_shorter : (p : ℕ → Bool) (text front back : List ℕ) → cut p text ≡ Some (front, back) → length back < length text
 cut_shorter p text front back e = subst (IsShorter text) e (shorter p text)

@@ -1,4 +1,4 @@
--- The first line of a text, and the lines behind it.
+-- The first line of a text, and the lines after it.
 use Rattle.std.proofs.Common.{◌≡◌, ◌≢◌, ℕ, ◌+◌, ◌<◌, Bool, true, false, List, [], ◌∷◌, ◌++◌, length, Option, Some, None, suc, zero, arith, refl, inl, inr, ◌⊎◌, ⊎_elim, cond, eqb, ◌&&◌, ap, sym, subst, ◌∙◌, eq-eqb, eqb-true}
 use Rattle.std.proofs.Math.Bool.{and-false}
 use Rattle.std.proofs.lemmas.Option.{some_pair_parts}
@@ -8,7 +8,7 @@ use Rattle.std.specs.List.{onto_first}
 use Rattle.property_lines.specs.Cut.{cut, cut_at, with_front}
 use Rattle.property_lines.specs.Lines.{lines, begins_with, without_return}
 
--- a cut behind the first byte
+-- a cut after the first byte
 abbrev pub cut_behind : ℕ → List ℕ → (o : Option (List ℕ × List ℕ)) → List ℕ → List ℕ → Type 0
 cut_behind b bs None front back = ⊥
 cut_behind b bs (Some parts) front back = (front ≡ b ∷ parts.0) × (back ≡ parts.1)
@@ -43,7 +43,7 @@ longer b (c ∷ cs) n = refl
 onto : (b : ℕ) (bs f k : List ℕ) → lines bs ≡ without_return f ∷ lines k → ((b ≢ 13) ⊎ (f ≢ [])) → onto_first b (lines bs) ≡ without_return (b ∷ f) ∷ lines k
 onto b bs f k rec why = rw (rec, longer b f why) refl
 
--- the line before the first LF, and the lines behind it
+-- the line before the first LF, and the lines after it
 pub lines_cut : (text front back : List ℕ) → cut_at 10 text ≡ Some (front, back) → lines text ≡ without_return front ∷ lines back
 lines_cut [] front back e = cc
 lines_cut (b ∷ bs) front back e = by_end (λ f k h. lines_cut bs f k h) (eqb b 10) refl

@@ -6,7 +6,7 @@ use Rattle.std.specs.List.{slice_split, onto_first}
 use Rattle.property_lines.specs.Cut.{cut, with_front, is_separator}
 use Rattle.property_lines.specs.Names.{words, word_first}
 
--- the parts that a cut behind the first byte makes
+-- the parts that a cut after the first byte makes
 abbrev pub SplitsSo : (ℕ → Bool) → List ℕ → Option (List ℕ × List ℕ) → Type 0
 SplitsSo p text None = slice_split p text ≡ text ∷ []
 SplitsSo p text (Some parts) = slice_split p text ≡ parts.0 ∷ slice_split p parts.1
@@ -43,6 +43,6 @@ word_first-append w ws = by_test (nat_lt 0 (length w))
     by_test true = refl
     by_test false = refl
 
--- the first word, and then the words behind it
+-- the first word, and then the words after it
 pub words_split : (text front back : List ℕ) → cut is_separator text ≡ Some (front, back) → words text ≡ word_first front [] ++ words back
 words_split text front back e = rw (word_first-append, words_cut text front back e) refl

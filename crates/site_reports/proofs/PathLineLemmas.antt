@@ -1,4 +1,4 @@
--- The first line of a list of paths, and the lines behind it.
+-- The first line of a list of paths, and the lines after it.
 use Rattle.std.proofs.Common.{◌≡◌, ℕ, ◌<◌, Bool, true, false, List, [], ◌∷◌, length, Option, Some, None, refl, eqb, ap, sym, ◌∙◌, arith}
 use Rattle.std.proofs.lemmas.Option.{some_pair_parts}
 use Rattle.std.specs.Option.{option_map}
@@ -6,7 +6,7 @@ use Rattle.std.specs.List.{onto_first}
 use Rattle.property_lines.specs.Cut.{cut_at, with_front}
 use Rattle.site_reports.specs.PathLines.{path_lines}
 
--- the line before the first LF, and the lines behind it
+-- the line before the first LF, and the lines after it
 pub lines_cut : (text front back : List ℕ) → cut_at 10 text ≡ Some (front, back) → path_lines text ≡ front ∷ path_lines back
 lines_cut [] front back e = cc
 lines_cut (b ∷ bs) front back e = by_end (λ f k h. lines_cut bs f k h) (eqb b 10) refl
@@ -29,7 +29,7 @@ lines_cut (b ∷ bs) front back e = by_end (λ f k h. lines_cut bs f k h) (eqb b
         rw (n, sym parted.0, sym parted.1) refl
     by_end behind false n = by_rest behind (cut_at 10 bs) refl (rw n at e) n
 
--- no LF stands behind the first byte, and that one is none
+-- no LF stands after the first byte, and that one is none
 none_behind : (b : ℕ) (bs : List ℕ) → cut_at 10 (b ∷ bs) ≡ None → (eqb b 10 ≡ false) × (cut_at 10 bs ≡ None)
 none_behind b bs e = by_end (eqb b 10) refl
   where

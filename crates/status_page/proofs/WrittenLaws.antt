@@ -33,7 +33,7 @@ digit_glyph-value d small = grind (arith, nat_tests)
 digit_glyph-percent : (d : ℕ) → d < 16 → (digit_glyph true d == 37) ≡ false
 digit_glyph-percent d small = grind (arith, nat_tests)
 
--- behind an escape it goes on
+-- after an escape it goes on
 behind_escape : (b : ℕ) (rest : List ℕ) → has_good_escapes (percent_encode_byte b ++ rest) ≡ has_good_escapes rest
 unfolding percent_encode_byte
 behind_escape b rest =
@@ -52,7 +52,7 @@ good_escapes set (b ∷ bs) rest inside =
     rw other (good_escapes set bs rest inside)))
     (cases_Bool (should_percent_encode set b))
 
--- the first element that passes stands behind those that don't
+-- the first element that passes stands after those that don't
 position_behind : (p : ℕ → Bool) (xs : List ℕ) (y : ℕ) (ys : List ℕ) → All (λ x. p x ≡ false) xs → p y ≡ true → position p (xs ++ y ∷ ys) ≡ Some (length xs)
 position_behind p xs y ys fail passes =
     let at : position_or_len p (xs ++ y ∷ ys) ≡ length xs = first xs fail in

@@ -14,7 +14,7 @@ use Rattle.uri_map.specs.Search.{better}
 later_asym : (s n s' n' : ℕ) → is_longer_or_later s n s' n' ≡ true → is_longer_or_later s' n' s n ≡ false
 later_asym s n s' n' h = grind (arith, nat_tests)
 
--- a rule that goes before another goes before all that the other isn't behind
+-- a rule that goes before another goes before all that the other isn't after
 later_trans : (s n s' n' s'' n'' : ℕ) → is_longer_or_later s n s' n' ≡ true → is_longer_or_later s'' n'' s' n' ≡ false → is_longer_or_later s n s'' n'' ≡ true
 later_trans s n s' n' s'' n'' h k = grind (arith, nat_tests)
 

@@ -16,7 +16,7 @@ pub found_so : (o : Option (Bor (List ℕ))) → is_some o ≡ is_some (option_m
 found_so None = refl
 found_so (Some rest) = refl
 
--- no star in the text: none in its first byte, and none behind that
+-- no star in the text: none in its first byte, and none after that
 star_none : (c : ℕ) (cs : List ℕ) → cut_at 42 (c ∷ cs) ≡ None → (eqb c 42 ≡ false) × (cut_at 42 cs ≡ None)
 star_none c cs e = by_test (eqb c 42) refl
   where
@@ -28,7 +28,7 @@ star_none c cs e = by_test (eqb c 42) refl
     by_test true yea = let e' : ◌≡◌ {A = Option (List ℕ × List ℕ)} (Some ([], cs)) None = rw yea at e in cc
     by_test false nay = let e' : option_map (with_front c) (cut_at 42 cs) ≡ None = rw nay at e in (nay, by_rest (cut_at 42 cs) e')
 
--- the first star is behind the first byte
+-- the first star is after the first byte
 star_later : (c : ℕ) (cs front more : List ℕ) → eqb c 42 ≡ false → cut_at 42 (c ∷ cs) ≡ Some (front, more) → (f : List ℕ) × ((front ≡ c ∷ f) × (cut_at 42 cs ≡ Some (f, more)))
 star_later c cs front more nay e =
     let e' : option_map (with_front c) (cut_at 42 cs) ≡ Some (front, more) = rw nay at e in
@@ -52,7 +52,7 @@ pub first_here : (piece path rest : List ℕ) → behind piece path ≡ Some res
 first_here piece [] rest e = e
 first_here piece (b ∷ bs) rest e = rw e refl
 
--- a pattern with a star: its first piece stands at the path's start, and some end of what is behind it matches the rest
+-- a pattern with a star: its first piece stands at the path's start, and some end of what is after it matches the rest
 pub matches_front : (cs front more path : List ℕ) → cut_at 42 cs ≡ Some (front, more) → matches cs path ≡ option_map_or (some_end (matches more)) (behind front path) false
 matches_front [] front more path e = cc
 matches_front (c ∷ cs) front more path e = by_star (eqb c 42) refl (λ f p h. matches_front cs f more p h)
@@ -76,7 +76,7 @@ matches_front (c ∷ cs) front more path e = by_star (eqb c 42) refl (λ f p h. 
         let later = star_later c cs front more nay e in
         rw later.1.0 (by_path rest nay later.0 path later.1.1)
 
--- what is behind a piece is the path without as many bytes
+-- what is after a piece is the path without as many bytes
 behind-drop : (front path rest : List ℕ) → behind front path ≡ Some rest → rest ≡ drop (length front) path
 behind-drop [] path rest e = sym (same_Some path rest e)
 behind-drop (c ∷ cs) [] rest e = cc
@@ -105,7 +105,7 @@ some_end_at p (b ∷ bs) e = by_test (p (b ∷ bs)) refl (some_end_at p bs) e
     by_test true yea rest e = (0, yea)
     by_test false nay rest e = let there = rest e in (suc there.0, there.1)
 
--- what is behind a later place of the piece is an end of what is behind this one
+-- what is after a later place of the piece is an end of what is after this one
 later : (p : List ℕ → Bool) (front bs rest : List ℕ) (b : ℕ) → behind front (b ∷ bs) ≡ Some rest → some_end (λ t. option_map_or (some_end p) (behind front t) false) bs ≡ true → some_end p rest ≡ true
 later p front bs rest b e h =
     let there = some_end_at (λ t. option_map_or (some_end p) (behind front t) false) bs h in
@@ -141,7 +141,7 @@ some_end-same : (p q : List ℕ → Bool) (path : List ℕ) → ((t : List ℕ) 
 some_end-same p q [] h = h []
 some_end-same p q (b ∷ bs) h = rw (h (b ∷ bs), some_end-same p q bs h) refl
 
--- of a pattern's piece behind a star the first place decides
+-- of a pattern's piece after a star the first place decides
 pub some_end_front : (cs front more path : List ℕ) → cut_at 42 cs ≡ Some (front, more) → some_end (matches cs) path ≡ option_map_or (some_end (matches more)) (first_behind front path) false
 some_end_front cs front more path e =
     some_end-same (matches cs) (λ t. option_map_or (some_end (matches more)) (behind front t) false) path (λ t. matches_front cs front more t e) ∙ first_decides (matches more) front path

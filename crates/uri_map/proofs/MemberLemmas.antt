@@ -14,7 +14,7 @@ pub bit_small : (t : Bool) → cond t 1 0 ≤ 1
 bit_small true = omega arith
 bit_small false = omega arith
 
--- a set of so many members
+-- a set of this many members
 pub set_of-below : (members : List MemberConfig) (names : List (List ℕ)) → set_of members names < 2 ^ length members
 set_of-below [] names = omega arith
 set_of-below (m ∷ members) names =
@@ -22,7 +22,7 @@ set_of-below (m ∷ members) names =
     let bit = bit_small (is_named names m) in
     rw pow-suc (omega arith)
 
--- a set of members behind the first ones can be doubled
+-- a set of members after the first ones can be doubled
 pub set_of-fits : (members : List MemberConfig) (names : List (List ℕ)) (k : ℕ) → length members ≤ 64 → 1 ≤ k → set_of (drop k members) names < 9223372036854775808
 set_of-fits members names k few some =
     let below = set_of-below (drop k members) names in

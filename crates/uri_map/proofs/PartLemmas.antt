@@ -1,4 +1,4 @@
--- The parts behind a worker, one after another.
+-- The parts after a worker, one after another.
 use Rattle.std.proofs.Common.{◌≡◌, ◌==◌, ℕ, List, [], ◌∷◌, ◌++◌, Option, Some, None, refl, sym, ◌∙◌, ap, append_assoc, Bor, ◌+◌, ◌<◌, length, take, get_or}
 use Rattle.std.proofs.lemmas.List.{take_more, map-append}
 use Rattle.std.specs.Option.{option_map, option_or}
@@ -8,7 +8,7 @@ use Rattle.uri_map.specs.declared.parts.Part.{Part}
 use Rattle.uri_map.specs.PartViews.{as_part, as_parts}
 use Rattle.uri_map.specs.Parts.{before, last_value, part_of, parts_of, pieces_of, value_of}
 
--- the first piece, and those behind it
+-- the first piece, and those after it
 pub pieces_cut : (text front back : List ℕ) → cut_at 59 text ≡ Some (front, back) → pieces_of text ≡ front ∷ pieces_of back
 pieces_cut text front back e =
     let h : SplitsSo (λ b. b == 59) text (cut_at 59 text) = split_cut (λ b. b == 59) text in
@@ -37,7 +37,7 @@ pub or-now : (a b : Option (Bor (List ℕ))) → option_map (λ v. v.now) (optio
 or-now None b = refl
 or-now (Some x) b = refl
 
--- parts in front of one, and of those behind it
+-- parts in front of one, and of those after it
 pub front_more : (front : List (List ℕ × List ℕ)) (p : List ℕ × List ℕ) (o : Option (List (List ℕ × List ℕ))) → option_map (λ more. front ++ more) (before (Some p) o) ≡ option_map (λ more. (front ++ p ∷ []) ++ more) o
 front_more front p None = refl
 front_more front p (Some more) = ap (λ (x : List (List ℕ × List ℕ)). Some x) (sym (append_assoc front (p ∷ []) more))
@@ -46,7 +46,7 @@ front_more front p (Some more) = ap (λ (x : List (List ℕ × List ℕ)). Some 
 pub front_none : (front : List (List ℕ × List ℕ)) (text : List ℕ) (texts : List (List ℕ)) → part_of text ≡ None → option_map (λ more. front ++ more) (parts_of (text ∷ texts)) ≡ None
 front_none front text texts e = rw e refl
 
--- the value of the last one of so many parts, and of one more
+-- the value of the last one of this many parts, and of one more
 pub last_step : (parts : List Part) (i : ℕ) (d : Part) (name : List ℕ) (o v : Option (List ℕ)) → i < length parts → o ≡ value_of name (as_part (get_or parts i d)) → v ≡ last_value name (as_parts (take i parts)) → option_or o v ≡ last_value name (as_parts (take (i + 1) parts))
 last_step parts i d name o v within new before =
     let more : as_parts (take (i + 1) parts) ≡ as_parts (take i parts) ++ as_part (get_or parts i d) ∷ [] = ap as_parts (take_more parts i d within) ∙ map-append as_part (take i parts) (get_or parts i d ∷ []) in

@@ -139,7 +139,7 @@ module _ (ps : List Property) where
   chained_each [] each = tt
   chained_each (l ∷ ls) each = ((each.0.0, each.0.1), chained_each ls each.1)
 
-  -- the causes of an lb, each with those behind it
+  -- the causes of an lb, each with those after it
   abbrev FromBook : ℕ → (Directive → Option Property) → List Listing → LineRefusal → Type 0
   FromBook count v members r =
       Each (Known ps) members × (count < 1024) × Each (IsAjp13 ps) members × RefusesBook ps (line_in (v directive.Kind)) (firsts members) r

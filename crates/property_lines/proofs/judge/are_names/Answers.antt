@@ -8,7 +8,7 @@ use Rattle.property_lines.proofs.CutLemmas.{cut_shorter}
 use Rattle.property_lines.proofs.WordLemmas.{words_split, words_one}
 use Rattle.property_lines.proofs.judge.are_names.Goals as goal
 
--- a list is of names where its first word and those behind are
+-- a list is of names where its first word and those after it are
 split : (text front back : List ℕ) (good : Bool) → words text ≡ word_first front [] ++ words back → good ≡ list_all is_name (word_first front []) → are_names text ≡ (good && are_names back)
 split text front back good e h = rw (e, list_all-append, h) refl
 

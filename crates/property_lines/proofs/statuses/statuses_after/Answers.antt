@@ -7,7 +7,7 @@ use Rattle.property_lines.proofs.WordLemmas.{words_split, words_one}
 use Rattle.property_lines.proofs.StatusLemmas.{statuses_after-append}
 use Rattle.property_lines.proofs.statuses.statuses_after.Goals as goal
 
--- the statuses of the first word, and then those behind it
+-- the statuses of the first word, and then those after it
 split : (before : List (ℕ × Bool)) (text front back : List ℕ) (after : Option (List (ℕ × Bool))) → words text ≡ word_first front [] ++ words back → after ≡ statuses_after (Some before) (word_first front []) → statuses_after (Some before) (words text) ≡ statuses_after after (words back)
 split before text front back after e h = rw (e, statuses_after-append, h) refl
 

@@ -2,7 +2,7 @@ use Rattle.std.proofs.Common.{◌≡◌, ◌≤◌, drop, take, length, map}
 use Rattle.uri_map.specs.Members.{set_of}
 use Rattle.uri_map.proofs.members.set_of.Given as goal
 
--- the set of the members behind those that are left
+-- the set of the members after those that are left
 abbrev pub invariant-loop-left : goal.invariant-loop-left
 invariant-loop-left l = record {
   within : length l.left ≤ length l.members;

@@ -2,7 +2,7 @@ use Rattle.std.proofs.Common.{◌≡◌, ◌≤◌, drop, take, length}
 use Rattle.uri_map.specs.Workers.{IsTable}
 use Rattle.uri_map.proofs.workers.table_of.Given as goal
 
--- the table of the entries behind those that are left
+-- the table of the entries after those that are left
 abbrev pub invariant-loop-left : goal.invariant-loop-left
 invariant-loop-left l = record {
   within : length l.left ≤ length l.listed;

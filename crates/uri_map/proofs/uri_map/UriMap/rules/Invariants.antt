@@ -2,7 +2,7 @@ use Rattle.std.proofs.Common.{◌≡◌, ◌+◌, ◌≤◌, drop}
 use Rattle.uri_map.specs.Mounts.{lines_behind, line_count}
 use Rattle.uri_map.proofs.uri_map.UriMap.rules.Given as goal
 
--- the lines so far, and those that other rules stand on behind the last one
+-- the lines so far, and those that other rules stand on after the last one
 abbrev pub invariant-loop-rule : goal.invariant-loop-rule
 invariant-loop-rule l = record {
   few : l.count ≤ l.rule-index;
