@@ -1,5 +1,6 @@
 -- What a container's workers did at the doors, said of the gears.
 use Rattle.std.proofs.Common.{ℕ, ◌≡◌, List, [], ◌∷◌, length, map, Option, refl, sym, ap, ◌∙◌, subst, arith}
+use Rattle.std.specs.List.{AllZip}
 use Rattle.std.proofs.lemmas.List.{length-map}
 use Rattle.jk_io.specs.declared.reaching.Talk.{Talk}
 use Rattle.jk_io.specs.declared.traits.streams.Meanings.{Ghosts}
@@ -7,7 +8,7 @@ use Rattle.door_clients.specs.Doors.{DoorSide}
 use Rattle.container_server.specs.Served.{AreEachServed}
 use Rattle.container_server.specs.declared.ends.ContainerWorker.{ContainerWorker}
 use Rattle.mini_container.specs.declared.app_config.AppConfig.{AppConfig}
-use Rattle.gear_parts.specs.Gears.{GearSide, gear_side}
+use Rattle.gear_parts.specs.Gears.{GearSide, gear_side, KeepsRest}
 use Rattle.gear_parts.specs.declared.world.Gear.{Gear}
 use Rattle.gear_parts.specs.Containers.{IsContainerRun, SameButDoors}
 use Rattle.gear_parts.specs.GearParts.{rest_with, RestOfGear}
@@ -40,6 +41,20 @@ same_rests {G = G} {T = T} {K = K} {S = S} {O = O} {C = C} at talks answers (g �
     let tail : map (λ x. rest_with x.dial x.tape x.clock x.shelf x.log) back ≡ map (λ x. rest_with x.dial x.tape x.clock x.shelf x.log) gears = cc in (
       ap (λ (r : RestOfGear G T K S O). record (gear_side at talks answers g) { door = at b.door; talks = talks r.tape; clock = answers r.clock; shelf = r.shelf }) here,
       same_rests at talks answers gears back tail,
+    )
+
+-- Gears that have the same rests have each its own.
+pub rests_kept : {D G T K S O : Type 0} → (gears back : List (Gear D G T K S O))
+    → map (λ g. rest_with g.dial g.tape g.clock g.shelf g.log) back ≡ map (λ g. rest_with g.dial g.tape g.clock g.shelf g.log) gears
+    → AllZip KeepsRest gears back
+rests_kept [] [] same = tt
+rests_kept [] (b ∷ back) same = absurd cc
+rests_kept (g ∷ gears) [] same = absurd cc
+rests_kept {D = D} {G = G} {T = T} {K = K} {S = S} {O = O} (g ∷ gears) (b ∷ back) same =
+    let here : rest_with b.dial b.tape b.clock b.shelf b.log ≡ rest_with g.dial g.tape g.clock g.shelf g.log = cc in
+    let tail : map (λ x. rest_with x.dial x.tape x.clock x.shelf x.log) back ≡ map (λ x. rest_with x.dial x.tape x.clock x.shelf x.log) gears = cc in (
+      ap (λ (r : RestOfGear G T K S O). record g { door = b.door; dial = r.dial; tape = r.tape; clock = r.clock; shelf = r.shelf; log = r.log }) here,
+      rests_kept gears back tail,
     )
 
 -- the doors of gears

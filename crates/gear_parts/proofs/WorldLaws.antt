@@ -1,5 +1,5 @@
 -- Gears that a world handed out and took back.
-use Rattle.std.proofs.Common.{ℕ, ◌≡◌, ◌+◌, ◌≤◌, List, [], ◌∷◌, ◌++◌, length, Option, Result, Ok, Err, zero, suc, refl, sym, ◌∙◌, ap, arith, rules, length-append}
+use Rattle.std.proofs.Common.{ℕ, ◌≡◌, ◌+◌, ◌≤◌, List, [], ◌∷◌, ◌++◌, length, Option, Result, Ok, Err, zero, suc, refl, sym, ◌∙◌, ap, subst, arith, rules, length-append}
 use Rattle.std.specs.List.{All}
 use Rattle.std.specs.Prelude.{IfOk, OnErr}
 use Rattle.std.proofs.lemmas.List.Elements.{All-nil, All-push}
@@ -7,9 +7,10 @@ use Rattle.jk_io.specs.Told.{appended, HasCause}
 use Rattle.jk_io.proofs.ToldLaws.{appended-appended, appended-nil, Rose-within}
 use Rattle.jk_io.specs.declared.failures.IoError.{IoError}
 use Rattle.jk_io.specs.declared.failures.IoError.TheVariants as io
-use Rattle.gear_parts.specs.Gears.{GearSide}
+use Rattle.site_config.specs.declared.config.Config.{Config}
 use Rattle.gear_parts.specs.Steps.{AreTaken}
-use Rattle.gear_parts.specs.Worlds.{HandsAndTakes, HandsNone, IsMade, RefusesGear, Takes, WorldSide}
+use Rattle.gear_parts.specs.Wants.{AreSuited, GearWants}
+use Rattle.gear_parts.specs.Worlds.{GearTells, HandsAndTakes, HandsNone, IsMade, RefusesGear, Takes, WorldSide}
 use Rattle.gear_parts.specs.declared.world.Gear.{Gear}
 
 -- nothing was handed out, and nothing came back
@@ -81,32 +82,46 @@ none_handed s m n gears taken handed back out no_fewer = record {
 pub all_and : {X : Type 0} (P : X → Type 0) (xs more : List X) (x : X) → more ≡ xs ++ x ∷ [] → All P xs → P x → All P more
 all_and P xs more x pushed all one = rw pushed (All-push P xs x all one)
 
+-- and of each by its place
+pub suited_and : {G : Type 0} (Suits : ℕ → G → Type 0) (first : ℕ) (xs : List G) (x : G) → AreSuited Suits first xs → Suits (first + length xs) x → AreSuited Suits first (xs ++ x ∷ [])
+suited_and Suits first [] x all one = (subst (λ (n : ℕ). Suits n x) (omega arith) one, tt)
+suited_and Suits first (y ∷ xs) x all one =
+    let place : first + length (y ∷ xs) ≡ first + 1 + length xs = omega arith in
+    (all.0, suited_and Suits (first + 1) xs x all.1 (subst (λ (n : ℕ). Suits n x) place one))
+
 -- none is taken yet
-pub none_yet : {D G T K S O C : Type 0} (told : Gear D G T K S O → GearSide C S) (IsIdle : T → Type 0) (clients : Option ℕ) (s : WorldSide (Gear D G T K S O)) (gears : List (Gear D G T K S O))
-    → length gears ≡ 0 → AreTaken told IsIdle clients s s gears
-none_yet {D} {G} {T} {K} {S} {O} told IsIdle clients s [] none = record {
+pub none_yet : {D G T K S O C : Type 0} (tells : GearTells D G T K S O C) (wanted : GearWants) (cfg : Option Config) (s : WorldSide (Gear D G T K S O)) (gears : List (Gear D G T K S O))
+    → length gears ≡ 0 → AreTaken tells wanted cfg s s gears
+none_yet {D} {G} {T} {K} {S} {O} tells wanted cfg s [] none = record {
   passed = nothing_passed s;
-  made = All-nil (λ (g : Gear D G T K S O). IsMade clients (told g));
-  idle = All-nil (λ (g : Gear D G T K S O). IsIdle g.tape);
+  made = All-nil (λ (g : Gear D G T K S O). IsMade wanted.clients (tells.told g));
+  idle = All-nil (λ (g : Gear D G T K S O). tells.is_idle g.tape);
+  suited = tt;
 }
-none_yet told IsIdle clients s (g ∷ gears) none = absurd (omega (arith, none))
+none_yet tells wanted cfg s (g ∷ gears) none = absurd (omega (arith, none))
 
 -- another one was taken
-pub taken_on : {D G T K S O C : Type 0} (told : Gear D G T K S O → GearSide C S) (IsIdle : T → Type 0) (clients : Option ℕ) (s m n : WorldSide (Gear D G T K S O)) (gears more : List (Gear D G T K S O))
-    → AreTaken told IsIdle clients s m gears → Takes told IsIdle clients m n gears more → AreTaken told IsIdle clients s n more
-taken_on {D} {G} {T} {K} {S} {O} told IsIdle clients s m n gears more so_far taken = record {
-  passed = handed_on s m n gears more taken.gear so_far.passed taken.added taken.handed taken.came_back taken.counted taken.no_fewer;
-  made = all_and (λ (g : Gear D G T K S O). IsMade clients (told g)) gears more taken.gear taken.added so_far.made taken.made;
-  idle = all_and (λ (g : Gear D G T K S O). IsIdle g.tape) gears more taken.gear taken.added so_far.idle taken.idle;
-}
+pub taken_on : {D G T K S O C : Type 0} (tells : GearTells D G T K S O C) (number : ℕ) (wanted : GearWants) (cfg : Option Config) (s m n : WorldSide (Gear D G T K S O)) (gears more : List (Gear D G T K S O))
+    → AreTaken tells wanted cfg s m gears → number ≡ length gears → Takes tells number wanted cfg m n gears more → AreTaken tells wanted cfg s n more
+taken_on {D} {G} {T} {K} {S} {O} tells number wanted cfg s m n gears more so_far place taken =
+    let at : number ≡ 0 + length gears = omega (arith, place) in record {
+      passed = handed_on s m n gears more taken.gear so_far.passed taken.added taken.handed taken.came_back taken.counted taken.no_fewer;
+      made = all_and (λ (g : Gear D G T K S O). IsMade wanted.clients (tells.told g)) gears more taken.gear taken.added so_far.made taken.made;
+      idle = all_and (λ (g : Gear D G T K S O). tells.is_idle g.tape) gears more taken.gear taken.added so_far.idle taken.idle;
+      suited =
+          subst (λ (gs : List (Gear D G T K S O)). AreSuited (λ (k : ℕ). tells.suits k wanted cfg) 0 gs) (sym taken.added)
+          (suited_and (λ (k : ℕ). tells.suits k wanted cfg) 0 gears taken.gear so_far.suited
+          (subst (λ (k : ℕ). tells.suits k wanted cfg taken.gear) at taken.suited));
+    }
 
 -- the next was refused
-pub taken_still : {D G T K S O C : Type 0} (told : Gear D G T K S O → GearSide C S) (IsIdle : T → Type 0) (clients : Option ℕ) (s m n : WorldSide (Gear D G T K S O)) (gears more : List (Gear D G T K S O))
-    → AreTaken told IsIdle clients s m gears → HandsNone m n → more ≡ gears → AreTaken told IsIdle clients s n more
-taken_still told IsIdle clients s m n gears more so_far none same = rw same (record {
+pub taken_still : {D G T K S O C : Type 0} (tells : GearTells D G T K S O C) (wanted : GearWants) (cfg : Option Config) (s m n : WorldSide (Gear D G T K S O)) (gears more : List (Gear D G T K S O))
+    → AreTaken tells wanted cfg s m gears → HandsNone m n → more ≡ gears → AreTaken tells wanted cfg s n more
+taken_still tells wanted cfg s m n gears more so_far none same = rw same (record {
   passed = none_handed s m n gears so_far.passed none.handed none.came_back none.counted none.no_fewer;
   made = so_far.made;
   idle = so_far.idle;
+  suited = so_far.suited;
 })
 
 -- of what succeeded this follows

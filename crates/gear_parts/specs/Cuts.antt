@@ -1,5 +1,5 @@
 -- The last segments of Books, and the shelf on which they are kept.
-use Rattle.std.specs.Prelude.{ℕ, ◌≡◌, suc, List, [], ◌∷◌, Option}
+use Rattle.std.specs.Prelude.{ℕ, ◌≡◌, ◌<◌, suc, List, [], ◌∷◌, ◌++◌, length, Option}
 use Rattle.jk_io.specs.Told.{appended}
 use Rattle.jk_model.specs.Legal.{IsLegal}
 use Rattle.jk_model.specs.declared.segment.Segment.{Segment}
@@ -15,6 +15,14 @@ AreCuts lb books kept = ⊥
 -- The segments of these Books were added to a shelf.
 abbrev pub AddsCuts : {S : Type 0} → (S → Option (List (ℕ × Segment))) → List Journal → (old new : S) → Type 0
 AddsCuts shelved books old new = (kept : List (ℕ × Segment)) × AreCuts 0 books kept × (shelved new ≡ appended (shelved old) kept)
+
+-- The segments of the first of these Books were added to a shelf, and those of the others weren't.
+pub record AddsFront {S : Type 0} (shelved : S → Option (List (ℕ × Segment))) (books : List Journal) (old new : S) : Type 0 where
+  pub front : List Journal
+  pub rest : List Journal
+  pub all : books ≡ front ++ rest
+  pub fewer : length front < length books
+  pub added : AddsCuts shelved front old new
 
 -- This is so of the first, and nothing else changed.
 abbrev pub ToFirst : {S : Type 0} → (S → S → Type 0) → (old new : List S) → Type 0

@@ -1,5 +1,5 @@
 -- What a gear tells at a moment. Read this first.
-use Rattle.std.specs.Prelude.{ℕ, List, Option}
+use Rattle.std.specs.Prelude.{ℕ, ◌≡◌, List, Option}
 use Rattle.jk_io.specs.declared.reaching.Talk.{Talk}
 use Rattle.door_clients.specs.Doors.{DoorSide}
 use Rattle.gear_parts.specs.declared.world.Gear.{Gear}
@@ -19,3 +19,11 @@ gear_side door talks answers gear = record {
   clock = answers gear.clock;
   shelf = gear.shelf;
 }
+
+-- A gear has the log that it had before.
+abbrev pub KeepsLog : {D G T K S O : Type 0} → (before after : Gear D G T K S O) → Type 0
+KeepsLog before after = after.log ≡ before.log
+
+-- It has all that it had before but for its door: its dial, its tape, its clock, its shelf and its log.
+abbrev pub KeepsRest : {D G T K S O : Type 0} → (before after : Gear D G T K S O) → Type 0
+KeepsRest before after = after ≡ record before { door = after.door }

@@ -4,4 +4,5 @@ pub mod GearParts
 pub mod Gears
 pub mod Putting
 pub mod Steps
+pub mod Wants
 pub mod Worlds

@@ -5,15 +5,32 @@ use Rattle.jk_io.specs.Told.{appended}
 use Rattle.jk_model.specs.Legal.{IsLegal}
 use Rattle.jk_model.specs.declared.segment.Segment.{Segment}
 use Rattle.balancer_core.specs.Journal.{IsSegmentOf, Journal}
-use Rattle.gear_parts.specs.Gears.{GearSide}
-use Rattle.gear_parts.specs.Worlds.{HandsAndTakes, IsMade, WorldSide}
+use Rattle.conn_pool.specs.declared.tape.Tape.{Ghosts as TapeGhosts}
+use Rattle.jk_io.specs.declared.traits.surroundings.Clock.{Ghosts as ClockGhosts}
+use Rattle.jk_io.specs.declared.traits.surroundings.Door.{Ghosts as DoorGhosts}
+use Rattle.site_config.specs.declared.config.Config.{Config}
+use Rattle.gear_parts.specs.Wants.{AreSuited, GearWants}
+use Rattle.gear_parts.specs.Worlds.{gear_tells, GearTells, HandsAndTakes, IsMade, Takes, wants_of, world_side, WorldSide}
+use Rattle.gear_parts.specs.declared.gears.GearOrder.{GearOrder}
+use Rattle.gear_parts.specs.declared.world.World.{Ghosts as WorldGhosts}
 use Rattle.gear_parts.specs.declared.world.Gear.{Gear}
 
--- The world handed out these gears, each just made and its tape idle, and none came back.
-pub record AreTaken {D G T K S O C : Type 0} (told : Gear D G T K S O → GearSide C S) (IsIdle : T → Type 0) (clients : Option ℕ) (before after : WorldSide (Gear D G T K S O)) (gears : List (Gear D G T K S O)) : Type 0 where
+-- The world handed out these gears, each just made, its tape idle and as it is wanted, and none came back.
+pub record AreTaken {D G T K S O C : Type 0} (tells : GearTells D G T K S O C) (wanted : GearWants) (cfg : Option Config) (before after : WorldSide (Gear D G T K S O)) (gears : List (Gear D G T K S O)) : Type 0 where
   pub passed : HandsAndTakes before after gears []
-  pub made : All (λ g. IsMade clients (told g)) gears
-  pub idle : All (λ g. IsIdle g.tape) gears
+  pub made : All (λ g. IsMade wanted.clients (tells.told g)) gears
+  pub idle : All (λ g. tells.is_idle g.tape) gears
+  pub suited : AreSuited (λ number. tells.suits number wanted cfg) 0 gears
+
+-- So of the gear of worker `number` that was taken of a world, from one moment to another.
+abbrev pub TakesGear : {W D G T K S O C X E Y Z : Type 0} → WorldGhosts W D G T K S O C X E Y Z → DoorGhosts D C X → TapeGhosts T → ClockGhosts K → ℕ → GearOrder → Option Config → (before after : W) → (gears more : List (Gear D G T K S O)) → Type 0
+TakesGear of_world of_door of_tape of_clock number asked cfg before after gears more =
+    Takes (gear_tells of_world of_door of_tape of_clock) number (wants_of asked) cfg (world_side of_world before) (world_side of_world after) gears more
+
+-- So of all that were taken.
+abbrev pub TakesGears : {W D G T K S O C X E Y Z : Type 0} → WorldGhosts W D G T K S O C X E Y Z → DoorGhosts D C X → TapeGhosts T → ClockGhosts K → GearOrder → Option Config → (before after : W) → List (Gear D G T K S O) → Type 0
+TakesGears of_world of_door of_tape of_clock asked cfg before after gears =
+    AreTaken (gear_tells of_world of_door of_tape of_clock) (wants_of asked) cfg (world_side of_world before) (world_side of_world after) gears
 
 -- The last segment of a Book was added to a shelf, as that of balancer lb.
 pub record AddsCut {S : Type 0} (shelved : S → Option (List (ℕ × Segment))) (lb : ℕ) (book : Journal) (old new : S) : Type 0 where

@@ -5,10 +5,14 @@ use Rattle.jk_io.specs.Told.{appended, IsEmpty}
 use Rattle.jk_io.specs.declared.traits.streams.Meanings.{Ghosts}
 use Rattle.jk_io.specs.declared.traits.surroundings.Clock.{Ghosts as ClockGhosts}
 use Rattle.jk_io.specs.declared.traits.surroundings.Door.{Ghosts as DoorGhosts}
+use Rattle.std.specs.Option.{option_copied}
+use Rattle.site_config.specs.declared.config.Config.{Config}
 use Rattle.jk_model.specs.declared.segment.Segment.{Segment}
 use Rattle.conn_pool.specs.declared.tape.Tape.{Ghosts as TapeGhosts}
 use Rattle.locked_balancer.specs.declared.shelf.Shelf.{Ghosts as ShelfGhosts}
-use Rattle.gear_parts.specs.Gears.{gear_side, GearSide}
+use Rattle.gear_parts.specs.Gears.{gear_side, GearSide, KeepsLog, KeepsRest}
+use Rattle.gear_parts.specs.Wants.{GearWants, wants}
+use Rattle.gear_parts.specs.declared.gears.GearOrder.{GearOrder}
 use Rattle.gear_parts.specs.declared.world.Gear.{Gear}
 use Rattle.gear_parts.specs.declared.world.World.{Ghosts as WorldGhosts}
 
@@ -32,13 +36,17 @@ world_side of_world world = record {
 abbrev pub gear_told : {D G T K S O C X : Type 0} → DoorGhosts D C X → TapeGhosts T → ClockGhosts K → Gear D G T K S O → GearSide C S
 gear_told of_door of_tape of_clock = gear_side (side of_door.coming of_door.left of_door.faults) of_tape.talks of_clock.answers
 
--- What a world and its parts tell: the world at a moment, a gear, a client's link, and a shelf with its faults.
+-- What a world and its parts tell: the world at a moment, a gear, a client's link, and a shelf with its faults; and whether a
+-- gear has the log that it had before, or all but its door, and whether it is what a worker wants.
 pub record Tells (W G C S X : Type 0) : Type 1 where
   pub world : W → WorldSide G
   pub gear : G → GearSide C S
   pub link : Ghosts C X
   pub shelved : S → Option (List (ℕ × Segment))
   pub shelf_faults : S → ℕ
+  pub keeps_log : G → G → Type 0
+  pub keeps_rest : G → G → Type 0
+  pub suits : ℕ → GearWants → Option Config → G → Type 0
 
 -- what they tell, by their types: `tells W.World W.D.Door W.T.Tape W.K.Clock W.D.L.Meanings W.S.Shelf`
 abbrev pub tells : {W D G T K S O C X E Y Z : Type 0} → WorldGhosts W D G T K S O C X E Y Z → DoorGhosts D C X → TapeGhosts T → ClockGhosts K → Ghosts C X → ShelfGhosts S → Tells W (Gear D G T K S O) C S X
@@ -48,6 +56,9 @@ tells of_world of_door of_tape of_clock of_link of_shelf = record {
   link = of_link;
   shelved = of_shelf.shelved;
   shelf_faults = of_shelf.faults;
+  keeps_log = λ before after. KeepsLog before after;
+  keeps_rest = λ before after. KeepsRest before after;
+  suits = of_world.suits;
 }
 
 -- The world handed out these gears and took those back, each list in order.
@@ -70,16 +81,35 @@ pub record RefusesGear {G : Type 0} (threads : ℕ) (before after : WorldSide G)
   pub passed : HandsAndTakes before after gears gears
   pub fewer : length gears < threads
 
--- The world handed out one more gear, just made and its tape idle, which was put after the others.
-pub record Takes {D G T K S O C : Type 0} (told : Gear D G T K S O → GearSide C S) (IsIdle : T → Type 0) (clients : Option ℕ) (before after : WorldSide (Gear D G T K S O)) (gears more : List (Gear D G T K S O)) : Type 0 where
+-- what gears are ordered for
+abbrev pub wants_of : GearOrder → GearWants
+wants_of asked = wants asked.address.now asked.clients (option_copied asked.journal)
+
+-- What a world tells of its gears: a gear at a moment, whether its tape is idle, and whether it is what a worker wants.
+pub record GearTells (D G T K S O C : Type 0) : Type 1 where
+  pub told : Gear D G T K S O → GearSide C S
+  pub is_idle : T → Type 0
+  pub suits : ℕ → GearWants → Option Config → Gear D G T K S O → Type 0
+
+-- what it tells of them, by its types
+abbrev pub gear_tells : {W D G T K S O C X E Y Z : Type 0} → WorldGhosts W D G T K S O C X E Y Z → DoorGhosts D C X → TapeGhosts T → ClockGhosts K → GearTells D G T K S O C
+gear_tells of_world of_door of_tape of_clock = record {
+  told = gear_told of_door of_tape of_clock;
+  is_idle = of_tape.is_idle;
+  suits = of_world.suits;
+}
+
+-- The world handed out one more gear, just made, its tape idle and as it is wanted, which was put behind the others.
+pub record Takes {D G T K S O C : Type 0} (tells : GearTells D G T K S O C) (number : ℕ) (wanted : GearWants) (cfg : Option Config) (before after : WorldSide (Gear D G T K S O)) (gears more : List (Gear D G T K S O)) : Type 0 where
   pub gear : Gear D G T K S O
   pub added : more ≡ gears ++ gear ∷ []
   pub handed : after.handed ≡ appended before.handed (gear ∷ [])
   pub came_back : after.back ≡ before.back
   pub counted : after.out ≡ before.out + 1
   pub no_fewer : before.faults ≤ after.faults
-  pub made : IsMade clients (told gear)
-  pub idle : IsIdle gear.tape
+  pub made : IsMade wanted.clients (tells.told gear)
+  pub idle : tells.is_idle gear.tape
+  pub suited : tells.suits number wanted cfg gear
 
 -- The world handed out none, and nothing else of it changed but its faults.
 pub record HandsNone {G : Type 0} (before after : WorldSide G) : Type 0 where

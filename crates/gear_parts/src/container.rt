@@ -1,8 +1,10 @@
 //! A container's run.
 ghost use Rattle.std.specs.Prelude.{◌≡◌, ◌+◌, ◌<◌, ◌≤◌, [], length, map, vec_capacity, vec_len, IfOk};
+ghost use Rattle.std.specs.List.{AllZip};
 ghost use Rattle.door_clients.specs.Doors.{side};
 ghost use Rattle.gear_parts.specs.Containers.{ContainsGears};
 ghost use Rattle.gear_parts.specs.GearParts.{rest_with};
+ghost use Rattle.gear_parts.specs.Gears.{KeepsRest};
 ghost use Rattle.gear_parts.specs.Putting.{PutsNext};
 
 use crate::world::Gear;
@@ -57,6 +59,7 @@ pub fn contain_gears<
 where
     D::L: Send,
     ensures ran { IfOk result (ContainsGears app.now D.L.Meanings (side D.coming D.left D.faults) gears.items) }
+    ensures rests { IfOk result (λ run. AllZip KeepsRest gears.items run.gears.items) }
 {
     let memory = memory_for(alloc, gears.len())?;
     contain_in(rt, alloc, app, gears, memory)
@@ -102,6 +105,7 @@ where
     requires rests { vec_len gears ≤ vec_capacity memory.rests }
     requires back { vec_len gears ≤ vec_capacity memory.back }
     ensures ran { IfOk result (ContainsGears app.now D.L.Meanings (side D.coming D.left D.faults) gears.items) }
+    ensures rests { IfOk result (λ run. AllZip KeepsRest gears.items run.gears.items) }
 {
     let Memory { doors, rests, back } = memory;
     let mut doors = doors;

@@ -1,9 +1,11 @@
 //! Gears taken of a world, one for each worker, and given back.
 ghost use Rattle.std.specs.Prelude.{◌≡◌, ◌+◌, ◌<◌, ◌≤◌, [], length, vec_capacity, vec_len, IfOk, IsSome, OnErr, OnOk};
 ghost use Rattle.std.specs.List.{All};
+ghost use Rattle.std.specs.Option.{option_copied};
 ghost use Rattle.jk_io.specs.Told.{HasCause, appended};
-ghost use Rattle.gear_parts.specs.Steps.{AreTaken};
-ghost use Rattle.gear_parts.specs.Worlds.{gear_told, HandsAndTakes, HandsNone, IsMade, RefusesGear, Takes, world_side};
+ghost use Rattle.gear_parts.specs.Steps.{TakesGear, TakesGears};
+ghost use Rattle.gear_parts.specs.Wants.{AreSuited};
+ghost use Rattle.gear_parts.specs.Worlds.{gear_told, HandsAndTakes, HandsNone, IsMade, RefusesGear, wants_of, world_side};
 
 use crate::world::{Gear, World};
 use jk_io::{Bytes, IoError};
@@ -41,7 +43,7 @@ impl<'a> GearOrder<'a> {
         clients: Option<u64>,
         journal: Option<&'a Bytes>,
     ) -> GearOrder<'a>
-        ensures { (result.threads ≡ threads) × (result.clients ≡ clients) × (result.journal ≡ journal.entry) }
+        ensures { (result.threads ≡ threads) × (result.clients ≡ clients) × (result.journal ≡ journal.entry) × (result.address.now ≡ address.now) }
     {
         GearOrder {
             address,
@@ -63,8 +65,8 @@ fn take_gear<W: World>(
 ) -> Result<(), IoError>
     requires named { IsSome asked.journal → IsSome cfg }
     requires room { vec_len gears.old < vec_capacity gears.old }
-    ensures ok { OnOk result (let at = world_side W.World in Takes (gear_told W.D.Door W.T.Tape W.K.Clock) W.T.is_idle
-        asked.entry.clients (at world.old) (at world.new) gears.old.items gears.new.items) }
+    ensures ok { OnOk result (TakesGear W.World W.D.Door W.T.Tape W.K.Clock number asked.entry (option_copied cfg.entry)
+        world.old world.new gears.old.items gears.new.items) }
     ensures room { OnOk result ((vec_len gears.new ≡ vec_len gears.old + 1) × (vec_capacity gears.new ≡ vec_capacity gears.old)) }
     ensures err { OnErr result (let at = world_side W.World in HandsNone (at world.old) (at world.new)) }
     ensures same { OnErr result (gears.new.items ≡ gears.old.items) }
@@ -93,8 +95,7 @@ fn fill_gears<W: World>(
     requires named { IsSome asked.journal → IsSome cfg }
     requires none { vec_len gears.old ≡ 0 }
     requires room { asked.threads ≤ vec_capacity gears.old }
-    ensures taken { let at = world_side W.World in AreTaken (gear_told W.D.Door W.T.Tape W.K.Clock) W.T.is_idle
-        asked.entry.clients (at world.old) (at world.new) gears.new.items }
+    ensures taken { TakesGears W.World W.D.Door W.T.Tape W.K.Clock asked.entry (option_copied cfg.entry) world.old world.new gears.new.items }
     ensures count { OnOk result (vec_len gears.new ≡ asked.entry.threads) }
     ensures fewer { OnErr result (vec_len gears.new < asked.entry.threads) }
     ensures cause { HasCause (W.faults world.old) (W.faults world.new) result }
@@ -119,6 +120,7 @@ pub fn take_gears<W: World>(
     ensures made { IfOk result (λ gears. let at = gear_told W.D.Door W.T.Tape W.K.Clock in
         All (λ g. IsMade asked.entry.clients (at g)) gears.items) }
     ensures idle { IfOk result (λ gears. All (λ g. W.T.is_idle g.tape) gears.items) }
+    ensures suited { IfOk result (λ gears. AreSuited (λ number. W.suits number (wants_of asked.entry) (option_copied cfg.entry)) 0 gears.items) }
     ensures refused { OnErr result (let at = world_side W.World in RefusesGear asked.entry.threads (at world.old) (at world.new)) }
     ensures cause { HasCause (W.faults world.old) (W.faults world.new) result }
 {
@@ -137,8 +139,8 @@ fn gears_in<W: World>(
     requires named { IsSome asked.journal → IsSome cfg }
     requires none { vec_len gears ≡ 0 }
     requires room { asked.threads ≤ vec_capacity gears }
-    ensures taken { IfOk result (λ gears. let at = world_side W.World in AreTaken (gear_told W.D.Door W.T.Tape W.K.Clock) W.T.is_idle
-        asked.entry.clients (at world.old) (at world.new) gears.items) }
+    ensures taken { IfOk result (λ gears. TakesGears W.World W.D.Door W.T.Tape W.K.Clock asked.entry (option_copied cfg.entry)
+        world.old world.new gears.items) }
     ensures count { IfOk result (λ gears. vec_len gears ≡ asked.entry.threads) }
     ensures refused { OnErr result (let at = world_side W.World in RefusesGear asked.entry.threads (at world.old) (at world.new)) }
     ensures cause { HasCause (W.faults world.old) (W.faults world.new) result }

@@ -1,8 +1,8 @@
 //! The last segments of Books, kept on the first of the shelves.
-ghost use Rattle.std.specs.Prelude.{◌≡◌, ◌<◌, ◌≤◌, length, IsErrOf, OnOk};
+ghost use Rattle.std.specs.Prelude.{◌≡◌, ◌<◌, ◌≤◌, length, IsErrOf, OnErr, OnOk};
 ghost use Rattle.jk_io.specs.Told.{HasCause, Rose};
 ghost use Rattle.jk_model.specs.declared.config.TheConstants.{MAX_BALANCERS};
-ghost use Rattle.gear_parts.specs.Cuts.{AddsCuts, ToFirst};
+ghost use Rattle.gear_parts.specs.Cuts.{AddsCuts, AddsFront, ToFirst};
 ghost use Rattle.gear_parts.specs.Steps.{AddsCut};
 
 use balancer_core::{Book, BookList};
@@ -15,6 +15,10 @@ pub fn keep_on_first<S: Shelf>(books: BookList, shelves: &mut [S]) -> Result<(),
     requires few { length books ≤ MAX_BALANCERS }
     ensures kept { OnOk result (ToFirst (AddsCuts S.shelved books) shelves.old shelves.new) }
     ensures failed { IsErrOf result IoError.Failed → ToFirst (λ old new. Rose (S.faults old) (S.faults new)) shelves.old shelves.new }
+
+    // After an error the segments of the first Books were added, and the faults of the shelf rose where it failed.
+    ensures front { OnErr result (ToFirst (AddsFront S.shelved books) shelves.old shelves.new) }
+    ensures cause { ToFirst (λ old new. HasCause (S.faults old) (S.faults new) result) shelves.old shelves.new }
     ensures len { length shelves.new ≡ length shelves.old }
 {
     keep_rest(books, &mut shelves[0])
@@ -25,6 +29,8 @@ fn keep_rest<S: Shelf>(books: BookList, shelf: &mut S) -> Result<(), IoError>
     requires few { length books ≤ MAX_BALANCERS }
     ensures kept { OnOk result (AddsCuts S.shelved books shelf.old shelf.new) }
     ensures failed { IsErrOf result IoError.Failed → Rose (S.faults shelf.old) (S.faults shelf.new) }
+    ensures front { OnErr result (AddsFront S.shelved books shelf.old shelf.new) }
+    ensures cause { HasCause (S.faults shelf.old) (S.faults shelf.new) result }
 {
     let mut lb: u32 = 0;
     'books: for book in books.into_vec() {
@@ -37,6 +43,7 @@ fn keep_rest<S: Shelf>(books: BookList, shelf: &mut S) -> Result<(), IoError>
 /// Cuts a Book once more, and keeps its segment as that of balancer `lb`.
 fn keep_last<S: Shelf>(book: Book, lb: u32, shelf: &mut S) -> Result<(), IoError>
     ensures kept { OnOk result (AddsCut S.shelved lb book shelf.old shelf.new) }
+    ensures refused { OnErr result (S.shelved shelf.new ≡ S.shelved shelf.old) }
     ensures cause { HasCause (S.faults shelf.old) (S.faults shelf.new) result }
 {
     let mut book = book;

@@ -2,8 +2,8 @@
 //!
 //! A gear is a door, a dial, a tape, a clock, a shelf and maybe a log. A connector's worker works with a part, which has a desk
 //! in the place of the shelf; a container's worker uses the door alone.
-//! Contract: the trait `World`; `take_gears`, clauses `taken`, `made` and `refused`, and `give_back`, clause `came_back`;
-//! `fill_parts`, clause `starts`, and `take_apart` and `gears_again`, clause `tools`; `keep_on_first`, clause `kept`;
+//! Contract: the trait `World`; `take_gears`, clauses `taken`, `made`, `suited` and `refused`, and `give_back`, clause `came_back`;
+//! `fill_parts`, clause `starts`, and `take_apart` and `gears_again`, clause `tools`; `keep_on_first`, clauses `kept` and `front`;
 //! `contain_gears`, clause `ran`. Read first: src/world.rt, specs/Gears.antt, specs/Worlds.antt; then specs/GearParts.antt,
 //! specs/Cuts.antt and specs/Containers.antt.
 //! Errors: `IoError` of the world or a shelf; a container's run has want of memory alone, after which no gear comes back.

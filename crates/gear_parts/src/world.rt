@@ -29,7 +29,10 @@ pub struct Gear<D, G, T, K, S, O> {
 pub trait World {
     ghost use Rattle.std.specs.Prelude.{◌≡◌, ◌+◌, ◌<◌, ◌≤◌, ℕ, List, Option, Some, None, [], ◌∷◌, length, IfOk, IfSome, IsSome, OnErr, OnOk};
     ghost use Rattle.jk_io.specs.Told.{HasCause, IsEmpty, appended};
+    ghost use Rattle.std.specs.Option.{option_copied};
+    ghost use Rattle.gear_parts.specs.Wants.{GearWants, wants};
     ghost use Rattle.gear_parts.specs.declared.world.Gear.{Gear as AnyGear};
+    ghost use Rattle.site_config.specs.declared.config.Config.{Config as AnyConfig};
 
     type D: Door + Drop + Send;
 
@@ -52,6 +55,9 @@ pub trait World {
     // how many gears are out
     ghost out: { Self → ℕ };
 
+    // a gear is what a worker of this number wants, over this configuration; where it isn't told, each may be
+    ghost suits: { ℕ → GearWants → Option AnyConfig → AnyGear Self.D Self.G Self.T Self.K Self.S Self.O → Type 0 } = { λ _ _ _ _. Unit {0} };
+
     // how many calls failed
     ghost faults: { Self → ℕ };
 
@@ -70,6 +76,9 @@ pub trait World {
         ensures handed { IfOk result (λ gear. handed self.new ≡ appended (handed self.old) (gear ∷ [])) }
         ensures one_more { OnOk result (out self.new ≡ out self.old + 1) }
         ensures few { IfOk result (λ gear. IfSome clients (λ most. IfSome (Self.D.coming gear.door) (λ coming. length coming ≤ most))) }
+
+        // It is what was asked for.
+        ensures suited { IfOk result (λ gear. suits number (wants address.now clients (option_copied journal.entry)) (option_copied cfg.entry) gear) }
 
         // Nothing was done with it: no link was left at its door, and no talk runs or was noted.
         ensures none_left { IfOk result (λ gear. IsEmpty (Self.D.left gear.door)) }

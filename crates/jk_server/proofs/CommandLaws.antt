@@ -7,6 +7,7 @@ use Rattle.mini_container.specs.declared.app_config.AppConfig.{AppConfig}
 use Rattle.site_reports.specs.Readings.{CommandOutside}
 use Rattle.jk_server.specs.Commands.{CommandSide, ContainsLinks, RunsContainer, Serves, Unread, Works, NoGear, NoRoom}
 use Rattle.jk_server.specs.Ends.{end_by}
+use Rattle.gear_parts.specs.Wants.{GearWants}
 use Rattle.gear_parts.specs.Worlds.{HandsAndTakes, RefusesGear, Tells, WorldSide}
 use Rattle.jk_server.specs.declared.orders.ends.CommandEnd.{CommandEnd}
 use Rattle.jk_server.specs.declared.orders.ends.CommandEnd.TheVariants as end
@@ -17,16 +18,16 @@ pub works_err : {G L T : Type 0} (threads : ℕ) (Runs : WorldSide G → WorldSi
     → RefusesGear threads s n → HasCause {T = T} s.faults n.faults (Err e) → ended ≡ end_by e → Works threads Runs s n ended
 works_err threads Runs s n io.Failed ended refused cause is = NoGear (record { refused = refused; status = is; cause = cause.failed refl })
 works_err threads Runs s n io.NoMemory ended refused cause is =
-    NoRoom (record { gears = refused.gears; back = refused.gears; passed = refused.passed; unserved = inl refl; status = is })
+    NoRoom (record { gears = refused.gears; back = refused.gears; passed = refused.passed; few = omega (arith, refused.fewer); unserved = inl refl; status = is })
 
 -- memory was wanted before anything was done
 pub wants_room : {G L : Type 0} (threads : ℕ) (Runs : WorldSide G → WorldSide G → CommandEnd L → Type 0) (s : WorldSide G) → Works threads Runs s s (end.Status 6)
-wants_room threads Runs s = NoRoom (record { gears = []; back = []; passed = nothing_passed s; unserved = inl refl; status = refl })
+wants_room threads Runs s = NoRoom (record { gears = []; back = []; passed = nothing_passed s; few = omega arith; unserved = inl refl; status = refl })
 
 -- memory was wanted after gears were taken, and none came back
 pub wants_gears : {G L : Type 0} (threads : ℕ) (Runs : WorldSide G → WorldSide G → CommandEnd L → Type 0) (s n : WorldSide G) (gears : List G)
-    → HandsAndTakes s n gears [] → Works threads Runs s n (end.Status 6)
-wants_gears threads Runs s n gears taken = NoRoom (record { gears = gears; back = []; passed = taken; unserved = inr refl; status = refl })
+    → HandsAndTakes s n gears [] → length gears ≡ threads → Works threads Runs s n (end.Status 6)
+wants_gears threads Runs s n gears taken all = NoRoom (record { gears = gears; back = []; passed = taken; few = omega (arith, all); unserved = inr refl; status = refl })
 
 -- all that were taken come back
 pub may_come_back : {G : Type 0} (s m : WorldSide G) (gears left : List G) (count : ℕ) → HandsAndTakes s m gears [] → count ≡ length left → length left ≡ length gears → count ≤ m.out
@@ -41,23 +42,23 @@ pub some_asked : (n count : ℕ) → n ≡ count → 1 ≤ count → 0 < n
 some_asked n count same some = omega (arith, same, some)
 
 -- the files of a site couldn't be read
-pub unread : {W G C S X L T : Type 0} (told : Tells W G C S X) (outside : CommandOutside) (workers map : List ℕ) (threads : ℕ) (clients : Option ℕ) (s n : CommandSide G) (e : IoError) (ended : CommandEnd L)
+pub unread : {W G C S X L T : Type 0} (told : Tells W G C S X) (outside : CommandOutside) (workers map : List ℕ) (threads : ℕ) (wanted : GearWants) (s n : CommandSide G) (e : IoError) (ended : CommandEnd L)
     → HasCause {T = T} s.file_faults n.file_faults (Err e) → ended ≡ end_by e → n.sent ≡ s.sent → n.world ≡ s.world
-    → Serves told outside workers map threads clients s n ended
-unread told outside workers map threads clients s n io.Failed ended cause is written world =
+    → Serves told outside workers map threads wanted s n ended
+unread told outside workers map threads wanted s n io.Failed ended cause is written world =
     Unread (record { why = inl (is, cause.failed refl); written = written; world = world })
-unread told outside workers map threads clients s n io.NoMemory ended cause is written world =
+unread told outside workers map threads wanted s n io.NoMemory ended cause is written world =
     Unread (record { why = inr is; written = written; world = world })
 
 -- the application of a route that is short enough
 pub app_of : (route : List ℕ) → length route ≤ 1024 → AppConfig
 app_of route short = record { route = route; secret = None; packet = 8192; packet_at_least = lit≤ tt; packet_at_most = lit≤ tt; short_route = short }
 
-pub contains_none : {W G C S X L : Type 0} (told : Tells W G C S X) (route : List ℕ) (threads : ℕ) (clients : Option ℕ) (s : WorldSide G) → length route ≤ 1024
-    → ContainsLinks {L = L} told route threads clients s s (end.Status 6)
+pub contains_none : {W G C S X L : Type 0} (told : Tells W G C S X) (route : List ℕ) (threads : ℕ) (wanted : GearWants) (s : WorldSide G) → length route ≤ 1024
+    → ContainsLinks {L = L} told route threads wanted s s (end.Status 6)
 unfolding app_of
-contains_none told route threads clients s short = record {
+contains_none told route threads wanted s short = record {
   app = app_of route short;
   is = record { name = refl; secret = refl; packet = refl };
-  works = wants_room threads (RunsContainer told (app_of route short) threads clients) s;
+  works = wants_room threads (RunsContainer told (app_of route short) threads wanted) s;
 }

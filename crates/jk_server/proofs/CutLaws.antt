@@ -1,5 +1,7 @@
 -- What the last cuts of a run do with the first gear.
-use Rattle.std.proofs.Common.{ℕ, ◌≡◌, List, [], ◌∷◌, length, map, Option, refl, sym, ap, ◌∙◌, subst, arith}
+use Rattle.std.proofs.Common.{ℕ, ◌≡◌, List, [], ◌∷◌, length, map, Option, Result, Ok, Err, inl, inr, refl, sym, ap, ◌∙◌, subst, arith}
+use Rattle.std.specs.List.{AllZip}
+use Rattle.std.specs.Prelude.{OnErr}
 use Rattle.jk_io.specs.Told.{Rose}
 use Rattle.jk_io.specs.declared.reaching.Talk.{Talk}
 use Rattle.jk_model.specs.declared.segment.Segment.{Segment}
@@ -8,15 +10,16 @@ use Rattle.door_clients.specs.Doors.{DoorSide}
 use Rattle.exchange.specs.Requests.{sizes_of}
 use Rattle.locked_balancer.specs.Sites.{AreSited}
 use Rattle.site_config.specs.declared.balancer.Lb.{Lb}
-use Rattle.gear_parts.specs.Cuts.{AddsCuts, ToFirst}
+use Rattle.gear_parts.specs.Cuts.{AddsCuts, AddsFront, ToFirst}
 use Rattle.gear_parts.specs.GearParts.{gear_with, gears_with, Tools, tools}
-use Rattle.gear_parts.specs.Gears.{GearSide, gear_side}
+use Rattle.gear_parts.specs.Gears.{GearSide, gear_side, KeepsLog}
 use Rattle.gear_parts.specs.declared.world.Gear.{Gear}
 use Rattle.site_closing.specs.Closings.{DiscordNote}
-use Rattle.jk_server.specs.Closings.{Closes, firsts_of, IsDiscordOf, KeepsFirst, Shelves}
+use Rattle.jk_server.specs.Closings.{Closes, firsts_of, IsDiscordOf, KeepsFirst, Shelves, ShelvesFront}
+use Rattle.jk_server.specs.Ends.{KeepsEach}
 use Rattle.jk_server.specs.declared.runs.ends.Closing.{Closing}
 use Rattle.jk_server.specs.declared.runs.ends.Closing.TheVariants as closing
-use Rattle.jk_server.specs.Shelved.{EndsSo, IsDiscordAt, KeepsCuts}
+use Rattle.jk_server.specs.Shelved.{EndsSo, IsDiscordAt, IsPutBack, KeepsCuts}
 use Rattle.jk_server.proofs.GearRunLaws.{told_again}
 
 -- What was done with the first shelf, said of the gears.
@@ -52,16 +55,18 @@ kept_again {D} {G} {T} {K} {S} {O} {C} at talks answers Kept ts old new back len
     (first_kept at talks answers Kept ts old new len kept)
 
 -- What a closing says by a Site's sizes and first numbers, said of the configuration.
-kept_said : {D G T K S O C : Type 0} (at : D → DoorSide C) (talks : T → Option (List Talk)) (answers : K → Option (List ℕ)) (shelved : S → Option (List (ℕ × Segment)))
-    (lbs : List Lb) (sizes firsts : List ℕ) (ts : List (Tools D G T K)) (old : List S) (back : List (Gear D G T K S O))
-    → sizes ≡ sizes_of lbs → firsts ≡ firsts_of lbs → KeepsCuts shelved sizes firsts ts old back
-    → KeepsFirst (Shelves shelved lbs) (gears_with (gear_with at talks answers) ts old) (map (gear_side at talks answers) back)
-kept_said {D} {G} {T} {K} {S} {O} at talks answers shelved lbs sizes firsts ts old back same_sizes same_firsts keeps =
+kept_said : {D G T K S O C : Type 0} (at : D → DoorSide C) (talks : T → Option (List Talk)) (answers : K → Option (List ℕ)) (Kept : List Journal → S → S → Type 0) (Said : S → S → Type 0)
+    (lbs : List Lb) (sizes firsts : List ℕ) (ts : List (Tools D G T K)) (old : List S) (logs : List (Option O)) (back : List (Gear D G T K S O))
+    → sizes ≡ sizes_of lbs → firsts ≡ firsts_of lbs
+    → ((books : List Journal) (x y : S) → AreSited (sizes_of lbs) (firsts_of lbs) books → Kept books x y → Said x y)
+    → KeepsCuts Kept sizes firsts ts old logs back
+    → KeepsFirst Said (gears_with (gear_with at talks answers) ts old) (map (gear_side at talks answers) back)
+kept_said {D} {G} {T} {K} {S} {O} at talks answers Kept Said lbs sizes firsts ts old logs back same_sizes same_firsts say keeps =
     let sited : AreSited (sizes_of lbs) (firsts_of lbs) keeps.0 =
     subst (λ (ns : List ℕ). AreSited ns (firsts_of lbs) keeps.0) same_sizes (subst (λ (ns : List ℕ). AreSited sizes ns keeps.0) same_firsts keeps.1) in
-    kept_again at talks answers (Shelves shelved lbs) ts old (map (λ (g : Gear D G T K S O). g.shelf) back) back keeps.2.paired
-    (first_weaker (AddsCuts shelved keeps.0) (Shelves shelved lbs) old (map (λ (g : Gear D G T K S O). g.shelf) back)
-    (λ x y cuts. last_kept shelved lbs keeps.0 x y sited cuts) keeps.2.shelves_put)
+    kept_again at talks answers Said ts old (map (λ (g : Gear D G T K S O). g.shelf) back) back keeps.2.paired
+    (first_weaker (Kept keeps.0) Said old (map (λ (g : Gear D G T K S O). g.shelf) back)
+    (λ x y kept. say keeps.0 x y sited kept) keeps.2.shelves_put)
     keeps.2.tools_put refl
 
 discord_said : (lbs : List Lb) (sizes firsts : List ℕ) (d : DiscordNote) → sizes ≡ sizes_of lbs → firsts ≡ firsts_of lbs → IsDiscordAt sizes firsts d → IsDiscordOf lbs d
@@ -69,16 +74,80 @@ discord_said lbs sizes firsts d same_sizes same_firsts at =
     subst (λ (ns : List ℕ). IsDiscordAt ns (firsts_of lbs) d) same_sizes (subst (λ (ns : List ℕ). IsDiscordAt sizes ns d) same_firsts at)
 
 pub closes_said : {D G T K S O L C : Type 0} (at : D → DoorSide C) (talks : T → Option (List Talk)) (answers : K → Option (List ℕ)) (shelved : S → Option (List (ℕ × Segment)))
-    (faults : S → ℕ) (lbs : List Lb) (sizes firsts : List ℕ) (ts : List (Tools D G T K)) (old : List S) (back : List (Gear D G T K S O)) (end : Closing L)
-    → sizes ≡ sizes_of lbs → firsts ≡ firsts_of lbs → EndsSo shelved faults sizes firsts ts old back end
+    (faults : S → ℕ) (lbs : List Lb) (sizes firsts : List ℕ) (ts : List (Tools D G T K)) (old : List S) (logs : List (Option O)) (back : List (Gear D G T K S O)) (end : Closing L)
+    → sizes ≡ sizes_of lbs → firsts ≡ firsts_of lbs → EndsSo shelved faults sizes firsts ts old logs back end
     → Closes shelved faults lbs (gears_with (gear_with at talks answers) ts old) (map (gear_side at talks answers) back) end
-closes_said at talks answers shelved faults lbs sizes firsts ts old back closing.Kept same_sizes same_firsts ends =
-    kept_said at talks answers shelved lbs sizes firsts ts old back same_sizes same_firsts ends
-closes_said {D} {G} {T} {K} {S} {O} at talks answers shelved faults lbs sizes firsts ts old back closing.ShelfFault same_sizes same_firsts ends =
-    kept_again at talks answers (λ (x y : S). Rose (faults x) (faults y)) ts old (map (λ (g : Gear D G T K S O). g.shelf) back) back ends.paired
-    ends.shelves_put ends.tools_put refl
-closes_said {D} {G} {T} {K} {S} {O} at talks answers shelved faults lbs sizes firsts ts old back (closing.Differs d) same_sizes same_firsts ends = (
+closes_said at talks answers shelved faults lbs sizes firsts ts old logs back closing.Kept same_sizes same_firsts ends =
+    kept_said at talks answers (AddsCuts shelved) (Shelves shelved lbs) lbs sizes firsts ts old logs back same_sizes same_firsts
+    (λ books x y sited cuts. last_kept shelved lbs books x y sited cuts) ends
+closes_said {S = S} at talks answers shelved faults lbs sizes firsts ts old logs back closing.ShelfFault same_sizes same_firsts ends =
+    kept_said at talks answers (λ (books : List Journal) (x y : S). AddsFront shelved books x y × Rose (faults x) (faults y))
+    (λ (x y : S). ShelvesFront shelved lbs x y × Rose (faults x) (faults y)) lbs sizes firsts ts old logs back same_sizes same_firsts
+    (λ books x y sited kept. ((books, sited, kept.0), kept.1)) ends
+closes_said {D} {G} {T} {K} {S} {O} at talks answers shelved faults lbs sizes firsts ts old logs back (closing.Differs d) same_sizes same_firsts ends = (
   discord_said lbs sizes firsts d same_sizes same_firsts ends.0,
   ap (λ (gs : List (Gear D G T K S O)). map (gear_side at talks answers) gs) ends.1,
 )
-closes_said at talks answers shelved faults lbs sizes firsts ts old back closing.NoMemory same_sizes same_firsts ends = tt
+closes_said {D} {G} {T} {K} {S} {O} at talks answers shelved faults lbs sizes firsts ts old logs back closing.NoMemory same_sizes same_firsts (inl none) =
+    inl (ap (λ (gs : List (Gear D G T K S O)). map (gear_side at talks answers) gs) none)
+closes_said at talks answers shelved faults lbs sizes firsts ts old logs back closing.NoMemory same_sizes same_firsts (inr keeps) =
+    inr (kept_said at talks answers (AddsFront shelved) (ShelvesFront shelved lbs) lbs sizes firsts ts old logs back same_sizes same_firsts
+    (λ books x y sited front. (books, sited, front)) keeps)
+
+-- Gears that have the same logs have each its own.
+pub all_logs : {D G T K S O : Type 0} (gears back : List (Gear D G T K S O)) → map (λ g. g.log) back ≡ map (λ g. g.log) gears → AllZip KeepsLog gears back
+all_logs [] [] same = tt
+all_logs [] (b ∷ back) same = absurd cc
+all_logs (g ∷ gears) [] same = absurd cc
+all_logs (g ∷ gears) (b ∷ back) same =
+    let here : b.log ≡ g.log = cc in
+    let tail : map (λ x. x.log) back ≡ map (λ x. x.log) gears = cc in (here, all_logs gears back tail)
+
+-- So of the gears that come back of a run.
+pub logs_said : {D G T K S O L : Type 0} (shelved : S → Option (List (ℕ × Segment))) (faults : S → ℕ) (sizes firsts : List ℕ) (ts : List (Tools D G T K)) (old : List S)
+    (logs : List (Option O)) (gears back : List (Gear D G T K S O)) (end : Closing L)
+    → logs ≡ map (λ g. g.log) gears → EndsSo shelved faults sizes firsts ts old logs back end → KeepsEach KeepsLog end gears back
+logs_said shelved faults sizes firsts ts old logs gears back closing.Kept same ends = all_logs gears back (ends.2.logs_put ∙ same)
+logs_said shelved faults sizes firsts ts old logs gears back closing.ShelfFault same ends = all_logs gears back (ends.2.logs_put ∙ same)
+logs_said shelved faults sizes firsts ts old logs gears back (closing.Differs d) same ends = ends.1
+logs_said shelved faults sizes firsts ts old logs gears back closing.NoMemory same ends = tt
+
+-- What gears have that was had by others at their places.
+since_each : {D G T K S O : Type 0} (gears new back : List (Gear D G T K S O)) → map (λ g. g.log) new ≡ map (λ g. g.log) gears → AllZip KeepsLog new back → AllZip KeepsLog gears back
+since_each [] [] [] same all = tt
+since_each [] [] (b ∷ back) same all = absurd all
+since_each [] (n ∷ new) back same all = absurd cc
+since_each (g ∷ gears) [] back same all = absurd cc
+since_each (g ∷ gears) (n ∷ new) [] same all = absurd all
+since_each (g ∷ gears) (n ∷ new) (b ∷ back) same all =
+    let here : n.log ≡ g.log = cc in
+    let tail : map (λ x. x.log) new ≡ map (λ x. x.log) gears = cc in (all.0 ∙ here, since_each gears new back tail all.1)
+
+pub logs_since : {D G T K S O L : Type 0} (gears new back : List (Gear D G T K S O)) (end : Closing L)
+    → map (λ g. g.log) new ≡ map (λ g. g.log) gears → KeepsEach KeepsLog end new back → KeepsEach KeepsLog end gears back
+logs_since gears new back closing.Kept same each = since_each gears new back same each
+logs_since gears new back closing.ShelfFault same each = since_each gears new back same each
+logs_since gears new back (closing.Differs d) same each = each
+logs_since gears new back closing.NoMemory same each = tt
+
+-- The gears were put together so, of shelves that were lent.
+pub put_back : {D G T K S O : Type 0} (Kept : S → S → Type 0) (ts : List (Tools D G T K)) (old lent new : List S) (logs : List (Option O)) (back : List (Gear D G T K S O))
+    → length ts ≡ length old → map (λ g. tools g.door g.dial g.tape g.clock) back ≡ ts → map (λ g. g.log) back ≡ logs
+    → lent ≡ old → map (λ g. g.shelf) back ≡ new → ToFirst Kept lent new → IsPutBack Kept ts old logs back
+put_back {S = S} Kept ts old lent new logs back paired tools_put logs_put same put kept = record {
+  paired = paired;
+  tools_put = tools_put;
+  shelves_put =
+      subst (λ (ss : List S). ToFirst Kept old ss) (sym put) (subst (λ (ss : List S). ToFirst Kept ss new) same kept);
+  logs_put = logs_put;
+}
+
+pub both_first : {S : Type 0} (P Q : S → S → Type 0) (old new : List S) → ToFirst P old new → ToFirst Q old new → ToFirst (λ x y. P x y × Q x y) old new
+both_first P Q [] new p q = absurd p
+both_first P Q (x ∷ old) [] p q = absurd p
+both_first P Q (x ∷ old) (y ∷ new) p q = ((p.0, q.0), p.1)
+
+-- of what failed this is so
+pub of_err : {T E : Type 0} (r : Result T E) (e : E) (P : Type 0) → r ≡ Err e → OnErr r P → P
+of_err (Ok x) e P is so = absurd cc
+of_err (Err f) e P is so = so

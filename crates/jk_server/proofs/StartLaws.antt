@@ -68,6 +68,11 @@ first_idle {D} {G} {T} {K} {S} {O} IsIdle (g ∷ gears) x clock all =
     All-cons (λ (h : Gear D G T K S O). IsIdle h.tape) (record g { clock = clock }) gears
     (All-head (λ (h : Gear D G T K S O). IsIdle h.tape) g gears all) (All-tail (λ (h : Gear D G T K S O). IsIdle h.tape) g gears all)
 
+pub first_logs : {D G T K S O : Type 0} → (gears : List (Gear D G T K S O)) (x : Gear D G T K S O) (clock : K)
+    → map (λ g. g.log) (set gears 0 (record (get_or gears 0 x) { clock = clock })) ≡ map (λ g. g.log) gears
+first_logs [] x clock = refl
+first_logs (g ∷ gears) x clock = refl
+
 pub first_as_long : {X : Type 0} → (xs : List X) (x : X) → length (set xs 0 x) ≡ length xs
 first_as_long [] x = refl
 first_as_long (y ∷ xs) x = refl
@@ -118,6 +123,11 @@ pub idle_back : {D G T K S O : Type 0} → (IsIdle : T → Type 0) (gears lent n
 idle_back {D} {G} {T} {K} {S} {O} IsIdle gears lent new back same written then all =
     subst (λ (gs : List (Gear D G T K S O)). All (λ (g : Gear D G T K S O). IsIdle g.tape) gs) (sym written)
     (then (subst (λ (gs : List (Gear D G T K S O)). All (λ (g : Gear D G T K S O). IsIdle g.tape) gs) (sym same) all))
+
+pub logs_back : {D G T K S O : Type 0} → (gears lent new back : List (Gear D G T K S O)) → lent ≡ gears → back ≡ new
+    → map (λ g. g.log) new ≡ map (λ g. g.log) lent → map (λ g. g.log) back ≡ map (λ g. g.log) gears
+logs_back {D} {G} {T} {K} {S} {O} gears lent new back same written then =
+    ap (λ (gs : List (Gear D G T K S O)). map (λ g. g.log) gs) written ∙ then ∙ ap (λ (gs : List (Gear D G T K S O)). map (λ g. g.log) gs) same
 
 pub ok_weaker : {T E : Type 0} (P Q : T → Type 0) (r : Result T E) → IfOk r P → ((x : T) → P x → Q x) → IfOk r Q
 ok_weaker P Q (Ok x) is then = then x is

@@ -1,5 +1,5 @@
 -- How the closing of a run ended: each balancer's last segment was kept on the first gear's shelf, or why not.
-use Rattle.std.specs.Prelude.{ℕ, ◌≡◌, List, [], ◌∷◌, map, Option}
+use Rattle.std.specs.Prelude.{ℕ, ◌≡◌, ◌⊎◌, List, [], ◌∷◌, map, Option}
 use Rattle.jk_io.specs.Told.{appended, Rose}
 use Rattle.jk_model.specs.declared.journal.Entry.{Entry}
 use Rattle.jk_model.specs.declared.segment.Segment.{Segment}
@@ -9,7 +9,7 @@ use Rattle.locked_balancer.specs.Sites.{AreSited}
 use Rattle.site_closing.specs.Closings.{Differs, DiscordNote}
 use Rattle.site_config.specs.declared.balancer.Lb.{Lb}
 use Rattle.gear_parts.specs.Gears.{GearSide}
-use Rattle.gear_parts.specs.Cuts.{AreCuts}
+use Rattle.gear_parts.specs.Cuts.{AddsFront, AreCuts}
 use Rattle.jk_server.specs.declared.runs.ends.Closing.{Closing}
 use Rattle.jk_server.specs.declared.runs.ends.Closing.TheVariants as closing
 
@@ -31,6 +31,11 @@ KeepsFirst Kept left back = ⊥
 abbrev pub Shelves : {S : Type 0} → (S → Option (List (ℕ × Segment))) → List Lb → (old new : S) → Type 0
 Shelves shelved lbs old new = (kept : List (ℕ × Segment)) × AreLast lbs kept × (shelved new ≡ appended (shelved old) kept)
 
+-- Those of the first balancers were, and those of the others weren't.
+abbrev pub ShelvesFront : {S : Type 0} → (S → Option (List (ℕ × Segment))) → List Lb → (old new : S) → Type 0
+ShelvesFront shelved lbs old new =
+    (books : List Journal) × AreSited (sizes_of lbs) (firsts_of lbs) books × AddsFront shelved books old new
+
 -- The receipts of the workers aren't the entries that the Books keep, and this is where they differ first.
 abbrev pub IsDiscordOf : List Lb → DiscordNote → Type 0
 IsDiscordOf lbs d = (entries : ℕ) × (receipts : List (ℕ × Entry)) × Differs (sizes_of lbs) (firsts_of lbs) entries receipts d
@@ -38,6 +43,7 @@ IsDiscordOf lbs d = (entries : ℕ) × (receipts : List (ℕ × Entry)) × Diffe
 -- What each end of the closing says.
 abbrev pub Closes : {C S L : Type 0} → (S → Option (List (ℕ × Segment))) → (S → ℕ) → List Lb → (left back : List (GearSide C S)) → Closing L → Type 0
 Closes shelved faults lbs left back closing.Kept = KeepsFirst (Shelves shelved lbs) left back
-Closes shelved faults lbs left back closing.ShelfFault = KeepsFirst (λ old new. Rose (faults old) (faults new)) left back
+Closes shelved faults lbs left back closing.ShelfFault =
+    KeepsFirst (λ old new. ShelvesFront shelved lbs old new × Rose (faults old) (faults new)) left back
 Closes shelved faults lbs left back (closing.Differs d) = IsDiscordOf lbs d × (back ≡ [])
-Closes shelved faults lbs left back closing.NoMemory = Unit {0}
+Closes shelved faults lbs left back closing.NoMemory = (back ≡ []) ⊎ KeepsFirst (ShelvesFront shelved lbs) left back

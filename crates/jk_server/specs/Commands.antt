@@ -1,7 +1,7 @@
 -- What `serve` and `container` do with the outside, and how they end. Read this first; what a run does is in specs/Runs.antt and
 -- specs/Containers.antt.
-use Rattle.std.specs.Prelude.{◌≡◌, ℕ, ◌⊎◌, List, [], length, map, Option, None}
-use Rattle.std.specs.List.{All}
+use Rattle.std.specs.Prelude.{◌≡◌, ℕ, ◌≤◌, ◌⊎◌, List, [], length, map, Option, Some, None}
+use Rattle.std.specs.List.{All, AllZip}
 use Rattle.client_session.specs.Requests.{visit}
 use Rattle.conn_pool.specs.declared.tape.Tape.{Ghosts as TapeGhosts}
 use Rattle.container_server.specs.declared.ends.ContainerWorker.{ContainerWorker}
@@ -22,9 +22,10 @@ use Rattle.gear_parts.specs.Containers.{IsContainerRun}
 use Rattle.jk_server.specs.Runs.{IsSiteRun}
 use Rattle.jk_server.specs.declared.runs.ends.Closing.{Closing}
 use Rattle.jk_server.specs.declared.part.WorkerEnd.{WorkerEnd}
-use Rattle.jk_server.specs.Ends.{end_of_container, end_of_run, returned}
+use Rattle.jk_server.specs.Ends.{end_of_container, end_of_run, KeepsEach, returned}
 use Rattle.site_reports.specs.Sites.{IsSite}
-use Rattle.gear_parts.specs.Worlds.{tells, HandsAndTakes, IsMade, RefusesGear, Tells, WorldSide}
+use Rattle.gear_parts.specs.Wants.{AreSuited, GearWants}
+use Rattle.gear_parts.specs.Worlds.{tells, HandsAndTakes, IsMade, RefusesGear, Tells, wants_of, WorldSide}
 use Rattle.jk_server.specs.declared.orders.ends.CommandEnd.{CommandEnd}
 use Rattle.jk_server.specs.declared.orders.ends.CommandEnd.TheVariants as end
 use Rattle.gear_parts.specs.declared.gears.GearOrder.{GearOrder}
@@ -73,41 +74,46 @@ pub record LacksGear {G L : Type 0} (threads : ℕ) (s n : WorldSide G) (ended :
   pub status : ended ≡ end.Status 4
   pub cause : Rose s.faults n.faults
 
--- Memory was wanted: the gears that were handed out came back as they were, or none did.
-pub record WantsMemory {G L : Type 0} (s n : WorldSide G) (ended : CommandEnd L) : Type 0 where
+-- Memory was wanted: the gears that were handed out, no more than there are workers, came back as they were, or none did.
+pub record WantsMemory {G L : Type 0} (threads : ℕ) (s n : WorldSide G) (ended : CommandEnd L) : Type 0 where
   pub gears : List G
   pub back : List G
   pub passed : HandsAndTakes s n gears back
+  pub few : length gears ≤ threads
   pub unserved : (back ≡ gears) ⊎ (back ≡ [])
   pub status : ended ≡ end.Status 6
 
 -- What a command for this many workers does with the world; `Runs` says what its run does.
 pub data Works {G L : Type 0} (threads : ℕ) (Runs : WorldSide G → WorldSide G → CommandEnd L → Type 0) (s n : WorldSide G) (ended : CommandEnd L) : Type 0 where
   NoGear : LacksGear threads s n ended → Works threads Runs s n ended
-  NoRoom : WantsMemory s n ended → Works threads Runs s n ended
+  NoRoom : WantsMemory threads s n ended → Works threads Runs s n ended
   Ran : Runs s n ended → Works threads Runs s n ended
 
--- The workers of a site ran: the world handed out a gear for each, in order, each just made; what one run over the site made
--- of these gears came back, in order; and the run's end is the command's.
-pub record RunsSite {W G C S X L : Type 0} (told : Tells W G C S X) (cfg : Config) (rules : List Rule) (threads : ℕ) (clients : Option ℕ) (s n : WorldSide G) (ended : CommandEnd L) : Type 0 where
+-- The workers of a site ran: the world handed out a gear for each, in order, each just made and as that worker wants it; what one run over the site made
+-- of these gears came back, in order, each with the log that it had; and the run's end is the command's.
+pub record RunsSite {W G C S X L : Type 0} (told : Tells W G C S X) (cfg : Config) (rules : List Rule) (threads : ℕ) (wanted : GearWants) (s n : WorldSide G) (ended : CommandEnd L) : Type 0 where
   pub gears : List G
   pub left : List G
   pub count : length gears ≡ threads
-  pub made : All (λ g. IsMade clients (told.gear g)) gears
+  pub made : All (λ g. IsMade wanted.clients (told.gear g)) gears
+  pub suited : AreSuited (λ number. told.suits number wanted (Some cfg)) 0 gears
   pub ends : List (WorkerEnd L)
   pub closing : Closing L
   pub run : IsSiteRun (visit cfg rules) told.link told.shelved told.shelf_faults cfg.lbs (map told.gear gears) (map told.gear left) ends closing
+  pub logs : KeepsEach told.keeps_log closing gears left
   pub passed : HandsAndTakes s n gears (returned closing left)
   pub status : ended ≡ end_of_run ends closing
 
--- The workers of a container ran, in the same way.
-pub record RunsContainer {W G C S X L : Type 0} (told : Tells W G C S X) (app : AppConfig) (threads : ℕ) (clients : Option ℕ) (s n : WorldSide G) (ended : CommandEnd L) : Type 0 where
+-- The workers of a container ran, in the same way. Each gear came back with all that it had but its door.
+pub record RunsContainer {W G C S X L : Type 0} (told : Tells W G C S X) (app : AppConfig) (threads : ℕ) (wanted : GearWants) (s n : WorldSide G) (ended : CommandEnd L) : Type 0 where
   pub gears : List G
   pub left : List G
   pub count : length gears ≡ threads
-  pub made : All (λ g. IsMade clients (told.gear g)) gears
+  pub made : All (λ g. IsMade wanted.clients (told.gear g)) gears
+  pub suited : AreSuited (λ number. told.suits number wanted None) 0 gears
   pub ends : List ContainerWorker
   pub run : IsContainerRun app told.link (map told.gear gears) (map told.gear left) ends
+  pub rests : AllZip told.keeps_rest gears left
   pub passed : HandsAndTakes s n gears left
   pub status : ended ≡ end_of_container ends
 
@@ -137,19 +143,19 @@ pub record LacksFiles {G L : Type 0} (s n : CommandSide G) (ended : CommandEnd L
   pub written : n.sent ≡ s.sent
   pub world : n.world ≡ s.world
 
--- The files are a site, for which this many workers were wanted. Nothing was written.
-pub record ServesSite {W G C S X L : Type 0} (told : Tells W G C S X) (outside : CommandOutside) (workers map : List ℕ) (threads : ℕ) (clients : Option ℕ) (s n : CommandSide G) (ended : CommandEnd L) : Type 0 where
+-- The files are a site, for which so many workers were wanted. Nothing was written.
+pub record ServesSite {W G C S X L : Type 0} (told : Tells W G C S X) (outside : CommandOutside) (workers map : List ℕ) (threads : ℕ) (wanted : GearWants) (s n : CommandSide G) (ended : CommandEnd L) : Type 0 where
   pub cfg : Config
   pub rules : List Rule
   pub site : IsSite outside workers map cfg rules
-  pub works : Works threads (RunsSite told cfg rules threads clients) s.world n.world ended
+  pub works : Works threads (RunsSite told cfg rules threads wanted) s.world n.world ended
   pub written : n.sent ≡ s.sent
 
 -- `serve WORKERS MAP ADDRESS THREADS`
-pub data Serves {W G C S X L : Type 0} (told : Tells W G C S X) (outside : CommandOutside) (workers map : List ℕ) (threads : ℕ) (clients : Option ℕ) (s n : CommandSide G) (ended : CommandEnd L) : Type 0 where
-  Unread : LacksFiles s n ended → Serves told outside workers map threads clients s n ended
-  Refused : RefusesFiles outside workers map s n ended → Serves told outside workers map threads clients s n ended
-  Served : ServesSite told outside workers map threads clients s n ended → Serves told outside workers map threads clients s n ended
+pub data Serves {W G C S X L : Type 0} (told : Tells W G C S X) (outside : CommandOutside) (workers map : List ℕ) (threads : ℕ) (wanted : GearWants) (s n : CommandSide G) (ended : CommandEnd L) : Type 0 where
+  Unread : LacksFiles s n ended → Serves told outside workers map threads wanted s n ended
+  Refused : RefusesFiles outside workers map s n ended → Serves told outside workers map threads wanted s n ended
+  Served : ServesSite told outside workers map threads wanted s n ended → Serves told outside workers map threads wanted s n ended
 
 -- The application of a container of this route: it asks for no secret, and a packet has at most 8,192 bytes.
 pub record IsAppOf (route : List ℕ) (app : AppConfig) : Type 0 where
@@ -157,15 +163,15 @@ pub record IsAppOf (route : List ℕ) (app : AppConfig) : Type 0 where
   pub secret : app.secret ≡ None
   pub packet : app.packet ≡ 8192
 
--- The workers of a container of this route were wanted of the world.
-pub record ContainsLinks {W G C S X L : Type 0} (told : Tells W G C S X) (route : List ℕ) (threads : ℕ) (clients : Option ℕ) (s n : WorldSide G) (ended : CommandEnd L) : Type 0 where
+-- The workers of such a container were wanted.
+pub record ContainsLinks {W G C S X L : Type 0} (told : Tells W G C S X) (route : List ℕ) (threads : ℕ) (wanted : GearWants) (s n : WorldSide G) (ended : CommandEnd L) : Type 0 where
   pub app : AppConfig
   pub is : IsAppOf route app
-  pub works : Works threads (RunsContainer told app threads clients) s n ended
+  pub works : Works threads (RunsContainer told app threads wanted) s n ended
 
 -- `container ROUTE ADDRESS THREADS`. Nothing was written.
-pub record Contains {W G C S X L : Type 0} (told : Tells W G C S X) (route : List ℕ) (threads : ℕ) (clients : Option ℕ) (s n : CommandSide G) (ended : CommandEnd L) : Type 0 where
-  pub contained : ContainsLinks told route threads clients s.world n.world ended
+pub record Contains {W G C S X L : Type 0} (told : Tells W G C S X) (route : List ℕ) (threads : ℕ) (wanted : GearWants) (s n : CommandSide G) (ended : CommandEnd L) : Type 0 where
+  pub contained : ContainsLinks told route threads wanted s.world n.world ended
   pub written : n.sent ≡ s.sent
 
 -- ---- the same of what a command goes over, as it was before and is after it
@@ -173,20 +179,20 @@ pub record Contains {W G C S X L : Type 0} (told : Tells W G C S X) (route : Lis
 -- The workers of a site were wanted.
 abbrev pub WorksSite : {W G C S X L : Type 0} → Tells W G C S X → ReadSite → GearOrder → (before after : W) → CommandEnd L → Type 0
 WorksSite told site asked before after ended =
-    Works asked.threads (RunsSite told site.cfg site.map asked.threads asked.clients) (told.world before) (told.world after) ended
+    Works asked.threads (RunsSite told site.cfg site.map asked.threads (wants_of asked)) (told.world before) (told.world after) ended
 
 -- The workers of a container were wanted.
 abbrev pub WorksContainer : {W G C S X L : Type 0} → Tells W G C S X → AppConfig → GearOrder → (before after : W) → CommandEnd L → Type 0
 WorksContainer told app asked before after ended =
-    Works asked.threads (RunsContainer told app asked.threads asked.clients) (told.world before) (told.world after) ended
+    Works asked.threads (RunsContainer told app asked.threads (wants_of asked)) (told.world before) (told.world after) ended
 
 -- The workers of a container of this route were wanted.
 abbrev pub ContainsAsked : {W G C S X L : Type 0} → Tells W G C S X → (route : List ℕ) → GearOrder → (before after : W) → CommandEnd L → Type 0
 ContainsAsked told route asked before after ended =
-    ContainsLinks told route asked.threads asked.clients (told.world before) (told.world after) ended
+    ContainsLinks told route asked.threads (wants_of asked) (told.world before) (told.world after) ended
 
 -- `serve` over its files, whatever the input.
 abbrev pub ServesOrder : {F O W G C S X L : Type 0} → CommandTells F O W G C S X → ServeOrder → (before after : F × O × W) → CommandEnd L → Type 0
 ServesOrder told order before after ended =
-    OfFiles (told.files before.0) (λ outside. Serves told.world outside order.workers.now order.map.now order.asked.threads order.asked.clients
+    OfFiles (told.files before.0) (λ outside. Serves told.world outside order.workers.now order.map.now order.asked.threads (wants_of order.asked)
     (command_side told before) (command_side told after) ended)

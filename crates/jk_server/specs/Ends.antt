@@ -1,5 +1,6 @@
 -- How a command ends by the ends of its workers.
-use Rattle.std.specs.Prelude.{ℕ, List, [], ◌∷◌}
+use Rattle.std.specs.Prelude.{ℕ, ◌≡◌, List, [], ◌∷◌}
+use Rattle.std.specs.List.{AllZip}
 use Rattle.container_server.specs.declared.ends.ContainerWorker.{ContainerWorker}
 use Rattle.container_server.specs.declared.ends.ContainerWorker.TheVariants as container
 use Rattle.jk_io.specs.declared.failures.IoError.{IoError}
@@ -51,3 +52,10 @@ returned closing.Kept gears = gears
 returned closing.ShelfFault gears = gears
 returned (closing.Differs discord) gears = gears
 returned closing.NoMemory gears = []
+
+-- So of each gear that came back, by the gear that was handed in at its place.
+abbrev pub KeepsEach : {L G : Type 0} → (G → G → Type 0) → Closing L → (gears back : List G) → Type 0
+KeepsEach Keeps closing.Kept gears back = AllZip Keeps gears back
+KeepsEach Keeps closing.ShelfFault gears back = AllZip Keeps gears back
+KeepsEach Keeps (closing.Differs discord) gears back = back ≡ []
+KeepsEach Keeps closing.NoMemory gears back = Unit {0}

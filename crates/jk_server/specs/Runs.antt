@@ -9,12 +9,13 @@ use Rattle.locked_balancer.specs.SharedDesks.{SharedState}
 use Rattle.site_config.specs.declared.balancer.Lb.{Lb}
 use Rattle.site_config.specs.declared.config.Config.{Config}
 use Rattle.uri_map.specs.declared.rule.Rule.{Rule}
-use Rattle.gear_parts.specs.Gears.{GearSide}
+use Rattle.gear_parts.specs.Gears.{GearSide, KeepsLog}
 use Rattle.gear_parts.specs.declared.world.Gear.{Gear}
 use Rattle.jk_server.specs.Served.{IsServed}
 use Rattle.jk_server.specs.Worker.{WorkerSide}
 use Rattle.jk_server.specs.declared.part.WorkerEnd.{WorkerEnd}
 use Rattle.jk_server.specs.Closings.{Closes}
+use Rattle.jk_server.specs.Ends.{KeepsEach}
 use Rattle.jk_server.specs.RunTells.{gears_at, RunTells}
 use Rattle.jk_server.specs.declared.runs.ends.Closing.{Closing}
 use Rattle.jk_server.specs.declared.runs.ends.SiteRun.{SiteRun}
@@ -63,7 +64,7 @@ pub record IsSiteRun {C S L X : Type 0} (visits : ℕ → Peer → Visit) (told 
   pub served : AreServedGears visits told faults 0 begun left ends
   pub closed : Closes shelved faults lbs left back closing
 
--- What `IsSiteRun` says of the gears that were handed in, and of what the run gave back.
-abbrev pub RunsGears : {D G T K S O L C X : Type 0} → RunTells D T K S C X → Config → List Rule → List (Gear D G T K S O) → SiteRun L (Gear D G T K S O) → Type 0
-RunsGears told cfg rules gears run =
-    IsSiteRun (visit cfg rules) told.link told.shelved told.shelf_faults cfg.lbs (gears_at told gears) (gears_at told run.gears.items) run.workers run.closing
+-- It is so of the gears that were handed in, and of what the run gave back, each gear with the log that it had.
+pub record RunsGears {D G T K S O L C X : Type 0} (told : RunTells D T K S C X) (cfg : Config) (rules : List Rule) (gears : List (Gear D G T K S O)) (run : SiteRun L (Gear D G T K S O)) : Type 0 where
+  pub is : IsSiteRun (visit cfg rules) told.link told.shelved told.shelf_faults cfg.lbs (gears_at told gears) (gears_at told run.gears.items) run.workers run.closing
+  pub logs : KeepsEach KeepsLog run.closing gears run.gears.items

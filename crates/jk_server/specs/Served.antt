@@ -60,14 +60,15 @@ pub record GoesOn {S : Type 0} (faults : S → ℕ) (from to : SharedState S) (e
   pub kept : faults to.shelf ≤ faults from.shelf
   pub room : to.wants ≤ from.wants
 
--- Why a worker ended right after a session.
+-- Why a worker ended right after a session. A fault of the shelf goes before a stray, and both before want of memory.
 abbrev pub EndsAfter : {S L : Type 0} → (faults : S → ℕ) → (from to : SharedState S) → SessionEnd → WorkerEnd L → Type 0
 EndsAfter faults from to end (worker.Closed sessions) = ⊥
 EndsAfter faults from to end worker.DoorFault = ⊥
 EndsAfter faults from to end worker.ShelfFault = Rose (faults from.shelf) (faults to.shelf)
 EndsAfter faults from to end worker.LogFault = ⊥
-EndsAfter faults from to end (worker.Stray stray) = IsStray end × (to.met ≡ Some stray)
-EndsAfter faults from to end worker.NoMemory = (end ≡ session_end.NoMemory) ⊎ (from.wants < to.wants)
+EndsAfter faults from to end (worker.Stray stray) = IsStray end × (to.met ≡ Some stray) × (faults to.shelf ≤ faults from.shelf)
+EndsAfter faults from to end worker.NoMemory =
+    ((end ≡ session_end.NoMemory) ⊎ (from.wants < to.wants)) × (faults to.shelf ≤ faults from.shelf) × (IsStray end → ⊥)
 
 -- the desk once its worker ended; a stray that the worker took is no more with the desk
 abbrev pub left_by : {S L : Type 0} → WorkerEnd L → SharedState S → SharedState S

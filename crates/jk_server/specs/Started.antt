@@ -11,11 +11,12 @@ use Rattle.site_config.specs.declared.balancer.Lb.{Lb}
 use Rattle.site_config.specs.declared.config.Config.{Config}
 use Rattle.uri_map.specs.Sites.{stands_in}
 use Rattle.uri_map.specs.declared.rule.Rule.{Rule}
-use Rattle.gear_parts.specs.Gears.{GearSide}
+use Rattle.gear_parts.specs.Gears.{GearSide, KeepsLog}
 use Rattle.gear_parts.specs.declared.world.Gear.{Gear}
 use Rattle.jk_server.specs.declared.part.WorkerEnd.{WorkerEnd}
 use Rattle.jk_server.specs.Closings.{Closes, firsts_of}
 use Rattle.jk_server.specs.Runs.{AreServedGears}
+use Rattle.jk_server.specs.Ends.{KeepsEach}
 use Rattle.jk_server.specs.RunTells.{gears_at, RunTells}
 use Rattle.jk_server.specs.declared.runs.ends.Closing.{Closing}
 use Rattle.jk_server.specs.declared.runs.ends.SiteRun.{SiteRun}
@@ -51,7 +52,7 @@ pub record IsStartedRun {C S L X : Type 0} (visits : ℕ → Peer → Visit) (to
   pub served : AreServedGears visits told faults 0 begun left ends
   pub closed : Closes shelved faults lbs left back closing
 
--- What `IsStartedRun` says of the gears as they were at the start, and of what the run gave back.
-abbrev pub RunsStarted : {D G T K S O L C X : Type 0} → RunTells D T K S C X → Config → List Rule → List (Gear D G T K S O) → SiteRun L (Gear D G T K S O) → Type 0
-RunsStarted told cfg rules gears run =
-    IsStartedRun (visit cfg rules) told.link told.shelved told.shelf_faults cfg.lbs (gears_at told gears) (gears_at told run.gears.items) run.workers run.closing
+-- It is so of the gears as they were then, and of what the run gave back, each gear with the log that it had.
+pub record RunsStarted {D G T K S O L C X : Type 0} (told : RunTells D T K S C X) (cfg : Config) (rules : List Rule) (gears : List (Gear D G T K S O)) (run : SiteRun L (Gear D G T K S O)) : Type 0 where
+  pub is : IsStartedRun (visit cfg rules) told.link told.shelved told.shelf_faults cfg.lbs (gears_at told gears) (gears_at told run.gears.items) run.workers run.closing
+  pub logs : KeepsEach KeepsLog run.closing gears run.gears.items

@@ -1,5 +1,5 @@
 -- How a command that asks for workers or threads ends.
-use Rattle.std.proofs.Common.{ℕ, ◌≡◌, ◌≢◌, ◌⊎◌, Bool, true, false, List, [], ◌∷◌, Option, Some, inl, inr, refl, sym, ◌∙◌, subst, arith}
+use Rattle.std.proofs.Common.{ℕ, ◌≡◌, ◌≢◌, ◌⊎◌, Bool, true, false, List, [], ◌∷◌, Option, Some, None, inl, inr, refl, sym, ◌∙◌, subst, arith}
 use Rattle.container_server.specs.declared.ends.ContainerWorker.{ContainerWorker}
 use Rattle.container_server.specs.declared.ends.ContainerWorker.TheVariants as container
 use Rattle.drill.specs.Written.{RunsDrill, Told, Lacked, Wanted}
@@ -11,6 +11,7 @@ use Rattle.jk_cli.specs.declared.order.Order.TheVariants as order
 use Rattle.jk_io.specs.Told.{Rose}
 use Rattle.jk_server.specs.Commands.{CommandSide, RunsContainer, RunsSite, Serves, Unread, Refused, Served, Works, NoGear, NoRoom, Ran}
 use Rattle.jk_server.specs.Ends.{end_of_closing, end_of_container, end_of_run}
+use Rattle.gear_parts.specs.Wants.{GearWants, wants}
 use Rattle.gear_parts.specs.Worlds.{Tells, WorldSide}
 use Rattle.jk_server.specs.declared.orders.ends.CommandEnd.{CommandEnd}
 use Rattle.jk_server.specs.declared.orders.ends.CommandEnd.TheVariants as server
@@ -37,7 +38,7 @@ does_none L told outside (order.Serve workers map address threads clients journa
 }
 does_none L told outside (order.Container route address threads clients) s served range = record {
   by = server.Status 6;
-  said = record { contained = contains_none told route threads clients s.world range.2; written = refl };
+  said = record { contained = contains_none told route threads (wants address clients None) s.world range.2; written = refl };
   turned = refl;
 }
 does_none L told outside order.Play s served range = cc
@@ -93,15 +94,15 @@ works_status threads Runs s n ended k ran (Ran w) e = ran w e
 Answered : {G : Type 0} → (s n : CommandSide G) → ℕ → Type 0
 Answered s n k = IsOfRun k ⊎ (k ≡ 3) ⊎ ((k ≡ 5) × Rose s.output_faults n.output_faults)
 
-serve_status : {W G C S X L : Type 0} (told : Tells W G C S X) (outside : CommandOutside) (workers map : List ℕ) (threads : ℕ) (clients : Option ℕ) (s n : CommandSide G) (ended : CommandEnd L) (k : ℕ)
-    → Serves told outside workers map threads clients s n ended → ended ≡ server.Status k → Answered s n k
+serve_status : {W G C S X L : Type 0} (told : Tells W G C S X) (outside : CommandOutside) (workers map : List ℕ) (threads : ℕ) (wanted : GearWants) (s n : CommandSide G) (ended : CommandEnd L) (k : ℕ)
+    → Serves told outside workers map threads wanted s n ended → ended ≡ server.Status k → Answered s n k
 unfolding IsOfRun Answered
-serve_status told outside workers map threads clients s n ended k (Unread w) e =
+serve_status told outside workers map threads wanted s n ended k (Unread w) e =
     elim w.why [ inl a ↦ let status = a.0 in inl (inr (inl cc)) | inr b ↦ inl (inr (inr cc)) ]
-serve_status told outside workers map threads clients s n ended k (Refused w) e =
+serve_status told outside workers map threads wanted s n ended k (Refused w) e =
     elim w.written [ inl a ↦ let status = a.1 in inr (inl cc) | inr b ↦ elim b [ inl c ↦ let status = c.1 in inr (inr (cc, c.2)) | inr d ↦ let status = d.1 in inl (inr (inr cc)) ] ]
-serve_status told outside workers map threads clients s n ended k (Served w) e =
-    inl (works_status threads (RunsSite told w.cfg w.rules threads clients) s.world n.world ended k
+serve_status told outside workers map threads wanted s n ended k (Served w) e =
+    inl (works_status threads (RunsSite told w.cfg w.rules threads wanted) s.world n.world ended k
     (λ ran is. run_status ran.ends ran.closing k (sym ran.status ∙ is)) w.works e)
 
 -- a status of the command is that of the server's call
@@ -130,9 +131,9 @@ does_status : {W G C S X L : Type 0} (told : Tells W G C S X) (outside : Command
     → DoesOrder told outside o s n ended → ended ≡ end.Status k → Answered s n k
 unfolding Answered
 does_status told outside (order.Serve workers map address threads clients journal watch idle log format) s n ended k does e =
-    serve_status told outside workers map threads clients s n does.by k does.said (served_status does.by k (sym does.turned ∙ e))
+    serve_status told outside workers map threads (wants address clients journal) s n does.by k does.said (served_status does.by k (sym does.turned ∙ e))
 does_status told outside (order.Container route address threads clients) s n ended k does e =
-    inl (works_status threads (RunsContainer told does.said.contained.app threads clients) s.world n.world does.by k
+    inl (works_status threads (RunsContainer told does.said.contained.app threads (wants address clients None)) s.world n.world does.by k
     (λ ran is. container_status _ ran.ends k (sym ran.status ∙ is)) does.said.contained.works (served_status does.by k (sym does.turned ∙ e)))
 does_status told outside order.Play s n ended k does e = absurd does
 does_status told outside (order.Dry request reply site) s n ended k does e = absurd does

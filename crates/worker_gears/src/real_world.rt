@@ -300,7 +300,8 @@ impl<'r, R: Net<Stream = TcpStream, Listener = TcpListener> + Files + Clock + Ep
 where
     R::File: Send,
 {
-    ghost use Rattle.std.specs.Prelude.{None};
+    ghost use Rattle.std.specs.Prelude.{◌≡◌, None, map};
+    ghost use Rattle.std.specs.Option.{option_map};
     ghost use Rattle.worker_gears.specs.Real.{IsShelfFor};
 
     type D = TcpDoor<'r, R>;
@@ -322,6 +323,10 @@ where
     ghost out = { λ w. w.out };
 
     ghost faults = { λ w. w.failed };
+
+    // its door takes as many clients as are wanted, and the journal that is wanted is written
+    ghost suits = { λ number wanted cfg gear. (gear.door.clients ≡ wanted.clients)
+        × IsShelfFor wanted.journal (option_map (λ c. map (λ lb. lb.name) c.lbs) cfg) gear.shelf };
 
     fn gear(
         &mut self,

@@ -28,7 +28,7 @@ pub(crate) fn settle<
     requires whole { sum_by (λ l. l.share.parts) ran.leaving ≡ L.parts }
     ensures workers { result.workers ≡ ran.workers }
     ensures closed { EndsSo S.shelved S.faults L.sizes L.firsts (tools_of ran.left.items) (map (λ l. l.shelf) ran.leaving)
-        result.gears.items result.closing }
+        (map (λ l. l.log) ran.left.items) result.gears.items result.closing }
 {
     let Ran {
         workers,
@@ -57,7 +57,8 @@ fn close_gears<'r, L: SiteName, D: Drop, G: Drop, T: Drop, K: Drop, S: Shelf + D
     requires none { gears.old.items ≡ [] }
     requires paired { vec_len left ≡ length leaving }
     requires room { vec_len left ≤ vec_capacity gears.old }
-    ensures { EndsSo S.shelved S.faults L.sizes L.firsts (tools_of left.items) (map (λ l. l.shelf) leaving) gears.new.items result }
+    ensures { EndsSo S.shelved S.faults L.sizes L.firsts (tools_of left.items) (map (λ l. l.shelf) leaving)
+        (map (λ l. l.log) left.items) gears.new.items result }
 {
     match close_desks(site, leaving) {
         Ok(closed) => close_books(closed, left, gears),
@@ -78,7 +79,7 @@ fn close_books<L, D: Drop, G: Drop, T: Drop, K: Drop, S: Shelf + Drop, O: Drop>(
     requires paired { vec_len left ≡ length closed.shelves }
     requires room { vec_len left ≤ vec_capacity gears.old }
     ensures { (sizes firsts : List ℕ) → AreSited sizes firsts closed.books
-        → EndsSo S.shelved S.faults sizes firsts (tools_of left.items) closed.shelves gears.new.items result }
+        → EndsSo S.shelved S.faults sizes firsts (tools_of left.items) closed.shelves (map (λ l. l.log) left.items) gears.new.items result }
 {
     let Closed {
         books,

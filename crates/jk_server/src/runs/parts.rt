@@ -76,6 +76,7 @@ where
     requires pool_sizes { counts common.now.pools.now ≡ sizes_of plan.cfg.now.lbs }
     ensures served { let told = run_tells D.coming D.left D.faults T.talks K.answers D.L.Meanings S.shelved S.faults in
         IfOk result (ServesGears told plan.entry.cfg.now plan.entry.map.now gears.items) }
+    ensures logs { IfOk result (λ ran. map (λ l. l.log) ran.left.items ≡ map (λ g. g.log) gears.items) }
     ensures whole { IfOk result (λ ran. sum_by (λ l. l.share.parts) ran.leaving ≡ vec_len gears) }
     ensures each { IfOk result (λ ran. length ran.leaving ≡ vec_len gears) }
 {
@@ -117,6 +118,7 @@ fn parts_for<
         ≡ map (start_of L.sizes (counts common.now.pools.now)) gears.items) }
     ensures count { IfOk result (λ m. vec_len m.parts ≡ vec_len gears) }
     ensures after { IfOk result (λ m. HasLogs (vec_len gears) m.after) }
+    ensures logs { IfOk result (λ m. m.after.logs.items ≡ map (λ g. g.log) gears.items) }
 {
     let memory = memory_for(alloc, gears.len())?;
     let Memory { parts, after } = memory;
@@ -182,6 +184,7 @@ fn ran_of<
     ensures workers { result.workers ≡ end.entry.workers }
     ensures leaving { result.leaving ≡ end.entry.leaving }
     ensures tools { tools_of result.left.items ≡ map (λ o. tools o.door o.reach.dial o.reach.tape o.clock) end.entry.outside }
+    ensures logs { map (λ l. l.log) result.left.items ≡ after.logs.items }
 {
     let ServeEnd {
         workers,

@@ -78,6 +78,7 @@ fn begin<D: Door, G, T: Tape, K: Clock, S, O>(gears: &mut Vec<Gear<D, G, T, K, S
     requires some { 0 < vec_len gears.old }
     ensures started { let at = gear_side (side D.coming D.left D.faults) T.talks K.answers in
         AreStarted (map at gears.old.items) (map at gears.new.items) }
+    ensures logs { map (λ g. g.log) gears.new.items ≡ map (λ g. g.log) gears.old.items }
     ensures idle { All (λ g. T.is_idle g.tape) gears.old.items → All (λ g. T.is_idle g.tape) gears.new.items }
     ensures len { vec_len gears.new ≡ vec_len gears.old }
 {
@@ -89,6 +90,7 @@ fn first_moment<D: Door, G, T: Tape, K: Clock, S, O>(gears: &mut [Gear<D, G, T, 
     requires some { 0 < length gears.old }
     ensures started { let at = gear_side (side D.coming D.left D.faults) T.talks K.answers in
         AreStarted (map at gears.old) (map at gears.new) }
+    ensures logs { map (λ g. g.log) gears.new ≡ map (λ g. g.log) gears.old }
     ensures idle { All (λ g. T.is_idle g.tape) gears.old → All (λ g. T.is_idle g.tape) gears.new }
     ensures len { length gears.new ≡ length gears.old }
 {

@@ -1,6 +1,6 @@
 use Rattle.std.proofs.Common.{ap, ◌∙◌, length, arith}
 use Rattle.door_clients.specs.Doors.{side}
-use Rattle.gear_parts.proofs.ContainerLaws.{container_ran, doors_back}
+use Rattle.gear_parts.proofs.ContainerLaws.{container_ran, doors_back, rests_kept}
 use Rattle.gear_parts.proofs.ListLaws.{as_long, as_long_as}
 use Rattle.gear_parts.proofs.container.contain_in.Goals as goal
 
@@ -41,4 +41,5 @@ returns g c = record {
       c.put_doors.new.gears.items c.take_doors.new.doors.items c.in_ok-workers.field-0.doors c.in_ok-workers.field-0.workers
       c.take_doors.ensures.doors (c.put_doors.ensures.doors ∙ c.into_vec.ensures) c.in_ok-workers.ensures.served
       (c.put_doors.ensures.rests ∙ c.take_doors.ensures.rests);
+  rests = rests_kept c.args.gears.items c.put_doors.new.gears.items (c.put_doors.ensures.rests ∙ c.take_doors.ensures.rests);
 }

@@ -13,7 +13,7 @@ gears-init g c = record {
 
 pub gears-preserved : goal.gears-preserved
 gears-preserved g c = record {
-  taken = taken_on _ _ _ _ _ _ _ _ c.gears.invariant.taken c.in_ok-take_gear.ensures.ok;
+  taken = taken_on _ _ _ _ _ _ _ _ _ c.gears.invariant.taken (omega (arith, c.gears.invariant.count, c.gears.gears.ok.0)) c.in_ok-take_gear.ensures.ok;
   count = omega (arith, c.gears.invariant.count, c.in_ok-take_gear.ensures.room.0);
   end = refl;
   room = omega (arith, c.gears.invariant.room, c.in_ok-take_gear.ensures.room.1);

@@ -11,4 +11,5 @@ returns-clause-ok g c =
       no_fewer = made.cause.no_fewer;
       made = record { few = made.few; none_left = made.none_left; no_talk = made.no_talk };
       idle = made.idle;
+      suited = made.suited;
     }

@@ -25,3 +25,6 @@ returns-clause-refused g c = c.gears_in.ensures.refused
 
 pub returns-clause-cause : goal.returns-clause-cause
 returns-clause-cause g c = c.gears_in.ensures.cause
+
+pub returns-clause-suited : goal.returns-clause-suited
+returns-clause-suited g c = ok_then c.gears_in.result _ _ c.gears_in.ensures.taken (λ gears taken. taken.suited)

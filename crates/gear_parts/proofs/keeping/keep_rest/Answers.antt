@@ -1,6 +1,7 @@
 use Rattle.std.proofs.Common.{◌≡◌, length, ap, arith}
 use Rattle.std.proofs.lemmas.List.{nil_from_length}
-use Rattle.gear_parts.proofs.KeepingLaws.{all_cut, none_cut, one_cut}
+use Rattle.gear_parts.proofs.KeepingLaws.{all_cut, front_cut, none_cut, one_cut}
+use Rattle.gear_parts.proofs.WorldLaws.{on_err}
 use Rattle.gear_parts.proofs.keeping.keep_rest.Goals as goal
 
 pub books-init : goal.books-init
@@ -14,6 +15,12 @@ books-preserved g c = record {
   counted = omega (arith, c.books.invariant.counted, ap length c.in-Some.ensures.steps.0);
   no_fewer = omega (arith, c.books.invariant.no_fewer, c.in_ok-keep_last.ensures.cause.no_fewer);
 }
+
+pub returns-in_err-keep_last-clause-front : goal.returns-in_err-keep_last-clause-front
+returns-in_err-keep_last-clause-front g c =
+    on_err c.from_residual.result _
+    (front_cut g.S.Shelf.shelved c.args.books _ _ _ c.args.shelf.now c.books.shelf c.keep_last.new.shelf c.in-Some.book
+    c.books.invariant.cut c.in-Some.ensures.steps.0 c.in_err-keep_last.ensures.refused)
 
 pub returns-clause-kept : goal.returns-clause-kept
 returns-clause-kept g c =

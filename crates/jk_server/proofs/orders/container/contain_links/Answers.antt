@@ -11,7 +11,7 @@ pub returns-in-Err : goal.returns-in-Err
 returns-in-Err g c = works_err _ _ _ _ c.in-Err.error _ c.in-Err.ensures.refused c.in-Err.ensures.cause c.end_by.ensures
 
 pub returns-in-Err-contain_gears : goal.returns-in-Err-contain_gears
-returns-in-Err-contain_gears g c = wants_gears _ _ _ _ c.in-Ok.gears.items c.in-Ok.ensures.taken
+returns-in-Err-contain_gears g c = wants_gears _ _ _ _ c.in-Ok.gears.items c.in-Ok.ensures.taken (sym c.in-Ok.gears.ok.0 ∙ c.in-Ok.ensures.count)
 
 pub give_back-requires-clause-out : goal.give_back-requires-clause-out
 give_back-requires-clause-out g c κs within =
@@ -28,8 +28,10 @@ returns-in-Ok-contain_gears g c =
       left = left.items;
       count = sym c.in-Ok.gears.ok.0 ∙ c.in-Ok.ensures.count;
       made = c.in-Ok.ensures.made;
+      suited = c.in-Ok.ensures.suited;
       ends = c.in-Ok-contain_gears.field-0.workers;
       run = c.in-Ok-contain_gears.ensures.ran g.W.T.Tape.talks g.W.K.Clock.answers;
+      rests = c.in-Ok-contain_gears.ensures.rests;
       passed =
           all_came_back _ _ _ _ left.items _ c.in-Ok.ensures.taken c.give_back.ensures.came_back c.give_back.ensures.fewer left.ok.0
           c.give_back.ensures.same.0 c.give_back.ensures.same.1;

@@ -26,13 +26,13 @@ pub serve_gears-requires-clause-idle : goal.serve_gears-requires-clause-idle
 serve_gears-requires-clause-idle g c κs within = c.in-Ok.ensures.idle
 
 pub returns-in-Err-serve_gears : goal.returns-in-Err-serve_gears
-returns-in-Err-serve_gears g c = wants_gears _ _ _ _ c.in-Ok.gears.items c.in-Ok.ensures.taken
+returns-in-Err-serve_gears g c = wants_gears _ _ _ _ c.in-Ok.gears.items c.in-Ok.ensures.taken (sym c.in-Ok.gears.ok.0 ∙ c.in-Ok.ensures.count)
 
 pub settle-requires-clause-out : goal.settle-requires-clause-out
 settle-requires-clause-out g c κs within =
     let ran = c.in-Ok-serve_gears.ran in
     few_out _ _ c.in-Ok.gears.items (length (returned ran.closing ran.gears.items)) c.in-Ok.ensures.taken
-    (few_returned _ _ _ _ _ _ c.in-Ok.gears.items ran.gears.items ran.workers ran.closing c.in-Ok-serve_gears.ensures.ran)
+    (few_returned _ _ _ _ _ _ c.in-Ok.gears.items ran.gears.items ran.workers ran.closing c.in-Ok-serve_gears.ensures.ran.is)
 
 pub returns-in-Ok-serve_gears : goal.returns-in-Ok-serve_gears
 returns-in-Ok-serve_gears g c =
@@ -42,9 +42,11 @@ returns-in-Ok-serve_gears g c =
       left = ran.gears.items;
       count = sym c.in-Ok.gears.ok.0 ∙ c.in-Ok.ensures.count;
       made = c.in-Ok.ensures.made;
+      suited = c.in-Ok.ensures.suited;
       ends = ran.workers;
       closing = ran.closing;
-      run = c.in-Ok-serve_gears.ensures.ran;
+      run = c.in-Ok-serve_gears.ensures.ran.is;
+      logs = c.in-Ok-serve_gears.ensures.ran.logs;
       passed = then_back _ _ _ _ _ c.in-Ok.ensures.taken c.settle.ensures.given;
       status = c.settle.ensures.ended;
     })

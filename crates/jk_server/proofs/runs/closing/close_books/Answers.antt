@@ -1,10 +1,11 @@
-use Rattle.std.proofs.Common.{◌≡◌, ap, ◌∙◌, length, Err, subst, sym, arith}
+use Rattle.std.proofs.Common.{◌≡◌, ap, ◌∙◌, length, Err, inr, arith}
 use Rattle.std.proofs.lemmas.List.{length-map}
 use Rattle.jk_io.specs.Told.{Rose}
 use Rattle.jk_io.specs.declared.failures.IoError.TheVariants.{Failed}
-use Rattle.gear_parts.specs.GearParts.{tools}
-use Rattle.gear_parts.specs.Cuts.{AddsCuts, ToFirst}
+use Rattle.gear_parts.specs.GearParts.{tools, tools_of}
+use Rattle.gear_parts.specs.Cuts.{AddsCuts, AddsFront}
 use Rattle.gear_parts.proofs.ListLaws.{written_back}
+use Rattle.jk_server.proofs.CutLaws.{both_first, of_err, put_back}
 use Rattle.jk_server.proofs.runs.closing.close_books.Goals as goal
 
 pub returns-in-Ok : goal.returns-in-Ok
@@ -12,25 +13,15 @@ returns-in-Ok g c = λ sizes firsts sited.
     let lent = ap length c.as_mut_slice.ensures.value in
     let whole = c.into_vec-shelves.result.ok.0 in
     let len = c.keep_on_first-kept.ensures.len in
-    let same = c.as_mut_slice.ensures.value ∙ c.into_vec-shelves.ensures in
+    let paired : length (tools_of c.args.left.items) ≡ length c.args.closed.shelves =
+    omega (arith, length-map c.args.left.items (λ l. tools l.door l.dial l.tape l.clock), c.requires.paired, c.args.left.ok.0) in
     let put = c.gears_again.ensures.shelves
     ∙ written_back c.into_vec-shelves.result.len c.keep_on_first-kept.new.shelves _ (omega (arith, lent, whole, len)) in (
       c.args.closed.books,
       sited,
-      record {
-        paired =
-            omega (
-              arith,
-              length-map c.args.left.items (λ l. tools l.door l.dial l.tape l.clock),
-              c.requires.paired,
-              c.args.left.ok.0,
-            );
-        tools_put = c.gears_again.ensures.tools;
-        shelves_put =
-            subst (λ ss. ToFirst (AddsCuts g.S.Shelf.shelved c.args.closed.books) c.args.closed.shelves ss) (sym put)
-            (subst (λ ss. ToFirst (AddsCuts g.S.Shelf.shelved c.args.closed.books) ss c.keep_on_first-kept.new.shelves) same
-            c.in-Ok.ensures.kept);
-      },
+      put_back (AddsCuts g.S.Shelf.shelved c.args.closed.books) (tools_of c.args.left.items) c.args.closed.shelves _ c.keep_on_first-kept.new.shelves _ _
+          paired c.gears_again.ensures.tools c.gears_again.ensures.logs (c.as_mut_slice.ensures.value ∙ c.into_vec-shelves.ensures) put
+          c.in-Ok.ensures.kept,
     )
 
 pub returns-in-Err-Failed : goal.returns-in-Err-Failed
@@ -40,20 +31,32 @@ returns-in-Err-Failed g c = λ sizes firsts sited.
     let lent = ap length c.as_mut_slice.ensures.value in
     let whole = c.into_vec-shelves.result.ok.0 in
     let len = c.keep_on_first-kept.ensures.len in
-    let same = c.as_mut_slice.ensures.value ∙ c.into_vec-shelves.ensures in
+    let paired : length (tools_of c.args.left.items) ≡ length c.args.closed.shelves =
+    omega (arith, length-map c.args.left.items (λ l. tools l.door l.dial l.tape l.clock), c.requires.paired, c.args.left.ok.0) in
+    let put = c.gears_again.ensures.shelves
+    ∙ written_back c.into_vec-shelves.result.len c.keep_on_first-kept.new.shelves _ (omega (arith, lent, whole, len)) in (
+      c.args.closed.books,
+      sited,
+      put_back (λ old new. AddsFront g.S.Shelf.shelved c.args.closed.books old new × Rose (g.S.Shelf.faults old) (g.S.Shelf.faults new))
+          (tools_of c.args.left.items) c.args.closed.shelves _ c.keep_on_first-kept.new.shelves _ _
+          paired c.gears_again.ensures.tools c.gears_again.ensures.logs (c.as_mut_slice.ensures.value ∙ c.into_vec-shelves.ensures) put
+          (both_first (AddsFront g.S.Shelf.shelved c.args.closed.books) (λ old new. Rose (g.S.Shelf.faults old) (g.S.Shelf.faults new)) _ _
+          (of_err c.keep_on_first-kept.result _ _ c.in-Err-Failed.is c.keep_on_first-kept.ensures.front) (c.keep_on_first-kept.ensures.failed failed)),
+    )
+
+pub returns-in-Err-NoMemory : goal.returns-in-Err-NoMemory
+returns-in-Err-NoMemory g c = λ sizes firsts sited.
+    let lent = ap length c.as_mut_slice.ensures.value in
+    let whole = c.into_vec-shelves.result.ok.0 in
+    let len = c.keep_on_first-kept.ensures.len in
+    let paired : length (tools_of c.args.left.items) ≡ length c.args.closed.shelves =
+    omega (arith, length-map c.args.left.items (λ l. tools l.door l.dial l.tape l.clock), c.requires.paired, c.args.left.ok.0) in
     let put = c.gears_again.ensures.shelves
     ∙ written_back c.into_vec-shelves.result.len c.keep_on_first-kept.new.shelves _ (omega (arith, lent, whole, len)) in
-    record {
-      paired =
-          omega (
-            arith,
-            length-map c.args.left.items (λ l. tools l.door l.dial l.tape l.clock),
-            c.requires.paired,
-            c.args.left.ok.0,
-          );
-      tools_put = c.gears_again.ensures.tools;
-      shelves_put =
-          subst (λ ss. ToFirst (λ old new. Rose (g.S.Shelf.faults old) (g.S.Shelf.faults new)) c.args.closed.shelves ss) (sym put)
-          (subst (λ ss. ToFirst (λ old new. Rose (g.S.Shelf.faults old) (g.S.Shelf.faults new)) ss c.keep_on_first-kept.new.shelves) same
-          (c.keep_on_first-kept.ensures.failed failed));
-    }
+    inr (
+      c.args.closed.books,
+      sited,
+      put_back (AddsFront g.S.Shelf.shelved c.args.closed.books) (tools_of c.args.left.items) c.args.closed.shelves _ c.keep_on_first-kept.new.shelves _ _
+          paired c.gears_again.ensures.tools c.gears_again.ensures.logs (c.as_mut_slice.ensures.value ∙ c.into_vec-shelves.ensures) put
+          (of_err c.keep_on_first-kept.result _ _ c.in-Err-NoMemory.is c.keep_on_first-kept.ensures.front),
+    )

@@ -26,3 +26,6 @@ returns-clause-after g c = record {
   for_left = few_so _ _ _ (sym c.len.ensures) c.in_ok-memory.ensures.left;
   for_back = few_so _ _ _ (sym c.len.ensures) c.in_ok-memory.ensures.back;
 }
+
+pub returns-clause-logs : goal.returns-clause-logs
+returns-clause-logs g c = c.fill_parts.ensures.logs

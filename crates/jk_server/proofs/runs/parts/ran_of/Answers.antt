@@ -28,3 +28,6 @@ invariant_of-result g c =
 pub returns-clause-tools : goal.returns-clause-tools
 returns-clause-tools g c =
     c.take_apart.ensures.tools ∙ ap (λ os. map (λ o. tools o.door o.reach.dial o.reach.tape o.clock) os) c.into_vec.ensures
+
+pub returns-clause-logs : goal.returns-clause-logs
+returns-clause-logs g c = c.take_apart.ensures.logs

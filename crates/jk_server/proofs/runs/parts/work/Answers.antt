@@ -1,4 +1,4 @@
-use Rattle.std.proofs.Common.{◌≡◌, ap, map, false, refl, sym}
+use Rattle.std.proofs.Common.{◌≡◌, ◌∙◌, ap, map, false, refl, sym}
 use Rattle.std.specs.Prelude.{is_some}
 use Rattle.client_session.specs.Requests.{visit}
 use Rattle.conn_pool.specs.Idle.{counts}
@@ -76,3 +76,6 @@ pub returns-in-Ok-run_serve-clause-each : goal.returns-in-Ok-run_serve-clause-ea
 returns-in-Ok-run_serve-clause-each g c =
     each_left _ c.in-Ok.field-0.parts.items c.in-Ok-run_serve.end.outside c.in-Ok-run_serve.end.leaving _ c.in-Ok-run_serve.end.workers _ _
     c.in-Ok-run_serve.ensures.served c.ran_of.ensures.leaving c.in-Ok.field-0.parts.ok.0 c.in-Ok.ensures.count
+
+pub returns-in-Ok-run_serve-clause-logs : goal.returns-in-Ok-run_serve-clause-logs
+returns-in-Ok-run_serve-clause-logs g c = c.ran_of.ensures.logs ∙ c.in-Ok.ensures.logs

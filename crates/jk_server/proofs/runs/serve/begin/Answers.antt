@@ -3,7 +3,7 @@ use Rattle.door_clients.specs.Doors.{side}
 use Rattle.gear_parts.specs.Gears.{gear_side}
 use Rattle.gear_parts.proofs.ListLaws.{written_back}
 use Rattle.jk_server.proofs.GearRunLaws.{some_so}
-use Rattle.jk_server.proofs.StartLaws.{idle_back, started_back}
+use Rattle.jk_server.proofs.StartLaws.{idle_back, logs_back, started_back}
 use Rattle.jk_server.proofs.runs.serve.begin.Goals as goal
 
 pub first_moment-requires : goal.first_moment-requires
@@ -22,3 +22,9 @@ returns-clause-idle g c = λ all.
     c.as_mut_slice.ensures.value
     (written_back c.args.gears.now.len c.first_moment.new.gears _ (sym c.as_mut_slice.ensures.len ∙ sym c.first_moment.ensures.len))
     c.first_moment.ensures.idle all
+
+pub returns-clause-logs : goal.returns-clause-logs
+returns-clause-logs g c =
+    logs_back _ _ _ _ c.as_mut_slice.ensures.value
+    (written_back c.args.gears.now.len c.first_moment.new.gears _ (sym c.as_mut_slice.ensures.len ∙ sym c.first_moment.ensures.len))
+    c.first_moment.ensures.logs

@@ -1,7 +1,7 @@
 use Rattle.std.proofs.Common.{sym, ◌∙◌}
 use Rattle.client_session.specs.Requests.{visit}
 use Rattle.door_clients.specs.Doors.{side}
-use Rattle.jk_server.proofs.CutLaws.{closes_said}
+use Rattle.jk_server.proofs.CutLaws.{closes_said, logs_said}
 use Rattle.jk_server.proofs.GearRunLaws.{some_left}
 use Rattle.jk_server.proofs.StartLaws.{run_done}
 use Rattle.jk_server.proofs.runs.serve.over_pools.Goals as goal
@@ -35,9 +35,12 @@ settle-requires-clause-whole g c = c.in-Ok.ensures.whole ∙ sym c.requires.read
 
 pub returns-in-Ok : goal.returns-in-Ok
 returns-in-Ok g c = record {
-  ran =
-      run_done (visit c.args.plan.cfg.now c.args.plan.map.now) g.D.L.Meanings g.S.Shelf.shelved g.S.Shelf.faults c.args.plan.cfg.now.lbs _ _ _ _ _
-      _ c.in-Ok.ensures.served c.settle.ensures.workers
-      (closes_said (side g.D.Door.coming g.D.Door.left g.D.Door.faults) g.T.Tape.talks g.K.Clock.answers g.S.Shelf.shelved g.S.Shelf.faults
-      c.args.plan.cfg.now.lbs _ _ _ _ _ _ c.requires.new.sized c.requires.new.numbered c.settle.ensures.closed);
+  ran = record {
+    is =
+        run_done (visit c.args.plan.cfg.now c.args.plan.map.now) g.D.L.Meanings g.S.Shelf.shelved g.S.Shelf.faults c.args.plan.cfg.now.lbs _ _ _
+        _ _ _ c.in-Ok.ensures.served c.settle.ensures.workers
+        (closes_said (side g.D.Door.coming g.D.Door.left g.D.Door.faults) g.T.Tape.talks g.K.Clock.answers g.S.Shelf.shelved g.S.Shelf.faults
+        c.args.plan.cfg.now.lbs _ _ _ _ _ _ _ c.requires.new.sized c.requires.new.numbered c.settle.ensures.closed);
+    logs = logs_said g.S.Shelf.shelved g.S.Shelf.faults _ _ _ _ _ c.args.gears.items _ _ c.in-Ok.ensures.logs c.settle.ensures.closed;
+  };
 }

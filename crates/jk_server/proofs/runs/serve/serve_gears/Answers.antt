@@ -2,6 +2,7 @@ use Rattle.std.proofs.Common.{refl, ◌∙◌}
 use Rattle.client_session.specs.Requests.{visit}
 use Rattle.door_clients.specs.Doors.{side}
 use Rattle.gear_parts.specs.Gears.{gear_side}
+use Rattle.jk_server.proofs.CutLaws.{logs_since}
 use Rattle.jk_server.proofs.GearRunLaws.{few_so, some_so}
 use Rattle.jk_server.proofs.StartLaws.{ok_weaker, started_run}
 use Rattle.jk_server.proofs.runs.serve.serve_gears.Goals as goal
@@ -30,9 +31,12 @@ pub returns-in-Ok : goal.returns-in-Ok
 returns-in-Ok g c = record {
   ran =
       ok_weaker _ _ c.over_site.result c.over_site.ensures.ran
-      (λ run is.
-      started_run (visit c.args.cfg.now c.args.mounts.now) g.D.L.Meanings g.S.Shelf.shelved g.S.Shelf.faults c.args.cfg.now.lbs
-      (gear_side (side g.D.Door.coming g.D.Door.left g.D.Door.faults) g.T.Tape.talks g.K.Clock.answers) c.args.gears.items
-      c.args.gears.items c.begin-at.new.gears.items c.begin-at.new.gears.items run.gears.items run.workers run.closing refl refl
-      c.begin-at.ensures.started is);
+      (λ run is. record {
+        is =
+            started_run (visit c.args.cfg.now c.args.mounts.now) g.D.L.Meanings g.S.Shelf.shelved g.S.Shelf.faults c.args.cfg.now.lbs
+            (gear_side (side g.D.Door.coming g.D.Door.left g.D.Door.faults) g.T.Tape.talks g.K.Clock.answers) c.args.gears.items
+            c.args.gears.items c.begin-at.new.gears.items c.begin-at.new.gears.items run.gears.items run.workers run.closing refl refl
+            c.begin-at.ensures.started is.is;
+        logs = logs_since c.args.gears.items c.begin-at.new.gears.items run.gears.items run.closing c.begin-at.ensures.logs is.logs;
+      });
 }

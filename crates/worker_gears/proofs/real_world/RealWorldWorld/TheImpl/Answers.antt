@@ -15,6 +15,10 @@ beside_that : {T E : Type 0} (result : Result T E) (P Q : Type 0) → P → OnEr
 beside_that (Ok x) P Q p q = tt
 beside_that (Err e) P Q p q = (p, q)
 
+both_ok : {T E : Type 0} (result : Result T E) (P Q : T → Type 0) → IfOk result P → IfOk result Q → IfOk result (λ x. P x × Q x)
+both_ok (Ok x) P Q p q = (p, q)
+both_ok (Err e) P Q p q = tt
+
 pub gear-tells : goal.gear-tells
 gear-tells g _ _ _ _ _ _ _ _ c = record {
   handed = of_each c.result _ (λ gear. refl);
@@ -23,6 +27,7 @@ gear-tells g _ _ _ _ _ _ _ _ c = record {
   none_left = of_each c.result _ (λ gear. tt);
   idle = of_each c.result _ (λ gear. tt);
   no_talk = of_each c.result _ (λ gear. tt);
+  suited = both_ok c.result _ _ c.ensures.clients c.ensures.shelf;
   unlogged = c.ensures.unlogged;
   err = beside_that c.result _ _ refl c.ensures.err;
   same = refl;
