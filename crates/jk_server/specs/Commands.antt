@@ -143,7 +143,7 @@ pub record LacksFiles {G L : Type 0} (s n : CommandSide G) (ended : CommandEnd L
   pub written : n.sent ≡ s.sent
   pub world : n.world ≡ s.world
 
--- The files are a site, for which so many workers were wanted. Nothing was written.
+-- The files are a site, for which this many workers were wanted. Nothing was written.
 pub record ServesSite {W G C S X L : Type 0} (told : Tells W G C S X) (outside : CommandOutside) (workers map : List ℕ) (threads : ℕ) (wanted : GearWants) (s n : CommandSide G) (ended : CommandEnd L) : Type 0 where
   pub cfg : Config
   pub rules : List Rule
@@ -163,7 +163,7 @@ pub record IsAppOf (route : List ℕ) (app : AppConfig) : Type 0 where
   pub secret : app.secret ≡ None
   pub packet : app.packet ≡ 8192
 
--- The workers of such a container were wanted.
+-- The workers of a container of this route were wanted of the world.
 pub record ContainsLinks {W G C S X L : Type 0} (told : Tells W G C S X) (route : List ℕ) (threads : ℕ) (wanted : GearWants) (s n : WorldSide G) (ended : CommandEnd L) : Type 0 where
   pub app : AppConfig
   pub is : IsAppOf route app

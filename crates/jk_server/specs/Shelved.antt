@@ -1,4 +1,4 @@
--- What the last cuts of a run did with the shelves, and how the closing ended so.
+-- What the last cuts of a run did with the shelves, and how the closing ended by that.
 use Rattle.std.specs.Prelude.{ℕ, ◌≡◌, ◌⊎◌, List, [], ◌∷◌, length, map, Option}
 use Rattle.jk_io.specs.Told.{Rose}
 use Rattle.jk_model.specs.declared.journal.Entry.{Entry}
@@ -12,15 +12,15 @@ use Rattle.gear_parts.specs.GearParts.{Tools, tools}
 use Rattle.jk_server.specs.declared.runs.ends.Closing.{Closing}
 use Rattle.jk_server.specs.declared.runs.ends.Closing.TheVariants as closing
 
--- The gears came back with the tools and shelves that their workers left, but for the first shelf, of which this is so, and with
--- these logs.
+-- The gears came back with the tools and shelves that their workers left, but for the first shelf, for which `Kept` holds, and
+-- with these logs.
 pub record IsPutBack {D G T K S O : Type 0} (Kept : S → S → Type 0) (left : List (Tools D G T K)) (shelves : List S) (logs : List (Option O)) (back : List (Gear D G T K S O)) : Type 0 where
   pub paired : length left ≡ length shelves
   pub tools_put : map (λ g. tools g.door g.dial g.tape g.clock) back ≡ left
   pub shelves_put : ToFirst Kept shelves (map (λ g. g.shelf) back)
   pub logs_put : map (λ g. g.log) back ≡ logs
 
--- The Books of a Site of these sizes and first numbers were cut, and this is so of their segments and the first shelf.
+-- The Books of a Site of these sizes and first numbers were cut, and `Kept` says what became of them on the first shelf.
 abbrev pub KeepsCuts : {D G T K S O : Type 0} → (List Journal → S → S → Type 0) → (sizes firsts : List ℕ) → List (Tools D G T K) → List S → List (Option O) → (back : List (Gear D G T K S O)) → Type 0
 KeepsCuts Kept sizes firsts left shelves logs back =
     (books : List Journal) × AreSited sizes firsts books × IsPutBack (Kept books) left shelves logs back

@@ -52,7 +52,7 @@ pub record IsStartedRun {C S L X : Type 0} (visits : ℕ → Peer → Visit) (to
   pub served : AreServedGears visits told faults 0 begun left ends
   pub closed : Closes shelved faults lbs left back closing
 
--- It is so of the gears as they were then, and of what the run gave back, each gear with the log that it had.
+-- What `IsStartedRun` says of the gears as they were at the start, and of what the run gave back, each with the log that it had.
 pub record RunsStarted {D G T K S O L C X : Type 0} (told : RunTells D T K S C X) (cfg : Config) (rules : List Rule) (gears : List (Gear D G T K S O)) (run : SiteRun L (Gear D G T K S O)) : Type 0 where
   pub is : IsStartedRun (visit cfg rules) told.link told.shelved told.shelf_faults cfg.lbs (gears_at told gears) (gears_at told run.gears.items) run.workers run.closing
   pub logs : KeepsEach KeepsLog run.closing gears run.gears.items
