@@ -86,7 +86,7 @@ logs_for {X = X} {A = A} {B = B} Is ps os vs es after many count each whole same
     let left : length os ≡ count = (as_many Is 0 ps os vs es each).0 ∙ sym whole ∙ same in
     subst (λ (n : ℕ). HasLogs n after) (sym left) has
 
--- They left so many desks.
+-- They left this many desks.
 pub each_left : {P O V E : Type 0} → (Is : ℕ → P → O → V → E → Type 0) (ps : List P) (os : List O) (vs left : List V) (es : List E) (many count : ℕ)
     → AreEach Is 0 ps os vs es → left ≡ vs → many ≡ length ps → many ≡ count → length left ≡ count
 each_left Is ps os vs left es many count each same whole is = ap length same ∙ (as_many Is 0 ps os vs es each).1 ∙ sym whole ∙ is
