@@ -1,5 +1,5 @@
 -- What was done with each part, said of the gears.
-use Rattle.std.proofs.Common.{ℕ, ◌≡◌, ◌<◌, ◌≤◌, ◌+◌, List, [], ◌∷◌, length, map, Option, refl, ap, sym, ◌∙◌, subst, arith}
+use Rattle.std.proofs.Common.{ℕ, ◌≡◌, ◌<◌, ◌≤◌, ◌+◌, List, [], ◌∷◌, length, map, Option, IfOk, Result, Ok, Err, refl, ap, sym, ◌∙◌, subst, arith}
 use Rattle.std.specs.Prelude.{sum_by}
 use Rattle.std.specs.List.{All}
 use Rattle.std.proofs.lemmas.List.Elements.{All-cons, All-head, All-nil, All-tail}
@@ -16,7 +16,15 @@ use Rattle.jk_server.specs.Parts.{AreEach}
 use Rattle.jk_server.specs.declared.part.WorkerEnd.{WorkerEnd}
 use Rattle.jk_server.specs.declared.runs.parts.After.{After}
 use Rattle.gear_parts.proofs.ListLaws.{as_long}
-use Rattle.gear_parts.specs.GearParts.{gear_with, gears_with, tools}
+use Rattle.gear_parts.specs.GearParts.{gear_with, gears_with, start_of, start_with, tools}
+use Rattle.gear_parts.specs.declared.part.Part.{Part}
+use Rattle.conn_pool.specs.Reaches.{PooledState}
+use Rattle.locked_balancer.specs.declared.site.SiteName.{Ghosts as SiteGhosts}
+use Rattle.site_config.specs.declared.config.Config.{Config}
+use Rattle.uri_map.specs.declared.rule.Rule.{Rule}
+use Rattle.jk_server.specs.RunTells.{RunTells}
+use Rattle.jk_server.specs.ServedGears.{IsRunOf, RunsParts}
+use Rattle.jk_server.specs.declared.runs.ran.Ran.{Ran}
 use Rattle.jk_server.specs.Runs.{AreServedGears, IsServedGear}
 
 -- Each gear was served by its worker, where that follows of its part, of what the worker left and of how it ended.
@@ -74,27 +82,6 @@ as_many Is n (p ∷ ps) (o ∷ os) (v ∷ vs) [] each = absurd each
 as_many Is n (p ∷ ps) (o ∷ os) (v ∷ vs) (e ∷ es) each =
     let rest = as_many Is (n + 1) ps os vs es each.1 in (omega (arith, rest.0), omega (arith, rest.1))
 
--- The workers left a desk for each of what else they left.
-pub all_paired : {P O V E : Type 0} → (Is : ℕ → P → O → V → E → Type 0) (ps : List P) (os : List O) (vs : List V) (es : List E)
-    → AreEach Is 0 ps os vs es → length vs ≡ length os
-all_paired Is ps os vs es each = let many = as_many Is 0 ps os vs es each in many.1 ∙ sym many.0
-
--- There is a log for each of them, and room for it.
-pub logs_for : {P O V E X A B : Type 0} → (Is : ℕ → P → O → V → E → Type 0) (ps : List P) (os : List O) (vs : List V) (es : List E) (after : After X A B) (many count : ℕ)
-    → AreEach Is 0 ps os vs es → many ≡ length ps → many ≡ count → HasLogs count after → HasLogs (length os) after
-logs_for {X = X} {A = A} {B = B} Is ps os vs es after many count each whole same has =
-    let left : length os ≡ count = (as_many Is 0 ps os vs es each).0 ∙ sym whole ∙ same in
-    subst (λ (n : ℕ). HasLogs n after) (sym left) has
-
--- They left this many desks.
-pub each_left : {P O V E : Type 0} → (Is : ℕ → P → O → V → E → Type 0) (ps : List P) (os : List O) (vs left : List V) (es : List E) (many count : ℕ)
-    → AreEach Is 0 ps os vs es → left ≡ vs → many ≡ length ps → many ≡ count → length left ≡ count
-each_left Is ps os vs left es many count each same whole is = ap length same ∙ (as_many Is 0 ps os vs es each).1 ∙ sym whole ∙ is
-
-pub whole_left : {P V : Type 0} → (part : V → ℕ) (ps : List P) (vs left : List V) (many count : ℕ)
-    → sum_by part vs ≡ length ps → left ≡ vs → many ≡ length ps → many ≡ count → sum_by part left ≡ count
-whole_left part ps vs left many count whole same len is = ap (sum_by part) same ∙ whole ∙ sym len ∙ is
-
 -- As many parts were made as there are gears.
 pub parts_kept : {P Y Z : Type 0} → (start : P → Z) (of : Y → Z) (ps : List P) (gears : List Y) (many count : ℕ)
     → map start ps ≡ map of gears → many ≡ length ps → count ≡ length gears → many ≡ count
@@ -108,6 +95,17 @@ some_so n count same some = omega (arith, same, some)
 
 pub few_so : (n count most : ℕ) → n ≡ count → count ≤ most → n ≤ most
 few_so n count most same few = omega (arith, same, few)
+
+pub logs_so : {X A B : Type 0} → (many count : ℕ) (after : After X A B) → many ≡ count → HasLogs count after → HasLogs many after
+logs_so many count after same has = subst (λ (n : ℕ). HasLogs n after) (sym same) has
+
+-- What holds of all gears of which the parts and the logs were made, holds of these.
+pub runs_of : {D G T K S O L C X P W E : Type 0} {N : SiteGhosts L} → (told : RunTells D T K S C X) (cfg : Config) (rules : List Rule)
+    (parts : List (Part L D (PooledState G T P) K S W)) (logs : List (Option O)) (sizes pools : List ℕ) (gears : List (Gear D G T K S O)) (r : Result (Ran L D G T K S O N) E)
+    → map (λ p. start_with p.door p.reach p.clock p.desk) parts ≡ map (start_of sizes pools) gears → logs ≡ map (λ g. g.log) gears
+    → IfOk r (λ ran. RunsParts told cfg rules parts logs ran) → IfOk r (λ ran. IsRunOf told cfg rules gears ran)
+runs_of told cfg rules parts logs sizes pools gears (Ok ran) starts logged runs = runs sizes pools gears starts logged
+runs_of told cfg rules parts logs sizes pools gears (Err e) starts logged runs = runs
 
 -- What follows of each holds of all that the workers left.
 pub all_left : {P O V E : Type 0} → (Is : ℕ → P → O → V → E → Type 0) (Left : O → Type 0)

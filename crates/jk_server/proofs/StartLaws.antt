@@ -9,7 +9,6 @@ use Rattle.jk_io.specs.declared.traits.surroundings.Peer.{Peer}
 use Rattle.jk_model.specs.declared.segment.Segment.{Segment}
 use Rattle.client_session.specs.Requests.{Visit}
 use Rattle.door_clients.specs.Doors.{DoorSide}
-use Rattle.locked_balancer.specs.SharedDesks.{SharedState}
 use Rattle.site_config.specs.declared.balancer.Lb.{Lb}
 use Rattle.gear_parts.specs.Gears.{GearSide, gear_side}
 use Rattle.gear_parts.specs.declared.world.Gear.{Gear}
@@ -19,13 +18,10 @@ use Rattle.jk_server.specs.declared.part.WorkerEnd.{WorkerEnd}
 use Rattle.gear_parts.specs.GearParts.{Start, start_of}
 use Rattle.jk_server.specs.Closings.{Closes}
 use Rattle.jk_server.specs.Runs.{AreServedGears, AreStarted, IsNew, IsSiteRun, IsServedGear, WorksWith}
+use Rattle.jk_server.specs.ServedGears.{start_side}
 use Rattle.jk_server.specs.Started.{IsStartedRun}
 use Rattle.jk_server.specs.declared.runs.ends.Closing.{Closing}
 use Rattle.gear_parts.proofs.ListLaws.{all_of_map, map_map}
-
--- a gear as its worker begins with it
-abbrev pub start_side : {D G T K S C X : Type 0} → (D → DoorSide C) → (T → Option (List Talk)) → (K → Option (List ℕ)) → Start D G T K S X → GearSide C S
-start_side at talks answers s = record { door = at s.door; talks = talks s.reach.tape; clock = answers s.clock; shelf = s.desk.shelf }
 
 -- Parts that begin so are told as their gears are.
 pub starts_told : {P D G T K S O C X : Type 0} → (at : D → DoorSide C) (talks : T → Option (List Talk)) (answers : K → Option (List ℕ)) (sizes pools : List ℕ)
@@ -44,10 +40,6 @@ pub starts_are : {P D G T K S O X : Type 0} → (sizes pools : List ℕ) (Q : St
     → All (λ (p : P). Q (start p)) parts
 starts_are sizes pools Q start parts gears same each =
     all_of_map Q start parts (subst (λ xs. All Q xs) (sym same) (All-map Q (start_of sizes pools) gears each))
-
--- A worker that begins has a new desk, and one part of the ledger.
-abbrev pub IsBeginning : {S : Type 0} → SharedState S → Type 0
-IsBeginning desk = IsNew desk × (desk.desk.parts ≡ Some 1)
 
 pub one_part : (was now : Option ℕ) (n : ℕ) → now ≡ Some n → now ≡ was → was ≡ Some 1 → n ≡ 1
 one_part was now n is same one = cc

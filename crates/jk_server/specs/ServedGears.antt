@@ -1,13 +1,21 @@
 -- What the workers of a run did with its gears, by what they left.
-use Rattle.std.specs.Prelude.{List, map}
+use Rattle.std.specs.Prelude.{ℕ, ◌≡◌, false, is_some, List, length, map, Option, Some, sum_by}
+use Rattle.std.specs.List.{All}
+use Rattle.jk_io.specs.declared.reaching.Talk.{Talk}
+use Rattle.door_clients.specs.Doors.{DoorSide}
+use Rattle.locked_balancer.specs.SharedDesks.{SharedState}
+use Rattle.gear_parts.specs.Gears.{GearSide}
 use Rattle.client_session.specs.Requests.{visit}
 use Rattle.locked_balancer.specs.declared.site.SiteName.{Ghosts as SiteGhosts}
 use Rattle.site_config.specs.declared.config.Config.{Config}
 use Rattle.uri_map.specs.declared.rule.Rule.{Rule}
-use Rattle.gear_parts.specs.GearParts.{gear_with, gears_with, tools_of}
+use Rattle.conn_pool.specs.Reaches.{PooledState}
+use Rattle.gear_parts.specs.GearParts.{gear_with, gears_with, Start, start_of, start_with, tools, tools_of}
+use Rattle.gear_parts.specs.declared.part.Part.{Part}
 use Rattle.gear_parts.specs.declared.world.Gear.{Gear}
-use Rattle.jk_server.specs.Runs.{AreServedGears}
+use Rattle.jk_server.specs.Runs.{AreServedGears, IsNew}
 use Rattle.jk_server.specs.RunTells.{gears_at, RunTells}
+use Rattle.jk_server.specs.declared.part.ServeEnd.{ServeEnd}
 use Rattle.jk_server.specs.declared.runs.ran.Ran.{Ran}
 
 -- Each gear was served by the worker of its place, which left its tools, and its shelf with its desk.
@@ -15,3 +23,37 @@ abbrev pub ServesGears : {D G T K S O L C X : Type 0} {N : SiteGhosts L} → Run
 ServesGears told cfg rules gears ran =
     AreServedGears (visit cfg rules) told.link told.shelf_faults 0 (gears_at told gears)
     (gears_with (gear_with told.door told.talks told.answers) (tools_of ran.left.items) (map (λ l. l.shelf) ran.leaving)) ran.workers
+
+-- a gear as its worker begins with it
+abbrev pub start_side : {D G T K S C X : Type 0} → (D → DoorSide C) → (T → Option (List Talk)) → (K → Option (List ℕ)) → Start D G T K S X → GearSide C S
+start_side at talks answers s = record { door = at s.door; talks = talks s.reach.tape; clock = answers s.clock; shelf = s.desk.shelf }
+
+-- A worker that begins has a new desk, and one part of the ledger.
+abbrev pub IsBeginning : {S : Type 0} → SharedState S → Type 0
+IsBeginning desk = IsNew desk × (desk.desk.parts ≡ Some 1)
+
+-- The workers of these parts left a desk and tools for each, and no talk runs. Where each began with a new desk of one part of the ledger, each served
+-- what its part was the start of, and what they left has as many parts of the ledger.
+pub record LeavesParts {D G T K S L C X P W : Type 0} {N : SiteGhosts L} (told : RunTells D T K S C X) (cfg : Config) (rules : List Rule) (parts : List (Part L D (PooledState G T P) K S W)) (end : ServeEnd L D (PooledState G T P) K S N) : Type 0 where
+  pub outs : length end.outside ≡ length parts
+  pub desks : length end.leaving ≡ length parts
+  pub idle : All (λ o. is_some o.reach.lent ≡ false) end.outside
+  pub served : All (λ p. IsBeginning p.desk) parts → AreServedGears (visit cfg rules) told.link told.shelf_faults 0
+      (map (λ p. start_side told.door told.talks told.answers (start_with p.door p.reach p.clock p.desk)) parts)
+      (gears_with (gear_with told.door told.talks told.answers) (map (λ o. tools o.door o.reach.dial o.reach.tape o.clock) end.outside) (map (λ l. l.shelf) end.leaving))
+      end.workers
+  pub whole : All (λ p. IsBeginning p.desk) parts → sum_by (λ l. l.share.parts) end.leaving ≡ length parts
+
+-- Each gear was served so, and the workers left a desk for each gear, as many parts of the ledger, and the gears' logs in order.
+pub record IsRunOf {D G T K S O L C X : Type 0} {N : SiteGhosts L} (told : RunTells D T K S C X) (cfg : Config) (rules : List Rule) (gears : List (Gear D G T K S O)) (ran : Ran L D G T K S O N) : Type 0 where
+  pub served : ServesGears told cfg rules gears ran
+  pub whole : sum_by (λ l. l.share.parts) ran.leaving ≡ length gears
+  pub each : length ran.leaving ≡ length gears
+  pub logs : map (λ l. l.log) ran.left.items ≡ map (λ g. g.log) gears
+
+-- The run is of any gears that the parts of the workers and these logs were made of.
+abbrev pub RunsParts : {D G T K S O L C X P W : Type 0} {N : SiteGhosts L} → RunTells D T K S C X → Config → List Rule → List (Part L D (PooledState G T P) K S W) → List (Option O) → Ran L D G T K S O N → Type 0
+RunsParts {D} {G} {T} {K} {S} {O} told cfg rules parts logs ran =
+    (sizes pools : List ℕ) (gears : List (Gear D G T K S O))
+    → map (λ p. start_with p.door p.reach p.clock p.desk) parts ≡ map (start_of sizes pools) gears → logs ≡ map (λ g. g.log) gears
+    → IsRunOf told cfg rules gears ran

@@ -1,31 +1,27 @@
-use Rattle.std.proofs.Common.{sym, ◌∙◌}
-use Rattle.gear_parts.proofs.ListLaws.{as_long_as}
-use Rattle.jk_server.proofs.GearRunLaws.{few_so, parts_kept}
+use Rattle.std.proofs.Common.{sym}
+use Rattle.jk_server.proofs.GearRunLaws.{few_so}
 use Rattle.jk_server.proofs.runs.parts.parts_for.Goals as goal
 
-pub fill_parts-requires-clause-none : goal.fill_parts-requires-clause-none
-fill_parts-requires-clause-none g c = λ κs within. (c.in_ok-memory.ensures.empty.0, c.in_ok-memory.ensures.empty.1)
-
-pub fill_parts-requires-clause-room : goal.fill_parts-requires-clause-room
-fill_parts-requires-clause-room g c = λ κs within. (
-  few_so _ _ _ (sym c.len.ensures) c.in_ok-memory.ensures.parts,
-  few_so _ _ _ (sym c.len.ensures) c.in_ok-memory.ensures.logs,
-)
-
-pub returns-clause-starts : goal.returns-clause-starts
-returns-clause-starts g c = c.fill_parts.ensures.starts
-
-pub returns-clause-count : goal.returns-clause-count
-returns-clause-count g c = parts_kept _ _ _ _ _ _ c.fill_parts.ensures.starts c.fill_parts.new.parts.ok.0 c.args.gears.ok.0
-
-pub returns-clause-after : goal.returns-clause-after
-returns-clause-after g c = record {
-  logged = c.fill_parts.new.logs.ok.0 ∙ as_long_as _ _ _ c.fill_parts.ensures.logs ∙ sym c.args.gears.ok.0;
-  no_left = c.in_ok-memory.ensures.empty.2;
-  no_back = c.in_ok-memory.ensures.empty.3;
-  for_left = few_so _ _ _ (sym c.len.ensures) c.in_ok-memory.ensures.left;
-  for_back = few_so _ _ _ (sym c.len.ensures) c.in_ok-memory.ensures.back;
+pub filled-requires-clause-memory : goal.filled-requires-clause-memory
+filled-requires-clause-memory g c = λ κs within. record {
+  no_part = c.in-Ok.ensures.empty.0;
+  no_log = c.in-Ok.ensures.empty.1;
+  no_left = c.in-Ok.ensures.empty.2;
+  no_back = c.in-Ok.ensures.empty.3;
+  for_parts = few_so _ _ _ (sym c.len.ensures) c.in-Ok.ensures.parts;
+  for_logs = few_so _ _ _ (sym c.len.ensures) c.in-Ok.ensures.logs;
+  for_left = few_so _ _ _ (sym c.len.ensures) c.in-Ok.ensures.left;
+  for_back = few_so _ _ _ (sym c.len.ensures) c.in-Ok.ensures.back;
 }
 
-pub returns-clause-logs : goal.returns-clause-logs
-returns-clause-logs g c = c.fill_parts.ensures.logs
+pub returns-in-Ok-clause-starts : goal.returns-in-Ok-clause-starts
+returns-in-Ok-clause-starts g c = c.filled.ensures.starts
+
+pub returns-in-Ok-clause-count : goal.returns-in-Ok-clause-count
+returns-in-Ok-clause-count g c = c.filled.ensures.count
+
+pub returns-in-Ok-clause-after : goal.returns-in-Ok-clause-after
+returns-in-Ok-clause-after g c = c.filled.ensures.after
+
+pub returns-in-Ok-clause-logs : goal.returns-in-Ok-clause-logs
+returns-in-Ok-clause-logs g c = c.filled.ensures.logs

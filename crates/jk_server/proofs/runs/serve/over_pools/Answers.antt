@@ -28,10 +28,10 @@ pub work-requires-clause-pool_sizes : goal.work-requires-clause-pool_sizes
 work-requires-clause-pool_sizes g c = λ κs within. c.requires.pool_sizes
 
 pub settle-requires-clause-some : goal.settle-requires-clause-some
-settle-requires-clause-some g c = some_left _ _ c.in-Ok.ensures.each c.requires.ready.some
+settle-requires-clause-some g c = some_left _ _ (c.in-Ok.ensures.each ∙ sym c.args.gears.ok.0) c.requires.ready.some
 
 pub settle-requires-clause-whole : goal.settle-requires-clause-whole
-settle-requires-clause-whole g c = c.in-Ok.ensures.whole ∙ sym c.requires.ready.each
+settle-requires-clause-whole g c = c.in-Ok.ensures.whole ∙ sym c.args.gears.ok.0 ∙ sym c.requires.ready.each
 
 pub returns-in-Ok : goal.returns-in-Ok
 returns-in-Ok g c = record {

@@ -1,0 +1,43 @@
+use Rattle.std.proofs.Common.{◌∙◌, ap, length, map, refl, sym}
+use Rattle.std.specs.Prelude.{sum_by}
+use Rattle.client_session.specs.Requests.{visit}
+use Rattle.door_clients.specs.Doors.{side}
+use Rattle.gear_parts.specs.GearParts.{start_with}
+use Rattle.gear_parts.proofs.ListLaws.{as_long}
+use Rattle.jk_server.specs.ServedGears.{IsBeginning}
+use Rattle.jk_server.proofs.GearRunLaws.{gears_told, logs_so}
+use Rattle.jk_server.proofs.StartLaws.{starts_are, starts_told}
+use Rattle.jk_server.proofs.runs.parts.work_in.Goals as goal
+
+pub serve_all-requires-clause-few : goal.serve_all-requires-clause-few
+serve_all-requires-clause-few g c = λ κs within. c.requires.few
+
+pub serve_all-requires-clause-fit : goal.serve_all-requires-clause-fit
+serve_all-requires-clause-fit g c = λ κs within. c.requires.fit
+
+pub ran_of-requires-clause-paired : goal.ran_of-requires-clause-paired
+ran_of-requires-clause-paired g c = λ κs within. c.in-Ok.ensures.desks ∙ sym c.in-Ok.ensures.outs
+
+pub ran_of-requires-clause-logs : goal.ran_of-requires-clause-logs
+ran_of-requires-clause-logs g c = λ κs within. logs_so _ _ _ (c.in-Ok.ensures.outs ∙ sym c.args.memory.parts.ok.0) c.requires.logs
+
+pub ran_of-requires-clause-idle : goal.ran_of-requires-clause-idle
+ran_of-requires-clause-idle g c = λ κs within. c.in-Ok.ensures.idle
+
+pub returns-in-Ok : goal.returns-in-Ok
+returns-in-Ok g c = λ sizes pools gears starts logged.
+    let fresh =
+    starts_are sizes pools (λ s. IsBeginning s.desk) (λ p. start_with p.door p.reach p.clock p.desk) c.args.memory.parts.items gears starts
+    (λ k d lt. (record { no_receipt = refl; none_held = refl; none_forgotten = refl; no_stray = refl }, refl)) in
+    record {
+      served =
+          gears_told (visit c.args.plan.cfg.now c.args.plan.map.now) g.D.L.Meanings g.S.Shelf.faults 0 _ _ _ _ _ _ _ _ _
+          (starts_told (side g.D.Door.coming g.D.Door.left g.D.Door.faults) g.T.Tape.talks g.K.Clock.answers sizes pools
+          (λ p. start_with p.door p.reach p.clock p.desk) c.args.memory.parts.items gears starts)
+          c.ran_of.ensures.tools (ap (λ vs. map (λ v. v.shelf) vs) c.ran_of.ensures.leaving) c.ran_of.ensures.workers (c.in-Ok.ensures.served fresh);
+      whole =
+          ap (λ vs. sum_by (λ v. v.share.parts) vs) c.ran_of.ensures.leaving ∙ c.in-Ok.ensures.whole fresh
+          ∙ as_long _ _ c.args.memory.parts.items gears starts;
+      each = ap length c.ran_of.ensures.leaving ∙ c.in-Ok.ensures.desks ∙ as_long _ _ c.args.memory.parts.items gears starts;
+      logs = c.ran_of.ensures.logs ∙ logged;
+    }
