@@ -17,15 +17,13 @@ mod write_sink;
 
 use arguments::{WordList, WordsError, read_words};
 use command::let_go;
-use command_remarks::{CountedInput, KeptFiles};
 use ends::{NO_MEMORY, OUTPUT_FAULT};
 use jk_io::{Bytes, IoError, NoMemory, Sink, write_all};
-use outside::{do_in, tell_trouble, threads_of};
+use outside::{do_outside, tell_trouble, threads_of};
 use plain_commands::{USAGE, asked_text};
-use real_io::{RealFiles, StdIn, StdOut};
+use real_io::StdOut;
 use std::process::ExitCode;
 use std::rt::Env;
-use telling::tell;
 use worker_gears::RealWorld;
 
 /// The status of words that are no command.
@@ -85,13 +83,9 @@ fn main(rt: HostRuntime) -> ExitCode {
         Err(status) => return ended(&rt, status),
     };
     let words = words.as_slice();
-    let mut files = KeptFiles::new(rt.alloc(), RealFiles::new(&rt));
-    let mut input = CountedInput::new(StdIn::new(rt.reader()));
     let mut world = RealWorld::new(&rt, threads_of(rt.alloc(), words));
-    let status = do_in(&rt, words, &mut files, &mut input, &mut world);
+    let status = do_outside(&rt, words, &mut world, rt.stderr());
     tell_trouble(&rt, world.trouble());
     let_go(world);
-    tell(&rt, rt.stderr(), words, status, files.reads(), input.seen());
-    let_go(files);
     ended(&rt, status)
 }
