@@ -204,7 +204,7 @@ container app size open_to_all = record {
   sent = answer;
   turns = ([], put, [], (refl, refl), over, came, refl, refl);
   between = link [] put answer;
-  goes = record { came = record { used = ap Some (sym (append-nil put)); kept = refl }; sent = refl; no_fewer = omega arith };
+  goes = record { came = record { used = ap Some (sym (append-nil put)); kept = refl }; sent = refl; steady = refl };
   stop = Closed;
   stops = record {
     turn = Idle;
