@@ -4,4 +4,3 @@ pub mod PlainLemmas
 pub mod ReachLemmas
 pub mod ScriptStartLemmas
 pub mod SessionLemmas
-pub mod SessionStartLemmas

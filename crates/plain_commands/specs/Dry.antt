@@ -4,9 +4,9 @@ use Rattle.property_lines.specs.Refusals.{LineRefusal}
 use Rattle.jk_io.specs.MemReaches.{MemReachState}
 use Rattle.jk_io.specs.declared.reaching.Talk.{Talk}
 use Rattle.jk_model.specs.declared.served.Served.{Served}
-use Rattle.balancer_core.specs.Journal.{IsStart, Journal}
+use Rattle.balancer_core.specs.Journal.{Journal}
 use Rattle.balancer_core.specs.PlainDesks.{plain_state}
-use Rattle.site_config.specs.declared.balancer.Lb.{Lb}
+use Rattle.site_books.specs.Starts.{AreStarts}
 use Rattle.site_config.specs.declared.config.Config.{Config}
 use Rattle.uri_map.specs.Lines.{read_text}
 use Rattle.uri_map.specs.declared.rule.Rule.{Rule}
@@ -22,12 +22,6 @@ use Rattle.plain_commands.specs.DryLines.{dry_text, end_words}
 use Rattle.plain_commands.specs.DryLinks.{AreTalksOver, reply_link}
 
 -- ---- how it starts
-
--- Each balancer has its Book as it starts at moment 0 with number 0.
-abbrev pub AreStarted : List Lb → List Journal → Type 0
-AreStarted [] [] = Unit {0}
-AreStarted (lb ∷ lbs) (book ∷ books) = IsStart book lb.book 0 0 × AreStarted lbs books
-AreStarted lbs books = ⊥
 
 -- the session's worker has the number 0, and its client this address
 abbrev pub dry_visit : Config → List Rule → Visit
@@ -69,7 +63,7 @@ AreOverReply reply talks =
 -- One session over this site, of a client that sends these bytes; the first link to a member has that reply to come.
 pub record IsDryRun (c : Config) (rules : List Rule) (request reply : List ℕ) (talks : List Talk) (sent : List ℕ) (end : SessionEnd) : Type 0 where
   pub books : List Journal
-  pub started : AreStarted c.lbs books
+  pub started : AreStarts c.lbs 0 0 books
   pub run : IsRun (dry_visit c rules) (first_standing books request) talks sent end
   pub over : AreOverReply reply talks
 

@@ -1,22 +1,18 @@
 -- What a session over memory starts with.
-use Rattle.std.specs.Prelude.{◌≡◌, List, [], ◌∷◌, ◌++◌, None}
+use Rattle.std.specs.Prelude.{◌≡◌, List, [], None}
 use Rattle.jk_io.specs.Memory.{MemLinkState}
 use Rattle.jk_io.specs.MemReaches.{MemReachState}
 use Rattle.exchange.specs.Requests.{sizes_of}
 use Rattle.balancer_core.specs.Desks.{DeskState}
-use Rattle.balancer_core.specs.Journal.{IsStart, Journal}
+use Rattle.balancer_core.specs.Journal.{Journal}
 use Rattle.balancer_core.specs.PlainDesks.{plain_state}
+use Rattle.site_books.specs.Starts.{AreStarts}
 use Rattle.site_config.specs.declared.balancer.Lb.{Lb}
-use Rattle.plain_commands.specs.Dry.{AreStarted}
-
--- A Book was added that starts as this balancer's.
-abbrev pub AddsStarted : Lb → (books books' : List Journal) → Type 0
-AddsStarted lb books books' = (book : Journal) × IsStart book lb.book 0 0 × (books' ≡ books ++ book ∷ [])
 
 -- The Books of these balancers as they start, no ticket and no receipt.
 pub record IsFirstDesk (lbs : List Lb) (desk : DeskState) : Type 0 where
   pub books : List Journal
-  pub started : AreStarted lbs books
+  pub started : AreStarts lbs 0 0 books
   pub is : desk ≡ plain_state books [] [] 0 0 0
 
 -- The reach before any talk.

@@ -5,7 +5,7 @@ ghost use Rattle.session_checks.specs.Starts.{IsDeskOf};
 ghost use Rattle.uri_map.specs.Sites.{stands_in};
 
 use crate::sites::{config_of, map_of};
-use crate::start::{desk_of, sizes_of};
+use crate::start::desk_of;
 use crate::told::{put_balancer, put_rows, put_talks};
 use balancer_core::PlainDesk;
 use check_rows::rows::{bytes_of, number};
@@ -14,6 +14,7 @@ use check_rows::ways::{Way, link_of, writing};
 use client_session::{SessionEnd, serve_session_with};
 use jk_io::{Bytes, MemLink, MemLinkList, MemReach, NoMemory, NumberList, Peer, StepClock};
 use jk_model::{Served, ServedList};
+use site_books::member_counts;
 use site_config::Config;
 use std::alloc::Global;
 use uri_map::UriMap;
@@ -200,7 +201,7 @@ fn reach_over(
     ensures sizes { IfOk result (λ reach. reach.sizes ≡ sizes_in case.now.config.now.lbs) }
     ensures idle { IfOk result (λ reach. reach.book.begun ≡ None) }
 {
-    let sizes = sizes_of(alloc, case.config.lbs.as_slice())?;
+    let sizes = member_counts(alloc, case.config.lbs.as_slice())?;
     Ok(MemReach::new(alloc, links, sizes, failing))
 }
 

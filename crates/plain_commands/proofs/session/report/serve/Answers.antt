@@ -1,12 +1,12 @@
 use Rattle.std.proofs.Common.{List, ℕ, refl, ap, ◌∙◌}
 use Rattle.client_session.specs.Requests.{visit}
 use Rattle.plain_commands.proofs.SessionLemmas.{first_is, run_from}
-use Rattle.plain_commands.proofs.SessionStartLemmas.{started_sizes}
+use Rattle.site_books.proofs.StartLaws.{starts_sizes}
 use Rattle.plain_commands.proofs.session.report.serve.Goals as goal
 
 pub serve_session-end-requires-clause-desk_sizes : goal.serve_session-end-requires-clause-desk_sizes
 serve_session-end-requires-clause-desk_sizes g c =
-    let d = c.requires.desk in rw d.is (started_sizes c.args.site.now.config.now.lbs d.books d.started)
+    let d = c.requires.desk in rw d.is (starts_sizes c.args.site.now.config.now.lbs 0 0 d.books d.started)
 
 pub returns : goal.returns
 returns g c calm =

@@ -1,5 +1,5 @@
-use Rattle.plain_commands.proofs.SessionStartLemmas.{started_modern}
+use Rattle.site_books.proofs.StartLaws.{starts_modern}
 use Rattle.plain_commands.proofs.session.start.desk_of.Goals as goal
 
 pub new-requires : goal.new-requires
-new-requires c = record { modern = rw c.from_vec.ensures (started_modern c.args.lbs.now c.in_ok-books.books.items c.in_ok-books.ensures) }
+new-requires c = record { modern = starts_modern c.args.lbs.now 0 0 c.in_ok-books.books c.in_ok-books.ensures }

@@ -1,7 +1,0 @@
--- The numbers of members so far.
-use Rattle.std.proofs.Common.{◌≡◌, take}
-use Rattle.exchange.specs.Requests.{sizes_of as sizes_in}
-use Rattle.session_checks.proofs.start.sizes_of.Given as goal
-
-abbrev pub invariant-loop-lb : goal.invariant-loop-lb
-invariant-loop-lb l = l.sizes.items ≡ sizes_in (take l.lb-index l.lbs)
