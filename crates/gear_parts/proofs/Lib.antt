@@ -1,4 +1,5 @@
 pub mod ContainerLaws
 pub mod KeepingLaws
 pub mod ListLaws
+pub mod StartLaws
 pub mod WorldLaws

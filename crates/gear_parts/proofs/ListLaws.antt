@@ -1,5 +1,5 @@
 -- Lists made of others, item by item.
-use Rattle.std.proofs.Common.{ℕ, zero, suc, true, false, ◌<◌, ◌≡◌, List, [], ◌∷◌, ◌++◌, length, map, take, refl, sym, ap, subst, ◌∙◌, append_assoc, arith}
+use Rattle.std.proofs.Common.{ℕ, zero, suc, true, false, ◌<◌, ◌≤◌, ◌≡◌, List, [], ◌∷◌, ◌++◌, length, map, take, refl, sym, ap, subst, ◌∙◌, append_assoc, arith}
 use Rattle.std.proofs.lemmas.Bool.{false≢true}
 use Rattle.std.proofs.lemmas.List.{append-nil, length-map, map-append}
 use Rattle.std.proofs.Math.Seq.{take-append_seam}
@@ -79,3 +79,15 @@ as_long_as g xs ys same = ap length same ∙ length-map ys g
 -- what was written through a slice of a whole list is the list after it
 pub written_back : {X : Type 0} → (n : ℕ) (new rest : List X) → n ≡ length new → take n (new ++ rest) ≡ new
 written_back n new rest all = subst (λ (k : ℕ). take k (new ++ rest) ≡ new) (sym all) (take-append_seam new rest)
+
+-- As many parts were made as there are gears.
+pub parts_kept : {P Y Z : Type 0} → (start : P → Z) (of : Y → Z) (ps : List P) (gears : List Y) (many count : ℕ)
+    → map start ps ≡ map of gears → many ≡ length ps → count ≡ length gears → many ≡ count
+parts_kept start of ps gears many count same whole all = whole ∙ as_long start of ps gears same ∙ sym all
+
+-- so of a number that is the same
+pub some_so : (n count : ℕ) → n ≡ count → 0 < count → 0 < n
+some_so n count same some = omega (arith, same, some)
+
+pub few_so : (n count most : ℕ) → n ≡ count → count ≤ most → n ≤ most
+few_so n count most same few = omega (arith, same, few)

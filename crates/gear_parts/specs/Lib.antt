@@ -2,7 +2,9 @@ pub mod Containers
 pub mod Cuts
 pub mod GearParts
 pub mod Gears
+pub mod Memories
 pub mod Putting
+pub mod Starts
 pub mod Steps
 pub mod Wants
 pub mod Worlds

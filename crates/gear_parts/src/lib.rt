@@ -3,9 +3,9 @@
 //! A gear is a door, a dial, a tape, a clock, a shelf and maybe a log. A connector's worker works with a part, which has a desk
 //! in the place of the shelf; a container's worker uses the door alone.
 //! Contract: the trait `World`; `take_gears`, clauses `taken`, `made`, `suited` and `refused`, and `give_back`, clause `came_back`;
-//! `fill_parts`, clause `starts`, and `take_apart` and `gears_again`, clause `tools`; `keep_on_first`, clauses `kept` and `front`;
-//! `contain_gears`, clause `ran`. Read first: src/world.rt, specs/Gears.antt, specs/Worlds.antt; then specs/GearParts.antt,
-//! specs/Cuts.antt and specs/Containers.antt.
+//! `first_moment`, clause `started`; `parts_for`, clauses `starts` and `logs`; `take_apart` and `gears_again`, clause `tools`;
+//! `keep_on_first`, clauses `kept` and `front`; `contain_gears`, clause `ran`. Read first: src/world.rt, specs/Gears.antt,
+//! specs/Worlds.antt; then specs/Starts.antt, specs/GearParts.antt, specs/Cuts.antt and specs/Containers.antt.
 //! Errors: `IoError` of the world or a shelf; a container's run has want of memory alone, after which no gear comes back.
 #![tactic(auto)]
 
@@ -13,14 +13,18 @@ mod container;
 mod gears;
 mod keeping;
 mod left;
+mod memory;
 mod part;
 mod parts;
+mod starting;
 mod world;
 
 pub use container::{ContainerRun, contain_gears};
 pub use gears::{GearOf, GearOrder, give_back, take_gears};
 pub use keeping::keep_on_first;
 pub use left::{Left, gears_again, take_apart};
+pub use memory::{After, Memory, parts_for};
 pub use part::{Outside, OutsideList, Part};
-pub use parts::{Common, fill_parts};
+pub use parts::Common;
+pub use starting::first_moment;
 pub use world::{Gear, World};

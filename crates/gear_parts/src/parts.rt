@@ -22,7 +22,7 @@ pub struct Common<'s, 'r, L: SiteName, G: Dial, R> {
 }
 
 /// A part for each gear, with one part of the share.
-pub fn fill_parts<
+pub(crate) fn fill_parts<
     's,
     'r,
     L: SiteName,

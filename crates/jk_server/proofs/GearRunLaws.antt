@@ -11,10 +11,10 @@ use Rattle.client_session.specs.Requests.{Visit}
 use Rattle.door_clients.specs.Doors.{DoorSide}
 use Rattle.gear_parts.specs.Gears.{GearSide, gear_side}
 use Rattle.gear_parts.specs.declared.world.Gear.{Gear}
-use Rattle.jk_server.specs.Memories.{HasLogs}
+use Rattle.gear_parts.specs.Memories.{HasLogs}
 use Rattle.jk_server.specs.Parts.{AreEach}
 use Rattle.jk_server.specs.declared.part.WorkerEnd.{WorkerEnd}
-use Rattle.jk_server.specs.declared.runs.parts.After.{After}
+use Rattle.gear_parts.specs.declared.memory.After.{After}
 use Rattle.gear_parts.proofs.ListLaws.{as_long}
 use Rattle.gear_parts.specs.GearParts.{gear_with, gears_with, start_of, start_with, tools}
 use Rattle.gear_parts.specs.declared.part.Part.{Part}
@@ -82,19 +82,8 @@ as_many Is n (p ∷ ps) (o ∷ os) (v ∷ vs) [] each = absurd each
 as_many Is n (p ∷ ps) (o ∷ os) (v ∷ vs) (e ∷ es) each =
     let rest = as_many Is (n + 1) ps os vs es each.1 in (omega (arith, rest.0), omega (arith, rest.1))
 
--- As many parts were made as there are gears.
-pub parts_kept : {P Y Z : Type 0} → (start : P → Z) (of : Y → Z) (ps : List P) (gears : List Y) (many count : ℕ)
-    → map start ps ≡ map of gears → many ≡ length ps → count ≡ length gears → many ≡ count
-parts_kept start of ps gears many count same whole all = whole ∙ as_long start of ps gears same ∙ sym all
-
 pub some_left : {V : Type 0} → (left : List V) (count : ℕ) → length left ≡ count → 0 < count → 0 < length left
 some_left left count each some = omega (arith, each, some)
-
-pub some_so : (n count : ℕ) → n ≡ count → 0 < count → 0 < n
-some_so n count same some = omega (arith, same, some)
-
-pub few_so : (n count most : ℕ) → n ≡ count → count ≤ most → n ≤ most
-few_so n count most same few = omega (arith, same, few)
 
 pub logs_so : {X A B : Type 0} → (many count : ℕ) (after : After X A B) → many ≡ count → HasLogs count after → HasLogs many after
 logs_so many count after same has = subst (λ (n : ℕ). HasLogs n after) (sym same) has

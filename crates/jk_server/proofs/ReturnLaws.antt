@@ -11,7 +11,8 @@ use Rattle.site_config.specs.declared.balancer.Lb.{Lb}
 use Rattle.gear_parts.specs.Gears.{GearSide}
 use Rattle.jk_server.specs.Closings.{Closes, KeepsFirst}
 use Rattle.gear_parts.specs.Containers.{IsContainerRun, SameButDoors}
-use Rattle.jk_server.specs.Runs.{AreServedGears, AreStarted, IsSiteRun}
+use Rattle.jk_server.specs.Runs.{AreServedGears, IsSiteRun}
+use Rattle.gear_parts.specs.Starts.{AreStarted}
 use Rattle.jk_server.specs.declared.runs.ends.Closing.{Closing}
 use Rattle.jk_server.specs.declared.runs.ends.Closing.TheVariants as closing
 use Rattle.jk_server.specs.declared.part.WorkerEnd.{WorkerEnd}

@@ -17,7 +17,8 @@ use Rattle.jk_server.specs.Worker.{WorkerSide}
 use Rattle.jk_server.specs.declared.part.WorkerEnd.{WorkerEnd}
 use Rattle.gear_parts.specs.GearParts.{Start, start_of}
 use Rattle.jk_server.specs.Closings.{Closes}
-use Rattle.jk_server.specs.Runs.{AreServedGears, AreStarted, IsNew, IsSiteRun, IsServedGear, WorksWith}
+use Rattle.jk_server.specs.Runs.{AreServedGears, IsNew, IsSiteRun, IsServedGear, WorksWith}
+use Rattle.gear_parts.specs.Starts.{AreStarted}
 use Rattle.jk_server.specs.ServedGears.{start_side}
 use Rattle.jk_server.specs.Started.{IsStartedRun}
 use Rattle.jk_server.specs.declared.runs.ends.Closing.{Closing}
@@ -43,31 +44,6 @@ starts_are sizes pools Q start parts gears same each =
 
 pub one_part : (was now : Option ℕ) (n : ℕ) → now ≡ Some n → now ≡ was → was ≡ Some 1 → n ≡ 1
 one_part was now n is same one = cc
-
--- The first gear's clock was read, and nothing else was done.
-pub first_read : {D G T K S O C : Type 0} → (at : D → DoorSide C) (talks : T → Option (List Talk)) (answers : K → Option (List ℕ))
-    (gears : List (Gear D G T K S O)) (x : Gear D G T K S O) (clock : K) (now : ℕ)
-    → 0 < length gears → Answers (answers (get_or gears 0 x).clock) now (answers clock)
-    → AreStarted (map (gear_side at talks answers) gears) (map (gear_side at talks answers) (set gears 0 (record (get_or gears 0 x) { clock = clock })))
-first_read at talks answers [] x clock now some read = absurd (omega (arith, some))
-first_read at talks answers (g ∷ gears) x clock now some read = (now, read, refl, refl)
-
-pub first_idle : {D G T K S O : Type 0} → (IsIdle : T → Type 0) (gears : List (Gear D G T K S O)) (x : Gear D G T K S O) (clock : K)
-    → All (λ (g : Gear D G T K S O). IsIdle g.tape) gears
-    → All (λ (g : Gear D G T K S O). IsIdle g.tape) (set gears 0 (record (get_or gears 0 x) { clock = clock }))
-first_idle IsIdle [] x clock all = all
-first_idle {D} {G} {T} {K} {S} {O} IsIdle (g ∷ gears) x clock all =
-    All-cons (λ (h : Gear D G T K S O). IsIdle h.tape) (record g { clock = clock }) gears
-    (All-head (λ (h : Gear D G T K S O). IsIdle h.tape) g gears all) (All-tail (λ (h : Gear D G T K S O). IsIdle h.tape) g gears all)
-
-pub first_logs : {D G T K S O : Type 0} → (gears : List (Gear D G T K S O)) (x : Gear D G T K S O) (clock : K)
-    → map (λ g. g.log) (set gears 0 (record (get_or gears 0 x) { clock = clock })) ≡ map (λ g. g.log) gears
-first_logs [] x clock = refl
-first_logs (g ∷ gears) x clock = refl
-
-pub first_as_long : {X : Type 0} → (xs : List X) (x : X) → length (set xs 0 x) ≡ length xs
-first_as_long [] x = refl
-first_as_long (y ∷ xs) x = refl
 
 -- What the workers did and how the closing ended, from the start.
 pub run_done : {C S L X : Type 0} → (visits : ℕ → Peer → Visit) (told : Ghosts C X) (shelved : S → Option (List (ℕ × Segment))) (faults : S → ℕ) (lbs : List Lb)
@@ -101,25 +77,6 @@ started_run {D} {G} {T} {K} {S} {O} visits told shelved faults lbs at gears lent
   served = run.served;
   closed = run.closed;
 }
-
--- So of the whole lists that were lent.
-pub started_back : {D G T K S O C : Type 0} → (at : Gear D G T K S O → GearSide C S) (gears lent new back : List (Gear D G T K S O))
-    → lent ≡ gears → back ≡ new → AreStarted (map at lent) (map at new) → AreStarted (map at gears) (map at back)
-started_back {D} {G} {T} {K} {S} {O} at gears lent new back same written started =
-    subst (λ (gs : List (Gear D G T K S O)). AreStarted (map at gs) (map at back)) same
-    (subst (λ (gs : List (Gear D G T K S O)). AreStarted (map at lent) (map at gs)) (sym written) started)
-
-pub idle_back : {D G T K S O : Type 0} → (IsIdle : T → Type 0) (gears lent new back : List (Gear D G T K S O)) → lent ≡ gears → back ≡ new
-    → (All (λ (g : Gear D G T K S O). IsIdle g.tape) lent → All (λ (g : Gear D G T K S O). IsIdle g.tape) new)
-    → All (λ (g : Gear D G T K S O). IsIdle g.tape) gears → All (λ (g : Gear D G T K S O). IsIdle g.tape) back
-idle_back {D} {G} {T} {K} {S} {O} IsIdle gears lent new back same written then all =
-    subst (λ (gs : List (Gear D G T K S O)). All (λ (g : Gear D G T K S O). IsIdle g.tape) gs) (sym written)
-    (then (subst (λ (gs : List (Gear D G T K S O)). All (λ (g : Gear D G T K S O). IsIdle g.tape) gs) (sym same) all))
-
-pub logs_back : {D G T K S O : Type 0} → (gears lent new back : List (Gear D G T K S O)) → lent ≡ gears → back ≡ new
-    → map (λ g. g.log) new ≡ map (λ g. g.log) lent → map (λ g. g.log) back ≡ map (λ g. g.log) gears
-logs_back {D} {G} {T} {K} {S} {O} gears lent new back same written then =
-    ap (λ (gs : List (Gear D G T K S O)). map (λ g. g.log) gs) written ∙ then ∙ ap (λ (gs : List (Gear D G T K S O)). map (λ g. g.log) gs) same
 
 pub ok_weaker : {T E : Type 0} (P Q : T → Type 0) (r : Result T E) → IfOk r P → ((x : T) → P x → Q x) → IfOk r Q
 ok_weaker P Q (Ok x) is then = then x is

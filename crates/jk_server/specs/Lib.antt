@@ -8,12 +8,13 @@ pub use Rattle.gear_parts.specs.Containers
 pub mod Ends
 pub use Rattle.gear_parts.specs.GearParts
 pub mod RunTells
-pub mod Memories
+pub use Rattle.gear_parts.specs.Memories
 pub mod Rooms
 pub mod Runs
 pub mod ServedGears
 pub mod Shelved
 pub mod Started
+pub use Rattle.gear_parts.specs.Starts
 pub use Rattle.gear_parts.specs.Worlds
 pub use Rattle.site_reports.specs.Sites
 pub mod Commands

@@ -1,6 +1,5 @@
 -- What a run of a connector's workers did with their gears. Read this first.
 use Rattle.std.specs.Prelude.{ℕ, ◌≡◌, ◌+◌, List, [], ◌∷◌, Option, None}
-use Rattle.jk_io.specs.Answers.{Answers}
 use Rattle.jk_io.specs.declared.traits.streams.Meanings.{Ghosts}
 use Rattle.jk_io.specs.declared.traits.surroundings.Peer.{Peer}
 use Rattle.jk_model.specs.declared.segment.Segment.{Segment}
@@ -10,6 +9,7 @@ use Rattle.site_config.specs.declared.balancer.Lb.{Lb}
 use Rattle.site_config.specs.declared.config.Config.{Config}
 use Rattle.uri_map.specs.declared.rule.Rule.{Rule}
 use Rattle.gear_parts.specs.Gears.{GearSide, KeepsLog}
+use Rattle.gear_parts.specs.Starts.{AreStarted}
 use Rattle.gear_parts.specs.declared.world.Gear.{Gear}
 use Rattle.jk_server.specs.Served.{IsServed}
 use Rattle.jk_server.specs.Worker.{WorkerSide}
@@ -48,13 +48,6 @@ AreServedGears visits told faults number [] [] [] = Unit {0}
 AreServedGears visits told faults number (b ∷ before) (a ∷ after) (e ∷ ends) =
     IsServedGear (visits number) told faults b a e × AreServedGears visits told faults (number + 1) before after ends
 AreServedGears visits told faults number _ _ _ = ⊥
-
--- The first gear's clock gave the moment at which the balancers start, and nothing else was done.
-abbrev pub AreStarted : {C S : Type 0} → (before after : List (GearSide C S)) → Type 0
-AreStarted [] after = after ≡ []
-AreStarted (first ∷ rest) [] = ⊥
-AreStarted (first ∷ rest) (first' ∷ rest') =
-    (now : ℕ) × Answers first.clock now first'.clock × (first' ≡ record first { clock = first'.clock }) × (rest' ≡ rest)
 
 -- The gears as they were handed in and as they came back, how each worker ended, and how the closing did.
 pub record IsSiteRun {C S L X : Type 0} (visits : ℕ → Peer → Visit) (told : Ghosts C X) (shelved : S → Option (List (ℕ × Segment))) (faults : S → ℕ) (lbs : List Lb) (before back : List (GearSide C S)) (ends : List (WorkerEnd L)) (closing : Closing L) : Type 0 where

@@ -1,13 +1,13 @@
 -- A run from where its balancers started.
 use Rattle.std.specs.Prelude.{ℕ, ◌≡◌, ◌<◌, ◌≤◌, true, List, Option}
-use Rattle.std.specs.List.{All, AllZip}
+use Rattle.std.specs.List.{All}
 use Rattle.jk_io.specs.declared.traits.streams.Meanings.{Ghosts}
 use Rattle.jk_io.specs.declared.traits.surroundings.Peer.{Peer}
 use Rattle.jk_model.specs.declared.segment.Segment.{Segment}
-use Rattle.balancer_core.specs.Journal.{IsStart, Journal}
 use Rattle.client_session.specs.Requests.{Visit, visit}
 use Rattle.exchange.specs.Requests.{sizes_of}
 use Rattle.site_config.specs.declared.balancer.Lb.{Lb}
+use Rattle.site_books.specs.Starts.{AreStarts}
 use Rattle.site_config.specs.declared.config.Config.{Config}
 use Rattle.uri_map.specs.Sites.{stands_in}
 use Rattle.uri_map.specs.declared.rule.Rule.{Rule}
@@ -24,10 +24,6 @@ use Rattle.jk_server.specs.declared.runs.serve.NewSite.{NewSite}
 use Rattle.jk_server.specs.declared.runs.serve.TheConstants.{CUT_AT}
 use Rattle.jk_server.specs.declared.workers.TheConstants.{MAX_WORKERS}
 
--- A Book for each balancer, which starts at this moment with number 0.
-abbrev pub AreNew : List Lb → (at : ℕ) → List Journal → Type 0
-AreNew lbs at books = AllZip (λ lb b. IsStart b lb.book at 0) lbs books
-
 -- A Site that isn't open yet has this name, whose values are those of these balancers, and a Book for each balancer.
 pub record IsNewSite (name parts : ℕ) (sizes firsts : List ℕ) (cut_at : ℕ) (lbs : List Lb) (new : NewSite) : Type 0 where
   pub named : new.blank.name ≡ name
@@ -36,7 +32,7 @@ pub record IsNewSite (name parts : ℕ) (sizes firsts : List ℕ) (cut_at : ℕ)
   pub numbered : firsts ≡ firsts_of lbs
   pub cut : cut_at ≡ CUT_AT
   pub at : ℕ
-  pub books : AreNew lbs at new.books
+  pub books : AreStarts lbs at 0 new.books
 
 -- These gears can work, a worker with each, and each has one of the parts.
 pub record IsReady {D G T K S O : Type 0} (is_idle : T → Type 0) (parts : ℕ) (cfg : Config) (rules : List Rule) (count : ℕ) (gears : List (Gear D G T K S O)) : Type 0 where

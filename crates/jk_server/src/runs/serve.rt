@@ -1,25 +1,25 @@
 //! A connector's run: the balancers start, the workers serve, the desks are closed.
-ghost use Rattle.std.specs.Prelude.{◌≡◌, ◌<◌, ◌≤◌, length, map, true, vec_len, IfOk};
+ghost use Rattle.std.specs.Prelude.{◌≡◌, ◌<◌, ◌≤◌, length, true, vec_len, IfOk};
 ghost use Rattle.std.specs.List.{All};
 ghost use Rattle.conn_pool.specs.Idle.{counts};
-ghost use Rattle.door_clients.specs.Doors.{side};
 ghost use Rattle.exchange.specs.Requests.{sizes_of};
 ghost use Rattle.uri_map.specs.Sites.{stands_in};
-ghost use Rattle.gear_parts.specs.Gears.{gear_side};
-ghost use Rattle.jk_server.specs.Runs.{AreStarted, RunsGears};
-ghost use Rattle.jk_server.specs.Started.{AreNew, IsNewSite, IsReady, RunsStarted};
+ghost use Rattle.jk_server.specs.Runs.{RunsGears};
+ghost use Rattle.site_books.specs.Starts.{AreStarts};
+ghost use Rattle.jk_server.specs.Started.{IsNewSite, IsReady, RunsStarted};
 ghost use Rattle.jk_server.specs.RunTells.{run_tells};
 
 use crate::runs::closing::settle;
 use crate::runs::ends::SiteRun;
 use crate::runs::parts::{Plan, work};
 use crate::workers::MAX_WORKERS;
-use balancer_core::{Book, BookList};
+use balancer_core::BookList;
 use conn_pool::{Idle, Pools, Tape};
-use gear_parts::{Common, Gear};
+use gear_parts::{Common, Gear, first_moment};
 use jk_io::{Clock, Dial, Door, NoMemory, SizeList, SizeTable};
 use jk_model::MemberConfig;
 use locked_balancer::{SharedSite, Shelf, Site, SiteName};
+use site_books::books_of;
 use site_config::{Config, Lb};
 use std::alloc::Global;
 use std::marker::Brand;
@@ -58,7 +58,7 @@ where
         IfOk result (RunsGears told cfg.now mounts.now gears.items) }
 {
     let mut gears = gears;
-    let at = begin(&mut gears);
+    let at = first_moment(&mut gears);
     match new_site(alloc, cfg, at, gears.len()) {
         Ok(new) => {
             over_site::<Brand, D, G, T, K, S, O, R>(
@@ -73,50 +73,15 @@ where
     }
 }
 
-/// Reads the first gear's clock.
-fn begin<D: Door, G, T: Tape, K: Clock, S, O>(gears: &mut Vec<Gear<D, G, T, K, S, O>>) -> u64
-    requires some { 0 < vec_len gears.old }
-    ensures started { let at = gear_side (side D.coming D.left D.faults) T.talks K.answers in
-        AreStarted (map at gears.old.items) (map at gears.new.items) }
-    ensures logs { map (λ g. g.log) gears.new.items ≡ map (λ g. g.log) gears.old.items }
-    ensures idle { All (λ g. T.is_idle g.tape) gears.old.items → All (λ g. T.is_idle g.tape) gears.new.items }
-    ensures len { vec_len gears.new ≡ vec_len gears.old }
-{
-    first_moment(gears.as_mut_slice())
-}
-
-/// The moment that the first gear's clock gives.
-fn first_moment<D: Door, G, T: Tape, K: Clock, S, O>(gears: &mut [Gear<D, G, T, K, S, O>]) -> u64
-    requires some { 0 < length gears.old }
-    ensures started { let at = gear_side (side D.coming D.left D.faults) T.talks K.answers in
-        AreStarted (map at gears.old) (map at gears.new) }
-    ensures logs { map (λ g. g.log) gears.new ≡ map (λ g. g.log) gears.old }
-    ensures idle { All (λ g. T.is_idle g.tape) gears.old → All (λ g. T.is_idle g.tape) gears.new }
-    ensures len { length gears.new ≡ length gears.old }
-{
-    gears[0].clock.now()
-}
-
 /// A Site for this many workers that isn't open yet.
 fn new_site(alloc: Global, cfg: &Config, at: u64, workers: usize) -> Result<NewSite, NoMemory>
     ensures parts { IfOk result (λ new. new.blank.parts ≡ workers) }
-    ensures books { IfOk result (λ new. AreNew cfg.now.lbs at new.books) }
+    ensures books { IfOk result (λ new. AreStarts cfg.now.lbs at 0 new.books) }
 {
     Ok(NewSite {
         blank: Blank::new(workers as u64),
-        books: books_of(alloc, cfg.lbs.as_slice(), at)?,
+        books: books_of(alloc, cfg.lbs.as_slice(), at, 0)?,
     })
-}
-
-/// A Book for each balancer, whose first entry has the number 0.
-fn books_of(alloc: Global, lbs: &[Lb], at: u64) -> Result<BookList, NoMemory>
-    ensures { IfOk result (AreNew lbs.now at) }
-{
-    let mut books = Vec::with_capacity(alloc, lbs.len())?;
-    for lb in lbs {
-        books.push(Book::start(alloc, lb.book.copy()?, at, 0)?)?;
-    }
-    Ok(BookList::from_vec(books))
 }
 
 /// The pool sizes of each balancer's members.

@@ -1,5 +1,5 @@
 use Rattle.std.proofs.Common.{sym, ◌∙◌}
-use Rattle.jk_server.proofs.GearRunLaws.{few_so}
+use Rattle.gear_parts.proofs.ListLaws.{few_so}
 use Rattle.jk_server.proofs.SlotLaws.{room_for_all}
 use Rattle.jk_server.specs.declared.workers.Slot.{Slot}
 use Rattle.jk_server.proofs.workers.room_of.Goals as goal

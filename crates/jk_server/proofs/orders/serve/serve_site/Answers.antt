@@ -2,7 +2,7 @@ use Rattle.std.proofs.Common.{length, refl, sym, ◌∙◌}
 use Rattle.jk_server.specs.Commands.{Ran}
 use Rattle.jk_server.specs.Ends.{returned}
 use Rattle.jk_server.proofs.CommandLaws.{some_asked, wants_gears, works_err}
-use Rattle.jk_server.proofs.GearRunLaws.{few_so}
+use Rattle.gear_parts.proofs.ListLaws.{few_so}
 use Rattle.gear_parts.proofs.WorldLaws.{few_out, then_back}
 use Rattle.jk_server.proofs.ReturnLaws.{few_returned}
 use Rattle.jk_server.proofs.orders.serve.serve_site.Goals as goal

@@ -2,8 +2,7 @@ use Rattle.std.proofs.Common.{◌≡◌, ap, ◌∙◌, length, map, false, sym,
 use Rattle.std.specs.Prelude.{is_some}
 use Rattle.std.specs.List.{All}
 use Rattle.gear_parts.specs.GearParts.{tools}
-use Rattle.gear_parts.proofs.ListLaws.{as_long}
-use Rattle.jk_server.proofs.GearRunLaws.{few_so}
+use Rattle.gear_parts.proofs.ListLaws.{as_long, few_so}
 use Rattle.jk_server.proofs.runs.parts.ran_of.Goals as goal
 
 pub take_apart-requires-clause-paired : goal.take_apart-requires-clause-paired

@@ -3,7 +3,8 @@ use Rattle.conn_pool.specs.Idle.{counts}
 use Rattle.conn_pool.specs.Reaches.{beside_of}
 use Rattle.jk_server.specs.Worker.{IsFit}
 use Rattle.gear_parts.specs.GearParts.{start_with}
-use Rattle.jk_server.proofs.GearRunLaws.{few_so, logs_so, runs_of}
+use Rattle.gear_parts.proofs.ListLaws.{few_so}
+use Rattle.jk_server.proofs.GearRunLaws.{logs_so, runs_of}
 use Rattle.jk_server.proofs.StartLaws.{starts_are}
 use Rattle.jk_server.proofs.runs.parts.work.Goals as goal
 

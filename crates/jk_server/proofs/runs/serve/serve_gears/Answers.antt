@@ -3,7 +3,7 @@ use Rattle.client_session.specs.Requests.{visit}
 use Rattle.door_clients.specs.Doors.{side}
 use Rattle.gear_parts.specs.Gears.{gear_side}
 use Rattle.jk_server.proofs.CutLaws.{logs_since}
-use Rattle.jk_server.proofs.GearRunLaws.{few_so, some_so}
+use Rattle.gear_parts.proofs.ListLaws.{few_so, some_so}
 use Rattle.jk_server.proofs.StartLaws.{ok_weaker, started_run}
 use Rattle.jk_server.proofs.runs.serve.serve_gears.Goals as goal
 
@@ -14,17 +14,17 @@ over_site-requires-clause-new g c = λ κs within. record {
   sized = refl;
   numbered = refl;
   cut = refl;
-  at = c.begin-at.result;
+  at = c.first_moment-at.result;
   books = c.in-Ok.ensures.books;
 }
 
 pub over_site-requires-clause-ready : goal.over_site-requires-clause-ready
 over_site-requires-clause-ready g c = λ κs within. record {
   each = c.in-Ok.ensures.parts ∙ c.len.ensures;
-  some = some_so _ _ c.begin-at.ensures.len c.requires.some;
-  few = few_so _ _ _ c.begin-at.ensures.len c.requires.few;
+  some = some_so _ _ c.first_moment-at.ensures.len c.requires.some;
+  few = few_so _ _ _ c.first_moment-at.ensures.len c.requires.few;
   stands = c.requires.stands;
-  idle = c.begin-at.ensures.idle c.requires.idle;
+  idle = c.first_moment-at.ensures.idle c.requires.idle;
 }
 
 pub returns-in-Ok : goal.returns-in-Ok
@@ -35,8 +35,8 @@ returns-in-Ok g c = record {
         is =
             started_run (visit c.args.cfg.now c.args.mounts.now) g.D.L.Meanings g.S.Shelf.shelved g.S.Shelf.faults c.args.cfg.now.lbs
             (gear_side (side g.D.Door.coming g.D.Door.left g.D.Door.faults) g.T.Tape.talks g.K.Clock.answers) c.args.gears.items
-            c.args.gears.items c.begin-at.new.gears.items c.begin-at.new.gears.items run.gears.items run.workers run.closing refl refl
-            c.begin-at.ensures.started is.is;
-        logs = logs_since c.args.gears.items c.begin-at.new.gears.items run.gears.items run.closing c.begin-at.ensures.logs is.logs;
+            c.args.gears.items c.first_moment-at.new.gears.items c.first_moment-at.new.gears.items run.gears.items run.workers run.closing refl refl
+            c.first_moment-at.ensures.started is.is;
+        logs = logs_since c.args.gears.items c.first_moment-at.new.gears.items run.gears.items run.closing c.first_moment-at.ensures.logs is.logs;
       });
 }

@@ -1,7 +1,8 @@
 use Rattle.std.proofs.Common.{◌≡◌, List, [], sym, subst, ◌∙◌, arith}
 use Rattle.balancer_core.specs.Journal.{Journal}
 use Rattle.locked_balancer.specs.Sites.{At}
-use Rattle.jk_server.proofs.BookLaws.{new_added, new_count, new_empty, new_modern, new_nexts, new_sizes}
+use Rattle.site_books.proofs.StartLaws.{starts_modern, starts_sizes}
+use Rattle.jk_server.proofs.BookLaws.{new_added, new_count, new_empty, new_nexts}
 use Rattle.jk_server.proofs.runs.serve.shared_site.Goals as goal
 
 pub open-site-requires-clause-name : goal.open-site-requires-clause-name
@@ -12,7 +13,7 @@ open-site-requires-clause-parts g c = c.requires.whole
 
 pub open-site-requires-clause-sizes : goal.open-site-requires-clause-sizes
 open-site-requires-clause-sizes g c =
-    new_sizes c.args.cfg.now.lbs c.requires.at c.args.new.books c.requires.books ∙ sym c.requires.sized
+    starts_sizes c.args.cfg.now.lbs c.requires.at 0 c.args.new.books c.requires.books ∙ sym c.requires.sized
 
 pub open-site-requires-clause-firsts : goal.open-site-requires-clause-firsts
 open-site-requires-clause-firsts g c =
@@ -23,7 +24,7 @@ open-site-requires-clause-few g c =
     omega (arith, new_count c.args.cfg.now.lbs c.requires.at c.args.new.books c.requires.books, c.args.cfg.now.few)
 
 pub open-site-requires-clause-modern : goal.open-site-requires-clause-modern
-open-site-requires-clause-modern g c = new_modern c.args.cfg.now.lbs c.requires.at c.args.new.books c.requires.books
+open-site-requires-clause-modern g c = starts_modern c.args.cfg.now.lbs c.requires.at 0 c.args.new.books c.requires.books
 
 pub open-site-requires-clause-fresh : goal.open-site-requires-clause-fresh
 open-site-requires-clause-fresh g c = new_added c.args.cfg.now.lbs c.requires.at c.args.new.books c.requires.books

@@ -1,7 +1,6 @@
 use Rattle.std.proofs.Common.{sym, ◌∙◌}
-use Rattle.gear_parts.proofs.ListLaws.{as_long_as}
-use Rattle.jk_server.proofs.GearRunLaws.{parts_kept}
-use Rattle.jk_server.proofs.runs.parts.filled.Goals as goal
+use Rattle.gear_parts.proofs.ListLaws.{as_long_as, parts_kept}
+use Rattle.gear_parts.proofs.memory.filled.Goals as goal
 
 pub fill_parts-requires-clause-none : goal.fill_parts-requires-clause-none
 fill_parts-requires-clause-none g c = λ κs within. (c.requires.memory.no_part, c.requires.memory.no_log)

@@ -1,6 +1,6 @@
 use Rattle.door_clients.specs.Doors.{side}
-use Rattle.jk_server.proofs.StartLaws.{first_as_long, first_idle, first_logs, first_read}
-use Rattle.jk_server.proofs.runs.serve.first_moment.Goals as goal
+use Rattle.gear_parts.proofs.StartLaws.{first_as_long, first_idle, first_logs, first_read}
+use Rattle.gear_parts.proofs.starting.moment_of.Goals as goal
 
 pub returns-clause-started : goal.returns-clause-started
 returns-clause-started g c =

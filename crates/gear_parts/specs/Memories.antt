@@ -1,7 +1,7 @@
 -- The memory of a connector's run for what comes after its workers.
 use Rattle.std.specs.Prelude.{ℕ, ◌≡◌, ◌≤◌, [], vec_capacity, vec_len}
-use Rattle.jk_server.specs.declared.runs.parts.After.{After}
-use Rattle.jk_server.specs.declared.runs.parts.Memory.{Memory}
+use Rattle.gear_parts.specs.declared.memory.After.{After}
+use Rattle.gear_parts.specs.declared.memory.Memory.{Memory}
 
 -- It has the logs of `count` gears, and room for what their workers leave and for the gears again.
 pub record HasLogs {O A B : Type 0} (count : ℕ) (after : After O A B) : Type 0 where

@@ -1,6 +1,6 @@
 use Rattle.std.proofs.Common.{sym}
-use Rattle.jk_server.proofs.GearRunLaws.{few_so}
-use Rattle.jk_server.proofs.runs.parts.parts_for.Goals as goal
+use Rattle.gear_parts.proofs.ListLaws.{few_so}
+use Rattle.gear_parts.proofs.memory.parts_for.Goals as goal
 
 pub filled-requires-clause-memory : goal.filled-requires-clause-memory
 filled-requires-clause-memory g c = λ κs within. record {

@@ -1,0 +1,137 @@
+//! The memory of a connector's run, with a part for each gear.
+ghost use Rattle.std.specs.Prelude.{◌≡◌, ◌≤◌, [], map, vec_capacity, vec_len, IfOk};
+ghost use Rattle.std.specs.List.{All};
+ghost use Rattle.conn_pool.specs.Idle.{counts};
+ghost use Rattle.gear_parts.specs.GearParts.{start_of, start_with};
+ghost use Rattle.gear_parts.specs.Memories.{HasLogs, HasMemory};
+
+use crate::part::Part;
+use crate::parts::{Common, fill_parts};
+use crate::world::Gear;
+use conn_pool::{PooledReach, Tape};
+use jk_io::{Dial, NoMemory};
+use locked_balancer::{Shelf, SiteName};
+use std::alloc::Global;
+use std::sync::ledger::Share;
+
+/// The memory of a run: for the parts of the gears, and for what comes after the workers.
+#[derive(Drop)]
+pub struct Memory<P, O, A, B> {
+    pub parts: Vec<P>,
+    pub after: After<O, A, B>,
+}
+
+/// The memory for the logs of the gears, for what the workers leave, and for the gears again.
+#[derive(Drop)]
+pub struct After<O, A, B> {
+    pub logs: Vec<Option<O>>,
+    pub left: Vec<A>,
+    pub back: Vec<B>,
+}
+
+/// Makes a part of each gear, with the memory for what comes after the workers.
+pub fn parts_for<
+    's,
+    'r,
+    L: SiteName,
+    D: Drop,
+    G: Dial + Drop,
+    T: Tape + Drop,
+    K: Drop,
+    S: Shelf + Drop,
+    O: Drop,
+    A: Drop,
+    B: Drop,
+    R,
+>(
+    alloc: Global,
+    common: &Common<'s, 'r, L, G, R>,
+    share: Share<L>,
+    gears: Vec<Gear<D, G, T, K, S, O>>,
+) -> Result<Memory<Part<'s, 'r, L, D, PooledReach<'s, 'r, G, T, R>, K, S, R>, O, A, B>, NoMemory>
+    requires parts { share.parts ≡ vec_len gears }
+    requires amount { share.amount ≡ 0 }
+    requires idle { All (λ g. T.is_idle g.tape) gears.items }
+    ensures starts { IfOk result (λ m. map (λ p. start_with p.door p.reach p.clock p.desk) m.parts.items
+        ≡ map (start_of L.sizes (counts common.now.pools.now)) gears.items) }
+    ensures count { IfOk result (λ m. vec_len m.parts ≡ vec_len gears) }
+    ensures after { IfOk result (λ m. HasLogs (vec_len gears) m.after) }
+    ensures logs { IfOk result (λ m. m.after.logs.items ≡ map (λ g. g.log) gears.items) }
+{
+    match memory_for(alloc, gears.len()) {
+        Ok(memory) => Ok(filled(alloc, common, share, gears, memory)),
+        Err(NoMemory) => Err(NoMemory),
+    }
+}
+
+/// As `parts_for`, in memory that was taken for it.
+fn filled<
+    's,
+    'r,
+    L: SiteName,
+    D: Drop,
+    G: Dial + Drop,
+    T: Tape + Drop,
+    K: Drop,
+    S: Shelf + Drop,
+    O: Drop,
+    A,
+    B,
+    R,
+>(
+    alloc: Global,
+    common: &Common<'s, 'r, L, G, R>,
+    share: Share<L>,
+    gears: Vec<Gear<D, G, T, K, S, O>>,
+    memory: Memory<Part<'s, 'r, L, D, PooledReach<'s, 'r, G, T, R>, K, S, R>, O, A, B>,
+) -> Memory<Part<'s, 'r, L, D, PooledReach<'s, 'r, G, T, R>, K, S, R>, O, A, B>
+    requires parts { share.parts ≡ vec_len gears }
+    requires amount { share.amount ≡ 0 }
+    requires idle { All (λ g. T.is_idle g.tape) gears.items }
+    requires memory { HasMemory (vec_len gears) memory }
+    ensures starts { map (λ p. start_with p.door p.reach p.clock p.desk) result.parts.items
+        ≡ map (start_of L.sizes (counts common.now.pools.now)) gears.items }
+    ensures count { vec_len result.parts ≡ vec_len gears }
+    ensures after { HasLogs (vec_len gears) result.after }
+    ensures logs { result.after.logs.items ≡ map (λ g. g.log) gears.items }
+{
+    let Memory { parts, after } = memory;
+    let mut parts = parts;
+    let mut after = after;
+    fill_parts(alloc, common, share, gears, &mut parts, &mut after.logs);
+    Memory { parts, after }
+}
+
+/// Takes the memory for `count` workers.
+fn memory_for<P: Drop, O: Drop, A: Drop, B: Drop>(
+    alloc: Global,
+    count: usize,
+) -> Result<Memory<P, O, A, B>, NoMemory>
+    ensures empty { IfOk result (λ m. (m.parts.items ≡ []) × (m.after.logs.items ≡ []) × (m.after.left.items ≡ []) × (m.after.back.items ≡ [])) }
+    ensures parts { IfOk result (λ m. count ≤ vec_capacity m.parts) }
+    ensures logs { IfOk result (λ m. count ≤ vec_capacity m.after.logs) }
+    ensures left { IfOk result (λ m. count ≤ vec_capacity m.after.left) }
+    ensures back { IfOk result (λ m. count ≤ vec_capacity m.after.back) }
+{
+    Ok(Memory {
+        parts: Vec::with_capacity(alloc, count)?,
+        after: after_for(alloc, count)?,
+    })
+}
+
+/// Takes the memory for what comes after `count` workers.
+fn after_for<O: Drop, A: Drop, B: Drop>(
+    alloc: Global,
+    count: usize,
+) -> Result<After<O, A, B>, NoMemory>
+    ensures empty { IfOk result (λ m. (m.logs.items ≡ []) × (m.left.items ≡ []) × (m.back.items ≡ [])) }
+    ensures logs { IfOk result (λ m. count ≤ vec_capacity m.logs) }
+    ensures left { IfOk result (λ m. count ≤ vec_capacity m.left) }
+    ensures back { IfOk result (λ m. count ≤ vec_capacity m.back) }
+{
+    Ok(After {
+        logs: Vec::with_capacity(alloc, count)?,
+        left: Vec::with_capacity(alloc, count)?,
+        back: Vec::with_capacity(alloc, count)?,
+    })
+}
