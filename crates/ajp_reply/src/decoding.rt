@@ -119,7 +119,7 @@ fn head(alloc: Global, rest: &[u8]) -> Result<Message, NotRead>
     ended(Message::Headers(parts), rest)
 }
 
-/// Send Body Chunk behind its first byte.
+/// Send Body Chunk, read from its second byte on.
 fn chunk(alloc: Global, rest: &[u8]) -> Result<Message, NotRead>
     ensures read { Gives (λ m. m) result (chunk_at rest.now) }
     ensures wanted { IfErr result (λ stop. stop ≡ NotRead.NoMemory

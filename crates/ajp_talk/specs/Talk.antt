@@ -288,7 +288,7 @@ IsTalk plan s n (Ok (ends.ClientGone truncated keep bytes)) = IsGone plan s n tr
 IsTalk plan s n (Ok (ends.BadBody status told passed bytes)) = HasBadBody plan s n status told passed bytes
 IsTalk plan s n (Err e) = HasWanted plan s n ⊎ HasWantedEarly plan s n
 
--- An end in which the client was there: no call of it failed. Where it is gone its bytes ended.
+-- An end that no failed call of the client and no want of memory made. Where the client is gone, its bytes ended.
 abbrev pub IsCalmEnd : Result TalkEnd NoMemory → Type 0
 IsCalmEnd (Ok (ends.Done told reuse bytes)) = Unit {0}
 IsCalmEnd (Ok (ends.Failed stage cause told bytes)) = Unit {0}

@@ -1,4 +1,4 @@
-//! The field that a payload goes on with, and the bytes behind it. Nothing is copied but the text that `next_text` hands
+//! The field that a payload goes on with, and the bytes after it. Nothing is copied but the text that `next_text` hands
 //! out, so no other of these wants memory.
 ghost use Rattle.std.specs.Prelude.{◌≡◌, ◌≢◌, ◌+◌, ◌*◌, ◌<◌, List, ℕ, length, Option, option_map, IfErr};
 ghost use Rattle.std.specs.Option.{option_copied};

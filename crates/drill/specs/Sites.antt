@@ -25,7 +25,8 @@ member_of name factor = record {
 abbrev pub two_members : List MemberConfig
 two_members = member_of (codes "a") 1 ∷ member_of (codes "b") 2 ∷ []
 
--- They are balanced by requests, a session stays with its member, and maintenance and recovery take a minute each.
+-- The balancer of a drill, an lb worker of those two members, balanced by requests. A session stays with its member, and goes
+-- to another where that one doesn't serve. Maintenance is due after a minute, and so is recovery.
 pub record IsDrillBook (c : LbConfig) : Type 0 where
   pub method_is : c.method ≡ method.Request
   pub members_are : c.members ≡ two_members

@@ -167,7 +167,7 @@ MeetsAt exchange_end.Truncated old new = MeetsNone old new
 MeetsAt (exchange_end.Stray ticket returned_at) old new = RisesByOne old.strays new.strays × (new.met ≡ true)
 MeetsAt exchange_end.NoMemory old new = MeetsNone old new
 
--- The client was there to the end: no call of it failed. Where its bytes ended it is gone without a fault.
+-- An end that neither a failed call of the client nor a stray nor want of memory made. Truncated is one: the bytes ended.
 abbrev pub IsCalm : ExchangeEnd → Type 0
 IsCalm (exchange_end.Done member told) = Unit {0}
 IsCalm (exchange_end.Own status) = Unit {0}

@@ -91,7 +91,7 @@ pub record GearTells (D G T K S O C : Type 0) : Type 1 where
   pub is_idle : T → Type 0
   pub suits : ℕ → GearWants → Option Config → Gear D G T K S O → Type 0
 
--- what it tells of them, by its types
+-- what the types of a world and its parts tell of its gears
 abbrev pub gear_tells : {W D G T K S O C X E Y Z : Type 0} → WorldGhosts W D G T K S O C X E Y Z → DoorGhosts D C X → TapeGhosts T → ClockGhosts K → GearTells D G T K S O C
 gear_tells of_world of_door of_tape of_clock = record {
   told = gear_told of_door of_tape of_clock;

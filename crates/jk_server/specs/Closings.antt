@@ -31,7 +31,7 @@ KeepsFirst Kept left back = ⊥
 abbrev pub Shelves : {S : Type 0} → (S → Option (List (ℕ × Segment))) → List Lb → (old new : S) → Type 0
 Shelves shelved lbs old new = (kept : List (ℕ × Segment)) × AreLast lbs kept × (shelved new ≡ appended (shelved old) kept)
 
--- Those of the first balancers were, and those of the others weren't.
+-- The last segments of the first balancers were added to a shelf, and those of the others weren't.
 abbrev pub ShelvesFront : {S : Type 0} → (S → Option (List (ℕ × Segment))) → List Lb → (old new : S) → Type 0
 ShelvesFront shelved lbs old new =
     (books : List Journal) × AreSited (sizes_of lbs) (firsts_of lbs) books × AddsFront shelved books old new

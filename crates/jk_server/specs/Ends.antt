@@ -53,7 +53,8 @@ returned closing.ShelfFault gears = gears
 returned (closing.Differs discord) gears = gears
 returned closing.NoMemory gears = []
 
--- So of each gear that came back, by the gear that was handed in at its place.
+-- `Keeps` holds of each gear that was handed in and the one that came back at its place. Where receipts differ none came
+-- back; after want of memory nothing is said.
 abbrev pub KeepsEach : {L G : Type 0} → (G → G → Type 0) → Closing L → (gears back : List G) → Type 0
 KeepsEach Keeps closing.Kept gears back = AllZip Keeps gears back
 KeepsEach Keeps closing.ShelfFault gears back = AllZip Keeps gears back

@@ -32,8 +32,8 @@ start_side at talks answers s = record { door = at s.door; talks = talks s.reach
 abbrev pub IsBeginning : {S : Type 0} → SharedState S → Type 0
 IsBeginning desk = IsNew desk × (desk.desk.parts ≡ Some 1)
 
--- The workers of these parts left a desk and tools for each, and no talk runs. Where each began with a new desk of one part of the ledger, each served
--- what its part was the start of, and what they left has as many parts of the ledger.
+-- The workers left tools and a desk for each of these parts, and no talk runs. Where each part had a new desk of one part of
+-- the ledger, each worker served what its part was the start of, and the desks have a part of the ledger for each worker.
 pub record LeavesParts {D G T K S L C X P W : Type 0} {N : SiteGhosts L} (told : RunTells D T K S C X) (cfg : Config) (rules : List Rule) (parts : List (Part L D (PooledState G T P) K S W)) (end : ServeEnd L D (PooledState G T P) K S N) : Type 0 where
   pub outs : length end.outside ≡ length parts
   pub desks : length end.leaving ≡ length parts
@@ -44,14 +44,14 @@ pub record LeavesParts {D G T K S L C X P W : Type 0} {N : SiteGhosts L} (told :
       end.workers
   pub whole : All (λ p. IsBeginning p.desk) parts → sum_by (λ l. l.share.parts) end.leaving ≡ length parts
 
--- Each gear was served so, and the workers left a desk for each gear, as many parts of the ledger, and the gears' logs in order.
+-- Each gear was served so. There is a desk and a part of the ledger for each gear, and the gears' logs are left in order.
 pub record IsRunOf {D G T K S O L C X : Type 0} {N : SiteGhosts L} (told : RunTells D T K S C X) (cfg : Config) (rules : List Rule) (gears : List (Gear D G T K S O)) (ran : Ran L D G T K S O N) : Type 0 where
   pub served : ServesGears told cfg rules gears ran
   pub whole : sum_by (λ l. l.share.parts) ran.leaving ≡ length gears
   pub each : length ran.leaving ≡ length gears
   pub logs : map (λ l. l.log) ran.left.items ≡ map (λ g. g.log) gears
 
--- The run is of any gears that the parts of the workers and these logs were made of.
+-- The run is one of the gears of which these parts and logs were made, whichever these gears are.
 abbrev pub RunsParts : {D G T K S O L C X P W : Type 0} {N : SiteGhosts L} → RunTells D T K S C X → Config → List Rule → List (Part L D (PooledState G T P) K S W) → List (Option O) → Ran L D G T K S O N → Type 0
 RunsParts {D} {G} {T} {K} {S} {O} told cfg rules parts logs ran =
     (sizes pools : List ℕ) (gears : List (Gear D G T K S O))
