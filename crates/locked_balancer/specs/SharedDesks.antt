@@ -48,7 +48,7 @@ pairs_of lb (choice.Chosen m lease) = (lb, lease.ticket) ∷ []
 pairs_of lb choice.NoMember = []
 pairs_of lb choice.Forced = []
 
--- A shelf failed, or wanted memory: the one count rose, and the other stands.
+-- A shelf failed: its count of faults rose, and that of the wants stands. `WantsOnce`: it wanted memory, the other way round.
 abbrev pub FailsOnce : (faults faults' wants wants' : ℕ) → Type 0
 FailsOnce faults faults' wants wants' = Rose faults faults' × (wants' ≡ wants)
 
@@ -78,7 +78,7 @@ pub record CutsWhen (sizes : List ℕ) (cut_at lb : ℕ) (cut : Option (ℕ × S
 abbrev pub CutsOrWants : (sizes : List ℕ) → (cut_at lb : ℕ) → Option (ℕ × Segment) → (Wanting : Type 0) → Type 0
 CutsOrWants sizes cut_at lb cut Wanting = CutsWhen sizes cut_at lb cut ⊎ ((cut ≡ None) × Wanting)
 
--- The first entry that was added after these receipts, if one was, has the number that comes after the segment's.
+-- The first entry that was added after these receipts, if one was, has the number that comes after the last one of the segment.
 abbrev pub GoesOnFrom : Segment → (old new : List Receipt) → Type 0
 GoesOnFrom s old new = (r : Receipt) → slice_get new (length old) ≡ Some r → r.entry.seq ≡ s.opening.next + length s.entries
 
