@@ -22,10 +22,3 @@ abbrev pub AreSameSides : {R C : Type 0} → Sides R C → Sides R C → Type 0
 AreSameSides s n =
     (n.reach.ghost_name ≡ s.reach.ghost_name) × (n.client.ghost_name ≡ s.client.ghost_name)
     × (n.body.ghost_name ≡ s.body.ghost_name) × (n.inbox.ghost_name ≡ s.inbox.ghost_name)
-
--- The desk, the clock and the sides are still the caller's own.
-abbrev pub AreSameMeans : {B K R C : Type 0} → Means B K R C → Means B K R C → Type 0
-AreSameMeans s n =
-    (n.desk.ghost_name ≡ s.desk.ghost_name) × (n.clock.ghost_name ≡ s.clock.ghost_name)
-    × (n.sides.reach.ghost_name ≡ s.sides.reach.ghost_name) × (n.sides.client.ghost_name ≡ s.sides.client.ghost_name)
-    × (n.sides.body.ghost_name ≡ s.sides.body.ghost_name) × (n.sides.inbox.ghost_name ≡ s.sides.inbox.ghost_name)
