@@ -3,7 +3,7 @@
 //! Source: RFC 9112, "Connection Management"; the Tomcat Connectors reference for mounts and status workers.
 //! Own rules: the causes of a session's end, the count of its requests, when 100 Continue is sent, which answers the
 //! connector makes itself (docs/DECISIONS.md).
-//! Shapes: what is known between two steps is a `Standing`; a request leads from one to the next.
+//! Shapes: what is known between two steps is a `ClientStanding`; a request leads from one to the next.
 //! Contract: `serve_session_with`: `session`, all requests and the end; `parts`, the client's bytes; `own`, `by_bytes`,
 //! `complete` and `served`, what follows; `fault`, `met` and `kept`. Read first: specs/Sessions.antt, then specs/Answers.antt
 //! over specs/Standings.antt; then Parts, Causes and Complete. status_worker has what a status worker is asked.
