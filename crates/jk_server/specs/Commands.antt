@@ -90,8 +90,8 @@ pub data Works {G L : Type 0} (threads : ℕ) (Runs : WorldSide G → WorldSide 
   Ran : Runs s n ended → Works threads Runs s n ended
 
 -- The workers of a site ran: the world handed out a gear for each, in order, each just made and as that worker wants it; what
--- one run over the site made of these gears came back, in order, each with the log that it had; and the run's end is the
--- command's.
+-- one run over the site made of these gears came back, in order, each with the log that it had, as far as the run gives gears
+-- back (`returned`); and the run's end is the command's.
 pub record RunsSite {W G C S X L : Type 0} (told : Tells W G C S X) (cfg : Config) (rules : List Rule) (threads : ℕ) (wanted : GearWants) (s n : WorldSide G) (ended : CommandEnd L) : Type 0 where
   pub gears : List G
   pub left : List G
