@@ -31,7 +31,7 @@ pub(crate) fn take_first<C: Link>(
     ensures used { let left = body_left C.Meanings in
         IfErr result (λ _. IsUsed (left body.old inbox.old client.old) (left body.new inbox.new client.new)) }
     ensures steady { OnOk result (C.faults client.new ≡ C.faults client.old) }
-    ensures cut { IfErr result (λ end. end ≡ ExchangeEnd.Truncated → C.faults client.new ≡ C.faults client.old) }
+    ensures truncated { IfErr result (λ end. end ≡ ExchangeEnd.Truncated → C.faults client.new ≡ C.faults client.old) }
     ensures same { (C.sent client.new ≡ C.sent client.old) × (C.beside client.new ≡ C.beside client.old) }
     ensures no_fewer { C.faults client.old ≤ C.faults client.new }
 {

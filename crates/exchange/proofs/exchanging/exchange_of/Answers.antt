@@ -53,7 +53,7 @@ returns-clause-kept g c =
 
 pub returns-in-Err-take_first-clause-exchange : goal.returns-in-Err-take_first-clause-exchange
 returns-in-Err-take_first-clause-exchange g c =
-    never_began _ _ _ _ c.in-Err-take_first.ensures.err refl refl refl refl c.take_first.ensures.same.0 c.in-Err-take_first.ensures.cut
+    never_began _ _ _ _ c.in-Err-take_first.ensures.err refl refl refl refl c.take_first.ensures.same.0 c.in-Err-take_first.ensures.truncated
     c.in-Err-take_first.ensures.used
 
 pub returns-in-Err-take_first-clause-kept : goal.returns-in-Err-take_first-clause-kept

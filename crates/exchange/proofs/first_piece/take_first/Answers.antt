@@ -16,8 +16,8 @@ returns-in-Err-clause-used g c = uses_first _ _ _ c.in-Err.fault c.in-Err.ensure
 pub returns-in-Ok-clause-steady : goal.returns-in-Ok-clause-steady
 returns-in-Ok-clause-steady g c = c.in-Ok.ensures.ok.on.steady
 
-pub returns-in-Err-clause-cut : goal.returns-in-Err-clause-cut
-returns-in-Err-clause-cut g c = λ cut. cut_steady _ _ _ c.in-Err.fault _ c.in-Err.ensures.err c.end_of.ensures cut
+pub returns-in-Err-clause-truncated : goal.returns-in-Err-clause-truncated
+returns-in-Err-clause-truncated g c = λ cut. cut_steady _ _ _ c.in-Err.fault _ c.in-Err.ensures.err c.end_of.ensures cut
 
 pub returns-in-Ok-clause-same : goal.returns-in-Ok-clause-same
 returns-in-Ok-clause-same g c = (c.in-Ok.ensures.ok.on.sent, c.take.ensures.beside)
