@@ -1,5 +1,5 @@
 //! Dialling and accepting TCP streams.
-ghost use Rattle.std.specs.Prelude.{◌≡◌, ◌≢◌, ◌+◌, ◌-◌, ◌≤◌, ◌↔◌, Some, IsTrue, IsOk, IfOk, OnErr, IfSome, IfNone};
+ghost use Rattle.std.specs.Prelude.{◌≡◌, ◌≢◌, ◌+◌, ◌-◌, ◌<◌, ◌≤◌, ◌↔◌, Some, IsTrue, IsOk, IfOk, OnErr, IfSome, IfNone};
 ghost use Rattle.std.specs.Option.{option_map};
 ghost use Rattle.jk_io.specs.Told.{Rose, HasCause};
 
@@ -182,7 +182,8 @@ impl<'r, R: Clock> Door for TcpDoor<'r, R> {
 
     fn accept(&mut self, alloc: Global) -> Result<Option<(TcpLink, Peer)>, IoError>
         // It is closed once it gave as many clients as it may, and not before.
-        ensures closed { IfOk result (λ answer. IfNone answer (self.old.clients ≡ Some 0)) }
+        ensures closed { IfOk result (λ answer. IfNone answer ((self.old.clients ≡ Some 0) × (self.new.clients ≡ Some 0))) }
+        ensures used_up { self.old.clients ≡ Some 0 → IsOk result }
         ensures one_fewer { IfOk result (λ answer. IfSome answer (λ _. (self.old.clients ≢ Some 0)
             × (self.new.clients ≡ option_map (λ n. n - 1) self.old.clients))) }
         ensures as_many { OnErr result (self.new.clients ≡ self.old.clients) }
@@ -210,7 +211,16 @@ impl<'r, R: Clock> Door for TcpDoor<'r, R> {
         }
     }
 
-    fn leave(&mut self, link: TcpLink) {
+    fn leave(&mut self, link: TcpLink)
+        requires { 0 < self.old.out }
+
+        // It gives no client more or fewer for this.
+        ensures as_many { self.new.clients ≡ self.old.clients }
+
+        // What each door says.
+        ensures one_less { self.new.out + 1 ≡ self.old.out }
+        ensures same { self.new.failed ≡ self.old.failed }
+    {
         link.end();
         self.out -= 1;
     }

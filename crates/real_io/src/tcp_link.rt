@@ -188,6 +188,9 @@ impl Source for TcpLink {
         ensures filled { IfOk result (λ n. self.old.from ≡ self.old.to → (self.new.from ≡ self.new.to)
             ⊎ ((self.new.from ≡ n) × (take n buf.new ≡ take n self.new.ahead.items))) }
 
+        // Nothing fails while there are such bytes.
+        ensures unfailing { self.old.from ≢ self.old.to → IsOk result }
+
         // What each source says.
         ensures count { IfOk result (λ n. n ≤ length buf.new) }
         ensures cause { HasCause self.old.failed self.new.failed result }
@@ -209,7 +212,17 @@ impl Source for TcpLink {
 }
 
 impl Sink for TcpLink {
-    fn write(&mut self, piece: &[u8]) -> Result<usize, IoError> {
+    fn write(&mut self, piece: &[u8]) -> Result<usize, IoError>
+        requires { 0 < length piece.now }
+
+        // What was read ahead stays.
+        ensures rest { (self.new.from ≡ self.old.from) × (self.new.to ≡ self.old.to) × (self.new.ahead ≡ self.old.ahead) }
+
+        // What each sink says.
+        ensures count { IfOk result (λ n. (0 < n) × (n ≤ length piece.now)) }
+        ensures cause { HasCause self.old.failed self.new.failed result }
+        ensures steady { IsOk result → self.new.failed ≡ self.old.failed }
+    {
         self.let_first_go();
         match self.wire.send(piece) {
             Some(n) => Ok(n),

@@ -28,3 +28,10 @@ accept-tells g x c = record {
   cause = c.ensures.cause;
   steady = c.ensures.steady;
 }
+
+pub leave-tells : goal.leave-tells
+leave-tells g x c = record {
+  left = refl;
+  one_less = c.ensures.one_less;
+  same = (refl, c.ensures.same);
+}
