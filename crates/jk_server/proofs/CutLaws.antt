@@ -110,7 +110,8 @@ pub logs_said : {D G T K S O L : Type 0} (shelved : S → Option (List (ℕ × S
 logs_said shelved faults sizes firsts ts old logs gears back closing.Kept same ends = all_logs gears back (ends.2.logs_put ∙ same)
 logs_said shelved faults sizes firsts ts old logs gears back closing.ShelfFault same ends = all_logs gears back (ends.2.logs_put ∙ same)
 logs_said shelved faults sizes firsts ts old logs gears back (closing.Differs d) same ends = ends.1
-logs_said shelved faults sizes firsts ts old logs gears back closing.NoMemory same ends = tt
+logs_said shelved faults sizes firsts ts old logs gears back closing.NoMemory same (inl none) = inl none
+logs_said shelved faults sizes firsts ts old logs gears back closing.NoMemory same (inr keeps) = inr (all_logs gears back (keeps.2.logs_put ∙ same))
 
 -- What gears have that was had by others at their places.
 since_each : {D G T K S O : Type 0} (gears new back : List (Gear D G T K S O)) → map (λ g. g.log) new ≡ map (λ g. g.log) gears → AllZip KeepsLog new back → AllZip KeepsLog gears back
@@ -128,7 +129,8 @@ pub logs_since : {D G T K S O L : Type 0} (gears new back : List (Gear D G T K S
 logs_since gears new back closing.Kept same each = since_each gears new back same each
 logs_since gears new back closing.ShelfFault same each = since_each gears new back same each
 logs_since gears new back (closing.Differs d) same each = each
-logs_since gears new back closing.NoMemory same each = tt
+logs_since gears new back closing.NoMemory same (inl none) = inl none
+logs_since gears new back closing.NoMemory same (inr each) = inr (since_each gears new back same each)
 
 -- The gears were put together so, of shelves that were lent.
 pub put_back : {D G T K S O : Type 0} (Kept : S → S → Type 0) (ts : List (Tools D G T K)) (old lent new : List S) (logs : List (Option O)) (back : List (Gear D G T K S O))

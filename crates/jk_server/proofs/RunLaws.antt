@@ -38,6 +38,7 @@ begins visit told faults door s = record {
   sessions = All-nil (IsRun visit told);
   rested = refl;
   counted = refl;
+  steady = refl;
 }
 
 -- one more session, after which the worker rested
@@ -87,6 +88,7 @@ goes_on {C} {S} {L} visit told faults first before mid after s m n k count next 
           rested_more faults s m k way.runs here way.rested refl serves.settles.0
           (subst (λ (w : WorkerSide S). Rests w k) (same_side serves.to n serves.same serves.settles.1) rests);
       counted = omega (arith, len, was, more);
+      steady = serves.door_faults ∙ (gives.faults ∙ way.steady);
     })
 
 -- it rested, and the reach wanted memory
@@ -175,13 +177,13 @@ parts_again d d' parts is same = rw same is
 -- ---- the door gives none
 
 pub closes : {C S L X : Type 0} → (visit : Peer → Visit) (told : Ghosts C X) (faults : S → ℕ) (first before after : DoorSide C) (s n : WorkerSide S) (count : ℕ)
-    → IsUnderWay visit told faults first before s n count → GivesNone before after × IsEmpty after.coming
+    → IsUnderWay visit told faults first before s n count → GivesNone before after × IsEmpty after.coming → after.faults ≡ before.faults
     → IsServed {L = L} visit told faults first after s n (worker.Closed count)
-closes visit told faults first before after s n count way none = record {
+closes visit told faults first before after s n count way none steady = record {
   runs = way.runs;
   clients = none_more first before after _ _ way.clients none.0;
   sessions = way.sessions;
-  why = (way.counted, way.rested, none.1);
+  why = (way.counted, way.rested, none.1, steady ∙ way.steady);
 }
 
 rose_since : (first before now : ℕ) → first ≤ before → Rose before now → Rose first now

@@ -101,10 +101,11 @@ pub record EndsAtLast {C S L : Type 0} (faults : S → ℕ) (s n : WorkerSide S)
 abbrev pub count_of : {C S : Type 0} → List (Run C S) → ℕ
 count_of runs = min (length runs) 18446744073709551615
 
--- Why a worker ended that served these clients. Only the last session ended by a stray or in want of memory.
+-- Why a worker ended that served these clients. Only the last session ended by a stray or in want of memory. Where it ended
+-- since no client comes any more, no call of its door had failed.
 abbrev pub EndsBy : {C S L : Type 0} → (S → ℕ) → (before after : DoorSide C) → (s n : WorkerSide S) → List (Run C S) → WorkerEnd L → Type 0
 EndsBy faults before after s n runs (worker.Closed sessions) =
-    (sessions ≡ count_of runs) × HaveRested faults s runs n × IsEmpty after.coming
+    (sessions ≡ count_of runs) × HaveRested faults s runs n × IsEmpty after.coming × (after.faults ≡ before.faults)
 EndsBy faults before after s n runs worker.DoorFault = HaveRested faults s runs n × Rose before.faults after.faults
 EndsBy {L = L} faults before after s n runs worker.ShelfFault = EndsAtLast {L = L} faults s n runs worker.ShelfFault
 EndsBy faults before after s n runs worker.LogFault = ⊥

@@ -15,13 +15,14 @@ use Rattle.jk_server.specs.declared.part.Post.{Post}
 use Rattle.jk_server.specs.declared.part.WorkerEnd.{WorkerEnd}
 use Rattle.jk_server.specs.declared.part.WorkerEnd.TheVariants as worker
 
--- These clients were served, and the worker rested after each.
+-- These clients were served, the worker rested after each, and no call of its door failed.
 pub record IsUnderWay {C S X : Type 0} (visit : Peer → Visit) (told : Ghosts C X) (faults : S → ℕ) (first now : DoorSide C) (s n : WorkerSide S) (count : ℕ) : Type 0 where
   pub runs : List (Run C S)
   pub clients : GaveAndGot first now (map (λ r. (r.link, r.peer)) runs) (map (λ r. r.back) runs)
   pub sessions : All (IsRun visit told) runs
   pub rested : HaveRested faults s runs n
   pub counted : count ≡ count_of runs
+  pub steady : now.faults ≡ first.faults
 
 -- One more client was served, and the worker goes on; or it ended.
 abbrev pub GoesOrEnds : {C S L X : Type 0} → (Peer → Visit) → Ghosts C X → (S → ℕ) → (first now : DoorSide C) → (s n : WorkerSide S) → (count : ℕ) → Option (WorkerEnd L) → Type 0

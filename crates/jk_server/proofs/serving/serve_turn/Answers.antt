@@ -11,7 +11,7 @@ returns-in-Client g c = record {
 
 pub returns-in-Closed : goal.returns-in-Closed
 returns-in-Closed g c = record {
-  turned = λ first s way. closes {L = g.row.L.Denot} _ _ _ _ _ _ _ _ _ way c.in-Closed.ensures.arrives;
+  turned = λ first s way. closes {L = g.row.L.Denot} _ _ _ _ _ _ _ _ _ way c.in-Closed.ensures.arrives (c.in-Closed.ensures.steady refl);
   fit = c.requires.fit;
   parts = refl;
 }
