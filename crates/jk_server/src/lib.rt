@@ -22,7 +22,7 @@ pub use container_server::{
     ContainerRunEnd, ContainerWorker, ContainerWorkerList, DoorList, run_container,
 };
 pub use gear_parts::{ContainerRun, GearOrder, Outside, OutsideList, Part, contain_gears};
-pub use orders::container::{ContainerOrder, contain};
+pub use orders::container::{ContainerOrder, MOST_ROUTE_BYTES, contain};
 pub use orders::ends::CommandEnd;
 pub use orders::serve::{ServeOrder, serve};
 pub use part::{ServeEnd, WorkerEnd, WorkerEndList};

@@ -5,15 +5,14 @@ use crate::worlds::let_go;
 use drill::{DrillOrder, MAX_REQUESTS, MAX_THREADS, write_drill};
 use jk_cli::{Order, read_words};
 use jk_io::{Bytes, MemFiles, MemLink, NumberList};
-use jk_server::{ContainerOrder, GearOrder, MAX_WORKERS, ServeOrder, contain, serve};
+use jk_server::{
+    ContainerOrder, GearOrder, MAX_WORKERS, MOST_ROUTE_BYTES, ServeOrder, contain, serve,
+};
 use plain_commands::run_plain;
 use std::alloc::Global;
 use std::sync::Wait;
 use std::thread::Threads;
 use worker_gears::MemWorld;
-
-/// The most bytes of a container's route.
-const MOST_ROUTE_BYTES: usize = 1_024;
 
 /// The status of `serve`; none where nobody may ask for this number of workers.
 fn served<R: Threads + Wait + Sync>(

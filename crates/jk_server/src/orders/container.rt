@@ -1,6 +1,6 @@
 //! `container`: links served as a servlet container does.
 ghost use Rattle.std.specs.Prelude.{◌≡◌, ◌≤◌, length, None};
-ghost use Rattle.jk_cli.specs.declared.plans.TheConstants.{MOST_ROUTE_BYTES};
+ghost use Rattle.jk_server.specs.declared.orders.container.TheConstants.{MOST_ROUTE_BYTES};
 ghost use Rattle.jk_server.specs.Commands.{ContainsAsked, WorksContainer};
 ghost use Rattle.gear_parts.specs.Worlds.{tells};
 
@@ -12,6 +12,9 @@ use std::alloc::Global;
 use std::marker::Brand;
 use std::sync::Wait;
 use std::thread::Threads;
+
+/// The most bytes of a container's route.
+pub const MOST_ROUTE_BYTES: usize = 1_024;
 
 /// The greatest packet of the container, in bytes.
 const PACKET_BYTES: u32 = 8_192;
