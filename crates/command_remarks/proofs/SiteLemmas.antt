@@ -1,7 +1,7 @@
 -- What is told of a site, by the first of the files that were read and those after it.
 use Rattle.std.proofs.Common.{◌≡◌, ℕ, ◌-◌, ◌≤◌, Bool, List, [], ◌∷◌, Option, Some, Result, Ok, Err, inl, inr, length, take, drop, get_or, arith, sym, subst, ◌∙◌, ap}
 use Rattle.std.proofs.lemmas.List.{take_all}
-use Rattle.command_remarks.specs.declared.kept_files.ReadFile.{ReadFile}
+use Rattle.command_remarks.specs.declared.read_file.ReadFile.{ReadFile}
 use Rattle.command_remarks.specs.Told.{AreSaid, SaysSite, map_among, text_of}
 use Rattle.jk_io.specs.declared.failures.IoError.{IoError}
 use Rattle.site_remarks.specs.Added.{AddsSaid}

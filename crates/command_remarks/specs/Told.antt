@@ -5,8 +5,8 @@ use Rattle.jk_cli.specs.Orders.{command_of}
 use Rattle.jk_cli.specs.declared.name.CommandName.{CommandName}
 use Rattle.jk_cli.specs.declared.name.CommandName.TheVariants as name
 use Rattle.jk_io.specs.declared.whole_input.TheConstants.{MAX_INPUT_BYTES}
-use Rattle.command_remarks.specs.declared.counted_input.InputSeen.{InputSeen}
-use Rattle.command_remarks.specs.declared.kept_files.ReadFile.{ReadFile}
+use Rattle.command_remarks.specs.declared.input_seen.InputSeen.{InputSeen}
+use Rattle.command_remarks.specs.declared.read_file.ReadFile.{ReadFile}
 use Rattle.command_remarks.specs.declared.site.SitePlace.{SitePlace}
 use Rattle.site_remarks.specs.Remarks.{AreRemarks}
 

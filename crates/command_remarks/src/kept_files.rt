@@ -1,20 +1,13 @@
 //! Files that keep what was read of them.
-ghost use Rattle.std.specs.Prelude.{◌≡◌, ◌≤◌, IfOk, IfSome, length};
-ghost use Rattle.std.specs.Option.{ForSome};
+ghost use Rattle.std.specs.Prelude.{◌≡◌, ◌<◌, ◌≤◌, [], IfOk, IfSome, IsErrOf, IsSomeAnd, length, OnErr, OnOk, Some};
+ghost use Rattle.jk_io.specs.Stored.{content_of};
+ghost use Rattle.jk_io.specs.Told.{Rose};
+ghost use Rattle.command_remarks.specs.Seen.{Keeps, KeepsAnswer, is_long, text_given};
 ghost use Rattle.jk_io.specs.declared.whole_input.TheConstants.{MAX_INPUT_BYTES};
 
+use crate::read_file::ReadFile;
 use jk_io::{Bytes, FileError, Files, ListOf, NoMemory};
 use std::alloc::Global;
-
-/// What the read of a file gave.
-#[derive(Drop)]
-pub struct ReadFile {
-    pub name: Bytes,
-    /// None where the file can't be read, or is too long.
-    pub text: Option<Bytes>,
-    pub too_long: bool,
-    pub ghost short: { ForSome text (λ t. length t ≤ MAX_INPUT_BYTES) },
-}
 
 /// Files, and what each read of them gave, in order.
 #[derive(Drop)]
@@ -24,7 +17,9 @@ pub struct KeptFiles<F: Files + Drop> {
 }
 
 impl<F: Files + Drop> KeptFiles<F> {
-    pub fn new(alloc: Global, files: F) -> KeptFiles<F> {
+    pub fn new(alloc: Global, files: F) -> KeptFiles<F>
+        ensures { (result.files ≡ files) × (result.reads ≡ []) }
+    {
         KeptFiles {
             files,
             reads: ListOf::new(alloc),
@@ -32,19 +27,29 @@ impl<F: Files + Drop> KeptFiles<F> {
     }
 
     /// What each read gave, the first one first.
-    pub fn reads(&self) -> &[ReadFile] {
+    pub fn reads(&self) -> &[ReadFile]
+        ensures { result.now ≡ self.now.reads }
+    {
         self.reads.as_slice()
     }
 }
 
 fn copied(alloc: Global, answer: &Result<Bytes, FileError>) -> Result<Option<Bytes>, NoMemory>
     requires { IfOk answer.now (λ t. length t ≤ MAX_INPUT_BYTES) }
-    ensures { IfOk result (λ o. IfSome o (λ t. length t ≤ MAX_INPUT_BYTES)) }
+    ensures short { IfOk result (λ o. IfSome o (λ t. length t ≤ MAX_INPUT_BYTES)) }
+    ensures text { IfOk result (λ o. o ≡ text_given answer.now) }
 {
     match answer {
         Ok(text) => Ok(Some(Bytes::from_slice(alloc, text.as_slice())?)),
         Err(_) => Ok(None),
     }
+}
+
+/// Whether the file is too long.
+fn is_too_long(answer: &Result<Bytes, FileError>) -> bool
+    ensures { result ≡ is_long answer.now }
+{
+    matches!(answer, Err(FileError::TooLong))
 }
 
 /// Adds what a read gave.
@@ -55,8 +60,10 @@ fn keep(
     answer: &Result<Bytes, FileError>,
 ) -> Result<(), NoMemory>
     requires { IfOk answer.now (λ t. length t ≤ MAX_INPUT_BYTES) }
+    ensures kept { OnOk result (Keeps name.now answer.now reads.old reads.new) }
+    ensures err { OnErr result (reads.new ≡ reads.old) }
 {
-    let too_long = matches!(answer, Err(FileError::TooLong));
+    let too_long = is_too_long(answer);
     let text = copied(alloc, answer)?;
     reads.push(ReadFile {
         name: Bytes::from_slice(alloc, name.as_slice())?,
@@ -71,7 +78,18 @@ impl<F: Files + Drop> Files for KeptFiles<F> {
 
     ghost faults = { λ k. F.faults k.files };
 
-    fn read_file(&mut self, alloc: Global, name: &Bytes) -> Result<Bytes, FileError> {
+    fn read_file(&mut self, alloc: Global, name: &Bytes) -> Result<Bytes, FileError>
+        ensures found { IfOk result (λ bytes. IfSome (F.files self.old.files) (λ all. content_of all name.now ≡ Some bytes)) }
+        ensures short { IfOk result (λ bytes. length bytes ≤ MAX_INPUT_BYTES) }
+        ensures too_long { IsErrOf result FileError.TooLong
+            → IfSome (F.files self.old.files) (λ all. IsSomeAnd (content_of all name.now) (λ bytes. MAX_INPUT_BYTES < length bytes)) }
+        ensures failed { IsErrOf result FileError.Failed → Rose (F.faults self.old.files) (F.faults self.new.files) }
+        ensures no_fewer { F.faults self.old.files ≤ F.faults self.new.files }
+        ensures same { F.files self.new.files ≡ F.files self.old.files }
+
+        // What a read gives is kept after what those before gave, unless memory was wanted for that.
+        ensures kept { KeepsAnswer name.now result self.old.reads self.new.reads }
+    {
         let answer = self.files.read_file(alloc, name);
         match keep(alloc, &mut self.reads, name, &answer) {
             Ok(()) => answer,

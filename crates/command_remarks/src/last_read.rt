@@ -3,7 +3,7 @@ ghost use Rattle.std.specs.Prelude.{◌≡◌};
 ghost use Rattle.std.specs.Option.{option_map};
 ghost use Rattle.command_remarks.specs.Told.{long_name, unread_name};
 
-use crate::kept_files::ReadFile;
+use crate::read_file::ReadFile;
 
 /// The file whose read failed, if the last one did.
 pub fn unread_file(reads: &[ReadFile]) -> Option<&[u8]>

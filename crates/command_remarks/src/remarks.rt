@@ -4,8 +4,8 @@ ghost use Rattle.jk_io.specs.Told.{HasCause};
 ghost use Rattle.site_remarks.specs.Added.{AddsSaid, AddsText};
 ghost use Rattle.command_remarks.specs.Told.{IsLine, SaysEffects, SaysRefused, too_long_text, unread_name, unread_text};
 
-use crate::counted_input::InputSeen;
-use crate::kept_files::ReadFile;
+use crate::input_seen::InputSeen;
+use crate::read_file::ReadFile;
 use crate::last_read::{long_file, unread_file};
 use crate::site::{put_effects, put_placed, site_place};
 use crate::words::said_of_words;

@@ -7,7 +7,7 @@ ghost use Rattle.command_remarks.specs.Told.{SaysEffects, SaysEffectsAt, SaysPla
 ghost use Rattle.site_remarks.specs.Added.{AddsSaid};
 ghost use Rattle.site_remarks.specs.Remarks.{IsShort, as_file};
 
-use crate::kept_files::ReadFile;
+use crate::read_file::ReadFile;
 use jk_cli::{CommandName, command_of};
 use jk_io::{Bytes, IoError, Sink};
 use site_remarks::{RemarkOut, SiteFile, SiteFiles, site_remarks};
