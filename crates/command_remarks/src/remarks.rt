@@ -5,8 +5,8 @@ ghost use Rattle.site_remarks.specs.Added.{AddsSaid, AddsText};
 ghost use Rattle.command_remarks.specs.Told.{IsLine, SaysEffects, SaysRefused, too_long_text, unread_name, unread_text};
 
 use crate::input_seen::InputSeen;
-use crate::read_file::ReadFile;
 use crate::last_read::{long_file, unread_file};
+use crate::read_file::ReadFile;
 use crate::site::{put_effects, put_placed, site_place};
 use crate::words::said_of_words;
 use jk_io::{Bytes, IoError, MAX_INPUT_BYTES, NoMemory, Sink};

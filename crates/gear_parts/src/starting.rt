@@ -10,7 +10,9 @@ use conn_pool::Tape;
 use jk_io::{Clock, Door};
 
 /// The moment that the first gear's clock gives.
-pub fn first_moment<D: Door, G, T: Tape, K: Clock, S, O>(gears: &mut Vec<Gear<D, G, T, K, S, O>>) -> u64
+pub fn first_moment<D: Door, G, T: Tape, K: Clock, S, O>(
+    gears: &mut Vec<Gear<D, G, T, K, S, O>>,
+) -> u64
     requires some { 0 < vec_len gears.old }
     ensures started { let at = gear_side (side D.coming D.left D.faults) T.talks K.answers in
         AreStarted (map at gears.old.items) (map at gears.new.items) }

@@ -1,5 +1,5 @@
 -- How a command that asks for workers ends where a gear is refused or memory is wanted.
-use Rattle.std.proofs.Common.{ℕ, ◌≡◌, ◌+◌, ◌<◌, ◌≤◌, List, [], length, Option, None, Err, inl, inr, refl, arith, lit≤}
+use Rattle.std.proofs.Common.{ℕ, ◌≡◌, ◌+◌, ◌<◌, ◌≤◌, List, [], length, None, Err, inl, inr, refl, arith, lit≤}
 use Rattle.jk_io.specs.Told.{appended, HasCause}
 use Rattle.jk_io.specs.declared.failures.IoError.{IoError}
 use Rattle.jk_io.specs.declared.failures.IoError.TheVariants as io

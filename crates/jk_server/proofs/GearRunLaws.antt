@@ -1,5 +1,5 @@
 -- What was done with each part, said of the gears.
-use Rattle.std.proofs.Common.{ℕ, ◌≡◌, ◌<◌, ◌≤◌, ◌+◌, List, [], ◌∷◌, length, map, Option, IfOk, Result, Ok, Err, refl, ap, sym, ◌∙◌, subst, arith}
+use Rattle.std.proofs.Common.{ℕ, ◌≡◌, ◌<◌, ◌+◌, List, [], ◌∷◌, length, map, Option, IfOk, Result, Ok, Err, refl, ap, sym, subst, arith}
 use Rattle.std.specs.Prelude.{sum_by}
 use Rattle.std.specs.List.{All}
 use Rattle.std.proofs.lemmas.List.Elements.{All-cons, All-head, All-nil, All-tail}
@@ -15,7 +15,6 @@ use Rattle.gear_parts.specs.Memories.{HasLogs}
 use Rattle.jk_server.specs.Parts.{AreEach}
 use Rattle.jk_server.specs.declared.part.WorkerEnd.{WorkerEnd}
 use Rattle.gear_parts.specs.declared.memory.After.{After}
-use Rattle.gear_parts.proofs.ListLaws.{as_long}
 use Rattle.gear_parts.specs.GearParts.{gear_with, gears_with, start_of, start_with, tools}
 use Rattle.gear_parts.specs.declared.part.Part.{Part}
 use Rattle.conn_pool.specs.Reaches.{PooledState}

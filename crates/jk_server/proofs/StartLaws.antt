@@ -1,8 +1,7 @@
 -- Workers that begin, said of their gears.
-use Rattle.std.proofs.Common.{ℕ, ◌≡◌, ◌<◌, List, [], ◌∷◌, length, map, get_or, set, IfOk, Result, Ok, Err, Option, Some, refl, sym, ap, ◌∙◌, subst, arith}
+use Rattle.std.proofs.Common.{ℕ, ◌≡◌, List, map, IfOk, Result, Ok, Err, Option, Some, sym, ap, ◌∙◌, subst}
 use Rattle.std.specs.List.{All}
-use Rattle.std.proofs.lemmas.List.Elements.{All-cons, All-head, All-map, All-tail}
-use Rattle.jk_io.specs.Answers.{Answers}
+use Rattle.std.proofs.lemmas.List.Elements.{All-map}
 use Rattle.jk_io.specs.declared.reaching.Talk.{Talk}
 use Rattle.jk_io.specs.declared.traits.streams.Meanings.{Ghosts}
 use Rattle.jk_io.specs.declared.traits.surroundings.Peer.{Peer}

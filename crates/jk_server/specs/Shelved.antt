@@ -1,5 +1,5 @@
 -- What the last cuts of a run did with the shelves, and how the closing ended by that.
-use Rattle.std.specs.Prelude.{ℕ, ◌≡◌, ◌⊎◌, List, [], ◌∷◌, length, map, Option}
+use Rattle.std.specs.Prelude.{ℕ, ◌≡◌, ◌⊎◌, List, [], length, map, Option}
 use Rattle.jk_io.specs.Told.{Rose}
 use Rattle.jk_model.specs.declared.journal.Entry.{Entry}
 use Rattle.jk_model.specs.declared.segment.Segment.{Segment}
