@@ -9,8 +9,6 @@ use Rattle.jk_cli.specs.declared.name.CommandName.{CommandName}
 use Rattle.jk_cli.specs.declared.name.CommandName.TheVariants as name
 use Rattle.jk_cli.specs.Parts.{Part, parts_of, places_in, option_in}
 use Rattle.jk_cli.specs.Names.{name_of, may_stand, command_in}
-use Rattle.jk_cli.specs.declared.values.TheConstants.{MOST_IDLE_ROUNDS, MOST_THREADS, MOST_WATCH_SECONDS}
-use Rattle.jk_cli.specs.declared.plans.TheConstants.{MOST_REQUESTS, MOST_ROUTE_BYTES}
 
 infixl 10 ◌>>=◌
 abbrev pub ◌>>=◌ : {A B : Type 0} → Option A → (A → Option B) → Option B
@@ -31,7 +29,7 @@ number_option name least most parts = option_in name parts >>= number_given leas
 
 -- 1 to 64
 abbrev pub threads_of : List ℕ → Option ℕ
-threads_of text = number_in 1 MOST_THREADS text
+threads_of text = number_in 1 64 text
 
 -- any number of 64 bits
 abbrev pub clients_of : List Part → Option (Option ℕ)
@@ -50,12 +48,13 @@ pub record ServeOptions : Type 0 where
 abbrev pub are_together : ServeOptions → Bool
 are_together given = (is_none given.idle || is_some given.watch) && (is_none given.format || is_some given.log)
 
+-- An idle link is looked for every 1 to 86400 seconds, and closed after 1 to 1000000 looks.
 abbrev pub options_given : List Part → Option ServeOptions
 options_given parts =
     clients_of parts >>= λ clients.
     option_in (codes "journal") parts >>= λ journal.
-    number_option (codes "watch") 1 MOST_WATCH_SECONDS parts >>= λ watch.
-    number_option (codes "idle") 1 MOST_IDLE_ROUNDS parts >>= λ idle.
+    number_option (codes "watch") 1 86400 parts >>= λ watch.
+    number_option (codes "idle") 1 1000000 parts >>= λ idle.
     option_in (codes "log") parts >>= λ log.
     option_in (codes "format") parts >>= λ format.
     Some (record { clients = clients; journal = journal; watch = watch; idle = idle; log = log; format = format })
@@ -120,7 +119,7 @@ drill_of (seed ∷ threads ∷ requests ∷ more) =
     mode_of more >>= λ mode.
     decimal_of seed >>= λ start.
     threads_of threads >>= λ count.
-    number_in 1 MOST_REQUESTS requests >>= λ total.
+    number_in 1 1000000 requests >>= λ total.
     Some (Drill start count total mode.0 mode.1)
 drill_of places = None
 
@@ -140,7 +139,7 @@ abbrev pub container_of : List Part → List (List ℕ) → Option Order
 container_of parts (route ∷ address ∷ threads ∷ []) =
     threads_of threads >>= λ count.
     clients_of parts >>= λ clients.
-    if nat_le (length route) MOST_ROUTE_BYTES then Some (Container route address count clients) else None
+    if nat_le (length route) 1024 then Some (Container route address count clients) else None
 container_of parts places = None
 
 abbrev pub order_by : CommandName → List Part → List (List ℕ) → Option Order

@@ -35,7 +35,7 @@ use std::str;
 const MOST_REQUESTS: u64 = 1_000_000;
 
 /// The most bytes of a container's route.
-pub const MOST_ROUTE_BYTES: usize = 1_024;
+const MOST_ROUTE_BYTES: usize = 1_024;
 
 fn play_of<'a>(places: &mut Places<'a>) -> Option<Plan<'a>>
     ensures { option_map order_in result ≡ play_of places.old }

@@ -7,8 +7,8 @@ use Rattle.jk_cli.specs.declared.order.Order.{Order}
 use Rattle.jk_cli.specs.declared.order.Order.TheVariants as order
 use Rattle.plain_commands.specs.Plain.{is_plain, readings}
 use Rattle.site_reports.specs.Readings.{has_file}
-use Rattle.jk_cli.specs.declared.plans.TheConstants.{MOST_ROUTE_BYTES}
 use Rattle.drill.specs.declared.plan.TheConstants.{MAX_REQUESTS, MAX_THREADS}
+use Rattle.jk_server.specs.declared.orders.container.TheConstants.{MOST_ROUTE_BYTES}
 use Rattle.jk_server.specs.declared.workers.TheConstants.{MAX_WORKERS}
 
 -- `serve`, `container` and `drill`. A watch, a log and passes aren't built: words with `--watch` or `--log`, without which
