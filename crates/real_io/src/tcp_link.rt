@@ -113,6 +113,7 @@ impl TcpLink {
     // Gives the next of the bytes that were read ahead.
     fn give_ahead(&mut self, buf: &mut [u8]) -> usize
         ensures count { result ≤ length buf.new }
+        ensures some { 0 < length buf.old → self.old.from ≢ self.old.to → 0 < result }
         ensures gave { take result buf.new ≡ take result (drop self.old.from self.old.ahead.items) }
         ensures on { self.new.from ≡ self.old.from + result }
         ensures same { (self.new.to ≡ self.old.to) × (self.new.ahead ≡ self.old.ahead) × (self.new.failed ≡ self.old.failed) }
@@ -181,6 +182,8 @@ impl Meanings for TcpLink {
 
 impl Source for TcpLink {
     fn read(&mut self, buf: &mut [u8]) -> Result<usize, IoError>
+        requires { 0 < length buf.old }
+
         // What was read ahead is given first, from its front on, and each byte once.
         ensures given { IfOk result (λ n. self.old.from ≢ self.old.to → (self.new.from ≡ self.old.from + n)
             × (take n buf.new ≡ take n (drop self.old.from self.old.ahead.items))) }
@@ -188,8 +191,9 @@ impl Source for TcpLink {
         ensures filled { IfOk result (λ n. self.old.from ≡ self.old.to → (self.new.from ≡ self.new.to)
             ⊎ ((self.new.from ≡ n) × (take n buf.new ≡ take n self.new.ahead.items))) }
 
-        // Nothing fails while there are such bytes.
+        // Nothing fails while there are such bytes, and no end is told.
         ensures unfailing { self.old.from ≢ self.old.to → IsOk result }
+        ensures endless { IfOk result (λ n. self.old.from ≢ self.old.to → 0 < n) }
 
         // What each source says.
         ensures count { IfOk result (λ n. n ≤ length buf.new) }
