@@ -6,7 +6,7 @@ use Rattle.jk_io.specs.Answers.{Answers}
 use Rattle.jk_io.specs.declared.reaching.Talk.{Talk}
 use Rattle.door_clients.specs.Doors.{DoorSide}
 use Rattle.gear_parts.specs.Gears.{GearSide, gear_side}
-use Rattle.gear_parts.specs.Starts.{AreStarted}
+use Rattle.gear_parts.specs.Starts.{AreStarted, GivesFirst}
 use Rattle.gear_parts.specs.declared.world.Gear.{Gear}
 
 -- The first gear's clock was read, and nothing else was done.
@@ -52,3 +52,17 @@ pub logs_back : {D G T K S O : Type 0} → (gears lent new back : List (Gear D G
     → map (λ g. g.log) new ≡ map (λ g. g.log) lent → map (λ g. g.log) back ≡ map (λ g. g.log) gears
 logs_back {D} {G} {T} {K} {S} {O} gears lent new back same written then =
     ap (λ (gs : List (Gear D G T K S O)). map (λ g. g.log) gs) written ∙ then ∙ ap (λ (gs : List (Gear D G T K S O)). map (λ g. g.log) gs) same
+
+-- The moment is the one that the first gear's clock gave.
+pub first_gives : {D G T K S O C : Type 0} → (at : D → DoorSide C) (talks : T → Option (List Talk)) (answers : K → Option (List ℕ))
+    (gears : List (Gear D G T K S O)) (x : Gear D G T K S O) (clock : K) (now : ℕ)
+    → 0 < length gears → Answers (answers (get_or gears 0 x).clock) now (answers clock)
+    → GivesFirst now (map (gear_side at talks answers) gears) (map (gear_side at talks answers) (set gears 0 (record (get_or gears 0 x) { clock = clock })))
+first_gives at talks answers [] x clock now some read = absurd (omega (arith, some))
+first_gives at talks answers (g ∷ gears) x clock now some read = read
+
+pub gives_back : {D G T K S O C : Type 0} → (now : ℕ) (at : Gear D G T K S O → GearSide C S) (gears lent new back : List (Gear D G T K S O))
+    → lent ≡ gears → back ≡ new → GivesFirst now (map at lent) (map at new) → GivesFirst now (map at gears) (map at back)
+gives_back {D} {G} {T} {K} {S} {O} now at gears lent new back same written gives =
+    subst (λ (gs : List (Gear D G T K S O)). GivesFirst now (map at gs) (map at back)) same
+    (subst (λ (gs : List (Gear D G T K S O)). GivesFirst now (map at lent) (map at gs)) (sym written) gives)

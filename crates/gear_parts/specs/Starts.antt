@@ -9,3 +9,8 @@ AreStarted [] after = after ≡ []
 AreStarted (first ∷ rest) [] = ⊥
 AreStarted (first ∷ rest) (first' ∷ rest') =
     (now : ℕ) × Answers first.clock now first'.clock × (first' ≡ record first { clock = first'.clock }) × (rest' ≡ rest)
+
+-- The first gear's clock gave this moment.
+abbrev pub GivesFirst : {C S : Type 0} → (now : ℕ) → (before after : List (GearSide C S)) → Type 0
+GivesFirst now (first ∷ rest) (first' ∷ rest') = Answers first.clock now first'.clock
+GivesFirst now before after = ⊥

@@ -3,7 +3,7 @@ ghost use Rattle.std.specs.Prelude.{◌≡◌, ◌<◌, length, map, vec_len};
 ghost use Rattle.std.specs.List.{All};
 ghost use Rattle.door_clients.specs.Doors.{side};
 ghost use Rattle.gear_parts.specs.Gears.{gear_side};
-ghost use Rattle.gear_parts.specs.Starts.{AreStarted};
+ghost use Rattle.gear_parts.specs.Starts.{AreStarted, GivesFirst};
 
 use crate::world::Gear;
 use conn_pool::Tape;
@@ -16,6 +16,8 @@ pub fn first_moment<D: Door, G, T: Tape, K: Clock, S, O>(
     requires some { 0 < vec_len gears.old }
     ensures started { let at = gear_side (side D.coming D.left D.faults) T.talks K.answers in
         AreStarted (map at gears.old.items) (map at gears.new.items) }
+    ensures given { let at = gear_side (side D.coming D.left D.faults) T.talks K.answers in
+        GivesFirst result (map at gears.old.items) (map at gears.new.items) }
     ensures logs { map (λ g. g.log) gears.new.items ≡ map (λ g. g.log) gears.old.items }
     ensures idle { All (λ g. T.is_idle g.tape) gears.old.items → All (λ g. T.is_idle g.tape) gears.new.items }
     ensures len { vec_len gears.new ≡ vec_len gears.old }
@@ -28,6 +30,8 @@ fn moment_of<D: Door, G, T: Tape, K: Clock, S, O>(gears: &mut [Gear<D, G, T, K, 
     requires some { 0 < length gears.old }
     ensures started { let at = gear_side (side D.coming D.left D.faults) T.talks K.answers in
         AreStarted (map at gears.old) (map at gears.new) }
+    ensures given { let at = gear_side (side D.coming D.left D.faults) T.talks K.answers in
+        GivesFirst result (map at gears.old) (map at gears.new) }
     ensures logs { map (λ g. g.log) gears.new ≡ map (λ g. g.log) gears.old }
     ensures idle { All (λ g. T.is_idle g.tape) gears.old → All (λ g. T.is_idle g.tape) gears.new }
     ensures len { length gears.new ≡ length gears.old }
