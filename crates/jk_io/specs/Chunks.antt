@@ -16,6 +16,7 @@ pub record IsChunkEnd (most : ℕ) (why : Stop) (bytes : ℕ) (result : Result B
   pub ended : result ≡ Ok false → why ≡ stop.End
   pub failed : IsErrOf result file.Failed → why ≡ stop.Fault
   pub within : IsErrOf result file.Failed → bytes ≤ most
+  pub wanted : IsErrOf result file.NoMemory → why ≡ stop.NoMemory
 
 -- a chunk was read on, and added to the text
 pub record ReadsChunk (most : ℕ) (before after : Moment) (text now : List ℕ) (result : Result Bool FileError) : Type 0 where
@@ -27,3 +28,4 @@ pub record ReadsChunk (most : ℕ) (before after : Moment) (text now : List ℕ)
   pub failed : IsErrOf result file.Failed → Rose before.faults after.faults
   pub no_fewer : before.faults ≤ after.faults
   pub steady : IsOk result → after.faults ≡ before.faults
+  pub wanted : IsErrOf result file.NoMemory → after.faults ≡ before.faults

@@ -2,7 +2,7 @@
 -- when a count of faults rose. An untold meaning is None, and each equation here then says nothing.
 use Rattle.std.specs.Prelude.{◌≡◌, ℕ, ◌+◌, ◌≤◌, min, List, [], ◌++◌, Option, Some, None, IfSome, Result, IsErrOf}
 use Rattle.jk_io.specs.declared.failures.IoError.{IoError}
-use Rattle.jk_io.specs.declared.failures.IoError.TheVariants.{Failed}
+use Rattle.jk_io.specs.declared.failures.IoError.TheVariants.{Failed, NoMemory}
 
 -- what is told after `more` was added at the end
 abbrev pub appended : {T : Type 0} → Option (List T) → List T → Option (List T)
@@ -22,10 +22,11 @@ IsEmpty told = IfSome told (λ items. items ≡ [])
 abbrev pub Rose : ℕ → ℕ → Type 0
 Rose before now = min (before + 1) 18446744073709551615 ≤ now
 
--- the count never falls, and the call failed only where it rose
+-- the count never falls, the call failed only where it rose, and want of memory doesn't raise it
 pub record HasCause {T : Type 0} (before now : ℕ) (result : Result T IoError) : Type 0 where
   pub no_fewer : before ≤ now
   pub failed : IsErrOf result Failed → Rose before now
+  pub wanted : IsErrOf result NoMemory → now ≡ before
 
 -- a front of `piece` was added at the end, maybe all of it and maybe nothing
 pub record PutsFront {T : Type 0} (before now : Option (List T)) (piece : List T) : Type 0 where

@@ -9,6 +9,7 @@
 #![tactic(auto)]
 
 mod byte_list;
+mod client_limits;
 mod decimals;
 mod failures;
 mod list_of;
@@ -20,15 +21,16 @@ mod whole_input;
 mod writing;
 
 pub use byte_list::Bytes;
+pub use client_limits::ClientLimits;
 pub use decimals::{parse_decimal, put_decimal, trim};
 pub use failures::{FileError, IoError, NoMemory};
 pub use list_of::{ListOf, NumberList, SizeList, SizeTable};
 pub use memory::{
     ClientList, FileList, GATE_PLACES, Gate, GateLink, LinkPlan, MemDial, MemDoor, MemFiles,
-    MemLink, MemLinkList, MemReach, StepClock, TalkBook, Turn,
+    MemLink, MemLinkList, MemReach, PatientLink, StepClock, TalkBook, Turn,
 };
 pub use reaching::{Begun, Beside, Talk, TalkList};
 pub use reading::{Filled, Stop, fill};
-pub use traits::{Clock, Dial, Door, Files, Link, Meanings, Peer, Reach, Sink, Source};
+pub use traits::{Awaited, Clock, Dial, Door, Files, Link, Meanings, Peer, Reach, Sink, Source};
 pub use whole_input::{MAX_INPUT_BYTES, read_whole};
 pub use writing::{write_all, write_counted};

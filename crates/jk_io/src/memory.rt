@@ -9,6 +9,7 @@ pub(crate) mod mem_files;
 pub(crate) mod mem_link;
 pub(crate) mod mem_reach;
 pub(crate) mod member_link;
+pub(crate) mod patient_link;
 pub(crate) mod talk_book;
 
 pub use gate::{GATE_PLACES, Gate, GateLink, Turn};
@@ -19,4 +20,5 @@ pub use mem_door::{ClientList, MemDoor};
 pub use mem_files::{FileList, MemFiles};
 pub use mem_link::MemLink;
 pub use mem_reach::MemReach;
+pub use patient_link::PatientLink;
 pub use talk_book::TalkBook;

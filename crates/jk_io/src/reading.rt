@@ -30,6 +30,7 @@ pub fn fill<S: Source>(source: &mut S, buf: &mut [u8]) -> Filled
     ensures full { (result.stop ≡ Stop.Full) ↔ (result.count ≡ length buf.new) }
     ensures end { result.stop ≡ Stop.End → IsEmpty (S.incoming source.new) }
     ensures fault { result.stop ≡ Stop.Fault → Rose (S.faults source.old) (S.faults source.new) }
+    ensures wanted { result.stop ≡ Stop.NoMemory → S.faults source.new ≡ S.faults source.old }
 
     // Whatever the stop is, the bytes that came are those at the front.
     ensures gave { S.incoming source.old ≡ prepended (take result.count buf.new) (S.incoming source.new) }
@@ -61,6 +62,7 @@ pub fn fill<S: Source>(source: &mut S, buf: &mut [u8]) -> Filled
 // Why a read that is refused stops a filling.
 fn stop_of(error: IoError) -> Stop
     ensures fault { result ≡ Stop.Fault → error ≡ IoError.Failed }
+    ensures wanted { result ≡ Stop.NoMemory → error ≡ IoError.NoMemory }
     ensures refused { (result ≢ Stop.Full) × (result ≢ Stop.End) }
 {
     match error {

@@ -4,5 +4,5 @@ pub(crate) mod streams;
 pub(crate) mod surroundings;
 
 pub use reach::Reach;
-pub use streams::{Link, Meanings, Sink, Source};
+pub use streams::{Awaited, Link, Meanings, Sink, Source};
 pub use surroundings::{Clock, Dial, Door, Files, Peer};

@@ -30,6 +30,7 @@ pub fn read_whole<S: Source>(alloc: Global, source: &mut S) -> Result<Bytes, Fil
         × (length bytes ≤ MAX_INPUT_BYTES) }
     ensures no_fewer { S.faults source.old ≤ S.faults source.new }
     ensures steady { IsOk result → S.faults source.new ≡ S.faults source.old }
+    ensures wanted { IsErrOf result FileError.NoMemory → S.faults source.new ≡ S.faults source.old }
     ensures same { (S.sent source.new ≡ S.sent source.old) × (S.beside source.new ≡ S.beside source.old) }
 {
     let mut text = Bytes::new(alloc);
@@ -49,14 +50,16 @@ fn read_chunk<S: Source>(
     chunk: &mut [u8],
     text: &mut Bytes,
 ) -> Result<bool, FileError>
-    requires { 0 < length chunk.old }
+    requires some { 0 < length chunk.old }
+    requires short { length text.old ≤ MAX_INPUT_BYTES }
     ensures chunk { ReadsChunk MAX_INPUT_BYTES (moment S.incoming S.received S.sent S.faults source.old)
         (moment S.incoming S.received S.sent S.faults source.new) text.old text.new result }
     ensures beside { S.beside source.new ≡ S.beside source.old }
 {
     let filled = fill(source, chunk);
+    let goes_on = answer_of(filled.stop, text.len() + filled.count)?;
     text.extend(&chunk[..filled.count])?;
-    answer_of(filled.stop, text.len())
+    Ok(goes_on)
 }
 
 // What is answered at a chunk's stop, where the text has `bytes` bytes then.

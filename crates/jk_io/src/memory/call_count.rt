@@ -22,6 +22,17 @@ impl CallCount {
         }
     }
 
+    /// Counts a call, and says whether it is one of those that are to fail, numbered from 0. It doesn't fail yet.
+    pub(crate) fn is_planned(&mut self, failing: &NumberList) -> bool
+        ensures counted { self.new.calls ≡ counted self.old.calls }
+        ensures planned { IsTrue result ↔ Contains failing.now self.old.calls }
+        ensures same { self.new.failed ≡ self.old.failed }
+    {
+        let planned = failing.as_slice().contains(&self.calls);
+        self.calls = self.calls.saturating_add(1);
+        planned
+    }
+
     /// Counts a call, and says whether it is one of those that are to fail, numbered from 0.
     pub(crate) fn fails(&mut self, failing: &NumberList) -> bool
         ensures counted { self.new.calls ≡ counted self.old.calls }
@@ -30,8 +41,7 @@ impl CallCount {
         ensures no_fewer { self.old.failed ≤ self.new.failed }
         ensures same { result ≡ false → self.new.failed ≡ self.old.failed }
     {
-        let fails = failing.as_slice().contains(&self.calls);
-        self.calls = self.calls.saturating_add(1);
+        let fails = self.is_planned(failing);
         if fails {
             self.fail();
         }

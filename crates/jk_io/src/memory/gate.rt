@@ -144,4 +144,6 @@ impl<'g, 'r, L: Link + Drop, R: Wait + Clock> Sink for GateLink<'g, 'r, L, R> {
     }
 }
 
-impl<'g, 'r, L: Link + Drop, R: Wait + Clock> Link for GateLink<'g, 'r, L, R> {}
+impl<'g, 'r, L: Link + Drop, R: Wait + Clock> Link for GateLink<'g, 'r, L, R> {
+    ghost may_wait = { L.may_wait };
+}

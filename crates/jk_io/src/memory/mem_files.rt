@@ -65,6 +65,7 @@ impl Files for MemFiles {
         ensures too_long { IsErrOf result FileError.TooLong → IsSomeAnd (content_of self.old.files name.now) (λ bytes. MAX_INPUT_BYTES < length bytes) }
         ensures failed { IsErrOf result FileError.Failed → Rose self.old.faults self.new.faults }
         ensures no_fewer { self.old.faults ≤ self.new.faults }
+        ensures calm { (IsErrOf result FileError.Failed → ⊥) → self.new.faults ≡ self.old.faults }
         ensures same { (self.new.files ≡ self.old.files) × (self.new.failing ≡ self.old.failing) }
 
         // It fails exactly at the reads that it was told to fail, and at a name that no file has.

@@ -314,4 +314,8 @@ impl Sink for MemLink {
     }
 }
 
-impl Link for MemLink {}
+impl Link for MemLink {
+    ghost use Rattle.std.specs.Prelude.{false};
+
+    ghost may_wait = { false };
+}

@@ -211,25 +211,30 @@ impl MemReach {
     // Counts a begin, and says whether it is to fail.
     fn begin_fails(&mut self) -> bool
         ensures planned { IsTrue result ↔ Contains self.old.failing self.old.calls }
-        ensures rose { result ≡ true → Rose self.old.faults self.new.faults }
-        ensures no_fewer { self.old.faults ≤ self.new.faults }
-        ensures steady { result ≡ false → self.new.faults ≡ self.old.faults }
-        ensures same { self.new ≡ record self.old { calls = counted self.old.calls; faults = self.new.faults } }
+        ensures same { self.new ≡ record self.old { calls = counted self.old.calls } }
         ensures empty { self.new.book.begun ≡ None → (self.new.book.sent ≡ []) × (self.new.book.received ≡ []) }
     {
-        self.begins.fails(&self.failing)
+        self.begins.is_planned(&self.failing)
     }
 
-    // Notes a talk that never began, and answers how its begin is refused.
+    // Notes a talk that never began, counts that its begin failed, and answers how it is refused. Where there is no memory
+    // for the note nothing failed.
     fn refuse(&mut self, asked: Asked<'_>) -> IoError
         requires idle { self.old.book.begun ≡ None }
+        ensures rose { result ≡ IoError.Failed → Rose self.old.faults self.new.faults }
+        ensures no_fewer { self.old.faults ≤ self.new.faults }
+        ensures calm { result ≡ IoError.NoMemory → self.new.faults ≡ self.old.faults }
         ensures failed { result ≡ IoError.Failed → self.new.book.talks
             ≡ self.old.book.talks ++ failed_talk asked.entry.lb asked.entry.member asked.entry.host.now asked.entry.port asked.entry.fresh ∷ [] }
         ensures wanted { result ≡ IoError.NoMemory → self.new.book.talks ≡ self.old.book.talks }
         ensures idle { (self.new.book.begun ≡ None) × (self.new.book.sent ≡ []) × (self.new.book.received ≡ []) }
-        ensures same { self.new ≡ record self.old { book = self.new.book } }
+        ensures same { self.new ≡ record self.old { book = self.new.book; faults = self.new.faults } }
     {
-        note_failed(&mut self.book, asked)
+        let error = note_failed(&mut self.book, asked);
+        if let IoError::Failed = error {
+            self.begins.fail();
+        }
+        error
     }
 
     // Begins a talk over the kept link at a place.
@@ -483,7 +488,11 @@ impl Sink for MemReach {
     }
 }
 
-impl Link for MemReach {}
+impl Link for MemReach {
+    ghost use Rattle.std.specs.Prelude.{false};
+
+    ghost may_wait = { false };
+}
 
 impl Reach for MemReach {
     ghost use Rattle.std.specs.Prelude.{refl};

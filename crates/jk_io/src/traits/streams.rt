@@ -65,7 +65,66 @@ pub trait Sink: Meanings {
             × (Self.beside self.new ≡ Self.beside self.old) }
         ensures cause { HasCause (Self.faults self.old) (Self.faults self.new) result }
         ensures steady { IsOk result → Self.faults self.new ≡ Self.faults self.old };
+
+    /// Sees to it that all that was taken goes out. After Ok it did, as far as the object can tell. What holds nothing back
+    /// has nothing to do.
+    fn flush(&mut self) -> Result<(), IoError>
+        ensures same_sent { Self.sent self.new ≡ Self.sent self.old }
+        ensures same { (Self.incoming self.new ≡ Self.incoming self.old) × (Self.received self.new ≡ Self.received self.old)
+            × (Self.beside self.new ≡ Self.beside self.old) }
+        ensures cause { HasCause (Self.faults self.old) (Self.faults self.new) result }
+        ensures steady { IsOk result → Self.faults self.new ≡ Self.faults self.old }
+    {
+        Ok(())
+    }
+}
+
+/// What is waited for next on a link, with the milliseconds after which the wait fails; 0 is without limit. A client's
+/// link has its own limits.
+#[derive(Clone, Copy, Debug, PartialEq, Eq)]
+pub enum Awaited {
+    /// A link that is dialled; `keepalive`: the system is to see whether its other end is still there.
+    Link { millis: u64, keepalive: bool },
+    /// A container's CPong.
+    Pong { millis: u64 },
+    /// A container's next message.
+    Reply { millis: u64 },
+    /// More of a request's body.
+    Body,
+    /// A client's next request.
+    Client,
 }
 
 /// A stream both ways, such as one end of a connection.
-pub trait Link: Source + Sink {}
+pub trait Link: Source + Sink {
+    // a read may ever wait; where it is false none does
+    ghost may_wait: { Bool } = { true };
+
+    /// Whether the next read would wait, as far as can be seen without waiting. A link in memory has all its bytes at
+    /// hand, and says no.
+    fn waits(&mut self) -> bool
+        ensures said { result ≡ true → Self.may_wait ≡ true }
+        ensures same_bytes { (Self.incoming self.new ≡ Self.incoming self.old) × (Self.received self.new ≡ Self.received self.old)
+            × (Self.sent self.new ≡ Self.sent self.old) }
+        ensures same { (Self.beside self.new ≡ Self.beside self.old) × (Self.faults self.new ≡ Self.faults self.old) }
+    {
+        false
+    }
+
+    /// Is told what is waited for next. A read, a write or a dial that then waits longer fails.
+    fn await_next(&mut self, _what: Awaited)
+        ensures same_bytes { (Self.incoming self.new ≡ Self.incoming self.old) × (Self.received self.new ≡ Self.received self.old)
+            × (Self.sent self.new ≡ Self.sent self.old) }
+        ensures same { (Self.beside self.new ≡ Self.beside self.old) × (Self.faults self.new ≡ Self.faults self.old) }
+    {}
+
+    /// Whether no byte is there to read and the other end didn't close, as far as can be seen without waiting. A link
+    /// that isn't quiet serves no other talk.
+    fn is_quiet(&mut self) -> bool
+        ensures same_bytes { (Self.incoming self.new ≡ Self.incoming self.old) × (Self.received self.new ≡ Self.received self.old)
+            × (Self.sent self.new ≡ Self.sent self.old) }
+        ensures same { (Self.beside self.new ≡ Self.beside self.old) × (Self.faults self.new ≡ Self.faults self.old) }
+    {
+        true
+    }
+}

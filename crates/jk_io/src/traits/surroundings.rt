@@ -30,6 +30,7 @@ pub trait Files {
             → IfSome (files self.old) (λ all. IsSomeAnd (content_of all name.now) (λ bytes. MAX_INPUT_BYTES < length bytes)) }
         ensures failed { IsErrOf result FileError.Failed → Rose (faults self.old) (faults self.new) }
         ensures no_fewer { faults self.old ≤ faults self.new }
+        ensures calm { (IsErrOf result FileError.Failed → ⊥) → faults self.new ≡ faults self.old }
         ensures same { files self.new ≡ files self.old };
 }
 
@@ -55,6 +56,12 @@ pub trait Dial {
         ensures gave { IfOk result (λ link. gives self.old host.now port link self.new) }
         ensures clean { IsOk result → faults self.new ≡ faults self.old }
         ensures cause { HasCause (faults self.old) (faults self.new) result };
+
+    /// Is told after how many milliseconds the next dials fail, where 0 is without limit, and whether the system is to see
+    /// whether the other ends of their links are still there. In memory nothing waits.
+    fn await_dial(&mut self, _millis: u64, _keepalive: bool)
+        ensures { faults self.new ≡ faults self.old }
+    {}
 
     /// Is told that a link, which another worker's dial may have made, serves this dial's worker from now on. Only the
     /// real thing has a use for it.

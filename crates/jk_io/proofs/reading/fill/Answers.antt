@@ -23,6 +23,9 @@ returns-in-Err-clause-end g c = λ is. absurd (c.stop_of.ensures.refused.1 is)
 pub returns-in-Err-clause-fault : goal.returns-in-Err-clause-fault
 returns-in-Err-clause-fault g c = λ is. rw c.loop-count.invariant.steady at c.in-Err.ensures.cause.failed (ap Err (c.stop_of.ensures.fault is))
 
+pub returns-in-Err-clause-wanted : goal.returns-in-Err-clause-wanted
+returns-in-Err-clause-wanted g c = λ is. c.in-Err.ensures.cause.wanted (ap Err (c.stop_of.ensures.wanted is)) ∙ c.loop-count.invariant.steady
+
 pub returns-in-Err-clause-steady : goal.returns-in-Err-clause-steady
 returns-in-Err-clause-steady g c = elim [
   | inl full ↦ absurd (c.stop_of.ensures.refused.0 full)

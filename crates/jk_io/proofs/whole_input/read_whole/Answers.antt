@@ -1,6 +1,6 @@
 -- What read_whole has read: the text and a last chunk.
 use Rattle.std.proofs.Common.{◌≡◌, ◌∙◌, Ok, Err, refl, ap}
-use Rattle.jk_io.specs.declared.failures.FileError.TheVariants.{Failed, TooLong}
+use Rattle.jk_io.specs.declared.failures.FileError.TheVariants.{Failed, TooLong, NoMemory}
 use Rattle.jk_io.proofs.ChunkLaws.{kept_some}
 use Rattle.jk_io.proofs.ReadLaws.{HasRead-append, HasRead-added}
 use Rattle.jk_io.proofs.whole_input.read_whole.Goals as goal
@@ -37,6 +37,7 @@ returns-in-Err g c =
       failed = λ failed. let same : c.in-Err.error ≡ Failed = cc in rw before.steady at last.failed (ap Err same);
       no_fewer = rw before.steady at last.no_fewer;
       steady = λ is. cc;
+      wanted = λ is. let same : c.in-Err.error ≡ NoMemory = cc in last.wanted (ap Err same) ∙ before.steady;
       same = (last.sent ∙ before.sent, c.in-Err.ensures.beside ∙ before.beside);
     }
 
@@ -52,5 +53,6 @@ returns-in-Ok-false g c =
       failed = λ is. cc;
       no_fewer = rw before.steady at last.no_fewer;
       steady = λ _. last.steady refl ∙ before.steady;
+      wanted = λ is. cc;
       same = (last.sent ∙ before.sent, c.in-Ok-false.ensures.beside ∙ before.beside);
     }

@@ -39,6 +39,7 @@ pub returns-then-fails-clause-cause : goal.returns-then-fails-clause-cause
 returns-then-fails-clause-cause g c = record {
   no_fewer = subst (λ (d : MemDoorState _). d.faults ≤ c.fails.new.self.failed) c.self.view_is c.fails.ensures.no_fewer;
   failed = λ _. subst (λ (d : MemDoorState _). Rose d.faults c.fails.new.self.failed) c.self.view_is (c.fails.ensures.rose c.if-fails.true);
+  wanted = λ is. cc;
 }
 
 pub returns-then-fails-clause-steady : goal.returns-then-fails-clause-steady
