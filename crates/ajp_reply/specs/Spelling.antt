@@ -6,7 +6,6 @@ use Rattle.ajp_wire.specs.Packet.{FitsPacket}
 use Rattle.ajp_reply.specs.declared.message.Message.{Message}
 use Rattle.ajp_reply.specs.declared.message.Message.TheVariants.{Headers, Chunk, End, Ask, Pong}
 use Rattle.ajp_reply.specs.declared.message.ReplyParts.{ReplyParts}
-use Rattle.ajp_wire.specs.declared.head_pairs.TheConstants.{MAX_HEADERS}
 
 -- The names of a reply's headers that have a code: the first has A001, and the others follow in order.
 abbrev pub reply_names : List (List ℕ)
@@ -22,7 +21,7 @@ pub record SpellsHead (parts : ReplyParts) (payload : List ℕ) : Type 0 where
   pub whole : payload ≡ 4 ∷ int parts.status ++ (message ++ (int (length parts.headers) ++ headers))
   pub status : parts.status < 65536
   pub text : SpellsText true parts.message message
-  pub few : length parts.headers ≤ MAX_HEADERS
+  pub few : length parts.headers ≤ 100
   pub each : SpellsHeaders reply_names true parts.headers headers
 
 -- Send Body Chunk: 03, the length, and the bytes, with a zero byte after them or without.
@@ -68,7 +67,7 @@ pub record Fits (most : ℕ) (message : Message) : Type 0 where
 
 -- A message of the program: numbers are those of a u16, and at most 100 headers are there.
 abbrev pub IsMessage : Message → Type 0
-IsMessage (Headers parts) = (parts.status < 65536) × (length parts.headers ≤ MAX_HEADERS)
+IsMessage (Headers parts) = (parts.status < 65536) × (length parts.headers ≤ 100)
 IsMessage (Chunk bytes) = Unit {0}
 IsMessage (End reuse) = Unit {0}
 IsMessage (Ask most) = most < 65536

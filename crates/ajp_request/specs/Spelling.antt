@@ -7,7 +7,6 @@ use Rattle.ajp_request.specs.declared.attribute.Attribute.{Attribute}
 use Rattle.ajp_request.specs.declared.attribute.Attribute.TheVariants.{Plain, Named, KeySize}
 use Rattle.ajp_request.specs.declared.forward.Forward.{Forward}
 use Rattle.ajp_request.specs.Tables.{methods, header_names, is_plain}
-use Rattle.ajp_wire.specs.declared.head_pairs.TheConstants.{MAX_HEADERS}
 
 -- A boolean is a byte.
 abbrev pub boolean : Bool → List ℕ
@@ -65,7 +64,7 @@ pub record SpellsForward (forward : Forward) (payload : List ℕ) : Type 0 where
   pub spells_remote_host : SpellsText true forward.remote_host remote_host
   pub spells_server : SpellsText false forward.server server
   pub fits_port : forward.port < 65536
-  pub few_headers : length forward.headers ≤ MAX_HEADERS
+  pub few_headers : length forward.headers ≤ 100
   pub spells_headers : SpellsHeaders header_names false forward.headers headers
   pub spells_attributes : SpellsAttributes written attributes
   pub whole : payload ≡ 2 ∷ method_byte ∷ (protocol ++ (uri ++ (remote_addr ++ (remote_host ++ (server

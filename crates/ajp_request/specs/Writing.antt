@@ -9,7 +9,6 @@ use Rattle.ajp_request.specs.declared.attribute.Attribute.TheVariants.{Plain, Na
 use Rattle.ajp_request.specs.declared.forward.Forward.{Forward}
 use Rattle.ajp_request.specs.Tables.{method_code, header_names, is_plain}
 use Rattle.ajp_request.specs.Spelling.{boolean, stored_method}
-use Rattle.ajp_wire.specs.declared.head_pairs.TheConstants.{MAX_HEADERS}
 
 abbrev pub attribute_bytes : Attribute → List ℕ
 attribute_bytes (Plain code text) = code ∷ string text
@@ -74,7 +73,7 @@ IsAttribute (KeySize size) = size < 65536
 -- A request of the program.
 pub record IsForward (forward : Forward) : Type 0 where
   pub port : forward.port < 65536
-  pub few_headers : length forward.headers ≤ MAX_HEADERS
+  pub few_headers : length forward.headers ≤ 100
   pub attributes : AllByRecursion IsAttribute forward.attributes
 
 abbrev pub FitsAttribute : Attribute → Type 0

@@ -81,6 +81,15 @@ says_fault (TooLong count) = false
 says_fault (Fault count) = true
 says_fault (NoMemory count) = false
 
+-- No read of the link failed, as an answer says. Where the bytes begin no packet, one after them may have.
+abbrev pub says_calm : PacketError → Bool
+says_calm (End count) = true
+says_calm (Short count) = true
+says_calm (BadMagic count) = false
+says_calm (TooLong count) = true
+says_calm (Fault count) = false
+says_calm (NoMemory count) = true
+
 -- How many bytes an answer says that came.
 abbrev pub count_of : Result (List ℕ) PacketError → ℕ
 count_of (Ok payload) = length payload + 4
@@ -107,6 +116,14 @@ pub record ReadsPacket (from_container : Bool) (most : ℕ) (result : Result (Li
   pub came : HasCome before after bytes
   pub are : CameAs from_container most result bytes
   pub counted : count_of result ≡ length bytes
+
+-- More bytes than the length of a payload can say.
+abbrev pub IsLongPayload : List ℕ → Type 0
+IsLongPayload payload = 65535 < length payload
+
+-- More data than a body packet has: the greatest packet has 65,536 bytes, and 6 of them stand before the data.
+abbrev pub IsLongPiece : List ℕ → Type 0
+IsLongPiece piece = 65530 < length piece
 
 -- The payload of a body packet: nothing where there is no more body, else its length and its bytes.
 abbrev pub body_payload : List ℕ → List ℕ

@@ -8,7 +8,6 @@ use Rattle.ajp_wire.specs.declared.errors.DecodeError.TheVariants as errors
 use Rattle.ajp_wire.specs.declared.refusal.Refusal.{Refusal}
 use Rattle.ajp_wire.specs.declared.refusal.NotRead.{NotRead}
 use Rattle.ajp_wire.specs.declared.refusal.NotRead.TheVariants as why
-use Rattle.ajp_wire.specs.declared.head_pairs.TheConstants.{MAX_HEADERS}
 
 -- a field that was read, and the bytes after it; or the refusal
 abbrev pub Reading : Type 0 → Type 0
@@ -122,4 +121,4 @@ header_list_at table absent_names (suc n) bytes = do
 unfoldable pub headers_at : List (List ℕ) → Bool → List ℕ → Reading (List (List ℕ × List ℕ))
 headers_at table absent_names bytes = do
   count ← int_at bytes
-  if nat_lt MAX_HEADERS count.0 then refused TooMany bytes else header_list_at table absent_names count.0 count.1
+  if nat_lt 100 count.0 then refused TooMany bytes else header_list_at table absent_names count.0 count.1

@@ -9,6 +9,10 @@ int n = n / 256 ∷ n % 256 ∷ []
 abbrev pub string : List ℕ → List ℕ
 string text = int (length text) ++ (text ++ 0 ∷ [])
 
+-- More bytes than a string has.
+abbrev pub IsLongString : List ℕ → Type 0
+IsLongString text = 65534 < length text
+
 -- No string at all: the length 65,535, and nothing after it.
 abbrev pub absent : List ℕ
 absent = 255 ∷ 255 ∷ []

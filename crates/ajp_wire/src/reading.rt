@@ -1,9 +1,9 @@
 //! One packet at a time from a link.
 
-ghost use Rattle.std.specs.Prelude.{◌≡◌, ◌↔◌, ℕ, ◌+◌, ◌≤◌, ◌<◌, List, [], length, IsOk, IsErr, IfOk, IfErr, IsTrue};
+ghost use Rattle.std.specs.Prelude.{◌≡◌, ◌≢◌, ◌↔◌, ℕ, ◌+◌, ◌≤◌, ◌<◌, List, [], length, IsOk, IsErr, IfOk, IfErr, IsTrue};
 ghost use Rattle.ajp_wire.specs.Moments.{link_at};
 ghost use Rattle.jk_io.specs.Told.{IsEmpty, Rose};
-ghost use Rattle.ajp_wire.specs.Packet.{HasCome, ReadsPacket, read_into, says_end, says_fault};
+ghost use Rattle.ajp_wire.specs.Packet.{HasCome, ReadsPacket, read_into, says_end, says_fault, says_calm};
 ghost use Rattle.ajp_wire.specs.Head.{begins_packet as begins, HeadCameAs, PayloadCameAs};
 
 use crate::errors::PacketError;
@@ -25,6 +25,7 @@ pub fn read_packet<L: Link>(
     ensures fault { IfErr result (λ error. IsTrue (says_fault error) → Rose (L.faults line.old) (L.faults line.new)) }
     ensures no_fewer { L.faults line.old ≤ L.faults line.new }
     ensures steady { IsOk result → L.faults line.new ≡ L.faults line.old }
+    ensures calm { IfErr result (λ error. IsTrue (says_calm error) → L.faults line.new ≡ L.faults line.old) }
     ensures same { (L.sent line.new ≡ L.sent line.old) × (L.beside line.new ≡ L.beside line.old) }
 {
     let mut payload = Vec::new(alloc);
@@ -48,6 +49,7 @@ pub fn read_packet_into<L: Link>(
     ensures fault { IfErr result (λ error. IsTrue (says_fault error) → Rose (L.faults line.old) (L.faults line.new)) }
     ensures no_fewer { L.faults line.old ≤ L.faults line.new }
     ensures steady { IsOk result → L.faults line.new ≡ L.faults line.old }
+    ensures calm { IfErr result (λ error. IsTrue (says_calm error) → L.faults line.new ≡ L.faults line.old) }
     ensures same { (L.sent line.new ≡ L.sent line.old) × (L.beside line.new ≡ L.beside line.old) }
 {
     match read_over(line, from_container, most, payload) {
@@ -71,6 +73,7 @@ fn read_over<L: Link>(
     ensures fault { IfErr result (λ error. IsTrue (says_fault error) → Rose (L.faults line.old) (L.faults line.new)) }
     ensures no_fewer { L.faults line.old ≤ L.faults line.new }
     ensures steady { IsOk result → L.faults line.new ≡ L.faults line.old }
+    ensures calm { IfErr result (λ error. IsTrue (says_calm error) → L.faults line.new ≡ L.faults line.old) }
     ensures same { (L.sent line.new ≡ L.sent line.old) × (L.beside line.new ≡ L.beside line.old) }
 {
     let size = read_head(line, from_container, most)?;
@@ -84,6 +87,7 @@ fn read_head<L: Link>(line: &mut L, from_container: bool, most: u32) -> Result<u
     ensures fault { IfErr result (λ error. IsTrue (says_fault error) → Rose (L.faults line.old) (L.faults line.new)) }
     ensures no_fewer { L.faults line.old ≤ L.faults line.new }
     ensures steady { IsOk result → L.faults line.new ≡ L.faults line.old }
+    ensures calm { IfErr result (λ error. IsTrue (says_calm error) → L.faults line.new ≡ L.faults line.old) }
     ensures same { (L.sent line.new ≡ L.sent line.old) × (L.beside line.new ≡ L.beside line.old) }
 {
     let mut head = [0u8; HEAD_BYTES];
@@ -99,6 +103,7 @@ fn judge_head(came: &[u8], stop: Stop, from_container: bool, most: u32) -> Resul
     ensures end { IfErr result (λ error. IsTrue (says_end error) → stop ≡ Stop.End) }
     ensures fault { IfErr result (λ error. IsTrue (says_fault error) → stop ≡ Stop.Fault) }
     ensures whole { IsOk result → stop ≡ Stop.Full }
+    ensures calm { IfErr result (λ error. IsTrue (says_calm error) → stop ≢ Stop.Fault) }
 {
     let read = came.len() as u32;
     if !begins_packet(came, from_container) {
@@ -157,6 +162,7 @@ fn read_payload<L: Link>(line: &mut L, size: u16, payload: &mut Vec<u8>) -> Resu
     ensures fault { IfErr result (λ error. IsTrue (says_fault error) → Rose (L.faults line.old) (L.faults line.new)) }
     ensures no_fewer { L.faults line.old ≤ L.faults line.new }
     ensures steady { IsOk result → L.faults line.new ≡ L.faults line.old }
+    ensures calm { IfErr result (λ error. IsTrue (says_calm error) → L.faults line.new ≡ L.faults line.old) }
     ensures same { (L.sent line.new ≡ L.sent line.old) × (L.beside line.new ≡ L.beside line.old) }
 {
     if size == 0 {

@@ -1,8 +1,8 @@
 //! Integers, strings and packets as they are written.
 
 ghost use Rattle.std.specs.Prelude.{◌≡◌, ℕ, ◌+◌, ◌<◌, ◌↔◌, List, ◌++◌, length, not, OnOk, OnErr, IfOk};
-ghost use Rattle.ajp_wire.specs.Spelling.{int, string};
-ghost use Rattle.ajp_wire.specs.Packet.{head, packet, body_packet as body_packet_of};
+ghost use Rattle.ajp_wire.specs.Spelling.{int, string, IsLongString};
+ghost use Rattle.ajp_wire.specs.Packet.{head, packet, body_packet as body_packet_of, IsLongPayload, IsLongPiece};
 
 use crate::errors::WireError;
 use jk_io::{Bytes, NoMemory};
@@ -37,7 +37,7 @@ pub fn put_int(out: &mut Bytes, n: u16) -> Result<(), NoMemory>
 /// Adds a string at the end. After a refusal nothing was added.
 pub fn put_string(out: &mut Bytes, text: &[u8]) -> Result<(), WireError>
     ensures ok { OnOk result (out.new ≡ out.old ++ string text.now) }
-    ensures too_long { (result ≡ Err WireError.TooLong) ↔ (MAX_STRING_BYTES < length text.now) }
+    ensures too_long { (result ≡ Err WireError.TooLong) ↔ IsLongString text.now }
     ensures err { OnErr result (out.new ≡ out.old) }
 {
     if text.len() > MAX_STRING_BYTES {
@@ -80,7 +80,7 @@ pub fn put_head(out: &mut Bytes, from_container: bool, size: u16) -> Result<(), 
 /// The packet of a payload.
 pub fn seal(alloc: Global, payload: Bytes, to_container: bool) -> Result<Bytes, WireError>
     ensures ok { IfOk result (λ bytes. bytes ≡ packet (not to_container) payload) }
-    ensures too_long { (result ≡ Err WireError.TooLong) ↔ (MAX_PAYLOAD_BYTES < length payload) }
+    ensures too_long { (result ≡ Err WireError.TooLong) ↔ IsLongPayload payload }
 {
     if payload.len() > MAX_PAYLOAD_BYTES {
         return Err(WireError::TooLong);
@@ -94,7 +94,7 @@ pub fn seal(alloc: Global, payload: Bytes, to_container: bool) -> Result<Bytes, 
 /// The packet to the container with a piece of a request's body. No bytes mean that nothing is left.
 pub fn body_packet(alloc: Global, piece: &[u8]) -> Result<Bytes, WireError>
     ensures ok { IfOk result (λ bytes. bytes ≡ body_packet_of piece.now) }
-    ensures too_long { (result ≡ Err WireError.TooLong) ↔ (MAX_PIECE_BYTES < length piece.now) }
+    ensures too_long { (result ≡ Err WireError.TooLong) ↔ IsLongPiece piece.now }
 {
     if piece.len() > MAX_PIECE_BYTES {
         return Err(WireError::TooLong);

@@ -5,7 +5,7 @@ use Rattle.std.proofs.lemmas.Bool.{eqb-true}
 use Rattle.jk_io.specs.Told.{prepended, IsEmpty}
 use Rattle.jk_io.specs.declared.failures.IoError.{IoError}
 use Rattle.jk_io.specs.declared.failures.IoError.TheVariants as io
-use Rattle.http_body_in.specs.Faults.{IsByBytes, fault_of}
+use Rattle.http_body_in.specs.Faults.{IsNoFailure, fault_of}
 use Rattle.http_body_in.specs.declared.fault.BodyFault.{BodyFault}
 use Rattle.http_body_in.specs.declared.fault.BodyFault.TheVariants as fault
 
@@ -35,6 +35,7 @@ pub failed_as : (e : IoError) (why : BodyFault) → why ≡ fault_of e → why �
 failed_as io.Failed why is told = refl
 failed_as io.NoMemory why is told = absurd cc
 
-pub not_calm : (e : IoError) (why : BodyFault) → why ≡ fault_of e → IsByBytes why → ⊥
-not_calm io.Failed why is calm = subst (λ (w : BodyFault). IsByBytes w) is calm
-not_calm io.NoMemory why is calm = subst (λ (w : BodyFault). IsByBytes w) is calm
+-- a read that was refused and didn't fail wanted memory
+pub wanted_as : (e : IoError) (why : BodyFault) → why ≡ fault_of e → IsNoFailure why → e ≡ io.NoMemory
+wanted_as io.Failed why is calm = absurd (subst (λ (w : BodyFault). IsNoFailure w) is calm)
+wanted_as io.NoMemory why is calm = refl

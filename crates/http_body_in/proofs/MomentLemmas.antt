@@ -2,7 +2,7 @@
 use Rattle.std.proofs.Common.{◌≡◌, ℕ, ◌≤◌, false, List, [], Option, Some, None, IfSome, length, refl, sym, ap, subst, ◌∙◌, arith}
 use Rattle.jk_io.specs.Told.{Rose}
 use Rattle.jk_io.proofs.ToldLaws.{prepended-nil}
-use Rattle.http_body_in.specs.Faults.{IsByBytes}
+use Rattle.http_body_in.specs.Faults.{IsNoFailure}
 use Rattle.http_body_in.specs.State.{place_of, taken_of, most_of, failed_of}
 use Rattle.http_body_in.specs.Takes.{BodyMoment, unread_at, decides, TakesPiece, PassesRest, MeetsFault}
 use Rattle.http_body_in.specs.Walks.{Walks, Passes, Fails, Breaks, is_reached, counted}
@@ -65,7 +65,7 @@ pub record Breaking (b a : BodyMoment) (why : BodyFault) : Type 0 where
   pub taken : taken_of a.body ≡ taken_of b.body
   pub place : place_of a.body ≡ place_of b.body
   pub fault : why ≡ faults.Fault → Rose b.client.faults a.client.faults
-  pub steady : IsByBytes why → a.client.faults ≡ b.client.faults
+  pub steady : IsNoFailure why → a.client.faults ≡ b.client.faults
   pub no_fewer : b.client.faults ≤ a.client.faults
 
 first-fault : (o : Option BodyFault) (P : BodyFault → Type 0) → o ≡ None → IfSome o P

@@ -12,7 +12,6 @@ use Rattle.http_body_in.specs.Places.{start_of, is_whole}
 use Rattle.http_body_in.specs.declared.place.Place.{Place}
 use Rattle.http_body_in.specs.declared.place.Place.TheVariants as at
 use Rattle.http_front.specs.declared.head.BodyPlan.TheVariants as plan
-use Rattle.http_body_in.specs.declared.place.TheConstants.{MAX_SIZE_DIGITS, MAX_EXTENSION_BYTES, MAX_TRAILER_BYTES}
 
 -- CR LF
 abbrev pub line_end : List ℕ
@@ -33,7 +32,7 @@ is_inner b = not (b == 13) && not (b == 10)
 -- chunk-size
 pub record IsSize (digits : List ℕ) (n : ℕ) : Type 0 where
   pub some : 0 < length digits
-  pub few : length digits ≤ MAX_SIZE_DIGITS
+  pub few : length digits ≤ 10
   pub hexadecimal : list_all is_hexadecimal digits ≡ true
   pub value : written_from 0 digits ≡ n
 
@@ -44,7 +43,7 @@ extension_bytes (Some text) = 59 ∷ text
 
 abbrev pub IsExtension : Option (List ℕ) → Type 0
 IsExtension None = ⊤
-IsExtension (Some text) = (length text ≤ MAX_EXTENSION_BYTES) × (list_all is_inner text ≡ true)
+IsExtension (Some text) = (length text ≤ 256) × (list_all is_inner text ≡ true)
 
 -- chunk-size [ chunk-ext ] CRLF
 abbrev pub size_line : List ℕ → Option (List ℕ) → List ℕ
@@ -87,7 +86,7 @@ pub record IsChunkedBody (b : ChunkedBody) : Type 0 where
   pub last : IsSize b.last 0
   pub extension : IsExtension b.extension
   pub trailer : AllByRecursion IsTrailerLine b.trailer
-  pub short : length (trailer_bytes b.trailer) ≤ MAX_TRAILER_BYTES
+  pub short : length (trailer_bytes b.trailer) ≤ 16384
 
 abbrev pub spelled : ChunkedBody → List ℕ
 spelled b = flat_map chunk_bytes b.chunks ++ (size_line b.last b.extension ++ (trailer_bytes b.trailer ++ line_end))

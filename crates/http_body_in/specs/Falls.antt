@@ -1,13 +1,12 @@
 -- Why a walk over the framing ends: at most this many bytes stand before the next byte of data, or the end.
 use Rattle.std.specs.Prelude.{ℕ, zero, suc, ◌+◌, ◌-◌, ◌*◌}
 use Rattle.http_body_in.specs.declared.place.Place.{Place}
-use Rattle.http_body_in.specs.declared.place.TheConstants.{MAX_SIZE_DIGITS, MAX_EXTENSION_BYTES}
 use Rattle.http_body_in.specs.declared.place.Place.TheVariants as at
 
 abbrev pub framing_left : Place → ℕ
 framing_left (at.Exact n) = 0
-framing_left (at.Digits count size) = 33030 + (MAX_SIZE_DIGITS - count)
-framing_left (at.Extension size count) = 32772 + (MAX_EXTENSION_BYTES - count)
+framing_left (at.Digits count size) = 33030 + (10 - count)
+framing_left (at.Extension size count) = 32772 + (256 - count)
 framing_left (at.LineFeed size) = 32771
 framing_left (at.Chunk zero) = 33042
 framing_left (at.Chunk (suc left)) = 0

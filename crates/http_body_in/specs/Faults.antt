@@ -10,15 +10,15 @@ abbrev pub fault_of : IoError → BodyFault
 fault_of io.Failed = fault.Fault
 fault_of io.NoMemory = fault.NoMemory
 
--- the client's bytes alone are the cause
-abbrev pub IsByBytes : BodyFault → Type 0
-IsByBytes fault.Truncated = ⊤
-IsByBytes fault.BadChunk = ⊤
-IsByBytes fault.TooLong = ⊤
-IsByBytes fault.Fault = ⊥
-IsByBytes fault.NoMemory = ⊥
+-- no read failed: the client's bytes alone are the cause, or memory was wanted
+abbrev pub IsNoFailure : BodyFault → Type 0
+IsNoFailure fault.Truncated = ⊤
+IsNoFailure fault.BadChunk = ⊤
+IsNoFailure fault.TooLong = ⊤
+IsNoFailure fault.Fault = ⊥
+IsNoFailure fault.NoMemory = ⊤
 
--- the answer is by the client's bytes alone, so that no read failed
+-- the answer tells of no read that failed
 abbrev pub IsCalm : {T : Type 0} → Result T BodyFault → Type 0
 IsCalm (Ok value) = ⊤
-IsCalm (Err why) = IsByBytes why
+IsCalm (Err why) = IsNoFailure why

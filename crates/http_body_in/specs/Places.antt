@@ -7,7 +7,6 @@ use Rattle.http_body_in.specs.declared.place.Place.{Place}
 use Rattle.http_body_in.specs.declared.place.Place.TheVariants as at
 use Rattle.http_front.specs.declared.head.BodyPlan.{BodyPlan}
 use Rattle.http_front.specs.declared.head.BodyPlan.TheVariants as plan
-use Rattle.http_body_in.specs.declared.place.TheConstants.{MAX_SIZE_DIGITS, SIZE_STEP, MAX_EXTENSION_BYTES, MAX_TRAILER_BYTES}
 
 -- where the body of a plan begins
 abbrev pub start_of : BodyPlan → Place
@@ -17,13 +16,13 @@ start_of plan.Chunked = at.Digits 0 0
 
 -- after the LF of a chunk line: the chunk's data, or the trailer after a size of 0
 abbrev pub chunk_of : ℕ → Place
-chunk_of zero = at.Trailer MAX_TRAILER_BYTES
+chunk_of zero = at.Trailer 16384
 chunk_of (suc size) = at.Chunk (suc size)
 
 -- after a byte of a chunk line's digits; nine of them write less than 2^36
 abbrev pub digits_step : ℕ → ℕ → ℕ → Place
 digits_step count size b =
-    if is_digit b 16 then (if nat_lt count MAX_SIZE_DIGITS then at.Digits (count + 1) (16 * (size % SIZE_STEP) + digit_value b) else at.Bad)
+    if is_digit b 16 then (if nat_lt count 10 then at.Digits (count + 1) (16 * (size % 68719476736) + digit_value b) else at.Bad)
     else if count == 0 then at.Bad
     else if b == 59 then at.Extension size 0
     else if b == 13 then at.LineFeed size
@@ -34,7 +33,7 @@ abbrev pub extension_step : ℕ → ℕ → ℕ → Place
 extension_step size count b =
     if b == 13 then at.LineFeed size
     else if b == 10 then at.Bad
-    else if nat_lt count MAX_EXTENSION_BYTES then at.Extension size (count + 1)
+    else if nat_lt count 256 then at.Extension size (count + 1)
     else at.Bad
 
 -- after a byte at the beginning of a trailer line: with its own CR LF it must fit

@@ -4,7 +4,7 @@ use Rattle.jk_io.specs.Moments.{Moment}
 use Rattle.jk_io.specs.Told.{prepended, Rose}
 use Rattle.http_front.specs.Unread.{unread}
 use Rattle.http_body_in.specs.Body.{Data, Uses, reaches, dropped}
-use Rattle.http_body_in.specs.Faults.{IsByBytes}
+use Rattle.http_body_in.specs.Faults.{IsNoFailure}
 use Rattle.http_body_in.specs.Places.{is_whole, is_limited}
 use Rattle.http_body_in.specs.State.{place_of, taken_of, most_of, failed_of, data_left_of}
 use Rattle.http_body_in.specs.Wants.{Want, is_met, wanted, settles}
@@ -81,7 +81,7 @@ pub record MeetsFault (before after : BodyMoment) (want : Want) (why : BodyFault
   -- a read failed, and it was needed: the bytes that had come by then didn't decide
   pub fault : why ≡ faults.Fault → failed_of before.body ≡ None → Rose before.client.faults after.client.faults
   pub awaited : why ≡ faults.Fault → failed_of before.body ≡ None → decides want before.body gone ≡ false
-  pub steady : IsByBytes why → after.client.faults ≡ before.client.faults
+  pub steady : IsNoFailure why → after.client.faults ≡ before.client.faults
   pub no_fewer : before.client.faults ≤ after.client.faults
   pub taken : taken_of after.body ≡ taken_of before.body
   pub place : place_of after.body ≡ place_of before.body

@@ -3,7 +3,7 @@ ghost use Rattle.std.specs.Prelude.{◌≡◌, ◌<◌, ◌≤◌, None, Some, I
 ghost use Rattle.jk_io.specs.Moments.{moment};
 ghost use Rattle.jk_io.specs.Told.{Rose};
 ghost use Rattle.http_front.specs.Unread.{unread};
-ghost use Rattle.http_body_in.specs.Faults.{IsByBytes, IsCalm};
+ghost use Rattle.http_body_in.specs.Faults.{IsNoFailure, IsCalm};
 ghost use Rattle.http_body_in.specs.Places.{start_of};
 ghost use Rattle.http_body_in.specs.State.{place_of, taken_of, most_of, failed_of};
 ghost use Rattle.http_body_in.specs.Takes.{body_at, decides, TakesPiece, PassesRest, MeetsFault};

@@ -42,10 +42,10 @@ IfRefused (Err Truncated) P = ⊤
 IfRefused (Err Fault) P = ⊤
 IfRefused (Err NoMemory) P = ⊤
 
--- the answer is by the client's bytes alone, so that no read failed
+-- no read failed: the answer is by the client's bytes alone, or memory was wanted
 abbrev pub IsCalm : {T : Type 0} → Result T HeadError → Type 0
 IsCalm (Ok value) = ⊤
 IsCalm (Err (Refused status form)) = ⊤
 IsCalm (Err Truncated) = ⊤
 IsCalm (Err Fault) = ⊥
-IsCalm (Err NoMemory) = ⊥
+IsCalm (Err NoMemory) = ⊤

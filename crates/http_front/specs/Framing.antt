@@ -6,7 +6,6 @@ use Rattle.http_front.specs.declared.answers.Form.{Form}
 use Rattle.http_front.specs.declared.answers.Form.TheVariants.{TwoFramings, BadLength, OldChunked, BadCoding}
 use Rattle.http_front.specs.declared.head.BodyPlan.{BodyPlan}
 use Rattle.http_front.specs.declared.head.BodyPlan.TheVariants.{None, Exact, Chunked}
-use Rattle.http_front.specs.declared.framing.TheConstants.{MAX_BODY_BYTES, MAX_LENGTH_DIGITS}
 
 -- a body of this many bytes
 abbrev pub exact_plan : ℕ → BodyPlan
@@ -20,7 +19,7 @@ length_plan (Some n) = Ok (exact_plan n)
 
 -- a length is 1 to 19 digits
 abbrev pub length_of : List ℕ → Option ℕ
-length_of value = if nat_le (length value) MAX_LENGTH_DIGITS then decimal_of value else Nothing
+length_of value = if nat_le (length value) 19 then decimal_of value else Nothing
 
 -- the plan of one Transfer-Encoding line
 abbrev pub coding_plan : Bool → List ℕ → Result BodyPlan Form
@@ -38,5 +37,5 @@ plan_of old [] (coding ∷ other ∷ codings) = if old then Err OldChunked else 
 -- a length of 2^40 or more
 abbrev pub is_long : BodyPlan → Bool
 is_long None = false
-is_long (Exact n) = nat_le MAX_BODY_BYTES n
+is_long (Exact n) = nat_le 1099511627776 n
 is_long Chunked = false

@@ -5,7 +5,6 @@ use Rattle.jk_io.specs.Decimals.{decimal_of}
 use Rattle.http_front.specs.Ascii.{colon, close_bracket}
 use Rattle.http_front.specs.declared.answers.Form.{Form}
 use Rattle.http_front.specs.declared.answers.Form.TheVariants.{BadHost}
-use Rattle.http_front.specs.declared.hosts.TheConstants.{HTTP_PORT, MAX_PORT}
 
 -- the server's name where the head has none
 abbrev pub localhost : List ℕ
@@ -32,25 +31,25 @@ split_port (b ∷ bytes) = split_or b bytes (split_port bytes)
 -- a port is a number up to 65,535
 abbrev pub numbered : List ℕ → Option ℕ → Result (List ℕ × ℕ) Form
 numbered name None = Err BadHost
-numbered name (Some port) = if nat_le port MAX_PORT then Ok (name, port) else Err BadHost
+numbered name (Some port) = if nat_le port 65535 then Ok (name, port) else Err BadHost
 
 -- an empty port counts as none
 abbrev pub ported : List ℕ → List ℕ → Result (List ℕ × ℕ) Form
-ported name [] = Ok (name, HTTP_PORT)
+ported name [] = Ok (name, 80)
 ported name (b ∷ bytes) = numbered name (decimal_of (b ∷ bytes))
 
 -- the name and the port that a Host value has
 abbrev pub parted : List ℕ → Option (List ℕ × List ℕ) → Result (List ℕ × ℕ) Form
-parted value None = Ok (value, HTTP_PORT)
+parted value None = Ok (value, 80)
 parted value (Some parts) = ported parts.0 parts.1
 
 -- those of a value, which may be empty
 abbrev pub server_of : List ℕ → Result (List ℕ × ℕ) Form
-server_of [] = Ok (localhost, HTTP_PORT)
+server_of [] = Ok (localhost, 80)
 server_of (b ∷ bytes) = parted (b ∷ bytes) (split_port (b ∷ bytes))
 
 -- a 1.1 request has one Host line, a 1.0 request at most one
 abbrev pub host_of : Bool → List (List ℕ) → Result (List ℕ × ℕ) Form
-host_of old [] = if old then Ok (localhost, HTTP_PORT) else Err BadHost
+host_of old [] = if old then Ok (localhost, 80) else Err BadHost
 host_of old (value ∷ []) = server_of value
 host_of old (value ∷ other ∷ values) = Err BadHost

@@ -8,7 +8,6 @@ use Rattle.http_front.specs.declared.answers.Form.{Form}
 use Rattle.http_front.specs.declared.answers.HeadError.{HeadError}
 use Rattle.http_front.specs.declared.answers.HeadError.TheVariants.{Refused, Truncated, Fault, NoMemory}
 use Rattle.http_front.specs.declared.head.Head.{Head}
-use Rattle.http_front.specs.declared.head_lines.TheConstants.{MAX_HEAD_LINES}
 
 -- the head or the refusal that is wanted, unless memory is wanted
 abbrev pub Makes : Result Head Form → Result Head HeadError → Type 0
@@ -20,7 +19,7 @@ Makes wanted (Err NoMemory) = ⊤
 
 -- what the bytes of a head are
 pub record IsFront (front : List ℕ) (head : Head) : Type 0 where
-  pub few : header_lines front ≤ MAX_HEAD_LINES
+  pub few : header_lines front ≤ 100
   pub parsed : RequestHead
   pub reads : Reads front parsed
   pub is : judged parsed ≡ Ok head

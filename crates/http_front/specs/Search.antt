@@ -12,7 +12,6 @@ use Rattle.http_front.specs.declared.reading.Found.TheVariants as found
 use Rattle.http_front.specs.declared.answers.HeadError.{HeadError}
 use Rattle.http_front.specs.declared.answers.HeadError.TheVariants as error
 use Rattle.http_front.specs.declared.answers.Form.TheVariants.{TooBig}
-use Rattle.http_front.specs.declared.inbox.TheConstants.{MAX_HEAD_BYTES}
 
 -- the first at bytes are empty lines, whatever comes after bytes
 abbrev pub Skipped : List ℕ → ℕ → Type 0
@@ -51,9 +50,9 @@ IsLook bytes (Part blank searched) = IsPart bytes blank searched
 
 -- why no more of a head is read after these bytes
 abbrev pub IsStop : List ℕ → HeadError → Type 0
-IsStop bytes (error.Refused status form) = (status ≡ 431) × (form ≡ TooBig) × (length bytes ≡ MAX_HEAD_BYTES)
+IsStop bytes (error.Refused status form) = (status ≡ 431) × (form ≡ TooBig) × (length bytes ≡ 16384)
 IsStop bytes error.Truncated = ⊥
-IsStop bytes error.Fault = length bytes < MAX_HEAD_BYTES
+IsStop bytes error.Fault = length bytes < 16384
 IsStop bytes error.NoMemory = ⊤
 
 -- what the bytes that were read say

@@ -23,9 +23,9 @@ pub sent_step : (kind : RequestKind) (before f : Framing) (held bytes : List ℕ
     (writer_with kind f [] q ended) sent now r
 sent_step kind before f held bytes was ended p q sent now (Ok u) fine s = (refl, rw s.1 refl, s.0)
 sent_step kind before f held bytes was ended p q sent now (Err Out.Fault) fine s =
-    (refl, record { puts = s.puts; state = rw (s.passed, s.failed) refl })
+    (refl, fine, record { puts = s.puts; state = rw (s.passed, s.failed) refl })
 sent_step kind before f held bytes was ended p q sent now (Err Out.NoMemory) fine s =
-    (refl, record { puts = s.puts; state = rw (s.passed, s.failed) refl })
+    (refl, fine, record { puts = s.puts; state = rw (s.passed, s.failed) refl })
 sent_step kind before f held bytes was ended p q sent now (Err Out.BadReply) fine s = absurd s
 sent_step kind before f held bytes was ended p q sent now (Err Out.Disagree) fine s = absurd s
 

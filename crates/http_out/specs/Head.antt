@@ -10,7 +10,6 @@ use Rattle.http_out.specs.declared.reply_head.OutError.{OutError}
 use Rattle.http_out.specs.declared.reply_head.OutError.TheVariants as Out
 use Rattle.http_out.specs.declared.content_length.ContentLength.{ContentLength}
 use Rattle.http_out.specs.declared.content_length.ContentLength.TheVariants as Said
-use Rattle.http_out.specs.declared.content_length.TheConstants.{MAX_DIGITS}
 
 -- one value says a length where it is 1 to 19 digits
 abbrev pub said_by : Option ℕ → ContentLength
@@ -18,7 +17,7 @@ said_by (Some n) = Said.Announced n
 said_by None = Said.Unreadable
 
 abbrev pub length_said : List ℕ → ContentLength
-length_said value = if nat_le (length value) MAX_DIGITS then said_by (decimal_of value) else Said.Unreadable
+length_said value = if nat_le (length value) 19 then said_by (decimal_of value) else Said.Unreadable
 
 -- what is said once a further line says this value
 abbrev pub next_said : ContentLength → List ℕ → ContentLength

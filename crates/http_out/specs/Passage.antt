@@ -20,10 +20,10 @@ IsSent piece before after sent sent_now (Err Out.NoMemory) = IsBroken piece befo
 IsSent piece before after sent sent_now (Err Out.BadReply) = ⊥
 IsSent piece before after sent sent_now (Err Out.Disagree) = ⊥
 
--- no write failed, and no memory was wanted
+-- no write failed
 abbrev pub IsCalm : {T : Type 0} → Result T OutError → Type 0
 IsCalm (Ok value) = ⊤
 IsCalm (Err Out.Disagree) = ⊤
 IsCalm (Err Out.BadReply) = ⊤
 IsCalm (Err Out.Fault) = ⊥
-IsCalm (Err Out.NoMemory) = ⊥
+IsCalm (Err Out.NoMemory) = ⊤

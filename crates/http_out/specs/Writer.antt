@@ -68,7 +68,8 @@ pub record BreaksOff (w now : Writer) (sent sent_now : Option (List ℕ)) (bytes
   pub puts : PutsFront sent sent_now bytes
   pub state : now ≡ record w { held = []; failed = true; passed = w.passed || nat_lt 0 (length puts.front) }
 
--- what a step with these bytes may answer, and where it leaves the writer and what was written
+-- What a step with these bytes may answer, and where it leaves the writer and what was written. After a write was
+-- refused no step is.
 abbrev pub IsStep : (refused : Bool) (bytes : List ℕ) (w counting next now : Writer) (sent sent_now : Option (List ℕ))
     → Result Unit OutError → Type 0
 IsStep refused bytes w counting next now sent sent_now (Ok _) =
@@ -76,9 +77,9 @@ IsStep refused bytes w counting next now sent sent_now (Ok _) =
 IsStep refused bytes w counting next now sent sent_now (Err Out.Disagree) =
     (refused ≡ true) × (now ≡ w) × (sent_now ≡ sent)
 IsStep refused bytes w counting next now sent sent_now (Err Out.Fault) =
-    (refused ≡ false) × BreaksOff counting now sent sent_now bytes
+    (refused ≡ false) × (w.failed ≡ false) × BreaksOff counting now sent sent_now bytes
 IsStep refused bytes w counting next now sent sent_now (Err Out.NoMemory) =
-    (refused ≡ false) × BreaksOff counting now sent sent_now bytes
+    (refused ≡ false) × (w.failed ≡ false) × BreaksOff counting now sent sent_now bytes
 IsStep refused bytes w counting next now sent sent_now (Err Out.BadReply) = ⊥
 
 abbrev pub IsChunkStep : Writer → List ℕ → Writer → Option (List ℕ) → Option (List ℕ) → Result Unit OutError → Type 0

@@ -1,6 +1,6 @@
 //! What has gone to the client.
-ghost use Rattle.std.specs.Prelude.{◌≡◌, ◌≤◌, ◌||◌, IsErrOf};
-ghost use Rattle.jk_io.specs.Told.{Rose};
+ghost use Rattle.std.specs.Prelude.{◌≡◌, ◌+◌, ◌-◌, ◌^◌, ◌<◌, ◌≤◌, ◌||◌, length, take, IsOk, OnOk, IsErrOf};
+ghost use Rattle.jk_io.specs.Told.{appended, HasCause, Rose};
 ghost use Rattle.http_out.specs.Passage.{IsCalm, IsSent};
 
 use crate::reply_head::OutError;
@@ -13,8 +13,13 @@ pub struct Passage {
     pub failed: bool,
 }
 
-/// Writes a piece, and notes what became of it.
-pub fn send<C: Sink>(client: &mut C, piece: &[u8], passage: &mut Passage) -> Result<(), OutError>
+/// Writes a piece, and notes what became of it. Where it is the reply's last one, the client is flushed after it.
+pub fn send<C: Sink>(
+    client: &mut C,
+    piece: &[u8],
+    last: bool,
+    passage: &mut Passage,
+) -> Result<(), OutError>
     ensures sent { IsSent piece.now passage.old passage.new (C.sent client.old) (C.sent client.new) result }
     ensures same { (C.incoming client.new ≡ C.incoming client.old) × (C.received client.new ≡ C.received client.old)
         × (C.beside client.new ≡ C.beside client.old) }
@@ -23,7 +28,7 @@ pub fn send<C: Sink>(client: &mut C, piece: &[u8], passage: &mut Passage) -> Res
     ensures steady { IsCalm result → C.faults client.new ≡ C.faults client.old }
 {
     let mut written = 0;
-    let answer = write_counted(client, piece, &mut written);
+    let answer = write_out(client, piece, last, &mut written);
     passage.passed = either(passage.passed, written > 0);
     match answer {
         Ok(()) => Ok(()),
@@ -36,6 +41,27 @@ pub fn send<C: Sink>(client: &mut C, piece: &[u8], passage: &mut Passage) -> Res
             Err(OutError::NoMemory)
         }
     }
+}
+
+/// Writes a piece whole, and adds what was taken to `written`; flushes after the last one.
+fn write_out<C: Sink>(
+    client: &mut C,
+    piece: &[u8],
+    last: bool,
+    written: &mut u64,
+) -> Result<(), IoError>
+    requires { written.old + length piece.now < 2 ^ 64 }
+    ensures whole { OnOk result (written.new ≡ written.old + length piece.now) }
+    ensures up { written.old ≤ written.new }
+    ensures most { written.new ≤ written.old + length piece.now }
+    ensures put { C.sent client.new ≡ appended (C.sent client.old) (take (written.new - written.old) piece.now) }
+    ensures same { (C.incoming client.new ≡ C.incoming client.old) × (C.received client.new ≡ C.received client.old)
+        × (C.beside client.new ≡ C.beside client.old) }
+    ensures cause { HasCause (C.faults client.old) (C.faults client.new) result }
+    ensures steady { IsOk result → C.faults client.new ≡ C.faults client.old }
+{
+    write_counted(client, piece, written)?;
+    if last { client.flush() } else { Ok(()) }
 }
 
 fn either(before: bool, now: bool) -> bool

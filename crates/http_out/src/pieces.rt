@@ -28,15 +28,15 @@ pub fn write_piece<C: Sink>(
     ensures steady { IsCalm result → C.faults client.new ≡ C.faults client.old }
 {
     if text.is_empty() && !framing.is_chunked() {
-        return send(client, chunk, passage);
+        return send(client, chunk, false, passage);
     }
     match put_framed(text, framing, chunk) {
-        Ok(()) => flush(text, client, passage),
+        Ok(()) => write_out(text, false, client, passage),
         Err(NoMemory) => Err(give_up(text, passage)),
     }
 }
 
-/// Writes what is held and what follows the last chunk, and leaves no text.
+/// Writes what is held and what follows the last chunk, flushes the client, and leaves no text.
 pub fn write_closing<C: Sink>(
     text: &mut Bytes,
     framing: Framing,
@@ -52,13 +52,18 @@ pub fn write_closing<C: Sink>(
     ensures steady { IsCalm result → C.faults client.new ≡ C.faults client.old }
 {
     match put_closing(text, framing) {
-        Ok(()) => flush(text, client, passage),
+        Ok(()) => write_out(text, true, client, passage),
         Err(NoMemory) => Err(give_up(text, passage)),
     }
 }
 
 /// Writes the text, and leaves none.
-fn flush<C: Sink>(text: &mut Bytes, client: &mut C, passage: &mut Passage) -> Result<(), OutError>
+fn write_out<C: Sink>(
+    text: &mut Bytes,
+    last: bool,
+    client: &mut C,
+    passage: &mut Passage,
+) -> Result<(), OutError>
     ensures sent { IsSent text.old passage.old passage.new (C.sent client.old) (C.sent client.new) result }
     ensures spent { text.new ≡ [] }
     ensures same { (C.incoming client.new ≡ C.incoming client.old) × (C.received client.new ≡ C.received client.old)
@@ -67,7 +72,7 @@ fn flush<C: Sink>(text: &mut Bytes, client: &mut C, passage: &mut Passage) -> Re
     ensures cause { IsErrOf result OutError.Fault → Rose (C.faults client.old) (C.faults client.new) }
     ensures steady { IsCalm result → C.faults client.new ≡ C.faults client.old }
 {
-    let sent = send(client, text.as_slice(), passage);
+    let sent = send(client, text.as_slice(), last, passage);
     text.clear();
     sent
 }

@@ -101,8 +101,8 @@ impl ReplyWriter {
         write_piece(&mut self.text, framing, bytes, client, &mut self.passage)
     }
 
-    /// Ends the reply: what is held goes out, and the last chunk of a chunked body. Where less than the announced length
-    /// came, nothing is written.
+    /// Ends the reply: what is held goes out, and the last chunk of a chunked body, and the client is flushed. Where less
+    /// than the announced length came, nothing is written.
     pub fn end<C: Sink>(&mut self, client: &mut C) -> Result<(), OutError>
         requires { IsOpen self.old }
 

@@ -1,7 +1,7 @@
 -- A byte is there, or it is awaited.
 use Rattle.std.proofs.Common.{◌≡◌, ◌∙◌, Err, length, le_refl, refl, sym, ap, arith}
 use Rattle.http_body_in.specs.declared.fault.BodyFault.TheVariants as fault
-use Rattle.http_body_in.proofs.AwaitLemmas.{failed_as, none_more, none_there, not_awaited, not_calm, one_there, some_more}
+use Rattle.http_body_in.proofs.AwaitLemmas.{failed_as, none_more, none_there, not_awaited, one_there, some_more, wanted_as}
 use Rattle.http_body_in.proofs.WalkLemmas.{fault_of-kind}
 use Rattle.http_body_in.proofs.walk.await_byte.Goals as goal
 
@@ -70,7 +70,7 @@ returns-in-Err g c =
         λ is. (let why : c.fault_of.result ≡ fault.TooLong = cc in other.2 (sym told ∙ why)),
       );
       fault = λ is. (let why : c.fault_of.result ≡ fault.Fault = cc in c.in-Err.ensures.cause.failed (ap Err (failed_as c.in-Err.error c.fault_of.result told why)));
-      steady = λ calm. absurd (not_calm c.in-Err.error c.fault_of.result told calm);
+      steady = λ calm. c.in-Err.ensures.cause.wanted (ap Err (wanted_as c.in-Err.error c.fault_of.result told calm));
       unasked = λ some. absurd (awaited some);
       same = c.read_more.ensures.same;
       no_fewer = c.read_more.ensures.cause.no_fewer;
