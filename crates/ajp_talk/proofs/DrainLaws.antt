@@ -1,7 +1,9 @@
 -- How the draining of a reply goes on.
 use Rattle.ajp_talk.specs.declared.ending.Cause.{Cause}
-use Rattle.ajp_wire.specs.Packet.{IsPart}
-use Rattle.std.proofs.Common.{◌≡◌, ℕ, ◌+◌, ◌<◌, Bool, true, false, ◌&&◌, not, List, [], ◌∷◌, ◌++◌, length, refl, sym, ap, subst, ◌∙◌, arith, length-append, Option, Some, None, Result, Ok, Err, append-nil, inl, inr, unwrap_or}
+use Rattle.ajp_wire.specs.Packet.{IsPart, IsPacket, packet}
+use Rattle.ajp_wire.proofs.PacketLaws.{packet-only}
+use Rattle.ajp_reply.specs.Spelling.{Spells, BeginsHead}
+use Rattle.std.proofs.Common.{◌≡◌, ◌≢◌, ℕ, ◌+◌, ◌<◌, Bool, true, false, ◌&&◌, not, List, [], ◌∷◌, ◌++◌, length, refl, sym, ap, subst, ◌∙◌, arith, length-append, Option, Some, None, Result, Ok, Err, append-nil, inl, inr, unwrap_or}
 use Rattle.std.proofs.lemmas.Bool.{cond-false, not-true}
 use Rattle.jk_io.specs.Told.{appended, prepended, PutsFront}
 use Rattle.jk_io.proofs.ToldLaws.{appended-appended, appended-nil, prepended-prepended, prepended-nil}
@@ -16,7 +18,7 @@ use Rattle.http_out.specs.Writer.{counted as counted_chunk}
 use Rattle.jk_io.specs.Moments.{Moment}
 use Rattle.ajp_talk.specs.Moments.{IsSteady}
 use Rattle.ajp_talk.specs.Replies.{sum_of, exceeds, chunks_of, agrees}
-use Rattle.ajp_talk.specs.Turns.{Came, IsHeard, IsUnheard, IsOnCourse, IsChunkTurn, IsEndTurn, CameUnheard, IsChunkFailure}
+use Rattle.ajp_talk.specs.Turns.{Came, IsHeard, IsUnheard, IsOnCourse, IsChunkTurn, IsEndTurn, CameUnheard, IsChunkFailure, IsUnread}
 use Rattle.ajp_talk.specs.Drains.{IsLostCourse, chunk_messages, IsDropped, Drains, IsNoTail, EndsRest, IsDrained, rest_after, rest_without, IsClosing, IsDroppedMessage, IsDrop}
 use Rattle.ajp_talk.specs.Ends.{IsPlan}
 use Rattle.ajp_talk.specs.declared.plan.TalkPlan.{TalkPlan}
@@ -128,14 +130,44 @@ no_tail-none plan c chunks bytes rest s none = λ later t sum.
         let f = first_of_all plan.packet m behind rest t in
         none [] f.1 f.2 f.0 f.3 (append-nil rest ∙ f.4)
 
+-- a payload that begins as a head does spells no end
+no-end-head : (message : Message) (payload : List ℕ) → message ≡ End true → Spells message payload → BeginsHead payload → ⊥
+no-end-head (Headers parts) payload is s begins = absurd cc
+no-end-head (Chunk bytes) payload is s begins = absurd cc
+no-end-head (End reuse) payload is s begins = (let e : 4 ∷ begins.0 ≡ 5 ∷ s.byte ∷ [] = sym begins.1 ∙ s.whole in absurd cc)
+no-end-head (Ask most) payload is s begins = absurd cc
+no-end-head Pong payload is s begins = absurd cc
+
+-- nor does a packet of such a payload end a reply
+no_tail-head : (plan : TalkPlan) (c : Course) (chunks : List (List ℕ)) (bytes rest payload : List ℕ) → Spelled plan.packet (chunk_messages chunks) bytes
+    → IsPacket true plan.packet payload rest → BeginsHead payload → IsNoTail plan c (bytes ++ rest)
+no_tail-head plan c chunks bytes rest payload s p begins = λ later t sum.
+    let on = goes_on plan.packet (chunk_messages chunks) (End true ∷ later) bytes rest s t in
+    of on.0 later on.1 on.2
+  where
+    of : (behind later : List Message) → End true ∷ later ≡ behind ++ chunk_messages chunks → Spelled plan.packet behind rest → ⊥
+    of [] later e t = no-end-behind chunks later (sym e)
+    of (m ∷ behind) later e t =
+        let f = first_of_all plan.packet m behind rest t in
+        let one = packet-only true payload f.3.payload [] f.2 (append-nil (packet true payload) ∙ sym p.whole ∙ f.4 ∙ ap (λ (l : List ℕ). l ++ f.2) f.3.packet.whole) in
+        let alone : Spelled plan.packet (f.0 ∷ []) rest = ([], f.1, refl, f.3, f.4 ∙ ap (λ (l : List ℕ). f.1 ++ l) (sym one.1) ∙ append-nil f.1) in
+        let same : m ∷ behind ≡ f.0 ∷ [] = one_reading plan.packet (m ∷ behind) (f.0 ∷ []) rest t alone in
+        let first : f.0 ≡ End true = cc in
+        no-end-head f.0 f.3.payload first f.3.spelled (begins.0, sym one.0 ∙ begins.1)
+
+no_tail-unread : (plan : TalkPlan) (c : Course) (chunks : List (List ℕ)) (bytes rest : List ℕ) → Spelled plan.packet (chunk_messages chunks) bytes → IsUnread plan.packet rest
+    → IsNoTail plan c (bytes ++ rest)
+no_tail-unread plan c chunks bytes rest s (inl part) = no_tail-part plan c chunks bytes rest s part
+no_tail-unread plan c chunks bytes rest s (inr h) = no_tail-head plan c chunks bytes rest h.0 s h.1 h.2
+
 -- where no message came, and the limit isn't reached
-no_tail-silent : (plan : TalkPlan) (c : Course) (chunks : List (List ℕ)) (bytes rest : List ℕ) (l l' : Moment) (count : ℕ) (why : Unheard) → (why ≡ unheard_is.NoMemory → ⊥)
+no_tail-silent : (plan : TalkPlan) (c : Course) (chunks : List (List ℕ)) (bytes rest : List ℕ) (l l' : Moment) (count : ℕ) (why : Unheard)
     → Spelled plan.packet (chunk_messages chunks) bytes → CameUnheard plan.packet plan.most count l l' rest why → count < plan.most → IsNoTail plan c (bytes ++ rest)
-no_tail-silent plan c chunks bytes rest l l' count unheard_is.Line other s h below = no_tail-part plan c chunks bytes rest s h.1
-no_tail-silent plan c chunks bytes rest l l' count unheard_is.Ended other s h below = no_tail-part plan c chunks bytes rest s h.1
-no_tail-silent plan c chunks bytes rest l l' count unheard_is.Wrong other s h below = no_tail-none plan c chunks bytes rest s h.1
-no_tail-silent plan c chunks bytes rest l l' count unheard_is.TooLong other s h below = absurd (let reached = h.0 in omega arith)
-no_tail-silent plan c chunks bytes rest l l' count unheard_is.NoMemory other s h below = absurd (other refl)
+no_tail-silent plan c chunks bytes rest l l' count unheard_is.Line s h below = no_tail-part plan c chunks bytes rest s h.1
+no_tail-silent plan c chunks bytes rest l l' count unheard_is.Ended s h below = no_tail-part plan c chunks bytes rest s h.1
+no_tail-silent plan c chunks bytes rest l l' count unheard_is.Wrong s h below = no_tail-none plan c chunks bytes rest s h.1
+no_tail-silent plan c chunks bytes rest l l' count unheard_is.TooLong s h below = absurd (let reached = h.0 in omega arith)
+no_tail-silent plan c chunks bytes rest l l' count unheard_is.NoMemory s h below = no_tail-unread plan c chunks bytes rest s h.1
 
 -- what is said of the link since the last message, said since the client was gone
 came-since : (plan : TalkPlan) (l m n : Moment) (count count' : ℕ) (rest : List ℕ) (why : Unheard) → IsSteady l m → count' ≡ count
@@ -144,7 +176,7 @@ came-since plan l m n count count' rest unheard_is.Line steady same h = (omega (
 came-since plan l m n count count' rest unheard_is.Ended steady same h = (omega (arith, h.0, same), h.1, h.2)
 came-since plan l m n count count' rest unheard_is.Wrong steady same h = (omega (arith, h.0, same), h.1)
 came-since plan l m n count count' rest unheard_is.TooLong steady same h = (omega (arith, h.0, same), h.1)
-came-since plan l m n count count' rest unheard_is.NoMemory steady same h = tt
+came-since plan l m n count count' rest unheard_is.NoMemory steady same h = (omega (arith, h.0, same), h.1, h.2 ∙ steady)
 
 no-true : (b : Bool) → (b ≡ true → ⊥) → b ≡ false
 no-true true f = absurd (f refl)
@@ -176,7 +208,7 @@ module _ (plan : TalkPlan) (l m n : Moment) (w v u : Moment) (c d e : Course) (c
   chunk-silent chunk turn_is.Unread failed h = absurd h
   chunk-silent chunk turn_is.Cut failed h = absurd h
   chunk-silent chunk (turn_is.Bad status) failed h = absurd h
-  chunk-silent chunk turn_is.NoMemory failed h = same-put (chunk_bytes d.writer chunk) (no-chunk-bytes d.writer chunk failed) h.2
+  chunk-silent chunk turn_is.NoMemory failed h = same-put (chunk_bytes d.writer chunk) (no-chunk-bytes d.writer chunk failed) h.3
 
   pub chunk-counts : (chunk : List ℕ) (turn : Turn) → (turn ≡ turn_is.NoMemory → ⊥) → IsChunkTurn plan chunk read_to e v u turn → (e.received ≡ count) × (e.sent ≡ d.sent)
   chunk-counts chunk turn_is.On other h = (ap (λ (x : Course). x.received) h.2, ap (λ (x : Course). x.sent) h.2)
@@ -210,7 +242,7 @@ module _ (plan : TalkPlan) (l m n : Moment) (w v u : Moment) (c d e : Course) (c
   end-silent reuse turn_is.Unread failed h = absurd h
   end-silent reuse turn_is.Cut failed h = absurd h
   end-silent reuse (turn_is.Bad status) failed h = absurd h
-  end-silent reuse turn_is.NoMemory failed h = same-put (end_bytes d.writer) (no-end-bytes d.writer failed) h.2
+  end-silent reuse turn_is.NoMemory failed h = same-put (end_bytes d.writer) (no-end-bytes d.writer failed) h.3
 
   pub end-counts : (reuse : Bool) (turn : Turn) → (turn ≡ turn_is.NoMemory → ⊥) → IsEndTurn reuse read_to e v u turn → (e.received ≡ count) × (e.sent ≡ d.sent)
   end-counts reuse turn_is.On other h = absurd h
@@ -285,7 +317,7 @@ module _ (plan : TalkPlan) (l m n : Moment) (w v u : Moment) (c d e : Course) (c
   -- it ended at a message
   pub drained : IsPlan plan → (a : Draining plan l m w v c d) → (message : Message) (keep : Bool) → IsHeard plan.packet plan.most m n d.received count message
       → u.sent ≡ v.sent → (e.received ≡ count) × (e.sent ≡ d.sent) → (keep ≡ true → ⊥)
-      → (message ≡ End true → agrees (framing_now c.writer) (sum_of a.chunks) ≡ true → ⊥) → EndsRest c a.chunks message → Drains plan l n w u c e keep
+      → (message ≡ End true → agrees (framing_now c.writer) (sum_of a.chunks) ≡ true → ⊥) → EndsRest c a.chunks message → Drains plan l n w u c e keep false
   drained fit a message keep h same counts none no_end stops =
       let some = some-bytes plan.packet message h.bytes h.is in
       let exact : count ≡ d.received + length h.bytes = omega (arith, h.came.counts, some.1, a.below, fit.most) in
@@ -301,9 +333,9 @@ module _ (plan : TalkPlan) (l m n : Moment) (w v u : Moment) (c d e : Course) (c
       }
 
   -- it ended where no message came
-  pub drained_silent : IsPlan plan → Draining plan l m w v c d → (why : Unheard) → IsUnheard plan.packet plan.most m n d.received count why
-      → (why ≡ unheard_is.NoMemory → ⊥) → u.sent ≡ v.sent → (e.received ≡ count) × (e.sent ≡ d.sent) → Drains plan l n w u c e false
-  drained_silent fit a why h other same counts =
+  pub drained_silent : IsPlan plan → Draining plan l m w v c d → (why : Unheard) (want : Bool) → IsUnheard plan.packet plan.most m n d.received count why
+      → (want ≡ false → why ≢ unheard_is.NoMemory) → u.sent ≡ v.sent → (e.received ≡ count) × (e.sent ≡ d.sent) → Drains plan l n w u c e false want
+  drained_silent fit a why want h other same counts =
       let exact : count ≡ d.received + length h.bytes = omega (arith, h.came.counts, h.came.small, a.below, fit.most) in
       record {
         bytes = a.bytes ++ h.bytes;
@@ -312,7 +344,7 @@ module _ (plan : TalkPlan) (l m n : Moment) (w v u : Moment) (c d e : Course) (c
         small = omega (arith, counts.0, exact, h.came.small, a.below);
         same = counts.1 ∙ a.same;
         kept = λ keeps. absurd cc;
-        closed = λ f below. no_tail-silent plan c a.chunks a.bytes h.bytes m n count why other a.spelled h.as_said (omega (arith, counts.0, below));
+        closed = λ f below. no_tail-silent plan c a.chunks a.bytes h.bytes m n count why a.spelled h.as_said (omega (arith, counts.0, below));
         halted = λ f. inr (record {
           chunks = a.chunks;
           front = a.bytes;
@@ -327,7 +359,7 @@ module _ (plan : TalkPlan) (l m n : Moment) (w v u : Moment) (c d e : Course) (c
 
   -- the reply ended
   ended_whole : IsPlan plan → (a : Draining plan l m w v c d) → (reuse : Bool) → IsHeard plan.packet plan.most m n d.received count (End reuse)
-      → u.sent ≡ v.sent → (e.received ≡ count) × (e.sent ≡ d.sent) → is_complete (framing_now d.writer) ≡ true → Drains plan l n w u c e reuse
+      → u.sent ≡ v.sent → (e.received ≡ count) × (e.sent ≡ d.sent) → is_complete (framing_now d.writer) ≡ true → Drains plan l n w u c e reuse false
   ended_whole fit a reuse h same counts complete =
       let some = some-bytes plan.packet (End reuse) h.bytes h.is in
       let exact : count ≡ d.received + length h.bytes = omega (arith, h.came.counts, some.1, a.below, fit.most) in
@@ -352,12 +384,12 @@ module _ (plan : TalkPlan) (l m n : Moment) (w v u : Moment) (c d e : Course) (c
       }
 
   pub drained_end : IsPlan plan → Draining plan l m w v c d → (reuse again : Bool) → IsHeard plan.packet plan.most m n d.received count (End reuse)
-      → IsEndTurn reuse read_to e v u (turn_is.Done again) → Drains plan l n w u c e reuse
+      → IsEndTurn reuse read_to e v u (turn_is.Done again) → Drains plan l n w u c e reuse false
   drained_end fit a reuse again h t =
       ended_whole fit a reuse h (end-silent reuse (turn_is.Done again) a.lost.failed t) (end-counts reuse (turn_is.Done again) (λ is. absurd cc) t) t.2
 
   pub drained_lost_end : IsPlan plan → Draining plan l m w v c d → (reuse again : Bool) → IsHeard plan.packet plan.most m n d.received count (End reuse)
-      → IsEndTurn reuse read_to e v u (turn_is.LostAtEnd again) → Drains plan l n w u c e reuse
+      → IsEndTurn reuse read_to e v u (turn_is.LostAtEnd again) → Drains plan l n w u c e reuse false
   drained_lost_end fit a reuse again h t =
       ended_whole fit a reuse h (end-silent reuse (turn_is.LostAtEnd again) a.lost.failed t) (end-counts reuse (turn_is.LostAtEnd again) (λ is. absurd cc) t) t.2
 
@@ -375,20 +407,7 @@ module _ (plan : TalkPlan) (l m n : Moment) (w v u : Moment) (c d e : Course) (c
   not_agreed a cause_is.TooLong h sum = h
   not_agreed a (cause_is.Status status) h sum = h
 
-  -- memory was wanted at a message
-  pub drained_wanted : Draining plan l m w v c d → (message : Message) → IsHeard plan.packet plan.most m n d.received count message → u.sent ≡ v.sent
-      → (bytes : List ℕ) × IsDropped l n w u bytes
-  drained_wanted a message h same = (a.bytes ++ h.bytes, dropped-more l m n w v u a.bytes h.bytes d.received count a.dropped h.came same)
-
-  pub drained_silent_wanted : Draining plan l m w v c d → (why : Unheard) → IsUnheard plan.packet plan.most m n d.received count why → u.sent ≡ v.sent
-      → (bytes : List ℕ) × IsDropped l n w u bytes
-  drained_silent_wanted a why h same = (a.bytes ++ h.bytes, dropped-more l m n w v u a.bytes h.bytes d.received count a.dropped h.came same)
-
   -- ---- each way out
-
-  pub chunk_wanted : Draining plan l m w v c d → (chunk : List ℕ) → IsHeard plan.packet plan.most m n d.received count (Chunk chunk) → IsChunkTurn plan chunk read_to e v u turn_is.NoMemory
-      → (bytes : List ℕ) × IsDropped l n w u bytes
-  chunk_wanted a chunk h t = drained_wanted a (Chunk chunk) h (chunk-silent chunk turn_is.NoMemory a.lost.failed t)
 
   -- a chunk that is refused goes beyond what was due
   chunk-stops : (a : Draining plan l m w v c d) (chunk : List ℕ) (turn : Turn) → (turn ≡ turn_is.NoMemory → ⊥) → (turn ≡ turn_is.On → ⊥) → (turn ≡ turn_is.Lost → ⊥)
@@ -411,17 +430,13 @@ module _ (plan : TalkPlan) (l m n : Moment) (w v u : Moment) (c d e : Course) (c
   chunk-stops a chunk turn_is.NoMemory want on lost h = absurd (want refl)
 
   pub chunk_over : IsPlan plan → Draining plan l m w v c d → (chunk : List ℕ) (turn : Turn) → (turn ≡ turn_is.NoMemory → ⊥) → (turn ≡ turn_is.On → ⊥) → (turn ≡ turn_is.Lost → ⊥)
-      → IsHeard plan.packet plan.most m n d.received count (Chunk chunk) → IsChunkTurn plan chunk read_to e v u turn → Drains plan l n w u c e false
+      → IsHeard plan.packet plan.most m n d.received count (Chunk chunk) → IsChunkTurn plan chunk read_to e v u turn → Drains plan l n w u c e false false
   chunk_over fit a chunk turn other on lost h t =
       drained fit a (Chunk chunk) false h (chunk-silent chunk turn a.lost.failed t) (chunk-counts chunk turn other t) (λ keeps. absurd cc) (λ is sum. absurd cc)
       (chunk-stops a chunk turn other on lost t)
 
-  pub end_wanted : Draining plan l m w v c d → (reuse : Bool) → IsHeard plan.packet plan.most m n d.received count (End reuse) → IsEndTurn reuse read_to e v u turn_is.NoMemory
-      → (bytes : List ℕ) × IsDropped l n w u bytes
-  end_wanted a reuse h t = drained_wanted a (End reuse) h (end-silent reuse turn_is.NoMemory a.lost.failed t)
-
   pub end_over : IsPlan plan → Draining plan l m w v c d → (reuse : Bool) (why : Cause)
-      → IsHeard plan.packet plan.most m n d.received count (End reuse) → IsEndTurn reuse read_to e v u (turn_is.Failed why) → Drains plan l n w u c e false
+      → IsHeard plan.packet plan.most m n d.received count (End reuse) → IsEndTurn reuse read_to e v u (turn_is.Failed why) → Drains plan l n w u c e false false
   end_over fit a reuse why h t =
       drained fit a (End reuse) false h (end-silent reuse (turn_is.Failed why) a.lost.failed t) (end-counts reuse (turn_is.Failed why) (λ is. absurd cc) t) (λ keeps. absurd cc)
       (λ is sum. not_agreed a why t sum) (inr (no-true (agrees (framing_now c.writer) (sum_of a.chunks)) (λ sum. not_agreed a why t sum)))
@@ -429,7 +444,7 @@ module _ (plan : TalkPlan) (l m n : Moment) (w v u : Moment) (c d e : Course) (c
 -- a message that is no part of the rest of a reply: the client is as it was
 module _ (plan : TalkPlan) (l m n : Moment) (w v : Moment) (c d : Course) (count : ℕ) where
   pub other_over : IsPlan plan → (a : Draining plan l m w v c d) (message : Message) → (message ≡ End true → ⊥) → EndsRest c a.chunks message → IsHeard plan.packet plan.most m n d.received count message
-      → Drains plan l n w v c (record d { received = count }) false
+      → Drains plan l n w v c (record d { received = count }) false false
   other_over fit a message other stops h =
       drained plan l m n w v v c d (record d { received = count }) count fit a message false h refl (refl, refl) (λ keeps. absurd cc) (λ is sum. other is) stops
 
@@ -451,28 +466,28 @@ module _ (plan : TalkPlan) (l m n : Moment) (w v u : Moment) (c d e : Course) (c
   at_chunk fit a chunk want turn_is.Unread h t = absurd t
   at_chunk fit a chunk want turn_is.Cut h t = absurd t
   at_chunk fit a chunk want (turn_is.Bad status) h t = absurd t
-  at_chunk fit a chunk want turn_is.NoMemory h t = chunk_wanted plan l m n w v u c d e count a chunk h t
+  at_chunk fit a chunk want turn_is.NoMemory h t = absurd (let failed = a.lost.failed in let well = t.1 in cc)
 
   at_end : IsPlan plan → Draining plan l m w v c d → (reuse : Bool) (want : NoMemory) (turn : Turn) → IsHeard plan.packet plan.most m n d.received count (End reuse)
       → IsEndTurn reuse (record d { received = count }) e v u turn → IsDrainedOn plan l n w u c e (rest_after want turn)
   at_end fit a reuse want turn_is.On h t = absurd t
   at_end fit a reuse want (turn_is.Done again) h t =
-      subst (λ (keep : Bool). Drains plan l n w u c e keep) (sym t.0) (drained_end plan l m n w v u c d e count fit a reuse again h t)
+      subst (λ (keep : Bool). Drains plan l n w u c e keep false) (sym t.0) (drained_end plan l m n w v u c d e count fit a reuse again h t)
   at_end fit a reuse want (turn_is.Failed cause) h t = end_over plan l m n w v u c d e count fit a reuse cause h t
   at_end fit a reuse want turn_is.Lost h t = absurd t
   at_end fit a reuse want (turn_is.LostAtEnd again) h t =
-      subst (λ (keep : Bool). Drains plan l n w u c e keep) (sym t.0) (drained_lost_end plan l m n w v u c d e count fit a reuse again h t)
+      subst (λ (keep : Bool). Drains plan l n w u c e keep false) (sym t.0) (drained_lost_end plan l m n w v u c d e count fit a reuse again h t)
   at_end fit a reuse want turn_is.Unread h t = absurd t
   at_end fit a reuse want turn_is.Cut h t = absurd t
   at_end fit a reuse want (turn_is.Bad status) h t = absurd t
-  at_end fit a reuse want turn_is.NoMemory h t = end_wanted plan l m n w v u c d e count a reuse h t
+  at_end fit a reuse want turn_is.NoMemory h t = absurd (let failed = a.lost.failed in let well = t.1 in cc)
 
   at_other : IsPlan plan → (a : Draining plan l m w v c d) (message : Message) (answer : Result (Option Bool) NoMemory) → (message ≡ End true → ⊥) → EndsRest c a.chunks message
       → IsHeard plan.packet plan.most m n d.received count message → IsClosing (record d { received = count }) e v u answer → IsDrainedOn plan l n w u c e answer
   at_other fit a message answer other stops h t =
       subst (IsDrainedOn plan l n w u c e) (sym t.closes)
-      (subst (λ (x : Moment). Drains plan l n w x c e false) (sym t.client)
-      (subst (λ (k : Course). Drains plan l n w v c k false) (sym t.course) (other_over plan l m n w v c d count fit a message other stops h)))
+      (subst (λ (x : Moment). Drains plan l n w x c e false false) (sym t.client)
+      (subst (λ (k : Course). Drains plan l n w v c k false false) (sym t.course) (other_over plan l m n w v c d count fit a message other stops h)))
 
   at_message : IsPlan plan → Draining plan l m w v c d → (message : Message) (answer : Result (Option Bool) NoMemory) → IsHeard plan.packet plan.most m n d.received count message
       → IsDroppedMessage plan message (record d { received = count }) e v u answer → IsDrainedOn plan l n w u c e answer
@@ -484,11 +499,11 @@ module _ (plan : TalkPlan) (l m n : Moment) (w v u : Moment) (c d e : Course) (c
 
   at_none : IsPlan plan → Draining plan l m w v c d → (want : NoMemory) (why : Unheard) → IsUnheard plan.packet plan.most m n d.received count why
       → IsDrainedOn plan l n w v c (record d { received = count }) (rest_without want why)
-  at_none fit a want unheard_is.Line h = drained_silent plan l m n w v v c d (record d { received = count }) count fit a unheard_is.Line h (λ is. absurd cc) refl (refl, refl)
-  at_none fit a want unheard_is.Ended h = drained_silent plan l m n w v v c d (record d { received = count }) count fit a unheard_is.Ended h (λ is. absurd cc) refl (refl, refl)
-  at_none fit a want unheard_is.Wrong h = drained_silent plan l m n w v v c d (record d { received = count }) count fit a unheard_is.Wrong h (λ is. absurd cc) refl (refl, refl)
-  at_none fit a want unheard_is.TooLong h = drained_silent plan l m n w v v c d (record d { received = count }) count fit a unheard_is.TooLong h (λ is. absurd cc) refl (refl, refl)
-  at_none fit a want unheard_is.NoMemory h = drained_silent_wanted plan l m n w v v c d (record d { received = count }) count a unheard_is.NoMemory h refl
+  at_none fit a want unheard_is.Line h = drained_silent plan l m n w v v c d (record d { received = count }) count fit a unheard_is.Line false h (λ goes is. absurd cc) refl (refl, refl)
+  at_none fit a want unheard_is.Ended h = drained_silent plan l m n w v v c d (record d { received = count }) count fit a unheard_is.Ended false h (λ goes is. absurd cc) refl (refl, refl)
+  at_none fit a want unheard_is.Wrong h = drained_silent plan l m n w v v c d (record d { received = count }) count fit a unheard_is.Wrong false h (λ goes is. absurd cc) refl (refl, refl)
+  at_none fit a want unheard_is.TooLong h = drained_silent plan l m n w v v c d (record d { received = count }) count fit a unheard_is.TooLong false h (λ goes is. absurd cc) refl (refl, refl)
+  at_none fit a want unheard_is.NoMemory h = drained_silent plan l m n w v v c d (record d { received = count }) count fit a unheard_is.NoMemory true h (λ goes is. absurd cc) refl (refl, refl)
 
 pub drained_on : (plan : TalkPlan) (l m n : Moment) (w v u : Moment) (c d e : Course) (answer : Result (Option Bool) NoMemory) → IsPlan plan → Draining plan l m w v c d
     → IsDrop plan m n v u d e answer → IsDrainedOn plan l n w u c e answer

@@ -270,6 +270,7 @@ module _ (plan : TalkPlan) (s m n : TalkMoment) (c c' : Course) where
         broken = unsent_broken a ask count mid h.bytes nx acts.0.0 acts.0.2 acts.2;
         opened = a.opened;
         below = omega (arith, u.2, u.3);
+        lost = (acts.2 ∙ a.stands.written, a.owed);
         counted = unsent-bytes a ask h.bytes fit u;
         ended = λ e. (refl, acts.2 ∙ a.stands.written, asked-of a ask false fit acts.0.3);
         failed = λ e. absurd cc;
@@ -301,6 +302,7 @@ module _ (plan : TalkPlan) (s m n : TalkMoment) (c c' : Course) where
         broken = unsent_broken a ask count mid h.bytes nx acts.0.0 acts.0.1 acts.2;
         opened = a.opened;
         below = omega (arith, u.2, u.3);
+        lost = (acts.2 ∙ a.stands.written, a.owed);
         counted = unsent-bytes a ask h.bytes fit u;
         ended = λ e. absurd cc;
         failed = λ e. omega (arith, acts.0.2, faults);
@@ -359,12 +361,13 @@ module _ (plan : TalkPlan) (s m n : TalkMoment) (c c' : Course) where
 
   -- nothing was made of what came after the accepted messages
   still_broken : (a : At plan s m c) (rest : List ℕ) → Traffic s.line n.line (pong_of plan ++ (a.came ++ rest)) a.put → n.client.sent ≡ m.client.sent → n.body ≡ m.body
-      → HasWanted plan s n
-  still_broken a rest traffic written body = record {
+      → IsSteady s.line n.line → HasWanted plan s n
+  still_broken a rest traffic written body steady = record {
     past = a.past;
     came = a.came;
     rest = rest;
     put = a.put;
+    steady = steady;
     broken = record {
       spelled = a.stands.accepts.spelled;
       front = inl a.stands.accepts.front;
@@ -426,7 +429,7 @@ module _ (plan : TalkPlan) (s m n : TalkMoment) (c c' : Course) where
   wanted_message a (Headers parts) mid count fit h acts =
       let nx = next plan s m mid c count (Headers parts) a.past a.came a.put fit a.stands a.opened a.steady h in
       still_broken a h.bytes (subst (λ (l : Moment). Traffic s.line l (pong_of plan ++ (a.came ++ h.bytes)) a.put) (sym acts.1) nx.traffic)
-      (ap (λ (w : Moment). w.sent) acts.2) (untaken-same m.body n.body acts.3)
+      (ap (λ (w : Moment). w.sent) acts.2) (untaken-same m.body n.body acts.3) (ap (λ (l : Moment). l.faults) acts.1 ∙ nx.steady)
   wanted_message a (Chunk chunk) mid count fit h acts =
       let nx = next plan s m mid c count (Chunk chunk) a.past a.came a.put fit a.stands a.opened a.steady h in
       record {
@@ -434,7 +437,8 @@ module _ (plan : TalkPlan) (s m n : TalkMoment) (c c' : Course) where
         came = a.came ++ h.bytes;
         rest = [];
         put = a.put;
-        broken = chunk_broken a chunk count h.bytes (subst (λ (l : Moment). NextAt a l count (Chunk chunk) h.bytes) (sym acts.1) nx) acts.0.0 acts.0.2 (untaken-same m.body n.body acts.2);
+        broken = chunk_broken a chunk count h.bytes (subst (λ (l : Moment). NextAt a l count (Chunk chunk) h.bytes) (sym acts.1) nx) acts.0.0 acts.0.3 (untaken-same m.body n.body acts.2);
+        steady = ap (λ (l : Moment). l.faults) acts.1 ∙ nx.steady;
       }
   wanted_message a (End reuse) mid count fit h acts =
       let nx = next plan s m mid c count (End reuse) a.past a.came a.put fit a.stands a.opened a.steady h in
@@ -443,7 +447,8 @@ module _ (plan : TalkPlan) (s m n : TalkMoment) (c c' : Course) where
         came = a.came ++ h.bytes;
         rest = [];
         put = a.put;
-        broken = end_broken a reuse count h.bytes (subst (λ (l : Moment). NextAt a l count (End reuse) h.bytes) (sym acts.1) nx) acts.0.0 acts.0.2 (untaken-same m.body n.body acts.2);
+        broken = end_broken a reuse count h.bytes (subst (λ (l : Moment). NextAt a l count (End reuse) h.bytes) (sym acts.1) nx) acts.0.0 acts.0.3 (untaken-same m.body n.body acts.2);
+        steady = ap (λ (l : Moment). l.faults) acts.1 ∙ nx.steady;
       }
   wanted_message a (Ask ask) mid count fit h acts =
       let nx = next plan s m mid c count (Ask ask) a.past a.came a.put fit a.stands a.opened a.steady h in
@@ -452,18 +457,23 @@ module _ (plan : TalkPlan) (s m n : TalkMoment) (c c' : Course) where
         came = a.came ++ h.bytes;
         rest = [];
         put = a.put ++ acts.0.0;
-        broken = ask_broken a ask count mid h.bytes acts.0.0 nx acts.0.1 acts.0.3 acts.0.2 acts.2;
+        broken = ask_broken a ask count mid h.bytes acts.0.0 nx acts.0.1 acts.0.4 acts.0.3 acts.2;
+        steady = acts.0.2 ∙ nx.steady;
       }
   wanted_message a Pong mid count fit h acts = absurd (let e = acts.0 in cc)
 
-  silent_wanted : (a : At plan s m c) (why : Unheard) → IsUnheard plan.packet plan.most m.line n.line c.received c'.received why → n.client ≡ m.client → IsUntaken m.body n.body
+  silent_wanted : (a : At plan s m c) (why : Unheard) → turn_is.NoMemory ≡ turn_of why → IsUnheard plan.packet plan.most m.line n.line c.received c'.received why → n.client ≡ m.client → IsUntaken m.body n.body
       → HasWanted plan s n
-  silent_wanted a why h client body =
+  silent_wanted a unheard_is.Line is h client body = absurd cc
+  silent_wanted a unheard_is.Ended is h client body = absurd cc
+  silent_wanted a unheard_is.Wrong is h client body = absurd cc
+  silent_wanted a unheard_is.TooLong is h client body = absurd cc
+  silent_wanted a unheard_is.NoMemory is h client body =
       still_broken a h.bytes (traffic-came s.line m.line n.line (pong_of plan) a.came h.bytes a.put a.stands.traffic h.came.came h.came.sent)
-      (ap (λ (w : Moment). w.sent) client) (untaken-same m.body n.body body)
+      (ap (λ (w : Moment). w.sent) client) (untaken-same m.body n.body body) (h.as_said.2 ∙ a.steady)
 
   pub wanted : (a : At plan s m c) → IsPlan plan → IsTurn plan m n c c' turn_is.NoMemory → HasWanted plan s n
-  wanted a fit (inl t) = silent_wanted a t.why t.unheard t.client t.body
+  wanted a fit (inl t) = silent_wanted a t.why t.turn_is t.unheard t.client t.body
   wanted a fit (inr t) = wanted_message a t.message t.mid t.count fit t.heard t.acts
 
 -- a message that the talk goes on after was counted

@@ -72,9 +72,9 @@ module _ (plan : TalkPlan) (l mid l' : Moment) (before sent received0 received :
     as_said = (omega (arith, none_received, some), subst (IsFrontOf put) (sym (ping-is plan wanted)) front, part-nil plan.packet, rose);
   }
 
-  pub ping_wanted : plan.ping ≡ true → before ≡ 0 → received ≡ 0 → (put : List ℕ) → Sends l mid before sent put → IsFrontOf put (packet false (10 ∷ []))
+  pub ping_wanted : plan.ping ≡ true → before ≡ 0 → received ≡ 0 → (put : List ℕ) → Sends l mid before sent put → IsFrontOf put (packet false (10 ∷ [])) → IsSteady l mid
       → HasNoAnswer plan l mid sent received unheard_is.NoMemory
-  ping_wanted wanted none_sent none_received put d front = record {
+  ping_wanted wanted none_sent none_received put d front steady = record {
     rest = [];
     put = put;
     pings = wanted;
@@ -82,7 +82,7 @@ module _ (plan : TalkPlan) (l mid l' : Moment) (before sent received0 received :
     sent_is = (let short = front-length put (packet false (10 ∷ [])) front in omega (arith, d.counts, none_sent, short));
     received_is = none_received;
     small = omega (arith, none_received);
-    as_said = subst (IsFrontOf put) (sym (ping-is plan wanted)) front;
+    as_said = (subst (IsFrontOf put) (sym (ping-is plan wanted)) front, steady);
   }
 
   sent-ping : plan.ping ≡ true → before ≡ 0 → Sends l mid before sent (packet false (10 ∷ [])) → sent ≡ length (ping_of plan)
@@ -124,7 +124,7 @@ module _ (plan : TalkPlan) (l mid l' : Moment) (before sent received0 received :
         below = h.below;
       }
 
-  pub unheard_pong : (why : Unheard) → plan.ping ≡ true → before ≡ 0 → received0 ≡ 0 → Sends l mid before sent (packet false (10 ∷ [])) → l.faults ≤ mid.faults
+  pub unheard_pong : (why : Unheard) → plan.ping ≡ true → before ≡ 0 → received0 ≡ 0 → Sends l mid before sent (packet false (10 ∷ [])) → IsSteady l mid
       → IsUnheard plan.packet plan.most mid l' received0 received why → HasNoAnswer plan l l' sent received why
   unheard_pong unheard_is.Line wanted none_sent none_received d faults h =
       unanswered_with h.bytes unheard_is.Line wanted none_sent none_received d h.came
@@ -138,7 +138,7 @@ module _ (plan : TalkPlan) (l mid l' : Moment) (before sent received0 received :
       unanswered_with h.bytes unheard_is.TooLong wanted none_sent none_received d h.came (h.as_said.0, sym (ping-is plan wanted), h.as_said.1)
   unheard_pong unheard_is.NoMemory wanted none_sent none_received d faults h =
       unanswered_with h.bytes unheard_is.NoMemory wanted none_sent none_received d h.came
-      (subst (λ (x : List ℕ). IsFrontOf (packet false (10 ∷ [])) x) (sym (ping-is plan wanted)) (front-all (packet false (10 ∷ []))))
+      (subst (λ (x : List ℕ). IsFrontOf (packet false (10 ∷ [])) x) (sym (ping-is plan wanted)) (front-all (packet false (10 ∷ []))), h.as_said.2 ∙ faults)
 
 -- ---- no CPong came
 
@@ -181,7 +181,7 @@ module _ (plan : TalkPlan) (s n : TalkMoment) (sent received : ℕ) where
       inr (no_pong cause_is.TooLong h.rest h.put h.pings h.traffic h.sent_is h.received_is h.small (omega (arith, ap length h.as_said.1, five)) h.as_said.2
       (λ e. h.as_said.0, λ reached. refl) h.as_said.1 client body)
   unanswered_talk want unheard_is.NoMemory h client body =
-      inr (record { rest = h.rest; put = h.put; traffic = h.traffic; sent = h.as_said; client = client; body = body })
+      inr (record { rest = h.rest; put = h.put; traffic = h.traffic; sent = h.as_said.0; client = client; body = body; steady = h.as_said.1 })
 
 -- ---- the request
 
@@ -258,8 +258,8 @@ module _ (plan : TalkPlan) (s n : TalkMoment) (mid : Moment) (before sent receiv
       (inl (front-behind (ping_of plan) put (request_of plan) front)) (front-owed put (data_at s.body) front) (λ some. absurd cc) refl refl (record { sent = refl; passed = refl; told = refl }) refl st.received (omega (arith, h.below, fit.most))
 
   pub request_wanted : (put : List ℕ) → IsPlan plan → taken_of s.body.body ≡ length plan.first → failed_of s.body.body ≡ None → IsAnswered plan s.line mid before received
-      → Sends mid n.line before sent put → IsFrontOf put (request_of plan) → n.client ≡ s.client → n.body ≡ s.body → HasWanted plan s n
-  request_wanted put fit first going h d front client body =
+      → Sends mid n.line before sent put → IsFrontOf put (request_of plan) → IsSteady mid n.line → n.client ≡ s.client → n.body ≡ s.body → HasWanted plan s n
+  request_wanted put fit first going h d front steady client body =
       let st = stand_begun put fit first going h d front client body in
       record {
         past = [];
@@ -275,6 +275,7 @@ module _ (plan : TalkPlan) (s n : TalkMoment) (mid : Moment) (before sent receiv
           written = all_put s.client.sent n.client.sent [] st.written;
           body = used-takes s.body n.body st.taken st.takes;
         };
+        steady = steady ∙ h.steady;
       }
 
 -- ---- the beginning, whatever the client and the body are
@@ -299,9 +300,9 @@ module _ (plan : TalkPlan) (l mid l' : Moment) (c : Course) (before sent receive
       (subst (λ (t : ℕ). IsTalk plan s n (Ok (failed_end plan (fresh plan sent received) t cause_is.Line))) (first ∙ sym counted) end)
 
   pub begins_wanted : (put : List ℕ) (want : NoMemory) → IsPlan plan → IsAnswered plan l mid before received
-      → Sends mid l' before sent put → IsFrontOf put (request_of plan) → Begins plan l l' c (Some (Err want))
-  begins_wanted put want fit h d front = λ w b first going.
-      inl (request_wanted plan (record { line = l; client = w; body = b }) (record { line = l'; client = w; body = b }) mid before sent received put fit first going h d front refl refl)
+      → Sends mid l' before sent put → IsFrontOf put (request_of plan) → IsSteady mid l' → Begins plan l l' c (Some (Err want))
+  begins_wanted put want fit h d front steady = λ w b first going.
+      inl (request_wanted plan (record { line = l; client = w; body = b }) (record { line = l'; client = w; body = b }) mid before sent received put fit first going h d front steady refl refl)
 
 pub begins_unanswered : (plan : TalkPlan) (l l' : Moment) (c : Course) (sent received : ℕ) (want : NoMemory) (why : Unheard) → HasNoAnswer plan l l' sent received why
     → Begins plan l l' c (Some (unanswered_end want sent received why))

@@ -1,13 +1,13 @@
 -- A message that was read, and why none was, from the read of a packet.
 use Rattle.std.proofs.Common.{◌≡◌, ◌≢◌, ℕ, ◌≤◌, ◌<◌, true, List, length, refl, sym, ap, subst, ◌∙◌, arith, Result, Ok, Err, IfOk, IsTrue, inl, inr}
 use Rattle.jk_io.specs.Told.{Rose, IsEmpty}
-use Rattle.ajp_wire.specs.Packet.{ReadsPacket, CameAs, count_of, says_end, says_fault, IsPart}
+use Rattle.ajp_wire.specs.Packet.{ReadsPacket, CameAs, count_of, says_end, says_fault, says_calm, IsPart}
 use Rattle.ajp_wire.specs.declared.errors.PacketError.{PacketError}
 use Rattle.ajp_wire.specs.declared.errors.PacketError.TheVariants as Read
 use Rattle.ajp_wire.specs.declared.errors.DecodeError.{DecodeError}
 use Rattle.ajp_wire.specs.declared.errors.DecodeError.TheVariants as Decode
 use Rattle.ajp_reply.specs.declared.message.Message.{Message}
-use Rattle.ajp_reply.specs.Spelling.{Spells, IsMessage}
+use Rattle.ajp_reply.specs.Spelling.{Spells, IsMessage, BeginsHead}
 use Rattle.ajp_reply.proofs.StreamLaws.{no_packet-begins, too_long-begins, unread-begins}
 use Rattle.http_body_in.specs.Walks.{counted}
 use Rattle.ajp_talk.specs.Hearing.{unheard, undecoded}
@@ -64,37 +64,37 @@ module _ (packet : ℕ) (l l' : Moment) where
 
   pub unheard-from : (most : ℕ) (error : PacketError) (count count' n : ℕ) → Reads (Err error) → n ≡ count_of (Err error) → n < 4294967400
       → count' ≡ counted count n → l'.sent ≡ l.sent → l.faults ≤ l'.faults → count' < most
-      → (IsTrue (says_end error) → IsEmpty l'.incoming) → (IsTrue (says_fault error) → Rose l.faults l'.faults)
+      → (IsTrue (says_end error) → IsEmpty l'.incoming) → (IsTrue (says_fault error) → Rose l.faults l'.faults) → (IsTrue (says_calm error) → IsSteady l l')
       → IsUnheard packet most l l' count count' (unheard error)
-  unheard-from most (Read.End k) count count' n r value small counts sent no_fewer below end fault = record {
+  unheard-from most (Read.End k) count count' n r value small counts sent no_fewer below end fault calm = record {
     bytes = r.bytes;
     came = came (Err (Read.End k)) count count' n r value small counts sent no_fewer;
     as_said = (below, subst (IsPart true packet) (sym r.are) (part-nil packet), end refl);
   }
-  unheard-from most (Read.Short k) count count' n r value small counts sent no_fewer below end fault = record {
+  unheard-from most (Read.Short k) count count' n r value small counts sent no_fewer below end fault calm = record {
     bytes = r.bytes;
     came = came (Err (Read.Short k)) count count' n r value small counts sent no_fewer;
     as_said = (below, r.are.1, end refl);
   }
-  unheard-from most (Read.BadMagic k) count count' n r value small counts sent no_fewer below end fault = record {
+  unheard-from most (Read.BadMagic k) count count' n r value small counts sent no_fewer below end fault calm = record {
     bytes = r.bytes;
     came = came (Err (Read.BadMagic k)) count count' n r value small counts sent no_fewer;
     as_said = (below, no_packet-begins packet r.bytes r.are.begins_none);
   }
-  unheard-from most (Read.TooLong k) count count' n r value small counts sent no_fewer below end fault = record {
+  unheard-from most (Read.TooLong k) count count' n r value small counts sent no_fewer below end fault calm = record {
     bytes = r.bytes;
     came = came (Err (Read.TooLong k)) count count' n r value small counts sent no_fewer;
     as_said = (below, too_long-begins packet r.bytes r.are);
   }
-  unheard-from most (Read.Fault k) count count' n r value small counts sent no_fewer below end fault = record {
+  unheard-from most (Read.Fault k) count count' n r value small counts sent no_fewer below end fault calm = record {
     bytes = r.bytes;
     came = came (Err (Read.Fault k)) count count' n r value small counts sent no_fewer;
     as_said = (below, r.are, fault refl);
   }
-  unheard-from most (Read.NoMemory k) count count' n r value small counts sent no_fewer below end fault = record {
+  unheard-from most (Read.NoMemory k) count count' n r value small counts sent no_fewer below end fault calm = record {
     bytes = r.bytes;
     came = came (Err (Read.NoMemory k)) count count' n r value small counts sent no_fewer;
-    as_said = tt;
+    as_said = (below, inl r.are, calm refl);
   }
 
   -- the payload spells no message
@@ -109,24 +109,24 @@ module _ (packet : ℕ) (l l' : Moment) where
 
   pub undecoded-from : (most : ℕ) (payload : List ℕ) (error : DecodeError) (count count' n : ℕ) → Reads (Ok payload) → n ≡ count_of (Ok payload) → n < 4294967400
       → count' ≡ counted count n → l'.sent ≡ l.sent → l.faults ≤ l'.faults → count' < most
-      → (error ≢ Decode.NoMemory → (message : Message) → Spells message payload → ⊥)
+      → (error ≢ Decode.NoMemory → (message : Message) → Spells message payload → ⊥) → (error ≡ Decode.NoMemory → BeginsHead payload) → IsSteady l l'
       → IsUnheard packet most l l' count count' (undecoded error)
-  undecoded-from most payload Decode.NoMemory count count' n r value small counts sent no_fewer below none = record {
+  undecoded-from most payload Decode.NoMemory count count' n r value small counts sent no_fewer below none head steady = record {
     bytes = r.bytes;
     came = came (Ok payload) count count' n r value small counts sent no_fewer;
-    as_said = tt;
+    as_said = (below, inr (payload, r.are, head refl), steady);
   }
-  undecoded-from most payload (Decode.Short at) count count' n r value small counts sent no_fewer below none =
+  undecoded-from most payload (Decode.Short at) count count' n r value small counts sent no_fewer below none head steady =
       unread most payload count count' n r value small counts sent no_fewer below (none (λ e. absurd cc))
-  undecoded-from most payload (Decode.BadCode at) count count' n r value small counts sent no_fewer below none =
+  undecoded-from most payload (Decode.BadCode at) count count' n r value small counts sent no_fewer below none head steady =
       unread most payload count count' n r value small counts sent no_fewer below (none (λ e. absurd cc))
-  undecoded-from most payload (Decode.BadMark at) count count' n r value small counts sent no_fewer below none =
+  undecoded-from most payload (Decode.BadMark at) count count' n r value small counts sent no_fewer below none head steady =
       unread most payload count count' n r value small counts sent no_fewer below (none (λ e. absurd cc))
-  undecoded-from most payload (Decode.BadBoolean at) count count' n r value small counts sent no_fewer below none =
+  undecoded-from most payload (Decode.BadBoolean at) count count' n r value small counts sent no_fewer below none head steady =
       unread most payload count count' n r value small counts sent no_fewer below (none (λ e. absurd cc))
-  undecoded-from most payload (Decode.Extra at) count count' n r value small counts sent no_fewer below none =
+  undecoded-from most payload (Decode.Extra at) count count' n r value small counts sent no_fewer below none head steady =
       unread most payload count count' n r value small counts sent no_fewer below (none (λ e. absurd cc))
-  undecoded-from most payload (Decode.TooMany at) count count' n r value small counts sent no_fewer below none =
+  undecoded-from most payload (Decode.TooMany at) count count' n r value small counts sent no_fewer below none head steady =
       unread most payload count count' n r value small counts sent no_fewer below (none (λ e. absurd cc))
-  undecoded-from most payload (Decode.Absent at) count count' n r value small counts sent no_fewer below none =
+  undecoded-from most payload (Decode.Absent at) count count' n r value small counts sent no_fewer below none head steady =
       unread most payload count count' n r value small counts sent no_fewer below (none (λ e. absurd cc))

@@ -1,7 +1,8 @@
 -- A client that is gone, and what is read of the reply after that.
-use Rattle.std.proofs.Common.{◌≡◌, ◌≢◌, ℕ, ◌+◌, ◌-◌, ◌≤◌, ◌<◌, Bool, true, false, ◌&&◌, not, List, [], ◌∷◌, ◌++◌, length, refl, sym, ap, subst, ◌∙◌, arith, append-nil, append_assoc, Option, Some, IfSome, is_some, inl, inr, unwrap_or, ◌⊎◌}
+use Rattle.std.proofs.Common.{◌≡◌, ℕ, ◌+◌, ◌-◌, ◌≤◌, ◌<◌, Bool, true, false, ◌&&◌, not, List, [], ◌∷◌, ◌++◌, length, refl, sym, ap, subst, ◌∙◌, arith, append-nil, append_assoc, Option, Some, IfSome, is_some, inl, inr, unwrap_or, ◌⊎◌}
 use Rattle.std.proofs.lemmas.Bool.{and_parts, ltb-false, not-true, and_cases, not-false}
-use Rattle.jk_io.specs.Told.{Rose}
+use Rattle.jk_io.specs.Told.{Rose, appended, PutsFront}
+use Rattle.jk_io.proofs.ToldLaws.{appended-appended}
 use Rattle.ajp_reply.specs.declared.message.Message.{Message}
 use Rattle.ajp_reply.specs.declared.message.Message.TheVariants.{Headers, Chunk, End, Ask, Pong}
 use Rattle.ajp_reply.specs.declared.message.ReplyParts.{ReplyParts}
@@ -10,13 +11,13 @@ use Rattle.ajp_reply.proofs.StreamLaws.{spelled-behind, one_reading, goes_on, no
 use Rattle.http_out.specs.declared.framing.Framing.{Framing}
 use Rattle.http_out.specs.declared.framing.Framing.TheVariants as By
 use Rattle.http_out.specs.Framing.{spent}
-use Rattle.http_out.specs.Writer.{Writer, IsOpen, framing_now, framing_after}
+use Rattle.http_out.specs.Writer.{Writer, IsOpen, framing_now, framing_after, chunk_bytes, end_bytes}
 use Rattle.http_out.specs.Writer.{counted as counted_chunk}
 use Rattle.jk_io.specs.Moments.{Moment}
 use Rattle.ajp_talk.specs.Moments.{BodyAt, TalkMoment, Traffic, IsSteady, IsUsed, IsFrontOf}
-use Rattle.ajp_talk.specs.Replies.{is_good, kind_of, chunks_of, sum_of, framing_in, exceeds, agrees, IsReply}
+use Rattle.ajp_talk.specs.Replies.{is_good, kind_of, chunks_of, sum_of, framing_in, exceeds, agrees, IsReply, so_far_of_talk, reply_of_talk}
 use Rattle.ajp_talk.specs.Owed.{pong_of, opening}
-use Rattle.ajp_talk.specs.Talk.{IsGone, IsBrokenOff, HasWanted, IsNoEnd, Halt, IsHalted}
+use Rattle.ajp_talk.specs.Talk.{IsGone, IsBrokenOff, IsNoEnd, Halt, IsHalted, IsLostAt, HasNoAsk, PutsFrom}
 use Rattle.ajp_talk.specs.Talk as halt_is
 use Rattle.ajp_talk.specs.Courses.{writer_for, At}
 use Rattle.ajp_talk.specs.Turns.{IsHeard, Acts, IsTurn, CameUnheard}
@@ -29,7 +30,7 @@ use Rattle.ajp_talk.specs.declared.turn.Unheard.{Unheard}
 use Rattle.ajp_talk.specs.declared.turn.Unheard.TheVariants as unheard_is
 use Rattle.ajp_talk.proofs.ReplyLaws.{framing_after-due, framing_after-none, framing_after-closing, framing_after-chunks, some-of, same-equals, same-tests}
 use Rattle.ajp_talk.proofs.AskLaws.{traffic-came, untaken-same}
-use Rattle.ajp_talk.proofs.CourseLaws.{Next, next, longer, chunk-sum, end-sum}
+use Rattle.ajp_talk.proofs.CourseLaws.{Next, next, longer, chunk-sum, end-sum, chunk-written, end-written}
 use Rattle.ajp_talk.proofs.TurnLaws.{bytes-are, few-sent}
 use Rattle.ajp_talk.proofs.EndLaws.{no_turn, chunk_broken, end_broken}
 
@@ -52,6 +53,31 @@ pub record LostAt (plan : TalkPlan) (s n : TalkMoment) (c : Course) : Type 0 whe
   pub lost : IsLostCourse c
   pub opened : IsFrontOf (opening plan) put
   pub steady : IsSteady s.line n.line
+  pub place : IsLostAt plan s n put past
+
+-- bytes that were due after others were written in part
+pub puts_from : (before mid now : Option (List ℕ)) (least more whole : List ℕ) → mid ≡ appended before least → PutsFront mid now more → whole ≡ least ++ more
+    → PutsFrom before now least whole
+puts_from before mid now least more whole written p joined = record {
+  front = p.front;
+  rest = p.rest;
+  joined = joined ∙ ap (λ (l : List ℕ). least ++ l) p.whole ∙ sym (append_assoc least p.front p.rest);
+  put = p.put ∙ ap (λ (o : Option (List ℕ)). appended o p.front) written ∙ appended-appended before least p.front;
+}
+
+-- the place where the client was lost stays, where nothing more is written
+lost-later : (plan : TalkPlan) (s n p : TalkMoment) (put : List ℕ) (past : List Message) → IsLostAt plan s n put past → p.client.sent ≡ n.client.sent → IsLostAt plan s p put past
+lost-later plan s n p put [] h e = absurd h
+lost-later plan s n p put (Headers parts ∷ past) h e = absurd h
+lost-later plan s n p put (Chunk bytes ∷ past) h e = (record { front = h.0.front; rest = h.0.rest; joined = h.0.joined; put = e ∙ h.0.put }, h.1)
+lost-later plan s n p put (End reuse ∷ past) h e = (record { front = h.0.front; rest = h.0.rest; joined = h.0.joined; put = e ∙ h.0.put }, h.1)
+lost-later plan s n p put (Ask most ∷ past) h e = (e ∙ h.0, h.1)
+lost-later plan s n p put (Pong ∷ past) h e = absurd h
+
+-- chunks are no asks
+no-asks : (chunks : List (List ℕ)) → HasNoAsk (chunk_messages chunks)
+no-asks [] = tt
+no-asks (chunk ∷ chunks) = no-asks chunks
 
 -- what is due of a length agrees with what comes exactly where all of it agrees
 pub agrees-later : (f : Framing) (chunks : List (List ℕ)) (n : ℕ) → exceeds f (sum_of chunks) ≡ false → agrees (framing_after f chunks) n ≡ agrees f (sum_of chunks + n)
@@ -225,6 +251,11 @@ module _ (plan : TalkPlan) (s m n : TalkMoment) (c c' : Course) where
         };
         opened = a.opened;
         steady = here.steady;
+        place = (
+          puts_from s.client.sent m.client.sent n.client.sent (so_far_of_talk plan a.past) (chunk_bytes c.writer chunk) (so_far_of_talk plan (Chunk chunk ∷ a.past))
+              st.written lost.puts (chunk-written (kind_of plan) (head_of a.past) (chunks_of a.past) c.writer chunk st.writer some),
+          a.owed,
+        );
       }
 
   lost_message : (a : At plan s m c) (message : Message) (mid : Moment) (count : ℕ) → IsPlan plan → s.client.faults ≤ m.client.faults
@@ -264,6 +295,11 @@ module _ (plan : TalkPlan) (s m n : TalkMoment) (c c' : Course) where
         put = a.put;
         opened = a.opened;
         below = omega (arith, nx.counts, nx.below);
+        lost = (
+          puts_from s.client.sent m.client.sent n.client.sent (so_far_of_talk plan a.past) (end_bytes c.writer) (reply_of_talk plan a.past)
+              st.written acts.0.3 (end-written (kind_of plan) (head_of a.past) (chunks_of a.past) c.writer st.writer some),
+          a.owed,
+        );
         broken = end_broken plan s m n c c' a again count h.bytes here acts.0.1 acts.0.3 (untaken-same m.body n.body acts.2);
         counted = subst (λ (x : List ℕ). bytes_end c' ≡ length a.put + length (pong_of plan ++ x)) (sym all)
             (bytes-are c' a.put (pong_of plan ++ (a.came ++ h.bytes)) (sent ∙ st.sent) (received ∙ nx.counts) (few-sent plan s m c a.past a.came a.put fit st) (omega (arith, received, nx.below, fit.most)));
@@ -274,15 +310,18 @@ module _ (plan : TalkPlan) (s m n : TalkMoment) (c c' : Course) where
             let lets : again ≡ true = sym acts.0.0 ∙ both.0 in (
               not-true plan.close_on_client both.1,
               here.steady,
-              (
-                a.past,
-                subst (λ (x : List ℕ). IsReply plan (End true ∷ a.past) x) (sym all) (record {
+              record {
+                all = a.past;
+                later = [];
+                reply = subst (λ (x : List ℕ). IsReply plan (End true ∷ a.past) x) (sym all) (record {
                   spelled = subst (λ (r : Bool). Spelled plan.packet (End r ∷ a.past) (a.came ++ h.bytes)) lets nx.spelled;
                   form = (some, st.accepts.front);
                   sum = end-sum (kind_of plan) (head_of a.past) (chunks_of a.past) c.writer true st.writer some st.accepts.within acts.0.2;
-                }),
-                subst (λ (x : List ℕ). length (pong_of plan ++ x) < plan.most) (sym all) (omega (arith, nx.counts, nx.below)),
-              ),
+                });
+                split = ap (λ (r : Bool). End r ∷ a.past) (sym lets);
+                unasked = tt;
+                below = subst (λ (x : List ℕ). length (pong_of plan ++ x) < plan.most) (sym all) (omega (arith, nx.counts, nx.below));
+              },
             );
         closed = λ f. not_kept plan again a.past ((a.came ++ h.bytes) ++ []) (subst (Spelled plan.packet (End again ∷ a.past)) (sym all) nx.spelled)
             (subst (λ (r : Bool). (r && not plan.close_on_client) ≡ false) acts.0.0 (sym e ∙ f));
@@ -311,6 +350,7 @@ lost_gone plan s n c fit closes a = record {
   put = a.put;
   broken = a.broken;
   opened = a.opened;
+  lost = a.place;
   below = omega (arith, a.received, a.below);
   counted = subst (λ (x : List ℕ). bytes_end c ≡ length a.put + length (pong_of plan ++ x)) (sym (append-nil a.came))
       (bytes-are c a.put (pong_of plan ++ a.came) a.sent a.received a.few (omega (arith, a.below, fit.most)));
@@ -338,7 +378,7 @@ broken-behind plan s n p past came put bytes b d body =
     }
 
 -- why the rest wasn't read on, as it is said of all that came after CPong
-module _ (plan : TalkPlan) (s n p : TalkMoment) (c c' : Course) (a : LostAt plan s n c) (bytes : List ℕ) where
+module _ (plan : TalkPlan) (s n p : TalkMoment) (c c' : Course) (a : LostAt plan s n c) (bytes : List ℕ) (want : Bool) where
   stopped : (t : IsStopped plan c bytes) (message : Message) → t.message ≡ message → EndsRest c t.chunks message → (why : Halt) × IsHalted plan s p (a.came ++ bytes) why
   stopped t message is stops = of message (subst (λ (x : Message). Spelled plan.packet (x ∷ chunk_messages t.chunks) bytes) is t.spelled) stops
     where
@@ -406,32 +446,32 @@ module _ (plan : TalkPlan) (s n p : TalkMoment) (c c' : Course) (a : LostAt plan
       of (Ask ask) spelled stops = (halt_is.Asked, (ask, past, all (Ask ask) spelled))
       of Pong spelled stops = (halt_is.Hopeless, hopeless Pong spelled (λ front. front) (λ form. form))
 
-  short : (t : IsCutShort plan n.line p.line c' bytes) → c'.received ≡ length (pong_of plan ++ (a.came ++ bytes)) → (why : Halt) × IsHalted plan s p (a.came ++ bytes) why
-  short t received = of t.why t.as_said t.no_want
+  short : (t : IsCutShort plan n.line p.line c' bytes want) → c'.received ≡ length (pong_of plan ++ (a.came ++ bytes)) → (why : Halt) × IsHalted plan s p (a.came ++ bytes) why
+  short t received = of t.why t.as_said
     where
       past : List Message
       past = chunk_messages t.chunks ++ a.past
 
-      of : (why : Unheard) → CameUnheard plan.packet plan.most c'.received n.line p.line t.rest why → (why ≢ unheard_is.NoMemory) → (halt : Halt) × IsHalted plan s p (a.came ++ bytes) halt
-      of unheard_is.Line h other = (halt_is.Failed, omega (arith, h.2, a.steady))
-      of unheard_is.Ended h other = (halt_is.Ended, h.2)
-      of unheard_is.Wrong h other = (
+      of : (why : Unheard) → CameUnheard plan.packet plan.most c'.received n.line p.line t.rest why → (halt : Halt) × IsHalted plan s p (a.came ++ bytes) halt
+      of unheard_is.Line h = (halt_is.Failed, omega (arith, h.2, a.steady))
+      of unheard_is.Ended h = (halt_is.Ended, h.2)
+      of unheard_is.Wrong h = (
         halt_is.Hopeless,
         subst (NoReply is_good plan.packet) (append_assoc a.came t.front t.rest ∙ ap (λ (x : List ℕ). a.came ++ x) (sym t.whole))
             (no_reply-none is_good plan.packet past (a.came ++ t.front) t.rest (spelled-behind plan.packet a.past (chunk_messages t.chunks) a.came t.front a.broken.spelled t.spelled)
             (front-chunks t.chunks a.past (ap is_some a.head) a.front) h.1),
       )
-      of unheard_is.TooLong h other = (halt_is.Full, omega (arith, h.0, received))
-      of unheard_is.NoMemory h other = absurd (other refl)
+      of unheard_is.TooLong h = (halt_is.Full, omega (arith, h.0, received))
+      of unheard_is.NoMemory h = (halt_is.Starved, (omega (arith, h.0, received), h.2 ∙ a.steady))
 
-  halts : IsStopped plan c bytes ⊎ IsCutShort plan n.line p.line c' bytes → c'.received ≡ length (pong_of plan ++ (a.came ++ bytes)) → (why : Halt) × IsHalted plan s p (a.came ++ bytes) why
+  halts : IsStopped plan c bytes ⊎ IsCutShort plan n.line p.line c' bytes want → c'.received ≡ length (pong_of plan ++ (a.came ++ bytes)) → (why : Halt) × IsHalted plan s p (a.came ++ bytes) why
   halts (inl t) received = stopped t t.message refl t.stops
   halts (inr t) received = short t received
 
-pub lost_drained : (plan : TalkPlan) (s n p : TalkMoment) (c c' : Course) (keep : Bool) → IsPlan plan → LostAt plan s n c
-    → Drains plan n.line p.line n.client p.client c c' keep → plan.close_on_client ≡ false → p.body ≡ n.body → n.client.faults ≤ p.client.faults
+pub lost_drained : (plan : TalkPlan) (s n p : TalkMoment) (c c' : Course) (keep want : Bool) → IsPlan plan → LostAt plan s n c
+    → Drains plan n.line p.line n.client p.client c c' keep want → plan.close_on_client ≡ false → p.body ≡ n.body → n.client.faults ≤ p.client.faults
     → IsGone plan s p false keep (bytes_end c')
-lost_drained plan s n p c c' keep fit a d closes body faults =
+lost_drained plan s n p c c' keep want fit a d closes body faults =
     let received : c'.received ≡ length (pong_of plan ++ (a.came ++ d.bytes)) = omega (arith, d.counts, a.received, longer (pong_of plan) a.came d.bytes) in
     record {
       past = a.past;
@@ -440,6 +480,7 @@ lost_drained plan s n p c c' keep fit a d closes body faults =
       put = a.put;
       broken = broken-behind plan s n p a.past a.came a.put d.bytes a.broken d.dropped body;
       opened = a.opened;
+      lost = lost-later plan s n p a.put a.past a.place d.dropped.written;
       below = omega (arith, a.received, a.below);
       counted = bytes-are c' a.put (pong_of plan ++ (a.came ++ d.bytes)) (d.same ∙ a.sent) received a.few (omega (arith, d.small, fit.most));
       ended = λ e. absurd cc;
@@ -447,19 +488,16 @@ lost_drained plan s n p c c' keep fit a d closes body faults =
       kept = λ e. (
         closes,
         (d.kept e).2 ∙ a.steady,
-        (chunk_messages (d.kept e).0.chunks ++ a.past, lost_reply plan s n c a d.bytes (d.kept e).0, omega (arith, received, (d.kept e).1)),
+        record {
+          all = chunk_messages (d.kept e).0.chunks ++ a.past;
+          later = End true ∷ chunk_messages (d.kept e).0.chunks;
+          reply = lost_reply plan s n c a d.bytes (d.kept e).0;
+          split = refl;
+          unasked = no-asks (d.kept e).0.chunks;
+          below = omega (arith, received, (d.kept e).1);
+        },
       );
       closed = λ e. inr (no_end-from plan s n c c' a d.bytes (d.closed e) received);
-      halted = λ e goes. halts plan s n p c c' a d.bytes (d.halted e) received;
+      halted = λ e goes. halts plan s n p c c' a d.bytes want (d.halted e) received;
       at_once = λ e. absurd cc;
     }
-
-pub lost_wanted : (plan : TalkPlan) (s n p : TalkMoment) (c : Course) (bytes : List ℕ) → LostAt plan s n c → IsDropped n.line p.line n.client p.client bytes → p.body ≡ n.body
-    → HasWanted plan s p
-lost_wanted plan s n p c bytes a d body = record {
-  past = a.past;
-  came = a.came;
-  rest = bytes;
-  put = a.put;
-  broken = broken-behind plan s n p a.past a.came a.put bytes a.broken d body;
-}

@@ -8,7 +8,7 @@ use Rattle.jk_io.specs.declared.failures.IoError.{IoError}
 use Rattle.jk_io.specs.declared.failures.IoError.TheVariants as Io
 use Rattle.jk_io.proofs.ToldLaws.{appended-nil}
 use Rattle.http_body_in.specs.Body.{Data, reaches}
-use Rattle.http_body_in.specs.Faults.{IsByBytes}
+use Rattle.http_body_in.specs.Faults.{IsNoFailure}
 use Rattle.http_body_in.specs.Places.{is_limited}
 use Rattle.http_body_in.specs.State.{place_of, taken_of, most_of}
 use Rattle.http_body_in.specs.Walks.{counted}
@@ -56,6 +56,7 @@ sent-from l l' before after written bytes (Err Io.NoMemory) whole within put inc
   take (written - 0) bytes,
   part-sent l l' before after written bytes (omega (arith, within)) put incoming received cause.no_fewer counts,
   record { rest = drop (written - 0) bytes; joined = sym (take-append-drop (written - 0) bytes) },
+  cause.wanted refl,
 )
 
 -- a request without a first piece
@@ -66,8 +67,8 @@ forward-alone plan none = ap (λ (first : List ℕ). plan.forward ++ first_packe
 pub sends-nothing : (l : Moment) (before : ℕ) → Sends l l before before []
 sends-nothing l before = record { sent = sym (appended-nil l.sent); counts = λ fits. omega arith; incoming = refl; received = refl; no_fewer = omega arith }
 
-pub unsent : (l : Moment) (before : ℕ) (bytes : List ℕ) → (put : List ℕ) × Sends l l before before put × IsFrontOf put bytes
-unsent l before bytes = ([], sends-nothing l before, front-none bytes)
+pub unsent : (l : Moment) (before : ℕ) (bytes : List ℕ) → (put : List ℕ) × Sends l l before before put × IsFrontOf put bytes × IsSteady l l
+unsent l before bytes = ([], sends-nothing l before, front-none bytes, refl)
 
 no-front : (n : ℕ) (t : Option Data) → IfSome t (λ d. IsFrontOf [] (answer n d))
 no-front n None = tt
@@ -94,7 +95,7 @@ ask-refused n l before w w' b b' X Y fault.BadChunk used short bad long failed =
     two (Some d) h = (h.0, h.1)
 ask-refused n l before w w' b b' X Y fault.TooLong used short bad long failed = (sends-nothing l before, refl, used, inr (refl, (long refl).0, (long refl).1))
 ask-refused n l before w w' b b' X Y fault.Fault used short bad long failed = (sends-nothing l before, used, failed refl)
-ask-refused n l before w w' b b' X Y fault.NoMemory used short bad long failed = ([], sends-nothing l before, used, no-front n (data_at b))
+ask-refused n l before w w' b b' X Y fault.NoMemory used short bad long failed = ([], sends-nothing l before, refl, used, no-front n (data_at b))
 
 front-answer : (n : ℕ) (t : Option Data) (put piece : List ℕ) → IfSome t (λ d. (piece ≡ take n d.bytes) × IsTrue (reaches n d)) → IsFrontOf put (body_packet piece)
     → IfSome t (λ d. IsFrontOf put (answer n d))
@@ -110,12 +111,12 @@ pub ask-sent : (n : ℕ) (l l' : Moment) (before after : ℕ) (w w' : Moment) (b
 ask-sent n l l' before after w w' b b' piece (Ok done) gives sent = (piece, gives, sent.0, sent.1)
 ask-sent n l l' before after w w' b b' piece (Err Io.Failed) gives sent = (piece, sent.0, gives, sent.1, sent.2, sent.3)
 ask-sent n l l' before after w w' b b' piece (Err Io.NoMemory) gives sent =
-    (sent.0, sent.1, record { gone = gives.uses.gone; used = gives.uses.used; most = gives.most }, front-answer n (data_at b) sent.0 piece gives.data' sent.2)
+    (sent.0, sent.1, sent.3, record { gone = gives.uses.gone; used = gives.uses.used; most = gives.most }, front-answer n (data_at b) sent.0 piece gives.data' sent.2)
 
--- where the body's fault is by the client's bytes alone, no read of the client failed
-pub refused-calm : (why : BodyFault) (before now : ℕ) → (IsByBytes why → now ≡ before) → IsCalmTurn (fault_turn why) → now ≡ before
+-- where the body's fault is none of a read, no read of the client failed
+pub refused-calm : (why : BodyFault) (before now : ℕ) → (IsNoFailure why → now ≡ before) → IsCalmTurn (fault_turn why) → now ≡ before
 refused-calm fault.Truncated before now steady calm = steady tt
 refused-calm fault.BadChunk before now steady calm = steady tt
 refused-calm fault.TooLong before now steady calm = steady tt
 refused-calm fault.Fault before now steady calm = absurd calm
-refused-calm fault.NoMemory before now steady calm = absurd calm
+refused-calm fault.NoMemory before now steady calm = steady tt

@@ -18,7 +18,6 @@ use Rattle.ajp_talk.specs.declared.turn.Turn.{Turn}
 use Rattle.ajp_talk.specs.declared.turn.Turn.TheVariants as turn_is
 use Rattle.ajp_talk.specs.declared.turn.Unheard.{Unheard}
 use Rattle.ajp_talk.specs.declared.turn.Unheard.TheVariants as unheard_is
-use Rattle.ajp_talk.specs.declared.messages.TheConstants.{READ_LIMIT}
 
 -- a head was passed, and a write failed after it
 pub record IsLostCourse (c : Course) : Type 0 where
@@ -62,8 +61,8 @@ pub record IsStopped (plan : TalkPlan) (c : Course) (bytes : List ℕ) : Type 0 
   pub spelled : Spelled plan.packet (message ∷ chunk_messages chunks) bytes
   pub stops : EndsRest c chunks message
 
--- no message came after chunks
-pub record IsCutShort (plan : TalkPlan) (l l' : Moment) (c' : Course) (bytes : List ℕ) : Type 0 where
+-- no message came after chunks; for want of memory only where it was wanted
+pub record IsCutShort (plan : TalkPlan) (l l' : Moment) (c' : Course) (bytes : List ℕ) (want : Bool) : Type 0 where
   pub chunks : List (List ℕ)
   pub front : List ℕ
   pub rest : List ℕ
@@ -71,21 +70,22 @@ pub record IsCutShort (plan : TalkPlan) (l l' : Moment) (c' : Course) (bytes : L
   pub whole : bytes ≡ front ++ rest
   pub why : Unheard
   pub as_said : CameUnheard plan.packet plan.most c'.received l l' rest why
-  pub no_want : why ≢ unheard_is.NoMemory
+  pub no_want : want ≡ false → why ≢ unheard_is.NoMemory
 
-pub record Drains (plan : TalkPlan) (l l' : Moment) (w w' : Moment) (c c' : Course) (keep : Bool) : Type 0 where
+-- the rest was read, and the link may be kept; or memory was wanted
+pub record Drains (plan : TalkPlan) (l l' : Moment) (w w' : Moment) (c c' : Course) (keep want : Bool) : Type 0 where
   pub bytes : List ℕ
   pub dropped : IsDropped l l' w w' bytes
   pub counts : c'.received ≡ c.received + length bytes
-  pub small : c'.received < plan.most + READ_LIMIT
+  pub small : c'.received < plan.most + 4294967400
   pub same : c'.sent ≡ c.sent
   pub kept : keep ≡ true → IsTail plan c bytes × (c'.received < plan.most) × IsSteady l l'
   pub closed : keep ≡ false → c'.received < plan.most → IsNoTail plan c bytes
-  pub halted : keep ≡ false → IsStopped plan c bytes ⊎ IsCutShort plan l l' c' bytes
+  pub halted : keep ≡ false → IsStopped plan c bytes ⊎ IsCutShort plan l l' c' bytes want
 
 abbrev pub IsDrained : TalkPlan → Moment → Moment → Moment → Moment → Course → Course → Result Bool NoMemory → Type 0
-IsDrained plan l l' w w' c c' (Ok keep) = Drains plan l l' w w' c c' keep
-IsDrained plan l l' w w' c c' (Err e) = (bytes : List ℕ) × IsDropped l l' w w' bytes
+IsDrained plan l l' w w' c c' (Ok keep) = Drains plan l l' w w' c c' keep false
+IsDrained plan l l' w w' c c' (Err e) = Drains plan l l' w w' c c' false true
 
 -- ---- one message
 
@@ -146,8 +146,7 @@ IsDrop plan l l' w w' c c' answer = HasDropped plan l l' w w' c c' answer ⊎ Ha
 -- ---- the end of a talk whose client is gone
 
 -- at once where the link is to be closed then, and else after the rest was dropped
-abbrev pub IsLostEnd : TalkPlan → Moment → Moment → Moment → Moment → Course → Course → Result TalkEnd NoMemory → Type 0
-IsLostEnd plan l l' w w' c c' (Ok end) =
+abbrev pub IsLostEnd : TalkPlan → Moment → Moment → Moment → Moment → Course → Course → TalkEnd → Type 0
+IsLostEnd plan l l' w w' c c' end =
     ((plan.close_on_client ≡ true) × (end ≡ gone_end c false false) × (l' ≡ l) × (w' ≡ w))
-    ⊎ ((plan.close_on_client ≡ false) × ((keep : Bool) × Drains plan l l' w w' c c' keep × (end ≡ gone_end c' false keep)))
-IsLostEnd plan l l' w w' c c' (Err e) = (bytes : List ℕ) × IsDropped l l' w w' bytes
+    ⊎ ((plan.close_on_client ≡ false) × ((keep : Bool) × (want : Bool) × Drains plan l l' w w' c c' keep want × (end ≡ gone_end c' false keep)))

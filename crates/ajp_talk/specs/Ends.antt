@@ -1,5 +1,5 @@
 -- How a talk's answer is made from how far it had come; and what a plan keeps.
-use Rattle.std.specs.Prelude.{ℕ, ◌<◌, ◌≤◌, Bool, true, false, ◌&&◌, not, nat_le, nat_lt, length, Option, Some, None, Result, Ok, Err, if◌then◌else◌}
+use Rattle.std.specs.Prelude.{ℕ, ◌^◌, ◌<◌, ◌≤◌, Bool, true, false, ◌&&◌, not, nat_le, nat_lt, length, Option, Some, None, Result, Ok, Err, if◌then◌else◌}
 use Rattle.http_body_in.specs.Walks.{counted}
 use Rattle.ajp_talk.specs.Owed.{opening, IsSealed}
 use Rattle.ajp_talk.specs.declared.plan.TalkPlan.{TalkPlan}
@@ -15,15 +15,13 @@ use Rattle.ajp_talk.specs.declared.turn.Turn.TheVariants as turn_is
 use Rattle.ajp_talk.specs.declared.turn.Unheard.{Unheard}
 use Rattle.ajp_talk.specs.declared.turn.Unheard.TheVariants as unheard_is
 use Rattle.jk_io.specs.declared.failures.NoMemory.{NoMemory}
-use Rattle.http_front.specs.declared.framing.TheConstants.{MAX_BODY_BYTES}
-use Rattle.ajp_wire.specs.declared.writing.TheConstants.{MAX_PIECE_BYTES}
 
 -- A piece has 1 to 65,530 bytes, the limit is 1 to 2^40, a packet goes out first, and the first piece is within a piece.
 pub record IsPlan (plan : TalkPlan) : Type 0 where
   pub some_piece : 0 < plan.piece
-  pub piece : plan.piece ≤ MAX_PIECE_BYTES
+  pub piece : plan.piece ≤ 65530
   pub some_bytes : 0 < plan.most
-  pub most : plan.most ≤ MAX_BODY_BYTES
+  pub most : plan.most ≤ 2 ^ 40
   pub forward : IsSealed plan.forward
   pub first : length plan.first ≤ plan.piece
 

@@ -155,6 +155,17 @@ pub record HasNoPong (plan : TalkPlan) (s n : TalkMoment) (stage : Stage) (cause
 
 -- ---- the other ends
 
+-- The least, and then a front of what the whole has beyond it, was added at the end.
+pub record PutsFrom (before now : Option (List ℕ)) (least whole : List ℕ) : Type 0 where
+  pub front : List ℕ
+  pub rest : List ℕ
+  pub joined : whole ≡ (least ++ front) ++ rest
+  pub put : now ≡ appended before (least ++ front)
+
+-- all that is owed for these messages was sent
+abbrev pub HasSent : TalkPlan → TalkMoment → List ℕ → List Message → Type 0
+HasSent plan s put past = IfSome (data_at s.body) (λ d. put ≡ owed plan d past)
+
 -- A whole reply came, all that was owed was sent, and the client has the reply whole.
 pub record IsDone (plan : TalkPlan) (s n : TalkMoment) (told : Told) (reuse : Bool) (bytes : ℕ) : Type 0 where
   pub past : List Message
@@ -193,7 +204,8 @@ abbrev pub IsNoEnd : TalkPlan → List ℕ → Type 0
 IsNoEnd plan bytes = (all : List Message) → IsReply plan (End true ∷ all) bytes → length (pong_of plan ++ bytes) < plan.most → ⊥
 
 -- Why the reading for a client that is gone stops before an end that lets the link serve again: the link failed or ended;
--- no reply can follow; an ask came; an end came that forbids it; the sum disagrees; the limit was reached.
+-- no reply can follow; an ask came; an end came that forbids it; the sum disagrees; the limit was reached; memory was
+-- wanted, though no call of the link had failed.
 pub data Halt : Type 0 where
   Failed : Halt
   Ended : Halt
@@ -202,6 +214,7 @@ pub data Halt : Type 0 where
   Forbidden : Halt
   Uneven : Halt
   Full : Halt
+  Starved : Halt
 
 -- what each says of the link, and of the bytes after CPong
 abbrev pub IsHalted : TalkPlan → TalkMoment → TalkMoment → List ℕ → Halt → Type 0
@@ -213,11 +226,44 @@ IsHalted plan s n bytes Forbidden = (past : List Message) × Spelled plan.packet
 IsHalted plan s n bytes Uneven =
     (message : Message) × (past : List Message) × Spelled plan.packet (message ∷ past) bytes × BreaksSum plan past message
 IsHalted plan s n bytes Full = plan.most ≤ length (pong_of plan ++ bytes)
+IsHalted plan s n bytes Starved = (length (pong_of plan ++ bytes) < plan.most) × IsSteady s.line n.line
 
--- The client is gone: its bytes ended within the body at an ask, or a read or a write of it failed. The link is kept
--- exactly where the bytes that came are a whole reply that lets it serve again, and it isn't to be closed then. Where it
--- isn't to be closed it was read until something stopped that. The limit wasn't reached by what had come when the client
--- was gone.
+-- Where the client was lost, the newest message first: at a chunk or at the end, whose bytes were due when all before
+-- them had been written, or at an ask, for which the body could not be read. All that was owed until then was sent.
+abbrev pub IsLostAt : TalkPlan → TalkMoment → TalkMoment → List ℕ → List Message → Type 0
+IsLostAt plan s n put [] = ⊥
+IsLostAt plan s n put (Headers parts ∷ past) = ⊥
+IsLostAt plan s n put (Chunk bytes ∷ past) =
+    PutsFrom s.client.sent n.client.sent (so_far_of_talk plan past) (so_far_of_talk plan (Chunk bytes ∷ past)) × HasSent plan s put past
+IsLostAt plan s n put (End reuse ∷ past) =
+    PutsFrom s.client.sent n.client.sent (so_far_of_talk plan past) (reply_of_talk plan past) × HasSent plan s put past
+IsLostAt plan s n put (Ask most ∷ past) = (n.client.sent ≡ appended s.client.sent (so_far_of_talk plan past)) × HasSent plan s put past
+IsLostAt plan s n put (Pong ∷ past) = ⊥
+
+-- there is no ask among the messages
+abbrev pub HasNoAsk : List Message → Type 0
+HasNoAsk [] = Unit {0}
+HasNoAsk (Headers parts ∷ past) = HasNoAsk past
+HasNoAsk (Chunk bytes ∷ past) = HasNoAsk past
+HasNoAsk (End reuse ∷ past) = HasNoAsk past
+HasNoAsk (Ask most ∷ past) = ⊥
+HasNoAsk (Pong ∷ past) = HasNoAsk past
+
+-- The bytes after CPong are a whole reply below the limit that lets the link serve again, and of its messages none that
+-- came after the past ones is an ask.
+pub record IsWholeAfter (plan : TalkPlan) (past : List Message) (bytes : List ℕ) : Type 0 where
+  pub all : List Message
+  pub later : List Message
+  pub reply : IsReply plan (End true ∷ all) bytes
+  pub split : End true ∷ all ≡ later ++ past
+  pub unasked : HasNoAsk later
+  pub below : length (pong_of plan ++ bytes) < plan.most
+
+-- The client is gone: its bytes ended within the body at an ask, or a read or a write of it failed. The past messages are
+-- those that had come then, and the rest is what came after them: nothing more was sent. The link is kept exactly where
+-- the bytes that came are a whole reply that lets it serve again, with no ask after the client was gone, and it isn't to
+-- be closed then. Where it isn't to be closed it was read until something stopped that. The limit wasn't reached by what
+-- had come when the client was gone.
 pub record IsGone (plan : TalkPlan) (s n : TalkMoment) (truncated keep : Bool) (bytes : ℕ) : Type 0 where
   pub past : List Message
   pub came : List ℕ
@@ -226,12 +272,12 @@ pub record IsGone (plan : TalkPlan) (s n : TalkMoment) (truncated keep : Bool) (
   pub broken : IsBrokenOff plan s n past came rest put
   pub opened : IsFrontOf (opening plan) put
   pub below : length (pong_of plan ++ came) < plan.most
+  pub lost : IsLostAt plan s n put past
   pub counted : bytes ≡ length put + length (pong_of plan ++ (came ++ rest))
   pub ended : truncated ≡ true → (keep ≡ false) × (n.client.sent ≡ appended s.client.sent (so_far_of_talk plan past))
       × IfSome (data_at s.body) (λ d. (reaches (asked plan.piece past) d ≡ false) × (d.bad ≡ false))
   pub failed : truncated ≡ false → Rose s.client.faults n.client.faults
-  pub kept : keep ≡ true → (plan.close_on_client ≡ false) × IsSteady s.line n.line
-      × ((all : List Message) × IsReply plan (End true ∷ all) (came ++ rest) × (length (pong_of plan ++ (came ++ rest)) < plan.most))
+  pub kept : keep ≡ true → (plan.close_on_client ≡ false) × IsSteady s.line n.line × IsWholeAfter plan past (came ++ rest)
   pub closed : keep ≡ false → (plan.close_on_client ≡ true) ⊎ IsNoEnd plan (came ++ rest)
   pub halted : keep ≡ false → plan.close_on_client ≡ false → (why : Halt) × IsHalted plan s n (came ++ rest) why
   pub at_once : plan.close_on_client ≡ true → rest ≡ []
@@ -263,13 +309,14 @@ pub record HasBadBody (plan : TalkPlan) (s n : TalkMoment) (status : ℕ) (told 
   pub counted : bytes ≡ length put + length (pong_of plan ++ came)
   pub body : IsUsed s.body n.body
 
--- Memory was wanted.
+-- Memory was wanted, and no call of the link had failed.
 pub record HasWanted (plan : TalkPlan) (s n : TalkMoment) : Type 0 where
   pub past : List Message
   pub came : List ℕ
   pub rest : List ℕ
   pub put : List ℕ
   pub broken : IsBrokenOff plan s n past came rest put
+  pub steady : IsSteady s.line n.line
 
 -- Memory was wanted before a CPong came.
 pub record HasWantedEarly (plan : TalkPlan) (s n : TalkMoment) : Type 0 where
@@ -279,6 +326,7 @@ pub record HasWantedEarly (plan : TalkPlan) (s n : TalkMoment) : Type 0 where
   pub sent : IsFrontOf put (ping_of plan)
   pub client : n.client ≡ s.client
   pub body : n.body ≡ s.body
+  pub steady : IsSteady s.line n.line
 
 -- What a talk's answer says, from the moment of its call to the moment of its return.
 abbrev pub IsTalk : TalkPlan → TalkMoment → TalkMoment → Result TalkEnd NoMemory → Type 0
@@ -288,11 +336,19 @@ IsTalk plan s n (Ok (ends.ClientGone truncated keep bytes)) = IsGone plan s n tr
 IsTalk plan s n (Ok (ends.BadBody status told passed bytes)) = HasBadBody plan s n status told passed bytes
 IsTalk plan s n (Err e) = HasWanted plan s n ⊎ HasWantedEarly plan s n
 
--- An end that no failed call of the client and no want of memory made. Where the client is gone, its bytes ended.
+-- An end that no failed call of the client made. Where the client is gone, its bytes ended.
 abbrev pub IsCalmEnd : Result TalkEnd NoMemory → Type 0
 IsCalmEnd (Ok (ends.Done told reuse bytes)) = Unit {0}
 IsCalmEnd (Ok (ends.Failed stage cause told bytes)) = Unit {0}
 IsCalmEnd (Ok (ends.ClientGone true keep bytes)) = Unit {0}
 IsCalmEnd (Ok (ends.ClientGone false keep bytes)) = ⊥
 IsCalmEnd (Ok (ends.BadBody status told passed bytes)) = Unit {0}
-IsCalmEnd (Err e) = ⊥
+IsCalmEnd (Err e) = Unit {0}
+
+-- How a talk was held, from the moment of its call to the moment of its return: how it ended, and that a count of faults
+-- never falls; the client's stands, unless a failed call of it is what ended the talk.
+pub record HoldsTalk (plan : TalkPlan) (s n : TalkMoment) (result : Result TalkEnd NoMemory) : Type 0 where
+  pub talk : IsTalk plan s n result
+  pub line : s.line.faults ≤ n.line.faults
+  pub client : s.client.faults ≤ n.client.faults
+  pub calm : IsCalmEnd result → n.client.faults ≡ s.client.faults

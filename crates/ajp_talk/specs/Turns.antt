@@ -3,11 +3,11 @@ use Rattle.std.specs.Prelude.{◌≡◌, ℕ, ◌+◌, ◌<◌, ◌≤◌, ◌�
 use Rattle.jk_io.specs.Told.{appended, PutsFront, Rose, IsEmpty}
 use Rattle.jk_io.specs.declared.failures.IoError.{IoError}
 use Rattle.jk_io.specs.declared.failures.IoError.TheVariants as Io
-use Rattle.ajp_wire.specs.Packet.{IsPart, HasCome, body_packet}
+use Rattle.ajp_wire.specs.Packet.{IsPart, IsPacket, HasCome, body_packet}
 use Rattle.ajp_reply.specs.declared.message.Message.{Message}
 use Rattle.ajp_reply.specs.declared.message.Message.TheVariants.{Headers, Chunk, End, Ask, Pong}
 use Rattle.ajp_reply.specs.declared.message.ReplyParts.{ReplyParts}
-use Rattle.ajp_reply.specs.Spelling.{IsMessage}
+use Rattle.ajp_reply.specs.Spelling.{IsMessage, BeginsHead}
 use Rattle.ajp_reply.specs.Stream.{IsPacketOf, BeginsNoMessage}
 use Rattle.http_body_in.specs.Body.{Uses, dropped, reaches}
 use Rattle.http_body_in.specs.State.{place_of, taken_of, most_of, failed_of}
@@ -31,7 +31,6 @@ use Rattle.ajp_talk.specs.declared.turn.Turn.{Turn}
 use Rattle.ajp_talk.specs.declared.turn.Turn.TheVariants as turn_is
 use Rattle.ajp_talk.specs.declared.turn.Unheard.{Unheard}
 use Rattle.ajp_talk.specs.declared.turn.Unheard.TheVariants as unheard_is
-use Rattle.ajp_talk.specs.declared.messages.TheConstants.{READ_LIMIT}
 
 abbrev pub turn_of : Unheard → Turn
 turn_of unheard_is.Line = turn_is.Failed cause_is.Line
@@ -49,20 +48,24 @@ fault_turn fault.NoMemory = turn_is.NoMemory
 
 -- ---- one message from the link
 
+-- less than a packet, or a whole one whose payload begins as a head does
+abbrev pub IsUnread : ℕ → List ℕ → Type 0
+IsUnread packet bytes = IsPart true packet bytes ⊎ ((payload : List ℕ) × IsPacket true packet payload bytes × BeginsHead payload)
+
 -- what came, by why it is no message
 abbrev pub CameUnheard : ℕ → ℕ → ℕ → Moment → Moment → List ℕ → Unheard → Type 0
 CameUnheard packet most count l l' bytes unheard_is.Line = (count < most) × IsPart true packet bytes × Rose l.faults l'.faults
 CameUnheard packet most count l l' bytes unheard_is.Ended = (count < most) × IsPart true packet bytes × IsEmpty l'.incoming
 CameUnheard packet most count l l' bytes unheard_is.Wrong = (count < most) × BeginsNoMessage packet bytes
 CameUnheard packet most count l l' bytes unheard_is.TooLong = (most ≤ count) × IsNext packet bytes
-CameUnheard packet most count l l' bytes unheard_is.NoMemory = Unit {0}
+CameUnheard packet most count l l' bytes unheard_is.NoMemory = (count < most) × IsUnread packet bytes × IsSteady l l'
 
 -- bytes came, nothing was sent, and the count is that of the bytes
 pub record Came (l l' : Moment) (count count' : ℕ) (bytes : List ℕ) : Type 0 where
   pub came : HasCome l l' bytes
   pub sent : l'.sent ≡ l.sent
   pub counts : count' ≡ counted count (length bytes)
-  pub small : length bytes < READ_LIMIT
+  pub small : length bytes < 4294967400
   pub no_fewer : l.faults ≤ l'.faults
 
 pub record IsUnheard (packet most : ℕ) (l l' : Moment) (count count' : ℕ) (why : Unheard) : Type 0 where
@@ -92,7 +95,7 @@ pub record Sends (l l' : Moment) (before after : ℕ) (put : List ℕ) : Type 0 
 abbrev pub IsSent : Moment → Moment → ℕ → ℕ → List ℕ → Result Unit IoError → Type 0
 IsSent l l' sent sent' bytes (Ok _) = Sends l l' sent sent' bytes × IsSteady l l'
 IsSent l l' sent sent' bytes (Err Io.Failed) = (put : List ℕ) × Sends l l' sent sent' put × IsFrontOf put bytes × Rose l.faults l'.faults
-IsSent l l' sent sent' bytes (Err Io.NoMemory) = (put : List ℕ) × Sends l l' sent sent' put × IsFrontOf put bytes
+IsSent l l' sent sent' bytes (Err Io.NoMemory) = (put : List ℕ) × Sends l l' sent sent' put × IsFrontOf put bytes × IsSteady l l'
 
 -- ---- CPing
 
@@ -111,7 +114,7 @@ IsUnanswered plan l l' received rest put unheard_is.Ended =
     (received < plan.most) × (put ≡ ping_of plan) × IsPart true plan.packet rest × IsEmpty l'.incoming
 IsUnanswered plan l l' received rest put unheard_is.Wrong = (received < plan.most) × (put ≡ ping_of plan) × BeginsNoPong plan.packet rest
 IsUnanswered plan l l' received rest put unheard_is.TooLong = (plan.most ≤ received) × (put ≡ ping_of plan) × IsNext plan.packet rest
-IsUnanswered plan l l' received rest put unheard_is.NoMemory = IsFrontOf put (ping_of plan)
+IsUnanswered plan l l' received rest put unheard_is.NoMemory = IsFrontOf put (ping_of plan) × IsSteady l l'
 
 -- no CPong answered
 pub record HasNoAnswer (plan : TalkPlan) (l l' : Moment) (sent received : ℕ) (why : Unheard) : Type 0 where
@@ -216,7 +219,7 @@ IsChunkTurn plan chunk c c' w w' turn_is.Unread = ⊥
 IsChunkTurn plan chunk c c' w w' turn_is.Cut = ⊥
 IsChunkTurn plan chunk c c' w w' (turn_is.Bad status) = ⊥
 IsChunkTurn plan chunk c c' w w' turn_is.NoMemory =
-    (c.headers ≡ true) × (is_beyond (framing_now c.writer) (length chunk) ≡ false) × PutsFront w.sent w'.sent (chunk_bytes c.writer chunk)
+    (c.headers ≡ true) × (c.writer.failed ≡ false) × (is_beyond (framing_now c.writer) (length chunk) ≡ false) × PutsFront w.sent w'.sent (chunk_bytes c.writer chunk)
 
 abbrev pub IsEndTurn : Bool → Course → Course → Moment → Moment → Turn → Type 0
 IsEndTurn reuse c c' w w' turn_is.On = ⊥
@@ -232,7 +235,7 @@ IsEndTurn reuse c c' w w' turn_is.Unread = ⊥
 IsEndTurn reuse c c' w w' turn_is.Cut = ⊥
 IsEndTurn reuse c c' w w' (turn_is.Bad status) = ⊥
 IsEndTurn reuse c c' w w' turn_is.NoMemory =
-    (c.headers ≡ true) × (is_complete (framing_now c.writer) ≡ true) × PutsFront w.sent w'.sent (end_bytes c.writer)
+    (c.headers ≡ true) × (c.writer.failed ≡ false) × (is_complete (framing_now c.writer) ≡ true) × PutsFront w.sent w'.sent (end_bytes c.writer)
 
 -- ---- Get Body Chunk
 
@@ -271,7 +274,8 @@ IsAskTurn n s s' sent sent' turn_is.Cut =
     Sends s.line s'.line sent sent' [] × IsSteady s.line s'.line × IsUsed s.body s'.body × IfSome (data_at s.body) (λ d. (reaches n d ≡ false) × (d.bad ≡ false))
 IsAskTurn n s s' sent sent' (turn_is.Bad status) = Sends s.line s'.line sent sent' [] × IsSteady s.line s'.line × IsUsed s.body s'.body × IsBad s.body n status
 IsAskTurn n s s' sent sent' turn_is.NoMemory =
-    (put : List ℕ) × Sends s.line s'.line sent sent' put × IsUsed s.body s'.body × IfSome (data_at s.body) (λ d. IsFrontOf put (answer n d))
+    (put : List ℕ) × Sends s.line s'.line sent sent' put × IsSteady s.line s'.line × IsUsed s.body s'.body
+    × IfSome (data_at s.body) (λ d. IsFrontOf put (answer n d))
 
 -- ---- one message
 
@@ -322,4 +326,4 @@ IsCalmTurn (turn_is.LostAtEnd reuse) = ⊥
 IsCalmTurn turn_is.Unread = ⊥
 IsCalmTurn turn_is.Cut = Unit {0}
 IsCalmTurn (turn_is.Bad status) = Unit {0}
-IsCalmTurn turn_is.NoMemory = ⊥
+IsCalmTurn turn_is.NoMemory = Unit {0}

@@ -9,12 +9,13 @@ ghost use Rattle.ajp_wire.specs.Moments.{link_at};
 ghost use Rattle.ajp_talk.specs.Uploads.{IsSameUpload, talk_over};
 ghost use Rattle.ajp_wire.specs.declared.writing.TheConstants.{MAX_PIECE_BYTES};
 
+use crate::awaiting::await_on;
 use crate::ending::Cause;
 use crate::sending::send;
 use crate::turn::{Turn, fault_turn};
 use crate::upload::Upload;
 use ajp_wire::body_packet;
-use jk_io::{Bytes, IoError, Link, NoMemory};
+use jk_io::{Awaited, Bytes, IoError, Link, NoMemory};
 use std::alloc::Global;
 
 /// The packet of a piece that is within the limit.
@@ -59,6 +60,7 @@ pub(crate) fn answer_ask<L: Link, C: Link>(
     ensures calm { IsCalmTurn result → C.faults client.new ≡ C.faults client.old }
     ensures same { IsSameUpload upload.old upload.new }
 {
+    await_on(client, Awaited::Body);
     match upload.body.take(alloc, upload.inbox, client, n) {
         Ok(piece) => sent_turn(send_piece(alloc, piece.as_slice(), line, sent)),
         Err(fault) => fault_turn(fault),

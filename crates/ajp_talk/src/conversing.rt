@@ -3,13 +3,14 @@
 ghost use Rattle.std.specs.Prelude.{◌≡◌, ◌≤◌, ◌<◌, None, length};
 ghost use Rattle.http_body_in.specs.State.{failed_of, taken_of};
 ghost use Rattle.ajp_wire.specs.Moments.{link_at};
+ghost use Rattle.ajp_talk.specs.Complete.{Completes};
 ghost use Rattle.ajp_talk.specs.Courses.{Begins, fresh};
 ghost use Rattle.ajp_talk.specs.Drains.{IsLostCourse, IsLostEnd};
 ghost use Rattle.ajp_talk.specs.Ends.{IsPlan};
-ghost use Rattle.ajp_talk.specs.Moments.{talk_at};
-ghost use Rattle.ajp_talk.specs.Talk.{IsCalmEnd, IsTalk};
+ghost use Rattle.ajp_talk.specs.Talk.{HoldsTalk};
 ghost use Rattle.ajp_talk.specs.Uploads.{IsSameUpload, talk_over};
 
+use crate::awaiting::await_on;
 use crate::concluding::unanswered;
 use crate::course::Course;
 use crate::cping::greet;
@@ -21,37 +22,11 @@ use crate::room::Room;
 use crate::stepping::step;
 use crate::turn::Turn;
 use crate::upload::Upload;
-use http_body_in::BodyIn;
-use http_front::Inbox;
-use jk_io::{IoError, Link, NoMemory, Sink};
+use jk_io::{Awaited, IoError, Link, NoMemory, Sink};
 
-/// Sends the request, answers the container's asks, and passes its reply on, message by message.
-pub(crate) fn converse<L: Link, C: Link>(
-    room: &mut Room,
-    plan: &TalkPlan,
-    body: &mut BodyIn,
-    inbox: &mut Inbox,
-    line: &mut L,
-    client: &mut C,
-) -> Result<TalkEnd, NoMemory>
-    requires plan { IsPlan plan.now }
-    requires first { taken_of body.old ≡ length plan.now.first }
-    requires going { failed_of body.old ≡ None }
-
-    ensures talk { let at = talk_at L.Meanings C.Meanings in
-        IsTalk plan.now (at line.old client.old body.old inbox.old) (at line.new client.new body.new inbox.new) result }
-
-    ensures beside { (L.beside line.new ≡ L.beside line.old) × (C.beside client.new ≡ C.beside client.old) }
-    ensures no_fewer { (L.faults line.old ≤ L.faults line.new) × (C.faults client.old ≤ C.faults client.new) }
-    ensures calm { IsCalmEnd result → C.faults client.new ≡ C.faults client.old }
-{
-    let mut course = Course::new(room.alloc, plan, 0, 0);
-    let mut upload = Upload { body, inbox };
-    hold(room, plan, &mut course, &mut upload, line, client)
-}
-
-/// The whole talk: before it nothing was sent and nothing came.
-fn hold<L: Link, C: Link>(
+/// Sends the request, answers the container's asks, and passes its reply on, message by message. Before it nothing was
+/// sent and nothing came.
+pub(crate) fn hold<L: Link, C: Link>(
     room: &mut Room,
     plan: &TalkPlan,
     course: &mut Course,
@@ -65,11 +40,10 @@ fn hold<L: Link, C: Link>(
     requires going { failed_of upload.old.body.now ≡ None }
 
     ensures talk { let at = talk_over L.Meanings C.Meanings in
-        IsTalk plan.now (at line.old client.old upload.old) (at line.new client.new upload.new) result }
-
+        HoldsTalk plan.now (at line.old client.old upload.old) (at line.new client.new upload.new) result }
+    ensures complete { let at = talk_over L.Meanings C.Meanings in
+        Completes plan.now (at line.old client.old upload.old) (at line.new client.new upload.new) result }
     ensures beside { (L.beside line.new ≡ L.beside line.old) × (C.beside client.new ≡ C.beside client.old) }
-    ensures no_fewer { (L.faults line.old ≤ L.faults line.new) × (C.faults client.old ≤ C.faults client.new) }
-    ensures calm { IsCalmEnd result → C.faults client.new ≡ C.faults client.old }
     ensures same { IsSameUpload upload.old upload.new }
 {
     match begin(room, plan, course, line) {
@@ -79,13 +53,13 @@ fn hold<L: Link, C: Link>(
     loop {
         match step(room, plan, course, upload, line, client) {
             Turn::On => {}
-            Turn::Lost => return lost(room, plan, course, line, client),
+            Turn::Lost => return Ok(lost(room, plan, course, line, client)),
             turn => return course.ended(plan, upload.body.taken(), turn),
         }
     }
 }
 
-/// Greets the container and sends it the request. None where that went well, and the talk goes on.
+/// Greets the container and sends it the request. None where that went well, and its reply is waited for.
 fn begin<L: Link>(
     room: &mut Room,
     plan: &TalkPlan,
@@ -103,20 +77,28 @@ fn begin<L: Link>(
         Err(why) => return Some(unanswered(course.sent, course.received, why)),
     }
     match send_request(room.alloc, plan, line, &mut course.sent) {
-        Ok(()) => None,
+        Ok(()) => {
+            await_on(
+                line,
+                Awaited::Reply {
+                    millis: plan.limits.reply,
+                },
+            );
+            None
+        }
         Err(IoError::Failed) => Some(Ok(course.failed(plan, plan.first.len() as u64, Cause::Line))),
         Err(IoError::NoMemory) => Some(Err(NoMemory)),
     }
 }
 
-/// The end where a write to the client failed before the reply's end.
+/// The end where a write to the client failed before the reply's end. Where memory is wanted for the rest the link is closed.
 fn lost<L: Link, C: Sink>(
     room: &mut Room,
     plan: &TalkPlan,
     course: &mut Course,
     line: &mut L,
     client: &mut C,
-) -> Result<TalkEnd, NoMemory>
+) -> TalkEnd
     requires plan { IsPlan plan.now }
     requires lost { IsLostCourse course.old }
     requires below { course.old.received < plan.now.most }
@@ -126,10 +108,10 @@ fn lost<L: Link, C: Sink>(
     ensures no_fewer { (L.faults line.old ≤ L.faults line.new) × (C.faults client.old ≤ C.faults client.new) }
 {
     if plan.close_on_client {
-        return Ok(course.gone(false, false));
+        return course.gone(false, false);
     }
     match drain(room, plan, course, line, client) {
-        Ok(keep) => Ok(course.gone(false, keep)),
-        Err(NoMemory) => Err(NoMemory),
+        Ok(keep) => course.gone(false, keep),
+        Err(NoMemory) => course.gone(false, false),
     }
 }

@@ -4,13 +4,14 @@ ghost use Rattle.std.specs.Prelude.{◌≡◌, ◌<◌, ◌≤◌};
 ghost use Rattle.ajp_wire.specs.Moments.{link_at};
 ghost use Rattle.ajp_talk.specs.Turns.{IsGreeting, pong_only as pong_only_of};
 
+use crate::awaiting::await_on;
 use crate::messages::receive;
 use crate::plan::TalkPlan;
 use crate::room::Room;
 use crate::sending::send;
 use crate::turn::Unheard;
 use ajp_reply::Message;
-use jk_io::{IoError, Link};
+use jk_io::{Awaited, IoError, Link};
 
 /// The packet of CPing.
 const CPING: [u8; 5] = [0x12, 0x34, 0x00, 0x01, 0x0a];
@@ -38,6 +39,12 @@ pub(crate) fn greet<L: Link>(
         Err(IoError::Failed) => return Err(Unheard::Line),
         Err(IoError::NoMemory) => return Err(Unheard::NoMemory),
     }
+    await_on(
+        line,
+        Awaited::Pong {
+            millis: plan.limits.pong,
+        },
+    );
     match receive(room, line, plan.packet, plan.most, received) {
         Ok(message) => pong_only(message),
         Err(why) => Err(why),

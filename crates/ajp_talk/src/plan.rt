@@ -3,6 +3,15 @@
 use jk_io::Bytes;
 use jk_model::FailList;
 
+/// How long a talk waits, in milliseconds; 0 is without limit.
+#[derive(Clone, Copy, Debug, PartialEq, Eq)]
+pub struct TalkLimits {
+    /// For CPong.
+    pub pong: u64,
+    /// For each message of the container.
+    pub reply: u64,
+}
+
 /// What a talk sends first, and by which rules it goes.
 #[derive(Drop)]
 pub struct TalkPlan {
@@ -28,4 +37,6 @@ pub struct TalkPlan {
     pub close_on_client: bool,
     /// The statuses that count as a failure of the member.
     pub fail_on: FailList,
+    /// How long it waits.
+    pub limits: TalkLimits,
 }

@@ -1,16 +1,18 @@
 //! `talk`: one try of a request on one link.
 
-ghost use Rattle.std.specs.Prelude.{◌≡◌, ◌≤◌, None, length};
+ghost use Rattle.std.specs.Prelude.{◌≡◌, None, length};
 ghost use Rattle.http_body_in.specs.State.{failed_of, taken_of};
 ghost use Rattle.ajp_talk.specs.Complete.{Completes};
 ghost use Rattle.ajp_talk.specs.Ends.{IsPlan};
 ghost use Rattle.ajp_talk.specs.Moments.{talk_at};
-ghost use Rattle.ajp_talk.specs.Talk.{IsCalmEnd, IsTalk};
+ghost use Rattle.ajp_talk.specs.Talk.{HoldsTalk};
 
-use crate::conversing::converse;
+use crate::conversing::hold;
+use crate::course::Course;
 use crate::ending::TalkEnd;
 use crate::plan::TalkPlan;
 use crate::room::Room;
+use crate::upload::Upload;
 use http_body_in::BodyIn;
 use http_front::Inbox;
 use jk_io::{Link, NoMemory};
@@ -30,18 +32,18 @@ pub fn talk<L: Link, C: Link>(
     requires first { taken_of body.old ≡ length plan.now.first }
     requires going { failed_of body.old ≡ None }
 
-    // How it ended, by what came and went on the link, at the client and of the body.
+    // How it ended, by what came and went on the link, at the client and of the body; and whose faults rose.
     ensures talk { let at = talk_at L.Meanings C.Meanings in
-        IsTalk plan.now (at line.old client.old body.old inbox.old) (at line.new client.new body.new inbox.new) result }
+        HoldsTalk plan.now (at line.old client.old body.old inbox.old) (at line.new client.new body.new inbox.new) result }
 
     // Where a whole reply comes and nothing fails, the client has it.
     ensures complete { let at = talk_at L.Meanings C.Meanings in
         Completes plan.now (at line.old client.old body.old inbox.old) (at line.new client.new body.new inbox.new) result }
 
-    // The client's count of faults stands, unless it is what ended the talk, or memory was wanted.
-    ensures calm { IsCalmEnd result → C.faults client.new ≡ C.faults client.old }
     ensures beside { (L.beside line.new ≡ L.beside line.old) × (C.beside client.new ≡ C.beside client.old) }
-    ensures no_fewer { (L.faults line.old ≤ L.faults line.new) × (C.faults client.old ≤ C.faults client.new) }
 {
-    converse(&mut Room::new(alloc), plan, body, inbox, line, client)
+    let mut room = Room::new(alloc);
+    let mut course = Course::new(alloc, plan, 0, 0);
+    let mut upload = Upload { body, inbox };
+    hold(&mut room, plan, &mut course, &mut upload, line, client)
 }

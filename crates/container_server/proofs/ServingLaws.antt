@@ -71,7 +71,7 @@ pub wants : {C X : Type 0} → (app : AppConfig) (told : Ghosts C X) (first befo
 wants app told first before mid after count link peer end way gives leaves = record {
   links = way.links ++ link_of app told mid after link peer end leaves ∷ [];
   served = serves_more app told first before mid after way.links link peer end way.served gives leaves;
-  why = but_one_more GoesOn way.links _ way.going;
+  why = (but_one_more GoesOn way.links _ way.going, leaves.faults ∙ (gives.faults ∙ way.steady));
 }
 
 stays : {C X : Type 0} → (app : AppConfig) (told : Ghosts C X) (first before after : DoorSide C) (links : List (ServedLink C))
@@ -102,9 +102,9 @@ fails app told first before after count way none = record {
 }
 
 pub lacks : {C X : Type 0} → (app : AppConfig) (told : Ghosts C X) (first before after : DoorSide C) (count : ℕ)
-    → IsUnderWay app told first before count → GivesNone before after → IsServedDoor app told first after worker.NoMemory
-lacks app told first before after count way none = record {
+    → IsUnderWay app told first before count → GivesNone before after → after.faults ≡ before.faults → IsServedDoor app told first after worker.NoMemory
+lacks app told first before after count way none steady = record {
   links = way.links;
   served = stays app told first before after way.links way.served none;
-  why = all_but_last GoesOn way.links way.going;
+  why = (all_but_last GoesOn way.links way.going, steady ∙ way.steady);
 }

@@ -37,12 +37,13 @@ pub record AreServed {C X : Type 0} (app : AppConfig) (told : Ghosts C X) (befor
 abbrev pub count_of : {C : Type 0} → List (ServedLink C) → ℕ
 count_of served = min (length served) 18446744073709551615
 
--- Why a worker ended that served these links. Where it ended since no client comes any more, its door had not failed.
+-- Why a worker ended that served these links. Where it ended since no client comes any more, or for want of memory, its
+-- door had not failed.
 abbrev pub EndsBy : {C : Type 0} → (before after : DoorSide C) → List (ServedLink C) → ContainerWorker → Type 0
 EndsBy before after served (worker.Closed links) =
     (links ≡ count_of served) × All GoesOn served × IsEmpty after.coming × (after.faults ≡ before.faults)
 EndsBy before after served worker.DoorFault = All GoesOn served × Rose before.faults after.faults
-EndsBy before after served worker.NoMemory = AllButLast GoesOn served
+EndsBy before after served worker.NoMemory = AllButLast GoesOn served × (after.faults ≡ before.faults)
 
 -- All that a worker did at its door.
 pub record IsServedDoor {C X : Type 0} (app : AppConfig) (told : Ghosts C X) (before after : DoorSide C) (end : ContainerWorker) : Type 0 where

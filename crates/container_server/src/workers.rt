@@ -19,7 +19,8 @@ struct Slot<D> {
     end: ContainerWorker,
 }
 
-/// Serves each door by a worker of its own, and waits for all of them. After `NoMemory` no door was asked.
+/// Serves each door by a worker of its own, and waits for all of them. After `NoMemory` no door was asked: what takes
+/// memory knows no more of a door than that it may be let go.
 pub fn run_container<D: Door + Drop + Send, R: Threads + Wait + Sync>(
     rt: &R,
     alloc: Global,

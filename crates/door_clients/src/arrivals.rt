@@ -21,8 +21,9 @@ pub fn next_client<D: Door>(alloc: Global, door: &mut D) -> Arrival<D::L>
     ensures arrives { Arrives (side D.coming D.left D.faults door.old) (side D.coming D.left D.faults door.new) result }
     ensures room { D.room door.new ≡ room_after (D.room door.old) result }
 
-    // No failure of the door is passed over before it says that it is closed.
+    // No failure of the door is passed over before it says that it is closed, or for want of memory.
     ensures steady { result ≡ Arrival.Closed → D.faults door.new ≡ D.faults door.old }
+    ensures wanted { result ≡ Arrival.NoMemory → D.faults door.new ≡ D.faults door.old }
 {
     match door.accept(alloc) {
         Ok(Some((link, peer))) => Arrival::Client { link, peer },

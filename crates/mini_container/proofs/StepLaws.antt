@@ -27,7 +27,7 @@ packet-unkept most place m0 m1 payload took = record {
   bytes = took.bytes;
   comes = took.goes.came;
   sent = took.goes.sent ∙ appended-nil m0.sent;
-  why = inr (payload, took.packet);
+  why = (inr (payload, took.packet), took.goes.steady);
 }
 
 pub piece-took : (most : ℕ) (m0 m1 : Moment) (payload piece body body_after : List ℕ) → TookPacket most m0 m1 payload → SpellsPiece piece payload
@@ -68,22 +68,22 @@ goes-then m0 m1 m2 x y a b p q = record {
 pub no-fewer : (m0 m1 : Moment) (x a : List ℕ) → Goes m0 m1 x a → m0.faults ≤ m1.faults
 no-fewer m0 m1 x a goes = omega (arith, goes.steady)
 
-reading-earlier : (most : ℕ) (place : TurnPlace) (m0 m1 m2 : Moment) (bytes : List ℕ) (stop : Stopped) → m0.faults ≤ m1.faults
+reading-earlier : (most : ℕ) (place : TurnPlace) (m0 m1 m2 : Moment) (bytes : List ℕ) (stop : Stopped) → m1.faults ≡ m0.faults
     → EndsReading most place m1 m2 bytes stop → EndsReading most place m0 m2 bytes stop
 reading-earlier most place m0 m1 m2 bytes Closed f why = why
 reading-earlier most place m0 m1 m2 bytes Dropped f why = why
-reading-earlier most place m0 m1 m2 bytes LinkFault f why = (Rose-within m0.faults m1.faults m2.faults m2.faults f why.0 (omega arith), why.1)
+reading-earlier most place m0 m1 m2 bytes LinkFault f why = (Rose-within m0.faults m1.faults m2.faults m2.faults (omega (arith, f)) why.0 (omega arith), why.1)
 reading-earlier most place m0 m1 m2 bytes Truncated f why = why
 reading-earlier most place m0 m1 m2 bytes (Bad bad) f why = why
-reading-earlier most place m0 m1 m2 bytes NoMemory f why = why
+reading-earlier most place m0 m1 m2 bytes NoMemory f why = (why.0, why.1 ∙ f)
 
-sending-earlier : (m0 m1 m2 : Moment) (stop : Stopped) → m0.faults ≤ m1.faults → EndsSending m1 m2 stop → EndsSending m0 m2 stop
+sending-earlier : (m0 m1 m2 : Moment) (stop : Stopped) → m1.faults ≡ m0.faults → EndsSending m1 m2 stop → EndsSending m0 m2 stop
 sending-earlier m0 m1 m2 Closed f why = why
 sending-earlier m0 m1 m2 Dropped f why = why
-sending-earlier m0 m1 m2 LinkFault f why = Rose-within m0.faults m1.faults m2.faults m2.faults f why (omega arith)
+sending-earlier m0 m1 m2 LinkFault f why = Rose-within m0.faults m1.faults m2.faults m2.faults (omega (arith, f)) why (omega arith)
 sending-earlier m0 m1 m2 Truncated f why = why
 sending-earlier m0 m1 m2 (Bad bad) f why = why
-sending-earlier m0 m1 m2 NoMemory f why = why
+sending-earlier m0 m1 m2 NoMemory f why = why ∙ f
 
 -- what stops after a step that was done stops after what that step sent
 pub stops-then : (most : ℕ) (place : TurnPlace) (waiting dropped : Bool) (m0 m1 m2 : Moment) (x a b rest : List ℕ) (stop : Stopped) → Goes m0 m1 x a
@@ -91,12 +91,12 @@ pub stops-then : (most : ℕ) (place : TurnPlace) (waiting dropped : Bool) (m0 m
 stops-then most place waiting dropped m0 m1 m2 x a b rest stop goes (inl r) = inl (record {
   waits = r.waits;
   sent = sent-then m0.sent m1.sent m2.sent a b goes.sent r.sent;
-  why = reading-earlier most place m0 m1 m2 rest stop (no-fewer m0 m1 x a goes) r.why;
+  why = reading-earlier most place m0 m1 m2 rest stop goes.steady r.why;
 })
 stops-then most place waiting dropped m0 m1 m2 x a b rest stop goes (inr (inl s)) = inr (inl (record {
   none = s.none;
   front = then_put m0.sent m1.sent m2.sent a b goes.sent s.front;
-  why = sending-earlier m0 m1 m2 stop (no-fewer m0 m1 x a goes) s.why;
+  why = sending-earlier m0 m1 m2 stop goes.steady s.why;
 }))
 stops-then most place waiting dropped m0 m1 m2 x a b rest stop goes (inr (inr d)) = inr (inr (record {
   none = d.none;
@@ -117,4 +117,4 @@ stops-sending most place waiting dropped m0 m1 going stop s = inr (inl (record {
 
 -- so does want of memory for it
 pub stops-wanting : (most : ℕ) (place : TurnPlace) (waiting dropped : Bool) (m : Moment) (going : List ℕ) → Stops most place waiting dropped going m m [] NoMemory
-stops-wanting most place waiting dropped m going = inr (inl (record { none = refl; front = none_put m.sent going; why = tt }))
+stops-wanting most place waiting dropped m going = inr (inl (record { none = refl; front = none_put m.sent going; why = refl }))

@@ -275,6 +275,27 @@ talk-rose app m0 m1 end t is =
     Rose-within m0.faults t.between.faults m1.faults m1.faults (no-fewer _ _ _ _ t.goes)
     (stop-rose _ _ _ _ _ t.between m1 s.rest s.stops) (omega arith)
 
+-- where memory was wanted no call of the link failed
+stop-calm : (most : ℕ) (place : TurnPlace) (waiting dropped : Bool) (going : List ℕ) (m0 m1 : Moment) (rest : List ℕ)
+    → Stops most place waiting dropped going m0 m1 rest NoMemory → m1.faults ≡ m0.faults
+stop-calm most place waiting dropped going m0 m1 rest (inl r) = r.why.1
+stop-calm most place waiting dropped going m0 m1 rest (inr (inl s)) = s.why
+stop-calm most place waiting dropped going m0 m1 rest (inr (inr d)) = let other = d.why in absurd (cc)
+
+is-want : (n : ℕ) (stop : Stopped) → ends.NoMemory ≡ end_of n stop → stop ≡ NoMemory
+is-want n Closed e = absurd (cc)
+is-want n Dropped e = absurd (cc)
+is-want n LinkFault e = absurd (cc)
+is-want n Truncated e = absurd (cc)
+is-want n (Bad bad) e = absurd (cc)
+is-want n NoMemory e = refl
+
+pub talk-calm : (app : AppConfig) (m0 m1 : Moment) (end : ContainerEnd) → IsTalk app m0 m1 end → end ≡ ends.NoMemory → m1.faults ≡ m0.faults
+talk-calm app m0 m1 end t is =
+    let want = is-want (requests_in t.past) t.stop (sym is ∙ t.end_is) in
+    let s = subst (StopsInTurn app t.between m1) want t.stops in
+    stop-calm _ _ _ _ _ t.between m1 s.rest s.stops ∙ t.goes.steady
+
 -- ---- the same for the messages that the answer is
 
 pub messages-sendable : (app : AppConfig) (forward : Forward) (body : List ℕ) (messages : List Message) → messages ≡ answer_of app forward body

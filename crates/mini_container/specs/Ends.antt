@@ -65,23 +65,23 @@ IsBadBy most place Piece bytes = (payload : List ℕ) × IsPacket false most pay
 abbrev pub IsFront : ℕ → List ℕ → Type 0
 IsFront most bytes = IsPart false most bytes ⊎ ((payload : List ℕ) × IsPacket false most payload bytes)
 
--- Why a packet, of which these bytes came, wasn't taken.
+-- Why a packet, of which these bytes came, wasn't taken. For want of memory no call of the link failed.
 abbrev pub EndsReading : ℕ → TurnPlace → Moment → Moment → List ℕ → Stopped → Type 0
 EndsReading most place before after bytes Closed = (bytes ≡ []) × IsEmpty after.incoming
 EndsReading most place before after bytes Dropped = ⊥
 EndsReading most place before after bytes LinkFault = Rose before.faults after.faults × IsPart false most bytes
 EndsReading most place before after bytes Truncated = (0 < length bytes) × IsPart false most bytes × IsEmpty after.incoming
 EndsReading most place before after bytes (Bad bad) = IsBadBy most place bad bytes
-EndsReading most place before after bytes NoMemory = IsFront most bytes
+EndsReading most place before after bytes NoMemory = IsFront most bytes × (after.faults ≡ before.faults)
 
--- Why something wasn't sent whole.
+-- Why something wasn't sent whole. For want of memory no call of the link failed.
 abbrev pub EndsSending : Moment → Moment → Stopped → Type 0
 EndsSending before after Closed = ⊥
 EndsSending before after Dropped = ⊥
 EndsSending before after LinkFault = Rose before.faults after.faults
 EndsSending before after Truncated = ⊥
 EndsSending before after (Bad bad) = ⊥
-EndsSending before after NoMemory = Unit {0}
+EndsSending before after NoMemory = after.faults ≡ before.faults
 
 -- A packet was awaited, with all sent that was owed before it.
 pub record StopsReading (most : ℕ) (place : TurnPlace) (waiting : Bool) (going : List ℕ) (before after : Moment) (rest : List ℕ) (stop : Stopped) : Type 0 where

@@ -34,6 +34,7 @@ pub enum TurnKind {
 pub fn serve_ajp<L: Link>(alloc: Global, link: &mut L, app: &AppConfig) -> ContainerEnd
     ensures talk { IsTalk app.now (link_at L.Meanings link.old) (link_at L.Meanings link.new) result }
     ensures fault { result ≡ ContainerEnd.LinkFault → Rose (L.faults link.old) (L.faults link.new) }
+    ensures wanted { result ≡ ContainerEnd.NoMemory → L.faults link.new ≡ L.faults link.old }
     ensures no_fewer { L.faults link.old ≤ L.faults link.new }
     ensures same { L.beside link.new ≡ L.beside link.old }
 {

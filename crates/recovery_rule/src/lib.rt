@@ -6,8 +6,10 @@
 //! Contract: `may_retry`, clause `value`. Read first: specs/Recovery.antt.
 #![tactic(auto)]
 
+mod method;
 mod options;
 mod rule;
 
+pub use method::MethodKind;
 pub use options::RecoveryOption;
 pub use rule::{bytes_passed_forbid, may_retry, whole_request_goes_once};

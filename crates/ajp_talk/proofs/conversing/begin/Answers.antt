@@ -18,8 +18,9 @@ returns-in-Err-clause-begins g c =
 pub returns-in-Ok-send_request-clause-begins : goal.returns-in-Ok-send_request-clause-begins
 returns-in-Ok-send_request-clause-begins g c =
     let e = c.in-Ok-send_request.ensures.sent in
-    begins_on c.args.plan.now _ _ _ _ c.greet.new.sent c.send_request.new.sent c.greet.new.received c.requires.plan
-    (fresh-counts c.args.plan.now c.args.course.now c.send_request.new.sent c.greet.new.received c.requires.begun) c.in-Ok.ensures.greeting e.0 e.1
+    rw c.await_on.ensures.same
+    (begins_on c.args.plan.now _ _ _ _ c.greet.new.sent c.send_request.new.sent c.greet.new.received c.requires.plan
+    (fresh-counts c.args.plan.now c.args.course.now c.send_request.new.sent c.greet.new.received c.requires.begun) c.in-Ok.ensures.greeting e.0 e.1)
 
 pub returns-in-Err-Failed-clause-begins : goal.returns-in-Err-Failed-clause-begins
 returns-in-Err-Failed-clause-begins g c =
@@ -31,4 +32,4 @@ returns-in-Err-Failed-clause-begins g c =
 pub returns-in-Err-NoMemory-clause-begins : goal.returns-in-Err-NoMemory-clause-begins
 returns-in-Err-NoMemory-clause-begins g c =
     let e = rw c.in-Err-NoMemory.field-0-is at c.in-Err-NoMemory.ensures.sent in
-    begins_wanted c.args.plan.now _ _ _ c.args.course.now c.greet.new.sent c.send_request.new.sent c.greet.new.received e.0 (record {}) c.requires.plan c.in-Ok.ensures.greeting e.1 e.2
+    begins_wanted c.args.plan.now _ _ _ c.args.course.now c.greet.new.sent c.send_request.new.sent c.greet.new.received e.0 (record {}) c.requires.plan c.in-Ok.ensures.greeting e.1 e.2 e.3

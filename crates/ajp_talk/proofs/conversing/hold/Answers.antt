@@ -1,14 +1,20 @@
 -- Each way out of a talk, from how it stood and from its last turn.
-use Rattle.std.proofs.Common.{refl, ap, ◌∙◌, arith}
+use Rattle.std.proofs.Common.{refl, ap, ◌∙◌, arith, Ok}
 use Rattle.http_front.specs.Unread.{unread}
 use Rattle.ajp_talk.proofs.AskLaws.{untaken-same}
+use Rattle.ajp_talk.proofs.CompleteLaws.{completed}
 use Rattle.ajp_talk.proofs.EndLaws.{on, on_more, on_course}
 use Rattle.ajp_talk.proofs.LostLaws.{lost}
 use Rattle.ajp_talk.proofs.TalkLaws.{calm_turn, ended_talk, lost_calm, lost_talk}
 use Rattle.ajp_talk.proofs.conversing.hold.Goals as goal
 
 pub returns-in-Some-clause-talk : goal.returns-in-Some-clause-talk
-returns-in-Some-clause-talk g c = c.in-Some.ensures.begins _ _ c.requires.first c.requires.going
+returns-in-Some-clause-talk g c = record {
+  talk = c.in-Some.ensures.begins _ _ c.requires.first c.requires.going;
+  line = c.begin.ensures.no_fewer;
+  client = omega arith;
+  calm = λ calm. refl;
+}
 
 -- ---- message by message
 
@@ -57,25 +63,45 @@ lost-requires g c =
 pub returns-in-Lost-clause-talk : goal.returns-in-Lost-clause-talk
 returns-in-Lost-clause-talk g c =
     let i = c.loop-room.invariant in
-    lost_talk c.args.plan.now _ _ _ c.step.new.course c.lost.new.course c.lost.result c.requires.plan
-    (lost c.args.plan.now _ _ _ c.loop-room.course c.step.new.course i.stands c.requires.plan (omega (arith, i.client_faults)) c.in-Lost.ensures.turn)
-    (untaken-same _ _ (record { body = refl; unread = ap (unread c.step.new.upload.inbox.now) c.lost.ensures.incoming })) c.lost.ensures.no_fewer.1 c.lost.ensures.ended
+    record {
+      talk = lost_talk c.args.plan.now _ _ _ c.step.new.course c.lost.new.course c.lost.result c.requires.plan
+          (lost c.args.plan.now _ _ _ c.loop-room.course c.step.new.course i.stands c.requires.plan (omega (arith, i.client_faults)) c.in-Lost.ensures.turn)
+          (untaken-same _ _ (record { body = refl; unread = ap (unread c.step.new.upload.inbox.now) c.lost.ensures.incoming })) c.lost.ensures.no_fewer.1 c.lost.ensures.ended;
+      line = omega (arith, c.lost.ensures.no_fewer.0, c.step.ensures.no_fewer.0, i.line_faults);
+      client = omega (arith, c.lost.ensures.no_fewer.1, c.step.ensures.no_fewer.1, i.client_faults);
+      calm = λ calm. absurd (lost_calm c.args.plan.now _ _ _ _ c.step.new.course c.lost.new.course c.lost.result c.lost.ensures.ended calm);
+    }
+
+pub returns-in-Some-clause-complete : goal.returns-in-Some-clause-complete
+returns-in-Some-clause-complete g c = λ all w. completed _ _ _ all w _ (returns-in-Some-clause-talk g c).talk
+
+pub returns-in-Lost-clause-complete : goal.returns-in-Lost-clause-complete
+returns-in-Lost-clause-complete g c = λ all w. completed _ _ _ all w (Ok c.lost.result) (returns-in-Lost-clause-talk g c).talk
 
 pub ended-requires : goal.ended-requires
 ended-requires g c = record { plan = c.requires.plan; over = c.in_default.not-On; stays = c.in_default.not-Lost }
 
-pub returns-in_default : goal.returns-in_default
-returns-in_default g c =
+pub returns-in_default-clause-talk : goal.returns-in_default-clause-talk
+returns-in_default-clause-talk g c =
     let i = c.loop-room.invariant in
     record {
       talk = rw c.ended.ensures
           (ended_talk c.args.plan.now _ _ _ c.loop-room.course c.step.new.course (record {}) c.taken.result c.step.result i.stands c.requires.plan c.requires.first
           i.line_faults (omega (arith, i.client_faults)) c.taken.ensures c.in_default.not-On c.in_default.not-Lost c.step.ensures.turn);
-      beside = (c.step.ensures.beside.0 ∙ i.line_beside, c.step.ensures.beside.1 ∙ i.client_beside);
-      no_fewer = (omega (arith, c.step.ensures.no_fewer.0, i.line_faults), omega (arith, c.step.ensures.no_fewer.1, i.client_faults));
-      calm = λ calm. c.step.ensures.calm (calm_turn (record {}) c.args.plan.now c.step.new.course c.taken.result c.step.result (rw c.ended.ensures at calm)) ∙ i.client_faults;
-      same = (c.step.ensures.same.0 ∙ i.same.0, c.step.ensures.same.1 ∙ i.same.1);
+      line = omega (arith, c.step.ensures.no_fewer.0, i.line_faults);
+      client = omega (arith, c.step.ensures.no_fewer.1, i.client_faults);
+      calm = λ calm. c.step.ensures.calm (calm_turn (record {}) c.args.plan.now c.step.new.course c.taken.result c.step.result c.in_default.not-Lost (rw c.ended.ensures at calm)) ∙ i.client_faults;
     }
 
-pub returns-in-Lost-clause-calm : goal.returns-in-Lost-clause-calm
-returns-in-Lost-clause-calm g c = λ calm. absurd (lost_calm c.args.plan.now _ _ _ _ c.step.new.course c.lost.new.course c.lost.result c.lost.ensures.ended calm)
+pub returns-in_default-clause-complete : goal.returns-in_default-clause-complete
+returns-in_default-clause-complete g c = λ all w. completed _ _ _ all w _ (returns-in_default-clause-talk g c).talk
+
+pub returns-in_default-clause-beside : goal.returns-in_default-clause-beside
+returns-in_default-clause-beside g c =
+    let i = c.loop-room.invariant in
+    (c.step.ensures.beside.0 ∙ i.line_beside, c.step.ensures.beside.1 ∙ i.client_beside)
+
+pub returns-in_default-clause-same : goal.returns-in_default-clause-same
+returns-in_default-clause-same g c =
+    let i = c.loop-room.invariant in
+    (c.step.ensures.same.0 ∙ i.same.0, c.step.ensures.same.1 ∙ i.same.1)

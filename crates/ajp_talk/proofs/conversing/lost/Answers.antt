@@ -1,9 +1,12 @@
 -- The link is closed at once, or what came was dropped.
-use Rattle.std.proofs.Common.{refl, inl, inr}
+use Rattle.std.proofs.Common.{refl, inl, inr, true, false}
 use Rattle.ajp_talk.proofs.conversing.lost.Goals as goal
 
 pub returns-then-plan-clause-ended : goal.returns-then-plan-clause-ended
 returns-then-plan-clause-ended g c = inl (c.if-plan.true, c.gone.ensures, refl, refl)
 
 pub returns-in-Ok-clause-ended : goal.returns-in-Ok-clause-ended
-returns-in-Ok-clause-ended g c = inr (c.if-plan.false, (c.in-Ok.keep, c.in-Ok.ensures.drained, c.gone-in-Ok.ensures))
+returns-in-Ok-clause-ended g c = inr (c.if-plan.false, (c.in-Ok.keep, false, c.in-Ok.ensures.drained, c.gone-in-Ok.ensures))
+
+pub returns-in-Err-clause-ended : goal.returns-in-Err-clause-ended
+returns-in-Err-clause-ended g c = inr (c.if-plan.false, (false, true, c.in-Err.ensures.drained, c.gone-in-Err.ensures))

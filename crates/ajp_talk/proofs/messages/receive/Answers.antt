@@ -1,4 +1,5 @@
 -- What came of a read is a message, or why there is none.
+use Rattle.std.proofs.Common.{refl, ap, Err}
 use Rattle.ajp_wire.specs.Moments.{link_at}
 use Rattle.ajp_wire.specs.Packet.{read_into}
 use Rattle.ajp_talk.proofs.HearingLaws.{narrow, too_long-from, undecoded-from}
@@ -23,4 +24,4 @@ returns-in-Err-take_reply-clause-unheard g c =
     let e = c.read_packet_into-answer.ensures in
     rw c.undecoded.ensures
     (undecoded-from _ _ _ _ _ _ _ _ _ (rw c.in-Ok.is at e.packet) (rw (c.in-Ok.is, c.as_slice.ensures.value) at c.bytes_read.ensures.value) c.bytes_read.ensures.small c.saturating_add.ensures
-    e.same.0 e.no_fewer c.if-count-most.false c.in-Err-take_reply.ensures.none)
+    e.same.0 e.no_fewer c.if-count-most.false c.in-Err-take_reply.ensures.none (λ is. c.in-Err-take_reply.ensures.wanted (ap Err is)) (e.steady (rw c.in-Ok.is refl)))

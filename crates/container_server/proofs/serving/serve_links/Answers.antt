@@ -10,7 +10,7 @@ returns-then-is_want g c =
     record { served = wants _ _ _ _ _ _ _ _ _ _ c.links.invariant c.in-Client.ensures.arrives c.serve_link-end.ensures.served }
 
 pub returns-in-NoMemory : goal.returns-in-NoMemory
-returns-in-NoMemory g c = record { served = lacks _ _ _ _ _ _ c.links.invariant c.in-NoMemory.ensures.arrives }
+returns-in-NoMemory g c = record { served = lacks _ _ _ _ _ _ c.links.invariant c.in-NoMemory.ensures.arrives (c.in-NoMemory.ensures.wanted refl) }
 
 pub links-preserved : goal.links-preserved
 links-preserved g c =

@@ -1,5 +1,5 @@
 use Rattle.std.proofs.Common.{refl, ◌∙◌, arith}
-use Rattle.mini_container.proofs.TurnLaws.{talk-starts, turn-told, talk-stops, talk-given_up, talk-rose}
+use Rattle.mini_container.proofs.TurnLaws.{talk-starts, turn-told, talk-stops, talk-given_up, talk-rose, talk-calm}
 use Rattle.mini_container.proofs.serving.serve_ajp.Goals as goal
 
 pub turns-init : goal.turns-init
@@ -28,8 +28,14 @@ returns-in-Err-clause-talk g c = rw c.end_of.ensures (talk-stops _ _ _ _ _ _ c.t
 pub returns-in-Err-clause-fault : goal.returns-in-Err-clause-fault
 returns-in-Err-clause-fault g c = talk-rose _ _ _ _ (returns-in-Err-clause-talk g c)
 
+pub returns-in-Err-clause-wanted : goal.returns-in-Err-clause-wanted
+returns-in-Err-clause-wanted g c = talk-calm _ _ _ _ (returns-in-Err-clause-talk g c)
+
 pub returns-clause-talk : goal.returns-clause-talk
 returns-clause-talk g c = talk-given_up _ _ _ _ c.turns.invariant.so_far
 
 pub returns-clause-fault : goal.returns-clause-fault
 returns-clause-fault g c = talk-rose _ _ _ _ (returns-clause-talk g c)
+
+pub returns-clause-wanted : goal.returns-clause-wanted
+returns-clause-wanted g c = talk-calm _ _ _ _ (returns-clause-talk g c)
