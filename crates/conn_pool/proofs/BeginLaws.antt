@@ -74,7 +74,7 @@ wants_facts gives faults lb member host port fresh dial talks count now lent (Er
   ok = tt;
   failed = λ no. absurd cc;
   wanted = λ _. same;
-  cause = record { no_fewer = omega arith; failed = λ no. absurd cc };
+  cause = record { no_fewer = omega arith; failed = λ no. absurd cc; wanted = λ _. refl };
   steady = λ _. refl;
   want_of_memory = λ _. refl;
 }
@@ -100,7 +100,7 @@ idle_facts gives faults lb member host port fresh dial talks count now lent ther
   ok = same;
   failed = λ no. absurd cc;
   wanted = λ no. absurd cc;
-  cause = record { no_fewer = omega arith; failed = λ no. absurd cc };
+  cause = record { no_fewer = omega arith; failed = λ no. absurd cc; wanted = λ no. absurd cc };
   steady = λ _. refl;
   want_of_memory = λ no. absurd cc;
 }

@@ -37,7 +37,7 @@ refused_so Running Idle b talk talks now lent answer told count count' Io.Failed
   idle = idle;
   given = tt;
   fails = λ _. sym (same is) ∙ is;
-  cause = record { no_fewer = cause.no_fewer; failed = λ _. cause.failed is };
+  cause = record { no_fewer = cause.no_fewer; failed = λ _. cause.failed is; wanted = λ no. absurd cc };
   steady = λ no. absurd cc;
   want_of_memory = λ no. absurd cc;
 }
@@ -49,7 +49,7 @@ refused_so Running Idle b talk talks now lent answer told count count' Io.NoMemo
   idle = idle;
   given = tt;
   fails = λ no. absurd cc;
-  cause = record { no_fewer = cause.no_fewer; failed = λ no. absurd cc };
+  cause = record { no_fewer = cause.no_fewer; failed = λ no. absurd cc; wanted = λ _. wants is };
   steady = λ no. absurd cc;
   want_of_memory = λ _. wants is;
 }
@@ -80,7 +80,7 @@ unnoted_dial Running Idle b talk talks mid now lent answer told count count' (Er
       idle = idle;
       given = tt;
       fails = λ no. absurd cc;
-      cause = record { no_fewer = cause.no_fewer; failed = λ no. absurd cc };
+      cause = record { no_fewer = cause.no_fewer; failed = λ no. absurd cc; wanted = λ _. steady };
       steady = λ no. absurd cc;
       want_of_memory = λ _. steady;
     })
@@ -115,7 +115,7 @@ noted_dial Running Idle b talk talks mid now lent answer told count count' link 
   idle = tt;
   given = given_so lent answer link there given (sym same ∙ is);
   fails = λ no. absurd cc;
-  cause = record { no_fewer = cause.no_fewer; failed = λ no. absurd cc };
+  cause = record { no_fewer = cause.no_fewer; failed = λ no. absurd cc; wanted = λ no. absurd cc };
   steady = λ _. steady;
   want_of_memory = λ no. absurd cc;
 }

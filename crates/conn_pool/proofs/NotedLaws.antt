@@ -30,7 +30,7 @@ unread lent received received' count buf (Err e) same wanted = record {
   within = tt;
   got = tt;
   kept_on_error = same;
-  cause = record { no_fewer = omega arith; failed = λ is. cc };
+  cause = record { no_fewer = omega arith; failed = λ is. cc; wanted = λ _. refl };
   steady = λ is. cc;
   wanted = λ _. refl;
   talk = (
@@ -40,7 +40,7 @@ unread lent received received' count buf (Err e) same wanted = record {
       end = tt;
       kept_on_error = (refl, refl);
       same = refl;
-      cause = record { no_fewer = omega arith; failed = λ is. cc };
+      cause = record { no_fewer = omega arith; failed = λ is. cc; wanted = λ _. refl };
       steady = λ is. cc;
     },
     record { same = refl; ok = tt; failed = λ is. cc; marked = λ marked. marked },
@@ -82,7 +82,7 @@ unwritten lent sent sent' count piece (Err e) same wanted = record {
   within = tt;
   put = tt;
   kept_on_error = same;
-  cause = record { no_fewer = omega arith; failed = λ is. cc };
+  cause = record { no_fewer = omega arith; failed = λ is. cc; wanted = λ _. refl };
   steady = λ is. cc;
   wanted = λ _. refl;
   talk = (
@@ -90,7 +90,7 @@ unwritten lent sent sent' count piece (Err e) same wanted = record {
       put = tt;
       kept_on_error = refl;
       same = (refl, refl);
-      cause = record { no_fewer = omega arith; failed = λ is. cc };
+      cause = record { no_fewer = omega arith; failed = λ is. cc; wanted = λ _. refl };
       steady = λ is. cc;
     },
     record { same = refl; ok = tt; failed = λ is. cc; marked = λ marked. marked },

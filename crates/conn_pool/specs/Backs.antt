@@ -12,5 +12,5 @@ back_of at back = option_map (λ b. record {
   lb = b.link.value.lb;
   member = b.link.value.member;
   link = at b.link.value.link;
-  idle = b.idle;
+  home = option_map (λ at. (at.lb, at.member)) b.home;
 }) back

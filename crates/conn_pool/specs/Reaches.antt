@@ -20,13 +20,13 @@ pub record LentState (L : Type 0) : Type 0 where
   pub began : ℕ
   pub faulty : Bool
 
--- a link that was handed to a pool: whose it is, what it told then, and whether it is idle there; else it was closed,
--- since the pool was full
+-- a link that was given back: whose it is, what it told then, and in whose pool it is idle, as lb and member; in none
+-- where it was closed, since the pool was full, or a byte came on it or its other end closed
 pub record BackState : Type 0 where
   pub lb : ℕ
   pub member : ℕ
   pub link : Moment
-  pub idle : Bool
+  pub home : Option (ℕ × ℕ)
 
 -- a reach's dial and tape, the link of the running talk, the link that the last finish handed to a pool, the number of
 -- members of each balancer, and how many calls failed
@@ -56,6 +56,14 @@ pub record WritesLink (before after : Moment) (piece : List ℕ) (result : Resul
   pub cause : HasCause before.faults after.faults result
   pub steady : IsOk result → after.faults ≡ before.faults
 
+-- a flush of a talk's link, which stays whose it is; it is marked where the flush was refused
+pub record FlushesLink {L : Type 0} (before after : LentState L) (result : Result Unit IoError) : Type 0 where
+  pub bytes : after.link ≡ record before.link { faults = after.link.faults }
+  pub same : after ≡ record before { link = after.link; faulty = after.faulty }
+  pub ok : OnOk result (after ≡ before)
+  pub refused : OnErr result (after.faulty ≡ true)
+  pub cause : HasCause before.link.faults after.link.faults result
+
 -- a call within a talk: the link stays whose it is, and is marked where the call failed
 pub record StaysLent {L : Type 0} (before after : LentState L) (result : Result ℕ IoError) : Type 0 where
   pub same : after ≡ record before { link = after.link; faulty = after.faulty }
@@ -72,6 +80,8 @@ pub record GoesBack {L : Type 0} (lent : LentState L) (keep : Bool) (back : Opti
   pub whose : IfSome back (λ b. (b.lb ≡ lent.lb) × (b.member ≡ lent.member))
   pub same : IfSome back (λ b. b.link ≡ lent.link)
   pub sound : IfSome back (λ b. b.link.faults ≡ lent.began)
+  -- no link is idle in another member's pool
+  pub home : IfSome back (λ b. IfSome b.home (λ at. at ≡ (lent.lb, lent.member)))
 
 -- what no read and no write of a reach changes, with what its tape tells of the running talk and of those that ended
 abbrev pub beside_of : {D T L : Type 0} → (T → Option Begun) → (T → Option (List Talk)) → PooledState D T L → Beside

@@ -50,7 +50,7 @@ pub(crate) fn begin_idle<L: Link + Drop, T: Tape, R: Wait>(
         false,
     );
     if let Err(error) = noted {
-        let _ = pools.hand_in(asked.lb, asked.member, idle);
+        let _ = pools.hand_in(idle.home(), idle);
         return Err(error);
     }
     *lent = Some(Lent::over_idle(idle));
@@ -121,9 +121,10 @@ pub(crate) fn begin_new<L: Link + Drop, T: Tape, R: Wait>(
     Ok(())
 }
 
-// The idle link that was put last for a member, unless a fresh one is asked for. A lock says nothing of what lies
-// behind it, so the link itself says whose it is.
-fn idle_link<L: Drop, R: Wait>(
+// An idle link of a member on which nothing came, the one put last of these, unless a fresh one is asked for. Those that were
+// put later, and on which a byte came or whose other end closed, are closed. A lock says nothing of what lies behind it, so
+// the link itself says whose it is.
+fn idle_link<L: Link + Drop, R: Wait>(
     pools: &Pools<'_, Idle<L>, R>,
     lb: u32,
     member: u32,
@@ -136,12 +137,13 @@ fn idle_link<L: Drop, R: Wait>(
     if fresh {
         return None;
     }
-    let idle = pools.take(lb, member)?;
-    if idle.is_of(lb, member) {
-        Some(idle)
-    } else {
-        None
+    'links: for _ in 0..pools.size(lb, member) {
+        let mut idle = pools.take(lb, member)?;
+        if idle.is_of(lb, member) && idle.is_quiet() {
+            return Some(idle);
+        }
     }
+    None
 }
 
 // Closes the idle link that was put last for a member, whose place a fresh one takes: a talk of the same request has just

@@ -1,9 +1,9 @@
 //! One pool for each balancer and member.
-ghost use Rattle.std.specs.Prelude.{◌≡◌, ◌^◌, ◌<◌, ◌≤◌, length, IfSome, IfOk};
+ghost use Rattle.std.specs.Prelude.{◌≡◌, ◌^◌, ◌<◌, ◌≤◌, length, slice_get, Some, IfSome, IfOk};
 ghost use Rattle.conn_pool.specs.Idle.{HasMember};
 
-use crate::pool::{HandedIn, LinkList};
-use crate::row::{Row, pool_at};
+use crate::pool::{HandedIn, Home, LinkList};
+use crate::row::{Row, pool_at, size_at};
 use jk_io::{NoMemory, SizeTable};
 use std::alloc::Global;
 use std::marker::Model;
@@ -30,8 +30,10 @@ impl<'r, L: Drop, R> Pools<'r, L, R> {
         ensures { IfOk result (λ pools. pools ≡ sizes.now) }
     {
         let mut rows = Vec::with_capacity(alloc, sizes.len())?;
+        let mut lb: u32 = 0;
         for row in sizes.as_slice() {
-            rows.push(Row::new(alloc, row)?)?;
+            rows.push(Row::new(alloc, lb, row)?)?;
+            lb = lb.saturating_add(1);
         }
         Ok(Pools { rt, rows })
     }
@@ -44,6 +46,7 @@ impl<'r, L: Drop, R: Wait> Pools<'r, L, R> {
     {
         pool_at(self.rows.as_slice(), lb, member)
             .lock(self.rt)
+            .pool
             .take()
     }
 
@@ -54,17 +57,27 @@ impl<'r, L: Drop, R: Wait> Pools<'r, L, R> {
     {
         pool_at(self.rows.as_slice(), lb, member)
             .lock(self.rt)
+            .pool
             .put(link)
     }
 
     /// Puts a link for a member, in one hold of its lock, and closes it where the pool is full.
-    pub fn hand_in(&self, lb: u32, member: u32, link: L) -> HandedIn<L>
-        requires { HasMember self.now lb member }
-        ensures { result.link.value ≡ link }
+    pub fn hand_in(&self, home: Home, link: L) -> HandedIn<L>
+        requires { HasMember self.now home.lb home.member }
+        ensures link { result.link.value ≡ link }
+        ensures whose { IfSome result.home (λ at. at ≡ home) }
     {
-        pool_at(self.rows.as_slice(), lb, member)
+        pool_at(self.rows.as_slice(), home.lb, home.member)
             .lock(self.rt)
-            .hand_in(link)
+            .hand_in(home, link)
+    }
+
+    /// How many links the pool of a member may have.
+    pub(crate) fn size(&self, lb: u32, member: u32) -> u32
+        requires { HasMember self.now lb member }
+        ensures { IfSome (slice_get self.now lb) (λ sizes. slice_get sizes member ≡ Some result) }
+    {
+        size_at(self.rows.as_slice(), lb, member)
     }
 
     /// Takes all idle links of a member, in one hold of its lock.
@@ -74,6 +87,7 @@ impl<'r, L: Drop, R: Wait> Pools<'r, L, R> {
     {
         pool_at(self.rows.as_slice(), lb, member)
             .lock(self.rt)
+            .pool
             .take_all(alloc)
     }
 
@@ -86,6 +100,7 @@ impl<'r, L: Drop, R: Wait> Pools<'r, L, R> {
     {
         pool_at(self.rows.as_slice(), lb, member)
             .lock(self.rt)
+            .pool
             .put_all(links)
     }
 }

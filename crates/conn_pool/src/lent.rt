@@ -1,9 +1,11 @@
 //! The link of a running talk, and an idle link between its talks. Each tells its balancer and member.
 ghost use Rattle.std.specs.Prelude.{◌≡◌, ◌<◌, ◌≤◌, ◌↔◌, true, false, None, IsSome, IsTrue, IfOk, IfSome, OnOk, OnErr, length};
 ghost use Rattle.jk_io.specs.Moments.{moment};
+ghost use Rattle.jk_io.specs.Told.{HasCause};
 ghost use Rattle.conn_pool.specs.Reaches.{ReadsLink, WritesLink};
 
-use jk_io::{IoError, Link};
+use crate::pool::Home;
+use jk_io::{Awaited, IoError, Link};
 use std::marker::Model;
 use std::snapshot::Snapshot;
 
@@ -12,7 +14,7 @@ use std::snapshot::Snapshot;
 pub struct Idle<L> {
     pub(crate) lb: u32,
     pub(crate) member: u32,
-    link: L,
+    pub(crate) link: L,
 }
 
 impl<L> Idle<L> {
@@ -21,6 +23,26 @@ impl<L> Idle<L> {
         ensures { IsTrue result ↔ (self.now.lb ≡ lb) × (self.now.member ≡ member) }
     {
         self.lb == lb && self.member == member
+    }
+
+    /// Where the link belongs.
+    pub(crate) fn home(&self) -> Home
+        ensures { (result.lb ≡ self.now.lb) × (result.member ≡ self.now.member) }
+    {
+        Home {
+            lb: self.lb,
+            member: self.member,
+        }
+    }
+}
+
+impl<L: Link> Idle<L> {
+    /// Whether no byte came and the other end didn't close, as far as can be seen without waiting.
+    pub(crate) fn is_quiet(&mut self) -> bool
+        ensures whose { (self.new.lb ≡ self.old.lb) × (self.new.member ≡ self.old.member) }
+        ensures same { moment L.incoming L.received L.sent L.faults self.new.link ≡ moment L.incoming L.received L.sent L.faults self.old.link }
+    {
+        self.link.is_quiet()
     }
 }
 
@@ -98,13 +120,6 @@ impl<L: Link + Drop> Lent<L> {
         }
     }
 
-    /// The balancer and the member whose the link is.
-    pub(crate) fn whose(&self) -> (u32, u32)
-        ensures { result ≡ (self.now.lb, self.now.member) }
-    {
-        (self.lb, self.member)
-    }
-
     pub(crate) fn read(&mut self, buf: &mut [u8]) -> Result<usize, IoError>
         requires { 0 < length buf.old }
         ensures count { IfOk result (λ n. n ≤ length buf.new) }
@@ -133,6 +148,40 @@ impl<L: Link + Drop> Lent<L> {
             self.faulty = true;
         }
         answer
+    }
+
+    pub(crate) fn flush(&mut self) -> Result<(), IoError>
+        ensures cause { HasCause self.old.link.faults self.new.link.faults result }
+        ensures ok { OnOk result (self.new ≡ self.old) }
+        ensures err { OnErr result (self.new.faulty ≡ true) }
+        ensures bytes { (self.new.link.incoming ≡ self.old.link.incoming) × (self.new.link.received ≡ self.old.link.received)
+            × (self.new.link.sent ≡ self.old.link.sent) }
+        ensures same { self.new ≡ record self.old { link = self.new.link; faulty = self.new.faulty } }
+    {
+        let answer = self.link.flush();
+        if answer.is_err() {
+            self.faulty = true;
+        }
+        answer
+    }
+
+    pub(crate) fn waits(&mut self) -> bool
+        ensures said { result ≡ true → L.may_wait ≡ true }
+        ensures same { self.new ≡ self.old }
+    {
+        self.link.waits()
+    }
+
+    pub(crate) fn await_next(&mut self, what: Awaited)
+        ensures { self.new ≡ self.old }
+    {
+        self.link.await_next(what);
+    }
+
+    pub(crate) fn is_quiet(&mut self) -> bool
+        ensures { self.new ≡ self.old }
+    {
+        self.link.is_quiet()
     }
 
     /// Ends the loan. The link comes out exactly where it is to be kept and none of its calls was refused, so a link

@@ -8,6 +8,7 @@
 //! Errors: those of the dial and the links; want of memory.
 #![tactic(auto)]
 
+mod aging;
 mod asked;
 mod beginning;
 mod keeping;
@@ -18,8 +19,9 @@ mod pooled;
 mod row;
 mod tape;
 
+pub use aging::Aged;
 pub use keeping::Pools;
 pub use lent::Idle;
-pub use pool::{HandedIn, LinkList, Pool};
+pub use pool::{HandedIn, Home, LinkList, Pool};
 pub use pooled::PooledReach;
 pub use tape::{MemTape, NoTape, Tape};

@@ -1,7 +1,7 @@
 //! Calls of the link of a running talk, counted where they fail and noted on the tape.
 ghost use Rattle.std.specs.Prelude.{◌≡◌, ◌<◌, ◌≤◌, IsOk, IsErrOf, IfOk, OnErr, length, take};
 ghost use Rattle.jk_io.specs.Told.{appended, HasCause};
-ghost use Rattle.conn_pool.specs.Reaches.{ReadsLink, WritesLink, StaysLent};
+ghost use Rattle.conn_pool.specs.Reaches.{FlushesLink, ReadsLink, WritesLink, StaysLent};
 
 use crate::lent::Lent;
 use crate::tape::Tape;
@@ -78,4 +78,16 @@ pub(crate) fn write_lent<L: Link + Drop, T: Tape>(
     let n = counted(lent.write(piece), failed)?;
     tape.sent(&piece[..n]);
     Ok(n)
+}
+
+/// A flush of the running talk's link.
+pub(crate) fn flush_lent<L: Link + Drop>(
+    lent: &mut Lent<L>,
+    failed: &mut u64,
+) -> Result<(), IoError>
+    ensures flushes { FlushesLink lent.old lent.new result }
+    ensures cause { HasCause failed.old failed.new result }
+    ensures steady { IsOk result → failed.new ≡ failed.old }
+{
+    counted(lent.flush(), failed)
 }

@@ -29,11 +29,26 @@ impl<L> Model for Pool<L> {
     ghost invariant = { λ p. (vec_len p.idle ≤ p.size) × (p.size ≤ vec_capacity p.idle) };
 }
 
-/// That a link was handed to a pool: it is idle there, or it was closed since the pool was full. A pool alone makes one.
+/// That a link was handed in: it is idle in the pool of a member, or it was closed.
 #[derive(Drop)]
 pub struct HandedIn<L> {
     pub(crate) link: Snapshot<L>,
-    idle: bool,
+    /// In whose pool it is idle.
+    pub(crate) home: Option<Home>,
+}
+
+/// Whose links a pool has.
+#[derive(Clone, Copy, Debug, PartialEq, Eq)]
+pub struct Home {
+    pub lb: u32,
+    pub member: u32,
+}
+
+/// The idle links of a member.
+#[derive(Drop)]
+pub(crate) struct HomePool<L> {
+    home: Home,
+    pub(crate) pool: Pool<L>,
 }
 
 impl<L: Drop> Pool<L> {
@@ -79,22 +94,6 @@ impl<L: Drop> Pool<L> {
         None
     }
 
-    /// Puts a link, and closes it where `size` are idle. It says which of the two it did.
-    pub fn hand_in(&mut self, link: L) -> HandedIn<L>
-        ensures link { result.link.value ≡ link }
-        ensures room { length self.old.idle < self.old.size → (result.idle ≡ true) × (self.new.idle ≡ self.old.idle ++ link ∷ []) }
-        ensures full { length self.old.idle ≡ self.old.size → (result.idle ≡ false) × (self.new.idle ≡ self.old.idle) }
-        ensures within { length self.old.idle ≤ self.old.size }
-        ensures same { self.new.size ≡ self.old.size }
-    {
-        let handed = Snapshot::of(&link);
-        let back = self.put(link);
-        HandedIn {
-            link: handed,
-            idle: back.is_none(),
-        }
-    }
-
     /// Takes all idle links, and leaves the pool empty; after a refusal it is as before.
     pub fn take_all(&mut self, alloc: Global) -> Result<LinkList<L>, NoMemory>
         ensures all { IfOk result (λ links. links ≡ self.old.idle) }
@@ -122,5 +121,55 @@ impl<L: Drop> Pool<L> {
             unreachable!()
         };
         closed
+    }
+}
+
+impl<L: Drop> HandedIn<L> {
+    /// Closes a link in place of handing it to a pool.
+    pub(crate) fn closed(link: L) -> HandedIn<L>
+        ensures { (result.link.value ≡ link) × (result.home ≡ None) }
+    {
+        HandedIn {
+            link: Snapshot::of(&link),
+            home: None,
+        }
+    }
+}
+
+impl<L: Drop> HomePool<L> {
+    /// An empty pool for the links of a member, with the room for all of them.
+    pub(crate) fn new(alloc: Global, home: Home, size: u32) -> Result<HomePool<L>, NoMemory>
+        ensures { IfOk result (λ p. (p.home ≡ home) × (p.pool ≡ record { idle = []; size = size })) }
+    {
+        Ok(HomePool {
+            home,
+            pool: Pool::new(alloc, size)?,
+        })
+    }
+
+    /// Puts a link of a member, and closes it where the pool is full. A lock doesn't say whose pool lies behind it, so the
+    /// pool does, and closes what isn't of its member.
+    pub(crate) fn hand_in(&mut self, home: Home, link: L) -> HandedIn<L>
+        ensures link { result.link.value ≡ link }
+        ensures idle { IfSome result.home (λ at. (at ≡ self.old.home) × (self.new.pool.idle ≡ self.old.pool.idle ++ link ∷ [])) }
+        ensures room { home ≡ self.old.home → length self.old.pool.idle < self.old.pool.size → result.home ≡ Some home }
+        ensures closed { IfNone result.home (self.new.pool ≡ self.old.pool) }
+        ensures whose { IfSome result.home (λ at. at ≡ home) }
+        ensures same { (self.new.home ≡ self.old.home) × (self.new.pool.size ≡ self.old.pool.size) }
+    {
+        if self.home != home {
+            return HandedIn::closed(link);
+        }
+        let handed = Snapshot::of(&link);
+        match self.pool.put(link) {
+            None => HandedIn {
+                link: handed,
+                home: Some(home),
+            },
+            Some(_) => HandedIn {
+                link: handed,
+                home: None,
+            },
+        }
     }
 }

@@ -6,16 +6,16 @@ ghost use Rattle.jk_io.specs.declared.reaching.Talk.{Talk};
 ghost use Rattle.conn_pool.specs.Backs.{back_of};
 ghost use Rattle.conn_pool.specs.Idle.{HasMember, counts};
 ghost use Rattle.jk_io.specs.Moments.{moment};
-ghost use Rattle.conn_pool.specs.Reaches.{beside_of, told_begun, GoesBack, ReadsLink, WritesLink, StaysLent};
+ghost use Rattle.conn_pool.specs.Reaches.{beside_of, told_begun, FlushesLink, GoesBack, ReadsLink, WritesLink, StaysLent};
 
 use crate::asked::{Asked, begin_dialled};
 use crate::beginning::begin_idle;
 use crate::keeping::Pools;
 use crate::lent::{Idle, Lent};
-use crate::noted::{outside_talk, read_lent, write_lent};
+use crate::noted::{flush_lent, outside_talk, read_lent, write_lent};
 use crate::pool::HandedIn;
 use crate::tape::Tape;
-use jk_io::{Beside, Bytes, Dial, IoError, Link, Meanings, Reach, Sink, Source};
+use jk_io::{Awaited, Beside, Bytes, Dial, IoError, Link, Meanings, Reach, Sink, Source};
 use std::alloc::Global;
 use std::marker::Model;
 use std::sync::Wait;
@@ -172,9 +172,58 @@ impl<'p, 'r, D: Dial, T: Tape, R> Sink for PooledReach<'p, 'r, D, T, R> {
         };
         write_lent(lent, &mut self.tape, &mut self.failed, piece)
     }
+
+    fn flush(&mut self) -> Result<(), IoError>
+        // In a talk it is a flush of the talk's link, and where none runs there is nothing to do.
+        ensures talk { IfSome self.old.lent (λ before. IsSomeAnd self.new.lent (λ after. FlushesLink before after result)) }
+        ensures outside { self.old.lent ≡ None → IsOk result × (self.new ≡ self.old) }
+        ensures same_others { self.new ≡ record self.old { lent = self.new.lent; faults = self.new.faults } }
+        ensures runs { is_some self.new.lent ≡ is_some self.old.lent }
+        ensures cause { HasCause self.old.faults self.new.faults result }
+        ensures steady { IsOk result → self.new.faults ≡ self.old.faults }
+    {
+        match &mut self.lent {
+            Some(lent) => flush_lent(lent, &mut self.failed),
+            None => Ok(()),
+        }
+    }
 }
 
-impl<'p, 'r, D: Dial, T: Tape, R> Link for PooledReach<'p, 'r, D, T, R> {}
+impl<'p, 'r, D: Dial, T: Tape, R> Link for PooledReach<'p, 'r, D, T, R> {
+    ghost may_wait = { D.L.may_wait };
+
+    fn waits(&mut self) -> bool
+        ensures said { result ≡ true → D.L.may_wait ≡ true }
+        ensures same { self.new ≡ self.old }
+    {
+        match &mut self.lent {
+            Some(lent) => lent.waits(),
+            None => false,
+        }
+    }
+
+    fn await_next(&mut self, what: Awaited)
+        // A talk's link is told, and where no talk runs the dial, of a link that is to be dialled.
+        ensures talk { is_some self.old.lent ≡ true → self.new ≡ self.old }
+        ensures same { self.new ≡ record self.old { dial = self.new.dial } }
+        ensures dial { D.faults self.new.dial ≡ D.faults self.old.dial }
+    {
+        match (&mut self.lent, what) {
+            (Some(lent), _) => lent.await_next(what),
+            (None, Awaited::Link { millis, keepalive }) => self.dial.await_dial(millis, keepalive),
+            (None, _) => {}
+        }
+    }
+
+    fn is_quiet(&mut self) -> bool
+        ensures { self.new ≡ self.old }
+    {
+        match &mut self.lent {
+            Some(lent) => lent.is_quiet(),
+            None => true,
+        }
+    }
+}
 
 impl<'p, 'r, D: Dial, T: Tape, R: Wait> Reach for PooledReach<'p, 'r, D, T, R> {
     ghost use Rattle.std.specs.Prelude.{refl};
@@ -269,7 +318,8 @@ impl<'p, 'r, D: Dial, T: Tape, R: Wait> Reach for PooledReach<'p, 'r, D, T, R> {
     ghost open_in_talk = { λ r. refl };
 }
 
-// Hands a talk's link to the pool of its member if it is to be kept and may be. Where the pool is full it is closed.
+// Hands a talk's link to the pool of its member if it is to be kept and may be. Where a byte came on it or its other end
+// closed, or the pool is full, it is closed.
 fn put_back<L: Link + Drop, R: Wait>(
     pools: &Pools<'_, Idle<L>, R>,
     lent: Lent<L>,
@@ -278,7 +328,9 @@ fn put_back<L: Link + Drop, R: Wait>(
     requires { HasMember pools.now lent.lb lent.member }
     ensures { GoesBack lent keep (back_of (moment L.incoming L.received L.sent L.faults) result) }
 {
-    let (lb, member) = lent.whose();
-    let idle = lent.kept(keep)?;
-    Some(pools.hand_in(lb, member, idle))
+    let mut idle = lent.kept(keep)?;
+    if idle.is_quiet() {
+        return Some(pools.hand_in(idle.home(), idle));
+    }
+    Some(HandedIn::closed(idle))
 }

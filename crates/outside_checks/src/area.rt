@@ -7,6 +7,7 @@ use check_rows::judging::{self, judge_file};
 use check_rows::ways::Way;
 use jk_io::NoMemory;
 use std::alloc::Global;
+use std::net::Net;
 use std::rt::{Clock, Files};
 use std::sync::Wait;
 
@@ -16,7 +17,7 @@ struct Outside<'r, R> {
     rt: &'r R,
 }
 
-impl<'r, R: AllocGlobal + Wait + Clock + Files> judging::Area for Outside<'r, R> {
+impl<'r, R: AllocGlobal + Wait + Clock + Files + Net> judging::Area for Outside<'r, R> {
     fn tell(
         &self,
         alloc: Global,
@@ -45,7 +46,7 @@ fn show_system<R: Print + Input + Clock>(rt: &R) -> Result<()> {
 }
 
 /// Shows each row that comes out otherwise, how many come out as they say, and whether each claim holds.
-pub fn judge<R: Print + Input + AllocGlobal + Wait + Clock + Files>(rt: &R) -> Result<()> {
+pub fn judge<R: Print + Input + AllocGlobal + Wait + Clock + Files + Net>(rt: &R) -> Result<()> {
     judge_file(rt, "outside/outside.txt", &Outside { rt })?;
     show_system(rt)
 }

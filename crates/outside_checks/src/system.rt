@@ -5,13 +5,14 @@ use crate::memory;
 use jk_io::{Clock, NoMemory, write_all};
 use real_io::{RealClock, RealFiles, StdIn, StdOut};
 use std::alloc::Global;
+use std::net::Net;
 use std::rt::{Clock as SystemClock, Files};
 
 /// A moment of 2023, in seconds since 1970.
 const MOMENT: u64 = 1_700_000_000;
 
 /// What a read of each of these files answers.
-pub fn tell_files<R: Files>(
+pub fn tell_files<R: Files + Net>(
     rt: &R,
     alloc: Global,
     names: &str,
