@@ -35,6 +35,18 @@ directive_of-name_of directive.RecoverTime = refl
 directive_of-name_of directive.Cookie = refl
 directive_of-name_of directive.Path = refl
 directive_of-name_of directive.ReadOnly = refl
+directive_of-name_of directive.DialTimeout = refl
+directive_of-name_of directive.ConnectTimeout = refl
+directive_of-name_of directive.PrepostTimeout = refl
+directive_of-name_of directive.PingTimeout = refl
+directive_of-name_of directive.SocketTimeout = refl
+directive_of-name_of directive.ReplyTimeout = refl
+directive_of-name_of directive.Keepalive = refl
+directive_of-name_of directive.PoolTimeout = refl
+directive_of-name_of directive.PingInterval = refl
+directive_of-name_of directive.User = refl
+directive_of-name_of directive.Good = refl
+directive_of-name_of directive.Bad = refl
 
 -- each stands in its place
 pub directive_at-slot_of : (d : Directive) → get_or directives (slot_of d) directive.Kind ≡ d
@@ -62,8 +74,20 @@ directive_at-slot_of directive.RecoverTime = refl
 directive_at-slot_of directive.Cookie = refl
 directive_at-slot_of directive.Path = refl
 directive_at-slot_of directive.ReadOnly = refl
+directive_at-slot_of directive.DialTimeout = refl
+directive_at-slot_of directive.ConnectTimeout = refl
+directive_at-slot_of directive.PrepostTimeout = refl
+directive_at-slot_of directive.PingTimeout = refl
+directive_at-slot_of directive.SocketTimeout = refl
+directive_at-slot_of directive.ReplyTimeout = refl
+directive_at-slot_of directive.Keepalive = refl
+directive_at-slot_of directive.PoolTimeout = refl
+directive_at-slot_of directive.PingInterval = refl
+directive_at-slot_of directive.User = refl
+directive_at-slot_of directive.Good = refl
+directive_at-slot_of directive.Bad = refl
 
-pub slot_of-within : (d : Directive) → slot_of d < 24
+pub slot_of-within : (d : Directive) → slot_of d < 36
 slot_of-within directive.Kind = lit< tt
 slot_of-within directive.Reference = lit< tt
 slot_of-within directive.Host = lit< tt
@@ -88,6 +112,18 @@ slot_of-within directive.RecoverTime = lit< tt
 slot_of-within directive.Cookie = lit< tt
 slot_of-within directive.Path = lit< tt
 slot_of-within directive.ReadOnly = lit< tt
+slot_of-within directive.DialTimeout = lit< tt
+slot_of-within directive.ConnectTimeout = lit< tt
+slot_of-within directive.PrepostTimeout = lit< tt
+slot_of-within directive.PingTimeout = lit< tt
+slot_of-within directive.SocketTimeout = lit< tt
+slot_of-within directive.ReplyTimeout = lit< tt
+slot_of-within directive.Keepalive = lit< tt
+slot_of-within directive.PoolTimeout = lit< tt
+slot_of-within directive.PingInterval = lit< tt
+slot_of-within directive.User = lit< tt
+slot_of-within directive.Good = lit< tt
+slot_of-within directive.Bad = lit< tt
 
 -- two directives of one place are one
 pub same_slot : (d e : Directive) → slot_of d ≡ slot_of e → d ≡ e

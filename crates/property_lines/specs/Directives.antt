@@ -33,6 +33,18 @@ name_of directive.RecoverTime = codes "recover_time"
 name_of directive.Cookie = codes "session_cookie"
 name_of directive.Path = codes "session_path"
 name_of directive.ReadOnly = codes "read_only"
+name_of directive.DialTimeout = codes "socket_connect_timeout"
+name_of directive.ConnectTimeout = codes "connect_timeout"
+name_of directive.PrepostTimeout = codes "prepost_timeout"
+name_of directive.PingTimeout = codes "ping_timeout"
+name_of directive.SocketTimeout = codes "socket_timeout"
+name_of directive.ReplyTimeout = codes "reply_timeout"
+name_of directive.Keepalive = codes "socket_keepalive"
+name_of directive.PoolTimeout = codes "connection_pool_timeout"
+name_of directive.PingInterval = codes "connection_ping_interval"
+name_of directive.User = codes "user"
+name_of directive.Good = codes "good"
+name_of directive.Bad = codes "bad"
 
 -- the place of a directive among them
 abbrev pub slot_of : Directive → ℕ
@@ -60,10 +72,22 @@ slot_of directive.RecoverTime = 20
 slot_of directive.Cookie = 21
 slot_of directive.Path = 22
 slot_of directive.ReadOnly = 23
+slot_of directive.DialTimeout = 24
+slot_of directive.ConnectTimeout = 25
+slot_of directive.PrepostTimeout = 26
+slot_of directive.PingTimeout = 27
+slot_of directive.SocketTimeout = 28
+slot_of directive.ReplyTimeout = 29
+slot_of directive.Keepalive = 30
+slot_of directive.PoolTimeout = 31
+slot_of directive.PingInterval = 32
+slot_of directive.User = 33
+slot_of directive.Good = 34
+slot_of directive.Bad = 35
 
 -- all of them, in this order
 abbrev pub directives : List Directive
-directives = directive.Kind ∷ directive.Reference ∷ directive.Host ∷ directive.Port ∷ directive.Factor ∷ directive.Distance ∷ directive.Route ∷ directive.Redirect ∷ directive.Activation ∷ directive.PoolSize ∷ directive.Retries ∷ directive.PacketSize ∷ directive.Secret ∷ directive.PingMode ∷ directive.RecoveryOptions ∷ directive.FailOnStatus ∷ directive.BalanceWorkers ∷ directive.Method ∷ directive.Sticky ∷ directive.Force ∷ directive.RecoverTime ∷ directive.Cookie ∷ directive.Path ∷ directive.ReadOnly ∷ []
+directives = directive.Kind ∷ directive.Reference ∷ directive.Host ∷ directive.Port ∷ directive.Factor ∷ directive.Distance ∷ directive.Route ∷ directive.Redirect ∷ directive.Activation ∷ directive.PoolSize ∷ directive.Retries ∷ directive.PacketSize ∷ directive.Secret ∷ directive.PingMode ∷ directive.RecoveryOptions ∷ directive.FailOnStatus ∷ directive.BalanceWorkers ∷ directive.Method ∷ directive.Sticky ∷ directive.Force ∷ directive.RecoverTime ∷ directive.Cookie ∷ directive.Path ∷ directive.ReadOnly ∷ directive.DialTimeout ∷ directive.ConnectTimeout ∷ directive.PrepostTimeout ∷ directive.PingTimeout ∷ directive.SocketTimeout ∷ directive.ReplyTimeout ∷ directive.Keepalive ∷ directive.PoolTimeout ∷ directive.PingInterval ∷ directive.User ∷ directive.Good ∷ directive.Bad ∷ []
 
 -- the first of these directives that has this name
 abbrev pub directive_among : List Directive → List ℕ → Option Directive

@@ -7,7 +7,7 @@ ghost use Rattle.property_lines.specs.Directives.{name_of, slot_of, directive_am
 use crate::cut::cut_at;
 
 /// How many directives there are.
-pub const DIRECTIVE_COUNT: usize = 24;
+pub const DIRECTIVE_COUNT: usize = 36;
 
 /// A directive of a worker.
 #[derive(Clone, Copy, PartialEq, Eq)]
@@ -36,6 +36,18 @@ pub enum Directive {
     Cookie,
     Path,
     ReadOnly,
+    DialTimeout,
+    ConnectTimeout,
+    PrepostTimeout,
+    PingTimeout,
+    SocketTimeout,
+    ReplyTimeout,
+    Keepalive,
+    PoolTimeout,
+    PingInterval,
+    User,
+    Good,
+    Bad,
 }
 
 pub const DIRECTIVES: [Directive; DIRECTIVE_COUNT] = [
@@ -63,6 +75,18 @@ pub const DIRECTIVES: [Directive; DIRECTIVE_COUNT] = [
     Directive::Cookie,
     Directive::Path,
     Directive::ReadOnly,
+    Directive::DialTimeout,
+    Directive::ConnectTimeout,
+    Directive::PrepostTimeout,
+    Directive::PingTimeout,
+    Directive::SocketTimeout,
+    Directive::ReplyTimeout,
+    Directive::Keepalive,
+    Directive::PoolTimeout,
+    Directive::PingInterval,
+    Directive::User,
+    Directive::Good,
+    Directive::Bad,
 ];
 
 impl Directive {
@@ -96,6 +120,18 @@ impl Directive {
             Directive::Cookie => b"session_cookie",
             Directive::Path => b"session_path",
             Directive::ReadOnly => b"read_only",
+            Directive::DialTimeout => b"socket_connect_timeout",
+            Directive::ConnectTimeout => b"connect_timeout",
+            Directive::PrepostTimeout => b"prepost_timeout",
+            Directive::PingTimeout => b"ping_timeout",
+            Directive::SocketTimeout => b"socket_timeout",
+            Directive::ReplyTimeout => b"reply_timeout",
+            Directive::Keepalive => b"socket_keepalive",
+            Directive::PoolTimeout => b"connection_pool_timeout",
+            Directive::PingInterval => b"connection_ping_interval",
+            Directive::User => b"user",
+            Directive::Good => b"good",
+            Directive::Bad => b"bad",
         }
     }
 

@@ -171,5 +171,17 @@ pub fn is_value(directive: Directive, text: &[u8]) -> bool
         Directive::Cookie => !text.is_empty(),
         Directive::Path => !text.is_empty(),
         Directive::ReadOnly => truth_of(text).is_some(),
+        Directive::DialTimeout => number_in(0, 86_400_000, text).is_some(),
+        Directive::ConnectTimeout => number_in(0, 86_400_000, text).is_some(),
+        Directive::PrepostTimeout => number_in(0, 86_400_000, text).is_some(),
+        Directive::PingTimeout => number_in(0, 86_400_000, text).is_some(),
+        Directive::SocketTimeout => number_in(0, 86400, text).is_some(),
+        Directive::ReplyTimeout => number_in(0, 86_400_000, text).is_some(),
+        Directive::Keepalive => truth_of(text).is_some(),
+        Directive::PoolTimeout => number_in(0, 86400, text).is_some(),
+        Directive::PingInterval => number_in(0, 86400, text).is_some(),
+        Directive::User => true,
+        Directive::Good => true,
+        Directive::Bad => true,
     }
 }

@@ -1,2 +1,4 @@
+pub mod Bounds
 pub mod Ignored
+pub mod Limits
 pub mod Places

@@ -12,6 +12,8 @@ pub struct Status {
     pub name: Bytes,
     /// Whether it shows alone, and changes nothing.
     pub read_only: bool,
+    /// Whether nobody may see it: its directives name users, and jkd knows none.
+    pub closed: bool,
 }
 
 /// What a listed name stands for, by its place.

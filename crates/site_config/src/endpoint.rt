@@ -1,6 +1,7 @@
 //! How a member is reached and used.
 ghost use Rattle.std.specs.Prelude.{◌≤◌};
 
+use crate::limits::MemberLimits;
 use jk_io::{Bytes, ListOf};
 use jk_model::FailList;
 
@@ -25,6 +26,8 @@ pub struct Endpoint {
     pub ping_idle: bool,
     /// The statuses that count as the member's failure.
     pub fail_on: FailList,
+    /// How long its links are waited for.
+    pub limits: MemberLimits,
     pub ghost port_above: { 1 ≤ port },
     pub ghost retries_above: { 1 ≤ retries },
     pub ghost retries_below: { retries ≤ 10 },

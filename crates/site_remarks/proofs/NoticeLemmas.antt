@@ -12,7 +12,7 @@ use Rattle.property_lines.specs.declared.values.WorkerKind.{WorkerKind}
 use Rattle.site_remarks.specs.Added.{AddsText, IsFront}
 use Rattle.site_remarks.proofs.AddedLemmas.{adds_same, adds_then, front_more}
 use Rattle.site_remarks.specs.MapNotices.{notices_from}
-use Rattle.site_remarks.specs.Notices.{notice}
+use Rattle.site_remarks.specs.Notices.{SiteKinds, notice}
 
 -- what a call makes at Ok is what its caller means
 pub on_ok : {T E : Type 0} (r : Result T E) (P Q : Type 0) → OnOk r P → (P → Q) → OnOk r Q
@@ -25,7 +25,7 @@ none_left file line kinds [] none = refl
 none_left file line kinds (b ∷ bs) none = absurd (omega arith)
 
 -- the notices of one line more
-pub notices_more : {T : Type 0} (r : Result T IoError) (file : List ℕ) (kinds : List (List ℕ × WorkerKind)) (ps front back : List Property) (start told new : Option (List ℕ))
+pub notices_more : {T : Type 0} (r : Result T IoError) (file : List ℕ) (kinds : SiteKinds) (ps front back : List Property) (start told new : Option (List ℕ))
     → told ≡ appended start (flat_map (notice file kinds ps) front) → AddsText r told new (flat_map (notice file kinds ps) back)
     → AddsText r start new (flat_map (notice file kinds ps) (front ++ back))
 notices_more r file kinds ps front back start told new before more =
@@ -33,7 +33,7 @@ notices_more r file kinds ps front back start told new before more =
     (sym (flat_map-append (notice file kinds ps) front back))
 
 -- the notices so far and a front of those of the next line
-pub cut_short : (file : List ℕ) (kinds : List (List ℕ × WorkerKind)) (ps front one back : List Property) (start told new : Option (List ℕ)) → ps ≡ (front ++ one) ++ back
+pub cut_short : (file : List ℕ) (kinds : SiteKinds) (ps front one back : List Property) (start told new : Option (List ℕ)) → ps ≡ (front ++ one) ++ back
     → told ≡ appended start (flat_map (notice file kinds ps) front) → IsFront (appended told (flat_map (notice file kinds ps) one)) new
     → IsFront (appended start (flat_map (notice file kinds ps) ps)) new
 cut_short file kinds ps front one back start told new whole before cut =

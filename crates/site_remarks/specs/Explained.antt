@@ -26,7 +26,7 @@ abbrev pub map_words : ℕ → List ℕ
 map_words code =
     if code == 1 then codes "the line must be /PATH=WORKER with at most one |, or a comment, which begins with #: "
     else (if code == 2 then codes "the worker must stand in worker.list: "
-    else (if code == 3 then codes "after the worker must come ;NAME=VALUE, for sticky_ignore a truth value, for disabled and stopped members of it: "
+    else (if code == 3 then codes "after the worker must come ;NAME=VALUE, for sticky_ignore a truth value, for disabled and stopped members of it, for reply_timeout milliseconds from 0 to 86400000: "
     else []))
 
 -- a line of a text, from 1

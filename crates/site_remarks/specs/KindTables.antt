@@ -5,7 +5,7 @@ use Rattle.std.specs.HashMap.{HashMap, get_by}
 use Rattle.std.specs.declared.hash.FoldHasher.{FoldHasher}
 use Rattle.std.specs.declared.hash.BuildHasherDefault.{BuildHasherDefault}
 use Rattle.property_lines.specs.declared.values.WorkerKind.{WorkerKind}
-use Rattle.site_remarks.specs.Notices.{kind_among}
+use Rattle.site_remarks.specs.Notices.{SiteKinds, kind_among}
 use Rattle.property_lines.specs.declared.property.Property.{Property}
 use Rattle.site_remarks.specs.Again.{IsLineTable}
 use Rattle.site_remarks.specs.declared.notices.LineTables.{LineTables}
@@ -18,7 +18,11 @@ as_kinds kinds = map (λ entry. (entry.0.now, entry.1)) kinds
 abbrev pub IsKindTable : HashMap (Bor (List ℕ)) WorkerKind (BuildHasherDefault FoldHasher) → List (List ℕ × WorkerKind) → Type 0
 IsKindTable table kinds = (name : List ℕ) → get_by (λ k. bytes_eq name k.now) table ≡ kind_among name kinds
 
+-- both tables of types
+abbrev pub AreKindTables : LineTables → SiteKinds → Type 0
+AreKindTables tables k = IsKindTable tables.kinds.now k.kinds × IsKindTable tables.redirects.now k.redirects
+
 -- `so` holds of the types and the lines of which these are the tables
-abbrev pub ForTables : LineTables → (List (List ℕ × WorkerKind) → List Property → Type 0) → Type 0
+abbrev pub ForTables : LineTables → (SiteKinds → List Property → Type 0) → Type 0
 ForTables tables so =
-    (kinds : List (List ℕ × WorkerKind)) → (ps : List Property) → IsKindTable tables.kinds.now kinds → IsLineTable tables.lines.now ps → so kinds ps
+    (kinds : SiteKinds) → (ps : List Property) → AreKindTables tables kinds → IsLineTable tables.lines.now ps → so kinds ps

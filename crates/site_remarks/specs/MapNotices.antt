@@ -1,10 +1,10 @@
 -- What in a uriworkermap.properties has no effect: what follows the worker of an exclusion or a worker of type status,
 -- and parts of other names than a rule's.
-use Rattle.std.specs.Prelude.{ℕ, ◌+◌, Bool, true, false, List, [], ◌∷◌, ◌++◌, Option, Some, None, codes, if◌then◌else◌, ◌||◌}
-use Rattle.std.specs.List.{flat_map}
+use Rattle.std.specs.Prelude.{ℕ, ◌+◌, Bool, true, false, List, [], ◌∷◌, ◌++◌, Option, Some, None, codes, if◌then◌else◌, ◌||◌, ◌&&◌}
+use Rattle.std.specs.List.{flat_map, list_all}
 use Rattle.std.specs.Str.{bytes_eq}
 use Rattle.jk_io.specs.Decimals.{trimmed}
-use Rattle.property_lines.specs.Cut.{cut_at}
+use Rattle.property_lines.specs.Cut.{cut_at, is_separator}
 use Rattle.property_lines.specs.Lines.{lines, without_mark}
 use Rattle.property_lines.specs.Properties.{is_silent}
 use Rattle.property_lines.specs.declared.values.WorkerKind.{WorkerKind}
@@ -12,17 +12,27 @@ use Rattle.property_lines.specs.declared.values.WorkerKind.TheVariants as kind
 use Rattle.site_remarks.specs.Explained.{said_of}
 use Rattle.site_remarks.specs.Notices.{kind_among}
 use Rattle.site_remarks.specs.Wanted.{key_in}
-use Rattle.uri_map.specs.Parts.{disabled, pieces_of, sticky_ignore, stopped}
+use Rattle.uri_map.specs.Parts.{disabled, pieces_of, reply_timeout, sticky_ignore, stopped}
 use Rattle.uri_map.specs.Sides.{Left, left_of}
 
 -- a name of a part that has an effect
 abbrev pub is_part_name : List ℕ → Bool
-is_part_name name = bytes_eq name sticky_ignore || (bytes_eq name disabled || bytes_eq name stopped)
+is_part_name name = bytes_eq name sticky_ignore || (bytes_eq name disabled || (bytes_eq name stopped || bytes_eq name reply_timeout))
+
+-- a name of a part that lists members
+abbrev pub is_list_name : List ℕ → Bool
+is_list_name name = bytes_eq name disabled || bytes_eq name stopped
+
+-- the part lists nobody
+abbrev pub lists_nobody : Option (List ℕ × List ℕ) → Bool
+lists_nobody None = false
+lists_nobody (Some sides) = is_list_name (trimmed sides.0) && list_all is_separator sides.1
 
 -- the notice of a part
 abbrev pub part_notice : (file : List ℕ) → ℕ → List ℕ → List ℕ
 part_notice file line text =
-    if is_part_name (key_in text) then []
+    if lists_nobody (cut_at 61 text) then said_of file line (key_in text ++ codes " names no member and has no effect")
+    else if is_part_name (key_in text) then []
     else said_of file line (key_in text ++ codes " is not supported in a rule and has no effect")
 
 -- the notices of the parts that follow a worker of this type

@@ -1,7 +1,9 @@
 -- What a site of mod_jk would expect to have effect and hasn't: a line for each such line of a workers.properties.
 use Rattle.std.specs.Prelude.{ℕ, Bool, true, false, List, [], ◌∷◌, ◌++◌, Option, Some, None, codes, is_some, map, slice_get, if◌then◌else◌, ◌||◌}
-use Rattle.std.specs.List.{flat_map}
+use Rattle.std.specs.Bool.{nat_eq}
+use Rattle.std.specs.List.{flat_map, starts_with}
 use Rattle.std.specs.Str.{bytes_eq}
+use Rattle.jk_model.specs.declared.member.MemberConfig.{MemberConfig}
 use Rattle.property_lines.specs.declared.directive.Directive.{Directive}
 use Rattle.property_lines.specs.declared.directive.Directive.TheVariants as directive
 use Rattle.property_lines.specs.declared.property.Property.{Property}
@@ -49,6 +51,9 @@ owner_of directive.RecoverTime = Some kind.Lb
 owner_of directive.Cookie = Some kind.Lb
 owner_of directive.Path = Some kind.Lb
 owner_of directive.ReadOnly = Some kind.Status
+owner_of directive.User = Some kind.Status
+owner_of directive.Good = Some kind.Status
+owner_of directive.Bad = Some kind.Status
 owner_of d = Some kind.Ajp13
 
 -- what is said of a directive for the first type of worker that is given to a worker of the second
@@ -65,9 +70,23 @@ misplaced_at None at = None
 misplaced_at (Some of) None = None
 misplaced_at (Some of) (Some at) = misplaced of at
 
+-- a balancer's secret is that of its members that have none
+abbrev pub secret_words : Option WorkerKind → Option (List ℕ)
+secret_words (Some kind.Status) = Some (codes " has no effect on a worker of type status")
+secret_words at = None
+
+-- jkd knows no users
+abbrev pub users_words : Option WorkerKind → Option (List ℕ)
+users_words (Some kind.Status) = Some (codes " is not supported, so this worker answers each request with 403")
+users_words at = misplaced_at (Some kind.Status) at
+
 -- what is said of a directive that is given to a worker of this type, or to one that has no part in the configuration
 abbrev pub directive_words : Option Directive → Option WorkerKind → Option (List ℕ)
 directive_words None at = Some (codes " is not supported and has no effect")
+directive_words (Some directive.Secret) at = secret_words at
+directive_words (Some directive.User) at = users_words at
+directive_words (Some directive.Good) at = users_words at
+directive_words (Some directive.Bad) at = users_words at
 directive_words (Some d) at = misplaced_at (owner_of d) at
 
 -- what is said of a key that gives no worker a directive
@@ -90,21 +109,66 @@ abbrev pub again_words : (again : Bool) → Option (List ℕ)
 again_words true = Some (codes " has no effect, since a later line gives it again")
 again_words false = None
 
-abbrev pub or_again : Option (List ℕ) → (again : Bool) → Option (List ℕ)
-or_again None again = again_words again
-or_again (Some words) again = Some words
+-- a text has `$(`, which in mod_jk begins the name of another property
+abbrev pub has_variable : List ℕ → Bool
+has_variable [] = false
+has_variable (b ∷ bs) = starts_with nat_eq (b ∷ bs) (codes "$(") || has_variable bs
+
+-- the members of a configuration whose redirect names another one, as workers with their type
+abbrev pub redirected_kind : MemberConfig → List (List ℕ × WorkerKind)
+redirected_kind m = if is_some m.redirect then (m.name, kind.Ajp13) ∷ [] else []
+
+abbrev pub redirected_kinds : Lb → List (List ℕ × WorkerKind)
+redirected_kinds lb = flat_map redirected_kind lb.book.members
+
+abbrev pub redirecting : Config → List (List ℕ × WorkerKind)
+redirecting c = flat_map redirected_kinds c.lbs
+
+-- what is told of lines rests on the workers with their types, and on those whose redirect names another one
+pub record SiteKinds : Type 0 where
+  pub kinds : List (List ℕ × WorkerKind)
+  pub redirects : List (List ℕ × WorkerKind)
+
+abbrev pub site_kinds : Config → SiteKinds
+site_kinds c = record { kinds = kinds_of c; redirects = redirecting c }
+
+-- what is said of the redirect of a worker, where it is a member and its redirect names no other
+abbrev pub redirect_words : (at : Option WorkerKind) → (redirects : Bool) → Option (List ℕ)
+redirect_words (Some kind.Ajp13) false = Some (codes " names no other member of its balancer and has no effect")
+redirect_words at redirects = None
+
+-- what is said of the value of a directive, besides
+abbrev pub given_words : SiteKinds → (name : List ℕ) → Option Directive → (value : List ℕ) → Option (List ℕ)
+given_words k name (Some directive.Redirect) value = redirect_words (kind_among name k.kinds) (is_some (kind_among name k.redirects))
+given_words k name (Some directive.Host) [] = Some (codes " is empty, so that no link to it can be dialled")
+given_words k name d value = None
+
+abbrev pub value_with : SiteKinds → Option (List ℕ × List ℕ) → (value : List ℕ) → Option (List ℕ)
+value_with k None value = None
+value_with k (Some parts) value = given_words k parts.0 (directive_of parts.1) value
+
+-- what is said of a value that has an effect, though not the one that mod_jk gives it
+abbrev pub value_words : SiteKinds → Property → Option (List ℕ)
+value_words k p =
+    if has_variable p.value then Some (codes " has a value with $(, which is taken as it stands")
+    else value_with k (worker_part p.key) p.value
+
+abbrev pub or_again : Option (List ℕ) → (again : Bool) → (besides : Option (List ℕ)) → Option (List ℕ)
+or_again None false besides = besides
+or_again None true besides = again_words true
+or_again (Some words) again besides = Some words
 
 -- what is said of one of these lines, if it has no effect
-abbrev pub words_at : List (List ℕ × WorkerKind) → List Property → Property → Option (List ℕ)
-words_at kinds ps p = or_again (words_of kinds p.key) (is_again ps p)
+abbrev pub words_at : SiteKinds → List Property → Property → Option (List ℕ)
+words_at k ps p = or_again (words_of k.kinds p.key) (is_again ps p) (value_words k p)
 
 abbrev pub notice_with : (file : List ℕ) → ℕ → List ℕ → Option (List ℕ) → List ℕ
 notice_with file line key None = []
 notice_with file line key (Some words) = said_of file line (key ++ words)
 
 -- the notice of one of these lines
-abbrev pub notice : (file : List ℕ) → List (List ℕ × WorkerKind) → List Property → Property → List ℕ
+abbrev pub notice : (file : List ℕ) → SiteKinds → List Property → Property → List ℕ
 notice file kinds ps p = notice_with file p.line p.key (words_at kinds ps p)
 
-abbrev pub notices : (file : List ℕ) → List (List ℕ × WorkerKind) → List Property → List ℕ
+abbrev pub notices : (file : List ℕ) → SiteKinds → List Property → List ℕ
 notices file kinds ps = flat_map (notice file kinds ps) ps

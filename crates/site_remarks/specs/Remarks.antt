@@ -11,14 +11,14 @@ use Rattle.site_remarks.specs.declared.site_file.SiteFile.{SiteFile}
 use Rattle.site_remarks.specs.declared.site_file.SiteFiles.{SiteFiles}
 use Rattle.site_remarks.specs.Explained.{explained_map, explained_workers}
 use Rattle.site_remarks.specs.MapNotices.{map_notices}
-use Rattle.site_remarks.specs.Notices.{kinds_of, notices}
+use Rattle.site_remarks.specs.Notices.{kinds_of, notices, site_kinds}
 use Rattle.uri_map.specs.Lines.{read_text}
 use Rattle.uri_map.specs.declared.rule.Rule.{Rule}
 use Rattle.worker_props.specs.Site.{IsConfig, IsRefused}
 
 -- of the lines of a workers.properties that gives this configuration
 abbrev pub workers_remarks : (effects : Bool) → (file : List ℕ) → Config → List Property → List ℕ
-workers_remarks true file c ps = notices file (kinds_of c) ps
+workers_remarks true file c ps = notices file (site_kinds c) ps
 workers_remarks false file c ps = []
 
 abbrev pub rules_remarks : (effects : Bool) → Config → List ℕ × List ℕ → Result (List Rule) LineRefusal → List ℕ

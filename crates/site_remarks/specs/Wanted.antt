@@ -15,7 +15,7 @@ key_before text (Some sides) = trimmed sides.0
 abbrev pub key_in : List ℕ → List ℕ
 key_in text = key_before text (cut_at 61 text)
 
--- what the value of each directive must be; any text is one of the last four
+-- what the value of each directive must be; any text is one of the last seven
 abbrev pub wanted_by : Directive → List ℕ
 wanted_by directive.Kind = codes "the type must be ajp13, lb or status: "
 wanted_by directive.Reference = codes "the reference must be worker.NAME: "
@@ -35,6 +35,15 @@ wanted_by directive.Sticky = codes "the value must be true, t, yes, y, on or 1, 
 wanted_by directive.Force = codes "the value must be true, t, yes, y, on or 1, or false, f, no, n, off or 0: "
 wanted_by directive.ReadOnly = codes "the value must be true, t, yes, y, on or 1, or false, f, no, n, off or 0: "
 wanted_by directive.RecoverTime = codes "the value must be a number from 1 to 86400: "
+wanted_by directive.DialTimeout = codes "the value must be milliseconds, a number from 0 to 86400000: "
+wanted_by directive.ConnectTimeout = codes "the value must be milliseconds, a number from 0 to 86400000: "
+wanted_by directive.PrepostTimeout = codes "the value must be milliseconds, a number from 0 to 86400000: "
+wanted_by directive.PingTimeout = codes "the value must be milliseconds, a number from 0 to 86400000: "
+wanted_by directive.ReplyTimeout = codes "the value must be milliseconds, a number from 0 to 86400000: "
+wanted_by directive.SocketTimeout = codes "the value must be seconds, a number from 0 to 86400: "
+wanted_by directive.PoolTimeout = codes "the value must be seconds, a number from 0 to 86400: "
+wanted_by directive.PingInterval = codes "the value must be seconds, a number from 0 to 86400: "
+wanted_by directive.Keepalive = codes "the value must be true, t, yes, y, on or 1, or false, f, no, n, off or 0: "
 wanted_by directive.Cookie = codes "the value must not be empty: "
 wanted_by directive.Path = codes "the value must not be empty: "
 wanted_by d = []

@@ -83,7 +83,7 @@ fn map_words(code: u8) -> &'static [u8]
     } else if code == 2 {
         b"the worker must stand in worker.list: "
     } else if code == 3 {
-        b"after the worker must come ;NAME=VALUE, for sticky_ignore a truth value, for disabled and stopped members of it: "
+        b"after the worker must come ;NAME=VALUE, for sticky_ignore a truth value, for disabled and stopped members of it, for reply_timeout milliseconds from 0 to 86400000: "
     } else {
         b""
     }

@@ -3,9 +3,10 @@ ghost use Rattle.std.specs.Prelude.{◌≡◌, ◌∷◌, ◌++◌, [], ℕ, Lis
 ghost use Rattle.property_lines.specs.declared.values.WorkerKind.{WorkerKind as AnyKind};
 ghost use Rattle.std.specs.List.{flat_map};
 ghost use Rattle.site_remarks.specs.KindTables.{as_kinds, IsKindTable};
-ghost use Rattle.site_remarks.specs.Notices.{balancer_kind, kinds_of, listed_kind, member_kinds};
+ghost use Rattle.site_remarks.specs.Notices.{balancer_kind, kinds_of, listed_kind, member_kinds, redirected_kind, redirected_kinds, redirecting};
 
 use jk_io::NoMemory;
+use jk_model::MemberConfig;
 use property_lines::WorkerKind;
 use site_config::{Config, Lb, Named};
 use std::alloc::Global;
@@ -94,4 +95,44 @@ pub(crate) fn kind_table<'c>(alloc: Global, config: &'c Config) -> Result<KindTa
     ensures { IfOk result (λ table. IsKindTable table (kinds_of config.now)) }
 {
     table_of(alloc, kinds_of(alloc, config)?.as_slice())
+}
+
+fn push_redirected<'c>(out: &mut Kinds<'c>, member: &'c MemberConfig) -> Result<(), NoMemory>
+    ensures { OnOk result (as_kinds out.new.items ≡ as_kinds out.old.items ++ redirected_kind member.now) }
+{
+    if member.redirect.is_some() {
+        out.push((member.name.as_slice(), WorkerKind::Ajp13))?;
+        Ok(())
+    } else {
+        Ok(())
+    }
+}
+
+fn push_all_redirected<'c>(out: &mut Kinds<'c>, lb: &'c Lb) -> Result<(), NoMemory>
+    ensures { OnOk result (as_kinds out.new.items ≡ as_kinds out.old.items ++ redirected_kinds lb.now) }
+{
+    for member in lb.book.members.as_slice() {
+        push_redirected(out, member)?;
+    }
+    Ok(())
+}
+
+fn redirecting<'c>(alloc: Global, lbs: &'c [Lb]) -> Result<Kinds<'c>, NoMemory>
+    ensures { IfOk result (λ kinds. as_kinds kinds.items ≡ flat_map redirected_kinds lbs.now) }
+{
+    let mut out = Vec::new(alloc);
+    for lb in lbs {
+        push_all_redirected(&mut out, lb)?;
+    }
+    Ok(out)
+}
+
+/// The members whose redirect names another one, by their names.
+pub(crate) fn redirect_table<'c>(
+    alloc: Global,
+    config: &'c Config,
+) -> Result<KindTable<'c>, NoMemory>
+    ensures { IfOk result (λ table. IsKindTable table (redirecting config.now)) }
+{
+    table_of(alloc, redirecting(alloc, config.lbs.as_slice())?.as_slice())
 }

@@ -3,13 +3,13 @@ ghost use Rattle.std.specs.Prelude.{◌≡◌, ◌++◌, ◌≤◌, ℕ, List, l
 ghost use Rattle.jk_io.specs.Decimals.{trimmed};
 ghost use Rattle.jk_io.specs.Told.{HasCause};
 ghost use Rattle.jk_io.specs.declared.whole_input.TheConstants.{MAX_INPUT_BYTES};
-ghost use Rattle.std.specs.List.{flat_map};
+ghost use Rattle.std.specs.List.{flat_map, list_all};
 ghost use Rattle.std.specs.Option.{option_map};
 ghost use Rattle.property_lines.specs.declared.values.WorkerKind.{WorkerKind};
-ghost use Rattle.property_lines.specs.Cut.{cut_at};
+ghost use Rattle.property_lines.specs.Cut.{cut_at, is_separator};
 ghost use Rattle.site_remarks.specs.Added.{AddsText};
 ghost use Rattle.site_remarks.specs.KindTables.{IsKindTable};
-ghost use Rattle.site_remarks.specs.MapNotices.{behind_notices, is_part_name, line_notices, map_notices, part_notice, parts_notices, side_notices};
+ghost use Rattle.site_remarks.specs.MapNotices.{behind_notices, is_list_name, is_part_name, lists_nobody, line_notices, map_notices, part_notice, parts_notices, side_notices};
 ghost use Rattle.property_lines.specs.Properties.{is_silent};
 ghost use Rattle.uri_map.specs.Parts.{pieces_of};
 ghost use Rattle.uri_map.specs.Sides.{Left, behind_byte, left_of};
@@ -20,7 +20,7 @@ use crate::remark_out::RemarkOut;
 use crate::site_file::SiteFile;
 use crate::wanted::key_in;
 use jk_io::{Bytes, IoError, NoMemory, Sink, trim};
-use property_lines::{WorkerKind, cut_at, first_line, without_mark};
+use property_lines::{WorkerKind, cut_at, first_line, is_separator, without_mark};
 use std::alloc::Global;
 
 /// The marks before a rule's pattern: `!` makes an exclusion, `-` turns the rule off.
@@ -70,18 +70,46 @@ fn is_silent(text: &[u8]) -> bool
 }
 
 /// Whether a part of this name has an effect.
-#[tactic(auto, unfolding(uri_map::specs::Parts::sticky_ignore, uri_map::specs::Parts::disabled, uri_map::specs::Parts::stopped))]
+#[tactic(auto, unfolding(uri_map::specs::Parts::sticky_ignore, uri_map::specs::Parts::disabled, uri_map::specs::Parts::stopped, uri_map::specs::Parts::reply_timeout))]
 fn is_part_name(name: &[u8]) -> bool
     ensures { result ≡ is_part_name name.now }
 {
     name == b"sticky_ignore".as_slice()
-        || (name == b"disabled".as_slice() || name == b"stopped".as_slice())
+        || (name == b"disabled".as_slice()
+            || (name == b"stopped".as_slice() || name == b"reply_timeout".as_slice()))
+}
+
+/// Whether a part of this name lists members.
+#[tactic(auto, unfolding(uri_map::specs::Parts::disabled, uri_map::specs::Parts::stopped))]
+fn is_list_name(name: &[u8]) -> bool
+    ensures { result ≡ is_list_name name.now }
+{
+    name == b"disabled".as_slice() || name == b"stopped".as_slice()
+}
+
+fn is_blank(text: &[u8]) -> bool
+    ensures { result ≡ list_all is_separator text.now }
+{
+    text.iter().all(|b| is_separator(*b))
+}
+
+/// Whether a part lists nobody.
+fn lists_nobody(text: &[u8]) -> bool
+    ensures { result ≡ lists_nobody (cut_at 61 text.now) }
+{
+    match cut_at(text, b'=') {
+        None => false,
+        Some((name, value)) => is_list_name(trim(name)) && is_blank(value),
+    }
 }
 
 fn put_part(out: &mut Bytes, at: FileLine<'_>, text: &[u8]) -> Result<(), NoMemory>
     ensures { OnOk result (out.new ≡ out.old ++ part_notice at.entry.file.now at.entry.line text.now) }
 {
     let name = key_in(text);
+    if lists_nobody(text) {
+        return put_said(out, at, name, b" names no member and has no effect");
+    }
     if is_part_name(name) {
         return Ok(());
     }

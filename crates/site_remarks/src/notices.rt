@@ -10,8 +10,26 @@ ghost use Rattle.property_lines.specs.Entries.{as_property};
 ghost use Rattle.property_lines.specs.Properties.{read_text};
 ghost use Rattle.site_remarks.specs.Added.{AddsText};
 ghost use Rattle.site_remarks.specs.Again.{Says};
-ghost use Rattle.site_remarks.specs.KindTables.{ForTables, IsKindTable};
-ghost use Rattle.site_remarks.specs.Notices.{again_words, directive_words, key_words, misplaced, notice, notice_with, notices, owner_of, words_at, words_of};
+ghost use Rattle.site_remarks.specs.KindTables.{AreKindTables, ForTables, IsKindTable};
+ghost use Rattle.site_remarks.specs.Notices.{
+  SiteKinds,
+  again_words,
+  directive_words,
+  given_words,
+  has_variable,
+  key_words,
+  misplaced,
+  notice,
+  notice_with,
+  notices,
+  owner_of,
+  redirect_words,
+  secret_words,
+  users_words,
+  value_words,
+  words_at,
+  words_of,
+};
 
 use crate::again::{LineTable, is_again};
 use crate::explain::{FileLine, put_said};
@@ -30,6 +48,8 @@ use std::alloc::Global;
 #[derive(Clone, Copy)]
 pub(crate) struct LineTables<'a> {
     pub(crate) kinds: &'a KindTable<'a>,
+    /// The members whose redirect names another one.
+    pub(crate) redirects: &'a KindTable<'a>,
     pub(crate) lines: &'a LineTable<'a>,
 }
 
@@ -46,7 +66,9 @@ fn owner_of(directive: Directive) -> Option<WorkerKind>
         | Directive::RecoverTime
         | Directive::Cookie
         | Directive::Path => Some(WorkerKind::Lb),
-        Directive::ReadOnly => Some(WorkerKind::Status),
+        Directive::ReadOnly | Directive::User | Directive::Good | Directive::Bad => {
+            Some(WorkerKind::Status)
+        }
         Directive::Host
         | Directive::Port
         | Directive::Factor
@@ -60,7 +82,16 @@ fn owner_of(directive: Directive) -> Option<WorkerKind>
         | Directive::Secret
         | Directive::PingMode
         | Directive::RecoveryOptions
-        | Directive::FailOnStatus => Some(WorkerKind::Ajp13),
+        | Directive::FailOnStatus
+        | Directive::DialTimeout
+        | Directive::ConnectTimeout
+        | Directive::PrepostTimeout
+        | Directive::PingTimeout
+        | Directive::SocketTimeout
+        | Directive::ReplyTimeout
+        | Directive::Keepalive
+        | Directive::PoolTimeout
+        | Directive::PingInterval => Some(WorkerKind::Ajp13),
     }
 }
 
@@ -85,12 +116,37 @@ fn misplaced(of: WorkerKind, at: WorkerKind) -> Option<&'static [u8]>
     }
 }
 
+/// What is said of the secret of a worker of this type; a balancer's is that of its members that have none.
+fn secret_words(at: Option<WorkerKind>) -> Option<&'static [u8]>
+    ensures { option_map (λ t. t.now) result ≡ secret_words at }
+{
+    match at {
+        Some(WorkerKind::Status) => Some(b" has no effect on a worker of type status"),
+        _ => None,
+    }
+}
+
+/// What is said of a directive that names the users of a status worker.
+fn users_words(at: Option<WorkerKind>) -> Option<&'static [u8]>
+    ensures { option_map (λ t. t.now) result ≡ users_words at }
+{
+    match at {
+        Some(WorkerKind::Status) => {
+            Some(b" is not supported, so this worker answers each request with 403")
+        }
+        Some(other) => misplaced(WorkerKind::Status, other),
+        None => None,
+    }
+}
+
 /// What is said of a directive that is given to a worker of this type.
 fn directive_words(directive: Option<Directive>, at: Option<WorkerKind>) -> Option<&'static [u8]>
     ensures { option_map (λ t. t.now) result ≡ directive_words directive at }
 {
     match directive {
         None => Some(b" is not supported and has no effect"),
+        Some(Directive::Secret) => secret_words(at),
+        Some(Directive::User | Directive::Good | Directive::Bad) => users_words(at),
         Some(directive) => misplaced(owner_of(directive)?, at?),
     }
 }
@@ -130,13 +186,83 @@ fn again_words(again: bool) -> Option<&'static [u8]>
     }
 }
 
+/// Whether a text has `$(`, which in mod_jk begins the name of another property.
+fn has_variable(text: &[u8]) -> bool
+    ensures { result ≡ has_variable text.now }
+{
+    let mut rest = text;
+    loop {
+        if rest.starts_with(b"$(") {
+            return true;
+        }
+        match rest {
+            [] => return false,
+            [_, behind @ ..] => rest = behind,
+        }
+    }
+}
+
+/// What is said of the redirect of a worker, where it is a member and its redirect names no other.
+fn redirect_words(at: Option<WorkerKind>, redirects: bool) -> Option<&'static [u8]>
+    ensures { option_map (λ t. t.now) result ≡ redirect_words at redirects }
+{
+    match (at, redirects) {
+        (Some(WorkerKind::Ajp13), false) => {
+            Some(b" names no other member of its balancer and has no effect")
+        }
+        _ => None,
+    }
+}
+
+/// What is said of the value of a directive, besides.
+fn given_words(
+    tables: &LineTables<'_>,
+    name: &[u8],
+    directive: Option<Directive>,
+    value: &[u8],
+) -> Option<&'static [u8]>
+    ensures { (kinds : SiteKinds) → AreKindTables tables.now kinds
+        → option_map (λ t. t.now) result ≡ given_words kinds name.now directive value.now }
+{
+    match directive {
+        Some(Directive::Redirect) => {
+            let redirects = tables.redirects.get(name).is_some();
+            redirect_words(tables.kinds.get(name).copied(), redirects)
+        }
+        Some(Directive::Host) if value.is_empty() => {
+            Some(b" is empty, so that no link to it can be dialled")
+        }
+        _ => None,
+    }
+}
+
+/// What is said of a value that has an effect, though not the one that mod_jk gives it.
+fn value_words(tables: &LineTables<'_>, entry: &PropertyLine<'_>) -> Option<&'static [u8]>
+    ensures { (kinds : SiteKinds) → AreKindTables tables.now kinds
+        → option_map (λ t. t.now) result ≡ value_words kinds (as_property entry.now) }
+{
+    if has_variable(entry.value) {
+        return Some(b" has a value with $(, which is taken as it stands");
+    }
+    match worker_part(entry.key) {
+        None => None,
+        Some((name, text)) => given_words(tables, name, directive_of(text), entry.value),
+    }
+}
+
 /// What is said of a line, if it has no effect.
 fn words_at(tables: &LineTables<'_>, entry: &PropertyLine<'_>) -> Option<&'static [u8]>
     ensures { ForTables tables.now (λ kinds ps. option_map (λ t. t.now) result ≡ words_at kinds ps (as_property entry.now)) }
 {
     match words_of(tables.kinds, entry.key) {
         Some(words) => Some(words),
-        None => again_words(is_again(tables.lines, entry)),
+        None => {
+            if is_again(tables.lines, entry) {
+                again_words(true)
+            } else {
+                value_words(tables, entry)
+            }
+        }
     }
 }
 

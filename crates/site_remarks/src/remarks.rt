@@ -1,21 +1,20 @@
 //! What a person reads of a site's files: why they are refused, and what of those that are accepted has no effect.
-ghost use Rattle.std.specs.Prelude.{◌≡◌, ℕ, List, ◌++◌, Ok, true, IfSome, IsOk};
+ghost use Rattle.std.specs.Prelude.{◌≡◌, List, ◌++◌, Ok, true, IfSome, IsOk};
 ghost use Rattle.std.specs.Option.{option_map};
 ghost use Rattle.jk_io.specs.Told.{HasCause};
 ghost use Rattle.property_lines.specs.Properties as properties;
 ghost use Rattle.property_lines.specs.declared.property.Property.{Property};
-ghost use Rattle.property_lines.specs.declared.values.WorkerKind.{WorkerKind as AnyKind};
 ghost use Rattle.uri_map.specs.Lines.{read_text};
 ghost use Rattle.site_config.specs.declared.config.Config.{Config};
 ghost use Rattle.site_remarks.specs.Explained.{explained_map, explained_workers};
 ghost use Rattle.site_remarks.specs.KindTables.{IsKindTable};
-ghost use Rattle.site_remarks.specs.Notices.{kinds_of, notices};
+ghost use Rattle.site_remarks.specs.Notices.{kinds_of, notices, site_kinds};
 ghost use Rattle.site_remarks.specs.Added.{AddsSaid, AddsText};
 ghost use Rattle.site_remarks.specs.Remarks.{AreRemarks, AreShort, IsShort, as_file, map_remarks, maps_of, rules_remarks, workers_remarks};
 
 use crate::again::line_table;
 use crate::explain::{explain_map, explain_workers};
-use crate::kinds::{KindTable, kind_table};
+use crate::kinds::{KindTable, kind_table, redirect_table};
 use crate::map_notices::put_map_notices;
 use crate::notices::{LineTables, put_notices};
 use crate::remark_out::RemarkOut;
@@ -117,19 +116,22 @@ fn put_any_map<O: Sink + Drop>(
 fn put_effects<O: Sink + Drop>(
     alloc: Global,
     out: &mut RemarkOut<O>,
+    config: &Config,
     table: &KindTable<'_>,
     workers: &SiteFile<'_>,
 ) -> Result<(), IoError>
-    requires { IsShort workers.now }
-    ensures added { (kinds : List (List ℕ × AnyKind)) → (ps : List Property) → IsKindTable table.now kinds
-        → properties.read_text true workers.now.text.now ≡ Ok ps
-        → AddsText result out.old.said out.new.said (notices workers.now.name.now kinds ps) }
+    requires short { IsShort workers.now }
+    requires table { IsKindTable table.now (kinds_of config.now) }
+    ensures added { (ps : List Property) → properties.read_text true workers.now.text.now ≡ Ok ps
+        → AddsText result out.old.said out.new.said (notices workers.now.name.now (site_kinds config.now) ps) }
     ensures cause { HasCause out.old.faults out.new.faults result }
     ensures steady { IsOk result → out.new.faults ≡ out.old.faults }
 {
+    let redirects = redirect_table(alloc, config)?;
     let lines = line_table(alloc, workers.text)?;
     let tables = LineTables {
         kinds: table,
+        redirects: &redirects,
         lines: &lines,
     };
     put_notices(alloc, out, &tables, workers)
@@ -139,19 +141,20 @@ fn put_effects<O: Sink + Drop>(
 fn put_workers<O: Sink + Drop>(
     alloc: Global,
     out: &mut RemarkOut<O>,
+    config: &Config,
     table: &KindTable<'_>,
     workers: &SiteFile<'_>,
     effects: bool,
 ) -> Result<(), IoError>
-    requires { IsShort workers.now }
-    ensures added { (config : Config) → (ps : List Property) → IsKindTable table.now (kinds_of config)
-        → properties.read_text true workers.now.text.now ≡ Ok ps
-        → AddsText result out.old.said out.new.said (workers_remarks effects workers.now.name.now config ps) }
+    requires short { IsShort workers.now }
+    requires table { IsKindTable table.now (kinds_of config.now) }
+    ensures added { (ps : List Property) → properties.read_text true workers.now.text.now ≡ Ok ps
+        → AddsText result out.old.said out.new.said (workers_remarks effects workers.now.name.now config.now ps) }
     ensures cause { HasCause out.old.faults out.new.faults result }
     ensures steady { IsOk result → out.new.faults ≡ out.old.faults }
 {
     if effects {
-        put_effects(alloc, out, table, workers)
+        put_effects(alloc, out, config, table, workers)
     } else {
         Ok(())
     }
@@ -173,7 +176,7 @@ fn put_accepted<O: Sink + Drop>(
     ensures steady { IsOk result → out.new.faults ≡ out.old.faults }
 {
     let table = kind_table(alloc, config)?;
-    put_workers(alloc, out, &table, &files.workers, effects)?;
+    put_workers(alloc, out, config, &table, &files.workers, effects)?;
     put_any_map(alloc, out, config, &table, files.map, effects)
 }
 

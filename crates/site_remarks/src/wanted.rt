@@ -15,7 +15,7 @@ pub(crate) fn key_in(text: &[u8]) -> &[u8]
     }
 }
 
-/// What the value of a directive must be; any text is one of the last four.
+/// What the value of a directive must be; any text is one of the last seven.
 fn wanted_by(directive: Directive) -> &'static [u8]
     ensures { result.now ≡ wanted_by directive }
 {
@@ -39,12 +39,28 @@ fn wanted_by(directive: Directive) -> &'static [u8]
         Directive::Method => {
             b"the method must begin with R, S, T or B, as Request, Session, Traffic and Busyness do: "
         }
-        Directive::Sticky | Directive::Force | Directive::ReadOnly => {
+        Directive::DialTimeout
+        | Directive::ConnectTimeout
+        | Directive::PrepostTimeout
+        | Directive::PingTimeout
+        | Directive::ReplyTimeout => {
+            b"the value must be milliseconds, a number from 0 to 86400000: "
+        }
+        Directive::SocketTimeout | Directive::PoolTimeout | Directive::PingInterval => {
+            b"the value must be seconds, a number from 0 to 86400: "
+        }
+        Directive::Sticky | Directive::Force | Directive::ReadOnly | Directive::Keepalive => {
             b"the value must be true, t, yes, y, on or 1, or false, f, no, n, off or 0: "
         }
         Directive::RecoverTime => b"the value must be a number from 1 to 86400: ",
         Directive::Cookie | Directive::Path => b"the value must not be empty: ",
-        Directive::Host | Directive::Route | Directive::Redirect | Directive::Secret => b"",
+        Directive::Host
+        | Directive::Route
+        | Directive::Redirect
+        | Directive::Secret
+        | Directive::User
+        | Directive::Good
+        | Directive::Bad => b"",
     }
 }
 

@@ -9,11 +9,11 @@ use Rattle.site_config.specs.declared.config.Config.{Config}
 use Rattle.site_config.specs.declared.config.Status.{Status}
 use Rattle.site_config.specs.declared.config.Named.{Named}
 use Rattle.site_config.specs.declared.config.Named.TheVariants as named
-use Rattle.site_reports.specs.MemberLines.{member_line, names_of}
+use Rattle.site_reports.specs.MemberLines.{member_text, names_of}
 use Rattle.site_reports.specs.Words.{method_letter, truth_digit}
 
 abbrev pub member_lines : Lb → List ℕ
-member_lines lb = flat_map (member_line (names_of lb.book.members)) (zip lb.book.members lb.ends)
+member_lines lb = flat_map (member_text (names_of lb.book.members)) (zip lb.book.members lb.ends)
 
 -- the rules of an lb worker
 abbrev pub lb_words : Lb → List ℕ

@@ -1,4 +1,5 @@
 pub mod ConfigText
+pub mod LimitLines
 pub mod Matches
 pub mod MemberLines
 pub mod PathLines

@@ -1,14 +1,16 @@
--- What `match` prints: each line is a raw path, and is answered with the worker at which its clean path is mounted.
-use Rattle.std.specs.Prelude.{ℕ, List, [], ◌∷◌, ◌++◌, Option, Some, None, codes, slice_get}
+-- What `match` prints: each line is a raw path, maybe with a query, and is answered with the worker at which its clean path
+-- is mounted, and, where that is asked for, with the line of the map that decides about it.
+use Rattle.std.specs.Prelude.{ℕ, Bool, List, [], ◌∷◌, ◌++◌, Option, Some, None, codes, decimal, slice_get, if◌then◌else◌}
 use Rattle.std.specs.List.{flat_map}
 use Rattle.http_front.specs.Path.{clean_of}
+use Rattle.property_lines.specs.Cut.{cut_at}
 use Rattle.site_config.specs.declared.balancer.Lb.{Lb}
 use Rattle.site_config.specs.declared.config.Config.{Config}
 use Rattle.site_config.specs.declared.config.Status.{Status}
 use Rattle.site_config.specs.declared.config.Named.{Named}
 use Rattle.site_config.specs.declared.config.Named.TheVariants as named
 use Rattle.uri_map.specs.declared.rule.Rule.{Rule}
-use Rattle.uri_map.specs.Mounts.{mount}
+use Rattle.uri_map.specs.Mounts.{deciding_line, mount}
 use Rattle.site_reports.specs.PathLines.{path_lines}
 
 abbrev pub lb_name : Option Lb → List ℕ
@@ -30,8 +32,29 @@ abbrev pub answer_of : Config → List Rule → Option (List ℕ) → List ℕ
 answer_of c rules None = codes "400"
 answer_of c rules (Some path) = worker_name c (mount rules path)
 
-abbrev pub match_line : Config → List Rule → List ℕ → List ℕ
-match_line c rules raw = raw ++ codes " " ++ answer_of c rules (clean_of raw) ++ codes "\n"
+-- what stands before the first `?`
+abbrev pub before_query : List ℕ → Option (List ℕ × List ℕ) → List ℕ
+before_query raw None = raw
+before_query raw (Some sides) = sides.0
 
-abbrev pub match_text : Config → List Rule → List ℕ → List ℕ
-match_text c rules paths = flat_map (match_line c rules) (path_lines paths)
+abbrev pub path_in : List ℕ → List ℕ
+path_in raw = before_query raw (cut_at 63 raw)
+
+-- the line of the map that decides
+abbrev pub line_words : Option ℕ → List ℕ
+line_words None = []
+line_words (Some line) = codes " line " ++ decimal line
+
+abbrev pub deciding_words : List Rule → Option (List ℕ) → List ℕ
+deciding_words rules None = []
+deciding_words rules (Some path) = line_words (deciding_line rules path)
+
+abbrev pub answer_line : Config → List Rule → (verbose : Bool) → (raw : List ℕ) → Option (List ℕ) → List ℕ
+answer_line c rules verbose raw path =
+    raw ++ codes " " ++ answer_of c rules path ++ (if verbose then deciding_words rules path else []) ++ codes "\n"
+
+abbrev pub match_line : Config → List Rule → (verbose : Bool) → List ℕ → List ℕ
+match_line c rules verbose raw = answer_line c rules verbose raw (clean_of (path_in raw))
+
+abbrev pub match_text : Config → List Rule → (verbose : Bool) → List ℕ → List ℕ
+match_text c rules verbose paths = flat_map (match_line c rules verbose) (path_lines paths)

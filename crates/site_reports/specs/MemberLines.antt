@@ -3,6 +3,7 @@ use Rattle.std.specs.Prelude.{ℕ, Bool, true, false, List, [], ◌∷◌, ◌++
 use Rattle.std.specs.List.{flat_map}
 use Rattle.jk_model.specs.declared.member.MemberConfig.{MemberConfig}
 use Rattle.site_config.specs.declared.endpoint.Endpoint.{Endpoint}
+use Rattle.site_reports.specs.LimitLines.{limits_line}
 use Rattle.site_reports.specs.Words.{activation_words}
 
 abbrev pub names_of : List MemberConfig → List (List ℕ)
@@ -54,3 +55,7 @@ talk_words m e =
 abbrev pub member_line : List (List ℕ) → MemberConfig × Endpoint → List ℕ
 member_line names pair =
     place_words pair.0 pair.1 ++ weight_words pair.0 ++ activation_words pair.0.activation ++ redirect_words names pair.0.redirect ++ talk_words pair.0 pair.1 ++ fail_words pair.1.fail_on ++ codes "\n"
+
+-- and after it the line of its time limits, if it sets some
+abbrev pub member_text : List (List ℕ) → MemberConfig × Endpoint → List ℕ
+member_text names pair = member_line names pair ++ limits_line pair.0.name pair.1.limits

@@ -43,9 +43,9 @@ ReportsSite workers map out refused =
     OfWorkers workers (λ c out refused. OfMap c (read_text c map) (λ rules. config_text c ++ rules_line rules) out refused) out refused
 
 -- `match` of both files and a list of paths
-abbrev pub ReportsMatches : (workers map paths out : List ℕ) → (refused : Bool) → Type 0
-ReportsMatches workers map paths out refused =
-    OfWorkers workers (λ c out refused. OfMap c (read_text c map) (λ rules. match_text c rules paths) out refused) out refused
+abbrev pub ReportsMatches : (workers map paths : List ℕ) → (verbose : Bool) → (out : List ℕ) → (refused : Bool) → Type 0
+ReportsMatches workers map paths verbose out refused =
+    OfWorkers workers (λ c out refused. OfMap c (read_text c map) (λ rules. match_text c rules verbose paths) out refused) out refused
 
 -- the first of a site's two files that isn't read whole is too long
 pub record IsSiteTooLong (outside : CommandOutside) (workers map line : List ℕ) : Type 0 where

@@ -8,6 +8,7 @@
 #![tactic(auto)]
 
 mod config_text;
+mod limits_line;
 mod match_text;
 mod member_line;
 mod path_lines;

@@ -1,8 +1,9 @@
 //! The line of a member.
 ghost use Rattle.std.specs.Prelude.{◌≡◌, ◌++◌, OnOk};
 ghost use Rattle.std.specs.List.{flat_map};
-ghost use Rattle.site_reports.specs.MemberLines.{fail_words, member_line, name_at, names_of, ping_letters, place_words, redirect_words, status_word, next_status, talk_words, weight_words};
+ghost use Rattle.site_reports.specs.MemberLines.{fail_words, member_line, member_text, name_at, names_of, ping_letters, place_words, redirect_words, status_word, next_status, talk_words, weight_words};
 
+use crate::limits_line::put_limits;
 use crate::words::{activation_words, put_number, put_text};
 use jk_io::{Bytes, NoMemory, put_decimal};
 use jk_model::MemberConfig;
@@ -103,8 +104,7 @@ fn put_talks(out: &mut Bytes, member: &MemberConfig, end: &Endpoint) -> Result<(
     put_text(out, b" ping ", ping_letters(end))
 }
 
-/// Adds the line of a member of these members.
-pub(crate) fn put_member(
+fn put_line(
     out: &mut Bytes,
     members: &[MemberConfig],
     member: &MemberConfig,
@@ -119,4 +119,17 @@ pub(crate) fn put_member(
     put_talks(out, member, end)?;
     put_fail(out, end.fail_on.as_slice())?;
     out.extend(b"\n")
+}
+
+/// Adds the line of a member of these members, and that of its time limits.
+pub(crate) fn put_member(
+    out: &mut Bytes,
+    members: &[MemberConfig],
+    member: &MemberConfig,
+    end: &Endpoint,
+) -> Result<(), NoMemory>
+    ensures { OnOk result (out.new ≡ out.old ++ member_text (names_of members.now) (member.now, end.now)) }
+{
+    put_line(out, members, member, end)?;
+    put_limits(out, member.name.as_slice(), &end.limits)
 }

@@ -1,5 +1,5 @@
 //! The two files of a site, read and judged.
-ghost use Rattle.std.specs.Prelude.{◌≡◌, ◌<◌, ◌≤◌, ℕ, List, Option, Some, true, length, codes, IfOk, IfSome, IfNone, IsSomeAnd};
+ghost use Rattle.std.specs.Prelude.{◌≡◌, ◌<◌, ◌≤◌, ℕ, List, Option, Some, true, length, codes, IfOk, IsOk, IfSome, IfNone, IsSomeAnd};
 ghost use Rattle.jk_io.specs.Stored.{content_of};
 ghost use Rattle.jk_io.specs.Told.{HasCause};
 ghost use Rattle.site_reports.specs.Reports.{refusal_line};
@@ -25,6 +25,7 @@ fn text_of<F: Files>(alloc: Global, files: &mut F, name: &Bytes) -> Result<Optio
     ensures short { IfOk result (λ read. IfSome read (λ text. length text ≤ MAX_INPUT_BYTES)) }
     ensures long { IfOk result (λ read. IfNone read (IfSome (F.files files.old) (λ all. IsSomeAnd (content_of all name.now) (λ text. MAX_INPUT_BYTES < length text)))) }
     ensures cause { HasCause (F.faults files.old) (F.faults files.new) result }
+    ensures calm { IsOk result → F.faults files.new ≡ F.faults files.old }
     ensures same { F.files files.new ≡ F.files files.old }
 {
     match files.read_file(alloc, name) {

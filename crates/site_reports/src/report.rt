@@ -68,11 +68,17 @@ fn of_rules(alloc: Global, config: &Config, map: &UriMap) -> Result<Report, NoMe
     })
 }
 
-fn of_paths(alloc: Global, config: &Config, map: &UriMap, paths: &[u8]) -> Result<Report, NoMemory>
-    ensures { IfOk result (λ r. (r.text ≡ match_text config.now map.now paths.now) × (r.refused ≡ false)) }
+fn of_paths(
+    alloc: Global,
+    config: &Config,
+    map: &UriMap,
+    paths: &[u8],
+    verbose: bool,
+) -> Result<Report, NoMemory>
+    ensures { IfOk result (λ r. (r.text ≡ match_text config.now map.now verbose paths.now) × (r.refused ≡ false)) }
 {
     let mut text = Bytes::new(alloc);
-    put_matches(alloc, &mut text, config, map, paths)?;
+    put_matches(alloc, &mut text, config, map, paths, verbose)?;
     Ok(Report {
         text,
         refused: false,
@@ -91,13 +97,19 @@ fn of_site(alloc: Global, config: &Config, map: &[u8]) -> Result<Report, NoMemor
     }
 }
 
-fn of_matches(alloc: Global, config: &Config, map: &[u8], paths: &[u8]) -> Result<Report, NoMemory>
+fn of_matches(
+    alloc: Global,
+    config: &Config,
+    map: &[u8],
+    paths: &[u8],
+    verbose: bool,
+) -> Result<Report, NoMemory>
     requires short { length map.now ≤ MAX_INPUT_BYTES }
     ensures { IfOk result (λ r. OfMap config.now (read_text config.now map.now)
-        (λ rules. match_text config.now rules paths.now) r.text r.refused) }
+        (λ rules. match_text config.now rules verbose paths.now) r.text r.refused) }
 {
     match read_map(alloc, map, config) {
-        Ok(map) => of_paths(alloc, config, &map, paths),
+        Ok(map) => of_paths(alloc, config, &map, paths, verbose),
         Err(MapError::Refused { line, code }) => refused(alloc, b"map", line, code),
         Err(MapError::NoMemory) => Err(NoMemory),
     }
@@ -128,18 +140,20 @@ pub fn report_site(alloc: Global, workers: &[u8], map: &[u8]) -> Result<Report, 
     }
 }
 
-/// What `match` prints of both files and a list of paths: a line for each path, or that of the first refusal.
+/// What `match` prints of both files and a list of paths: a line for each path, or that of the first refusal; `-v` makes it
+/// verbose.
 pub fn report_matches(
     alloc: Global,
     workers: &[u8],
     map: &[u8],
     paths: &[u8],
+    verbose: bool,
 ) -> Result<Report, NoMemory>
     requires short { (length workers.now ≤ MAX_INPUT_BYTES) × (length map.now ≤ MAX_INPUT_BYTES) }
-    ensures { IfOk result (λ r. ReportsMatches workers.now map.now paths.now r.text r.refused) }
+    ensures { IfOk result (λ r. ReportsMatches workers.now map.now paths.now verbose r.text r.refused) }
 {
     match read_workers(alloc, workers) {
-        Ok(config) => of_matches(alloc, &config, map, paths),
+        Ok(config) => of_matches(alloc, &config, map, paths, verbose),
         Err(PropsError::Refused { line, code }) => refused(alloc, b"workers", line, code),
         Err(PropsError::NoMemory) => Err(NoMemory),
     }

@@ -1,5 +1,5 @@
 -- The mount of a path: the worker that the rules of a map give it, and the terms.
-use Rattle.std.specs.Prelude.{ℕ, ◌+◌, Bool, true, false, not, List, [], ◌∷◌, Option, Some, None, is_some, if◌then◌else◌, ◌==◌, ◌||◌, ◌&&◌, nat_lt, length, find}
+use Rattle.std.specs.Prelude.{ℕ, ◌+◌, Bool, true, false, not, List, [], ◌∷◌, Option, Some, None, is_some, if◌then◌else◌, ◌==◌, ◌||◌, ◌&&◌, nat_lt, length, find, unwrap_or}
 use Rattle.std.specs.Option.{option_map, option_and_then}
 use Rattle.std.specs.List.{list_all, list_any}
 use Rattle.jk_model.specs.declared.ask.Terms.{Terms}
@@ -52,7 +52,7 @@ abbrev pub mount : List Rule → List ℕ → Option Named
 mount rules path = option_map (λ m. m.worker) (taken rules path)
 
 abbrev pub no_terms : Terms
-no_terms = record { sticky_ignore = false; disabled = 0; stopped = 0 }
+no_terms = record { sticky_ignore = false; disabled = 0; stopped = 0; reply_timeout = None }
 
 abbrev pub terms_by : Option Mount → Terms
 terms_by None = no_terms
@@ -61,6 +61,19 @@ terms_by (Some m) = m.terms
 -- the terms of the rule that mounts a path
 abbrev pub terms : List Rule → List ℕ → Terms
 terms rules path = terms_by (taken rules path)
+
+-- the line of the first exclusion that takes the path away from this worker
+abbrev pub exclusion_line : List Rule → List ℕ → Named → Option ℕ
+exclusion_line [] path worker = None
+exclusion_line (r ∷ rules) path worker = if excludes r.role worker && matches r.pattern path then Some r.line else exclusion_line rules path worker
+
+abbrev pub line_by : List Rule → List ℕ → Option Rule → Option ℕ
+line_by rules path None = None
+line_by rules path (Some r) = option_map (λ m. unwrap_or (exclusion_line rules path m.worker) r.line) (mount_of r.role)
+
+-- the line of the rule that decides about a path: the one that mounts it, or the first exclusion that takes it away
+abbrev pub deciding_line : List Rule → List ℕ → Option ℕ
+deciding_line rules path = line_by rules path (best rules path)
 
 -- how many other lines rules stand on after one of this line; the rules of one line stand together
 abbrev pub lines_behind : ℕ → List Rule → ℕ

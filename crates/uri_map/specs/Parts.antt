@@ -8,7 +8,7 @@ use Rattle.jk_model.specs.declared.ask.Terms.{Terms}
 use Rattle.jk_model.specs.declared.member.MemberConfig.{MemberConfig}
 use Rattle.property_lines.specs.Cut.{cut_at}
 use Rattle.property_lines.specs.Names.{words}
-use Rattle.property_lines.specs.Values.{truth_of}
+use Rattle.property_lines.specs.Values.{number_in, truth_of}
 use Rattle.uri_map.specs.Members.{are_members, set_of}
 
 unfoldable pub sticky_ignore : List ℕ
@@ -19,6 +19,9 @@ disabled = codes "disabled"
 
 unfoldable pub stopped : List ℕ
 stopped = codes "stopped"
+
+unfoldable pub reply_timeout : List ℕ
+reply_timeout = codes "reply_timeout"
 
 -- a name and its value, split at the first `=`
 abbrev pub part_of : List ℕ → Option (List ℕ × List ℕ)
@@ -37,11 +40,16 @@ parts_of (text ∷ texts) = before (part_of text) (parts_of texts)
 abbrev pub pieces_of : List ℕ → List (List ℕ)
 pieces_of text = slice_split (λ b. b == 59) text
 
--- a truth value, or names of members; another name has no effect
+-- milliseconds, at most a day
+abbrev pub millis_of : List ℕ → Option ℕ
+millis_of text = number_in 0 86400000 text
+
+-- a truth value, names of members, or milliseconds; another name has no effect
 abbrev pub is_good : List MemberConfig → List ℕ × List ℕ → Bool
 is_good members part =
     if bytes_eq part.0 sticky_ignore then is_some (truth_of part.1)
-    else (if bytes_eq part.0 disabled || bytes_eq part.0 stopped then are_members members (words part.1) else true)
+    else (if bytes_eq part.0 disabled || bytes_eq part.0 stopped then are_members members (words part.1)
+    else (if bytes_eq part.0 reply_timeout then is_some (millis_of part.1) else true))
 
 abbrev pub value_of : List ℕ → List ℕ × List ℕ → Option (List ℕ)
 value_of name part = if bytes_eq part.0 name then Some part.1 else None
@@ -64,6 +72,7 @@ terms_of members parts = record {
   sticky_ignore = is_yes (last_value sticky_ignore parts);
   disabled = set_of members (names_in (last_value disabled parts));
   stopped = set_of members (names_in (last_value stopped parts));
+  reply_timeout = option_and_then millis_of (last_value reply_timeout parts);
 }
 
 -- the terms that parts give; none where one isn't good

@@ -1,17 +1,17 @@
 //! The parts `name=value` after a rule's worker, and the terms that they give.
 ghost use Rattle.std.specs.Prelude.{◌≡◌, ◌≤◌, ◌||◌, if◌then◌else◌, Some, None, length, true, IfOk};
-ghost use Rattle.std.specs.Option.{option_map};
+ghost use Rattle.std.specs.Option.{option_and_then, option_map};
 ghost use Rattle.std.specs.List.{list_all};
 ghost use Rattle.std.specs.Str.{bytes_eq};
 ghost use Rattle.uri_map.specs.PartViews.{as_part, as_parts};
-ghost use Rattle.uri_map.specs.Parts.{disabled, given_terms, is_good, is_yes, last_value, names_in, part_of, parts_of, pieces_behind, pieces_of, sticky_ignore, stopped, terms_of, value_of};
+ghost use Rattle.uri_map.specs.Parts.{disabled, given_terms, is_good, is_yes, last_value, millis_of, names_in, part_of, parts_of, pieces_behind, pieces_of, reply_timeout, sticky_ignore, stopped, terms_of, value_of};
 ghost use Rattle.uri_map.specs.Members.{set_of};
 ghost use Rattle.jk_model.specs.declared.config.TheConstants.{MAX_MEMBERS};
 
 use crate::members::{listed_set, lists_members};
 use jk_io::{NoMemory, trim};
 use jk_model::{MemberConfig, Terms};
-use property_lines::{cut_at, truth_of};
+use property_lines::{cut_at, number_in, truth_of};
 use std::alloc::Global;
 
 /// A part, its name and value without outer blanks.
@@ -87,6 +87,20 @@ fn is_list_name(name: &[u8]) -> bool
     name == b"disabled".as_slice() || name == b"stopped".as_slice()
 }
 
+#[tactic(auto, unfolding(crate::specs::Parts::reply_timeout))]
+fn is_reply_timeout(name: &[u8]) -> bool
+    ensures { result ≡ bytes_eq name.now reply_timeout }
+{
+    name == b"reply_timeout".as_slice()
+}
+
+/// The milliseconds that a text writes, at most a day.
+fn millis_of(text: &[u8]) -> Option<u64>
+    ensures { result ≡ millis_of text.now }
+{
+    number_in(0, 86_400_000, text)
+}
+
 /// Whether the value is one that its name takes.
 fn is_good(alloc: Global, members: &[MemberConfig], part: Part<'_>) -> Result<bool, NoMemory>
     ensures { IfOk result (λ good. good ≡ is_good members.now (as_part part.entry)) }
@@ -95,6 +109,8 @@ fn is_good(alloc: Global, members: &[MemberConfig], part: Part<'_>) -> Result<bo
         Ok(truth_of(part.value).is_some())
     } else if is_list_name(part.name) {
         lists_members(alloc, members, part.value)
+    } else if is_reply_timeout(part.name) {
+        Ok(millis_of(part.value).is_some())
     } else {
         Ok(true)
     }
@@ -143,6 +159,13 @@ fn is_yes(value: Option<&[u8]>) -> bool
     }
 }
 
+/// The milliseconds of a value that is there.
+fn millis_in(value: Option<&[u8]>) -> Option<u64>
+    ensures { result ≡ option_and_then millis_of (option_map (λ v. v.now) value.entry) }
+{
+    millis_of(value?)
+}
+
 /// The set of the members that a value names.
 fn set_in(alloc: Global, members: &[MemberConfig], value: Option<&[u8]>) -> Result<u64, NoMemory>
     requires { length members.now ≤ MAX_MEMBERS }
@@ -154,7 +177,7 @@ fn set_in(alloc: Global, members: &[MemberConfig], value: Option<&[u8]>) -> Resu
     }
 }
 
-#[tactic(auto, unfolding(crate::specs::Parts::sticky_ignore, crate::specs::Parts::disabled, crate::specs::Parts::stopped))]
+#[tactic(auto, unfolding(crate::specs::Parts::sticky_ignore, crate::specs::Parts::disabled, crate::specs::Parts::stopped, crate::specs::Parts::reply_timeout))]
 fn terms_of(alloc: Global, members: &[MemberConfig], parts: &[Part<'_>]) -> Result<Terms, NoMemory>
     requires { length members.now ≤ MAX_MEMBERS }
     ensures { IfOk result (λ terms. terms ≡ terms_of members.now (as_parts parts.now)) }
@@ -163,6 +186,7 @@ fn terms_of(alloc: Global, members: &[MemberConfig], parts: &[Part<'_>]) -> Resu
         sticky_ignore: is_yes(last_value(b"sticky_ignore", parts)),
         disabled: set_in(alloc, members, last_value(b"disabled", parts))?,
         stopped: set_in(alloc, members, last_value(b"stopped", parts))?,
+        reply_timeout: millis_in(last_value(b"reply_timeout", parts)),
     })
 }
 

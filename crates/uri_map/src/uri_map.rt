@@ -2,7 +2,7 @@
 ghost use Rattle.std.specs.Prelude.{◌≡◌, ◌<◌, ◌^◌, length, IfSome, true};
 ghost use Rattle.std.specs.Option.{option_copied};
 ghost use Rattle.site_config.specs.declared.config.Config.{Config};
-ghost use Rattle.uri_map.specs.Mounts.{best, is_excluded, line_count, mount, mounts, is_before, taken, terms, no_terms};
+ghost use Rattle.uri_map.specs.Mounts.{best, deciding_line, exclusion_line, is_excluded, line_count, mount, mounts, is_before, taken, terms, no_terms};
 ghost use Rattle.uri_map.specs.Roles.{mount_of};
 ghost use Rattle.uri_map.specs.Search.{better};
 ghost use Rattle.uri_map.specs.Sites.{is_worker, members_of, names_members, stands_in};
@@ -63,6 +63,27 @@ fn is_excluded(rules: &[Rule], path: &[u8], worker: Named) -> bool
     rules.iter().any(|rule| rule.role.excludes(worker) && rule.pattern.matches(path))
 }
 
+/// The line of the first exclusion that takes the path away from this worker.
+fn exclusion_line(rules: &[Rule], path: &[u8], worker: Named) -> Option<u32>
+    ensures { result ≡ exclusion_line rules.now path.now worker }
+{
+    for rule in rules {
+        if rule.role.excludes(worker) && rule.pattern.matches(path) {
+            return Some(rule.line);
+        }
+    }
+    None
+}
+
+/// The line of the rule that decides about the path.
+fn deciding_line(rules: &[Rule], path: &[u8]) -> Option<u32>
+    ensures { result ≡ deciding_line rules.now path.now }
+{
+    let rule = best(rules, path)?;
+    let mount = rule.role.mount()?;
+    Some(exclusion_line(rules, path, mount.worker).unwrap_or(rule.line))
+}
+
 /// Where the path is mounted.
 fn taken(rules: &[Rule], path: &[u8]) -> Option<Mount>
     ensures { result ≡ taken rules.now path.now }
@@ -108,6 +129,14 @@ impl UriMap {
             Some(mount) => mount.terms,
             None => Terms::none(),
         }
+    }
+
+    /// The line of the rule that decides about a cleaned path: the one that mounts it, or the first exclusion that takes it
+    /// away; none where no rule but exclusions matches. It takes no memory.
+    pub fn deciding_line(&self, path: &[u8]) -> Option<u32>
+        ensures { result ≡ deciding_line self.now path.now }
+    {
+        deciding_line(self.rules.as_slice(), path)
     }
 
     /// How many lines have rules, exclusions among them; lines that are turned off have none.

@@ -52,7 +52,7 @@ sound_lb old name lb room h = record {
 }
 
 sound_kind : (ps : List Property) (maintain : ℕ) (l : Listing) (v : Directive → Option Property) (k : WorkerKind) (old new : Draft) → AddsKind ps maintain l v k old new → IsSound old → IsSound new
-sound_kind ps maintain l v kind.Status old new a h = subst IsSound (sym a.3) (record {
+sound_kind ps maintain l v kind.Status old new a h = subst IsSound (sym a.4) (record {
   few = h.few;
   placed = places_grow (length old.lbs) (length old.statuses) (length old.lbs) (length (old.statuses ++ a.0 ∷ [])) old.listed l.name (named.Status (length old.statuses)) (omega arith) (rw length-append (omega arith)) h.placed (rw length-append (last_place (length old.statuses)));
 })

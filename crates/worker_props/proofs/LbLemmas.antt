@@ -1,5 +1,5 @@
 -- What an lb worker's members pass, and what is made of them.
-use Rattle.std.proofs.Common.{◌≡◌, ◌≤◌, ℕ, Bool, true, false, List, length, Option, Result, Ok, Err, IfOk, IfErr, OnErr, codes, sym, ◌∙◌, subst, inl, inr, ⊎_elim}
+use Rattle.std.proofs.Common.{◌≡◌, ◌≤◌, ℕ, Bool, true, false, List, length, map, Option, Result, Ok, Err, IfOk, IfErr, OnErr, codes, sym, ◌∙◌, subst, inl, inr, ⊎_elim}
 use Rattle.jk_model.specs.Ranges.{AreInRange, IsPeriod, IsRefused}
 use Rattle.jk_model.specs.declared.config.LbConfig.{LbConfig}
 use Rattle.jk_model.specs.declared.config_error.ConfigError.{ConfigError}
@@ -17,7 +17,7 @@ use Rattle.worker_props.specs.declared.draft.Draft.{Draft}
 use Rattle.worker_props.specs.Books.{AreTooWide, HasParts, IsBook, IsLbOf, Pass, RefusesMembers, RefusesWide}
 use Rattle.worker_props.specs.Given.{is_given}
 use Rattle.worker_props.specs.Lists.{Listing, firsts, members_in}
-use Rattle.worker_props.specs.Settings.{filled_or, method_in, number_or, truth_or}
+use Rattle.worker_props.specs.Settings.{filled_or, method_in, number_or, shared, text_in, truth_or}
 use Rattle.worker_props.specs.Site.{AddsKind, AreMembers, Breaks, HasChain, HasKind, IsLb, IsNoAjp13, IsUnknown, RefusesBook, RefusesLb, line_in, routes_of, with_lb}
 use Rattle.worker_props.proofs.BookLemmas.{book_refused}
 use Rattle.worker_props.proofs.MemberListLemmas.{bad_listed, each_listed}
@@ -45,16 +45,16 @@ is_too_wide maintain recover ms (Ok b) some few within m p h = tt
 is_too_wide maintain recover ms (Err e) some few within m p h = book_refused maintain recover ms e some few within m p h
 
 -- the book with its texts
-pub made_lb : (v : Directive → Option Property) (maintain : ℕ) (name cookie path : List ℕ) (book : LbConfig) (ms : List MemberConfig) (es : List Endpoint) (r : Result Lb PropsError) → IsBook v maintain ms book → cookie ≡ filled_or (codes "JSESSIONID") (v directive.Cookie) → path ≡ filled_or (codes ";jsessionid") (v directive.Path)
-    → IfOk r (HasParts name cookie path book es) → IfOk r (IsLbOf v maintain name ms es)
-made_lb v maintain name cookie path book ms es (Ok lb) b c p h = record {
+pub made_lb : (v : Directive → Option Property) (maintain : ℕ) (name cookie path : List ℕ) (book : LbConfig) (ms : List MemberConfig) (es all : List Endpoint) (r : Result Lb PropsError) → IsBook v maintain ms book → all ≡ map (shared (text_in (v directive.Secret))) es → cookie ≡ filled_or (codes "JSESSIONID") (v directive.Cookie) → path ≡ filled_or (codes ";jsessionid") (v directive.Path)
+    → IfOk r (HasParts name cookie path book all) → IfOk r (IsLbOf v maintain name ms es)
+made_lb v maintain name cookie path book ms es all (Ok lb) b s c p h = record {
   named = h.named;
   booked = subst (IsBook v maintain ms) (sym h.booked) b;
-  ends = h.ends;
+  ends = h.ends ∙ s;
   cookie = h.cookie ∙ c;
   path = h.path ∙ p;
 }
-made_lb v maintain name cookie path book ms es (Err e) b c p h = tt
+made_lb v maintain name cookie path book ms es all (Err e) b s c p h = tt
 
 -- the balancer of the members that were looked at
 pub listed_lb : (ps : List Property) (v : Directive → Option Property) (maintain : ℕ) (name : List ℕ) (ls : List Listing) (ms : List MemberConfig) (es : List Endpoint) (r : Result Lb PropsError) → AreMembers ps (routes_of ms) 0 ls ms es → IfOk r (IsLbOf v maintain name ms es) → IfOk r (IsLb ps v maintain name ls)
@@ -66,7 +66,9 @@ listed_lb ps v maintain name ls ms es (Ok lb) members h = record {
   indirect = h.booked.indirect;
   period = h.booked.period;
   recover = h.booked.recover;
-  members = subst (λ (xs : List MemberConfig). AreMembers ps (routes_of xs) 0 ls xs lb.ends) (sym h.booked.members) (subst (λ (ys : List Endpoint). AreMembers ps (routes_of ms) 0 ls ms ys) (sym h.ends) members);
+  own = es;
+  members = subst (λ (xs : List MemberConfig). AreMembers ps (routes_of xs) 0 ls xs es) (sym h.booked.members) members;
+  ends = h.ends;
   cookie = h.cookie;
   path = h.path;
 }

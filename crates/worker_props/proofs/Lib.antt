@@ -10,6 +10,7 @@ pub mod OneConfig
 pub mod OneRefusal
 pub mod RowLemmas
 pub mod SameLemmas
+pub mod ShareLemmas
 pub mod TableLemmas
 pub mod ToldLemmas
 pub mod WayLemmas

@@ -1,5 +1,5 @@
 -- A text has at most one configuration.
-use Rattle.std.proofs.Common.{◌≡◌, ℕ, ◌+◌, ◌<◌, ◌≤◌, ◌^◌, true, List, [], ◌∷◌, length, Option, Result, Ok, refl, sym, ◌∙◌, ap, subst, suc}
+use Rattle.std.proofs.Common.{◌≡◌, ℕ, ◌+◌, ◌<◌, ◌≤◌, ◌^◌, true, List, [], ◌∷◌, length, map, Option, Result, Ok, refl, sym, ◌∙◌, ap, subst, suc}
 use denote.Struct.Props.{props}
 use mathlib.Core.HLevel.{is_prop→PathP}
 use Rattle.jk_model.specs.Multiple.{multiple_of}
@@ -18,17 +18,48 @@ use Rattle.site_config.specs.declared.balancer.Lb.{Lb}
 use Rattle.site_config.specs.declared.config.Config.{Config}
 use Rattle.site_config.specs.declared.config.Status.{Status}
 use Rattle.site_config.specs.declared.endpoint.Endpoint.{Endpoint}
+use Rattle.site_config.specs.declared.limits.MemberLimits.{MemberLimits}
+use Rattle.site_config.specs.Bounds.{is_at_most}
 use Rattle.worker_props.specs.declared.draft.Draft.{Draft}
 use Rattle.worker_props.specs.Given.{in_force}
 use Rattle.worker_props.specs.Lists.{Listing, firsts, site_list, members_in}
-use Rattle.worker_props.specs.Settings.{IsEndpoint, IsMember, kind_in, text_or}
+use Rattle.worker_props.specs.Settings.{AreLimits, IsEndpoint, IsMember, kind_in, shared, text_in, text_or}
 use Rattle.worker_props.specs.Site.{AreMembers, routes_of, IsLb, IsDirect, Adds, AddsKind, Builds, with_lb, with_status, no_workers, draft_of, maintain_of, ignored_of, IsConfig}
 use Rattle.worker_props.proofs.ChainLemmas.{chain_one}
 
 -- values with the same fields are the same; what a type keeps of them besides has one proof
+limits_is : (l m : MemberLimits) → l.socket_connect_timeout ≡ m.socket_connect_timeout → l.connect_timeout ≡ m.connect_timeout
+    → l.prepost_timeout ≡ m.prepost_timeout → l.ping_timeout ≡ m.ping_timeout → l.socket_timeout ≡ m.socket_timeout
+    → l.reply_timeout ≡ m.reply_timeout → l.socket_keepalive ≡ m.socket_keepalive
+    → l.connection_pool_timeout ≡ m.connection_pool_timeout → l.connection_ping_interval ≡ m.connection_ping_interval → l ≡ m
+limits_is l m dial first each ping wait reply alive pool interval = λ i. record {
+  socket_connect_timeout = dial i;
+  connect_timeout = first i;
+  prepost_timeout = each i;
+  ping_timeout = ping i;
+  socket_timeout = wait i;
+  reply_timeout = reply i;
+  socket_keepalive = alive i;
+  connection_pool_timeout = pool i;
+  connection_ping_interval = interval i;
+  dial_below = is_prop→PathP (λ j. is_at_most 86400000 (dial j) ≡ true) (λ j. hlevel props) l.dial_below m.dial_below i;
+  first_pong_below = is_prop→PathP (λ j. is_at_most 86400000 (first j) ≡ true) (λ j. hlevel props) l.first_pong_below m.first_pong_below i;
+  each_pong_below = is_prop→PathP (λ j. is_at_most 86400000 (each j) ≡ true) (λ j. hlevel props) l.each_pong_below m.each_pong_below i;
+  ping_below = is_prop→PathP (λ j. is_at_most 86400000 (ping j) ≡ true) (λ j. hlevel props) l.ping_below m.ping_below i;
+  wait_below = is_prop→PathP (λ j. is_at_most 86400 (wait j) ≡ true) (λ j. hlevel props) l.wait_below m.wait_below i;
+  reply_below = is_prop→PathP (λ j. is_at_most 86400000 (reply j) ≡ true) (λ j. hlevel props) l.reply_below m.reply_below i;
+  pool_below = is_prop→PathP (λ j. is_at_most 86400 (pool j) ≡ true) (λ j. hlevel props) l.pool_below m.pool_below i;
+  interval_below = is_prop→PathP (λ j. is_at_most 86400 (interval j) ≡ true) (λ j. hlevel props) l.interval_below m.interval_below i;
+}
+
+limits_one : (v : Directive → Option Property) (l m : MemberLimits) → AreLimits v l → AreLimits v m → l ≡ m
+limits_one v l m x y =
+    limits_is l m (x.dial ∙ sym y.dial) (x.first_pong ∙ sym y.first_pong) (x.each_pong ∙ sym y.each_pong) (x.ping ∙ sym y.ping) (x.wait ∙ sym y.wait)
+    (x.reply ∙ sym y.reply) (x.keepalive ∙ sym y.keepalive) (x.pool ∙ sym y.pool) (x.interval ∙ sym y.interval)
+
 endpoint_is : (e f : Endpoint) → e.host ≡ f.host → e.port ≡ f.port → e.retries ≡ f.retries → e.packet ≡ f.packet → e.secret ≡ f.secret
-    → e.recovery ≡ f.recovery → e.ping_new ≡ f.ping_new → e.ping_each ≡ f.ping_each → e.ping_idle ≡ f.ping_idle → e.fail_on ≡ f.fail_on → e ≡ f
-endpoint_is e f host port retries packet secret recovery ping_new ping_each ping_idle fail_on = λ i. record {
+    → e.recovery ≡ f.recovery → e.ping_new ≡ f.ping_new → e.ping_each ≡ f.ping_each → e.ping_idle ≡ f.ping_idle → e.fail_on ≡ f.fail_on → e.limits ≡ f.limits → e ≡ f
+endpoint_is e f host port retries packet secret recovery ping_new ping_each ping_idle fail_on limits = λ i. record {
   host = host i;
   port = port i;
   retries = retries i;
@@ -39,6 +70,7 @@ endpoint_is e f host port retries packet secret recovery ping_new ping_each ping
   ping_each = ping_each i;
   ping_idle = ping_idle i;
   fail_on = fail_on i;
+  limits = limits i;
   port_above = is_prop→PathP (λ j. 1 ≤ port j) (λ j. hlevel props) e.port_above f.port_above i;
   retries_above = is_prop→PathP (λ j. 1 ≤ retries j) (λ j. hlevel props) e.retries_above f.retries_above i;
   retries_below = is_prop→PathP (λ j. retries j ≤ 10) (λ j. hlevel props) e.retries_below f.retries_below i;
@@ -94,7 +126,7 @@ pub endpoint_one : (v : Directive → Option Property) (e f : Endpoint) → IsEn
 endpoint_one v e f x y =
     endpoint_is e f (x.host ∙ sym y.host) (x.port ∙ sym y.port) (x.retries ∙ sym y.retries) (x.packet ∙ sym y.packet) (x.secret ∙ sym y.secret)
     (x.recovery ∙ sym y.recovery) (x.ping_new ∙ sym y.ping_new) (x.ping_each ∙ sym y.ping_each) (x.ping_idle ∙ sym y.ping_idle)
-    (x.fail_on ∙ sym y.fail_on)
+    (x.fail_on ∙ sym y.fail_on) (limits_one v e.limits f.limits x.limits y.limits)
 
 pub member_one : (v : Directive → Option Property) (name : List ℕ) (routes : List (List ℕ)) (i : ℕ) (m n : MemberConfig) → IsMember v name routes i m → IsMember v name routes i n → m ≡ n
 member_one v name routes i m n x y = λ k. record {
@@ -166,10 +198,11 @@ same_members ps ls ms ns es fs a b =
 pub lb_one : (ps : List Property) (v : Directive → Option Property) (maintain : ℕ) (name : List ℕ) (ls : List Listing) (a b : Lb)
     → IsLb ps v maintain name ls a → IsLb ps v maintain name ls b → a ≡ b
 lb_one ps v maintain name ls a b x y =
-    let same = same_members ps ls a.book.members b.book.members a.ends b.ends x.members y.members in
+    let same = same_members ps ls a.book.members b.book.members x.own y.own x.members y.members in
+    let ends = x.ends ∙ ap (λ (es : List Endpoint). map (shared (text_in (v directive.Secret))) es) same.1 ∙ sym y.ends in
     let book = book_is a.book b.book (x.method ∙ sym y.method) (x.sticky ∙ sym y.sticky) (x.force ∙ sym y.force) (x.indirect ∙ sym y.indirect)
     (x.period ∙ sym y.period) (x.recover ∙ sym y.recover) same.0 in
-    lb_is a b (x.named ∙ sym y.named) book same.1 (x.cookie ∙ sym y.cookie) (x.path ∙ sym y.path)
+    lb_is a b (x.named ∙ sym y.named) book ends (x.cookie ∙ sym y.cookie) (x.path ∙ sym y.path)
 
 pub direct_one : (ps : List Property) (maintain : ℕ) (l : Listing) (a b : Lb) → IsDirect ps maintain l a → IsDirect ps maintain l b → a ≡ b
 direct_one ps maintain l a b x y =
@@ -182,8 +215,8 @@ direct_one ps maintain l a b x y =
 kind_one : (ps : List Property) (maintain : ℕ) (l : Listing) (v : Directive → Option Property) (k : WorkerKind) (old a b : Draft)
     → AddsKind ps maintain l v k old a → AddsKind ps maintain l v k old b → a ≡ b
 kind_one ps maintain l v kind.Status old a b x y =
-    let same : x.0 ≡ y.0 = λ i. record { name = (x.1 ∙ sym y.1) i; read_only = (x.2 ∙ sym y.2) i } in
-    x.3 ∙ ap (λ (s : Status). with_status old l.name s) same ∙ sym y.3
+    let same : x.0 ≡ y.0 = λ i. record { name = (x.1 ∙ sym y.1) i; read_only = (x.2 ∙ sym y.2) i; closed = (x.3 ∙ sym y.3) i } in
+    x.4 ∙ ap (λ (s : Status). with_status old l.name s) same ∙ sym y.4
 kind_one ps maintain l v kind.Ajp13 old a b x y =
     x.3 ∙ ap (λ (lb : Lb). with_lb old l.name lb) (direct_one ps maintain l x.1 y.1 x.2 y.2) ∙ sym y.3
 kind_one ps maintain l v kind.Lb old a b x y =

@@ -255,13 +255,13 @@ module _ (ps : List Property) where
   never_book : (v : Directive → Option Property) (maintain line : ℕ) (name : List ℕ) (ls : List Listing) (lb : Lb) (r : LineRefusal)
       → IsLb ps v maintain name ls lb → RefusesBook ps line ls r → ⊥
   never_book v maintain line name ls lb r is (inl x) =
-      let counted = members_counted ps (routes_of lb.book.members) 0 ls lb.book.members lb.ends is.members in
+      let counted = members_counted ps (routes_of lb.book.members) 0 ls lb.book.members is.own is.members in
       omega (arith, counted, x.0, lb.book.count.some)
   never_book v maintain line name ls lb r is (inr (inl x)) =
-      let counted = members_counted ps (routes_of lb.book.members) 0 ls lb.book.members lb.ends is.members in
+      let counted = members_counted ps (routes_of lb.book.members) 0 ls lb.book.members is.own is.members in
       omega (arith, counted, x.0, lb.book.count.few)
   never_book v maintain line name ls lb r is (inr (inr x)) =
-      let same = same_members ps ls x.0 lb.book.members x.1 lb.ends x.4 is.members in
+      let same = same_members ps ls x.0 lb.book.members x.1 is.own x.4 is.members in
       let wide : 2 ^ 32 ≤ multiple_of (factors_in lb.book.members) = subst (λ (ms : List MemberConfig). 2 ^ 32 ≤ multiple_of (factors_in ms)) same.0 x.5 in
       omega (arith, wide, lb.book.narrow)
 

@@ -102,7 +102,9 @@ lb_same ps qs s v maintain name ls lb b = record {
   indirect = b.indirect;
   period = b.period;
   recover = b.recover;
-  members = members_same ps qs s (routes_of lb.book.members) 0 ls lb.book.members lb.ends b.members;
+  own = b.own;
+  members = members_same ps qs s (routes_of lb.book.members) 0 ls lb.book.members b.own b.members;
+  ends = b.ends;
   cookie = b.cookie;
   path = b.path;
 }

@@ -1,5 +1,5 @@
 -- What an lb worker makes of its members, without a look at the lines that name them.
-use Rattle.std.specs.Prelude.{◌≡◌, ℕ, ◌≤◌, ◌<◌, ◌^◌, true, false, List, Option, ◌⊎◌, length, codes}
+use Rattle.std.specs.Prelude.{◌≡◌, ℕ, ◌≤◌, ◌<◌, ◌^◌, true, false, List, Option, ◌⊎◌, length, codes, map}
 use Rattle.jk_model.specs.Multiple.{multiple_of}
 use Rattle.jk_model.specs.Ranges.{AreInRange, factors_in}
 use Rattle.jk_model.specs.declared.config.LbConfig.{LbConfig}
@@ -13,7 +13,7 @@ use Rattle.property_lines.specs.Refusals.{LineRefusal, refusal}
 use Rattle.site_config.specs.declared.balancer.Lb.{Lb}
 use Rattle.site_config.specs.declared.endpoint.Endpoint.{Endpoint}
 use Rattle.worker_props.specs.Lists.{Listing}
-use Rattle.worker_props.specs.Settings.{filled_or, method_in, number_or, truth_or}
+use Rattle.worker_props.specs.Settings.{filled_or, method_in, number_or, shared, text_in, truth_or}
 use Rattle.worker_props.specs.Site.{Breaks, Chained, Each, FirstBad, IsAjp13, IsNoAjp13, IsUnknown, Known}
 
 -- members that a balancer can have, where their factors aren't too wide
@@ -51,7 +51,7 @@ pub record HasParts (name the_cookie the_path : List ℕ) (book : LbConfig) (es 
 pub record IsLbOf (v : Directive → Option Property) (maintain : ℕ) (name : List ℕ) (ms : List MemberConfig) (es : List Endpoint) (lb : Lb) : Type 0 where
   pub named : lb.name ≡ name
   pub booked : IsBook v maintain ms lb.book
-  pub ends : lb.ends ≡ es
+  pub ends : lb.ends ≡ map (shared (text_in (v directive.Secret))) es
   pub cookie : lb.cookie ≡ filled_or (codes "JSESSIONID") (v directive.Cookie)
   pub path : lb.path ≡ filled_or (codes ";jsessionid") (v directive.Path)
 

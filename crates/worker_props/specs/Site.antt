@@ -23,7 +23,7 @@ use Rattle.property_lines.specs.Directives.{directive_of, worker_part, list_key,
 use Rattle.property_lines.specs.Properties.{read_text}
 use Rattle.worker_props.specs.Given.{IsChain, in_force, is_given, last_of, BreaksAt}
 use Rattle.worker_props.specs.Lists.{Listing, firsts, site_list, members_in}
-use Rattle.worker_props.specs.Settings.{IsEndpoint, IsMember, kind_in, method_in, truth_or, number_or, filled_or}
+use Rattle.worker_props.specs.Settings.{IsEndpoint, IsMember, filled_or, is_closed, kind_in, method_in, number_or, shared, text_in, truth_or}
 use Rattle.jk_model.specs.declared.config.TheConstants.{MAX_BALANCERS, MAX_MEMBERS, MAX_PERIOD_SECONDS}
 
 -- the members of these names, from place i on, with how each is reached
@@ -37,7 +37,7 @@ AreMembers ps routes i ls ms es = ⊥
 abbrev pub routes_of : List MemberConfig → List (List ℕ)
 routes_of ms = map (λ m. m.route) ms
 
--- a balancer of these members, with the directives in force
+-- a balancer of these members, with the directives in force; `own` is how each is reached by its own directives
 pub record IsLb (ps : List Property) (v : Directive → Option Property) (maintain : ℕ) (name : List ℕ) (ls : List Listing) (lb : Lb) : Type 0 where
   pub named : lb.name ≡ name
   pub method : lb.book.method ≡ method_in (v directive.Method)
@@ -46,7 +46,9 @@ pub record IsLb (ps : List Property) (v : Directive → Option Property) (mainta
   pub indirect : lb.book.direct ≡ false
   pub period : lb.book.maintain ≡ maintain
   pub recover : lb.book.recover ≡ number_or 1 MAX_PERIOD_SECONDS 60 (v directive.RecoverTime)
-  pub members : AreMembers ps (routes_of lb.book.members) 0 ls lb.book.members lb.ends
+  pub own : List Endpoint
+  pub members : AreMembers ps (routes_of lb.book.members) 0 ls lb.book.members own
+  pub ends : lb.ends ≡ map (shared (text_in (v directive.Secret))) own
   pub cookie : lb.cookie ≡ filled_or (codes "JSESSIONID") (v directive.Cookie)
   pub path : lb.path ≡ filled_or (codes ";jsessionid") (v directive.Path)
 
@@ -143,7 +145,7 @@ with_status d name s = record { lbs = d.lbs; statuses = d.statuses ++ s ∷ []; 
 -- what an accepted worker of this type adds
 abbrev pub AddsKind : List Property → ℕ → Listing → (Directive → Option Property) → WorkerKind → Draft → Draft → Type 0
 AddsKind ps maintain l v kind.Status old new =
-    (s : Status) × (s.name ≡ l.name) × (s.read_only ≡ truth_or false (v directive.ReadOnly)) × (new ≡ with_status old l.name s)
+    (s : Status) × (s.name ≡ l.name) × (s.read_only ≡ truth_or false (v directive.ReadOnly)) × (s.closed ≡ is_closed v) × (new ≡ with_status old l.name s)
 AddsKind ps maintain l v kind.Ajp13 old new =
     (length old.lbs < MAX_BALANCERS) × (lb : Lb) × IsDirect ps maintain l lb × (new ≡ with_lb old l.name lb)
 AddsKind ps maintain l v kind.Lb old new =

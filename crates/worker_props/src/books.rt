@@ -12,9 +12,10 @@ ghost use Rattle.jk_model.specs.declared.config.TheConstants.{MAX_MEMBERS};
 
 use crate::given::Given;
 use crate::listing::Listing;
+use crate::member::sharing;
 use crate::members::{Members, members_of};
 use crate::row::{Row, picked};
-use crate::settings::{filled_or, method, number_or, truth_or};
+use crate::settings::{filled_or, method, number_or, text, truth_or};
 use jk_io::{Bytes, ListOf};
 use jk_model::{ConfigError, LbConfig, MemberList, Method};
 use property_lines::{Directive, PropertyLine, PropsError, PropsReason, refused};
@@ -149,12 +150,14 @@ fn lb_with<'t>(
     ensures wide { IfErr result (IsRefusal (RefusesWide made.configs.items
         (line_in (property_at (lines_in given.now) row.now Directive.Kind)))) }
 {
+    let common = text(given.entries, row, Directive::Secret);
+    let ends = sharing(alloc, made.ends, common)?;
     let cookie_name: &'t [u8] = b"JSESSIONID";
     let path_name: &'t [u8] = b";jsessionid";
     let cookie = filled_or(given.entries, row, Directive::Cookie, cookie_name);
     let path = filled_or(given.entries, row, Directive::Path, path_name);
     match book_of(given, row, ListOf::from_vec(made.configs)) {
-        Ok(book) => made_of(alloc, name, cookie, path, book, made.ends),
+        Ok(book) => made_of(alloc, name, cookie, path, book, ends),
         Err(_) => Err(refused(type_line(given.entries, row), PropsReason::TooWide)),
     }
 }

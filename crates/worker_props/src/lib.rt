@@ -12,6 +12,7 @@ mod draft;
 mod firsts;
 mod given;
 pub mod laws;
+mod limits;
 mod listing;
 mod member;
 mod member_lists;

@@ -1,13 +1,14 @@
 //! A member of a balancer.
-ghost use Rattle.std.specs.Prelude.{◌≡◌, ◌<◌, ◌+◌, map, IfOk, length, None};
+ghost use Rattle.std.specs.Prelude.{◌≡◌, ◌<◌, ◌+◌, ◌||◌, map, IfOk, OnOk, length, None};
 ghost use Rattle.std.specs.Option.{option_map};
 ghost use Rattle.property_lines.specs.Entries.{as_properties};
 ghost use Rattle.worker_props.specs.Rows.{property_at};
-ghost use Rattle.worker_props.specs.Settings.{IsEndpoint, IsMember, redirect_in, other_at, statuses_in, text_in};
+ghost use Rattle.worker_props.specs.Settings.{IsEndpoint, IsMember, is_limited, limit_in, redirect_in, other_at, shared, statuses_in, text_in};
 ghost use Rattle.jk_model.specs.declared.config.TheConstants.{MAX_MEMBERS};
 
+use crate::limits::limits_of;
 use crate::row::Row;
-use crate::settings::{activation, number_or, text, text_or};
+use crate::settings::{activation, is_limited, number_or, text, text_or};
 use jk_io::{Bytes, ListOf, NoMemory};
 use jk_model::{FailList, MemberConfig};
 use property_lines::{Directive, PropertyLine, pings, statuses_of};
@@ -49,18 +50,52 @@ pub(crate) fn endpoint_of<'t>(
     let secret = text(entries, row, Directive::Secret);
     let no_pings: &'t [u8] = b"";
     let ping = text_or(entries, row, Directive::PingMode, no_pings);
+    let limits = limits_of(entries, row);
     Ok(Endpoint {
         port: number_or(entries, row, Directive::Port, 1, 65535, 8009) as u16,
         retries: number_or(entries, row, Directive::Retries, 1, 10, 2) as u32,
         packet: number_or(entries, row, Directive::PacketSize, 8192, 65536, 8192) as u32,
         recovery: number_or(entries, row, Directive::RecoveryOptions, 0, 31, 0) as u8,
-        ping_new: pings(b'c', ping),
-        ping_each: pings(b'p', ping),
+        ping_new: pings(b'c', ping) || is_limited(limits.connect_timeout),
+        ping_each: pings(b'p', ping) || is_limited(limits.prepost_timeout),
         ping_idle: pings(b'i', ping),
         host: Bytes::from_slice(alloc, host)?,
         secret: copied(alloc, secret)?,
         fail_on: fail_list(alloc, entries, row)?,
+        limits,
     })
+}
+
+/// Gives a member that has no secret of its own that of its balancer.
+fn share_one(alloc: Global, end: &mut Endpoint, common: Option<&[u8]>) -> Result<(), NoMemory>
+    ensures { OnOk result (end.new ≡ shared (option_map (λ t. t.now) common.entry) end.old) }
+{
+    if end.secret.is_none() {
+        end.secret = copied(alloc, common)?;
+    }
+    Ok(())
+}
+
+fn share_secret(alloc: Global, ends: &mut [Endpoint], common: Option<&[u8]>) -> Result<(), NoMemory>
+    ensures { OnOk result (ends.new ≡ map (shared (option_map (λ t. t.now) common.entry)) ends.old) }
+{
+    for end in ends.iter_mut() {
+        share_one(alloc, end, common)?;
+    }
+    Ok(())
+}
+
+/// The members, each without a secret of its own with that of its balancer.
+pub(crate) fn sharing(
+    alloc: Global,
+    ends: Vec<Endpoint>,
+    common: Option<&[u8]>,
+) -> Result<Vec<Endpoint>, NoMemory>
+    ensures { IfOk result (λ v. v.items ≡ map (shared (option_map (λ t. t.now) common.entry)) ends.items) }
+{
+    let mut all = ends;
+    share_secret(alloc, all.as_mut_slice(), common)?;
+    Ok(all)
 }
 
 /// The first place from `from` on, but `index`, whose route is the text.

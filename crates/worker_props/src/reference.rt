@@ -49,7 +49,7 @@ fn or_else(own: Option<u32>, other: Option<u32>) -> Option<u32>
 }
 
 /// The places of a row, and those of another where it has none.
-fn inherited(own: &[Option<u32>; 24], from: &[Option<u32>; 24]) -> [Option<u32>; 24]
+fn inherited(own: &[Option<u32>; 36], from: &[Option<u32>; 36]) -> [Option<u32>; 36]
     ensures wide { length result ≡ DIRECTIVE_COUNT }
     ensures each { (k : ℕ) → k < DIRECTIVE_COUNT → slice_index_or result k None
         ≡ or_else (slice_index_or own.now k None) (slice_index_or from.now k None) }

@@ -23,7 +23,7 @@ pub(crate) enum Progress {
 /// For each directive of a worker the place of the line that gives it.
 #[derive(Clone, Copy)]
 pub(crate) struct Row {
-    pub(crate) places: [Option<u32>; 24],
+    pub(crate) places: [Option<u32>; 36],
     pub(crate) progress: Progress,
 }
 
@@ -35,7 +35,7 @@ impl Row {
         ensures places { (d : Directive) → place_at result d ≡ None }
     {
         Row {
-            places: [None; 24],
+            places: [None; 36],
             progress: Progress::Own,
         }
     }

@@ -1,9 +1,10 @@
 //! The values that are in force for a worker.
-ghost use Rattle.std.specs.Prelude.{◌≡◌, ◌≤◌, ◌<◌, length, option_copied, nat_lt, Some};
+ghost use Rattle.std.specs.Prelude.{◌≡◌, ◌≤◌, ◌<◌, length, option_copied, nat_lt, Some, true};
 ghost use Rattle.std.specs.Option.{option_map};
 ghost use Rattle.property_lines.specs.Entries.{as_properties};
 ghost use Rattle.worker_props.specs.Rows.{property_at};
-ghost use Rattle.worker_props.specs.Settings.{text_in, text_or, filled, filled_or, number_or, truth_or, kind_in, activation_in, method_in};
+ghost use Rattle.worker_props.specs.Settings.{activation_in, filled, filled_or, is_closed, is_limited, kind_in, limit_in, method_in, number_or, text_in, text_or, truth_in, truth_or};
+ghost use Rattle.site_config.specs.Bounds.{is_at_most};
 
 use crate::row::{Row, picked};
 use jk_model::{Activation, Method};
@@ -92,6 +93,50 @@ pub(crate) fn truth_or(
         },
         None => default,
     }
+}
+
+/// A number that is given, at most this one; no line, no number.
+pub(crate) fn limit(
+    entries: &[PropertyLine<'_>],
+    row: &Row,
+    directive: Directive,
+    most: u64,
+) -> Option<u64>
+    ensures value { result ≡ limit_in most (property_at (as_properties entries.now) row.now directive) }
+    ensures below { is_at_most most result ≡ true }
+{
+    match text(entries, row, directive) {
+        Some(text) => number_in(0, most, text),
+        None => None,
+    }
+}
+
+/// Whether a limit is given that isn't 0.
+pub(crate) fn is_limited(limit: Option<u64>) -> bool
+    ensures { result ≡ is_limited limit }
+{
+    match limit {
+        Some(n) => 0 < n,
+        None => false,
+    }
+}
+
+/// A truth value that is given.
+pub(crate) fn truth(entries: &[PropertyLine<'_>], row: &Row, directive: Directive) -> Option<bool>
+    ensures { result ≡ truth_in (property_at (as_properties entries.now) row.now directive) }
+{
+    match text(entries, row, directive) {
+        Some(text) => truth_of(text),
+        None => None,
+    }
+}
+
+/// Whether a status worker's directives name users.
+pub(crate) fn is_closed(entries: &[PropertyLine<'_>], row: &Row) -> bool
+    ensures { result ≡ is_closed (property_at (as_properties entries.now) row.now) }
+{
+    let given = |directive| picked(entries, row, directive).is_some();
+    given(Directive::User) || given(Directive::Good) || given(Directive::Bad)
 }
 
 /// The type of the worker.

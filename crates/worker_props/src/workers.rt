@@ -19,7 +19,7 @@ use crate::listing::{Listing, listed};
 use crate::member_lists::{member_lists, members_in};
 use crate::members::{check_members_known, check_references, check_types};
 use crate::row::Row;
-use crate::settings::{kind, truth_or};
+use crate::settings::{is_closed, kind, truth_or};
 use crate::site::{check_known, force_of};
 use crate::table::{names_of, rows_of};
 use crate::told::{Told, told_lines};
@@ -124,6 +124,7 @@ fn add_status(
     let status = Status {
         name: Bytes::from_slice(alloc, listing.name)?,
         read_only,
+        closed: is_closed(given.entries, row),
     };
     draft.add_status(Bytes::from_slice(alloc, listing.name)?, status)
 }

@@ -1,4 +1,4 @@
-use Rattle.std.proofs.Common.{◌≢◌, ◌-◌, arith}
+use Rattle.std.proofs.Common.{◌≢◌, arith}
 use Rattle.site_config.proofs.IgnoredLemmas.{start_is}
 use Rattle.site_config.proofs.ignored.start_of.Goals as goal
 

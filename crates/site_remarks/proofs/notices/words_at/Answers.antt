@@ -1,13 +1,24 @@
-use Rattle.std.proofs.Common.{ℕ, List, Option, ◌∙◌, ap}
+use Rattle.std.proofs.Common.{◌≡◌, ℕ, Bool, List, Option, None, ◌∙◌, ap, true, false, sym}
 use Rattle.property_lines.specs.Entries.{as_property}
 use Rattle.site_remarks.specs.Again.{is_again}
-use Rattle.site_remarks.specs.Notices.{again_words, or_again}
+use Rattle.site_remarks.specs.Notices.{or_again, value_words, words_of}
 use Rattle.site_remarks.proofs.notices.words_at.Goals as goal
 
 pub returns-in-Some : goal.returns-in-Some
 returns-in-Some c = λ kinds ps is are.
-    ap (λ (words : Option (List ℕ)). or_again words (is_again ps (as_property c.args.entry.now))) (c.in-Some.ensures kinds is)
+    let p = as_property c.args.entry.now in
+    ap (λ (words : Option (List ℕ)). or_again words (is_again ps p) (value_words kinds p)) (c.in-Some.ensures kinds.kinds is.0)
 
-pub returns-in-None : goal.returns-in-None
-returns-in-None c = λ kinds ps is are.
-    c.again_words.ensures ∙ ap again_words (c.is_again.ensures ps are) ∙ ap (λ (words : Option (List ℕ)). or_again words (is_again ps (as_property c.args.entry.now))) (c.in-None.ensures kinds is)
+pub returns-then-is_again : goal.returns-then-is_again
+returns-then-is_again c = λ kinds ps is are.
+    let p = as_property c.args.entry.now in
+    let again : is_again ps p ≡ true = sym (c.is_again.ensures ps are) ∙ c.if-is_again.true in
+    c.again_words.ensures ∙ ap (λ (words : Option (List ℕ)). or_again words true (value_words kinds p)) (c.in-None.ensures kinds.kinds is.0)
+    ∙ ap (λ (b : Bool). or_again (words_of kinds.kinds p.key) b (value_words kinds p)) (sym again)
+
+pub returns-else-is_again : goal.returns-else-is_again
+returns-else-is_again c = λ kinds ps is are.
+    let p = as_property c.args.entry.now in
+    let once : is_again ps p ≡ false = sym (c.is_again.ensures ps are) ∙ c.if-is_again.false in
+    c.value_words.ensures kinds is ∙ ap (λ (words : Option (List ℕ)). or_again words false (value_words kinds p)) (c.in-None.ensures kinds.kinds is.0)
+    ∙ ap (λ (b : Bool). or_again (words_of kinds.kinds p.key) b (value_words kinds p)) (sym once)

@@ -8,7 +8,7 @@ returns-clause-added g c = λ ps read.
     let config = c.args.config.now in
     let first = workers_remarks c.args.effects c.args.files.now.workers.name.now config ps in
     let second = map_remarks c.args.effects config (maps_of c.args.files.now) in
-    adds_then c.put_any_map.result c.args.out.now.said _ _ first second (c.in_ok-put_workers.ensures.added config ps c.in_ok-table.ensures read) c.put_any_map.ensures.added
+    adds_then c.put_any_map.result c.args.out.now.said _ _ first second (c.in_ok-put_workers.ensures.added ps read) c.put_any_map.ensures.added
 
 pub returns-in_err-put_workers-clause-added : goal.returns-in_err-put_workers-clause-added
 returns-in_err-put_workers-clause-added g c = λ ps read.
@@ -16,4 +16,4 @@ returns-in_err-put_workers-clause-added g c = λ ps read.
     let first = workers_remarks c.args.effects c.args.files.now.workers.name.now config ps in
     let second = map_remarks c.args.effects config (maps_of c.args.files.now) in
     failed c.from_residual-in_err-put_workers.result _ c.args.out.now.said c.put_workers.new.out.said (first ++ second) c.from_residual-in_err-put_workers.ensures.1
-    (front_more c.args.out.now.said c.put_workers.new.out.said first second (c.in_err-put_workers.ensures.added config ps c.in_ok-table.ensures read))
+    (front_more c.args.out.now.said c.put_workers.new.out.said first second (c.in_err-put_workers.ensures.added ps read))

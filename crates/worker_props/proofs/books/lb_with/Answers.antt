@@ -1,11 +1,14 @@
-use Rattle.std.proofs.Common.{ℕ, List, length, ◌∙◌, sym, ap, subst}
+use Rattle.std.proofs.Common.{ℕ, List, Option, length, map, ◌∙◌, sym, ap, subst}
+use Rattle.std.proofs.lemmas.List.{length-map}
 use Rattle.jk_model.specs.declared.member.MemberConfig.{MemberConfig}
 use Rattle.property_lines.specs.declared.directive.Directive.TheVariants as directive
 use Rattle.property_lines.specs.declared.error.PropsReason.TheVariants as reason
 use Rattle.property_lines.specs.Entries.{as_properties}
 use Rattle.property_lines.specs.Refusals.{refusal}
+use Rattle.site_config.specs.declared.endpoint.Endpoint.{Endpoint}
 use Rattle.worker_props.specs.Books.{AreTooWide, IsBook, RefusesWide}
 use Rattle.worker_props.specs.Rows.{property_at}
+use Rattle.worker_props.specs.Settings.{shared}
 use Rattle.worker_props.specs.Site.{line_in}
 use Rattle.worker_props.proofs.LbLemmas.{made_lb}
 use Rattle.worker_props.proofs.WorkerLemmas.{wants_memory}
@@ -16,7 +19,7 @@ book_of-requires c = rw c.from_vec.ensures (record { some = c.requires.some; few
 
 pub made_of-requires : goal.made_of-requires
 made_of-requires c = record {
-  paired = c.requires.paired ∙ ap (λ (ms : List MemberConfig). length ms) (sym (c.in-Ok.ensures.book.members ∙ c.from_vec.ensures));
+  paired = ap (λ (es : List Endpoint). length es) c.in_ok-ends.ensures ∙ length-map c.args.made.ends.items _ ∙ c.requires.paired ∙ ap (λ (ms : List MemberConfig). length ms) (sym (c.in-Ok.ensures.book.members ∙ c.from_vec.ensures));
   cookie = c.filled_or-cookie.ensures.filled;
   path = c.filled_or-path.ensures.filled;
 }
@@ -26,7 +29,9 @@ returns-in-Ok-clause-lb c =
     let v = property_at (as_properties c.args.given.now.entries.now) c.args.row.now in
     let maintain = c.args.given.now.maintain in
     let is : IsBook v maintain c.args.made.configs.items c.in-Ok.book = subst (λ (ms : List MemberConfig). IsBook v maintain ms c.in-Ok.book) c.from_vec.ensures c.in-Ok.ensures.book in
-    made_lb v maintain c.args.name.now c.filled_or-cookie.result.now c.filled_or-path.result.now c.in-Ok.book c.args.made.configs.items c.args.made.ends.items c.made_of.result is
+    let all = c.args.made.ends.items in
+    let shares = c.in_ok-ends.ensures ∙ ap (λ (o : Option (List ℕ)). map (shared o) all) c.text-common.ensures in
+    made_lb v maintain c.args.name.now c.filled_or-cookie.result.now c.filled_or-path.result.now c.in-Ok.book c.args.made.configs.items all c.in_ok-ends.ends.items c.made_of.result is shares
     c.filled_or-cookie.ensures.value c.filled_or-path.ensures.value c.made_of.ensures.made
 
 pub returns-in-Ok-clause-wide : goal.returns-in-Ok-clause-wide
