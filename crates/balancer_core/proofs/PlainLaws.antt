@@ -340,7 +340,7 @@ without-length (x ∷ xs) p is =
           rw other (omega arith)
     ]
 
-ticket_differs : (lb t : ℕ) (x : ℕ × ℕ) → x.0 ≡ lb → is_pair (lb, t) x ≡ false → (x.1 == t) ≡ false
+pub ticket_differs : (lb t : ℕ) (x : ℕ × ℕ) → x.0 ≡ lb → is_pair (lb, t) x ≡ false → (x.1 == t) ≡ false
 ticket_differs lb t x same other =
     elim (cases_Bool (x.1 == t)) [
       | inl this ↦

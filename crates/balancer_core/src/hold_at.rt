@@ -94,8 +94,8 @@ fn is_pair(a: (u32, u64), b: (u32, u64)) -> bool
     a.0 == b.0 && a.1 == b.1
 }
 
-// Takes out every pair equal to this one.
-fn take_out(held: &mut Vec<(u32, u64)>, pair: (u32, u64))
+/// Takes out every pair equal to this one.
+pub fn take_out(held: &mut Vec<(u32, u64)>, pair: (u32, u64))
     ensures { held.new.items ≡ filter (λ x. not (is_pair pair x)) held.old.items }
 {
     held.retain(|one| !is_pair(pair, *one));

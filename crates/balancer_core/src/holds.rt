@@ -16,7 +16,7 @@ use crate::receipt::Receipt;
 use jk_model::{AdminError, Ask, Command, Entry, FullMark, RoomError};
 
 /// Adds the receipt of an entry.
-pub(crate) fn note(receipts: &mut Vec<Receipt>, on: Occasion, entry: Entry)
+pub fn note(receipts: &mut Vec<Receipt>, on: Occasion, entry: Entry)
     requires { vec_len receipts.old < vec_capacity receipts.old }
     ensures added { receipts.new.items ≡ receipts.old.items ++ receipt_of on entry ∷ [] }
     ensures room { vec_capacity receipts.old ≤ vec_capacity receipts.new }
@@ -30,7 +30,7 @@ pub(crate) fn note(receipts: &mut Vec<Receipt>, on: Occasion, entry: Entry)
 }
 
 /// Does a Maintain if due.
-pub(crate) fn maintain_first(
+fn maintain_first(
     book: &mut Book,
     receipts: &mut Vec<Receipt>,
     on: Occasion,
@@ -49,7 +49,7 @@ pub(crate) fn maintain_first(
 }
 
 /// Does a Maintain if due, and then a Select.
-pub(crate) fn select_after(
+pub fn select_after(
     book: &mut Book,
     receipts: &mut Vec<Receipt>,
     on: Occasion,
@@ -73,7 +73,7 @@ pub(crate) fn select_after(
 }
 
 /// Does a Maintain if due, and then a command.
-pub(crate) fn command_after(
+pub fn command_after(
     book: &mut Book,
     receipts: &mut Vec<Receipt>,
     on: Occasion,

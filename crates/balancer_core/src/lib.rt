@@ -20,7 +20,7 @@ mod copies;
 pub mod desk;
 mod ending;
 mod hold_at;
-mod holds;
+pub mod holds;
 mod maintenance;
 mod opened;
 mod plain_desk;
@@ -31,6 +31,7 @@ mod steps;
 
 pub use book::{Book, Lease, Picked};
 pub use desk::Desk;
+pub use hold_at::take_out;
 pub use jk_model::{Opening, Segment};
-pub use plain_desk::{BookList, PlainDesk, PlainLease};
+pub use plain_desk::{BookList, PlainDesk, PlainLease, chosen};
 pub use receipt::{Receipt, ReceiptList};

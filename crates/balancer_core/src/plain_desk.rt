@@ -17,7 +17,7 @@ use std::marker::Model;
 /// Books in order.
 pub type BookList = ListOf<Book>;
 
-/// A ticket that a desk of one thread holds. Its `hand_back` spends it.
+/// A ticket that a desk of Books holds. Its `hand_back` spends it.
 pub struct PlainLease {
     lb: u32,
     lease: Lease,
@@ -61,6 +61,18 @@ impl PlainDesk {
             fulls: 0,
             wides: 0,
         }
+    }
+}
+
+impl PlainLease {
+    ghost use Rattle.std.specs.Prelude.{◌≡◌};
+
+    /// Spends the lease, and gives its balancer and its ticket.
+    pub fn into_pair(self) -> (u32, u64)
+        ensures { (result.0 ≡ self.lb) × (result.1 ≡ self.lease.ticket) }
+    {
+        let PlainLease { lb, lease } = self;
+        (lb, lease.into_ticket())
     }
 }
 
@@ -217,7 +229,7 @@ fn count_refusal(fulls: &mut u64, wides: &mut u64, done: &Result<(), AdminError<
 }
 
 /// What was picked, with its lease among those that are held.
-pub(crate) fn chosen(held: &mut Vec<(u32, u64)>, lb: u32, picked: Picked) -> Choice<PlainLease>
+pub fn chosen(held: &mut Vec<(u32, u64)>, lb: u32, picked: Picked) -> Choice<PlainLease>
     requires room { vec_len held.old < vec_capacity held.old }
     requires lease { IsLeaseOf picked.entry.answer picked.lease }
     requires select { picked.entry.answer ≢ Answer.Done }

@@ -9,6 +9,7 @@ pub mod Present
 pub mod Ranges
 pub mod Rows
 pub mod Segments
+pub mod ServedRows
 pub mod Settings
 pub mod StateRows
 pub mod States

@@ -1,4 +1,4 @@
-ghost use Rattle.std.specs.Prelude.{◌≡◌, false};
+ghost use Rattle.std.specs.Prelude.{◌≡◌, None, false};
 
 /// What a session asks of its balancer. In each of the three sets bit m stands for member m.
 #[derive(Clone, Copy, Debug, PartialEq, Eq)]
@@ -22,6 +22,8 @@ pub struct Terms {
     pub sticky_ignore: bool,
     pub disabled: u64,
     pub stopped: u64,
+    /// Milliseconds for each wait for the container's next message, before what the member says; 0 is none.
+    pub reply_timeout: Option<u64>,
 }
 
 impl Terms {
@@ -30,11 +32,13 @@ impl Terms {
         ensures sticky { result.sticky_ignore ≡ false }
         ensures disabled { result.disabled ≡ 0 }
         ensures stopped { result.stopped ≡ 0 }
+        ensures reply { result.reply_timeout ≡ None }
     {
         Terms {
             sticky_ignore: false,
             disabled: 0,
             stopped: 0,
+            reply_timeout: None,
         }
     }
 }

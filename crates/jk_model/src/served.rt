@@ -1,4 +1,4 @@
-use jk_io::{Bytes, ListOf};
+use jk_io::Bytes;
 
 /// What the client asked for.
 #[derive(Drop)]
@@ -23,6 +23,3 @@ pub struct Served {
     /// The name of the worker that it was mounted at.
     pub worker: Option<Bytes>,
 }
-
-/// Requests that were answered, in order.
-pub type ServedList = ListOf<Served>;

@@ -108,6 +108,17 @@ abbrev pub is_outside : TextPlace → Bool
 is_outside place.Outside = true
 is_outside other = false
 
+abbrev pub is_body : TextPlace → Bool
+is_body (place.Body name o entries) = true
+is_body other = false
+
+-- An opening that was read whole was taken out, and the reader stands between segments.
+pub record TakesOpening (r : Reader) (name : List ℕ) (o : Opening) (q : Reader) : Type 0 where
+  pub entries : List Entry
+  pub stood : r.place ≡ place.Body name o entries
+  pub stands : q ≡ record { rules = r.rules; place = place.Outside; done = r.done }
+  pub valid : IsOpening o
+
 -- How many members and tickets the reader holds.
 abbrev pub held : TextPlace → ℕ
 held (place.Heading d) = length d.rows + length d.out

@@ -5,7 +5,7 @@ ghost use Rattle.journal_lines.specs.Ranges.{IsKeptLine};
 ghost use Rattle.jk_model.specs.Segments.{AreKeptEntries};
 ghost use Rattle.jk_model.specs.Validity.{IsOpening};
 ghost use Rattle.journal_text.specs.Kept.{IsKept, IsSound};
-ghost use Rattle.journal_text.specs.Reading.{Heads, Opens, Refuses, TakesAt, TakesText, at_start, begun, continued, held, is_end, is_over, named, opened, with_member, with_ticket};
+ghost use Rattle.journal_text.specs.Reading.{Heads, Opens, Refuses, TakesAt, TakesOpening, TakesText, at_start, begun, continued, held, is_body, is_end, is_over, named, opened, with_member, with_ticket};
 
 use crate::counted::{Counted, CountedList};
 use crate::draft::OpeningDraft;
@@ -321,6 +321,32 @@ impl Reader {
             None => Ok(None),
             Some(line) => self.take(alloc, line),
         }
+    }
+
+    /// Takes out an opening that was read whole, with its balancer's name; the reader then stands between segments.
+    pub fn take_opening(self) -> (Reader, Option<(Bytes, Opening)>)
+        requires sound { IsSound self }
+        ensures none { IfNone result.1 ((result.0 ≡ self) × (is_body self.place ≡ false)) }
+        ensures opened { IfSome result.1 (λ x. TakesOpening self x.0 x.1 result.0) }
+        ensures sound { IsSound result.0 }
+    {
+        let Reader { rules, place, done } = self;
+        match place {
+            TextPlace::Body { name, opening, .. } => {
+                let place = TextPlace::Outside;
+                (Reader { rules, place, done }, Some((name, opening)))
+            }
+            place => (Reader { rules, place, done }, None),
+        }
+    }
+
+    /// The rules of the present segment, or of the last one.
+    pub fn rules(&self) -> u8
+        requires { IsSound self.now }
+        ensures value { result ≡ self.now.rules }
+        ensures versions { AreRules result }
+    {
+        self.rules
     }
 
     /// Takes the text of the line with this number, without its LF.

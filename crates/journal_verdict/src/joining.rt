@@ -12,8 +12,8 @@ use journal_lines::{put_balancer, put_beginning, put_lease, put_member};
 use journal_text::{balancer_values, beginning, member_values};
 use std::alloc::Global;
 
-// How many lines an opening has: one for the balancer, for each member, for each ticket that is out, and the last.
-fn count_lines(opening: &Opening) -> usize
+/// How many lines an opening has: one for the balancer, for each member, for each ticket that is out, and the last.
+pub fn count_lines(opening: &Opening) -> usize
     requires { IsOpening opening.now }
     ensures { result ≡ length opening.now.config.members + length opening.now.out + 2 }
 {
@@ -60,8 +60,13 @@ fn put_line_at(
     put_beginning(out, &beginning(opening))
 }
 
-// A line of an opening, as a text of its own.
-fn line_at(alloc: Global, name: &[u8], opening: &Opening, place: usize) -> Result<Bytes, NoMemory>
+/// A line of an opening under its balancer's name, the one at this place, from 0.
+pub fn line_at(
+    alloc: Global,
+    name: &[u8],
+    opening: &Opening,
+    place: usize,
+) -> Result<Bytes, NoMemory>
     requires valid { IsOpening opening.now }
     requires within { place < length opening.now.config.members + length opening.now.out + 2 }
     ensures { (v : ℕ) → IfOk result (λ line. slice_get (opening_texts v name.now opening.now) place ≡ Some line) }

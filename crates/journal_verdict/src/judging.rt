@@ -86,9 +86,9 @@ fn rule(book: &mut Book, entry: &Entry) -> Result<Ruling, NoMemory>
     }
 }
 
-// What an entry has and what it ought to have; none where it follows from those before it, and then the Book went on by
-// it. `at` is the moment that the Book has reached.
-fn judge(book: &mut Book, at: u64, entry: &Entry) -> Result<Option<(Ruling, Ruling)>, NoMemory>
+/// What an entry has and what it ought to have; none where it follows from those before it, and then the Book went on by
+/// it. `at` is the moment that the Book has reached.
+pub fn judge(book: &mut Book, at: u64, entry: &Entry) -> Result<Option<(Ruling, Ruling)>, NoMemory>
     requires at { at ≡ moment_of book.old.opening (past_of book.old) }
     requires kept { IsKeptEntry book.old.rules entry.now }
     ensures { IfOk result (Follows entry.now book.old book.new) }

@@ -18,5 +18,7 @@ mod segment;
 mod verdict_text;
 
 pub use checking::check_journal;
+pub use joining::{count_lines, line_at};
+pub use judging::judge;
 pub use ruling::{Ruling, Verdict};
 pub use verdict_text::{put_bad, put_verdict};

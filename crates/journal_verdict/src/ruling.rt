@@ -2,7 +2,7 @@ use jk_io::Bytes;
 use jk_model::Answer;
 
 /// What a line of a journal has, or ought to have.
-#[derive(Drop)]
+#[derive(Debug, Drop)]
 pub enum Ruling {
     Answer(Answer),
     /// The number of an entry.

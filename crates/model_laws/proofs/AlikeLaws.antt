@@ -153,10 +153,10 @@ module _ (v : ℕ) (o : Opening) (p : List Entry) (o' : Opening) (q : List Entry
   unit_alike m lt =
       ap (λ (n : ℕ). n / factor_of o' q m) common_alike ∙ ap (λ (s : Setting). common_of o p / s.factor) (a.setting m lt)
 
-  busy_alike : (m : ℕ) → busy_of o' q m ≡ busy_of o p m
+  pub busy_alike : (m : ℕ) → busy_of o' q m ≡ busy_of o p m
   busy_alike m = ap (λ (xs : List Ticket). count_by (λ x. x.1 == m) xs) a.tickets
 
-  load_alike : (m : ℕ) → m < members o → load_of v o' q m ≡ load_of v o p m
+  pub load_alike : (m : ℕ) → m < members o → load_of v o' q m ≡ load_of v o p m
   load_alike m lt =
       ap (λ (x : Method). load_by x (busy_of o' q m * unit_of o' q m) (base_of v o' q m + gain_of o' q m)) a.balances
       ∙ load_agree o.config.method (busy_of o' q m * unit_of o' q m) (busy_of o p m * unit_of o p m) (base_of v o' q m + gain_of o' q m) (base_of v o p m + gain_of o p m)

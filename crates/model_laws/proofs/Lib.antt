@@ -1,3 +1,4 @@
 pub mod AlikeLaws
 pub mod MultipleLaws
 pub mod PickLaws
+pub mod SmallConfig
