@@ -1,0 +1,4 @@
+pub mod Formats
+pub mod Lines
+pub mod LogRules
+pub mod LogStates

@@ -1,0 +1,35 @@
+-- What a log that is written row by row gains.
+use Rattle.std.specs.Prelude.{ℕ, ◌≡◌, ◌≤◌, List, [], ◌++◌, Option, Some, None, IsSome}
+use Rattle.jk_io.specs.Told.{appended, Rose}
+use Rattle.jk_io.specs.declared.failures.IoError.{IoError}
+use Rattle.jk_io.specs.declared.failures.IoError.TheVariants as io
+use Rattle.jk_io.specs.declared.traits.streams.Meanings.{Ghosts}
+use Rattle.jk_model.specs.declared.served.Served.{Served}
+use Rattle.request_log.specs.declared.format.Part.{Part}
+use Rattle.request_log.specs.Lines.{IsLogOf}
+
+-- the format, the address of the clients, what the lines go to, and why no more are written
+pub record LogState (G : Type 0) : Type 0 where
+  pub format : List Part
+  pub addr : List ℕ
+  pub sink : G
+  pub broken : Option IoError
+
+-- The log of the rows was written, whole where nothing broke, and else a front of it.
+pub record AddsLog {G X : Type 0} (told : Ghosts G X) (s : LogState G) (rows : List Served) (t : LogState G) : Type 0 where
+  pub text : List ℕ
+  pub front : List ℕ
+  pub rest : List ℕ
+  pub is_log : IsLogOf s.format s.addr rows text
+  pub parts : text ≡ front ++ rest
+  pub put : told.sent t.sink ≡ appended (told.sent s.sink) front
+  pub whole : t.broken ≡ None → rest ≡ []
+
+-- Rows were put. What is broken stays so, and gains nothing more; it broke by a fault only where the sink's faults rose.
+pub record GainsRows {G X : Type 0} (told : Ghosts G X) (s : LogState G) (rows : List Served) (t : LogState G) : Type 0 where
+  pub same_format : t.format ≡ s.format
+  pub same_addr : t.addr ≡ s.addr
+  pub adds : s.broken ≡ None → AddsLog told s rows t
+  pub over : IsSome s.broken → (t.broken ≡ s.broken) × (told.sent t.sink ≡ told.sent s.sink)
+  pub no_fewer : told.faults s.sink ≤ told.faults t.sink
+  pub failed : s.broken ≡ None → t.broken ≡ Some io.Failed → Rose (told.faults s.sink) (told.faults t.sink)
