@@ -1,0 +1,10 @@
+pub mod TurnLaws
+pub mod GainLaws
+pub mod AskLaws
+pub mod CallLaws
+pub mod PassLaws
+pub mod DeskLaws
+pub mod GotLaws
+pub mod CalledLaws
+pub mod NoteLaws
+pub mod CloseLaws

@@ -1,0 +1,97 @@
+//! A Book whose callers take turns.
+ghost use Rattle.std.specs.Prelude.{◌≡◌, ◌<◌, ◌≤◌, [], IfOk, vec_capacity};
+ghost use Rattle.seen_history.specs.Plays.{giver_after, next_caller};
+ghost use Rattle.jk_model.specs.declared.segment.TheConstants.{MODERN_RULES};
+ghost use Rattle.pass_desk.specs.Passes.{AreNewPasses, IsNewPass};
+
+use crate::pass::{Pass, PassList};
+use crate::rule::{InTurns, NextCaller};
+use atomic_table::Table;
+use balancer_core::Book;
+use jk_io::NoMemory;
+use seen_history::PassView;
+use std::alloc::Global;
+use std::snapshot::Snapshot;
+
+/// The most passes of a pass book.
+pub const MAX_PASSES: u32 = 64;
+
+pub(crate) type PassTable = Table<Book, PassView, Snapshot<Book>, InTurns, Global>;
+
+/// A Book of rules 2 whose callers take turns. Its words are the turns drawn, the turns served and the count of all entries.
+#[derive(Drop)]
+pub struct PassBook {
+    pub(crate) table: PassTable,
+    ghost words: { table.shared.table_id.words ≡ 3 },
+    ghost slots: { table.shared.table_id.slots ≡ 1 },
+    ghost modern: { table.shared.key.value.rules ≡ MODERN_RULES },
+}
+
+impl PassBook {
+    ghost use Rattle.std.specs.Prelude.{◌≡◌, ◌≤◌, [], IfOk};
+    ghost use Rattle.jk_model.specs.declared.segment.TheConstants.{MODERN_RULES};
+    ghost use Rattle.pass_desk.specs.Passes.{AreNewPasses};
+
+    /// A Book whose callers take turns, and its passes, with the numbers from 0 up.
+    pub fn new(alloc: Global, book: Book, passes: u32) -> Result<(PassBook, PassList), NoMemory>
+        requires some { 1 ≤ passes }
+        requires few { passes ≤ MAX_PASSES }
+        requires modern { book.rules ≡ MODERN_RULES }
+        requires empty { book.entries ≡ [] }
+        requires none_out { book.opening.out ≡ [] }
+        ensures { IfOk result (λ made. AreNewPasses book.opening made.0.table.shared.table_id passes made.1) }
+    {
+        let mut list = Vec::with_capacity(alloc, passes as usize)?;
+        let (table, first) = begin_table(alloc, book)?;
+        list.push(first).unwrap();
+        deal(&table, &mut list, passes);
+        Ok((table, PassList::from_vec(list)))
+    }
+}
+
+// The table of a Book, and its first caller.
+fn begin_table(alloc: Global, book: Book) -> Result<(PassBook, Pass), NoMemory>
+    requires modern { book.rules ≡ MODERN_RULES }
+    requires empty { book.entries ≡ [] }
+    ensures pass { IfOk result (λ made. IsNewPass book.opening made.0.table.shared.table_id 1 0 made.1) }
+    ensures opening { IfOk result (λ made. made.0.table.shared.key.value.opening ≡ book.opening) }
+{
+    let mut slots = Vec::with_capacity(alloc, 1)?;
+    book.kept();
+    let about = Snapshot::of(&book);
+    slots.push(book).unwrap();
+    match Table::new(alloc, &[0, 0, 0], slots, &about) {
+        Ok((table, seat)) => Ok((PassBook { table }, Pass { seat, number: 0 })),
+        Err(_) => Err(NoMemory),
+    }
+}
+
+// One pass more for each number below `passes`.
+fn deal(book: &PassBook, list: &mut Vec<Pass>, passes: u32)
+    requires few { passes ≤ MAX_PASSES }
+    requires some { 1 ≤ passes }
+    requires room { passes ≤ vec_capacity list.old }
+    requires first { AreNewPasses book.now.table.shared.key.value.opening book.now.table.shared.table_id 1 list.old.items }
+    ensures { AreNewPasses book.now.table.shared.key.value.opening book.now.table.shared.table_id passes list.new.items }
+{
+    for number in 1..passes {
+        let pass = next_pass(book, &mut list[0], number);
+        list.push(pass).unwrap();
+    }
+}
+
+// The pass of the next number.
+fn next_pass(book: &PassBook, first: &mut Pass, number: u32) -> Pass
+    requires of { first.old.seat.table_id ≡ book.now.table.shared.table_id }
+    requires root { first.old.number ≡ 0 }
+    requires few { number < MAX_PASSES }
+    requires next { first.old.seat.me.0.given ≡ number }
+    requires above { 1 ≤ number }
+    ensures of { (first.new.seat.table_id ≡ first.old.seat.table_id) × (result.seat.table_id ≡ first.old.seat.table_id) }
+    ensures number { (first.new.number ≡ first.old.number) × (result.number ≡ number) }
+    ensures first { first.new.seat.me ≡ (giver_after first.old.seat.me.0, first.old.seat.me.1) }
+    ensures next { result.seat.me ≡ (next_caller first.old.seat.me.0, []) }
+{
+    let seat = book.table.shared.split_seat::<NextCaller>(&mut first.seat);
+    Pass { seat, number }
+}

@@ -1,0 +1,95 @@
+//! The rule of a pass book's table, and what each step on it tells: the words are those of seen_history's specs.
+
+use atomic_table::{Join, Play, Split, TableRule};
+use balancer_core::Book;
+use seen_history::PassView;
+use std::snapshot::Snapshot;
+
+/// The rule, for the Book that the table began with.
+pub(crate) struct InTurns;
+
+impl TableRule<Book, PassView, Snapshot<Book>> for InTurns {
+    ghost use Rattle.seen_history.specs.Turns.{IsPassTable, first_view};
+
+    ghost holds = { λ key. IsPassTable key.value.opening };
+
+    ghost first = { λ key. first_view key.value.opening };
+}
+
+/// A turn was drawn.
+pub(crate) struct Draws;
+
+impl Play<Book, PassView> for Draws {
+    ghost use Rattle.seen_history.specs.Plays.{Drew};
+
+    ghost then = { Drew };
+}
+
+/// The caller looked whether its turn has come, and took the Book where it has.
+pub(crate) struct Polls;
+
+impl Play<Book, PassView> for Polls {
+    ghost use Rattle.seen_history.specs.Plays.{Polled};
+
+    ghost then = { Polled };
+}
+
+/// The entries of a hold were told.
+pub(crate) struct Counts;
+
+impl Play<Book, PassView> for Counts {
+    ghost use Rattle.seen_history.specs.Plays.{Counted};
+
+    ghost then = { Counted };
+}
+
+/// The Book was given back, and the turn ended.
+pub(crate) struct Leaves;
+
+impl Play<Book, PassView> for Leaves {
+    ghost use Rattle.seen_history.specs.Plays.{Left};
+
+    ghost then = { Left };
+}
+
+/// What was told by another was put together with what was seen.
+pub(crate) struct PutsTogether;
+
+impl Play<Book, PassView> for PutsTogether {
+    ghost use Rattle.seen_history.specs.Plays.{PutTogether};
+
+    ghost then = { PutTogether };
+}
+
+/// A new caller with the next number.
+pub(crate) struct NextCaller;
+
+impl Split<PassView> for NextCaller {
+    ghost use Rattle.seen_history.specs.Plays.{giver_after, next_caller};
+
+    ghost left = { giver_after };
+
+    ghost right = { next_caller };
+}
+
+/// A copy of what was seen.
+pub(crate) struct Noting;
+
+impl Split<PassView> for Noting {
+    ghost use Rattle.seen_history.specs.Plays.{noted};
+
+    ghost left = { λ v. v };
+
+    ghost right = { noted };
+}
+
+/// Two become one.
+pub(crate) struct Joining;
+
+impl Join<PassView> for Joining {
+    ghost use Rattle.seen_history.specs.Plays.{joined, spent};
+
+    ghost both = { joined };
+
+    ghost spent = { spent };
+}

@@ -1,0 +1,7 @@
+pub mod OwnLaws
+pub mod HistoryLaws
+pub mod SeatLaws
+pub mod DrawLaws
+pub mod CountLaws
+pub mod JoinLaws
+pub mod EndLaws
