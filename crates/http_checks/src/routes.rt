@@ -1,6 +1,7 @@
 //! Session ids and their member, the recovery rule, and the packet that a member gets.
 
 use crate::replies::lines_of;
+use ajp_talk::Stage;
 use ajp_wire::EncodeError;
 use check_rows::rows::{bytes_of, number};
 use check_rows::telling::{part, put_bytes, put_count, put_shown, put_word};
@@ -8,8 +9,8 @@ use forwarding::forward_packet;
 use http_front::{BodyPlan, Head, HeadLines};
 use jk_io::{Bytes, ListOf, NoMemory, Peer};
 use jk_model::{Activation, MemberConfig, MemberList};
-use recovery_rule::may_retry;
-use site_config::Endpoint;
+use recovery_rule::{MethodKind, may_retry};
+use site_config::{Endpoint, MemberLimits};
 use std::alloc::Global;
 use std::fmt::Write;
 use sticky_routes::{IdList, routed, session_ids};
@@ -157,9 +158,27 @@ fn tell_retry(options: u8, out: &mut String) -> Result<(), NoMemory> {
     Ok(())
 }
 
+/// The methods of a case: the first bit is HEAD's, the second GET's.
+fn methods_of(case: u32) -> &'static [MethodKind] {
+    match case & 3 {
+        0 => &[MethodKind::Other],
+        1 => &[MethodKind::Head],
+        2 => &[MethodKind::Get],
+        _ => &[MethodKind::Head, MethodKind::Get],
+    }
+}
+
 fn is_retried(options: u8, case: u32) -> bool {
     let bit = |place: u32| case & place != 0;
-    may_retry(options, bit(1), bit(2), bit(4), bit(8), bit(16), bit(32))
+    let stage = Stage {
+        got: bit(4),
+        headers: bit(8),
+        passed: bit(16),
+        beyond: bit(32),
+    };
+    methods_of(case)
+        .iter()
+        .any(|method| may_retry(options, *method, stage))
 }
 
 /// The packet that the member of route r1 gets for a request from 127.0.0.1.
@@ -235,6 +254,7 @@ fn open_endpoint(alloc: Global) -> Endpoint {
         ping_each: false,
         ping_idle: false,
         fail_on: ListOf::new(alloc),
+        limits: MemberLimits::none(),
     }
 }
 

@@ -8,14 +8,30 @@
 //! Errors: `IoError` and `FileError`; want of memory alone needs no cause.
 #![tactic(auto)]
 
+mod ending;
+mod held_bytes;
+mod moments;
+mod notices;
 mod outbox;
+mod pace;
+mod passing;
 mod real_files;
 mod std_streams;
+mod stream_end;
+mod tcp_dial;
 mod tcp_door;
 mod tcp_link;
 
+pub use ending::Ending;
+pub use held_bytes::{HELD_BYTES, HeldBytes};
+pub use moments::moment;
+pub use notices::{Notices, Tally};
 pub use outbox::Outbox;
+pub use pace::{PACE_SECONDS, Pace};
+pub use passing::{is_passing, is_wanting, pause};
 pub use real_files::{RealClock, RealFiles};
 pub use std_streams::{ReadSource, StdIn, StdOut};
-pub use tcp_door::{CLIENT_SECONDS, DIAL_SECONDS, MAX_ACCEPT_TRIES, TcpDial, TcpDoor};
-pub use tcp_link::TcpLink;
+pub use stream_end::{AtHand, StreamEnd};
+pub use tcp_dial::{DIAL_MILLIS, TcpDial};
+pub use tcp_door::{CLIENT_SECONDS, MAX_ACCEPT_TRIES, TcpDoor};
+pub use tcp_link::{AHEAD_BYTES, LinkParts, TcpLink, room_ahead};

@@ -1,22 +1,18 @@
 //! What a worker wrote to its client and hasn't sent yet.
-ghost use Rattle.std.specs.Prelude.{◌≡◌, ◌≤◌, IfOk, IsOk, length};
-ghost use Rattle.jk_io.specs.Told.{HasCause};
+ghost use Rattle.std.specs.Prelude.{◌<◌, ◌≤◌, IfSome, length};
+ghost use Rattle.real_io.specs.Waitless.{IfCame};
 
-use crate::std_streams::receive;
-use jk_io::{IoError, NoMemory};
+use crate::held_bytes::HeldBytes;
+use crate::stream_end::{AtHand, StreamEnd};
+use jk_io::{Awaited, NoMemory};
 use std::alloc::Global;
-use std::io::Write;
-use std::net::TcpStream;
 use std::sync::{Arc, Mutex};
 
-/// How many bytes are held back at most.
-const HELD_BYTES: usize = 73_728;
-
-/// The stream of a client, with the bytes that wait to be sent on it.
+/// The end of a client's stream, with the bytes that wait to be sent on it.
 #[derive(Drop)]
 struct Held {
-    stream: Option<TcpStream>,
-    bytes: Vec<u8>,
+    end: Option<StreamEnd>,
+    bytes: HeldBytes,
     /// A send failed, so what follows can't go out.
     is_broken: bool,
 }
@@ -24,50 +20,55 @@ struct Held {
 impl Held {
     // Sends what waits, and tells whether nothing failed until now.
     fn flush(&mut self) -> bool {
-        if self.bytes.is_empty() || self.is_broken {
+        if self.is_broken || self.bytes.is_empty() {
             return !self.is_broken;
         }
-        self.is_broken = match &mut self.stream {
-            Some(stream) => stream.write_all(self.bytes.as_slice()).is_err(),
+        self.is_broken = match &mut self.end {
+            Some(end) => self.bytes.flush(end).is_err(),
             None => true,
         };
-        self.bytes.clear();
         !self.is_broken
     }
 
-    // Holds a piece back. If there is no room for it, what is held goes out first.
-    fn put(&mut self, piece: &[u8]) -> bool {
-        if self.bytes.len() + piece.len() > HELD_BYTES && !self.flush() {
-            return false;
+    // Holds a front of a piece back, or sends it after what is held, and answers how many bytes it was.
+    fn put(&mut self, piece: &[u8]) -> Option<usize>
+        requires { 0 < length piece.now }
+        ensures { IfSome result (λ n. (0 < n) × (n ≤ length piece.now)) }
+    {
+        let end = self.end.as_mut()?;
+        if self.is_broken {
+            return None;
         }
-        if piece.len() > HELD_BYTES {
-            return self.send(piece);
+        match self.bytes.put(end, piece) {
+            Ok(n) => Some(n),
+            Err(_) => {
+                self.is_broken = true;
+                None
+            }
         }
-        !self.is_broken && self.bytes.extend_from_slice(piece).is_ok()
     }
 
     // Reads from the client, once all that waits was sent.
-    fn receive(&mut self, buf: &mut [u8], failed: &mut u64) -> Result<usize, IoError>
-        ensures count { IfOk result (λ n. n ≤ length buf.new) }
-        ensures cause { HasCause failed.old failed.new result }
-        ensures steady { IsOk result → failed.new ≡ failed.old }
+    fn receive(&mut self, buf: &mut [u8]) -> Option<usize>
+        ensures { IfSome result (λ n. n ≤ length buf.new) }
     {
-        if self.flush()
-            && let Some(stream) = &mut self.stream
-        {
-            return receive(stream, buf, failed);
+        if !self.flush() {
+            return None;
         }
-        *failed = failed.saturating_add(1);
-        Err(IoError::Failed)
+        self.end.as_mut()?.receive(buf).ok()
     }
 
-    // Sends a piece at once.
-    fn send(&mut self, piece: &[u8]) -> bool {
-        self.is_broken = match &mut self.stream {
-            Some(stream) => stream.write_all(piece).is_err(),
-            None => true,
-        };
-        !self.is_broken
+    // Reads what is there of the client, once all that waits was sent.
+    fn at_hand(&mut self, buf: &mut [u8]) -> AtHand
+        ensures { IfCame result (λ n. n ≤ length buf.new) }
+    {
+        if !self.flush() {
+            return AtHand::Broken;
+        }
+        match &mut self.end {
+            Some(end) => end.at_hand(buf),
+            None => AtHand::Broken,
+        }
     }
 }
 
@@ -83,8 +84,8 @@ impl Outbox {
     /// An empty one, of no client yet. It takes all the memory that it needs.
     pub fn new(alloc: Global) -> Result<Outbox, NoMemory> {
         let held = Held {
-            stream: None,
-            bytes: Vec::with_capacity(alloc, HELD_BYTES)?,
+            end: None,
+            bytes: HeldBytes::new(alloc)?,
             is_broken: false,
         };
         Ok(Outbox {
@@ -99,52 +100,66 @@ impl Outbox {
         })
     }
 
-    // Takes a client's stream; gives it back if another client is served.
-    pub(crate) fn open(&self, stream: TcpStream) -> Option<TcpStream> {
+    // Takes a client's end; gives it back if another client is served.
+    pub(crate) fn open(&self, end: StreamEnd) -> Option<StreamEnd> {
         match self.held.try_lock() {
-            Some(mut held) if held.stream.is_none() => {
-                held.stream = Some(stream);
+            Some(mut held) if held.end.is_none() => {
+                held.end = Some(end);
                 held.is_broken = false;
                 held.bytes.clear();
                 None
             }
-            _ => Some(stream),
+            _ => Some(end),
         }
     }
 
-    // Sends what waits, and closes the client's stream.
-    pub(crate) fn close(&self) {
-        if let Some(mut held) = self.held.try_lock() {
-            held.flush();
-            held.stream = None;
-        }
+    // Sends what waits, and gives the client's end back unless it is broken, which closes it.
+    pub(crate) fn close(&self) -> Option<StreamEnd> {
+        let mut held = self.held.try_lock()?;
+        let is_whole = held.flush();
+        let end = held.end.take();
+        if is_whole { end } else { None }
     }
 
-    // Sends what waits. Whether the client is still there is for its own link to tell.
-    pub(crate) fn flush(&self) {
-        if let Some(mut held) = self.held.try_lock() {
-            held.flush();
+    // Sends what waits, and tells whether nothing failed until now.
+    pub(crate) fn flush(&self) -> bool {
+        match self.held.try_lock() {
+            Some(mut held) => held.flush(),
+            None => false,
         }
     }
 
     // Reads from the client, once all that waits was sent.
-    pub(crate) fn receive(&self, buf: &mut [u8], failed: &mut u64) -> Result<usize, IoError>
-        ensures count { IfOk result (λ n. n ≤ length buf.new) }
-        ensures cause { HasCause failed.old failed.new result }
-        ensures steady { IsOk result → failed.new ≡ failed.old }
+    pub(crate) fn receive(&self, buf: &mut [u8]) -> Option<usize>
+        ensures { IfSome result (λ n. n ≤ length buf.new) }
     {
-        if let Some(mut held) = self.held.try_lock() {
-            return held.receive(buf, failed);
-        }
-        *failed = failed.saturating_add(1);
-        Err(IoError::Failed)
+        self.held.try_lock()?.receive(buf)
     }
 
-    // Holds a piece back, or sends it.
-    pub(crate) fn put(&self, piece: &[u8]) -> bool {
+    // Reads what is there of the client, once all that waits was sent.
+    pub(crate) fn at_hand(&self, buf: &mut [u8]) -> AtHand
+        ensures { IfCame result (λ n. n ≤ length buf.new) }
+    {
         match self.held.try_lock() {
-            Some(mut held) => held.put(piece),
-            None => false,
+            Some(mut held) => held.at_hand(buf),
+            None => AtHand::Broken,
         }
+    }
+
+    // Tells the client's end what is waited for next.
+    pub(crate) fn await_next(&self, what: Awaited) {
+        if let Some(mut held) = self.held.try_lock()
+            && let Some(end) = &mut held.end
+        {
+            end.await_next(what);
+        }
+    }
+
+    // Holds a front of a piece back, or sends it.
+    pub(crate) fn put(&self, piece: &[u8]) -> Option<usize>
+        requires { 0 < length piece.now }
+        ensures { IfSome result (λ n. (0 < n) × (n ≤ length piece.now)) }
+    {
+        self.held.try_lock()?.put(piece)
     }
 }

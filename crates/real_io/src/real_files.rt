@@ -5,17 +5,27 @@ ghost use Rattle.jk_io.specs.Told.{Rose};
 use crate::std_streams::ReadSource;
 use jk_io::{Bytes, Clock, FileError, Files, MAX_INPUT_BYTES, read_whole};
 use std::alloc::Global;
-use std::fs;
+use std::io::Write;
+use std::net::Net;
+use std::os::unix::net::UnixStream;
 use std::rt::{Clock as SystemClock, Files as SystemFiles};
+use std::{fs, io};
 
-/// The files of the system. They tell nothing of what they hold.
+/// What is written to a socket whose answer is read.
+const ASKED: &[u8] = b"stop\n";
+
+/// The system's number for the open of a file that is a socket, ENXIO.
+const IS_SOCKET: i32 = 6;
+
+/// The files of the system. They tell nothing of what they hold. A file that is a Unix socket is asked to stop, and holds what
+/// it answers.
 #[derive(Drop)]
-pub struct RealFiles<'r, R: SystemFiles> {
+pub struct RealFiles<'r, R: SystemFiles + Net> {
     rt: &'r R,
     failed: u64,
 }
 
-impl<'r, R: SystemFiles> RealFiles<'r, R> {
+impl<'r, R: SystemFiles + Net> RealFiles<'r, R> {
     pub fn new(rt: &'r R) -> RealFiles<'r, R>
         ensures { result.failed ≡ 0 }
     {
@@ -30,7 +40,7 @@ impl<'r, R: SystemFiles> RealFiles<'r, R> {
     }
 }
 
-impl<'r, R: SystemFiles> Files for RealFiles<'r, R> {
+impl<'r, R: SystemFiles + Net> Files for RealFiles<'r, R> {
     ghost use Rattle.std.specs.Prelude.{None};
 
     ghost files = { λ _. None };
@@ -46,19 +56,34 @@ impl<'r, R: SystemFiles> Files for RealFiles<'r, R> {
     }
 }
 
-fn read_named<R: SystemFiles>(rt: &R, alloc: Global, name: &Bytes) -> Result<Bytes, FileError>
+// A name that isn't UTF-8 is that of no file.
+fn read_named<R: SystemFiles + Net>(rt: &R, alloc: Global, name: &Bytes) -> Result<Bytes, FileError>
     ensures { IfOk result (λ bytes. length bytes ≤ MAX_INPUT_BYTES) }
 {
-    match open_named(rt, name) {
-        Some(file) => read_whole(alloc, &mut ReadSource::new(file)),
-        None => Err(FileError::Failed),
+    let Ok(path) = str::from_utf8(name.as_slice()) else {
+        return Err(FileError::Failed);
+    };
+    match fs::open(rt, path) {
+        Ok(file) => read_whole(alloc, &mut ReadSource::new(file)),
+        Err(error) if error.raw_os_error() == Some(IS_SOCKET) => read_answer(rt, alloc, path),
+        Err(_) => Err(FileError::Failed),
     }
 }
 
-// A name that isn't UTF-8 is that of no file.
-fn open_named<R: SystemFiles>(rt: &R, name: &Bytes) -> Option<R::File> {
-    let path = str::from_utf8(name.as_slice()).ok()?;
-    fs::open(rt, path).ok()
+// What a socket answers that is asked to stop.
+fn read_answer<R: Net>(rt: &R, alloc: Global, path: &str) -> Result<Bytes, FileError>
+    ensures { IfOk result (λ bytes. length bytes ≤ MAX_INPUT_BYTES) }
+{
+    match asked(rt, path) {
+        Ok(stream) => read_whole(alloc, &mut ReadSource::new(stream)),
+        Err(_) => Err(FileError::Failed),
+    }
+}
+
+fn asked<R: Net>(rt: &R, path: &str) -> io::Result<UnixStream> {
+    let mut stream = UnixStream::connect(rt, path)?;
+    stream.write_all(ASKED)?;
+    Ok(stream)
 }
 
 /// The clock of the system, in seconds since 1970; while it can't be read it stands still.

@@ -1,19 +1,15 @@
-//! Dialling and accepting TCP streams.
+//! Accepting TCP streams.
 ghost use Rattle.std.specs.Prelude.{◌≡◌, ◌≢◌, ◌+◌, ◌-◌, ◌<◌, ◌≤◌, ◌↔◌, Some, IsTrue, IsOk, IfOk, OnErr, IfSome, IfNone};
 ghost use Rattle.std.specs.Option.{option_map};
 ghost use Rattle.jk_io.specs.Told.{Rose, HasCause};
 
 use crate::outbox::Outbox;
+use crate::passing::{is_passing, pause};
+use crate::stream_end::StreamEnd;
 use crate::tcp_link::{TcpLink, room_ahead};
-use jk_io::{Bytes, Dial, Door, IoError, NoMemory, Peer};
+use jk_io::{Bytes, Door, IoError, NoMemory, Peer};
 use std::alloc::Global;
-use std::io::ErrorKind;
-use std::net::{IpAddr, Net, SocketAddr, TcpListener, TcpStream, ToSocketAddrs};
-use std::time::{Clock, Duration};
-use std::{io, thread};
-
-/// The seconds that a dial waits for each address of a host.
-pub const DIAL_SECONDS: u64 = 10;
+use std::net::{IpAddr, SocketAddr, TcpListener, TcpStream};
 
 /// A client's link fails after this many seconds in which no byte came, or none was taken.
 pub const CLIENT_SECONDS: u64 = 60;
@@ -21,98 +17,13 @@ pub const CLIENT_SECONDS: u64 = 60;
 /// How often an accept that fails for a passing reason is tried.
 pub const MAX_ACCEPT_TRIES: u32 = 1_000;
 
-/// The milliseconds between two such tries.
-const TRY_AGAIN_MILLIS: u64 = 10;
-
 /// The most bytes that the text of an address has.
 const MAX_ADDRESS_BYTES: usize = 45;
-
-/// Dials members over TCP, by a host's name or address.
-#[derive(Drop)]
-pub struct TcpDial<'r, R: Net<Stream = TcpStream>> {
-    rt: &'r R,
-    /// The outbox that is emptied before a member is dialled, and before its link waits or writes.
-    first: Option<Outbox>,
-    failed: u64,
-}
-
-impl<'r, R: Net<Stream = TcpStream>> TcpDial<'r, R> {
-    pub fn new(rt: &'r R) -> TcpDial<'r, R>
-        ensures { result.failed ≡ 0 }
-    {
-        TcpDial {
-            rt,
-            first: None,
-            failed: 0,
-        }
-    }
-
-    /// A dial that empties this outbox before it dials, as its links do before they wait or write. The door of the same
-    /// worker has the same outbox.
-    pub fn with_outbox(rt: &'r R, outbox: Outbox) -> TcpDial<'r, R>
-        ensures { result.failed ≡ 0 }
-    {
-        TcpDial {
-            rt,
-            first: Some(outbox),
-            failed: 0,
-        }
-    }
-}
-
-impl<'r, R: Net<Stream = TcpStream>> Dial for TcpDial<'r, R> {
-    type L = TcpLink;
-
-    ghost faults = { λ d. d.failed };
-
-    fn dial(&mut self, alloc: Global, host: &Bytes, port: u16) -> Result<TcpLink, IoError> {
-        if let Some(outbox) = &self.first {
-            outbox.flush();
-        }
-        match connect(self.rt, host, port) {
-            Some(stream) => Ok(link_to_member(alloc, stream, self.first.as_ref())?),
-            None => {
-                self.failed = self.failed.saturating_add(1);
-                Err(IoError::Failed)
-            }
-        }
-    }
-
-    fn lend(&self, link: &TcpLink) {
-        if let Some(outbox) = &self.first {
-            link.serve(outbox);
-        }
-    }
-}
-
-fn link_to_member(
-    alloc: Global,
-    stream: TcpStream,
-    first: Option<&Outbox>,
-) -> Result<TcpLink, NoMemory> {
-    match first {
-        Some(outbox) => TcpLink::after(alloc, stream, outbox),
-        None => TcpLink::new(alloc, stream),
-    }
-}
-
-// Tries each address of a host in turn. A name that isn't UTF-8 is that of no host.
-fn connect<R: Net<Stream = TcpStream>>(rt: &R, host: &Bytes, port: u16) -> Option<TcpStream> {
-    let name = str::from_utf8(host.as_slice()).ok()?;
-    let wait = Duration::from_secs(DIAL_SECONDS);
-    for address in (name, port).to_socket_addrs(rt).ok()? {
-        if let Ok(stream) = TcpStream::connect_timeout(rt, &address, wait) {
-            return Some(stream);
-        }
-    }
-    None
-}
 
 /// Accepts TCP streams, at most `clients` if that is given. A read or a write on its links fails if it waits longer
 /// than `CLIENT_SECONDS`.
 #[derive(Drop)]
-pub struct TcpDoor<'r, R: Clock> {
-    rt: &'r R,
+pub struct TcpDoor {
     listener: TcpListener,
     /// What holds back the bytes of a client, where something does.
     outbox: Option<Outbox>,
@@ -122,13 +33,12 @@ pub struct TcpDoor<'r, R: Clock> {
     failed: u64,
 }
 
-impl<'r, R: Clock> TcpDoor<'r, R> {
+impl TcpDoor {
     /// No link is out, and no call failed yet.
-    pub fn new(rt: &'r R, listener: TcpListener, clients: Option<u64>) -> TcpDoor<'r, R>
+    pub fn new(listener: TcpListener, clients: Option<u64>) -> TcpDoor
         ensures { (result.clients ≡ clients) × (result.out ≡ 0) × (result.failed ≡ 0) }
     {
         TcpDoor {
-            rt,
             listener,
             outbox: None,
             clients,
@@ -139,16 +49,10 @@ impl<'r, R: Clock> TcpDoor<'r, R> {
 
     /// What is written to a client is held back in this outbox, until its link is read or left, or a link to a member
     /// that was dialled with the same outbox waits or writes. Of several clients at once only the first has it.
-    pub fn with_outbox(
-        rt: &'r R,
-        listener: TcpListener,
-        clients: Option<u64>,
-        outbox: Outbox,
-    ) -> TcpDoor<'r, R>
+    pub fn with_outbox(listener: TcpListener, clients: Option<u64>, outbox: Outbox) -> TcpDoor
         ensures { (result.clients ≡ clients) × (result.out ≡ 0) × (result.failed ≡ 0) }
     {
         TcpDoor {
-            rt,
             listener,
             outbox: Some(outbox),
             clients,
@@ -167,7 +71,7 @@ impl<'r, R: Clock> TcpDoor<'r, R> {
     }
 }
 
-impl<'r, R: Clock> Door for TcpDoor<'r, R> {
+impl Door for TcpDoor {
     ghost use Rattle.std.specs.Prelude.{None};
 
     type L = TcpLink;
@@ -201,7 +105,7 @@ impl<'r, R: Clock> Door for TcpDoor<'r, R> {
         let Some(out) = self.out.checked_add(1) else {
             return Err(self.fail());
         };
-        match next_client(self.rt, alloc, &self.listener, self.outbox.as_ref())? {
+        match next_client(alloc, &self.listener, self.outbox.as_ref())? {
             Some(client) => {
                 self.clients = one_fewer(self.clients);
                 self.out = out;
@@ -221,7 +125,7 @@ impl<'r, R: Clock> Door for TcpDoor<'r, R> {
         ensures one_less { self.new.out + 1 ≡ self.old.out }
         ensures same { self.new.failed ≡ self.old.failed }
     {
-        link.end();
+        drop(link.into_parts());
         self.out -= 1;
     }
 }
@@ -244,14 +148,13 @@ fn one_fewer(clients: Option<u64>) -> Option<u64>
 }
 
 // The next client, whose memory is taken first, so that want of it loses none.
-fn next_client<R: Clock>(
-    rt: &R,
+fn next_client(
     alloc: Global,
     listener: &TcpListener,
     outbox: Option<&Outbox>,
 ) -> Result<Option<(TcpLink, Peer)>, NoMemory> {
     let room = ClientRoom::new(alloc, outbox)?;
-    match accept_client(rt, listener) {
+    match accept_client(listener) {
         Some((stream, address)) => Ok(Some(room.client(stream, address.ip()))),
         None => Ok(None),
     }
@@ -287,43 +190,23 @@ impl ClientRoom {
         } = self;
         let _ = write!(address, "{ip}");
         let addr = Bytes::from_vec(address.into_bytes());
-        let stream = patient(stream);
+        let end = StreamEnd::patient(stream, CLIENT_SECONDS * 1_000);
         let link = match outbox {
-            Some(outbox) => TcpLink::held_by(outbox, stream, ahead),
-            None => TcpLink::over(stream, ahead),
+            Some(outbox) => TcpLink::held_by(outbox, end, ahead),
+            None => TcpLink::over(end, ahead),
         };
         (link, Peer { addr })
     }
 }
 
-// A stream on which a read or a write waits `CLIENT_SECONDS` at most. One that refuses this is broken.
-fn patient(stream: TcpStream) -> TcpStream {
-    let wait = Some(Duration::from_secs(CLIENT_SECONDS));
-    let _ = stream.set_read_timeout(wait);
-    let _ = stream.set_write_timeout(wait);
-    stream
-}
-
 // The next client; what fails for a passing reason is tried again after a while.
-fn accept_client<R: Clock>(rt: &R, listener: &TcpListener) -> Option<(TcpStream, SocketAddr)> {
+fn accept_client(listener: &TcpListener) -> Option<(TcpStream, SocketAddr)> {
     for _ in 0..MAX_ACCEPT_TRIES {
         match listener.accept() {
             Ok(client) => return Some(client),
-            Err(error) if is_passing(&error) => {
-                thread::sleep(rt, Duration::from_millis(TRY_AGAIN_MILLIS));
-            }
+            Err(error) if is_passing(&error) => pause(),
             Err(_) => return None,
         }
     }
     None
-}
-
-// A client that went before it was accepted, a signal, or too many files or too little memory for a moment. The
-// numbers are those of Linux for ENFILE, EMFILE and ENOBUFS.
-fn is_passing(error: &io::Error) -> bool {
-    match error.kind() {
-        ErrorKind::ConnectionAborted | ErrorKind::ConnectionReset | ErrorKind::Interrupted => true,
-        ErrorKind::TimedOut | ErrorKind::OutOfMemory => true,
-        _ => matches!(error.raw_os_error(), Some(23 | 24 | 105)),
-    }
 }

@@ -1,23 +1,23 @@
 //! A link over a TCP stream.
-ghost use Rattle.std.specs.Prelude.{◌≡◌, ◌≢◌, ◌+◌, ◌<◌, ◌≤◌, ◌⊎◌, IfOk, IfSome, IsOk, length, take, drop, vec_len};
-ghost use Rattle.jk_io.specs.Told.{HasCause};
+ghost use Rattle.std.specs.Prelude.{◌≡◌, ◌≢◌, ◌+◌, ◌<◌, ◌≤◌, ◌⊎◌, IfOk, IfSome, IsOk, false, length, take, drop, true, vec_len};
+ghost use Rattle.jk_io.specs.Told.{HasCause, Rose};
+ghost use Rattle.real_io.specs.Waitless.{IfCame};
 
 use crate::outbox::Outbox;
-use crate::std_streams::receive;
-use jk_io::{IoError, Link, Meanings, NoMemory, Sink, Source};
+use crate::stream_end::{AtHand, StreamEnd};
+use jk_io::{Awaited, IoError, Link, Meanings, NoMemory, Sink, Source};
 use std::alloc::Global;
-use std::io::{ErrorKind, Write};
 use std::net::TcpStream;
 use std::sync::{Arc, Mutex};
 
 /// How many bytes a link reads ahead at most.
-const AHEAD_BYTES: usize = 73_728;
+pub const AHEAD_BYTES: usize = 73_728;
 
 /// What a link reads from and writes to.
 #[derive(Drop)]
 enum Wire {
     /// A stream, to which it writes at once.
-    Stream(TcpStream),
+    End(StreamEnd),
     /// A client's stream, for which an outbox holds back what is written until its worker waits.
     Outbox(Outbox),
 }
@@ -33,7 +33,26 @@ pub struct TcpLink {
     ahead: Vec<u8>,
     from: usize,
     to: usize,
+    /// It said that it waits, and nothing was read or written since.
+    is_idle: bool,
+    /// A number by which a door knows it again.
+    seat: u64,
     failed: u64,
+    ghost within: { (from ≤ to) × (to ≤ vec_len ahead) },
+}
+
+/// What a link is made of, once it isn't used any more.
+#[derive(Drop)]
+pub struct LinkParts {
+    /// The stream's end; none where it is broken.
+    pub end: Option<StreamEnd>,
+    /// What was read ahead and wasn't given lies from `from` to `to`.
+    pub ahead: Vec<u8>,
+    pub from: usize,
+    pub to: usize,
+    /// It said that it waits, and nothing was read or written since.
+    pub is_idle: bool,
+    pub seat: u64,
     ghost within: { (from ≤ to) × (to ≤ vec_len ahead) },
 }
 
@@ -42,19 +61,15 @@ impl TcpLink {
     pub fn new(alloc: Global, stream: TcpStream) -> Result<TcpLink, NoMemory>
         ensures { IfOk result (λ link. (link.failed ≡ 0) × (link.from ≡ link.to)) }
     {
-        Ok(TcpLink::over(stream, room_ahead(alloc)?))
+        Ok(TcpLink::over(StreamEnd::new(stream), room_ahead(alloc)?))
     }
 
     /// A link to a member, before whose waits and writes this outbox is emptied.
-    pub(crate) fn after(
-        alloc: Global,
-        stream: TcpStream,
-        outbox: &Outbox,
-    ) -> Result<TcpLink, NoMemory>
+    pub(crate) fn after(alloc: Global, end: StreamEnd, outbox: &Outbox) -> Result<TcpLink, NoMemory>
         ensures { IfOk result (λ link. (link.failed ≡ 0) × (link.from ≡ link.to)) }
     {
         let first = Arc::new(alloc, Mutex::new(outbox.share()?))?;
-        let mut link = TcpLink::over(stream, room_ahead(alloc)?);
+        let mut link = TcpLink::over(end, room_ahead(alloc)?);
         link.first = Some(first);
         Ok(link)
     }
@@ -69,29 +84,48 @@ impl TcpLink {
         }
     }
 
-    /// A link over a stream, which reads ahead into this buffer. It takes no memory.
-    pub(crate) fn over(stream: TcpStream, ahead: Vec<u8>) -> TcpLink
+    /// A link over the end of a stream, which reads ahead into this buffer. It takes no memory.
+    pub(crate) fn over(end: StreamEnd, ahead: Vec<u8>) -> TcpLink
         ensures { (result.failed ≡ 0) × (result.from ≡ result.to) }
     {
-        // A stream that refuses this is broken, and the next read or write of it fails.
-        let _ = stream.set_nodelay(true);
-        TcpLink::on(Wire::Stream(stream), ahead)
+        TcpLink::on(Wire::End(end), ahead)
     }
 
-    /// A client's link over an outbox that takes this stream, or over the stream itself if the outbox has another one.
-    /// It takes no memory.
-    pub(crate) fn held_by(outbox: Outbox, stream: TcpStream, ahead: Vec<u8>) -> TcpLink
-        ensures { (result.failed ≡ 0) × (result.from ≡ result.to) }
+    /// A client's link over an outbox that takes this end, or over the end itself if the outbox has another one. It
+    /// takes no memory.
+    pub(crate) fn held_by(outbox: Outbox, end: StreamEnd, ahead: Vec<u8>) -> TcpLink
+        ensures fresh { (result.failed ≡ 0) × (result.is_idle ≡ false) }
+        ensures ahead { (result.from ≡ 0) × (result.to ≡ 0) × (result.ahead ≡ ahead) }
     {
-        let _ = stream.set_nodelay(true);
-        match outbox.open(stream) {
+        match outbox.open(end) {
             None => TcpLink::on(Wire::Outbox(outbox), ahead),
-            Some(stream) => TcpLink::on(Wire::Stream(stream), ahead),
+            Some(end) => TcpLink::on(Wire::End(end), ahead),
         }
     }
 
+    /// A client's link, of which these bytes were read ahead: the first `count` of the buffer. A door knows it by its
+    /// seat. It takes no memory.
+    pub fn of_client(
+        outbox: Outbox,
+        end: StreamEnd,
+        ahead: Vec<u8>,
+        count: usize,
+        seat: u64,
+    ) -> TcpLink
+        requires { count ≤ vec_len ahead }
+        ensures fresh { (result.failed ≡ 0) × (result.is_idle ≡ false) × (result.seat ≡ seat) }
+        ensures ahead { (result.from ≡ 0) × (result.to ≡ count) × (result.ahead ≡ ahead) }
+    {
+        let mut link = TcpLink::held_by(outbox, end, ahead);
+        link.from = 0;
+        link.to = count;
+        link.seat = seat;
+        link
+    }
+
     fn on(wire: Wire, ahead: Vec<u8>) -> TcpLink
-        ensures { (result.failed ≡ 0) × (result.from ≡ result.to) }
+        ensures fresh { (result.failed ≡ 0) × (result.is_idle ≡ false) }
+        ensures ahead { (result.from ≡ 0) × (result.to ≡ 0) × (result.ahead ≡ ahead) }
     {
         TcpLink {
             wire,
@@ -99,14 +133,35 @@ impl TcpLink {
             ahead,
             from: 0,
             to: 0,
+            is_idle: false,
+            seat: 0,
             failed: 0,
         }
     }
 
-    /// Sends what its outbox held back, and ends.
-    pub(crate) fn end(self) {
-        if let Wire::Outbox(outbox) = &self.wire {
-            outbox.close();
+    /// Sends what its outbox held back, and gives what it is made of.
+    pub fn into_parts(self) -> LinkParts
+        ensures ahead { (result.ahead ≡ self.ahead) × (result.from ≡ self.from) × (result.to ≡ self.to) }
+        ensures same { (result.is_idle ≡ self.is_idle) × (result.seat ≡ self.seat) }
+    {
+        let TcpLink {
+            wire,
+            first: _,
+            ahead,
+            from,
+            to,
+            is_idle,
+            seat,
+            failed: _,
+        } = self;
+        let end = end_of(wire);
+        LinkParts {
+            end,
+            ahead,
+            from,
+            to,
+            is_idle,
+            seat,
         }
     }
 
@@ -132,18 +187,52 @@ impl TcpLink {
             outbox.flush();
         }
     }
+
+    fn fail(&mut self) -> IoError
+        ensures error { result ≡ IoError.Failed }
+        ensures rose { Rose self.old.failed self.new.failed × (self.old.failed ≤ self.new.failed) }
+        ensures same { (self.new.from ≡ self.old.from) × (self.new.to ≡ self.old.to) × (self.new.ahead ≡ self.old.ahead) }
+    {
+        self.failed = self.failed.saturating_add(1);
+        IoError::Failed
+    }
+
+    // Reads ahead, where nothing is ahead.
+    fn read_ahead(&mut self) -> Result<(), IoError>
+        ensures read { IsOk result → self.new.from ≡ 0 }
+        ensures cause { HasCause self.old.failed self.new.failed result }
+        ensures steady { IsOk result → self.new.failed ≡ self.old.failed }
+    {
+        self.from = 0;
+        self.to = 0;
+        match self.wire.receive(self.ahead.as_mut_slice()) {
+            Some(n) => {
+                self.to = n;
+                Ok(())
+            }
+            None => Err(self.fail()),
+        }
+    }
 }
 
 impl Wire {
-    // One read, counted where it fails.
-    fn receive(&mut self, buf: &mut [u8], failed: &mut u64) -> Result<usize, IoError>
-        ensures count { IfOk result (λ n. n ≤ length buf.new) }
-        ensures cause { HasCause failed.old failed.new result }
-        ensures steady { IsOk result → failed.new ≡ failed.old }
+    // One read.
+    fn receive(&mut self, buf: &mut [u8]) -> Option<usize>
+        ensures { IfSome result (λ n. n ≤ length buf.new) }
     {
         match self {
-            Wire::Stream(stream) => receive(stream, buf, failed),
-            Wire::Outbox(outbox) => outbox.receive(buf, failed),
+            Wire::End(end) => end.receive(buf).ok(),
+            Wire::Outbox(outbox) => outbox.receive(buf),
+        }
+    }
+
+    // One read that doesn't wait.
+    fn at_hand(&mut self, buf: &mut [u8]) -> AtHand
+        ensures { IfCame result (λ n. n ≤ length buf.new) }
+    {
+        match self {
+            Wire::End(end) => end.at_hand(buf),
+            Wire::Outbox(outbox) => outbox.at_hand(buf),
         }
     }
 
@@ -153,14 +242,39 @@ impl Wire {
         ensures { IfSome result (λ n. (0 < n) × (n ≤ length piece.now)) }
     {
         match self {
-            Wire::Stream(stream) => send(stream, piece),
-            Wire::Outbox(outbox) => outbox.put(piece).then_some(piece.len()),
+            Wire::End(end) => end.write(piece).ok(),
+            Wire::Outbox(outbox) => outbox.put(piece),
+        }
+    }
+
+    // Sends what is held back, and tells whether nothing failed until now.
+    fn flush(&mut self) -> bool {
+        match self {
+            Wire::End(_) => true,
+            Wire::Outbox(outbox) => outbox.flush(),
+        }
+    }
+
+    fn await_next(&mut self, what: Awaited) {
+        match self {
+            Wire::End(end) => end.await_next(what),
+            Wire::Outbox(outbox) => outbox.await_next(what),
         }
     }
 }
 
+// The end of the stream, once what was held back was sent.
+fn end_of(wire: Wire) -> Option<StreamEnd> {
+    match wire {
+        Wire::End(end) => Some(end),
+        Wire::Outbox(outbox) => outbox.close(),
+    }
+}
+
 /// The buffer of a link that reads ahead.
-pub(crate) fn room_ahead(alloc: Global) -> Result<Vec<u8>, NoMemory> {
+pub fn room_ahead(alloc: Global) -> Result<Vec<u8>, NoMemory>
+    ensures { IfOk result (λ room. vec_len room ≡ AHEAD_BYTES) }
+{
     Ok(vec![in alloc; 0u8; AHEAD_BYTES]?)
 }
 
@@ -200,16 +314,16 @@ impl Source for TcpLink {
         ensures cause { HasCause self.old.failed self.new.failed result }
         ensures steady { IsOk result → self.new.failed ≡ self.old.failed }
     {
+        self.is_idle = false;
         if self.from == self.to {
             self.let_first_go();
             if buf.len() >= AHEAD_BYTES {
-                return self.wire.receive(buf, &mut self.failed);
+                return match self.wire.receive(buf) {
+                    Some(n) => Ok(n),
+                    None => Err(self.fail()),
+                };
             }
-            self.from = 0;
-            self.to = 0;
-            self.to = self
-                .wire
-                .receive(self.ahead.as_mut_slice(), &mut self.failed)?;
+            self.read_ahead()?;
         }
         Ok(self.give_ahead(buf))
     }
@@ -227,29 +341,77 @@ impl Sink for TcpLink {
         ensures cause { HasCause self.old.failed self.new.failed result }
         ensures steady { IsOk result → self.new.failed ≡ self.old.failed }
     {
+        self.is_idle = false;
         self.let_first_go();
         match self.wire.send(piece) {
             Some(n) => Ok(n),
-            None => {
-                self.failed = self.failed.saturating_add(1);
-                Err(IoError::Failed)
+            None => Err(self.fail()),
+        }
+    }
+
+    fn flush(&mut self) -> Result<(), IoError>
+        // What was read ahead stays.
+        ensures rest { (self.new.from ≡ self.old.from) × (self.new.to ≡ self.old.to) × (self.new.ahead ≡ self.old.ahead) }
+
+        // What each sink says.
+        ensures cause { HasCause self.old.failed self.new.failed result }
+        ensures steady { IsOk result → self.new.failed ≡ self.old.failed }
+    {
+        if self.wire.flush() {
+            return Ok(());
+        }
+        Err(self.fail())
+    }
+}
+
+impl Link for TcpLink {
+    fn waits(&mut self) -> bool
+        // Where bytes were read ahead it doesn't wait, and they stay.
+        ensures ahead { self.old.from ≢ self.old.to → (result ≡ false) × (self.new.ahead ≡ self.old.ahead)
+            × (self.new.from ≡ self.old.from) × (self.new.to ≡ self.old.to) }
+        ensures none { result ≡ true → self.new.from ≡ self.new.to }
+        ensures idle { result ≡ self.new.is_idle }
+
+        // What each link says.
+        ensures same { self.new.failed ≡ self.old.failed }
+    {
+        self.is_idle = false;
+        if self.from == self.to {
+            self.from = 0;
+            self.to = 0;
+            match self.wire.at_hand(self.ahead.as_mut_slice()) {
+                AtHand::Came(n) => self.to = n,
+                AtHand::Nothing => self.is_idle = true,
+                AtHand::Broken => {}
             }
         }
+        self.is_idle
     }
-}
 
-// One write to the stream, and how many bytes it took.
-fn send(stream: &mut TcpStream, piece: &[u8]) -> Option<usize>
-    ensures { IfSome result (λ n. (0 < n) × (n ≤ length piece.now)) }
-{
-    for _ in 0..u64::MAX {
-        match stream.write(piece) {
-            Ok(n) if n > 0 => return Some(n),
-            Err(error) if error.kind() == ErrorKind::Interrupted => {}
-            _ => break,
+    fn await_next(&mut self, what: Awaited)
+        // What was read ahead stays.
+        ensures rest { (self.new.from ≡ self.old.from) × (self.new.to ≡ self.old.to) × (self.new.ahead ≡ self.old.ahead) }
+
+        // What each link says.
+        ensures same { self.new.failed ≡ self.old.failed }
+    {
+        self.wire.await_next(what);
+    }
+
+    fn is_quiet(&mut self) -> bool
+        // A byte that was read ahead is one that is there.
+        ensures ahead { self.old.from ≢ self.old.to → result ≡ false }
+        ensures rest { (self.new.from ≡ self.old.from) × (self.new.to ≡ self.old.to) × (self.new.ahead ≡ self.old.ahead) }
+
+        // What each link says.
+        ensures same { self.new.failed ≡ self.old.failed }
+    {
+        if self.from != self.to {
+            return false;
+        }
+        match &self.wire {
+            Wire::End(end) => end.is_quiet(),
+            Wire::Outbox(_) => true,
         }
     }
-    None
 }
-
-impl Link for TcpLink {}

@@ -6,6 +6,8 @@ mod area;
 mod outboxes;
 mod pools;
 mod reading;
+mod rooms;
+mod silent;
 mod sockets;
 mod threads;
 

@@ -184,7 +184,7 @@ fn with_containers<R: Net<Listener = TcpListener, Stream = TcpStream> + Clock, D
             alloc,
             worker,
             other,
-            &mut TcpDoor::new(rt, members, Some(1)),
+            &mut TcpDoor::new(members, Some(1)),
             port,
         ),
         Err(_) => false,
@@ -203,7 +203,7 @@ fn other_dial<'r, R: Net<Stream = TcpStream>>(rt: &'r R, alloc: Global) -> Optio
 fn with_other<'r, R: Net<Listener = TcpListener, Stream = TcpStream> + Clock>(
     rt: &'r R,
     alloc: Global,
-    worker: &mut Worker<TcpDoor<'r, R>, TcpDial<'r, R>>,
+    worker: &mut Worker<TcpDoor, TcpDial<'r, R>>,
 ) -> bool {
     match other_dial(rt, alloc) {
         Some(other) => {
@@ -214,20 +214,16 @@ fn with_other<'r, R: Net<Listener = TcpListener, Stream = TcpStream> + Clock>(
     }
 }
 
-fn door_with<'r, R: Clock>(
-    rt: &'r R,
-    listener: TcpListener,
-    outbox: &Outbox,
-) -> Option<TcpDoor<'r, R>> {
-    Some(TcpDoor::with_outbox(rt, listener, Some(1), outbox.share().ok()?))
+fn door_with(listener: TcpListener, outbox: &Outbox) -> Option<TcpDoor> {
+    Some(TcpDoor::with_outbox(listener, Some(1), outbox.share().ok()?))
 }
 
 fn worker_with<'r, R: Net<Stream = TcpStream> + Clock>(
     rt: &'r R,
-    door: TcpDoor<'r, R>,
+    door: TcpDoor,
     port: u16,
     outbox: &Outbox,
-) -> Option<Worker<TcpDoor<'r, R>, TcpDial<'r, R>>> {
+) -> Option<Worker<TcpDoor, TcpDial<'r, R>>> {
     let dial = dial_on(rt, outbox)?;
     Some(Worker { door, port, dial })
 }
@@ -236,15 +232,15 @@ fn worker_with<'r, R: Net<Stream = TcpStream> + Clock>(
 fn worker_on<'r, R: Net<Listener = TcpListener, Stream = TcpStream> + Clock>(
     rt: &'r R,
     outbox: &Outbox,
-) -> Option<Worker<TcpDoor<'r, R>, TcpDial<'r, R>>> {
+) -> Option<Worker<TcpDoor, TcpDial<'r, R>>> {
     let (clients, port) = listener(rt).ok()?;
-    worker_with(rt, door_with(rt, clients, outbox)?, port, outbox)
+    worker_with(rt, door_with(clients, outbox)?, port, outbox)
 }
 
 fn new_worker<'r, R: Net<Listener = TcpListener, Stream = TcpStream> + Clock>(
     rt: &'r R,
     alloc: Global,
-) -> Option<Worker<TcpDoor<'r, R>, TcpDial<'r, R>>> {
+) -> Option<Worker<TcpDoor, TcpDial<'r, R>>> {
     worker_on(rt, &Outbox::new(alloc).ok()?)
 }
 

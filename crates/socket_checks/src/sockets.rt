@@ -87,7 +87,7 @@ pub fn answer<R: Net<Listener = TcpListener, Stream = TcpStream> + Clock>(
     match listener(rt) {
         Ok((listener, port)) => answers_a_dial(
             alloc,
-            &mut TcpDoor::new(rt, listener, Some(1)),
+            &mut TcpDoor::new(listener, Some(1)),
             &mut TcpDial::new(rt),
             port,
         ),
@@ -241,12 +241,7 @@ pub fn keep_a_link<R: Net<Listener = TcpListener, Stream = TcpStream> + Clock + 
     alloc: Global,
 ) -> bool {
     match listener(rt) {
-        Ok((listener, port)) => keeps_over(
-            rt,
-            alloc,
-            &mut TcpDoor::new(rt, listener, Some(1)),
-            port,
-        ),
+        Ok((listener, port)) => keeps_over(rt, alloc, &mut TcpDoor::new(listener, Some(1)), port),
         Err(_) => false,
     }
 }

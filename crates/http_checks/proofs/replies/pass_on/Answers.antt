@@ -10,8 +10,8 @@ use Rattle.http_checks.proofs.replies.pass_on.Goals as goal
 still-open : (w now : Writer) (chunk : List ℕ) (sent sent_now : Option (List ℕ)) (result : Result Unit OutError) → IsOpen w → IsChunkStep w chunk now sent sent_now result → IsOpen now
 still-open w now chunk sent sent_now (Ok u) is_open step = open-from_step w now chunk sent sent_now (Ok u) is_open step
 still-open w now chunk sent sent_now (Err Out.Disagree) is_open step = subst IsOpen (sym step.1) is_open
-still-open w now chunk sent sent_now (Err Out.Fault) is_open step = rw step.1.state (record { framing = spent (framing_now w) (length chunk); given = refl; goes_on = is_open.goes_on })
-still-open w now chunk sent sent_now (Err Out.NoMemory) is_open step = rw step.1.state (record { framing = spent (framing_now w) (length chunk); given = refl; goes_on = is_open.goes_on })
+still-open w now chunk sent sent_now (Err Out.Fault) is_open step = rw step.2.state (record { framing = spent (framing_now w) (length chunk); given = refl; goes_on = is_open.goes_on })
+still-open w now chunk sent sent_now (Err Out.NoMemory) is_open step = rw step.2.state (record { framing = spent (framing_now w) (length chunk); given = refl; goes_on = is_open.goes_on })
 still-open w now chunk sent sent_now (Err Out.BadReply) is_open step = absurd step
 
 pub returns : goal.returns

@@ -18,7 +18,7 @@ after_error (Ok a) P Q is kept = tt
 after_error (Err e) P Q is kept = (is, kept)
 
 pub accept-tells : goal.accept-tells
-accept-tells g x c = record {
+accept-tells x c = record {
   client = any_client c.result _ (λ _. refl);
   one_more = c.ensures.one_more;
   closed = any_end c.result _ (tt, refl);
@@ -30,7 +30,7 @@ accept-tells g x c = record {
 }
 
 pub leave-tells : goal.leave-tells
-leave-tells g x c = record {
+leave-tells x c = record {
   left = refl;
   one_less = c.ensures.one_less;
   same = (refl, c.ensures.same);

@@ -1,0 +1,28 @@
+//! Errors of the system that pass.
+
+use libc::net::poll;
+use std::io;
+use std::io::ErrorKind;
+
+/// The milliseconds between two tries.
+const TRY_AGAIN_MILLIS: i32 = 20;
+
+/// Too few descriptors, too many files or too little memory for a moment. The numbers are those of Linux for ENFILE, EMFILE
+/// and ENOBUFS.
+pub fn is_wanting(error: &io::Error) -> bool {
+    matches!(error.raw_os_error(), Some(23 | 24 | 105))
+}
+
+/// A client that went before it was accepted, or a signal; or what `is_wanting` says.
+pub fn is_passing(error: &io::Error) -> bool {
+    match error.kind() {
+        ErrorKind::ConnectionAborted | ErrorKind::ConnectionReset | ErrorKind::Interrupted => true,
+        ErrorKind::TimedOut | ErrorKind::OutOfMemory => true,
+        _ => is_wanting(error),
+    }
+}
+
+/// Waits for a moment.
+pub fn pause() {
+    poll(&mut [], TRY_AGAIN_MILLIS);
+}

@@ -1,0 +1,416 @@
+//! This side's end of a TCP stream, and how long it is waited for.
+ghost use Rattle.std.specs.Prelude.{◌≡◌, ◌<◌, ◌≤◌, IfOk, IfSome, IsOk, length};
+ghost use Rattle.jk_io.specs.Told.{HasCause, Rose};
+ghost use Rattle.real_io.specs.Waitless.{IfCame, IsWaitless};
+
+use crate::ending::Ending;
+use crate::moments::moment;
+use crate::pace::Pace;
+use jk_io::{Awaited, ClientLimits, IoError, Meanings, Sink};
+use libc::net as c;
+use std::io;
+use std::io::{ErrorKind, Read, Write};
+use std::net::{IpAddr, Shutdown, TcpStream};
+use std::os::fd::{AsRawFd, RawFd};
+use std::time::Duration;
+
+/// The milliseconds after which a call of the system comes back at the latest, where a limit is to be seen.
+pub(crate) const SLICE_MILLIS: u64 = 250;
+
+/// How long a read waits.
+#[derive(Clone, Copy)]
+enum Patience {
+    /// So many milliseconds at most; 0 is without limit.
+    Each(u64),
+    /// As long as bytes come at this pace.
+    Paced(Pace),
+    /// Until this moment.
+    Until(u64),
+}
+
+/// What a read that doesn't wait found.
+#[derive(Clone, Copy, Debug, PartialEq, Eq)]
+pub enum AtHand {
+    /// So many bytes; 0 is the end.
+    Came(usize),
+    /// None yet.
+    Nothing,
+    /// The stream is broken.
+    Broken,
+}
+
+/// This side's end of a TCP stream. It tells nothing of what is read and written.
+#[derive(Drop)]
+pub struct StreamEnd {
+    stream: TcpStream,
+    patience: Patience,
+    /// After how many milliseconds a call of the system comes back; 0: it may wait without limit.
+    slice: u64,
+    /// What a client may take, of a client's end.
+    limits: Option<ClientLimits>,
+    /// Who is at the other end, of a client's end.
+    peer: Option<IpAddr>,
+    /// How a client takes its reply, since it last took none.
+    taking: Option<Pace>,
+    /// When all ends at the latest, where that is told.
+    ending: Option<Ending>,
+    /// The other side's bytes ended.
+    has_ended: bool,
+    failed: u64,
+}
+
+impl StreamEnd {
+    /// An end that waits without limit, until it is told otherwise. Small writes are sent without delay.
+    pub fn new(stream: TcpStream) -> StreamEnd
+        ensures { result.failed ≡ 0 }
+    {
+        // A stream that refuses this is broken, and the next read or write of it fails.
+        let _ = stream.set_nodelay(true);
+        StreamEnd {
+            stream,
+            patience: Patience::Each(0),
+            slice: 0,
+            limits: None,
+            peer: None,
+            taking: None,
+            ending: None,
+            has_ended: false,
+            failed: 0,
+        }
+    }
+
+    /// An end of which each read and each write waits so many milliseconds at most.
+    pub fn patient(stream: TcpStream, millis: u64) -> StreamEnd
+        ensures { result.failed ≡ 0 }
+    {
+        let mut end = StreamEnd::new(stream);
+        end.come_back_after(millis);
+        end.patience = Patience::Each(millis);
+        end
+    }
+
+    /// A client's end, which keeps to these limits.
+    pub fn of_client(
+        stream: TcpStream,
+        peer: IpAddr,
+        limits: ClientLimits,
+        ending: Ending,
+    ) -> StreamEnd
+        ensures { (result.failed ≡ 0) × (result.peer ≡ Some peer) }
+    {
+        let mut end = StreamEnd::new(stream);
+        end.come_back_after(SLICE_MILLIS);
+        end.limits = Some(limits);
+        end.peer = Some(peer);
+        end.ending = Some(ending);
+        end
+    }
+
+    /// Who is at the other end, where it is a client.
+    pub fn peer(&self) -> Option<IpAddr>
+        ensures { result ≡ self.now.peer }
+    {
+        self.peer
+    }
+
+    /// A member's end, which fails once all ends.
+    pub fn of_member(stream: TcpStream, ending: Option<Ending>) -> StreamEnd
+        ensures { result.failed ≡ 0 }
+    {
+        let mut end = StreamEnd::new(stream);
+        if ending.is_some() {
+            end.come_back_after(SLICE_MILLIS);
+        }
+        end.ending = ending;
+        end
+    }
+
+    // Has a call of the system come back after so many milliseconds. A stream that refuses this is broken.
+    fn come_back_after(&mut self, millis: u64)
+        ensures { self.new.failed ≡ self.old.failed }
+    {
+        if self.slice != millis && millis != 0 {
+            let wait = Some(Duration::from_millis(millis));
+            let _ = self.stream.set_read_timeout(wait);
+            let _ = self.stream.set_write_timeout(wait);
+            self.slice = millis;
+        }
+    }
+
+    /// The system's number of the stream.
+    pub fn number(&self) -> RawFd {
+        self.stream.as_raw_fd()
+    }
+
+    /// Whether the other side's bytes ended, as far as a read saw it.
+    pub fn has_ended(&self) -> bool
+        ensures { result ≡ self.now.has_ended }
+    {
+        self.has_ended
+    }
+
+    /// Ends what this side sends.
+    pub fn shut(&self) {
+        let _ = self.stream.shutdown(Shutdown::Write);
+    }
+
+    /// Is told what is waited for next.
+    pub fn await_next(&mut self, what: Awaited)
+        ensures { self.new.failed ≡ self.old.failed }
+    {
+        match what {
+            Awaited::Pong { millis } | Awaited::Reply { millis } => self.wait_each(millis),
+            Awaited::Body => self.begin_body(moment()),
+            Awaited::Client => self.begin_head(moment()),
+            Awaited::Link { .. } => {}
+        }
+    }
+
+    // From now on each read and each write waits so many milliseconds at most.
+    fn wait_each(&mut self, millis: u64)
+        ensures { self.new.failed ≡ self.old.failed }
+    {
+        if millis != 0 && self.slice == 0 {
+            self.come_back_after(SLICE_MILLIS);
+        }
+        self.patience = Patience::Each(millis);
+    }
+
+    // A client's body is to come at its pace, from this moment on.
+    fn begin_body(&mut self, now: u64)
+        ensures { self.new.failed ≡ self.old.failed }
+    {
+        if let Some(limits) = self.limits {
+            self.patience = Patience::Paced(Pace::new(limits.rate, now));
+        }
+    }
+
+    // A client's whole head is to come in time.
+    fn begin_head(&mut self, now: u64)
+        ensures { self.new.failed ≡ self.old.failed }
+    {
+        match self.limits {
+            Some(limits) if limits.head != 0 => {
+                let millis = limits.head.saturating_mul(1_000);
+                self.patience = Patience::Until(now.saturating_add(millis));
+            }
+            Some(_) => self.patience = Patience::Each(0),
+            None => {}
+        }
+    }
+
+    // Whether a read that waited so many milliseconds waits no longer.
+    fn is_over(&self, waited: u64) -> bool {
+        let over = match self.patience {
+            Patience::Each(most) => most != 0 && waited >= most,
+            Patience::Paced(pace) => pace.is_lost(moment()),
+            Patience::Until(last) => moment() >= last,
+        };
+        over || self.is_all_over()
+    }
+
+    // Whether a write that waited so many milliseconds waits no longer.
+    fn is_stuck(&self, waited: u64) -> bool {
+        let stuck = match (self.taking, self.patience) {
+            (Some(pace), _) => pace.is_lost(moment()),
+            (None, Patience::Each(most)) => most != 0 && waited >= most,
+            (None, _) => false,
+        };
+        stuck || self.is_all_over()
+    }
+
+    fn is_all_over(&self) -> bool {
+        match &self.ending {
+            Some(ending) => ending.is_over(),
+            None => false,
+        }
+    }
+
+    fn fail(&mut self) -> IoError
+        ensures error { result ≡ IoError.Failed }
+        ensures rose { Rose self.old.failed self.new.failed × (self.old.failed ≤ self.new.failed) }
+    {
+        self.failed = self.failed.saturating_add(1);
+        IoError::Failed
+    }
+
+    /// Reads, and waits for bytes as long as it may.
+    pub fn receive(&mut self, buf: &mut [u8]) -> Result<usize, IoError>
+        ensures count { IfOk result (λ n. n ≤ length buf.new) }
+        ensures cause { HasCause self.old.failed self.new.failed result }
+        ensures steady { IsOk result → self.new.failed ≡ self.old.failed }
+    {
+        match self.next_bytes(buf) {
+            Some(n) => {
+                self.note_given(n);
+                Ok(n)
+            }
+            None => Err(self.fail()),
+        }
+    }
+
+    // Where bytes are to come at a pace or by a moment, those that are there are taken first.
+    fn next_bytes(&mut self, buf: &mut [u8]) -> Option<usize>
+        ensures count { IfSome result (λ n. n ≤ length buf.new) }
+        ensures same { self.new.failed ≡ self.old.failed }
+    {
+        if !matches!(self.patience, Patience::Each(_)) {
+            match self.at_hand(buf) {
+                AtHand::Came(n) => return Some(n),
+                AtHand::Nothing => {}
+                AtHand::Broken => return None,
+            }
+        }
+        self.wait_for_bytes(buf)
+    }
+
+    fn wait_for_bytes(&mut self, buf: &mut [u8]) -> Option<usize>
+        ensures count { IfSome result (λ n. n ≤ length buf.new) }
+        ensures same { self.new.failed ≡ self.old.failed }
+    {
+        let mut waited = 0;
+        for _ in 0..u64::MAX {
+            if self.is_over(waited) {
+                return None;
+            }
+            match self.stream.read(buf) {
+                Ok(n) => return Some(n),
+                Err(error) => waited = self.waited(&error, waited)?,
+            }
+        }
+        None
+    }
+
+    // How long a call has waited after this error of the system; none: it is broken.
+    fn waited(&self, error: &io::Error, waited: u64) -> Option<u64> {
+        match error.kind() {
+            ErrorKind::Interrupted => Some(waited),
+            ErrorKind::WouldBlock | ErrorKind::TimedOut => Some(waited.saturating_add(self.slice)),
+            _ => None,
+        }
+    }
+
+    fn note_given(&mut self, count: usize)
+        ensures { self.new.failed ≡ self.old.failed }
+    {
+        self.has_ended = count == 0;
+        if let Patience::Paced(pace) = self.patience {
+            self.patience = Patience::Paced(pace.after(count as u64, moment()));
+        }
+    }
+
+    /// Reads what is there, without waiting.
+    pub fn at_hand(&mut self, buf: &mut [u8]) -> AtHand
+        ensures count { IfCame result (λ n. n ≤ length buf.new) }
+        ensures same { self.new.failed ≡ self.old.failed }
+    {
+        let came = receive_now(self.number(), buf, c::MSG_DONTWAIT);
+        if came == AtHand::Came(0) {
+            self.has_ended = true;
+        }
+        came
+    }
+
+    /// Whether no byte is there and the other side didn't close, as far as can be seen now.
+    pub fn is_quiet(&self) -> bool {
+        peek(self.number()) == AtHand::Nothing
+    }
+
+    // One write, and how many bytes it took.
+    fn send(&mut self, piece: &[u8]) -> Option<usize>
+        requires { 0 < length piece.now }
+        ensures count { IfSome result (λ n. (0 < n) × (n ≤ length piece.now)) }
+        ensures same { self.new.failed ≡ self.old.failed }
+    {
+        let mut waited = 0;
+        for _ in 0..u64::MAX {
+            if self.is_stuck(waited) {
+                return None;
+            }
+            match self.stream.write(piece) {
+                Ok(0) => return None,
+                Ok(n) => {
+                    self.note_taken(n, n == piece.len());
+                    return Some(n);
+                }
+                Err(error) => {
+                    waited = self.waited(&error, waited)?;
+                    self.note_stuck();
+                }
+            }
+        }
+        None
+    }
+
+    // A client that takes a piece whole isn't slow. Else its pace is looked at, from now on if it wasn't yet.
+    fn note_taken(&mut self, count: usize, is_whole: bool)
+        ensures { self.new.failed ≡ self.old.failed }
+    {
+        if is_whole {
+            self.taking = None;
+            return;
+        }
+        match self.taking {
+            Some(pace) => self.taking = Some(pace.after(count as u64, moment())),
+            None => self.note_stuck(),
+        }
+    }
+
+    // A client took none, or not all.
+    fn note_stuck(&mut self)
+        ensures { self.new.failed ≡ self.old.failed }
+    {
+        if let (Some(limits), None) = (self.limits, self.taking) {
+            self.taking = Some(Pace::new(limits.rate, moment()));
+        }
+    }
+}
+
+// One read that doesn't wait; a signal in its midst is no failure.
+fn receive_now(number: RawFd, buf: &mut [u8], flags: i32) -> AtHand
+    requires { IsWaitless flags }
+    ensures { IfCame result (λ n. n ≤ length buf.new) }
+{
+    for _ in 0..u64::MAX {
+        let came = unsafe { c::recv(number, buf, flags) };
+        if came >= 0 {
+            return AtHand::Came(came as usize);
+        }
+        match os::errno() {
+            libc::EINTR => {}
+            libc::EAGAIN => return AtHand::Nothing,
+            _ => return AtHand::Broken,
+        }
+    }
+    AtHand::Broken
+}
+
+// Looks at the next byte, and leaves it.
+fn peek(number: RawFd) -> AtHand {
+    receive_now(number, &mut [0u8; 1], c::MSG_DONTWAIT | c::MSG_PEEK)
+}
+
+impl Meanings for StreamEnd {
+    ghost use Rattle.std.specs.Prelude.{None};
+
+    type Beside = ();
+
+    ghost incoming = { λ _. None };
+
+    ghost received = { λ _. None };
+
+    ghost sent = { λ _. None };
+
+    ghost beside = { λ _. tt };
+
+    ghost faults = { λ e. e.failed };
+}
+
+impl Sink for StreamEnd {
+    fn write(&mut self, piece: &[u8]) -> Result<usize, IoError> {
+        match self.send(piece) {
+            Some(n) => Ok(n),
+            None => Err(self.fail()),
+        }
+    }
+}

@@ -1,0 +1,269 @@
+//! A worker's door into the room.
+ghost use Rattle.std.specs.Prelude.{◌≡◌, ◌+◌, ◌<◌, ◌≤◌, IfOk, IfNone, IfSome, IsOk, OnErr, length};
+ghost use Rattle.jk_io.specs.Told.{HasCause, Rose};
+
+use crate::client::Client;
+use crate::heads::{MAX_HEAD_BYTES, has_head};
+use crate::room::Room;
+use crate::stay::{Phase, Stay};
+use jk_io::{Bytes, Door, IoError, NoMemory, Peer};
+use real_io::{AtHand, LinkParts, Outbox, StreamEnd, TcpLink, moment, room_ahead};
+use std::alloc::Global;
+use std::sync::{Arc, Wait};
+
+/// The most bytes that the text of an address has.
+const MAX_ADDRESS_BYTES: usize = 45;
+
+/// A worker's door into the room.
+#[derive(Drop)]
+pub struct RoomDoor<'r, R: Wait + Eprint> {
+    rt: &'r R,
+    room: Arc<Room>,
+    outbox: Outbox,
+    /// How many clients came to the room with this door; none: without end.
+    clients: Option<u64>,
+    /// The buffer of the worker's client, while it has none.
+    buffer: Option<Vec<u8>>,
+    /// How many links are out and may be left.
+    out: u64,
+    failed: u64,
+}
+
+impl<'r, R: Wait + Eprint> RoomDoor<'r, R> {
+    /// A door by which so many clients more come to the room; none: without end. What is written to its clients is held back
+    /// in this outbox. No link is out, and no call failed yet.
+    pub fn new(rt: &'r R, room: Arc<Room>, outbox: Outbox, clients: Option<u64>) -> RoomDoor<'r, R>
+        ensures { (result.clients ≡ clients) × (result.out ≡ 0) × (result.failed ≡ 0) }
+    {
+        room.admit(rt, clients);
+        RoomDoor {
+            rt,
+            room,
+            outbox,
+            clients,
+            buffer: None,
+            out: 0,
+            failed: 0,
+        }
+    }
+
+    fn fail(&mut self) -> IoError
+        ensures error { result ≡ IoError.Failed }
+        ensures rose { Rose self.old.failed self.new.failed × (self.old.failed ≤ self.new.failed) }
+        ensures same { self.new.out ≡ self.old.out }
+    {
+        self.failed = self.failed.saturating_add(1);
+        IoError::Failed
+    }
+
+    // The memory of one client, which is taken before a client is.
+    fn seat(&mut self, alloc: Global) -> Result<Seat, NoMemory>
+        ensures { (self.new.out ≡ self.old.out) × (self.new.failed ≡ self.old.failed) }
+    {
+        let outbox = self.outbox.share()?;
+        let address = String::with_capacity(alloc, MAX_ADDRESS_BYTES)?;
+        let buffer = match self.buffer.take() {
+            Some(buffer) => buffer,
+            None => room_ahead(alloc)?,
+        };
+        Ok(Seat {
+            outbox,
+            buffer,
+            address,
+        })
+    }
+
+    // A client who was served: its link waits for more, or it goes.
+    fn put_back(&self, at: usize, end: StreamEnd, is_idle: bool) {
+        let client = Client {
+            end,
+            ahead: Vec::new(self.room.alloc),
+        };
+        if is_idle {
+            let stay = Stay::new(Phase::Between, moment());
+            self.room.give_back(self.rt, at, stay, client);
+        } else if client.end.has_ended() {
+            self.room.free(self.rt, at);
+        } else {
+            self.room.linger(self.rt, at, client);
+        }
+    }
+}
+
+// The memory of one client: its outbox, the buffer of its link, and the text of its address.
+#[derive(Drop)]
+struct Seat {
+    outbox: Outbox,
+    buffer: Vec<u8>,
+    address: String,
+}
+
+// A client whom a worker can serve: the first `count` bytes of the buffer came of it.
+#[derive(Drop)]
+struct Ready {
+    at: usize,
+    end: StreamEnd,
+    count: usize,
+}
+
+impl Seat {
+    // The text has room for any address, so this one is written whole.
+    fn client(self, ready: Ready) -> (TcpLink, Peer) {
+        let Seat {
+            outbox,
+            buffer,
+            mut address,
+        } = self;
+        let Ready { at, end, count } = ready;
+        if let Some(ip) = end.peer() {
+            let _ = write!(address, "{ip}");
+        }
+        let addr = Bytes::from_vec(address.into_bytes());
+        let count = count.min(buffer.len());
+        let link = TcpLink::of_client(outbox, end, buffer, count, at as u64);
+        (link, Peer { addr })
+    }
+}
+
+impl<'r, R: Wait + Eprint> Door for RoomDoor<'r, R> {
+    ghost use Rattle.std.specs.Prelude.{None};
+
+    type L = TcpLink;
+
+    ghost coming = { λ _. None };
+
+    ghost left = { λ _. None };
+
+    ghost room = { λ d. d.out };
+
+    ghost faults = { λ d. d.failed };
+
+    fn accept(&mut self, alloc: Global) -> Result<Option<(TcpLink, Peer)>, IoError>
+        // What each door says.
+        ensures one_more { IfOk result (λ answer. IfSome answer (λ _. self.new.out ≡ self.old.out + 1)) }
+        ensures no_more { IfOk result (λ answer. IfNone answer (self.new.out ≡ self.old.out)) }
+        ensures kept_on_error { OnErr result (self.new.out ≡ self.old.out) }
+        ensures cause { HasCause self.old.failed self.new.failed result }
+        ensures steady { IsOk result → self.new.failed ≡ self.old.failed }
+    {
+        let Some(out) = self.out.checked_add(1) else {
+            return Err(self.fail());
+        };
+        let mut seat = self.seat(alloc)?;
+        match next_ready(self.rt, &self.room, &mut seat.buffer) {
+            Some(ready) => {
+                self.out = out;
+                Ok(Some(seat.client(ready)))
+            }
+            None => Ok(None),
+        }
+    }
+
+    fn leave(&mut self, link: TcpLink)
+        requires { 0 < self.old.out }
+
+        // What each door says.
+        ensures one_less { self.new.out + 1 ≡ self.old.out }
+        ensures same { self.new.failed ≡ self.old.failed }
+    {
+        self.out -= 1;
+        let LinkParts {
+            end,
+            ahead,
+            from,
+            to,
+            is_idle,
+            seat,
+        } = link.into_parts();
+        self.buffer = Some(ahead);
+        match end {
+            None => self.room.free(self.rt, seat as usize),
+            Some(end) => self.put_back(seat as usize, end, is_idle && from == to),
+        }
+    }
+}
+
+// The next client whom a worker can serve; none once the room is closed.
+fn next_ready<R: Wait + Eprint>(rt: &R, room: &Room, buffer: &mut Vec<u8>) -> Option<Ready> {
+    for _ in rt.forever() {
+        let (at, stay, client) = room.next(rt)?;
+        if let Some(ready) = next_look(rt, room, buffer.as_mut_slice(), at, stay, client) {
+            return Some(ready);
+        }
+    }
+    unreachable!()
+}
+
+// Reads what came of a client. One of whose head not all came waits again.
+fn next_look<R: Wait + Eprint>(
+    rt: &R,
+    room: &Room,
+    buffer: &mut [u8],
+    at: usize,
+    stay: Stay,
+    client: Client,
+) -> Option<Ready> {
+    let Client { end, ahead } = client;
+    let mut end = end;
+    let mut ahead = ahead;
+    let have = put_ahead(buffer, ahead.as_slice());
+    match look_at(&mut end, buffer, have) {
+        Look::Ready(count) => return Some(Ready { at, end, count }),
+        Look::Part(count) => {
+            if keep(&mut ahead, buffer, have, count).is_err() {
+                return Some(Ready { at, end, count });
+            }
+            let stay = stay.after(count as u64, moment());
+            room.give_back(rt, at, stay, Client { end, ahead });
+        }
+        Look::Gone => room.free(rt, at),
+    }
+    None
+}
+
+// Puts what came before at the buffer's front, and answers how many bytes.
+fn put_ahead(buffer: &mut [u8], ahead: &[u8]) -> usize
+    ensures { result ≤ length buffer.new }
+{
+    let count = ahead.len().min(buffer.len());
+    buffer[..count].copy_from_slice(&ahead[..count]);
+    count
+}
+
+// Keeps what came now, behind what came before.
+fn keep(ahead: &mut Vec<u8>, buffer: &[u8], have: usize, count: usize) -> Result<(), NoMemory> {
+    match buffer.get(have..count) {
+        Some(more) => Ok(ahead.extend_from_slice(more)?),
+        None => Ok(()),
+    }
+}
+
+/// What a look at a client's bytes says, with how many there are.
+#[derive(Clone, Copy)]
+enum Look {
+    /// A worker can serve it.
+    Ready(usize),
+    /// Not all of a head came.
+    Part(usize),
+    /// It is gone, and asked for nothing.
+    Gone,
+}
+
+// Reads what came, until a head is whole, the bytes end, they can't be a head any more, or nothing more is there.
+fn look_at(end: &mut StreamEnd, buffer: &mut [u8], have: usize) -> Look {
+    let most = buffer.len().min(MAX_HEAD_BYTES);
+    let mut have = have;
+    for _ in 0..u64::MAX {
+        if have >= most || has_head(&buffer[..have]) {
+            return Look::Ready(have);
+        }
+        match end.at_hand(&mut buffer[have..most]) {
+            AtHand::Came(0) if have == 0 => return Look::Gone,
+            AtHand::Came(0) => return Look::Ready(have),
+            AtHand::Came(n) => have += n,
+            AtHand::Nothing => return Look::Part(have),
+            AtHand::Broken => return Look::Gone,
+        }
+    }
+    Look::Ready(have)
+}

@@ -1,0 +1,469 @@
+//! The room: what all doors share.
+
+use crate::client::Client;
+use crate::control::{Askers, Control};
+use crate::stay::{Limits, Phase, Stay};
+use crate::table::Table;
+use jk_io::ClientLimits;
+use mio::event::Event;
+use mio::unix::SourceFd;
+use mio::{Events, Interest, Poll, Registry, Token};
+use real_io::{AtHand, Ending, StreamEnd, is_wanting, moment};
+use std::alloc::Global;
+use std::io::ErrorKind;
+use std::net::{SocketAddr, TcpListener, TcpStream};
+use std::os::fd::AsRawFd;
+use std::sync::{Mutex, Wait};
+use std::time::Duration;
+
+/// The token of the listener; the others are places, or below.
+pub(crate) const LISTENER: usize = usize::MAX;
+
+/// The token of the control socket.
+pub(crate) const CONTROL: usize = usize::MAX - 1;
+
+/// The longest wait of the leader, and the time between two looks at who has waited too long.
+const LEAD_MILLIS: u64 = 500;
+
+/// How many clients are accepted at once.
+const MOST_ACCEPTS: u32 = 256;
+
+/// After how many milliseconds it is tried again to accept, where descriptors were wanted.
+const WANT_MILLIS: u64 = 100;
+
+/// The milliseconds between two such lines on standard error.
+const WANT_TOLD_MILLIS: u64 = 60_000;
+
+/// The most bytes that are dropped of a lingering link at once.
+const DROPPED_BYTES: usize = 16_384;
+
+/// How often a lingering link is read at once.
+const DROP_ROUNDS: u32 = 64;
+
+/// What the leader has.
+#[derive(Drop)]
+pub(crate) struct Lead {
+    pub poll: Poll,
+    pub events: Events<Global>,
+    /// When it was last looked who has waited too long.
+    pub swept: u64,
+    /// Until when no client is accepted, for want of descriptors.
+    pub paused: u64,
+    /// Clients may wait to be accepted.
+    pub is_owed: bool,
+    /// When it was said last that descriptors are wanted.
+    pub told: Option<u64>,
+}
+
+/// What all doors of a server share.
+#[derive(Drop)]
+pub struct Room {
+    pub(crate) alloc: Global,
+    pub(crate) registry: Registry,
+    pub(crate) listener: TcpListener,
+    pub(crate) control: Option<Control>,
+    pub(crate) limits: ClientLimits,
+    pub(crate) ending: Ending,
+    pub(crate) lead: Mutex<Lead>,
+    pub(crate) table: Mutex<Table>,
+    pub(crate) askers: Mutex<Askers>,
+}
+
+/// What a worker gets of a room.
+#[derive(Drop)]
+pub(crate) enum Turn {
+    /// The client of this place.
+    Client(usize, Stay, Client),
+    /// The room is closed.
+    Closed,
+    /// Nobody is ready.
+    Nobody,
+}
+
+impl Room {
+    /// So many clients more may come; none: without end.
+    pub fn admit<R: Wait + Eprint>(&self, rt: &R, clients: Option<u64>) {
+        self.table.lock(rt).admit(clients);
+    }
+
+    /// The port at which clients are accepted.
+    pub fn port(&self) -> Option<u16> {
+        Some(self.listener.local_addr().ok()?.port())
+    }
+
+    /// Where clients are accepted.
+    pub fn address(&self) -> Option<SocketAddr> {
+        self.listener.local_addr().ok()
+    }
+
+    /// When all ends, once a stop was asked for.
+    pub fn ending(&self) -> &Ending {
+        &self.ending
+    }
+
+    /// The next client, with the number of its place; none once the room is closed.
+    pub(crate) fn next<R: Wait + Eprint>(&self, rt: &R) -> Option<(usize, Stay, Client)> {
+        for _ in rt.forever() {
+            match self.lead_or_take(rt) {
+                Turn::Client(at, stay, client) => return Some((at, stay, client)),
+                Turn::Closed => return None,
+                Turn::Nobody => {}
+            }
+        }
+        unreachable!()
+    }
+
+    // Takes a client who is ready, or waits for the lead and then, unless one is ready by now, for the system's word.
+    fn lead_or_take<R: Wait + Eprint>(&self, rt: &R) -> Turn {
+        match self.turn(rt) {
+            Turn::Nobody => {}
+            turn => return turn,
+        }
+        let mut lead = self.lead.lock(rt);
+        match self.turn(rt) {
+            Turn::Nobody => {}
+            turn => return turn,
+        }
+        self.lead_once(rt, &mut lead);
+        self.turn(rt)
+    }
+
+    fn turn<R: Wait + Eprint>(&self, rt: &R) -> Turn {
+        turn_of(&mut self.table.lock(rt))
+    }
+
+    // Waits for the system's word, and does what it says.
+    fn lead_once<R: Wait + Eprint>(&self, rt: &R, lead: &mut Lead) {
+        let wait = if lead.is_owed {
+            WANT_MILLIS
+        } else {
+            LEAD_MILLIS
+        };
+        let _ = lead
+            .poll
+            .poll(&mut lead.events, Some(Duration::from_millis(wait)));
+        let now = moment();
+        self.heed(rt, &mut lead.events, &mut lead.is_owed, now);
+        if lead.is_owed && now >= lead.paused {
+            self.accept_clients(rt, lead, now);
+        }
+        if now.saturating_sub(lead.swept) >= LEAD_MILLIS {
+            lead.swept = now;
+            self.sweep(rt, now);
+        }
+    }
+
+    // Does what the events say.
+    fn heed<R: Wait + Eprint>(
+        &self,
+        rt: &R,
+        events: &mut Events<Global>,
+        is_owed: &mut bool,
+        now: u64,
+    ) {
+        if self.stir_all(rt, events, is_owed, now) {
+            self.heed_control(rt, now);
+        }
+    }
+
+    // Stirs the places of the events, and tells whether somebody came to the control socket.
+    fn stir_all<R: Wait + Eprint>(
+        &self,
+        rt: &R,
+        events: &mut Events<Global>,
+        is_owed: &mut bool,
+        now: u64,
+    ) -> bool {
+        let mut table = self.table.lock(rt);
+        let mut is_asked = false;
+        for event in events.iter() {
+            match token_of(event) {
+                LISTENER => *is_owed = true,
+                CONTROL => is_asked = true,
+                place => stir(&mut table, place, now),
+            }
+        }
+        is_asked
+    }
+
+    // Hears who asks for a stop. No client waits meanwhile for the table.
+    fn heed_control<R: Wait + Eprint>(&self, rt: &R, now: u64) {
+        let Some(control) = &self.control else {
+            return;
+        };
+        let is_asked = self.askers.lock(rt).hear(control);
+        if is_asked {
+            self.stop(rt, now, control.grace);
+        }
+    }
+
+    // Closes the door: requests under way may go on for so many seconds.
+    fn stop<R: Wait + Eprint>(&self, rt: &R, now: u64, grace: u64) {
+        let mut table = self.table.lock(rt);
+        if !table.is_stopped {
+            table.is_stopped = true;
+            self.ending
+                .set(now.saturating_add(grace.saturating_mul(1_000)));
+            close_waiting(&mut table);
+        }
+    }
+
+    // Accepts those who wait for it, unless no client may come any more.
+    fn accept_clients<R: Wait + Eprint>(&self, rt: &R, lead: &mut Lead, now: u64) {
+        for _ in 0..MOST_ACCEPTS {
+            if !self.table.lock(rt).is_open() {
+                lead.is_owed = false;
+                return;
+            }
+            match self.listener.accept() {
+                Ok((stream, address)) => self.let_in(rt, stream, address, now),
+                Err(error) if error.kind() == ErrorKind::WouldBlock => {
+                    lead.is_owed = false;
+                    return;
+                }
+                Err(error) if is_wanting(&error) => {
+                    lead.paused = now.saturating_add(WANT_MILLIS);
+                    tell_want(rt, &mut lead.told, now);
+                    return;
+                }
+                Err(_) => {}
+            }
+        }
+    }
+
+    // A client comes in. For want of memory it is closed.
+    fn let_in<R: Wait + Eprint>(&self, rt: &R, stream: TcpStream, address: SocketAddr, now: u64) {
+        let Ok(ending) = self.ending.share() else {
+            return;
+        };
+        let end = StreamEnd::of_client(stream, address.ip(), self.limits, ending);
+        let number = end.number();
+        let client = Client {
+            end,
+            ahead: Vec::new(self.alloc),
+        };
+        let mut table = self.table.lock(rt);
+        make_way(&mut table, self.limits.waiting);
+        table.note_come();
+        match table.places.put(Stay::new(Phase::Head, now), client) {
+            Ok(at) => {
+                let _ = self
+                    .registry
+                    .register(&mut SourceFd(&number), Token(at), Interest::READABLE);
+            }
+            Err(client) => {
+                table.note_gone();
+                drop(client);
+            }
+        }
+    }
+
+    // Closes the links of those who have waited too long.
+    fn sweep<R: Wait + Eprint>(&self, rt: &R, now: u64) {
+        let mut table = self.table.lock(rt);
+        let limits = Limits::of(&self.limits);
+        for at in 0..table.places.len() {
+            if let Some((stay, client)) = table.places.remove_over(at, limits, now) {
+                count_out(&mut table, stay);
+                drop(client);
+            }
+        }
+    }
+
+    /// A worker gives its client back, who waits for a head, of which some bytes may have come.
+    pub(crate) fn give_back<R: Wait + Eprint>(
+        &self,
+        rt: &R,
+        at: usize,
+        stay: Stay,
+        client: Client,
+    ) {
+        let mut table = self.table.lock(rt);
+        table.note_back();
+        if table.is_stopped {
+            drop(table);
+            return self.linger_now(rt, at, client);
+        }
+        if let Err(client) = table.places.give_back(at, stay, client) {
+            table.note_gone();
+            drop(client);
+        }
+    }
+
+    /// A worker's client goes.
+    pub(crate) fn free<R: Wait + Eprint>(&self, rt: &R, at: usize) {
+        let mut table = self.table.lock(rt);
+        table.note_back();
+        table.note_gone();
+        table.places.free(at);
+    }
+
+    /// A worker leaves its client, whose link lingers.
+    pub(crate) fn linger<R: Wait + Eprint>(&self, rt: &R, at: usize, client: Client) {
+        self.table.lock(rt).note_back();
+        self.linger_now(rt, at, client);
+    }
+
+    // The link of a client who is away lingers: this side sends no more.
+    fn linger_now<R: Wait + Eprint>(&self, rt: &R, at: usize, client: Client) {
+        client.end.shut();
+        let now = moment();
+        let mut table = self.table.lock(rt);
+        table.note_gone();
+        table.places.see(at);
+        match table
+            .places
+            .give_back(at, Stay::new(Phase::Lingers, now), client)
+        {
+            Ok(()) => {
+                table.lingering = table.lingering.saturating_add(1);
+                look_at_lingering(&mut table, at, now);
+            }
+            Err(client) => drop(client),
+        }
+    }
+
+    /// The run ended: who asked for a stop is told so, once no link lingers any more.
+    pub fn say_ended<R: Wait + Eprint>(&self, rt: &R) {
+        self.wait_for_lingering(rt);
+        self.askers.lock(rt).answer();
+    }
+
+    /// Waits until no link lingers any more.
+    pub fn wait_for_lingering<R: Wait + Eprint>(&self, rt: &R) {
+        let mut lead = self.lead.lock(rt);
+        for _ in rt.forever() {
+            if self.table.lock(rt).lingering == 0 {
+                return;
+            }
+            self.lead_once(rt, &mut lead);
+        }
+        unreachable!()
+    }
+}
+
+// Says that descriptors are wanted, at most once a minute. Standard error that can't be written is no fault.
+fn tell_want<R: Eprint>(rt: &R, told: &mut Option<u64>, now: u64) {
+    if let Some(last) = *told
+        && now.saturating_sub(last) < WANT_TOLD_MILLIS
+    {
+        return;
+    }
+    *told = Some(now);
+    let _ = eprintln!(rt; "jkd: no client is accepted until one goes: no descriptor is left");
+}
+
+fn token_of(event: &Event) -> usize {
+    event.token().0
+}
+
+// What a worker gets.
+fn turn_of(table: &mut Table) -> Turn {
+    match table.places.take() {
+        Some((at, stay, client)) => {
+            table.note_away();
+            Turn::Client(at, stay, client)
+        }
+        None if table.is_over() || table.is_stopped => Turn::Closed,
+        None => Turn::Nobody,
+    }
+}
+
+// Something came for a place: who waits there is ready, and what came of a link that lingers is dropped.
+fn stir(table: &mut Table, at: usize, now: u64) {
+    match table.places.stay_at(at) {
+        Some(stay) if stay.phase == Phase::Lingers => look_at_lingering(table, at, now),
+        _ => {
+            let _ = table.places.stir(at);
+        }
+    }
+}
+
+// Drops what came of a link that lingers, and closes it where nothing comes any more.
+fn look_at_lingering(table: &mut Table, at: usize, now: u64) {
+    let Some((stay, client)) = table.places.lift(at) else {
+        return;
+    };
+    let mut client = client;
+    match drop_bytes(&mut client.end) {
+        Dropped::Nothing => lay(table, at, stay, client),
+        Dropped::Some => lay(table, at, Stay { last: now, ..stay }, client),
+        Dropped::All => {
+            table.places.free(at);
+            count_out(table, stay);
+        }
+    }
+}
+
+// A link goes on lingering.
+fn lay(table: &mut Table, at: usize, stay: Stay, client: Client) {
+    if let Err(client) = table.places.give_back(at, stay, client) {
+        table.places.free(at);
+        count_out(table, stay);
+        drop(client);
+    }
+}
+
+// A client who waited went.
+fn count_out(table: &mut Table, stay: Stay) {
+    if stay.phase == Phase::Lingers {
+        table.lingering = table.lingering.saturating_sub(1);
+    } else {
+        table.note_gone();
+    }
+}
+
+// Where as many wait as may, the one goes who waited longest.
+fn make_way(table: &mut Table, waiting: u64) {
+    if waiting == 0 || table.waiting() < waiting {
+        return;
+    }
+    if let Some(at) = table.places.longest()
+        && let Some((stay, client)) = table.places.remove(at)
+    {
+        count_out(table, stay);
+        drop(client);
+    }
+}
+
+// Closes the links of all who wait, but for those that linger.
+fn close_waiting(table: &mut Table) {
+    for at in 0..table.places.len() {
+        match table.places.stay_at(at) {
+            Some(stay) if stay.phase != Phase::Lingers => close(table, at),
+            _ => {}
+        }
+    }
+}
+
+fn close(table: &mut Table, at: usize) {
+    if let Some((stay, client)) = table.places.remove(at) {
+        count_out(table, stay);
+        drop(client);
+    }
+}
+
+/// What was dropped of a link that lingers.
+#[derive(Clone, Copy)]
+enum Dropped {
+    /// Nothing came.
+    Nothing,
+    /// Some bytes, and more may come.
+    Some,
+    /// All: its other end closed, or it is broken.
+    All,
+}
+
+// Reads and drops what is there.
+fn drop_bytes(end: &mut StreamEnd) -> Dropped {
+    let mut buf = [0u8; DROPPED_BYTES];
+    let mut dropped = Dropped::Nothing;
+    for _ in 0..DROP_ROUNDS {
+        match end.at_hand(&mut buf) {
+            AtHand::Came(0) | AtHand::Broken => return Dropped::All,
+            AtHand::Came(_) => dropped = Dropped::Some,
+            AtHand::Nothing => return dropped,
+        }
+    }
+    dropped
+}
