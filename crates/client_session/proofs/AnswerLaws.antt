@@ -16,7 +16,7 @@ use Rattle.status_worker.proofs.DeskLaws.{none_met}
 use Rattle.exchange.specs.Requests.{is_head}
 use Rattle.client_session.specs.Answers.{IsAnswer, IsAnswerAt, IsAtStatus, IsStatusAnswer, StopsEarly, own_for}
 use Rattle.client_session.specs.Concluding.{IsKnownStop, IsNotFound, rows_of, settled_by, stopped_by}
-use Rattle.client_session.specs.Ends.{MeetsBy, RisesBy, end_of}
+use Rattle.client_session.specs.Ends.{MeetsBy, RisesBy}
 use Rattle.client_session.specs.Requests.{IsNewBody, Visit, continue_for, mounted_at}
 use Rattle.client_session.specs.Rows.{worker_row}
 use Rattle.client_session.specs.Standings.{Puts, ClientStanding}
@@ -66,6 +66,7 @@ shown_stop v head last s n body status stop' asked' settled at answer line is =
     by_stop : (x : SessionStop) → IsStatusAnswer v status head last s n (Err x)
         → IsAnswerAt v head last s n body body (settled_by x (line_of head) (is_head head)).answered (rows_of (settled_by x (line_of head) (is_head head)).row)
     by_stop (stop.Closed why.ByClient) a = absurd a
+    by_stop (stop.Closed why.Idle) a = absurd a
     by_stop (stop.Closed why.Last) a = absurd a
     by_stop (stop.Closed (why.Own code)) a = (refl, inr (status, at, a))
     by_stop (stop.Closed why.Cut) a = absurd a
@@ -78,6 +79,7 @@ shown_stop v head last s n body status stop' asked' settled at answer line is =
 pub stop_known : (v : Visit) (head : Head) (last : Bool) (s n : ClientStanding) (status : Status) (stop' : SessionStop) → IsStatusAnswer v status head last s n (Err stop')
     → IsKnownStop stop'
 stop_known v head last s n status (stop.Closed why.ByClient) answer = absurd answer
+stop_known v head last s n status (stop.Closed why.Idle) answer = absurd answer
 stop_known v head last s n status (stop.Closed why.Last) answer = absurd answer
 stop_known v head last s n status (stop.Closed (why.Own code)) answer = answer.3
 stop_known v head last s n status (stop.Closed why.Cut) answer = absurd answer
@@ -96,6 +98,7 @@ stop_rises v head last s n status stop' asked' settled answer is =
     by_stop : (x : SessionStop) → IsStatusAnswer v status head last s n (Err x)
         → RisesInAnswer (settled_by x asked' (is_head head)).answered s.client.faults n.client.faults
     by_stop (stop.Closed why.ByClient) a = absurd a
+    by_stop (stop.Closed why.Idle) a = absurd a
     by_stop (stop.Closed why.Last) a = absurd a
     by_stop (stop.Closed (why.Own code)) a = a.2.puts.steady ∙ ap (λ (x : ClientStanding). x.client.faults) a.1.alone
     by_stop (stop.Closed why.Cut) a = absurd a
@@ -103,7 +106,9 @@ stop_rises v head last s n status stop' asked' settled answer is =
     by_stop stop.ClientFault a = a.0
     by_stop stop.Truncated a = absurd a
     by_stop (stop.Stray ticket returned_at) a = tt
-    by_stop stop.NoMemory a = tt
+    by_stop stop.NoMemory (inl (inl (m, page, has, less))) = less.puts.steady ∙ ap (λ (x : ClientStanding). x.client.faults) has.alone
+    by_stop stop.NoMemory (inl (inr (m, code, turned, less))) = less.puts.steady ∙ ap (λ (x : ClientStanding). x.client.faults) turned.alone
+    by_stop stop.NoMemory (inr unwritten) = ap (λ (x : ClientStanding). x.client.faults) unwritten.alone
 
 pub stop_meets : (v : Visit) (head : Head) (last : Bool) (s n : ClientStanding) (status : Status) (stop' : SessionStop) (asked' : Asked) (settled : Settled) (old new : DeskState)
     → IsStatusAnswer v status head last s n (Err stop') → settled ≡ settled_by stop' asked' (is_head head) → MeetsNone old new
@@ -113,6 +118,7 @@ stop_meets v head last s n status stop' asked' settled old new answer is met =
   where
     by_stop : (x : SessionStop) → IsStatusAnswer v status head last s n (Err x) → MeetsInAnswer (settled_by x asked' (is_head head)).answered old new
     by_stop (stop.Closed why.ByClient) a = met
+    by_stop (stop.Closed why.Idle) a = met
     by_stop (stop.Closed why.Last) a = met
     by_stop (stop.Closed (why.Own code)) a = met
     by_stop (stop.Closed why.Cut) a = met
@@ -144,8 +150,8 @@ answers_early v head last s n body worker stop' settled mounted alone broken is 
     subst (λ (x : Settled). IsAnswer v head last s n body body x.answered (rows_of x.row)) (sym is)
     (inl (early_stop v head s n worker stop' mounted alone broken))
 
-meets_early_by : (bytes : List ℕ) (s n : Moment) (stop' : SessionStop) (desk : DeskState) → BreaksOff bytes s n stop' → MeetsBy (end_of stop' 0) desk desk
-meets_early_by bytes s n stop' desk (inl wanted) = subst (λ (x : SessionStop). MeetsBy (end_of x 0) desk desk) (sym wanted.0) (none_met desk)
+meets_early_by : (bytes : List ℕ) (s n : Moment) (stop' : SessionStop) (desk : DeskState) → BreaksOff bytes s n stop' → MeetsBy stop' desk desk
+meets_early_by bytes s n stop' desk (inl wanted) = subst (λ (x : SessionStop). MeetsBy x desk desk) (sym wanted.0) (none_met desk)
 meets_early_by bytes s n (stop.Closed w) desk (inr writes) = absurd writes
 meets_early_by bytes s n stop.ClientFault desk (inr writes) = none_met desk
 meets_early_by bytes s n stop.Truncated desk (inr writes) = absurd writes
@@ -157,13 +163,14 @@ pub meets_early : (bytes : List ℕ) (s n : Moment) (stop' : SessionStop) (settl
 meets_early bytes s n stop' settled desk broken is =
     subst (λ (x : Settled). MeetsInAnswer x.answered desk desk) (sym is) (meets_early_by bytes s n stop' desk broken)
 
-rises_early_by : (bytes : List ℕ) (s n : Moment) (stop' : SessionStop) → BreaksOff bytes s n stop' → RisesBy (end_of stop' 0) s.faults n.faults
-rises_early_by bytes s n stop' (inl wanted) = subst (λ (x : SessionStop). RisesBy (end_of x 0) s.faults n.faults) (sym wanted.0) tt
+rises_early_by : (bytes : List ℕ) (s n : Moment) (stop' : SessionStop) → BreaksOff bytes s n stop' → RisesBy stop' s.faults n.faults
+rises_early_by bytes s n stop' (inl wanted) =
+    subst (λ (x : SessionStop). RisesBy x s.faults n.faults) (sym wanted.0) (ap (λ (m : Moment). m.faults) wanted.1)
 rises_early_by bytes s n (stop.Closed w) (inr writes) = absurd writes
 rises_early_by bytes s n stop.ClientFault (inr writes) = writes.0
 rises_early_by bytes s n stop.Truncated (inr writes) = absurd writes
 rises_early_by bytes s n (stop.Stray ticket returned_at) (inr writes) = absurd writes
-rises_early_by bytes s n stop.NoMemory (inr writes) = tt
+rises_early_by bytes s n stop.NoMemory (inr writes) = writes.steady
 
 pub rises_early : (bytes : List ℕ) (s n : Moment) (stop' : SessionStop) (settled : Settled) → BreaksOff bytes s n stop' → settled ≡ stopped_by stop'
     → RisesInAnswer settled.answered s.faults n.faults
@@ -176,13 +183,14 @@ no_fewer_early bytes s n (stop.Closed w) (inr writes) = absurd writes
 no_fewer_early bytes s n stop.ClientFault (inr writes) = writes.1.no_fewer
 no_fewer_early bytes s n stop.Truncated (inr writes) = absurd writes
 no_fewer_early bytes s n (stop.Stray ticket returned_at) (inr writes) = absurd writes
-no_fewer_early bytes s n stop.NoMemory (inr writes) = writes.no_fewer
+no_fewer_early bytes s n stop.NoMemory (inr writes) = let steady = writes.steady in omega arith
 
 -- ---- a request that is mounted nowhere
 
 not_found_by : (v : Visit) (head : Head) (s : ClientStanding) (w : Moment) (x : SessionStop) → mounted_at v head ≡ None → WritesOwn 404 (is_head head) s.client w x
     → StopsEarly v head s (record s { client = w }) (settled_by x (line_of head) (is_head head)).answered (rows_of (settled_by x (line_of head) (is_head head)).row)
 not_found_by v head s w (stop.Closed why.ByClient) none writes = absurd writes
+not_found_by v head s w (stop.Closed why.Idle) none writes = absurd writes
 not_found_by v head s w (stop.Closed why.Last) none writes = absurd writes
 not_found_by v head s w (stop.Closed (why.Own code)) none writes =
     (writes.0, none, record { puts = subst (λ (k : ℕ). Puts s.client w (own_for k (is_head head))) (sym writes.0) writes.1; alone = refl }, refl)
@@ -205,6 +213,7 @@ not_found_answers v head last s w body settled none (inr (stop', writes, is)) =
 not_found_meets_by : (head_only : Bool) (line : Asked) (s n : Moment) (x : SessionStop) (desk : DeskState) → WritesOwn 404 head_only s n x
     → MeetsInAnswer (settled_by x line head_only).answered desk desk
 not_found_meets_by head_only line s n (stop.Closed why.ByClient) desk writes = absurd writes
+not_found_meets_by head_only line s n (stop.Closed why.Idle) desk writes = absurd writes
 not_found_meets_by head_only line s n (stop.Closed why.Last) desk writes = absurd writes
 not_found_meets_by head_only line s n (stop.Closed (why.Own code)) desk writes = none_met desk
 not_found_meets_by head_only line s n (stop.Closed why.Cut) desk writes = absurd writes
@@ -222,6 +231,7 @@ not_found_meets head s n settled desk (inr (stop', writes, is)) =
 not_found_rises_by : (head_only : Bool) (line : Asked) (s n : Moment) (x : SessionStop) → WritesOwn 404 head_only s n x
     → RisesInAnswer (settled_by x line head_only).answered s.faults n.faults
 not_found_rises_by head_only line s n (stop.Closed why.ByClient) writes = absurd writes
+not_found_rises_by head_only line s n (stop.Closed why.Idle) writes = absurd writes
 not_found_rises_by head_only line s n (stop.Closed why.Last) writes = absurd writes
 not_found_rises_by head_only line s n (stop.Closed (why.Own code)) writes = writes.1.steady
 not_found_rises_by head_only line s n (stop.Closed why.Cut) writes = absurd writes
@@ -229,10 +239,11 @@ not_found_rises_by head_only line s n (stop.Closed why.Unread) writes = absurd w
 not_found_rises_by head_only line s n stop.ClientFault writes = writes.0
 not_found_rises_by head_only line s n stop.Truncated writes = absurd writes
 not_found_rises_by head_only line s n (stop.Stray ticket returned_at) writes = absurd writes
-not_found_rises_by head_only line s n stop.NoMemory writes = tt
+not_found_rises_by head_only line s n stop.NoMemory writes = writes.steady
 
 pub not_found_rises : (head : Head) (s n : Moment) (settled : Settled) → IsNotFound head s n settled → RisesInAnswer settled.answered s.faults n.faults
-not_found_rises head s n settled (inl (same, is)) = subst (λ (x : Settled). RisesInAnswer x.answered s.faults n.faults) (sym is) tt
+not_found_rises head s n settled (inl (same, is)) =
+    subst (λ (x : Settled). RisesInAnswer x.answered s.faults n.faults) (sym is) (ap (λ (m : Moment). m.faults) same)
 not_found_rises head s n settled (inr (stop', writes, is)) =
     subst (λ (x : Settled). RisesInAnswer x.answered s.faults n.faults) (sym is) (not_found_rises_by (is_head head) (line_of head) s n stop' writes)
 

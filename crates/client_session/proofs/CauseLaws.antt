@@ -41,8 +41,8 @@ use Rattle.client_session.specs.Causes.{GaveUp, HasBadLine, HasNoPage, HasNoRepl
 use Rattle.client_session.specs.Requests.{Visit}
 use Rattle.client_session.specs.Sessions.{EndsIn, IsHeadRefused, ReadsHead}
 use Rattle.client_session.specs.Standings.{ClientStanding}
-use Rattle.client_session.specs.declared.ending.SessionEnd.{SessionEnd}
-use Rattle.client_session.specs.declared.ending.SessionEnd.TheVariants as session_end
+use Rattle.client_session.specs.declared.ending.SessionStop.{SessionStop}
+use Rattle.client_session.specs.declared.ending.SessionStop.TheVariants as stop
 use Rattle.client_session.specs.declared.ending.Why.TheVariants as why
 
 -- ---- which statuses each origin has
@@ -132,7 +132,7 @@ abbrev Origin : Visit → (number : ℕ) → (s n : ClientStanding) → (code : 
 Origin v number s n code =
     IsHeadRefused s n code ⊎ (((code ≡ 404) × IsUnmounted v s) ⊎ (HasNoReply v number s n code ⊎ HasNoPage v s n code))
 
-origin : (v : Visit) (number requests : ℕ) (s n : ClientStanding) (rows : List Served) (code : ℕ) → EndsIn v number s n rows (session_end.Closed requests (why.Own code))
+origin : (v : Visit) (number requests : ℕ) (s n : ClientStanding) (rows : List Served) (code : ℕ) → EndsIn v number s n rows requests (stop.Closed (why.Own code))
     → Origin v number s n code
 origin v number requests s n rows code (counted, inl (refused, added)) = inl refused
 origin v number requests s n rows code (counted, inr (body, request)) =
@@ -199,9 +199,10 @@ page_full v s n r same =
     ))
   where
     never_refused : (cfg : Config) (status : Status) (query : Option (List ℕ)) → IsRefused cfg status query 500 → ⊥
-    never_refused cfg status query (inl bad) = omega (arith, bad.0)
-    never_refused cfg status query (inr (inl forbidden)) = omega (arith, forbidden.1)
-    never_refused cfg status query (inr (inr unknown)) = omega (arith, unknown.1)
+    never_refused cfg status query (inl closed') = omega (arith, closed'.0)
+    never_refused cfg status query (inr (open', inl bad)) = omega (arith, bad.0)
+    never_refused cfg status query (inr (open', inr (inl forbidden))) = omega (arith, forbidden.1)
+    never_refused cfg status query (inr (open', inr (inr unknown))) = omega (arith, unknown.1)
 
     by_error : (session : ℕ) (work : Work) (old new : DeskSide) (error : AdminError FullMark) → StopsAt session work old new error → page_status error ≡ Some 500
         → Rose old.state.fulls new.state.fulls
@@ -304,14 +305,15 @@ of_origin v number s n code from = record {
   unavailable = unavailable v number s n code from;
 }
 
-pub own_cause : (v : Visit) (number : ℕ) (s n : ClientStanding) (rows : List Served) (end : SessionEnd) → EndsIn v number s n rows end
-    → IfOwn end (HasOwnCause v number s n)
-own_cause v number s n rows (session_end.Closed requests why.ByClient) ends_in = tt
-own_cause v number s n rows (session_end.Closed requests why.Last) ends_in = tt
-own_cause v number s n rows (session_end.Closed requests (why.Own code)) ends_in = of_origin v number s n code (origin v number requests s n rows code ends_in)
-own_cause v number s n rows (session_end.Closed requests why.Cut) ends_in = tt
-own_cause v number s n rows (session_end.Closed requests why.Unread) ends_in = tt
-own_cause v number s n rows (session_end.ClientFault requests) ends_in = tt
-own_cause v number s n rows (session_end.Truncated requests) ends_in = tt
-own_cause v number s n rows (session_end.Stray ticket returned_at) ends_in = tt
-own_cause v number s n rows session_end.NoMemory ends_in = tt
+pub own_cause : (v : Visit) (number : ℕ) (s n : ClientStanding) (rows : List Served) (requests : ℕ) (stop' : SessionStop) → EndsIn v number s n rows requests stop'
+    → IfOwn stop' (HasOwnCause v number s n)
+own_cause v number s n rows requests (stop.Closed why.ByClient) ends_in = tt
+own_cause v number s n rows requests (stop.Closed why.Idle) ends_in = tt
+own_cause v number s n rows requests (stop.Closed why.Last) ends_in = tt
+own_cause v number s n rows requests (stop.Closed (why.Own code)) ends_in = of_origin v number s n code (origin v number requests s n rows code ends_in)
+own_cause v number s n rows requests (stop.Closed why.Cut) ends_in = tt
+own_cause v number s n rows requests (stop.Closed why.Unread) ends_in = tt
+own_cause v number s n rows requests stop.ClientFault ends_in = tt
+own_cause v number s n rows requests stop.Truncated ends_in = tt
+own_cause v number s n rows requests (stop.Stray ticket returned_at) ends_in = tt
+own_cause v number s n rows requests stop.NoMemory ends_in = tt

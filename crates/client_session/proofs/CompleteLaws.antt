@@ -1,5 +1,5 @@
 -- A request to which nothing happens but that its member's reply comes whole is answered with exactly that reply.
-use Rattle.std.proofs.Common.{◌≡◌, ◌≤◌, ◌<◌, ℕ, ◌+◌, Bool, true, false, List, ◌++◌, length, Option, Some, None, IfSome, slice_get, refl, sym, subst, inl, inr, ap, ◌∙◌, arith}
+use Rattle.std.proofs.Common.{◌≡◌, ◌≤◌, ◌<◌, ℕ, ◌+◌, Bool, true, false, List, ◌∷◌, ◌++◌, length, Option, Some, None, IfSome, slice_get, refl, sym, subst, inl, inr, ap, ◌∙◌, arith}
 use Rattle.std.proofs.lemmas.List.{append_cancel_left, length-append}
 use Rattle.jk_io.specs.Told.{Rose, appended}
 use Rattle.jk_io.proofs.ToldLaws.{appended-appended}
@@ -27,11 +27,11 @@ use Rattle.exchange.specs.Rounds.{Scene}
 use Rattle.exchange.specs.declared.ending.ExchangeEnd.{ExchangeEnd}
 use Rattle.client_session.specs.Answers.{IsAnswer, IsForwarded, IsForwardedAt, IsToldOn, errand_at}
 use Rattle.client_session.specs.Complete.{EndsWhole, GetsWhole, IsUndisturbed, ServesWhole, with_bytes}
+use Rattle.client_session.specs.Ends.{end_of}
 use Rattle.client_session.specs.Requests.{IsNewBody, Visit, continue_for, is_last, mounted_at}
 use Rattle.client_session.specs.Sessions.{BreaksRest, EndsIn, IsRequest, IsServed, IsUnread, ReadsHead}
 use Rattle.client_session.specs.Standings.{ClientStanding, unread_at, with_body}
-use Rattle.client_session.specs.declared.ending.SessionEnd.{SessionEnd}
-use Rattle.client_session.specs.declared.ending.SessionEnd.TheVariants as session_end
+use Rattle.client_session.specs.declared.ending.SessionStop.{SessionStop}
 use Rattle.client_session.specs.declared.ending.SessionStop.TheVariants as stop
 use Rattle.client_session.specs.declared.ending.Why.TheVariants as why
 use Rattle.client_session.specs.declared.turn.Answered.{Answered}
@@ -340,34 +340,44 @@ last_too v number s n head used rest body a rows told is r last =
     let one = head-one (used ++ rest) r.reads.used.bytes there.0 used rest r.head head there.2 r.reads.used.is refl is in
     subst (λ (h : Head). is_last number h ≡ true) one.1 last
 
-pub ends_whole : (v : Visit) (number : ℕ) (s n : ClientStanding) (rows : List Served) (end : SessionEnd) → EndsIn v number s n rows end → EndsWhole v end number s n
-ends_whole v number s n rows (session_end.Closed requests why.ByClient) (count, reads, none) head t all u =
+-- where no talk was noted there is no first one
+no_first : (before later : List Talk) (t : Talk) (now told : Option (List Talk)) → now ≡ Some (before ++ t ∷ later) → told ≡ Some before → now ≡ told → ⊥
+no_first before later t now told after is same =
+    let both : Some (before ++ t ∷ later) ≡ Some before = sym after ∙ same ∙ is in
+    let lists : before ++ t ∷ later ≡ before = cc in
+    omega (arith, ap (λ (ts : List Talk). length ts) lists, length-append before (t ∷ later))
+
+pub ends_whole : (v : Visit) (number : ℕ) (s n : ClientStanding) (rows : List Served) (requests : ℕ) (stop' : SessionStop) → EndsIn v number s n rows requests stop'
+    → EndsWhole v (end_of stop' requests) number s n
+ends_whole v number s n rows requests (stop.Closed why.ByClient) (count, reads, none) head t all u =
     absurd (empty-head (u.used ++ u.rest) u.used u.rest head refl u.is_head (end_bytes (unread_at s) (unread_at n) (u.used ++ u.rest) reads.used u.told))
-ends_whole v number s n rows (session_end.Closed requests why.Last) (count, (body, r, last)) head t all u =
+ends_whole v number s n rows requests (stop.Closed why.Idle) (count, some, none, same, added) head t all u =
+    absurd (no_first u.whole.before u.whole.later t n.reach.talks s.reach.talks u.whole.talks_after u.whole.talks_before (ap (λ (x : ClientStanding). x.reach.talks) same))
+ends_whole v number s n rows requests (stop.Closed why.Last) (count, (body, r, last)) head t all u =
     inr (
-      ap (λ (k : ℕ). session_end.Closed k why.Last) count,
+      ap (λ (k : ℕ). end_of (stop.Closed why.Last) k) count,
       last_too v number s n head u.used u.rest body answered.Whole rows u.told u.is_head r last,
       gets_whole v number s n n head t all u body rows (asked v number s n head u.used u.rest body answered.Whole rows u.told u.is_head r) (at_once n),
     )
-ends_whole v number s n rows (session_end.Closed requests (why.Own code)) (count, inl (refused, added)) head t all u =
+ends_whole v number s n rows requests (stop.Closed (why.Own code)) (count, inl (refused, added)) head t all u =
     absurd (head-refused (u.used ++ u.rest) u.used u.rest head refused.form refl u.is_head (refused_bytes s refused.read refused.form (u.used ++ u.rest) refused.reads u.told))
-ends_whole v number s n rows (session_end.Closed requests (why.Own code)) (count, inr (body, r)) head t all u =
+ends_whole v number s n rows requests (stop.Closed (why.Own code)) (count, inr (body, r)) head t all u =
     absurd (no_own v number s n head t all u body rows code (asked v number s n head u.used u.rest body _ rows u.told u.is_head r))
-ends_whole v number s n rows (session_end.Closed requests why.Cut) (count, (body, r)) head t all u =
+ends_whole v number s n rows requests (stop.Closed why.Cut) (count, (body, r)) head t all u =
     absurd (no_cut v number s n head t all u body rows (asked v number s n head u.used u.rest body _ rows u.told u.is_head r))
-ends_whole v number s n rows (session_end.Closed requests why.Unread) (count, inl unread') head t all u =
+ends_whole v number s n rows requests (stop.Closed why.Unread) (count, inl unread') head t all u =
     absurd (let is = unread_whole v number s n rows fault.BadChunk head t all u unread' in cc)
-ends_whole v number s n rows (session_end.Closed requests why.Unread) (count, inr unread') head t all u =
+ends_whole v number s n rows requests (stop.Closed why.Unread) (count, inr unread') head t all u =
     absurd (let is = unread_whole v number s n rows fault.TooLong head t all u unread' in cc)
-ends_whole v number s n rows (session_end.ClientFault requests) (inl (count, none, rose, more)) head t all u = absurd (u.whole.client rose)
-ends_whole v number s n rows (session_end.ClientFault requests) (inr (count, unread')) head t all u =
+ends_whole v number s n rows requests stop.ClientFault (inl (count, none, rose, more)) head t all u = absurd (u.whole.client rose)
+ends_whole v number s n rows requests stop.ClientFault (inr (count, unread')) head t all u =
     absurd (let is = unread_whole v number s n rows fault.Fault head t all u unread' in cc)
-ends_whole v number s n rows (session_end.Truncated requests) (inl (count, none, inl reads)) head t all u =
+ends_whole v number s n rows requests stop.Truncated (inl (count, none, inl reads)) head t all u =
     absurd (short-head (u.used ++ u.rest) u.used u.rest head refl u.is_head (cut_bytes s n (u.used ++ u.rest) reads u.told))
-ends_whole v number s n rows (session_end.Truncated requests) (inl (count, none, inr (body, r))) head t all u =
+ends_whole v number s n rows requests stop.Truncated (inl (count, none, inr (body, r))) head t all u =
     absurd (no_truncated v number s n head t all u body rows (asked v number s n head u.used u.rest body _ rows u.told u.is_head r))
-ends_whole v number s n rows (session_end.Truncated requests) (inr (count, unread')) head t all u =
+ends_whole v number s n rows requests stop.Truncated (inr (count, unread')) head t all u =
     absurd (let is = unread_whole v number s n rows fault.Truncated head t all u unread' in cc)
-ends_whole v number s n rows (session_end.Stray ticket returned_at) (none, (body, r)) head t all u =
+ends_whole v number s n rows requests (stop.Stray ticket returned_at) (count, none, (body, r)) head t all u =
     absurd (no_stray v number s n head t all u body rows ticket returned_at (asked v number s n head u.used u.rest body _ rows u.told u.is_head r))
-ends_whole v number s n rows session_end.NoMemory ends head t all u = inl refl
+ends_whole v number s n rows requests stop.NoMemory ends head t all u = inl refl

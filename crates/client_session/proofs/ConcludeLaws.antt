@@ -1,7 +1,6 @@
 -- A request that was forwarded, with the row that its end adds.
 use Rattle.std.proofs.Common.{◌≡◌, ℕ, Bool, List, Some, IsSome, slice_get, refl, sym, subst, inl, ◌≤◌, ◌<◌, get_or, length, arith}
 use Rattle.std.proofs.lemmas.Option.{slice_get_read}
-use Rattle.jk_model.specs.declared.ask.Terms.{Terms}
 use Rattle.jk_model.specs.declared.member.MemberConfig.{MemberConfig}
 use Rattle.jk_model.specs.declared.served.Asked.{Asked}
 use Rattle.jk_model.specs.declared.served.Asked.TheVariants as asked
@@ -11,20 +10,13 @@ use Rattle.http_out.specs.Own.{own_of}
 use Rattle.http_out.specs.declared.own_answers.Own.{Own}
 use Rattle.site_config.specs.declared.balancer.Lb.{Lb}
 use Rattle.site_config.specs.declared.config.Named.TheVariants as named
-use Rattle.ajp_talk.specs.Moments.{IsUsed}
-use Rattle.exchange.specs.Clients.{Gives, IsCalm, MeetsAt}
-use Rattle.exchange.specs.Complete.{Completes}
-use Rattle.exchange.specs.Exchanges.{IsExchange}
-use Rattle.exchange.specs.Requests.{errand, is_head}
-use Rattle.exchange.specs.Rounds.{IsDeskAfter}
-use Rattle.exchange.specs.WholeTalks.{IsWholeOnce}
-use Rattle.uri_map.specs.Mounts.{terms}
+use Rattle.exchange.specs.Requests.{is_head}
 use Rattle.exchange.specs.declared.ending.ExchangeEnd.{ExchangeEnd}
 use Rattle.exchange.specs.declared.ending.ExchangeEnd.TheVariants as exchange_end
 use Rattle.client_session.specs.Answers.{IsAnswerAt, IsForwardedAt, errand_at}
 use Rattle.client_session.specs.Concluding.{HasNamesWithin, IsConclusion, IsWithin, rows_of}
 use Rattle.client_session.specs.Requests.{Visit, mounted_at}
-use Rattle.client_session.specs.Standings.{ClientStanding, with_body}
+use Rattle.client_session.specs.Standings.{ClientStanding}
 use Rattle.client_session.specs.Turns.{GoesOn, MeetsInAnswer, RisesInAnswer}
 use Rattle.client_session.specs.declared.turn.Settled.{Settled}
 
@@ -33,20 +25,6 @@ asked_of head = asked.Line head.method head.target head.old
 
 abbrev Settles : Visit → Head → (last : Bool) → (s n : ClientStanding) → (body body' : BodyIn) → Settled → Type 0
 Settles v head last s n body body' settled = IsAnswerAt v head last s n body body' settled.answered (rows_of settled.row)
-
--- the exchange went by the terms of the mount
-pub forwarded_by : (v : Visit) (head : Head) (last : Bool) (s n : ClientStanding) (body body' : BodyIn) (lb : ℕ) (balancer : Lb) (t : Terms) (end : ExchangeEnd) → t ≡ terms v.rules head.clean
-    → IsExchange (errand head v.peer last v.session lb t balancer) (with_body s body) (with_body n body') end
-    → Gives (errand head v.peer last v.session lb t balancer) (with_body s body) (with_body n body') end
-    → IsUsed (with_body s body).around.body (with_body n body').around.body
-    → IsWholeOnce (errand head v.peer last v.session lb t balancer) (with_body s body).around (with_body n body').around
-    → Completes (errand head v.peer last v.session lb t balancer) (with_body s body) (with_body n body') end
-    → IsDeskAfter lb v.session s.desk.state n.desk.state → MeetsAt end s.desk.state n.desk.state → (IsCalm end → n.client.faults ≡ s.client.faults)
-    → (s.reach.faults ≤ n.reach.faults) × (s.client.faults ≤ n.client.faults)
-    → IsForwardedAt v (errand_at v head last lb balancer) s n body body' end
-forwarded_by v head last s n body body' lb balancer t end is exchange gives used whole_once complete kept met calm no_fewer =
-    subst (λ (x : Terms). IsForwardedAt v (errand head v.peer last v.session lb x balancer) s n body body' end) is
-    (record { exchange = exchange; gives = gives; used = used; whole_once = whole_once; complete = complete; kept = kept; met = met; calm = calm; no_fewer = no_fewer })
 
 -- the end was concluded with the balancer's members, for the method and the row of this head
 pub concluded_by : (end : ExchangeEnd) (members : List MemberConfig) (balancer : Lb) (head_only : Bool) (head : Head) (asked' : Asked) (settled : Settled)
@@ -158,7 +136,7 @@ rises v head last s n body body' lb balancer exchange_end.Truncated settled at c
 rises v head last s n body body' lb balancer (exchange_end.Stray ticket returned_at) settled at concluded =
     subst (λ (x : Settled). RisesInAnswer x.answered s.client.faults n.client.faults) (sym concluded) tt
 rises v head last s n body body' lb balancer exchange_end.NoMemory settled at concluded =
-    subst (λ (x : Settled). RisesInAnswer x.answered s.client.faults n.client.faults) (sym concluded) tt
+    subst (λ (x : Settled). RisesInAnswer x.answered s.client.faults n.client.faults) (sym concluded) (at.calm tt)
 
 known_own : (status : ℕ) (own : Own) → own_of status ≡ Some own → IsSome (own_of status)
 known_own status own is = rw is refl

@@ -22,16 +22,17 @@ use Rattle.status_page.specs.BookCommands.{commands_for}
 use Rattle.status_page.specs.Effects.{is_change, worker_of}
 use Rattle.status_page.specs.Meaning.{meaning_of}
 use Rattle.status_page.specs.declared.command.StatusCommand.{StatusCommand}
-use Rattle.status_worker.specs.Commands.{Asks, IsAllowed, IsRefused, IsWorkFor, NamesNone, TurnsAway}
+use Rattle.status_worker.specs.Commands.{Asks, AsksOpen, IsAllowed, IsRefused, IsRefusedOpen, IsWorkFor, NamesNone, TurnsAway}
 use Rattle.status_worker.specs.Desks.{DeskSide}
 use Rattle.status_worker.specs.declared.asking.Work.{Work}
 use Rattle.client_session.specs.Answers.{IsAnswer, IsAnswerAt, IsAtStatus, StopsEarly}
 use Rattle.client_session.specs.Causes.{Calmly, DecidesEnd}
+use Rattle.client_session.specs.Ends.{end_of}
 use Rattle.client_session.specs.Requests.{Visit, mounted_at}
 use Rattle.client_session.specs.Sessions.{EndsIn, IsRequest, ReadsCut, ReadsHead, ReadsRefused}
 use Rattle.client_session.specs.Standings.{ClientStanding, unread_at}
 use Rattle.client_session.specs.declared.ending.SessionEnd.{SessionEnd}
-use Rattle.client_session.specs.declared.ending.SessionEnd.TheVariants as session_end
+use Rattle.client_session.specs.declared.ending.SessionStop.{SessionStop}
 use Rattle.client_session.specs.declared.ending.SessionStop.TheVariants as stop
 use Rattle.client_session.specs.declared.ending.Why.TheVariants as why
 use Rattle.client_session.specs.declared.turn.Answered.{Answered}
@@ -50,12 +51,17 @@ is_none {A} o some none = false≢true (subst (λ (x : Option A). IsSome x) none
 
 -- ---- a fact of an end that neither failed nor wanted memory
 
-calmly_on : {P Q : Type 0} (end : SessionEnd) → Calmly end P → (P → Q) → Calmly end Q
-calmly_on (session_end.Closed requests why') p f = f p
-calmly_on (session_end.ClientFault requests) p f = tt
-calmly_on (session_end.Truncated requests) p f = f p
-calmly_on (session_end.Stray ticket returned_at) p f = f p
-calmly_on session_end.NoMemory p f = tt
+calmly_on : {P Q : Type 0} (stop' : SessionStop) → Calmly stop' P → (P → Q) → Calmly stop' Q
+calmly_on (stop.Closed why.ByClient) p f = f p
+calmly_on (stop.Closed why.Idle) p f = tt
+calmly_on (stop.Closed why.Last) p f = f p
+calmly_on (stop.Closed (why.Own code)) p f = f p
+calmly_on (stop.Closed why.Cut) p f = f p
+calmly_on (stop.Closed why.Unread) p f = f p
+calmly_on stop.ClientFault p f = tt
+calmly_on stop.Truncated p f = f p
+calmly_on (stop.Stray ticket returned_at) p f = f p
+calmly_on stop.NoMemory p f = tt
 
 -- ---- the bytes that were read are the first of those that are told
 
@@ -125,17 +131,24 @@ same_command query a b one two = one_some (meaning_of query) a b one two
 none_some : (query : Option (List ℕ)) (c : StatusCommand) → meaning_of query ≡ None → meaning_of query ≡ Some c → ⊥
 none_some query c none some = not_none (meaning_of query) c none some
 
+open_one : (cfg : Config) (status : Status) (query : Option (List ℕ)) (code other : ℕ) → IsRefusedOpen cfg status query code → IsRefusedOpen cfg status query other
+    → code ≡ other
+open_one cfg status query code other (inl a) (inl b) = a.0 ∙ sym b.0
+open_one cfg status query code other (inl a) (inr (inl b)) = absurd (none_some query b.0 a.1 b.2)
+open_one cfg status query code other (inl a) (inr (inr b)) = absurd (none_some query b.0 a.1 b.2)
+open_one cfg status query code other (inr (inl a)) (inl b) = absurd (none_some query a.0 b.1 a.2)
+open_one cfg status query code other (inr (inl a)) (inr (inl b)) = a.1 ∙ sym b.1
+open_one cfg status query code other (inr (inl a)) (inr (inr b)) = absurd (not_allowed status b.0 a.0 (same_command query b.0 a.0 b.2 a.2) b.3 a.3 a.4)
+open_one cfg status query code other (inr (inr a)) (inl b) = absurd (none_some query a.0 b.1 a.2)
+open_one cfg status query code other (inr (inr a)) (inr (inl b)) = absurd (not_allowed status a.0 b.0 (same_command query a.0 b.0 a.2 b.2) a.3 b.3 b.4)
+open_one cfg status query code other (inr (inr a)) (inr (inr b)) = a.1 ∙ sym b.1
+
 refused_one : (cfg : Config) (status : Status) (query : Option (List ℕ)) (code other : ℕ) → IsRefused cfg status query code → IsRefused cfg status query other
     → code ≡ other
 refused_one cfg status query code other (inl a) (inl b) = a.0 ∙ sym b.0
-refused_one cfg status query code other (inl a) (inr (inl b)) = absurd (none_some query b.0 a.1 b.2)
-refused_one cfg status query code other (inl a) (inr (inr b)) = absurd (none_some query b.0 a.1 b.2)
-refused_one cfg status query code other (inr (inl a)) (inl b) = absurd (none_some query a.0 b.1 a.2)
-refused_one cfg status query code other (inr (inl a)) (inr (inl b)) = a.1 ∙ sym b.1
-refused_one cfg status query code other (inr (inl a)) (inr (inr b)) = absurd (not_allowed status b.0 a.0 (same_command query b.0 a.0 b.2 a.2) b.3 a.3 a.4)
-refused_one cfg status query code other (inr (inr a)) (inl b) = absurd (none_some query a.0 b.1 a.2)
-refused_one cfg status query code other (inr (inr a)) (inr (inl b)) = absurd (not_allowed status a.0 b.0 (same_command query a.0 b.0 a.2 b.2) a.3 b.3 b.4)
-refused_one cfg status query code other (inr (inr a)) (inr (inr b)) = a.1 ∙ sym b.1
+refused_one cfg status query code other (inl a) (inr b) = absurd (both_ways status.closed b.0 a.1)
+refused_one cfg status query code other (inr a) (inl b) = absurd (both_ways status.closed a.0 b.1)
+refused_one cfg status query code other (inr a) (inr b) = open_one cfg status query code other a.1 b.1
 
 one_balancer : (a b : ℕ) → named.Balancer a ≡ named.Balancer b → a ≡ b
 one_balancer a b same = cc
@@ -154,11 +167,15 @@ named_none cfg c work (name, of, inr (place, lb, is, none)) (inr (name', place',
     not_none (commands_for lb'.book.members c) work.commands
     (subst (λ (x : Lb). commands_for x.book.members c ≡ None) balancer none) done
 
-refused_unasked : (cfg : Config) (status : Status) (query : Option (List ℕ)) (code : ℕ) (work : Work) → IsRefused cfg status query code → Asks cfg status query work → ⊥
-refused_unasked cfg status query code work (inl none) asks = none_some query asks.0 none.1 asks.1
-refused_unasked cfg status query code work (inr (inl r)) asks = not_allowed status asks.0 r.0 (same_command query asks.0 r.0 asks.1 r.2) asks.2 r.3 r.4
-refused_unasked cfg status query code work (inr (inr r)) asks =
+open_unasked : (cfg : Config) (status : Status) (query : Option (List ℕ)) (code : ℕ) (work : Work) → IsRefusedOpen cfg status query code → AsksOpen cfg status query work → ⊥
+open_unasked cfg status query code work (inl none) asks = none_some query asks.0 none.1 asks.1
+open_unasked cfg status query code work (inr (inl r)) asks = not_allowed status asks.0 r.0 (same_command query asks.0 r.0 asks.1 r.2) asks.2 r.3 r.4
+open_unasked cfg status query code work (inr (inr r)) asks =
     named_none cfg asks.0 work (subst (NamesNone cfg) (same_command query r.0 asks.0 r.2 asks.1) r.4) asks.3
+
+refused_unasked : (cfg : Config) (status : Status) (query : Option (List ℕ)) (code : ℕ) (work : Work) → IsRefused cfg status query code → Asks cfg status query work → ⊥
+refused_unasked cfg status query code work (inl closed') asks = both_ways status.closed asks.0 closed'.1
+refused_unasked cfg status query code work (inr refused) asks = open_unasked cfg status query code work refused.1 asks.1
 
 -- ---- a request's answer, where its head is mounted nowhere, or at a status worker that refuses it
 
@@ -170,6 +187,7 @@ IsOwnOrLess code a =
 early_own : (v : Visit) (head : Head) (s n : ClientStanding) (a : Answered) (rows : List Served) → StopsEarly v head s n a rows → IsOwnOrLess 404 a
 early_own v head s n answered.Whole rows early = absurd early
 early_own v head s n (answered.Not (stop.Closed why.ByClient)) rows early = absurd early
+early_own v head s n (answered.Not (stop.Closed why.Idle)) rows early = absurd early
 early_own v head s n (answered.Not (stop.Closed why.Last)) rows early = absurd early
 early_own v head s n (answered.Not (stop.Closed (why.Own code))) rows early = inl (ap (λ (k : ℕ). answered.Not (stop.Closed (why.Own k))) early.0)
 early_own v head s n (answered.Not (stop.Closed why.Cut)) rows early = absurd early
@@ -190,6 +208,7 @@ early_less : (v : Visit) (head : Head) (s n : ClientStanding) (a : Answered) (ro
     → IsAtStatus v head status → IsOwnOrLess code a
 early_less v head s n answered.Whole rows status code early at = absurd early
 early_less v head s n (answered.Not (stop.Closed why.ByClient)) rows status code early at = absurd early
+early_less v head s n (answered.Not (stop.Closed why.Idle)) rows status code early at = absurd early
 early_less v head s n (answered.Not (stop.Closed why.Last)) rows status code early at = absurd early
 early_less v head s n (answered.Not (stop.Closed (why.Own code'))) rows status code early at =
     absurd (not_none (mounted_at v head) (named.Status at.place) early.1 at.mounted)
@@ -230,6 +249,7 @@ refused_own v head last s n body body' answered.Whole rows status code (inr (oth
     absurd (refused_unasked v.cfg status head.query code has.done.0 refused
     (subst (λ (x : Status). Asks v.cfg x head.query has.done.0) (one_status v head other status there at) has.done.1))
 refused_own v head last s n body body' (answered.Not (stop.Closed why.ByClient)) rows status code answer at refused = absurd answer
+refused_own v head last s n body body' (answered.Not (stop.Closed why.Idle)) rows status code answer at refused = absurd answer
 refused_own v head last s n body body' (answered.Not (stop.Closed why.Last)) rows status code answer at refused = absurd answer
 refused_own v head last s n body body' (answered.Not (stop.Closed (why.Own other))) rows status code (added, inl is) at refused =
     absurd (not_both v head is.lb status is.mounted at)
@@ -254,13 +274,13 @@ record HasHead (v : Visit) (number : ℕ) (s : ClientStanding) (end : SessionEnd
   read : ClientStanding
   head : Head
   reads : ReadsHead s read head
-  unmounted : mounted_at v head ≡ None → end ≡ session_end.Closed number (why.Own 404)
+  unmounted : mounted_at v head ≡ None → end ≡ end_of (stop.Closed (why.Own 404)) number
   turned_away : (status : Status) (code : ℕ) → IsAtStatus v head status → IsRefused v.cfg status head.query code
-      → end ≡ session_end.Closed number (why.Own code)
+      → end ≡ end_of (stop.Closed (why.Own code)) number
 
 -- an own answer ends the session, and neither a fault of the client nor want of memory was met
 abbrev IsEndOf : (number : ℕ) → Answered → SessionEnd → Type 0
-IsEndOf number a end = (code : ℕ) → IsOwnOrLess code a → end ≡ session_end.Closed number (why.Own code)
+IsEndOf number a end = (code : ℕ) → IsOwnOrLess code a → end ≡ end_of (stop.Closed (why.Own code)) number
 
 at_head : (v : Visit) (number : ℕ) (s n : ClientStanding) (body : BodyIn) (a : Answered) (rows : List Served) (end : SessionEnd)
     → IsRequest v number s n body a rows → IsEndOf number a end → HasHead v number s end
@@ -298,7 +318,7 @@ stray_other number ticket returned_at end code (inl is) = absurd cc
 stray_other number ticket returned_at end code (inr (inl is)) = absurd cc
 stray_other number ticket returned_at end code (inr (inr is)) = absurd cc
 
-own_other : (number requests other : ℕ) → requests ≡ number → IsEndOf number (answered.Not (stop.Closed (why.Own other))) (session_end.Closed requests (why.Own other))
+own_other : (number requests other : ℕ) → requests ≡ number → IsEndOf number (answered.Not (stop.Closed (why.Own other))) (end_of (stop.Closed (why.Own other)) requests)
 own_other number requests other counted code (inl is) = let same : other ≡ code = cc in cc
 own_other number requests other counted code (inr (inl is)) = absurd cc
 own_other number requests other counted code (inr (inr is)) = absurd cc
@@ -306,47 +326,48 @@ own_other number requests other counted code (inr (inr is)) = absurd cc
 -- what stands at the front, and the end that goes with it
 abbrev IsAtFront : Visit → (number : ℕ) → (s n : ClientStanding) → SessionEnd → Type 0
 IsAtFront v number s n end =
-    ((end ≡ session_end.Closed number why.ByClient) × UsesEnd (unread_at s) (unread_at n))
-    ⊎ (((end ≡ session_end.Truncated number) × ReadsCut s n)
-    ⊎ (((read : ClientStanding) × (form : Form) × ReadsRefused s read form × (end ≡ session_end.Closed number (why.Own (status_of form))))
+    ((end ≡ end_of (stop.Closed why.ByClient) number) × UsesEnd (unread_at s) (unread_at n))
+    ⊎ (((end ≡ end_of stop.Truncated number) × ReadsCut s n)
+    ⊎ (((read : ClientStanding) × (form : Form) × ReadsRefused s read form × (end ≡ end_of (stop.Closed (why.Own (status_of form))) number))
     ⊎ HasHead v number s end))
 
-at_front : (v : Visit) (number : ℕ) (s n : ClientStanding) (rows : List Served) (end : SessionEnd) → EndsIn v number s n rows end
-    → Calmly end (IsAtFront v number s n end)
-at_front v number s n rows (session_end.Closed requests why.ByClient) (counted, reads, added) =
-    inl (ap (λ (k : ℕ). session_end.Closed k why.ByClient) counted, reads.used)
-at_front v number s n rows (session_end.Closed requests why.Last) (counted, (body, request, last)) =
+at_front : (v : Visit) (number : ℕ) (s n : ClientStanding) (rows : List Served) (requests : ℕ) (stop' : SessionStop) → EndsIn v number s n rows requests stop'
+    → Calmly stop' (IsAtFront v number s n (end_of stop' requests))
+at_front v number s n rows requests (stop.Closed why.ByClient) (counted, reads, added) =
+    inl (ap (λ (k : ℕ). end_of (stop.Closed why.ByClient) k) counted, reads.used)
+at_front v number s n rows requests (stop.Closed why.Idle) ends_in = tt
+at_front v number s n rows requests (stop.Closed why.Last) (counted, (body, request, last)) =
     inr (inr (inr (at_head v number s n body _ rows _ request (whole_other number _))))
-at_front v number s n rows (session_end.Closed requests (why.Own code)) (counted, inl (refused, added)) =
+at_front v number s n rows requests (stop.Closed (why.Own code)) (counted, inl (refused, added)) =
     inr (inr (inl (
       refused.read,
       refused.form,
       refused.reads,
-      ap (λ (k : ℕ). session_end.Closed k (why.Own code)) counted ∙ ap (λ (k : ℕ). session_end.Closed number (why.Own k)) refused.status,
+      ap (λ (k : ℕ). end_of (stop.Closed (why.Own code)) k) counted ∙ ap (λ (k : ℕ). end_of (stop.Closed (why.Own k)) number) refused.status,
     )))
-at_front v number s n rows (session_end.Closed requests (why.Own code)) (counted, inr (body, request)) =
+at_front v number s n rows requests (stop.Closed (why.Own code)) (counted, inr (body, request)) =
     inr (inr (inr (at_head v number s n body _ rows _ request (own_other number requests code counted))))
-at_front v number s n rows (session_end.Closed requests why.Cut) (counted, (body, request)) =
+at_front v number s n rows requests (stop.Closed why.Cut) (counted, (body, request)) =
     inr (inr (inr (at_head v number s n body _ rows _ request (cut_other number _))))
-at_front v number s n rows (session_end.Closed requests why.Unread) (counted, inl (body, mid, going_on, breaks)) =
+at_front v number s n rows requests (stop.Closed why.Unread) (counted, inl (body, mid, going_on, breaks)) =
     inr (inr (inr (at_head v number s mid body _ rows _ going_on.request (whole_other number _))))
-at_front v number s n rows (session_end.Closed requests why.Unread) (counted, inr (body, mid, going_on, breaks)) =
+at_front v number s n rows requests (stop.Closed why.Unread) (counted, inr (body, mid, going_on, breaks)) =
     inr (inr (inr (at_head v number s mid body _ rows _ going_on.request (whole_other number _))))
-at_front v number s n rows (session_end.ClientFault requests) ends_in = tt
-at_front v number s n rows (session_end.Truncated requests) (inl (counted, added, inl reads)) =
-    inr (inl (ap (λ (k : ℕ). session_end.Truncated k) counted, reads))
-at_front v number s n rows (session_end.Truncated requests) (inl (counted, added, inr (body, request))) =
+at_front v number s n rows requests stop.ClientFault ends_in = tt
+at_front v number s n rows requests stop.Truncated (inl (counted, added, inl reads)) =
+    inr (inl (ap (λ (k : ℕ). end_of stop.Truncated k) counted, reads))
+at_front v number s n rows requests stop.Truncated (inl (counted, added, inr (body, request))) =
     inr (inr (inr (at_head v number s n body _ rows _ request (truncated_other number _))))
-at_front v number s n rows (session_end.Truncated requests) (inr (counted, (body, mid, going_on, breaks))) =
+at_front v number s n rows requests stop.Truncated (inr (counted, (body, mid, going_on, breaks))) =
     inr (inr (inr (at_head v number s mid body _ rows _ going_on.request (whole_other number _))))
-at_front v number s n rows (session_end.Stray ticket returned_at) (added, (body, request)) =
+at_front v number s n rows requests (stop.Stray ticket returned_at) (counted, added, (body, request)) =
     inr (inr (inr (at_head v number s n body _ rows _ request (stray_other number ticket returned_at _))))
-at_front v number s n rows session_end.NoMemory ends_in = tt
+at_front v number s n rows requests stop.NoMemory ends_in = tt
 
 -- ---- the bytes decide
 
 over_by : (v : Visit) (number : ℕ) (s n : ClientStanding) (end : SessionEnd) (bytes : List ℕ) → unread_at s ≡ Some bytes → IsAtFront v number s n end
-    → AreEmptyLines bytes → end ≡ session_end.Closed number why.ByClient
+    → AreEmptyLines bytes → end ≡ end_of (stop.Closed why.ByClient) number
 over_by v number s n end bytes told (inl ended) empty = ended.0
 over_by v number s n end bytes told (inr (inl cut)) empty = absurd ((cut_bytes s n bytes cut.1 told).begun empty.empty)
 over_by v number s n end bytes told (inr (inr (inl (read, form, reads, is)))) empty =
@@ -356,7 +377,7 @@ over_by v number s n end bytes told (inr (inr (inr h))) empty =
     absurd (empty-head bytes there.0 there.1 h.head there.2 there.3 empty)
 
 cut_by : (v : Visit) (number : ℕ) (s n : ClientStanding) (end : SessionEnd) (bytes : List ℕ) → unread_at s ≡ Some bytes → IsAtFront v number s n end
-    → EndsWithin bytes → end ≡ session_end.Truncated number
+    → EndsWithin bytes → end ≡ end_of stop.Truncated number
 cut_by v number s n end bytes told (inl ended) short = absurd (short.begun (end_bytes _ _ bytes ended.1 told).empty)
 cut_by v number s n end bytes told (inr (inl cut)) short = cut.0
 cut_by v number s n end bytes told (inr (inr (inl (read, form, reads, is)))) short =
@@ -366,11 +387,11 @@ cut_by v number s n end bytes told (inr (inr (inr h))) short =
     absurd (short-head bytes there.0 there.1 h.head there.2 there.3 short)
 
 refused_by : (v : Visit) (number : ℕ) (s n : ClientStanding) (end : SessionEnd) (bytes : List ℕ) (form : Form) → unread_at s ≡ Some bytes → IsAtFront v number s n end
-    → Refuses bytes form → end ≡ session_end.Closed number (why.Own (status_of form))
+    → Refuses bytes form → end ≡ end_of (stop.Closed (why.Own (status_of form))) number
 refused_by v number s n end bytes form told (inl ended) refused = absurd (empty-refused bytes form refused (end_bytes _ _ bytes ended.1 told))
 refused_by v number s n end bytes form told (inr (inl cut)) refused = absurd (short-refused bytes form refused (cut_bytes s n bytes cut.1 told))
 refused_by v number s n end bytes form told (inr (inr (inl (read, other, reads, is)))) refused =
-    is ∙ ap (λ (f : Form). session_end.Closed number (why.Own (status_of f))) (form-one bytes other form (refused_bytes s read other bytes reads told) refused)
+    is ∙ ap (λ (f : Form). end_of (stop.Closed (why.Own (status_of f))) number) (form-one bytes other form (refused_bytes s read other bytes reads told) refused)
 refused_by v number s n end bytes form told (inr (inr (inr h))) refused =
     let there = head_bytes s h.read h.head bytes h.reads told in
     absurd (head-refused bytes there.0 there.1 h.head form there.2 there.3 refused)
@@ -388,16 +409,16 @@ headed_by v number s n end bytes used rest head told (inr (inr (inr h))) whole i
     let there = head_bytes s h.read h.head bytes h.reads told in
     (h, (head-one bytes there.0 there.1 used rest h.head head there.2 there.3 whole is).1)
 
-pub decides : (v : Visit) (number : ℕ) (s n : ClientStanding) (rows : List Served) (end : SessionEnd) (bytes : List ℕ) → EndsIn v number s n rows end
+pub decides : (v : Visit) (number : ℕ) (s n : ClientStanding) (rows : List Served) (end : SessionEnd) (bytes : List ℕ) → EndsIn v number s n rows end.requests end.stop
     → unread_at s ≡ Some bytes → DecidesEnd v number bytes end
 decides v number s n rows end bytes ends_in told = record {
-  over = λ empty. calmly_on end (at_front v number s n rows end ends_in) (λ front. over_by v number s n end bytes told front empty);
-  cut = λ short. calmly_on end (at_front v number s n rows end ends_in) (λ front. cut_by v number s n end bytes told front short);
-  refused = λ form refused. calmly_on end (at_front v number s n rows end ends_in) (λ front. refused_by v number s n end bytes form told front refused);
-  unmounted = λ used rest head whole is none. calmly_on end (at_front v number s n rows end ends_in) (λ front.
+  over = λ empty. calmly_on end.stop (at_front v number s n rows end.requests end.stop ends_in) (λ front. over_by v number s n end bytes told front empty);
+  cut = λ short. calmly_on end.stop (at_front v number s n rows end.requests end.stop ends_in) (λ front. cut_by v number s n end bytes told front short);
+  refused = λ form refused. calmly_on end.stop (at_front v number s n rows end.requests end.stop ends_in) (λ front. refused_by v number s n end bytes form told front refused);
+  unmounted = λ used rest head whole is none. calmly_on end.stop (at_front v number s n rows end.requests end.stop ends_in) (λ front.
       let by = headed_by v number s n end bytes used rest head told front whole is in
       by.0.unmounted (subst (λ (x : Head). mounted_at v x ≡ None) (sym by.1) none));
-  turned_away = λ used rest head status code whole is at refused. calmly_on end (at_front v number s n rows end ends_in) (λ front.
+  turned_away = λ used rest head status code whole is at refused. calmly_on end.stop (at_front v number s n rows end.requests end.stop ends_in) (λ front.
       let by = headed_by v number s n end bytes used rest head told front whole is in
       by.0.turned_away status code (subst (λ (x : Head). IsAtStatus v x status) (sym by.1) at)
       (subst (λ (x : Head). IsRefused v.cfg status x.query code) (sym by.1) refused));

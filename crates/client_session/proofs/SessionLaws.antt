@@ -1,7 +1,7 @@
 -- Requests one after the other, and the session's end.
-use Rattle.std.proofs.Common.{◌≡◌, ◌≤◌, ℕ, suc, ◌+◌, List, [], ◌∷◌, ◌++◌, false, refl, sym, subst, inl, inr, ap, ◌∙◌, arith, IfSome, Option}
+use Rattle.std.proofs.Common.{◌≡◌, ◌≤◌, ◌<◌, ℕ, suc, ◌+◌, List, [], ◌∷◌, ◌++◌, false, refl, sym, subst, inl, inr, ap, ◌∙◌, arith, IfSome, Option}
 use Rattle.std.specs.Prelude.{Err, IsErrOf}
-use Rattle.std.proofs.lemmas.List.{append_assoc, append-nil}
+use Rattle.std.proofs.lemmas.List.{append-nil}
 use Rattle.jk_io.specs.Moments.{Moment}
 use Rattle.jk_io.specs.Told.{IsEmpty, Rose}
 use Rattle.jk_io.specs.declared.reaching.Beside.{Beside}
@@ -24,7 +24,6 @@ use Rattle.client_session.specs.Sessions.{EndsIn, HaveServed, IsSession, ReadsEn
 use Rattle.client_session.specs.Standings.{IsClientAlone, ClientStanding, StopsReading, unread_at}
 use Rattle.client_session.specs.Turns.{Turns}
 use Rattle.client_session.specs.declared.ending.SessionEnd.{SessionEnd}
-use Rattle.client_session.specs.declared.ending.SessionEnd.TheVariants as session_end
 use Rattle.client_session.specs.declared.ending.SessionStop.{SessionStop}
 use Rattle.client_session.specs.declared.ending.SessionStop.TheVariants as stop
 use Rattle.client_session.specs.declared.ending.Why.TheVariants as why
@@ -32,33 +31,31 @@ use Rattle.client_session.specs.declared.turn.SessionTurn.TheVariants as turn
 
 -- ---- a refused head
 
-nothing_added : (rows rows' : List Served) → rows' ≡ rows → rows' ≡ rows ++ []
-nothing_added rows rows' is = is ∙ sym (append-nil rows)
-
 same_again : (read n : ClientStanding) → n ≡ record read { client = n.client } → n.client ≡ read.client → n ≡ read
 same_again read n alone same = alone ∙ ap (λ (c : Moment). record read { client = c }) same
 
 rose_since : (first before now : ℕ) → before ≡ first → Rose before now → Rose first now
 rose_since first before now is rose = subst (λ (k : ℕ). Rose k now) is rose
 
-pub refuses : (v : Visit) (number : ℕ) (s read n : ClientStanding) (form : Form) (rows rows' : List Served) (stop' : SessionStop) → ReadsRefused s read form
-    → n ≡ record read { client = n.client } → RefusesHead form read.client n.client rows rows' stop' → Turns v number s n rows rows' (turn.EndsAt stop')
-refuses v number s read n form rows rows' stop' reads alone (inl wanted) =
-    subst (λ (x : SessionStop). Turns v number s n rows rows' (turn.EndsAt x)) (sym wanted.0)
-    ([], nothing_added rows rows' wanted.2, inl (refl, inr (inr (inl (read, form, reads, same_again read n alone wanted.1)))))
-refuses v number s read n form rows rows' (stop.Closed why.ByClient) reads alone (inr written) = absurd written.0
-refuses v number s read n form rows rows' (stop.Closed why.Last) reads alone (inr written) = absurd written.0
-refuses v number s read n form rows rows' (stop.Closed (why.Own code)) reads alone (inr written) =
-    subst (λ (c : ℕ). Turns v number s n rows rows' (turn.EndsAt (stop.Closed (why.Own c)))) (sym written.0.0) (
+pub refuses : (v : Visit) (number : ℕ) (s read n : ClientStanding) (form : Form) (puts : List Served → Type 0) (stop' : SessionStop) → ReadsRefused s read form
+    → n ≡ record read { client = n.client } → RefusesHead form read.client n.client puts stop' → Turns v number s n puts (turn.EndsAt stop')
+refuses v number s read n form puts stop' reads alone (inl wanted) =
+    subst (λ (x : SessionStop). Turns v number s n puts (turn.EndsAt x)) (sym wanted.0)
+    ([], wanted.2, inl (refl, refl, inr (inr (inl (read, form, reads, same_again read n alone wanted.1)))))
+refuses v number s read n form puts (stop.Closed why.ByClient) reads alone (inr written) = absurd written.0
+refuses v number s read n form puts (stop.Closed why.Idle) reads alone (inr written) = absurd written.0
+refuses v number s read n form puts (stop.Closed why.Last) reads alone (inr written) = absurd written.0
+refuses v number s read n form puts (stop.Closed (why.Own code)) reads alone (inr written) =
+    subst (λ (c : ℕ). Turns v number s n puts (turn.EndsAt (stop.Closed (why.Own c)))) (sym written.0.0) (
       refused_row (status_of form) ∷ [],
       written.1,
       (refl, inl (record { read = read; form = form; reads = reads; status = refl; written = record { puts = written.0.1; alone = alone } }, refl)),
     )
-refuses v number s read n form rows rows' (stop.Closed why.Cut) reads alone (inr written) = absurd written.0
-refuses v number s read n form rows rows' (stop.Closed why.Unread) reads alone (inr written) = absurd written.0
-refuses v number s read n form rows rows' stop.ClientFault reads alone (inr written) = (
+refuses v number s read n form puts (stop.Closed why.Cut) reads alone (inr written) = absurd written.0
+refuses v number s read n form puts (stop.Closed why.Unread) reads alone (inr written) = absurd written.0
+refuses v number s read n form puts stop.ClientFault reads alone (inr written) = (
   [],
-  nothing_added rows rows' written.1,
+  written.1,
   inl (
     refl,
     refl,
@@ -66,47 +63,50 @@ refuses v number s read n form rows rows' stop.ClientFault reads alone (inr writ
     inr (inl (record { read = read; form = form; reads = reads; begun = record { puts = written.0.1; alone = alone } })),
   ),
 )
-refuses v number s read n form rows rows' stop.Truncated reads alone (inr written) = absurd written.0
-refuses v number s read n form rows rows' (stop.Stray ticket returned_at) reads alone (inr written) = absurd written.0
-refuses v number s read n form rows rows' stop.NoMemory reads alone (inr written) = (
+refuses v number s read n form puts stop.Truncated reads alone (inr written) = absurd written.0
+refuses v number s read n form puts (stop.Stray ticket returned_at) reads alone (inr written) = absurd written.0
+refuses v number s read n form puts stop.NoMemory reads alone (inr written) = (
   [],
-  nothing_added rows rows' written.1,
-  inl (refl, inr (inl (record { read = read; form = form; reads = reads; begun = record { puts = written.0; alone = alone } }))),
+  written.1,
+  inl (refl, refl, inr (inl (record { read = read; form = form; reads = reads; wanted = record { puts = written.0; alone = alone } }))),
 )
 
-refused_meets : (form : Form) (s n : Moment) (rows rows' : List Served) (stop' : SessionStop) (desk : DeskState) → RefusesHead form s n rows rows' stop'
-    → MeetsBy (end_of stop' 0) desk desk
-refused_meets form s n rows rows' stop' desk (inl wanted) = subst (λ (x : SessionStop). MeetsBy (end_of x 0) desk desk) (sym wanted.0) (none_met desk)
-refused_meets form s n rows rows' (stop.Closed w) desk (inr written) = none_met desk
-refused_meets form s n rows rows' stop.ClientFault desk (inr written) = none_met desk
-refused_meets form s n rows rows' stop.Truncated desk (inr written) = none_met desk
-refused_meets form s n rows rows' (stop.Stray ticket returned_at) desk (inr written) = absurd written.0
-refused_meets form s n rows rows' stop.NoMemory desk (inr written) = none_met desk
+refused_meets : (form : Form) (s n : Moment) (puts : List Served → Type 0) (stop' : SessionStop) (desk : DeskState) → RefusesHead form s n puts stop'
+    → MeetsBy stop' desk desk
+refused_meets form s n puts stop' desk (inl wanted) = subst (λ (x : SessionStop). MeetsBy x desk desk) (sym wanted.0) (none_met desk)
+refused_meets form s n puts (stop.Closed w) desk (inr written) = none_met desk
+refused_meets form s n puts stop.ClientFault desk (inr written) = none_met desk
+refused_meets form s n puts stop.Truncated desk (inr written) = none_met desk
+refused_meets form s n puts (stop.Stray ticket returned_at) desk (inr written) = absurd written.0
+refused_meets form s n puts stop.NoMemory desk (inr written) = none_met desk
 
-refused_rises : (form : Form) (first : ℕ) (s n : Moment) (rows rows' : List Served) (stop' : SessionStop) → s.faults ≡ first → RefusesHead form s n rows rows' stop'
-    → RisesBy (end_of stop' 0) first n.faults
-refused_rises form first s n rows rows' stop' steady (inl wanted) = subst (λ (x : SessionStop). RisesBy (end_of x 0) first n.faults) (sym wanted.0) tt
-refused_rises form first s n rows rows' (stop.Closed why.ByClient) steady (inr written) = absurd written.0
-refused_rises form first s n rows rows' (stop.Closed why.Last) steady (inr written) = absurd written.0
-refused_rises form first s n rows rows' (stop.Closed (why.Own code)) steady (inr written) = written.0.1.steady ∙ steady
-refused_rises form first s n rows rows' (stop.Closed why.Cut) steady (inr written) = absurd written.0
-refused_rises form first s n rows rows' (stop.Closed why.Unread) steady (inr written) = absurd written.0
-refused_rises form first s n rows rows' stop.ClientFault steady (inr written) = rose_since _ _ _ steady written.0.0
-refused_rises form first s n rows rows' stop.Truncated steady (inr written) = absurd written.0
-refused_rises form first s n rows rows' (stop.Stray ticket returned_at) steady (inr written) = tt
-refused_rises form first s n rows rows' stop.NoMemory steady (inr written) = tt
+refused_rises : (form : Form) (first : ℕ) (s n : Moment) (puts : List Served → Type 0) (stop' : SessionStop) → s.faults ≡ first → RefusesHead form s n puts stop'
+    → RisesBy stop' first n.faults
+refused_rises form first s n puts stop' steady (inl wanted) =
+    subst (λ (x : SessionStop). RisesBy x first n.faults) (sym wanted.0) (ap (λ (m : Moment). m.faults) wanted.1 ∙ steady)
+refused_rises form first s n puts (stop.Closed why.ByClient) steady (inr written) = absurd written.0
+refused_rises form first s n puts (stop.Closed why.Idle) steady (inr written) = absurd written.0
+refused_rises form first s n puts (stop.Closed why.Last) steady (inr written) = absurd written.0
+refused_rises form first s n puts (stop.Closed (why.Own code)) steady (inr written) = written.0.1.steady ∙ steady
+refused_rises form first s n puts (stop.Closed why.Cut) steady (inr written) = absurd written.0
+refused_rises form first s n puts (stop.Closed why.Unread) steady (inr written) = absurd written.0
+refused_rises form first s n puts stop.ClientFault steady (inr written) = rose_since _ _ _ steady written.0.0
+refused_rises form first s n puts stop.Truncated steady (inr written) = absurd written.0
+refused_rises form first s n puts (stop.Stray ticket returned_at) steady (inr written) = tt
+refused_rises form first s n puts stop.NoMemory steady (inr written) = written.0.steady ∙ steady
 
-refused_no_fewer : (form : Form) (s n : Moment) (rows rows' : List Served) (stop' : SessionStop) → RefusesHead form s n rows rows' stop' → s.faults ≤ n.faults
-refused_no_fewer form s n rows rows' stop' (inl wanted) = subst (λ (m : Moment). s.faults ≤ m.faults) (sym wanted.1) (omega arith)
-refused_no_fewer form s n rows rows' (stop.Closed why.ByClient) (inr written) = absurd written.0
-refused_no_fewer form s n rows rows' (stop.Closed why.Last) (inr written) = absurd written.0
-refused_no_fewer form s n rows rows' (stop.Closed (why.Own code)) (inr written) = omega (arith, written.0.1.steady)
-refused_no_fewer form s n rows rows' (stop.Closed why.Cut) (inr written) = absurd written.0
-refused_no_fewer form s n rows rows' (stop.Closed why.Unread) (inr written) = absurd written.0
-refused_no_fewer form s n rows rows' stop.ClientFault (inr written) = written.0.1.no_fewer
-refused_no_fewer form s n rows rows' stop.Truncated (inr written) = absurd written.0
-refused_no_fewer form s n rows rows' (stop.Stray ticket returned_at) (inr written) = absurd written.0
-refused_no_fewer form s n rows rows' stop.NoMemory (inr written) = written.0.no_fewer
+refused_no_fewer : (form : Form) (s n : Moment) (puts : List Served → Type 0) (stop' : SessionStop) → RefusesHead form s n puts stop' → s.faults ≤ n.faults
+refused_no_fewer form s n puts stop' (inl wanted) = subst (λ (m : Moment). s.faults ≤ m.faults) (sym wanted.1) (omega arith)
+refused_no_fewer form s n puts (stop.Closed why.ByClient) (inr written) = absurd written.0
+refused_no_fewer form s n puts (stop.Closed why.Idle) (inr written) = absurd written.0
+refused_no_fewer form s n puts (stop.Closed why.Last) (inr written) = absurd written.0
+refused_no_fewer form s n puts (stop.Closed (why.Own code)) (inr written) = omega (arith, written.0.1.steady)
+refused_no_fewer form s n puts (stop.Closed why.Cut) (inr written) = absurd written.0
+refused_no_fewer form s n puts (stop.Closed why.Unread) (inr written) = absurd written.0
+refused_no_fewer form s n puts stop.ClientFault (inr written) = written.0.1.no_fewer
+refused_no_fewer form s n puts stop.Truncated (inr written) = absurd written.0
+refused_no_fewer form s n puts (stop.Stray ticket returned_at) (inr written) = absurd written.0
+refused_no_fewer form s n puts stop.NoMemory (inr written) = omega (arith, written.0.steady)
 
 -- ---- no head
 
@@ -125,103 +125,105 @@ pub record ReadsNoHead (s read : ClientStanding) (e : HeadError) : Type 0 where
 stays : (s read : ClientStanding) (e : HeadError) → ReadsNoHead s read e → StopsReading s read
 stays s read e reads = record { alone = reads.alone; sent = reads.sent; unused = reads.unused; no_fewer = reads.no_fewer }
 
-ends_there : (v : Visit) (number : ℕ) (s read n : ClientStanding) (rows rows' : List Served) (stop' x : SessionStop) → n ≡ record read { client = n.client }
-    → (stop' ≡ x) × (n.client ≡ read.client) × (rows' ≡ rows) → EndsIn v number s read [] (end_of x number) → Turns v number s n rows rows' (turn.EndsAt stop')
-ends_there v number s read n rows rows' stop' x alone stops why' =
-    subst (λ (m : ClientStanding). Turns v number s m rows rows' (turn.EndsAt stop')) (sym (same_again read n alone stops.1))
-    (subst (λ (y : SessionStop). Turns v number s read rows rows' (turn.EndsAt y)) (sym stops.0) ([], nothing_added rows rows' stops.2, why'))
+ends_there : (v : Visit) (number : ℕ) (s read n : ClientStanding) (puts : List Served → Type 0) (stop' x : SessionStop) → n ≡ record read { client = n.client }
+    → (stop' ≡ x) × (n.client ≡ read.client) × puts [] → EndsIn v number s read [] number x → Turns v number s n puts (turn.EndsAt stop')
+ends_there v number s read n puts stop' x alone stops why' =
+    subst (λ (m : ClientStanding). Turns v number s m puts (turn.EndsAt stop')) (sym (same_again read n alone stops.1))
+    (subst (λ (y : SessionStop). Turns v number s read puts (turn.EndsAt y)) (sym stops.0) ([], stops.2, why'))
 
-pub without_head : (v : Visit) (number : ℕ) (s read n : ClientStanding) (e : HeadError) (rows rows' : List Served) (stop' : SessionStop) → ReadsNoHead s read e
-    → n ≡ record read { client = n.client } → StopsWithoutHead e read.client n.client rows rows' stop' → Turns v number s n rows rows' (turn.EndsAt stop')
-without_head v number s read n (error.Refused status form) rows rows' stop' reads alone stops =
-    refuses v number s read n form rows rows' stop'
+pub without_head : (v : Visit) (number : ℕ) (s read n : ClientStanding) (e : HeadError) (puts : List Served → Type 0) (stop' : SessionStop) → ReadsNoHead s read e
+    → n ≡ record read { client = n.client } → StopsWithoutHead e read.client n.client puts stop' → Turns v number s n puts (turn.EndsAt stop')
+without_head v number s read n (error.Refused status form) puts stop' reads alone stops =
+    refuses v number s read n form puts stop'
     (record { refused = reads.refused.1; unused = reads.unused; on = record { alone = reads.alone; sent = reads.sent; steady = reads.steady tt } }) alone stops
-without_head v number s read n error.Truncated rows rows' stop' reads alone stops =
+without_head v number s read n error.Truncated puts stop' reads alone stops =
     let cut = reads.truncated refl in
-    ends_there v number s read n rows rows' stop' stop.Truncated alone stops
+    ends_there v number s read n puts stop' stop.Truncated alone stops
     (inl (refl, refl, inl (record { within = cut.0; over = cut.1; unused = reads.unused; on = record { alone = reads.alone; sent = reads.sent; steady = reads.steady tt } })))
-without_head v number s read n error.Fault rows rows' stop' reads alone stops =
-    ends_there v number s read n rows rows' stop' stop.ClientFault alone stops
+without_head v number s read n error.Fault puts stop' reads alone stops =
+    ends_there v number s read n puts stop' stop.ClientFault alone stops
     (inl (refl, refl, reads.fault refl, inl (record { stops = stays s read error.Fault reads; awaited = reads.awaited refl })))
-without_head v number s read n error.NoMemory rows rows' stop' reads alone stops =
-    ends_there v number s read n rows rows' stop' stop.NoMemory alone stops (inl (refl, inl (stays s read error.NoMemory reads)))
+without_head v number s read n error.NoMemory puts stop' reads alone stops =
+    ends_there v number s read n puts stop' stop.NoMemory alone stops (inl (refl, refl, inl (record { stops = stays s read error.NoMemory reads; steady = reads.steady tt })))
 
-pub meets_without_head : (e : HeadError) (s n : Moment) (rows rows' : List Served) (stop' : SessionStop) (desk : DeskState) → StopsWithoutHead e s n rows rows' stop'
-    → MeetsBy (end_of stop' 0) desk desk
-meets_without_head (error.Refused status form) s n rows rows' stop' desk stops = refused_meets form s n rows rows' stop' desk stops
-meets_without_head error.Truncated s n rows rows' stop' desk stops = subst (λ (x : SessionStop). MeetsBy (end_of x 0) desk desk) (sym stops.0) (none_met desk)
-meets_without_head error.Fault s n rows rows' stop' desk stops = subst (λ (x : SessionStop). MeetsBy (end_of x 0) desk desk) (sym stops.0) (none_met desk)
-meets_without_head error.NoMemory s n rows rows' stop' desk stops = subst (λ (x : SessionStop). MeetsBy (end_of x 0) desk desk) (sym stops.0) (none_met desk)
+pub meets_without_head : (e : HeadError) (s n : Moment) (puts : List Served → Type 0) (stop' : SessionStop) (desk : DeskState) → StopsWithoutHead e s n puts stop'
+    → MeetsBy stop' desk desk
+meets_without_head (error.Refused status form) s n puts stop' desk stops = refused_meets form s n puts stop' desk stops
+meets_without_head error.Truncated s n puts stop' desk stops = subst (λ (x : SessionStop). MeetsBy x desk desk) (sym stops.0) (none_met desk)
+meets_without_head error.Fault s n puts stop' desk stops = subst (λ (x : SessionStop). MeetsBy x desk desk) (sym stops.0) (none_met desk)
+meets_without_head error.NoMemory s n puts stop' desk stops = subst (λ (x : SessionStop). MeetsBy x desk desk) (sym stops.0) (none_met desk)
 
-pub rises_without_head : (s read : ClientStanding) (n : Moment) (e : HeadError) (rows rows' : List Served) (stop' : SessionStop) → ReadsNoHead s read e
-    → StopsWithoutHead e read.client n rows rows' stop' → RisesBy (end_of stop' 0) s.client.faults n.faults
-rises_without_head s read n (error.Refused status form) rows rows' stop' reads stops =
-    refused_rises form s.client.faults read.client n rows rows' stop' (reads.steady tt) stops
-rises_without_head s read n error.Truncated rows rows' stop' reads stops =
-    subst (λ (x : SessionStop). RisesBy (end_of x 0) s.client.faults n.faults) (sym stops.0)
+pub rises_without_head : (s read : ClientStanding) (n : Moment) (e : HeadError) (puts : List Served → Type 0) (stop' : SessionStop) → ReadsNoHead s read e
+    → StopsWithoutHead e read.client n puts stop' → RisesBy stop' s.client.faults n.faults
+rises_without_head s read n (error.Refused status form) puts stop' reads stops =
+    refused_rises form s.client.faults read.client n puts stop' (reads.steady tt) stops
+rises_without_head s read n error.Truncated puts stop' reads stops =
+    subst (λ (x : SessionStop). RisesBy x s.client.faults n.faults) (sym stops.0)
     (ap (λ (m : Moment). m.faults) stops.1 ∙ reads.steady tt)
-rises_without_head s read n error.Fault rows rows' stop' reads stops =
-    subst (λ (x : SessionStop). RisesBy (end_of x 0) s.client.faults n.faults) (sym stops.0)
+rises_without_head s read n error.Fault puts stop' reads stops =
+    subst (λ (x : SessionStop). RisesBy x s.client.faults n.faults) (sym stops.0)
     (subst (λ (m : Moment). Rose s.client.faults m.faults) (sym stops.1) (reads.fault refl))
-rises_without_head s read n error.NoMemory rows rows' stop' reads stops = subst (λ (x : SessionStop). RisesBy (end_of x 0) s.client.faults n.faults) (sym stops.0) tt
+rises_without_head s read n error.NoMemory puts stop' reads stops =
+    subst (λ (x : SessionStop). RisesBy x s.client.faults n.faults) (sym stops.0)
+    (ap (λ (m : Moment). m.faults) stops.1 ∙ reads.steady tt)
 
-pub no_fewer_without_head : (e : HeadError) (s n : Moment) (rows rows' : List Served) (stop' : SessionStop) → StopsWithoutHead e s n rows rows' stop' → s.faults ≤ n.faults
-no_fewer_without_head (error.Refused status form) s n rows rows' stop' stops = refused_no_fewer form s n rows rows' stop' stops
-no_fewer_without_head error.Truncated s n rows rows' stop' stops = subst (λ (m : Moment). s.faults ≤ m.faults) (sym stops.1) (omega arith)
-no_fewer_without_head error.Fault s n rows rows' stop' stops = subst (λ (m : Moment). s.faults ≤ m.faults) (sym stops.1) (omega arith)
-no_fewer_without_head error.NoMemory s n rows rows' stop' stops = subst (λ (m : Moment). s.faults ≤ m.faults) (sym stops.1) (omega arith)
+pub no_fewer_without_head : (e : HeadError) (s n : Moment) (puts : List Served → Type 0) (stop' : SessionStop) → StopsWithoutHead e s n puts stop' → s.faults ≤ n.faults
+no_fewer_without_head (error.Refused status form) s n puts stop' stops = refused_no_fewer form s n puts stop' stops
+no_fewer_without_head error.Truncated s n puts stop' stops = subst (λ (m : Moment). s.faults ≤ m.faults) (sym stops.1) (omega arith)
+no_fewer_without_head error.Fault s n puts stop' stops = subst (λ (m : Moment). s.faults ≤ m.faults) (sym stops.1) (omega arith)
+no_fewer_without_head error.NoMemory s n puts stop' stops = subst (λ (m : Moment). s.faults ≤ m.faults) (sym stops.1) (omega arith)
 
 -- the client's bytes ended between two requests
-pub ends_by_client : (v : Visit) (number : ℕ) (s n : ClientStanding) (rows : List Served) → ReadsEnd s n
-    → Turns v number s n rows rows (turn.EndsAt (stop.Closed why.ByClient))
-ends_by_client v number s n rows reads = ([], sym (append-nil rows), (refl, reads, refl))
+pub ends_by_client : (v : Visit) (number : ℕ) (s n : ClientStanding) (puts : List Served → Type 0) → puts [] → ReadsEnd s n
+    → Turns v number s n puts (turn.EndsAt (stop.Closed why.ByClient))
+ends_by_client v number s n puts none reads = ([], none, (refl, reads, refl))
 
 -- ---- one request after the other
 
--- That number of requests was served since the beginning, and the rows are theirs.
-pub record IsUnderWay (v : Visit) (number : ℕ) (s now : ClientStanding) (rows rows_now : List Served) : Type 0 where
+-- That number of requests was served since the beginning, and their rows were put.
+pub record IsUnderWay (v : Visit) (number : ℕ) (s now : ClientStanding) (puts : List Served → Type 0) : Type 0 where
   pub before : List Served
   pub served : HaveServed v number s now before
-  pub added : rows_now ≡ rows ++ before
+  pub added : puts before
 
-pub begins : (v : Visit) (s : ClientStanding) (rows : List Served) → IsUnderWay v 0 s s rows rows
-begins v s rows = record { before = []; served = (refl, refl); added = sym (append-nil rows) }
-
-joined : (rows mid now before last : List Served) → mid ≡ rows ++ before → now ≡ mid ++ last → now ≡ rows ++ (before ++ last)
-joined rows mid now before last first second =
-    second ∙ ap (λ (xs : List Served). xs ++ last) first ∙ append_assoc rows before last
+pub begins : (v : Visit) (s : ClientStanding) (puts : List Served → Type 0) → puts [] → IsUnderWay v 0 s s puts
+begins v s puts none = record { before = []; served = (refl, refl); added = none }
 
 one_more : (v : Visit) (number : ℕ) (s n : ClientStanding) (rows : List Served) → HaveServed v (suc number) s n rows → HaveServed v (number + 1) s n rows
 one_more v number s n rows served =
     let next : suc number ≡ number + 1 = omega arith in
     subst (λ (k : ℕ). HaveServed v k s n rows) next served
 
-pub goes_on : (v : Visit) (number : ℕ) (s mid n : ClientStanding) (rows rows_mid rows_now : List Served) → IsUnderWay v number s mid rows rows_mid
-    → Turns v number mid n rows_mid rows_now turn.Next → IsUnderWay v (number + 1) s n rows rows_now
-goes_on v number s mid n rows rows_mid rows_now way turned = record {
+-- rows that were put after others
+abbrev pub PutOn : (puts more all : List Served → Type 0) → Type 0
+PutOn puts more all = (xs ys : List Served) → puts xs → more ys → all (xs ++ ys)
+
+pub goes_on : (v : Visit) (number : ℕ) (s mid n : ClientStanding) (puts more all : List Served → Type 0) → PutOn puts more all → IsUnderWay v number s mid puts
+    → Turns v number mid n more turn.Next → IsUnderWay v (number + 1) s n all
+goes_on v number s mid n puts more all on way turned = record {
   before = way.before ++ turned.0;
   served = one_more v number s n (way.before ++ turned.0) (mid, way.before, turned.0, way.served, turned.2, refl);
-  added = joined rows rows_mid rows_now way.before turned.0 way.added turned.1;
+  added = on way.before turned.0 way.added turned.1;
 }
 
-pub ends : (v : Visit) (number : ℕ) (s mid n : ClientStanding) (rows rows_mid rows_now added : List Served) (end : SessionEnd)
-    → IsUnderWay v number s mid rows rows_mid → rows_now ≡ rows_mid ++ added → EndsIn v number mid n added end
-    → (gained : List Served) × (rows_now ≡ rows ++ gained) × IsSession v s n gained end
-ends v number s mid n rows rows_mid rows_now added end way more ending = (
+pub ends : (v : Visit) (number requests : ℕ) (s mid n : ClientStanding) (puts more all : List Served → Type 0) (added : List Served) (stop' : SessionStop)
+    → PutOn puts more all → IsUnderWay v number s mid puts → more added → EndsIn v number mid n added requests stop'
+    → (gained : List Served) × all gained × IsSession v s n gained (end_of stop' requests)
+ends v number requests s mid n puts more all added stop' on way put ending = (
   way.before ++ added,
-  joined rows rows_mid rows_now way.before added way.added more,
+  on way.before added way.added put,
   record { number = number; mid = mid; before = way.before; last = added; served = way.served; ends = ending; joined = refl },
 )
 
 -- a session that wanted memory before it read anything
-pub unbegun : (v : Visit) (s : ClientStanding) (rows : List Served) → IsSession v s s [] session_end.NoMemory
-unbegun v s rows = record {
+pub unbegun : (v : Visit) (s : ClientStanding) → IsSession v s s [] (end_of stop.NoMemory 0)
+unbegun v s = record {
   number = 0;
   mid = s;
   before = [];
   last = [];
   served = (refl, refl);
-  ends = inl (refl, inl (record { alone = refl; sent = refl; unused = refl; no_fewer = omega arith }));
+  ends = inl (refl, refl, inl (record { stops = record { alone = refl; sent = refl; unused = refl; no_fewer = omega arith }; steady = refl }));
   joined = refl;
 }
 
@@ -243,30 +245,50 @@ pub ready_same : (v : Visit) (old new : DeskState) (beside beside' : Beside) →
 ready_same v old new beside beside' ready kept same =
     ready_again v old new beside beside' ready kept (ap (λ (b : Beside). b.sizes) same) (ap (λ (b : Beside). b.runs) same ∙ ready.idle)
 
-pub rises_on : (end : SessionEnd) (before mid now : ℕ) → mid ≡ before → RisesBy end mid now → RisesBy end before now
-rises_on (session_end.Closed requests why') before mid now same rises = rises ∙ same
-rises_on (session_end.ClientFault requests) before mid now same rises = rose_since before mid now same rises
-rises_on (session_end.Truncated requests) before mid now same rises = rises ∙ same
-rises_on (session_end.Stray ticket returned_at) before mid now same rises = tt
-rises_on session_end.NoMemory before mid now same rises = tt
-
-risen_by : (stop' : SessionStop) (count before now : ℕ) → RisesBy (end_of stop' 0) before now → RisesBy (end_of stop' count) before now
-risen_by (stop.Closed why') count before now rises = rises
-risen_by stop.ClientFault count before now rises = rises
-risen_by stop.Truncated count before now rises = rises
-risen_by (stop.Stray ticket returned_at) count before now rises = rises
-risen_by stop.NoMemory count before now rises = rises
+pub rises_on : (stop' : SessionStop) (before mid now : ℕ) → mid ≡ before → RisesBy stop' mid now → RisesBy stop' before now
+rises_on (stop.Closed why') before mid now same rises = rises ∙ same
+rises_on stop.ClientFault before mid now same rises = rose_since before mid now same rises
+rises_on stop.Truncated before mid now same rises = rises ∙ same
+rises_on (stop.Stray ticket returned_at) before mid now same rises = tt
+rises_on stop.NoMemory before mid now same rises = rises ∙ same
 
 pub risen_at_end : (stop' : SessionStop) (count : ℕ) (end : SessionEnd) (before mid now : ℕ) → end ≡ end_of stop' count → mid ≡ before
-    → RisesBy (end_of stop' 0) mid now → RisesBy end before now
+    → RisesBy stop' mid now → RisesBy end.stop before now
 risen_at_end stop' count end before mid now is same rises =
-    subst (λ (x : SessionEnd). RisesBy x before now) (sym is) (rises_on (end_of stop' count) before mid now same (risen_by stop' count mid now rises))
+    subst (λ (x : SessionEnd). RisesBy x.stop before now) (sym is) (rises_on stop' before mid now same rises)
 
 -- the last request's turn, as the end of the session
-pub ended : (v : Visit) (number : ℕ) (s mid n : ClientStanding) (rows rows_mid rows_now : List Served) (stop' : SessionStop) (count : ℕ) (end : SessionEnd)
-    → IsUnderWay v number s mid rows rows_mid → end ≡ end_of stop' count
-    → (added : List Served) × (rows_now ≡ rows_mid ++ added) × EndsIn v number mid n added (end_of stop' count)
-    → (gained : List Served) × (rows_now ≡ rows ++ gained) × IsSession v s n gained end
-ended v number s mid n rows rows_mid rows_now stop' count end way is turned =
-    ends v number s mid n rows rows_mid rows_now turned.0 end way turned.1
-    (subst (λ (x : SessionEnd). EndsIn v number mid n turned.0 x) (sym is) turned.2)
+pub ended : (v : Visit) (number : ℕ) (s mid n : ClientStanding) (puts more all : List Served → Type 0) (stop' : SessionStop) (count : ℕ) (end : SessionEnd)
+    → PutOn puts more all → IsUnderWay v number s mid puts → end ≡ end_of stop' count
+    → (added : List Served) × more added × EndsIn v number mid n added count stop'
+    → (gained : List Served) × all gained × IsSession v s n gained end
+ended v number s mid n puts more all stop' count end on way is turned =
+    subst (λ (x : SessionEnd). (gained : List Served) × all gained × IsSession v s n gained x) (sym is)
+    (ends v number count s mid n puts more all turned.0 stop' on way turned.1 turned.2)
+
+-- a look at the client changed nothing that is told
+pub same_client : (mid : ClientStanding) (client : Moment) → client ≡ mid.client → record mid { client = client } ≡ mid
+same_client mid client same = ap (λ (m : Moment). record mid { client = m }) same
+
+pub still_under_way : (v : Visit) (number : ℕ) (s mid : ClientStanding) (client : Moment) (puts : List Served → Type 0) → client ≡ mid.client → IsUnderWay v number s mid puts
+    → IsUnderWay v number s (record mid { client = client }) puts
+still_under_way v number s mid client puts same way = subst (λ (x : ClientStanding). IsUnderWay v number s x puts) (sym (same_client mid client same)) way
+
+-- nothing of a next request was read
+pub idles : (v : Visit) (number : ℕ) (s mid n : ClientStanding) (puts : List Served → Type 0) (end : SessionEnd) → IsUnderWay v number s mid puts → 0 < number
+    → mid.inbox ≡ [] → n ≡ mid → end ≡ end_of (stop.Closed why.Idle) number
+    → (gained : List Served) × puts gained × IsSession v s n gained end
+idles v number s mid n puts end way some none same is =
+    subst (λ (x : SessionEnd). (gained : List Served) × puts gained × IsSession v s n gained x) (sym is) (
+      way.before,
+      way.added,
+      record {
+        number = number;
+        mid = mid;
+        before = way.before;
+        last = [];
+        served = way.served;
+        ends = (refl, some, none, same, refl);
+        joined = sym (append-nil way.before);
+      },
+    )

@@ -5,14 +5,14 @@ use Rattle.http_front.specs.declared.head.Head.{Head}
 use Rattle.http_out.specs.Own.{own_of}
 use Rattle.site_config.specs.declared.config.Status.{Status}
 use Rattle.exchange.specs.Requests.{is_head}
-use Rattle.client_session.specs.Answers.{HasPage, IsStatusAnswer, IsStatusBegun, own_for}
+use Rattle.client_session.specs.Answers.{HasPage, IsStatusAnswer, IsStatusBegun, IsStatusLess, own_for}
 use Rattle.status_worker.specs.Commanding.{IsPageCode}
 use Rattle.status_worker.specs.Commands.{IsBroken, IsDone, TurnsAway}
 use Rattle.status_worker.specs.Pages.{IsPage}
 use Rattle.client_session.specs.Requests.{Visit, visit_of}
 use Rattle.balancer_core.specs.Desks.{DeskState}
 use Rattle.status_worker.specs.Desks.{DeskSide}
-use Rattle.client_session.specs.Standings.{Puts, PutsPart, ClientStanding}
+use Rattle.client_session.specs.Standings.{Puts, PutsLess, PutsPart, ClientStanding}
 use Rattle.client_session.specs.Surroundings.{SendsPage, Shows}
 use Rattle.client_session.specs.Writing.{WritesOwn, WritesPart}
 use Rattle.client_session.specs.declared.ending.SessionStop.{SessionStop}
@@ -43,10 +43,17 @@ own_begun : (v : Visit) (status : Status) (head : Head) (last : Bool) (s : Clien
 own_begun v status head last s d w code turned puts =
     inr (asked_on s d, code, record { turned = turned; alone = refl }, record { puts = puts; alone = refl })
 
+own_less : (v : Visit) (status : Status) (head : Head) (last : Bool) (s : ClientStanding) (d : DeskSide) (w : Moment) (code : ℕ)
+    → TurnsAway v.cfg v.session status head.query s.desk d code → PutsLess s.client w (own_for code (is_head head))
+    → IsStatusLess v status head last s (written_on s d w)
+own_less v status head last s d w code turned puts =
+    inr (asked_on s d, code, record { turned = turned; alone = refl }, record { puts = puts; alone = refl })
+
 pub own_answered : (v : Visit) (status : Status) (head : Head) (last : Bool) (s : ClientStanding) (d : DeskSide) (w : Moment) (code : ℕ) (stop' : SessionStop)
     → TurnsAway v.cfg v.session status head.query s.desk d code → IsSome (own_of code) → WritesOwn code (is_head head) s.client w stop'
     → IsStatusAnswer v status head last s (written_on s d w) (Err stop')
 own_answered v status head last s d w code (stop.Closed why.ByClient) turned known writes = absurd writes
+own_answered v status head last s d w code (stop.Closed why.Idle) turned known writes = absurd writes
 own_answered v status head last s d w code (stop.Closed why.Last) turned known writes = absurd writes
 own_answered v status head last s d w code (stop.Closed (why.Own other)) turned known writes =
     subst (λ (n : ℕ). IsStatusAnswer v status head last s (written_on s d w) (Err (stop.Closed (why.Own n)))) (sym writes.0)
@@ -57,7 +64,7 @@ own_answered v status head last s d w code stop.ClientFault turned known writes 
     (writes.0, own_begun v status head last s d w code turned writes.1)
 own_answered v status head last s d w code stop.Truncated turned known writes = absurd writes
 own_answered v status head last s d w code (stop.Stray ticket returned_at) turned known writes = absurd writes
-own_answered v status head last s d w code stop.NoMemory turned known writes = inl (own_begun v status head last s d w code turned writes)
+own_answered v status head last s d w code stop.NoMemory turned known writes = inl (own_less v status head last s d w code turned writes)
 
 has_page : (v : Visit) (status : Status) (query : Option (List ℕ)) (s : ClientStanding) (d : DeskSide) (only : Option ℕ) (head_only last : Bool) (page : Page)
     → IsDone v.cfg v.session status query s.desk d only → (seen : IsPage v.cfg d.state only head_only last page)
@@ -93,6 +100,17 @@ page_begun v status head last s d w only page done seen puts =
       record { puts = rw (← seen.2) puts; alone = refl },
     )
 
+page_less : (v : Visit) (status : Status) (head : Head) (last : Bool) (s : ClientStanding) (d : DeskSide) (w : Moment) (only : Option ℕ) (page : Page)
+    → IsDone v.cfg v.session status head.query s.desk d only → IsPage v.cfg d.state only (is_head head) last page → PutsLess s.client w page.reply
+    → IsStatusLess v status head last s (written_on s d w)
+page_less v status head last s d w only page done seen puts =
+    inl (
+      asked_on s d,
+      page_of seen.0,
+      has_page v status head.query s d only (is_head head) last page done seen,
+      record { puts = rw (← seen.2) puts; alone = refl },
+    )
+
 page_broken : (v : Visit) (status : Status) (head : Head) (last : Bool) (s : ClientStanding) (d : DeskSide) (w : Moment) (only : Option ℕ) (page : Page) (stop' : SessionStop)
     → IsDone v.cfg v.session status head.query s.desk d only → IsPage v.cfg d.state only (is_head head) last page
     → WritesPart {T = Unit {0}} page.reply s.client w (Err stop') → IsStatusAnswer v status head last s (written_on s d w) (Err stop')
@@ -101,7 +119,7 @@ page_broken v status head last s d w only page stop.ClientFault done seen writes
     (writes.0, page_begun v status head last s d w only page done seen writes.1)
 page_broken v status head last s d w only page stop.Truncated done seen writes = absurd writes
 page_broken v status head last s d w only page (stop.Stray ticket returned_at) done seen writes = absurd writes
-page_broken v status head last s d w only page stop.NoMemory done seen writes = inl (page_begun v status head last s d w only page done seen writes)
+page_broken v status head last s d w only page stop.NoMemory done seen writes = inl (page_less v status head last s d w only page done seen writes)
 
 nothing_seen : (v : Visit) (status : Status) (head : Head) (last : Bool) (s : ClientStanding) (d : DeskSide) (only : Option ℕ)
     → IsDone v.cfg v.session status head.query s.desk d only → IsStatusAnswer v status head last s (asked_on s d) (Err stop.NoMemory)

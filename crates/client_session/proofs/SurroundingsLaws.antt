@@ -1,23 +1,17 @@
 -- What was lent came back: what is said of the struct is said of each value by itself.
-use Rattle.std.proofs.Common.{◌≡◌, ◌≤◌, ℕ, List, Option, ap, arith}
+use Rattle.std.proofs.Common.{◌≡◌, ◌≤◌, ℕ, List, Option, Some, slice_get, sym, ap, ◌∙◌, subst, arith}
 use Rattle.jk_io.specs.declared.reaching.Beside.{Beside}
 use Rattle.jk_io.specs.declared.traits.streams.Meanings.{Ghosts}
-use Rattle.jk_model.specs.declared.served.Served.{Served}
+use Rattle.http_body_in.specs.declared.body.BodyIn.{BodyIn}
+use Rattle.site_config.specs.declared.balancer.Lb.{Lb}
 use Rattle.balancer_core.specs.Desks.{DeskState}
+use Rattle.exchange.specs.Requests.{Errand}
+use Rattle.exchange.specs.declared.ending.ExchangeEnd.{ExchangeEnd}
+use Rattle.client_session.specs.Answers.{IsForwardedAt}
+use Rattle.client_session.specs.Parts.{HasParts}
 use Rattle.client_session.specs.Requests.{Visit}
-use Rattle.client_session.specs.Sessions.{IsSession}
 use Rattle.client_session.specs.Standings.{ClientStanding, standing}
-use Rattle.client_session.specs.Surroundings.{standing_of}
 use Rattle.client_session.specs.declared.ending.SessionEnd.{SessionEnd}
-use Rattle.client_session.specs.declared.surroundings.Surroundings.{Surroundings}
-
-pub came_back : {B K R C X : Type 0} (state : B → DeskState) (answers : K → Option (List ℕ)) (of_reach : Ghosts R Beside) (of_client : Ghosts C X)
-    (m : Surroundings B K R C) (desk : B) (clock : K) (reach : R) (client : C) (v : Visit) (s : ClientStanding) (gained : List Served) (end : SessionEnd)
-    → desk ≡ m.desk.now → clock ≡ m.clock.now → reach ≡ m.reach.now → client ≡ m.client.now
-    → IsSession v s (standing_of state answers of_reach of_client m) gained end
-    → IsSession v s (standing state answers of_reach of_client desk clock reach client m.inbox.now) gained end
-came_back state answers of_reach of_client m desk clock reach client v s gained end is_desk is_clock is_reach is_client did =
-    rw (is_desk, is_clock, is_reach, is_client) did
 
 -- what stayed as it was has no fewer faults
 pub no_fewer_at : {T : Type 0} (faults : T → ℕ) (s n : T) → n ≡ s → faults s ≤ faults n
@@ -26,3 +20,32 @@ no_fewer_at faults s n same = let as_many = ap faults same in omega arith
 -- what fell at no step fell at none of two
 pub no_fewer_twice : (before mid now : ℕ) → before ≤ mid → mid ≤ now → before ≤ now
 no_fewer_twice before mid now first second = omega arith
+
+-- the same of a request that was forwarded
+pub forwarded_back : {B K R C X : Type 0} (state : B → DeskState) (answers : K → Option (List ℕ)) (of_reach : Ghosts R Beside) (of_client : Ghosts C X)
+    (desk : B) (clock : K) (reach reach' : R) (client client' : C) (inbox inbox' : List ℕ) (v : Visit) (q q' : Errand) (s : ClientStanding) (body after after' : BodyIn) (end : ExchangeEnd)
+    → reach' ≡ reach → client' ≡ client → inbox' ≡ inbox → after' ≡ after → q ≡ q'
+    → IsForwardedAt v q s (standing state answers of_reach of_client desk clock reach client inbox) body after end
+    → IsForwardedAt v q' s (standing state answers of_reach of_client desk clock reach' client' inbox') body after' end
+forwarded_back state answers of_reach of_client desk clock reach reach' client client' inbox inbox' v q q' s body after after' end is_reach is_client is_inbox is_after is_errand did =
+    subst (λ (x : Errand). IsForwardedAt v x s (standing state answers of_reach of_client desk clock reach' client' inbox') body after' end) is_errand
+    (rw (is_reach, is_client, is_inbox, is_after) did)
+
+-- two balancers at one place are one
+pub same_balancer : (lbs : List Lb) (lb : ℕ) (a b : Lb) → slice_get lbs lb ≡ Some a → slice_get lbs lb ≡ Some b → a ≡ b
+same_balancer lbs lb a b here there = let both : Some a ≡ Some b = sym here ∙ there in cc
+
+-- what a client has, whatever was read and not used
+pub parts_at : (v : Visit) (s n : ClientStanding) (i j : List ℕ) (end : SessionEnd) → HasParts v s n end → HasParts v (record s { inbox = i }) (record n { inbox = j }) end
+parts_at v s n i j end has = record {
+  number = has.number;
+  parts = has.parts;
+  are = has.are;
+  last = has.last;
+  last_talks = has.last_talks;
+  is_last = has.is_last;
+  left = has.left;
+  used = has.used;
+  written = has.written;
+  talks = has.talks;
+}

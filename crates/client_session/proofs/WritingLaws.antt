@@ -1,24 +1,54 @@
 -- Writing to the client, whole or broken off.
-use Rattle.std.proofs.Common.{◌≡◌, ◌≤◌, ℕ, Bool, List, Result, Ok, Err, refl, arith}
+use Rattle.std.proofs.Common.{◌≡◌, ◌≤◌, ℕ, Bool, List, Option, None, Some, IfSome, IsSome, Result, Ok, Err, refl, arith, true, false, [], ◌∷◌, codes, sym, subst, inr, if◌then◌else◌}
 use Rattle.jk_io.specs.Moments.{Moment}
-use Rattle.jk_io.specs.Told.{Rose}
 use Rattle.jk_io.specs.declared.failures.IoError.{IoError}
 use Rattle.jk_io.specs.declared.failures.IoError.TheVariants as io
-use Rattle.client_session.specs.Standings.{PutsPart}
+use Rattle.exchange.specs.Deliveries.{Delivers}
+use Rattle.http_out.specs.Own.{own_bytes}
+use Rattle.http_out.specs.declared.own_answers.Own.{Own}
+use Rattle.client_session.specs.Answers.{own_bytes_of, own_for}
+use Rattle.http_front.specs.Refusal.{status_of}
+use Rattle.http_front.specs.declared.answers.Form.{Form}
+use Rattle.http_front.specs.declared.head.Head.{Head}
+use Rattle.jk_model.specs.declared.served.Served.{Served}
+use Rattle.client_session.specs.Finishing.{AddsRefused, RefusesHead}
+use Rattle.client_session.specs.Requests.{awaits_continue, continue_for}
+use Rattle.client_session.specs.Sessions.{refused_row}
+use Rattle.client_session.specs.Standings.{Puts}
 use Rattle.client_session.specs.Writing.{WritesOwn, WritesPart, stop_by}
 use Rattle.client_session.specs.declared.ending.SessionStop.{SessionStop}
 use Rattle.client_session.specs.declared.ending.SessionStop.TheVariants as stop
+use Rattle.client_session.specs.declared.ending.Why.{Why}
 use Rattle.client_session.specs.declared.ending.Why.TheVariants as why
 
--- a write was refused, and a front of the bytes was put
-pub part_broken : (T : Type 0) (bytes : List ℕ) (s n : Moment) (error : IoError) → PutsPart s n bytes → (error ≡ io.Failed → Rose s.faults n.faults)
+-- what a delivery answers, as a part that was written or broke off
+pub part_written : (bytes : List ℕ) (s n : Moment) (value : Unit {0}) → Delivers {T = Unit {0}} bytes s n (Ok value) → Puts s n bytes
+part_written bytes s n value delivered =
+    record { sent = delivered.written.0; steady = delivered.written.1; incoming = delivered.incoming; received = delivered.received }
+
+pub part_broken : (T : Type 0) (bytes : List ℕ) (s n : Moment) (error : IoError) → s.faults ≤ n.faults → Delivers {T = Unit {0}} bytes s n (Err error)
     → WritesPart {T = T} bytes s n (Err (stop_by error))
-part_broken T bytes s n io.Failed puts rose = (rose refl, puts)
-part_broken T bytes s n io.NoMemory puts rose = puts
+part_broken T bytes s n io.Failed no_fewer delivered = (
+  delivered.written.1,
+  record { sent = delivered.written.0; no_fewer = no_fewer; incoming = delivered.incoming; received = delivered.received },
+)
+part_broken T bytes s n io.NoMemory no_fewer delivered =
+    record { sent = delivered.written.0; steady = delivered.written.1; incoming = delivered.incoming; received = delivered.received }
+
+-- the same of an own answer
+pub own_broken : (status : ℕ) (head_only : Bool) (s n : Moment) (error : IoError) → s.faults ≤ n.faults
+    → Delivers {T = Unit {0}} (own_for status head_only) s n (Err error) → WritesOwn status head_only s n (stop_by error)
+own_broken status head_only s n io.Failed no_fewer delivered = (
+  delivered.written.1,
+  record { sent = delivered.written.0; no_fewer = no_fewer; incoming = delivered.incoming; received = delivered.received },
+)
+own_broken status head_only s n io.NoMemory no_fewer delivered =
+    record { sent = delivered.written.0; steady = delivered.written.1; incoming = delivered.incoming; received = delivered.received }
 
 -- no write of an own answer takes a fault back
 pub own_no_fewer : (status : ℕ) (head_only : Bool) (s n : Moment) (stop' : SessionStop) → WritesOwn status head_only s n stop' → s.faults ≤ n.faults
 own_no_fewer status head_only s n (stop.Closed why.ByClient) writes = absurd writes
+own_no_fewer status head_only s n (stop.Closed why.Idle) writes = absurd writes
 own_no_fewer status head_only s n (stop.Closed why.Last) writes = absurd writes
 own_no_fewer status head_only s n (stop.Closed (why.Own code)) writes = let steady = writes.1.steady in omega arith
 own_no_fewer status head_only s n (stop.Closed why.Cut) writes = absurd writes
@@ -26,7 +56,7 @@ own_no_fewer status head_only s n (stop.Closed why.Unread) writes = absurd write
 own_no_fewer status head_only s n stop.ClientFault writes = writes.1.no_fewer
 own_no_fewer status head_only s n stop.Truncated writes = absurd writes
 own_no_fewer status head_only s n (stop.Stray ticket returned_at) writes = absurd writes
-own_no_fewer status head_only s n stop.NoMemory writes = writes.no_fewer
+own_no_fewer status head_only s n stop.NoMemory writes = let steady = writes.steady in omega arith
 
 -- nor does a write of other bytes
 pub part_no_fewer : {T : Type 0} (bytes : List ℕ) (s n : Moment) (result : Result T SessionStop) → WritesPart bytes s n result → s.faults ≤ n.faults
@@ -35,4 +65,21 @@ part_no_fewer bytes s n (Err (stop.Closed w)) writes = absurd writes
 part_no_fewer bytes s n (Err stop.ClientFault) writes = writes.1.no_fewer
 part_no_fewer bytes s n (Err stop.Truncated) writes = absurd writes
 part_no_fewer bytes s n (Err (stop.Stray ticket returned_at)) writes = absurd writes
-part_no_fewer bytes s n (Err stop.NoMemory) writes = writes.no_fewer
+part_no_fewer bytes s n (Err stop.NoMemory) writes = let steady = writes.steady in omega arith
+
+-- the bytes of the own answer that there is
+pub own_known : (found : Option Own) (head_only : Bool) (bytes : List ℕ) → IsSome found → IfSome found (λ own. bytes ≡ own_bytes own head_only)
+    → bytes ≡ own_bytes_of found head_only
+own_known None head_only bytes some is = absurd cc
+own_known (Some own) head_only bytes some is = is
+
+-- where the client waits for it, 100 Continue is what it is told
+pub sent_continue : (head : Head) (s n : Moment) (answer : Result (Unit {0}) SessionStop) → awaits_continue head ≡ true
+    → WritesPart (codes "HTTP/1.1 100 Continue\r\n\r\n") s n answer → WritesPart (continue_for head) s n answer
+sent_continue head s n answer is writes =
+    subst (λ (b : Bool). WritesPart (if b then codes "HTTP/1.1 100 Continue\r\n\r\n" else []) s n answer) (sym is) writes
+
+-- a refused head was answered, and its row was put
+pub refused_closed : (form : Form) (s n : Moment) (puts : List Served → Type 0) (stop' : SessionStop) (w : Why) → stop' ≡ stop.Closed w
+    → WritesOwn (status_of form) false s n stop' → puts (refused_row (status_of form) ∷ []) → RefusesHead form s n puts stop'
+refused_closed form s n puts stop' w is writes put = inr (writes, subst (AddsRefused (status_of form) puts) (sym is) put)

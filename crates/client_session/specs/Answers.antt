@@ -16,9 +16,9 @@ use Rattle.status_page.specs.declared.page.PagePart.{PagePart}
 use Rattle.uri_map.specs.Mounts.{terms}
 use Rattle.ajp_talk.specs.declared.ending.Told.{Told}
 use Rattle.ajp_talk.specs.Moments.{IsUsed}
-use Rattle.exchange.specs.Clients.{Gives, IsCalm, MeetsAt}
+use Rattle.exchange.specs.Clients.{Gives, MeetsAt}
 use Rattle.exchange.specs.Complete.{Completes}
-use Rattle.exchange.specs.Exchanges.{IsExchange}
+use Rattle.exchange.specs.Exchanges.{IsCalm, IsExchange, NotesTalks}
 use Rattle.exchange.specs.Requests.{Errand, errand, is_head}
 use Rattle.exchange.specs.Rounds.{IsDeskAfter}
 use Rattle.exchange.specs.WholeTalks.{IsWholeOnce}
@@ -27,7 +27,7 @@ use Rattle.exchange.specs.declared.ending.ExchangeEnd.{ExchangeEnd}
 use Rattle.status_worker.specs.Commands.{IsBroken, IsDone, TurnsAway}
 use Rattle.status_worker.specs.Pages.{IsPageOf, page_reply, sent_of}
 use Rattle.client_session.specs.Requests.{Visit, continue_for, mounted_at}
-use Rattle.client_session.specs.Standings.{IsBegun, IsWritten, ClientStanding, with_body}
+use Rattle.client_session.specs.Standings.{IsBegun, IsLess, IsWritten, ClientStanding, with_body}
 use Rattle.client_session.specs.declared.ending.SessionStop.TheVariants as stop
 use Rattle.client_session.specs.declared.ending.SessionStop.{SessionStop}
 use Rattle.client_session.specs.declared.ending.Why.TheVariants as why
@@ -79,6 +79,7 @@ own_for status head_only = own_bytes_of (own_of status) head_only
 pub record IsForwardedAt (v : Visit) (q : Errand) (s n : ClientStanding) (body body' : BodyIn) (end : ExchangeEnd) : Type 0 where
   pub exchange : IsExchange q (with_body s body) (with_body n body') end
   pub gives : Gives q (with_body s body) (with_body n body') end
+  pub noted : NotesTalks q (with_body s body) (with_body n body') end
   pub used : IsUsed (with_body s body).around.body (with_body n body').around.body
   pub whole_once : IsWholeOnce q (with_body s body).around (with_body n body').around
   pub complete : Completes q (with_body s body) (with_body n body') end
@@ -127,6 +128,12 @@ IsStatusBegun v status head last s n =
     ((m : ClientStanding) × (page : List ℕ) × HasPage v status head.query s m page × IsBegun m n (page_reply (is_head head) last page))
     ⊎ ((m : ClientStanding) × (code : ℕ) × IsTurnedAway v status head.query s m code × IsBegun m n (own_for code (is_head head)))
 
+-- Memory was wanted before the page, or the own answer in its place, was written whole.
+abbrev pub IsStatusLess : Visit → Status → Head → (last : Bool) → (s n : ClientStanding) → Type 0
+IsStatusLess v status head last s n =
+    ((m : ClientStanding) × (page : List ℕ) × HasPage v status head.query s m page × IsLess m n (page_reply (is_head head) last page))
+    ⊎ ((m : ClientStanding) × (code : ℕ) × IsTurnedAway v status head.query s m code × IsLess m n (own_for code (is_head head)))
+
 -- Nothing was written: memory was wanted before what was asked was done, or after it.
 pub record IsStatusUnwritten (v : Visit) (status : Status) (query : Option (List ℕ)) (s n : ClientStanding) : Type 0 where
   pub alone : n ≡ record s { desk = n.desk }
@@ -138,6 +145,7 @@ IsStatusAnswer v status head last s n (Ok len) =
     (m : ClientStanding) × (page : List ℕ) × HasPage v status head.query s m page
     × IsWritten m n (page_reply (is_head head) last page) × (len ≡ length (sent_of (is_head head) page))
 IsStatusAnswer v status head last s n (Err (stop.Closed why.ByClient)) = ⊥
+IsStatusAnswer v status head last s n (Err (stop.Closed why.Idle)) = ⊥
 IsStatusAnswer v status head last s n (Err (stop.Closed why.Last)) = ⊥
 IsStatusAnswer v status head last s n (Err (stop.Closed (why.Own code))) =
     (m : ClientStanding) × IsTurnedAway v status head.query s m code × IsWritten m n (own_for code (is_head head)) × IsSome (own_of code)
@@ -147,7 +155,7 @@ IsStatusAnswer v status head last s n (Err stop.ClientFault) = Rose s.client.fau
 IsStatusAnswer v status head last s n (Err stop.Truncated) = ⊥
 IsStatusAnswer v status head last s n (Err (stop.Stray ticket returned_at)) = ⊥
 IsStatusAnswer v status head last s n (Err stop.NoMemory) =
-    IsStatusBegun v status head last s n ⊎ IsStatusUnwritten v status head.query s n
+    IsStatusLess v status head last s n ⊎ IsStatusUnwritten v status head.query s n
 
 -- the same, where the request is mounted at some status worker
 abbrev pub IsPaged : Visit → Head → (last : Bool) → (s n : ClientStanding) → Result ℕ SessionStop → Type 0
@@ -163,6 +171,7 @@ IsAnswerAt v head last s n body body' answered.Whole rows =
     ⊎ ((status : Status) × (m : ClientStanding) × (page : List ℕ) × IsAtStatus v head status × HasPage v status head.query s m page
     × IsWritten m n (page_reply (is_head head) last page) × (body' ≡ body) × (rows ≡ page_row head status page ∷ []))
 IsAnswerAt v head last s n body body' (answered.Not (stop.Closed why.ByClient)) rows = ⊥
+IsAnswerAt v head last s n body body' (answered.Not (stop.Closed why.Idle)) rows = ⊥
 IsAnswerAt v head last s n body body' (answered.Not (stop.Closed why.Last)) rows = ⊥
 IsAnswerAt v head last s n body body' (answered.Not (stop.Closed (why.Own code))) rows =
     (rows ≡ own_row head code ∷ [])
@@ -193,10 +202,17 @@ IsEarlyBegun v head s n =
     ((mounted_at v head ≡ None) × IsBegun s n (own_for 404 (is_head head)))
     ⊎ (IsSome (mounted_at v head) × IsBegun s n (continue_for head))
 
+-- the same, where memory was wanted before all of it was written
+abbrev pub IsEarlyLess : Visit → Head → (s n : ClientStanding) → Type 0
+IsEarlyLess v head s n =
+    ((mounted_at v head ≡ None) × IsLess s n (own_for 404 (is_head head)))
+    ⊎ (IsSome (mounted_at v head) × IsLess s n (continue_for head))
+
 -- What comes before 100 Continue: 404 where no worker is mounted there; or nothing whole was written.
 abbrev pub StopsEarly : Visit → Head → (s n : ClientStanding) → Answered → List Served → Type 0
 StopsEarly v head s n answered.Whole rows = ⊥
 StopsEarly v head s n (answered.Not (stop.Closed why.ByClient)) rows = ⊥
+StopsEarly v head s n (answered.Not (stop.Closed why.Idle)) rows = ⊥
 StopsEarly v head s n (answered.Not (stop.Closed why.Last)) rows = ⊥
 StopsEarly v head s n (answered.Not (stop.Closed (why.Own code))) rows =
     (code ≡ 404) × (mounted_at v head ≡ None) × IsWritten s n (own_for code (is_head head)) × (rows ≡ own_row head code ∷ [])
@@ -206,7 +222,7 @@ StopsEarly v head s n (answered.Not stop.ClientFault) rows =
     (rows ≡ []) × Rose s.client.faults n.client.faults × IsEarlyBegun v head s n
 StopsEarly v head s n (answered.Not stop.Truncated) rows = ⊥
 StopsEarly v head s n (answered.Not (stop.Stray ticket returned_at)) rows = ⊥
-StopsEarly v head s n (answered.Not stop.NoMemory) rows = (rows ≡ []) × ((n ≡ s) ⊎ IsEarlyBegun v head s n)
+StopsEarly v head s n (answered.Not stop.NoMemory) rows = (rows ≡ []) × ((n ≡ s) ⊎ IsEarlyLess v head s n)
 
 -- What a request is answered with, and the rows that it adds.
 abbrev pub IsAnswer : Visit → Head → (last : Bool) → (s n : ClientStanding) → (body body' : BodyIn) → Answered → List Served → Type 0

@@ -10,40 +10,47 @@ use Rattle.http_body_in.specs.State.{most_of, taken_of}
 use Rattle.http_body_in.specs.declared.body.BodyIn.{BodyIn}
 use Rattle.ajp_talk.specs.declared.ending.Cause.{Cause}
 use Rattle.ajp_talk.specs.Moments.{data_at}
-use Rattle.exchange.specs.Clients.{EndsWith, GivesUp, IsTooLarge}
+use Rattle.exchange.specs.Clients.{EndsWith, GivesUp, IsTooLarge, MeetsBody}
 use Rattle.exchange.specs.Ends.{is_status}
 use Rattle.exchange.specs.declared.ending.ExchangeEnd.TheVariants as exchange_end
 use Rattle.site_config.specs.declared.config.Status.{Status}
 use Rattle.status_worker.specs.Commands.{IsRefused}
 use Rattle.client_session.specs.Answers.{IsAtStatus, IsForwarded, IsToldOn, IsTurnedAway, errand_at}
+use Rattle.client_session.specs.Ends.{end_of}
 use Rattle.client_session.specs.Requests.{Visit, is_last, mounted_at}
 use Rattle.client_session.specs.Sessions.{ReadsHead, ReadsRefused}
 use Rattle.client_session.specs.Standings.{ClientStanding, unread_at, with_body}
 use Rattle.client_session.specs.declared.ending.SessionEnd.{SessionEnd}
-use Rattle.client_session.specs.declared.ending.SessionEnd.TheVariants as session_end
+use Rattle.client_session.specs.declared.ending.SessionStop.{SessionStop}
+use Rattle.client_session.specs.declared.ending.SessionStop.TheVariants as stop
 use Rattle.client_session.specs.declared.ending.Why.TheVariants as why
 
 -- ---- what the bytes decide
 
--- P, unless the client failed or memory was wanted
-abbrev pub Calmly : SessionEnd → Type 0 → Type 0
-Calmly (session_end.Closed requests why') P = P
-Calmly (session_end.ClientFault requests) P = Unit {0}
-Calmly (session_end.Truncated requests) P = P
-Calmly (session_end.Stray ticket returned_at) P = P
-Calmly session_end.NoMemory P = Unit {0}
+-- P, unless the client failed or was left while it waited, or memory was wanted
+abbrev pub Calmly : SessionStop → Type 0 → Type 0
+Calmly (stop.Closed why.ByClient) P = P
+Calmly (stop.Closed why.Idle) P = Unit {0}
+Calmly (stop.Closed why.Last) P = P
+Calmly (stop.Closed (why.Own code)) P = P
+Calmly (stop.Closed why.Cut) P = P
+Calmly (stop.Closed why.Unread) P = P
+Calmly stop.ClientFault P = Unit {0}
+Calmly stop.Truncated P = P
+Calmly (stop.Stray ticket returned_at) P = P
+Calmly stop.NoMemory P = Unit {0}
 
 -- These are the bytes that no request used when `number` of them had been served, and the session ended after that many or at
 -- the next one: at empty lines alone by the client; within a head cut off; at a refused head by its own answer; at a head that
 -- is mounted nowhere by 404; and at one that a status worker refuses by that refusal.
 pub record DecidesEnd (v : Visit) (number : ℕ) (bytes : List ℕ) (end : SessionEnd) : Type 0 where
-  pub over : AreEmptyLines bytes → Calmly end (end ≡ session_end.Closed number why.ByClient)
-  pub cut : EndsWithin bytes → Calmly end (end ≡ session_end.Truncated number)
-  pub refused : (form : Form) → Refuses bytes form → Calmly end (end ≡ session_end.Closed number (why.Own (status_of form)))
+  pub over : AreEmptyLines bytes → Calmly end.stop (end ≡ end_of (stop.Closed why.ByClient) number)
+  pub cut : EndsWithin bytes → Calmly end.stop (end ≡ end_of stop.Truncated number)
+  pub refused : (form : Form) → Refuses bytes form → Calmly end.stop (end ≡ end_of (stop.Closed (why.Own (status_of form))) number)
   pub unmounted : (used rest : List ℕ) (head : Head) → bytes ≡ used ++ rest → IsHeadOf used head → mounted_at v head ≡ None
-      → Calmly end (end ≡ session_end.Closed number (why.Own 404))
+      → Calmly end.stop (end ≡ end_of (stop.Closed (why.Own 404)) number)
   pub turned_away : (used rest : List ℕ) (head : Head) (status : Status) (code : ℕ) → bytes ≡ used ++ rest → IsHeadOf used head
-      → IsAtStatus v head status → IsRefused v.cfg status head.query code → Calmly end (end ≡ session_end.Closed number (why.Own code))
+      → IsAtStatus v head status → IsRefused v.cfg status head.query code → Calmly end.stop (end ≡ end_of (stop.Closed (why.Own code)) number)
 
 -- ---- why an own answer was given
 
@@ -86,15 +93,18 @@ GaveUp v number s n code r by_status =
     (cause : Cause) × (is_status cause ≡ by_status)
     × GivesUp (errand_at v r.head (is_last number r.head) r.forwarded.lb r.forwarded.balancer) (with_body r.begun r.body).around (with_body n r.body').around cause
 
--- its talk, which answered an ask, came to a bad line of the body
+-- its talk, which answered an ask with nothing passed, came to a bad line of the body
 abbrev pub HasBadLine : (v : Visit) (number : ℕ) (s n : ClientStanding) (code : ℕ) → HasNoReply v number s n code → Type 0
-HasBadLine v number s n code r = IfSome (data_at (with_body r.begun r.body).around.body) (λ d. (d.whole ≡ false) × (d.bad ≡ true))
+HasBadLine v number s n code r =
+    MeetsBody (errand_at v r.head (is_last number r.head) r.forwarded.lb r.forwarded.balancer) (with_body r.begun r.body).around (with_body n r.body').around 400
+    × IfSome (data_at (with_body r.begun r.body).around.body) (λ d. (d.whole ≡ false) × (d.bad ≡ true))
 
--- its Forward Request is too large for the member, or its body reached the limit
+-- its Forward Request is too large for the member that was chosen, or its talk reached the body's limit
 abbrev pub IsTooMuch : (v : Visit) (number : ℕ) (s n : ClientStanding) (code : ℕ) → HasNoReply v number s n code → Type 0
 IsTooMuch v number s n code r =
-    IsTooLarge (errand_at v r.head (is_last number r.head) r.forwarded.lb r.forwarded.balancer)
-    ⊎ IfSome (data_at (with_body r.begun r.body).around.body) (λ d. most_of r.body ≤ taken_of r.body + length d.bytes)
+    IsTooLarge (errand_at v r.head (is_last number r.head) r.forwarded.lb r.forwarded.balancer) (with_body n r.body')
+    ⊎ (MeetsBody (errand_at v r.head (is_last number r.head) r.forwarded.lb r.forwarded.balancer) (with_body r.begun r.body).around (with_body n r.body').around 413
+    × IfSome (data_at (with_body r.begun r.body).around.body) (λ d. most_of r.body ≤ taken_of r.body + length d.bytes))
 
 -- The cause of an own answer, by its status. A standing of the request's begin and one of its end tell which receipts and
 -- counts of the desk are the request's.
@@ -112,20 +122,21 @@ pub record HasOwnCause (v : Visit) (number : ℕ) (s n : ClientStanding) (code :
       → EndsWith s.desk.state n.desk.state answer.NoMember ⊎ ((r : HasNoReply v number s n code) × GaveUp v number s n code r true)
 
 -- of an end by an own answer
-abbrev pub IfOwn : SessionEnd → (ℕ → Type 0) → Type 0
-IfOwn (session_end.Closed requests why.ByClient) P = Unit {0}
-IfOwn (session_end.Closed requests why.Last) P = Unit {0}
-IfOwn (session_end.Closed requests (why.Own code)) P = P code
-IfOwn (session_end.Closed requests why.Cut) P = Unit {0}
-IfOwn (session_end.Closed requests why.Unread) P = Unit {0}
-IfOwn (session_end.ClientFault requests) P = Unit {0}
-IfOwn (session_end.Truncated requests) P = Unit {0}
-IfOwn (session_end.Stray ticket returned_at) P = Unit {0}
-IfOwn session_end.NoMemory P = Unit {0}
+abbrev pub IfOwn : SessionStop → (ℕ → Type 0) → Type 0
+IfOwn (stop.Closed why.ByClient) P = Unit {0}
+IfOwn (stop.Closed why.Idle) P = Unit {0}
+IfOwn (stop.Closed why.Last) P = Unit {0}
+IfOwn (stop.Closed (why.Own code)) P = P code
+IfOwn (stop.Closed why.Cut) P = Unit {0}
+IfOwn (stop.Closed why.Unread) P = Unit {0}
+IfOwn stop.ClientFault P = Unit {0}
+IfOwn stop.Truncated P = Unit {0}
+IfOwn (stop.Stray ticket returned_at) P = Unit {0}
+IfOwn stop.NoMemory P = Unit {0}
 
 -- an own answer at the end has its cause
 abbrev pub IsOwnCaused : Visit → SessionEnd → (number : ℕ) → (s n : ClientStanding) → Type 0
-IsOwnCaused v end number s n = IfOwn end (HasOwnCause v number s n)
+IsOwnCaused v end number s n = IfOwn end.stop (HasOwnCause v number s n)
 
 -- where they are told, the bytes that no request used decide the end
 abbrev pub IsDecided : Visit → SessionEnd → (number : ℕ) → (s n : ClientStanding) → Type 0

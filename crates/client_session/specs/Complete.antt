@@ -12,10 +12,11 @@ use Rattle.site_config.specs.declared.config.Named.TheVariants as named
 use Rattle.exchange.specs.Complete.{HasWhole, plan_of_note}
 use Rattle.exchange.specs.Rounds.{Scene}
 use Rattle.client_session.specs.Answers.{errand_at}
+use Rattle.client_session.specs.Ends.{end_of}
 use Rattle.client_session.specs.Requests.{IsNewBody, Visit, continue_for, is_last, mounted_at}
 use Rattle.client_session.specs.Standings.{ClientStanding, unread_at, with_body}
 use Rattle.client_session.specs.declared.ending.SessionEnd.{SessionEnd}
-use Rattle.client_session.specs.declared.ending.SessionEnd.TheVariants as session_end
+use Rattle.client_session.specs.declared.ending.SessionStop.TheVariants as stop
 use Rattle.client_session.specs.declared.ending.Why.TheVariants as why
 
 -- the scene in which the body's bytes are to come
@@ -69,5 +70,5 @@ ServesWhole v number s n =
 abbrev pub EndsWhole : Visit → SessionEnd → (number : ℕ) → (s n : ClientStanding) → Type 0
 EndsWhole v end number s n =
     (head : Head) (t : Talk) (all : List Message) → (u : IsUndisturbed v number s n head t all)
-    → (end ≡ session_end.NoMemory)
-    ⊎ ((end ≡ session_end.Closed (number + 1) why.Last) × (is_last number head ≡ true) × GetsWhole v number s n head t all u)
+    → (end.stop ≡ stop.NoMemory)
+    ⊎ ((end ≡ end_of (stop.Closed why.Last) (number + 1)) × (is_last number head ≡ true) × GetsWhole v number s n head t all u)

@@ -78,6 +78,7 @@ IsConclusion exchange_end.NoMemory members head_only asked' settled = settled �
 -- where it is an own answer, there is one with that status
 abbrev pub IsKnownStop : SessionStop → Type 0
 IsKnownStop (stop.Closed why.ByClient) = Unit {0}
+IsKnownStop (stop.Closed why.Idle) = Unit {0}
 IsKnownStop (stop.Closed why.Last) = Unit {0}
 IsKnownStop (stop.Closed (why.Own status)) = IsSome (own_of status)
 IsKnownStop (stop.Closed why.Cut) = Unit {0}
@@ -90,6 +91,7 @@ IsKnownStop stop.NoMemory = Unit {0}
 -- an own answer has a row, and nothing else that isn't whole
 abbrev pub settled_by : SessionStop → Asked → (head_only : Bool) → Settled
 settled_by (stop.Closed why.ByClient) asked' head_only = stopped_by (stop.Closed why.ByClient)
+settled_by (stop.Closed why.Idle) asked' head_only = stopped_by (stop.Closed why.Idle)
 settled_by (stop.Closed why.Last) asked' head_only = stopped_by (stop.Closed why.Last)
 settled_by (stop.Closed (why.Own status)) asked' head_only = own_settled asked' status head_only
 settled_by (stop.Closed why.Cut) asked' head_only = stopped_by (stop.Closed why.Cut)
@@ -111,7 +113,7 @@ HasNamesWithin cfg (named.Status place) longest =
 abbrev pub HasRoom : Config → Named → Head → Row → Type 0
 HasRoom cfg worker head row = (longest : ℕ) × IsRowOf head longest row × HasNamesWithin cfg worker longest
 
--- 404 was written whole, or a front of it, or memory was wanted before
+-- 404 was written whole, or a front of it, or memory was wanted
 abbrev pub IsNotFound : Head → Moment → Moment → Settled → Type 0
 IsNotFound head s n settled =
     ((n ≡ s) × (settled ≡ stopped_by stop.NoMemory))

@@ -1,5 +1,5 @@
 -- What follows an answer, the rest of its body among it, and what is done where no head was read.
-use Rattle.std.specs.Prelude.{ℕ, ◌≡◌, ◌⊎◌, Bool, true, false, List, [], ◌∷◌, ◌++◌}
+use Rattle.std.specs.Prelude.{ℕ, ◌≡◌, ◌⊎◌, Bool, true, false, List, [], ◌∷◌}
 use Rattle.jk_io.specs.Moments.{Moment}
 use Rattle.jk_model.specs.declared.served.Served.{Served}
 use Rattle.http_front.specs.Refusal.{status_of}
@@ -41,22 +41,22 @@ TurnsAfter answered.Whole true s n turn' = (turn' ≡ turn.EndsAfter (stop.Close
 TurnsAfter answered.Whole false s n turn' = Finishes s n turn'
 
 -- an own answer adds a row, and nothing else does
-abbrev pub AddsRefused : (status : ℕ) → (rows rows' : List Served) → SessionStop → Type 0
-AddsRefused status rows rows' (stop.Closed w) = rows' ≡ rows ++ refused_row status ∷ []
-AddsRefused status rows rows' stop.ClientFault = rows' ≡ rows
-AddsRefused status rows rows' stop.Truncated = rows' ≡ rows
-AddsRefused status rows rows' (stop.Stray ticket returned_at) = rows' ≡ rows
-AddsRefused status rows rows' stop.NoMemory = rows' ≡ rows
+abbrev pub AddsRefused : (status : ℕ) → (puts : List Served → Type 0) → SessionStop → Type 0
+AddsRefused status puts (stop.Closed w) = puts (refused_row status ∷ [])
+AddsRefused status puts stop.ClientFault = puts []
+AddsRefused status puts stop.Truncated = puts []
+AddsRefused status puts (stop.Stray ticket returned_at) = puts []
+AddsRefused status puts stop.NoMemory = puts []
 
 -- the refused head was answered with its status; or memory was wanted before
-abbrev pub RefusesHead : Form → Moment → Moment → (rows rows' : List Served) → SessionStop → Type 0
-RefusesHead form s n rows rows' stop' =
-    ((stop' ≡ stop.NoMemory) × (n ≡ s) × (rows' ≡ rows))
-    ⊎ (WritesOwn (status_of form) false s n stop' × AddsRefused (status_of form) rows rows' stop')
+abbrev pub RefusesHead : Form → Moment → Moment → (puts : List Served → Type 0) → SessionStop → Type 0
+RefusesHead form s n puts stop' =
+    ((stop' ≡ stop.NoMemory) × (n ≡ s) × puts [])
+    ⊎ (WritesOwn (status_of form) false s n stop' × AddsRefused (status_of form) puts stop')
 
 -- a refused head was answered, and otherwise nothing was written
-abbrev pub StopsWithoutHead : HeadError → Moment → Moment → (rows rows' : List Served) → SessionStop → Type 0
-StopsWithoutHead (error.Refused status form) s n rows rows' stop' = RefusesHead form s n rows rows' stop'
-StopsWithoutHead error.Truncated s n rows rows' stop' = (stop' ≡ stop.Truncated) × (n ≡ s) × (rows' ≡ rows)
-StopsWithoutHead error.Fault s n rows rows' stop' = (stop' ≡ stop.ClientFault) × (n ≡ s) × (rows' ≡ rows)
-StopsWithoutHead error.NoMemory s n rows rows' stop' = (stop' ≡ stop.NoMemory) × (n ≡ s) × (rows' ≡ rows)
+abbrev pub StopsWithoutHead : HeadError → Moment → Moment → (puts : List Served → Type 0) → SessionStop → Type 0
+StopsWithoutHead (error.Refused status form) s n puts stop' = RefusesHead form s n puts stop'
+StopsWithoutHead error.Truncated s n puts stop' = (stop' ≡ stop.Truncated) × (n ≡ s) × puts []
+StopsWithoutHead error.Fault s n puts stop' = (stop' ≡ stop.ClientFault) × (n ≡ s) × puts []
+StopsWithoutHead error.NoMemory s n puts stop' = (stop' ≡ stop.NoMemory) × (n ≡ s) × puts []

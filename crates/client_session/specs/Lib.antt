@@ -14,3 +14,4 @@ pub mod Parts
 pub mod Complete
 pub mod Surroundings
 pub mod Keeping
+pub mod Whole

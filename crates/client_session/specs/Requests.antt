@@ -11,8 +11,6 @@ use Rattle.site_config.specs.declared.config.Config.{Config}
 use Rattle.site_config.specs.declared.config.Named.{Named}
 use Rattle.uri_map.specs.Mounts.{mount}
 use Rattle.uri_map.specs.declared.rule.Rule.{Rule}
-use Rattle.http_front.specs.declared.framing.TheConstants.{MAX_BODY_BYTES}
-use Rattle.client_session.specs.declared.requests.TheConstants.{MAX_REQUESTS}
 use Rattle.client_session.specs.declared.session_site.SessionSite.{SessionSite}
 
 -- The site, the number of the worker that serves, and the client.
@@ -30,7 +28,7 @@ visit_of site = visit site.cfg.now site.map.now site.session site.peer.now
 
 -- No request follows it: it is of HTTP/1.0, or says so, or it is the 1,000th. The number is how many came before it.
 abbrev pub is_last : (number : ℕ) → Head → Bool
-is_last number head = head.old || (head.close || (number + 1 == MAX_REQUESTS))
+is_last number head = head.old || (head.close || (number + 1 == 1000))
 
 abbrev pub has_body : BodyPlan → Bool
 has_body plan_is.None = false
@@ -52,6 +50,6 @@ mounted_at v head = mount v.rules head.clean
 -- a body of this plan of which nothing was taken
 pub record IsNewBody (plan : BodyPlan) (body : BodyIn) : Type 0 where
   pub place : place_of body ≡ start_of plan
-  pub most : most_of body ≡ MAX_BODY_BYTES
+  pub most : most_of body ≡ 1099511627776
   pub taken : taken_of body ≡ 0
   pub going : failed_of body ≡ None

@@ -3,7 +3,7 @@
 -- It is a chain of standings. Each request leads from one to the next, and what it wrote is added to what the client had.
 -- So the client has the parts of its requests joined, in order: 100 Continue where it is due, then a reply, a page or an
 -- own answer; and a front of the last part where that broke off.
-use Rattle.std.specs.Prelude.{ℕ, zero, suc, ◌≡◌, ◌+◌, ◌⊎◌, true, false, List, [], ◌∷◌, ◌++◌, None}
+use Rattle.std.specs.Prelude.{ℕ, zero, suc, ◌≡◌, ◌+◌, ◌<◌, ◌⊎◌, true, false, List, [], ◌∷◌, ◌++◌, None}
 use Rattle.jk_io.specs.Told.{IsEmpty, Rose}
 use Rattle.jk_model.specs.declared.served.Asked.TheVariants as asked
 use Rattle.jk_model.specs.declared.served.Served.{Served}
@@ -20,9 +20,8 @@ use Rattle.http_body_in.specs.declared.fault.BodyFault.{BodyFault}
 use Rattle.http_body_in.specs.declared.fault.BodyFault.TheVariants as fault
 use Rattle.client_session.specs.Answers.{IsAnswer, own_for, own_len}
 use Rattle.client_session.specs.Requests.{IsNewBody, Visit, is_last}
-use Rattle.client_session.specs.Standings.{IsBegun, IsClientAlone, IsReadOn, IsWritten, ClientStanding, FailsReading, StopsReading, unread_at}
+use Rattle.client_session.specs.Standings.{IsBegun, IsClientAlone, IsLess, IsReadOn, IsWritten, ClientStanding, FailsReading, WantsReading, unread_at}
 use Rattle.client_session.specs.declared.ending.SessionEnd.{SessionEnd}
-use Rattle.client_session.specs.declared.ending.SessionEnd.TheVariants as session_end
 use Rattle.client_session.specs.declared.ending.SessionStop.{SessionStop}
 use Rattle.client_session.specs.declared.ending.SessionStop.TheVariants as stop
 use Rattle.client_session.specs.declared.ending.Why.TheVariants as why
@@ -118,6 +117,13 @@ pub record IsRefusalBegun (s n : ClientStanding) : Type 0 where
   pub reads : ReadsRefused s read form
   pub begun : IsBegun read n (own_for (status_of form) false)
 
+-- Memory was wanted before that answer was written whole.
+pub record IsRefusalWanted (s n : ClientStanding) : Type 0 where
+  pub read : ClientStanding
+  pub form : Form
+  pub reads : ReadsRefused s read form
+  pub wanted : IsLess read n (own_for (status_of form) false)
+
 -- A request was answered otherwise than whole.
 abbrev pub IsStopped : Visit → (number : ℕ) → (s n : ClientStanding) → List Served → SessionStop → Type 0
 IsStopped v number s n rows stop' = (body : BodyIn) × IsRequest v number s n body (answered.Not stop') rows
@@ -126,33 +132,36 @@ IsStopped v number s n rows stop' = (body : BodyIn) × IsRequest v number s n bo
 abbrev pub IsUnread : Visit → (number : ℕ) → (s n : ClientStanding) → List Served → BodyFault → Type 0
 IsUnread v number s n rows why = (body : BodyIn) × (mid : ClientStanding) × IsGoingOn v number s mid body rows × BreaksRest mid n body why
 
--- Why the session ended, after `number` requests that were served: what was done from there on, and its rows.
-abbrev pub EndsIn : Visit → (number : ℕ) → (s n : ClientStanding) → List Served → SessionEnd → Type 0
-EndsIn v number s n rows (session_end.Closed requests why.ByClient) = (requests ≡ number) × ReadsEnd s n × (rows ≡ [])
-EndsIn v number s n rows (session_end.Closed requests why.Last) =
+-- Why the session ended, after `number` requests that were served: what was done from there on, its rows, and how many
+-- requests had a complete reply or page. It ends idle only after a request, with nothing of the next one read.
+abbrev pub EndsIn : Visit → (number : ℕ) → (s n : ClientStanding) → List Served → (requests : ℕ) → SessionStop → Type 0
+EndsIn v number s n rows requests (stop.Closed why.ByClient) = (requests ≡ number) × ReadsEnd s n × (rows ≡ [])
+EndsIn v number s n rows requests (stop.Closed why.Idle) =
+    (requests ≡ number) × (0 < number) × (s.inbox ≡ []) × (n ≡ s) × (rows ≡ [])
+EndsIn v number s n rows requests (stop.Closed why.Last) =
     (requests ≡ number + 1)
     × ((body : BodyIn) × (request : IsRequest v number s n body answered.Whole rows) × (is_last number request.head ≡ true))
-EndsIn v number s n rows (session_end.Closed requests (why.Own code)) =
+EndsIn v number s n rows requests (stop.Closed (why.Own code)) =
     (requests ≡ number)
     × ((IsHeadRefused s n code × (rows ≡ refused_row code ∷ [])) ⊎ IsStopped v number s n rows (stop.Closed (why.Own code)))
-EndsIn v number s n rows (session_end.Closed requests why.Cut) =
+EndsIn v number s n rows requests (stop.Closed why.Cut) =
     (requests ≡ number) × IsStopped v number s n rows (stop.Closed why.Cut)
-EndsIn v number s n rows (session_end.Closed requests why.Unread) =
+EndsIn v number s n rows requests (stop.Closed why.Unread) =
     (requests ≡ number + 1) × (IsUnread v number s n rows fault.BadChunk ⊎ IsUnread v number s n rows fault.TooLong)
-EndsIn v number s n rows (session_end.ClientFault requests) =
+EndsIn v number s n rows requests stop.ClientFault =
     ((requests ≡ number) × (rows ≡ []) × Rose s.client.faults n.client.faults
     × (FailsReading s n ⊎ (IsRefusalBegun s n ⊎ IsStopped v number s n rows stop.ClientFault)))
     ⊎ ((requests ≡ number + 1) × IsUnread v number s n rows fault.Fault)
-EndsIn v number s n rows (session_end.Truncated requests) =
+EndsIn v number s n rows requests stop.Truncated =
     ((requests ≡ number) × (rows ≡ []) × (ReadsCut s n ⊎ IsStopped v number s n rows stop.Truncated))
     ⊎ ((requests ≡ number + 1) × IsUnread v number s n rows fault.Truncated)
-EndsIn v number s n rows (session_end.Stray ticket returned_at) =
-    (rows ≡ []) × IsStopped v number s n rows (stop.Stray ticket returned_at)
-EndsIn v number s n rows session_end.NoMemory =
-    ((rows ≡ []) × (StopsReading s n
-    ⊎ (IsRefusalBegun s n ⊎ (((read : ClientStanding) × (form : Form) × ReadsRefused s read form × (n ≡ read))
+EndsIn v number s n rows requests (stop.Stray ticket returned_at) =
+    (requests ≡ number) × (rows ≡ []) × IsStopped v number s n rows (stop.Stray ticket returned_at)
+EndsIn v number s n rows requests stop.NoMemory =
+    ((requests ≡ number) × (rows ≡ []) × (WantsReading s n
+    ⊎ (IsRefusalWanted s n ⊎ (((read : ClientStanding) × (form : Form) × ReadsRefused s read form × (n ≡ read))
     ⊎ IsStopped v number s n rows stop.NoMemory))))
-    ⊎ IsUnread v number s n rows fault.NoMemory
+    ⊎ ((requests ≡ number + 1) × IsUnread v number s n rows fault.NoMemory)
 
 -- ---- the whole
 
@@ -163,16 +172,16 @@ pub record IsSession (v : Visit) (s n : ClientStanding) (rows : List Served) (en
   pub before : List Served
   pub last : List Served
   pub served : HaveServed v number s mid before
-  pub ends : EndsIn v number mid n last end
+  pub ends : EndsIn v number mid n last end.requests end.stop
   pub joined : rows ≡ before ++ last
 
--- A session from a client of which nothing was read. What it had read at its end and not used is lost; its rows are added
--- at the end.
-pub record Serves (v : Visit) (at_first : List ℕ → ClientStanding) (at_last : List ℕ → ClientStanding) (rows rows' : List Served) (end : SessionEnd) : Type 0 where
+-- A session from a client of which nothing was read. What it had read at its end and not used is lost. Its rows were put, of
+-- each list of which it is said whether it was.
+pub record Serves (v : Visit) (at_first : List ℕ → ClientStanding) (at_last : List ℕ → ClientStanding) (puts : List Served → Type 0) (end : SessionEnd) : Type 0 where
   pub inbox : List ℕ
   pub gained : List Served
   pub session : IsSession v (at_first []) (at_last inbox) gained end
-  pub added : rows' ≡ rows ++ gained
+  pub added : puts gained
 
 -- P of each session of this visit that ends so: of how many requests were served, where that led, and where it ended.
 abbrev pub InEachSession : Visit → SessionEnd → (SessionEnd → (number : ℕ) → (s n : ClientStanding) → Type 0) → Type 0

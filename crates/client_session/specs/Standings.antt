@@ -10,6 +10,7 @@ use Rattle.http_front.specs.Unread.{unread}
 use Rattle.http_body_in.specs.declared.body.BodyIn.{BodyIn}
 use Rattle.balancer_core.specs.Desks.{DeskState}
 use Rattle.status_worker.specs.Desks.{DeskSide, desk_side}
+use Rattle.exchange.specs.Deliveries.{PutsShort}
 use Rattle.exchange.specs.Rounds.{Scene}
 
 -- The talks that the reach noted, and its count of faults.
@@ -74,6 +75,11 @@ pub record StopsReading (s n : ClientStanding) : Type 0 where
   pub unused : unread_at n ≡ unread_at s
   pub no_fewer : s.client.faults ≤ n.client.faults
 
+-- The same, and no read failed: memory was wanted.
+pub record WantsReading (s n : ClientStanding) : Type 0 where
+  pub stops : StopsReading s n
+  pub steady : n.client.faults ≡ s.client.faults
+
 -- A read failed, and it was needed: the bytes that had come by then hold neither a head's end nor as many as a head may have.
 pub record FailsReading (s n : ClientStanding) : Type 0 where
   pub stops : StopsReading s n
@@ -81,7 +87,7 @@ pub record FailsReading (s n : ClientStanding) : Type 0 where
 
 -- ---- writing
 
--- these bytes were put on the link, and no write failed
+-- these bytes were put on the link and went out, and no call failed
 pub record Puts (s n : Moment) (bytes : List ℕ) : Type 0 where
   pub sent : n.sent ≡ appended s.sent bytes
   pub steady : n.faults ≡ s.faults
@@ -95,6 +101,13 @@ pub record PutsPart (s n : Moment) (bytes : List ℕ) : Type 0 where
   pub incoming : n.incoming ≡ s.incoming
   pub received : n.received ≡ s.received
 
+-- not all of them was, and no call failed
+pub record PutsLess (s n : Moment) (bytes : List ℕ) : Type 0 where
+  pub sent : PutsShort s.sent n.sent bytes
+  pub steady : n.faults ≡ s.faults
+  pub incoming : n.incoming ≡ s.incoming
+  pub received : n.received ≡ s.received
+
 -- This was written to the client, and nothing else was done.
 pub record IsWritten (s n : ClientStanding) (bytes : List ℕ) : Type 0 where
   pub puts : Puts s.client n.client bytes
@@ -103,4 +116,9 @@ pub record IsWritten (s n : ClientStanding) (bytes : List ℕ) : Type 0 where
 -- Writing this broke off, and nothing else was done.
 pub record IsBegun (s n : ClientStanding) (bytes : List ℕ) : Type 0 where
   pub puts : PutsPart s.client n.client bytes
+  pub alone : n ≡ record s { client = n.client }
+
+-- Memory was wanted before all of this was written, and nothing else was done.
+pub record IsLess (s n : ClientStanding) (bytes : List ℕ) : Type 0 where
+  pub puts : PutsLess s.client n.client bytes
   pub alone : n ≡ record s { client = n.client }

@@ -1,5 +1,5 @@
 -- The standings of a session, by what it is served with, and a request's answer.
-use Rattle.std.specs.Prelude.{◌≡◌, ◌⊎◌, ◌++◌, ℕ, List, Option, Result, Ok, Err}
+use Rattle.std.specs.Prelude.{◌≡◌, ◌⊎◌, ℕ, List, Option, Result, Ok, Err}
 use Rattle.jk_io.specs.Moments.{Moment}
 use Rattle.jk_io.specs.declared.reaching.Beside.{Beside}
 use Rattle.jk_io.specs.declared.traits.streams.Meanings.{Ghosts}
@@ -23,18 +23,25 @@ use Rattle.client_session.specs.declared.ending.SessionEnd.{SessionEnd}
 use Rattle.client_session.specs.declared.ending.SessionStop.{SessionStop}
 use Rattle.client_session.specs.declared.ending.SessionStop.TheVariants as stop
 use Rattle.client_session.specs.declared.inquiry.Inquiry.{Inquiry}
+use Rattle.client_session.specs.declared.surroundings.Sitting.{Sitting}
 use Rattle.client_session.specs.declared.surroundings.Surroundings.{Surroundings}
 use Rattle.client_session.specs.declared.turn.Settled.{Settled}
 use Rattle.client_session.specs.declared.turn.SessionTurn.{SessionTurn}
 
 -- What is known then: `standing_of B.state K.answers R.Meanings C.Meanings around`.
 abbrev pub standing_of : {B K R C X : Type 0} → (B → DeskState) → (K → Option (List ℕ)) → Ghosts R Beside → Ghosts C X
-    → Surroundings B K R C → ClientStanding
+    → Sitting B K R C → ClientStanding
 standing_of state answers told_of_reach told_of_client s =
     standing state answers told_of_reach told_of_client s.desk.now s.clock.now s.reach.now s.client.now s.inbox.now
 
+-- The same of what a session is lent, with bytes that were read and not used: `standing_with B.state .. C.Meanings around []`.
+abbrev pub standing_with : {B K R C X : Type 0} → (B → DeskState) → (K → Option (List ℕ)) → Ghosts R Beside → Ghosts C X
+    → Surroundings B K R C → List ℕ → ClientStanding
+standing_with state answers told_of_reach told_of_client s inbox =
+    standing state answers told_of_reach told_of_client s.desk.now s.clock.now s.reach.now s.client.now inbox
+
 -- They are still the caller's own.
-abbrev pub AreSame : {B K R C : Type 0} → Surroundings B K R C → Surroundings B K R C → Type 0
+abbrev pub AreSame : {B K R C : Type 0} → Sitting B K R C → Sitting B K R C → Type 0
 AreSame s n =
     (n.desk.ghost_name ≡ s.desk.ghost_name) × (n.clock.ghost_name ≡ s.clock.ghost_name) × (n.reach.ghost_name ≡ s.reach.ghost_name)
     × (n.client.ghost_name ≡ s.client.ghost_name) × (n.inbox.ghost_name ≡ s.inbox.ghost_name)
@@ -48,8 +55,8 @@ abbrev pub IsAnsweredAt : Inquiry → (s n : ClientStanding) → (body body' : B
 IsAnsweredAt i s n body body' settled = IsAnswerAt (visit_of i.site.now) i.head.now i.last s n body body' settled.answered (rows_of settled.row)
 
 -- The session added its rows at the end.
-abbrev pub AddsSession : Visit → (s n : ClientStanding) → (rows rows' : List Served) → SessionEnd → Type 0
-AddsSession v s n rows rows' end = (gained : List Served) × (rows' ≡ rows ++ gained) × IsSession v s n gained end
+abbrev pub AddsSession : Visit → (s n : ClientStanding) → (puts : List Served → Type 0) → SessionEnd → Type 0
+AddsSession v s n puts end = (gained : List Served) × puts gained × IsSession v s n gained end
 
 -- The request was forwarded to the balancer at this place.
 abbrev pub ForwardsTo : Inquiry → (lb : ℕ) → (s n : ClientStanding) → (body body' : BodyIn) → ExchangeEnd → Type 0
@@ -68,5 +75,5 @@ SendsPage i only d s n (Err stop') =
     ⊎ ((page : Page) × IsPage i.site.now.cfg.now d only (is_head i.head.now) i.last page × WritesPart {T = Unit {0}} page.reply s n (Err stop'))
 
 -- The turn of a request whose head was read, wherever its bytes began.
-abbrev pub TurnsFrom : Visit → (number : ℕ) → Head → (s n : ClientStanding) → (rows rows' : List Served) → SessionTurn → Type 0
-TurnsFrom v number head s n rows rows' turn' = (start : ClientStanding) → ReadsHead start s head → Turns v number start n rows rows' turn'
+abbrev pub TurnsFrom : Visit → (number : ℕ) → Head → (s n : ClientStanding) → (puts : List Served → Type 0) → SessionTurn → Type 0
+TurnsFrom v number head s n puts turn' = (start : ClientStanding) → ReadsHead start s head → Turns v number start n puts turn'

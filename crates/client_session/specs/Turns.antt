@@ -1,13 +1,16 @@
 -- What a request comes to, as a step of a session.
-use Rattle.std.specs.Prelude.{ℕ, ◌≡◌, ◌+◌, List, ◌++◌, None}
+use Rattle.std.specs.Prelude.{ℕ, ◌≡◌, ◌+◌, List, None}
 use Rattle.balancer_core.specs.Desks.{DeskState, MeetsNone}
 use Rattle.jk_model.specs.declared.served.Served.{Served}
 use Rattle.http_body_in.specs.State.{failed_of}
 use Rattle.http_body_in.specs.declared.body.BodyIn.{BodyIn}
-use Rattle.client_session.specs.Ends.{MeetsBy, RisesBy, end_of}
+use Rattle.client_session.specs.Ends.{MeetsBy, RisesBy}
 use Rattle.client_session.specs.Requests.{Visit}
 use Rattle.client_session.specs.Sessions.{EndsIn, IsServed}
 use Rattle.client_session.specs.Standings.{ClientStanding}
+use Rattle.client_session.specs.declared.ending.SessionStop.{SessionStop}
+use Rattle.client_session.specs.declared.ending.SessionStop.TheVariants as stop
+use Rattle.client_session.specs.declared.ending.Why.TheVariants as why
 use Rattle.client_session.specs.declared.turn.Answered.{Answered}
 use Rattle.client_session.specs.declared.turn.Answered.TheVariants as answered
 use Rattle.client_session.specs.declared.turn.SessionTurn.{SessionTurn}
@@ -16,32 +19,50 @@ use Rattle.client_session.specs.declared.turn.SessionTurn.TheVariants as turn
 -- the next request is read, or the session ends after or at this one
 abbrev pub IsTurn : Visit → (number : ℕ) → (s n : ClientStanding) → List Served → SessionTurn → Type 0
 IsTurn v number s n rows turn.Next = IsServed v number s n rows
-IsTurn v number s n rows (turn.EndsAfter stop) = EndsIn v number s n rows (end_of stop (number + 1))
-IsTurn v number s n rows (turn.EndsAt stop) = EndsIn v number s n rows (end_of stop number)
+IsTurn v number s n rows (turn.EndsAfter stop') = EndsIn v number s n rows (number + 1) stop'
+IsTurn v number s n rows (turn.EndsAt stop') = EndsIn v number s n rows number stop'
 
 abbrev pub MeetsInTurn : SessionTurn → DeskState → DeskState → Type 0
 MeetsInTurn turn.Next old new = MeetsNone old new
-MeetsInTurn (turn.EndsAfter stop) old new = MeetsBy (end_of stop 0) old new
-MeetsInTurn (turn.EndsAt stop) old new = MeetsBy (end_of stop 0) old new
+MeetsInTurn (turn.EndsAfter stop') old new = MeetsBy stop' old new
+MeetsInTurn (turn.EndsAt stop') old new = MeetsBy stop' old new
 
 abbrev pub RisesInTurn : SessionTurn → (old new : ℕ) → Type 0
 RisesInTurn turn.Next old new = new ≡ old
-RisesInTurn (turn.EndsAfter stop) old new = RisesBy (end_of stop 0) old new
-RisesInTurn (turn.EndsAt stop) old new = RisesBy (end_of stop 0) old new
+RisesInTurn (turn.EndsAfter stop') old new = RisesBy stop' old new
+RisesInTurn (turn.EndsAt stop') old new = RisesBy stop' old new
 
 abbrev pub MeetsInAnswer : Answered → DeskState → DeskState → Type 0
 MeetsInAnswer answered.Whole old new = MeetsNone old new
-MeetsInAnswer (answered.Not stop) old new = MeetsBy (end_of stop 0) old new
+MeetsInAnswer (answered.Not stop') old new = MeetsBy stop' old new
 
 abbrev pub RisesInAnswer : Answered → (old new : ℕ) → Type 0
 RisesInAnswer answered.Whole old new = new ≡ old
-RisesInAnswer (answered.Not stop) old new = RisesBy (end_of stop 0) old new
+RisesInAnswer (answered.Not stop') old new = RisesBy stop' old new
 
 -- after a whole answer no call on the body had failed
 abbrev pub GoesOn : Answered → BodyIn → Type 0
 GoesOn answered.Whole body = failed_of body ≡ None
-GoesOn (answered.Not stop) body = Unit {0}
+GoesOn (answered.Not stop') body = Unit {0}
 
--- the turn, and the rows that it added at the end
-abbrev pub Turns : Visit → (number : ℕ) → (s n : ClientStanding) → (rows rows' : List Served) → SessionTurn → Type 0
-Turns v number s n rows rows' turn' = (added : List Served) × (rows' ≡ rows ++ added) × IsTurn v number s n added turn'
+-- the turn, and the rows that it added at the end: of each list of rows it is said whether they were put
+abbrev pub Turns : Visit → (number : ℕ) → (s n : ClientStanding) → (puts : List Served → Type 0) → SessionTurn → Type 0
+Turns v number s n puts turn' = (added : List Served) × puts added × IsTurn v number s n added turn'
+
+-- The session doesn't end for a client that waits.
+abbrev pub IsBusyStop : SessionStop → Type 0
+IsBusyStop (stop.Closed why.ByClient) = Unit {0}
+IsBusyStop (stop.Closed why.Idle) = ⊥
+IsBusyStop (stop.Closed why.Last) = Unit {0}
+IsBusyStop (stop.Closed (why.Own code)) = Unit {0}
+IsBusyStop (stop.Closed why.Cut) = Unit {0}
+IsBusyStop (stop.Closed why.Unread) = Unit {0}
+IsBusyStop stop.ClientFault = Unit {0}
+IsBusyStop stop.Truncated = Unit {0}
+IsBusyStop (stop.Stray ticket returned_at) = Unit {0}
+IsBusyStop stop.NoMemory = Unit {0}
+
+abbrev pub IsBusy : SessionTurn → Type 0
+IsBusy turn.Next = Unit {0}
+IsBusy (turn.EndsAfter stop') = IsBusyStop stop'
+IsBusy (turn.EndsAt stop') = IsBusyStop stop'

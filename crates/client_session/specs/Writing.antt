@@ -5,7 +5,7 @@ use Rattle.jk_io.specs.Told.{Rose}
 use Rattle.jk_io.specs.declared.failures.IoError.{IoError}
 use Rattle.jk_io.specs.declared.failures.IoError.TheVariants as io
 use Rattle.client_session.specs.Answers.{own_for}
-use Rattle.client_session.specs.Standings.{Puts, PutsPart}
+use Rattle.client_session.specs.Standings.{Puts, PutsLess, PutsPart}
 use Rattle.client_session.specs.declared.ending.SessionStop.{SessionStop}
 use Rattle.client_session.specs.declared.ending.SessionStop.TheVariants as stop
 use Rattle.client_session.specs.declared.ending.Why.TheVariants as why
@@ -15,9 +15,10 @@ abbrev pub stop_by : IoError → SessionStop
 stop_by io.Failed = stop.ClientFault
 stop_by io.NoMemory = stop.NoMemory
 
--- the own answer was written whole, or a front of it
+-- the own answer was written whole and went out; or a front of it, where the client failed; or not all of it
 abbrev pub WritesOwn : (status : ℕ) → (head_only : Bool) → Moment → Moment → SessionStop → Type 0
 WritesOwn status head_only s n (stop.Closed why.ByClient) = ⊥
+WritesOwn status head_only s n (stop.Closed why.Idle) = ⊥
 WritesOwn status head_only s n (stop.Closed why.Last) = ⊥
 WritesOwn status head_only s n (stop.Closed (why.Own code)) = (code ≡ status) × Puts s n (own_for status head_only)
 WritesOwn status head_only s n (stop.Closed why.Cut) = ⊥
@@ -25,16 +26,16 @@ WritesOwn status head_only s n (stop.Closed why.Unread) = ⊥
 WritesOwn status head_only s n stop.ClientFault = Rose s.faults n.faults × PutsPart s n (own_for status head_only)
 WritesOwn status head_only s n stop.Truncated = ⊥
 WritesOwn status head_only s n (stop.Stray ticket returned_at) = ⊥
-WritesOwn status head_only s n stop.NoMemory = PutsPart s n (own_for status head_only)
+WritesOwn status head_only s n stop.NoMemory = PutsLess s n (own_for status head_only)
 
--- bytes were written whole, or a front of them and the session is to end
+-- bytes were written whole and went out; or a front of them, or not all, and the session is to end
 abbrev pub WritesPart : {T : Type 0} → List ℕ → Moment → Moment → Result T SessionStop → Type 0
 WritesPart bytes s n (Ok value) = Puts s n bytes
 WritesPart bytes s n (Err (stop.Closed w)) = ⊥
 WritesPart bytes s n (Err stop.ClientFault) = Rose s.faults n.faults × PutsPart s n bytes
 WritesPart bytes s n (Err stop.Truncated) = ⊥
 WritesPart bytes s n (Err (stop.Stray ticket returned_at)) = ⊥
-WritesPart bytes s n (Err stop.NoMemory) = PutsPart s n bytes
+WritesPart bytes s n (Err stop.NoMemory) = PutsLess s n bytes
 
 -- memory was wanted before, or a front of the bytes was written, and the session is to end
 abbrev pub BreaksOff : List ℕ → Moment → Moment → SessionStop → Type 0

@@ -1,10 +1,12 @@
 //! One request is answered: by its worker, or by the connector itself.
-ghost use Rattle.std.specs.Prelude.{◌≡◌, ◌≤◌, ◌<◌, true, [], Some, IfErr, IfOk, length, vec_capacity};
+ghost use Rattle.std.specs.Prelude.{◌≡◌, ◌≤◌, ◌<◌, true, [], Some, IfErr, IfOk, length, slice_get, vec_capacity};
 ghost use Rattle.std.specs.List.{All};
 ghost use Rattle.jk_model.specs.declared.member.MemberConfig.{MemberConfig as AnyMember};
 ghost use Rattle.http_body_in.specs.declared.body.BodyIn.{BodyIn as AnyBody};
 ghost use Rattle.uri_map.specs.Sites.{is_worker};
 ghost use Rattle.site_config.specs.declared.config.Named.TheVariants as named_is;
+ghost use Rattle.exchange.specs.Requests.{errand_of};
+ghost use Rattle.client_session.specs.Answers.{errand_at};
 ghost use Rattle.client_session.specs.Concluding.{HasNamesWithin, HasRoom, IsKnownStop, IsNotFound};
 ghost use Rattle.client_session.specs.Keeping.{IsShown, KeepsAround, TellsAnswer};
 ghost use Rattle.client_session.specs.Ready.{IsReady};
@@ -20,11 +22,11 @@ use crate::inquiry::Inquiry;
 use crate::requests::{awaits_continue, is_head};
 use crate::rows::Row;
 use crate::status::serve_status;
-use crate::surroundings::Surroundings;
+use crate::surroundings::Sitting;
 use crate::turn::{Answered, Settled, stopped};
 use crate::writing::{send, write_own};
 use balancer_core::Desk;
-use exchange::{ExchangeEnd, exchange};
+use exchange::{ExchangeEnd, Means, Request, Sides, exchange_of};
 use http_body_in::BodyIn;
 use http_front::{Head, Inbox};
 use jk_io::{Clock, Link, NoMemory, Reach, Sink};
@@ -69,13 +71,34 @@ fn send_continue<C: Sink>(head: &Head, client: &mut C) -> Result<(), SessionStop
     send(CONTINUE, client)
 }
 
+/// The request as the balancer at this place gets it.
+fn request_at<'a>(of: &Inquiry<'a, 'a>, lb: u32) -> Request<'a>
+    requires worker { lb < length of.now.site.now.cfg.now.lbs }
+    ensures head { result.head.now ≡ of.now.head.now }
+    ensures session { result.session ≡ of.now.site.now.session }
+    ensures lb { result.lb ≡ lb }
+    ensures balancer { slice_get of.now.site.now.cfg.now.lbs lb ≡ Some result.balancer.now }
+    ensures errand { errand_of result ≡ errand_at (visit_of of.now.site.now) of.now.head.now of.now.last lb result.balancer.now }
+{
+    let Inquiry { site, head, last } = *of;
+    Request {
+        head,
+        peer: site.peer,
+        last,
+        session: site.session,
+        lb,
+        balancer: &site.cfg.lbs.as_slice()[lb as usize],
+        terms: site.map.terms(head.clean.as_slice()),
+    }
+}
+
 /// Sends a request to the balancer at this place.
 fn exchange_at<B: Desk, R: Reach, C: Link, K: Clock>(
     alloc: Global,
     of: &Inquiry,
     lb: u32,
     body: &mut BodyIn,
-    around: &mut Surroundings<B, K, R, C>,
+    around: &mut Sitting<B, K, R, C>,
 ) -> ExchangeEnd
 where
     B::Mark: Drop,
@@ -86,24 +109,18 @@ where
         ForwardsTo of.now lb (at around.old) (at around.new) body.old body.new result }
     ensures kept { KeepsAround B.state R.Meanings C.Meanings (visit_of of.now.site.now) around.old around.new }
 {
-    let Inquiry { site, head, last } = *of;
-    let terms = site.map.terms(head.clean.as_slice());
-    exchange(
-        alloc,
-        site.cfg,
-        lb,
-        &terms,
-        site.session,
-        site.peer,
-        head,
-        last,
-        body,
-        around.inbox,
-        around.desk,
-        around.reach,
-        around.client,
-        around.clock,
-    )
+    let request = request_at(of, lb);
+    let mut means = Means {
+        desk: around.desk,
+        clock: around.clock,
+        sides: Sides {
+            reach: around.reach,
+            client: around.client,
+            body,
+            inbox: around.inbox,
+        },
+    };
+    exchange_of(alloc, &request, &mut means)
 }
 
 /// Answers a request of a balancer.
@@ -113,7 +130,7 @@ fn forward<B: Desk, R: Reach, C: Link, K: Clock>(
     lb: u32,
     row: Row,
     body: &mut BodyIn,
-    around: &mut Surroundings<B, K, R, C>,
+    around: &mut Sitting<B, K, R, C>,
 ) -> Settled
 where
     B::Mark: Drop,
@@ -158,7 +175,7 @@ fn show<B: Desk, R: Reach, C: Link, K: Clock>(
     of: &Inquiry,
     place: u32,
     row: Row,
-    around: &mut Surroundings<B, K, R, C>,
+    around: &mut Sitting<B, K, R, C>,
 ) -> Settled
 where
     B::Mark: Drop,
@@ -184,7 +201,7 @@ fn answer_at<B: Desk, R: Reach, C: Link, K: Clock>(
     worker: Named,
     row: Row,
     body: &mut BodyIn,
-    around: &mut Surroundings<B, K, R, C>,
+    around: &mut Sitting<B, K, R, C>,
 ) -> Settled
 where
     B::Mark: Drop,
@@ -253,7 +270,7 @@ pub(crate) fn answer<B: Desk, R: Reach, C: Link, K: Clock>(
     alloc: Global,
     of: &Inquiry,
     body: &mut BodyIn,
-    around: &mut Surroundings<B, K, R, C>,
+    around: &mut Sitting<B, K, R, C>,
 ) -> Settled
 where
     B::Mark: Drop,

@@ -7,6 +7,8 @@ ghost use Rattle.client_session.specs.Ends.{end_of};
 pub enum Why {
     /// The client's bytes ended between two requests.
     ByClient,
+    /// Nothing of a next request was there yet, and reading on would wait: the client may be served again later.
+    Idle,
     /// The request was the last one: of HTTP/1.0, with `Connection: close`, or the 1,000th.
     Last,
     /// An answer of the connector's own was written, with this status.
@@ -17,21 +19,14 @@ pub enum Why {
     Unread,
 }
 
-/// How a session ended. `requests` counts the complete replies and pages.
+/// Why no further request is read.
 #[derive(Clone, Copy, Debug, PartialEq, Eq)]
-pub enum SessionEnd {
-    Closed {
-        requests: u32,
-        why: Why,
-    },
+pub enum SessionStop {
+    Closed(Why),
     /// A read or a write of the client failed.
-    ClientFault {
-        requests: u32,
-    },
+    ClientFault,
     /// The client's bytes ended within a head or a body.
-    Truncated {
-        requests: u32,
-    },
+    Truncated,
     /// A ticket that came back was not out.
     Stray {
         ticket: u64,
@@ -40,17 +35,11 @@ pub enum SessionEnd {
     NoMemory,
 }
 
-/// Why no further request is read.
-#[derive(Clone, Copy, PartialEq, Eq)]
-pub enum SessionStop {
-    Closed(Why),
-    ClientFault,
-    Truncated,
-    Stray {
-        ticket: u64,
-        returned_at: Option<u64>,
-    },
-    NoMemory,
+/// How a session ended. `requests` counts the complete replies and pages.
+#[derive(Clone, Copy, Debug, PartialEq, Eq)]
+pub struct SessionEnd {
+    pub requests: u32,
+    pub stop: SessionStop,
 }
 
 impl SessionStop {
@@ -61,18 +50,9 @@ impl SessionStop {
     pub(crate) fn after(self, requests: u32) -> SessionEnd
         ensures { result ≡ end_of self requests }
     {
-        match self {
-            SessionStop::Closed(why) => SessionEnd::Closed { requests, why },
-            SessionStop::ClientFault => SessionEnd::ClientFault { requests },
-            SessionStop::Truncated => SessionEnd::Truncated { requests },
-            SessionStop::Stray {
-                ticket,
-                returned_at,
-            } => SessionEnd::Stray {
-                ticket,
-                returned_at,
-            },
-            SessionStop::NoMemory => SessionEnd::NoMemory,
+        SessionEnd {
+            requests,
+            stop: self,
         }
     }
 }

@@ -1,8 +1,7 @@
 //! The rows of answered requests, for a log.
-ghost use Rattle.std.specs.Prelude.{◌≡◌, ◌≤◌, ◌<◌, [], ◌∷◌, ◌++◌, None, length, vec_len, vec_capacity, IfOk, IsSome};
+ghost use Rattle.std.specs.Prelude.{◌≡◌, ◌≤◌, [], length, vec_capacity, IfOk, IsSome};
 ghost use Rattle.http_out.specs.Own.{own_of};
 ghost use Rattle.jk_model.specs.declared.served.Asked.TheVariants as asked_is;
-ghost use Rattle.jk_model.specs.declared.served.Served.{Served as AnyServed};
 ghost use Rattle.client_session.specs.Answers.{own_len as own_length};
 ghost use Rattle.client_session.specs.Rows.{IsRowOf, own_row_by, worker_row};
 
@@ -91,14 +90,4 @@ impl Row {
             worker: None,
         }
     }
-}
-
-/// Puts a row after the others, in the memory that was taken for it.
-pub(crate) fn put(rows: &mut Vec<Served>, row: Served)
-    requires { vec_len rows.old < vec_capacity rows.old }
-    ensures { rows.new.items ≡ rows.old.items ++ row ∷ [] }
-{
-    let Ok(()) = rows.push(row) else {
-        unreachable!()
-    };
 }

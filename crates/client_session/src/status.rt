@@ -11,7 +11,7 @@ ghost use Rattle.client_session.specs.Surroundings.{SendsPage, Shows, standing_o
 use crate::ending::SessionStop;
 use crate::inquiry::Inquiry;
 use crate::requests::is_head;
-use crate::surroundings::Surroundings;
+use crate::surroundings::Sitting;
 use crate::writing::{send, write_own};
 use balancer_core::Desk;
 use jk_io::{Clock, Link, Reach, Sink};
@@ -24,7 +24,7 @@ pub(crate) fn serve_status<B: Desk, R: Reach, C: Link, K: Clock>(
     alloc: Global,
     of: &Inquiry,
     status: &Status,
-    around: &mut Surroundings<B, K, R, C>,
+    around: &mut Sitting<B, K, R, C>,
 ) -> Result<u64, SessionStop>
 where
     B::Mark: Drop,

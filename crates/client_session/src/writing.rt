@@ -5,8 +5,9 @@ ghost use Rattle.client_session.specs.Standings.{client_at};
 ghost use Rattle.client_session.specs.Writing.{WritesOwn, WritesPart, stop_by};
 
 use crate::ending::{SessionStop, Why};
+use exchange::deliver;
 use http_out::own_answer;
-use jk_io::{IoError, Sink, write_all};
+use jk_io::{IoError, Sink};
 
 /// Why a write to the client ended the session.
 fn stop_of(error: IoError) -> SessionStop
@@ -18,12 +19,12 @@ fn stop_of(error: IoError) -> SessionStop
     }
 }
 
-/// Writes bytes whole, or says why the session ends.
+/// Writes bytes whole and sends them on their way, or says why the session ends.
 pub(crate) fn send<C: Sink>(bytes: &[u8], client: &mut C) -> Result<(), SessionStop>
     ensures sent { WritesPart bytes.now (client_at C.Meanings client.old) (client_at C.Meanings client.new) result }
     ensures beside { C.beside client.new ≡ C.beside client.old }
 {
-    match write_all(client, bytes) {
+    match deliver(client, bytes) {
         Ok(()) => Ok(()),
         Err(error) => Err(stop_of(error)),
     }
@@ -35,7 +36,7 @@ pub(crate) fn write_own<C: Sink>(status: u16, head_only: bool, client: &mut C) -
     ensures own { WritesOwn status head_only (client_at C.Meanings client.old) (client_at C.Meanings client.new) result }
     ensures beside { C.beside client.new ≡ C.beside client.old }
 {
-    match write_all(client, own_answer(status, head_only)) {
+    match deliver(client, own_answer(status, head_only)) {
         Ok(()) => SessionStop::Closed(Why::Own(status)),
         Err(error) => stop_of(error),
     }

@@ -118,4 +118,9 @@ impl<'a> Sink for AppLink<'a> {
     }
 }
 
-impl<'a> Link for AppLink<'a> {}
+impl<'a> Link for AppLink<'a> {
+    ghost use Rattle.std.specs.Prelude.{false};
+
+    // what it has to give is at hand
+    ghost may_wait = { false };
+}

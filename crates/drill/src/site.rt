@@ -8,7 +8,9 @@ ghost use Rattle.drill.specs.Sites.{IsDrillBook, IsDrillSite, member_of, two_mem
 use jk_io::{Bytes, ListOf, NoMemory};
 use jk_model::{Activation, FailList, LbConfig, MemberConfig, MemberList, Method};
 use mini_container::AppConfig;
-use site_config::{Config, EndList, Endpoint, IgnoredList, Lb, LbList, Named, NamedList};
+use site_config::{
+    Config, EndList, Endpoint, IgnoredList, Lb, LbList, MemberLimits, Named, NamedList,
+};
 use std::alloc::Global;
 use uri_map::{MapError, UriMap, read_map};
 
@@ -85,6 +87,7 @@ fn endpoint(alloc: Global) -> Result<Endpoint, NoMemory> {
         ping_each: false,
         ping_idle: false,
         fail_on: FailList::new(alloc),
+        limits: MemberLimits::none(),
     })
 }
 

@@ -8,7 +8,7 @@ use crate::plan::Plan;
 use crate::requests::Requests;
 use crate::site::DrillSite;
 use balancer_core::Desk;
-use client_session::{SessionEnd, serve_session};
+use client_session::{SessionSite, SessionStop, Surroundings, serve_session};
 use jk_io::{Bytes, MemLink, NoMemory, NumberList, Peer, Reach, StepClock};
 use std::alloc::Global;
 
@@ -40,19 +40,20 @@ where
     ensures reach_sizes { (R.beside reach.new).sizes ≡ (R.beside reach.old).sizes }
 {
     let mut clock = StepClock::new(NumberList::new(alloc));
-    let end = serve_session(
-        alloc,
-        &post.site.cfg,
-        &post.site.map,
-        post.number,
-        post.peer,
+    let site = SessionSite {
+        cfg: &post.site.cfg,
+        map: &post.site.map,
+        session: post.number,
+        peer: post.peer,
+    };
+    let mut around = Surroundings {
         desk,
+        clock: &mut clock,
         reach,
         client,
-        &mut clock,
-    );
-    match end {
-        SessionEnd::NoMemory => Err(NoMemory),
+    };
+    match serve_session(alloc, &site, &mut around).stop {
+        SessionStop::NoMemory => Err(NoMemory),
         _ => Ok(()),
     }
 }

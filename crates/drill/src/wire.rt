@@ -114,4 +114,9 @@ impl Sink for Wire {
     }
 }
 
-impl Link for Wire {}
+impl Link for Wire {
+    ghost use Rattle.std.specs.Prelude.{false};
+
+    // what it has to give is at hand
+    ghost may_wait = { false };
+}

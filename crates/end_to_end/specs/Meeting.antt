@@ -25,7 +25,7 @@ use Rattle.ajp_talk.specs.declared.plan.TalkPlan.{TalkPlan}
 use Rattle.forwarding.specs.FirstPiece.{first_len}
 use Rattle.forwarding.specs.Forwards.{forward_for}
 use Rattle.exchange.specs.Clients.{HasLastTalk}
-use Rattle.exchange.specs.OneTalk.{Around, pings}
+use Rattle.exchange.specs.OneTalk.{Around, plan_on as on_link}
 use Rattle.exchange.specs.Requests.{Errand, is_head, plan_for}
 use Rattle.mini_container.specs.Answer.{answer_of}
 use Rattle.mini_container.specs.Applications.{drops}
@@ -59,7 +59,7 @@ pub record IsReady (q : Errand) (member : MemberConfig) (endpoint : Endpoint) (o
 
 -- how its talk goes, over a link that is newly dialled or not
 abbrev pub plan_on : Errand → (first : List ℕ) → MemberConfig → Endpoint → (dialled : Bool) → TalkPlan
-plan_on q first member endpoint dialled = record (plan_for q first member endpoint) { ping = pings endpoint dialled }
+plan_on q first member endpoint dialled = on_link (plan_for q first member endpoint) endpoint dialled
 
 -- The two ends of a link on which nothing had come or gone: what the connector sent is what the container had to come, and
 -- what the container sent is what the connector received.

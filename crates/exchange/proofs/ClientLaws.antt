@@ -1,19 +1,20 @@
 -- What the client has at the end of an exchange.
 use Rattle.std.proofs.Common.{◌≡◌, ℕ, ◌+◌, ◌<◌, ◌≤◌, Bool, true, false, ◌||◌, nat_le, List, [], ◌∷◌, ◌++◌, length, take, drop, slice_get, Option, Some, None, IfSome, IsSome, Result, Ok, Err, refl, sym, ap, ◌∙◌, subst, inl, inr, ◌⊎◌, arith, if◌then◌else◌, append-nil, length-take, length-drop}
 use Rattle.std.proofs.lemmas.Bool.{cases_Bool}
-use Rattle.jk_io.specs.Told.{appended, PutsFront, Rose}
+use Rattle.jk_io.specs.Told.{appended, IsEmpty, PutsFront, Rose}
+use Rattle.jk_io.specs.declared.reaching.Talk.{Talk}
 use Rattle.jk_io.specs.declared.failures.NoMemory.{NoMemory}
 use Rattle.jk_model.specs.declared.member.MemberConfig.{MemberConfig}
 use Rattle.ajp_request.specs.Writing.{Fits}
 use Rattle.ajp_reply.specs.declared.message.Message.{Message}
 use Rattle.ajp_reply.specs.declared.message.Message.TheVariants.{Ask, End}
 use Rattle.ajp_reply.specs.declared.message.ReplyParts.{ReplyParts}
-use Rattle.ajp_reply.specs.Stream.{head_of}
+use Rattle.ajp_reply.specs.Stream.{Spelled, head_of}
 use Rattle.jk_io.specs.Moments.{Moment}
 use Rattle.ajp_talk.specs.Moments.{data_at}
-use Rattle.ajp_talk.specs.Owed.{asked}
-use Rattle.ajp_talk.specs.Replies.{chunks_of, has_passed, head_out, kind_of, so_far_of_talk, told_by, told_of_talk, told_with}
-use Rattle.ajp_talk.specs.Talk.{IsBad, IsTalk, IsGone}
+use Rattle.ajp_talk.specs.Owed.{asked, pong_of}
+use Rattle.ajp_talk.specs.Replies.{bytes_for, chunks_of, has_passed, head_out, kind_of, so_far_of_talk, told_by, told_of_talk, told_with}
+use Rattle.ajp_talk.specs.Talk.{IsBad, IsFrontOrForm, IsTalk, IsGone}
 use Rattle.ajp_talk.specs.declared.ending.Cause.{Cause}
 use Rattle.ajp_talk.specs.declared.ending.Stage.{Stage}
 use Rattle.ajp_talk.specs.declared.ending.TalkEnd.{TalkEnd}
@@ -29,10 +30,11 @@ use Rattle.http_out.specs.Framing.{framing_of}
 use Rattle.http_out.specs.Own.{own_bytes, own_of}
 use Rattle.http_out.specs.declared.own_answers.Own.{Own}
 use Rattle.site_config.specs.declared.endpoint.Endpoint.{Endpoint}
-use Rattle.exchange.specs.Clients.{GetsCut, GetsFront, GetsOwn, GetsReply, Gives, HasLastTalk, IsTooLarge}
-use Rattle.exchange.specs.Exchanges.{BreaksOwn, EndsIn, HasReply, IsExchange, IsLast, IsOwnCause, LostClient, WritesOwn, begun_with}
+use Rattle.exchange.specs.Clients.{GetsCut, GetsFront, GetsLess, GetsOwn, GetsReply, GetsReplyFront, Gives, HasLastTalk, IsNotedLast, IsTooLarge, MeetsBody}
+use Rattle.exchange.specs.Deliveries.{PutsShort}
+use Rattle.exchange.specs.Exchanges.{BreaksOwn, EndsIn, HasReply, IsExchange, IsLast, IsOwnCause, LostClient, WantsOwn, WritesOwn, begun_with}
 use Rattle.exchange.specs.FirstPiece.{IsFirstFailure}
-use Rattle.exchange.specs.OneTalk.{Around, IsHeld, IsOneTalk, no_link, pings}
+use Rattle.exchange.specs.OneTalk.{Around, IsHeld, IsOneTalk, keeps, no_link, plan_on}
 use Rattle.exchange.specs.Requests.{Errand, is_head, plan_for}
 use Rattle.exchange.specs.Rounds.{Round, Scene, is_later}
 use Rattle.exchange.specs.Talks.{HasRun}
@@ -43,7 +45,7 @@ use Rattle.exchange.specs.declared.ending.Ran.TheVariants as ran_is
 use Rattle.exchange.specs.Ends.{is_status}
 use Rattle.exchange.proofs.EarlyLaws.{IsEarly, IsFinal, bad_held, done_held, final_of_round, gone_held, piece_len, rose_on, rose_by_one, rounds_unmoved, starts_early, still_early}
 use Rattle.exchange.proofs.CauseLaws.{Extends, gateway_of, internal_of, rounds_extend, unavailable_of}
-use Rattle.exchange.proofs.GrowLaws.{round_grows}
+use Rattle.exchange.proofs.GrowLaws.{appended_twice, are_told, bytes_in, failed_grows, note_with, round_grows, rounds_grow}
 use Rattle.exchange.proofs.OwnLaws.{bad_status, is_own, or_other}
 use Rattle.exchange.proofs.UnmovedLaws.{all_unmoved, appended_none, none_so_far, takes_twice}
 
@@ -66,6 +68,8 @@ last_talk q first s n member config endpoint end begun fresh configured reached 
   takes = early.takes;
   left = early.left;
   unwritten = early.written;
+  others = early.others;
+  noted = early.noted;
   talk = held;
 }
 
@@ -83,66 +87,128 @@ front_none s n same = record { front = []; rest = []; whole = refl; put = same �
 front_all : (s n : Option (List ℕ)) (bytes : List ℕ) → n ≡ appended s bytes → PutsFront s n bytes
 front_all s n bytes is = record { front = bytes; rest = []; whole = sym (append-nil bytes); put = is }
 
-gets_nothing : (q : Errand) (s n : Around) → n.client.sent ≡ s.client.sent → GetsFront q s n
-gets_nothing q s n same = record { whole = []; is_due = inl refl; written = front_none s.client.sent n.client.sent same }
+-- ---- what was noted of the last talk
 
--- the front that a talk left
-front_of_talk : (q : Errand) (first : List ℕ) (config : MemberConfig) (endpoint : Endpoint) (s b n : Around) (ping : Bool) (opened closed : Moment) (answer : Result TalkEnd NoMemory)
-    → b.client.sent ≡ s.client.sent
-    → IsTalk (record (plan_for q first config endpoint) { ping = ping }) (record { line = opened; client = b.client; body = b.body })
-    (record { line = closed; client = n.client; body = n.body }) answer → GetsFront q s n
-front_of_talk q first config endpoint s b n ping opened closed (Ok (ends.Done told reuse moved)) same done = record {
-  whole = _;
-  is_due = inr (inr (first, config, endpoint, End reuse ∷ done.past, inr done.reply.form, inr refl));
-  written = front_all s.client.sent n.client.sent _ (write_on s.client.sent b.client.sent n.client.sent _ same done.written);
-}
-front_of_talk q first config endpoint s b n ping opened closed (Ok (ends.Failed stage cause told moved)) same (inl failed) = record {
-  whole = _;
-  is_due = inr (inr (first, config, endpoint, failed.past, inl failed.accepts.front, inl refl));
-  written = front_all s.client.sent n.client.sent _ (write_on s.client.sent b.client.sent n.client.sent _ same failed.written);
-}
-front_of_talk q first config endpoint s b n ping opened closed (Ok (ends.Failed stage cause told moved)) same (inr silent) =
-    gets_nothing q s n (ap (λ (x : Moment). x.sent) silent.client ∙ same)
-front_of_talk q first config endpoint s b n ping opened closed (Ok (ends.ClientGone truncated keep moved)) same gone = record {
-  whole = _;
-  is_due = inr (inr (first, config, endpoint, gone.past, gone.broken.front, inr refl));
-  written = front_on s.client.sent b.client.sent n.client.sent _ same gone.broken.written;
-}
-front_of_talk q first config endpoint s b n ping opened closed (Ok (ends.BadBody status told passed moved)) same bad = record {
-  whole = _;
-  is_due = inr (inr (first, config, endpoint, Ask bad.ask ∷ bad.past, inl bad.accepts.front, inl refl));
-  written = front_all s.client.sent n.client.sent _ (write_on s.client.sent b.client.sent n.client.sent _ same bad.written);
-}
-front_of_talk q first config endpoint s b n ping opened closed (Err e) same (inl wanted) = record {
-  whole = _;
-  is_due = inr (inr (first, config, endpoint, wanted.past, wanted.broken.front, inr refl));
-  written = front_on s.client.sent b.client.sent n.client.sent _ same wanted.broken.written;
-}
-front_of_talk q first config endpoint s b n ping opened closed (Err e) same (inr early) =
-    gets_nothing q s n (ap (λ (x : Moment). x.sent) early.client ∙ same)
+-- all that came on a link on which nothing had come before
+all_got : (opened closed : Option (List ℕ)) (got : List ℕ) → IsEmpty opened → closed ≡ appended opened got → IfSome closed (λ bytes. bytes ≡ got)
+all_got None closed got empty is = rw is tt
+all_got (Some xs) closed got empty is = rw is (ap (λ (ys : List ℕ). ys ++ got) empty)
 
-front_of_one : (q : Errand) (first : List ℕ) (config : MemberConfig) (s b n : Around) (lb member : ℕ) (endpoint : Endpoint) (fresh : Bool) (answer : Result TalkEnd NoMemory)
-    → b.client.sent ≡ s.client.sent → IsOneTalk lb member endpoint (plan_for q first config endpoint) fresh b n answer → GetsFront q s n
-front_of_one q first config s b n lb member endpoint fresh answer same (inl held) =
-    front_of_talk q first config endpoint s b n _ held.opened held.closed answer same held.talk
-front_of_one q first config s b n lb member endpoint fresh answer same (inr (inl linkless)) =
-    gets_nothing q s n (ap (λ (x : Moment). x.sent) linkless.1.client ∙ same)
-front_of_one q first config s b n lb member endpoint fresh answer same (inr (inr wanted)) =
-    gets_nothing q s n (ap (λ (x : Moment). x.sent) wanted.2.client ∙ same)
+noted_last : (q : Errand) (first : List ℕ) (s b n : Around) (member : ℕ) (endpoint : Endpoint) (plan : TalkPlan) (fresh : Bool) (answer : Result TalkEnd NoMemory) (came : List ℕ)
+    → IsEarly q first s b → (held : IsHeld q.lb member endpoint plan fresh b n answer)
+    → held.closed.received ≡ appended held.opened.received (pong_of (plan_on plan endpoint held.dialled) ++ came) → IsNotedLast member endpoint plan came s n
+noted_last q first s b n member endpoint plan fresh answer came early held got =
+    let note : Talk =
+    note_with q.lb member endpoint fresh held.dialled held.opened (bytes_in held.closed.sent) (pong_of (plan_on plan endpoint held.dialled) ++ came) (keeps answer) in
+    record {
+      others = early.others;
+      note = note;
+      talks = held.noted note (record {
+        begun_with = refl;
+        sent_in = are_told held.closed.sent;
+        received_in = all_got held.opened.received held.closed.received _ held.nothing_yet.1 got;
+        kept = refl;
+      }) ∙ ap (λ (t : Option (List Talk)). appended t (note ∷ [])) early.noted ∙ appended_twice s.talks early.others (note ∷ []);
+      with_member = refl;
+      received = refl;
+    }
+
+-- ---- the front that a talk left
+
+-- nothing, or a front of what its messages make of a reply
+abbrev TalkFront : Errand → Around → Around → Type 0
+TalkFront q s n = (n.client.sent ≡ s.client.sent) ⊎ GetsReplyFront q s n
+
+-- A member of the balancer.
+record IsMember (q : Errand) (member : ℕ) (config : MemberConfig) (endpoint : Endpoint) : Type 0 where
+  pub configured : slice_get q.balancer.book.members member ≡ Some config
+  pub reached : slice_get q.balancer.ends member ≡ Some endpoint
+
+reply_front : (q : Errand) (first : List ℕ) (s b n : Around) (member : ℕ) (config : MemberConfig) (endpoint : Endpoint) (fresh : Bool) (answer : Result TalkEnd NoMemory)
+    (past : List Message) (came rest whole : List ℕ) → IsMember q member config endpoint → IsEarly q first s b
+    → (held : IsHeld q.lb member endpoint (plan_for q first config endpoint) fresh b n answer) → Spelled endpoint.packet past came → IsFrontOrForm past
+    → held.closed.received ≡ appended held.opened.received (pong_of (plan_on (plan_for q first config endpoint) endpoint held.dialled) ++ (came ++ rest))
+    → (whole ≡ so_far_of_talk (plan_for q first config endpoint) past) ⊎ (whole ≡ bytes_for (plan_for q first config endpoint) past)
+    → PutsFront b.client.sent n.client.sent whole → GetsReplyFront q s n
+reply_front q first s b n member config endpoint fresh answer past came rest whole of early held spelled front got due put = record {
+  member = member;
+  config = config;
+  endpoint = endpoint;
+  configured = of.configured;
+  reached = of.reached;
+  first = first;
+  past = past;
+  came = came;
+  rest = rest;
+  spelled = spelled;
+  front = front;
+  noted = noted_last q first s b n member endpoint (plan_for q first config endpoint) fresh answer (came ++ rest) early held got;
+  whole = whole;
+  is_due = due;
+  written = front_on s.client.sent b.client.sent n.client.sent whole early.written put;
+}
+
+-- the same bytes came, and nothing after them
+no_rest : (before now : Option (List ℕ)) (pong came : List ℕ) → now ≡ appended before (pong ++ came) → now ≡ appended before (pong ++ (came ++ []))
+no_rest before now pong came is = is ∙ ap (λ (bytes : List ℕ). appended before (pong ++ bytes)) (sym (append-nil came))
+
+front_of_held : (q : Errand) (first : List ℕ) (config : MemberConfig) (s b n : Around) (member : ℕ) (endpoint : Endpoint) (fresh : Bool) (answer : Result TalkEnd NoMemory)
+    → IsMember q member config endpoint → IsEarly q first s b → (held : IsHeld q.lb member endpoint (plan_for q first config endpoint) fresh b n answer)
+    → IsTalk (plan_on (plan_for q first config endpoint) endpoint held.dialled) (record { line = held.opened; client = b.client; body = b.body })
+    (record { line = held.closed; client = n.client; body = n.body }) answer → TalkFront q s n
+front_of_held q first config s b n member endpoint fresh (Ok (ends.Done told reuse moved)) of early held done =
+    inr (reply_front q first s b n member config endpoint fresh _ (End reuse ∷ done.past) done.came [] _ of early held done.reply.spelled (inr done.reply.form)
+    (no_rest _ _ _ done.came done.traffic.came.kept) (inr refl) (front_all b.client.sent n.client.sent _ done.written))
+front_of_held q first config s b n member endpoint fresh (Ok (ends.Failed stage cause told moved)) of early held (inl failed) =
+    inr (reply_front q first s b n member config endpoint fresh _ failed.past failed.came failed.rest _ of early held failed.accepts.spelled (inl failed.accepts.front)
+    failed.traffic.came.kept (inl refl) (front_all b.client.sent n.client.sent _ failed.written))
+front_of_held q first config s b n member endpoint fresh (Ok (ends.Failed stage cause told moved)) of early held (inr silent) =
+    inl (ap (λ (x : Moment). x.sent) silent.client ∙ early.written)
+front_of_held q first config s b n member endpoint fresh (Ok (ends.ClientGone truncated keep moved)) of early held gone =
+    inr (reply_front q first s b n member config endpoint fresh _ gone.past gone.came gone.rest _ of early held gone.broken.spelled gone.broken.front
+    gone.broken.traffic.came.kept (inr refl) gone.broken.written)
+front_of_held q first config s b n member endpoint fresh (Ok (ends.BadBody status told passed moved)) of early held bad =
+    inr (reply_front q first s b n member config endpoint fresh _ (Ask bad.ask ∷ bad.past) bad.came [] _ of early held bad.accepts.spelled (inl bad.accepts.front)
+    (no_rest _ _ _ bad.came bad.traffic.came.kept) (inl refl) (front_all b.client.sent n.client.sent _ bad.written))
+front_of_held q first config s b n member endpoint fresh (Err e) of early held (inl wanted) =
+    inr (reply_front q first s b n member config endpoint fresh _ wanted.past wanted.came wanted.rest _ of early held wanted.broken.spelled wanted.broken.front
+    wanted.broken.traffic.came.kept (inr refl) wanted.broken.written)
+front_of_held q first config s b n member endpoint fresh (Err e) of early held (inr want) =
+    inl (ap (λ (x : Moment). x.sent) want.client ∙ early.written)
+
+front_of_one : (q : Errand) (first : List ℕ) (config : MemberConfig) (s b n : Around) (member : ℕ) (endpoint : Endpoint) (fresh : Bool) (answer : Result TalkEnd NoMemory)
+    → IsMember q member config endpoint → IsEarly q first s b → IsOneTalk q.lb member endpoint (plan_for q first config endpoint) fresh b n answer → TalkFront q s n
+front_of_one q first config s b n member endpoint fresh answer of early (inl held) =
+    front_of_held q first config s b n member endpoint fresh answer of early held held.talk
+front_of_one q first config s b n member endpoint fresh answer of early (inr (inl linkless)) =
+    inl (ap (λ (x : Moment). x.sent) linkless.1.client ∙ early.written)
+front_of_one q first config s b n member endpoint fresh answer of early (inr (inr wanted)) =
+    inl (ap (λ (x : Moment). x.sent) wanted.2.client ∙ early.written)
 
 front_of_run : (q : Errand) (first : List ℕ) (s m n : Around) (member : ℕ) (config : MemberConfig) (endpoint : Endpoint) (fresh : Bool) (ran : Ran)
-    → m.client.sent ≡ s.client.sent → HasRun q first member config endpoint fresh m n ran → GetsFront q s n
-front_of_run q first s m n member config endpoint fresh ran_is.TooLarge same (inl (fits, run)) = absurd run
-front_of_run q first s m n member config endpoint fresh (ran_is.Wanted bytes) same (inl (fits, (before, e, runs, told))) =
-    front_of_one q first config s runs.mid n q.lb member endpoint _ (Err e)
-    ((all_unmoved q.lb member endpoint q.head (plan_for q first config endpoint) fresh m before runs.mid runs.failed).written ∙ same) runs.final
-front_of_run q first s m n member config endpoint fresh (ran_is.Ended end bytes) same (inl (fits, (before, runs, told))) =
-    front_of_one q first config s runs.mid n q.lb member endpoint _ (Ok end)
-    ((all_unmoved q.lb member endpoint q.head (plan_for q first config endpoint) fresh m before runs.mid runs.failed).written ∙ same) runs.final
-front_of_run q first s m n member config endpoint fresh ran same (inr (inl (is, unfit, none))) =
-    gets_nothing q s n (ap (λ (x : Around). x.client.sent) none ∙ same)
-front_of_run q first s m n member config endpoint fresh ran same (inr (inr (is, none))) =
-    gets_nothing q s n (ap (λ (x : Around). x.client.sent) none ∙ same)
+    → IsMember q member config endpoint → IsEarly q first s m → HasRun q first member config endpoint fresh m n ran → TalkFront q s n
+front_of_run q first s m n member config endpoint fresh ran_is.TooLarge of early (inl (fits, run)) = absurd run
+front_of_run q first s m n member config endpoint fresh (ran_is.Wanted bytes) of early (inl (fits, (before, e, runs, told))) =
+    front_of_one q first config s runs.mid n member endpoint _ (Err e) of
+    (still_early q first s m runs.mid early (all_unmoved q.lb member endpoint q.head (plan_for q first config endpoint) fresh m before runs.mid runs.failed)
+    (failed_grows q.lb member endpoint q.head (plan_for q first config endpoint) fresh m before runs.mid runs.failed)) runs.final
+front_of_run q first s m n member config endpoint fresh (ran_is.Ended end bytes) of early (inl (fits, (before, runs, told))) =
+    front_of_one q first config s runs.mid n member endpoint _ (Ok end) of
+    (still_early q first s m runs.mid early (all_unmoved q.lb member endpoint q.head (plan_for q first config endpoint) fresh m before runs.mid runs.failed)
+    (failed_grows q.lb member endpoint q.head (plan_for q first config endpoint) fresh m before runs.mid runs.failed)) runs.final
+front_of_run q first s m n member config endpoint fresh ran of early (inr (inl (is, unfit, none))) =
+    inl (ap (λ (x : Around). x.client.sent) none ∙ early.written)
+front_of_run q first s m n member config endpoint fresh ran of early (inr (inr (is, none))) =
+    inl (ap (λ (x : Around). x.client.sent) none ∙ early.written)
+
+-- the front of a talk, as an exchange tells it
+as_front : (q : Errand) (s n : Around) → TalkFront q s n → GetsFront q s n
+as_front q s n (inl same) = inl same
+as_front q s n (inr reply) = inr (inr reply)
+
+as_less : (q : Errand) (s n : Around) → TalkFront q s n → GetsLess q s n
+as_less q s n (inl same) = inl same
+as_less q s n (inr reply) = inr (inr reply)
 
 -- ---- an own answer
 
@@ -260,17 +326,37 @@ not_failed_by : (b : Bool) (status other : ℕ) → status ≡ (if b then 503 el
 not_failed_by true status other is known small = omega (arith, is, known, small)
 not_failed_by false status other is known small = omega (arith, is, known, small)
 
-bad_line_of : (q : Errand) (first : List ℕ) (s : Around) (past : List Round) (a m : Scene) (status : ℕ) → IsEarly q first s a.around → IsOwnCause q first past a m status
-    → status ≡ 400 → IfSome (data_at s.body) (λ d. (d.whole ≡ false) × (d.bad ≡ true))
-bad_line_of q first s past a m status early (inl none) is = absurd (omega (arith, is, none.0))
-bad_line_of q first s past a m status early (inr (inl forced)) is = absurd (omega (arith, is, forced.0))
-bad_line_of q first s past a m status early (inr (inr (inl full))) is = absurd (omega (arith, is, full.0))
-bad_line_of q first s past a m status early (inr (inr (inr (r, round, inl (large, by))))) is = absurd (omega (arith, is, by))
-bad_line_of q first s past a m status early (inr (inr (inr (r, round, inr (inl (cause, given, by)))))) is = absurd (not_failed_by (is_status cause) status 400 by is (omega arith))
-bad_line_of q first s past a m status early (inr (inr (inr (r, round, inr (inr bad))))) is =
+-- the talk that found the body bad
+meets_body : (q : Errand) (first : List ℕ) (s : Around) (m n : Scene) (r : Round) (status : ℕ) (passed : Bool) (moved : ℕ)
+    → slice_get q.balancer.book.members r.member ≡ Some r.config → slice_get q.balancer.ends r.member ≡ Some r.endpoint
+    → IsFinal q first s m.around r (ends.BadBody status None passed moved) → n ≡ record m { around = record m.around { client = n.around.client } }
+    → MeetsBody q s n.around status
+meets_body q first s m n r status passed moved configured reached final rest = record {
+  member = r.member;
+  passed = passed;
+  moved = moved;
+  over = m.around;
+  last = last_talk q first s m.around r.member r.config r.endpoint (ends.BadBody status None passed moved) final.begun final.fresh configured reached final.early
+      (bad_held _ _ _ _ _ final.begun m.around status None passed moved final.talk);
+  rest = ap (λ (x : Scene). x.around) rest;
+}
+
+abbrev MetBadLine : Errand → Around → Around → Type 0
+MetBadLine q s n = MeetsBody q s n 400 × IfSome (data_at s.body) (λ d. (d.whole ≡ false) × (d.bad ≡ true))
+
+bad_line_of : (q : Errand) (first : List ℕ) (s : Around) (past : List Round) (a m n : Scene) (status : ℕ) → IsEarly q first s a.around → IsOwnCause q first past a m status
+    → n ≡ record m { around = record m.around { client = n.around.client } } → status ≡ 400 → MetBadLine q s n.around
+bad_line_of q first s past a m n status early (inl none) rest is = absurd (omega (arith, is, none.0))
+bad_line_of q first s past a m n status early (inr (inl forced)) rest is = absurd (omega (arith, is, forced.0))
+bad_line_of q first s past a m n status early (inr (inr (inl full))) rest is = absurd (omega (arith, is, full.0))
+bad_line_of q first s past a m n status early (inr (inr (inr (r, round, inl (large, by))))) rest is = absurd (omega (arith, is, by))
+bad_line_of q first s past a m n status early (inr (inr (inr (r, round, inr (inl (cause, given, by)))))) rest is = absurd (not_failed_by (is_status cause) status 400 by is (omega arith))
+bad_line_of q first s past a m n status early (inr (inr (inr (r, round, inr (inr bad))))) rest is =
     let final = final_of_round q first s _ _ a m r None _ early round bad.ended in
-    let held = bad_held _ _ _ _ _ final.begun m.around status None bad.passed bad.moved final.talk in
-    bad_before q first s final.begun _ status final.early held.talk.why is
+    let held = bad_held _ _ _ _ _ final.begun m.around status None bad.passed bad.moved final.talk in (
+      subst (MeetsBody q s n.around) is (meets_body q first s m n r status bad.passed bad.moved round.configured round.reached final rest),
+      bad_before q first s final.begun _ status final.early held.talk.why is,
+    )
 
 unfit_of : (q : Errand) (first : List ℕ) (r : Round) (fresh : Bool) (a m : Around) → HasRun q first r.member r.config r.endpoint fresh a m ran_is.TooLarge
     → Fits r.endpoint.packet (forward_for q.head q.peer q.balancer.book.direct r.config r.endpoint) → ⊥
@@ -278,26 +364,33 @@ unfit_of q first r fresh a m (inl (fits, run)) = absurd run
 unfit_of q first r fresh a m (inr (inl (is, unfit, none))) = unfit
 unfit_of q first r fresh a m (inr (inr (is, none))) = absurd cc
 
-too_large_of : (q : Errand) (first : List ℕ) (s : Around) (past : List Round) (a m : Scene) (status : ℕ) → IsEarly q first s a.around → IsOwnCause q first past a m status
-    → status ≡ 413 → IsTooLarge q ⊎ IsLimited (data_at s.body) (most_of s.body.body) (taken_of s.body.body)
-too_large_of q first s past a m status early (inl none) is = absurd (omega (arith, is, none.0))
-too_large_of q first s past a m status early (inr (inl forced)) is = absurd (omega (arith, is, forced.0))
-too_large_of q first s past a m status early (inr (inr (inl full))) is = absurd (omega (arith, is, full.0))
-too_large_of q first s past a m status early (inr (inr (inr (r, round, inl (large, by))))) is =
+too_large_of : (q : Errand) (first : List ℕ) (s : Around) (past : List Round) (a m n : Scene) (status : ℕ) → IsEarly q first s a.around → IsOwnCause q first past a m status
+    → n ≡ record m { around = record m.around { client = n.around.client } } → status ≡ 413
+    → IsTooLarge q n ⊎ (MeetsBody q s n.around 413 × IsLimited (data_at s.body) (most_of s.body.body) (taken_of s.body.body))
+too_large_of q first s past a m n status early (inl none) rest is = absurd (omega (arith, is, none.0))
+too_large_of q first s past a m n status early (inr (inl forced)) rest is = absurd (omega (arith, is, forced.0))
+too_large_of q first s past a m n status early (inr (inr (inl full))) rest is = absurd (omega (arith, is, full.0))
+too_large_of q first s past a m n status early (inr (inr (inr (r, round, inl (large, by))))) rest is =
     inl (record {
-      member = r.member;
-      config = r.config;
-      endpoint = r.endpoint;
-      configured = round.configured;
-      reached = round.reached;
+      first = first;
+      tried = _;
+      fresh = is_later past;
+      begun = a;
+      over = m;
+      round = r;
+      chosen = round;
       unfit = unfit_of q first r (is_later past) a.around m.around
           (subst (λ (ran : Ran). HasRun q first r.member r.config r.endpoint (is_later past) a.around m.around ran) large round.talked);
+      rest = rest;
     })
-too_large_of q first s past a m status early (inr (inr (inr (r, round, inr (inl (cause, given, by)))))) is = absurd (not_failed_by (is_status cause) status 413 by is (omega arith))
-too_large_of q first s past a m status early (inr (inr (inr (r, round, inr (inr bad))))) is =
+too_large_of q first s past a m n status early (inr (inr (inr (r, round, inr (inl (cause, given, by)))))) rest is = absurd (not_failed_by (is_status cause) status 413 by is (omega arith))
+too_large_of q first s past a m n status early (inr (inr (inr (r, round, inr (inr bad))))) rest is =
     let final = final_of_round q first s _ _ a m r None _ early round bad.ended in
     let held = bad_held _ _ _ _ _ final.begun m.around status None bad.passed bad.moved final.talk in
-    inr (long_before q first s final.begun _ status final.early held.talk.why is)
+    inr (
+      subst (MeetsBody q s n.around) is (meets_body q first s m n r status bad.passed bad.moved round.configured round.reached final rest),
+      long_before q first s final.begun _ status final.early held.talk.why is,
+    )
 
 gets_own : (q : Errand) (first : List ℕ) (s : Scene) (past : List Round) (a m n : Scene) (status : ℕ) (own : Own) → own_of status ≡ Some own → IsEarly q first s.around a.around
     → Extends s.desk a.desk → IsOwnCause q first past a m status → WritesOwn q m n status → GetsOwn q status s n
@@ -306,8 +399,8 @@ gets_own q first s past a m n status own is early extends cause writes = record 
   is_own = is;
   written = write_on s.around.client.sent m.around.client.sent n.around.client.sent _ (silent_own q first s.around past a m status early cause)
       (whole_own q m.around.client.sent n.around.client.sent status own is writes.written);
-  bad_line = bad_line_of q first s.around past a m status early cause;
-  too_large = too_large_of q first s.around past a m status early cause;
+  bad_line = bad_line_of q first s.around past a m n status early cause writes.rest;
+  too_large = too_large_of q first s.around past a m n status early cause writes.rest;
   internal = internal_of q first s a m n past status early extends cause (ap (λ (x : Scene). x.desk) writes.rest);
   gateway = gateway_of q first s a m n past status early cause writes.rest;
   unavailable = unavailable_of q first s a m n past status early extends cause writes.rest;
@@ -315,12 +408,33 @@ gets_own q first s past a m n status own is early extends cause writes = record 
 
 gets_broken : (q : Errand) (first : List ℕ) (s : Around) (past : List Round) (a m n : Scene) (status : ℕ) (own : Own) → own_of status ≡ Some own → IsEarly q first s a.around
     → IsOwnCause q first past a m status → BreaksOwn q m n status → GetsFront q s n.around
-gets_broken q first s past a m n status own is early cause breaks = record {
-  whole = own_bytes own (is_head q.head);
-  is_due = inr (inl (status, own, is, refl));
-  written = front_on s.client.sent m.around.client.sent n.around.client.sent _ (silent_own q first s past a m status early cause)
-      (front_own q m.around.client.sent n.around.client.sent status own is breaks.written);
-}
+gets_broken q first s past a m n status own is early cause breaks =
+    inr (inl (record {
+      status = status;
+      own = own;
+      is_own = is;
+      written = front_on s.client.sent m.around.client.sent n.around.client.sent _ (silent_own q first s past a m status early cause)
+          (front_own q m.around.client.sent n.around.client.sent status own is breaks.written);
+    }))
+
+short_own : (q : Errand) (before now : Option (List ℕ)) (status : ℕ) (own : Own) → own_of status ≡ Some own
+    → IfSome (own_of status) (λ own. PutsShort before now (own_bytes own (is_head q.head))) → PutsShort before now (own_bytes own (is_head q.head))
+short_own q before now status own is written = subst (λ (o : Option Own). IfSome o (λ x. PutsShort before now (own_bytes x (is_head q.head)))) is written
+
+short_on : (s m n : Option (List ℕ)) (bytes : List ℕ) → m ≡ s → PutsShort m n bytes → PutsShort s n bytes
+unfolding front_on
+short_on s m n bytes same short = record { front = front_on s m n bytes same short.front; some = short.some }
+
+gets_less : (q : Errand) (first : List ℕ) (s : Around) (past : List Round) (a m n : Scene) (status : ℕ) (own : Own) → own_of status ≡ Some own → IsEarly q first s a.around
+    → IsOwnCause q first past a m status → WantsOwn q m n status → GetsLess q s n.around
+gets_less q first s past a m n status own is early cause wants =
+    inr (inl (record {
+      status = status;
+      own = own;
+      is_own = is;
+      written = short_on s.client.sent m.around.client.sent n.around.client.sent _ (silent_own q first s past a m status early cause)
+          (short_own q m.around.client.sent n.around.client.sent status own is wants.written);
+    }))
 
 the_own : (status : ℕ) → IsSome (own_of status) → (own : Own) × (own_of status ≡ Some own)
 the_own status some = some_of (own_of status) some
@@ -341,6 +455,7 @@ reply_of q first s m r told reuse moved configured reached begun fresh early hel
   came = held.talk.came;
   reply = record { spelled = held.talk.reply.spelled; form = held.talk.reply.form; sum = held.talk.reply.sum };
   unlisted = held.talk.unlisted;
+  noted = noted_last q first s begun m r.member r.endpoint (plan_for q first r.config r.endpoint) fresh _ held.talk.came early held held.talk.traffic.came.kept;
   written = write_on s.client.sent begun.client.sent m.client.sent _ early.written held.talk.written;
   taken = first ++ held.talk.taken;
   takes = takes_twice s.body begun.body m.body first held.talk.taken early.takes held.talk.takes;
@@ -358,7 +473,7 @@ cut_by_failed : (q : Errand) (first : List ℕ) (s m : Around) (r : Round) (stag
     → slice_get q.balancer.book.members r.member ≡ Some r.config → slice_get q.balancer.ends r.member ≡ Some r.endpoint
     → (begun : Around) (fresh : Bool) → IsEarly q first s begun
     → (held : IsHeld q.lb r.member r.endpoint (plan_for q first r.config r.endpoint) fresh begun m (Ok (ends.Failed stage cause (Some told) moved)))
-    → IsTalk (record (plan_for q first r.config r.endpoint) { ping = pings r.endpoint held.dialled })
+    → IsTalk (plan_on (plan_for q first r.config r.endpoint) r.endpoint held.dialled)
     (record { line = held.opened; client = begun.client; body = begun.body }) (record { line = held.closed; client = m.client; body = m.body })
     (Ok (ends.Failed stage cause (Some told) moved)) → GetsCut q r.member told s m
 cut_by_failed q first s m r stage cause told moved configured reached begun fresh early held (inl failed) = record {
@@ -367,6 +482,8 @@ cut_by_failed q first s m r stage cause told moved configured reached begun fres
   last = last_talk q first s m r.member r.config r.endpoint (ends.Failed stage cause (Some told) moved) begun fresh configured reached early held;
   past = failed.past;
   came = failed.came;
+  rest = failed.rest;
+  noted = noted_last q first s begun m r.member r.endpoint (plan_for q first r.config r.endpoint) fresh _ (failed.came ++ failed.rest) early held failed.traffic.came.kept;
   accepts = record { spelled = failed.accepts.spelled; front = failed.accepts.front; unlisted = failed.accepts.unlisted; within = failed.accepts.within };
   passed = told_some (kind_of (plan_for q first r.config r.endpoint)) (head_of failed.past) (chunks_of failed.past) told (sym failed.told_is);
   written = write_on s.client.sent begun.client.sent m.client.sent _ early.written failed.written;
@@ -395,6 +512,9 @@ cut_by_bad q first s m r status told passed moved configured reached begun fresh
   last = last_talk q first s m r.member r.config r.endpoint (ends.BadBody status (Some told) passed moved) begun fresh configured reached early held;
   past = Ask held.talk.ask ∷ held.talk.past;
   came = held.talk.came;
+  rest = [];
+  noted = noted_last q first s begun m r.member r.endpoint (plan_for q first r.config r.endpoint) fresh _ (held.talk.came ++ []) early held
+      (no_rest _ _ _ held.talk.came held.talk.traffic.came.kept);
   accepts = record { spelled = held.talk.accepts.spelled; front = held.talk.accepts.front; unlisted = held.talk.accepts.unlisted; within = held.talk.accepts.within };
   passed = told_some (kind_of (plan_for q first r.config r.endpoint)) (head_of held.talk.past) (chunks_of held.talk.past) told (sym held.talk.told_is);
   written = write_on s.client.sent begun.client.sent m.client.sent _ early.written held.talk.written;
@@ -453,7 +573,7 @@ gives_last q first s a m n past exchange_end.ClientFault early extends (inl (r, 
     let both = lost q first s.around a m r past false early round gone in
     subst (λ (x : Scene). Rose s.around.client.faults x.around.client.faults × GetsFront q s.around x.around) (sym rest) (
       rose_on s.around.client.faults both.0.begun.client.faults m.around.client.faults (omega (arith, both.0.early.client_faults)) (both.1.talk.failed refl),
-      front_of_one q first r.config s.around both.0.begun m.around q.lb r.member r.endpoint both.0.fresh _ both.0.early.written (inl both.1),
+      as_front q s.around m.around (front_of_one q first r.config s.around both.0.begun m.around r.member r.endpoint both.0.fresh _ (record { configured = round.configured; reached = round.reached }) both.0.early (inl both.1)),
     )
 gives_last q first s a m n past exchange_end.ClientFault early extends (inr (status, cause, breaks, rose)) =
     let own = the_own status (some_own q first s.around past a m status early cause) in (
@@ -464,21 +584,21 @@ gives_last q first s a m n past exchange_end.Truncated early extends (r, round, 
     let both = lost q first s.around a m r past true early round gone in
     subst (λ (x : Scene). IfSome (data_at s.around.body) (λ d. (d.whole ≡ false) × (d.bad ≡ false)) × GetsFront q s.around x.around) (sym rest) (
       cut_gone q first _ s.around both.0.begun m.around both.1.opened both.1.closed gone.keep gone.moved both.0.early both.1.talk,
-      front_of_one q first r.config s.around both.0.begun m.around q.lb r.member r.endpoint both.0.fresh _ both.0.early.written (inl both.1),
+      as_front q s.around m.around (front_of_one q first r.config s.around both.0.begun m.around r.member r.endpoint both.0.fresh _ (record { configured = round.configured; reached = round.reached }) both.0.early (inl both.1)),
     )
 gives_last q first s a m n past (exchange_end.Stray ticket returned_at) early extends (r, stray, round, is, at, rest) =
     subst (λ (x : Scene). Rose s.desk.strays x.desk.strays × GetsFront q s.around x.around) (sym rest) (
       rose_on s.desk.strays round.desk.strays m.desk.strays (omega (arith, round.chose.stray, extends.none.strays)) (rose_by_one round.desk.strays m.desk.strays round.back.rose),
-      front_of_run q first s.around a.around m.around r.member r.config r.endpoint _ r.ran early.written round.talked,
+      as_front q s.around m.around (front_of_run q first s.around a.around m.around r.member r.config r.endpoint _ r.ran (record { configured = round.configured; reached = round.reached }) early round.talked),
     )
 gives_last q first s a m n past exchange_end.NoMemory early extends (inl (none, rest)) =
-    gets_nothing q s.around n.around (ap (λ (x : Scene). x.around.client.sent) rest ∙ ap (λ (x : Around). x.client.sent) none.around ∙ early.written)
+    inl (ap (λ (x : Scene). x.around.client.sent) rest ∙ ap (λ (x : Around). x.client.sent) none.around ∙ early.written)
 gives_last q first s a m n past exchange_end.NoMemory early extends (inr (inl (r, bytes, round, is, rest))) =
-    subst (λ (x : Scene). GetsFront q s.around x.around) (sym rest)
-    (front_of_run q first s.around a.around m.around r.member r.config r.endpoint _ r.ran early.written round.talked)
-gives_last q first s a m n past exchange_end.NoMemory early extends (inr (inr (status, cause, breaks))) =
+    subst (λ (x : Scene). GetsLess q s.around x.around) (sym rest)
+    (as_less q s.around m.around (front_of_run q first s.around a.around m.around r.member r.config r.endpoint _ r.ran (record { configured = round.configured; reached = round.reached }) early round.talked))
+gives_last q first s a m n past exchange_end.NoMemory early extends (inr (inr (status, cause, wants))) =
     let own = the_own status (some_own q first s.around past a m status early cause) in
-    gets_broken q first s.around past a m n status own.0 own.1 early cause breaks
+    gets_less q first s.around past a m n status own.0 own.1 early cause wants
 
 cut_first : (told : Option Data) (len : ℕ) → IfSome told (λ d. (reaches len d ≡ false) × (d.bad ≡ false)) → IfSome told (λ d. (d.whole ≡ false) × (d.bad ≡ false))
 cut_first None len is = is
@@ -490,10 +610,10 @@ gives_none : (q : Errand) (s n : Scene) (end : ExchangeEnd) → IsFirstFailure (
 gives_none q s n (exchange_end.Done member told) why same = absurd why
 gives_none q s n (exchange_end.Own status) why same = absurd why
 gives_none q s n (exchange_end.Cut member told) why same = absurd why
-gives_none q s n exchange_end.ClientFault why same = (why, gets_nothing q s.around n.around same)
-gives_none q s n exchange_end.Truncated why same = (cut_first (data_at s.around.body) (piece_len q) why, gets_nothing q s.around n.around same)
+gives_none q s n exchange_end.ClientFault why same = (why, inl same)
+gives_none q s n exchange_end.Truncated why same = (cut_first (data_at s.around.body) (piece_len q) why, inl same)
 gives_none q s n (exchange_end.Stray ticket returned_at) why same = absurd why
-gives_none q s n exchange_end.NoMemory why same = gets_nothing q s.around n.around same
+gives_none q s n exchange_end.NoMemory why same = inl same
 
 pub gives : (q : Errand) (s n : Scene) (end : ExchangeEnd) → IsExchange q s n end → Gives q s n end
 gives q s n end (inl none) = gives_none q s n end none.why none.written
@@ -501,5 +621,6 @@ gives q s n end (inr rounds) =
     let start = begun_with s rounds.client rounds.body in
     gives_last q rounds.first s rounds.through.asked rounds.through.ruled n rounds.through.past end
     (still_early q rounds.first s.around start.around rounds.through.asked.around (starts_early q rounds.first s rounds.client rounds.body rounds.took rounds.unwritten rounds.steady)
-    (rounds_unmoved q rounds.first start rounds.through.past rounds.through.asked rounds.through.gone_on))
+    (rounds_unmoved q rounds.first start rounds.through.past rounds.through.asked rounds.through.gone_on)
+    (rounds_grow q rounds.first start rounds.through.past rounds.through.asked rounds.through.gone_on))
     (rounds_extend q rounds.first start rounds.through.past rounds.through.asked rounds.through.gone_on) rounds.through.ends_in

@@ -21,7 +21,7 @@ use Rattle.http_body_in.specs.Body.{Data, dropped}
 use Rattle.site_config.specs.declared.endpoint.Endpoint.{Endpoint}
 use Rattle.exchange.specs.Complete.{Completes, HasWhole, IsCompleted, plan_of_note}
 use Rattle.exchange.specs.Exchanges.{EndsIn, IsExchange, IsOwnCause, begun_with as scene_with}
-use Rattle.exchange.specs.OneTalk.{Around, IsHeld, IsOneTalk, pings}
+use Rattle.exchange.specs.OneTalk.{Around, IsHeld, IsOneTalk, plan_on}
 use Rattle.exchange.specs.Requests.{Errand, plan_for}
 use Rattle.exchange.specs.Rounds.{HaveGoneOn, IsRound, MayGoOn, Round, Scene}
 use Rattle.exchange.specs.Talks.{HasRun, HaveFailed}
@@ -31,7 +31,7 @@ use Rattle.exchange.specs.declared.ending.Ran.{Ran}
 use Rattle.exchange.specs.declared.ending.Ran.TheVariants as ran_is
 use Rattle.exchange.proofs.EarlyLaws.{IsEarly, rose_by_one, starts_early}
 use Rattle.exchange.proofs.ClientLaws.{silent_faults}
-use Rattle.exchange.proofs.GrowLaws.{Grows, appended_no_talk, grows_none, grows_twice, held_noted, note_of, one_grows, round_grows, same_grows}
+use Rattle.exchange.proofs.GrowLaws.{Grows, appended_no_talk, grows_none, grows_twice, held_noted, note_of, one_grows, round_grows, rounds_grow, same_grows}
 use Rattle.exchange.proofs.UnmovedLaws.{again_follows, may_follow}
 use Rattle.exchange.proofs.WholeLaws.{known}
 
@@ -136,15 +136,15 @@ rose_within : (before mid late now : ℕ) → before ≤ mid → late ≤ now �
 rose_within before mid late now early after rose = omega (arith, early, after, rose)
 
 same_plan : (q : Errand) (a b : List ℕ) (c d : MemberConfig) (e f : Endpoint) (x y : Bool) → a ≡ b → c ≡ d → e ≡ f → x ≡ y
-    → record (plan_for q a c e) { ping = pings e x } ≡ record (plan_for q b d f) { ping = pings f y }
+    → plan_on (plan_for q a c e) e x ≡ plan_on (plan_for q b d f) f y
 same_plan q a b c d e f x y first config endpoint dialled =
-    ap (λ (z : List ℕ). record (plan_for q z c e) { ping = pings e x }) first ∙ ap (λ (z : MemberConfig). record (plan_for q b z e) { ping = pings e x }) config
-    ∙ ap (λ (z : Endpoint). record (plan_for q b d z) { ping = pings z x }) endpoint ∙ ap (λ (z : Bool). record (plan_for q b d f) { ping = pings f z }) dialled
+    ap (λ (z : List ℕ). plan_on (plan_for q z c e) e x) first ∙ ap (λ (z : MemberConfig). plan_on (plan_for q b z e) e x) config
+    ∙ ap (λ (z : Endpoint). plan_on (plan_for q b d z) z x) endpoint ∙ ap (λ (z : Bool). plan_on (plan_for q b d f) f z) dialled
 
 -- the plan of the first talk is that of its note
 note_plan : (q : Errand) (first : List ℕ) (s n : Scene) (t : Talk) (all : List Message) (has : HasWhole q s n t all) (b : Around) → IsEarly q first s.around b
     → (member : ℕ) (config : MemberConfig) (endpoint : Endpoint) (dialled : Bool) → dialled ≡ t.dialled → has.config ≡ config → has.endpoint ≡ endpoint
-    → plan_of_note q has.data' has.config has.endpoint t ≡ record (plan_for q first config endpoint) { ping = pings endpoint dialled }
+    → plan_of_note q has.data' has.config has.endpoint t ≡ plan_on (plan_for q first config endpoint) endpoint dialled
 note_plan q first s n t all has b early member config endpoint dialled dials same_config same_endpoint =
     let piece : first ≡ take (first_len q.head.plan q.balancer.ends) has.data'.bytes =
     subst (λ (o : Option Data). IfSome o (λ d. first ≡ take (first_len q.head.plan q.balancer.ends) d.bytes)) has.told early.piece in
@@ -159,12 +159,12 @@ whole_talk : (q : Errand) (first : List ℕ) (s n : Scene) (b now : Around) (mem
     (answer : Result TalkEnd NoMemory) (has : HasWhole q s n t all) (held : IsHeld q.lb member endpoint (plan_for q first config endpoint) fresh b now answer)
     → IsEarly q first s.around b → s.around.faults ≤ b.faults → Grows now n.around
     → note_of q.lb member endpoint (plan_for q first config endpoint) fresh b now answer held ≡ t → has.config ≡ config → has.endpoint ≡ endpoint
-    → HasWholeTalk (record (plan_for q first config endpoint) { ping = pings endpoint held.dialled })
+    → HasWholeTalk (plan_on (plan_for q first config endpoint) endpoint held.dialled)
     (record { line = held.opened; client = b.client; body = b.body }) (record { line = held.closed; client = now.client; body = now.body }) all
 whole_talk q first s n b now member config endpoint fresh t all answer has held early reach grows noted same_config same_endpoint =
     let piece : first ≡ take (first_len q.head.plan q.balancer.ends) has.data'.bytes =
     subst (λ (o : Option Data). IfSome o (λ d. first ≡ take (first_len q.head.plan q.balancer.ends) d.bytes)) has.told early.piece in
-    let plan_is : plan_of_note q has.data' has.config has.endpoint t ≡ record (plan_for q first config endpoint) { ping = pings endpoint held.dialled } =
+    let plan_is : plan_of_note q has.data' has.config has.endpoint t ≡ plan_on (plan_for q first config endpoint) endpoint held.dialled =
     note_plan q first s n t all has b early member config endpoint held.dialled (ap (λ (x : Talk). x.dialled) noted) same_config same_endpoint in
     let left : data_at b.body ≡ Some (record { bytes = drop (first_len q.head.plan q.balancer.ends) has.data'.bytes; whole = has.data'.whole; bad = has.data'.bad }) =
     early.left ∙ ap (dropped (first_len q.head.plan q.balancer.ends)) has.told in
@@ -384,7 +384,7 @@ end_grows q first past a m n exchange_end.Truncated (r, round, gone, rest) = sce
 end_grows q first past a m n (exchange_end.Stray ticket returned_at) (r, stray, round, is, at, rest) = scene_grows m n rest
 end_grows q first past a m n exchange_end.NoMemory (inl (none, rest)) = scene_grows m n rest
 end_grows q first past a m n exchange_end.NoMemory (inr (inl (r, bytes, round, is, rest))) = scene_grows m n rest
-end_grows q first past a m n exchange_end.NoMemory (inr (inr (status, cause, breaks))) = own_grows m n breaks.rest breaks.no_fewer
+end_grows q first past a m n exchange_end.NoMemory (inr (inr (status, cause, wants))) = own_grows m n wants.rest (omega (arith, wants.steady))
 
 unchosen_grows : (a m : Scene) → m.around ≡ a.around → Grows a.around m.around
 unchosen_grows a m same = same_grows a.around m.around same
@@ -425,3 +425,17 @@ completes q s n end (inr rounds) = λ t all has.
     let start = scene_with s rounds.client rounds.body in
     completes_rounds q rounds.first s n start t all has rounds.through.past rounds.through.asked rounds.through.ruled end
     (starts_early q rounds.first s rounds.client rounds.body rounds.took rounds.unwritten rounds.steady) (omega arith) refl refl rounds.through.gone_on rounds.through.ends_in
+
+-- ---- the talks that were noted
+
+-- however an exchange ended
+pub exchange_grows : (q : Errand) (s n : Scene) (end : ExchangeEnd) → IsExchange q s n end → (noted : List Talk) × (n.around.talks ≡ appended s.around.talks noted)
+exchange_grows q s n end (inl none) = ([], none.talks ∙ sym (appended_no_talk s.around.talks))
+exchange_grows q s n end (inr rounds) =
+    let start = scene_with s rounds.client rounds.body in
+    let all : Grows start.around n.around =
+    grows_twice start.around rounds.through.asked.around n.around (rounds_grow q rounds.first start rounds.through.past rounds.through.asked rounds.through.gone_on)
+    (grows_twice rounds.through.asked.around rounds.through.ruled.around n.around
+    (last_grows q rounds.first rounds.through.past rounds.through.asked rounds.through.ruled n end rounds.through.ends_in)
+    (end_grows q rounds.first rounds.through.past rounds.through.asked rounds.through.ruled n end rounds.through.ends_in)) in
+    (all.gained, all.talks)

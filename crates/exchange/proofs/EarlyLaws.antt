@@ -1,7 +1,8 @@
 -- What stands before the last talk of an exchange: nothing was written, and just the first piece was taken.
-use Rattle.std.proofs.Common.{◌≡◌, ℕ, ◌≤◌, Bool, true, List, [], ◌∷◌, take, Option, Some, None, IfSome, Ok, Err, sym, ap, ◌∙◌, subst, inl, inr, arith, append-nil}
+use Rattle.std.proofs.Common.{◌≡◌, ℕ, ◌≤◌, Bool, true, List, [], ◌∷◌, ◌++◌, take, Option, Some, None, IfSome, Ok, Err, sym, ap, ◌∙◌, subst, inl, inr, arith, append-nil}
 use Rattle.jk_io.specs.Moments.{Moment}
-use Rattle.jk_io.specs.Told.{Rose}
+use Rattle.jk_io.specs.Told.{appended, Rose}
+use Rattle.jk_io.specs.declared.reaching.Talk.{Talk}
 use Rattle.jk_model.specs.declared.refusal.Stray.{Stray}
 use Rattle.ajp_talk.specs.Moments.{BodyAt, Takes, data_at}
 use Rattle.ajp_talk.specs.declared.ending.TalkEnd.{TalkEnd}
@@ -21,6 +22,7 @@ use Rattle.exchange.specs.Talks.{HasRun, is_fresh}
 use Rattle.exchange.specs.declared.ending.Ran.{Ran}
 use Rattle.exchange.specs.declared.ending.Ran.TheVariants as ran_is
 use Rattle.exchange.proofs.ExchangeLaws.{round_unmoved}
+use Rattle.exchange.proofs.GrowLaws.{Grows, appended_no_talk, appended_twice, failed_grows}
 use Rattle.exchange.proofs.UnmovedLaws.{IsUnmoved, all_unmoved, still, takes_twice, unmoved_twice}
 
 -- ---- before the last talk
@@ -35,6 +37,8 @@ pub record IsEarly (q : Errand) (first : List ℕ) (s n : Around) : Type 0 where
   pub left : data_at n.body ≡ dropped (piece_len q) (data_at s.body)
   pub written : n.client.sent ≡ s.client.sent
   pub client_faults : n.client.faults ≡ s.client.faults
+  pub others : List Talk
+  pub noted : n.talks ≡ appended s.talks others
 
 pub the_piece : (told : Option Data) (len : ℕ) (first : List ℕ) → IfSome told (λ d. (first ≡ take len d.bytes) × (reaches len d ≡ true))
     → IfSome told (λ d. first ≡ take len d.bytes)
@@ -49,15 +53,19 @@ starts_early q first s client body took unwritten steady = record {
   left = took.left;
   written = unwritten;
   client_faults = steady;
+  others = [];
+  noted = sym (appended_no_talk s.around.talks);
 }
 
-pub still_early : (q : Errand) (first : List ℕ) (s m n : Around) → IsEarly q first s m → IsUnmoved m n → IsEarly q first s n
-still_early q first s m n early kept = record {
+pub still_early : (q : Errand) (first : List ℕ) (s m n : Around) → IsEarly q first s m → IsUnmoved m n → Grows m n → IsEarly q first s n
+still_early q first s m n early kept grows = record {
   piece = early.piece;
   takes = subst (Takes s.body n.body) (append-nil first) (takes_twice s.body m.body n.body first [] early.takes (kept.takes early.takes.going));
   left = kept.left ∙ early.left;
   written = kept.written ∙ early.written;
   client_faults = kept.client_faults ∙ early.client_faults;
+  others = early.others ++ grows.gained;
+  noted = grows.talks ∙ ap (λ (t : Option (List Talk)). appended t grows.gained) early.noted ∙ appended_twice s.talks early.others grows.gained;
 }
 
 pub rounds_unmoved : (q : Errand) (first : List ℕ) (s : Scene) (past : List Round) (n : Scene) → HaveGoneOn q first s past n → IsUnmoved s.around n.around
@@ -83,7 +91,8 @@ pub final_of_run : (q : Errand) (first : List ℕ) (s m n : Around) (r : Round) 
 final_of_run q first s m n r fresh end bytes early (inl (fits, (before, runs, told))) = record {
   begun = runs.mid;
   fresh = is_fresh fresh before;
-  early = still_early q first s m runs.mid early (all_unmoved q.lb r.member r.endpoint q.head (plan_for q first r.config r.endpoint) fresh m before runs.mid runs.failed);
+  early = still_early q first s m runs.mid early (all_unmoved q.lb r.member r.endpoint q.head (plan_for q first r.config r.endpoint) fresh m before runs.mid runs.failed)
+      (failed_grows q.lb r.member r.endpoint q.head (plan_for q first r.config r.endpoint) fresh m before runs.mid runs.failed);
   talk = runs.final;
 }
 final_of_run q first s m n r fresh end bytes early (inr (inl (is, unfit, same))) = absurd cc

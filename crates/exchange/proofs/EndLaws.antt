@@ -142,7 +142,7 @@ written_end q first past s m n status exchange_end.ClientFault cause rest no_few
 written_end q first past s m n status exchange_end.Truncated cause rest no_fewer written = absurd written
 written_end q first past s m n status (exchange_end.Stray ticket returned_at) cause rest no_fewer written = absurd written
 written_end q first past s m n status exchange_end.NoMemory cause rest no_fewer written =
-    inr (inr (status, cause, record { written = written; no_fewer = no_fewer; rest = rest }))
+    inr (inr (status, cause, record { written = written.0; steady = written.1; rest = rest }))
 
 pub ends_in : (q : Errand) (first : List ℕ) (past : List Round) (s m n : Scene) (v : RoundVerdict) (end : ExchangeEnd)
     → IsStep q first (tried_in past) (is_later past) s m v → Concludes (is_head q.head) v m n end → EndsIn q first past s m n end

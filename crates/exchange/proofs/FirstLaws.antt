@@ -7,9 +7,9 @@ use Rattle.http_body_in.specs.Takes.{BodyMoment, MeetsFault, TakesPiece, unread_
 use Rattle.http_body_in.specs.Wants.{Next}
 use Rattle.http_body_in.specs.declared.fault.BodyFault.{BodyFault}
 use Rattle.http_body_in.specs.declared.fault.BodyFault.TheVariants as fault
+use Rattle.exchange.specs.Exchanges.{IsCalm}
 use Rattle.exchange.specs.FirstPiece.{IsFirstFailure, TakesFirst, end_by}
 use Rattle.exchange.specs.declared.ending.ExchangeEnd.{ExchangeEnd}
-use Rattle.exchange.specs.declared.ending.ExchangeEnd.TheVariants as exchange_end
 use Rattle.http_body_in.specs.Body.{data_from, data_of, reaches}
 use Rattle.http_body_in.specs.Places.{is_limited, start_of}
 use Rattle.http_body_in.specs.Walks.{IsUnder}
@@ -88,14 +88,14 @@ fails_first plan ends len s n fault.TooLong met start is some going =
 fails_first plan ends len s n fault.Fault met start is some going = met.fault refl going
 fails_first plan ends len s n fault.NoMemory met start is some going = tt
 
--- where the client's bytes ended no read had failed
-pub cut_steady : (len : ℕ) (s n : BodyMoment) (why : BodyFault) (end : ExchangeEnd) → MeetsFault s n (Next len) why → end ≡ end_by why
-    → end ≡ exchange_end.Truncated → n.client.faults ≡ s.client.faults
-cut_steady len s n fault.Truncated end met is cut = met.steady tt
-cut_steady len s n fault.BadChunk end met is cut = met.steady tt
-cut_steady len s n fault.TooLong end met is cut = met.steady tt
-cut_steady len s n fault.Fault end met is cut = absurd (let other : exchange_end.ClientFault ≡ exchange_end.Truncated = sym is ∙ cut in cc)
-cut_steady len s n fault.NoMemory end met is cut = absurd (let other : exchange_end.NoMemory ≡ exchange_end.Truncated = sym is ∙ cut in cc)
+-- where no read failed the count of faults stands
+pub calm_first : (len : ℕ) (s n : BodyMoment) (why : BodyFault) (end : ExchangeEnd) → MeetsFault s n (Next len) why → end ≡ end_by why
+    → IsCalm end → n.client.faults ≡ s.client.faults
+calm_first len s n fault.Truncated end met is calm = met.steady tt
+calm_first len s n fault.BadChunk end met is calm = met.steady tt
+calm_first len s n fault.TooLong end met is calm = met.steady tt
+calm_first len s n fault.Fault end met is calm = absurd (subst IsCalm is calm)
+calm_first len s n fault.NoMemory end met is calm = met.steady tt
 
 pub uses_first : (len : ℕ) (s n : BodyMoment) (why : BodyFault) → MeetsFault s n (Next len) why
     → IsUsed (record { body = s.body; unread = unread_at s }) (record { body = n.body; unread = unread_at n })

@@ -19,3 +19,4 @@ pub mod OwnLaws
 pub mod SizeLaws
 pub mod MeansLaws
 pub mod KeepingLaws
+mod DeliveryLaws

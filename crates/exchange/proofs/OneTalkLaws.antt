@@ -12,7 +12,7 @@ use Rattle.ajp_talk.specs.Talk.{IsCalmEnd, IsTalk}
 use Rattle.ajp_talk.specs.declared.ending.TalkEnd.{TalkEnd}
 use Rattle.ajp_talk.specs.declared.plan.TalkPlan.{TalkPlan}
 use Rattle.site_config.specs.declared.endpoint.Endpoint.{Endpoint}
-use Rattle.exchange.specs.OneTalk.{Around, IsOneTalk, begun_with, keeps, pings}
+use Rattle.exchange.specs.OneTalk.{Around, IsOneTalk, begun_with, keeps, plan_on}
 
 onto : (told : Option Begun) (a b : Begun) → IfSome told (λ x. x ≡ a) → a ≡ b → IfSome told (λ x. x ≡ b)
 onto None a b is same = is
@@ -21,9 +21,9 @@ onto (Some x) a b is same = is ∙ same
 pub was_held : (lb member : ℕ) (endpoint : Endpoint) (plan : TalkPlan) (fresh dialled : Bool) (s n : Around) (opened closed : Moment)
     (answer : Result TalkEnd NoMemory) (b c : Beside)
     → (fresh ≡ true → dialled ≡ true) → IsEmpty opened.sent × IsEmpty opened.received
-    → IsTalk (record plan { ping = pings endpoint dialled })
+    → IsTalk (plan_on plan endpoint dialled)
     (record { line = opened; client = s.client; body = s.body }) (record { line = closed; client = n.client; body = n.body }) answer
-    → Completes (record plan { ping = pings endpoint dialled })
+    → Completes (plan_on plan endpoint dialled)
     (record { line = opened; client = s.client; body = s.body }) (record { line = closed; client = n.client; body = n.body }) answer
     → IfSome b.begun (λ begun. begun ≡ begun_with lb member endpoint fresh dialled opened) → c ≡ b → b.talks ≡ s.talks
     → ((note : Talk) → IsNoteOf c.begun closed.sent closed.received (keeps answer) note → n.talks ≡ appended c.talks (note ∷ []))

@@ -8,14 +8,10 @@ use Rattle.http_body_in.specs.State.{failed_of, taken_of}
 use Rattle.http_front.specs.declared.head.Head.{Head}
 use Rattle.site_config.specs.declared.endpoint.Endpoint.{Endpoint}
 use Rattle.exchange.specs.Ends.{bytes_of, told_bytes, tries_again}
-use Rattle.exchange.specs.OneTalk.{Around, IsOneTalk}
+use Rattle.exchange.specs.OneTalk.{Around, IsOneTalk, IsPlanOf}
 use Rattle.exchange.specs.Talks.{HaveFailed, HaveTalked, is_fresh}
 use Rattle.exchange.specs.declared.ending.Ran.TheVariants as ran_is
 use Rattle.exchange.proofs.UnmovedLaws.{IsUnmoved, unmoved}
-
--- another plan that differs by its ping alone
-abbrev pub IsSamePlan : TalkPlan → TalkPlan → Type 0
-IsSamePlan plan other = other ≡ record plan { ping = other.ping }
 
 -- Talks failed, and another one is to follow.
 pub record IsUnderWay (lb member : ℕ) (endpoint : Endpoint) (head : Head) (plan : TalkPlan) (fresh : Bool) (s n : Around)
@@ -26,20 +22,20 @@ pub record IsUnderWay (lb member : ℕ) (endpoint : Endpoint) (head : Head) (pla
   pub told : bytes ≡ told_bytes past
   pub count : left + length past ≡ endpoint.retries
   pub some : 0 < left
-  pub same_plan : IsSamePlan plan plan_now
+  pub same_plan : IsPlanOf plan plan_now
   pub taken : taken_of n.body.body ≡ length plan.first
   pub going : failed_of n.body.body ≡ None
 
-pub still_plan : (plan other : TalkPlan) → IsSamePlan plan other → IsPlan plan → IsPlan other
+pub still_plan : (plan other : TalkPlan) → IsPlanOf plan other → IsPlan plan → IsPlan other
 still_plan plan other same is =
     subst IsPlan (sym same) (record { some_piece = is.some_piece; piece = is.piece; some_bytes = is.some_bytes; most = is.most; forward = is.forward; first = is.first })
 
-pub same_twice : (plan other last : TalkPlan) → IsSamePlan plan other → IsSamePlan other last → IsSamePlan plan last
-same_twice plan other last first second = second ∙ ap (λ (p : TalkPlan). record p { ping = last.ping }) first
+pub same_twice : (plan other last : TalkPlan) → IsPlanOf plan other → IsPlanOf other last → IsPlanOf plan last
+same_twice plan other last first second = second ∙ ap (λ (p : TalkPlan). record p { ping = last.ping; limits = record p.limits { pong = last.limits.pong } }) first
 
-replanned : (lb member : ℕ) (endpoint : Endpoint) (plan : TalkPlan) (ping : Bool) (fresh : Bool) (s n : Around) (answer : Result TalkEnd NoMemory)
-    → IsOneTalk lb member endpoint (record plan { ping = ping }) fresh s n answer → IsOneTalk lb member endpoint plan fresh s n answer
-replanned lb member endpoint plan ping fresh s n answer (inl held) = inl (record {
+replanned : (lb member : ℕ) (endpoint : Endpoint) (plan : TalkPlan) (ping : Bool) (pong : ℕ) (fresh : Bool) (s n : Around) (answer : Result TalkEnd NoMemory)
+    → IsOneTalk lb member endpoint (record plan { ping = ping; limits = record plan.limits { pong = pong } }) fresh s n answer → IsOneTalk lb member endpoint plan fresh s n answer
+replanned lb member endpoint plan ping pong fresh s n answer (inl held) = inl (record {
   dialled = held.dialled;
   opened = held.opened;
   closed = held.closed;
@@ -54,14 +50,14 @@ replanned lb member endpoint plan ping fresh s n answer (inl held) = inl (record
   faults_after = held.faults_after;
   client_faults = held.client_faults;
 })
-replanned lb member endpoint plan ping fresh s n answer (inr rest) = inr rest
+replanned lb member endpoint plan ping pong fresh s n answer (inr rest) = inr rest
 
 -- the talk by the plan of the round
 pub of_round : (lb member : ℕ) (endpoint : Endpoint) (head : Head) (plan : TalkPlan) (fresh : Bool) (s n m : Around) (plan_now : TalkPlan) (fresh_now : Bool)
     (bytes left : ℕ) (answer : Result TalkEnd NoMemory) (way : IsUnderWay lb member endpoint head plan fresh s n plan_now fresh_now bytes left)
     → IsOneTalk lb member endpoint plan_now fresh_now n m answer → IsOneTalk lb member endpoint plan (is_fresh fresh way.past) n m answer
 of_round lb member endpoint head plan fresh s n m plan_now fresh_now bytes left answer way talk =
-    replanned lb member endpoint plan plan_now.ping _ n m answer
+    replanned lb member endpoint plan plan_now.ping plan_now.limits.pong _ n m answer
     (subst (λ (p : TalkPlan). IsOneTalk lb member endpoint p (is_fresh fresh way.past) n m answer) way.same_plan
     (subst (λ (f : Bool). IsOneTalk lb member endpoint plan_now f n m answer) way.fresh_is talk))
 
@@ -72,7 +68,7 @@ more_told past end bytes now before is = omega (arith, before, is)
 pub goes_on : (lb member : ℕ) (endpoint : Endpoint) (head : Head) (plan : TalkPlan) (fresh : Bool) (s n m : Around) (plan_now plan_next : TalkPlan) (fresh_now : Bool)
     (bytes bytes_next left : ℕ) (end : TalkEnd) → IsUnderWay lb member endpoint head plan fresh s n plan_now fresh_now bytes left
     → IsOneTalk lb member endpoint plan_now fresh_now n m (Ok end) → tries_again endpoint head end ≡ true
-    → bytes_next ≡ min (bytes + bytes_of end) 17592186044416 → 1 < left → IsSamePlan plan_now plan_next
+    → bytes_next ≡ min (bytes + bytes_of end) 17592186044416 → 1 < left → IsPlanOf plan_now plan_next
     → IsUnderWay lb member endpoint head plan fresh s m plan_next true bytes_next (left - 1)
 goes_on lb member endpoint head plan fresh s n m plan_now plan_next fresh_now bytes bytes_next left end way talk again counted more same =
     let kept : IsUnmoved n m = unmoved lb member endpoint head plan_now fresh_now n m end talk again in

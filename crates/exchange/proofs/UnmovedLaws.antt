@@ -22,10 +22,11 @@ use Rattle.http_front.specs.declared.head.Head.{Head}
 use Rattle.http_out.specs.ReplyBytes.{so_far}
 use Rattle.http_out.specs.declared.framing.RequestKind.{RequestKind}
 use Rattle.recovery_rule.specs.Recovery.{may_retry_of}
+use Rattle.recovery_rule.specs.declared.method.MethodKind.{MethodKind}
 use Rattle.site_config.specs.declared.endpoint.Endpoint.{Endpoint}
 use Rattle.exchange.specs.Ends.{is_status, tries_again}
 use Rattle.exchange.specs.OneTalk.{Around, IsOneTalk}
-use Rattle.exchange.specs.Requests.{allows, is_get, is_head}
+use Rattle.exchange.specs.Requests.{allows, method_of}
 use Rattle.exchange.specs.Talks.{HaveFailed}
 
 pub record IsUnmoved (s n : Around) : Type 0 where
@@ -70,11 +71,11 @@ none_so_far kind None chunks none = refl
 none_so_far kind (Some parts) chunks none = rw none refl
 
 -- neither was a byte passed nor was anything taken, where another try is allowed
-pub allowed_early : (options : ℕ) (head get got headers passed beyond : Bool) → may_retry_of options head get got headers passed beyond ≡ true
-    → (passed ≡ false) × (beyond ≡ false)
-allowed_early options head get got headers false false allowed = (refl, refl)
-allowed_early options head get got headers false true allowed = cc
-allowed_early options head get got headers true beyond allowed = cc
+pub allowed_early : (options : ℕ) (kind : MethodKind) (got headers passed beyond : Bool)
+    → may_retry_of options kind (record { got = got; headers = headers; passed = passed; beyond = beyond }) ≡ true → (passed ≡ false) × (beyond ≡ false)
+allowed_early options kind got headers false false allowed = (refl, refl)
+allowed_early options kind got headers false true allowed = cc
+allowed_early options kind got headers true beyond allowed = cc
 
 behind_and : (a b : Bool) → (a && b) ≡ true → b ≡ true
 behind_and true b both = both
@@ -135,7 +136,7 @@ held_unmoved endpoint head plan s n opened closed reach (ends.ClientGone truncat
 held_unmoved endpoint head plan s n opened closed reach (ends.BadBody status told passed bytes) client talk again = cc
 held_unmoved endpoint head plan s n opened closed reach (ends.Failed stage cause told bytes) client (inl failed) again =
     let early : (stage.passed ≡ false) × (stage.beyond ≡ false) =
-    allowed_early endpoint.recovery (is_head head) (is_get head) stage.got stage.headers stage.passed stage.beyond again in
+    allowed_early endpoint.recovery (method_of head) stage.got stage.headers stage.passed stage.beyond again in
     failed_unmoved plan s n opened closed reach (client tt) stage cause told bytes failed early.0 early.1
 held_unmoved endpoint head plan s n opened closed reach (ends.Failed stage cause told bytes) client (inr silent) again =
     silent_unmoved plan s n opened closed reach (client tt) stage cause told bytes silent

@@ -35,7 +35,7 @@ used_none b = record { gone = []; used = prepended_none b.unread; most = refl }
 
 -- memory was wanted before anything was done
 pub unasked : (q : Errand) (s : Scene) → IsExchange q s s exchange_end.NoMemory
-unasked q s = inl (record { why = tt; desk = refl; clock = refl; talks = refl; faults = refl; written = refl; steady = λ cut. refl; used = used_none s.around.body })
+unasked q s = inl (record { why = tt; desk = refl; clock = refl; talks = refl; faults = refl; written = refl; steady = λ calm. refl; used = used_none s.around.body })
 
 same_used : (s n : BodyAt) → n ≡ s → IsUsed s n
 same_used s n same = subst (IsUsed s) (sym same) (used_none s)

@@ -22,12 +22,14 @@ use Rattle.ajp_talk.specs.declared.ending.TalkEnd.TheVariants as ends
 use Rattle.ajp_talk.specs.declared.plan.TalkPlan.{TalkPlan}
 use Rattle.forwarding.specs.FirstPiece.{first_len}
 use Rattle.http_body_in.specs.Body.{Data}
-use Rattle.recovery_rule.specs.Recovery.{is_on, may_retry_of}
+use Rattle.recovery_rule.specs.Recovery.{is_always_recovered, is_on, may_retry_of}
+use Rattle.recovery_rule.specs.declared.method.MethodKind.{MethodKind}
+use Rattle.recovery_rule.specs.declared.method.MethodKind.TheVariants as method
 use Rattle.recovery_rule.specs.declared.options.RecoveryOption.TheVariants.{NotOnceGot, NotOnceHeaders, AlwaysHead, AlwaysGet}
 use Rattle.site_config.specs.declared.endpoint.Endpoint.{Endpoint}
 use Rattle.exchange.specs.Exchanges.{EndsIn, IsExchange, IsOwnCause, begun_with as scene_with}
-use Rattle.exchange.specs.OneTalk.{Around, IsHeld, IsOneTalk, begun_with, keeps, pings}
-use Rattle.exchange.specs.Requests.{Errand, is_get, is_head, plan_for}
+use Rattle.exchange.specs.OneTalk.{Around, IsHeld, IsOneTalk, begun_with, keeps, plan_on}
+use Rattle.exchange.specs.Requests.{Errand, method_of, plan_for}
 use Rattle.exchange.specs.Rounds.{HaveGoneOn, IsRound, Round, Scene, is_later}
 use Rattle.exchange.specs.Talks.{HasRun, HaveFailed}
 use Rattle.exchange.specs.WholeTalks.{AreStrict, IsPartial, IsStrict, SendsOnce}
@@ -39,25 +41,25 @@ use Rattle.exchange.proofs.EarlyLaws.{the_piece}
 use Rattle.exchange.proofs.GrowLaws.{appended_no_talk, appended_twice, are_told, bytes_in, held_noted, note_of, note_with}
 use Rattle.exchange.proofs.UnmovedLaws.{again_follows, may_follow}
 
-none_allowed : (once head_on get_on twice head get headers : Bool) → once ≡ true → head_on ≡ false → get_on ≡ false
-    → (((head && head_on) || (get && get_on)) || ((not true || not once) && (not headers || not twice))) ≡ false
-none_allowed false head_on get_on twice head get headers is none other = absurd cc
-none_allowed true true get_on twice head get headers is none other = absurd cc
-none_allowed true false true twice head get headers is none other = absurd cc
-none_allowed true false false twice true true headers is none other = refl
-none_allowed true false false twice true false headers is none other = refl
-none_allowed true false false twice false true headers is none other = refl
-none_allowed true false false twice false false headers is none other = refl
+none_allowed : (once twice headers : Bool) → once ≡ true → ((not true || not once) && (not headers || not twice)) ≡ false
+none_allowed true twice headers is = refl
+none_allowed false twice headers is = absurd cc
+
+-- no method is always recovered where neither option is on
+never_always : (options : ℕ) (kind : MethodKind) → is_on options AlwaysHead ≡ false → is_on options AlwaysGet ≡ false → is_always_recovered options kind ≡ false
+never_always options method.Head no_head no_get = no_head
+never_always options method.Get no_head no_get = no_get
+never_always options method.Other no_head no_get = refl
 
 -- under strict options another try means that the container didn't get the request
-not_got : (options : ℕ) (head get got headers passed beyond : Bool) → is_on options NotOnceGot ≡ true → is_on options AlwaysHead ≡ false → is_on options AlwaysGet ≡ false
-    → may_retry_of options head get got headers passed beyond ≡ true → got ≡ false
-not_got options head get false headers passed beyond once no_head no_get allowed = refl
-not_got options head get true headers true beyond once no_head no_get allowed = absurd cc
-not_got options head get true headers false true once no_head no_get allowed = absurd cc
-not_got options head get true headers false false once no_head no_get allowed = absurd
-    (let no : may_retry_of options head get true headers false false ≡ false =
-    none_allowed (is_on options NotOnceGot) (is_on options AlwaysHead) (is_on options AlwaysGet) (is_on options NotOnceHeaders) head get headers once no_head no_get in cc)
+not_got : (options : ℕ) (kind : MethodKind) (got headers passed beyond : Bool) → is_on options NotOnceGot ≡ true → is_on options AlwaysHead ≡ false → is_on options AlwaysGet ≡ false
+    → may_retry_of options kind (record { got = got; headers = headers; passed = passed; beyond = beyond }) ≡ true → got ≡ false
+not_got options kind false headers passed beyond once no_head no_get allowed = refl
+not_got options kind true headers true beyond once no_head no_get allowed = absurd cc
+not_got options kind true headers false true once no_head no_get allowed = absurd cc
+not_got options kind true headers false false once no_head no_get allowed = absurd
+    (let no : (is_always_recovered options kind || ((not true || not (is_on options NotOnceGot)) && (not headers || not (is_on options NotOnceHeaders)))) ≡ false =
+    rw (never_always options kind no_head no_get) (none_allowed (is_on options NotOnceGot) (is_on options NotOnceHeaders) headers once) in cc)
 
 -- ---- what a noted talk had sent
 
@@ -100,32 +102,32 @@ sent_short cause_is.TooLong put owed sent = omega (arith, ap (λ (bytes : List �
 sent_short (cause_is.Status status) put owed sent = omega (arith, ap (λ (bytes : List ℕ). length bytes) sent)
 
 -- a ping is less than the opening
-ping_short : (q : Errand) (first : List ℕ) (config : MemberConfig) (endpoint : Endpoint) (ping : Bool)
-    → length (ping_of (record (plan_for q first config endpoint) { ping = ping })) < length (opening (record (plan_for q first config endpoint) { ping = ping }))
-ping_short q first config endpoint ping =
-    let plan : TalkPlan = record (plan_for q first config endpoint) { ping = ping } in
+ping_short : (q : Errand) (first : List ℕ) (config : MemberConfig) (endpoint : Endpoint) (dialled : Bool)
+    → length (ping_of (plan_on (plan_for q first config endpoint) endpoint dialled)) < length (opening (plan_on (plan_for q first config endpoint) endpoint dialled))
+ping_short q first config endpoint dialled =
+    let plan : TalkPlan = plan_on (plan_for q first config endpoint) endpoint dialled in
     omega (arith, length-append (ping_of plan) (request_of plan), length-append plan.forward (first_packet first))
 
 -- what a talk that failed, and that another may follow, had sent
-put_short : (q : Errand) (first : List ℕ) (config : MemberConfig) (endpoint : Endpoint) (ping : Bool) (s n : Around) (opened closed : Moment) (end : TalkEnd) (bytes : List ℕ)
+put_short : (q : Errand) (first : List ℕ) (config : MemberConfig) (endpoint : Endpoint) (dialled : Bool) (s n : Around) (opened closed : Moment) (end : TalkEnd) (bytes : List ℕ)
     → IsStrict endpoint → IsEmpty opened.sent → closed.sent ≡ Some bytes
-    → IsTalk (record (plan_for q first config endpoint) { ping = ping }) (record { line = opened; client = s.client; body = s.body })
+    → IsTalk (plan_on (plan_for q first config endpoint) endpoint dialled) (record { line = opened; client = s.client; body = s.body })
     (record { line = closed; client = n.client; body = n.body }) (Ok end)
-    → may_follow endpoint q.head end ≡ true → length bytes < length (opening (record (plan_for q first config endpoint) { ping = ping }))
-put_short q first config endpoint ping s n opened closed (ends.Done said reuse moved) bytes strict empty told talk may = absurd cc
-put_short q first config endpoint ping s n opened closed (ends.ClientGone truncated keep moved) bytes strict empty told talk may = absurd cc
-put_short q first config endpoint ping s n opened closed (ends.BadBody status said passed moved) bytes strict empty told talk may = absurd cc
-put_short q first config endpoint ping s n opened closed (ends.Failed stage cause said moved) bytes strict empty told (inl failed) may =
-    let plan : TalkPlan = record (plan_for q first config endpoint) { ping = ping } in
+    → may_follow endpoint q.head end ≡ true → length bytes < length (opening (plan_on (plan_for q first config endpoint) endpoint dialled))
+put_short q first config endpoint dialled s n opened closed (ends.Done said reuse moved) bytes strict empty told talk may = absurd cc
+put_short q first config endpoint dialled s n opened closed (ends.ClientGone truncated keep moved) bytes strict empty told talk may = absurd cc
+put_short q first config endpoint dialled s n opened closed (ends.BadBody status said passed moved) bytes strict empty told talk may = absurd cc
+put_short q first config endpoint dialled s n opened closed (ends.Failed stage cause said moved) bytes strict empty told (inl failed) may =
+    let plan : TalkPlan = plan_on (plan_for q first config endpoint) endpoint dialled in
     let not_whole : stage.got ≡ false =
-    not_got endpoint.recovery (is_head q.head) (is_get q.head) stage.got stage.headers stage.passed stage.beyond strict.once strict.no_head strict.no_get may in
+    not_got endpoint.recovery (method_of q.head) stage.got stage.headers stage.passed stage.beyond strict.once strict.no_head strict.no_get may in
     let got : nat_le (length (opening plan)) (length failed.put) ≡ false = sym (ap (λ (x : Stage). x.got) failed.stage_is) ∙ not_whole in
     let short : length failed.put < length (opening plan) = leb-false (length (opening plan)) (length failed.put) got in
     omega (arith, short, ap (λ (x : List ℕ). length x) (all_put opened.sent closed.sent failed.put bytes empty failed.traffic.sent told))
-put_short q first config endpoint ping s n opened closed (ends.Failed stage cause said moved) bytes strict empty told (inr silent) may =
+put_short q first config endpoint dialled s n opened closed (ends.Failed stage cause said moved) bytes strict empty told (inr silent) may =
     omega (
       arith,
-      ping_short q first config endpoint ping,
+      ping_short q first config endpoint dialled,
       sent_short cause silent.put _ silent.sent,
       ap (λ (x : List ℕ). length x) (all_put opened.sent closed.sent silent.put bytes empty silent.traffic.sent told),
     )
@@ -160,13 +162,13 @@ known xs m k a b same at there = let both : Some a ≡ Some b = sym at ∙ sym (
 -- the note of a talk on this member is less than its opening
 partial_of : (q : Errand) (first : List ℕ) (member : ℕ) (config : MemberConfig) (endpoint : Endpoint) (dialled : Bool) (t : Talk)
     → slice_get q.balancer.book.members member ≡ Some config → slice_get q.balancer.ends member ≡ Some endpoint → t.member ≡ member → t.dialled ≡ dialled
-    → length t.sent < length (opening (record (plan_for q first config endpoint) { ping = pings endpoint dialled })) → IsPartial q first t
+    → length t.sent < length (opening (plan_on (plan_for q first config endpoint) endpoint dialled)) → IsPartial q first t
 partial_of q first member config endpoint dialled t configured reached of dials short other_config other_endpoint there here =
     let same_config : config ≡ other_config = known _ _ _ _ _ of configured there in
     let same_endpoint : endpoint ≡ other_endpoint = known _ _ _ _ _ of reached here in
-    subst (λ (c : MemberConfig). length t.sent < length (opening (record (plan_for q first c other_endpoint) { ping = pings other_endpoint t.dialled }))) same_config
-    (subst (λ (e : Endpoint). length t.sent < length (opening (record (plan_for q first config e) { ping = pings e t.dialled }))) same_endpoint
-    (subst (λ (d : Bool). length t.sent < length (opening (record (plan_for q first config endpoint) { ping = pings endpoint d }))) (sym dials) short))
+    subst (λ (c : MemberConfig). length t.sent < length (opening (plan_on (plan_for q first c other_endpoint) other_endpoint t.dialled))) same_config
+    (subst (λ (e : Endpoint). length t.sent < length (opening (plan_on (plan_for q first config e) e t.dialled))) same_endpoint
+    (subst (λ (d : Bool). length t.sent < length (opening (plan_on (plan_for q first config endpoint) endpoint d))) (sym dials) short))
 
 held_partial : (q : Errand) (first : List ℕ) (member : ℕ) (config : MemberConfig) (endpoint : Endpoint) (fresh : Bool) (s n : Around) (end : TalkEnd) (told : Option (List Talk))
     → s.talks ≡ told → IsStrict endpoint → slice_get q.balancer.book.members member ≡ Some config → slice_get q.balancer.ends member ≡ Some endpoint
@@ -177,7 +179,7 @@ held_partial q first member config endpoint fresh s n end (Some talks) is strict
     let plan : TalkPlan = plan_for q first config endpoint in
     let sent = sent_told q.lb member endpoint fresh held.dialled held.opened held.closed.sent held.closed.received (keeps (Ok end)) talks n.talks
     (λ note note_is. held.noted note note_is ∙ ap (λ (t : Option (List Talk)). appended t (note ∷ [])) is) in
-    let short = put_short q first config endpoint (pings endpoint held.dialled) s n held.opened held.closed end sent.0 strict held.nothing_yet.0 sent.1 held.talk may in
+    let short = put_short q first config endpoint held.dialled s n held.opened held.closed end sent.0 strict held.nothing_yet.0 sent.1 held.talk may in
     adds_one q first s n (note_of q.lb member endpoint plan fresh s n (Ok end) held) (held_noted q.lb member endpoint plan fresh s n (Ok end) held)
     (partial_of q first member config endpoint held.dialled (note_of q.lb member endpoint plan fresh s n (Ok end) held) configured reached refl refl
     (omega (arith, short, ap (λ (o : Option (List ℕ)). length (bytes_in o)) sent.1)))
@@ -189,7 +191,7 @@ one_partial q first member config endpoint fresh s n end strict configured reach
     held_partial q first member config endpoint fresh s n end s.talks refl strict configured reached held may
 one_partial q first member config endpoint fresh s n end strict configured reached (inr (inl linkless)) may =
     adds_one q first s n (failed_talk q.lb member endpoint.host endpoint.port fresh) linkless.1.noted
-    (partial_of q first member config endpoint false (failed_talk q.lb member endpoint.host endpoint.port fresh) configured reached refl refl (let some = ping_short q first config endpoint (pings endpoint false) in omega (arith, some)))
+    (partial_of q first member config endpoint false (failed_talk q.lb member endpoint.host endpoint.port fresh) configured reached refl refl (let some = ping_short q first config endpoint false in omega (arith, some)))
 one_partial q first member config endpoint fresh s n end strict configured reached (inr (inr wanted)) may =
     absurd (let is : Ok end ≡ Err wanted.0 = wanted.1 in cc)
 

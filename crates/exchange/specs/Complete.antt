@@ -12,17 +12,16 @@ use Rattle.forwarding.specs.FirstPiece.{first_len}
 use Rattle.http_body_in.specs.Body.{Data}
 use Rattle.http_body_in.specs.State.{taken_of, most_of}
 use Rattle.site_config.specs.declared.endpoint.Endpoint.{Endpoint}
-use Rattle.exchange.specs.OneTalk.{pings}
+use Rattle.exchange.specs.OneTalk.{plan_on}
 use Rattle.exchange.specs.Requests.{Errand, plan_for}
 use Rattle.exchange.specs.Rounds.{Scene}
 use Rattle.exchange.specs.declared.ending.ExchangeEnd.{ExchangeEnd}
 use Rattle.exchange.specs.declared.ending.ExchangeEnd.TheVariants as exchange_end
-use Rattle.http_front.specs.declared.framing.TheConstants.{MAX_BODY_BYTES}
 
 -- the plan of a noted talk, where the request's body has this data
 abbrev pub plan_of_note : Errand → Data → MemberConfig → Endpoint → Talk → TalkPlan
 plan_of_note q data' config endpoint t =
-    record (plan_for q (take (first_len q.head.plan q.balancer.ends) data'.bytes) config endpoint) { ping = pings endpoint t.dialled }
+    plan_on (plan_for q (take (first_len q.head.plan q.balancer.ends) data'.bytes) config endpoint) endpoint t.dialled
 
 -- The first talk that the exchange noted is t, with this member's link. What the link had to come begins with CPong, where the
 -- talk pings, and this reply, whose status isn't listed, below the limit. The client's bytes have the body whole and below its
@@ -45,7 +44,7 @@ pub record HasWhole (q : Errand) (s n : Scene) (t : Talk) (all : List Message) :
   pub comes : t.came ≡ Some ((pong_of (plan_of_note q data' config endpoint t) ++ reply) ++ more)
   pub is : IsReply (plan_of_note q data' config endpoint t) all reply
   pub unlisted : IsUnlisted (plan_of_note q data' config endpoint t) all
-  pub below : length (pong_of (plan_of_note q data' config endpoint t) ++ reply) < MAX_BODY_BYTES
+  pub below : length (pong_of (plan_of_note q data' config endpoint t) ++ reply) < 1099511627776
   pub reach : Rose s.around.faults n.around.faults → ⊥
   pub client : Rose s.around.client.faults n.around.client.faults → ⊥
   pub strays : Rose s.desk.strays n.desk.strays → ⊥

@@ -2,6 +2,7 @@
 use Rattle.std.specs.Prelude.{◌≡◌, ℕ, ◌≤◌, ◌⊎◌, Bool, false, true, List, Option, Some, None, IfSome}
 use Rattle.jk_io.specs.Moments.{Moment}
 use Rattle.jk_io.specs.Told.{appended, PutsFront, Rose}
+use Rattle.jk_io.specs.declared.reaching.Talk.{Talk}
 use Rattle.jk_model.specs.declared.refusal.Stray.{Stray}
 use Rattle.ajp_talk.specs.Moments.{BodyAt, IsUsed}
 use Rattle.ajp_talk.specs.declared.ending.Cause.{Cause}
@@ -10,6 +11,7 @@ use Rattle.ajp_talk.specs.declared.ending.TalkEnd.TheVariants as ends
 use Rattle.ajp_talk.specs.declared.ending.Told.{Told}
 use Rattle.forwarding.specs.FirstPiece.{first_len}
 use Rattle.http_out.specs.Own.{own_bytes, own_of}
+use Rattle.exchange.specs.Deliveries.{PutsShort}
 use Rattle.exchange.specs.Ends.{status_for}
 use Rattle.exchange.specs.FirstPiece.{IsFirstFailure, TakesFirst}
 use Rattle.exchange.specs.Requests.{Errand, allows, is_head}
@@ -64,7 +66,7 @@ IsOwnCause q first past s n status =
     ⊎ (((status ≡ 500) × IsUnchosen q s n (IsFull q))
     ⊎ ((r : Round) × IsLast q first past s n r × IsOwnAfter q r status)))
 
--- the answer with this status was written whole, no write failed, and nothing else was done
+-- the answer with this status was written whole and went out, no call failed, and nothing else was done
 pub record WritesOwn (q : Errand) (s n : Scene) (status : ℕ) : Type 0 where
   pub written : IfSome (own_of status) (λ own. n.around.client.sent ≡ appended s.around.client.sent (own_bytes own (is_head q.head)))
   pub steady : n.around.client.faults ≡ s.around.client.faults
@@ -74,6 +76,12 @@ pub record WritesOwn (q : Errand) (s n : Scene) (status : ℕ) : Type 0 where
 pub record BreaksOwn (q : Errand) (s n : Scene) (status : ℕ) : Type 0 where
   pub written : IfSome (own_of status) (λ own. PutsFront s.around.client.sent n.around.client.sent (own_bytes own (is_head q.head)))
   pub no_fewer : s.around.client.faults ≤ n.around.client.faults
+  pub rest : n ≡ record s { around = record s.around { client = n.around.client } }
+
+-- memory was wanted before all of it was written, no call failed, and nothing else was done
+pub record WantsOwn (q : Errand) (s n : Scene) (status : ℕ) : Type 0 where
+  pub written : IfSome (own_of status) (λ own. PutsShort s.around.client.sent n.around.client.sent (own_bytes own (is_head q.head)))
+  pub steady : n.around.client.faults ≡ s.around.client.faults
   pub rest : n ≡ record s { around = record s.around { client = n.around.client } }
 
 -- How it ended: the rounds before the last are `past`, the last one went from `s` to `m`, and `n` is the end.
@@ -94,7 +102,7 @@ EndsIn q first past s m n (exchange_end.Stray ticket returned_at) =
 EndsIn q first past s m n exchange_end.NoMemory =
     (IsUnchosen q s m (WantsMemory q) × (n ≡ m))
     ⊎ (((r : Round) × (bytes : ℕ) × IsLast q first past s m r × (r.ran ≡ ran_is.Wanted bytes) × (n ≡ m))
-    ⊎ ((status : ℕ) × IsOwnCause q first past s m status × BreaksOwn q m n status))
+    ⊎ ((status : ℕ) × IsOwnCause q first past s m status × WantsOwn q m n status))
 
 -- Rounds were gone through, each allowed by the one before it, and the last one ended the exchange.
 pub record GoesThrough (q : Errand) (first : List ℕ) (s n : Scene) (end : ExchangeEnd) : Type 0 where
@@ -118,6 +126,16 @@ pub record HasRounds (q : Errand) (s n : Scene) (end : ExchangeEnd) : Type 0 whe
   pub steady : client.faults ≡ s.around.client.faults
   pub through : GoesThrough q first (begun_with s client body) n end
 
+-- An end that neither a failed call of the client nor a stray made. Truncated is one: the bytes ended. So is want of memory.
+abbrev pub IsCalm : ExchangeEnd → Type 0
+IsCalm (exchange_end.Done member told) = Unit {0}
+IsCalm (exchange_end.Own status) = Unit {0}
+IsCalm (exchange_end.Cut member told) = Unit {0}
+IsCalm exchange_end.ClientFault = ⊥
+IsCalm exchange_end.Truncated = Unit {0}
+IsCalm (exchange_end.Stray ticket returned_at) = ⊥
+IsCalm exchange_end.NoMemory = Unit {0}
+
 -- Before a first round: the first piece couldn't be taken, or memory was wanted. Neither desk nor clock nor reach was asked.
 pub record HasNone (q : Errand) (s n : Scene) (end : ExchangeEnd) : Type 0 where
   pub why : IsFirstFailure (first_len q.head.plan q.balancer.ends) s.around.body s.around.client.faults n.around.client.faults end
@@ -126,12 +144,24 @@ pub record HasNone (q : Errand) (s n : Scene) (end : ExchangeEnd) : Type 0 where
   pub talks : n.around.talks ≡ s.around.talks
   pub faults : n.around.faults ≡ s.around.faults
   pub written : n.around.client.sent ≡ s.around.client.sent
-  pub steady : end ≡ exchange_end.Truncated → n.around.client.faults ≡ s.around.client.faults
+  pub steady : IsCalm end → n.around.client.faults ≡ s.around.client.faults
   pub used : IsUsed s.around.body n.around.body
 
 -- What an exchange's end says.
 abbrev pub IsExchange : Errand → Scene → Scene → ExchangeEnd → Type 0
 IsExchange q s n end = HasNone q s n end ⊎ HasRounds q s n end
+
+-- the client's bytes were used from the front
+abbrev pub UsesFront : Errand → Scene → Scene → ExchangeEnd → Type 0
+UsesFront q s n end = IsUsed s.around.body n.around.body
+
+-- the talks that the reach noted were added after the others
+abbrev pub NotesTalks : Errand → Scene → Scene → ExchangeEnd → Type 0
+NotesTalks q s n end = (noted : List Talk) × (n.around.talks ≡ appended s.around.talks noted)
+
+-- after a calm end the client's count of faults stands
+abbrev pub StaysCalm : Errand → Scene → Scene → ExchangeEnd → Type 0
+StaysCalm q s n end = IsCalm end → n.around.client.faults ≡ s.around.client.faults
 
 -- P of each exchange of this errand that ends so: of where it began, and where it ended.
 abbrev pub InEachExchange : Errand → ExchangeEnd → (Errand → Scene → Scene → ExchangeEnd → Type 0) → Type 0

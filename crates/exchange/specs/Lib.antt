@@ -8,6 +8,7 @@ pub mod Exchanges
 pub mod Clients
 pub mod WholeTalks
 pub mod Complete
+pub mod Deliveries
 pub mod Steps
 pub mod Means
 pub mod Keeping

@@ -1,5 +1,5 @@
 -- One talk of an exchange: begun on a link of the reach, held, and noted by the reach.
-use Rattle.std.specs.Prelude.{◌≡◌, ℕ, ◌≤◌, ◌⊎◌, ◌&&◌, ◌||◌, Bool, true, false, List, [], ◌∷◌, Option, Some, None, Result, Ok, Err}
+use Rattle.std.specs.Prelude.{◌≡◌, ℕ, ◌≤◌, ◌⊎◌, ◌&&◌, ◌||◌, Bool, true, false, List, [], ◌∷◌, Option, Some, None, Result, Ok, Err, if◌then◌else◌}
 use Rattle.ajp_wire.specs.Moments.{link_at}
 use Rattle.jk_io.specs.declared.traits.streams.Meanings.{Ghosts}
 use Rattle.jk_io.specs.Told.{appended, IsEmpty, Rose}
@@ -18,6 +18,9 @@ use Rattle.ajp_talk.specs.declared.ending.TalkEnd.TheVariants as ends
 use Rattle.ajp_talk.specs.declared.plan.TalkPlan.{TalkPlan}
 use Rattle.http_body_in.specs.declared.body.BodyIn.{BodyIn}
 use Rattle.http_front.specs.Unread.{unread}
+use Rattle.jk_io.specs.declared.traits.streams.Awaited.{Awaited}
+use Rattle.jk_io.specs.declared.traits.streams.Awaited.TheVariants as awaited
+use Rattle.site_config.specs.Limits.{dial_limit, each_pong_limit, first_pong_limit, keeps_alive}
 use Rattle.site_config.specs.declared.endpoint.Endpoint.{Endpoint}
 
 -- What is known between two talks: the talks that the reach noted and its count of faults, the client, and the request's
@@ -40,6 +43,26 @@ around told_of_reach told_of_client reach client body inbox = record {
 -- a ping goes first on each link, or on a newly dialled one, where the member is so configured
 abbrev pub pings : Endpoint → (dialled : Bool) → Bool
 pings endpoint dialled = endpoint.ping_each || (endpoint.ping_new && dialled)
+
+-- how long a CPong is waited for: on a newly dialled link that is pinged as such, or before a request
+abbrev pub pong_limit : Endpoint → (dialled : Bool) → ℕ
+pong_limit endpoint dialled =
+    if endpoint.ping_new && dialled then first_pong_limit endpoint.limits else each_pong_limit endpoint.limits
+
+-- what the reach is told of the dial before it
+abbrev pub dial_for : Endpoint → Awaited
+dial_for endpoint = awaited.Link (dial_limit endpoint.limits) (keeps_alive endpoint.limits)
+
+-- the plan of a talk on a link that is new or not
+abbrev pub plan_on : TalkPlan → Endpoint → (dialled : Bool) → TalkPlan
+plan_on plan endpoint dialled = record plan {
+  ping = pings endpoint dialled;
+  limits = record plan.limits { pong = pong_limit endpoint dialled };
+}
+
+-- the same plan but for what the link decides
+abbrev pub IsPlanOf : TalkPlan → TalkPlan → Type 0
+IsPlanOf plan other = other ≡ record plan { ping = other.ping; limits = record plan.limits { pong = other.limits.pong } }
 
 -- A link is kept exactly after a complete reply that lets it serve again, also where the client was gone.
 abbrev pub keeps : Result TalkEnd NoMemory → Bool
@@ -73,9 +96,9 @@ pub record IsHeld (lb member : ℕ) (endpoint : Endpoint) (plan : TalkPlan) (fre
   pub closed : Moment
   pub new_link : fresh ≡ true → dialled ≡ true
   pub nothing_yet : IsEmpty opened.sent × IsEmpty opened.received
-  pub talk : IsTalk (record plan { ping = pings endpoint dialled })
+  pub talk : IsTalk (plan_on plan endpoint dialled)
       (record { line = opened; client = s.client; body = s.body }) (record { line = closed; client = n.client; body = n.body }) answer
-  pub complete : Completes (record plan { ping = pings endpoint dialled })
+  pub complete : Completes (plan_on plan endpoint dialled)
       (record { line = opened; client = s.client; body = s.body }) (record { line = closed; client = n.client; body = n.body }) answer
   pub noted : (note : Talk) → IsNoteOf (Some (begun_with lb member endpoint fresh dialled opened)) closed.sent closed.received (keeps answer) note
       → n.talks ≡ appended s.talks (note ∷ [])

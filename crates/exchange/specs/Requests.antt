@@ -10,14 +10,16 @@ use Rattle.jk_io.specs.declared.traits.surroundings.Peer.{Peer}
 use Rattle.jk_model.specs.declared.ask.Ask.{Ask}
 use Rattle.jk_model.specs.declared.member.MemberConfig.{MemberConfig}
 use Rattle.recovery_rule.specs.Recovery.{is_on, may_retry_of}
+use Rattle.recovery_rule.specs.declared.method.MethodKind.{MethodKind}
+use Rattle.recovery_rule.specs.declared.method.MethodKind.TheVariants as method
 use Rattle.recovery_rule.specs.declared.options.RecoveryOption.TheVariants.{CloseWithClient}
+use Rattle.site_config.specs.Limits.{reply_limit}
 use Rattle.site_config.specs.declared.endpoint.Endpoint.{Endpoint}
 use Rattle.sticky_routes.specs.Ids.{ids_of}
 use Rattle.sticky_routes.specs.Routes.{routed_of}
 use Rattle.jk_model.specs.declared.ask.Terms.{Terms}
 use Rattle.site_config.specs.declared.balancer.Lb.{Lb}
 use Rattle.exchange.specs.declared.request.Request.{Request}
-use Rattle.http_front.specs.declared.framing.TheConstants.{MAX_BODY_BYTES}
 
 -- What an exchange is to do: a client's request, and the balancer where it is mounted.
 pub record Errand : Type 0 where
@@ -57,6 +59,10 @@ is_get head = bytes_eq head.method (codes "GET")
 abbrev pub is_head : Head → Bool
 is_head head = bytes_eq head.method (codes "HEAD")
 
+-- its method, as far as a member's options speak of one
+abbrev pub method_of : Head → MethodKind
+method_of head = if is_head head then method.Head else (if is_get head then method.Get else method.Other)
+
 -- the session ids of the request, by the balancer's cookie and path
 abbrev pub ids_in : Errand → List (List ℕ)
 ids_in q = ids_of q.head q.balancer.cookie q.balancer.path
@@ -92,14 +98,15 @@ plan_for q first member endpoint = record {
   piece = piece_for endpoint;
   packet = endpoint.packet;
   ping = false;
-  most = MAX_BODY_BYTES;
+  most = 1099511627776;
   old = q.head.old;
   head_only = is_head q.head;
   last = q.last;
   close_on_client = is_on endpoint.recovery CloseWithClient;
   fail_on = endpoint.fail_on;
+  limits = record { pong = 0; reply = reply_limit q.terms.reply_timeout endpoint.limits };
 }
 
 -- the member's options allow another try after a talk that came so far
 abbrev pub allows : Endpoint → Head → Stage → Bool
-allows endpoint head stage = may_retry_of endpoint.recovery (is_head head) (is_get head) stage.got stage.headers stage.passed stage.beyond
+allows endpoint head stage = may_retry_of endpoint.recovery (method_of head) stage

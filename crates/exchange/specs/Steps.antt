@@ -15,6 +15,7 @@ use Rattle.ajp_talk.specs.declared.ending.Told.{Told}
 use Rattle.http_front.specs.declared.head.Head.{Head}
 use Rattle.http_out.specs.Own.{own_bytes, own_of}
 use Rattle.site_config.specs.declared.endpoint.Endpoint.{Endpoint}
+use Rattle.exchange.specs.Deliveries.{PutsShort}
 use Rattle.exchange.specs.Ends.{outcome_for, status_for}
 use Rattle.exchange.specs.Requests.{Errand, allows}
 use Rattle.exchange.specs.Rounds.{FindsNone, IsBack, IsForced, IsFull, IsRound, IsUnchosen, Round, Scene, WantsMemory}
@@ -90,7 +91,8 @@ IsStep q first tried fresh s n v =
     ⊎ ((r : Round) × (stray : Stray) × IsRound q first tried fresh s n r (Some stray)
     × (v ≡ verdict.End (exchange_end.Stray stray.ticket stray.returned_at))))
 
--- An own answer was written whole, by writes of which none failed; or a front of it, where the client failed or memory was wanted.
+-- An own answer was written whole and went out, and no call failed; or a front of it was, where the client failed; or not all
+-- of it, where memory was wanted.
 abbrev pub IsWritten : (status : ℕ) → (head_only : Bool) → Moment → Moment → ExchangeEnd → Type 0
 IsWritten status head_only s n (exchange_end.Done member told) = ⊥
 IsWritten status head_only s n (exchange_end.Own written) =
@@ -100,7 +102,8 @@ IsWritten status head_only s n exchange_end.ClientFault =
     Rose s.faults n.faults × IfSome (own_of status) (λ own. PutsFront s.sent n.sent (own_bytes own head_only))
 IsWritten status head_only s n exchange_end.Truncated = ⊥
 IsWritten status head_only s n (exchange_end.Stray ticket returned_at) = ⊥
-IsWritten status head_only s n exchange_end.NoMemory = IfSome (own_of status) (λ own. PutsFront s.sent n.sent (own_bytes own head_only))
+IsWritten status head_only s n exchange_end.NoMemory =
+    IfSome (own_of status) (λ own. PutsShort s.sent n.sent (own_bytes own head_only)) × (n.faults ≡ s.faults)
 
 -- The last round's verdict: the answer is written, and nothing else done; or the exchange ended with the round.
 abbrev pub Concludes : (head_only : Bool) → RoundVerdict → Scene → Scene → ExchangeEnd → Type 0

@@ -10,7 +10,7 @@ use Rattle.forwarding.specs.FirstPiece.{first_len}
 use Rattle.recovery_rule.specs.Recovery.{is_on}
 use Rattle.recovery_rule.specs.declared.options.RecoveryOption.TheVariants.{NotOnceGot, AlwaysHead, AlwaysGet}
 use Rattle.site_config.specs.declared.endpoint.Endpoint.{Endpoint}
-use Rattle.exchange.specs.OneTalk.{Around, pings}
+use Rattle.exchange.specs.OneTalk.{Around, plan_on}
 use Rattle.exchange.specs.Requests.{Errand, plan_for}
 use Rattle.exchange.specs.Rounds.{Scene}
 use Rattle.exchange.specs.declared.ending.ExchangeEnd.{ExchangeEnd}
@@ -29,7 +29,7 @@ abbrev pub IsPartial : Errand → (first : List ℕ) → Talk → Type 0
 IsPartial q first t =
     (config : MemberConfig) (endpoint : Endpoint) → slice_get q.balancer.book.members t.member ≡ Some config
     → slice_get q.balancer.ends t.member ≡ Some endpoint
-    → length t.sent < length (opening (record (plan_for q first config endpoint) { ping = pings endpoint t.dialled }))
+    → length t.sent < length (opening (plan_on (plan_for q first config endpoint) endpoint t.dialled))
 
 -- The talks that the reach noted: all but one at most didn't hold the request whole.
 pub record SendsOnce (q : Errand) (s n : Around) : Type 0 where

@@ -3,13 +3,14 @@ ghost use Rattle.std.specs.Prelude.{◌≡◌, ◌≤◌, IfOk, IfErr, OnOk};
 ghost use Rattle.ajp_talk.specs.Moments.{IsUsed};
 ghost use Rattle.forwarding.specs.FirstPiece.{first_len as first_length};
 ghost use Rattle.exchange.specs.FirstPiece.{IsFirstFailure, TakesFirst, body_left, end_by};
+ghost use Rattle.exchange.specs.Exchanges.{IsCalm};
 ghost use Rattle.exchange.specs.Keeping.{IsAllLeft};
 
 use crate::ending::ExchangeEnd;
 use forwarding::first_len;
 use http_body_in::{BodyFault, BodyIn};
 use http_front::{BodyPlan, Inbox};
-use jk_io::{Bytes, Link};
+use jk_io::{Awaited, Bytes, Link};
 use site_config::EndList;
 use std::alloc::Global;
 
@@ -31,7 +32,7 @@ pub(crate) fn take_first<C: Link>(
     ensures used { let left = body_left C.Meanings in
         IfErr result (λ _. IsUsed (left body.old inbox.old client.old) (left body.new inbox.new client.new)) }
     ensures steady { OnOk result (C.faults client.new ≡ C.faults client.old) }
-    ensures truncated { IfErr result (λ end. end ≡ ExchangeEnd.Truncated → C.faults client.new ≡ C.faults client.old) }
+    ensures calm { IfErr result (λ end. IsCalm end → C.faults client.new ≡ C.faults client.old) }
     ensures same { (C.sent client.new ≡ C.sent client.old) × (C.beside client.new ≡ C.beside client.old) }
     ensures no_fewer { C.faults client.old ≤ C.faults client.new }
 {
@@ -39,6 +40,7 @@ pub(crate) fn take_first<C: Link>(
     if len == 0 {
         return Ok(Bytes::new(alloc));
     }
+    client.await_next(Awaited::Body);
     match body.take(alloc, inbox, client, len as usize) {
         Ok(first) => Ok(first),
         Err(fault) => Err(end_of(fault)),

@@ -3,12 +3,12 @@ ghost use Rattle.std.specs.Prelude.{◌≡◌};
 ghost use Rattle.ajp_talk.specs.Ends.{IsPlan};
 ghost use Rattle.exchange.specs.Keeping.{KeepsSides, MayTalk};
 ghost use Rattle.exchange.specs.Means.{around_of};
-ghost use Rattle.exchange.specs.OneTalk.{IsOneTalk, keeps as keeps_link, no_link as end_without_link, pings as pings_first};
+ghost use Rattle.exchange.specs.OneTalk.{IsOneTalk, IsPlanOf, dial_for, keeps as keeps_link, no_link as end_without_link, pings as pings_first, pong_limit as pong_limit_for};
 
 use crate::sides::Sides;
 use crate::target::Target;
 use ajp_talk::{Cause, Stage, TalkEnd, TalkPlan, talk};
-use jk_io::{IoError, Link, NoMemory, Reach};
+use jk_io::{Awaited, IoError, Link, NoMemory, Reach};
 use site_config::Endpoint;
 use std::alloc::Global;
 
@@ -25,10 +25,11 @@ pub(crate) fn one_talk<R: Reach, C: Link>(
     requires plan { IsPlan plan.now }
     ensures talk { let at = around_of R.Meanings C.Meanings in
         IsOneTalk lb to.now.member to.now.endpoint.now plan.entry.now fresh (at sides.old) (at sides.new) result }
-    ensures plan { plan.exit.now ≡ record plan.entry.now { ping = plan.exit.now.ping } }
+    ensures plan { IsPlanOf plan.entry.now plan.exit.now }
     ensures kept { KeepsSides R.Meanings C.Meanings sides.old sides.new }
 {
     let endpoint = to.endpoint;
+    sides.reach.await_next(dial_of(endpoint));
     let dialled = match sides
         .reach
         .begin(alloc, lb, to.member, &endpoint.host, endpoint.port, fresh)
@@ -38,6 +39,7 @@ pub(crate) fn one_talk<R: Reach, C: Link>(
         Err(IoError::NoMemory) => return Err(NoMemory),
     };
     plan.ping = pings(endpoint, dialled);
+    plan.limits.pong = pong_limit(endpoint, dialled);
     let end = talk(
         alloc,
         plan,
@@ -54,6 +56,27 @@ fn pings(endpoint: &Endpoint, dialled: bool) -> bool
     ensures { result ≡ pings_first endpoint.now dialled }
 {
     endpoint.ping_each || (endpoint.ping_new && dialled)
+}
+
+/// How long CPong is waited for.
+fn pong_limit(endpoint: &Endpoint, dialled: bool) -> u64
+    ensures { result ≡ pong_limit_for endpoint.now dialled }
+{
+    if endpoint.ping_new && dialled {
+        endpoint.limits.first_pong()
+    } else {
+        endpoint.limits.each_pong()
+    }
+}
+
+/// How long a dial may take.
+fn dial_of(endpoint: &Endpoint) -> Awaited
+    ensures { result ≡ dial_for endpoint.now }
+{
+    Awaited::Link {
+        millis: endpoint.limits.dial(),
+        keepalive: endpoint.limits.keeps_alive(),
+    }
 }
 
 fn keeps(end: &Result<TalkEnd, NoMemory>) -> bool

@@ -4,11 +4,12 @@ ghost use Rattle.ajp_wire.specs.Moments.{link_at};
 ghost use Rattle.http_out.specs.Own.{own_of};
 ghost use Rattle.exchange.specs.Steps.{IsWritten};
 
+use crate::delivery::deliver;
 use crate::ending::ExchangeEnd;
 use http_out::own_answer;
-use jk_io::{IoError, Sink, write_all};
+use jk_io::{IoError, Sink};
 
-/// Writes the answer with this status to the client.
+/// Writes the answer with this status to the client, which has it once it went out.
 pub(crate) fn write_own<C: Sink>(status: u16, head_only: bool, client: &mut C) -> ExchangeEnd
     requires { IsSome (own_of status) }
     ensures written { IsWritten status head_only
@@ -16,7 +17,7 @@ pub(crate) fn write_own<C: Sink>(status: u16, head_only: bool, client: &mut C) -
     ensures same { (C.incoming client.new ≡ C.incoming client.old) × (C.beside client.new ≡ C.beside client.old) }
     ensures no_fewer { C.faults client.old ≤ C.faults client.new }
 {
-    match write_all(client, own_answer(status, head_only)) {
+    match deliver(client, own_answer(status, head_only)) {
         Ok(()) => ExchangeEnd::Own(status),
         Err(IoError::Failed) => ExchangeEnd::ClientFault,
         Err(IoError::NoMemory) => ExchangeEnd::NoMemory,

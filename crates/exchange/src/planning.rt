@@ -7,7 +7,7 @@ ghost use Rattle.exchange.specs.Requests.{ask_for, errand_of, forward_to, ids_in
 
 use crate::methods::is_head;
 use crate::request::Request;
-use ajp_talk::TalkPlan;
+use ajp_talk::{TalkLimits, TalkPlan};
 use ajp_wire::EncodeError;
 use forwarding::{forward_packet, piece_of};
 use jk_io::{Bytes, NoMemory};
@@ -84,5 +84,9 @@ pub(crate) fn plan_for(
         last: request.last,
         close_on_client: RecoveryOption::CloseWithClient.is_on(endpoint.recovery),
         fail_on: endpoint.fail_on.copy()?,
+        limits: TalkLimits {
+            pong: 0,
+            reply: endpoint.limits.reply(request.terms.reply_timeout),
+        },
     })
 }

@@ -5,7 +5,7 @@ ghost use Rattle.exchange.specs.Steps.{after as after_talk, after_bad_body as af
 ghost use Rattle.exchange.specs.Requests.{allows as allows_another};
 
 use crate::ending::{ExchangeEnd, Ran, RoundVerdict};
-use crate::methods::{is_get, is_head};
+use crate::methods::method_of;
 use ajp_talk::{Cause, Stage, TalkEnd, Told};
 use http_front::Head;
 use jk_model::{FailList, Kind, Outcome};
@@ -15,15 +15,7 @@ use site_config::Endpoint;
 fn allows(endpoint: &Endpoint, head: &Head, stage: Stage) -> bool
     ensures { result ≡ allows_another endpoint.now head.now stage }
 {
-    may_retry(
-        endpoint.recovery,
-        is_head(head),
-        is_get(head),
-        stage.got,
-        stage.headers,
-        stage.passed,
-        stage.beyond,
-    )
+    may_retry(endpoint.recovery, method_of(head), stage)
 }
 
 fn is_status(cause: Cause) -> bool

@@ -9,14 +9,15 @@ use crate::start::desk_of;
 use crate::told::{put_balancer, put_rows, put_talks};
 use balancer_core::PlainDesk;
 use check_rows::rows::{bytes_of, number};
-use check_rows::telling::{put_bytes, put_faults, put_shown, put_word};
+use check_rows::telling::{part, put_bytes, put_faults, put_word};
 use check_rows::ways::{Way, link_of, writing};
-use client_session::{SessionEnd, serve_session_with};
+use client_session::{SessionEnd, SessionSite, SessionStop, Surroundings, serve_session_with};
 use jk_io::{Bytes, MemLink, MemLinkList, MemReach, NoMemory, NumberList, Peer, StepClock};
 use jk_model::{Served, ServedList};
 use site_books::member_counts;
 use site_config::Config;
 use std::alloc::Global;
+use std::fmt::Write;
 use uri_map::UriMap;
 
 /// A row, and how its last bytes come: those of the client, or those of the first link.
@@ -276,8 +277,28 @@ fn serve(
 }
 
 fn put_end(end: SessionEnd, rows: &[Served], out: &mut String) -> Result<(), NoMemory> {
-    put_shown(out, &end)?;
+    put_stop(end, out)?;
     put_rows(rows, out)
+}
+
+/// How the session ended.
+fn put_stop(end: SessionEnd, out: &mut String) -> Result<(), NoMemory> {
+    let SessionEnd { requests, stop } = end;
+    part(out)?;
+    match stop {
+        SessionStop::Closed(why) => write!(out, "Closed {{ requests: {requests}, why: {why:?} }}")?,
+        SessionStop::ClientFault => write!(out, "ClientFault {{ requests: {requests} }}")?,
+        SessionStop::Truncated => write!(out, "Truncated {{ requests: {requests} }}")?,
+        SessionStop::Stray {
+            ticket,
+            returned_at,
+        } => write!(
+            out,
+            "Stray {{ ticket: {ticket}, returned_at: {returned_at:?} }}"
+        )?,
+        SessionStop::NoMemory => out.push_str("NoMemory")?,
+    }
+    Ok(())
 }
 
 /// The session's end. Adds its rows.
@@ -297,18 +318,19 @@ fn serve_into(
 {
     let peer = local(alloc)?;
     let mut clock = StepClock::new(NumberList::new(alloc));
-    Ok(serve_session_with(
-        alloc,
-        case.config,
-        case.map,
-        0,
-        &peer,
+    let site = SessionSite {
+        cfg: case.config,
+        map: case.map,
+        session: 0,
+        peer: &peer,
+    };
+    let mut around = Surroundings {
         desk,
+        clock: &mut clock,
         reach,
         client,
-        &mut clock,
-        rows,
-    ))
+    };
+    Ok(serve_session_with(alloc, &site, &mut around, rows))
 }
 
 fn put_balancers(case: &Case<'_>, desk: &mut PlainDesk, out: &mut String) -> Result<(), NoMemory>

@@ -3,13 +3,13 @@ ghost use Rattle.std.specs.Prelude.{◌≡◌, ◌<◌, ◌≤◌, None, length,
 ghost use Rattle.ajp_talk.specs.Ends.{IsPlan};
 ghost use Rattle.http_body_in.specs.State.{taken_of, failed_of};
 
-use ajp_talk::{TalkPlan, talk};
+use ajp_talk::{TalkLimits, TalkPlan, talk};
 use check_rows::rows::{bytes_of, number};
 use check_rows::telling::{put_bytes, put_count, put_shown, put_word};
 use check_rows::ways::{Way, link_of, writing};
 use http_body_in::{BodyFault, BodyIn};
 use http_front::{BodyPlan, Inbox};
-use jk_io::{Bytes, MemLink, NoMemory};
+use jk_io::{Bytes, NoMemory, NumberList, PatientLink};
 use jk_model::FailList;
 use std::alloc::Global;
 
@@ -39,21 +39,27 @@ pub fn tell(
     way: Way,
     out: &mut String,
 ) -> Result<(), NoMemory> {
-    tell_line(alloc, fields, &mut link_of(alloc, bytes, way)?, out)
+    let line = link_of(alloc, bytes, way)?;
+    let never = NumberList::new(alloc);
+    tell_line(
+        alloc,
+        fields,
+        &mut PatientLink::new(alloc, line, NumberList::new(alloc), never),
+        out,
+    )
 }
 
 fn tell_line(
     alloc: Global,
     fields: &[&str; 8],
-    line: &mut MemLink,
+    line: &mut PatientLink,
     out: &mut String,
 ) -> Result<(), NoMemory> {
-    let written = said(fields[1], "client=");
     tell_between(
         alloc,
         fields,
         line,
-        &mut client_of(alloc, fields[3], written)?,
+        &mut client_of(alloc, fields[3], fields[1])?,
         out,
     )
 }
@@ -61,8 +67,8 @@ fn tell_line(
 fn tell_between(
     alloc: Global,
     fields: &[&str; 8],
-    line: &mut MemLink,
-    client: &mut MemLink,
+    line: &mut PatientLink,
+    client: &mut PatientLink,
     out: &mut String,
 ) -> Result<(), NoMemory> {
     let words = fields[1];
@@ -101,9 +107,15 @@ fn reading_of(alloc: Global, plan: &str) -> Result<Reading, NoMemory>
     })
 }
 
-/// A client with these bytes to come; if `write` is given, one write to it fails after `write` bytes were taken.
-fn client_of(alloc: Global, text: &str, write: Option<u64>) -> Result<MemLink, NoMemory> {
-    link_of(alloc, bytes_of(alloc, text)?.as_slice(), writing(write))
+/// A client with these bytes to come, whose write or first flush fails where the plan says so.
+fn client_of(alloc: Global, text: &str, plan: &str) -> Result<PatientLink, NoMemory> {
+    let way = writing(said(plan, "client="));
+    let link = link_of(alloc, bytes_of(alloc, text)?.as_slice(), way)?;
+    let mut failing = NumberList::new(alloc);
+    if plan.contains("unflushed") {
+        failing.push(0)?;
+    }
+    Ok(PatientLink::new(alloc, link, NumberList::new(alloc), failing))
 }
 
 fn limit(most: Option<u64>) -> u64
@@ -146,6 +158,10 @@ fn plan_with(alloc: Global, words: &str, first: Bytes) -> Result<TalkPlan, NoMem
         last: false,
         close_on_client: words.contains("close"),
         fail_on: FailList::new(alloc),
+        limits: TalkLimits {
+            pong: said(words, "pong=").unwrap_or(0),
+            reply: said(words, "reply=").unwrap_or(0),
+        },
     })
 }
 
@@ -163,7 +179,7 @@ fn planned(alloc: Global, words: &str, first: Bytes) -> Result<TalkPlan, NoMemor
 fn first_piece(
     alloc: Global,
     reading: &mut Reading,
-    client: &mut MemLink,
+    client: &mut PatientLink,
     n: usize,
 ) -> Result<Bytes, BodyFault>
     requires none { taken_of reading.old.body ≡ 0 }
@@ -184,8 +200,8 @@ fn tell_talk(
     alloc: Global,
     words: &str,
     reading: &mut Reading,
-    line: &mut MemLink,
-    client: &mut MemLink,
+    line: &mut PatientLink,
+    client: &mut PatientLink,
     out: &mut String,
 ) -> Result<(), NoMemory>
     requires fresh { taken_of reading.old.body ≡ 0 }
@@ -200,17 +216,31 @@ fn tell_talk(
             line,
             client,
             out,
-        ),
-        Err(fault) => put_shown(out, &fault),
+        )?,
+        Err(fault) => put_shown(out, &fault)?,
     }
+    if words.contains("awaits") {
+        put_awaited("line", line, out)?;
+        put_awaited("client", client, out)?;
+    }
+    Ok(())
+}
+
+/// Adds what a link was told to await.
+fn put_awaited(whose: &str, link: &PatientLink, out: &mut String) -> Result<(), NoMemory> {
+    put_word(out, whose)?;
+    for what in link.awaited() {
+        put_shown(out, what)?;
+    }
+    Ok(())
 }
 
 fn run(
     alloc: Global,
     plan: &TalkPlan,
     reading: &mut Reading,
-    line: &mut MemLink,
-    client: &mut MemLink,
+    line: &mut PatientLink,
+    client: &mut PatientLink,
     out: &mut String,
 ) -> Result<(), NoMemory>
     requires plan { IsPlan plan.now }
@@ -220,9 +250,9 @@ fn run(
     let inbox = &mut reading.inbox;
     let end = talk(alloc, plan, &mut reading.body, inbox, line, client)?;
     put_shown(out, &end)?;
-    put_sent(plan.ping, line.sent(), out)?;
+    put_sent(plan.ping, line.link().sent(), out)?;
     put_word(out, "written")?;
-    put_bytes(out, client.sent())
+    put_bytes(out, client.link().sent())
 }
 
 /// How many bytes stand at the front of both.

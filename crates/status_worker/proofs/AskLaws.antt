@@ -10,7 +10,7 @@ use Rattle.status_page.specs.Effects.{is_change}
 use Rattle.status_page.specs.Meaning.{meaning_of}
 use Rattle.status_page.specs.declared.command.StatusCommand.{StatusCommand}
 use Rattle.status_worker.specs.Asking.{AsksBy, IfCode, IsNamedBalancer, IsRefusedBy}
-use Rattle.status_worker.specs.Commands.{Asks, IsAllowed, IsRefused, IsWorkFor, NamesNone}
+use Rattle.status_worker.specs.Commands.{Asks, AsksOpen, IsAllowed, IsRefused, IsRefusedOpen, IsWorkFor, NamesNone}
 use Rattle.status_worker.specs.declared.asking.NoPage.{NoPage}
 use Rattle.status_worker.specs.declared.asking.NoPage.TheVariants as no_page
 use Rattle.status_worker.specs.declared.asking.Work.{Work}
@@ -29,7 +29,7 @@ forbidden cfg status c is = let both = and_parts (is_change c) status.read_only 
 
 -- the query means no command
 pub means_none : (cfg : Config) (status : Status) (query : Option (List ℕ)) (why : NoPage)
-    → IfCode (λ code. (code ≡ 400) × (meaning_of query ≡ None)) why → IfCode (IsRefused cfg status query) why
+    → IfCode (λ code. (code ≡ 400) × (meaning_of query ≡ None)) why → IfCode (IsRefusedOpen cfg status query) why
 means_none cfg status query (no_page.Own code) bad = inl bad
 means_none cfg status query no_page.NoMemory bad = tt
 
@@ -56,7 +56,7 @@ asks_by cfg status c (Err why) may works = tt
 
 -- what the command asks for is what the query asks for
 pub asks : (cfg : Config) (status : Status) (query : Option (List ℕ)) (c : StatusCommand) (r : Result Work NoPage) → meaning_of query ≡ Some c
-    → IfOk r (AsksBy cfg status c) → IfOk r (Asks cfg status query)
+    → IfOk r (AsksBy cfg status c) → IfOk r (AsksOpen cfg status query)
 asks cfg status query c (Ok work) means by = (c, means, by.0, by.1)
 asks cfg status query c (Err why) means by = tt
 
@@ -74,8 +74,21 @@ none_named cfg status c (Err no_page.NoMemory) may none = tt
 
 -- why the command isn't done is why the query isn't
 pub refused : (cfg : Config) (status : Status) (query : Option (List ℕ)) (c : StatusCommand) (r : Result Work NoPage) → meaning_of query ≡ Some c
-    → IfErr r (IfCode (IsRefusedBy cfg status c)) → IfErr r (IfCode (IsRefused cfg status query))
+    → IfErr r (IfCode (IsRefusedBy cfg status c)) → IfErr r (IfCode (IsRefusedOpen cfg status query))
 refused cfg status query c (Ok work) means why = tt
 refused cfg status query c (Err (no_page.Own code)) means (inl change) = inr (inl (c, change.0, means, change.1, change.2))
 refused cfg status query c (Err (no_page.Own code)) means (inr name) = inr (inr (c, name.0, means, name.1, name.2))
 refused cfg status query c (Err no_page.NoMemory) means why = tt
+
+-- ---- an open status worker
+
+pub open_asks : (cfg : Config) (status : Status) (query : Option (List ℕ)) (r : Result Work NoPage) → status.closed ≡ false
+    → IfOk r (AsksOpen cfg status query) → IfOk r (Asks cfg status query)
+open_asks cfg status query (Ok work) open' asks = (open', asks)
+open_asks cfg status query (Err why) open' asks = tt
+
+pub open_refuses : (cfg : Config) (status : Status) (query : Option (List ℕ)) (r : Result Work NoPage) → status.closed ≡ false
+    → IfErr r (IfCode (IsRefusedOpen cfg status query)) → IfErr r (IfCode (IsRefused cfg status query))
+open_refuses cfg status query (Ok work) open' why = tt
+open_refuses cfg status query (Err (no_page.Own code)) open' why = inr (open', why)
+open_refuses cfg status query (Err no_page.NoMemory) open' why = tt

@@ -23,9 +23,10 @@ does_one_more session lb (first ∷ done) c s mid n before more =
     (before.0, before.1, does_one_more session lb done c before.0 mid n before.2 more)
 
 pub refused_known : (cfg : Config) (status : Status) (query : Option (List ℕ)) (code : ℕ) → IsRefused cfg status query code → IsPageCode code
-refused_known cfg status query code (inl bad) = inl bad.0
-refused_known cfg status query code (inr (inl forbidden)) = inr (inl forbidden.1)
-refused_known cfg status query code (inr (inr unknown)) = inr (inr (inl unknown.1))
+refused_known cfg status query code (inl closed') = inr (inl closed'.0)
+refused_known cfg status query code (inr (open', inl bad)) = inl bad.0
+refused_known cfg status query code (inr (open', inr (inl forbidden))) = inr (inl forbidden.1)
+refused_known cfg status query code (inr (open', inr (inr unknown))) = inr (inr (inl unknown.1))
 
 -- nothing was asked
 pub unasked : (cfg : Config) (session : ℕ) (status : Status) (query : Option (List ℕ)) (s : DeskSide) (why : NoPage) → IfCode (IsRefused cfg status query) why

@@ -37,9 +37,13 @@ IsWorkFor cfg c work =
     ⊎ ((name : List ℕ) × (place : ℕ) × (lb : Lb) × (worker_of c ≡ Some name) × IsNamed cfg name place lb
     × (work.only ≡ Some place) × (commands_for lb.book.members c ≡ Some work.commands))
 
--- What the query asks for, where the status worker may do it.
+-- What the query asks for, where the status worker is open and may do it.
+abbrev pub AsksOpen : Config → Status → (query : Option (List ℕ)) → Work → Type 0
+AsksOpen cfg status query work = (c : StatusCommand) × (meaning_of query ≡ Some c) × IsAllowed status c × IsWorkFor cfg c work
+
+-- A status worker whose directives name users is closed, and is asked nothing.
 abbrev pub Asks : Config → Status → (query : Option (List ℕ)) → Work → Type 0
-Asks cfg status query work = (c : StatusCommand) × (meaning_of query ≡ Some c) × IsAllowed status c × IsWorkFor cfg c work
+Asks cfg status query work = (status.closed ≡ false) × AsksOpen cfg status query work
 
 -- a name is that of no balancer, or one of a member is that of none of the balancer's
 abbrev pub NamesNone : Config → StatusCommand → Type 0
@@ -48,13 +52,18 @@ NamesNone cfg c =
     × (((place : ℕ) → named_among name cfg.listed ≡ Some (named.Balancer place) → ⊥)
     ⊎ ((place : ℕ) × (lb : Lb) × IsNamed cfg name place lb × (commands_for lb.book.members c ≡ None)))
 
--- Why nothing is asked, in this order: 400 where the query means no command, 403 for a change where the worker is read
--- only, 404 for a name that is no balancer's or no member's.
-abbrev pub IsRefused : Config → Status → (query : Option (List ℕ)) → (code : ℕ) → Type 0
-IsRefused cfg status query code =
+-- Why nothing is asked of an open one, in this order: 400 where the query means no command, 403 for a change where the worker
+-- is read only, 404 for a name that is no balancer's or no member's.
+abbrev pub IsRefusedOpen : Config → Status → (query : Option (List ℕ)) → (code : ℕ) → Type 0
+IsRefusedOpen cfg status query code =
     ((code ≡ 400) × (meaning_of query ≡ None))
     ⊎ (((c : StatusCommand) × (code ≡ 403) × (meaning_of query ≡ Some c) × (is_change c ≡ true) × (status.read_only ≡ true))
     ⊎ ((c : StatusCommand) × (code ≡ 404) × (meaning_of query ≡ Some c) × IsAllowed status c × NamesNone cfg c))
+
+-- Why nothing is asked: 403 for each request of a closed status worker, and else for what the query says.
+abbrev pub IsRefused : Config → Status → (query : Option (List ℕ)) → (code : ℕ) → Type 0
+IsRefused cfg status query code =
+    ((code ≡ 403) × (status.closed ≡ true)) ⊎ ((status.closed ≡ false) × IsRefusedOpen cfg status query code)
 
 -- ---- how it is done
 

@@ -3,7 +3,7 @@ ghost use Rattle.std.specs.Prelude.{◌≡◌, ◌<◌, ◌&&◌, None, Some, le
 ghost use Rattle.status_page.specs.Effects.{is_change};
 ghost use Rattle.status_page.specs.Meaning.{meaning_of};
 ghost use Rattle.status_worker.specs.Asking.{AsksBy, IfCode, IsNamedBalancer, IsRefusedBy};
-ghost use Rattle.status_worker.specs.Commands.{Asks, IsRefused, IsWorkFor, NamesNone};
+ghost use Rattle.status_worker.specs.Commands.{Asks, AsksOpen, IsRefused, IsRefusedOpen, IsWorkFor, NamesNone};
 
 use jk_io::{Bytes, NoMemory};
 use site_config::{Config, Named, Status};
@@ -110,7 +110,22 @@ fn work_by(
     work_for(alloc, cfg, command)
 }
 
-/// What a request of a status worker asks for, or the first refusal: 400, 403, 404.
+/// What a request of an open status worker asks for, or the first refusal: 400, 403, 404.
+fn open_work(
+    alloc: Global,
+    cfg: &Config,
+    status: &Status,
+    query: &Option<Bytes>,
+) -> Result<Work, NoPage>
+    ensures ok { IfOk result (AsksOpen cfg.now status.now query.now) }
+    ensures within { IfOk result (λ work. IfSome work.only (λ lb. lb < length cfg.now.lbs)) }
+    ensures err { IfErr result (IfCode (IsRefusedOpen cfg.now status.now query.now)) }
+{
+    let command = read_query(alloc, query)?;
+    work_by(alloc, cfg, status, &command)
+}
+
+/// What a request of a status worker asks for, or the first refusal. A closed one refuses each request.
 pub(crate) fn work_of(
     alloc: Global,
     cfg: &Config,
@@ -121,6 +136,8 @@ pub(crate) fn work_of(
     ensures within { IfOk result (λ work. IfSome work.only (λ lb. lb < length cfg.now.lbs)) }
     ensures err { IfErr result (IfCode (IsRefused cfg.now status.now query.now)) }
 {
-    let command = read_query(alloc, query)?;
-    work_by(alloc, cfg, status, &command)
+    if status.closed {
+        return Err(NoPage::Own(403));
+    }
+    open_work(alloc, cfg, status, query)
 }

@@ -1,51 +1,65 @@
 -- The exchange went by the terms of the mount.
-use Rattle.std.proofs.Common.{refl}
-use Rattle.client_session.proofs.ConcludeLaws.{forwarded_by}
+use Rattle.std.proofs.Common.{refl, sym, ap, ◌∙◌}
+use Rattle.std.proofs.lemmas.Option.{get_or_from_slice_get}
+use Rattle.site_config.specs.declared.balancer.Lb.{Lb}
+use Rattle.exchange.proofs.SizeLaws.{size_in, within_sizes}
+use Rattle.client_session.specs.Answers.{errand_at}
+use Rattle.client_session.specs.Requests.{visit_of}
 use Rattle.client_session.proofs.DeskLaws.{after_exchange}
 use Rattle.client_session.proofs.SessionLaws.{ready_again}
+use Rattle.client_session.proofs.SurroundingsLaws.{forwarded_back, same_balancer}
 use Rattle.client_session.proofs.answering.exchange_at.Goals as goal
+
+pub exchange_of-requires-clause-may : goal.exchange_of-requires-clause-may
+exchange_of-requires-clause-may g c =
+    let e = c.request_at-request.ensures in
+    let there = sym (get_or_from_slice_get c.args.of.now.site.now.cfg.now.lbs c.args.lb c.request_at-request.result.balancer.now c.request_at-request.result.balancer.now e.balancer) in
+    record {
+      lb = rw e.lb (within_sizes _ _ _ c.requires.ready.desk_sizes c.requires.worker);
+      caller = rw e.session c.requires.ready.caller;
+      desk_size = rw e.lb (size_in _ _ _ _ c.requires.ready.desk_sizes c.requires.worker there);
+      reach_size = rw e.lb (size_in _ _ _ _ c.requires.ready.reach_sizes c.requires.worker there);
+      idle = c.requires.ready.idle;
+    }
+
+pub exchange_of-requires-clause-whole : goal.exchange_of-requires-clause-whole
+exchange_of-requires-clause-whole g c =
+    record { place = rw c.request_at-request.ensures.head c.requires.fresh.place; taken = c.requires.fresh.taken; going = c.requires.fresh.going }
 
 pub returns-clause-forwarded : goal.returns-clause-forwarded
 returns-clause-forwarded g c = λ balancer there.
-    let did = c.exchange.ensures.exchange balancer there in
-    forwarded_by _ _ _ _ _ _ _ _ _ _ _ (rw c.as_slice.ensures at c.terms-terms.ensures.value)
-    did (c.exchange.ensures.client balancer there _ _ did) c.exchange.ensures.used
-    (c.exchange.ensures.whole_once balancer there _ _ did) (c.exchange.ensures.complete balancer there _ _ did) c.exchange.ensures.kept c.exchange.ensures.met
-    c.exchange.ensures.calm
-    c.exchange.ensures.no_fewer
+    let e = c.request_at-request.ensures in
+    let x = c.exchange_of.ensures in
+    let did = x.exchange in
+    forwarded_back g.B.Desk.state g.K.Clock.answers g.R.Meanings g.C.Meanings _ _ _ _ _ _ _ _ _ _ _ _ _ _ _ _
+    (c.around-3-1.given.1 (sym x.kept.sides.same.0)) (c.around-2-1.given.1 (sym x.kept.sides.same.1))
+    (c.around-1.given.1 (sym x.kept.sides.same.3)) (c.body-1.given.1 (sym x.kept.sides.same.2))
+    (e.errand ∙ ap (λ (b : Lb). errand_at (visit_of c.args.of.now.site.now) c.args.of.now.head.now c.args.of.now.last c.args.lb b)
+    (same_balancer c.args.of.now.site.now.cfg.now.lbs c.args.lb _ balancer e.balancer there))
+    (record {
+      exchange = did;
+      gives = x.client _ _ did;
+      noted = x.noted _ _ did;
+      used = x.used _ _ did;
+      whole_once = x.whole_once _ _ did;
+      complete = x.complete _ _ did;
+      kept = x.kept.kept;
+      met = x.met _ _ did;
+      calm = x.calm _ _ did;
+      no_fewer = (x.kept.sides.reach_faults, x.kept.sides.client_faults);
+    })
 
 pub returns-clause-kept : goal.returns-clause-kept
 returns-clause-kept g c =
-    let kept = after_exchange _ _ _ _ c.exchange.ensures.kept c.exchange.ensures.held in
+    let x = c.exchange_of.ensures in
+    let reach = c.around-3-1.given.1 (sym x.kept.sides.same.0) in
+    let client = c.around-2-1.given.1 (sym x.kept.sides.same.1) in
+    let kept = rw c.request_at-request.ensures.session at (after_exchange _ _ _ _ x.kept.kept x.kept.held) in
     record {
-      ready = ready_again _ _ _ _ _ c.requires.ready kept c.exchange.ensures.sizes c.exchange.ensures.idle;
+      ready = rw reach (ready_again _ _ _ _ _ c.requires.ready kept x.kept.sides.sizes x.kept.sides.idle);
       kept = kept;
-      beside = c.exchange.ensures.beside;
-      reach_faults = c.exchange.ensures.no_fewer.0;
-      client_faults = c.exchange.ensures.no_fewer.1;
+      beside = rw client x.kept.sides.beside;
+      reach_faults = rw reach x.kept.sides.reach_faults;
+      client_faults = rw client x.kept.sides.client_faults;
       same = (refl, refl, refl, refl, refl);
     }
-
-pub exchange-requires-clause-lb : goal.exchange-requires-clause-lb
-exchange-requires-clause-lb g c = c.requires.worker
-
-pub exchange-requires-clause-caller : goal.exchange-requires-clause-caller
-exchange-requires-clause-caller g c = c.requires.ready.caller
-
-pub exchange-requires-clause-desk_sizes : goal.exchange-requires-clause-desk_sizes
-exchange-requires-clause-desk_sizes g c = c.requires.ready.desk_sizes
-
-pub exchange-requires-clause-reach_sizes : goal.exchange-requires-clause-reach_sizes
-exchange-requires-clause-reach_sizes g c = c.requires.ready.reach_sizes
-
-pub exchange-requires-clause-idle : goal.exchange-requires-clause-idle
-exchange-requires-clause-idle g c = c.requires.ready.idle
-
-pub exchange-requires-clause-place : goal.exchange-requires-clause-place
-exchange-requires-clause-place g c = c.requires.fresh.place
-
-pub exchange-requires-clause-taken : goal.exchange-requires-clause-taken
-exchange-requires-clause-taken g c = c.requires.fresh.taken
-
-pub exchange-requires-clause-going : goal.exchange-requires-clause-going
-exchange-requires-clause-going g c = c.requires.fresh.going

@@ -1,14 +1,18 @@
--- A request was served, or the session ended at it or after it.
-use Rattle.std.proofs.Common.{refl, ◌∙◌, arith}
-use Rattle.status_worker.proofs.DeskLaws.{none_met, none_twice}
+-- A request was served, or the session ended at it or after it, or nothing of a next one was there.
+use Rattle.std.proofs.Common.{refl, ap, ◌∙◌, arith}
+use Rattle.status_worker.proofs.DeskLaws.{none_met, none_twice, untouched}
+use Rattle.jk_io.specs.Moments.{Moment}
+use Rattle.client_session.specs.declared.ending.SessionStop.TheVariants as stop
+use Rattle.client_session.specs.declared.ending.Why.TheVariants as why
 use Rattle.client_session.proofs.DeskLaws.{met_at_end}
-use Rattle.client_session.proofs.KeepingLaws.{keeps_all, keeps_twice}
-use Rattle.client_session.proofs.SessionLaws.{begins, ended, goes_on, risen_at_end}
+use Rattle.client_session.proofs.KeepingLaws.{keeps_all, keeps_by, keeps_twice}
+use Rattle.client_session.proofs.SessionLaws.{begins, ended, goes_on, idles, risen_at_end, same_client, still_under_way}
+use Rattle.client_session.proofs.TurnLaws.{ended_busy}
 use Rattle.client_session.proofs.serving.serve_all.Goals as goal
 
 pub loop-number-init : goal.loop-number-init
 loop-number-init g c = record {
-  way = begins _ _ _;
+  way = begins _ _ _ (g.met.W.RowSink.gains_nothing _);
   few = omega arith;
   met = none_met _;
   calm = refl;
@@ -22,17 +26,22 @@ pub serve_one-requires-clause-number : goal.serve_one-requires-clause-number
 serve_one-requires-clause-number g c = c.loop-number.invariant.few
 
 pub loop-number-preserved : goal.loop-number-preserved
-loop-number-preserved g c = record {
-  way = goes_on _ _ _ _ _ _ _ _ c.loop-number.invariant.way c.in-Next.ensures.turn;
-  few = c.in-Next.ensures.more refl;
-  met = none_twice _ _ _ c.loop-number.invariant.met c.in-Next.ensures.told.met;
-  calm = c.in-Next.ensures.told.fault ∙ c.loop-number.invariant.calm;
-  kept = keeps_twice _ _ _ _ _ _ _ c.loop-number.invariant.kept c.in-Next.ensures.kept;
-}
+loop-number-preserved g c =
+    let way = goes_on _ _ _ _ _ _ _ _ (λ xs ys first second. g.met.W.RowSink.gains_on _ _ _ _ _ first second) c.loop-number.invariant.way c.in-Next.ensures.turn in
+    let faults = ap (λ (m : Moment). m.faults) c.is_idle.ensures.same in
+    record {
+      way = still_under_way _ _ _ _ _ _ c.is_idle.ensures.same way;
+      few = c.in-Next.ensures.more refl;
+      met = none_twice _ _ _ c.loop-number.invariant.met c.in-Next.ensures.told.met;
+      calm = faults ∙ c.in-Next.ensures.told.fault ∙ c.loop-number.invariant.calm;
+      kept = keeps_twice _ _ _ _ _ _ _ c.loop-number.invariant.kept
+          (keeps_twice _ _ _ _ _ _ _ c.in-Next.ensures.kept
+          (keeps_by _ _ _ _ _ _ c.in-Next.ensures.kept.ready (untouched _ _) refl refl c.is_idle.ensures.beside (omega (arith, faults)) (refl, refl, refl, refl, refl)));
+    }
 
 pub returns-in-EndsAfter-clause-session : goal.returns-in-EndsAfter-clause-session
 returns-in-EndsAfter-clause-session g c =
-    ended _ _ _ _ _ _ _ _ c.in-EndsAfter.stop _ _ c.loop-number.invariant.way c.after.ensures c.in-EndsAfter.ensures.turn
+    ended _ _ _ _ _ _ _ _ c.in-EndsAfter.stop _ _ (λ xs ys first second. g.met.W.RowSink.gains_on _ _ _ _ _ first second) c.loop-number.invariant.way c.after.ensures c.in-EndsAfter.ensures.turn
 
 pub returns-in-EndsAfter-clause-told : goal.returns-in-EndsAfter-clause-told
 returns-in-EndsAfter-clause-told g c = record {
@@ -45,7 +54,7 @@ returns-in-EndsAfter-clause-kept g c = keeps_twice _ _ _ _ _ _ _ c.loop-number.i
 
 pub returns-in-EndsAt-clause-session : goal.returns-in-EndsAt-clause-session
 returns-in-EndsAt-clause-session g c =
-    ended _ _ _ _ _ _ _ _ c.in-EndsAt.stop _ _ c.loop-number.invariant.way c.after-in-EndsAt.ensures c.in-EndsAt.ensures.turn
+    ended _ _ _ _ _ _ _ _ c.in-EndsAt.stop _ _ (λ xs ys first second. g.met.W.RowSink.gains_on _ _ _ _ _ first second) c.loop-number.invariant.way c.after-in-EndsAt.ensures c.in-EndsAt.ensures.turn
 
 pub returns-in-EndsAt-clause-told : goal.returns-in-EndsAt-clause-told
 returns-in-EndsAt-clause-told g c = record {
@@ -55,3 +64,33 @@ returns-in-EndsAt-clause-told g c = record {
 
 pub returns-in-EndsAt-clause-kept : goal.returns-in-EndsAt-clause-kept
 returns-in-EndsAt-clause-kept g c = keeps_twice _ _ _ _ _ _ _ c.loop-number.invariant.kept c.in-EndsAt.ensures.kept
+
+pub returns-then-is_idle-clause-session : goal.returns-then-is_idle-clause-session
+returns-then-is_idle-clause-session g c =
+    let way = goes_on _ _ _ _ _ _ _ _ (λ xs ys first second. g.met.W.RowSink.gains_on _ _ _ _ _ first second) c.loop-number.invariant.way c.in-Next.ensures.turn in
+    idles _ _ _ _ _ _ _ way (omega arith) (c.is_idle.ensures.idle c.if-is_idle.true).0 (same_client _ _ c.is_idle.ensures.same)
+    c.after-then-is_idle.ensures
+
+pub returns-then-is_idle-clause-told : goal.returns-then-is_idle-clause-told
+returns-then-is_idle-clause-told g c =
+    let faults = ap (λ (m : Moment). m.faults) c.is_idle.ensures.same in
+    record {
+      met = met_at_end (stop.Closed why.Idle) _ _ _ _ _ c.after-then-is_idle.ensures c.loop-number.invariant.met c.in-Next.ensures.told.met;
+      fault = risen_at_end (stop.Closed why.Idle) _ _ _ _ _ c.after-then-is_idle.ensures c.loop-number.invariant.calm (faults ∙ c.in-Next.ensures.told.fault);
+    }
+
+pub returns-then-is_idle-clause-kept : goal.returns-then-is_idle-clause-kept
+returns-then-is_idle-clause-kept g c =
+    let faults = ap (λ (m : Moment). m.faults) c.is_idle.ensures.same in
+    keeps_twice _ _ _ _ _ _ _ c.loop-number.invariant.kept
+    (keeps_twice _ _ _ _ _ _ _ c.in-Next.ensures.kept
+    (keeps_by _ _ _ _ _ _ c.in-Next.ensures.kept.ready (untouched _ _) refl refl c.is_idle.ensures.beside (omega (arith, faults)) (refl, refl, refl, refl, refl)))
+
+pub returns-then-is_idle-clause-idle_only : goal.returns-then-is_idle-clause-idle_only
+returns-then-is_idle-clause-idle_only g c = λ _. (c.is_idle.ensures.idle c.if-is_idle.true).1
+
+pub returns-in-EndsAfter-clause-idle_only : goal.returns-in-EndsAfter-clause-idle_only
+returns-in-EndsAfter-clause-idle_only g c = ended_busy c.in-EndsAfter.stop _ _ _ c.after.ensures c.in-EndsAfter.ensures.busy
+
+pub returns-in-EndsAt-clause-idle_only : goal.returns-in-EndsAt-clause-idle_only
+returns-in-EndsAt-clause-idle_only g c = ended_busy c.in-EndsAt.stop _ _ _ c.after-in-EndsAt.ensures c.in-EndsAt.ensures.busy

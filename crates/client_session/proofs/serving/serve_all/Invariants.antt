@@ -12,7 +12,7 @@ invariant-loop-number g l = record {
   way : IsUnderWay (visit_of l.site) l.number
       (standing_of g.B.Desk.state g.K.Clock.answers g.R.Meanings g.C.Meanings l.fn.around)
       (standing_of g.B.Desk.state g.K.Clock.answers g.R.Meanings g.C.Meanings l.around)
-      l.fn.rows.items l.rows.items;
+      (λ gained. g.W.RowSink.gained l.fn.rows gained l.rows);
   few : l.number < 1000;
   met : MeetsNone (g.B.Desk.state l.fn.around.desk.now) (g.B.Desk.state l.around.desk.now);
   calm : g.C.Meanings.faults l.around.client.now ≡ g.C.Meanings.faults l.fn.around.client.now;

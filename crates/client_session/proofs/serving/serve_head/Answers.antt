@@ -5,23 +5,23 @@ use Rattle.status_worker.proofs.DeskLaws.{none_met, untouched}
 use Rattle.client_session.specs.Standings.{client_at, standing}
 use Rattle.client_session.specs.Surroundings.{standing_of}
 use Rattle.client_session.proofs.KeepingLaws.{keeps_all, keeps_by, keeps_twice}
-use Rattle.client_session.proofs.TurnLaws.{follows_meets, follows_rises, none_next, not_last, turn_follows, unrowed}
+use Rattle.client_session.proofs.TurnLaws.{follows_meets, follows_rises, none_next, not_last, turn_busy, turn_follows, unrowed}
 use Rattle.client_session.proofs.serving.serve_head.Goals as goal
 
 pub returns-in_default-clause-turn : goal.returns-in_default-clause-turn
 returns-in_default-clause-turn g c s reads =
-    unrowed _ _ s _ _ c.new-body.result _ _
+    unrowed _ _ s _ _ c.new-body.result _
     (record { place = c.new-body.ensures.place; most = c.new-body.ensures.most; taken = c.new-body.ensures.taken; going = c.new-body.ensures.failed })
-    c.reserve.ensures.items reads
+    c.room.ensures.same reads
 
 pub returns-clause-turn : goal.returns-clause-turn
 returns-clause-turn g c s reads =
     turn_follows _ _ s _
     (standing_of g.B.Desk.state g.K.Clock.answers g.R.Meanings g.C.Meanings c.answer-answered.new.around)
     (standing g.B.Desk.state g.K.Clock.answers g.R.Meanings g.C.Meanings c.answer-answered.new.around.desk.now c.answer-answered.new.around.clock.now c.answer-answered.new.around.reach.now c.turn_after.new.client c.turn_after.new.inbox)
-    _ c.new-body.result c.answer-answered.new.body c.turn_after.new.body c.answer-answered.result.answered c.is_last-last.result _ _ _ _ c.turn_after.result
+    _ c.new-body.result c.answer-answered.new.body c.turn_after.new.body c.answer-answered.result.answered c.is_last-last.result _ _ c.turn_after.result
     (record { place = c.new-body.ensures.place; most = c.new-body.ensures.most; taken = c.new-body.ensures.taken; going = c.new-body.ensures.failed })
-    c.reserve.ensures.items c.put_row.ensures c.is_last-last.ensures c.answer-answered.ensures.answer c.answer-answered.ensures.told.fault
+    (g.met.W.RowSink.gains_on _ _ _ _ _ c.room.ensures.same c.put_row.ensures) c.is_last-last.ensures c.answer-answered.ensures.answer c.answer-answered.ensures.told.fault
     c.answer-answered.ensures.going refl c.turn_after.ensures.turned reads
 
 pub returns-clause-more : goal.returns-clause-more
@@ -31,7 +31,7 @@ pub returns-in_default-clause-more : goal.returns-in_default-clause-more
 returns-in_default-clause-more g c = λ next. none_next _ _ next
 
 pub returns-in_default-clause-told : goal.returns-in_default-clause-told
-returns-in_default-clause-told g c = record { met = none_met _; fault = tt }
+returns-in_default-clause-told g c = record { met = none_met _; fault = refl }
 
 pub returns-in_default-clause-kept : goal.returns-in_default-clause-kept
 returns-in_default-clause-kept g c = keeps_all _ _ _ _ _ c.requires.ready
@@ -52,3 +52,9 @@ returns-clause-kept g c =
 
 pub answer-answered-requires-clause-ready : goal.answer-answered-requires-clause-ready
 answer-answered-requires-clause-ready g c = c.requires.ready
+
+pub returns-in_default-clause-busy : goal.returns-in_default-clause-busy
+returns-in_default-clause-busy g c = tt
+
+pub returns-clause-busy : goal.returns-clause-busy
+returns-clause-busy g c = turn_busy _ _ _ _ _ _ _ _ c.answer-answered.result.answered _ _ _ c.turn_after.result c.answer-answered.ensures.answer c.turn_after.ensures.turned

@@ -1,13 +1,12 @@
 -- A head was read, the bytes ended, or no head was read.
-use Rattle.std.proofs.Common.{refl, ◌∙◌}
+use Rattle.std.proofs.Common.{refl, ◌∙◌, arith}
 use Rattle.client_session.specs.Requests.{visit_of}
 use Rattle.client_session.specs.Standings.{client_at, standing}
 use Rattle.client_session.specs.Surroundings.{standing_of}
 use Rattle.status_worker.proofs.DeskLaws.{none_met, untouched}
 use Rattle.client_session.proofs.KeepingLaws.{keeps_by, keeps_twice}
 use Rattle.client_session.proofs.SessionLaws.{ends_by_client, meets_without_head, no_fewer_without_head, rises_without_head, without_head}
-use Rattle.client_session.proofs.SurroundingsLaws.{no_fewer_twice}
-use Rattle.client_session.proofs.TurnLaws.{none_next, rises_since}
+use Rattle.client_session.proofs.TurnLaws.{busy_without_head, none_next, rises_since}
 use Rattle.client_session.proofs.serving.serve_one.Goals as goal
 
 pub returns-in-Ok-Head-clause-turn : goal.returns-in-Ok-Head-clause-turn
@@ -15,8 +14,8 @@ returns-in-Ok-Head-clause-turn g c =
     c.serve_head.ensures.turn
     (standing_of g.B.Desk.state g.K.Clock.answers g.R.Meanings g.C.Meanings c.args.around.now)
     (record {
-      used = rw c.in-Ok-Head.field-0-is at c.in-Ok-Head.ensures.head;
-      on = record { alone = refl; sent = c.read_head.ensures.same.0; steady = c.in-Ok-Head.ensures.steady tt };
+      used = rw (c.in-Ok-Head.field-0-is, c.await_next.ensures.same_bytes.0) at c.in-Ok-Head.ensures.head;
+      on = record { alone = refl; sent = c.read_head.ensures.same.0 ∙ c.await_next.ensures.same_bytes.2; steady = c.in-Ok-Head.ensures.steady tt ∙ c.await_next.ensures.same.1 };
     })
 
 pub returns-in-Ok-End-clause-turn : goal.returns-in-Ok-End-clause-turn
@@ -24,9 +23,10 @@ returns-in-Ok-End-clause-turn g c =
     ends_by_client (visit_of c.args.site.now) c.args.number
     (standing_of g.B.Desk.state g.K.Clock.answers g.R.Meanings g.C.Meanings c.args.around.now)
     (standing g.B.Desk.state g.K.Clock.answers g.R.Meanings g.C.Meanings c.args.around.now.desk.now c.args.around.now.clock.now c.args.around.now.reach.now c.read_head.new.client c.read_head.new.inbox) _
+    (g.met.W.RowSink.gains_nothing _)
     (record {
-      used = rw c.in-Ok-End.field-0-is at c.in-Ok-End.ensures.end;
-      on = record { alone = refl; sent = c.read_head.ensures.same.0; steady = c.in-Ok-End.ensures.steady tt };
+      used = rw (c.in-Ok-End.field-0-is, c.await_next.ensures.same_bytes.0) at c.in-Ok-End.ensures.end;
+      on = record { alone = refl; sent = c.read_head.ensures.same.0 ∙ c.await_next.ensures.same_bytes.2; steady = c.in-Ok-End.ensures.steady tt ∙ c.await_next.ensures.same.1 };
     })
 
 pub returns-in-Err-clause-turn : goal.returns-in-Err-clause-turn
@@ -35,17 +35,17 @@ returns-in-Err-clause-turn g c =
     (standing_of g.B.Desk.state g.K.Clock.answers g.R.Meanings g.C.Meanings c.args.around.now)
     (standing g.B.Desk.state g.K.Clock.answers g.R.Meanings g.C.Meanings c.args.around.now.desk.now c.args.around.now.clock.now c.args.around.now.reach.now c.read_head.new.client c.read_head.new.inbox)
     (standing g.B.Desk.state g.K.Clock.answers g.R.Meanings g.C.Meanings c.args.around.now.desk.now c.args.around.now.clock.now c.args.around.now.reach.now c.stop_without_head.new.client c.read_head.new.inbox)
-    c.in-Err.error _ _ c.stop_without_head.result
+    c.in-Err.error _ c.stop_without_head.result
     (record {
       alone = refl;
-      sent = c.read_head.ensures.same.0;
-      unused = c.in-Err.ensures.err;
-      no_fewer = c.read_head.ensures.no_fewer;
+      sent = c.read_head.ensures.same.0 ∙ c.await_next.ensures.same_bytes.2;
+      unused = rw c.await_next.ensures.same_bytes.0 at c.in-Err.ensures.err;
+      no_fewer = omega (arith, c.read_head.ensures.no_fewer, c.await_next.ensures.same.1);
       refused = c.in-Err.ensures.refused;
       truncated = c.in-Err.ensures.truncated;
-      fault = c.in-Err.ensures.fault;
+      fault = rw c.await_next.ensures.same.1 at c.in-Err.ensures.fault;
       awaited = c.in-Err.ensures.awaited;
-      steady = c.in-Err.ensures.steady;
+      steady = λ calm. c.in-Err.ensures.steady calm ∙ c.await_next.ensures.same.1;
     })
     refl c.stop_without_head.ensures.stops
 
@@ -67,48 +67,61 @@ serve_head-requires-clause-number g c = c.requires.number
 pub returns-in-Ok-Head-clause-told : goal.returns-in-Ok-Head-clause-told
 returns-in-Ok-Head-clause-told g c = record {
   met = c.serve_head.ensures.told.met;
-  fault = rises_since _ _ _ _ (c.in-Ok-Head.ensures.steady tt) c.serve_head.ensures.told.fault;
+  fault = rises_since _ _ _ _ (c.in-Ok-Head.ensures.steady tt ∙ c.await_next.ensures.same.1) c.serve_head.ensures.told.fault;
 }
 
 -- the head was read, and then answered
 pub returns-in-Ok-Head-clause-kept : goal.returns-in-Ok-Head-clause-kept
 returns-in-Ok-Head-clause-kept g c =
     keeps_twice _ _ _ _ _ _ _
-    (keeps_by _ _ _ _ _ _ c.requires.ready (untouched _ _) refl refl c.read_head.ensures.same.1 c.read_head.ensures.no_fewer (refl, refl, refl, refl, refl))
+    (keeps_by _ _ _ _ _ _ c.requires.ready (untouched _ _) refl refl (c.read_head.ensures.same.1 ∙ c.await_next.ensures.same.0)
+    (omega (arith, c.read_head.ensures.no_fewer, c.await_next.ensures.same.1)) (refl, refl, refl, refl, refl))
     c.serve_head.ensures.kept
 
 pub returns-in-Ok-End-clause-told : goal.returns-in-Ok-End-clause-told
-returns-in-Ok-End-clause-told g c = record { met = none_met _; fault = c.in-Ok-End.ensures.steady tt }
+returns-in-Ok-End-clause-told g c = record { met = none_met _; fault = c.in-Ok-End.ensures.steady tt ∙ c.await_next.ensures.same.1 }
 
 pub returns-in-Ok-End-clause-kept : goal.returns-in-Ok-End-clause-kept
 returns-in-Ok-End-clause-kept g c =
-    keeps_by _ _ _ _ _ _ c.requires.ready (untouched _ _) refl refl c.read_head.ensures.same.1 c.read_head.ensures.no_fewer (refl, refl, refl, refl, refl)
+    keeps_by _ _ _ _ _ _ c.requires.ready (untouched _ _) refl refl (c.read_head.ensures.same.1 ∙ c.await_next.ensures.same.0)
+    (omega (arith, c.read_head.ensures.no_fewer, c.await_next.ensures.same.1)) (refl, refl, refl, refl, refl)
 
 pub returns-in-Err-clause-told : goal.returns-in-Err-clause-told
 returns-in-Err-clause-told g c = record {
-  met = meets_without_head c.in-Err.error (client_at g.C.Meanings c.read_head.new.client) (client_at g.C.Meanings c.stop_without_head.new.client) _ _
+  met = meets_without_head c.in-Err.error (client_at g.C.Meanings c.read_head.new.client) (client_at g.C.Meanings c.stop_without_head.new.client) _
       c.stop_without_head.result _ c.stop_without_head.ensures.stops;
   fault = rises_without_head
       (standing_of g.B.Desk.state g.K.Clock.answers g.R.Meanings g.C.Meanings c.args.around.now)
       (standing g.B.Desk.state g.K.Clock.answers g.R.Meanings g.C.Meanings c.args.around.now.desk.now c.args.around.now.clock.now c.args.around.now.reach.now c.read_head.new.client c.read_head.new.inbox)
-      (client_at g.C.Meanings c.stop_without_head.new.client) c.in-Err.error _ _ c.stop_without_head.result
+      (client_at g.C.Meanings c.stop_without_head.new.client) c.in-Err.error _ c.stop_without_head.result
       (record {
         alone = refl;
-        sent = c.read_head.ensures.same.0;
-        unused = c.in-Err.ensures.err;
-        no_fewer = c.read_head.ensures.no_fewer;
+        sent = c.read_head.ensures.same.0 ∙ c.await_next.ensures.same_bytes.2;
+        unused = rw c.await_next.ensures.same_bytes.0 at c.in-Err.ensures.err;
+        no_fewer = omega (arith, c.read_head.ensures.no_fewer, c.await_next.ensures.same.1);
         refused = c.in-Err.ensures.refused;
         truncated = c.in-Err.ensures.truncated;
-        fault = c.in-Err.ensures.fault;
+        fault = rw c.await_next.ensures.same.1 at c.in-Err.ensures.fault;
         awaited = c.in-Err.ensures.awaited;
-        steady = c.in-Err.ensures.steady;
+        steady = λ calm. c.in-Err.ensures.steady calm ∙ c.await_next.ensures.same.1;
       })
       c.stop_without_head.ensures.stops;
 }
 
 pub returns-in-Err-clause-kept : goal.returns-in-Err-clause-kept
 returns-in-Err-clause-kept g c =
-    let more = no_fewer_without_head c.in-Err.error (client_at g.C.Meanings c.read_head.new.client) (client_at g.C.Meanings c.stop_without_head.new.client) _ _
+    let more = no_fewer_without_head c.in-Err.error (client_at g.C.Meanings c.read_head.new.client) (client_at g.C.Meanings c.stop_without_head.new.client) _
     c.stop_without_head.result c.stop_without_head.ensures.stops in
-    keeps_by _ _ _ _ _ _ c.requires.ready (untouched _ _) refl refl (c.stop_without_head.ensures.beside ∙ c.read_head.ensures.same.1)
-    (no_fewer_twice _ _ _ c.read_head.ensures.no_fewer more) (refl, refl, refl, refl, refl)
+    keeps_by _ _ _ _ _ _ c.requires.ready (untouched _ _) refl refl (c.stop_without_head.ensures.beside ∙ c.read_head.ensures.same.1 ∙ c.await_next.ensures.same.0)
+    (omega (arith, more, c.read_head.ensures.no_fewer, c.await_next.ensures.same.1)) (refl, refl, refl, refl, refl)
+
+pub returns-in-Ok-Head-clause-busy : goal.returns-in-Ok-Head-clause-busy
+returns-in-Ok-Head-clause-busy g c = c.serve_head.ensures.busy
+
+pub returns-in-Ok-End-clause-busy : goal.returns-in-Ok-End-clause-busy
+returns-in-Ok-End-clause-busy g c = tt
+
+pub returns-in-Err-clause-busy : goal.returns-in-Err-clause-busy
+returns-in-Err-clause-busy g c =
+    busy_without_head c.in-Err.error (client_at g.C.Meanings c.read_head.new.client) (client_at g.C.Meanings c.stop_without_head.new.client) _
+    c.stop_without_head.result c.stop_without_head.ensures.stops

@@ -1,5 +1,6 @@
 -- The talk was held on the link that was begun, and the reach noted it.
-use Rattle.std.proofs.Common.{refl}
+use Rattle.std.proofs.Common.{refl, ap, ◌∙◌}
+use Rattle.jk_io.specs.declared.reaching.Beside.{Beside}
 use Rattle.ajp_wire.specs.Moments.{link_at}
 use Rattle.exchange.proofs.OneTalkLaws.{was_held}
 use Rattle.exchange.proofs.one_talk.one_talk.Goals as goal
@@ -11,6 +12,6 @@ returns-clause-talk g c =
     (link_at g.R.Meanings c.talk-end.new.line)
     c.talk-end.result (g.R.Meanings.beside c.begin.new.self) (g.R.Meanings.beside c.talk-end.new.line)
     c.in-Ok.ensures.new_link c.begin.ensures.nothing_yet
-    (rw c.pings-plan.ensures at c.talk-end.ensures.talk) (rw c.pings-plan.ensures at c.talk-end.ensures.complete)
-    c.in-Ok.ensures.begun c.talk-end.ensures.beside.0 c.in-Ok.ensures.ok (rw c.keeps.ensures at c.finish.ensures.noted)
-    (c.in-Ok.ensures.steady refl) c.talk-end.ensures.no_fewer.0 c.finish.ensures.same_faults c.talk-end.ensures.no_fewer.1 c.talk-end.ensures.calm
+    (rw (c.pings-plan.ensures, c.pong_limit-plan.ensures) at c.talk-end.ensures.talk.talk) (rw (c.pings-plan.ensures, c.pong_limit-plan.ensures) at c.talk-end.ensures.complete)
+    c.in-Ok.ensures.begun c.talk-end.ensures.beside.0 (c.in-Ok.ensures.ok ∙ ap (λ (b : Beside). b.talks) c.await_next.ensures.same.0) (rw c.keeps.ensures at c.finish.ensures.noted)
+    (c.in-Ok.ensures.steady refl ∙ c.await_next.ensures.same.1) c.talk-end.ensures.talk.line c.finish.ensures.same_faults c.talk-end.ensures.talk.client c.talk-end.ensures.talk.calm

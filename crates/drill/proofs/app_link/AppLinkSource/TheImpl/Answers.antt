@@ -27,6 +27,6 @@ read-tells g c = record {
   shut = λ shut. cc;
   kept_on_error = kept_told c.result _ _ _ refl c.ensures.kept_on_error;
   same = (ap Some c.ensures.same, refl);
-  cause = record { no_fewer = omega arith; failed = λ failed. absurd (c.ensures.wanted failed) };
+  cause = record { no_fewer = omega arith; failed = λ failed. absurd (c.ensures.wanted failed); wanted = λ _. refl };
   steady = λ ok. refl;
 }
