@@ -1,8 +1,8 @@
 //! Files that keep what was read of them.
-ghost use Rattle.std.specs.Prelude.{◌≡◌, ◌<◌, ◌≤◌, [], IfOk, IfSome, IsErrOf, IsSomeAnd, length, OnErr, OnOk, Some};
+ghost use Rattle.std.specs.Prelude.{◌≡◌, ◌<◌, ◌≤◌, [], List, IfOk, IfSome, IsErrOf, IsOk, IsSomeAnd, length, OnErr, OnOk, Some};
 ghost use Rattle.jk_io.specs.Stored.{content_of};
 ghost use Rattle.jk_io.specs.Told.{Rose};
-ghost use Rattle.command_remarks.specs.Seen.{Keeps, KeepsAnswer, is_long, text_given};
+ghost use Rattle.command_remarks.specs.Seen.{HasRoom, Keeps, KeepsAnswer, is_long, text_given};
 ghost use Rattle.jk_io.specs.declared.whole_input.TheConstants.{MAX_INPUT_BYTES};
 
 use crate::read_file::ReadFile;
@@ -38,6 +38,7 @@ fn copied(alloc: Global, answer: &Result<Bytes, FileError>) -> Result<Option<Byt
     requires { IfOk answer.now (λ t. length t ≤ MAX_INPUT_BYTES) }
     ensures short { IfOk result (λ o. IfSome o (λ t. length t ≤ MAX_INPUT_BYTES)) }
     ensures text { IfOk result (λ o. o ≡ text_given answer.now) }
+    ensures wanted { OnErr result (IsOk answer.now) }
 {
     match answer {
         Ok(text) => Ok(Some(Bytes::from_slice(alloc, text.as_slice())?)),
@@ -52,24 +53,50 @@ fn is_too_long(answer: &Result<Bytes, FileError>) -> bool
     matches!(answer, Err(FileError::TooLong))
 }
 
-/// Adds what a read gave.
+/// Takes the room for what the read of a file gives, and a copy of its name.
+fn make_room(alloc: Global, reads: &mut ListOf<ReadFile>, name: &Bytes) -> Result<Bytes, NoMemory>
+    ensures name { IfOk result (λ copy. copy ≡ name.now) }
+    ensures room { OnOk result (HasRoom reads.old reads.new) }
+    ensures err { OnErr result (reads.new ≡ reads.old) }
+{
+    let copy = Bytes::from_slice(alloc, name.as_slice())?;
+    reads.push(ReadFile {
+        name: Bytes::new(alloc),
+        text: None,
+        too_long: false,
+    })?;
+    Ok(copy)
+}
+
+/// Puts what a read gave where the room for it was taken, or gives the room back.
 fn keep(
     alloc: Global,
     reads: &mut ListOf<ReadFile>,
-    name: &Bytes,
+    name: Bytes,
     answer: &Result<Bytes, FileError>,
 ) -> Result<(), NoMemory>
-    requires { IfOk answer.now (λ t. length t ≤ MAX_INPUT_BYTES) }
-    ensures kept { OnOk result (Keeps name.now answer.now reads.old reads.new) }
-    ensures err { OnErr result (reads.new ≡ reads.old) }
+    requires short { IfOk answer.now (λ t. length t ≤ MAX_INPUT_BYTES) }
+    requires room { 0 < length reads.old }
+    ensures kept { (front : List ReadFile) → HasRoom front reads.old → OnOk result (Keeps name answer.now front reads.new) }
+    ensures err { (front : List ReadFile) → HasRoom front reads.old → OnErr result (reads.new ≡ front) }
+
+    // Memory is wanted for a text alone.
+    ensures wanted { OnErr result (IsOk answer.now) }
 {
     let too_long = is_too_long(answer);
-    let text = copied(alloc, answer)?;
-    reads.push(ReadFile {
-        name: Bytes::from_slice(alloc, name.as_slice())?,
-        text,
-        too_long,
-    })?;
+    let Ok(text) = copied(alloc, answer) else {
+        reads.pop();
+        return Err(NoMemory);
+    };
+    let last = reads.len() - 1;
+    reads.set(
+        last,
+        ReadFile {
+            name,
+            text,
+            too_long,
+        },
+    );
     Ok(())
 }
 
@@ -85,13 +112,15 @@ impl<F: Files + Drop> Files for KeptFiles<F> {
             → IfSome (F.files self.old.files) (λ all. IsSomeAnd (content_of all name.now) (λ bytes. MAX_INPUT_BYTES < length bytes)) }
         ensures failed { IsErrOf result FileError.Failed → Rose (F.faults self.old.files) (F.faults self.new.files) }
         ensures no_fewer { F.faults self.old.files ≤ F.faults self.new.files }
+        ensures calm { (IsErrOf result FileError.Failed → ⊥) → F.faults self.new.files ≡ F.faults self.old.files }
         ensures same { F.files self.new.files ≡ F.files self.old.files }
 
         // What a read gives is kept after what those before gave, unless memory was wanted for that.
         ensures kept { KeepsAnswer name.now result self.old.reads self.new.reads }
     {
+        let copy = make_room(alloc, &mut self.reads, name)?;
         let answer = self.files.read_file(alloc, name);
-        match keep(alloc, &mut self.reads, name, &answer) {
+        match keep(alloc, &mut self.reads, copy, &answer) {
             Ok(()) => answer,
             Err(NoMemory) => Err(FileError::NoMemory),
         }

@@ -1,5 +1,6 @@
 //! What is told of a command's words that the parser of the help takes, and that are no command.
 use clap::ArgMatches;
+use jk_cli::usage_of;
 use jk_io::{NoMemory, parse_decimal};
 use std::alloc::Global;
 
@@ -11,7 +12,7 @@ struct Range {
     wanted: &'static str,
 }
 
-static RANGES: [Range; 6] = [
+static RANGES: [Range; 12] = [
     Range {
         name: "SEED",
         least: 0,
@@ -47,6 +48,42 @@ static RANGES: [Range; 6] = [
         least: 1,
         most: 1_000_000,
         wanted: "--idle must be a number from 1 to 1000000",
+    },
+    Range {
+        name: "cut",
+        least: 1,
+        most: 65_536,
+        wanted: "--cut must be a number from 1 to 65536",
+    },
+    Range {
+        name: "head",
+        least: 0,
+        most: 86_400,
+        wanted: "--head must be a number from 0 to 86400",
+    },
+    Range {
+        name: "keep",
+        least: 0,
+        most: 86_400,
+        wanted: "--keep must be a number from 0 to 86400",
+    },
+    Range {
+        name: "rate",
+        least: 0,
+        most: 1_000_000_000,
+        wanted: "--rate must be a number from 0 to 1000000000",
+    },
+    Range {
+        name: "waiting",
+        least: 0,
+        most: 1_000_000,
+        wanted: "--waiting must be a number from 0 to 1000000",
+    },
+    Range {
+        name: "grace",
+        least: 0,
+        most: 86_400,
+        wanted: "--grace must be a number from 0 to 86400",
     },
 ];
 
@@ -112,11 +149,12 @@ fn fault_of<'w>(given: &ArgMatches<'w>) -> Option<(&'static str, &'w str)> {
 
 /// What is wrong with the values of these words.
 pub(crate) fn said_of_values(alloc: Global, matches: &ArgMatches<'_>) -> Result<String, NoMemory> {
-    let Some((_name, given)) = matches.subcommand() else {
+    let Some((name, given)) = matches.subcommand() else {
         return Ok(String::from_str(alloc, "error: no command is given")?);
     };
+    let usage = usage_of(name).unwrap_or("jkd COMMAND WORDS");
     match fault_of(given) {
-        Some((wanted, word)) => Ok(format!(in alloc; "error: {wanted}: {word}")?),
-        None => Ok(String::from_str(alloc, "error: these words are no command")?),
+        Some((wanted, word)) => Ok(format!(in alloc; "error: {wanted}: {word}\n\nUsage: {usage}")?),
+        None => Ok(format!(in alloc; "error: these words are no command\n\nUsage: {usage}")?),
     }
 }

@@ -20,23 +20,23 @@ fn line_of<'w>(alloc: Global, words: &'w [Bytes]) -> Result<Vec<&'w str>, NoMemo
     Ok(line)
 }
 
-/// The first paragraph of a text.
-fn paragraph(text: &str) -> &str {
-    match text.split_once("\n\n") {
+/// A text up to what it says of the help.
+fn without_hint(text: &str) -> &str {
+    match text.split_once("\n\nFor more information") {
         Some((first, _)) => first,
         None => text,
     }
 }
 
-fn first_paragraph(alloc: Global, text: &str) -> Result<String, NoMemory> {
-    Ok(String::from_str(alloc, paragraph(text))?)
+fn told_text(alloc: Global, text: &str) -> Result<String, NoMemory> {
+    Ok(String::from_str(alloc, without_hint(text))?)
 }
 
-/// What the parser of the help says, which names the word at fault.
+/// What the parser of the help says: the word at fault, one like it, and how the command is used.
 fn said_by_parser(alloc: Global, error: &Error) -> Result<String, NoMemory> {
     match error.kind() {
         ErrorKind::OutOfMemory => Err(NoMemory),
-        _ => first_paragraph(alloc, format!(in alloc; "{error}")?.as_str()),
+        _ => told_text(alloc, format!(in alloc; "{error}")?.as_str()),
     }
 }
 

@@ -5,7 +5,7 @@ use Rattle.jk_cli.specs.declared.order.Order.{Order}
 use Rattle.jk_cli.specs.declared.order.Order.TheVariants as order
 use Rattle.jk_cli.specs.declared.name.CommandName.{CommandName}
 use Rattle.jk_cli.specs.declared.name.CommandName.TheVariants as name
-use Rattle.jk_cli.specs.Parts.{Part, Place, Given, Stray}
+use Rattle.jk_cli.specs.Parts.{Part, Place, Given, Verbose, Stray}
 
 -- the command that a word names
 abbrev pub name_of : List ℕ → Option CommandName
@@ -20,20 +20,31 @@ name_of word =
     else (if bytes_eq word (codes "drill") then Some name.Drill
     else (if bytes_eq word (codes "serve") then Some name.Serve
     else (if bytes_eq word (codes "container") then Some name.Container
-    else None)))))))))
+    else (if bytes_eq word (codes "stop") then Some name.Stop
+    else (if bytes_eq word (codes "demo") then Some name.Demo
+    else None)))))))))))
 
 -- the options that a command takes
 abbrev pub takes : CommandName → List ℕ → Bool
 takes name.Serve option =
     bytes_eq option (codes "clients") || bytes_eq option (codes "journal") || bytes_eq option (codes "watch")
     || bytes_eq option (codes "idle") || bytes_eq option (codes "log") || bytes_eq option (codes "format")
+    || bytes_eq option (codes "control") || bytes_eq option (codes "cut") || bytes_eq option (codes "head")
+    || bytes_eq option (codes "keep") || bytes_eq option (codes "rate") || bytes_eq option (codes "waiting")
+    || bytes_eq option (codes "grace")
 takes name.Container option = bytes_eq option (codes "clients")
 takes command option = false
 
--- a part that may stand after a command: a word, or an option that it takes
+-- `-v` stands after `match` alone
+abbrev pub is_match : CommandName → Bool
+is_match name.Match = true
+is_match command = false
+
+-- a part that may stand after a command: a word, an option that it takes, or a flag
 abbrev pub may_stand : CommandName → Part → Bool
 may_stand command (Place word) = true
 may_stand command (Given option value) = takes command option
+may_stand command Verbose = is_match command
 may_stand command Stray = false
 
 -- the command of an order
@@ -41,10 +52,12 @@ abbrev pub command_in : Order → CommandName
 command_in order.Play = name.Play
 command_in (order.Dry request reply site) = name.Dry
 command_in (order.Config workers map) = name.Config
-command_in (order.Match workers map) = name.Match
+command_in (order.Match workers map verbose) = name.Match
 command_in order.Check = name.Check
 command_in (order.Log format request reply workers map) = name.Log
 command_in order.Follow = name.Follow
 command_in (order.Drill seed threads requests text passes) = name.Drill
-command_in (order.Serve workers map address threads clients journal watch idle log format) = name.Serve
+command_in (order.Serve workers map address threads clients journal watch idle log format cut limits control grace) = name.Serve
 command_in (order.Container route address threads clients) = name.Container
+command_in (order.Stop path) = name.Stop
+command_in (order.Demo address) = name.Demo

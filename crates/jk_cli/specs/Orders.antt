@@ -1,13 +1,14 @@
 -- Which words are which order.
-use Rattle.std.specs.Prelude.{ℕ, Bool, true, false, ◌&&◌, ◌||◌, nat_le, List, [], ◌∷◌, length, Option, Some, None, is_some, is_none, codes, option_map, option_and_then, if◌then◌else◌}
+use Rattle.std.specs.Prelude.{ℕ, Bool, true, false, ◌&&◌, ◌||◌, nat_le, List, [], ◌∷◌, length, Option, Some, None, is_some, is_none, codes, option_map, option_and_then, unwrap_or, if◌then◌else◌}
 use Rattle.std.specs.List.{list_all}
 use Rattle.std.specs.Str.{bytes_eq, is_utf8}
 use Rattle.jk_io.specs.Decimals.{decimal_of}
+use Rattle.jk_io.specs.declared.client_limits.ClientLimits.{ClientLimits}
 use Rattle.jk_cli.specs.declared.order.Order.{Order}
-use Rattle.jk_cli.specs.declared.order.Order.TheVariants.{Play, Dry, Config, Match, Check, Log, Follow, Drill, Serve, Container}
+use Rattle.jk_cli.specs.declared.order.Order.TheVariants.{Play, Dry, Config, Match, Check, Log, Follow, Drill, Serve, Container, Stop, Demo}
 use Rattle.jk_cli.specs.declared.name.CommandName.{CommandName}
 use Rattle.jk_cli.specs.declared.name.CommandName.TheVariants as name
-use Rattle.jk_cli.specs.Parts.{Part, parts_of, places_in, option_in}
+use Rattle.jk_cli.specs.Parts.{Part, flag_in, option_in, parts_of, places_in}
 use Rattle.jk_cli.specs.Names.{name_of, may_stand, command_in}
 
 infixl 10 ◌>>=◌
@@ -26,6 +27,10 @@ number_given least most (Some text) = option_map (λ n. Some n) (number_in least
 -- an option whose value is a number of a range
 abbrev pub number_option : List ℕ → (least most : ℕ) → List Part → Option (Option ℕ)
 number_option name least most parts = option_in name parts >>= number_given least most
+
+-- the same, with what it is where it doesn't stand
+abbrev pub number_or : List ℕ → (least most default : ℕ) → List Part → Option ℕ
+number_or name least most default parts = option_map (λ given. unwrap_or given default) (number_option name least most parts)
 
 -- 1 to 64
 abbrev pub threads_of : List ℕ → Option ℕ
@@ -62,6 +67,31 @@ options_given parts =
 abbrev pub serve_options : List Part → Option ServeOptions
 serve_options parts = options_given parts >>= (λ given. if are_together given then Some given else None)
 
+-- What a front lets its clients take: seconds for a head and between two requests, bytes a second, and how many may wait.
+-- 0 is without limit.
+abbrev pub limits_given : List Part → Option ClientLimits
+limits_given parts =
+    number_or (codes "head") 0 86400 20 parts >>= λ head.
+    number_or (codes "keep") 0 86400 60 parts >>= λ keep.
+    number_or (codes "rate") 0 1000000000 500 parts >>= λ rate.
+    number_or (codes "waiting") 0 1000000 10000 parts >>= λ waiting.
+    Some (record { head = head; keep = keep; rate = rate; waiting = waiting })
+
+-- what else `serve` is told: how long a journal gets, its clients' limits, its control socket, the seconds of its end
+pub record FrontOptions : Type 0 where
+  pub cut : Option ℕ
+  pub limits : ClientLimits
+  pub control : Option (List ℕ)
+  pub grace : ℕ
+
+abbrev pub front_options : List Part → Option FrontOptions
+front_options parts =
+    number_option (codes "cut") 1 65536 parts >>= λ cut.
+    limits_given parts >>= λ limits.
+    option_in (codes "control") parts >>= λ control.
+    number_or (codes "grace") 0 86400 30 parts >>= λ grace.
+    Some (record { cut = cut; limits = limits; control = control; grace = grace })
+
 -- The commands with their words, each as it is written.
 
 -- play
@@ -81,10 +111,10 @@ config_of (workers ∷ []) = Some (Config workers None)
 config_of (workers ∷ map ∷ []) = Some (Config workers (Some map))
 config_of places = None
 
--- match WORKERS MAP
-abbrev pub match_of : List (List ℕ) → Option Order
-match_of (workers ∷ map ∷ []) = Some (Match workers map)
-match_of places = None
+-- match WORKERS MAP, match -v WORKERS MAP
+abbrev pub match_of : List Part → List (List ℕ) → Option Order
+match_of parts (workers ∷ map ∷ []) = option_map (λ verbose. Match workers map verbose) (flag_in parts)
+match_of parts places = None
 
 -- check
 abbrev pub check_of : List (List ℕ) → Option Order
@@ -127,7 +157,9 @@ abbrev pub serve_by : List Part → (workers map address threads : List ℕ) →
 serve_by parts workers map address threads =
     threads_of threads >>= λ count.
     serve_options parts >>= λ given.
-    Some (Serve workers map address count given.clients given.journal given.watch given.idle given.log given.format)
+    front_options parts >>= λ front.
+    Some (Serve workers map address count given.clients given.journal given.watch given.idle given.log given.format
+    front.cut front.limits front.control front.grace)
 
 -- serve WORKERS MAP ADDRESS THREADS
 abbrev pub serve_of : List Part → List (List ℕ) → Option Order
@@ -142,17 +174,30 @@ container_of parts (route ∷ address ∷ threads ∷ []) =
     if nat_le (length route) 1024 then Some (Container route address count clients) else None
 container_of parts places = None
 
+-- stop PATH
+abbrev pub stop_of : List (List ℕ) → Option Order
+stop_of (path ∷ []) = Some (Stop path)
+stop_of places = None
+
+-- demo, demo ADDRESS
+abbrev pub demo_of : List (List ℕ) → Option Order
+demo_of [] = Some (Demo (codes "127.0.0.1:8080"))
+demo_of (address ∷ []) = Some (Demo address)
+demo_of places = None
+
 abbrev pub order_by : CommandName → List Part → List (List ℕ) → Option Order
 order_by name.Play parts places = play_of places
 order_by name.Dry parts places = dry_of places
 order_by name.Config parts places = config_of places
-order_by name.Match parts places = match_of places
+order_by name.Match parts places = match_of parts places
 order_by name.Check parts places = check_of places
 order_by name.Log parts places = log_of places
 order_by name.Follow parts places = follow_of places
 order_by name.Drill parts places = drill_of places
 order_by name.Serve parts places = serve_of parts places
 order_by name.Container parts places = container_of parts places
+order_by name.Stop parts places = stop_of places
+order_by name.Demo parts places = demo_of places
 
 -- the parts after a command, where each may stand there
 abbrev pub order_from : CommandName → List Part → Option Order

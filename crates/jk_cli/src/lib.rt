@@ -18,7 +18,7 @@ mod plans;
 mod reading;
 mod values;
 
-pub use help::command;
+pub use help::{command, usage_of};
 pub use name::{CommandName, name_of};
 pub use order::{Order, WordsError};
 pub use reading::{command_of, read_words};

@@ -1,7 +1,7 @@
 //! The names of the commands, and the options that each takes.
 ghost use Rattle.std.specs.Prelude.{◌≡◌};
 ghost use Rattle.std.specs.List.{list_all};
-ghost use Rattle.jk_cli.specs.Names.{name_of, takes, may_stand};
+ghost use Rattle.jk_cli.specs.Names.{is_match, may_stand, name_of, takes};
 ghost use Rattle.jk_cli.specs.Parts.{part_of, parts_of};
 
 use crate::part::{Part, Parts, is};
@@ -20,6 +20,8 @@ pub enum CommandName {
     Drill,
     Serve,
     Container,
+    Stop,
+    Demo,
 }
 
 /// The command that a word names.
@@ -46,6 +48,10 @@ pub fn name_of(word: &[u8]) -> Option<CommandName>
         Some(CommandName::Serve)
     } else if is(word, b"container") {
         Some(CommandName::Container)
+    } else if is(word, b"stop") {
+        Some(CommandName::Stop)
+    } else if is(word, b"demo") {
+        Some(CommandName::Demo)
     } else {
         None
     }
@@ -62,8 +68,24 @@ fn takes(command: CommandName, option: &[u8]) -> bool
                 || is(option, b"idle")
                 || is(option, b"log")
                 || is(option, b"format")
+                || is(option, b"control")
+                || is(option, b"cut")
+                || is(option, b"head")
+                || is(option, b"keep")
+                || is(option, b"rate")
+                || is(option, b"waiting")
+                || is(option, b"grace")
         }
         CommandName::Container => is(option, b"clients"),
+        _ => false,
+    }
+}
+
+fn is_match(command: CommandName) -> bool
+    ensures { result ≡ is_match command }
+{
+    match command {
+        CommandName::Match => true,
         _ => false,
     }
 }
@@ -74,6 +96,7 @@ fn may_stand(command: CommandName, part: Part) -> bool
     match part {
         Part::Place(_) => true,
         Part::Given(option, _) => takes(command, option),
+        Part::Verbose => is_match(command),
         Part::Stray => false,
     }
 }

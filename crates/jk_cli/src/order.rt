@@ -1,5 +1,5 @@
 //! What the words can ask for.
-use jk_io::{Bytes, NoMemory};
+use jk_io::{Bytes, ClientLimits, NoMemory};
 use thiserror::Error;
 
 /// What a command line asks for. Names of files are bytes as they were written.
@@ -23,6 +23,8 @@ pub enum Order {
     Match {
         workers: Bytes,
         map: Bytes,
+        /// Whether the rule that gives it is said too: `-v`.
+        verbose: bool,
     },
     /// `check`: judges the text of a journal.
     Check,
@@ -67,6 +69,14 @@ pub enum Order {
         log: Option<Bytes>,
         /// The format of their lines; given only with `log`.
         format: Option<Bytes>,
+        /// The most entries of a journal that aren't kept yet, 1 to 65,536.
+        cut: Option<u64>,
+        /// What its clients may take.
+        limits: ClientLimits,
+        /// The path of the socket by which it is told to end.
+        control: Option<Bytes>,
+        /// The most seconds for the requests under way once it is told to end.
+        grace: u64,
     },
     /// `container ROUTE ADDRESS THREADS`.
     Container {
@@ -77,6 +87,14 @@ pub enum Order {
         threads: u32,
         /// Each worker thread ends after this many clients.
         clients: Option<u64>,
+    },
+    /// `stop PATH`: tells the front whose control socket this is to end.
+    Stop {
+        path: Bytes,
+    },
+    /// `demo`, or `demo ADDRESS`: a front and two containers to try.
+    Demo {
+        address: Bytes,
     },
 }
 

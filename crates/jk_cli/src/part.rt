@@ -1,7 +1,7 @@
 //! The words after a command's name, part by part.
-ghost use Rattle.std.specs.Prelude.{◌≡◌, [], ◌∷◌, MatchOption, position};
+ghost use Rattle.std.specs.Prelude.{◌≡◌, [], ◌∷◌, MatchOption, codes, if◌then◌else◌, position};
 ghost use Rattle.std.specs.Str.{bytes_eq};
-ghost use Rattle.jk_cli.specs.Parts.{is_dashed, is_end, asks_value, equals_in, alone, given_at, part_of, parts_of};
+ghost use Rattle.jk_cli.specs.Parts.{Stray, Verbose, alone, asks_value, equals_in, given_at, is_dashed, is_end, part_of, parts_of};
 
 use jk_io::Bytes;
 use std::marker::Model;
@@ -13,6 +13,8 @@ pub(crate) enum Part<'a> {
     Place(&'a [u8]),
     /// An option: its name without `--`, and its value.
     Given(&'a [u8], &'a [u8]),
+    /// The flag `-v`.
+    Verbose,
     /// Another word with a leading `-`, or an option without its value.
     Stray,
 }
@@ -72,6 +74,17 @@ fn given<'a>(text: &'a [u8]) -> Part<'a>
     }
 }
 
+// A word with one `-`.
+fn flag<'a>(word: &'a [u8]) -> Part<'a>
+    ensures { part_of result ≡ (if bytes_eq word.now (codes "-v") then Verbose else Stray) }
+{
+    if is(word, b"-v") {
+        Part::Verbose
+    } else {
+        Part::Stray
+    }
+}
+
 fn alone<'a>(word: &'a [u8]) -> Part<'a>
     ensures { part_of result ≡ alone word.now }
 {
@@ -79,7 +92,7 @@ fn alone<'a>(word: &'a [u8]) -> Part<'a>
         return Part::Place(word);
     }
     match word.strip_prefix(b"--") {
-        None => Part::Stray,
+        None => flag(word),
         Some(text) => given(text),
     }
 }

@@ -1,7 +1,7 @@
 //! What stands in the words: those that are read by their place, and the options.
 ghost use Rattle.std.specs.Prelude.{◌≡◌, [], ◌∷◌, MatchOption, option_map};
 ghost use Rattle.std.specs.Option.{option_copied};
-ghost use Rattle.jk_cli.specs.Parts.{places_in, end, option_in, parts_of};
+ghost use Rattle.jk_cli.specs.Parts.{end, flag_in, option_in, parts_of, places_in};
 
 use crate::part::{Part, Parts, is};
 use jk_io::Bytes;
@@ -69,6 +69,23 @@ pub(crate) fn option_in<'a>(words: &'a [Bytes], name: &[u8]) -> Option<Option<&'
                 return None;
             }
             found = Some(value);
+        }
+    }
+    Some(found)
+}
+
+/// Whether the flag `-v` stands there. `None`: it stands twice.
+pub(crate) fn flag_in(words: &[Bytes]) -> Option<bool>
+    ensures { result ≡ flag_in (parts_of words.now) }
+{
+    let mut parts = Parts::of(words);
+    let mut found = false;
+    while let Some(part) = parts.next() {
+        if let Part::Verbose = part {
+            if found {
+                return None;
+            }
+            found = true;
         }
     }
     Some(found)

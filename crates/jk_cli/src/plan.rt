@@ -7,7 +7,7 @@ ghost use Rattle.jk_cli.specs.Plans.{log_order, serve_order, container_order, or
 
 use crate::name::CommandName;
 use crate::order::Order;
-use jk_io::{Bytes, NoMemory};
+use jk_io::{Bytes, ClientLimits, NoMemory};
 use std::alloc::Global;
 
 /// The options of `serve`.
@@ -19,6 +19,15 @@ pub(crate) struct Options<'a> {
     pub idle: Option<u32>,
     pub log: Option<&'a [u8]>,
     pub format: Option<&'a [u8]>,
+}
+
+/// What else `serve` is told.
+#[derive(Clone, Copy)]
+pub(crate) struct Front<'a> {
+    pub cut: Option<u64>,
+    pub limits: ClientLimits,
+    pub control: Option<&'a [u8]>,
+    pub grace: u64,
 }
 
 /// An order `log`.
@@ -39,6 +48,7 @@ pub(crate) struct ServePlan<'a> {
     pub address: &'a [u8],
     pub threads: u32,
     pub given: Options<'a>,
+    pub front: Front<'a>,
 }
 
 /// An order `container`.
@@ -66,6 +76,7 @@ pub(crate) enum Plan<'a> {
     Match {
         workers: &'a [u8],
         map: &'a [u8],
+        verbose: bool,
     },
     Check,
     Log(LogPlan<'a>),
@@ -79,6 +90,12 @@ pub(crate) enum Plan<'a> {
     },
     Serve(ServePlan<'a>),
     Container(ContainerPlan<'a>),
+    Stop {
+        path: &'a [u8],
+    },
+    Demo {
+        address: &'a [u8],
+    },
 }
 
 fn own(alloc: Global, text: Option<&[u8]>) -> Result<Option<Bytes>, NoMemory>
@@ -136,11 +153,15 @@ fn config_order(alloc: Global, workers: &[u8], map: Option<&[u8]>) -> Result<Ord
     })
 }
 
-fn match_order(alloc: Global, workers: &[u8], map: &[u8]) -> Result<Order, NoMemory>
-    ensures { IfOk result (λ order. order ≡ orders.Match workers.now map.now) }
+fn match_order(alloc: Global, workers: &[u8], map: &[u8], verbose: bool) -> Result<Order, NoMemory>
+    ensures { IfOk result (λ order. order ≡ orders.Match workers.now map.now verbose) }
 {
     let (workers, map) = own_pair(alloc, workers, map)?;
-    Ok(Order::Match { workers, map })
+    Ok(Order::Match {
+        workers,
+        map,
+        verbose,
+    })
 }
 
 impl LogPlan<'_> {
@@ -186,7 +207,9 @@ impl ServePlan<'_> {
         ensures { IfOk result (λ order. order ≡ serve_order self.entry) }
     {
         let given = self.given;
+        let front = self.front;
         let texts = own_given(alloc, given)?;
+        let control = own(alloc, front.control)?;
         let (workers, map) = own_pair(alloc, self.workers, self.map)?;
         Ok(Order::Serve {
             workers,
@@ -199,6 +222,10 @@ impl ServePlan<'_> {
             idle: given.idle,
             log: texts.log,
             format: texts.format,
+            cut: front.cut,
+            limits: front.limits,
+            control,
+            grace: front.grace,
         })
     }
 }
@@ -232,6 +259,8 @@ impl Plan<'_> {
             Plan::Drill { .. } => CommandName::Drill,
             Plan::Serve(_) => CommandName::Serve,
             Plan::Container(_) => CommandName::Container,
+            Plan::Stop { .. } => CommandName::Stop,
+            Plan::Demo { .. } => CommandName::Demo,
         }
     }
 
@@ -247,7 +276,11 @@ impl Plan<'_> {
                 site,
             } => dry_order(alloc, request, reply, site),
             Plan::Config { workers, map } => config_order(alloc, workers, map),
-            Plan::Match { workers, map } => match_order(alloc, workers, map),
+            Plan::Match {
+                workers,
+                map,
+                verbose,
+            } => match_order(alloc, workers, map, verbose),
             Plan::Check => Ok(Order::Check),
             Plan::Log(plan) => plan.order(alloc),
             Plan::Follow => Ok(Order::Follow),
@@ -266,6 +299,12 @@ impl Plan<'_> {
             }),
             Plan::Serve(plan) => plan.order(alloc),
             Plan::Container(plan) => plan.order(alloc),
+            Plan::Stop { path } => Ok(Order::Stop {
+                path: Bytes::from_slice(alloc, path)?,
+            }),
+            Plan::Demo { address } => Ok(Order::Demo {
+                address: Bytes::from_slice(alloc, address)?,
+            }),
         }
     }
 }

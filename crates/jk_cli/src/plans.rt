@@ -8,6 +8,8 @@ ghost use Rattle.jk_cli.specs.Orders.{
   dry_of,
   config_of,
   match_of,
+  stop_of,
+  demo_of,
   check_of,
   log_of,
   follow_of,
@@ -25,9 +27,9 @@ ghost use Rattle.jk_cli.specs.Plans.{order_in};
 
 use crate::name::{CommandName, all_may_stand, name_of};
 use crate::part::is;
-use crate::places::Places;
+use crate::places::{Places, flag_in};
 use crate::plan::{ContainerPlan, LogPlan, Plan, ServePlan};
-use crate::values::{clients_of, number_in, serve_options, threads_of};
+use crate::values::{clients_of, front_options, number_in, serve_options, threads_of};
 use jk_io::{Bytes, parse_decimal};
 use std::str;
 
@@ -76,13 +78,18 @@ fn config_of<'a>(places: &mut Places<'a>) -> Option<Plan<'a>>
     Some(Plan::Config { workers, map })
 }
 
-fn match_of<'a>(places: &mut Places<'a>) -> Option<Plan<'a>>
-    ensures { option_map order_in result ≡ match_of places.old }
+fn match_of<'a>(words: &[Bytes], places: &mut Places<'a>) -> Option<Plan<'a>>
+    ensures { option_map order_in result ≡ match_of (parts_of words.now) places.old }
 {
     let workers = places.next()?;
     let map = places.next()?;
     places.end()?;
-    Some(Plan::Match { workers, map })
+    let verbose = flag_in(words)?;
+    Some(Plan::Match {
+        workers,
+        map,
+        verbose,
+    })
 }
 
 fn check_of<'a>(places: &mut Places<'a>) -> Option<Plan<'a>>
@@ -166,12 +173,14 @@ fn serve_by<'a>(
 {
     let threads = threads_of(threads)?;
     let given = serve_options(words)?;
+    let front = front_options(words)?;
     Some(Plan::Serve(ServePlan {
         workers,
         map,
         address,
         threads,
         given,
+        front,
     }))
 }
 
@@ -206,6 +215,26 @@ fn container_of<'a>(words: &'a [Bytes], places: &mut Places<'a>) -> Option<Plan<
     }))
 }
 
+fn stop_of<'a>(places: &mut Places<'a>) -> Option<Plan<'a>>
+    ensures { option_map order_in result ≡ stop_of places.old }
+{
+    let path = places.next()?;
+    places.end()?;
+    Some(Plan::Stop { path })
+}
+
+fn demo_of<'a>(places: &mut Places<'a>) -> Option<Plan<'a>>
+    ensures { option_map order_in result ≡ demo_of places.old }
+{
+    let Some(address) = places.next() else {
+        return Some(Plan::Demo {
+            address: b"127.0.0.1:8080",
+        });
+    };
+    places.end()?;
+    Some(Plan::Demo { address })
+}
+
 fn plan_by<'a>(
     command: CommandName,
     words: &'a [Bytes],
@@ -217,13 +246,15 @@ fn plan_by<'a>(
         CommandName::Play => play_of(places),
         CommandName::Dry => dry_of(places),
         CommandName::Config => config_of(places),
-        CommandName::Match => match_of(places),
+        CommandName::Match => match_of(words, places),
         CommandName::Check => check_of(places),
         CommandName::Log => log_of(places),
         CommandName::Follow => follow_of(places),
         CommandName::Drill => drill_of(places),
         CommandName::Serve => serve_of(words, places),
         CommandName::Container => container_of(words, places),
+        CommandName::Stop => stop_of(places),
+        CommandName::Demo => demo_of(places),
     }
 }
 

@@ -2,18 +2,30 @@
 ghost use Rattle.std.specs.Prelude.{◌≡◌, ◌≤◌, IfSome, option_map, codes};
 ghost use Rattle.std.specs.Option.{option_copied};
 ghost use Rattle.jk_cli.specs.Parts.{parts_of};
-ghost use Rattle.jk_cli.specs.Orders.{number_in, number_given, number_option, threads_of, clients_of, options_given, are_together, serve_options};
-ghost use Rattle.jk_cli.specs.Plans.{options_in};
+ghost use Rattle.jk_cli.specs.Orders.{are_together, clients_of, front_options, limits_given, number_given, number_in, number_option, number_or, options_given, serve_options, threads_of};
+ghost use Rattle.jk_cli.specs.Plans.{front_in, options_in};
 
 use crate::places::option_in;
-use crate::plan::Options;
-use jk_io::{Bytes, parse_decimal};
+use crate::plan::{Front, Options};
+use jk_io::{Bytes, ClientLimits, parse_decimal};
 
 /// The most threads of a program.
 const MOST_THREADS: u64 = 64;
 
 /// The most seconds from one look through the idle links to the next: a day.
 const MOST_WATCH_SECONDS: u64 = 86_400;
+
+/// The most seconds of a client's limit, and of an end: a day.
+const MOST_SECONDS: u64 = 86_400;
+
+/// The most bytes a second that clients can be asked for.
+const MOST_RATE: u64 = 1_000_000_000;
+
+/// The most clients that a front can be told to let wait.
+const MOST_WAITING: u64 = 1_000_000;
+
+/// The most entries of a journal that aren't kept yet.
+const MOST_ENTRIES: u64 = 65_536;
 
 /// The most looks before an idle link is closed.
 const MOST_IDLE_ROUNDS: u64 = 1_000_000;
@@ -108,4 +120,44 @@ pub(crate) fn serve_options<'a>(words: &'a [Bytes]) -> Option<Options<'a>>
     } else {
         None
     }
+}
+
+/// An option whose value is a number of a range, or what it is where it doesn't stand.
+fn number_or(words: &[Bytes], name: &[u8], least: u64, most: u64, default: u64) -> Option<u64>
+    ensures { result ≡ number_or name.now least most default (parts_of words.now) }
+{
+    let given = number_option(words, name, least, most)?;
+    Some(given.unwrap_or(default))
+}
+
+/// What a front lets its clients take.
+fn limits_given(words: &[Bytes]) -> Option<ClientLimits>
+    ensures { result ≡ limits_given (parts_of words.now) }
+{
+    let head = number_or(words, b"head", 0, MOST_SECONDS, 20)?;
+    let keep = number_or(words, b"keep", 0, MOST_SECONDS, 60)?;
+    let rate = number_or(words, b"rate", 0, MOST_RATE, 500)?;
+    let waiting = number_or(words, b"waiting", 0, MOST_WAITING, 10_000)?;
+    Some(ClientLimits {
+        head,
+        keep,
+        rate,
+        waiting,
+    })
+}
+
+/// What else `serve` is told.
+pub(crate) fn front_options<'a>(words: &'a [Bytes]) -> Option<Front<'a>>
+    ensures { option_map front_in result ≡ front_options (parts_of words.now) }
+{
+    let cut = number_option(words, b"cut", 1, MOST_ENTRIES)?;
+    let limits = limits_given(words)?;
+    let control = option_in(words, b"control")?;
+    let grace = number_or(words, b"grace", 0, MOST_SECONDS, 30)?;
+    Some(Front {
+        cut,
+        limits,
+        control,
+        grace,
+    })
 }
