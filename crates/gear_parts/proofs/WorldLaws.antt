@@ -130,22 +130,29 @@ ok_then (Ok x) P Q is then = then x is
 ok_then (Err e) P Q is then = is
 
 -- what succeeded has no cause
-pub no_cause : {T : Type 0} (before now : ℕ) (x : T) → before ≤ now → HasCause before now (Ok x)
-no_cause before now x no_fewer = record { no_fewer = no_fewer; failed = λ failed. search rules }
+pub no_cause : {T : Type 0} (before now : ℕ) (x : T) → now ≡ before → HasCause before now (Ok x)
+no_cause before now x same = record { no_fewer = omega (arith, same); failed = λ no. absurd cc; wanted = λ no. absurd cc }
 
 -- what failed has the same cause while no more faults came
 pub cause_again : {T U : Type 0} (before now later : ℕ) (e : IoError) → HasCause {T = T} before now (Err e) → later ≡ now
     → HasCause {T = U} before later (Err e)
-cause_again before now later io.Failed cause same = record { no_fewer = rw same cause.no_fewer; failed = λ failed. rw same (cause.failed refl) }
-cause_again before now later io.NoMemory cause same = record { no_fewer = rw same cause.no_fewer; failed = λ failed. search rules }
+cause_again before now later io.Failed cause same =
+    record { no_fewer = rw same cause.no_fewer; failed = λ _. rw same (cause.failed refl); wanted = λ no. absurd cc }
+cause_again before now later io.NoMemory cause same =
+    record { no_fewer = rw same cause.no_fewer; failed = λ no. absurd cc; wanted = λ _. same ∙ cause.wanted refl }
 
--- what failed in a part of a call has the same cause in the whole
-pub cause_on : {T U : Type 0} (first before now : ℕ) (e : IoError) → first ≤ before → HasCause {T = T} before now (Err e) → HasCause {T = U} first now (Err e)
-cause_on first before now io.Failed earlier cause = record {
-  no_fewer = omega (arith, cause.no_fewer);
-  failed = λ failed. Rose-within first before now now earlier (cause.failed refl) (omega arith);
+-- what failed in a part of a call, before which there was no fault, has the same cause in the whole
+pub cause_on : {T U : Type 0} (first before now : ℕ) (e : IoError) → before ≡ first → HasCause {T = T} before now (Err e) → HasCause {T = U} first now (Err e)
+cause_on first before now io.Failed none cause = record {
+  no_fewer = omega (arith, cause.no_fewer, none);
+  failed = λ _. rw (sym none) (cause.failed refl);
+  wanted = λ no. absurd cc;
 }
-cause_on first before now io.NoMemory earlier cause = record { no_fewer = omega (arith, cause.no_fewer); failed = λ failed. search rules }
+cause_on first before now io.NoMemory none cause = record {
+  no_fewer = omega (arith, cause.no_fewer, none);
+  failed = λ no. absurd cc;
+  wanted = λ _. cause.wanted refl ∙ none;
+}
 
 -- no memory for the gears of some workers
 pub none_taken : {G : Type 0} (threads : ℕ) (s : WorldSide G) → (threads ≡ 0 → ⊥) → RefusesGear threads s s

@@ -2,6 +2,7 @@ pub mod Containers
 pub mod Cuts
 pub mod GearParts
 pub mod Gears
+pub mod Logs
 pub mod Memories
 pub mod Putting
 pub mod Starts

@@ -1,6 +1,7 @@
 -- What the steps of taking gears and of keeping segments do.
 use Rattle.std.specs.Prelude.{◌≡◌, ℕ, List, [], ◌∷◌, Option}
 use Rattle.std.specs.List.{All}
+use Rattle.std.specs.Option.{option_copied}
 use Rattle.jk_io.specs.Told.{appended}
 use Rattle.jk_model.specs.Legal.{IsLegal}
 use Rattle.jk_model.specs.declared.segment.Segment.{Segment}
@@ -9,9 +10,9 @@ use Rattle.conn_pool.specs.declared.tape.Tape.{Ghosts as TapeGhosts}
 use Rattle.jk_io.specs.declared.traits.surroundings.Clock.{Ghosts as ClockGhosts}
 use Rattle.jk_io.specs.declared.traits.surroundings.Door.{Ghosts as DoorGhosts}
 use Rattle.site_config.specs.declared.config.Config.{Config}
-use Rattle.gear_parts.specs.Wants.{AreSuited, GearWants}
-use Rattle.gear_parts.specs.Worlds.{gear_tells, GearTells, HandsAndTakes, IsMade, Takes, wants_of, world_side, WorldSide}
-use Rattle.gear_parts.specs.declared.gears.GearOrder.{GearOrder}
+use Rattle.gear_parts.specs.Wants.{AreSuited, GearWants, wants_of}
+use Rattle.gear_parts.specs.Worlds.{gear_tells, GearTells, HandsAndTakes, IsMade, Takes, world_side, WorldSide}
+use Rattle.gear_parts.specs.declared.order.GearOrder.{GearOrder}
 use Rattle.gear_parts.specs.declared.world.World.{Ghosts as WorldGhosts}
 use Rattle.gear_parts.specs.declared.world.Gear.{Gear}
 
@@ -23,14 +24,14 @@ pub record AreTaken {D G T K S O C : Type 0} (tells : GearTells D G T K S O C) (
   pub suited : AreSuited (λ number. tells.suits number wanted cfg) 0 gears
 
 -- What `Takes` says of the gear of worker `number`, by what the types of the world and its parts tell.
-abbrev pub TakesGear : {W D G T K S O C X E Y Z : Type 0} → WorldGhosts W D G T K S O C X E Y Z → DoorGhosts D C X → TapeGhosts T → ClockGhosts K → ℕ → GearOrder → Option Config → (before after : W) → (gears more : List (Gear D G T K S O)) → Type 0
-TakesGear of_world of_door of_tape of_clock number asked cfg before after gears more =
-    Takes (gear_tells of_world of_door of_tape of_clock) number (wants_of asked) cfg (world_side of_world before) (world_side of_world after) gears more
+abbrev pub TakesGear : {W D G T K S O C X E Y Z : Type 0} → WorldGhosts W D G T K S O C X E Y Z → DoorGhosts D C X → TapeGhosts T → ClockGhosts K → ℕ → GearOrder → (before after : W) → (gears more : List (Gear D G T K S O)) → Type 0
+TakesGear of_world of_door of_tape of_clock number asked before after gears more =
+    Takes (gear_tells of_world of_door of_tape of_clock) number (wants_of asked) (option_copied asked.cfg) (world_side of_world before) (world_side of_world after) gears more
 
 -- What `AreTaken` says of the gears, by what the types tell.
-abbrev pub TakesGears : {W D G T K S O C X E Y Z : Type 0} → WorldGhosts W D G T K S O C X E Y Z → DoorGhosts D C X → TapeGhosts T → ClockGhosts K → GearOrder → Option Config → (before after : W) → List (Gear D G T K S O) → Type 0
-TakesGears of_world of_door of_tape of_clock asked cfg before after gears =
-    AreTaken (gear_tells of_world of_door of_tape of_clock) (wants_of asked) cfg (world_side of_world before) (world_side of_world after) gears
+abbrev pub TakesGears : {W D G T K S O C X E Y Z : Type 0} → WorldGhosts W D G T K S O C X E Y Z → DoorGhosts D C X → TapeGhosts T → ClockGhosts K → GearOrder → (before after : W) → List (Gear D G T K S O) → Type 0
+TakesGears of_world of_door of_tape of_clock asked before after gears =
+    AreTaken (gear_tells of_world of_door of_tape of_clock) (wants_of asked) (option_copied asked.cfg) (world_side of_world before) (world_side of_world after) gears
 
 -- The last segment of a Book was added to a shelf, as that of balancer lb.
 pub record AddsCut {S : Type 0} (shelved : S → Option (List (ℕ × Segment))) (lb : ℕ) (book : Journal) (old new : S) : Type 0 where

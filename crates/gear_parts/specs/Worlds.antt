@@ -1,18 +1,16 @@
 -- What a world tells at a moment, and what a command takes of it and gives back.
-use Rattle.std.specs.Prelude.{◌≡◌, ℕ, ◌+◌, ◌<◌, ◌≤◌, List, [], ◌∷◌, ◌++◌, length, Option, IfSome}
+use Rattle.std.specs.Prelude.{◌≡◌, ℕ, Bool, ◌+◌, ◌<◌, ◌≤◌, List, [], ◌∷◌, ◌++◌, length, Option, IfSome}
 use Rattle.door_clients.specs.Doors.{side}
 use Rattle.jk_io.specs.Told.{appended, IsEmpty}
 use Rattle.jk_io.specs.declared.traits.streams.Meanings.{Ghosts}
 use Rattle.jk_io.specs.declared.traits.surroundings.Clock.{Ghosts as ClockGhosts}
 use Rattle.jk_io.specs.declared.traits.surroundings.Door.{Ghosts as DoorGhosts}
-use Rattle.std.specs.Option.{option_copied}
 use Rattle.site_config.specs.declared.config.Config.{Config}
 use Rattle.jk_model.specs.declared.segment.Segment.{Segment}
 use Rattle.conn_pool.specs.declared.tape.Tape.{Ghosts as TapeGhosts}
 use Rattle.locked_balancer.specs.declared.shelf.Shelf.{Ghosts as ShelfGhosts}
 use Rattle.gear_parts.specs.Gears.{gear_side, GearSide, KeepsLog, KeepsRest}
-use Rattle.gear_parts.specs.Wants.{GearWants, wants}
-use Rattle.gear_parts.specs.declared.gears.GearOrder.{GearOrder}
+use Rattle.gear_parts.specs.Wants.{GearWants}
 use Rattle.gear_parts.specs.declared.world.Gear.{Gear}
 use Rattle.gear_parts.specs.declared.world.World.{Ghosts as WorldGhosts}
 
@@ -36,26 +34,28 @@ world_side of_world world = record {
 abbrev pub gear_told : {D G T K S O C X : Type 0} → DoorGhosts D C X → TapeGhosts T → ClockGhosts K → Gear D G T K S O → GearSide C S
 gear_told of_door of_tape of_clock = gear_side (side of_door.coming of_door.left of_door.faults) of_tape.talks of_clock.answers
 
--- What a world and its parts tell: the world at a moment, a gear, a client's link, and a shelf with its faults; and whether a
--- gear has the log that it had before, or all but its door, and whether it is what a worker wants.
+-- What a world and its parts tell: the world at a moment, a gear, a client's link, and a shelf with its faults; whether a read
+-- of a client may wait; and whether a gear has the log that it had before, or all but its door, and whether it is what a worker wants.
 pub record Tells (W G C S X : Type 0) : Type 1 where
   pub world : W → WorldSide G
   pub gear : G → GearSide C S
   pub link : Ghosts C X
   pub shelved : S → Option (List (ℕ × Segment))
   pub shelf_faults : S → ℕ
+  pub may_wait : Bool
   pub keeps_log : G → G → Type 0
   pub keeps_rest : G → G → Type 0
   pub suits : ℕ → GearWants → Option Config → G → Type 0
 
--- what they tell, by their types: `tells W.World W.D.Door W.T.Tape W.K.Clock W.D.L.Meanings W.S.Shelf`
-abbrev pub tells : {W D G T K S O C X E Y Z : Type 0} → WorldGhosts W D G T K S O C X E Y Z → DoorGhosts D C X → TapeGhosts T → ClockGhosts K → Ghosts C X → ShelfGhosts S → Tells W (Gear D G T K S O) C S X
-tells of_world of_door of_tape of_clock of_link of_shelf = record {
+-- what they tell, by their types: `tells W.World W.D.Door W.T.Tape W.K.Clock W.D.L.Meanings W.S.Shelf W.D.L.may_wait`
+abbrev pub tells : {W D G T K S O C X E Y Z : Type 0} → WorldGhosts W D G T K S O C X E Y Z → DoorGhosts D C X → TapeGhosts T → ClockGhosts K → Ghosts C X → ShelfGhosts S → Bool → Tells W (Gear D G T K S O) C S X
+tells of_world of_door of_tape of_clock of_link of_shelf may_wait = record {
   world = world_side of_world;
   gear = gear_told of_door of_tape of_clock;
   link = of_link;
   shelved = of_shelf.shelved;
   shelf_faults = of_shelf.faults;
+  may_wait = may_wait;
   keeps_log = λ before after. KeepsLog before after;
   keeps_rest = λ before after. KeepsRest before after;
   suits = of_world.suits;
@@ -80,10 +80,6 @@ pub record RefusesGear {G : Type 0} (threads : ℕ) (before after : WorldSide G)
   pub gears : List G
   pub passed : HandsAndTakes before after gears gears
   pub fewer : length gears < threads
-
--- what gears are ordered for
-abbrev pub wants_of : GearOrder → GearWants
-wants_of asked = wants asked.address.now asked.clients (option_copied asked.journal)
 
 -- What a world tells of its gears: a gear at a moment, whether its tape is idle, and whether it is what a worker wants.
 pub record GearTells (D G T K S O C : Type 0) : Type 1 where

@@ -1,15 +1,15 @@
 //! Gears taken of a world, one for each worker, and given back.
-ghost use Rattle.std.specs.Prelude.{◌≡◌, ◌+◌, ◌<◌, ◌≤◌, [], length, vec_capacity, vec_len, IfOk, IsSome, OnErr, OnOk};
+ghost use Rattle.std.specs.Prelude.{◌≡◌, ◌+◌, ◌<◌, ◌≤◌, [], length, vec_capacity, vec_len, IfOk, IsOk, IsSome, OnErr, OnOk};
 ghost use Rattle.std.specs.List.{All};
 ghost use Rattle.std.specs.Option.{option_copied};
 ghost use Rattle.jk_io.specs.Told.{HasCause, appended};
 ghost use Rattle.gear_parts.specs.Steps.{TakesGear, TakesGears};
-ghost use Rattle.gear_parts.specs.Wants.{AreSuited};
-ghost use Rattle.gear_parts.specs.Worlds.{gear_told, HandsAndTakes, HandsNone, IsMade, RefusesGear, wants_of, world_side};
+ghost use Rattle.gear_parts.specs.Wants.{AreSuited, wants_of};
+ghost use Rattle.gear_parts.specs.Worlds.{gear_told, HandsAndTakes, HandsNone, IsMade, RefusesGear, world_side};
 
+use crate::order::GearOrder;
 use crate::world::{Gear, World};
-use jk_io::{Bytes, IoError};
-use site_config::Config;
+use jk_io::IoError;
 use std::alloc::Global;
 use std::vec::IntoIter;
 
@@ -23,63 +23,25 @@ pub type GearOf<W> = Gear<
     <W as World>::O,
 >;
 
-/// What gears are ordered for.
-#[derive(Clone, Copy)]
-pub struct GearOrder<'a> {
-    /// Where clients are waited for, HOST:PORT.
-    pub address: &'a Bytes,
-    /// How many workers there are, each with a gear.
-    pub threads: u32,
-    /// After how many clients each worker ends; none: it doesn't.
-    pub clients: Option<u64>,
-    /// The directory into which cut journals are written, if into any.
-    pub journal: Option<&'a Bytes>,
-}
-
-impl<'a> GearOrder<'a> {
-    pub fn new(
-        address: &'a Bytes,
-        threads: u32,
-        clients: Option<u64>,
-        journal: Option<&'a Bytes>,
-    ) -> GearOrder<'a>
-        ensures { (result.threads ≡ threads) × (result.clients ≡ clients) × (result.journal ≡ journal.entry) × (result.address.now ≡ address.now) }
-    {
-        GearOrder {
-            address,
-            threads,
-            clients,
-            journal,
-        }
-    }
-}
-
 /// Takes the gear of worker `number`, and adds it at the end.
 fn take_gear<W: World>(
     alloc: Global,
     world: &mut W,
     number: u32,
-    asked: GearOrder<'_>,
-    cfg: Option<&Config>,
+    asked: &GearOrder<'_>,
     gears: &mut Vec<GearOf<W>>,
 ) -> Result<(), IoError>
-    requires named { IsSome asked.journal → IsSome cfg }
+    requires named { IsSome asked.now.journal → IsSome asked.now.cfg }
     requires room { vec_len gears.old < vec_capacity gears.old }
-    ensures ok { OnOk result (TakesGear W.World W.D.Door W.T.Tape W.K.Clock number asked.entry (option_copied cfg.entry)
+    ensures ok { OnOk result (TakesGear W.World W.D.Door W.T.Tape W.K.Clock number asked.now
         world.old world.new gears.old.items gears.new.items) }
     ensures room { OnOk result ((vec_len gears.new ≡ vec_len gears.old + 1) × (vec_capacity gears.new ≡ vec_capacity gears.old)) }
     ensures err { OnErr result (let at = world_side W.World in HandsNone (at world.old) (at world.new)) }
     ensures same { OnErr result (gears.new.items ≡ gears.old.items) }
     ensures cause { HasCause (W.faults world.old) (W.faults world.new) result }
+    ensures steady { IsOk result → W.faults world.new ≡ W.faults world.old }
 {
-    let gear = world.gear(
-        alloc,
-        number,
-        asked.address,
-        asked.clients,
-        asked.journal,
-        cfg,
-    )?;
+    let gear = world.gear(alloc, number, asked)?;
     gears.push_reserved(gear);
     Ok(())
 }
@@ -88,20 +50,21 @@ fn take_gear<W: World>(
 fn fill_gears<W: World>(
     alloc: Global,
     world: &mut W,
-    asked: GearOrder<'_>,
-    cfg: Option<&Config>,
+    threads: u32,
+    asked: &GearOrder<'_>,
     gears: &mut Vec<GearOf<W>>,
 ) -> Result<(), IoError>
-    requires named { IsSome asked.journal → IsSome cfg }
+    requires named { IsSome asked.now.journal → IsSome asked.now.cfg }
     requires none { vec_len gears.old ≡ 0 }
-    requires room { asked.threads ≤ vec_capacity gears.old }
-    ensures taken { TakesGears W.World W.D.Door W.T.Tape W.K.Clock asked.entry (option_copied cfg.entry) world.old world.new gears.new.items }
-    ensures count { OnOk result (vec_len gears.new ≡ asked.entry.threads) }
-    ensures fewer { OnErr result (vec_len gears.new < asked.entry.threads) }
+    requires room { threads ≤ vec_capacity gears.old }
+    ensures taken { TakesGears W.World W.D.Door W.T.Tape W.K.Clock asked.now world.old world.new gears.new.items }
+    ensures count { OnOk result (vec_len gears.new ≡ threads) }
+    ensures fewer { OnErr result (vec_len gears.new < threads) }
     ensures cause { HasCause (W.faults world.old) (W.faults world.new) result }
+    ensures steady { IsOk result → W.faults world.new ≡ W.faults world.old }
 {
-    'gears: for number in 0..asked.threads {
-        take_gear(alloc, world, number, asked, cfg, gears)?;
+    'gears: for number in 0..threads {
+        take_gear(alloc, world, number, asked, gears)?;
     }
     Ok(())
 }
@@ -110,43 +73,45 @@ fn fill_gears<W: World>(
 pub fn take_gears<W: World>(
     alloc: Global,
     world: &mut W,
-    asked: GearOrder<'_>,
-    cfg: Option<&Config>,
+    threads: u32,
+    asked: &GearOrder<'_>,
 ) -> Result<Vec<GearOf<W>>, IoError>
-    requires named { IsSome asked.journal → IsSome cfg }
+    requires named { IsSome asked.now.journal → IsSome asked.now.cfg }
     ensures taken { IfOk result (λ gears. let at = world_side W.World in
         HandsAndTakes (at world.old) (at world.new) gears.items []) }
-    ensures count { IfOk result (λ gears. vec_len gears ≡ asked.entry.threads) }
+    ensures count { IfOk result (λ gears. vec_len gears ≡ threads) }
     ensures made { IfOk result (λ gears. let at = gear_told W.D.Door W.T.Tape W.K.Clock in
-        All (λ g. IsMade asked.entry.clients (at g)) gears.items) }
+        All (λ g. IsMade asked.now.clients (at g)) gears.items) }
     ensures idle { IfOk result (λ gears. All (λ g. W.T.is_idle g.tape) gears.items) }
-    ensures suited { IfOk result (λ gears. AreSuited (λ number. W.suits number (wants_of asked.entry) (option_copied cfg.entry)) 0 gears.items) }
-    ensures refused { OnErr result (let at = world_side W.World in RefusesGear asked.entry.threads (at world.old) (at world.new)) }
+    ensures suited { IfOk result (λ gears. AreSuited (λ number. W.suits number (wants_of asked.now) (option_copied asked.now.cfg)) 0 gears.items) }
+    ensures refused { OnErr result (let at = world_side W.World in RefusesGear threads (at world.old) (at world.new)) }
     ensures cause { HasCause (W.faults world.old) (W.faults world.new) result }
+    ensures steady { IsOk result → W.faults world.new ≡ W.faults world.old }
 {
-    let gears = Vec::with_capacity(alloc, asked.threads as usize)?;
-    gears_in(alloc, world, asked, cfg, gears)
+    let gears = Vec::with_capacity(alloc, threads as usize)?;
+    gears_in(alloc, world, threads, asked, gears)
 }
 
 /// As `take_gears`, in the memory of `gears`.
 fn gears_in<W: World>(
     alloc: Global,
     world: &mut W,
-    asked: GearOrder<'_>,
-    cfg: Option<&Config>,
+    threads: u32,
+    asked: &GearOrder<'_>,
     gears: Vec<GearOf<W>>,
 ) -> Result<Vec<GearOf<W>>, IoError>
-    requires named { IsSome asked.journal → IsSome cfg }
+    requires named { IsSome asked.now.journal → IsSome asked.now.cfg }
     requires none { vec_len gears ≡ 0 }
-    requires room { asked.threads ≤ vec_capacity gears }
-    ensures taken { IfOk result (λ gears. TakesGears W.World W.D.Door W.T.Tape W.K.Clock asked.entry (option_copied cfg.entry)
+    requires room { threads ≤ vec_capacity gears }
+    ensures taken { IfOk result (λ gears. TakesGears W.World W.D.Door W.T.Tape W.K.Clock asked.now
         world.old world.new gears.items) }
-    ensures count { IfOk result (λ gears. vec_len gears ≡ asked.entry.threads) }
-    ensures refused { OnErr result (let at = world_side W.World in RefusesGear asked.entry.threads (at world.old) (at world.new)) }
+    ensures count { IfOk result (λ gears. vec_len gears ≡ threads) }
+    ensures refused { OnErr result (let at = world_side W.World in RefusesGear threads (at world.old) (at world.new)) }
     ensures cause { HasCause (W.faults world.old) (W.faults world.new) result }
+    ensures steady { IsOk result → W.faults world.new ≡ W.faults world.old }
 {
     let mut gears = gears;
-    match fill_gears(alloc, world, asked, cfg, &mut gears) {
+    match fill_gears(alloc, world, threads, asked, &mut gears) {
         Ok(()) => Ok(gears),
         Err(error) => {
             give_back(world, gears);

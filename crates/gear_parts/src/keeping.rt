@@ -45,6 +45,7 @@ fn keep_last<S: Shelf>(book: Book, lb: u32, shelf: &mut S) -> Result<(), IoError
     ensures kept { OnOk result (AddsCut S.shelved lb book shelf.old shelf.new) }
     ensures refused { OnErr result (S.shelved shelf.new ≡ S.shelved shelf.old) }
     ensures cause { HasCause (S.faults shelf.old) (S.faults shelf.new) result }
+    ensures stands { OnOk result (S.faults shelf.new ≡ S.faults shelf.old) }
 {
     let mut book = book;
     let segment = book.cut()?;

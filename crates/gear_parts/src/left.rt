@@ -8,6 +8,7 @@ use crate::part::Outside;
 use crate::world::Gear;
 use conn_pool::{PooledReach, Tape};
 use jk_io::Dial;
+use jk_model::NoRows;
 use std::vec::IntoIter;
 
 /// What a worker leaves beside its desk, and its log.
@@ -22,7 +23,7 @@ pub struct Left<D, G, T, K, O> {
 
 /// Takes the reach of each worker apart.
 pub fn take_apart<'s, 'r, D: Drop, G: Dial + Drop, T: Tape + Drop, K: Drop, O: Drop, R>(
-    outside: Vec<Outside<D, PooledReach<'s, 'r, G, T, R>, K>>,
+    outside: Vec<Outside<D, PooledReach<'s, 'r, G, T, R>, K, NoRows>>,
     logs: Vec<Option<O>>,
     left: &mut Vec<Left<D, G, T, K, O>>,
 )
@@ -40,7 +41,7 @@ pub fn take_apart<'s, 'r, D: Drop, G: Dial + Drop, T: Tape + Drop, K: Drop, O: D
 
 /// As `take_apart`, over logs that the caller lends; the next log belongs to the next worker.
 fn take_all<'s, 'r, D: Drop, G: Dial + Drop, T: Tape + Drop, K: Drop, O: Drop, R>(
-    outside: Vec<Outside<D, PooledReach<'s, 'r, G, T, R>, K>>,
+    outside: Vec<Outside<D, PooledReach<'s, 'r, G, T, R>, K, NoRows>>,
     logs: &mut IntoIter<Option<O>>,
     left: &mut Vec<Left<D, G, T, K, O>>,
 )
@@ -58,7 +59,7 @@ fn take_all<'s, 'r, D: Drop, G: Dial + Drop, T: Tape + Drop, K: Drop, O: Drop, R
 
 /// As `take_all`, over workers that the caller lends too.
 fn take_each<'s, 'r, D: Drop, G: Dial + Drop, T: Tape + Drop, K: Drop, O: Drop, R>(
-    outside: &mut IntoIter<Outside<D, PooledReach<'s, 'r, G, T, R>, K>>,
+    outside: &mut IntoIter<Outside<D, PooledReach<'s, 'r, G, T, R>, K, NoRows>>,
     logs: &mut IntoIter<Option<O>>,
     left: &mut Vec<Left<D, G, T, K, O>>,
 )
@@ -77,7 +78,7 @@ fn take_each<'s, 'r, D: Drop, G: Dial + Drop, T: Tape + Drop, K: Drop, O: Drop, 
 
 /// Adds what one worker leaves, with the next log, at the end.
 fn put_left<'s, 'r, D: Drop, G: Dial + Drop, T: Tape + Drop, K: Drop, O: Drop, R>(
-    outside: Outside<D, PooledReach<'s, 'r, G, T, R>, K>,
+    outside: Outside<D, PooledReach<'s, 'r, G, T, R>, K, NoRows>,
     logs: &mut IntoIter<Option<O>>,
     left: &mut Vec<Left<D, G, T, K, O>>,
 )
@@ -98,7 +99,7 @@ fn put_left<'s, 'r, D: Drop, G: Dial + Drop, T: Tape + Drop, K: Drop, O: Drop, R
 
 /// What one worker leaves, with its log.
 fn left_of<'s, 'r, D, G: Dial, T: Tape, K, O, R>(
-    outside: Outside<D, PooledReach<'s, 'r, G, T, R>, K>,
+    outside: Outside<D, PooledReach<'s, 'r, G, T, R>, K, NoRows>,
     log: Option<O>,
 ) -> Left<D, G, T, K, O>
     requires idle { is_some outside.reach.lent ≡ false }
@@ -106,7 +107,12 @@ fn left_of<'s, 'r, D, G: Dial, T: Tape, K, O, R>(
         ≡ tools outside.entry.door outside.entry.reach.dial outside.entry.reach.tape outside.entry.clock }
     ensures log { result.log ≡ log }
 {
-    let Outside { door, reach, clock } = outside;
+    let Outside {
+        door,
+        reach,
+        clock,
+        log: NoRows,
+    } = outside;
     let (dial, tape) = reach.into_parts();
     Left {
         door,

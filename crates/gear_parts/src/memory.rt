@@ -10,6 +10,7 @@ use crate::parts::{Common, fill_parts};
 use crate::world::Gear;
 use conn_pool::{PooledReach, Tape};
 use jk_io::{Dial, NoMemory};
+use jk_model::NoRows;
 use locked_balancer::{Shelf, SiteName};
 use std::alloc::Global;
 use std::sync::ledger::Share;
@@ -48,7 +49,10 @@ pub fn parts_for<
     common: &Common<'s, 'r, L, G, R>,
     share: Share<L>,
     gears: Vec<Gear<D, G, T, K, S, O>>,
-) -> Result<Memory<Part<'s, 'r, L, D, PooledReach<'s, 'r, G, T, R>, K, S, R>, O, A, B>, NoMemory>
+) -> Result<
+    Memory<Part<'s, 'r, L, D, PooledReach<'s, 'r, G, T, R>, K, S, R, NoRows>, O, A, B>,
+    NoMemory,
+>
     requires parts { share.parts ≡ vec_len gears }
     requires amount { share.amount ≡ 0 }
     requires idle { All (λ g. T.is_idle g.tape) gears.items }
@@ -83,8 +87,8 @@ fn filled<
     common: &Common<'s, 'r, L, G, R>,
     share: Share<L>,
     gears: Vec<Gear<D, G, T, K, S, O>>,
-    memory: Memory<Part<'s, 'r, L, D, PooledReach<'s, 'r, G, T, R>, K, S, R>, O, A, B>,
-) -> Memory<Part<'s, 'r, L, D, PooledReach<'s, 'r, G, T, R>, K, S, R>, O, A, B>
+    memory: Memory<Part<'s, 'r, L, D, PooledReach<'s, 'r, G, T, R>, K, S, R, NoRows>, O, A, B>,
+) -> Memory<Part<'s, 'r, L, D, PooledReach<'s, 'r, G, T, R>, K, S, R, NoRows>, O, A, B>
     requires parts { share.parts ≡ vec_len gears }
     requires amount { share.amount ≡ 0 }
     requires idle { All (λ g. T.is_idle g.tape) gears.items }

@@ -9,6 +9,7 @@ use crate::part::Part;
 use crate::world::Gear;
 use conn_pool::{Idle, PooledReach, Pools, Tape};
 use jk_io::Dial;
+use jk_model::NoRows;
 use locked_balancer::{SharedDesk, SharedSite, Shelf, SiteName};
 use std::alloc::Global;
 use std::sync::ledger::Share;
@@ -38,7 +39,7 @@ pub(crate) fn fill_parts<
     common: &Common<'s, 'r, L, G, R>,
     share: Share<L>,
     gears: Vec<Gear<D, G, T, K, S, O>>,
-    parts: &mut Vec<Part<'s, 'r, L, D, PooledReach<'s, 'r, G, T, R>, K, S, R>>,
+    parts: &mut Vec<Part<'s, 'r, L, D, PooledReach<'s, 'r, G, T, R>, K, S, R, NoRows>>,
     logs: &mut Vec<Option<O>>,
 )
     requires none { (parts.old.items ≡ []) × (logs.old.items ≡ []) }
@@ -61,7 +62,7 @@ fn put_parts<'s, 'r, L: SiteName, D, G: Dial, T: Tape, K, S: Shelf, O, R>(
     common: &Common<'s, 'r, L, G, R>,
     share: &mut Share<L>,
     gears: &mut IntoIter<Gear<D, G, T, K, S, O>>,
-    parts: &mut Vec<Part<'s, 'r, L, D, PooledReach<'s, 'r, G, T, R>, K, S, R>>,
+    parts: &mut Vec<Part<'s, 'r, L, D, PooledReach<'s, 'r, G, T, R>, K, S, R, NoRows>>,
     logs: &mut Vec<Option<O>>,
 )
     requires none { (parts.old.items ≡ []) × (logs.old.items ≡ []) }
@@ -84,7 +85,7 @@ fn put_part<'s, 'r, L: SiteName, D, G: Dial, T: Tape, K, S: Shelf, O, R>(
     common: &Common<'s, 'r, L, G, R>,
     share: &mut Share<L>,
     gear: Gear<D, G, T, K, S, O>,
-    parts: &mut Vec<Part<'s, 'r, L, D, PooledReach<'s, 'r, G, T, R>, K, S, R>>,
+    parts: &mut Vec<Part<'s, 'r, L, D, PooledReach<'s, 'r, G, T, R>, K, S, R, NoRows>>,
     logs: &mut Vec<Option<O>>,
 )
     requires some { 0 < share.old.parts }
@@ -111,7 +112,7 @@ fn part_of<'s, 'r, L: SiteName, D, G: Dial, T: Tape, K, S: Shelf, O, R>(
     share: Share<L>,
     gear: Gear<D, G, T, K, S, O>,
 ) -> (
-    Part<'s, 'r, L, D, PooledReach<'s, 'r, G, T, R>, K, S, R>,
+    Part<'s, 'r, L, D, PooledReach<'s, 'r, G, T, R>, K, S, R, NoRows>,
     Option<O>,
 )
     requires part { share.parts ≡ 1 }
@@ -134,6 +135,7 @@ fn part_of<'s, 'r, L: SiteName, D, G: Dial, T: Tape, K, S: Shelf, O, R>(
         reach: PooledReach::new(common.pools, dial, tape),
         clock,
         desk: SharedDesk::new(alloc, common.site, share, shelf),
+        log: NoRows,
     };
     (part, log)
 }

@@ -1,11 +1,11 @@
 //! The world: what hands out gears and takes them back.
-ghost use Rattle.std.specs.Prelude.{◌≡◌, ◌+◌, ◌<◌, ◌≤◌, ℕ, List, Option, Some, None, [], ◌∷◌, length, IfOk, IfSome, IsSome, OnErr, OnOk};
+ghost use Rattle.std.specs.Prelude.{◌≡◌, ◌+◌, ◌<◌, ◌≤◌, ℕ, List, Option, Some, None, [], ◌∷◌, length, IfOk, IfSome, IsOk, IsSome, OnErr, OnOk};
 ghost use Rattle.jk_io.specs.Told.{HasCause, IsEmpty, appended};
 
+use crate::order::GearOrder;
 use conn_pool::Tape;
 use jk_io::{Bytes, Clock, Dial, Door, IoError, Sink};
 use locked_balancer::Shelf;
-use site_config::Config;
 use std::alloc::Global;
 
 /// What one worker uses of the outside. A container's worker uses the door alone.
@@ -27,10 +27,10 @@ pub struct Gear<D, G, T, K, S, O> {
 
 /// What makes gears, and takes them back.
 pub trait World {
-    ghost use Rattle.std.specs.Prelude.{◌≡◌, ◌+◌, ◌<◌, ◌≤◌, ℕ, List, Option, Some, None, [], ◌∷◌, length, IfOk, IfSome, IsSome, OnErr, OnOk};
+    ghost use Rattle.std.specs.Prelude.{◌≡◌, ◌+◌, ◌<◌, ◌≤◌, ℕ, List, Option, Some, None, [], ◌∷◌, length, IfOk, IfSome, IsOk, IsSome, OnErr, OnOk};
     ghost use Rattle.jk_io.specs.Told.{HasCause, IsEmpty, appended};
     ghost use Rattle.std.specs.Option.{option_copied};
-    ghost use Rattle.gear_parts.specs.Wants.{GearWants, wants};
+    ghost use Rattle.gear_parts.specs.Wants.{GearWants, wants_of};
     ghost use Rattle.gear_parts.specs.declared.world.Gear.{Gear as AnyGear};
     ghost use Rattle.site_config.specs.declared.config.Config.{Config as AnyConfig};
 
@@ -61,24 +61,21 @@ pub trait World {
     // how many calls failed
     ghost faults: { Self → ℕ };
 
-    /// Makes what worker `number`, from 0, uses. Its door takes clients at `address`, and has at most `clients` to come,
-    /// where that is given. A journal is kept in the directory `journal`, by the names of the balancers of `cfg`.
+    /// Makes what worker `number`, from 0, uses. Its door takes clients at the order's address, by its limits, and has at most
+    /// as many to come as the order says. A journal is kept in the order's directory, by the names of the site's balancers.
     fn gear(
         &mut self,
         alloc: Global,
         number: u32,
-        address: &Bytes,
-        clients: Option<u64>,
-        journal: Option<&Bytes>,
-        cfg: Option<&Config>,
+        asked: &GearOrder<'_>,
     ) -> Result<Gear<Self::D, Self::G, Self::T, Self::K, Self::S, Self::O>, IoError>
-        requires named { IsSome journal → IsSome cfg }
+        requires named { IsSome asked.now.journal → IsSome asked.now.cfg }
         ensures handed { IfOk result (λ gear. handed self.new ≡ appended (handed self.old) (gear ∷ [])) }
         ensures one_more { OnOk result (out self.new ≡ out self.old + 1) }
-        ensures few { IfOk result (λ gear. IfSome clients (λ most. IfSome (Self.D.coming gear.door) (λ coming. length coming ≤ most))) }
+        ensures few { IfOk result (λ gear. IfSome asked.now.clients (λ most. IfSome (Self.D.coming gear.door) (λ coming. length coming ≤ most))) }
 
         // It is what was asked for.
-        ensures suited { IfOk result (λ gear. suits number (wants address.now clients (option_copied journal.entry)) (option_copied cfg.entry) gear) }
+        ensures suited { IfOk result (λ gear. suits number (wants_of asked.now) (option_copied asked.now.cfg) gear) }
 
         // Nothing was done with it: no link was left at its door, and no talk runs or was noted.
         ensures none_left { IfOk result (λ gear. IsEmpty (Self.D.left gear.door)) }
@@ -88,12 +85,14 @@ pub trait World {
 
         ensures err { OnErr result ((handed self.new ≡ handed self.old) × (out self.new ≡ out self.old)) }
         ensures same { came_back self.new ≡ came_back self.old }
-        ensures cause { HasCause (faults self.old) (faults self.new) result };
+        ensures cause { HasCause (faults self.old) (faults self.new) result }
+        ensures steady { IsOk result → faults self.new ≡ faults self.old };
 
     /// Makes the log of worker `number`, from 0, in a directory.
     fn log(&mut self, alloc: Global, dir: &Bytes, number: u32) -> Result<Self::O, IoError>
         ensures same { (handed self.new ≡ handed self.old) × (came_back self.new ≡ came_back self.old) × (out self.new ≡ out self.old) }
-        ensures cause { HasCause (faults self.old) (faults self.new) result };
+        ensures cause { HasCause (faults self.old) (faults self.new) result }
+        ensures steady { IsOk result → faults self.new ≡ faults self.old };
 
     /// Takes a gear back, at the end of those that came back. It takes no memory.
     fn back(&mut self, gear: Gear<Self::D, Self::G, Self::T, Self::K, Self::S, Self::O>)

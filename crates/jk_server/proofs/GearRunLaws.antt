@@ -25,32 +25,33 @@ use Rattle.jk_server.specs.RunTells.{RunTells}
 use Rattle.jk_server.specs.ServedGears.{IsRunOf, RunsParts}
 use Rattle.jk_server.specs.declared.runs.ran.Ran.{Ran}
 use Rattle.jk_server.specs.Runs.{AreServedGears, IsServedGear}
+use Rattle.jk_server.specs.Worker.{Keeps}
 
 -- Each gear was served by its worker, where that follows of its part, of what the worker left and of how it ended.
-pub gears_served : {P O V C S L X Y : Type 0} → (visits : ℕ → Peer → Visit) (told : Ghosts C X) (faults : S → ℕ) (Fresh : P → Type 0) (Is : ℕ → P → O → V → WorkerEnd L → Type 0)
+pub gears_served : {P O V C S L X Y Z : Type 0} → (visits : ℕ → Peer → Visit) (told : Ghosts C X) (of : Keeps S Z) (Fresh : P → Type 0) (Is : ℕ → P → O → V → WorkerEnd L → Type 0)
     (was : P → GearSide C S) (with : Y → S → GearSide C S) (tool : O → Y) (shelf : V → S)
     (n : ℕ) (ps : List P) (os : List O) (vs : List V) (es : List (WorkerEnd L)) → All Fresh ps → AreEach Is n ps os vs es
-    → ((k : ℕ) (p : P) (o : O) (v : V) (e : WorkerEnd L) → Fresh p → Is k p o v e → IsServedGear (visits k) told faults (was p) (with (tool o) (shelf v)) e)
-    → AreServedGears visits told faults n (map was ps) (gears_with with (map tool os) (map shelf vs)) es
-gears_served visits told faults Fresh Is was with tool shelf n [] [] [] [] fresh each join = tt
-gears_served visits told faults Fresh Is was with tool shelf n [] [] [] (e ∷ es) fresh each join = absurd each
-gears_served visits told faults Fresh Is was with tool shelf n [] [] (v ∷ vs) es fresh each join = absurd each
-gears_served visits told faults Fresh Is was with tool shelf n [] (o ∷ os) vs es fresh each join = absurd each
-gears_served visits told faults Fresh Is was with tool shelf n (p ∷ ps) [] vs es fresh each join = absurd each
-gears_served visits told faults Fresh Is was with tool shelf n (p ∷ ps) (o ∷ os) [] es fresh each join = absurd each
-gears_served visits told faults Fresh Is was with tool shelf n (p ∷ ps) (o ∷ os) (v ∷ vs) [] fresh each join = absurd each
-gears_served visits told faults Fresh Is was with tool shelf n (p ∷ ps) (o ∷ os) (v ∷ vs) (e ∷ es) fresh each join = (
+    → ((k : ℕ) (p : P) (o : O) (v : V) (e : WorkerEnd L) → Fresh p → Is k p o v e → IsServedGear (visits k) told of (was p) (with (tool o) (shelf v)) e)
+    → AreServedGears visits told of n (map was ps) (gears_with with (map tool os) (map shelf vs)) es
+gears_served visits told of Fresh Is was with tool shelf n [] [] [] [] fresh each join = tt
+gears_served visits told of Fresh Is was with tool shelf n [] [] [] (e ∷ es) fresh each join = absurd each
+gears_served visits told of Fresh Is was with tool shelf n [] [] (v ∷ vs) es fresh each join = absurd each
+gears_served visits told of Fresh Is was with tool shelf n [] (o ∷ os) vs es fresh each join = absurd each
+gears_served visits told of Fresh Is was with tool shelf n (p ∷ ps) [] vs es fresh each join = absurd each
+gears_served visits told of Fresh Is was with tool shelf n (p ∷ ps) (o ∷ os) [] es fresh each join = absurd each
+gears_served visits told of Fresh Is was with tool shelf n (p ∷ ps) (o ∷ os) (v ∷ vs) [] fresh each join = absurd each
+gears_served visits told of Fresh Is was with tool shelf n (p ∷ ps) (o ∷ os) (v ∷ vs) (e ∷ es) fresh each join = (
   join n p o v e (All-head Fresh p ps fresh) each.0,
-  gears_served visits told faults Fresh Is was with tool shelf (n + 1) ps os vs es (All-tail Fresh p ps fresh) each.1 join,
+  gears_served visits told of Fresh Is was with tool shelf (n + 1) ps os vs es (All-tail Fresh p ps fresh) each.1 join,
 )
 
 -- So of lists that are the same.
-pub gears_told : {C S L X Y : Type 0} → (visits : ℕ → Peer → Visit) (told : Ghosts C X) (faults : S → ℕ) (n : ℕ) (before before' : List (GearSide C S)) (with : Y → S → GearSide C S)
+pub gears_told : {C S L X Y Z : Type 0} → (visits : ℕ → Peer → Visit) (told : Ghosts C X) (of : Keeps S Z) (n : ℕ) (before before' : List (GearSide C S)) (with : Y → S → GearSide C S)
     (ts ts' : List Y) (shelves shelves' : List S) (es es' : List (WorkerEnd L)) → before ≡ before' → ts' ≡ ts → shelves' ≡ shelves → es' ≡ es
-    → AreServedGears visits told faults n before (gears_with with ts shelves) es → AreServedGears visits told faults n before' (gears_with with ts' shelves') es'
-gears_told {C} {S} {L} visits told faults n before before' with ts ts' shelves shelves' es es' same_before same_tools same_shelves same_ends served =
+    → AreServedGears visits told of n before (gears_with with ts shelves) es → AreServedGears visits told of n before' (gears_with with ts' shelves') es'
+gears_told {C} {S} {L} visits told of n before before' with ts ts' shelves shelves' es es' same_before same_tools same_shelves same_ends served =
     rw (same_tools, same_shelves, same_ends)
-    (subst (λ (gs : List (GearSide C S)). AreServedGears visits told faults n gs (gears_with with ts shelves) es) same_before served)
+    (subst (λ (gs : List (GearSide C S)). AreServedGears visits told of n gs (gears_with with ts shelves) es) same_before served)
 
 -- Where each worker's share has one part, all have as many as there are workers.
 pub parts_whole : {P O V E : Type 0} → (Fresh : P → Type 0) (Is : ℕ → P → O → V → E → Type 0) (part : V → ℕ)
@@ -88,8 +89,8 @@ pub logs_so : {X A B : Type 0} → (many count : ℕ) (after : After X A B) → 
 logs_so many count after same has = subst (λ (n : ℕ). HasLogs n after) (sym same) has
 
 -- What holds of all gears of which the parts and the logs were made, holds of these.
-pub runs_of : {D G T K S O L C X P W E : Type 0} {N : SiteGhosts L} → (told : RunTells D T K S C X) (cfg : Config) (rules : List Rule)
-    (parts : List (Part L D (PooledState G T P) K S W)) (logs : List (Option O)) (sizes pools : List ℕ) (gears : List (Gear D G T K S O)) (r : Result (Ran L D G T K S O N) E)
+pub runs_of : {D G T K S O L Y C X P W E : Type 0} {N : SiteGhosts L} → (told : RunTells D T K S Y C X) (cfg : Config) (rules : List Rule)
+    (parts : List (Part L D (PooledState G T P) K S W Y)) (logs : List (Option O)) (sizes pools : List ℕ) (gears : List (Gear D G T K S O)) (r : Result (Ran L D G T K S O N) E)
     → map (λ p. start_with p.door p.reach p.clock p.desk) parts ≡ map (start_of sizes pools) gears → logs ≡ map (λ g. g.log) gears
     → IfOk r (λ ran. RunsParts told cfg rules parts logs ran) → IfOk r (λ ran. IsRunOf told cfg rules gears ran)
 runs_of told cfg rules parts logs sizes pools gears (Ok ran) starts logged runs = runs sizes pools gears starts logged

@@ -17,20 +17,21 @@ use Rattle.jk_server.specs.declared.runs.ends.Closing.{Closing}
 use Rattle.jk_server.specs.declared.runs.ends.Closing.TheVariants as closing
 use Rattle.jk_server.specs.declared.part.WorkerEnd.{WorkerEnd}
 use Rattle.jk_server.specs.Ends.{returned}
+use Rattle.jk_server.specs.Worker.{Keeps}
 
 all_started : {C S : Type 0} (before begun : List (GearSide C S)) → AreStarted before begun → length begun ≡ length before
 all_started [] begun e = ap length e
 all_started (first ∷ rest) [] e = absurd e
 all_started (first ∷ rest) (first' ∷ rest') e = ap (λ (l : List _). length (first ∷ l)) e.3
 
-all_left : {C S L X : Type 0} (visits : ℕ → Peer → Visit) (told : Ghosts C X) (faults : S → ℕ) (number : ℕ) (begun left : List (GearSide C S)) (ends : List (WorkerEnd L))
-    → AreServedGears visits told faults number begun left ends → length left ≡ length begun
-all_left visits told faults number [] [] [] s = refl
-all_left visits told faults number (b ∷ begun) (a ∷ left) (e ∷ ends) s = ap (λ (n : ℕ). suc n) (all_left visits told faults (number + 1) begun left ends s.1)
-all_left visits told faults number [] [] (e ∷ ends) s = absurd s
-all_left visits told faults number [] (a ∷ left) ends s = absurd s
-all_left visits told faults number (b ∷ begun) [] ends s = absurd s
-all_left visits told faults number (b ∷ begun) (a ∷ left) [] s = absurd s
+all_left : {C S Y L X : Type 0} (visits : ℕ → Peer → Visit) (told : Ghosts C X) (of : Keeps S Y) (number : ℕ) (begun left : List (GearSide C S)) (ends : List (WorkerEnd L))
+    → AreServedGears visits told of number begun left ends → length left ≡ length begun
+all_left visits told of number [] [] [] s = refl
+all_left visits told of number (b ∷ begun) (a ∷ left) (e ∷ ends) s = ap (λ (n : ℕ). suc n) (all_left visits told of (number + 1) begun left ends s.1)
+all_left visits told of number [] [] (e ∷ ends) s = absurd s
+all_left visits told of number [] (a ∷ left) ends s = absurd s
+all_left visits told of number (b ∷ begun) [] ends s = absurd s
+all_left visits told of number (b ∷ begun) (a ∷ left) [] s = absurd s
 
 all_kept : {C S : Type 0} (Kept : S → S → Type 0) (left back : List (GearSide C S)) → KeepsFirst Kept left back → length back ≡ length left
 all_kept Kept (first ∷ rest) (first' ∷ rest') k = ap (λ (l : List _). length (first ∷ l)) k.2
@@ -45,12 +46,12 @@ few_closed at shelved faults lbs left back (closing.Differs d) c = let n = ap le
 few_closed at shelved faults lbs left back closing.NoMemory c = omega arith
 
 -- no more gears come back of a run than it had
-pub few_returned : {G C S L X : Type 0} (at : G → GearSide C S) (visits : ℕ → Peer → Visit) (told : Ghosts C X) (shelved : S → Option (List (ℕ × Segment))) (faults : S → ℕ) (lbs : List Lb) (gears back : List G) (ends : List (WorkerEnd L)) (closed : Closing L)
-    → IsSiteRun visits told shelved faults lbs (map at gears) (map at back) ends closed → length (returned closed back) ≤ length gears
-few_returned at visits told shelved faults lbs gears back ends closed run =
+pub few_returned : {G C S Y L X : Type 0} (at : G → GearSide C S) (visits : ℕ → Peer → Visit) (told : Ghosts C X) (shelved : S → Option (List (ℕ × Segment))) (of : Keeps S Y) (lbs : List Lb) (gears back : List G) (ends : List (WorkerEnd L)) (closed : Closing L)
+    → IsSiteRun visits told shelved of lbs (map at gears) (map at back) ends closed → length (returned closed back) ≤ length gears
+few_returned at visits told shelved of lbs gears back ends closed run =
     let a = all_started _ _ run.started in
-    let b = all_left visits told faults 0 _ _ ends run.served in
-    let c = few_closed at shelved faults lbs run.left back closed run.closed in
+    let b = all_left visits told of 0 _ _ ends run.served in
+    let c = few_closed at shelved of.shelf_faults lbs run.left back closed run.closed in
     omega (arith, length-map gears at)
 
 same_count : {C S : Type 0} (before back : List (GearSide C S)) → SameButDoors before back → length back ≡ length before

@@ -1,7 +1,10 @@
 -- Workers that begin, said of their gears.
-use Rattle.std.proofs.Common.{ℕ, ◌≡◌, List, map, IfOk, Result, Ok, Err, Option, Some, sym, ap, ◌∙◌, subst}
+use Rattle.std.proofs.Common.{ℕ, ◌≡◌, List, [], ◌∷◌, length, refl, map, IfOk, Result, Ok, Err, Option, Some, sym, ap, ◌∙◌, subst}
 use Rattle.std.specs.List.{All}
+use Rattle.std.proofs.lemmas.List.{length-map}
 use Rattle.std.proofs.lemmas.List.Elements.{All-map}
+use Rattle.conn_pool.specs.Idle.{counts}
+use Rattle.exchange.specs.Requests.{sizes_of}
 use Rattle.jk_io.specs.declared.reaching.Talk.{Talk}
 use Rattle.jk_io.specs.declared.traits.streams.Meanings.{Ghosts}
 use Rattle.jk_io.specs.declared.traits.surroundings.Peer.{Peer}
@@ -12,14 +15,14 @@ use Rattle.site_config.specs.declared.balancer.Lb.{Lb}
 use Rattle.gear_parts.specs.Gears.{GearSide, gear_side}
 use Rattle.gear_parts.specs.declared.world.Gear.{Gear}
 use Rattle.jk_server.specs.Served.{IsServed}
-use Rattle.jk_server.specs.Worker.{WorkerSide}
+use Rattle.jk_server.specs.Worker.{Keeps, WorkerSide}
 use Rattle.jk_server.specs.declared.part.WorkerEnd.{WorkerEnd}
 use Rattle.gear_parts.specs.GearParts.{Start, start_of}
 use Rattle.jk_server.specs.Closings.{Closes}
 use Rattle.jk_server.specs.Runs.{AreServedGears, IsNew, IsSiteRun, IsServedGear, WorksWith}
 use Rattle.gear_parts.specs.Starts.{AreStarted}
 use Rattle.jk_server.specs.ServedGears.{start_side}
-use Rattle.jk_server.specs.Started.{IsStartedRun}
+use Rattle.jk_server.specs.Started.{IsStartedRun, pool_table}
 use Rattle.jk_server.specs.declared.runs.ends.Closing.{Closing}
 use Rattle.gear_parts.proofs.ListLaws.{all_of_map, map_map}
 
@@ -45,29 +48,29 @@ pub one_part : (was now : Option ℕ) (n : ℕ) → now ≡ Some n → now ≡ w
 one_part was now n is same one = cc
 
 -- What the workers did and how the closing ended, from the start.
-pub run_done : {C S L X : Type 0} → (visits : ℕ → Peer → Visit) (told : Ghosts C X) (shelved : S → Option (List (ℕ × Segment))) (faults : S → ℕ) (lbs : List Lb)
+pub run_done : {C S Y L X : Type 0} → (visits : ℕ → Peer → Visit) (told : Ghosts C X) (shelved : S → Option (List (ℕ × Segment))) (of : Keeps S Y) (lbs : List Lb)
     (begun left back : List (GearSide C S)) (ends ends' : List (WorkerEnd L)) (closing : Closing L)
-    → AreServedGears visits told faults 0 begun left ends → ends' ≡ ends → Closes shelved faults lbs left back closing
-    → IsStartedRun visits told shelved faults lbs begun back ends' closing
-run_done {L = L} visits told shelved faults lbs begun left back ends ends' closing served same closed = record {
+    → AreServedGears visits told of 0 begun left ends → ends' ≡ ends → Closes shelved of.shelf_faults lbs left back closing
+    → IsStartedRun visits told shelved of lbs begun back ends' closing
+run_done {L = L} visits told shelved of lbs begun left back ends ends' closing served same closed = record {
   left = left;
-  served = subst (λ (es : List (WorkerEnd L)). AreServedGears visits told faults 0 begun left es) (sym same) served;
+  served = subst (λ (es : List (WorkerEnd L)). AreServedGears visits told of 0 begun left es) (sym same) served;
   closed = closed;
 }
 
-pub served_gear : {C S L X : Type 0} → (visit : Peer → Visit) (told : Ghosts C X) (faults : S → ℕ) (before after : GearSide C S) (from to : WorkerSide S) (end : WorkerEnd L)
-    → IsServed visit told faults before.door after.door from to end → WorksWith before from → IsNew from.desk → WorksWith after to
-    → IsServedGear visit told faults before after end
-served_gear visit told faults before after from to end served first fresh last =
+pub served_gear : {C S Y L X : Type 0} → (visit : Peer → Visit) (told : Ghosts C X) (of : Keeps S Y) (before after : GearSide C S) (from to : WorkerSide S Y) (end : WorkerEnd L)
+    → IsServed visit told of before.door after.door from to end → WorksWith before from → IsNew from.desk → WorksWith after to
+    → IsServedGear visit told of before after end
+served_gear visit told of before after from to end served first fresh last =
     record { from = from; to = to; first = first; fresh = fresh; last = last; served = served }
 
 -- The run, from before its start.
-pub started_run : {D G T K S O C L X : Type 0} → (visits : ℕ → Peer → Visit) (told : Ghosts C X) (shelved : S → Option (List (ℕ × Segment))) (faults : S → ℕ) (lbs : List Lb)
+pub started_run : {D G T K S O C Y L X : Type 0} → (visits : ℕ → Peer → Visit) (told : Ghosts C X) (shelved : S → Option (List (ℕ × Segment))) (of : Keeps S Y) (lbs : List Lb)
     (at : Gear D G T K S O → GearSide C S) (gears lent new begun back : List (Gear D G T K S O)) (ends : List (WorkerEnd L)) (closing : Closing L)
     → lent ≡ gears → begun ≡ new → AreStarted (map at lent) (map at new)
-    → IsStartedRun visits told shelved faults lbs (map at begun) (map at back) ends closing
-    → IsSiteRun visits told shelved faults lbs (map at gears) (map at back) ends closing
-started_run {D} {G} {T} {K} {S} {O} visits told shelved faults lbs at gears lent new begun back ends closing same written started run = record {
+    → IsStartedRun visits told shelved of lbs (map at begun) (map at back) ends closing
+    → IsSiteRun visits told shelved of lbs (map at gears) (map at back) ends closing
+started_run {D} {G} {T} {K} {S} {O} visits told shelved of lbs at gears lent new begun back ends closing same written started run = record {
   begun = map at begun;
   left = run.left;
   started =
@@ -80,3 +83,10 @@ started_run {D} {G} {T} {K} {S} {O} visits told shelved faults lbs at gears lent
 pub ok_weaker : {T E : Type 0} (P Q : T → Type 0) (r : Result T E) → IfOk r P → ((x : T) → P x → Q x) → IfOk r Q
 ok_weaker P Q (Ok x) is then = then x is
 ok_weaker P Q (Err e) is then = is
+
+-- a balancer's pools are as many as its members
+pub table_counts : (lbs : List Lb) → counts (pool_table lbs) ≡ sizes_of lbs
+table_counts [] = refl
+table_counts (lb ∷ lbs) =
+    ap (λ (n : ℕ). n ∷ counts (pool_table lbs)) (length-map lb.book.members (λ m. m.pool))
+    ∙ ap (λ (ns : List ℕ). length lb.book.members ∷ ns) (table_counts lbs)

@@ -1,6 +1,6 @@
 -- What `serve` and `container` do with the outside, and how they end. Read this first; what a run does is in specs/Runs.antt and
 -- specs/Containers.antt.
-use Rattle.std.specs.Prelude.{◌≡◌, ℕ, ◌≤◌, ◌⊎◌, List, [], length, map, Option, Some, None}
+use Rattle.std.specs.Prelude.{◌≡◌, ℕ, ◌≤◌, ◌⊎◌, min, Bool, List, [], length, map, Option, Some, None, unwrap_or}
 use Rattle.std.specs.List.{All, AllZip}
 use Rattle.client_session.specs.Requests.{visit}
 use Rattle.conn_pool.specs.declared.tape.Tape.{Ghosts as TapeGhosts}
@@ -20,15 +20,17 @@ use Rattle.gear_parts.specs.declared.world.Gear.{Gear}
 use Rattle.gear_parts.specs.declared.world.World.{Ghosts as WorldGhosts}
 use Rattle.gear_parts.specs.Containers.{IsContainerRun}
 use Rattle.jk_server.specs.Runs.{IsSiteRun}
+use Rattle.jk_server.specs.RunTells.{unlogged}
 use Rattle.jk_server.specs.declared.runs.ends.Closing.{Closing}
 use Rattle.jk_server.specs.declared.part.WorkerEnd.{WorkerEnd}
 use Rattle.jk_server.specs.Ends.{end_of_container, end_of_run, KeepsEach, returned}
 use Rattle.site_reports.specs.Sites.{IsSite}
-use Rattle.gear_parts.specs.Wants.{AreSuited, GearWants}
-use Rattle.gear_parts.specs.Worlds.{tells, HandsAndTakes, IsMade, RefusesGear, Tells, wants_of, WorldSide}
+use Rattle.gear_parts.specs.Wants.{AreSuited, GearWants, wants_of}
+use Rattle.gear_parts.specs.Worlds.{tells, HandsAndTakes, IsMade, RefusesGear, Tells, WorldSide}
 use Rattle.jk_server.specs.declared.orders.ends.CommandEnd.{CommandEnd}
 use Rattle.jk_server.specs.declared.orders.ends.CommandEnd.TheVariants as end
-use Rattle.gear_parts.specs.declared.gears.GearOrder.{GearOrder}
+use Rattle.gear_parts.specs.declared.order.GearOrder.{GearOrder}
+use Rattle.jk_server.specs.declared.orders.container.ContainerOrder.{ContainerOrder}
 use Rattle.jk_server.specs.declared.orders.serve.ServeOrder.{ServeOrder}
 use Rattle.site_reports.specs.declared.site.ReadSite.{ReadSite}
 
@@ -47,14 +49,14 @@ pub record CommandTells (F O W G C S X : Type 0) : Type 1 where
   pub output_faults : O → ℕ
   pub world : Tells W G C S X
 
--- by their traits: `telling F.Files O.Meanings W.World W.D.Door W.T.Tape W.K.Clock W.D.L.Meanings W.S.Shelf`
-abbrev pub telling : {F P A W D G T K S O C X E Y Z : Type 0} → FilesGhosts F → Ghosts P A → WorldGhosts W D G T K S O C X E Y Z → DoorGhosts D C X → TapeGhosts T → ClockGhosts K → Ghosts C X → ShelfGhosts S → CommandTells F P W (Gear D G T K S O) C S X
-telling of_files of_output of_world of_door of_tape of_clock of_link of_shelf = record {
+-- by their traits: `telling F.Files O.Meanings W.World W.D.Door W.T.Tape W.K.Clock W.D.L.Meanings W.S.Shelf W.D.L.may_wait`
+abbrev pub telling : {F P A W D G T K S O C X E Y Z : Type 0} → FilesGhosts F → Ghosts P A → WorldGhosts W D G T K S O C X E Y Z → DoorGhosts D C X → TapeGhosts T → ClockGhosts K → Ghosts C X → ShelfGhosts S → Bool → CommandTells F P W (Gear D G T K S O) C S X
+telling of_files of_output of_world of_door of_tape of_clock of_link of_shelf may_wait = record {
   files = of_files.files;
   file_faults = of_files.faults;
   sent = of_output.sent;
   output_faults = of_output.faults;
-  world = tells of_world of_door of_tape of_clock of_link of_shelf;
+  world = tells of_world of_door of_tape of_clock of_link of_shelf may_wait;
 }
 
 -- a command over these files, this output and this world
@@ -66,6 +68,10 @@ command_side told over = record {
   world = told.world.world over.2;
 }
 
+-- the number of kept entries at which a journal is cut; where none is given it is 65,536
+abbrev pub cut_at : Option ℕ → ℕ
+cut_at cut = min (unwrap_or cut 65536) 4294967295
+
 -- ---- with the world
 
 -- A gear was refused, and those before it came back as they were.
@@ -74,13 +80,15 @@ pub record LacksGear {G L : Type 0} (threads : ℕ) (s n : WorldSide G) (ended :
   pub status : ended ≡ end.Status 4
   pub cause : Rose s.faults n.faults
 
--- Memory was wanted: the gears that were handed out, no more than there are workers, came back as they were, or none did.
+-- Memory was wanted, and the world had no fault: the gears that were handed out, no more than there are workers, came back as
+-- they were, or none did.
 pub record WantsMemory {G L : Type 0} (threads : ℕ) (s n : WorldSide G) (ended : CommandEnd L) : Type 0 where
   pub gears : List G
   pub back : List G
   pub passed : HandsAndTakes s n gears back
   pub few : length gears ≤ threads
   pub unserved : (back ≡ gears) ⊎ (back ≡ [])
+  pub calm : n.faults ≡ s.faults
   pub status : ended ≡ end.Status 6
 
 -- What a command for this many workers does with the world; `Runs` says what its run does.
@@ -100,7 +108,7 @@ pub record RunsSite {W G C S X L : Type 0} (told : Tells W G C S X) (cfg : Confi
   pub suited : AreSuited (λ number. told.suits number wanted (Some cfg)) 0 gears
   pub ends : List (WorkerEnd L)
   pub closing : Closing L
-  pub run : IsSiteRun (visit cfg rules) told.link told.shelved told.shelf_faults cfg.lbs (map told.gear gears) (map told.gear left) ends closing
+  pub run : IsSiteRun (visit cfg rules) told.link told.shelved (unlogged told.shelf_faults told.may_wait) cfg.lbs (map told.gear gears) (map told.gear left) ends closing
   pub logs : KeepsEach told.keeps_log closing gears left
   pub passed : HandsAndTakes s n gears (returned closing left)
   pub status : ended ≡ end_of_run ends closing
@@ -178,22 +186,22 @@ pub record Contains {W G C S X L : Type 0} (told : Tells W G C S X) (route : Lis
 -- ---- the same of what a command goes over, as it was before and is after it
 
 -- The workers of a site were wanted.
-abbrev pub WorksSite : {W G C S X L : Type 0} → Tells W G C S X → ReadSite → GearOrder → (before after : W) → CommandEnd L → Type 0
-WorksSite told site asked before after ended =
-    Works asked.threads (RunsSite told site.cfg site.map asked.threads (wants_of asked)) (told.world before) (told.world after) ended
+abbrev pub WorksSite : {W G C S X L : Type 0} → Tells W G C S X → ReadSite → (threads : ℕ) → GearOrder → (before after : W) → CommandEnd L → Type 0
+WorksSite told site threads asked before after ended =
+    Works threads (RunsSite told site.cfg site.map threads (wants_of asked)) (told.world before) (told.world after) ended
 
 -- The workers of a container were wanted.
-abbrev pub WorksContainer : {W G C S X L : Type 0} → Tells W G C S X → AppConfig → GearOrder → (before after : W) → CommandEnd L → Type 0
-WorksContainer told app asked before after ended =
-    Works asked.threads (RunsContainer told app asked.threads (wants_of asked)) (told.world before) (told.world after) ended
+abbrev pub WorksContainer : {W G C S X L : Type 0} → Tells W G C S X → AppConfig → (threads : ℕ) → GearOrder → (before after : W) → CommandEnd L → Type 0
+WorksContainer told app threads asked before after ended =
+    Works threads (RunsContainer told app threads (wants_of asked)) (told.world before) (told.world after) ended
 
 -- The workers of a container of this route were wanted.
-abbrev pub ContainsAsked : {W G C S X L : Type 0} → Tells W G C S X → (route : List ℕ) → GearOrder → (before after : W) → CommandEnd L → Type 0
-ContainsAsked told route asked before after ended =
-    ContainsLinks told route asked.threads (wants_of asked) (told.world before) (told.world after) ended
+abbrev pub ContainsAsked : {W G C S X L : Type 0} → Tells W G C S X → ContainerOrder → (before after : W) → CommandEnd L → Type 0
+ContainsAsked told order before after ended =
+    ContainsLinks told order.route.now order.threads (wants_of order.asked) (told.world before) (told.world after) ended
 
 -- `serve` over its files, whatever the input.
 abbrev pub ServesOrder : {F O W G C S X L : Type 0} → CommandTells F O W G C S X → ServeOrder → (before after : F × O × W) → CommandEnd L → Type 0
 ServesOrder told order before after ended =
-    OfFiles (told.files before.0) (λ outside. Serves told.world outside order.workers.now order.map.now order.asked.threads (wants_of order.asked)
+    OfFiles (told.files before.0) (λ outside. Serves told.world outside order.workers.now order.map.now order.threads (wants_of order.asked)
     (command_side told before) (command_side told after) ended)

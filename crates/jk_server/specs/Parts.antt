@@ -13,7 +13,7 @@ use Rattle.site_config.specs.declared.config.Config.{Config}
 use Rattle.uri_map.specs.declared.rule.Rule.{Rule}
 use Rattle.jk_server.specs.Served.{IsServed}
 use Rattle.jk_server.specs.PartTells.{PartTells, worker_of}
-use Rattle.jk_server.specs.Worker.{IsFit, worker_side, WorkerSide}
+use Rattle.jk_server.specs.Worker.{IsFit, Keeps, worker_side, WorkerSide}
 use Rattle.gear_parts.specs.declared.part.Outside.{Outside}
 use Rattle.gear_parts.specs.declared.part.Part.{Part}
 use Rattle.jk_server.specs.declared.part.ServeEnd.{ServeEnd}
@@ -31,15 +31,15 @@ abbrev pub DeskLeaves : {L S : Type 0} {N : SiteGhosts L} → SharedState S → 
 DeskLeaves desk left = Leaves desk left.receipts left.forgotten left.shelf left.share.amount left.share.parts
 
 -- A worker served its part, and may serve on with what it has. Its share keeps its parts.
-pub record IsWorked {C S L X : Type 0} (visit : Peer → Visit) (told : Ghosts C X) (faults : S → ℕ) (cfg : Config) (rules : List Rule) (before after : DoorSide C) (s n : WorkerSide S) (beside : Beside) (end : WorkerEnd L) : Type 0 where
-  pub served : IsServed visit told faults before after s n end
+pub record IsWorked {C S Y L X : Type 0} (visit : Peer → Visit) (told : Ghosts C X) (of : Keeps S Y) (cfg : Config) (rules : List Rule) (before after : DoorSide C) (s n : WorkerSide S Y) (beside : Beside) (end : WorkerEnd L) : Type 0 where
+  pub served : IsServed visit told of before after s n end
   pub fit : IsFit cfg rules n.desk.desk beside
   pub parts : n.desk.desk.parts ≡ s.desk.desk.parts
 
 -- What `IsWorked` says of the part of a worker with this number, from one moment to another.
-abbrev pub WorksPart : {L D R K S W C X : Type 0} → PartTells D R K S C X → Config → List Rule → (number : ℕ) → (before after : Part L D R K S W) → WorkerEnd L → Type 0
+abbrev pub WorksPart : {L D R K S W Y C X : Type 0} → PartTells D R K S Y C X → Config → List Rule → (number : ℕ) → (before after : Part L D R K S W Y) → WorkerEnd L → Type 0
 WorksPart told cfg rules number before after end =
-    IsWorked (visit cfg rules number) told.link told.shelf_faults cfg rules (told.door before.door) (told.door after.door)
+    IsWorked (visit cfg rules number) told.link told.keeps cfg rules (told.door before.door) (told.door after.door)
     (worker_of told before) (worker_of told after) (told.reach.beside after.reach) end
 
 -- `Did` holds of each item of a list and of what it became, by its place.
@@ -58,24 +58,25 @@ AllFour Is [] [] [] [] = Unit {0}
 AllFour Is (p ∷ ps) (o ∷ os) (l ∷ ls) (e ∷ es) = Is p o l e × AllFour Is ps os ls es
 AllFour Is _ _ _ _ = ⊥
 
--- What was left of a part: its door, its reach and its clock, and what its desk left.
-pub record LeavesPart {L D R K S W : Type 0} {N : SiteGhosts L} (part : Part L D R K S W) (out : Outside D R K) (left : Leaving L S N) : Type 0 where
+-- What was left of a part: its door, its reach, its clock and its log, and what its desk left.
+pub record LeavesPart {L D R K S W Y : Type 0} {N : SiteGhosts L} (part : Part L D R K S W Y) (out : Outside D R K Y) (left : Leaving L S N) : Type 0 where
   pub same_door : out.door ≡ part.door
   pub same_reach : out.reach ≡ part.reach
   pub same_clock : out.clock ≡ part.clock
+  pub same_log : out.log ≡ part.log
   pub desk : DeskLeaves part.desk left
 
 -- A worker served its part, and `Left` holds of the desk that it had then.
-pub record IsServedPart {C S L X : Type 0} (visit : Peer → Visit) (told : Ghosts C X) (faults : S → ℕ) (cfg : Config) (rules : List Rule) (before after : DoorSide C) (s : WorkerSide S) (with : SharedState S → WorkerSide S) (beside : Beside) (Left : SharedState S → Type 0) (end : WorkerEnd L) : Type 0 where
+pub record IsServedPart {C S Y L X : Type 0} (visit : Peer → Visit) (told : Ghosts C X) (of : Keeps S Y) (cfg : Config) (rules : List Rule) (before after : DoorSide C) (s : WorkerSide S Y) (with : SharedState S → WorkerSide S Y) (beside : Beside) (Left : SharedState S → Type 0) (end : WorkerEnd L) : Type 0 where
   pub desk : SharedState S
-  pub worked : IsWorked visit told faults cfg rules before after s (with desk) beside end
+  pub worked : IsWorked visit told of cfg rules before after s (with desk) beside end
   pub left : Left desk
 
 -- Each part was served and left, by the worker whose number is the part's place.
-abbrev pub AreServedParts : {L D R K S W C X : Type 0} {N : SiteGhosts L} → PartTells D R K S C X → Config → List Rule → List (Part L D R K S W) → ServeEnd L D R K S N → Type 0
-AreServedParts {L} {D} {R} {K} {S} {W} {N = N} told cfg rules parts ran =
-    AreEach (λ (number : ℕ) (part : Part L D R K S W) (out : Outside D R K) (left : Leaving L S N) (end : WorkerEnd L).
-    IsServedPart (visit cfg rules number) told.link told.shelf_faults cfg rules (told.door part.door) (told.door out.door) (worker_of told part)
-    (λ (desk : SharedState S). worker_side told.clock told.reach desk out.clock out.reach) (told.reach.beside out.reach)
+abbrev pub AreServedParts : {L D R K S W Y C X : Type 0} {N : SiteGhosts L} → PartTells D R K S Y C X → Config → List Rule → List (Part L D R K S W Y) → ServeEnd L D R K S Y N → Type 0
+AreServedParts {L} {D} {R} {K} {S} {W} {Y} {N = N} told cfg rules parts ran =
+    AreEach (λ (number : ℕ) (part : Part L D R K S W Y) (out : Outside D R K Y) (left : Leaving L S N) (end : WorkerEnd L).
+    IsServedPart (visit cfg rules number) told.link told.keeps cfg rules (told.door part.door) (told.door out.door) (worker_of told part)
+    (λ (desk : SharedState S). worker_side told.clock told.reach desk out.clock out.reach out.log) (told.reach.beside out.reach)
     (λ (desk : SharedState S). DeskLeaves desk left) end)
     0 parts ran.outside ran.leaving ran.workers

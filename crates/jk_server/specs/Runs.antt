@@ -12,7 +12,7 @@ use Rattle.gear_parts.specs.Gears.{GearSide, KeepsLog}
 use Rattle.gear_parts.specs.Starts.{AreStarted}
 use Rattle.gear_parts.specs.declared.world.Gear.{Gear}
 use Rattle.jk_server.specs.Served.{IsServed}
-use Rattle.jk_server.specs.Worker.{WorkerSide}
+use Rattle.jk_server.specs.Worker.{Keeps, WorkerSide}
 use Rattle.jk_server.specs.declared.part.WorkerEnd.{WorkerEnd}
 use Rattle.jk_server.specs.Closings.{Closes}
 use Rattle.jk_server.specs.Ends.{KeepsEach}
@@ -21,7 +21,7 @@ use Rattle.jk_server.specs.declared.runs.ends.Closing.{Closing}
 use Rattle.jk_server.specs.declared.runs.ends.SiteRun.{SiteRun}
 
 -- The worker works with this gear: with its shelf, its clock and its tape.
-pub record WorksWith {C S : Type 0} (gear : GearSide C S) (worker : WorkerSide S) : Type 0 where
+pub record WorksWith {C S Y : Type 0} (gear : GearSide C S) (worker : WorkerSide S Y) : Type 0 where
   pub shelf : worker.desk.shelf ≡ gear.shelf
   pub clock : worker.clock ≡ gear.clock
   pub talks : worker.reach.talks ≡ gear.talks
@@ -34,30 +34,30 @@ pub record IsNew {S : Type 0} (desk : SharedState S) : Type 0 where
   pub no_stray : desk.met ≡ None
 
 -- A worker served the clients of its gear's door, each by one session, in order, with the talks on its tape; `end` is its end.
-pub record IsServedGear {C S L X : Type 0} (visit : Peer → Visit) (told : Ghosts C X) (faults : S → ℕ) (before after : GearSide C S) (end : WorkerEnd L) : Type 0 where
-  pub from : WorkerSide S
-  pub to : WorkerSide S
+pub record IsServedGear {C S Y L X : Type 0} (visit : Peer → Visit) (told : Ghosts C X) (of : Keeps S Y) (before after : GearSide C S) (end : WorkerEnd L) : Type 0 where
+  pub from : WorkerSide S Y
+  pub to : WorkerSide S Y
   pub first : WorksWith before from
   pub fresh : IsNew from.desk
   pub last : WorksWith after to
-  pub served : IsServed visit told faults before.door after.door from to end
+  pub served : IsServed visit told of before.door after.door from to end
 
 -- Each gear was served, in order, by the worker of its number.
-abbrev pub AreServedGears : {C S L X : Type 0} → (ℕ → Peer → Visit) → Ghosts C X → (S → ℕ) → (number : ℕ) → (before after : List (GearSide C S)) → List (WorkerEnd L) → Type 0
-AreServedGears visits told faults number [] [] [] = Unit {0}
-AreServedGears visits told faults number (b ∷ before) (a ∷ after) (e ∷ ends) =
-    IsServedGear (visits number) told faults b a e × AreServedGears visits told faults (number + 1) before after ends
-AreServedGears visits told faults number _ _ _ = ⊥
+abbrev pub AreServedGears : {C S Y L X : Type 0} → (ℕ → Peer → Visit) → Ghosts C X → Keeps S Y → (number : ℕ) → (before after : List (GearSide C S)) → List (WorkerEnd L) → Type 0
+AreServedGears visits told of number [] [] [] = Unit {0}
+AreServedGears visits told of number (b ∷ before) (a ∷ after) (e ∷ ends) =
+    IsServedGear (visits number) told of b a e × AreServedGears visits told of (number + 1) before after ends
+AreServedGears visits told of number _ _ _ = ⊥
 
 -- The gears as they were handed in and as they came back, how each worker ended, and how the closing did.
-pub record IsSiteRun {C S L X : Type 0} (visits : ℕ → Peer → Visit) (told : Ghosts C X) (shelved : S → Option (List (ℕ × Segment))) (faults : S → ℕ) (lbs : List Lb) (before back : List (GearSide C S)) (ends : List (WorkerEnd L)) (closing : Closing L) : Type 0 where
+pub record IsSiteRun {C S Y L X : Type 0} (visits : ℕ → Peer → Visit) (told : Ghosts C X) (shelved : S → Option (List (ℕ × Segment))) (of : Keeps S Y) (lbs : List Lb) (before back : List (GearSide C S)) (ends : List (WorkerEnd L)) (closing : Closing L) : Type 0 where
   pub begun : List (GearSide C S)
   pub left : List (GearSide C S)
   pub started : AreStarted before begun
-  pub served : AreServedGears visits told faults 0 begun left ends
-  pub closed : Closes shelved faults lbs left back closing
+  pub served : AreServedGears visits told of 0 begun left ends
+  pub closed : Closes shelved of.shelf_faults lbs left back closing
 
 -- What `IsSiteRun` says of the gears that were handed in, and of what the run gave back, each gear with the log that it had.
-pub record RunsGears {D G T K S O L C X : Type 0} (told : RunTells D T K S C X) (cfg : Config) (rules : List Rule) (gears : List (Gear D G T K S O)) (run : SiteRun L (Gear D G T K S O)) : Type 0 where
-  pub is : IsSiteRun (visit cfg rules) told.link told.shelved told.shelf_faults cfg.lbs (gears_at told gears) (gears_at told run.gears.items) run.workers run.closing
+pub record RunsGears {D G T K S O L Y C X : Type 0} (told : RunTells D T K S Y C X) (cfg : Config) (rules : List Rule) (gears : List (Gear D G T K S O)) (run : SiteRun L (Gear D G T K S O)) : Type 0 where
+  pub is : IsSiteRun (visit cfg rules) told.link told.shelved told.keeps cfg.lbs (gears_at told gears) (gears_at told run.gears.items) run.workers run.closing
   pub logs : KeepsEach KeepsLog run.closing gears run.gears.items

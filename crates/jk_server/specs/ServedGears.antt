@@ -19,9 +19,9 @@ use Rattle.jk_server.specs.declared.part.ServeEnd.{ServeEnd}
 use Rattle.jk_server.specs.declared.runs.ran.Ran.{Ran}
 
 -- Each gear was served by the worker of its place, which left its tools, and its shelf with its desk.
-abbrev pub ServesGears : {D G T K S O L C X : Type 0} {N : SiteGhosts L} → RunTells D T K S C X → Config → List Rule → List (Gear D G T K S O) → Ran L D G T K S O N → Type 0
+abbrev pub ServesGears : {D G T K S O L Y C X : Type 0} {N : SiteGhosts L} → RunTells D T K S Y C X → Config → List Rule → List (Gear D G T K S O) → Ran L D G T K S O N → Type 0
 ServesGears told cfg rules gears ran =
-    AreServedGears (visit cfg rules) told.link told.shelf_faults 0 (gears_at told gears)
+    AreServedGears (visit cfg rules) told.link told.keeps 0 (gears_at told gears)
     (gears_with (gear_with told.door told.talks told.answers) (tools_of ran.left.items) (map (λ l. l.shelf) ran.leaving)) ran.workers
 
 -- a gear as its worker begins with it
@@ -34,25 +34,25 @@ IsBeginning desk = IsNew desk × (desk.desk.parts ≡ Some 1)
 
 -- The workers left tools and a desk for each of these parts, and no talk runs. Where each part had a new desk of one part of
 -- the ledger, each worker served what its part was the start of, and the desks have a part of the ledger for each worker.
-pub record LeavesParts {D G T K S L C X P W : Type 0} {N : SiteGhosts L} (told : RunTells D T K S C X) (cfg : Config) (rules : List Rule) (parts : List (Part L D (PooledState G T P) K S W)) (end : ServeEnd L D (PooledState G T P) K S N) : Type 0 where
+pub record LeavesParts {D G T K S L Y C X P W : Type 0} {N : SiteGhosts L} (told : RunTells D T K S Y C X) (cfg : Config) (rules : List Rule) (parts : List (Part L D (PooledState G T P) K S W Y)) (end : ServeEnd L D (PooledState G T P) K S Y N) : Type 0 where
   pub outs : length end.outside ≡ length parts
   pub desks : length end.leaving ≡ length parts
   pub idle : All (λ o. is_some o.reach.lent ≡ false) end.outside
-  pub served : All (λ p. IsBeginning p.desk) parts → AreServedGears (visit cfg rules) told.link told.shelf_faults 0
+  pub served : All (λ p. IsBeginning p.desk) parts → AreServedGears (visit cfg rules) told.link told.keeps 0
       (map (λ p. start_side told.door told.talks told.answers (start_with p.door p.reach p.clock p.desk)) parts)
       (gears_with (gear_with told.door told.talks told.answers) (map (λ o. tools o.door o.reach.dial o.reach.tape o.clock) end.outside) (map (λ l. l.shelf) end.leaving))
       end.workers
   pub whole : All (λ p. IsBeginning p.desk) parts → sum_by (λ l. l.share.parts) end.leaving ≡ length parts
 
 -- Each gear was served so. There is a desk and a part of the ledger for each gear, and the gears' logs are left in order.
-pub record IsRunOf {D G T K S O L C X : Type 0} {N : SiteGhosts L} (told : RunTells D T K S C X) (cfg : Config) (rules : List Rule) (gears : List (Gear D G T K S O)) (ran : Ran L D G T K S O N) : Type 0 where
+pub record IsRunOf {D G T K S O L Y C X : Type 0} {N : SiteGhosts L} (told : RunTells D T K S Y C X) (cfg : Config) (rules : List Rule) (gears : List (Gear D G T K S O)) (ran : Ran L D G T K S O N) : Type 0 where
   pub served : ServesGears told cfg rules gears ran
   pub whole : sum_by (λ l. l.share.parts) ran.leaving ≡ length gears
   pub each : length ran.leaving ≡ length gears
   pub logs : map (λ l. l.log) ran.left.items ≡ map (λ g. g.log) gears
 
 -- The run is one of the gears of which these parts and logs were made, whichever these gears are.
-abbrev pub RunsParts : {D G T K S O L C X P W : Type 0} {N : SiteGhosts L} → RunTells D T K S C X → Config → List Rule → List (Part L D (PooledState G T P) K S W) → List (Option O) → Ran L D G T K S O N → Type 0
+abbrev pub RunsParts : {D G T K S O L Y C X P W : Type 0} {N : SiteGhosts L} → RunTells D T K S Y C X → Config → List Rule → List (Part L D (PooledState G T P) K S W Y) → List (Option O) → Ran L D G T K S O N → Type 0
 RunsParts {D} {G} {T} {K} {S} {O} told cfg rules parts logs ran =
     (sizes pools : List ℕ) (gears : List (Gear D G T K S O))
     → map (λ p. start_with p.door p.reach p.clock p.desk) parts ≡ map (start_of sizes pools) gears → logs ≡ map (λ g. g.log) gears

@@ -1,5 +1,5 @@
 -- A run from where its balancers started.
-use Rattle.std.specs.Prelude.{ℕ, ◌≡◌, ◌<◌, ◌≤◌, true, List, Option}
+use Rattle.std.specs.Prelude.{ℕ, ◌≡◌, ◌<◌, ◌≤◌, true, List, map, Option}
 use Rattle.std.specs.List.{All}
 use Rattle.jk_io.specs.declared.traits.streams.Meanings.{Ghosts}
 use Rattle.jk_io.specs.declared.traits.surroundings.Peer.{Peer}
@@ -18,19 +18,23 @@ use Rattle.jk_server.specs.Closings.{Closes, firsts_of}
 use Rattle.jk_server.specs.Runs.{AreServedGears}
 use Rattle.jk_server.specs.Ends.{KeepsEach}
 use Rattle.jk_server.specs.RunTells.{gears_at, RunTells}
+use Rattle.jk_server.specs.Worker.{Keeps}
 use Rattle.jk_server.specs.declared.runs.ends.Closing.{Closing}
 use Rattle.jk_server.specs.declared.runs.ends.SiteRun.{SiteRun}
 use Rattle.jk_server.specs.declared.runs.serve.NewSite.{NewSite}
-use Rattle.jk_server.specs.declared.runs.serve.TheConstants.{CUT_AT}
-use Rattle.jk_server.specs.declared.workers.TheConstants.{MAX_WORKERS}
 
--- A Site that isn't open yet has this name, whose values are those of these balancers, and a Book for each balancer.
-pub record IsNewSite (name parts : ℕ) (sizes firsts : List ℕ) (cut_at : ℕ) (lbs : List Lb) (new : NewSite) : Type 0 where
+-- the pool sizes of each balancer's members
+abbrev pub pool_table : List Lb → List (List ℕ)
+pool_table lbs = map (λ lb. map (λ m. m.pool) lb.book.members) lbs
+
+-- A Site that isn't open yet has this name, whose values are those of these balancers and of this cut, and a Book for each
+-- balancer.
+pub record IsNewSite (name parts : ℕ) (sizes firsts : List ℕ) (cut_at cut : ℕ) (lbs : List Lb) (new : NewSite) : Type 0 where
   pub named : new.blank.name ≡ name
   pub whole : new.blank.parts ≡ parts
   pub sized : sizes ≡ sizes_of lbs
   pub numbered : firsts ≡ firsts_of lbs
-  pub cut : cut_at ≡ CUT_AT
+  pub cut_so : cut_at ≡ cut
   pub at : ℕ
   pub books : AreStarts lbs at 0 new.books
 
@@ -38,17 +42,17 @@ pub record IsNewSite (name parts : ℕ) (sizes firsts : List ℕ) (cut_at : ℕ)
 pub record IsReady {D G T K S O : Type 0} (is_idle : T → Type 0) (parts : ℕ) (cfg : Config) (rules : List Rule) (count : ℕ) (gears : List (Gear D G T K S O)) : Type 0 where
   pub each : parts ≡ count
   pub some : 0 < count
-  pub few : count ≤ MAX_WORKERS
+  pub few : count ≤ 64
   pub stands : stands_in cfg rules ≡ true
   pub idle : All (λ g. is_idle g.tape) gears
 
 -- The workers served with the gears as they were at the start, and the closing ended so.
-pub record IsStartedRun {C S L X : Type 0} (visits : ℕ → Peer → Visit) (told : Ghosts C X) (shelved : S → Option (List (ℕ × Segment))) (faults : S → ℕ) (lbs : List Lb) (begun back : List (GearSide C S)) (ends : List (WorkerEnd L)) (closing : Closing L) : Type 0 where
+pub record IsStartedRun {C S Y L X : Type 0} (visits : ℕ → Peer → Visit) (told : Ghosts C X) (shelved : S → Option (List (ℕ × Segment))) (of : Keeps S Y) (lbs : List Lb) (begun back : List (GearSide C S)) (ends : List (WorkerEnd L)) (closing : Closing L) : Type 0 where
   pub left : List (GearSide C S)
-  pub served : AreServedGears visits told faults 0 begun left ends
-  pub closed : Closes shelved faults lbs left back closing
+  pub served : AreServedGears visits told of 0 begun left ends
+  pub closed : Closes shelved of.shelf_faults lbs left back closing
 
 -- What `IsStartedRun` says of the gears as they were at the start, and of what the run gave back, each with the log that it had.
-pub record RunsStarted {D G T K S O L C X : Type 0} (told : RunTells D T K S C X) (cfg : Config) (rules : List Rule) (gears : List (Gear D G T K S O)) (run : SiteRun L (Gear D G T K S O)) : Type 0 where
-  pub is : IsStartedRun (visit cfg rules) told.link told.shelved told.shelf_faults cfg.lbs (gears_at told gears) (gears_at told run.gears.items) run.workers run.closing
+pub record RunsStarted {D G T K S O L Y C X : Type 0} (told : RunTells D T K S Y C X) (cfg : Config) (rules : List Rule) (gears : List (Gear D G T K S O)) (run : SiteRun L (Gear D G T K S O)) : Type 0 where
+  pub is : IsStartedRun (visit cfg rules) told.link told.shelved told.keeps cfg.lbs (gears_at told gears) (gears_at told run.gears.items) run.workers run.closing
   pub logs : KeepsEach KeepsLog run.closing gears run.gears.items

@@ -3,34 +3,44 @@ use Rattle.std.specs.Prelude.{ℕ, ◌≡◌, ◌+◌, min, List, map, Option, S
 use Rattle.std.specs.List.{All}
 use Rattle.jk_io.specs.declared.traits.streams.Meanings.{Ghosts}
 use Rattle.jk_io.specs.declared.traits.surroundings.Peer.{Peer}
+use Rattle.client_session.specs.Ready.{IsReady}
 use Rattle.client_session.specs.Requests.{Visit, visit}
+use Rattle.client_session.specs.declared.ending.SessionEnd.{SessionEnd}
 use Rattle.door_clients.specs.Doors.{DoorSide, GaveAndGot}
 use Rattle.site_config.specs.declared.config.Config.{Config}
 use Rattle.uri_map.specs.declared.rule.Rule.{Rule}
 use Rattle.gear_parts.specs.declared.part.Part.{Part}
 use Rattle.jk_server.specs.PartTells.{PartTells, visit_at, worker_of}
 use Rattle.jk_server.specs.Served.{count_of, HaveRested, IsRun, IsServed, Run, ServesPartClient, ServesPartNext}
-use Rattle.jk_server.specs.Worker.{IsFit, Rests, WorkerSide}
+use Rattle.jk_server.specs.Worker.{IsFit, Keeps, Rests, WorkerSide}
 use Rattle.jk_server.specs.declared.part.Post.{Post}
 use Rattle.jk_server.specs.declared.part.WorkerEnd.{WorkerEnd}
 use Rattle.jk_server.specs.declared.part.WorkerEnd.TheVariants as worker
 
--- These clients were served, the worker rested after each, and no call of its door failed.
-pub record IsUnderWay {C S X : Type 0} (visit : Peer → Visit) (told : Ghosts C X) (faults : S → ℕ) (first now : DoorSide C) (s n : WorkerSide S) (count : ℕ) : Type 0 where
-  pub runs : List (Run C S)
+-- These clients were served, the worker rested after each, no call of its door failed, and its log took each row.
+pub record IsUnderWay {C S Y X : Type 0} (visit : Peer → Visit) (told : Ghosts C X) (of : Keeps S Y) (first now : DoorSide C) (s n : WorkerSide S Y) (count : ℕ) : Type 0 where
+  pub runs : List (Run C S Y)
   pub clients : GaveAndGot first now (map (λ r. (r.link, r.peer)) runs) (map (λ r. r.back) runs)
-  pub sessions : All (IsRun visit told) runs
-  pub rested : HaveRested faults s runs n
+  pub sessions : All (IsRun visit told of) runs
+  pub rested : HaveRested of s runs n
   pub counted : count ≡ count_of runs
   pub steady : now.faults ≡ first.faults
+  pub logged : of.log.broken_by n.log ≡ None
 
 -- One more client was served, and the worker goes on; or it ended.
-abbrev pub GoesOrEnds : {C S L X : Type 0} → (Peer → Visit) → Ghosts C X → (S → ℕ) → (first now : DoorSide C) → (s n : WorkerSide S) → (count : ℕ) → Option (WorkerEnd L) → Type 0
-GoesOrEnds visit told faults first now s n count None = IsUnderWay visit told faults first now s n (min (count + 1) 18446744073709551615)
-GoesOrEnds visit told faults first now s n count (Some end) = IsServed visit told faults first now s n end
+abbrev pub GoesOrEnds : {C S Y L X : Type 0} → (Peer → Visit) → Ghosts C X → Keeps S Y → (first now : DoorSide C) → (s n : WorkerSide S Y) → (count : ℕ) → Option (WorkerEnd L) → Type 0
+GoesOrEnds visit told of first now s n count None = IsUnderWay visit told of first now s n (min (count + 1) 18446744073709551615)
+GoesOrEnds visit told of first now s n count (Some end) = IsServed visit told of first now s n end
+
+-- One session of a client, whose link this was before and after. The worker's door isn't asked, and it is ready again.
+pub record RunsSession {L D R K S W Y C X : Type 0} (told : PartTells D R K S Y C X) (post : Post) (before after : Part L D R K S W Y) (link back : C) (peer : Peer) (end : SessionEnd) : Type 0 where
+  pub run : IsRun (visit_at post) told.link told.keeps
+      (record { link = link; peer = peer; back = back; from = worker_of told before; to = worker_of told after; end = end })
+  pub ready : IsReady (visit_at post peer) after.desk.desk (told.reach.beside after.reach)
+  pub same_door : after.door ≡ before.door
 
 -- A client was served and its link was left. The worker may serve on with what it has. Its share keeps its parts.
-pub record LeavesClient {L D R K S W C X : Type 0} (told : PartTells D R K S C X) (post : Post) (before after : Part L D R K S W) (link : C) (peer : Peer) (end : Option (WorkerEnd L)) : Type 0 where
+pub record LeavesClient {L D R K S W Y C X : Type 0} (told : PartTells D R K S Y C X) (post : Post) (before after : Part L D R K S W Y) (link : C) (peer : Peer) (end : Option (WorkerEnd L)) : Type 0 where
   pub served : ServesPartClient told (visit_at post) before after link peer end
   pub fit : IsFit post.cfg.now post.map.now after.desk.desk (told.reach.beside after.reach)
   pub parts : after.desk.desk.parts ≡ before.desk.desk.parts
@@ -40,30 +50,31 @@ abbrev pub EndsAtRest : {L : Type 0} → Option (WorkerEnd L) → Type 0
 EndsAtRest None = Unit {0}
 EndsAtRest (Some end) = end ≡ worker.NoMemory
 
--- The worker rested, and goes on or ends. Door and desk stay as they are.
-pub record RestsPart {L D R K S W C X : Type 0} (told : PartTells D R K S C X) (before after : Part L D R K S W) (end : Option (WorkerEnd L)) : Type 0 where
+-- The worker rested, and goes on or ends. Door, desk and log stay as they are.
+pub record RestsPart {L D R K S W Y C X : Type 0} (told : PartTells D R K S Y C X) (before after : Part L D R K S W Y) (end : Option (WorkerEnd L)) : Type 0 where
   pub why : EndsAtRest end
   pub rests : Rests (worker_of told before) (worker_of told after)
   pub beside : told.reach.beside after.reach ≡ told.reach.beside before.reach
   pub same_door : after.door ≡ before.door
   pub same_desk : after.desk ≡ before.desk
+  pub same_log : after.log ≡ before.log
 
 -- A client was served, and the worker goes on or ends. It may serve on with what it has. Its share keeps its parts.
-pub record NextsPart {L D R K S W C X : Type 0} (told : PartTells D R K S C X) (post : Post) (before after : Part L D R K S W) (link : C) (peer : Peer) (end : Option (WorkerEnd L)) : Type 0 where
+pub record NextsPart {L D R K S W Y C X : Type 0} (told : PartTells D R K S Y C X) (post : Post) (before after : Part L D R K S W Y) (link : C) (peer : Peer) (end : Option (WorkerEnd L)) : Type 0 where
   pub served : ServesPartNext told (visit_at post) before after link peer end
   pub fit : IsFit post.cfg.now post.map.now after.desk.desk (told.reach.beside after.reach)
   pub parts : after.desk.desk.parts ≡ before.desk.desk.parts
 
 -- So after all that were served before, and the worker may serve on with what it has. Its share keeps its parts.
-pub record TurnsPart {L D R K S W C X : Type 0} (told : PartTells D R K S C X) (post : Post) (before after : Part L D R K S W) (count : ℕ) (end : Option (WorkerEnd L)) : Type 0 where
-  pub turned : (first : DoorSide C) (s : WorkerSide S)
-      → IsUnderWay (visit_at post) told.link told.shelf_faults first (told.door before.door) s (worker_of told before) count
-      → GoesOrEnds (visit_at post) told.link told.shelf_faults first (told.door after.door) s (worker_of told after) count end
+pub record TurnsPart {L D R K S W Y C X : Type 0} (told : PartTells D R K S Y C X) (post : Post) (before after : Part L D R K S W Y) (count : ℕ) (end : Option (WorkerEnd L)) : Type 0 where
+  pub turned : (first : DoorSide C) (s : WorkerSide S Y)
+      → IsUnderWay (visit_at post) told.link told.keeps first (told.door before.door) s (worker_of told before) count
+      → GoesOrEnds (visit_at post) told.link told.keeps first (told.door after.door) s (worker_of told after) count end
   pub fit : IsFit post.cfg.now post.map.now after.desk.desk (told.reach.beside after.reach)
   pub parts : after.desk.desk.parts ≡ before.desk.desk.parts
 
 -- The clients so far were served since a moment, and the worker may serve on with what it has. Its share keeps its parts.
-pub record KeepsTurning {L D R K S W C X : Type 0} (told : PartTells D R K S C X) (cfg : Config) (rules : List Rule) (number : ℕ) (first now : Part L D R K S W) (count : ℕ) : Type 0 where
-  pub way : IsUnderWay (visit cfg rules number) told.link told.shelf_faults (told.door first.door) (told.door now.door) (worker_of told first) (worker_of told now) count
+pub record KeepsTurning {L D R K S W Y C X : Type 0} (told : PartTells D R K S Y C X) (cfg : Config) (rules : List Rule) (number : ℕ) (first now : Part L D R K S W Y) (count : ℕ) : Type 0 where
+  pub way : IsUnderWay (visit cfg rules number) told.link told.keeps (told.door first.door) (told.door now.door) (worker_of told first) (worker_of told now) count
   pub fit : IsFit cfg rules now.desk.desk (told.reach.beside now.reach)
   pub parts : now.desk.desk.parts ≡ first.desk.desk.parts

@@ -1,44 +1,66 @@
 -- What a worker has beside its door at a moment, and what it does between two sessions.
-use Rattle.std.specs.Prelude.{ℕ, ◌≡◌, ◌+◌, true, false, List, [], length, Option, None}
+use Rattle.std.specs.Prelude.{ℕ, ◌≡◌, ◌+◌, Bool, true, false, List, [], length, Option, None}
 use Rattle.jk_io.specs.Answers.{Answers}
 use Rattle.jk_io.specs.Moments.{Moment}
+use Rattle.jk_io.specs.declared.failures.IoError.{IoError}
 use Rattle.jk_io.specs.declared.reaching.Beside.{Beside}
 use Rattle.jk_io.specs.declared.traits.streams.Meanings.{Ghosts}
+use Rattle.jk_io.specs.declared.traits.surroundings.Peer.{Peer}
 use Rattle.balancer_core.specs.Desks.{DeskState}
 use Rattle.client_session.specs.Standings.{ReachSide, ClientStanding}
 use Rattle.exchange.specs.Requests.{sizes_of}
+use Rattle.gear_parts.specs.Logs.{LogTells}
 use Rattle.locked_balancer.specs.SharedDesks.{SharedState}
 use Rattle.site_config.specs.declared.config.Config.{Config}
 use Rattle.uri_map.specs.Sites.{stands_in}
 use Rattle.uri_map.specs.declared.rule.Rule.{Rule}
 
--- Its desk, the answers that its clock is to give, and what its reach tells.
-pub record WorkerSide (S : Type 0) : Type 0 where
+-- Its desk, the answers that its clock is to give, what its reach tells, and where the rows of its requests are put.
+pub record WorkerSide (S Y : Type 0) : Type 0 where
   pub desk : SharedState S
   pub clock : Option (List ℕ)
   pub reach : ReachSide
+  pub log : Y
 
--- a worker at a moment, by what its types tell: `worker_side K.answers R.Meanings desk clock reach`
-abbrev pub worker_side : {K R S : Type 0} → (K → Option (List ℕ)) → Ghosts R Beside → SharedState S → K → R → WorkerSide S
-worker_side answers told desk clock reach = record {
+-- a worker at a moment, by what its types tell: `worker_side K.answers R.Meanings desk clock reach log`
+abbrev pub worker_side : {K R S Y : Type 0} → (K → Option (List ℕ)) → Ghosts R Beside → SharedState S → K → R → Y → WorkerSide S Y
+worker_side answers told desk clock reach log = record {
   desk = desk;
   clock = answers clock;
   reach = record { talks = (told.beside reach).talks; faults = told.faults reach };
+  log = log;
 }
 
+-- What is told of a worker's shelf and of its log, and whether a read of its clients may wait.
+pub record Keeps (S Y : Type 0) : Type 1 where
+  pub shelf_faults : S → ℕ
+  pub log : LogTells Y
+  pub may_wait : Bool
+
+-- by their types: `keeps S.faults (log_tells Y.gained Y.greets Y.broken_by Y.log_faults) D.L.may_wait`
+abbrev pub keeps : {S Y : Type 0} → (S → ℕ) → LogTells Y → Bool → Keeps S Y
+keeps shelf_faults log may_wait = record { shelf_faults = shelf_faults; log = log; may_wait = may_wait }
+
 -- what a session of this worker knows then, over a client and the client's bytes that were read and not used
-abbrev pub standing_with : {S : Type 0} → WorkerSide S → Moment → List ℕ → ClientStanding
+abbrev pub standing_with : {S Y : Type 0} → WorkerSide S Y → Moment → List ℕ → ClientStanding
 standing_with w client inbox =
     record { desk = record { state = w.desk.desk; clock = w.clock }; reach = w.reach; client = client; inbox = inbox }
 
--- before a session the desk forgets the receipts of the one before; they stay counted
-abbrev pub forgot : {S : Type 0} → WorkerSide S → WorkerSide S
-forgot w = record w {
-  desk = record w.desk { desk = record w.desk.desk { receipts = [] }; forgotten = w.desk.forgotten + length w.desk.desk.receipts };
-}
+-- a desk that forgot its receipts; they stay counted
+abbrev pub forgot_desk : {S : Type 0} → SharedState S → SharedState S
+forgot_desk d = record d { desk = record d.desk { receipts = [] }; forgotten = d.forgotten + length d.desk.receipts }
+
+-- before a session the desk forgets the receipts of the one before
+abbrev pub forgot : {S Y : Type 0} → WorkerSide S Y → WorkerSide S Y
+forgot w = record w { desk = forgot_desk w.desk }
+
+-- A session begins with what the worker has then: the desk forgot its receipts, and the log was told of the client.
+pub record Begins {S Y : Type 0} (log : LogTells Y) (w : WorkerSide S Y) (peer : Peer) (n : WorkerSide S Y) : Type 0 where
+  pub greeted : log.greets w.log peer n.log
+  pub same : n ≡ record (forgot w) { log = n.log }
 
 -- After a session the clock is read and the reach rests, which changes nothing that it tells.
-pub record Rests {S : Type 0} (w n : WorkerSide S) : Type 0 where
+pub record Rests {S Y : Type 0} (w n : WorkerSide S Y) : Type 0 where
   pub now : ℕ
   pub read : Answers w.clock now n.clock
   pub same : n ≡ record w { clock = n.clock }
@@ -56,3 +78,8 @@ pub record IsFit (cfg : Config) (rules : List Rule) (desk : DeskState) (beside :
   pub reach_sizes : beside.sizes ≡ sizes_of cfg.lbs
   pub none_held : desk.held ≡ []
   pub idle : beside.runs ≡ false
+
+-- It may begin: it is fit, and its log isn't broken.
+pub record MayBegin (cfg : Config) (rules : List Rule) (desk : DeskState) (beside : Beside) (broken : Option IoError) : Type 0 where
+  pub fit : IsFit cfg rules desk beside
+  pub logged : broken ≡ None

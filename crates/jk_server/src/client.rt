@@ -1,17 +1,29 @@
 //! One client: its session, and what a worker makes of the session's end.
-ghost use Rattle.std.specs.Prelude.{◌≡◌, ◌<◌, ℕ, [], ◌∷◌, true, false, Some};
+ghost use Rattle.std.specs.Prelude.{◌≡◌, ◌<◌, ℕ, [], ◌∷◌, true, false, None, Some};
 ghost use Rattle.jk_io.specs.Told.{appended};
+ghost use Rattle.client_session.specs.Ends.{MeetsBy, RisesBy};
+ghost use Rattle.client_session.specs.Parts.{HasParts};
+ghost use Rattle.client_session.specs.Ready.{IsReady};
+ghost use Rattle.client_session.specs.Requests.{visit_of};
+ghost use Rattle.client_session.specs.Sessions.{Serves};
+ghost use Rattle.client_session.specs.Standings.{standing};
+ghost use Rattle.client_session.specs.Whole.{HoldsOfEach, IsWholeSession};
+ghost use Rattle.client_session.specs.declared.ending.Why.TheVariants as why;
+ghost use Rattle.status_worker.specs.Desks.{KeepsTickets};
 ghost use Rattle.locked_balancer.specs.Notes.{StrayNote};
 ghost use Rattle.locked_balancer.specs.SharedDesks.{SharedState};
-ghost use Rattle.jk_server.specs.Served.{IsStray, Settles};
+ghost use Rattle.gear_parts.specs.Logs.{log_tells};
+ghost use Rattle.jk_server.specs.Served.{DeskSettles, IsStray, SettlesBy};
 ghost use Rattle.jk_server.specs.PartTells.{part_tells};
-ghost use Rattle.jk_server.specs.Turns.{LeavesClient, NextsPart, RestsPart};
-ghost use Rattle.jk_server.specs.Worker.{IsFit, took};
+ghost use Rattle.jk_server.specs.Turns.{LeavesClient, NextsPart, RestsPart, RunsSession};
+ghost use Rattle.jk_server.specs.Worker.{forgot_desk, IsFit, keeps, took};
 
 use crate::part::{Post, WorkerEnd};
-use client_session::{SessionEnd, serve_session};
-use gear_parts::Part;
-use jk_io::{Clock, Door, NoMemory, Peer, Reach};
+use balancer_core::Desk;
+use client_session::{SessionEnd, SessionSite, SessionStop, Surroundings, serve_session_with};
+use gear_parts::{Part, WorkerLog};
+use jk_io::{Clock, Door, IoError, Link, NoMemory, Peer, Reach};
+use jk_model::RowSink;
 use locked_balancer::{SharedDesk, Shelf, SiteName};
 use std::alloc::Global;
 use std::sync::Wait;
@@ -32,14 +44,13 @@ fn counts<L: SiteName, S: Shelf, W>(desk: &SharedDesk<'_, '_, L, S, W>) -> Shelf
     }
 }
 
-/// Lets the desk forget the receipts of the session before, and counts what the shelf had refused until then.
+/// Lets the desk forget the receipts of the session before, and counts what the shelf refused until then.
 fn forget_last<L: SiteName, S: Shelf, W>(desk: &mut SharedDesk<'_, '_, L, S, W>) -> ShelfCounts
-    ensures counted { (result.faults ≡ S.faults desk.old.shelf) × (result.wants ≡ desk.old.wants) }
-    ensures receipts { desk.new.desk ≡ record desk.old.desk { receipts = [] } }
+    ensures counted { (result.faults ≡ S.faults desk.new.shelf) × (result.wants ≡ desk.new.wants) }
+    ensures desk { desk.new ≡ forgot_desk desk.old }
 {
-    let before = counts(desk);
     desk.forget();
-    before
+    counts(desk)
 }
 
 /// Takes the stray that a session met.
@@ -53,89 +64,196 @@ fn stray_of<L: SiteName, S: Shelf, W>(desk: &mut SharedDesk<'_, '_, L, S, W>) ->
     }
 }
 
-/// Whether a worker ends after a session, and how. A fault of the shelf goes before a stray, and both before want of
-/// memory.
+/// Whether a worker ends after a session by its desk, and how. A fault of the shelf goes before a stray, and both before
+/// want of memory.
 fn end_after<L: SiteName, S: Shelf, W>(
     desk: &mut SharedDesk<'_, '_, L, S, W>,
     before: ShelfCounts,
-    end: SessionEnd,
+    stop: SessionStop,
 ) -> Option<WorkerEnd<L>>
-    requires { IsStray end → desk.old.desk.met ≡ true }
+    requires { IsStray stop → desk.old.desk.met ≡ true }
     ensures { (from : SharedState S) → before.faults ≡ S.faults from.shelf → before.wants ≡ from.wants
-        → Settles S.faults from desk.old desk.new end result }
+        → DeskSettles S.faults from desk.old desk.new stop result }
 {
     let now = counts(desk);
     if before.faults < now.faults {
         return Some(WorkerEnd::ShelfFault);
     }
-    if let SessionEnd::Stray { .. } = end {
+    if let SessionStop::Stray { .. } = stop {
         return Some(stray_of(desk));
     }
     if before.wants < now.wants {
         return Some(WorkerEnd::NoMemory);
     }
-    if let SessionEnd::NoMemory = end {
+    if let SessionStop::NoMemory = stop {
         return Some(WorkerEnd::NoMemory);
     }
     None
 }
 
-/// Leaves a client's link at the door, and says whether the worker ends, and how.
-fn close_client<L: SiteName, D: Door, S: Shelf, W>(
-    door: &mut D,
+/// Whether a worker ends after a session, and how: a log that broke goes first.
+fn end_by<L: SiteName, S: Shelf, W>(
+    broken: Option<IoError>,
     desk: &mut SharedDesk<'_, '_, L, S, W>,
+    before: ShelfCounts,
+    stop: SessionStop,
+) -> Option<WorkerEnd<L>>
+    requires { IsStray stop → desk.old.desk.met ≡ true }
+    ensures { (from : SharedState S) → before.faults ≡ S.faults from.shelf → before.wants ≡ from.wants
+        → SettlesBy broken S.faults from desk.old desk.new stop result }
+{
+    match broken {
+        None => end_after(desk, before, stop),
+        Some(IoError::Failed) => Some(WorkerEnd::LogFault),
+        Some(IoError::NoMemory) => Some(WorkerEnd::NoMemory),
+    }
+}
+
+/// Leaves a client's link at the door, and says whether the worker ends, and how.
+fn close_client<L: SiteName, D: Door, R, K, S: Shelf, W, Y: WorkerLog>(
+    part: &mut Part<'_, '_, L, D, R, K, S, W, Y>,
     link: D::L,
     before: ShelfCounts,
-    end: SessionEnd,
+    stop: SessionStop,
 ) -> Option<WorkerEnd<L>>
-    requires room { 0 < D.room door.old }
-    requires stray { IsStray end → desk.old.desk.met ≡ true }
-    ensures left { D.left door.new ≡ appended (D.left door.old) (link ∷ []) }
-    ensures same { (D.coming door.new ≡ D.coming door.old) × (D.faults door.new ≡ D.faults door.old) }
+    requires room { 0 < D.room part.old.door }
+    requires stray { IsStray stop → part.old.desk.desk.met ≡ true }
+    ensures left { D.left part.new.door ≡ appended (D.left part.old.door) (link ∷ []) }
+    ensures same_door { (D.coming part.new.door ≡ D.coming part.old.door) × (D.faults part.new.door ≡ D.faults part.old.door) }
+    ensures same { (part.new.reach ≡ part.old.reach) × (part.new.clock ≡ part.old.clock) × (part.new.log ≡ part.old.log) }
     ensures settled { (from : SharedState S) → before.faults ≡ S.faults from.shelf → before.wants ≡ from.wants
-        → Settles S.faults from desk.old desk.new end result }
+        → SettlesBy (Y.broken_by part.old.log) S.faults from part.old.desk part.new.desk stop result }
 {
-    door.leave(link);
-    end_after(desk, before, end)
+    part.door.leave(link);
+    end_by(part.log.broken(), &mut part.desk, before, stop)
+}
+
+/// A session's memory, and whom it serves by what.
+#[derive(Clone, Copy)]
+struct Visit<'a> {
+    alloc: Global,
+    site: SessionSite<'a>,
+}
+
+/// One session over what it is lent, which stays the caller's own.
+fn serve_around<'a, 'b, 'c, 'd, B: Desk, R: Reach, C: Link, K: Clock, Y: RowSink>(
+    visit: &Visit<'_>,
+    around: &mut Surroundings<'a, 'b, 'c, 'd, B, K, R, C>,
+    rows: &mut Y,
+) -> SessionEnd
+where
+    B::Mark: Drop,
+    B::Shown: Drop,
+    requires ready { IsReady (visit_of visit.now.site) (B.state around.old.desk.now) (R.beside around.old.reach.now) }
+    ensures session { IsWholeSession B.state K.answers R.Meanings C.Meanings (visit_of visit.now.site) around.old around.new
+        (λ gained. Y.gained rows.old gained rows.new) result }
+    ensures each { HoldsOfEach (visit_of visit.now.site) result }
+    ensures idle_only { result.stop ≡ SessionStop.Closed why.Idle → C.may_wait ≡ true }
+    ensures same_desk { around.new.desk.ghost_name ≡ around.old.desk.ghost_name }
+    ensures same_clock { around.new.clock.ghost_name ≡ around.old.clock.ghost_name }
+    ensures same_reach { around.new.reach.ghost_name ≡ around.old.reach.ghost_name }
+    ensures same_client { around.new.client.ghost_name ≡ around.old.client.ghost_name }
+{
+    serve_session_with(visit.alloc, &visit.site, around, rows)
+}
+
+/// One session, by each of the things that it is lent.
+fn serve_visit<B: Desk, R: Reach, C: Link, K: Clock, Y: RowSink>(
+    visit: &Visit<'_>,
+    desk: &mut B,
+    clock: &mut K,
+    reach: &mut R,
+    client: &mut C,
+    rows: &mut Y,
+) -> SessionEnd
+where
+    B::Mark: Drop,
+    B::Shown: Drop,
+    requires ready { IsReady (visit_of visit.now.site) (B.state desk.old) (R.beside reach.old) }
+    ensures session { let at = standing B.state K.answers R.Meanings C.Meanings in
+        Serves (visit_of visit.now.site) (at desk.old clock.old reach.old client.old) (at desk.new clock.new reach.new client.new)
+        (λ gained. Y.gained rows.old gained rows.new) result }
+    ensures parts { let at = standing B.state K.answers R.Meanings C.Meanings in
+        HasParts (visit_of visit.now.site) (at desk.old clock.old reach.old client.old []) (at desk.new clock.new reach.new client.new []) result }
+    ensures each { HoldsOfEach (visit_of visit.now.site) result }
+    ensures fault { RisesBy result.stop (C.faults client.old) (C.faults client.new) }
+    ensures met { MeetsBy result.stop (B.state desk.old) (B.state desk.new) }
+    ensures kept { KeepsTickets (visit_of visit.now.site).session (B.state desk.old) (B.state desk.new) }
+    ensures ready { IsReady (visit_of visit.now.site) (B.state desk.new) (R.beside reach.new) }
+    ensures idle_only { result.stop ≡ SessionStop.Closed why.Idle → C.may_wait ≡ true }
+{
+    let mut around = Surroundings {
+        desk,
+        clock,
+        reach,
+        client,
+    };
+    serve_around(visit, &mut around, rows)
+}
+
+/// One session of a client.
+fn serve_link<'x, L: SiteName, D: Door, R: Reach, K: Clock, S: Shelf, W: Wait, Y: WorkerLog>(
+    alloc: Global,
+    post: Post<'x>,
+    part: &mut Part<'_, '_, L, D, R, K, S, W, Y>,
+    link: &mut D::L,
+    peer: &'x Peer,
+) -> SessionEnd
+    requires fit { IsFit post.cfg.now post.map.now part.old.desk.desk (R.beside part.old.reach) }
+    ensures { let told = part_tells D.coming D.left D.faults D.L.Meanings K.answers R.Meanings
+        (keeps S.faults (log_tells Y.gained Y.greets Y.broken_by Y.log_faults) D.L.may_wait) in
+        RunsSession told post.entry part.old part.new link.old link.new peer.now result }
+{
+    let visit = Visit {
+        alloc,
+        site: SessionSite {
+            cfg: post.cfg,
+            map: post.map,
+            session: post.number,
+            peer,
+        },
+    };
+    serve_visit(
+        &visit,
+        &mut part.desk,
+        &mut part.clock,
+        &mut part.reach,
+        link,
+        &mut part.log,
+    )
 }
 
 /// Serves a client by one session, leaves its link, and says whether the worker ends, and how.
-fn serve_client<L: SiteName, D: Door, R: Reach, K: Clock, S: Shelf, W: Wait>(
+fn serve_client<L: SiteName, D: Door, R: Reach, K: Clock, S: Shelf, W: Wait, Y: WorkerLog>(
     alloc: Global,
     post: Post<'_>,
-    part: &mut Part<'_, '_, L, D, R, K, S, W>,
+    part: &mut Part<'_, '_, L, D, R, K, S, W, Y>,
     link: D::L,
     peer: &Peer,
 ) -> Option<WorkerEnd<L>>
     requires fit { IsFit post.cfg.now post.map.now part.old.desk.desk (R.beside part.old.reach) }
+    requires logged { Y.broken_by part.old.log ≡ None }
     requires room { 0 < D.room part.old.door }
-    ensures { let told = part_tells D.coming D.left D.faults D.L.Meanings K.answers R.Meanings S.faults in
+    ensures { let told = part_tells D.coming D.left D.faults D.L.Meanings K.answers R.Meanings
+        (keeps S.faults (log_tells Y.gained Y.greets Y.broken_by Y.log_faults) D.L.may_wait) in
         LeavesClient told post.entry part.old part.new link peer.now result }
 {
     let before = forget_last(&mut part.desk);
+    part.log.greet(peer);
     let mut link = link;
-    let end = serve_session(
-        alloc,
-        post.cfg,
-        post.map,
-        post.number,
-        peer,
-        &mut part.desk,
-        &mut part.reach,
-        &mut link,
-        &mut part.clock,
-    );
-    close_client(&mut part.door, &mut part.desk, link, before, end)
+    let end = serve_link(alloc, post, part, &mut link, peer);
+    close_client(part, link, before, end.stop)
 }
 
 /// What a worker does between two sessions, while its desk holds no ticket. It ends where its reach wants memory to rest.
-fn go_on<L: SiteName, D: Door, R: Reach, K: Clock, S: Shelf, W>(
+fn go_on<L: SiteName, D: Door, R: Reach, K: Clock, S: Shelf, W, Y: WorkerLog>(
     alloc: Global,
-    part: &mut Part<'_, '_, L, D, R, K, S, W>,
+    part: &mut Part<'_, '_, L, D, R, K, S, W, Y>,
 ) -> Option<WorkerEnd<L>>
     requires idle { (R.beside part.old.reach).runs ≡ false }
     requires none_held { part.old.desk.desk.held ≡ [] }
-    ensures { let told = part_tells D.coming D.left D.faults D.L.Meanings K.answers R.Meanings S.faults in
+    ensures { let told = part_tells D.coming D.left D.faults D.L.Meanings K.answers R.Meanings
+        (keeps S.faults (log_tells Y.gained Y.greets Y.broken_by Y.log_faults) D.L.may_wait) in
         RestsPart told part.old part.new result }
 {
     let now = part.clock.now();
@@ -146,16 +264,18 @@ fn go_on<L: SiteName, D: Door, R: Reach, K: Clock, S: Shelf, W>(
 }
 
 /// Serves a client, and rests where the worker goes on; says whether it ends, and how.
-pub(crate) fn serve_next<L: SiteName, D: Door, R: Reach, K: Clock, S: Shelf, W: Wait>(
+pub(crate) fn serve_next<L: SiteName, D: Door, R: Reach, K: Clock, S: Shelf, W: Wait, Y: WorkerLog>(
     alloc: Global,
     post: Post<'_>,
-    part: &mut Part<'_, '_, L, D, R, K, S, W>,
+    part: &mut Part<'_, '_, L, D, R, K, S, W, Y>,
     link: D::L,
     peer: &Peer,
 ) -> Option<WorkerEnd<L>>
     requires fit { IsFit post.cfg.now post.map.now part.old.desk.desk (R.beside part.old.reach) }
+    requires logged { Y.broken_by part.old.log ≡ None }
     requires room { 0 < D.room part.old.door }
-    ensures { let told = part_tells D.coming D.left D.faults D.L.Meanings K.answers R.Meanings S.faults in
+    ensures { let told = part_tells D.coming D.left D.faults D.L.Meanings K.answers R.Meanings
+        (keeps S.faults (log_tells Y.gained Y.greets Y.broken_by Y.log_faults) D.L.may_wait) in
         NextsPart told post.entry part.old part.new link peer.now result }
 {
     match serve_client(alloc, post, part, link, peer) {

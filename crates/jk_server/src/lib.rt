@@ -24,7 +24,7 @@ pub use container_server::{
 pub use gear_parts::{ContainerRun, GearOrder, Outside, OutsideList, Part, contain_gears};
 pub use orders::container::{ContainerOrder, MOST_ROUTE_BYTES, contain};
 pub use orders::ends::CommandEnd;
-pub use orders::serve::{ServeOrder, serve};
+pub use orders::serve::{ServeOrder, cut_at, serve};
 pub use part::{ServeEnd, WorkerEnd, WorkerEndList};
 pub use runs::ends::{Closing, SiteRun};
 pub use runs::serve::serve_gears;

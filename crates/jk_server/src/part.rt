@@ -35,8 +35,8 @@ pub type WorkerEndList<L> = ListOf<WorkerEnd<L>>;
 
 /// How the workers ended and what they left, an item for each in each list, in the order of their parts.
 #[derive(Drop)]
-pub struct ServeEnd<L: SiteName, D, R, K, S> {
+pub struct ServeEnd<L: SiteName, D, R, K, S, Y> {
     pub workers: WorkerEndList<L>,
     pub leaving: ListOf<Leaving<L, S>>,
-    pub outside: OutsideList<D, R, K>,
+    pub outside: OutsideList<D, R, K, Y>,
 }

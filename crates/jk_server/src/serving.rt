@@ -1,15 +1,16 @@
 //! The whole work of one worker.
-ghost use Rattle.std.specs.Prelude.{◌≡◌, []};
+ghost use Rattle.std.specs.Prelude.{◌≡◌, None};
 ghost use Rattle.client_session.specs.Requests.{visit};
+ghost use Rattle.gear_parts.specs.Logs.{log_tells};
 ghost use Rattle.jk_server.specs.Served.{ServesPart};
 ghost use Rattle.jk_server.specs.PartTells.{part_tells};
 ghost use Rattle.jk_server.specs.Turns.{TurnsPart};
-ghost use Rattle.jk_server.specs.Worker.{IsFit};
+ghost use Rattle.jk_server.specs.Worker.{IsFit, keeps};
 
 use crate::client::serve_next;
 use crate::part::{Post, WorkerEnd};
 use door_clients::{Arrival, next_client};
-use gear_parts::Part;
+use gear_parts::{Part, WorkerLog};
 use jk_io::{Clock, Door, Reach};
 use locked_balancer::{Shelf, SiteName};
 use site_config::Config;
@@ -18,17 +19,19 @@ use std::sync::Wait;
 use uri_map::UriMap;
 
 /// Serves the clients that the part's door gives, one after the other, until the worker ends. No talk of the reach runs,
-/// and the desk holds no ticket, before the call and after it.
-pub fn serve_part<L: SiteName, D: Door, R: Reach, K: Clock, S: Shelf, W: Wait>(
+/// and the desk holds no ticket, before the call and after it. The log isn't broken before it.
+pub fn serve_part<L: SiteName, D: Door, R: Reach, K: Clock, S: Shelf, W: Wait, Y: WorkerLog>(
     rt: &W,
     alloc: Global,
     cfg: &Config,
     map: &UriMap,
     number: u32,
-    part: &mut Part<'_, '_, L, D, R, K, S, W>,
+    part: &mut Part<'_, '_, L, D, R, K, S, W, Y>,
 ) -> WorkerEnd<L>
     requires fit { IsFit cfg.now map.now part.old.desk.desk (R.beside part.old.reach) }
-    ensures served { let told = part_tells D.coming D.left D.faults D.L.Meanings K.answers R.Meanings S.faults in
+    requires logged { Y.broken_by part.old.log ≡ None }
+    ensures served { let told = part_tells D.coming D.left D.faults D.L.Meanings K.answers R.Meanings
+        (keeps S.faults (log_tells Y.gained Y.greets Y.broken_by Y.log_faults) D.L.may_wait) in
         ServesPart told (visit cfg.now map.now number) part.old part.new result }
     ensures fit { IsFit cfg.now map.now part.new.desk.desk (R.beside part.new.reach) }
     ensures parts { part.new.desk.desk.parts ≡ part.old.desk.desk.parts }
@@ -45,15 +48,16 @@ pub fn serve_part<L: SiteName, D: Door, R: Reach, K: Clock, S: Shelf, W: Wait>(
 }
 
 /// Serves the next client of the part's door; says whether the worker ends, and how.
-fn serve_turn<L: SiteName, D: Door, R: Reach, K: Clock, S: Shelf, W: Wait>(
+fn serve_turn<L: SiteName, D: Door, R: Reach, K: Clock, S: Shelf, W: Wait, Y: WorkerLog>(
     alloc: Global,
     post: Post<'_>,
-    part: &mut Part<'_, '_, L, D, R, K, S, W>,
+    part: &mut Part<'_, '_, L, D, R, K, S, W, Y>,
     sessions: u64,
 ) -> Option<WorkerEnd<L>>
     requires fit { IsFit post.cfg.now post.map.now part.old.desk.desk (R.beside part.old.reach) }
-    requires none_held { part.old.desk.desk.held ≡ [] }
-    ensures { let told = part_tells D.coming D.left D.faults D.L.Meanings K.answers R.Meanings S.faults in
+    requires logged { Y.broken_by part.old.log ≡ None }
+    ensures { let told = part_tells D.coming D.left D.faults D.L.Meanings K.answers R.Meanings
+        (keeps S.faults (log_tells Y.gained Y.greets Y.broken_by Y.log_faults) D.L.may_wait) in
         TurnsPart told post.entry part.old part.new sessions result }
 {
     match next_client(alloc, &mut part.door) {

@@ -1,14 +1,15 @@
 //! A worker for each part.
 ghost use Rattle.std.specs.Prelude.{◌≡◌, ◌<◌, ◌≤◌, ℕ, [], length, map, slice_index_or, vec_capacity, vec_len, IfOk};
 ghost use Rattle.std.specs.List.{All};
+ghost use Rattle.gear_parts.specs.Logs.{log_tells};
 ghost use Rattle.jk_server.specs.Parts.{AllFour, AreServedParts, InEach, LeavesPart};
 ghost use Rattle.jk_server.specs.PartTells.{part_tells};
 ghost use Rattle.jk_server.specs.Rooms.{HasRoom, HasSpace, PutsLeft, parts_in};
-ghost use Rattle.jk_server.specs.Worker.{IsFit};
+ghost use Rattle.jk_server.specs.Worker.{MayBegin, keeps};
 
 use crate::part::{ServeEnd, WorkerEnd};
 use crate::serving::serve_part;
-use gear_parts::{Outside, Part};
+use gear_parts::{Outside, Part, WorkerLog};
 use jk_io::{Clock, Door, ListOf, NoMemory, Reach};
 use locked_balancer::{Leaving, SharedSite, Shelf, SiteName};
 use site_config::Config;
@@ -53,19 +54,21 @@ pub fn run_serve<
     K: Clock + Drop + Send,
     S: Shelf + Drop + Send,
     W: Threads + Wait + Sync,
+    Y: WorkerLog + Drop + Send,
 >(
     rt: &W,
     alloc: Global,
     cfg: &Config,
     map: &UriMap,
     site: &SharedSite<'r, L, W>,
-    parts: Vec<Part<'s, 'r, L, D, R, K, S, W>>,
-) -> Result<ServeEnd<L, D, R, K, S>, NoMemory>
+    parts: Vec<Part<'s, 'r, L, D, R, K, S, W, Y>>,
+) -> Result<ServeEnd<L, D, R, K, S, Y>, NoMemory>
 where
     D::L: Send,
     requires few { vec_len parts ≤ MAX_WORKERS }
-    requires fit { All (λ p. IsFit cfg.now map.now p.desk.desk (R.beside p.reach)) parts.items }
-    ensures served { let told = part_tells D.coming D.left D.faults D.L.Meanings K.answers R.Meanings S.faults in
+    requires ready { All (λ p. MayBegin cfg.now map.now p.desk.desk (R.beside p.reach) (Y.broken_by p.log)) parts.items }
+    ensures served { let told = part_tells D.coming D.left D.faults D.L.Meanings K.answers R.Meanings
+        (keeps S.faults (log_tells Y.gained Y.greets Y.broken_by Y.log_faults) D.L.may_wait) in
         IfOk result (AreServedParts told cfg.now map.now parts.entry.items) }
 {
     let _site = site;
@@ -127,19 +130,21 @@ fn serve_in<
     K: Clock + Drop + Send,
     S: Shelf + Drop + Send,
     W: Threads + Wait + Sync,
+    Y: WorkerLog + Drop + Send,
 >(
     rt: &W,
     alloc: Global,
     cfg: &Config,
     map: &UriMap,
-    mut room: Room<Part<'s, 'r, L, D, R, K, S, W>, L, Leaving<L, S>, Outside<D, R, K>>,
-) -> ServeEnd<L, D, R, K, S>
+    mut room: Room<Part<'s, 'r, L, D, R, K, S, W, Y>, L, Leaving<L, S>, Outside<D, R, K, Y>>,
+) -> ServeEnd<L, D, R, K, S, Y>
 where
     D::L: Send,
     requires few { length room.slots.items ≤ MAX_WORKERS }
-    requires fit { All (λ s. IsFit cfg.now map.now s.part.desk.desk (R.beside s.part.reach)) room.slots.items }
+    requires ready { All (λ s. MayBegin cfg.now map.now s.part.desk.desk (R.beside s.part.reach) (Y.broken_by s.part.log)) room.slots.items }
     requires room { HasRoom (length room.slots.items) room.emptied }
-    ensures served { let told = part_tells D.coming D.left D.faults D.L.Meanings K.answers R.Meanings S.faults in
+    ensures served { let told = part_tells D.coming D.left D.faults D.L.Meanings K.answers R.Meanings
+        (keeps S.faults (log_tells Y.gained Y.greets Y.broken_by Y.log_faults) D.L.may_wait) in
         AreServedParts told cfg.now map.now (parts_in room.entry.slots.items) result }
 {
     let crew = Crew {
@@ -210,22 +215,24 @@ struct Crew<'a, W> {
     map: &'a UriMap,
 }
 
-impl<'a, 's, 'r, L: SiteName, D: Door, R: Reach, K: Clock, S: Shelf, W: Wait> Work<
-    Slot<Part<'s, 'r, L, D, R, K, S, W>, L>,
+impl<'a, 's, 'r, L: SiteName, D: Door, R: Reach, K: Clock, S: Shelf, W: Wait, Y: WorkerLog> Work<
+    Slot<Part<'s, 'r, L, D, R, K, S, W, Y>, L>,
 > for Crew<'a, W> {
     ghost use Rattle.std.specs.Prelude.{◌<◌};
+    ghost use Rattle.gear_parts.specs.Logs.{log_tells};
     ghost use Rattle.jk_server.specs.declared.workers.TheConstants.{MAX_WORKERS};
     ghost use Rattle.jk_server.specs.Parts.{WorksPart};
     ghost use Rattle.jk_server.specs.PartTells.{part_tells};
-    ghost use Rattle.jk_server.specs.Worker.{IsFit};
+    ghost use Rattle.jk_server.specs.Worker.{MayBegin, keeps};
 
     ghost may = { λ crew number slot. (number < MAX_WORKERS)
-        × IsFit crew.cfg.now crew.map.now slot.part.desk.desk (R.beside slot.part.reach) };
+        × MayBegin crew.cfg.now crew.map.now slot.part.desk.desk (R.beside slot.part.reach) (Y.broken_by slot.part.log) };
 
-    ghost did = { λ crew number a b. let told = part_tells D.coming D.left D.faults D.L.Meanings K.answers R.Meanings S.faults in
+    ghost did = { λ crew number a b. let told = part_tells D.coming D.left D.faults D.L.Meanings K.answers R.Meanings
+        (keeps S.faults (log_tells Y.gained Y.greets Y.broken_by Y.log_faults) D.L.may_wait) in
         WorksPart told crew.cfg.now crew.map.now number a.part b.part b.end };
 
-    fn work(&self, number: usize, slot: &mut Slot<Part<'s, 'r, L, D, R, K, S, W>, L>) {
+    fn work(&self, number: usize, slot: &mut Slot<Part<'s, 'r, L, D, R, K, S, W, Y>, L>) {
         slot.end = serve_part(
             self.rt,
             self.alloc,
@@ -238,9 +245,9 @@ impl<'a, 's, 'r, L: SiteName, D: Door, R: Reach, K: Clock, S: Shelf, W: Wait> Wo
 }
 
 /// Takes the slots of a run apart.
-fn empty_room<'s, 'r, L: SiteName, D: Drop, R: Drop, K: Drop, S: Shelf + Drop, W>(
-    room: Room<Part<'s, 'r, L, D, R, K, S, W>, L, Leaving<L, S>, Outside<D, R, K>>,
-) -> ServeEnd<L, D, R, K, S>
+fn empty_room<'s, 'r, L: SiteName, D: Drop, R: Drop, K: Drop, S: Shelf + Drop, W, Y: Drop>(
+    room: Room<Part<'s, 'r, L, D, R, K, S, W, Y>, L, Leaving<L, S>, Outside<D, R, K, Y>>,
+) -> ServeEnd<L, D, R, K, S, Y>
     requires none_held { All (λ s. s.part.desk.desk.held ≡ []) room.slots.items }
     requires room { HasRoom (length room.slots.items) room.emptied }
     ensures { AllFour (λ s out left end. LeavesPart s.part out left × (end ≡ s.end))
@@ -294,9 +301,9 @@ fn put_left<L, V: Drop, O: Drop>(emptied: &mut Emptied<L, V, O>, end: WorkerEnd<
 }
 
 /// How the workers of a run ended, and what they left.
-fn end_of<L: SiteName, D, R, K, S>(
-    emptied: Emptied<L, Leaving<L, S>, Outside<D, R, K>>,
-) -> ServeEnd<L, D, R, K, S>
+fn end_of<L: SiteName, D, R, K, S, Y>(
+    emptied: Emptied<L, Leaving<L, S>, Outside<D, R, K, Y>>,
+) -> ServeEnd<L, D, R, K, S, Y>
     ensures { (result.outside ≡ emptied.outside.items) × (result.leaving ≡ emptied.leaving.items) × (result.workers ≡ emptied.workers.items) }
 {
     let Emptied {
@@ -311,8 +318,8 @@ fn end_of<L: SiteName, D, R, K, S>(
     }
 }
 
-impl<'s, 'r, L: SiteName, D, R, K, S: Shelf, W> Apart<L, Leaving<L, S>, Outside<D, R, K>>
-    for Slot<Part<'s, 'r, L, D, R, K, S, W>, L> {
+impl<'s, 'r, L: SiteName, D, R, K, S: Shelf, W, Y> Apart<L, Leaving<L, S>, Outside<D, R, K, Y>>
+    for Slot<Part<'s, 'r, L, D, R, K, S, W, Y>, L> {
     ghost use Rattle.std.specs.Prelude.{◌≡◌, []};
     ghost use Rattle.jk_server.specs.Parts.{LeavesPart};
 
@@ -320,7 +327,7 @@ impl<'s, 'r, L: SiteName, D, R, K, S: Shelf, W> Apart<L, Leaving<L, S>, Outside<
 
     ghost leaves = { λ slot out left end. LeavesPart slot.part out left × (end ≡ slot.end) };
 
-    fn apart(self) -> (Outside<D, R, K>, Leaving<L, S>, WorkerEnd<L>) {
+    fn apart(self) -> (Outside<D, R, K, Y>, Leaving<L, S>, WorkerEnd<L>) {
         let Slot { part, end } = self;
         let (out, left) = leave_part(part);
         (out, left, end)
@@ -328,9 +335,9 @@ impl<'s, 'r, L: SiteName, D, R, K, S: Shelf, W> Apart<L, Leaving<L, S>, Outside<
 }
 
 /// Takes a part apart.
-fn leave_part<L: SiteName, D, R, K, S: Shelf, W>(
-    part: Part<'_, '_, L, D, R, K, S, W>,
-) -> (Outside<D, R, K>, Leaving<L, S>)
+fn leave_part<L: SiteName, D, R, K, S: Shelf, W, Y>(
+    part: Part<'_, '_, L, D, R, K, S, W, Y>,
+) -> (Outside<D, R, K, Y>, Leaving<L, S>)
     requires none_held { part.desk.desk.held ≡ [] }
     ensures { LeavesPart part.entry result.0 result.1 }
 {
@@ -339,6 +346,13 @@ fn leave_part<L: SiteName, D, R, K, S: Shelf, W>(
         reach,
         clock,
         desk,
+        log,
     } = part;
-    (Outside { door, reach, clock }, desk.leave())
+    let outside = Outside {
+        door,
+        reach,
+        clock,
+        log,
+    };
+    (outside, desk.leave())
 }

@@ -11,7 +11,7 @@ use Rattle.jk_cli.specs.declared.order.Order.TheVariants as order
 use Rattle.jk_io.specs.Told.{Rose}
 use Rattle.jk_server.specs.Commands.{CommandSide, RunsContainer, RunsSite, Serves, Unread, Refused, Served, Works, NoGear, NoRoom, Ran}
 use Rattle.jk_server.specs.Ends.{end_of_closing, end_of_container, end_of_run}
-use Rattle.gear_parts.specs.Wants.{GearWants, wants}
+use Rattle.gear_parts.specs.Wants.{container_wants, GearWants, wants}
 use Rattle.gear_parts.specs.Worlds.{Tells, WorldSide}
 use Rattle.jk_server.specs.declared.orders.ends.CommandEnd.{CommandEnd}
 use Rattle.jk_server.specs.declared.orders.ends.CommandEnd.TheVariants as server
@@ -31,23 +31,25 @@ use Rattle.jkd.specs.declared.ends.EndOf.TheVariants as end
 -- memory was wanted before the words were read
 pub does_none : {W G C S X : Type 0} (L : Type 0) (told : Tells W G C S X) (outside : CommandOutside) (o : Order) (s : CommandSide G) → is_served o ≡ true → IsInRange o
     → DoesOrder {L = L} told outside o s s (end.Status 6)
-does_none L told outside (order.Serve workers map address threads clients journal watch idle log format) s served range = record {
+does_none L told outside (order.Serve workers map address threads clients journal watch idle log format cut limits control grace) s served range = record {
   by = server.Status 6;
   said = Unread (record { why = inr refl; written = refl; world = refl });
   turned = refl;
 }
 does_none L told outside (order.Container route address threads clients) s served range = record {
   by = server.Status 6;
-  said = record { contained = contains_none told route threads (wants address clients None) s.world range.2; written = refl };
+  said = record { contained = contains_none told route threads (container_wants address clients) s.world range.2; written = refl };
   turned = refl;
 }
 does_none L told outside order.Play s served range = cc
 does_none L told outside (order.Dry request reply site) s served range = cc
 does_none L told outside (order.Config workers map) s served range = cc
-does_none L told outside (order.Match workers map) s served range = cc
+does_none L told outside (order.Match workers map verbose) s served range = cc
 does_none L told outside order.Check s served range = cc
 does_none L told outside (order.Log format request reply workers map) s served range = cc
 does_none L told outside order.Follow s served range = cc
+does_none L told outside (order.Stop path) s served range = cc
+does_none L told outside (order.Demo address) s served range = cc
 does_none L told outside (order.Drill seed threads requests text passes) s served range = record {
   runs = record { by = drilled.NoMemory; said = Wanted (record { ends = refl; written = refl }); turned = refl };
   world = refl;
@@ -130,18 +132,20 @@ drill_status L seed threads requests text passes s n (drilled.Lacked error) k ru
 does_status : {W G C S X L : Type 0} (told : Tells W G C S X) (outside : CommandOutside) (o : Order) (s n : CommandSide G) (ended : EndOf L) (k : ℕ)
     → DoesOrder told outside o s n ended → ended ≡ end.Status k → Answered s n k
 unfolding Answered
-does_status told outside (order.Serve workers map address threads clients journal watch idle log format) s n ended k does e =
-    serve_status told outside workers map threads (wants address clients journal) s n does.by k does.said (served_status does.by k (sym does.turned ∙ e))
+does_status told outside (order.Serve workers map address threads clients journal watch idle log format cut limits control grace) s n ended k does e =
+    serve_status told outside workers map threads (wants address clients journal limits control grace) s n does.by k does.said (served_status does.by k (sym does.turned ∙ e))
 does_status told outside (order.Container route address threads clients) s n ended k does e =
-    inl (works_status threads (RunsContainer told does.said.contained.app threads (wants address clients None)) s.world n.world does.by k
+    inl (works_status threads (RunsContainer told does.said.contained.app threads (container_wants address clients)) s.world n.world does.by k
     (λ ran is. container_status _ ran.ends k (sym ran.status ∙ is)) does.said.contained.works (served_status does.by k (sym does.turned ∙ e)))
 does_status told outside order.Play s n ended k does e = absurd does
 does_status told outside (order.Dry request reply site) s n ended k does e = absurd does
 does_status told outside (order.Config workers map) s n ended k does e = absurd does
-does_status told outside (order.Match workers map) s n ended k does e = absurd does
+does_status told outside (order.Match workers map verbose) s n ended k does e = absurd does
 does_status told outside order.Check s n ended k does e = absurd does
 does_status told outside (order.Log format request reply workers map) s n ended k does e = absurd does
 does_status told outside order.Follow s n ended k does e = absurd does
+does_status told outside (order.Stop path) s n ended k does e = absurd does
+does_status told outside (order.Demo address) s n ended k does e = absurd does
 does_status told outside (order.Drill seed threads requests text passes) s n ended k does e =
     drill_status _ seed threads requests text passes s n does.runs.by k does.runs.said (sym does.runs.turned ∙ e)
 
@@ -167,15 +171,17 @@ does_lose told outside o s n ended does e =
 
 -- a plain command that has files reads some
 reads_due : (o : Order) → has_file (readings o) ≡ true → reads_files o ≡ true
-reads_due (order.Serve workers map address threads clients journal watch idle log format) due = refl
+reads_due (order.Serve workers map address threads clients journal watch idle log format cut limits control grace) due = refl
 reads_due (order.Container route address threads clients) due = due
 reads_due order.Play due = due
 reads_due (order.Dry request reply site) due = due
 reads_due (order.Config workers map) due = due
-reads_due (order.Match workers map) due = due
+reads_due (order.Match workers map verbose) due = due
 reads_due order.Check due = due
 reads_due (order.Log format request reply workers map) due = due
 reads_due order.Follow due = due
+reads_due (order.Stop path) due = due
+reads_due (order.Demo address) due = due
 reads_due (order.Drill seed threads requests text passes) due = due
 
 pub files_read : (words : List (List ℕ)) (same : Type 0) → same ⊎ AreFilesDue words → same ⊎ AreFilesRead words

@@ -1,7 +1,7 @@
 -- Options among the parts of a command line.
 use Rattle.std.proofs.Common.{ℕ, ◌≡◌, ◌≤◌, Bool, true, false, ◌&&◌, ◌||◌, not, List, [], ◌∷◌, drop, map, length, get_or, Option, Some, None, is_some, if◌then◌else◌, refl, sym, ◌∙◌, ap, arith}
 use Rattle.std.specs.Str.{bytes_eq}
-use Rattle.jk_cli.specs.Parts.{Part, Place, Given, Stray, alone, asks_value, is_dashed, is_end, option_in, parts_of, single, values_in}
+use Rattle.jk_cli.specs.Parts.{Part, Place, Given, Stray, Verbose, alone, asks_value, is_dashed, is_end, option_in, parts_of, single, values_in}
 use Rattle.jkd.specs.Words.{is_given}
 
 -- a list has an item
@@ -19,6 +19,7 @@ given_values : (key : List ℕ) (parts : List Part) → is_given key parts ≡ i
 unfolding is_full
 given_values key [] = refl
 given_values key (Place word ∷ parts) = given_values key parts
+given_values key (Verbose ∷ parts) = given_values key parts
 given_values key (Stray ∷ parts) = given_values key parts
 given_values key (Given name value ∷ parts) =
     ap (λ (b : Bool). bytes_eq name key || b) (given_values key parts) ∙ sym (full_if (bytes_eq name key) value (values_in key parts))
@@ -53,6 +54,7 @@ given_part : (key : List ℕ) (part : Part) (parts : List Part) → is_given key
 given_part key (Place word) parts = refl
 given_part key (Given name value) parts =
     elim (bytes_eq name key) as (λ (b : Bool). (b || is_given key parts) ≡ ((b || false) || is_given key parts)) [ true ↦ refl | false ↦ refl ]
+given_part key Verbose parts = refl
 given_part key Stray parts = refl
 
 pub given_last : (key word : List ℕ) → is_end word ≡ false → is_given key (parts_of (word ∷ [])) ≡ is_given key (alone word ∷ [])

@@ -8,8 +8,8 @@ use Rattle.std.proofs.lemmas.List.{take_all}
 use Rattle.std.proofs.lemmas.Slice.Eq.{bytes_eq-Decides}
 use Rattle.jk_io.specs.Decimals.{decimal_of}
 use Rattle.jk_cli.specs.Names.{command_in, name_of, may_stand}
-use Rattle.jk_cli.specs.Orders.{number_in, number_given, number_option, threads_of, clients_of, ServeOptions, are_together, options_given, serve_options, play_of, dry_of, config_of, match_of, check_of, log_of, follow_of, mode_named, mode_of, drill_of, serve_of, container_of, order_by, order_from, order_of, command_of}
-use Rattle.jk_cli.specs.Parts.{Part, Place, Stray, alone, asks_value, equals_in, given_at, is_dashed, is_end, parts_of, places_in, option_in}
+use Rattle.jk_cli.specs.Orders.{number_in, number_given, number_option, threads_of, clients_of, ServeOptions, are_together, options_given, serve_options, front_options, play_of, dry_of, config_of, match_of, check_of, log_of, follow_of, mode_named, mode_of, drill_of, serve_of, container_of, stop_of, demo_of, order_by, order_from, order_of, command_of}
+use Rattle.jk_cli.specs.Parts.{Part, Place, Stray, Verbose, alone, asks_value, equals_in, flag_in, given_at, is_dashed, is_end, parts_of, places_in, option_in}
 use Rattle.jk_cli.specs.declared.name.CommandName.{CommandName}
 use Rattle.jk_cli.specs.declared.name.CommandName.TheVariants as name
 use Rattle.jk_cli.specs.declared.order.Order.{Order}
@@ -32,7 +32,7 @@ is_passes word = bytes_eq word (codes "passes")
 
 -- What an order for workers says of the parts after the command.
 abbrev pub FitsParts : List Part → Order → Type 0
-FitsParts parts (order.Serve workers map address threads clients journal watch idle log format) =
+FitsParts parts (order.Serve workers map address threads clients journal watch idle log format cut limits control grace) =
     (is_given (codes "watch") parts ≡ is_some watch) × (is_given (codes "log") parts ≡ is_some log) × (1 ≤ threads) × (threads ≤ 64)
 FitsParts parts (order.Container route address threads clients) = (1 ≤ threads) × (threads ≤ 64) × (length route ≤ 1024)
 FitsParts parts (order.Drill seed threads requests text passes) =
@@ -110,9 +110,13 @@ serve_stands parts given e =
 
 in_serve : (parts : List Part) (places : List (List ℕ)) (o : Order) → serve_of parts places ≡ Some o → FitsParts parts o
 in_serve parts (workers ∷ map ∷ address ∷ threads ∷ []) o e =
-    let count = bind_some (threads_of threads) (λ count. option_and_then (λ given. Some (order.Serve workers map address count given.clients given.journal given.watch given.idle given.log given.format)) (serve_options parts)) o e in
-    let given = bind_some (serve_options parts) (λ given. Some (order.Serve workers map address count.0 given.clients given.journal given.watch given.idle given.log given.format)) o count.2 in
-    let same : order.Serve workers map address count.0 given.0.clients given.0.journal given.0.watch given.0.idle given.0.log given.0.format ≡ o = cc in
+    let count = bind_some (threads_of threads) (λ count. option_and_then (λ given. option_and_then (λ front.
+    Some (order.Serve workers map address count given.clients given.journal given.watch given.idle given.log given.format front.cut front.limits front.control front.grace)) (front_options parts)) (serve_options parts)) o e in
+    let given = bind_some (serve_options parts) (λ given. option_and_then (λ front.
+    Some (order.Serve workers map address count.0 given.clients given.journal given.watch given.idle given.log given.format front.cut front.limits front.control front.grace)) (front_options parts)) o count.2 in
+    let front = bind_some (front_options parts) (λ front.
+    Some (order.Serve workers map address count.0 given.0.clients given.0.journal given.0.watch given.0.idle given.0.log given.0.format front.cut front.limits front.control front.grace)) o given.2 in
+    let same : order.Serve workers map address count.0 given.0.clients given.0.journal given.0.watch given.0.idle given.0.log given.0.format front.0.cut front.0.limits front.0.control front.0.grace ≡ o = cc in
     let stands = serve_stands parts given.0 given.1 in
     let range = in_range 1 64 count.0 threads count.1 in
     subst (FitsParts parts) same (stands.0, stands.1, range.0, range.1)
@@ -137,22 +141,24 @@ in_container parts (a ∷ b ∷ c ∷ d ∷ more) o e = cc
 
 -- an order of another command asks for no workers
 is_other : Order → Bool
-is_other (order.Serve workers map address threads clients journal watch idle log format) = false
+is_other (order.Serve workers map address threads clients journal watch idle log format cut limits control grace) = false
 is_other (order.Container route address threads clients) = false
 is_other (order.Drill seed threads requests text passes) = false
 is_other o = true
 
 other_fits : (parts : List Part) (o : Order) → is_other o ≡ true → FitsParts parts o
 unfolding is_other
-other_fits parts (order.Serve workers map address threads clients journal watch idle log format) e = cc
+other_fits parts (order.Serve workers map address threads clients journal watch idle log format cut limits control grace) e = cc
 other_fits parts (order.Container route address threads clients) e = cc
 other_fits parts order.Play e = tt
 other_fits parts (order.Dry request reply site) e = tt
 other_fits parts (order.Config workers map) e = tt
-other_fits parts (order.Match workers map) e = tt
+other_fits parts (order.Match workers map verbose) e = tt
 other_fits parts order.Check e = tt
 other_fits parts (order.Log format request reply workers map) e = tt
 other_fits parts order.Follow e = tt
+other_fits parts (order.Stop path) e = tt
+other_fits parts (order.Demo address) e = tt
 other_fits parts (order.Drill seed threads requests text passes) e = cc
 
 -- such an order was given
@@ -186,12 +192,17 @@ config_other (a ∷ []) = refl
 config_other (a ∷ b ∷ []) = refl
 config_other (a ∷ b ∷ c ∷ more) = tt
 
-match_other : (places : List (List ℕ)) → OtherIf (match_of places)
+match_flag : (workers map : List ℕ) (flag : Option Bool) → OtherIf (option_map (λ verbose. order.Match workers map verbose) flag)
 unfolding OtherIf is_other
-match_other [] = tt
-match_other (a ∷ []) = tt
-match_other (a ∷ b ∷ []) = refl
-match_other (a ∷ b ∷ c ∷ more) = tt
+match_flag workers map None = tt
+match_flag workers map (Some verbose) = refl
+
+match_other : (parts : List Part) (places : List (List ℕ)) → OtherIf (match_of parts places)
+unfolding OtherIf is_other
+match_other parts [] = tt
+match_other parts (a ∷ []) = tt
+match_other parts (a ∷ b ∷ []) = match_flag a b (flag_in parts)
+match_other parts (a ∷ b ∷ c ∷ more) = tt
 
 check_other : (places : List (List ℕ)) → OtherIf (check_of places)
 unfolding OtherIf is_other
@@ -212,6 +223,18 @@ follow_other : (places : List (List ℕ)) → OtherIf (follow_of places)
 unfolding OtherIf is_other
 follow_other [] = refl
 follow_other (a ∷ more) = tt
+
+stop_other : (places : List (List ℕ)) → OtherIf (stop_of places)
+unfolding OtherIf is_other
+stop_other [] = tt
+stop_other (a ∷ []) = refl
+stop_other (a ∷ b ∷ more) = tt
+
+demo_other : (places : List (List ℕ)) → OtherIf (demo_of places)
+unfolding OtherIf is_other
+demo_other [] = refl
+demo_other (a ∷ []) = refl
+demo_other (a ∷ b ∷ more) = tt
 
 -- ---- a drill's words
 
@@ -281,10 +304,12 @@ in_order : (command : CommandName) (parts : List Part) (places : List (List ℕ)
 in_order name.Play parts places o stands at e = other_then parts _ (play_other places) o e
 in_order name.Dry parts places o stands at e = other_then parts _ (dry_other places) o e
 in_order name.Config parts places o stands at e = other_then parts _ (config_other places) o e
-in_order name.Match parts places o stands at e = other_then parts _ (match_other places) o e
+in_order name.Match parts places o stands at e = other_then parts _ (match_other parts places) o e
 in_order name.Check parts places o stands at e = other_then parts _ (check_other places) o e
 in_order name.Log parts places o stands at e = other_then parts _ (log_other places) o e
 in_order name.Follow parts places o stands at e = other_then parts _ (follow_other places) o e
+in_order name.Stop parts places o stands at e = other_then parts _ (stop_other places) o e
+in_order name.Demo parts places o stands at e = other_then parts _ (demo_other places) o e
 in_order name.Drill parts places o stands at e = in_drill parts places o stands at e
 in_order name.Serve parts places o stands at e = in_serve parts places o e
 in_order name.Container parts places o stands at e = in_container parts places o e
@@ -298,15 +323,17 @@ fits word behind o e =
     in_order named.0 (parts_of behind) (places_in (parts_of behind)) o stands.0 refl stands.1
 
 in_words : (parts : List Part) (o : Order) → FitsParts parts o → IsInRange o
-in_words parts (order.Serve workers map address threads clients journal watch idle log format) f = (f.2, f.3)
+in_words parts (order.Serve workers map address threads clients journal watch idle log format cut limits control grace) f = (f.2, f.3)
 in_words parts (order.Container route address threads clients) f = f
 in_words parts order.Play f = tt
 in_words parts (order.Dry request reply site) f = tt
 in_words parts (order.Config workers map) f = tt
-in_words parts (order.Match workers map) f = tt
+in_words parts (order.Match workers map verbose) f = tt
 in_words parts order.Check f = tt
 in_words parts (order.Log format request reply workers map) f = tt
 in_words parts order.Follow f = tt
+in_words parts (order.Stop path) f = tt
+in_words parts (order.Demo address) f = tt
 in_words parts (order.Drill seed threads requests text passes) f = (f.0, f.1, f.2, f.3)
 
 pub range : (words : List (List ℕ)) (o : Order) → order_of words ≡ Some o → IsInRange o
@@ -322,15 +349,17 @@ none_of (Some watch) log = refl
 
 serve_served : (parts : List Part) (o : Order) → command_in o ≡ name.Serve → FitsParts parts o
     → is_served o ≡ (not (is_given (codes "watch") parts) && not (is_given (codes "log") parts))
-serve_served parts (order.Serve workers map address threads clients journal watch idle log format) c f = rw (f.0, f.1) (none_of watch log)
+serve_served parts (order.Serve workers map address threads clients journal watch idle log format cut limits control grace) c f = rw (f.0, f.1) (none_of watch log)
 serve_served parts (order.Container route address threads clients) c f = cc
 serve_served parts order.Play c f = cc
 serve_served parts (order.Dry request reply site) c f = cc
 serve_served parts (order.Config workers map) c f = cc
-serve_served parts (order.Match workers map) c f = cc
+serve_served parts (order.Match workers map verbose) c f = cc
 serve_served parts order.Check c f = cc
 serve_served parts (order.Log format request reply workers map) c f = cc
 serve_served parts order.Follow c f = cc
+serve_served parts (order.Stop path) c f = cc
+serve_served parts (order.Demo address) c f = cc
 serve_served parts (order.Drill seed threads requests text passes) c f = cc
 
 serve_found : (word : List ℕ) (behind : List (List ℕ)) (found : Option Order) → order_of (word ∷ behind) ≡ found → option_map command_in found ≡ Some name.Serve
@@ -349,18 +378,24 @@ serve_words (word ∷ behind) c =
 
 -- ---- which words of a drill ask for passes
 
-part_any : (dashed long : Bool) (equals : Option ℕ) (word : List ℕ) (parts : List Part)
-    → list_all (may_stand name.Drill) ((if not dashed then Place word else (if long then given_at equals (drop 2 word) else Stray)) ∷ parts) ≡ true
-    → list_any is_passes (places_in ((if not dashed then Place word else (if long then given_at equals (drop 2 word) else Stray)) ∷ parts))
-    ≡ (is_passes word || list_any is_passes (places_in parts))
-part_any false long equals word parts stands = refl
-part_any true true None word parts stands = cc
-part_any true true (Some place) word parts stands = cc
-part_any true false equals word parts stands = cc
+-- what a word is that takes no other, by what it begins with
+abbrev alone_by : (dashed long verbose : Bool) (equals : Option ℕ) (word : List ℕ) → Part
+alone_by dashed long verbose equals word =
+    if not dashed then Place word else (if long then given_at equals (drop 2 word) else (if verbose then Verbose else Stray))
+
+part_any : (dashed long verbose : Bool) (equals : Option ℕ) (word : List ℕ) (parts : List Part)
+    → list_all (may_stand name.Drill) (alone_by dashed long verbose equals word ∷ parts) ≡ true
+    → list_any is_passes (places_in (alone_by dashed long verbose equals word ∷ parts)) ≡ (is_passes word || list_any is_passes (places_in parts))
+part_any false long verbose equals word parts stands = refl
+part_any true true verbose None word parts stands = cc
+part_any true true verbose (Some place) word parts stands = cc
+part_any true false true equals word parts stands = cc
+part_any true false false equals word parts stands = cc
 
 alone_any : (word : List ℕ) (parts : List Part) → list_all (may_stand name.Drill) (alone word ∷ parts) ≡ true
     → list_any is_passes (places_in (alone word ∷ parts)) ≡ (is_passes word || list_any is_passes (places_in parts))
-alone_any word parts stands = part_any (is_dashed word) (starts_with nat_eq word (codes "--")) (equals_in (drop 2 word)) word parts stands
+alone_any word parts stands =
+    part_any (is_dashed word) (starts_with nat_eq word (codes "--")) (bytes_eq word (codes "-v")) (equals_in (drop 2 word)) word parts stands
 
 placed_any : (words : List (List ℕ)) → list_any is_passes (places_in (map Place words)) ≡ list_any is_passes words
 placed_any [] = refl
@@ -398,15 +433,17 @@ words_any (word ∷ next ∷ more) stands = more_any word next more (words_any (
 
 drill_served : (parts : List Part) (o : Order) → command_in o ≡ name.Drill → FitsParts parts o
     → (is_served o ≡ not (list_any is_passes (places_in parts))) × (list_all (may_stand name.Drill) parts ≡ true)
-drill_served parts (order.Serve workers map address threads clients journal watch idle log format) c f = cc
+drill_served parts (order.Serve workers map address threads clients journal watch idle log format cut limits control grace) c f = cc
 drill_served parts (order.Container route address threads clients) c f = cc
 drill_served parts order.Play c f = cc
 drill_served parts (order.Dry request reply site) c f = cc
 drill_served parts (order.Config workers map) c f = cc
-drill_served parts (order.Match workers map) c f = cc
+drill_served parts (order.Match workers map verbose) c f = cc
 drill_served parts order.Check c f = cc
 drill_served parts (order.Log format request reply workers map) c f = cc
 drill_served parts order.Follow c f = cc
+drill_served parts (order.Stop path) c f = cc
+drill_served parts (order.Demo address) c f = cc
 drill_served parts (order.Drill seed threads requests text passes) c f = (ap not f.4, f.5)
 
 drill_found : (word : List ℕ) (behind : List (List ℕ)) (found : Option Order) → order_of (word ∷ behind) ≡ found → option_map command_in found ≡ Some name.Drill

@@ -1,14 +1,14 @@
 -- What `serve`, `container` and `drill` do with the outside, and how they end. Read this first; what a call of the server does
 -- is in jk_server's specs/Commands.antt, what one of a drill does in drill's specs/Written.antt, and which words are which
 -- command in specs/Words.antt.
-use Rattle.std.specs.Prelude.{◌≡◌, ℕ, Bool, true, List, Some, None}
+use Rattle.std.specs.Prelude.{◌≡◌, ℕ, Bool, true, List, Some}
 use Rattle.drill.specs.Written.{RunsDrill}
 use Rattle.drill.specs.declared.writing.DrillEnd.{DrillEnd}
 use Rattle.jk_cli.specs.Orders.{order_of}
 use Rattle.jk_cli.specs.declared.order.Order.{Order}
 use Rattle.jk_cli.specs.declared.order.Order.TheVariants as order
 use Rattle.jk_server.specs.Commands.{command_side, CommandSide, CommandTells, Contains, Serves}
-use Rattle.gear_parts.specs.Wants.{wants}
+use Rattle.gear_parts.specs.Wants.{container_wants, wants}
 use Rattle.gear_parts.specs.Worlds.{Tells}
 use Rattle.jk_server.specs.declared.orders.ends.CommandEnd.{CommandEnd}
 use Rattle.site_reports.specs.Readings.{CommandOutside, OfFiles}
@@ -35,9 +35,9 @@ pub record Drills {G L : Type 0} (seed threads requests : ℕ) (text passes : Bo
 
 -- What an order that asks for workers or threads does.
 abbrev pub DoesOrder : {W G C S X L : Type 0} → Tells W G C S X → CommandOutside → Order → (s n : CommandSide G) → EndOf L → Type 0
-DoesOrder told outside (order.Serve workers map address threads clients journal watch idle log format) s n ended =
-    EndsServed (Serves told outside workers map threads (wants address clients journal) s n) ended
-DoesOrder told outside (order.Container route address threads clients) s n ended = EndsServed (Contains told route threads (wants address clients None) s n) ended
+DoesOrder told outside (order.Serve workers map address threads clients journal watch idle log format cut limits control grace) s n ended =
+    EndsServed (Serves told outside workers map threads (wants address clients journal limits control grace) s n) ended
+DoesOrder told outside (order.Container route address threads clients) s n ended = EndsServed (Contains told route threads (container_wants address clients) s n) ended
 DoesOrder told outside (order.Drill seed threads requests text passes) s n ended = Drills seed threads requests text passes s n ended
 DoesOrder told outside other s n ended = ⊥
 

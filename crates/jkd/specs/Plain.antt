@@ -1,8 +1,8 @@
 -- What a plain command does, in one record over its status.
 use Rattle.std.specs.Prelude.{◌≡◌, ◌↔◌, ℕ, false, ◌⊎◌, List}
 use Rattle.jk_io.specs.Told.{Rose}
-use Rattle.plain_commands.specs.Endings.{PlainSide, ReadFails}
-use Rattle.plain_commands.specs.Plain.{is_plain, Prints, PrintsFront}
+use Rattle.plain_commands.specs.Endings.{PlainSide}
+use Rattle.plain_commands.specs.Plain.{is_plain, EndsWith, Prints, PrintsFront}
 use Rattle.jkd.specs.declared.ends.EndOf.{EndOf}
 use Rattle.jkd.specs.declared.ends.EndOf.TheVariants as end
 
@@ -14,7 +14,7 @@ pub record RunsPlain (words : List (List ℕ)) (s n : PlainSide) (status : ℕ) 
   pub refused : status ≡ 3 → Prints words s.outside s.sent n.sent 3
   pub no_command : (status ≡ 2) ↔ (is_plain words ≡ false)
   pub no_words : status ≡ 2 → n.sent ≡ s.sent
-  pub input_fault : status ≡ 4 → ReadFails s.faults n.faults
+  pub input_fault : status ≡ 4 → Rose s.faults.files n.faults.files ⊎ Rose s.faults.input n.faults.input ⊎ EndsWith words s.outside 4
   pub nothing : status ≡ 4 → n.sent ≡ s.sent
   pub output_fault : status ≡ 5 → Rose s.faults.output n.faults.output
   pub part : status ≡ 5 → PrintsFront words s.outside s.sent n.sent

@@ -2,19 +2,16 @@
 use Rattle.std.specs.Prelude.{◌≡◌, ℕ, ◌≤◌, Bool, true, false, not, ◌&&◌, ◌||◌, List, [], ◌∷◌, length, Option, Some, None, is_none}
 use Rattle.std.specs.Str.{bytes_eq}
 use Rattle.jk_cli.specs.Orders.{order_of}
-use Rattle.jk_cli.specs.Parts.{Part, Place, Given, Stray}
+use Rattle.jk_cli.specs.Parts.{Part, Place, Given, Stray, Verbose}
 use Rattle.jk_cli.specs.declared.order.Order.{Order}
 use Rattle.jk_cli.specs.declared.order.Order.TheVariants as order
 use Rattle.plain_commands.specs.Plain.{is_plain, readings}
 use Rattle.site_reports.specs.Readings.{has_file}
-use Rattle.drill.specs.declared.plan.TheConstants.{MAX_REQUESTS, MAX_THREADS}
-use Rattle.jk_server.specs.declared.orders.container.TheConstants.{MOST_ROUTE_BYTES}
-use Rattle.jk_server.specs.declared.workers.TheConstants.{MAX_WORKERS}
 
 -- `serve`, `container` and `drill`. A watch, a log and passes aren't built: words with `--watch` or `--log`, without which
 -- `--idle` and `--format` can't stand, and a drill with `passes` are no command yet.
 abbrev pub is_served : Order → Bool
-is_served (order.Serve workers map address threads clients journal watch idle log format) = is_none watch && is_none log
+is_served (order.Serve workers map address threads clients journal watch idle log format cut limits control grace) = is_none watch && is_none log
 is_served (order.Container route address threads clients) = true
 is_served (order.Drill seed threads requests text passes) = not passes
 is_served other = false
@@ -33,7 +30,7 @@ is_command words = is_serving words || is_plain words
 
 -- a command that reads files
 abbrev pub reads_files : Order → Bool
-reads_files (order.Serve workers map address threads clients journal watch idle log format) = true
+reads_files (order.Serve workers map address threads clients journal watch idle log format cut limits control grace) = true
 reads_files other = has_file (readings other)
 
 -- The words are a command that reads files.
@@ -42,10 +39,10 @@ AreFilesRead words = (o : Order) × (order_of words ≡ Some o) × (reads_files 
 
 -- Of an order that asks for workers: 1 to 64 of them, and a route of at most 1,024 bytes; of a drill 1 to 1,000,000 requests.
 abbrev pub IsInRange : Order → Type 0
-IsInRange (order.Serve workers map address threads clients journal watch idle log format) = (1 ≤ threads) × (threads ≤ MAX_WORKERS)
-IsInRange (order.Container route address threads clients) = (1 ≤ threads) × (threads ≤ MAX_WORKERS) × (length route ≤ MOST_ROUTE_BYTES)
+IsInRange (order.Serve workers map address threads clients journal watch idle log format cut limits control grace) = (1 ≤ threads) × (threads ≤ 64)
+IsInRange (order.Container route address threads clients) = (1 ≤ threads) × (threads ≤ 64) × (length route ≤ 1024)
 IsInRange (order.Drill seed threads requests text passes) =
-    (1 ≤ threads) × (threads ≤ MAX_THREADS) × (1 ≤ requests) × (requests ≤ MAX_REQUESTS)
+    (1 ≤ threads) × (threads ≤ 64) × (1 ≤ requests) × (requests ≤ 1000000)
 IsInRange other = Unit {0}
 
 -- an option of this name stands among the parts
@@ -53,4 +50,5 @@ abbrev pub is_given : List ℕ → List Part → Bool
 is_given key [] = false
 is_given key (Place word ∷ parts) = is_given key parts
 is_given key (Given name value ∷ parts) = bytes_eq name key || is_given key parts
+is_given key (Verbose ∷ parts) = is_given key parts
 is_given key (Stray ∷ parts) = is_given key parts

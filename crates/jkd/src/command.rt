@@ -13,7 +13,7 @@ use crate::words::is_serving;
 use drill::{DrillOrder, write_drill};
 use jk_cli::{Order, read_words};
 use jk_io::{Bytes, Door, Files, Sink, Source};
-use jk_server::{ContainerOrder, GearOrder, ServeOrder, contain, serve};
+use jk_server::{ContainerOrder, GearOrder, ServeOrder, contain, cut_at, serve};
 use plain_commands::run_plain;
 use std::alloc::Global;
 use std::sync::Wait;
@@ -33,7 +33,7 @@ where
     <W::D as Door>::L: Send,
     requires served { is_served order.now ≡ true }
     requires range { IsInRange order.now }
-    ensures does { DoesAsked (telling F.Files O.Meanings W.World W.D.Door W.T.Tape W.K.Clock W.D.L.Meanings W.S.Shelf)
+    ensures does { DoesAsked (telling F.Files O.Meanings W.World W.D.Door W.T.Tape W.K.Clock W.D.L.Meanings W.S.Shelf W.D.L.may_wait)
         order.now (files.old, out.old, world.old) (files.new, out.new, world.new) result }
     ensures files { (files.new ≡ files.old) ⊎ (reads_files order.now ≡ true) }
 {
@@ -45,12 +45,26 @@ where
             threads,
             clients,
             journal,
+            cut,
+            limits,
+            control,
+            grace,
             ..
         } => {
-            let asked = GearOrder::new(address, *threads, *clients, journal.as_ref());
+            let asked = GearOrder {
+                address,
+                clients: *clients,
+                journal: journal.as_ref(),
+                cfg: None,
+                limits: *limits,
+                control: control.as_ref(),
+                grace: *grace,
+            };
             let order = ServeOrder {
                 workers,
                 map,
+                threads: *threads,
+                cut: cut_at(*cut),
                 asked,
             };
             EndOf::from(serve(rt, alloc, order, files, out, world))
@@ -61,8 +75,11 @@ where
             threads,
             clients,
         } => {
-            let asked = GearOrder::new(address, *threads, *clients, None);
-            let order = ContainerOrder { route, asked };
+            let order = ContainerOrder {
+                route,
+                threads: *threads,
+                asked: GearOrder::of_container(address, *clients),
+            };
             EndOf::from(contain(rt, alloc, order, world))
         }
         Order::Drill {
@@ -94,7 +111,7 @@ fn do_words<F: Files, O: Sink, W: World, R: Threads + Wait + Sync>(
 where
     <W::D as Door>::L: Send,
     requires serving { is_serving words.now ≡ true }
-    ensures serves { DoesWords (telling F.Files O.Meanings W.World W.D.Door W.T.Tape W.K.Clock W.D.L.Meanings W.S.Shelf)
+    ensures serves { DoesWords (telling F.Files O.Meanings W.World W.D.Door W.T.Tape W.K.Clock W.D.L.Meanings W.S.Shelf W.D.L.may_wait)
         words.now (files.old, out.old, world.old) (files.new, out.new, world.new) result }
     ensures files { (files.new ≡ files.old) ⊎ AreFilesRead words.now }
     ensures command { result ≢ EndOf.Status 2 }
@@ -141,7 +158,7 @@ pub fn run_jkd<F: Files, S: Source, O: Sink, W: World, R: Threads + Wait + Sync>
 where
     <W::D as Door>::L: Send,
     // Words that ask for workers or threads: `serve`, `container` and `drill`. Their input isn't looked at.
-    ensures serves { DoesWords (telling F.Files O.Meanings W.World W.D.Door W.T.Tape W.K.Clock W.D.L.Meanings W.S.Shelf)
+    ensures serves { DoesWords (telling F.Files O.Meanings W.World W.D.Door W.T.Tape W.K.Clock W.D.L.Meanings W.S.Shelf W.D.L.may_wait)
         words.now (files.old, out.old, world.old) (files.new, out.new, world.new) result }
 
     // Any other words: a plain command, or none. The world isn't asked.

@@ -86,6 +86,11 @@ fn main(rt: HostRuntime) -> ExitCode {
     let mut world = RealWorld::new(&rt, threads_of(rt.alloc(), words));
     let status = do_outside(&rt, words, &mut world, rt.stderr());
     tell_trouble(&rt, world.trouble());
+    if status == 0 {
+        world.say_ended();
+    } else {
+        world.wait_for_lingering();
+    }
     let_go(world);
     ended(&rt, status)
 }

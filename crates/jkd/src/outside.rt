@@ -1,12 +1,22 @@
 //! The command of the words over a world and the real output.
+ghost use Rattle.std.specs.Prelude.{◌≡◌, false};
+ghost use Rattle.jk_server.specs.Commands.{telling};
+ghost use Rattle.plain_commands.specs.Endings.{plain_side};
+ghost use Rattle.jkd.specs.Commands.{DoesWords};
+ghost use Rattle.jkd.specs.Ends.{status_of};
+ghost use Rattle.jkd.specs.Plain.{RunsPlain};
+ghost use Rattle.jkd.specs.Words.{is_serving};
+
 use crate::command::{let_go, run_jkd};
+use crate::ends::JkdEnd;
 use crate::telling::tell;
 use command_remarks::{CountedInput, KeptFiles};
 use jk_cli::{Order, read_words};
-use jk_io::{Bytes, Door, Files, Source};
+use jk_io::{Bytes, Door, Files, Sink, Source};
 use real_io::{RealFiles, StdIn, StdOut};
 use std::alloc::Global;
 use std::io::{Input, Write};
+use std::net::Net;
 use std::rt::Files as SystemFiles;
 use std::sync::Wait;
 use std::thread::Threads;
@@ -32,22 +42,26 @@ pub(crate) fn threads_of(alloc: Global, words: &[Bytes]) -> u32 {
     }
 }
 
-/// Does the command of the words in this world, and answers its status.
-fn do_in<F: Files, S: Source, W: World, R: Print + AllocGlobal + Threads + Wait + Sync>(
+/// Does the command of the words, and answers how it ended and the status that says so.
+fn do_in<F: Files, S: Source, O: Sink, W: World, R: AllocGlobal + Threads + Wait + Sync>(
     rt: &R,
     words: &[Bytes],
     files: &mut F,
     input: &mut S,
+    out: &mut O,
     world: &mut W,
-) -> u8
+) -> (JkdEnd, u8)
 where
     <W::D as Door>::L: Send,
+    ensures status { result.1 ≡ status_of result.0 }
+    ensures serves { DoesWords (telling F.Files O.Meanings W.World W.D.Door W.T.Tape W.K.Clock W.D.L.Meanings W.S.Shelf W.D.L.may_wait)
+        words.now (files.old, out.old, world.old) (files.new, out.new, world.new) result.0 }
+    ensures plain { is_serving words.now ≡ false → let at = plain_side F.Files S.Meanings O.Meanings in
+        RunsPlain words.now (at files.old input.old out.old) (at files.new input.new out.new) result.1 }
 {
-    let mut out = StdOut::new(rt);
-    let end = run_jkd(rt, rt.alloc(), words, files, input, &mut out, world);
+    let end = run_jkd(rt, rt.alloc(), words, files, input, out, world);
     let status = end.status();
-    let_go(end);
-    status
+    (end, status)
 }
 
 /// Does the command of the words in this world, over the system's files and streams. Tells a person of it, and answers its
@@ -55,14 +69,16 @@ where
 pub(crate) fn do_outside<
     W: World,
     E: Write + Drop,
-    R: Print + Input + SystemFiles + AllocGlobal + Threads + Wait + Sync,
+    R: Print + Input + SystemFiles + Net + AllocGlobal + Threads + Wait + Sync,
 >(rt: &R, words: &[Bytes], world: &mut W, err: E) -> u8
 where
     <W::D as Door>::L: Send,
 {
     let mut files = KeptFiles::new(rt.alloc(), RealFiles::new(rt));
     let mut input = CountedInput::new(StdIn::new(rt.reader()));
-    let status = do_in(rt, words, &mut files, &mut input, world);
+    let mut out = StdOut::new(rt);
+    let (end, status) = do_in(rt, words, &mut files, &mut input, &mut out, world);
+    let_go(end);
     tell(rt, err, words, status, files.reads(), input.seen());
     let_go(files);
     status

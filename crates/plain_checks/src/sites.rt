@@ -21,6 +21,9 @@ fn put_mount(out: &mut RowText, map: &UriMap, path: &[u8]) {
     }
     out.number(b" disabled ", terms.disabled);
     out.number(b" stopped ", terms.stopped);
+    if let Some(millis) = terms.reply_timeout {
+        out.number(b" reply ", millis);
+    }
 }
 
 fn mount_in(alloc: Global, config: &Config, map: &[u8], path: &[u8], out: &mut RowText) {

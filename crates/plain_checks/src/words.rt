@@ -92,6 +92,35 @@ fn put_serve(out: &mut RowText, order: &Order) {
     put_given(out, b" clients ", *clients);
     put_text(out, b" journal ", journal);
     put_watched(out, order);
+    put_front(out, order);
+}
+
+/// A number that isn't what it is where its option doesn't stand.
+fn put_unusual(out: &mut RowText, name: &[u8], number: u64, usual: u64) {
+    if number != usual {
+        out.number(name, number);
+    }
+}
+
+/// What a front is told of its clients and its end.
+fn put_front(out: &mut RowText, order: &Order) {
+    let Order::Serve {
+        cut,
+        limits,
+        control,
+        grace,
+        ..
+    } = order
+    else {
+        return;
+    };
+    put_given(out, b" cut ", *cut);
+    put_text(out, b" control ", control);
+    put_unusual(out, b" head ", limits.head, 20);
+    put_unusual(out, b" keep ", limits.keep, 60);
+    put_unusual(out, b" rate ", limits.rate, 500);
+    put_unusual(out, b" waiting ", limits.waiting, 10_000);
+    put_unusual(out, b" grace ", *grace, 30);
 }
 
 /// What `serve` watches and logs.
@@ -128,6 +157,12 @@ fn put_container(out: &mut RowText, order: &Order) {
     put_given(out, b" clients ", *clients);
 }
 
+fn put_match(out: &mut RowText, workers: &Bytes, map: &Bytes, verbose: bool) {
+    out.put(b"match");
+    out.words(&[workers.as_slice(), map.as_slice()]);
+    out.put(if verbose { b" verbose" } else { b"" });
+}
+
 fn put_order(out: &mut RowText, order: &Order) {
     match order {
         Order::Play => out.put(b"play"),
@@ -141,16 +176,25 @@ fn put_order(out: &mut RowText, order: &Order) {
             out.words(&[workers.as_slice()]);
             put_text(out, b" ", map);
         }
-        Order::Match { workers, map } => {
-            out.put(b"match");
-            out.words(&[workers.as_slice(), map.as_slice()]);
-        }
+        Order::Match {
+            workers,
+            map,
+            verbose,
+        } => put_match(out, workers, map, *verbose),
         Order::Check => out.put(b"check"),
         Order::Log { .. } => put_log(out, order),
         Order::Follow => out.put(b"follow"),
         Order::Drill { .. } => put_drill(out, order),
         Order::Serve { .. } => put_serve(out, order),
         Order::Container { .. } => put_container(out, order),
+        Order::Stop { path } => {
+            out.put(b"stop");
+            out.words(&[path.as_slice()]);
+        }
+        Order::Demo { address } => {
+            out.put(b"demo");
+            out.words(&[address.as_slice()]);
+        }
     }
 }
 

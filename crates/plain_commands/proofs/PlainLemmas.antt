@@ -5,10 +5,11 @@ use Rattle.jk_cli.specs.Names.{command_in}
 use Rattle.jk_cli.specs.Orders.{order_of}
 use Rattle.jk_cli.specs.declared.order.Order.{Order}
 use Rattle.jk_cli.specs.declared.order.Order.TheVariants as order
-use Rattle.jk_io.specs.Told.{HasCause, prepended}
+use Rattle.jk_io.specs.Told.{prepended}
 use Rattle.jk_io.specs.declared.failures.IoError.{IoError}
 use Rattle.jk_io.specs.declared.failures.IoError.TheVariants as io
 use Rattle.jk_io.specs.declared.failures.NoMemory.{NoMemory}
+use Rattle.plain_commands.specs.Causes.{IsCaused}
 use Rattle.plain_commands.specs.Endings.{status_of, AnswersOrder, EndsSo, PlainSide, PrintsOfInput}
 use Rattle.plain_commands.specs.Plain.{is_built, is_plain, is_plain_command, MatchesRead, Plain, PrintsOf, Reported, status_if, readings, AreFilesDue, InputIsDue, IsInputDue}
 use Rattle.plain_commands.specs.Printed.{IsPrinted}
@@ -55,9 +56,9 @@ pub check_due : (outside : CommandOutside) → InputIsDue outside order.Check
 check_due outside = (refl, ([], tt))
 
 -- both files of `match` were read whole
-pub match_due : (outside : CommandOutside) (workers map text rules : List ℕ) → IsRead outside (File workers) text → IsRead outside (File map) rules
-    → InputIsDue outside (order.Match workers map)
-match_due outside workers map text rules first second = (refl, (text ∷ rules ∷ [], (first, (second, tt))))
+pub match_due : (outside : CommandOutside) (workers map : List ℕ) (verbose : Bool) (text rules : List ℕ) → IsRead outside (File workers) text → IsRead outside (File map) rules
+    → InputIsDue outside (order.Match workers map verbose)
+match_due outside workers map verbose text rules first second = (refl, (text ∷ rules ∷ [], (first, (second, tt))))
 
 -- what is due by an order is due by its words
 pub input_by : (words : List (List ℕ)) (o : Order) (outside : CommandOutside) (same : Type 0) → order_of words ≡ Some o
@@ -71,17 +72,17 @@ files_by words o same meant (inl kept) = inl kept
 files_by words o same meant (inr due) = inr (o, meant, due)
 
 -- both files were read, and then the paths
-pub then_input : (outside : CommandOutside) (w m workers map out : List ℕ) (status : ℕ) → IsRead outside (File w) workers → IsRead outside (File m) map
-    → PrintsOf outside (Input ∷ []) (MatchesRead workers map) out status → Plain outside (order.Match w m) out status
-then_input outside w m workers map out status first second (inl (inl long, said, is)) = inl (inr (workers, first, inr (map, second, inl long)), said, is)
-then_input outside w m workers map out status first second (inl (inr (text, read, none), said, is)) = absurd none
-then_input outside w m workers map out status first second (inr (texts, read, of)) = inr (workers ∷ map ∷ texts, (first, (second, read)), of)
+pub then_input : (outside : CommandOutside) (verbose : Bool) (w m workers map out : List ℕ) (status : ℕ) → IsRead outside (File w) workers → IsRead outside (File m) map
+    → PrintsOf outside (Input ∷ []) (MatchesRead workers map verbose) out status → Plain outside (order.Match w m verbose) out status
+then_input outside verbose w m workers map out status first second (inl (inl long, said, is)) = inl (inr (workers, first, inr (map, second, inl long)), said, is)
+then_input outside verbose w m workers map out status first second (inl (inr (text, read, none), said, is)) = absurd none
+then_input outside verbose w m workers map out status first second (inr (texts, read, of)) = inr (workers ∷ map ∷ texts, (first, (second, read)), of)
 
-pub match_ok : {E : Type 0} (outside : CommandOutside) (w m workers map : List ℕ) → IsRead outside (File w) workers → IsRead outside (File m) map
-    → (result : Result Output E) → IfOk result (λ o. PrintsOfInput outside.incoming (Input ∷ []) (MatchesRead workers map) o)
-    → IfOk result (λ o. Plain outside (order.Match w m) o.text (status_of o.ending))
-match_ok outside w m workers map first second (Ok o) says = then_input outside w m workers map o.text (status_of o.ending) first second (says outside.files)
-match_ok outside w m workers map first second (Err e) says = tt
+pub match_ok : {E : Type 0} (outside : CommandOutside) (verbose : Bool) (w m workers map : List ℕ) → IsRead outside (File w) workers → IsRead outside (File m) map
+    → (result : Result Output E) → IfOk result (λ o. PrintsOfInput outside.incoming (Input ∷ []) (MatchesRead workers map verbose) o)
+    → IfOk result (λ o. Plain outside (order.Match w m verbose) o.text (status_of o.ending))
+match_ok outside verbose w m workers map first second (Ok o) says = then_input outside verbose w m workers map o.text (status_of o.ending) first second (says outside.files)
+match_ok outside verbose w m workers map first second (Err e) says = tt
 
 -- ---- how a plain command ends
 
@@ -96,6 +97,7 @@ ends_by words o s n end.Done meant plain answers = (plain, answers words meant)
 ends_by words o s n end.Bad meant plain answers = (plain, answers words meant)
 ends_by words o s n end.NoCommand meant plain answers = absurd (answers words meant)
 ends_by words o s n end.Refused meant plain answers = (plain, answers words meant)
+ends_by words o s n end.Running meant plain answers = (plain, answers words meant)
 ends_by words o s n end.InputFault meant plain answers = (plain, answers words meant)
 ends_by words o s n end.OutputFault meant plain answers = (plain, answers words meant)
 ends_by words o s n end.NoMemory meant plain answers = (plain, answers words meant)
@@ -103,12 +105,12 @@ ends_by words o s n end.NoMemory meant plain answers = (plain, answers words mea
 -- ---- what is answered to texts that are read, and to one that is too long
 
 -- a call that never fails has the cause that was known before it
-pub cause_kept : {A B : Type 0} (before now : ℕ) (known : Result A IoError) (result : Result B IoError) → HasCause before now known
-    → (IsErrOf result io.Failed → ⊥) → HasCause before now result
+pub cause_kept : {A B : Type 0} (before now : ℕ) (known : Result A IoError) (result : Result B IoError) → IsCaused before now known
+    → (IsErrOf result io.Failed → ⊥) → IsCaused before now result
 cause_kept before now known result cause never = record { no_fewer = cause.no_fewer; failed = λ failed. absurd (never failed) }
 
 -- nothing was read
-pub never_caused : {B : Type 0} (before : ℕ) (result : Result B IoError) → (IsErrOf result io.Failed → ⊥) → HasCause before before result
+pub never_caused : {B : Type 0} (before : ℕ) (result : Result B IoError) → (IsErrOf result io.Failed → ⊥) → IsCaused before before result
 never_caused before result never = record { no_fewer = omega arith; failed = λ failed. absurd (never failed) }
 
 pub long_ok : {X : Type 0} (outside : X → CommandOutside) (all : List Reading) (Of : List (List ℕ) → List ℕ → ℕ → Type 0) (result : Result Output IoError)

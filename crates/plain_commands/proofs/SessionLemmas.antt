@@ -7,13 +7,14 @@ use Rattle.jk_model.specs.declared.served.Served.{Served}
 use Rattle.balancer_core.specs.Desks.{DeskState}
 use Rattle.balancer_core.specs.Journal.{Journal}
 use Rattle.balancer_core.specs.PlainDesks.{plain_state}
-use Rattle.client_session.specs.Causes.{IsDecided, IsOwnCaused}
-use Rattle.client_session.specs.Complete.{EndsWhole, ServesWhole}
 use Rattle.client_session.specs.Parts.{HasParts}
 use Rattle.client_session.specs.Requests.{Visit}
-use Rattle.client_session.specs.Sessions.{InEachSession, IsServed, Serves}
+use Rattle.client_session.specs.Sessions.{Serves}
 use Rattle.client_session.specs.Standings.{ClientStanding}
+use Rattle.client_session.specs.Whole.{HoldsOfEach}
 use Rattle.client_session.specs.declared.ending.SessionEnd.{SessionEnd}
+use Rattle.client_session.specs.declared.ending.SessionStop.TheVariants as stop
+use Rattle.client_session.specs.declared.ending.Why.TheVariants as why
 use Rattle.plain_commands.specs.Dry.{IsRun, first_standing}
 use Rattle.plain_commands.specs.DryLines.{dry_text}
 
@@ -35,17 +36,13 @@ first_is desk clock reach client books d k talks faults received sent failed =
     rw (d, k, talks, faults, received, sent, failed) refl
 
 -- what a session's contract says of the way that it went
-pub run_from : (v v' : Visit) (first : ClientStanding) (at_first at_last : List ℕ → ClientStanding) (rows : List Served) (end : SessionEnd) (talks : List Talk) (sent : List ℕ)
-    → (way : Serves v at_first at_last [] rows end) → v ≡ v' → at_first [] ≡ first
+pub run_from : (v v' : Visit) (first : ClientStanding) (at_first at_last : List ℕ → ClientStanding) (puts : List Served → Type 0) (end : SessionEnd) (talks : List Talk) (sent : List ℕ)
+    → (way : Serves v at_first at_last puts end) → v ≡ v' → at_first [] ≡ first
     → (at_last way.inbox).reach.talks ≡ Some talks → (at_last way.inbox).client.sent ≡ Some sent
     → ((at_last way.inbox).reach.faults ≡ 0) × ((at_last way.inbox).client.faults ≡ 0)
-    → HasParts v (at_first []).client.incoming (at_first []).client.sent (at_last way.inbox).client.sent end
-    → InEachSession v end (IsOwnCaused v)
-    → InEachSession v end (IsDecided v)
-    → InEachSession v end (EndsWhole v)
-    → ((number : ℕ) (s n : ClientStanding) (gained : List Served) → IsServed v number s n gained → ServesWhole v number s n)
-    → IsRun v' first talks sent end
-run_from v v' first at_first at_last rows end talks sent way same begun talked written calm parts own by_bytes complete served =
+    → HasParts v (at_first []) (at_last way.inbox) end → (end.stop ≡ stop.Closed why.Idle → ⊥)
+    → HoldsOfEach v end → IsRun v' first talks sent end
+run_from v v' first at_first at_last puts end talks sent way same begun talked written calm parts awake each =
     subst (λ (w : Visit). IsRun w first talks sent end) same (subst (λ (s : ClientStanding). IsRun v s talks sent end) begun (record {
       last = at_last way.inbox;
       rows = way.gained;
@@ -54,10 +51,11 @@ run_from v v' first at_first at_last rows end talks sent way same begun talked w
       written = written;
       calm = calm;
       parts = parts;
-      own = own _ _ _ way.session;
-      by_bytes = by_bytes _ _ _ way.session;
-      complete = complete _ _ _ way.session;
-      served = served;
+      awake = awake;
+      own = each.own _ _ _ way.session;
+      by_bytes = each.by_bytes _ _ _ way.session;
+      complete = each.complete _ _ _ way.session;
+      served = each.served;
     }))
 
 -- ---- texts

@@ -18,6 +18,8 @@ use Rattle.client_session.specs.Requests.{Visit, visit}
 use Rattle.client_session.specs.Sessions.{IsServed, IsSession}
 use Rattle.client_session.specs.Standings.{ClientStanding}
 use Rattle.client_session.specs.declared.ending.SessionEnd.{SessionEnd}
+use Rattle.client_session.specs.declared.ending.SessionStop.TheVariants as stop
+use Rattle.client_session.specs.declared.ending.Why.TheVariants as why
 use Rattle.plain_commands.specs.DryLines.{dry_text, end_words}
 use Rattle.plain_commands.specs.DryLinks.{AreTalksOver, reply_link}
 
@@ -40,8 +42,9 @@ first_standing books request = record {
 -- ---- how it goes
 
 -- One session from this standing to its end, in which no call of a link failed: the talks that it had, the bytes that its
--- client has, and its end. The client has the parts of its requests joined; an own answer has its cause; the client's bytes
--- decide what they can; and what nothing disturbs is answered with exactly its member's reply.
+-- client has, and its end. It doesn't end for a client that waits, since in memory none does. The client has the parts of
+-- its requests joined; an own answer has its cause; the client's bytes decide what they can; and what nothing disturbs is
+-- answered with exactly its member's reply.
 pub record IsRun (v : Visit) (first : ClientStanding) (talks : List Talk) (sent : List ℕ) (end : SessionEnd) : Type 0 where
   pub last : ClientStanding
   pub rows : List Served
@@ -49,7 +52,8 @@ pub record IsRun (v : Visit) (first : ClientStanding) (talks : List Talk) (sent 
   pub talked : last.reach.talks ≡ Some talks
   pub written : last.client.sent ≡ Some sent
   pub calm : (last.reach.faults ≡ 0) × (last.client.faults ≡ 0)
-  pub parts : HasParts v first.client.incoming first.client.sent last.client.sent end
+  pub parts : HasParts v first last end
+  pub awake : end.stop ≡ stop.Closed why.Idle → ⊥
   pub own : IsOwnCaused v end session.number session.mid last
   pub by_bytes : IsDecided v end session.number session.mid last
   pub complete : EndsWhole v end session.number session.mid last

@@ -4,7 +4,9 @@ use Rattle.std.specs.List.{flat_map}
 use Rattle.hex.specs.Hex.{encode_lower}
 use Rattle.jk_io.specs.declared.reaching.Talk.{Talk}
 use Rattle.client_session.specs.declared.ending.SessionEnd.{SessionEnd}
-use Rattle.client_session.specs.declared.ending.SessionEnd.TheVariants as session_end
+use Rattle.client_session.specs.declared.ending.SessionStop.{SessionStop}
+use Rattle.client_session.specs.declared.ending.SessionStop.TheVariants as stop
+use Rattle.client_session.specs.declared.ending.Why.{Why}
 use Rattle.client_session.specs.declared.ending.Why.TheVariants as why
 
 -- each byte as two hexadecimal digits; `-` for no bytes
@@ -20,17 +22,25 @@ bytes_line to bytes = to ++ decimal (length bytes) ++ codes " " ++ hex_or_dash b
 abbrev pub sent_in : List Talk → List ℕ
 sent_in talks = flat_map (λ t. t.sent) talks
 
--- why the session ended and after how many requests; none for an end that shows nothing
+-- why the session was closed and after how many requests; none where its client waits
+abbrev pub why_words : Why → (requests : ℕ) → Option (List ℕ)
+why_words why.ByClient requests = Some (codes "by-client " ++ decimal requests)
+why_words why.Idle requests = None
+why_words why.Last requests = Some (codes "last " ++ decimal requests)
+why_words (why.Own status) requests = Some (codes "own-" ++ decimal status ++ codes " " ++ decimal requests)
+why_words why.Cut requests = Some (codes "cut " ++ decimal requests)
+why_words why.Unread requests = Some (codes "unread " ++ decimal requests)
+
+-- how the session ended and after how many requests; none for an end that shows nothing
+abbrev pub words_for : SessionStop → (requests : ℕ) → Option (List ℕ)
+words_for (stop.Closed cause) requests = why_words cause requests
+words_for stop.ClientFault requests = None
+words_for stop.Truncated requests = Some (codes "truncated " ++ decimal requests)
+words_for (stop.Stray ticket returned_at) requests = None
+words_for stop.NoMemory requests = None
+
 abbrev pub end_words : SessionEnd → Option (List ℕ)
-end_words (session_end.Closed requests why.ByClient) = Some (codes "by-client " ++ decimal requests)
-end_words (session_end.Closed requests why.Last) = Some (codes "last " ++ decimal requests)
-end_words (session_end.Closed requests (why.Own status)) = Some (codes "own-" ++ decimal status ++ codes " " ++ decimal requests)
-end_words (session_end.Closed requests why.Cut) = Some (codes "cut " ++ decimal requests)
-end_words (session_end.Closed requests why.Unread) = Some (codes "unread " ++ decimal requests)
-end_words (session_end.ClientFault requests) = None
-end_words (session_end.Truncated requests) = Some (codes "truncated " ++ decimal requests)
-end_words (session_end.Stray ticket returned_at) = None
-end_words session_end.NoMemory = None
+end_words end = words_for end.stop end.requests
 
 abbrev pub end_line : (words : List ℕ) → List ℕ
 end_line words = codes "end " ++ words ++ codes "\n"

@@ -5,7 +5,7 @@ use Rattle.jk_cli.specs.declared.order.Order.{Order}
 use Rattle.jk_io.specs.Told.{appended, PutsFront, Rose}
 use Rattle.jk_io.specs.declared.traits.streams.Meanings.{Ghosts}
 use Rattle.jk_io.specs.declared.traits.surroundings.Files.{Ghosts as FilesGhosts}
-use Rattle.plain_commands.specs.Plain.{is_plain, readings, Answers, Prints, PrintsFront, PrintsOf}
+use Rattle.plain_commands.specs.Plain.{is_plain, readings, Answers, EndsWith, Prints, PrintsFront, PrintsOf}
 use Rattle.site_reports.specs.Readings.{CommandOutside, Reading}
 use Rattle.plain_commands.specs.declared.play.Ending.{Ending}
 use Rattle.plain_commands.specs.declared.play.Ending.TheVariants as ending
@@ -18,12 +18,14 @@ abbrev pub status_of : Ending → ℕ
 status_of ending.Done = 0
 status_of ending.Bad = 1
 status_of ending.Refused = 3
+status_of ending.Running = 4
 
 abbrev pub number_of : PlainEnd → ℕ
 number_of end.Done = 0
 number_of end.Bad = 1
 number_of end.NoCommand = 2
 number_of end.Refused = 3
+number_of end.Running = 4
 number_of end.InputFault = 4
 number_of end.OutputFault = 5
 number_of end.NoMemory = 6
@@ -34,6 +36,7 @@ Writes faults faults_now sent sent_now text answered end.Done = (answered ≡ en
 Writes faults faults_now sent sent_now text answered end.Bad = (answered ≡ ending.Bad) × (sent_now ≡ appended sent text)
 Writes faults faults_now sent sent_now text answered end.NoCommand = ⊥
 Writes faults faults_now sent sent_now text answered end.Refused = (answered ≡ ending.Refused) × (sent_now ≡ appended sent text)
+Writes faults faults_now sent sent_now text answered end.Running = (answered ≡ ending.Running) × (sent_now ≡ sent)
 Writes faults faults_now sent sent_now text answered end.InputFault = ⊥
 Writes faults faults_now sent sent_now text answered end.OutputFault = Rose faults faults_now × PutsFront sent sent_now text
 Writes faults faults_now sent sent_now text answered end.NoMemory = PutsFront sent sent_now text
@@ -68,6 +71,7 @@ AnswersSo words s n end.Done = Prints words s.outside s.sent n.sent 0
 AnswersSo words s n end.Bad = Prints words s.outside s.sent n.sent 1
 AnswersSo words s n end.NoCommand = ⊥
 AnswersSo words s n end.Refused = Prints words s.outside s.sent n.sent 3
+AnswersSo words s n end.Running = (n.sent ≡ s.sent) × EndsWith words s.outside 4
 AnswersSo words s n end.InputFault = (n.sent ≡ s.sent) × ReadFails s.faults n.faults
 AnswersSo words s n end.OutputFault = PrintsFront words s.outside s.sent n.sent × Rose s.faults.output n.faults.output
 AnswersSo words s n end.NoMemory = (n.sent ≡ s.sent) ⊎ PrintsFront words s.outside s.sent n.sent

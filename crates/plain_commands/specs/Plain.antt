@@ -1,5 +1,6 @@
 -- The plain commands: their words, what they read, and what they print.
 use Rattle.std.specs.Prelude.{◌≡◌, ℕ, Bool, true, false, ◌⊎◌, List, [], ◌∷◌, Option, Some, None, codes, if◌then◌else◌}
+use Rattle.std.specs.Str.{bytes_eq}
 use Rattle.jk_io.specs.Told.{appended, PutsFront}
 use Rattle.jk_cli.specs.Orders.{command_of, order_of}
 use Rattle.jk_cli.specs.declared.name.CommandName.{CommandName}
@@ -19,6 +20,7 @@ is_built name.Config = true
 is_built name.Match = true
 is_built name.Dry = true
 is_built name.Check = true
+is_built name.Stop = true
 is_built command = false
 
 abbrev pub is_plain_command : Option CommandName → Bool
@@ -34,10 +36,11 @@ abbrev pub readings : Order → List Reading
 readings order.Play = Input ∷ []
 readings (order.Config workers None) = File workers ∷ []
 readings (order.Config workers (Some map)) = File workers ∷ File map ∷ []
-readings (order.Match workers map) = File workers ∷ File map ∷ Input ∷ []
+readings (order.Match workers map verbose) = File workers ∷ File map ∷ Input ∷ []
 readings (order.Dry request reply None) = File request ∷ File reply ∷ []
 readings (order.Dry request reply (Some site)) = File request ∷ File reply ∷ File site.0 ∷ File site.1 ∷ []
 readings order.Check = Input ∷ []
+readings (order.Stop path) = File path ∷ []
 readings other = []
 
 -- A command has an input, and each of its files is there and not too long, as far as files are told: else no input is read.
@@ -62,25 +65,30 @@ abbrev pub Reported : (List ℕ → Bool → Type 0) → (out : List ℕ) → (s
 Reported reports out status = (refused : Bool) × reports out refused × (status ≡ status_if refused)
 
 -- The paths that `match` reads, after both files.
-abbrev pub MatchesRead : (workers map : List ℕ) → (texts : List (List ℕ)) → (out : List ℕ) → (status : ℕ) → Type 0
-MatchesRead workers map (paths ∷ []) out status = Reported (ReportsMatches workers map paths) out status
-MatchesRead workers map texts out status = ⊥
+abbrev pub MatchesRead : (workers map : List ℕ) → (verbose : Bool) → (texts : List (List ℕ)) → (out : List ℕ) → (status : ℕ) → Type 0
+MatchesRead workers map verbose (paths ∷ []) out status = Reported (ReportsMatches workers map paths verbose) out status
+MatchesRead workers map verbose texts out status = ⊥
 
 -- The two files of a site, after those of a client and of a member.
 abbrev pub DryOver : (request reply : List ℕ) → (texts : List (List ℕ)) → (out : List ℕ) → (status : ℕ) → Type 0
 DryOver request reply (workers ∷ map ∷ []) out status = Reported (ReportsDry request reply workers map) out status
 DryOver request reply texts out status = ⊥
 
+-- The answer of a front that was told to end: nothing is printed, and the status says whether it ended.
+abbrev pub StopsFront : (answer : List ℕ) → (out : List ℕ) → (status : ℕ) → Type 0
+StopsFront answer out status = (out ≡ []) × (status ≡ (if bytes_eq answer (codes "ended\n") then 0 else 4))
+
 -- What a command prints of the texts that it read, and its status.
 abbrev pub Answers : Order → (texts : List (List ℕ)) → (out : List ℕ) → (status : ℕ) → Type 0
 Answers order.Play (script ∷ []) out status = PlaysScript script out status
 Answers (order.Config w None) (workers ∷ []) out status = Reported (ReportsConfig workers) out status
 Answers (order.Config w (Some m)) (workers ∷ map ∷ []) out status = Reported (ReportsSite workers map) out status
-Answers (order.Match w m) (workers ∷ map ∷ texts) out status = MatchesRead workers map texts out status
+Answers (order.Match w m verbose) (workers ∷ map ∷ texts) out status = MatchesRead workers map verbose texts out status
 Answers (order.Dry q p None) (request ∷ reply ∷ []) out status =
     Reported (ReportsDry request reply default_workers default_map) out status
 Answers (order.Dry q p (Some site)) (request ∷ reply ∷ texts) out status = DryOver request reply texts out status
 Answers order.Check (text ∷ []) out status = ChecksText text out status
+Answers (order.Stop path) (answer ∷ []) out status = StopsFront answer out status
 Answers other texts out status = ⊥
 
 -- What is printed of texts, and its status. All are read whole before one is judged; if one is too long, that alone is
@@ -101,6 +109,13 @@ pub record Prints (words : List (List ℕ)) (outside : CommandOutside) (sent sen
   pub text : List ℕ
   pub plain : Plain outside command text status
   pub written : sent_now ≡ appended sent text
+
+-- The words' command ends with this status, of what it read.
+pub record EndsWith (words : List (List ℕ)) (outside : CommandOutside) (status : ℕ) : Type 0 where
+  pub command : Order
+  pub meant : order_of words ≡ Some command
+  pub text : List ℕ
+  pub plain : Plain outside command text status
 
 -- A front of what the words' command prints was written.
 pub record PrintsFront (words : List (List ℕ)) (outside : CommandOutside) (sent sent_now : Option (List ℕ)) : Type 0 where

@@ -16,21 +16,41 @@ fn is(word: &Bytes, text: &[u8]) -> bool {
     word.as_slice() == text
 }
 
-/// Whether the words ask for a text: `--help`, `--version`, or `COMMAND --help`.
+fn asks_help(word: &Bytes) -> bool {
+    is(word, b"--help") || is(word, b"-h")
+}
+
+fn asks_version(word: &Bytes) -> bool {
+    is(word, b"--version") || is(word, b"-V")
+}
+
+fn names_command(word: &Bytes) -> bool {
+    name_of(word.as_slice()).is_some()
+}
+
+/// Whether the words ask for a text: `--help`, `--version`, `COMMAND --help`, or `help`, alone or before a command.
 fn ask_for_text(words: &[Bytes]) -> bool {
     match words {
-        [word] => is(word, b"--help") || is(word, b"--version"),
-        [name, word] => name_of(name.as_slice()).is_some() && is(word, b"--help"),
+        [word] => asks_help(word) || asks_version(word) || is(word, b"help"),
+        [first, second] => {
+            (names_command(first) && asks_help(second))
+                || (is(first, b"help") && names_command(second))
+        }
         _ => false,
     }
 }
 
-// The words as `clap` takes them, after the program's name.
+// The words as `clap` takes them, after the program's name. `help` is the wish for the text of what follows it.
 fn line_of<'w>(alloc: Global, words: &'w [Bytes]) -> Result<Vec<&'w str>, NoMemory> {
     let mut line = Vec::new(alloc);
     line.push("jkd")?;
     for word in words {
-        line.push(str::from_utf8(word.as_slice()).unwrap_or(""))?;
+        if !is(word, b"help") {
+            line.push(str::from_utf8(word.as_slice()).unwrap_or(""))?;
+        }
+    }
+    if words.first().is_some_and(|word| is(word, b"help")) {
+        line.push("--help")?;
     }
     Ok(line)
 }

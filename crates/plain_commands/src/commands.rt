@@ -2,9 +2,10 @@
 ghost use Rattle.std.specs.Prelude.{◌≡◌, ◌≤◌, ◌⊎◌, [], ◌∷◌, length, Some, None, true, codes, IfOk, IsErrOf};
 ghost use Rattle.jk_cli.specs.Names.{command_in};
 ghost use Rattle.jk_cli.specs.declared.order.Order.TheVariants as order;
-ghost use Rattle.jk_io.specs.Told.{HasCause, Rose};
+ghost use Rattle.jk_io.specs.Told.{Rose};
+ghost use Rattle.plain_commands.specs.Causes.{IsCaused};
 ghost use Rattle.plain_commands.specs.Endings.{PlainOfFiles, PlainOfInput, PrintsOfInput, status_of};
-ghost use Rattle.plain_commands.specs.Plain.{is_built, readings, InputIsDue, MatchesRead, Plain, status_if};
+ghost use Rattle.plain_commands.specs.Plain.{is_built, readings, InputIsDue, MatchesRead, Plain, StopsFront, status_if};
 ghost use Rattle.plain_commands.specs.Printed.{IsPrinted};
 ghost use Rattle.site_reports.specs.Readings.{has_file, Input};
 ghost use Rattle.plain_commands.specs.declared.play.Ending.TheVariants as Ends;
@@ -58,7 +59,7 @@ pub(crate) fn printed(report: Result<Report, NoMemory>) -> Result<Output, IoErro
 // `play`
 fn play_input<S: Source>(alloc: Global, input: &mut S) -> Result<Output, IoError>
     ensures ok { IfOk result (λ o. PlainOfInput (S.incoming input.old) order.Play o) }
-    ensures cause { HasCause (S.faults input.old) (S.faults input.new) result }
+    ensures cause { IsCaused (S.faults input.old) (S.faults input.new) result }
 {
     match read_input(alloc, input)? {
         None => too_long(alloc),
@@ -69,7 +70,7 @@ fn play_input<S: Source>(alloc: Global, input: &mut S) -> Result<Output, IoError
 // `check`
 fn check_input<S: Source>(alloc: Global, input: &mut S) -> Result<Output, IoError>
     ensures ok { IfOk result (λ o. PlainOfInput (S.incoming input.old) order.Check o) }
-    ensures cause { HasCause (S.faults input.old) (S.faults input.new) result }
+    ensures cause { IsCaused (S.faults input.old) (S.faults input.new) result }
 {
     match read_input(alloc, input)? {
         None => too_long(alloc),
@@ -84,7 +85,7 @@ fn config_workers<F: Files>(
     workers: &Bytes,
 ) -> Result<Output, IoError>
     ensures ok { IfOk result (λ o. PlainOfFiles (F.files files.old) (order.Config workers.now None) o) }
-    ensures cause { HasCause (F.faults files.old) (F.faults files.new) result }
+    ensures cause { IsCaused (F.faults files.old) (F.faults files.new) result }
 {
     match read_text(alloc, files, workers)? {
         None => too_long(alloc),
@@ -100,7 +101,7 @@ fn config_site<F: Files>(
     map: &Bytes,
 ) -> Result<Output, IoError>
     ensures ok { IfOk result (λ o. PlainOfFiles (F.files files.old) (order.Config workers.now (Some map.now)) o) }
-    ensures cause { HasCause (F.faults files.old) (F.faults files.new) result }
+    ensures cause { IsCaused (F.faults files.old) (F.faults files.new) result }
 {
     match read_pair(alloc, files, workers, map)? {
         None => too_long(alloc),
@@ -116,7 +117,7 @@ fn config<F: Files>(
     map: &Option<Bytes>,
 ) -> Result<Output, IoError>
     ensures ok { IfOk result (λ o. PlainOfFiles (F.files files.old) (order.Config workers.now map.now) o) }
-    ensures cause { HasCause (F.faults files.old) (F.faults files.new) result }
+    ensures cause { IsCaused (F.faults files.old) (F.faults files.new) result }
 {
     match map {
         None => config_workers(alloc, files, workers),
@@ -130,37 +131,65 @@ fn match_input<S: Source>(
     input: &mut S,
     workers: &Bytes,
     map: &Bytes,
+    verbose: bool,
 ) -> Result<Output, IoError>
     requires short { (length workers.now ≤ MAX_INPUT_BYTES) × (length map.now ≤ MAX_INPUT_BYTES) }
-    ensures ok { IfOk result (λ o. PrintsOfInput (S.incoming input.old) (Input ∷ []) (MatchesRead workers.now map.now) o) }
-    ensures cause { HasCause (S.faults input.old) (S.faults input.new) result }
+    ensures ok { IfOk result (λ o. PrintsOfInput (S.incoming input.old) (Input ∷ []) (MatchesRead workers.now map.now verbose) o) }
+    ensures cause { IsCaused (S.faults input.old) (S.faults input.new) result }
 {
     match read_input(alloc, input)? {
         None => too_long(alloc),
         Some(paths) => {
             let (workers, map) = (workers.as_slice(), map.as_slice());
-            printed(report_matches(alloc, workers, map, paths.as_slice()))
+            printed(report_matches(alloc, workers, map, paths.as_slice(), verbose))
         }
     }
 }
 
-// `match WORKERS MAP`
+// `match WORKERS MAP`, `match -v WORKERS MAP`
 fn match_paths<F: Files, S: Source>(
     alloc: Global,
     files: &mut F,
     input: &mut S,
     workers: &Bytes,
     map: &Bytes,
+    verbose: bool,
 ) -> Result<Output, IoError>
     ensures ok { IfOk result (λ o. Plain (record { files = F.files files.old; incoming = S.incoming input.old })
-        (order.Match workers.now map.now) o.text (status_of o.ending)) }
+        (order.Match workers.now map.now verbose) o.text (status_of o.ending)) }
     ensures failed { IsErrOf result IoError.Failed → Rose (F.faults files.old) (F.faults files.new) ⊎ Rose (S.faults input.old) (S.faults input.new) }
     ensures input { (input.new ≡ input.old)
-        ⊎ InputIsDue (record { files = F.files files.old; incoming = S.incoming input.old }) (order.Match workers.now map.now) }
+        ⊎ InputIsDue (record { files = F.files files.old; incoming = S.incoming input.old }) (order.Match workers.now map.now verbose) }
 {
     match read_pair(alloc, files, workers, map)? {
         None => too_long(alloc),
-        Some((workers, map)) => match_input(alloc, input, &workers, &map),
+        Some((workers, map)) => match_input(alloc, input, &workers, &map, verbose),
+    }
+}
+
+// How a front that was told to end has answered.
+fn stopped(alloc: Global, answer: &[u8]) -> Output
+    ensures { StopsFront answer.now result.text (status_of result.ending) }
+{
+    let ending = if answer == b"ended\n".as_slice() {
+        Ending::Done
+    } else {
+        Ending::Running
+    };
+    Output {
+        text: Bytes::new(alloc),
+        ending,
+    }
+}
+
+// `stop PATH`
+fn stop_front<F: Files>(alloc: Global, files: &mut F, path: &Bytes) -> Result<Output, IoError>
+    ensures ok { IfOk result (λ o. PlainOfFiles (F.files files.old) (order.Stop path.now) o) }
+    ensures cause { IsCaused (F.faults files.old) (F.faults files.new) result }
+{
+    match read_text(alloc, files, path)? {
+        None => too_long(alloc),
+        Some(answer) => Ok(stopped(alloc, answer.as_slice())),
     }
 }
 
@@ -182,13 +211,18 @@ pub(crate) fn answer<F: Files, S: Source>(
     match order {
         Order::Play => play_input(alloc, input),
         Order::Config { workers, map } => config(alloc, files, workers, map),
-        Order::Match { workers, map } => match_paths(alloc, files, input, workers, map),
+        Order::Match {
+            workers,
+            map,
+            verbose,
+        } => match_paths(alloc, files, input, workers, map, *verbose),
         Order::Dry {
             request,
             reply,
             site,
         } => dry(alloc, files, request, reply, site),
         Order::Check => check_input(alloc, input),
+        Order::Stop { path } => stop_front(alloc, files, path),
         _ => unreachable!(),
     }
 }

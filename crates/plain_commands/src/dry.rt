@@ -1,7 +1,7 @@
 //! `dry`: one session over what its files say.
 ghost use Rattle.std.specs.Prelude.{[], ◌∷◌, IfOk, IsErrOf};
 ghost use Rattle.jk_cli.specs.declared.order.Order.TheVariants as order;
-ghost use Rattle.jk_io.specs.Told.{HasCause};
+ghost use Rattle.plain_commands.specs.Causes.{IsCaused};
 ghost use Rattle.plain_commands.specs.Dry.{ReportsDry, default_map, default_workers};
 ghost use Rattle.plain_commands.specs.Endings.{PlainOfFiles, PrintsOfFiles, status_of};
 ghost use Rattle.plain_commands.specs.Plain.{DryOver, Reported};
@@ -33,7 +33,7 @@ fn dry_site<F: Files>(
 ) -> Result<Output, IoError>
     ensures ok { IfOk result (λ o. PrintsOfFiles (F.files files.old) (File workers.now ∷ File map.now ∷ [])
         (DryOver wire.entry.request.now wire.entry.reply.now) o) }
-    ensures cause { HasCause (F.faults files.old) (F.faults files.new) result }
+    ensures cause { IsCaused (F.faults files.old) (F.faults files.new) result }
 {
     match read_pair(alloc, files, workers, map)? {
         None => too_long(alloc),
@@ -54,7 +54,7 @@ fn dry_over<F: Files>(
     site: &Option<(Bytes, Bytes)>,
 ) -> Result<Output, IoError>
     ensures ok { IfOk result (PrintsSession (F.files files.old) wire.entry.request.now wire.entry.reply.now site.now) }
-    ensures cause { HasCause (F.faults files.old) (F.faults files.new) result }
+    ensures cause { IsCaused (F.faults files.old) (F.faults files.new) result }
 {
     match site {
         None => dry_alone(alloc, wire),
@@ -71,7 +71,7 @@ pub(crate) fn dry<F: Files>(
     site: &Option<(Bytes, Bytes)>,
 ) -> Result<Output, IoError>
     ensures ok { IfOk result (λ o. PlainOfFiles (F.files files.old) (order.Dry request.now reply.now site.now) o) }
-    ensures cause { HasCause (F.faults files.old) (F.faults files.new) result }
+    ensures cause { IsCaused (F.faults files.old) (F.faults files.new) result }
 {
     match read_pair(alloc, files, request, reply)? {
         None => too_long(alloc),

@@ -3,7 +3,7 @@ ghost use Rattle.std.specs.Prelude.{◌≡◌, ◌↔◌, ◌⊎◌, true, false
 ghost use Rattle.jk_cli.specs.Names.{command_in};
 ghost use Rattle.jk_io.specs.Told.{Rose};
 ghost use Rattle.plain_commands.specs.Endings.{number_of, plain_side, AnswersOrder, EndsSo, Writes};
-ghost use Rattle.plain_commands.specs.Plain.{is_built, is_plain, readings, AreFilesDue, InputIsDue, IsInputDue, Prints, PrintsFront};
+ghost use Rattle.plain_commands.specs.Plain.{is_built, is_plain, readings, AreFilesDue, EndsWith, InputIsDue, IsInputDue, Prints, PrintsFront};
 ghost use Rattle.site_reports.specs.Readings.{has_file};
 
 use crate::commands::answer;
@@ -19,6 +19,8 @@ enum PlainEnd {
     Bad,
     NoCommand,
     Refused,
+    /// A front that was told to end may still run.
+    Running,
     InputFault,
     OutputFault,
     NoMemory,
@@ -34,7 +36,7 @@ impl PlainEnd {
             PlainEnd::Bad => 1,
             PlainEnd::NoCommand => 2,
             PlainEnd::Refused => 3,
-            PlainEnd::InputFault => 4,
+            PlainEnd::Running | PlainEnd::InputFault => 4,
             PlainEnd::OutputFault => 5,
             PlainEnd::NoMemory => 6,
         }
@@ -50,7 +52,8 @@ fn is_built(command: CommandName) -> bool
         | CommandName::Dry
         | CommandName::Config
         | CommandName::Match
-        | CommandName::Check => true,
+        | CommandName::Check
+        | CommandName::Stop => true,
         _ => false,
     }
 }
@@ -65,16 +68,18 @@ fn is_plain(words: &[Bytes]) -> bool
     }
 }
 
-// Writes an output.
+// Writes an output; nothing is written of a front that may still run.
 fn finish<O: Sink>(out: &mut O, output: &Output) -> PlainEnd
     ensures { Writes (O.faults out.old) (O.faults out.new) (O.sent out.old) (O.sent out.new) output.now.text output.now.ending result }
 {
+    let end = match output.ending {
+        Ending::Done => PlainEnd::Done,
+        Ending::Bad => PlainEnd::Bad,
+        Ending::Refused => PlainEnd::Refused,
+        Ending::Running => return PlainEnd::Running,
+    };
     match write_all(out, output.text.as_slice()) {
-        Ok(()) => match output.ending {
-            Ending::Done => PlainEnd::Done,
-            Ending::Bad => PlainEnd::Bad,
-            Ending::Refused => PlainEnd::Refused,
-        },
+        Ok(()) => end,
         Err(IoError::Failed) => PlainEnd::OutputFault,
         Err(IoError::NoMemory) => PlainEnd::NoMemory,
     }
@@ -154,12 +159,13 @@ pub fn run_plain<F: Files, S: Source, O: Sink>(
     ensures input { (input.new ≡ input.old)
         ⊎ IsInputDue words.now (record { files = F.files files.old; incoming = S.incoming input.old }) }
 
-    // No plain command that is built (`play`, `dry`, `config`, `match` and `check`), exactly by the words.
+    // No plain command that is built (`play`, `dry`, `config`, `match`, `check` and `stop`), exactly by the words.
     ensures no_command { (result ≡ 2) ↔ (is_plain words.now ≡ false) }
     ensures no_words { result ≡ 2 → O.sent out.new ≡ O.sent out.old }
 
-    // Only where the faults of the files or of the input rose.
-    ensures input_fault { result ≡ 4 → Rose (F.faults files.old) (F.faults files.new) ⊎ Rose (S.faults input.old) (S.faults input.new) }
+    // Only where the faults of the files or of the input rose, or where `stop` was answered by a front that may still run.
+    ensures input_fault { result ≡ 4 → Rose (F.faults files.old) (F.faults files.new) ⊎ Rose (S.faults input.old) (S.faults input.new)
+        ⊎ EndsWith words.now (record { files = F.files files.old; incoming = S.incoming input.old }) 4 }
     ensures nothing { result ≡ 4 → O.sent out.new ≡ O.sent out.old }
 
     // Only where the output's faults rose.

@@ -26,6 +26,8 @@ pub(crate) enum Ending {
     Bad,
     /// The input was refused, and the last line says where.
     Refused,
+    /// The front that was told to end may still run.
+    Running,
 }
 
 /// What a plain command prints, and how it ends.

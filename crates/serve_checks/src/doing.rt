@@ -6,7 +6,7 @@ use drill::{DrillOrder, MAX_REQUESTS, MAX_THREADS, write_drill};
 use jk_cli::{Order, read_words};
 use jk_io::{Bytes, MemFiles, MemLink, NumberList};
 use jk_server::{
-    ContainerOrder, GearOrder, MAX_WORKERS, MOST_ROUTE_BYTES, ServeOrder, contain, serve,
+    ContainerOrder, GearOrder, MAX_WORKERS, MOST_ROUTE_BYTES, ServeOrder, contain, cut_at, serve,
 };
 use plain_commands::run_plain;
 use std::alloc::Global;
@@ -23,7 +23,7 @@ fn served<R: Threads + Wait + Sync>(
     out: &mut MemLink,
     world: &mut MemWorld<MemLink>,
 ) -> Option<u8> {
-    let threads = order.asked.threads as usize;
+    let threads = order.threads as usize;
     if threads < 1 || MAX_WORKERS < threads {
         return None;
     }
@@ -37,7 +37,7 @@ fn contained<R: Threads + Wait + Sync>(
     order: ContainerOrder<'_>,
     world: &mut MemWorld<MemLink>,
 ) -> Option<u8>
-    requires none { order.asked.journal ≡ None }
+    requires none { (order.asked.journal ≡ None) × (order.asked.cfg ≡ None) }
 {
     if MOST_ROUTE_BYTES < order.route.len() {
         return None;
@@ -81,12 +81,26 @@ fn status_by<R: Threads + Wait + Sync>(
             journal,
             watch: None,
             log: None,
+            cut,
+            limits,
+            control,
+            grace,
             ..
         } => {
-            let asked = GearOrder::new(address, *threads, *clients, journal.as_ref());
+            let asked = GearOrder {
+                address,
+                clients: *clients,
+                journal: journal.as_ref(),
+                cfg: None,
+                limits: *limits,
+                control: control.as_ref(),
+                grace: *grace,
+            };
             let order = ServeOrder {
                 workers,
                 map,
+                threads: *threads,
+                cut: cut_at(*cut),
                 asked,
             };
             served(rt, alloc, order, files, out, world)
@@ -97,8 +111,12 @@ fn status_by<R: Threads + Wait + Sync>(
             threads,
             clients,
         } => {
-            let asked = GearOrder::new(address, *threads, *clients, None);
-            contained(rt, alloc, ContainerOrder { route, asked }, world)
+            let order = ContainerOrder {
+                route,
+                threads: *threads,
+                asked: GearOrder::of_container(address, *clients),
+            };
+            contained(rt, alloc, order, world)
         }
         Order::Drill {
             seed,

@@ -12,7 +12,7 @@ use jk_io::{
     Bytes, ClientList, Dial, Gate, GateLink, IoError, Link, MAX_INPUT_BYTES, MemDoor, MemLink,
     NoMemory, NumberList, StepClock, Turn,
 };
-use jk_server::serve_gears;
+use jk_server::{cut_at, serve_gears};
 use locked_balancer::{KeptList, MemShelf};
 use site_config::Config;
 use std::alloc::Global;
@@ -199,7 +199,7 @@ fn over_links<L: Link + Shown + Drop + Send, R: Threads + Wait + Sync>(
     second: Ends<L>,
 ) -> Result<Bytes, NoMemory> {
     let gears = gears_of(alloc, first, second)?;
-    let run = serve_gears(rt, alloc, served.config, served.map, gears)?;
+    let run = serve_gears(rt, alloc, served.config, served.map, cut_at(None), gears)?;
     let told = told(alloc, run.gears.as_slice());
     let_go(run);
     told

@@ -3,3 +3,4 @@ pub use Rattle.gear_parts.specs.Gears
 pub mod Notices
 pub mod Real
 pub mod Worlds
+pub mod RealDoors

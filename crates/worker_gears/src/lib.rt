@@ -9,6 +9,7 @@
 //! Errors: `IoError`; a call fails only where the world's count of faults rose in it. `Trouble` says it to a person.
 #![tactic(auto)]
 
+mod descriptors;
 mod file_log;
 mod journal_files;
 pub mod laws;
@@ -16,6 +17,7 @@ mod mem_plan;
 mod mem_world;
 mod notice;
 mod opening;
+mod real_door;
 mod real_world;
 mod shelves;
 mod trouble;
@@ -25,6 +27,7 @@ pub use gear_parts::{Gear, World};
 pub use journal_files::{FIRST_DIGITS, SegmentFile, segment_file};
 pub use mem_plan::{MemGear, MemPlan, MemPlanList};
 pub use mem_world::MemWorld;
+pub use real_door::RealDoor;
 pub use real_world::{RealGear, RealWorld};
 pub use shelves::{DropShelf, FileShelf, RealShelf};
 pub use trouble::Trouble;

@@ -6,12 +6,11 @@ ghost use Rattle.worker_gears.specs.Worlds.{gear_of, next_plan};
 
 use crate::mem_plan::{MemGear, MemPlan, MemPlanList, gear_of};
 use conn_pool::MemTape;
-use gear_parts::World;
+use gear_parts::{GearOrder, World};
 use jk_io::{
     Bytes, IoError, Link, ListOf, MemDial, MemDoor, MemLink, NoMemory, NumberList, StepClock,
 };
 use locked_balancer::MemShelf;
-use site_config::Config;
 use std::alloc::Global;
 use std::marker::Model;
 use std::snapshot::Snapshot;
@@ -207,13 +206,10 @@ impl<L: Link + Drop + Send> World for MemWorld<L> {
         &mut self,
         alloc: Global,
         _number: u32,
-        _address: &Bytes,
-        clients: Option<u64>,
-        _journal: Option<&Bytes>,
-        _cfg: Option<&Config>,
+        asked: &GearOrder<'_>,
     ) -> Result<MemGear<L>, IoError>
         // The plans' gears are handed out in their order.
-        ensures planned { IfOk result (λ gear. gear ≡ gear_of clients (next_plan self.old.plans)) }
+        ensures planned { IfOk result (λ gear. gear ≡ gear_of asked.now.clients (next_plan self.old.plans)) }
         ensures later { OnOk result (self.new.plans ≡ drop 1 self.old.plans) }
         ensures handed { IfOk result (λ gear. self.new.handed ≡ self.old.handed ++ gear ∷ []) }
         ensures one_more { OnOk result (self.new.out ≡ self.old.out + 1) }
@@ -224,12 +220,13 @@ impl<L: Link + Drop + Send> World for MemWorld<L> {
         ensures failed { IsErrOf result IoError.Failed ↔ Contains self.old.failing self.old.calls }
         ensures counted { self.new.calls ≡ counted self.old.calls }
         ensures cause { HasCause self.old.faults self.new.faults result }
-        ensures steady { self.old.failing ≡ [] → self.new.faults ≡ self.old.faults }
+        ensures steady { IsOk result → self.new.faults ≡ self.old.faults }
+        ensures quiet { self.old.failing ≡ [] → self.new.faults ≡ self.old.faults }
     {
         if self.call_fails() {
             return Err(IoError::Failed);
         }
-        Ok(self.next_gear(alloc, clients)?)
+        Ok(self.next_gear(alloc, asked.clients)?)
     }
 
     fn log(&mut self, alloc: Global, _dir: &Bytes, _number: u32) -> Result<MemLink, IoError>
@@ -243,7 +240,8 @@ impl<L: Link + Drop + Send> World for MemWorld<L> {
         ensures failed { IsErrOf result IoError.Failed ↔ Contains self.old.failing self.old.calls }
         ensures counted { self.new.calls ≡ counted self.old.calls }
         ensures cause { HasCause self.old.faults self.new.faults result }
-        ensures steady { self.old.failing ≡ [] → self.new.faults ≡ self.old.faults }
+        ensures steady { IsOk result → self.new.faults ≡ self.old.faults }
+        ensures quiet { self.old.failing ≡ [] → self.new.faults ≡ self.old.faults }
     {
         if self.call_fails() {
             return Err(IoError::Failed);

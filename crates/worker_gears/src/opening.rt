@@ -7,7 +7,7 @@ use site_config::Lb;
 use std::alloc::Global;
 use std::fs::{self, OpenOptions};
 use std::io::{self, ErrorKind};
-use std::net::{Net, TcpListener, TcpStream};
+use std::net::{Net, SocketAddr, TcpListener, TcpStream};
 use std::rt::Files;
 
 /// The number with which the journals of a run begin.
@@ -40,6 +40,20 @@ pub(crate) fn listen<R: Net<Stream = TcpStream, Listener = TcpListener>>(
     let handle = first.try_clone()?;
     *listener = Some(first);
     Ok(handle)
+}
+
+/// Where a socket is bound, in text.
+pub(crate) fn bound_address(
+    alloc: Global,
+    address: Option<SocketAddr>,
+) -> Result<Option<Bytes>, NoMemory> {
+    match address {
+        Some(address) => {
+            let text = format!(in alloc; "{address}")?;
+            Ok(Some(Bytes::from_vec(text.into_bytes())))
+        }
+        None => Ok(None),
+    }
 }
 
 /// The names of the balancers, in order.

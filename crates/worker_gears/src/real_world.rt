@@ -1,35 +1,46 @@
 //! The real world: sockets, files and the system's clock.
-ghost use Rattle.std.specs.Prelude.{◌≡◌, ◌+◌, ◌<◌, ◌≤◌, IfOk, IsSome, None, OnErr, OnOk, map};
+ghost use Rattle.std.specs.Prelude.{◌≡◌, ◌+◌, ◌<◌, ◌≤◌, IfOk, IsErrOf, IsOk, IsSome, None, OnErr, OnOk, map};
 ghost use Rattle.std.specs.Option.{option_copied, option_map};
 ghost use Rattle.jk_io.specs.Told.{HasCause, Rose};
+ghost use Rattle.worker_gears.specs.RealDoors.{door_clients};
 
+use crate::descriptors::fitting;
 use crate::file_log::FileLog;
 use crate::notice::notice;
 use crate::opening::{
-    listen, log_path, make_and_remove, names_of, open_log, shown, taken, trial_path,
+    bound_address, listen, log_path, make_and_remove, names_of, open_log, shown, taken, trial_path,
 };
+use crate::real_door::RealDoor;
 use crate::shelves::{DropShelf, FileShelf, RealShelf};
 use crate::trouble::Trouble;
 use conn_pool::NoTape;
-use gear_parts::{Gear, World};
+use gear_parts::{Gear, GearOrder, World};
 use jk_io::{Bytes, IoError, NoMemory};
-use real_io::{Outbox, RealClock, TcpDial, TcpDoor};
+use real_io::{Notices, Outbox, RealClock, TcpDial, TcpDoor};
 use site_config::{Config, Lb};
 use std::alloc::Global;
+use std::io;
 use std::net::{Net, TcpListener, TcpStream};
 use std::rt::Files;
+use std::sync::{Arc, Wait};
 use std::time::Clock;
+use waiting_room::{Room, RoomDoor, RoomError, open_room};
 
-/// A world of sockets and files, of which it tells nothing. All its doors accept from one socket, which is opened with
-/// the first gear.
+/// A world of sockets and files, of which it tells nothing. The doors of a site's gears lead into one room, in which its
+/// clients wait; those of a container's accept from one socket. It is opened with the first gear.
 #[derive(Drop)]
 pub struct RealWorld<
     'r,
-    R: Net<Stream = TcpStream, Listener = TcpListener> + Files + Clock + Eprint,
+    R: Net<Stream = TcpStream, Listener = TcpListener> + Files + Clock + Wait + Eprint,
 > {
     rt: &'r R,
     /// How many gears are to be handed out.
     threads: u32,
+    /// Where the clients of a site wait.
+    room: Option<Arc<Room>>,
+    /// Where it is said that a member can't be reached.
+    notices: Option<Notices>,
+    /// Where the clients of a container come.
     listener: Option<TcpListener>,
     /// How many gears are out.
     out: u64,
@@ -39,10 +50,10 @@ pub struct RealWorld<
     ghost known: { trouble ≡ None → failed ≡ 0 },
 }
 
-impl<'r, R: Net<Stream = TcpStream, Listener = TcpListener> + Files + Clock + Eprint> RealWorld<
+impl<
     'r,
-    R,
-> {
+    R: Net<Stream = TcpStream, Listener = TcpListener> + Files + Clock + Wait + Eprint,
+> RealWorld<'r, R> {
     ghost use Rattle.worker_gears.specs.Real.{IsShelfFor};
 
     /// A world with no socket yet. With the last of `threads` gears it says on standard error where it listens.
@@ -52,6 +63,8 @@ impl<'r, R: Net<Stream = TcpStream, Listener = TcpListener> + Files + Clock + Ep
         RealWorld {
             rt,
             threads,
+            room: None,
+            notices: None,
             listener: None,
             out: 0,
             trouble: None,
@@ -65,6 +78,20 @@ impl<'r, R: Net<Stream = TcpStream, Listener = TcpListener> + Files + Clock + Ep
         ensures some { 0 < self.now.failed → IsSome result }
     {
         self.trouble.as_ref()
+    }
+
+    /// The run ended well: who asked for a stop is told so, once no link lingers any more.
+    pub fn say_ended(&self) {
+        if let Some(room) = &self.room {
+            room.say_ended(self.rt);
+        }
+    }
+
+    /// The run ended: it is waited until no link lingers any more.
+    pub fn wait_for_lingering(&self) {
+        if let Some(room) = &self.room {
+            room.wait_for_lingering(self.rt);
+        }
     }
 
     // Counts a failure, and keeps the first one's reason.
@@ -84,6 +111,7 @@ impl<'r, R: Net<Stream = TcpStream, Listener = TcpListener> + Files + Clock + Ep
     // A handle of the socket, which is opened unless it is open.
     fn listener(&mut self, alloc: Global, address: &Bytes) -> Result<TcpListener, IoError>
         ensures cause { HasCause self.old.failed self.new.failed result }
+        ensures steady { IsOk result → self.new.failed ≡ self.old.failed }
         ensures same { self.new.out ≡ self.old.out }
     {
         match listen(self.rt, &mut self.listener, address) {
@@ -98,6 +126,7 @@ impl<'r, R: Net<Stream = TcpStream, Listener = TcpListener> + Files + Clock + Ep
     // Looks whether the directory of a journal can be written.
     fn try_dir(&mut self, alloc: Global, dir: &Bytes) -> Result<(), IoError>
         ensures cause { HasCause self.old.failed self.new.failed result }
+        ensures steady { IsOk result → self.new.failed ≡ self.old.failed }
         ensures same { self.new.out ≡ self.old.out }
     {
         let path = trial_path(dir)?;
@@ -111,6 +140,7 @@ impl<'r, R: Net<Stream = TcpStream, Listener = TcpListener> + Files + Clock + Ep
     // Looks whether the files with which the balancers' journals begin can be new.
     fn try_names(&mut self, alloc: Global, dir: &Bytes, lbs: &[Lb]) -> Result<(), IoError>
         ensures cause { HasCause self.old.failed self.new.failed result }
+        ensures steady { IsOk result → self.new.failed ≡ self.old.failed }
         ensures same { self.new.out ≡ self.old.out }
     {
         match taken(self.rt, dir, lbs)? {
@@ -122,14 +152,84 @@ impl<'r, R: Net<Stream = TcpStream, Listener = TcpListener> + Files + Clock + Ep
         }
     }
 
-    // Says where clients are waited for. Standard error that can't be written is no fault.
-    fn announce(
-        &self,
-        alloc: Global,
-        address: &Bytes,
-        cfg: Option<&Config>,
-    ) -> Result<(), NoMemory> {
-        let line = notice(alloc, address, self.threads, cfg)?;
+    // The room, which is opened unless it is open.
+    fn room(&mut self, alloc: Global, asked: &GearOrder<'_>) -> Result<Arc<Room>, IoError>
+        ensures cause { HasCause self.old.failed self.new.failed result }
+        ensures steady { IsOk result → self.new.failed ≡ self.old.failed }
+        ensures same { self.new.out ≡ self.old.out }
+    {
+        if let Some(room) = &self.room {
+            return Ok(Arc::try_clone(room)?);
+        }
+        let room = self.new_room(alloc, asked)?;
+        let handle = Arc::try_clone(&room)?;
+        self.room = Some(room);
+        Ok(handle)
+    }
+
+    // A share of what is said of members.
+    fn notices(&mut self, alloc: Global) -> Result<Notices, NoMemory>
+        ensures { (self.new.out ≡ self.old.out) × (self.new.failed ≡ self.old.failed) }
+    {
+        if let Some(notices) = &self.notices {
+            return notices.share();
+        }
+        let first = Notices::new(alloc)?;
+        let share = first.share()?;
+        self.notices = Some(first);
+        Ok(share)
+    }
+
+    // Opens the room, with no more clients that wait than there are descriptors for.
+    fn new_room(&mut self, alloc: Global, asked: &GearOrder<'_>) -> Result<Arc<Room>, IoError>
+        ensures cause { HasCause self.old.failed self.new.failed result }
+        ensures steady { IsOk result → self.new.failed ≡ self.old.failed }
+        ensures same { self.new.out ≡ self.old.out }
+    {
+        let limits = fitting(self.rt, self.threads, asked.cfg, asked.limits);
+        match open_room(
+            self.rt,
+            alloc,
+            asked.address,
+            limits,
+            asked.control,
+            asked.grace,
+        ) {
+            Ok(room) => shared(alloc, room),
+            Err(error) => Err(self.refused(alloc, asked, error)),
+        }
+    }
+
+    // Why the room isn't there.
+    fn refused(&mut self, alloc: Global, asked: &GearOrder<'_>, error: RoomError) -> IoError
+        ensures failed { (result ≡ IoError.Failed) → Rose self.old.failed self.new.failed }
+        ensures wanted { (result ≡ IoError.NoMemory) → self.new.failed ≡ self.old.failed }
+        ensures no_fewer { self.old.failed ≤ self.new.failed }
+        ensures same { self.new.out ≡ self.old.out }
+    {
+        let trouble = match error {
+            RoomError::Listen(reason) => listen_trouble(alloc, asked.address, reason),
+            RoomError::Control(reason) => control_trouble(alloc, asked.control, reason),
+            RoomError::NoMemory => Err(NoMemory),
+        };
+        match trouble {
+            Ok(trouble) => self.fail(trouble),
+            Err(NoMemory) => IoError::NoMemory,
+        }
+    }
+
+    // Says where clients are waited for, with the port that the system gave. Standard error that can't be written is no fault.
+    fn announce(&self, alloc: Global, asked: &GearOrder<'_>) -> Result<(), NoMemory> {
+        let bound = match (&self.room, &self.listener) {
+            (Some(room), _) => bound_address(alloc, room.address())?,
+            (None, Some(listener)) => bound_address(alloc, listener.local_addr().ok())?,
+            (None, None) => None,
+        };
+        let address = match &bound {
+            Some(address) => address,
+            None => asked.address,
+        };
+        let line = notice(alloc, address, self.threads, asked.cfg)?;
         if let Ok(line) = str::from_utf8(line.as_slice()) {
             let _ = eprintln!(self.rt; "{line}");
         }
@@ -155,19 +255,23 @@ impl<'r, R: Net<Stream = TcpStream, Listener = TcpListener> + Files + Clock + Ep
     // Looks whether a journal can be written in a directory, and its first files can be new.
     fn try_journal(&mut self, alloc: Global, dir: &Bytes, lbs: &[Lb]) -> Result<(), IoError>
         ensures cause { HasCause self.old.failed self.new.failed result }
+        ensures steady { IsOk result → self.new.failed ≡ self.old.failed }
         ensures same { self.new.out ≡ self.old.out }
     {
         self.try_dir(alloc, dir)?;
         self.try_names(alloc, dir, lbs)
     }
 
-    // Opens the socket unless it is open.
-    fn open(&mut self, alloc: Global, address: &Bytes) -> Result<(), IoError>
+    // Opens the room or the socket unless it is open.
+    fn open(&mut self, alloc: Global, asked: &GearOrder<'_>) -> Result<(), IoError>
         ensures cause { HasCause self.old.failed self.new.failed result }
+        ensures steady { IsOk result → self.new.failed ≡ self.old.failed }
         ensures same { self.new.out ≡ self.old.out }
     {
-        if self.listener.is_none() {
-            self.listener(alloc, address)?;
+        if asked.cfg.is_some() {
+            self.room(alloc, asked)?;
+        } else {
+            self.listener(alloc, asked.address)?;
         }
         Ok(())
     }
@@ -177,13 +281,13 @@ impl<'r, R: Net<Stream = TcpStream, Listener = TcpListener> + Files + Clock + Ep
         &mut self,
         alloc: Global,
         number: u32,
-        journal: Option<&Bytes>,
-        cfg: Option<&Config>,
+        asked: &GearOrder<'_>,
     ) -> Result<(), IoError>
         ensures cause { HasCause self.old.failed self.new.failed result }
+        ensures steady { IsOk result → self.new.failed ≡ self.old.failed }
         ensures same { self.new.out ≡ self.old.out }
     {
-        match (journal, cfg) {
+        match (asked.journal, asked.cfg) {
             (Some(dir), Some(cfg)) if number == 0 => {
                 self.try_journal(alloc, dir, cfg.lbs.as_slice())
             }
@@ -191,57 +295,56 @@ impl<'r, R: Net<Stream = TcpStream, Listener = TcpListener> + Files + Clock + Ep
         }
     }
 
-    // What is done once for all gears: the socket is opened, with the first gear it is tried whether a journal can be
-    // written, and with the last it is said where clients are waited for.
-    fn greet(
-        &mut self,
-        alloc: Global,
-        number: u32,
-        address: &Bytes,
-        journal: Option<&Bytes>,
-        cfg: Option<&Config>,
-    ) -> Result<(), IoError>
+    // What is done once for all gears: the room or the socket is opened, with the first gear it is tried whether a journal can
+    // be written, and with the last it is said where clients are waited for.
+    fn greet(&mut self, alloc: Global, number: u32, asked: &GearOrder<'_>) -> Result<(), IoError>
         ensures cause { HasCause self.old.failed self.new.failed result }
+        ensures steady { IsOk result → self.new.failed ≡ self.old.failed }
         ensures same { self.new.out ≡ self.old.out }
     {
-        self.open(alloc, address)?;
-        self.try_first(alloc, number, journal, cfg)?;
+        self.open(alloc, asked)?;
+        self.try_first(alloc, number, asked)?;
         if number.checked_add(1) == Some(self.threads) {
-            self.announce(alloc, address, cfg)?;
+            self.announce(alloc, asked)?;
         }
         Ok(())
     }
 
-    // A worker's door, for at most `clients` clients, and its dial.
+    // A worker's door, for at most so many clients as are asked for, and its dial.
     fn door_and_dial(
         &mut self,
         alloc: Global,
-        address: &Bytes,
-        clients: Option<u64>,
-    ) -> Result<(TcpDoor<'r, R>, TcpDial<'r, R>), IoError>
-        ensures clients { IfOk result (λ made. made.0.clients ≡ clients) }
+        asked: &GearOrder<'_>,
+    ) -> Result<(RealDoor<'r, R>, TcpDial<'r, R>), IoError>
+        ensures clients { IfOk result (λ made. door_clients made.0 ≡ asked.now.clients) }
         ensures cause { HasCause self.old.failed self.new.failed result }
+        ensures steady { IsOk result → self.new.failed ≡ self.old.failed }
         ensures same { self.new.out ≡ self.old.out }
     {
-        let listener = self.listener(alloc, address)?;
-        Ok(door_and_dial(self.rt, Outbox::new(alloc)?, listener, clients)?)
+        if asked.cfg.is_some() {
+            let room = self.room(alloc, asked)?;
+            let notices = self.notices(alloc)?;
+            return Ok(waiting_pair(self.rt, alloc, room, notices, asked.clients)?);
+        }
+        let listener = self.listener(alloc, asked.address)?;
+        Ok(plain_pair(self.rt, Outbox::new(alloc)?, listener, asked.clients)?)
     }
 
     // What a worker uses, with this shelf for its segments.
     fn gear_with(
         &mut self,
         alloc: Global,
-        address: &Bytes,
-        clients: Option<u64>,
+        asked: &GearOrder<'_>,
         shelf: RealShelf<'r, R>,
     ) -> Result<RealGear<'r, R>, IoError>
         ensures unlogged { IfOk result (λ gear. gear.log ≡ None) }
-        ensures clients { IfOk result (λ gear. gear.door.clients ≡ clients) }
+        ensures clients { IfOk result (λ gear. door_clients gear.door ≡ asked.now.clients) }
         ensures shelf { IfOk result (λ gear. gear.shelf ≡ shelf.entry) }
         ensures cause { HasCause self.old.failed self.new.failed result }
+        ensures steady { IsOk result → self.new.failed ≡ self.old.failed }
         ensures same { self.new.out ≡ self.old.out }
     {
-        let (door, dial) = self.door_and_dial(alloc, address, clients)?;
+        let (door, dial) = self.door_and_dial(alloc, asked)?;
         Ok(Gear {
             door,
             dial,
@@ -256,38 +359,82 @@ impl<'r, R: Net<Stream = TcpStream, Listener = TcpListener> + Files + Clock + Ep
     fn worker_gear(
         &mut self,
         alloc: Global,
-        address: &Bytes,
-        clients: Option<u64>,
-        journal: Option<&Bytes>,
-        cfg: Option<&Config>,
+        asked: &GearOrder<'_>,
     ) -> Result<RealGear<'r, R>, IoError>
         ensures unlogged { IfOk result (λ gear. gear.log ≡ None) }
-        ensures clients { IfOk result (λ gear. gear.door.clients ≡ clients) }
-        ensures shelf { IfOk result (λ gear. IsShelfFor (option_copied journal.entry) (option_map (λ c. map (λ lb. lb.name) c.lbs) (option_copied cfg.entry)) gear.shelf) }
+        ensures clients { IfOk result (λ gear. door_clients gear.door ≡ asked.now.clients) }
+        ensures shelf { IfOk result (λ gear. IsShelfFor (option_copied asked.now.journal) (option_map (λ c. map (λ lb. lb.name) c.lbs) (option_copied asked.now.cfg)) gear.shelf) }
         ensures cause { HasCause self.old.failed self.new.failed result }
+        ensures steady { IsOk result → self.new.failed ≡ self.old.failed }
         ensures same { self.new.out ≡ self.old.out }
     {
-        let shelf = self.shelf(alloc, journal, cfg)?;
-        self.gear_with(alloc, address, clients, shelf)
+        let shelf = self.shelf(alloc, asked.journal, asked.cfg)?;
+        self.gear_with(alloc, asked, shelf)
     }
 }
 
-// A worker's door on a listener, for at most `clients` clients, and its dial, which shares the door's outbox.
-fn door_and_dial<'r, R: Net<Stream = TcpStream> + Clock>(
+// A room that is shared.
+fn shared(alloc: Global, room: Room) -> Result<Arc<Room>, IoError>
+    ensures { IsErrOf result IoError.Failed → ⊥ }
+{
+    match Arc::new(alloc, room) {
+        Ok(room) => Ok(room),
+        Err(_) => Err(IoError::NoMemory),
+    }
+}
+
+// Why clients can't be waited for.
+fn listen_trouble(alloc: Global, address: &Bytes, reason: io::Error) -> Result<Trouble, NoMemory> {
+    let address = shown(alloc, address)?;
+    Ok(Trouble::Listen { address, reason })
+}
+
+// Why the socket can't be made at which a stop is asked for.
+fn control_trouble(
+    alloc: Global,
+    path: Option<&Bytes>,
+    reason: io::Error,
+) -> Result<Trouble, NoMemory> {
+    let path = match path {
+        Some(path) => shown(alloc, path)?,
+        None => String::new(alloc),
+    };
+    Ok(Trouble::Control { path, reason })
+}
+
+// A door into the room, by which so many clients more come, and a dial that shares its outbox.
+fn waiting_pair<'r, R: Net<Stream = TcpStream> + Wait + Eprint>(
+    rt: &'r R,
+    alloc: Global,
+    room: Arc<Room>,
+    notices: Notices,
+    clients: Option<u64>,
+) -> Result<(RealDoor<'r, R>, TcpDial<'r, R>), NoMemory>
+    ensures { IfOk result (λ made. door_clients made.0 ≡ clients) }
+{
+    let outbox = Outbox::new(alloc)?;
+    let dial = TcpDial::of_front(rt, outbox.share()?, room.ending().share()?, notices);
+    let door = RoomDoor::new(rt, room, outbox, clients);
+    Ok((RealDoor::Waiting(door), dial))
+}
+
+// A door on a listener, for at most `clients` clients, and a dial that shares its outbox.
+fn plain_pair<'r, R: Net<Stream = TcpStream> + Wait + Eprint>(
     rt: &'r R,
     outbox: Outbox,
     listener: TcpListener,
     clients: Option<u64>,
-) -> Result<(TcpDoor<'r, R>, TcpDial<'r, R>), NoMemory>
-    ensures { IfOk result (λ made. made.0.clients ≡ clients) }
+) -> Result<(RealDoor<'r, R>, TcpDial<'r, R>), NoMemory>
+    ensures { IfOk result (λ made. door_clients made.0 ≡ clients) }
 {
     let dial = TcpDial::with_outbox(rt, outbox.share()?);
-    Ok((TcpDoor::with_outbox(rt, listener, clients, outbox), dial))
+    let door = TcpDoor::with_outbox(listener, clients, outbox);
+    Ok((RealDoor::Plain(door), dial))
 }
 
 /// What a worker uses of the real world.
 pub type RealGear<'r, R> = Gear<
-    TcpDoor<'r, R>,
+    RealDoor<'r, R>,
     TcpDial<'r, R>,
     NoTape,
     RealClock<'r, R>,
@@ -295,16 +442,19 @@ pub type RealGear<'r, R> = Gear<
     FileLog<<R as Files>::File>,
 >;
 
-impl<'r, R: Net<Stream = TcpStream, Listener = TcpListener> + Files + Clock + Eprint + Sync> World
-    for RealWorld<'r, R>
+impl<
+    'r,
+    R: Net<Stream = TcpStream, Listener = TcpListener> + Files + Clock + Wait + Eprint + Sync,
+> World for RealWorld<'r, R>
 where
     R::File: Send,
 {
     ghost use Rattle.std.specs.Prelude.{◌≡◌, None, map};
     ghost use Rattle.std.specs.Option.{option_map};
     ghost use Rattle.worker_gears.specs.Real.{IsShelfFor};
+    ghost use Rattle.worker_gears.specs.RealDoors.{door_clients};
 
-    type D = TcpDoor<'r, R>;
+    type D = RealDoor<'r, R>;
 
     type G = TcpDial<'r, R>;
 
@@ -325,33 +475,31 @@ where
     ghost faults = { λ w. w.failed };
 
     // its door takes as many clients as are wanted, and the journal that is wanted is written
-    ghost suits = { λ number wanted cfg gear. (gear.door.clients ≡ wanted.clients)
+    ghost suits = { λ number wanted cfg gear. (door_clients gear.door ≡ wanted.clients)
         × IsShelfFor wanted.journal (option_map (λ c. map (λ lb. lb.name) c.lbs) cfg) gear.shelf };
 
     fn gear(
         &mut self,
         alloc: Global,
         number: u32,
-        address: &Bytes,
-        clients: Option<u64>,
-        journal: Option<&Bytes>,
-        cfg: Option<&Config>,
+        asked: &GearOrder<'_>,
     ) -> Result<RealGear<'r, R>, IoError>
         ensures one_more { OnOk result (self.new.out ≡ self.old.out + 1) }
         ensures unlogged { IfOk result (λ gear. gear.log ≡ None) }
 
         // Its door takes as many clients as it is told, and a journal that is to be kept is written.
-        ensures clients { IfOk result (λ gear. gear.door.clients ≡ clients) }
-        ensures shelf { IfOk result (λ gear. IsShelfFor (option_copied journal.entry) (option_map (λ c. map (λ lb. lb.name) c.lbs) (option_copied cfg.entry)) gear.shelf) }
+        ensures clients { IfOk result (λ gear. door_clients gear.door ≡ asked.now.clients) }
+        ensures shelf { IfOk result (λ gear. IsShelfFor (option_copied asked.now.journal) (option_map (λ c. map (λ lb. lb.name) c.lbs) (option_copied asked.now.cfg)) gear.shelf) }
 
         ensures err { OnErr result (self.new.out ≡ self.old.out) }
         ensures cause { HasCause self.old.failed self.new.failed result }
+        ensures steady { IsOk result → self.new.failed ≡ self.old.failed }
     {
         let Some(out) = self.out.checked_add(1) else {
             return Err(self.fail(Trouble::TooMany));
         };
-        self.greet(alloc, number, address, journal, cfg)?;
-        let gear = self.worker_gear(alloc, address, clients, journal, cfg)?;
+        self.greet(alloc, number, asked)?;
+        let gear = self.worker_gear(alloc, asked)?;
         self.out = out;
         Ok(gear)
     }

@@ -8,6 +8,9 @@ use thiserror::Error;
 pub enum Trouble {
     #[error("can't wait for clients at {address}: {reason}")]
     Listen { address: String, reason: io::Error },
+    /// The socket at which a stop is asked for.
+    #[error("can't be asked to stop at {path}: {reason}")]
+    Control { path: String, reason: io::Error },
     #[error("can't write a journal in {dir}: {reason}")]
     Journal { dir: String, reason: io::Error },
     /// A segment's file is never written over.

@@ -23,6 +23,9 @@ const PACKET_BYTES: u32 = 8_192;
 #[derive(Clone, Copy)]
 pub struct ContainerOrder<'a> {
     pub route: &'a Bytes,
+    /// How many workers there are, each with a gear.
+    pub threads: u32,
+    /// What the gears are for. They have no site, and keep no journal.
     pub asked: GearOrder<'a>,
 }
 
@@ -31,16 +34,16 @@ fn contain_links<W: World, R: Threads + Wait + Sync>(
     rt: &R,
     alloc: Global,
     app: &AppConfig,
-    asked: GearOrder<'_>,
+    order: &ContainerOrder<'_>,
     world: &mut W,
 ) -> CommandEnd<Brand>
 where
     <W::D as Door>::L: Send,
-    requires none { asked.journal ≡ None }
-    ensures { WorksContainer (tells W.World W.D.Door W.T.Tape W.K.Clock W.D.L.Meanings W.S.Shelf)
-        app.now asked.entry world.old world.new result }
+    requires none { (order.now.asked.journal ≡ None) × (order.now.asked.cfg ≡ None) }
+    ensures { WorksContainer (tells W.World W.D.Door W.T.Tape W.K.Clock W.D.L.Meanings W.S.Shelf W.D.L.may_wait)
+        app.now order.now.threads order.now.asked world.old world.new result }
 {
-    let gears = match take_gears(alloc, world, asked, None) {
+    let gears = match take_gears(alloc, world, order.threads, &order.asked) {
         Ok(gears) => gears,
         Err(error) => return end_by(error),
     };
@@ -62,10 +65,10 @@ pub fn contain<W: World, R: Threads + Wait + Sync>(
 ) -> CommandEnd<Brand>
 where
     <W::D as Door>::L: Send,
-    requires none { order.asked.journal ≡ None }
+    requires none { (order.asked.journal ≡ None) × (order.asked.cfg ≡ None) }
     requires short { length order.route.now ≤ MOST_ROUTE_BYTES }
-    ensures contains { ContainsAsked (tells W.World W.D.Door W.T.Tape W.K.Clock W.D.L.Meanings W.S.Shelf)
-        order.entry.route.now order.entry.asked world.old world.new result }
+    ensures contains { ContainsAsked (tells W.World W.D.Door W.T.Tape W.K.Clock W.D.L.Meanings W.S.Shelf W.D.L.may_wait)
+        order.entry world.old world.new result }
 {
     match order.route.copy() {
         Ok(route) => {
@@ -74,7 +77,7 @@ where
                 secret: None,
                 packet: PACKET_BYTES,
             };
-            contain_links(rt, alloc, &app, order.asked, world)
+            contain_links(rt, alloc, &app, &order, world)
         }
         Err(NoMemory) => CommandEnd::Status(NO_MEMORY),
     }

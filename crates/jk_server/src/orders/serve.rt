@@ -1,7 +1,7 @@
 //! `serve`: clients served over the balancers of a site.
 ghost use Rattle.std.specs.Prelude.{◌≡◌, ◌≤◌, [], length};
 ghost use Rattle.jk_io.specs.Told.{HasCause};
-ghost use Rattle.jk_server.specs.Commands.{telling, ServesOrder, WorksSite, WritesLine};
+ghost use Rattle.jk_server.specs.Commands.{cut_at, telling, ServesOrder, WorksSite, WritesLine};
 ghost use Rattle.jk_server.specs.Ends.{end_of_run, returned};
 ghost use Rattle.gear_parts.specs.Worlds.{HandsAndTakes, tells, world_side};
 ghost use Rattle.jk_server.specs.declared.workers.TheConstants.{MAX_WORKERS};
@@ -22,7 +22,19 @@ use std::thread::Threads;
 pub struct ServeOrder<'a> {
     pub workers: &'a Bytes,
     pub map: &'a Bytes,
+    /// How many workers there are, each with a gear.
+    pub threads: u32,
+    /// The number of kept entries at which a journal is cut.
+    pub cut: u32,
+    /// What the gears are for, but for their site.
     pub asked: GearOrder<'a>,
+}
+
+/// The number of kept entries at which a journal is cut, by the word that says so; 65,536 without one.
+pub fn cut_at(cut: Option<u64>) -> u32
+    ensures { result ≡ cut_at cut }
+{
+    u32::try_from(cut.unwrap_or(65_536)).unwrap_or(u32::MAX)
 }
 
 /// Writes the line that refuses a site's files.
@@ -69,20 +81,21 @@ fn serve_site<W: World, R: Threads + Wait + Sync>(
     rt: &R,
     alloc: Global,
     site: &ReadSite,
-    asked: GearOrder<'_>,
+    order: &ServeOrder<'_>,
     world: &mut W,
 ) -> CommandEnd<Brand>
 where
     <W::D as Door>::L: Send,
-    requires threads { (1 ≤ asked.threads) × (asked.threads ≤ MAX_WORKERS) }
-    ensures { WorksSite (tells W.World W.D.Door W.T.Tape W.K.Clock W.D.L.Meanings W.S.Shelf)
-        site.now asked.entry world.old world.new result }
+    requires threads { (1 ≤ order.now.threads) × (order.now.threads ≤ MAX_WORKERS) }
+    ensures { WorksSite (tells W.World W.D.Door W.T.Tape W.K.Clock W.D.L.Meanings W.S.Shelf W.D.L.may_wait)
+        site.now order.now.threads order.now.asked world.old world.new result }
 {
-    let gears = match take_gears(alloc, world, asked, Some(&site.cfg)) {
+    let asked = order.asked.over(&site.cfg);
+    let gears = match take_gears(alloc, world, order.threads, &asked) {
         Ok(gears) => gears,
         Err(error) => return end_by(error),
     };
-    match serve_gears(rt, alloc, &site.cfg, &site.map, gears) {
+    match serve_gears(rt, alloc, &site.cfg, &site.map, order.cut, gears) {
         Ok(ran) => settle(world, ran),
         Err(NoMemory) => CommandEnd::Status(NO_MEMORY),
     }
@@ -99,12 +112,12 @@ pub fn serve<F: Files, O: Sink, W: World, R: Threads + Wait + Sync>(
 ) -> CommandEnd<Brand>
 where
     <W::D as Door>::L: Send,
-    requires threads { (1 ≤ order.asked.threads) × (order.asked.threads ≤ MAX_WORKERS) }
-    ensures serves { ServesOrder (telling F.Files O.Meanings W.World W.D.Door W.T.Tape W.K.Clock W.D.L.Meanings W.S.Shelf)
+    requires threads { (1 ≤ order.threads) × (order.threads ≤ MAX_WORKERS) }
+    ensures serves { ServesOrder (telling F.Files O.Meanings W.World W.D.Door W.T.Tape W.K.Clock W.D.L.Meanings W.S.Shelf W.D.L.may_wait)
         order.entry (files.old, out.old, world.old) (files.new, out.new, world.new) result }
 {
     match read_site(alloc, files, order.workers, order.map) {
-        Ok(Judged::Site(site)) => serve_site(rt, alloc, &site, order.asked, world),
+        Ok(Judged::Site(site)) => serve_site(rt, alloc, &site, &order, world),
         Ok(Judged::Refused(line)) => refuse(out, &line),
         Err(error) => end_by(error),
     }

@@ -1,5 +1,5 @@
 //! The workers of a connector's run: a part for each gear, and what each leaves.
-ghost use Rattle.std.specs.Prelude.{◌≡◌, ◌<◌, ◌≤◌, false, is_some, length, map, true, vec_len, IfOk};
+ghost use Rattle.std.specs.Prelude.{◌≡◌, ◌<◌, ◌≤◌, None, false, is_some, length, map, true, vec_len, IfOk};
 ghost use Rattle.std.specs.List.{All};
 ghost use Rattle.conn_pool.specs.Idle.{counts};
 ghost use Rattle.conn_pool.specs.Reaches.{beside_of};
@@ -8,8 +8,8 @@ ghost use Rattle.uri_map.specs.Sites.{stands_in};
 ghost use Rattle.gear_parts.specs.GearParts.{tools, tools_of};
 ghost use Rattle.gear_parts.specs.Memories.{HasLogs};
 ghost use Rattle.jk_server.specs.ServedGears.{IsRunOf, LeavesParts, RunsParts};
-ghost use Rattle.jk_server.specs.RunTells.{run_tells};
-ghost use Rattle.jk_server.specs.Worker.{IsFit};
+ghost use Rattle.jk_server.specs.RunTells.{run_tells, unlogged};
+ghost use Rattle.jk_server.specs.Worker.{MayBegin};
 
 use crate::part::ServeEnd;
 use crate::runs::ran::Ran;
@@ -17,6 +17,7 @@ use crate::workers::{MAX_WORKERS, run_serve};
 use conn_pool::{PooledReach, Tape};
 use gear_parts::{After, Common, Gear, Left, Memory, Part, parts_for, take_apart};
 use jk_io::{Clock, Dial, Door, NoMemory};
+use jk_model::NoRows;
 use locked_balancer::{SharedSite, Shelf, SiteName};
 use site_config::Config;
 use std::alloc::Global;
@@ -30,6 +31,8 @@ use uri_map::UriMap;
 pub(crate) struct Plan<'a> {
     pub(crate) cfg: &'a Config,
     pub(crate) map: &'a UriMap,
+    /// The number of kept entries at which a journal is cut.
+    pub(crate) cut: u32,
 }
 
 /// A worker for each gear, with one part of the share each.
@@ -61,7 +64,7 @@ where
     requires amount { share.amount ≡ 0 }
     requires desk_sizes { L.sizes ≡ sizes_of plan.cfg.now.lbs }
     requires pool_sizes { counts common.now.pools.now ≡ sizes_of plan.cfg.now.lbs }
-    ensures { let told = run_tells D.coming D.left D.faults T.talks K.answers D.L.Meanings S.shelved S.faults in
+    ensures { let told = run_tells D.coming D.left D.faults T.talks K.answers D.L.Meanings S.shelved (unlogged S.faults D.L.may_wait) in
         IfOk result (IsRunOf told plan.entry.cfg.now plan.entry.map.now gears.items) }
 {
     match parts_for(alloc, common, share, gears) {
@@ -88,7 +91,7 @@ fn work_in<
     plan: Plan<'_>,
     site: &SharedSite<'r, L, R>,
     memory: Memory<
-        Part<'s, 'r, L, D, PooledReach<'s, 'r, G, T, R>, K, S, R>,
+        Part<'s, 'r, L, D, PooledReach<'s, 'r, G, T, R>, K, S, R, NoRows>,
         O,
         Left<D, G, T, K, O>,
         Gear<D, G, T, K, S, O>,
@@ -97,9 +100,9 @@ fn work_in<
 where
     D::L: Send,
     requires few { vec_len memory.parts ≤ MAX_WORKERS }
-    requires fit { All (λ p. IsFit plan.cfg.now plan.map.now p.desk.desk (beside_of T.begun T.talks p.reach)) memory.parts.items }
+    requires ready { All (λ p. MayBegin plan.cfg.now plan.map.now p.desk.desk (beside_of T.begun T.talks p.reach) None) memory.parts.items }
     requires logs { HasLogs (vec_len memory.parts) memory.after }
-    ensures { let told = run_tells D.coming D.left D.faults T.talks K.answers D.L.Meanings S.shelved S.faults in
+    ensures { let told = run_tells D.coming D.left D.faults T.talks K.answers D.L.Meanings S.shelved (unlogged S.faults D.L.may_wait) in
         IfOk result (RunsParts told plan.entry.cfg.now plan.entry.map.now memory.entry.parts.items memory.entry.after.logs.items) }
 {
     let Memory { parts, after } = memory;
@@ -125,13 +128,13 @@ fn serve_all<
     alloc: Global,
     plan: Plan<'_>,
     site: &SharedSite<'r, L, R>,
-    parts: Vec<Part<'s, 'r, L, D, PooledReach<'s, 'r, G, T, R>, K, S, R>>,
-) -> Result<ServeEnd<L, D, PooledReach<'s, 'r, G, T, R>, K, S>, NoMemory>
+    parts: Vec<Part<'s, 'r, L, D, PooledReach<'s, 'r, G, T, R>, K, S, R, NoRows>>,
+) -> Result<ServeEnd<L, D, PooledReach<'s, 'r, G, T, R>, K, S, NoRows>, NoMemory>
 where
     D::L: Send,
     requires few { vec_len parts ≤ MAX_WORKERS }
-    requires fit { All (λ p. IsFit plan.cfg.now plan.map.now p.desk.desk (beside_of T.begun T.talks p.reach)) parts.items }
-    ensures { let told = run_tells D.coming D.left D.faults T.talks K.answers D.L.Meanings S.shelved S.faults in
+    requires ready { All (λ p. MayBegin plan.cfg.now plan.map.now p.desk.desk (beside_of T.begun T.talks p.reach) None) parts.items }
+    ensures { let told = run_tells D.coming D.left D.faults T.talks K.answers D.L.Meanings S.shelved (unlogged S.faults D.L.may_wait) in
         IfOk result (LeavesParts told plan.entry.cfg.now plan.entry.map.now parts.entry.items) }
 {
     run_serve(rt, alloc, plan.cfg, plan.map, site, parts)
@@ -150,7 +153,7 @@ fn ran_of<
     O: Drop,
     R,
 >(
-    end: ServeEnd<L, D, PooledReach<'s, 'r, G, T, R>, K, S>,
+    end: ServeEnd<L, D, PooledReach<'s, 'r, G, T, R>, K, S, NoRows>,
     after: After<O, Left<D, G, T, K, O>, Gear<D, G, T, K, S, O>>,
 ) -> Ran<L, D, G, T, K, S, O>
     requires paired { length end.leaving ≡ length end.outside }

@@ -1,13 +1,11 @@
 //! A connector's run: the balancers start, the workers serve, the desks are closed.
-ghost use Rattle.std.specs.Prelude.{◌≡◌, ◌<◌, ◌≤◌, length, true, vec_len, IfOk};
+ghost use Rattle.std.specs.Prelude.{◌≡◌, ◌<◌, ◌≤◌, map, true, vec_len, IfOk};
 ghost use Rattle.std.specs.List.{All};
-ghost use Rattle.conn_pool.specs.Idle.{counts};
-ghost use Rattle.exchange.specs.Requests.{sizes_of};
 ghost use Rattle.uri_map.specs.Sites.{stands_in};
 ghost use Rattle.jk_server.specs.Runs.{RunsGears};
 ghost use Rattle.site_books.specs.Starts.{AreStarts};
-ghost use Rattle.jk_server.specs.Started.{IsNewSite, IsReady, RunsStarted};
-ghost use Rattle.jk_server.specs.RunTells.{run_tells};
+ghost use Rattle.jk_server.specs.Started.{IsNewSite, IsReady, RunsStarted, pool_table};
+ghost use Rattle.jk_server.specs.RunTells.{run_tells, unlogged};
 
 use crate::runs::closing::settle;
 use crate::runs::ends::SiteRun;
@@ -28,11 +26,9 @@ use std::sync::ledger::{Blank, Share};
 use std::thread::Threads;
 use uri_map::UriMap;
 
-/// The number of kept entries at which a journal is cut.
-pub(crate) const CUT_AT: u32 = 65_536;
-
 /// Serves the clients of a site by a worker for each gear. The balancers start with number 0 at the moment that the first
-/// gear's clock gives. After the run each journal is cut once more, in order, and its segment goes to the first gear's shelf.
+/// gear's clock gives, and a journal is cut where it keeps `cut` entries. After the run each is cut once more, in order, and
+/// its segment goes to the first gear's shelf.
 pub fn serve_gears<
     D: Door + Drop + Send,
     G: Dial + Drop + Send,
@@ -46,6 +42,7 @@ pub fn serve_gears<
     alloc: Global,
     cfg: &Config,
     mounts: &UriMap,
+    cut: u32,
     gears: Vec<Gear<D, G, T, K, S, O>>,
 ) -> Result<SiteRun<Brand, Gear<D, G, T, K, S, O>>, NoMemory>
 where
@@ -54,7 +51,7 @@ where
     requires few { vec_len gears ≤ MAX_WORKERS }
     requires stands { stands_in cfg.now mounts.now ≡ true }
     requires idle { All (λ g. T.is_idle g.tape) gears.items }
-    ensures ran { let told = run_tells D.coming D.left D.faults T.talks K.answers D.L.Meanings S.shelved S.faults in
+    ensures ran { let told = run_tells D.coming D.left D.faults T.talks K.answers D.L.Meanings S.shelved (unlogged S.faults D.L.may_wait) in
         IfOk result (RunsGears told cfg.now mounts.now gears.items) }
 {
     let mut gears = gears;
@@ -64,7 +61,11 @@ where
             over_site::<Brand, D, G, T, K, S, O, R>(
                 rt,
                 alloc,
-                Plan { cfg, map: mounts },
+                Plan {
+                    cfg,
+                    map: mounts,
+                    cut,
+                },
                 new,
                 gears,
             )
@@ -86,7 +87,7 @@ fn new_site(alloc: Global, cfg: &Config, at: u64, workers: usize) -> Result<NewS
 
 /// The pool sizes of each balancer's members.
 fn pool_sizes(alloc: Global, lbs: &[Lb]) -> Result<SizeTable, NoMemory>
-    ensures { IfOk result (λ table. counts table ≡ sizes_of lbs.now) }
+    ensures { IfOk result (λ table. table ≡ pool_table lbs.now) }
 {
     let mut table = Vec::with_capacity(alloc, lbs.len())?;
     for lb in lbs {
@@ -97,7 +98,7 @@ fn pool_sizes(alloc: Global, lbs: &[Lb]) -> Result<SizeTable, NoMemory>
 
 /// The pool sizes of these members.
 fn sizes_in(alloc: Global, members: &[MemberConfig]) -> Result<SizeList, NoMemory>
-    ensures { IfOk result (λ sizes. length sizes ≡ length members.now) }
+    ensures { IfOk result (λ sizes. sizes ≡ map (λ m. m.pool) members.now) }
 {
     Ok(SizeList::from_vec(members.iter().map(|member| member.pool).collect(alloc)?))
 }
@@ -108,7 +109,7 @@ fn pools_for<'r, C: Drop, R>(
     alloc: Global,
     cfg: &Config,
 ) -> Result<Pools<'r, Idle<C>, R>, NoMemory>
-    ensures { IfOk result (λ pools. counts pools ≡ sizes_of cfg.now.lbs) }
+    ensures { IfOk result (λ pools. pools ≡ pool_table cfg.now.lbs) }
 {
     let lbs = cfg.lbs.as_slice();
     let pools = Pools::new(rt, alloc, &pool_sizes(alloc, lbs)?)?;
@@ -141,9 +142,9 @@ fn over_site<
 ) -> Result<SiteRun<L, Gear<D, G, T, K, S, O>>, NoMemory>
 where
     D::L: Send,
-    requires new { IsNewSite L.name L.parts L.sizes L.firsts L.cut_at plan.cfg.now.lbs new }
+    requires new { IsNewSite L.name L.parts L.sizes L.firsts L.cut_at plan.cut plan.cfg.now.lbs new }
     requires ready { IsReady T.is_idle L.parts plan.cfg.now plan.map.now (vec_len gears) gears.items }
-    ensures ran { let told = run_tells D.coming D.left D.faults T.talks K.answers D.L.Meanings S.shelved S.faults in
+    ensures ran { let told = run_tells D.coming D.left D.faults T.talks K.answers D.L.Meanings S.shelved (unlogged S.faults D.L.may_wait) in
         IfOk result (RunsStarted told plan.entry.cfg.now plan.entry.map.now gears.items) }
 {
     match pools_for(rt, alloc, plan.cfg) {
@@ -173,13 +174,13 @@ fn over_pools<
 ) -> Result<SiteRun<L, Gear<D, G, T, K, S, O>>, NoMemory>
 where
     D::L: Send,
-    requires pool_sizes { counts pools.now ≡ sizes_of plan.cfg.now.lbs }
-    requires new { IsNewSite L.name L.parts L.sizes L.firsts L.cut_at plan.cfg.now.lbs new }
+    requires pool_sizes { pools.now ≡ pool_table plan.cfg.now.lbs }
+    requires new { IsNewSite L.name L.parts L.sizes L.firsts L.cut_at plan.cut plan.cfg.now.lbs new }
     requires ready { IsReady T.is_idle L.parts plan.cfg.now plan.map.now (vec_len gears) gears.items }
-    ensures ran { let told = run_tells D.coming D.left D.faults T.talks K.answers D.L.Meanings S.shelved S.faults in
+    ensures ran { let told = run_tells D.coming D.left D.faults T.talks K.answers D.L.Meanings S.shelved (unlogged S.faults D.L.may_wait) in
         IfOk result (RunsStarted told plan.entry.cfg.now plan.entry.map.now gears.items) }
 {
-    let (shared, share) = shared_site::<L, R>(rt, plan.cfg, new);
+    let (shared, share) = shared_site::<L, R>(rt, plan, new);
     let common = Common {
         site: &shared,
         pools,
@@ -193,14 +194,14 @@ where
 /// Opens a Site that workers share.
 fn shared_site<'r, L: SiteName, R>(
     rt: &'r R,
-    cfg: &Config,
+    plan: Plan<'_>,
     new: NewSite,
 ) -> (SharedSite<'r, L, R>, Share<L>)
-    requires { IsNewSite L.name L.parts L.sizes L.firsts L.cut_at cfg.now.lbs new }
+    requires { IsNewSite L.name L.parts L.sizes L.firsts L.cut_at plan.cut plan.cfg.now.lbs new }
     ensures { (result.1.parts ≡ L.parts) × (result.1.amount ≡ 0) }
 {
     let NewSite { blank, books } = new;
     let (site, share) = Site::<L>::open(blank, books);
-    let shared = SharedSite::new(rt, site, CUT_AT);
+    let shared = SharedSite::new(rt, site, plan.cut);
     (shared, share)
 }

@@ -1,8 +1,8 @@
 //! The three lines that are printed of a session.
 ghost use Rattle.std.specs.Prelude.{◌≡◌, ◌++◌, OnOk, IfOk, IsSomeAnd, codes, decimal};
-ghost use Rattle.plain_commands.specs.DryLines.{bytes_line, dry_text, end_words, hex_or_dash, sent_in};
+ghost use Rattle.plain_commands.specs.DryLines.{bytes_line, dry_text, end_words, hex_or_dash, sent_in, why_words};
 
-use client_session::{SessionEnd, Why};
+use client_session::{SessionEnd, SessionStop, Why};
 use jk_io::{Bytes, NoMemory, Talk, put_decimal};
 use std::alloc::Global;
 
@@ -57,21 +57,30 @@ fn put_own(out: &mut Bytes, status: u16, requests: u32) -> Result<(), NoMemory>
     put_number(out, b" ", requests)
 }
 
-// An end that shows nothing is answered as want of memory: where no call of a link fails and one thread has the desk,
-// no other such end comes.
+// That a client was left while it waits is answered as want of memory: none waits in memory.
+fn put_why(out: &mut Bytes, why: Why, requests: u32) -> Result<(), NoMemory>
+    ensures { OnOk result (IsSomeAnd (why_words why requests) (λ words. out.new ≡ out.old ++ words)) }
+{
+    match why {
+        Why::ByClient => put_number(out, b"by-client ", requests),
+        Why::Last => put_number(out, b"last ", requests),
+        Why::Own(status) => put_own(out, status, requests),
+        Why::Cut => put_number(out, b"cut ", requests),
+        Why::Unread => put_number(out, b"unread ", requests),
+        Why::Idle => Err(NoMemory),
+    }
+}
+
+// An end that shows nothing is answered as want of memory: where no call of a link fails and one thread has the desk, no
+// other such end comes.
 fn put_end(out: &mut Bytes, end: SessionEnd) -> Result<(), NoMemory>
     ensures { OnOk result (IsSomeAnd (end_words end) (λ words. out.new ≡ out.old ++ words)) }
 {
-    match end {
-        SessionEnd::Closed { requests, why } => match why {
-            Why::ByClient => put_number(out, b"by-client ", requests),
-            Why::Last => put_number(out, b"last ", requests),
-            Why::Own(status) => put_own(out, status, requests),
-            Why::Cut => put_number(out, b"cut ", requests),
-            Why::Unread => put_number(out, b"unread ", requests),
-        },
-        SessionEnd::Truncated { requests } => put_number(out, b"truncated ", requests),
-        SessionEnd::ClientFault { .. } | SessionEnd::Stray { .. } | SessionEnd::NoMemory => {
+    let SessionEnd { requests, stop } = end;
+    match stop {
+        SessionStop::Closed(why) => put_why(out, why, requests),
+        SessionStop::Truncated => put_number(out, b"truncated ", requests),
+        SessionStop::ClientFault | SessionStop::Stray { .. } | SessionStop::NoMemory => {
             Err(NoMemory)
         }
     }

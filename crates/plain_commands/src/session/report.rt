@@ -14,7 +14,7 @@ use crate::session::lines::{lines_of, put_number, words_of};
 use crate::session::one_reply::{OneReply, ReplyName, link_of};
 use crate::session::start::{desk_of, reach_of};
 use balancer_core::PlainDesk;
-use client_session::{SessionEnd, serve_session};
+use client_session::{SessionEnd, SessionSite, Surroundings, serve_session};
 use jk_io::{Bytes, MemLink, NoMemory, NumberList, Peer, StepClock};
 use site_config::Config;
 use site_reports::Report;
@@ -60,17 +60,19 @@ fn serve<N: ReplyName>(
         client.old.incoming N.reply reach.new.book.talks client.new.sent result }
 {
     let mut clock = StepClock::new(NumberList::new(alloc));
-    let end = serve_session(
-        alloc,
-        site.config,
-        site.map,
-        0,
+    let site = SessionSite {
+        cfg: site.config,
+        map: site.map,
+        session: 0,
         peer,
+    };
+    let mut around = Surroundings {
         desk,
+        clock: &mut clock,
         reach,
         client,
-        &mut clock,
-    );
+    };
+    let end = serve_session(alloc, &site, &mut around);
     reach.vouch();
     end
 }

@@ -1,4 +1,4 @@
-use Rattle.std.proofs.Common.{refl, arith}
+use Rattle.std.proofs.Common.{◌∙◌, refl, arith}
 use Rattle.std.proofs.lemmas.Result.{IfOk-from_err, err_from_is_err_and}
 use Rattle.gear_parts.proofs.WorldLaws.{cause_on, no_cause, none_yet, taken_on, taken_still}
 use Rattle.gear_parts.proofs.gears.fill_gears.Goals as goal
@@ -7,7 +7,7 @@ pub gears-init : goal.gears-init
 gears-init g c = record {
   taken = none_yet _ _ _ _ _ (omega (arith, c.requires.none, c.args.gears.now.ok.0));
   count = c.requires.none;
-  end = refl;
+  steady = refl;
   room = c.requires.room;
 }
 
@@ -15,7 +15,7 @@ pub gears-preserved : goal.gears-preserved
 gears-preserved g c = record {
   taken = taken_on _ _ _ _ _ _ _ _ _ c.gears.invariant.taken (omega (arith, c.gears.invariant.count, c.gears.gears.ok.0)) c.in_ok-take_gear.ensures.ok;
   count = omega (arith, c.gears.invariant.count, c.in_ok-take_gear.ensures.room.0);
-  end = refl;
+  steady = c.in_ok-take_gear.ensures.steady refl ∙ c.gears.invariant.steady;
   room = omega (arith, c.gears.invariant.room, c.in_ok-take_gear.ensures.room.1);
 }
 
@@ -30,10 +30,10 @@ pub returns-in_err-take_gear-clause-cause : goal.returns-in_err-take_gear-clause
 returns-in_err-take_gear-clause-cause g c =
     let p = err_from_is_err_and c.from_residual.result c.from_residual.ensures.1 in
     rw (p.1, p.2)
-    (cause_on _ _ _ c.in_err-take_gear.field-0.0 c.gears.invariant.taken.passed.no_fewer c.in_err-take_gear.ensures.cause)
+    (cause_on _ _ _ c.in_err-take_gear.field-0.0 c.gears.invariant.steady c.in_err-take_gear.ensures.cause)
 
 pub returns-clause-taken : goal.returns-clause-taken
 returns-clause-taken g c = c.gears.invariant.taken
 
 pub returns-clause-cause : goal.returns-clause-cause
-returns-clause-cause g c = no_cause _ _ _ c.gears.invariant.taken.passed.no_fewer
+returns-clause-cause g c = no_cause _ _ _ c.gears.invariant.steady

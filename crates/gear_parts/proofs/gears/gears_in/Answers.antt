@@ -1,4 +1,4 @@
-use Rattle.std.proofs.Common.{arith}
+use Rattle.std.proofs.Common.{refl, arith}
 use Rattle.gear_parts.proofs.WorldLaws.{all_back, cause_again, no_cause}
 use Rattle.gear_parts.proofs.gears.gears_in.Goals as goal
 
@@ -25,4 +25,4 @@ pub returns-in-Ok-clause-count : goal.returns-in-Ok-clause-count
 returns-in-Ok-clause-count g c = c.in-Ok.ensures.count
 
 pub returns-in-Ok-clause-cause : goal.returns-in-Ok-clause-cause
-returns-in-Ok-clause-cause g c = no_cause _ _ _ c.in-Ok.ensures.taken.passed.no_fewer
+returns-in-Ok-clause-cause g c = no_cause _ _ _ (c.in-Ok.ensures.steady refl)

@@ -6,7 +6,7 @@ gears_in-requires-clause-room g c κs within = c.in_ok-gears.ensures.capacity
 
 pub returns-in_err-gears-clause-refused : goal.returns-in_err-gears-clause-refused
 returns-in_err-gears-clause-refused g c =
-    on_err c.from_residual.result _ (none_taken c.args.asked.threads _ (λ none. let fails = c.in_err-gears.ensures.succeeds none in cc))
+    on_err c.from_residual.result _ (none_taken c.args.threads _ (λ none. let fails = c.in_err-gears.ensures.succeeds none in cc))
 
 pub returns-clause-taken : goal.returns-clause-taken
 returns-clause-taken g c = ok_then c.gears_in.result _ _ c.gears_in.ensures.taken (λ gears taken. taken.passed)

@@ -1,46 +1,49 @@
-use Rattle.std.proofs.Common.{refl}
-use Rattle.jk_server.specs.Worker.{worker_side}
-use Rattle.jk_server.proofs.RunLaws.{fit_after, forgot_sizes, no_caller, parts_after, serves_client, settled, stray_met}
+-- The session, what the worker makes of its end, and its link at the door.
+use Rattle.std.proofs.Common.{◌∙◌, [], ◌∷◌, List, Option, ap, refl}
+use Rattle.jk_io.specs.Told.{appended}
+use Rattle.gear_parts.specs.Logs.{log_tells}
+use Rattle.jk_server.specs.Worker.{keeps, worker_side}
+use Rattle.jk_server.proofs.RunLaws.{begins_so, fit_after, fit_forgot, parts_after, rose_loud, same_but_desk, settled, settles_so, stray_met}
 use Rattle.jk_server.proofs.client.serve_client.Goals as goal
+
+pub serve_link-end-requires : goal.serve_link-end-requires
+serve_link-end-requires g c = record { fit = fit_forgot _ _ _ _ _ c.requires.fit (ap (λ d. d.desk) c.forget_last-before.ensures.desk) }
+
+pub close_client-requires-clause-room : goal.close_client-requires-clause-room
+close_client-requires-clause-room g c = rw c.serve_link-end.ensures.same_door c.requires.room
+
+pub close_client-requires-clause-stray : goal.close_client-requires-clause-stray
+close_client-requires-clause-stray g c = stray_met _ _ _ c.serve_link-end.ensures.run.met
 
 pub returns : goal.returns
 returns g c =
-    let session = c.serve_session-end.ensures.session in
-    let settles = c.close_client.ensures.settled c.args.part.now.desk c.forget_last-before.ensures.counted.0 c.forget_last-before.ensures.counted.1 in
+    let log = log_tells g.Y.RowSink.gained g.Y.WorkerLog.greets g.Y.WorkerLog.broken_by g.Y.WorkerLog.log_faults in
+    let of = keeps g.S.Shelf.faults log g.D.L.Link.may_wait in
+    let s = c.serve_link-end in
+    let from = worker_side g.K.Clock.answers g.R.Meanings c.forget_last-before.new.desk c.args.part.now.clock c.args.part.now.reach c.greet.new.self in
+    let to = worker_side g.K.Clock.answers g.R.Meanings s.new.part.desk s.new.part.clock s.new.part.reach s.new.part.log in
+    let forgets = ap (λ d. d.desk) c.forget_last-before.ensures.desk in
+    let loud = rose_loud _ _ _ _ _ c.requires.logged c.greet.ensures.calm
+    (g.met.Y.WorkerLog.breaks_loudly _ _ s.ensures.run.session.gained s.ensures.run.session.added) in
+    let settles = settles_so of from to c.close_client.new.part.desk s.result _ c.close_client.result refl loud
+    (c.close_client.ensures.settled c.forget_last-before.new.desk c.forget_last-before.ensures.counted.0 c.forget_last-before.ensures.counted.1) in
     record {
-      served =
-          serves_client _ _ _ _ _ (worker_side g.K.Clock.answers g.R.Meanings c.args.part.now.desk c.args.part.now.clock c.args.part.now.reach)
-          (worker_side g.K.Clock.answers g.R.Meanings c.serve_session-end.new.desk c.serve_session-end.new.clock c.serve_session-end.new.reach)
-          (worker_side g.K.Clock.answers g.R.Meanings c.close_client.new.desk c.serve_session-end.new.clock c.serve_session-end.new.reach)
-          c.forget_last-before.new.desk.desk _ c.serve_session-end.new.client _ c.serve_session-end.result _ session.0 c.forget_last-before.ensures.receipts session.1
-          c.serve_session-end.ensures.fault c.serve_session-end.ensures.met c.serve_session-end.ensures.kept
-          (c.close_client.ensures.settled _ c.forget_last-before.ensures.counted.0 c.forget_last-before.ensures.counted.1) refl
-          c.close_client.ensures.same.0 c.close_client.ensures.left c.close_client.ensures.same.1;
+      served = record {
+        back = s.new.link;
+        from = from;
+        to = to;
+        session_end = s.result;
+        begins = begins_so log g.K.Clock.answers g.R.Meanings c.args.part.now.desk _ _ _ _ _ _ c.forget_last-before.ensures.desk c.greet.ensures.greeted;
+        run = s.ensures.run;
+        settles = settles;
+        same = same_but_desk g.K.Clock.answers g.R.Meanings s.new.part.desk _ _ _ _ _ _ _ c.close_client.ensures.same;
+        coming = c.close_client.ensures.same_door.0 ∙ ap g.D.Door.coming s.ensures.same_door;
+        left = c.close_client.ensures.left ∙ ap (λ d. appended (g.D.Door.left d) (s.new.link ∷ [])) s.ensures.same_door;
+        door_faults = c.close_client.ensures.same_door.1 ∙ ap g.D.Door.faults s.ensures.same_door;
+      };
       fit =
-          fit_after _ _ _ _ _ _ _ _ _ c.requires.fit c.forget_last-before.ensures.receipts c.serve_session-end.ensures.kept
-          (settled _ c.args.part.now.desk _ _ _ _ settles) c.serve_session-end.ensures.sizes c.serve_session-end.ensures.idle;
-      parts =
-          parts_after c.args.part.now.desk.desk _ _ _ _ c.forget_last-before.ensures.receipts c.serve_session-end.ensures.kept
-          (settled _ c.args.part.now.desk _ _ _ _ settles);
+          fit_after _ _ _ _ _ _ _ _ _ c.requires.fit forgets s.ensures.run.kept (settled of from to _ _ _ settles)
+          (ap (λ r. (g.R.Meanings.beside r).sizes) c.close_client.ensures.same.0 ∙ s.ensures.ready.reach_sizes)
+          (ap (λ r. (g.R.Meanings.beside r).runs) c.close_client.ensures.same.0 ∙ s.ensures.ready.idle);
+      parts = parts_after c.args.part.now.desk.desk _ _ _ _ forgets s.ensures.run.kept (settled of from to _ _ _ settles);
     }
-
-pub serve_session-end-requires-clause-stands : goal.serve_session-end-requires-clause-stands
-serve_session-end-requires-clause-stands g c = c.requires.fit.stands
-
-pub serve_session-end-requires-clause-caller : goal.serve_session-end-requires-clause-caller
-serve_session-end-requires-clause-caller g c = no_caller c.args.part.now.desk.desk _ _ c.forget_last-before.ensures.receipts c.requires.fit.caller
-
-pub serve_session-end-requires-clause-desk_sizes : goal.serve_session-end-requires-clause-desk_sizes
-serve_session-end-requires-clause-desk_sizes g c = forgot_sizes c.args.part.now.desk.desk _ _ c.forget_last-before.ensures.receipts c.requires.fit.desk_sizes
-
-pub serve_session-end-requires-clause-reach_sizes : goal.serve_session-end-requires-clause-reach_sizes
-serve_session-end-requires-clause-reach_sizes g c = c.requires.fit.reach_sizes
-
-pub serve_session-end-requires-clause-idle : goal.serve_session-end-requires-clause-idle
-serve_session-end-requires-clause-idle g c = c.requires.fit.idle
-
-pub close_client-requires-clause-room : goal.close_client-requires-clause-room
-close_client-requires-clause-room g c = c.requires.room
-
-pub close_client-requires-clause-stray : goal.close_client-requires-clause-stray
-close_client-requires-clause-stray g c = stray_met _ _ _ c.serve_session-end.ensures.met

@@ -15,6 +15,9 @@ returns-in-None g c = rests_next _ _ _ _ _ _ _ _ c.in-None.ensures c.go_on.ensur
 pub serve_client-requires-clause-fit : goal.serve_client-requires-clause-fit
 serve_client-requires-clause-fit g c = c.requires.fit
 
+pub serve_client-requires-clause-logged : goal.serve_client-requires-clause-logged
+serve_client-requires-clause-logged g c = c.requires.logged
+
 pub serve_client-requires-clause-room : goal.serve_client-requires-clause-room
 serve_client-requires-clause-room g c = c.requires.room
 

@@ -3,7 +3,7 @@ use Rattle.jk_server.proofs.RunLaws.{turns_again, turns_first}
 use Rattle.jk_server.proofs.serving.serve_part.Goals as goal
 
 pub clients-init : goal.clients-init
-clients-init g c = turns_first _ _ _ _ _ c.requires.fit
+clients-init g c = turns_first _ _ _ _ _ c.requires.fit c.requires.logged
 
 pub clients-preserved : goal.clients-preserved
 clients-preserved g c = turns_again _ _ _ _ _ _ _ c.in-None-serve_turn.ensures c.saturating_add-sessions.ensures c.clients.invariant
@@ -11,8 +11,8 @@ clients-preserved g c = turns_again _ _ _ _ _ _ _ c.in-None-serve_turn.ensures c
 pub serve_turn-requires-clause-fit : goal.serve_turn-requires-clause-fit
 serve_turn-requires-clause-fit g c = c.clients.invariant.fit
 
-pub serve_turn-requires-clause-none_held : goal.serve_turn-requires-clause-none_held
-serve_turn-requires-clause-none_held g c = c.clients.invariant.fit.none_held
+pub serve_turn-requires-clause-logged : goal.serve_turn-requires-clause-logged
+serve_turn-requires-clause-logged g c = c.clients.invariant.way.logged
 
 pub returns-in-Some-serve_turn : goal.returns-in-Some-serve_turn
 returns-in-Some-serve_turn g c = record {

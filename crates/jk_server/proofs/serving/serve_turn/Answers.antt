@@ -25,13 +25,16 @@ returns-in-Fault g c = record {
 
 pub returns-in-NoMemory : goal.returns-in-NoMemory
 returns-in-NoMemory g c = record {
-  turned = λ first s way. lacks {L = g.row.L.Denot} _ _ _ _ _ _ _ _ _ way c.in-NoMemory.ensures.arrives;
+  turned = λ first s way. lacks {L = g.row.L.Denot} _ _ _ _ _ _ _ _ _ way c.in-NoMemory.ensures.arrives (c.in-NoMemory.ensures.wanted refl);
   fit = c.requires.fit;
   parts = refl;
 }
 
 pub serve_next-requires-clause-fit : goal.serve_next-requires-clause-fit
 serve_next-requires-clause-fit g c = c.requires.fit
+
+pub serve_next-requires-clause-logged : goal.serve_next-requires-clause-logged
+serve_next-requires-clause-logged g c = c.requires.logged
 
 pub serve_next-requires-clause-room : goal.serve_next-requires-clause-room
 serve_next-requires-clause-room g c = room_left _ _ c.in-Client.ensures.room

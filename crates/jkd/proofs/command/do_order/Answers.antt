@@ -5,7 +5,7 @@ pub returns-in-Serve-clause-does : goal.returns-in-Serve-clause-does
 returns-in-Serve-clause-does g c incoming =
     rw c.in-Serve.is (record {
       by = c.serve.result;
-      said = rw (c.new-asked.ensures.0, c.new-asked.ensures.1, c.new-asked.ensures.2, c.new-asked.ensures.3, c.as_ref.ensures.value) at (c.serve.ensures.serves incoming);
+      said = rw (c.as_ref.ensures.value, c.as_ref-in-Serve.ensures.value) at (c.serve.ensures.serves incoming);
       turned = c.from.ensures;
     })
 
@@ -13,10 +13,7 @@ pub returns-in-Container-clause-does : goal.returns-in-Container-clause-does
 returns-in-Container-clause-does g c incoming =
     rw c.in-Container.is (record {
       by = c.contain.result;
-      said = record {
-        contained = rw (c.new-asked-in-Container.ensures.0, c.new-asked-in-Container.ensures.1, c.new-asked-in-Container.ensures.2, c.new-asked-in-Container.ensures.3) at c.contain.ensures.contains;
-        written = refl;
-      };
+      said = record { contained = rw c.of_container.ensures.wanted at c.contain.ensures.contains; written = refl };
       turned = c.from-in-Container.ensures;
     })
 

@@ -42,3 +42,11 @@ returns-in-Check-clause-ok g c =
 pub returns-in-Check-clause-input : goal.returns-in-Check-clause-input
 returns-in-Check-clause-input g c =
     inr (rw c.in-Check.is (check_due (record { files = g.F.Files.files c.args.files.now; incoming = g.S.Meanings.incoming c.args.input.now })))
+
+pub returns-in-Stop-clause-ok : goal.returns-in-Stop-clause-ok
+returns-in-Stop-clause-ok g c =
+    rw c.in-Stop.is (said_of (λ (incoming : Option (List ℕ)) (o : Output). Plain (record { files = g.F.Files.files c.args.files.now; incoming = incoming }) (order.Stop c.in-Stop.path) o.text (status_of o.ending))
+    (g.S.Meanings.incoming c.args.input.now) c.stop_front.result c.stop_front.ensures.ok)
+
+pub returns-in-Stop-clause-files : goal.returns-in-Stop-clause-files
+returns-in-Stop-clause-files g c = inr (rw c.in-Stop.is refl)

@@ -8,7 +8,7 @@ use Rattle.plain_commands.proofs.commands.match_paths.Goals as goal
 pub returns-in-None-clause-ok : goal.returns-in-None-clause-ok
 returns-in-None-clause-ok g c =
     let outside : CommandOutside = record { files = g.F.Files.files c.args.files.now; incoming = g.S.Meanings.incoming c.args.input.now } in
-    long_at outside (File c.args.workers.now ∷ File c.args.map.now ∷ Input ∷ []) (Answers (order.Match c.args.workers.now c.args.map.now)) c.too_long.result c.too_long.ensures.text c.too_long.ensures.ending
+    long_at outside (File c.args.workers.now ∷ File c.args.map.now ∷ Input ∷ []) (Answers (order.Match c.args.workers.now c.args.map.now c.args.verbose)) c.too_long.result c.too_long.ensures.text c.too_long.ensures.ending
     (stops_early outside (File c.args.workers.now) (File c.args.map.now) (Input ∷ []) (rw c.in-None.is at (c.in_ok-read_pair.ensures.long outside.incoming)))
 
 pub match_input-requires : goal.match_input-requires
@@ -19,9 +19,9 @@ match_input-requires g c =
 pub returns-in-Some-clause-ok : goal.returns-in-Some-clause-ok
 returns-in-Some-clause-ok g c =
     let read = rw c.in-Some.is at (c.in_ok-read_pair.ensures.there (g.S.Meanings.incoming c.args.input.now)) in
-    match_ok _ _ _ _ _ read.0 read.1.0 c.match_input.result c.match_input.ensures.ok
+    match_ok _ _ _ _ _ _ read.0 read.1.0 c.match_input.result c.match_input.ensures.ok
 
 pub returns-in-Some-clause-input : goal.returns-in-Some-clause-input
 returns-in-Some-clause-input g c =
     let read = rw c.in-Some.is at (c.in_ok-read_pair.ensures.there (g.S.Meanings.incoming c.args.input.now)) in
-    inr (match_due (record { files = g.F.Files.files c.args.files.now; incoming = g.S.Meanings.incoming c.args.input.now }) _ _ _ _ read.0 read.1.0)
+    inr (match_due (record { files = g.F.Files.files c.args.files.now; incoming = g.S.Meanings.incoming c.args.input.now }) _ _ c.args.verbose _ _ read.0 read.1.0)

@@ -1,4 +1,4 @@
-use Rattle.std.proofs.Common.{sym, ◌∙◌, rules}
+use Rattle.std.proofs.Common.{refl, sym, ◌∙◌, rules}
 use Rattle.jk_server.specs.Commands.{Ran}
 use Rattle.jk_server.proofs.CommandLaws.{all_came_back, may_come_back, wants_gears, works_err}
 use Rattle.jk_server.proofs.ReturnLaws.{all_returned}
@@ -11,7 +11,7 @@ pub returns-in-Err : goal.returns-in-Err
 returns-in-Err g c = works_err _ _ _ _ c.in-Err.error _ c.in-Err.ensures.refused c.in-Err.ensures.cause c.end_by.ensures
 
 pub returns-in-Err-contain_gears : goal.returns-in-Err-contain_gears
-returns-in-Err-contain_gears g c = wants_gears _ _ _ _ c.in-Ok.gears.items c.in-Ok.ensures.taken (sym c.in-Ok.gears.ok.0 ∙ c.in-Ok.ensures.count)
+returns-in-Err-contain_gears g c = wants_gears _ _ _ _ c.in-Ok.gears.items c.in-Ok.ensures.taken (sym c.in-Ok.gears.ok.0 ∙ c.in-Ok.ensures.count) (c.in-Ok.ensures.steady refl)
 
 pub give_back-requires-clause-out : goal.give_back-requires-clause-out
 give_back-requires-clause-out g c κs within =
@@ -28,7 +28,7 @@ returns-in-Ok-contain_gears g c =
       left = left.items;
       count = sym c.in-Ok.gears.ok.0 ∙ c.in-Ok.ensures.count;
       made = c.in-Ok.ensures.made;
-      suited = c.in-Ok.ensures.suited;
+      suited = rw c.requires.none.1 at c.in-Ok.ensures.suited;
       ends = c.in-Ok-contain_gears.field-0.workers;
       run = c.in-Ok-contain_gears.ensures.ran g.W.T.Tape.talks g.W.K.Clock.answers;
       rests = c.in-Ok-contain_gears.ensures.rests;

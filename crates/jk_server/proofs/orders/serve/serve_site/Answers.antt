@@ -1,4 +1,5 @@
-use Rattle.std.proofs.Common.{length, refl, sym, ◌∙◌}
+use Rattle.std.proofs.Common.{ap, length, refl, sym, ◌∙◌}
+use Rattle.gear_parts.specs.Wants.{GearWants}
 use Rattle.jk_server.specs.Commands.{Ran}
 use Rattle.jk_server.specs.Ends.{returned}
 use Rattle.jk_server.proofs.CommandLaws.{some_asked, wants_gears, works_err}
@@ -11,7 +12,7 @@ pub returns-in-Err : goal.returns-in-Err
 returns-in-Err g c = works_err _ _ _ _ c.in-Err.error _ c.in-Err.ensures.refused c.in-Err.ensures.cause c.end_by.ensures
 
 pub take_gears-requires-clause-named : goal.take_gears-requires-clause-named
-take_gears-requires-clause-named g c κs within = λ some. refl
+take_gears-requires-clause-named g c κs within = λ some. c.over-asked.ensures.site.1
 
 pub serve_gears-requires-clause-some : goal.serve_gears-requires-clause-some
 serve_gears-requires-clause-some g c κs within = some_asked _ _ c.in-Ok.ensures.count c.requires.threads.0
@@ -26,7 +27,7 @@ pub serve_gears-requires-clause-idle : goal.serve_gears-requires-clause-idle
 serve_gears-requires-clause-idle g c κs within = c.in-Ok.ensures.idle
 
 pub returns-in-Err-serve_gears : goal.returns-in-Err-serve_gears
-returns-in-Err-serve_gears g c = wants_gears _ _ _ _ c.in-Ok.gears.items c.in-Ok.ensures.taken (sym c.in-Ok.gears.ok.0 ∙ c.in-Ok.ensures.count)
+returns-in-Err-serve_gears g c = wants_gears _ _ _ _ c.in-Ok.gears.items c.in-Ok.ensures.taken (sym c.in-Ok.gears.ok.0 ∙ c.in-Ok.ensures.count) (c.in-Ok.ensures.steady refl)
 
 pub settle-requires-clause-out : goal.settle-requires-clause-out
 settle-requires-clause-out g c κs within =
@@ -41,8 +42,8 @@ returns-in-Ok-serve_gears g c =
       gears = c.in-Ok.gears.items;
       left = ran.gears.items;
       count = sym c.in-Ok.gears.ok.0 ∙ c.in-Ok.ensures.count;
-      made = c.in-Ok.ensures.made;
-      suited = c.in-Ok.ensures.suited;
+      made = rw (ap (λ (w : GearWants). w.clients) c.over-asked.ensures.same) at c.in-Ok.ensures.made;
+      suited = rw (c.over-asked.ensures.same, c.over-asked.ensures.site.0) at c.in-Ok.ensures.suited;
       ends = ran.workers;
       closing = ran.closing;
       run = c.in-Ok-serve_gears.ensures.ran.is;

@@ -3,7 +3,7 @@ use Rattle.std.specs.Prelude.{is_some}
 use Rattle.client_session.specs.Requests.{visit}
 use Rattle.door_clients.specs.Doors.{side}
 use Rattle.gear_parts.specs.GearParts.{gear_with, start_with, tools}
-use Rattle.jk_server.specs.RunTells.{run_tells}
+use Rattle.jk_server.specs.RunTells.{run_tells, unlogged}
 use Rattle.jk_server.specs.ServedGears.{IsBeginning, LeavesParts, start_side}
 use Rattle.jk_server.proofs.GearRunLaws.{all_left, as_many, gears_served, parts_whole}
 use Rattle.jk_server.proofs.StartLaws.{ok_weaker, one_part, served_gear}
@@ -12,20 +12,21 @@ use Rattle.jk_server.proofs.runs.parts.serve_all.Goals as goal
 pub run_serve-requires-clause-few : goal.run_serve-requires-clause-few
 run_serve-requires-clause-few g c = λ κs within. c.requires.few
 
-pub run_serve-requires-clause-fit : goal.run_serve-requires-clause-fit
-run_serve-requires-clause-fit g c = λ κs within. c.requires.fit
+pub run_serve-requires-clause-ready : goal.run_serve-requires-clause-ready
+run_serve-requires-clause-ready g c = λ κs within. c.requires.ready
 
 pub returns : goal.returns
 returns g c =
     let at = side g.D.Door.coming g.D.Door.left g.D.Door.faults in
     let told =
-    run_tells g.D.Door.coming g.D.Door.left g.D.Door.faults g.T.Tape.talks g.K.Clock.answers g.D.L.Meanings g.S.Shelf.shelved g.S.Shelf.faults in
+    run_tells g.D.Door.coming g.D.Door.left g.D.Door.faults g.T.Tape.talks g.K.Clock.answers g.D.L.Meanings g.S.Shelf.shelved
+    (unlogged g.S.Shelf.faults g.D.L.Link.may_wait) in
     ok_weaker _ (λ end. LeavesParts told c.args.plan.cfg.now c.args.plan.map.now c.args.parts.items end) _ c.run_serve.ensures.served (λ end each. record {
       outs = (as_many _ 0 c.args.parts.items end.outside end.leaving end.workers each).0;
       desks = (as_many _ 0 c.args.parts.items end.outside end.leaving end.workers each).1;
       idle = all_left _ (λ o. is_some o.reach.lent ≡ false) 0 c.args.parts.items end.outside end.leaving end.workers each (λ k p o v e is. is.worked.fit.idle);
       served = λ fresh.
-          gears_served (visit c.args.plan.cfg.now c.args.plan.map.now) g.D.L.Meanings g.S.Shelf.faults (λ p. IsBeginning p.desk) _
+          gears_served (visit c.args.plan.cfg.now c.args.plan.map.now) g.D.L.Meanings (unlogged g.S.Shelf.faults g.D.L.Link.may_wait) (λ p. IsBeginning p.desk) _
           (λ p. start_side at g.T.Tape.talks g.K.Clock.answers (start_with p.door p.reach p.clock p.desk))
           (gear_with at g.T.Tape.talks g.K.Clock.answers) (λ o. tools o.door o.reach.dial o.reach.tape o.clock) (λ v. v.shelf)
           0 c.args.parts.items end.outside end.leaving end.workers fresh each

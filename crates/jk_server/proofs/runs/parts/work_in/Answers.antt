@@ -4,6 +4,7 @@ use Rattle.client_session.specs.Requests.{visit}
 use Rattle.door_clients.specs.Doors.{side}
 use Rattle.gear_parts.specs.GearParts.{start_with}
 use Rattle.gear_parts.proofs.ListLaws.{as_long}
+use Rattle.jk_server.specs.RunTells.{unlogged}
 use Rattle.jk_server.specs.ServedGears.{IsBeginning}
 use Rattle.jk_server.proofs.GearRunLaws.{gears_told, logs_so}
 use Rattle.jk_server.proofs.StartLaws.{starts_are, starts_told}
@@ -12,8 +13,8 @@ use Rattle.jk_server.proofs.runs.parts.work_in.Goals as goal
 pub serve_all-requires-clause-few : goal.serve_all-requires-clause-few
 serve_all-requires-clause-few g c = λ κs within. c.requires.few
 
-pub serve_all-requires-clause-fit : goal.serve_all-requires-clause-fit
-serve_all-requires-clause-fit g c = λ κs within. c.requires.fit
+pub serve_all-requires-clause-ready : goal.serve_all-requires-clause-ready
+serve_all-requires-clause-ready g c = λ κs within. c.requires.ready
 
 pub ran_of-requires-clause-paired : goal.ran_of-requires-clause-paired
 ran_of-requires-clause-paired g c = λ κs within. c.in-Ok.ensures.desks ∙ sym c.in-Ok.ensures.outs
@@ -31,7 +32,7 @@ returns-in-Ok g c = λ sizes pools gears starts logged.
     (λ k d lt. (record { no_receipt = refl; none_held = refl; none_forgotten = refl; no_stray = refl }, refl)) in
     record {
       served =
-          gears_told (visit c.args.plan.cfg.now c.args.plan.map.now) g.D.L.Meanings g.S.Shelf.faults 0 _ _ _ _ _ _ _ _ _
+          gears_told (visit c.args.plan.cfg.now c.args.plan.map.now) g.D.L.Meanings (unlogged g.S.Shelf.faults g.D.L.Link.may_wait) 0 _ _ _ _ _ _ _ _ _
           (starts_told (side g.D.Door.coming g.D.Door.left g.D.Door.faults) g.T.Tape.talks g.K.Clock.answers sizes pools
           (λ p. start_with p.door p.reach p.clock p.desk) c.args.memory.parts.items gears starts)
           c.ran_of.ensures.tools (ap (λ vs. map (λ v. v.shelf) vs) c.ran_of.ensures.leaving) c.ran_of.ensures.workers (c.in-Ok.ensures.served fresh);

@@ -1,9 +1,11 @@
-use Rattle.std.proofs.Common.{sym, ◌∙◌}
+use Rattle.std.proofs.Common.{ap, sym, ◌∙◌}
 use Rattle.client_session.specs.Requests.{visit}
+use Rattle.conn_pool.specs.Idle.{counts}
 use Rattle.door_clients.specs.Doors.{side}
 use Rattle.jk_server.proofs.CutLaws.{closes_said, logs_said}
 use Rattle.jk_server.proofs.GearRunLaws.{some_left}
-use Rattle.jk_server.proofs.StartLaws.{run_done}
+use Rattle.jk_server.specs.RunTells.{unlogged}
+use Rattle.jk_server.proofs.StartLaws.{run_done, table_counts}
 use Rattle.jk_server.proofs.runs.serve.over_pools.Goals as goal
 
 pub work-requires-clause-few : goal.work-requires-clause-few
@@ -25,7 +27,7 @@ pub work-requires-clause-desk_sizes : goal.work-requires-clause-desk_sizes
 work-requires-clause-desk_sizes g c = λ κs within. c.requires.new.sized
 
 pub work-requires-clause-pool_sizes : goal.work-requires-clause-pool_sizes
-work-requires-clause-pool_sizes g c = λ κs within. c.requires.pool_sizes
+work-requires-clause-pool_sizes g c = λ κs within. ap (λ ps. counts ps) c.requires.pool_sizes ∙ table_counts c.args.plan.cfg.now.lbs
 
 pub settle-requires-clause-some : goal.settle-requires-clause-some
 settle-requires-clause-some g c = some_left _ _ (c.in-Ok.ensures.each ∙ sym c.args.gears.ok.0) c.requires.ready.some
@@ -37,7 +39,7 @@ pub returns-in-Ok : goal.returns-in-Ok
 returns-in-Ok g c = record {
   ran = record {
     is =
-        run_done (visit c.args.plan.cfg.now c.args.plan.map.now) g.D.L.Meanings g.S.Shelf.shelved g.S.Shelf.faults c.args.plan.cfg.now.lbs _ _ _
+        run_done (visit c.args.plan.cfg.now c.args.plan.map.now) g.D.L.Meanings g.S.Shelf.shelved (unlogged g.S.Shelf.faults g.D.L.Link.may_wait) c.args.plan.cfg.now.lbs _ _ _
         _ _ _ c.in-Ok.ensures.served c.settle.ensures.workers
         (closes_said (side g.D.Door.coming g.D.Door.left g.D.Door.faults) g.T.Tape.talks g.K.Clock.answers g.S.Shelf.shelved g.S.Shelf.faults
         c.args.plan.cfg.now.lbs _ _ _ _ _ _ _ c.requires.new.sized c.requires.new.numbered c.settle.ensures.closed);

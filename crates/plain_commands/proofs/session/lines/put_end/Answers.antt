@@ -2,8 +2,5 @@ use Rattle.std.proofs.Common.{codes}
 use Rattle.plain_commands.proofs.SessionLemmas.{as_words}
 use Rattle.plain_commands.proofs.session.lines.put_end.Goals as goal
 
-pub returns-in-ByClient : goal.returns-in-ByClient
-returns-in-ByClient c = rw (c.in-Closed.is, c.in-ByClient.is) (as_words _ _ _ (codes "by-client ") _ c.put_number.ensures)
-
 pub returns-in-Truncated : goal.returns-in-Truncated
-returns-in-Truncated c = rw c.in-Truncated.is (as_words _ _ _ (codes "truncated ") _ c.put_number-in-Truncated.ensures)
+returns-in-Truncated c = rw c.in-Truncated.is (as_words _ _ _ (codes "truncated ") _ c.put_number.ensures)

@@ -23,7 +23,7 @@ pub gear-tells : goal.gear-tells
 gear-tells g _ _ _ _ _ _ _ _ c = record {
   handed = of_each c.result _ (λ gear. refl);
   one_more = c.ensures.one_more;
-  few = of_each c.result _ (λ gear. of_any c.args.clients _ (λ most. tt));
+  few = of_each c.result _ (λ gear. of_any c.args.asked.now.clients _ (λ most. tt));
   none_left = of_each c.result _ (λ gear. tt);
   idle = of_each c.result _ (λ gear. tt);
   no_talk = of_each c.result _ (λ gear. tt);
@@ -32,6 +32,7 @@ gear-tells g _ _ _ _ _ _ _ _ c = record {
   err = beside_that c.result _ _ refl c.ensures.err;
   same = refl;
   cause = c.ensures.cause;
+  steady = c.ensures.steady;
 }
 
 pub back-tells : goal.back-tells

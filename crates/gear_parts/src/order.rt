@@ -1,0 +1,65 @@
+//! What gears are ordered for.
+ghost use Rattle.std.specs.Prelude.{◌≡◌, IsSome, None, Some};
+ghost use Rattle.std.specs.Option.{option_copied};
+ghost use Rattle.gear_parts.specs.Wants.{container_wants, wants_of};
+
+use jk_io::{Bytes, ClientLimits};
+use site_config::Config;
+
+/// What the gears of a run are ordered for. Each gear of the run is asked for by the same order.
+#[derive(Clone, Copy)]
+pub struct GearOrder<'a> {
+    /// Where clients are waited for, HOST:PORT.
+    pub address: &'a Bytes,
+    /// After how many clients each worker ends; none: it doesn't.
+    pub clients: Option<u64>,
+    /// The directory into which cut journals are written, if into any.
+    pub journal: Option<&'a Bytes>,
+    /// The site whose clients are served; a container has none.
+    pub cfg: Option<&'a Config>,
+    /// What a client may take.
+    pub limits: ClientLimits,
+    /// Where the run is told to stop, if anywhere: the path of a socket.
+    pub control: Option<&'a Bytes>,
+    /// For how many seconds after a stop the requests under way are waited for.
+    pub grace: u64,
+}
+
+impl<'a> GearOrder<'a> {
+    /// An order for a container's gears: no journal, no site, no limits, and nothing that tells it to stop.
+    pub fn of_container(address: &'a Bytes, clients: Option<u64>) -> GearOrder<'a>
+        ensures wanted { wants_of result ≡ container_wants address.now clients }
+        ensures none { (result.journal ≡ None) × (result.cfg ≡ None) }
+    {
+        GearOrder {
+            address,
+            clients,
+            journal: None,
+            cfg: None,
+            limits: ClientLimits {
+                head: 0,
+                keep: 0,
+                rate: 0,
+                waiting: 0,
+            },
+            control: None,
+            grace: 0,
+        }
+    }
+
+    /// The same order, for the gears of this site.
+    pub fn over(self, cfg: &'a Config) -> GearOrder<'a>
+        ensures same { wants_of result ≡ wants_of self.entry }
+        ensures site { (option_copied result.cfg ≡ Some cfg.now) × IsSome result.cfg }
+    {
+        GearOrder {
+            address: self.address,
+            clients: self.clients,
+            journal: self.journal,
+            cfg: Some(cfg),
+            limits: self.limits,
+            control: self.control,
+            grace: self.grace,
+        }
+    }
+}

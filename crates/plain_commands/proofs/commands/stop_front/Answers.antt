@@ -1,0 +1,18 @@
+use Rattle.std.proofs.Common.{[], ◌∷◌, inl, inr}
+use Rattle.plain_commands.specs.Plain.{Answers}
+use Rattle.jk_cli.specs.declared.order.Order.TheVariants as order
+use Rattle.site_reports.specs.Readings.{File}
+use Rattle.plain_commands.proofs.PlainLemmas.{cause_kept, long_ok}
+use Rattle.plain_commands.proofs.commands.stop_front.Goals as goal
+
+pub returns-in-None-clause-ok : goal.returns-in-None-clause-ok
+returns-in-None-clause-ok g c =
+    long_ok (λ incoming. record { files = g.F.Files.files c.args.files.now; incoming = incoming }) (File c.args.path.now ∷ []) (Answers (order.Stop c.args.path.now)) c.too_long.result c.too_long.ensures.text c.too_long.ensures.ending
+    (λ incoming. inl (rw c.in-None.is at c.in_ok-read_text.ensures.long))
+
+pub returns-in-None-clause-cause : goal.returns-in-None-clause-cause
+returns-in-None-clause-cause g c = cause_kept _ _ _ _ c.read_text.ensures.cause c.too_long.ensures.failed
+
+pub returns-in-Some-clause-ok : goal.returns-in-Some-clause-ok
+returns-in-Some-clause-ok g c incoming =
+    inr (c.in-Some.answer ∷ [], ((rw c.in-Some.is at c.in_ok-read_text.ensures.there, rw c.in-Some.is at c.in_ok-read_text.ensures.short), tt), rw c.as_slice.ensures at c.stopped.ensures)

@@ -1,0 +1,10 @@
+-- What a command says of the faults of what it reads.
+use Rattle.std.specs.Prelude.{ℕ, ◌≤◌, Result, IsErrOf}
+use Rattle.jk_io.specs.Told.{Rose}
+use Rattle.jk_io.specs.declared.failures.IoError.{IoError}
+use Rattle.jk_io.specs.declared.failures.IoError.TheVariants as io
+
+-- the count never falls, and the command failed only where it rose
+pub record IsCaused {T : Type 0} (before now : ℕ) (result : Result T IoError) : Type 0 where
+  pub no_fewer : before ≤ now
+  pub failed : IsErrOf result io.Failed → Rose before now
