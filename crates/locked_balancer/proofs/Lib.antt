@@ -1,7 +1,9 @@
 pub mod HeldLaws
+pub mod HistoryLaws
 pub mod HoldLaws
 pub mod LockLaws
 pub mod PoolLaws
+pub mod SeatLaws
 pub mod SetLaws
 pub mod SharedLaws
 pub mod SiteLaws

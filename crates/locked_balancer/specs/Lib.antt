@@ -1,3 +1,4 @@
+pub mod Histories
 pub mod Holds
 pub mod Notes
 pub mod SharedDesks

@@ -14,17 +14,19 @@ use Rattle.balancer_core.specs.ToldBooks.{IsFound}
 use Rattle.balancer_core.specs.declared.desk.Choice.{Choice}
 use Rattle.balancer_core.specs.declared.desk.Choice.TheVariants as choice
 use Rattle.balancer_core.specs.declared.receipt.Receipt.{Receipt}
+use Rattle.locked_balancer.specs.Histories.{SeatNote}
 use Rattle.locked_balancer.specs.Notes.{MarkNote, StrayNote}
 use Rattle.locked_balancer.specs.declared.site.TheConstants.{MOST_ENTRIES}
 
 -- A desk over a shared Site: what each desk tells, its shelf, how many receipts it forgot, for how many segments the
--- shelf wanted memory, and the first stray that it met since the last was taken.
+-- shelf wanted memory, the first stray that it met since the last was taken, and its seat at the lock.
 pub record SharedState (S : Type 0) : Type 0 where
   pub desk : DeskState
   pub shelf : S
   pub forgotten : ℕ
   pub wants : ℕ
   pub met : Option StrayNote
+  pub seat : SeatNote
 
 -- What this desk tells, as each desk does. The Books behind the lock aren't told.
 abbrev pub shared_desk : (sizes : List ℕ) (parts : ℕ) → List Receipt → (held : List (ℕ × ℕ)) → (amount strays fulls wides : ℕ) → (met : Bool) → DeskState

@@ -1,9 +1,10 @@
 //! One hold of the lock, over what a desk keeps: its receipts, the pairs that it holds, and its share.
-ghost use Rattle.std.specs.Prelude.{◌≡◌, None, ◌++◌, ◌+◌, ◌<◌, ◌≤◌, true, length, slice_index, vec_len, vec_capacity, IfOk, IfErr, IfSome, IsErrOf, OnOk, OnErr};
+ghost use Rattle.std.specs.Prelude.{◌≡◌, [], None, ◌++◌, ◌+◌, ◌<◌, ◌≤◌, true, length, slice_index, vec_len, vec_capacity, IfOk, IfErr, IfSome, IsErrOf, OnOk, OnErr};
 ghost use Rattle.jk_model.specs.Present.{IsPresent};
 ghost use Rattle.balancer_core.specs.Journal.{Journal, past_of};
 ghost use Rattle.balancer_core.specs.ToldBooks.{IsFound};
 ghost use Rattle.balancer_core.specs.Desks.{IsNotOut, is_pair, without_last};
+ghost use Rattle.locked_balancer.specs.Histories.{IsPresentOf, IsResting, SeatMaySee, SeatSees, gained_in, seen_of};
 ghost use Rattle.locked_balancer.specs.Holds.{IsAdminMark, IsRoomMark};
 ghost use Rattle.locked_balancer.specs.SharedDesks.{CutsOrWants, GoesOnFrom, IsLastPlace, pairs_of};
 ghost use Rattle.locked_balancer.specs.SharedLists.{
@@ -18,45 +19,49 @@ ghost use Rattle.locked_balancer.specs.SharedLists.{
 ghost use Rattle.jk_model.specs.declared.journal.TheConstants.{MOST_BYTES};
 ghost use Rattle.locked_balancer.specs.declared.site.TheConstants.{MOST_ENTRIES};
 
+use crate::held::{choose_held, command_held, give_back_held, look_held};
 use crate::locked::{Cut, HandedBack};
 use crate::shared_site::SharedSite;
 use crate::site::{SiteLease, SiteMark, SiteName, SiteReceipt, SiteStray, SiteView};
+use crate::stake::Stake;
 use balancer_core::desk::{Choice, Occasion};
 use jk_io::NoMemory;
 use jk_model::{AdminError, Ask, Command, RoomError};
 use std::sync::Wait;
-use std::sync::ledger::Share;
 
 /// A Maintain, if due, and a Select. The room is taken before the hold: for both receipts, for that of the
 /// ticket's Return, and for the ticket.
 pub(crate) fn choose_at<'r, L: SiteName, R: Wait>(
     site: &SharedSite<'r, L, R>,
-    share: &mut Share<L>,
+    stake: &mut Stake<L>,
     receipts: &mut Vec<SiteReceipt<L>>,
     held: &mut Vec<(u32, u64)>,
     on: Occasion,
     ask: &Ask,
 ) -> Cut<L, Result<Choice<SiteLease<L>>, RoomError<SiteMark<L>>>>
+    requires seat { (stake.old.seat.table_id ≡ site.now.lock.table.shared.table_id) × IsResting stake.old.seat.me }
     requires known { on.lb < length L.sizes }
-    requires part { 0 < share.old.parts }
-    ensures kept { KeepsLists (length L.sizes) (lists share.old.parts share.old.amount receipts.old held.old.items)
-        (lists share.new.parts share.new.amount receipts.new held.new.items) }
-    ensures ok { IfOk result.1 (ListsChoose L.sizes (lists share.old.parts share.old.amount receipts.old held.old.items)
-        (lists share.new.parts share.new.amount receipts.new held.new.items) on ask.now) }
-    ensures err { IfErr result.1 (ListsDeny L.sizes (lists share.old.parts share.old.amount receipts.old held.old.items)
-        (lists share.new.parts share.new.amount receipts.new held.new.items) on) }
+    requires part { 0 < stake.old.share.parts }
+    ensures kept { KeepsLists (length L.sizes) (lists stake.old.share.parts stake.old.share.amount receipts.old held.old.items)
+        (lists stake.new.share.parts stake.new.share.amount receipts.new held.new.items) }
+    ensures ok { IfOk result.1 (ListsChoose L.sizes (lists stake.old.share.parts stake.old.share.amount receipts.old held.old.items)
+        (lists stake.new.share.parts stake.new.share.amount receipts.new held.new.items) on ask.now) }
+    ensures err { IfErr result.1 (ListsDeny L.sizes (lists stake.old.share.parts stake.old.share.amount receipts.old held.old.items)
+        (lists stake.new.share.parts stake.new.share.amount receipts.new held.new.items) on) }
     ensures held { OnErr result.1 (held.new.items ≡ held.old.items) }
+    ensures sees { SeatMaySee L.starts stake.old.seat.me stake.new.seat.me (gained_in receipts.old.items receipts.new.items) (IsErrOf result.1 RoomError.NoMemory) }
+    ensures table { stake.new.seat.table_id ≡ stake.old.seat.table_id }
     ensures mark { IfErr result.1 (IsRoomMark on.lb 2) }
     ensures when { CutsOrWants L.sizes L.cut_at on.lb result.0 (IsErrOf result.1 RoomError.NoMemory) }
     ensures cut { IfSome result.0 (λ s. s.0 ≡ on.lb) }
     ensures next { IfSome result.0 (λ s. GoesOnFrom s.1 receipts.old.items receipts.new.items) }
-    ensures parts { share.new.parts ≡ share.old.parts }
+    ensures parts { stake.new.share.parts ≡ stake.old.share.parts }
 {
     match take_room(receipts, held) {
         Ok(()) => {}
         Err(NoMemory) => return (None, Err(RoomError::NoMemory)),
     }
-    let (segment, done) = site.locked.lock(site.rt).choose(on, ask, share, receipts);
+    let (segment, done) = choose_held(site, stake, receipts, on, ask);
     hold_pair(held, on.lb, &done);
     (segment, done)
 }
@@ -95,79 +100,85 @@ fn hold_pair<L>(
 /// A Maintain, if due, and a command. The room for the receipts is taken before the hold.
 pub(crate) fn command_at<'r, L: SiteName, R: Wait>(
     site: &SharedSite<'r, L, R>,
-    share: &mut Share<L>,
+    stake: &mut Stake<L>,
     receipts: &mut Vec<SiteReceipt<L>>,
     held: &[(u32, u64)],
     on: Occasion,
     command: &Command,
 ) -> Cut<L, Result<(), AdminError<SiteMark<L>>>>
+    requires seat { (stake.old.seat.table_id ≡ site.now.lock.table.shared.table_id) × IsResting stake.old.seat.me }
     requires known { on.lb < length L.sizes }
-    requires part { 0 < share.old.parts }
-    ensures kept { KeepsLists (length L.sizes) (lists share.old.parts share.old.amount receipts.old held.now)
-        (lists share.new.parts share.new.amount receipts.new held.now) }
-    ensures ok { OnOk result.1 (ListsCommand L.sizes (lists share.old.parts share.old.amount receipts.old held.now)
-        (lists share.new.parts share.new.amount receipts.new held.now) on command.now) }
-    ensures err { IfErr result.1 (ListsRefuse L.sizes (lists share.old.parts share.old.amount receipts.old held.now)
-        (lists share.new.parts share.new.amount receipts.new held.now) on command.now) }
+    requires part { 0 < stake.old.share.parts }
+    ensures kept { KeepsLists (length L.sizes) (lists stake.old.share.parts stake.old.share.amount receipts.old held.now)
+        (lists stake.new.share.parts stake.new.share.amount receipts.new held.now) }
+    ensures ok { OnOk result.1 (ListsCommand L.sizes (lists stake.old.share.parts stake.old.share.amount receipts.old held.now)
+        (lists stake.new.share.parts stake.new.share.amount receipts.new held.now) on command.now) }
+    ensures err { IfErr result.1 (ListsRefuse L.sizes (lists stake.old.share.parts stake.old.share.amount receipts.old held.now)
+        (lists stake.new.share.parts stake.new.share.amount receipts.new held.now) on command.now) }
+    ensures sees { SeatMaySee L.starts stake.old.seat.me stake.new.seat.me (gained_in receipts.old.items receipts.new.items) (IsErrOf result.1 AdminError.NoMemory) }
+    ensures table { stake.new.seat.table_id ≡ stake.old.seat.table_id }
     ensures mark { IfErr result.1 (IsAdminMark on.lb) }
     ensures when { CutsOrWants L.sizes L.cut_at on.lb result.0 (IsErrOf result.1 AdminError.NoMemory) }
     ensures cut { IfSome result.0 (λ s. s.0 ≡ on.lb) }
     ensures next { IfSome result.0 (λ s. GoesOnFrom s.1 receipts.old.items receipts.new.items) }
-    ensures parts { share.new.parts ≡ share.old.parts }
+    ensures parts { stake.new.share.parts ≡ stake.old.share.parts }
 {
     match receipts.reserve(held.len() + 2) {
         Ok(()) => {}
         Err(_) => return (None, Err(AdminError::NoMemory)),
     }
-    site.locked
-        .lock(site.rt)
-        .command(on, command, share, receipts)
+    command_held(site, stake, receipts, on, command)
 }
 
 /// A Return of a lease. It takes no memory.
 pub(crate) fn give_back_at<'r, L: SiteName, R: Wait>(
     site: &SharedSite<'r, L, R>,
-    share: &mut Share<L>,
+    stake: &mut Stake<L>,
     receipts: &mut Vec<SiteReceipt<L>>,
     session: u32,
     at: u64,
     back: HandedBack<L>,
 ) -> Result<(), SiteStray<L>>
+    requires seat { (stake.old.seat.table_id ≡ site.now.lock.table.shared.table_id) × IsResting stake.old.seat.me }
     requires known { back.lease.lb < length L.sizes }
-    requires part { 0 < share.old.parts }
+    requires part { 0 < stake.old.share.parts }
     requires room { vec_len receipts.old < vec_capacity receipts.old }
     requires bytes { back.outcome.bytes ≤ MOST_BYTES }
-    ensures ok { OnOk result (ListsTakeBack L.sizes (lists share.old.parts share.old.amount receipts.old)
-        (lists share.new.parts share.new.amount receipts.new) session at back.lease back.outcome) }
+    ensures ok { OnOk result (ListsTakeBack L.sizes (lists stake.old.share.parts stake.old.share.amount receipts.old)
+        (lists stake.new.share.parts stake.new.share.amount receipts.new) session at back.lease back.outcome) }
     ensures length { OnOk result (length receipts.new.items ≡ length receipts.old.items + 1) }
-    ensures amount { OnOk result (share.new.amount ≡ share.old.amount + 1) }
+    ensures amount { OnOk result (stake.new.share.amount ≡ stake.old.share.amount + 1) }
     ensures stray { IfErr result (λ s. (s.lb ≡ back.lease.lb) × (s.stray.ticket ≡ back.lease.ticket)) }
     ensures why { IfErr result (λ s. IsNotOut L.sizes None back.lease s.stray) }
-    ensures err { OnErr result ((receipts.new.items ≡ receipts.old.items) × (share.new.amount ≡ share.old.amount)) }
-    ensures few { share.new.amount ≤ MOST_ENTRIES }
-    ensures parts { share.new.parts ≡ share.old.parts }
+    ensures err { OnErr result ((receipts.new.items ≡ receipts.old.items) × (stake.new.share.amount ≡ stake.old.share.amount)) }
+    ensures sees { SeatSees L.starts stake.old.seat.me stake.new.seat.me (gained_in receipts.old.items receipts.new.items) }
+    ensures table { stake.new.seat.table_id ≡ stake.old.seat.table_id }
+    ensures few { stake.new.share.amount ≤ MOST_ENTRIES }
+    ensures parts { stake.new.share.parts ≡ stake.old.share.parts }
     ensures room { vec_capacity receipts.old ≤ vec_capacity receipts.new }
 {
-    site.locked
-        .lock(site.rt)
-        .give_back(session, at, back, share, receipts)
+    give_back_held(site, stake, receipts, (session, at), back)
 }
 
 /// A balancer as this hold finds it.
 pub(crate) fn look_at<'r, L: SiteName, R: Wait>(
     site: &SharedSite<'r, L, R>,
-    share: &mut Share<L>,
+    stake: &mut Stake<L>,
     lb: u32,
 ) -> Result<SiteView<L>, NoMemory>
+    requires seat { (stake.old.seat.table_id ≡ site.now.lock.table.shared.table_id) × IsResting stake.old.seat.me }
     requires known { lb < length L.sizes }
     ensures lb { IfOk result (λ v. v.lb ≡ lb) }
     ensures rows { IfOk result (λ v. length v.view.rows ≡ slice_index L.sizes lb) }
     ensures present { IfOk result (λ v. (b : Journal) × IsFound L.sizes None lb b × IsPresent b.rules b.opening (past_of b) v.view) }
-    ensures next { IfOk result (λ v. length L.sizes ≡ 1 → slice_index L.firsts lb + share.old.amount ≤ v.view.next) }
-    ensures amount { share.new.amount ≡ share.old.amount }
-    ensures parts { share.new.parts ≡ share.old.parts }
+    ensures next { IfOk result (λ v. length L.sizes ≡ 1 → slice_index L.firsts lb + stake.old.share.amount ≤ v.view.next) }
+    ensures sees { SeatSees L.starts stake.old.seat.me stake.new.seat.me [] }
+    ensures whole { IfOk result (IsPresentOf L.starts (seen_of stake.new.seat.me.0) lb) }
+    ensures table { stake.new.seat.table_id ≡ stake.old.seat.table_id }
+    ensures amount { stake.new.share.amount ≡ stake.old.share.amount }
+    ensures parts { stake.new.share.parts ≡ stake.old.share.parts }
 {
-    site.locked.lock(site.rt).look(lb, share)
+    look_held(site, stake, lb)
 }
 
 // Whether two pairs are the same.

@@ -12,6 +12,7 @@
 #![tactic(auto)]
 
 mod at_site;
+mod held;
 mod holds;
 mod locked;
 mod mem_shelf;
@@ -19,7 +20,9 @@ mod shared_desk;
 mod shared_site;
 mod shelf;
 mod site;
+mod stake;
 mod threads;
+mod told;
 
 pub use mem_shelf::{KeptList, MemShelf};
 pub use shared_desk::{Leaving, SharedDesk};

@@ -193,6 +193,8 @@ impl<L: SiteName> Locked<L> {
         ensures lb { IfOk result (λ v. v.lb ≡ lb) }
         ensures rows { IfOk result (λ v. length v.view.rows ≡ slice_index L.sizes lb) }
         ensures present { IfOk result (λ v. (b : Journal) × IsFound L.sizes None lb b × IsPresent b.rules b.opening (past_of b) v.view) }
+        ensures shown { IfOk result (λ v. At self.old.books lb (λ b. IsPresent b.rules b.opening (past_of b) v.view)) }
+        ensures sited { AreSited L.sizes L.firsts self.old.books }
         ensures next { IfOk result (λ v. length L.sizes ≡ 1 → slice_index L.firsts lb + share.old.amount ≤ v.view.next) }
         ensures same { self.new ≡ self.old }
         ensures amount { share.new.amount ≡ share.old.amount }

@@ -9,6 +9,7 @@ use crate::shelf::Shelf;
 use crate::site::{
     SiteLease, SiteMark, SiteName, SiteReceipt, SiteReceiptList, SiteSegment, SiteStray, SiteView,
 };
+use crate::stake::Stake;
 use balancer_core::Desk;
 use balancer_core::desk::{Choice, Occasion};
 use jk_io::{IoError, NoMemory};
@@ -22,7 +23,7 @@ use std::sync::ledger::Share;
 #[derive(Drop)]
 pub struct SharedDesk<'s, 'r, L: SiteName, S: Shelf, R> {
     site: &'s SharedSite<'r, L, R>,
-    share: Share<L>,
+    stake: Stake<L>,
     receipts: Vec<SiteReceipt<L>>,
     /// Balancer and ticket of each lease that is out, in the order of the choices.
     held: Vec<(u32, u64)>,
@@ -37,21 +38,28 @@ pub struct SharedDesk<'s, 'r, L: SiteName, S: Shelf, R> {
 }
 
 impl<'s, 'r, L: SiteName, S: Shelf, R> Model for SharedDesk<'s, 'r, L, S, R> {
-    ghost use Rattle.std.specs.Prelude.{is_some, length, vec_capacity};
+    ghost use Rattle.std.specs.Prelude.{◌≡◌, is_some, length, vec_capacity};
+    ghost use Rattle.locked_balancer.specs.Histories.{IsResting, number_of, seen_of};
     ghost use Rattle.locked_balancer.specs.SharedDesks.{IsShared, SharedState, shared_desk};
 
     ghost Value = { SharedState S };
 
     ghost view = { λ d. record {
-      desk = shared_desk L.sizes d.share.parts d.receipts.items d.held.items d.share.amount d.strays d.fulls d.wides (is_some d.met);
+      desk = shared_desk L.sizes d.stake.share.parts d.receipts.items d.held.items d.stake.share.amount d.strays d.fulls d.wides (is_some d.met);
       shelf = d.shelf;
       forgotten = d.forgotten;
       wants = d.wants;
       met = d.met;
+      seat = record {
+        lock = d.stake.seat.table_id;
+        number = number_of d.stake.seat.me.0;
+        seen = seen_of d.stake.seat.me.0;
+      };
     } };
 
-    ghost invariant = { λ d. IsShared (length L.sizes) d.receipts.items d.held.items d.share.parts d.share.amount d.forgotten
-        (vec_capacity d.receipts) };
+    ghost invariant = { λ d. IsShared (length L.sizes) d.receipts.items d.held.items d.stake.share.parts d.stake.share.amount d.forgotten
+        (vec_capacity d.receipts)
+        × (d.stake.seat.table_id ≡ d.site.now.lock.table.shared.table_id) × IsResting d.stake.seat.me };
 }
 
 /// What a desk leaves: its share, the receipts that it has, how many it forgot, and its shelf.
@@ -81,10 +89,14 @@ impl<'s, 'r, L: SiteName, S: Shelf, R> SharedDesk<'s, 'r, L, S, R> {
         ensures desk { result.desk ≡ shared_desk L.sizes share.parts [] [] 0 0 0 0 false }
         ensures shelf { result.shelf ≡ shelf }
         ensures none { (result.forgotten ≡ 0) × (result.wants ≡ 0) × (result.met ≡ None) }
+        ensures nothing_seen { result.seat.seen ≡ [] }
     {
         SharedDesk {
             site,
-            share,
+            stake: Stake {
+                share,
+                seat: site.lock.seat(),
+            },
             receipts: Vec::new(alloc),
             held: Vec::new(alloc),
             shelf,
@@ -102,6 +114,7 @@ impl<'s, 'r, L: SiteName, S: Shelf, R> SharedDesk<'s, 'r, L, S, R> {
         ensures receipts { self.new.desk ≡ record self.old.desk { receipts = [] } }
         ensures forgotten { self.new.forgotten ≡ self.old.forgotten + length self.old.desk.receipts }
         ensures same { (self.new.shelf ≡ self.old.shelf) × (self.new.wants ≡ self.old.wants) × (self.new.met ≡ self.old.met) }
+        ensures seat { self.new.seat ≡ self.old.seat }
     {
         self.forgotten += self.receipts.len() as u64;
         self.receipts.clear();
@@ -142,7 +155,7 @@ impl<'s, 'r, L: SiteName, S: Shelf, R> SharedDesk<'s, 'r, L, S, R> {
     {
         let SharedDesk {
             site: _,
-            share,
+            stake,
             receipts,
             held: _,
             shelf,
@@ -153,6 +166,7 @@ impl<'s, 'r, L: SiteName, S: Shelf, R> SharedDesk<'s, 'r, L, S, R> {
             wants: _,
             forgotten,
         } = self;
+        let Stake { share, seat: _ } = stake;
         Leaving {
             share,
             receipts: SiteReceiptList::from_vec(receipts),
@@ -163,7 +177,7 @@ impl<'s, 'r, L: SiteName, S: Shelf, R> SharedDesk<'s, 'r, L, S, R> {
 }
 
 impl<'s, 'r, L: SiteName, S: Shelf, R: Wait> Desk for SharedDesk<'s, 'r, L, S, R> {
-    ghost use Rattle.std.specs.Prelude.{◌≡◌, ◌+◌, ◌<◌, ◌≤◌, ◌↔◌, true, length, slice_index, IfSome, IfOk, IfErr, IsErrOf, IsOk, OnOk};
+    ghost use Rattle.std.specs.Prelude.{◌≡◌, ◌+◌, ◌<◌, ◌≤◌, ◌↔◌, [], true, length, slice_index, IfSome, IfOk, IfErr, IsErrOf, IsOk, OnOk};
     ghost use Rattle.balancer_core.specs.Desks.{
       Chooses,
       Commands,
@@ -179,6 +193,7 @@ impl<'s, 'r, L: SiteName, S: Shelf, R: Wait> Desk for SharedDesk<'s, 'r, L, S, R
       pair_of,
       without_last,
     };
+    ghost use Rattle.locked_balancer.specs.Histories.{DeskMaySee, DeskSees, IsPresentOf, gained_in};
     ghost use Rattle.locked_balancer.specs.Holds.{IsAdminMark, IsRoomMark};
     ghost use Rattle.locked_balancer.specs.SharedDesks.{PutsAwayOf, first_met};
     ghost use Rattle.jk_model.specs.declared.journal.TheConstants.{MOST_BYTES};
@@ -215,10 +230,14 @@ impl<'s, 'r, L: SiteName, S: Shelf, R: Wait> Desk for SharedDesk<'s, 'r, L, S, R
 
         // A segment that the hold cut is put away after it. It cuts exactly where the journal has come to its length.
         ensures shelf { PutsAwayOf S.shelved S.faults L.sizes L.cut_at lb self.old self.new (IsErrOf result RoomError.NoMemory) }
+
+        // What the desk has seen: a history of the Site that begins with what it had seen, and ends with the entries of this
+        // call. It has no other new entry of this desk. Only where memory was wanted no hold may have been made.
+        ensures sees { DeskMaySee L.starts self.old.seat self.new.seat (gained_in self.old.desk.receipts self.new.desk.receipts) (IsErrOf result RoomError.NoMemory) }
     {
         let (segment, done) = choose_at(
             self.site,
-            &mut self.share,
+            &mut self.stake,
             &mut self.receipts,
             &mut self.held,
             Occasion { lb, session, at },
@@ -249,6 +268,7 @@ impl<'s, 'r, L: SiteName, S: Shelf, R: Wait> Desk for SharedDesk<'s, 'r, L, S, R
         ensures counted { IsOk result ↔ (self.new.desk.added ≡ self.old.desk.added + 1) }
 
         ensures shelf { (self.new.shelf ≡ self.old.shelf) × (self.new.wants ≡ self.old.wants) × (self.new.forgotten ≡ self.old.forgotten) }
+        ensures sees { DeskSees L.starts self.old.seat self.new.seat (gained_in self.old.desk.receipts self.new.desk.receipts) }
 
         // The first stray is kept until it is taken.
         ensures none_met { OnOk result (self.new.met ≡ self.old.met) }
@@ -257,7 +277,7 @@ impl<'s, 'r, L: SiteName, S: Shelf, R: Wait> Desk for SharedDesk<'s, 'r, L, S, R
         let (lb, ticket) = (lease.lb(), lease.ticket());
         let done = give_back_at(
             self.site,
-            &mut self.share,
+            &mut self.stake,
             &mut self.receipts,
             session,
             at,
@@ -293,10 +313,11 @@ impl<'s, 'r, L: SiteName, S: Shelf, R: Wait> Desk for SharedDesk<'s, 'r, L, S, R
         // Full and TooWide come only with a mark of this balancer.
         ensures mark { IfErr result (IsAdminMark lb) }
         ensures shelf { PutsAwayOf S.shelved S.faults L.sizes L.cut_at lb self.old self.new (IsErrOf result AdminError.NoMemory) }
+        ensures sees { DeskMaySee L.starts self.old.seat self.new.seat (gained_in self.old.desk.receipts self.new.desk.receipts) (IsErrOf result AdminError.NoMemory) }
     {
         let (segment, done) = command_at(
             self.site,
-            &mut self.share,
+            &mut self.stake,
             &mut self.receipts,
             self.held.as_slice(),
             Occasion { lb, session, at },
@@ -310,14 +331,18 @@ impl<'s, 'r, L: SiteName, S: Shelf, R: Wait> Desk for SharedDesk<'s, 'r, L, S, R
     fn look(&mut self, lb: u32) -> Result<SiteView<L>, NoMemory>
         requires known { lb < length self.old.desk.sizes }
         ensures shown { IfOk result (λ shown. Shows self.old.desk lb shown.view) }
-        ensures same { self.new ≡ self.old }
+        ensures same { self.new ≡ record self.old { seat = self.new.seat } }
+
+        // The view is that of the history that the desk has seen then.
+        ensures sees { DeskSees L.starts self.old.seat self.new.seat [] }
+        ensures whole { IfOk result (IsPresentOf L.starts self.new.seat.seen lb) }
 
         // Where there is one balancer, all entries of the desk come before the next one.
         ensures next { IfOk result (λ shown. length self.old.desk.sizes ≡ 1
             → slice_index L.firsts lb + self.old.desk.added ≤ shown.view.next) }
         ensures lb { IfOk result (λ shown. shown.lb ≡ lb) }
     {
-        look_at(self.site, &mut self.share, lb)
+        look_at(self.site, &mut self.stake, lb)
     }
 
     fn shown(shown: &SiteView<L>) -> &View {

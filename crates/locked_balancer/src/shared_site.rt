@@ -2,34 +2,50 @@
 
 use crate::locked::Locked;
 use crate::site::{Site, SiteName};
-use std::sync::Mutex;
+use crate::told::{SiteLock, Told};
+use jk_io::NoMemory;
+use std::alloc::Global;
+use std::sync::Wait;
 
-/// The Site that the desks of all threads ask. Each hold of its lock touches one Book.
+/// The Site that the desks of all threads ask. Each hold of its lock touches one Book, and its value has one history.
 #[derive(Drop)]
 pub struct SharedSite<'r, L: SiteName, R> {
     pub(crate) rt: &'r R,
-    pub(crate) locked: Mutex<Locked<L>>,
+    pub(crate) lock: SiteLock<L>,
 }
 
 impl<'r, L: SiteName, R> SharedSite<'r, L, R> {
-    ghost use Rattle.std.specs.Prelude.{◌≡◌, ℕ, ◌<◌, []};
+    ghost use Rattle.std.specs.Prelude.{◌≡◌, ℕ, ◌<◌, List, []};
+    ghost use Rattle.jk_model.specs.declared.journal.Entry.{Entry};
+    ghost use Rattle.locked_balancer.specs.Histories.{IsSiteHistory};
     ghost use Rattle.locked_balancer.specs.Sites.{At};
 
-    /// Puts a Site behind a lock. A journal that has `cut_at` kept entries is cut before more are added by a choosing or
-    /// commanding hold; 0 is never. It takes no memory.
-    pub fn new(rt: &'r R, site: Site<L>, cut_at: u32) -> SharedSite<'r, L, R>
+    /// Puts a Site behind a lock, at the start of its history. A journal that has `cut_at` kept entries is cut before more
+    /// are added by a choosing or commanding hold; 0 is never.
+    pub fn new(
+        rt: &'r R,
+        alloc: Global,
+        site: Site<L>,
+        cut_at: u32,
+    ) -> Result<SharedSite<'r, L, R>, NoMemory>
         requires named { cut_at ≡ L.cut_at }
         requires uncut { 0 < cut_at → (lb : ℕ) → At site lb (λ b. b.entries ≡ []) }
+        requires started { IsSiteHistory L.starts [] site }
     {
-        SharedSite {
-            rt,
-            locked: Mutex::new(Locked::new(site, cut_at)),
+        match SiteLock::<L>::open(alloc, Told::new(Locked::new(site, cut_at))) {
+            Ok(lock) => Ok(SharedSite { rt, lock }),
+            Err(_) => Err(NoMemory),
         }
     }
 
-    /// Takes the lock away, once no desk asks the Site any more. It takes no memory.
-    pub fn into_site(self) -> Site<L> {
-        let SharedSite { rt: _, locked } = self;
-        locked.into_inner().into_site()
+    /// Takes the lock away, once no desk asks the Site any more. Its Books are what one history made of their openings.
+    pub fn into_site(self) -> Site<L>
+    where
+        R: Wait,
+        ensures { (log : List (ℕ × (ℕ × Entry))) × IsSiteHistory L.starts log result }
+    {
+        let SharedSite { rt, lock } = self;
+        let seat = lock.seat();
+        lock.close(rt, seat).into_locked().into_site()
     }
 }

@@ -18,6 +18,10 @@ pub const MOST_ENTRIES: u64 = 1 << 58;
 /// The ledger of one Site, with what is fixed of the Site's Books.
 pub trait SiteName: Ledger {
     ghost use Rattle.std.specs.Prelude.{List, ℕ};
+    ghost use Rattle.jk_model.specs.declared.opening.Opening.{Opening};
+
+    // the opening of each Book when the Site was opened, with its configuration
+    ghost starts: { List Opening };
 
     // the number of members of each balancer, in order
     ghost sizes: { List ℕ };
@@ -31,6 +35,8 @@ pub trait SiteName: Ledger {
 
 impl SiteName for Brand {
     ghost use Rattle.std.specs.Prelude.{[]};
+
+    ghost starts = { [] };
 
     ghost sizes = { [] };
 

@@ -1,7 +1,9 @@
 //! The end of a run: desks that left, and the Site that they asked.
-ghost use Rattle.std.specs.Prelude.{◌≡◌, ◌<◌, ◌≤◌, false, length, map, sum_by, IfErr, IfOk, OnOk};
+ghost use Rattle.std.specs.Prelude.{◌≡◌, ℕ, ◌<◌, ◌≤◌, List, false, length, map, sum_by, IfErr, IfOk, OnOk};
 ghost use Rattle.std.specs.List.{All, flat_map};
 ghost use Rattle.std.specs.List.Sorted.{IsPermutation};
+ghost use Rattle.jk_model.specs.declared.journal.Entry.{Entry};
+ghost use Rattle.locked_balancer.specs.Histories.{IsSiteHistory};
 ghost use Rattle.locked_balancer.specs.Sites.{AreSited, added_in};
 ghost use Rattle.site_closing.specs.CloseErrors.{IsCloseError};
 ghost use Rattle.site_closing.specs.Closings.{AreUncut, Differs, IsDiscord, kept_from, noted};
@@ -15,6 +17,7 @@ use balancer_core::{Book, BookList};
 use jk_io::NoMemory;
 use locked_balancer::{SharedSite, SiteName};
 use std::alloc::AllocError;
+use std::sync::Wait;
 use std::sync::ledger::Share;
 use thiserror::Error;
 
@@ -61,13 +64,17 @@ impl<L> From<AllocError> for CloseError<L> {
 
 /// Takes a Site out of its lock, once its desks have left, and gives the Books back. Where no desk forgot a receipt and
 /// no journal was cut, the receipts must be the kept entries.
-pub fn close_desks<'r, L: SiteName, S: Drop, R>(
+pub fn close_desks<'r, L: SiteName, S: Drop, R: Wait>(
     site: SharedSite<'r, L, R>,
     leaving: LeavingList<L, S>,
 ) -> Result<Closed<S>, CloseError<L>>
     requires some { 0 < length leaving }
     requires whole { sum_by (λ l. l.share.parts) leaving ≡ L.parts }
     ensures sited { IfOk result (λ c. AreSited L.sizes L.firsts c.books) }
+
+    // There is one history of the Site, from its openings on, that says what each Book is: the entries of all holds, in their
+    // order, each with the desk that added it.
+    ensures history { IfOk result (λ c. (log : List (ℕ × (ℕ × Entry))) × IsSiteHistory L.starts log c.books) }
     ensures entries { IfOk result (λ c. c.entries ≡ added_in c.books) }
     ensures counted { IfOk result (λ c. c.entries ≡ sum_by (λ l. l.share.amount) leaving) }
     ensures shelves { IfOk result (λ c. c.shelves ≡ map (λ l. l.shelf) leaving) }
@@ -97,9 +104,10 @@ pub fn close_desks<'r, L: SiteName, S: Drop, R>(
 }
 
 // Takes the lock away, and counts the entries.
-fn end_site<'r, L: SiteName, R>(site: SharedSite<'r, L, R>, share: Share<L>) -> (BookList, u64)
+fn end_site<'r, L: SiteName, R: Wait>(site: SharedSite<'r, L, R>, share: Share<L>) -> (BookList, u64)
     requires whole { share.parts ≡ L.parts }
     ensures sited { AreSited L.sizes L.firsts result.0 }
+    ensures history { (log : List (ℕ × (ℕ × Entry))) × IsSiteHistory L.starts log result.0 }
     ensures amount { share.amount ≡ added_in result.0 }
     ensures entries { result.1 ≡ added_in result.0 }
 {

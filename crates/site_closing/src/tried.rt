@@ -33,7 +33,7 @@ pub fn try_a_site<R: Threads + Wait + Sync>(
     ask: &Ask,
 ) -> Result<Closed<MemShelf>, CloseError<Brand>>
     requires modern { book.rules ≡ MODERN_RULES }
-    requires fresh { book.added ≡ 0 }
+    requires fresh { (book.added ≡ 0) × (book.entries ≡ []) }
     ensures entries { IfOk result (λ c. c.entries ≡ added_in c.books) }
 {
     let books = one_book(alloc, book)?;
@@ -64,10 +64,11 @@ fn in_site<L: SiteName + Send + Sync, R: Threads + Wait + Sync>(
     requires one { length books ≡ 1 }
     requires modern { AreModern books }
     requires fresh { All (λ b. b.added ≡ 0) books }
+    requires started { AreFresh L.starts books }
     ensures entries { IfOk result (λ c. c.entries ≡ added_in c.books) }
 {
     let (site, share) = Site::<L>::open(blank, books);
-    let shared = SharedSite::new(rt, site, 0);
+    let shared = SharedSite::new(rt, alloc, site, 0)?;
     let leaving = both_ask(rt, alloc, &shared, share, ask)?;
     close_desks(shared, leaving)
 }

@@ -10,5 +10,8 @@ pub returns-clause-shown : goal.returns-clause-shown
 returns-clause-shown g c =
     let desk_is = ap (λ (st : SharedState _). st.desk) c.self.view_is in
     subst (λ (d : DeskState). IfOk c.look_at.result (λ shown. Shows d c.args.lb shown.view)) desk_is
-    (shows_shared g.L.SiteName.sizes c.self.inside.share.parts c.self.inside.receipts.items c.self.inside.held.items c.self.inside.share.amount
+    (shows_shared g.L.SiteName.sizes c.self.inside.stake.share.parts c.self.inside.receipts.items c.self.inside.held.items c.self.inside.stake.share.amount
     c.self.inside.strays c.self.inside.fulls c.self.inside.wides (is_some c.self.inside.met) c.args.lb c.look_at.result c.look_at.ensures.present c.look_at.ensures.rows)
+
+pub look_at-requires-clause-seat : goal.look_at-requires-clause-seat
+look_at-requires-clause-seat g c = (c.self.invariant.1, c.self.invariant.2)
