@@ -1,10 +1,10 @@
 -- What a hold does to the one history of a Site.
 use Rattle.std.proofs.Common.{◌≡◌, ◌≢◌, ℕ, ◌+◌, ◌-◌, ◌<◌, Bool, true, false, cond, eqb, List, [], ◌∷◌, ◌++◌, length, map, drop, Option, Some, None, refl, sym, ap, ◌∙◌, subst, inl, inr, arith, append-nil, length-append, length-set, eq-eqb, ne_eqb, eqb-true}
-use Rattle.std.specs.Prelude.{◌==◌, IfErr, IfOk, OnErr, OnOk, Result, Ok, Err, slice_get, slice_set}
+use Rattle.std.specs.Prelude.{◌==◌, IfErr, IfOk, OnErr, OnOk, Result, Ok, Err, option_map, slice_get, slice_set}
 use Rattle.std.specs.List.{All, filter}
 use Rattle.std.proofs.lemmas.Bool.{cases_Bool}
 use Rattle.std.proofs.lemmas.List.{length-map}
-use Rattle.std.proofs.lemmas.Option.{slice_get_cases, slice_get_within}
+use Rattle.std.proofs.lemmas.Option.{get_or_from_slice_get, slice_get-map, slice_get_cases, slice_get_within}
 use Rattle.std.proofs.lemmas.List.Elements.{All-append, All-head, All-map, All-nil, All-tail, All-weaker, filter-append}
 use mathlib.Core.List.{map-append}
 use Rattle.jk_model.specs.Legal.{IsLegal}
@@ -26,8 +26,8 @@ use Rattle.balancer_core.specs.declared.receipt.Receipt.{Receipt}
 use Rattle.balancer_core.proofs.ToldLaws.{get-set, get-set_other, some_is}
 use Rattle.history_lock.specs.Seats.{by_seat}
 use Rattle.seen_history.specs.Histories.{IsHistoryOf}
-use Rattle.seen_history.proofs.HistoryLaws.{cut_of, grown_of, whole_present}
-use Rattle.locked_balancer.specs.Histories.{IsPresentOf, IsSiteHistory, entries_in, entries_of, gained_in, last_in, noted}
+use Rattle.seen_history.proofs.HistoryLaws.{begins_here, cut_of, grown_of, whole_present}
+use Rattle.locked_balancer.specs.Histories.{IsPresentOf, IsSiteHistory, entries_in, entries_of, gained_in, last_in, noted, starts_of}
 use Rattle.locked_balancer.specs.Holds.{CutChooses, CutCommands, CutDenies, CutRefuses, CutsFirst, HeldState, HoldGains, HoldReturns, held}
 use Rattle.locked_balancer.specs.Notes.{MarkNote, ViewNote}
 use Rattle.locked_balancer.specs.Shelves.{CutsAt}
@@ -65,6 +65,25 @@ put_cases P books lb old new here is others k b found =
           subst (λ (j : ℕ). slice_get (slice_set books lb new) j ≡ Some b → P j b) same (λ there. at_put (P lb) books lb old new here is b there) found
       | inr other ↦ others k b (λ e. differs lb k other (sym e)) (sym (get-set_other books lb k new (differs lb k other)) ∙ found)
     ]
+
+-- Books that have no entry begin a history.
+pub begun_history : (sizes firsts : List ℕ) (starts : List Opening) (books : List Journal) → AreSited sizes firsts books → starts_of books ≡ starts
+    → All (λ b. (b.entries ≡ []) × (b.added ≡ 0)) books → IsSiteHistory starts [] books
+begun_history sizes firsts starts books are begun fresh = record {
+  count = sym (length-map books (λ (b : Journal). b.opening)) ∙ ap (λ (os : List Opening). length os) begun;
+  each = λ lb o b here found.
+      let at : slice_get (starts_of books) lb ≡ Some b.opening = slice_get-map (λ (x : Journal). x.opening) books lb ∙ ap (λ (x : Option Journal). option_map (λ (y : Journal). y.opening) x) found in
+      let same : b.opening ≡ o = opening_is b.opening o (sym at ∙ ap (λ (os : List Opening). slice_get os lb) begun ∙ here) in
+      subst (λ (p : Opening). IsHistoryOf p [] b) same (begins_here b (are.modern lb b found) (fresh_at b lb found).0 (are.sound lb b found)).1;
+  added = λ lb b found. (fresh_at b lb found).1;
+  known = All-nil _;
+}
+  where
+    opening_is : (x y : Opening) → Some x ≡ Some y → x ≡ y
+    opening_is x y same = cc
+
+    fresh_at : (b : Journal) (lb : ℕ) → slice_get books lb ≡ Some b → (b.entries ≡ []) × (b.added ≡ 0)
+    fresh_at b lb found = subst (λ (x : Journal). (x.entries ≡ []) × (x.added ≡ 0)) (get_or_from_slice_get books lb b b found) (fresh lb b (slice_get_within books lb b found))
 
 -- A hold that added these entries to a balancer.
 grown-added : (lb n session at : ℕ) (log : List (ℕ × (ℕ × Entry))) (gained : List Receipt) (b : Journal) → All (IsOwn lb session at) gained

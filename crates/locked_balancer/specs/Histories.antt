@@ -31,6 +31,10 @@ pub record IsSiteHistory (starts : List Opening) (log : List (ℕ × (ℕ × Ent
   pub added : (lb : ℕ) → At books lb (λ b. b.added ≡ length (entries_of lb log))
   pub known : All (λ x. x.1.0 < length starts) log
 
+-- The openings of Books.
+abbrev pub starts_of : List Journal → List Opening
+starts_of books = map (λ b. b.opening) books
+
 -- The entries of the receipts that a hold added to those of a desk, each with its balancer.
 abbrev pub noted : List Receipt → List (ℕ × Entry)
 noted receipts = map (λ r. (r.lb, r.entry)) receipts
@@ -93,6 +97,13 @@ pub record SeatNote : Type 0 where
   pub lock : TableId
   pub number : ℕ
   pub seen : List (ℕ × (ℕ × Entry))
+
+abbrev pub no_seat : SeatNote
+no_seat = record {
+  lock = record { words = 0; slots = 0; views_name = 0; atom = 0; block = 0; offset = 0; slot_names = [] };
+  number = 0;
+  seen = [];
+}
 
 abbrev pub seat_note : {S : Type 0} → TableId → Me (Option S) (View (ℕ × Entry)) → SeatNote
 seat_note lock me = record { lock = lock; number = number_of me.0; seen = seen_of me.0 }

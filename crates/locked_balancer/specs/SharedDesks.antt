@@ -14,7 +14,7 @@ use Rattle.balancer_core.specs.ToldBooks.{IsFound}
 use Rattle.balancer_core.specs.declared.desk.Choice.{Choice}
 use Rattle.balancer_core.specs.declared.desk.Choice.TheVariants as choice
 use Rattle.balancer_core.specs.declared.receipt.Receipt.{Receipt}
-use Rattle.locked_balancer.specs.Histories.{SeatNote}
+use Rattle.locked_balancer.specs.Histories.{SeatNote, no_seat}
 use Rattle.locked_balancer.specs.Notes.{MarkNote, StrayNote}
 use Rattle.locked_balancer.specs.declared.site.TheConstants.{MOST_ENTRIES}
 
@@ -27,6 +27,10 @@ pub record SharedState (S : Type 0) : Type 0 where
   pub wants : ℕ
   pub met : Option StrayNote
   pub seat : SeatNote
+
+-- A desk but for its seat, which is nowhere.
+abbrev pub unseated : {S : Type 0} → SharedState S → SharedState S
+unseated d = record d { seat = no_seat }
 
 -- What this desk tells, as each desk does. The Books behind the lock aren't told.
 abbrev pub shared_desk : (sizes : List ℕ) (parts : ℕ) → List Receipt → (held : List (ℕ × ℕ)) → (amount strays fulls wides : ℕ) → (met : Bool) → DeskState

@@ -16,8 +16,9 @@ pub struct SharedSite<'r, L: SiteName, R> {
 
 impl<'r, L: SiteName, R> SharedSite<'r, L, R> {
     ghost use Rattle.std.specs.Prelude.{◌≡◌, ℕ, ◌<◌, List, []};
+    ghost use Rattle.std.specs.List.{All};
     ghost use Rattle.jk_model.specs.declared.journal.Entry.{Entry};
-    ghost use Rattle.locked_balancer.specs.Histories.{IsSiteHistory};
+    ghost use Rattle.locked_balancer.specs.Histories.{IsSiteHistory, starts_of};
     ghost use Rattle.locked_balancer.specs.Sites.{At};
 
     /// Puts a Site behind a lock, at the start of its history. A journal that has `cut_at` kept entries is cut before more
@@ -30,8 +31,10 @@ impl<'r, L: SiteName, R> SharedSite<'r, L, R> {
     ) -> Result<SharedSite<'r, L, R>, NoMemory>
         requires named { cut_at ≡ L.cut_at }
         requires uncut { 0 < cut_at → (lb : ℕ) → At site lb (λ b. b.entries ≡ []) }
-        requires started { IsSiteHistory L.starts [] site }
+        requires starts { starts_of site ≡ L.starts }
+        requires fresh { All (λ b. (b.entries ≡ []) × (b.added ≡ 0)) site }
     {
+        site.count();
         match SiteLock::<L>::open(alloc, Told::new(Locked::new(site, cut_at))) {
             Ok(lock) => Ok(SharedSite { rt, lock }),
             Err(_) => Err(NoMemory),

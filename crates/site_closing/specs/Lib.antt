@@ -1,2 +1,3 @@
 pub mod CloseErrors
 pub mod Closings
+pub mod OneHistory

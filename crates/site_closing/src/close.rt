@@ -104,7 +104,10 @@ pub fn close_desks<'r, L: SiteName, S: Drop, R: Wait>(
 }
 
 // Takes the lock away, and counts the entries.
-fn end_site<'r, L: SiteName, R: Wait>(site: SharedSite<'r, L, R>, share: Share<L>) -> (BookList, u64)
+fn end_site<'r, L: SiteName, R: Wait>(
+    site: SharedSite<'r, L, R>,
+    share: Share<L>,
+) -> (BookList, u64)
     requires whole { share.parts ≡ L.parts }
     ensures sited { AreSited L.sizes L.firsts result.0 }
     ensures history { (log : List (ℕ × (ℕ × Entry))) × IsSiteHistory L.starts log result.0 }

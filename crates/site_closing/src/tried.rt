@@ -3,6 +3,7 @@ ghost use Rattle.std.specs.Prelude.{◌≡◌, ◌<◌, [], ◌∷◌, length, s
 ghost use Rattle.std.specs.List.{All};
 ghost use Rattle.balancer_core.specs.PlainDesks.{AreModern};
 ghost use Rattle.balancer_core.specs.ToldBooks.{sizes_of};
+ghost use Rattle.locked_balancer.specs.Histories.{starts_of};
 ghost use Rattle.locked_balancer.specs.Sites.{added_in, nexts_of};
 ghost use Rattle.jk_model.specs.declared.segment.TheConstants.{MODERN_RULES};
 
@@ -64,7 +65,8 @@ fn in_site<L: SiteName + Send + Sync, R: Threads + Wait + Sync>(
     requires one { length books ≡ 1 }
     requires modern { AreModern books }
     requires fresh { All (λ b. b.added ≡ 0) books }
-    requires started { AreFresh L.starts books }
+    requires starts { starts_of books ≡ L.starts }
+    requires empty { All (λ b. (b.entries ≡ []) × (b.added ≡ 0)) books }
     ensures entries { IfOk result (λ c. c.entries ≡ added_in c.books) }
 {
     let (site, share) = Site::<L>::open(blank, books);

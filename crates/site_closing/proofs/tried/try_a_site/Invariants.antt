@@ -1,5 +1,6 @@
 -- The Site's name: the ledger of the blank, and the Books that are put under it.
 use Rattle.balancer_core.specs.ToldBooks.{sizes_of}
+use Rattle.locked_balancer.specs.Histories.{starts_of}
 use Rattle.locked_balancer.specs.Sites.{nexts_of}
 use Rattle.site_closing.proofs.tried.try_a_site.Given as goal
 
@@ -7,4 +8,4 @@ abbrev pub ghosts-in_site-L-Ledger : goal.ghosts-in_site-L-Ledger
 ghosts-in_site-L-Ledger g a = record { name = a.blank.name; parts = a.blank.parts }
 
 abbrev pub ghosts-in_site-L-SiteName : goal.ghosts-in_site-L-SiteName
-ghosts-in_site-L-SiteName g a = record { sizes = sizes_of a.books; firsts = nexts_of a.books; cut_at = 0 }
+ghosts-in_site-L-SiteName g a = record { starts = starts_of a.books; sizes = sizes_of a.books; firsts = nexts_of a.books; cut_at = 0 }
