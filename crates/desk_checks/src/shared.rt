@@ -188,11 +188,12 @@ pub fn judge<L: SiteName, R: AllocGlobal + Wait>(
     requires parts { (blank.parts ≡ L.parts) × (0 < L.parts) }
     requires sizes { members book.opening ∷ [] ≡ L.sizes }
     requires firsts { next_number book ∷ [] ≡ L.firsts }
+    requires starts { book.opening ∷ [] ≡ L.starts }
     requires fresh { (book.rules ≡ MODERN_RULES) × (book.added ≡ 0) × (book.entries ≡ []) }
     requires cuts { cut_at ≡ L.cut_at }
 {
     let (site, share) = site_of::<L>(rt.alloc(), blank, book)?;
-    let site = SharedSite::new(rt, site, cut_at);
+    let site = SharedSite::new(rt, rt.alloc(), site, cut_at)?;
     let row = str::from_utf8(row).unwrap_or("");
     judge_at(rt.alloc(), &site, share, row, shown)
 }

@@ -65,6 +65,7 @@ starts b config s sound is = record {
   moment = s.moment;
   balancer = subst IsDrillBook (sym s.configured) is;
   added = s.added;
+  empty = s.empty;
   sound = sound;
 }
 

@@ -3,6 +3,7 @@ ghost use Rattle.std.specs.Prelude.{◌≡◌, ◌<◌, ◌≤◌, [], ◌∷◌
 ghost use Rattle.std.specs.List.{All};
 ghost use Rattle.balancer_core.specs.Journal.{Journal};
 ghost use Rattle.balancer_core.specs.ToldBooks.{sizes_of};
+ghost use Rattle.locked_balancer.specs.Histories.{starts_of};
 ghost use Rattle.locked_balancer.specs.Sites.{AreSited, nexts_of};
 ghost use Rattle.site_closing.specs.CloseErrors.{IsCloseError};
 ghost use Rattle.drill.specs.Drills.{IsDrilled};
@@ -56,13 +57,15 @@ fn drill_in<L: SiteName + Send + Sync, R: Threads + Wait + Sync>(
     requires books { (book : Journal) × (books ≡ book ∷ []) × IsStarted book }
     requires sizes { sizes_of books ≡ L.sizes }
     requires firsts { nexts_of books ≡ L.firsts }
+    requires starts { starts_of books ≡ L.starts }
     requires uncut { 0 ≡ L.cut_at }
     ensures one { IfOk result (λ books. length books ≡ 1) }
     ensures books { IfOk result (λ books. All IsOfDrill books) }
     ensures cause { IfErr result (IsCloseError IsFound) }
 {
     let (opened, share) = Site::<L>::open(blank, books);
-    drill_over(rt, alloc, site, plan, SharedSite::new(rt, opened, 0), share)
+    let shared = SharedSite::new(rt, alloc, opened, 0)?;
+    drill_over(rt, alloc, site, plan, shared, share)
 }
 
 // As `drill_in`, over a Site behind its lock, with the whole share of it.
@@ -86,7 +89,7 @@ fn drill_over<'r, L: SiteName + Send + Sync, R: Threads + Wait + Sync>(
 }
 
 // Closes the desks, and gives the Books back.
-fn close_books<'r, L: SiteName, R>(
+fn close_books<'r, L: SiteName, R: Wait>(
     shared: SharedSite<'r, L, R>,
     leaving: LeavingList<L, MemShelf>,
 ) -> Result<BookList, CloseError<L>>

@@ -1,5 +1,6 @@
 -- The Site's name: the ledger of the blank, and the Book that is put under it.
 use Rattle.balancer_core.specs.ToldBooks.{sizes_of}
+use Rattle.locked_balancer.specs.Histories.{starts_of}
 use Rattle.locked_balancer.specs.Sites.{nexts_of}
 use Rattle.drill.proofs.running.drilled_book.Given as goal
 
@@ -7,4 +8,4 @@ abbrev pub ghosts-drill_in-L-Ledger : goal.ghosts-drill_in-L-Ledger
 ghosts-drill_in-L-Ledger g a = record { name = a.blank.name; parts = a.blank.parts }
 
 abbrev pub ghosts-drill_in-L-SiteName : goal.ghosts-drill_in-L-SiteName
-ghosts-drill_in-L-SiteName g a = record { sizes = sizes_of a.books; firsts = nexts_of a.books; cut_at = 0 }
+ghosts-drill_in-L-SiteName g a = record { starts = starts_of a.books; sizes = sizes_of a.books; firsts = nexts_of a.books; cut_at = 0 }
