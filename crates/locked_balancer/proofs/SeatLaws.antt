@@ -1,6 +1,5 @@
 -- What a seat has seen after a hold of the Site's lock.
-use Rattle.std.proofs.Common.{◌≡◌, ℕ, Bool, true, false, List, [], ◌∷◌, ◌++◌, Option, Some, None, refl, sym, ap, ◌∙◌, subst, inl, inr}
-use Rattle.std.specs.Prelude.{slice_get}
+use Rattle.std.proofs.Common.{◌≡◌, ℕ, true, false, List, [], ◌∷◌, ◌++◌, Option, Some, None, sym, ap, ◌∙◌, subst, inl, inr}
 use Rattle.atomic_table.specs.Seated.{TableId}
 use Rattle.atomic_table.specs.Table.{Me, rest}
 use Rattle.jk_model.specs.declared.journal.Entry.{Entry}
@@ -9,7 +8,7 @@ use Rattle.balancer_core.specs.Journal.{Journal}
 use Rattle.history_lock.specs.Seats.{IsClaim, IsToldLast, Took, by_seat, caught_up, seated}
 use Rattle.history_lock.specs.declared.view.Claim.{Claim}
 use Rattle.history_lock.specs.declared.view.View.{View}
-use Rattle.locked_balancer.specs.Histories.{DeskMaySee, DeskSees, IsResting, IsSiteHistory, SeatMaySee, SeatSees, SeesHold, number_of, seat_note, seen_of}
+use Rattle.locked_balancer.specs.Histories.{DeskMaySee, DeskSees, IsResting, IsSiteHistory, SeatMaySee, SeatSees, number_of, seat_note, seen_of}
 use mathlib.Core.Option.{some}
 use lib.ListN.{get_elem?}
 

@@ -5,7 +5,7 @@ use Rattle.jk_model.specs.declared.journal.Entry.{Entry}
 use Rattle.history_lock.specs.Seats.{by_seat}
 use Rattle.locked_balancer.specs.Histories.{IsSiteHistory, SeatSees, ToldState, gained_in, last_in}
 use Rattle.locked_balancer.specs.Holds.{held}
-use Rattle.locked_balancer.proofs.HistoryLaws.{Grew, back_history}
+use Rattle.locked_balancer.proofs.HistoryLaws.{back_history}
 use Rattle.locked_balancer.proofs.SeatLaws.{found_history, seat_sees, told_last}
 use Rattle.locked_balancer.proofs.held.give_back_held.Goals as goal
 

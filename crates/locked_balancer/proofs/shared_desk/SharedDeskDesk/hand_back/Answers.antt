@@ -3,8 +3,6 @@ use Rattle.std.proofs.Common.{◌≡◌, ℕ, true, length, sym, ap, subst, ◌�
 use Rattle.std.specs.Prelude.{vec_capacity}
 use Rattle.balancer_core.specs.Desks.{DeskState, holds}
 use Rattle.locked_balancer.specs.SharedDesks.{SharedState}
-use Rattle.locked_balancer.specs.Histories.{DeskSees, gained_in, seat_note}
-use Rattle.locked_balancer.proofs.SeatLaws.{desk_sees}
 use Rattle.locked_balancer.proofs.SharedLaws.{known_held, shared_back, shared_stray}
 use Rattle.locked_balancer.proofs.shared_desk.SharedDeskDesk.hand_back.Goals as goal
 
