@@ -32,6 +32,13 @@ new_added (lb ∷ lbs) at [] new = absurd new
 new_added (lb ∷ lbs) at (b ∷ books) new =
     All-cons (λ (b : Journal). b.added ≡ 0) b books new.0.added (new_added lbs at books new.1)
 
+pub new_fresh : (lbs : List Lb) (at : ℕ) (books : List Journal) → AreStarts lbs at 0 books → All (λ b. (b.entries ≡ []) × (b.added ≡ 0)) books
+new_fresh [] at [] new = All-nil (λ (b : Journal). (b.entries ≡ []) × (b.added ≡ 0))
+new_fresh [] at (b ∷ books) new = absurd new
+new_fresh (lb ∷ lbs) at [] new = absurd new
+new_fresh (lb ∷ lbs) at (b ∷ books) new =
+    All-cons (λ (b : Journal). (b.entries ≡ []) × (b.added ≡ 0)) b books (new.0.empty, new.0.added) (new_fresh lbs at books new.1)
+
 pub new_count : (lbs : List Lb) (at : ℕ) (books : List Journal) → AreStarts lbs at 0 books → length books ≡ length lbs
 new_count [] at [] new = refl
 new_count [] at (b ∷ books) new = absurd new

@@ -18,6 +18,7 @@ use Rattle.client_session.specs.Requests.{Visit, visit}
 use Rattle.client_session.specs.declared.ending.SessionEnd.{SessionEnd}
 use Rattle.client_session.specs.declared.ending.SessionStop.{SessionStop}
 use Rattle.client_session.specs.declared.ending.SessionStop.TheVariants as stop
+use Rattle.locked_balancer.specs.Histories.{SeatNote}
 use Rattle.locked_balancer.specs.Notes.{StrayNote}
 use Rattle.locked_balancer.specs.SharedDesks.{SharedState}
 use Rattle.site_config.specs.declared.config.Config.{Config}
@@ -174,13 +175,14 @@ settles_so {L = L} of from to n end (Some io.NoMemory) settled' is loud by =
 
 -- a desk that forgot its receipts, part by part
 pub desk_forgot : {S : Type 0} (d n : SharedState S) → n.desk ≡ record d.desk { receipts = [] } → n.forgotten ≡ d.forgotten + length d.desk.receipts
-    → (n.shelf ≡ d.shelf) × (n.wants ≡ d.wants) × (n.met ≡ d.met) → n ≡ forgot_desk d
-desk_forgot {S} d n desk forgotten same =
+    → (n.shelf ≡ d.shelf) × (n.wants ≡ d.wants) × (n.met ≡ d.met) → n.seat ≡ d.seat → n ≡ forgot_desk d
+desk_forgot {S} d n desk forgotten same seat =
     ap (λ (x : DeskState). record n { desk = x }) desk
     ∙ (ap (λ (k : ℕ). record n { desk = record d.desk { receipts = [] }; forgotten = k }) forgotten
     ∙ (ap (λ (x : S). record n { desk = record d.desk { receipts = [] }; forgotten = d.forgotten + length d.desk.receipts; shelf = x }) same.0
     ∙ (ap (λ (k : ℕ). record n { desk = record d.desk { receipts = [] }; forgotten = d.forgotten + length d.desk.receipts; shelf = d.shelf; wants = k }) same.1
-    ∙ ap (λ (m : Option StrayNote). record n { desk = record d.desk { receipts = [] }; forgotten = d.forgotten + length d.desk.receipts; shelf = d.shelf; wants = d.wants; met = m }) same.2)))
+    ∙ (ap (λ (m : Option StrayNote). record n { desk = record d.desk { receipts = [] }; forgotten = d.forgotten + length d.desk.receipts; shelf = d.shelf; wants = d.wants; met = m }) same.2
+    ∙ ap (λ (x : SeatNote). record n { desk = record d.desk { receipts = [] }; forgotten = d.forgotten + length d.desk.receipts; shelf = d.shelf; wants = d.wants; met = d.met; seat = x }) seat))))
 
 -- what a worker has after its link was left: another desk
 pub same_but_desk : {K R S Y : Type 0} (answers : K → Option (List ℕ)) (told : Ghosts R Beside) (d n : SharedState S) (k k' : K) (r r' : R) (y y' : Y)

@@ -20,8 +20,9 @@ use Rattle.jk_server.specs.declared.part.WorkerEnd.{WorkerEnd}
 use Rattle.gear_parts.specs.GearParts.{Start, start_of}
 use Rattle.jk_server.specs.Closings.{Closes}
 use Rattle.jk_server.specs.Runs.{AreServedGears, IsNew, IsSiteRun, IsServedGear, WorksWith}
+use Rattle.locked_balancer.specs.SharedDesks.{SharedState, unseated}
 use Rattle.gear_parts.specs.Starts.{AreStarted}
-use Rattle.jk_server.specs.ServedGears.{start_side}
+use Rattle.jk_server.specs.ServedGears.{IsBeginning, start_side}
 use Rattle.jk_server.specs.Started.{IsStartedRun, pool_table}
 use Rattle.jk_server.specs.declared.runs.ends.Closing.{Closing}
 use Rattle.gear_parts.proofs.ListLaws.{all_of_map, map_map}
@@ -43,6 +44,13 @@ pub starts_are : {P D G T K S O X : Type 0} → (sizes pools : List ℕ) (Q : St
     → All (λ (p : P). Q (start p)) parts
 starts_are sizes pools Q start parts gears same each =
     all_of_map Q start parts (subst (λ xs. All Q xs) (sym same) (All-map Q (start_of sizes pools) gears each))
+
+-- A desk that begins, wherever its seat is.
+pub begins_seated : {S : Type 0} (d : SharedState S) → IsBeginning (unseated d) → IsBeginning d
+begins_seated d is = (
+  record { no_receipt = is.0.no_receipt; none_held = is.0.none_held; none_forgotten = is.0.none_forgotten; no_stray = is.0.no_stray },
+  is.1,
+)
 
 pub one_part : (was now : Option ℕ) (n : ℕ) → now ≡ Some n → now ≡ was → was ≡ Some 1 → n ≡ 1
 one_part was now n is same one = cc

@@ -3,10 +3,12 @@ use Rattle.std.specs.Prelude.{ℕ, ◌≡◌, ◌<◌, ◌≤◌, true, List, ma
 use Rattle.std.specs.List.{All}
 use Rattle.jk_io.specs.declared.traits.streams.Meanings.{Ghosts}
 use Rattle.jk_io.specs.declared.traits.surroundings.Peer.{Peer}
+use Rattle.jk_model.specs.declared.opening.Opening.{Opening}
 use Rattle.jk_model.specs.declared.segment.Segment.{Segment}
 use Rattle.client_session.specs.Requests.{Visit, visit}
 use Rattle.exchange.specs.Requests.{sizes_of}
 use Rattle.site_config.specs.declared.balancer.Lb.{Lb}
+use Rattle.locked_balancer.specs.Histories.{starts_of}
 use Rattle.site_books.specs.Starts.{AreStarts}
 use Rattle.site_config.specs.declared.config.Config.{Config}
 use Rattle.uri_map.specs.Sites.{stands_in}
@@ -29,7 +31,7 @@ pool_table lbs = map (λ lb. map (λ m. m.pool) lb.book.members) lbs
 
 -- A Site that isn't open yet has this name, whose values are those of these balancers and of this cut, and a Book for each
 -- balancer.
-pub record IsNewSite (name parts : ℕ) (sizes firsts : List ℕ) (cut_at cut : ℕ) (lbs : List Lb) (new : NewSite) : Type 0 where
+pub record IsNewSite (name parts : ℕ) (starts : List Opening) (sizes firsts : List ℕ) (cut_at cut : ℕ) (lbs : List Lb) (new : NewSite) : Type 0 where
   pub named : new.blank.name ≡ name
   pub whole : new.blank.parts ≡ parts
   pub sized : sizes ≡ sizes_of lbs
@@ -37,6 +39,7 @@ pub record IsNewSite (name parts : ℕ) (sizes firsts : List ℕ) (cut_at cut : 
   pub cut_so : cut_at ≡ cut
   pub at : ℕ
   pub books : AreStarts lbs at 0 new.books
+  pub begun : starts ≡ starts_of new.books
 
 -- These gears can work, a worker with each, and each has one of the parts.
 pub record IsReady {D G T K S O : Type 0} (is_idle : T → Type 0) (parts : ℕ) (cfg : Config) (rules : List Rule) (count : ℕ) (gears : List (Gear D G T K S O)) : Type 0 where

@@ -3,10 +3,12 @@
 //! Source: Tomcat Connectors reference, LoadBalancer HowTo; one lock round all balancers is an own rule.
 //! Shapes: a `Site` is in contracts the list of its Books' journals; the amount of a share of its ledger is the number
 //! of entries that were added through it. Receipts, leases, marks, views, strays and segments name the Site in their type.
+//! The Site lies behind a lock that keeps one history of it; a desk's seat, which takes no memory, knows what it has seen of
+//! that history and which entries are its own (specs/Histories.antt, `SeesHold`).
 //! Contract: each call of a `Site`, clauses `ok`, `amount` and `err`; `Site::close`, clause `counted`; `SharedDesk` is a
-//! `Desk`, with `hand_back`, clause `counted`, and `choose` and `command`, clause `shelf`; the type `Leaving`, field `counted`.
+//! `Desk`, with `hand_back`, clause `counted`, `choose` and `command`, clause `shelf`, and each call, clause `sees`; the type `Leaving`, field `counted`.
 //! What stands behind the lock keeps that no journal grows much longer than where it is cut (specs/Holds.antt, `AreShort`).
-//! Read first: specs/Sites.antt, then specs/SiteAnswers.antt, Holds.antt and SharedDesks.antt.
+//! Read first: specs/Sites.antt, then specs/Histories.antt, SiteAnswers.antt, Holds.antt and SharedDesks.antt.
 //! Errors: `RoomError`, `AdminError` and strays, whose marks only a Site makes. After a refusal of a Site it and the share
 //! are as they were; a segment that a refused hold cut goes to the shelf all the same.
 #![tactic(auto)]

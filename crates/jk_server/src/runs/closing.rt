@@ -11,6 +11,7 @@ use gear_parts::{Gear, Left, gears_again, keep_on_first};
 use jk_io::IoError;
 use locked_balancer::{SharedSite, Shelf, SiteName};
 use site_closing::{CloseError, Closed, LeavingList, close_desks};
+use std::sync::Wait;
 
 /// Closes the desks of a run, keeps what the journals still have, and puts the gears together again.
 pub(crate) fn settle<
@@ -22,7 +23,7 @@ pub(crate) fn settle<
     K: Drop,
     S: Shelf + Drop,
     O: Drop,
-    R,
+    R: Wait,
 >(site: SharedSite<'r, L, R>, ran: Ran<L, D, G, T, K, S, O>) -> SiteRun<L, Gear<D, G, T, K, S, O>>
     requires some { 0 < length ran.leaving }
     requires whole { sum_by (λ l. l.share.parts) ran.leaving ≡ L.parts }
@@ -46,7 +47,17 @@ pub(crate) fn settle<
 }
 
 /// Closes the desks, and if that succeeds, puts the gears together again.
-fn close_gears<'r, L: SiteName, D: Drop, G: Drop, T: Drop, K: Drop, S: Shelf + Drop, O: Drop, R>(
+fn close_gears<
+    'r,
+    L: SiteName,
+    D: Drop,
+    G: Drop,
+    T: Drop,
+    K: Drop,
+    S: Shelf + Drop,
+    O: Drop,
+    R: Wait,
+>(
     site: SharedSite<'r, L, R>,
     leaving: LeavingList<L, S>,
     left: Vec<Left<D, G, T, K, O>>,

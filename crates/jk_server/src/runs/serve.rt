@@ -142,7 +142,7 @@ fn over_site<
 ) -> Result<SiteRun<L, Gear<D, G, T, K, S, O>>, NoMemory>
 where
     D::L: Send,
-    requires new { IsNewSite L.name L.parts L.sizes L.firsts L.cut_at plan.cut plan.cfg.now.lbs new }
+    requires new { IsNewSite L.name L.parts L.starts L.sizes L.firsts L.cut_at plan.cut plan.cfg.now.lbs new }
     requires ready { IsReady T.is_idle L.parts plan.cfg.now plan.map.now (vec_len gears) gears.items }
     ensures ran { let told = run_tells D.coming D.left D.faults T.talks K.answers D.L.Meanings S.shelved (unlogged S.faults D.L.may_wait) in
         IfOk result (RunsStarted told plan.entry.cfg.now plan.entry.map.now gears.items) }
@@ -175,12 +175,12 @@ fn over_pools<
 where
     D::L: Send,
     requires pool_sizes { pools.now ≡ pool_table plan.cfg.now.lbs }
-    requires new { IsNewSite L.name L.parts L.sizes L.firsts L.cut_at plan.cut plan.cfg.now.lbs new }
+    requires new { IsNewSite L.name L.parts L.starts L.sizes L.firsts L.cut_at plan.cut plan.cfg.now.lbs new }
     requires ready { IsReady T.is_idle L.parts plan.cfg.now plan.map.now (vec_len gears) gears.items }
     ensures ran { let told = run_tells D.coming D.left D.faults T.talks K.answers D.L.Meanings S.shelved (unlogged S.faults D.L.may_wait) in
         IfOk result (RunsStarted told plan.entry.cfg.now plan.entry.map.now gears.items) }
 {
-    let (shared, share) = shared_site::<L, R>(rt, plan, new);
+    let (shared, share) = shared_site::<L, R>(rt, alloc, plan, new)?;
     let common = Common {
         site: &shared,
         pools,
@@ -194,14 +194,15 @@ where
 /// Opens a Site that workers share.
 fn shared_site<'r, L: SiteName, R>(
     rt: &'r R,
+    alloc: Global,
     plan: Plan<'_>,
     new: NewSite,
-) -> (SharedSite<'r, L, R>, Share<L>)
-    requires { IsNewSite L.name L.parts L.sizes L.firsts L.cut_at plan.cut plan.cfg.now.lbs new }
-    ensures { (result.1.parts ≡ L.parts) × (result.1.amount ≡ 0) }
+) -> Result<(SharedSite<'r, L, R>, Share<L>), NoMemory>
+    requires { IsNewSite L.name L.parts L.starts L.sizes L.firsts L.cut_at plan.cut plan.cfg.now.lbs new }
+    ensures { IfOk result (λ x. (x.1.parts ≡ L.parts) × (x.1.amount ≡ 0)) }
 {
     let NewSite { blank, books } = new;
     let (site, share) = Site::<L>::open(blank, books);
-    let shared = SharedSite::new(rt, site, plan.cut);
-    (shared, share)
+    let shared = SharedSite::new(rt, alloc, site, plan.cut)?;
+    Ok((shared, share))
 }

@@ -1,5 +1,6 @@
 use Rattle.std.proofs.Common.{◌∙◌, ap, length, map, refl, sym}
 use Rattle.std.specs.Prelude.{sum_by}
+use Rattle.std.proofs.lemmas.List.Elements.{All-weaker}
 use Rattle.client_session.specs.Requests.{visit}
 use Rattle.door_clients.specs.Doors.{side}
 use Rattle.gear_parts.specs.GearParts.{start_with}
@@ -7,7 +8,7 @@ use Rattle.gear_parts.proofs.ListLaws.{as_long}
 use Rattle.jk_server.specs.RunTells.{unlogged}
 use Rattle.jk_server.specs.ServedGears.{IsBeginning}
 use Rattle.jk_server.proofs.GearRunLaws.{gears_told, logs_so}
-use Rattle.jk_server.proofs.StartLaws.{starts_are, starts_told}
+use Rattle.jk_server.proofs.StartLaws.{begins_seated, starts_are, starts_told}
 use Rattle.jk_server.proofs.runs.parts.work_in.Goals as goal
 
 pub serve_all-requires-clause-few : goal.serve_all-requires-clause-few
@@ -27,9 +28,10 @@ ran_of-requires-clause-idle g c = λ κs within. c.in-Ok.ensures.idle
 
 pub returns-in-Ok : goal.returns-in-Ok
 returns-in-Ok g c = λ sizes pools gears starts logged.
-    let fresh =
+    let begun =
     starts_are sizes pools (λ s. IsBeginning s.desk) (λ p. start_with p.door p.reach p.clock p.desk) c.args.memory.parts.items gears starts
     (λ k d lt. (record { no_receipt = refl; none_held = refl; none_forgotten = refl; no_stray = refl }, refl)) in
+    let fresh = All-weaker _ (λ p. IsBeginning p.desk) (λ p is. begins_seated p.desk is) c.args.memory.parts.items begun in
     record {
       served =
           gears_told (visit c.args.plan.cfg.now c.args.plan.map.now) g.D.L.Meanings (unlogged g.S.Shelf.faults g.D.L.Link.may_wait) 0 _ _ _ _ _ _ _ _ _

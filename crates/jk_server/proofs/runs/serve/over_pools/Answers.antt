@@ -18,10 +18,10 @@ pub work-requires-clause-idle : goal.work-requires-clause-idle
 work-requires-clause-idle g c = λ κs within. c.requires.ready.idle
 
 pub work-requires-clause-parts : goal.work-requires-clause-parts
-work-requires-clause-parts g c = λ κs within. c.shared_site-shared.ensures.0 ∙ c.requires.ready.each
+work-requires-clause-parts g c = λ κs within. c.in_ok-shared.ensures.0 ∙ c.requires.ready.each
 
 pub work-requires-clause-amount : goal.work-requires-clause-amount
-work-requires-clause-amount g c = λ κs within. c.shared_site-shared.ensures.1
+work-requires-clause-amount g c = λ κs within. c.in_ok-shared.ensures.1
 
 pub work-requires-clause-desk_sizes : goal.work-requires-clause-desk_sizes
 work-requires-clause-desk_sizes g c = λ κs within. c.requires.new.sized

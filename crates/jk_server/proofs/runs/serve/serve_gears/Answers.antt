@@ -17,6 +17,7 @@ over_site-requires-clause-new g c = λ κs within. record {
   cut_so = refl;
   at = c.first_moment-at.result;
   books = c.in-Ok.ensures.books;
+  begun = refl;
 }
 
 pub over_site-requires-clause-ready : goal.over_site-requires-clause-ready

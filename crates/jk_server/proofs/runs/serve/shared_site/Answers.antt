@@ -1,8 +1,10 @@
-use Rattle.std.proofs.Common.{◌≡◌, List, [], sym, subst, ◌∙◌, arith}
+use Rattle.std.proofs.Common.{◌≡◌, List, [], ap, sym, subst, ◌∙◌, arith}
+use Rattle.std.specs.List.{All}
 use Rattle.balancer_core.specs.Journal.{Journal}
+use Rattle.locked_balancer.specs.Histories.{starts_of}
 use Rattle.locked_balancer.specs.Sites.{At}
 use Rattle.site_books.proofs.StartLaws.{starts_modern, starts_sizes}
-use Rattle.jk_server.proofs.BookLaws.{new_added, new_count, new_empty, new_nexts}
+use Rattle.jk_server.proofs.BookLaws.{new_added, new_count, new_empty, new_fresh, new_nexts}
 use Rattle.jk_server.proofs.runs.serve.shared_site.Goals as goal
 
 pub open-site-requires-clause-name : goal.open-site-requires-clause-name
@@ -29,10 +31,18 @@ open-site-requires-clause-modern g c = starts_modern c.args.plan.cfg.now.lbs c.r
 pub open-site-requires-clause-fresh : goal.open-site-requires-clause-fresh
 open-site-requires-clause-fresh g c = new_added c.args.plan.cfg.now.lbs c.requires.at c.args.new.books c.requires.books
 
-pub new-shared-requires-clause-uncut : goal.new-shared-requires-clause-uncut
-new-shared-requires-clause-uncut g c = λ above lb.
+pub new-requires-clause-uncut : goal.new-requires-clause-uncut
+new-requires-clause-uncut g c = λ above lb.
     subst (λ (books : List Journal). At books lb (λ b. b.entries ≡ [])) (sym c.open-site.ensures.books)
     (new_empty c.args.plan.cfg.now.lbs c.requires.at c.args.new.books c.requires.books lb)
 
-pub new-shared-requires-clause-named : goal.new-shared-requires-clause-named
-new-shared-requires-clause-named g c = sym c.requires.cut_so
+pub new-requires-clause-named : goal.new-requires-clause-named
+new-requires-clause-named g c = sym c.requires.cut_so
+
+pub new-requires-clause-starts : goal.new-requires-clause-starts
+new-requires-clause-starts g c = ap (λ (bs : List Journal). starts_of bs) c.open-site.ensures.books ∙ sym c.requires.begun
+
+pub new-requires-clause-fresh : goal.new-requires-clause-fresh
+new-requires-clause-fresh g c =
+    subst (λ (bs : List Journal). All (λ b. (b.entries ≡ []) × (b.added ≡ 0)) bs) (sym c.open-site.ensures.books)
+    (new_fresh c.args.plan.cfg.now.lbs c.requires.at c.args.new.books c.requires.books)
