@@ -42,7 +42,7 @@ fn put_ruling(out: &mut Bytes, ruling: &Ruling) -> Result<(), NoMemory>
 }
 
 /// Adds the line of a wrong journal, with its LF: `bad line L: kept K, ruled R`.
-pub fn put_bad(out: &mut Bytes, line: u32, kept: &Ruling, ruled: &Ruling) -> Result<(), NoMemory>
+pub fn put_bad(out: &mut Bytes, line: u64, kept: &Ruling, ruled: &Ruling) -> Result<(), NoMemory>
     ensures { OnOk result (out.new ≡ out.old ++ bad_text line kept.now ruled.now) }
 {
     out.extend(b"bad line ")?;
@@ -68,6 +68,6 @@ pub fn put_verdict(out: &mut Bytes, verdict: &Verdict) -> Result<(), NoMemory>
 {
     match verdict {
         Verdict::Good { entries } => put_good(out, *entries),
-        Verdict::Bad { line, kept, ruled } => put_bad(out, *line, kept, ruled),
+        Verdict::Bad { line, kept, ruled } => put_bad(out, u64::from(*line), kept, ruled),
     }
 }

@@ -21,7 +21,7 @@ impl BlockArea for Commands {
 }
 
 /// The files of rows.
-static FILES: [&str; 13] = [
+static FILES: [&str; 15] = [
     "plain/scripts.txt",
     "plain/refused.txt",
     "plain/faults.txt",
@@ -33,6 +33,8 @@ static FILES: [&str; 13] = [
     "plain/marks.txt",
     "plain/dry.txt",
     "plain/checks.txt",
+    "plain/follows.txt",
+    "plain/logs.txt",
     "plain/told.txt",
     "plain/words.txt",
 ];

@@ -1,4 +1,5 @@
 pub mod DryLemmas
+pub mod LogLemmas
 pub mod TurnLemmas
 pub mod PlainLemmas
 pub mod ReachLemmas

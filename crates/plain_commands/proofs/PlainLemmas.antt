@@ -11,7 +11,7 @@ use Rattle.jk_io.specs.declared.failures.IoError.TheVariants as io
 use Rattle.jk_io.specs.declared.failures.NoMemory.{NoMemory}
 use Rattle.plain_commands.specs.Causes.{IsCaused}
 use Rattle.plain_commands.specs.Endings.{status_of, AnswersOrder, EndsSo, PlainSide, PrintsOfInput}
-use Rattle.plain_commands.specs.Plain.{is_built, is_plain, is_plain_command, MatchesRead, Plain, PrintsOf, Reported, status_if, readings, AreFilesDue, InputIsDue, IsInputDue}
+use Rattle.plain_commands.specs.Plain.{is_built, is_plain, is_plain_command, MatchesRead, Plain, PrintsOf, Reported, status_if, readings, AreFilesDue, HasFormat, IsFormatDue, InputIsDue, IsInputDue}
 use Rattle.plain_commands.specs.Printed.{IsPrinted}
 use Rattle.site_reports.specs.Readings.{CommandOutside, Reading, File, Input, AreRead, IsRead, StopsLong, has_file}
 use Rattle.site_reports.specs.declared.report.Report.{Report}
@@ -55,6 +55,10 @@ play_due outside = (refl, ([], tt))
 pub check_due : (outside : CommandOutside) → InputIsDue outside order.Check
 check_due outside = (refl, ([], tt))
 
+-- and of `follow`
+pub follow_due : (outside : CommandOutside) → InputIsDue outside order.Follow
+follow_due outside = (refl, ([], tt))
+
 -- both files of `match` were read whole
 pub match_due : (outside : CommandOutside) (workers map : List ℕ) (verbose : Bool) (text rules : List ℕ) → IsRead outside (File workers) text → IsRead outside (File map) rules
     → InputIsDue outside (order.Match workers map verbose)
@@ -65,6 +69,10 @@ pub input_by : (words : List (List ℕ)) (o : Order) (outside : CommandOutside) 
     → same ⊎ InputIsDue outside o → same ⊎ IsInputDue words outside
 input_by words o outside same meant (inl kept) = inl kept
 input_by words o outside same meant (inr due) = inr (o, meant, due)
+
+pub format_by : (words : List (List ℕ)) (o : Order) (same : Type 0) → order_of words ≡ Some o → same ⊎ HasFormat o → same ⊎ IsFormatDue words
+format_by words o same meant (inl kept) = inl kept
+format_by words o same meant (inr due) = inr (o, meant, due)
 
 pub files_by : (words : List (List ℕ)) (o : Order) (same : Type 0) → order_of words ≡ Some o
     → same ⊎ (has_file (readings o) ≡ true) → same ⊎ AreFilesDue words

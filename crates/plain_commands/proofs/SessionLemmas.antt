@@ -1,5 +1,5 @@
 -- What is known of a session over memory, and of what is printed of it, put together.
-use Rattle.std.proofs.Common.{◌≡◌, ℕ, List, [], ◌++◌, Option, Some, None, Result, Ok, Err, IfOk, OnOk, IsSomeAnd, refl, ap, subst, ◌∙◌, append_assoc}
+use Rattle.std.proofs.Common.{◌≡◌, ℕ, List, [], ◌++◌, Option, Some, None, Result, Ok, Err, IfOk, OnOk, IsSomeAnd, refl, sym, ap, subst, ◌∙◌, append_assoc}
 use Rattle.jk_io.specs.Memory.{MemLinkState}
 use Rattle.jk_io.specs.MemReaches.{MemReachState}
 use Rattle.jk_io.specs.declared.reaching.Talk.{Talk}
@@ -41,11 +41,10 @@ pub run_from : (v v' : Visit) (first : ClientStanding) (at_first at_last : List 
     → (at_last way.inbox).reach.talks ≡ Some talks → (at_last way.inbox).client.sent ≡ Some sent
     → ((at_last way.inbox).reach.faults ≡ 0) × ((at_last way.inbox).client.faults ≡ 0)
     → HasParts v (at_first []) (at_last way.inbox) end → (end.stop ≡ stop.Closed why.Idle → ⊥)
-    → HoldsOfEach v end → IsRun v' first talks sent end
+    → HoldsOfEach v end → IsRun v' first talks sent end way.gained
 run_from v v' first at_first at_last puts end talks sent way same begun talked written calm parts awake each =
-    subst (λ (w : Visit). IsRun w first talks sent end) same (subst (λ (s : ClientStanding). IsRun v s talks sent end) begun (record {
+    subst (λ (w : Visit). IsRun w first talks sent end way.gained) same (subst (λ (s : ClientStanding). IsRun v s talks sent end way.gained) begun (record {
       last = at_last way.inbox;
-      rows = way.gained;
       session = way.session;
       talked = talked;
       written = written;
@@ -57,6 +56,11 @@ run_from v v' first at_first at_last puts end talks sent way same begun talked w
       complete = each.complete _ _ _ way.session;
       served = each.served;
     }))
+
+-- its rows are those that were listed
+pub run_listed : (v : Visit) (first : ClientStanding) (talks : List Talk) (sent : List ℕ) (end : SessionEnd) (rows gained : List Served) → rows ≡ gained
+    → IsRun v first talks sent end gained → IsRun v first talks sent end rows
+run_listed v first talks sent end rows gained same run = subst (λ (listed : List Served). IsRun v first talks sent end listed) (sym same) run
 
 -- ---- texts
 

@@ -1,5 +1,7 @@
--- What `dry` prints: one session over memory. Of `dry` read this first.
+-- What `dry` and `log` print: one session over memory. Of them read this first.
 use Rattle.std.specs.Prelude.{◌≡◌, ℕ, Bool, false, List, [], ◌∷◌, Some, IsSomeAnd, Result, Ok, Err, codes, reverse}
+use Rattle.request_log.specs.Lines.{log_of}
+use Rattle.request_log.specs.declared.format.Part.{Part}
 use Rattle.property_lines.specs.Refusals.{LineRefusal}
 use Rattle.jk_io.specs.MemReaches.{MemReachState}
 use Rattle.jk_io.specs.declared.reaching.Talk.{Talk}
@@ -42,12 +44,12 @@ first_standing books request = record {
 -- ---- how it goes
 
 -- One session from this standing to its end, in which no call of a link failed: the talks that it had, the bytes that its
--- client has, and its end. It doesn't end for a client that waits, since in memory none does. The client has the parts of
+-- client has, its end, and a row for each request that was answered. It doesn't end for a client that waits, since in memory none does. The client has the parts of
 -- its requests joined; an own answer has its cause; the client's bytes decide what they can; and what nothing disturbs is
 -- answered with exactly its member's reply.
-pub record IsRun (v : Visit) (first : ClientStanding) (talks : List Talk) (sent : List ℕ) (end : SessionEnd) : Type 0 where
+pub record IsRun (v : Visit) (first : ClientStanding) (talks : List Talk) (sent : List ℕ) (end : SessionEnd)
+    (rows : List Served) : Type 0 where
   pub last : ClientStanding
-  pub rows : List Served
   pub session : IsSession v first last rows end
   pub talked : last.reach.talks ≡ Some talks
   pub written : last.client.sent ≡ Some sent
@@ -65,31 +67,46 @@ AreOverReply reply talks =
     (past : List Talk) × (now : MemReachState) × (talks ≡ reverse past) × AreTalksOver (reply_link reply ∷ []) past now
 
 -- One session over this site, of a client that sends these bytes; the first link to a member has that reply to come.
-pub record IsDryRun (c : Config) (rules : List Rule) (request reply : List ℕ) (talks : List Talk) (sent : List ℕ) (end : SessionEnd) : Type 0 where
+pub record IsDryRun (c : Config) (rules : List Rule) (request reply : List ℕ) (talks : List Talk) (sent : List ℕ) (end : SessionEnd)
+    (rows : List Served) : Type 0 where
   pub books : List Journal
   pub started : AreStarts c.lbs 0 0 books
-  pub run : IsRun (dry_visit c rules) (first_standing books request) talks sent end
+  pub run : IsRun (dry_visit c rules) (first_standing books request) talks sent end rows
   pub over : AreOverReply reply talks
 
 -- ---- what is printed
 
--- the three lines of such a session
-pub record Dries (c : Config) (rules : List Rule) (request reply out : List ℕ) : Type 0 where
+-- such a session: its three lines, and its rows
+pub record Runs (c : Config) (rules : List Rule) (request reply lines : List ℕ) (rows : List Served) : Type 0 where
   pub talks : List Talk
   pub sent : List ℕ
   pub end : SessionEnd
-  pub run : IsDryRun c rules request reply talks sent end
-  pub printed : IsSomeAnd (end_words end) (λ words. out ≡ dry_text talks sent words)
+  pub run : IsDryRun c rules request reply talks sent end rows
+  pub printed : IsSomeAnd (end_words end) (λ words. lines ≡ dry_text talks sent words)
 
--- the refusal of a map, or what is printed of a session over its rules
-abbrev pub OfRules : Config → Result (List Rule) LineRefusal → (request reply out : List ℕ) → (refused : Bool) → Type 0
-OfRules c (Err r) request reply out refused = Refuses (codes "map") r out refused
-OfRules c (Ok rules) request reply out refused = Dries c rules request reply out × (refused ≡ false)
+-- `dry` prints the lines
+abbrev pub Dries : Config → List Rule → (request reply out : List ℕ) → Type 0
+Dries c rules request reply out = (rows : List Served) × Runs c rules request reply out rows
+
+-- `log` prints the log of the rows
+abbrev pub Logs : Config → List Rule → (format : List Part) → (request reply out : List ℕ) → Type 0
+Logs c rules format request reply out =
+    (lines : List ℕ) × (rows : List Served) × Runs c rules request reply lines rows × (out ≡ log_of format rows)
+
+-- the refusal of a map, or what is printed over its rules
+abbrev pub OfRules : (List Rule → (out : List ℕ) → Type 0) → Result (List Rule) LineRefusal → (out : List ℕ) → (refused : Bool) → Type 0
+OfRules of (Err r) out refused = Refuses (codes "map") r out refused
+OfRules of (Ok rules) out refused = of rules out × (refused ≡ false)
 
 -- `dry` of a client's bytes and a reply's, over a site's two files
 abbrev pub ReportsDry : (request reply workers map out : List ℕ) → (refused : Bool) → Type 0
 ReportsDry request reply workers map out refused =
-    OfWorkers workers (λ c out refused. OfRules c (read_text c map) request reply out refused) out refused
+    OfWorkers workers (λ c out refused. OfRules (λ rules out. Dries c rules request reply out) (read_text c map) out refused) out refused
+
+-- and `log` of them, in this format
+abbrev pub ReportsLog : (format : List Part) → (request reply workers map out : List ℕ) → (refused : Bool) → Type 0
+ReportsLog format request reply workers map out refused =
+    OfWorkers workers (λ c out refused. OfRules (λ rules out. Logs c rules format request reply out) (read_text c map) out refused) out refused
 
 -- the site where no files are named: one worker that is listed itself, with defaults and retries 1, mounted everywhere
 abbrev pub default_workers : List ℕ

@@ -5,7 +5,7 @@ use Rattle.jk_cli.specs.declared.order.Order.{Order}
 use Rattle.jk_io.specs.Told.{appended, PutsFront, Rose}
 use Rattle.jk_io.specs.declared.traits.streams.Meanings.{Ghosts}
 use Rattle.jk_io.specs.declared.traits.surroundings.Files.{Ghosts as FilesGhosts}
-use Rattle.plain_commands.specs.Plain.{is_plain, readings, Answers, EndsWith, Prints, PrintsFront, PrintsOf}
+use Rattle.plain_commands.specs.Plain.{is_plain, readings, Answers, EndsWith, Plain, Prints, PrintsFront, PrintsOf}
 use Rattle.site_reports.specs.Readings.{CommandOutside, Reading}
 use Rattle.plain_commands.specs.declared.play.Ending.{Ending}
 use Rattle.plain_commands.specs.declared.play.Ending.TheVariants as ending
@@ -101,3 +101,8 @@ PlainOfFiles files command o = PrintsOfFiles files (readings command) (Answers c
 
 abbrev pub PlainOfInput : Option (List ℕ) → Order → Output → Type 0
 PlainOfInput incoming command o = PrintsOfInput incoming (readings command) (Answers command) o
+
+-- What `log` prints, whatever the input.
+abbrev pub LogOfFiles : Option (List (List ℕ × List ℕ)) → Order → Output → Type 0
+LogOfFiles files command o =
+    (incoming : Option (List ℕ)) → Plain (record { files = files; incoming = incoming }) command o.text (status_of o.ending)

@@ -6,6 +6,8 @@ pub mod DryLinks
 pub mod DryReaches
 pub mod DryStarts
 pub mod Endings
+pub mod FollowedTexts
+pub mod Logged
 pub mod Plain
 pub mod Printed
 pub mod Turns

@@ -8,9 +8,13 @@ use Rattle.jk_cli.specs.declared.name.CommandName.TheVariants as name
 use Rattle.jk_cli.specs.declared.order.Order.{Order}
 use Rattle.jk_cli.specs.declared.order.Order.TheVariants as order
 use Rattle.play_script.specs.Play.{PlaysScript}
-use Rattle.plain_commands.specs.Dry.{ReportsDry, default_map, default_workers}
+use Rattle.request_log.specs.Formats.{IsFormat}
+use Rattle.request_log.specs.declared.format.Part.{Part}
+use Rattle.plain_commands.specs.Dry.{ReportsDry, ReportsLog, default_map, default_workers}
+use Rattle.plain_commands.specs.Logged.{RefusesFormat}
 use Rattle.site_reports.specs.Reports.{ReportsConfig, ReportsMatches, ReportsSite}
 use Rattle.plain_commands.specs.Checked.{ChecksText}
+use Rattle.plain_commands.specs.FollowedTexts.{FollowsText}
 use Rattle.site_reports.specs.Readings.{CommandOutside, Reading, File, Input, AreRead, StopsLong, has_file, has_input, before_input}
 
 -- The plain commands that are built; each other command is none of them yet.
@@ -20,6 +24,8 @@ is_built name.Config = true
 is_built name.Match = true
 is_built name.Dry = true
 is_built name.Check = true
+is_built name.Follow = true
+is_built name.Log = true
 is_built name.Stop = true
 is_built command = false
 
@@ -40,6 +46,8 @@ readings (order.Match workers map verbose) = File workers ∷ File map ∷ Input
 readings (order.Dry request reply None) = File request ∷ File reply ∷ []
 readings (order.Dry request reply (Some site)) = File request ∷ File reply ∷ File site.0 ∷ File site.1 ∷ []
 readings order.Check = Input ∷ []
+readings order.Follow = Input ∷ []
+readings (order.Log format request reply workers map) = File request ∷ File reply ∷ File workers ∷ File map ∷ []
 readings (order.Stop path) = File path ∷ []
 readings other = []
 
@@ -55,6 +63,15 @@ IsInputDue words outside = (o : Order) × (order_of words ≡ Some o) × InputIs
 -- The words are a command that reads files.
 abbrev pub AreFilesDue : (words : List (List ℕ)) → Type 0
 AreFilesDue words = (o : Order) × (order_of words ≡ Some o) × (has_file (readings o) ≡ true)
+
+-- A log's format is one; of other commands nothing is asked.
+abbrev pub HasFormat : Order → Type 0
+HasFormat (order.Log format request reply workers map) = (parts : List Part) × IsFormat format parts
+HasFormat other = Unit {0}
+
+-- The words are a command, and if that is `log`, its format is one.
+abbrev pub IsFormatDue : (words : List (List ℕ)) → Type 0
+IsFormatDue words = (o : Order) × (order_of words ≡ Some o) × HasFormat o
 
 -- The status of a report.
 abbrev pub status_if : (refused : Bool) → ℕ
@@ -74,6 +91,15 @@ abbrev pub DryOver : (request reply : List ℕ) → (texts : List (List ℕ)) �
 DryOver request reply (workers ∷ map ∷ []) out status = Reported (ReportsDry request reply workers map) out status
 DryOver request reply texts out status = ⊥
 
+-- The two files of a site, after those of a client and of a member, in this format.
+abbrev pub LogOver : (format : List Part) → (request reply : List ℕ) → (texts : List (List ℕ)) → (out : List ℕ) → (status : ℕ) → Type 0
+LogOver format request reply (workers ∷ map ∷ []) out status = Reported (ReportsLog format request reply workers map) out status
+LogOver format request reply texts out status = ⊥
+
+abbrev pub LogOf : (format : List Part) → (texts : List (List ℕ)) → (out : List ℕ) → (status : ℕ) → Type 0
+LogOf format (request ∷ reply ∷ texts) out status = LogOver format request reply texts out status
+LogOf format texts out status = ⊥
+
 -- The answer of a front that was told to end: nothing is printed, and the status says whether it ended.
 abbrev pub StopsFront : (answer : List ℕ) → (out : List ℕ) → (status : ℕ) → Type 0
 StopsFront answer out status = (out ≡ []) × (status ≡ (if bytes_eq answer (codes "ended\n") then 0 else 4))
@@ -88,6 +114,7 @@ Answers (order.Dry q p None) (request ∷ reply ∷ []) out status =
     Reported (ReportsDry request reply default_workers default_map) out status
 Answers (order.Dry q p (Some site)) (request ∷ reply ∷ texts) out status = DryOver request reply texts out status
 Answers order.Check (text ∷ []) out status = ChecksText text out status
+Answers order.Follow (text ∷ []) out status = FollowsText text out status
 Answers (order.Stop path) (answer ∷ []) out status = StopsFront answer out status
 Answers other texts out status = ⊥
 
@@ -98,8 +125,15 @@ PrintsOf outside readings Of out status =
     (StopsLong outside readings × (out ≡ codes "too long\n") × (status ≡ 3))
     ⊎ ((texts : List (List ℕ)) × AreRead outside readings texts × Of texts out status)
 
+-- A log's format is judged before any file is read.
+abbrev pub PrintsLog : CommandOutside → (format : List ℕ) → List Reading → (out : List ℕ) → (status : ℕ) → Type 0
+PrintsLog outside format readings out status =
+    RefusesFormat format out status ⊎ ((parts : List Part) × IsFormat format parts × PrintsOf outside readings (LogOf parts) out status)
+
 -- What a command prints, and its status.
 abbrev pub Plain : CommandOutside → Order → (out : List ℕ) → (status : ℕ) → Type 0
+Plain outside (order.Log format request reply workers map) out status =
+    PrintsLog outside format (File request ∷ File reply ∷ File workers ∷ File map ∷ []) out status
 Plain outside o out status = PrintsOf outside (readings o) (Answers o) out status
 
 -- Just what the words' command prints was written.

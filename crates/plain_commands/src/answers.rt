@@ -10,7 +10,7 @@ pub const USAGE: &str = "usage: jkd COMMAND WORDS\njkd --help shows the commands
 
 /// What stands below each help.
 const BUILT: &str =
-    "\nThis jkd does not do `log`, `follow`, `--watch` and `--log` of `serve`, and `passes` of `drill`: they end with status 2.\n";
+    "\nThis jkd does not do `--watch` and `--log` of `serve`, and `passes` of `drill`: they end with status 2.\n";
 
 fn is(word: &Bytes, text: &[u8]) -> bool {
     word.as_slice() == text

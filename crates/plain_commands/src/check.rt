@@ -33,7 +33,8 @@ fn told(alloc: Global, verdict: &Verdict) -> Result<Output, NoMemory>
     })
 }
 
-fn unreadable(alloc: Global, line: u32) -> Result<Output, NoMemory>
+/// The first line that can't be read, and its status.
+pub(crate) fn unreadable(alloc: Global, line: u64) -> Result<Output, NoMemory>
     ensures text { IfOk result (λ o. o.text ≡ unreadable_text line) }
     ensures ending { IfOk result (λ o. o.ending ≡ Ends.Refused) }
 {
@@ -54,7 +55,7 @@ pub(crate) fn check(alloc: Global, text: &[u8]) -> Result<Output, NoMemory>
 {
     match check_journal(alloc, text) {
         Ok(verdict) => told(alloc, &verdict),
-        Err(TextError::Unreadable { line }) => unreadable(alloc, line),
+        Err(TextError::Unreadable { line }) => unreadable(alloc, u64::from(line)),
         Err(TextError::NoMemory) => Err(NoMemory),
     }
 }

@@ -5,7 +5,7 @@ ghost use Rattle.jk_cli.specs.declared.order.Order.TheVariants as order;
 ghost use Rattle.jk_io.specs.Told.{Rose};
 ghost use Rattle.plain_commands.specs.Causes.{IsCaused};
 ghost use Rattle.plain_commands.specs.Endings.{PlainOfFiles, PlainOfInput, PrintsOfInput, status_of};
-ghost use Rattle.plain_commands.specs.Plain.{is_built, readings, InputIsDue, MatchesRead, Plain, StopsFront, status_if};
+ghost use Rattle.plain_commands.specs.Plain.{is_built, readings, HasFormat, InputIsDue, MatchesRead, Plain, StopsFront, status_if};
 ghost use Rattle.plain_commands.specs.Printed.{IsPrinted};
 ghost use Rattle.site_reports.specs.Readings.{has_file, Input};
 ghost use Rattle.plain_commands.specs.declared.play.Ending.TheVariants as Ends;
@@ -13,6 +13,8 @@ ghost use Rattle.jk_io.specs.declared.whole_input.TheConstants.{MAX_INPUT_BYTES}
 
 use crate::check::check;
 use crate::dry::dry;
+use crate::follow::follow;
+use crate::log::{LogNames, log};
 use crate::play::{Ending, Output, play};
 use crate::texts::{read_input, read_pair, read_text};
 use jk_cli::Order;
@@ -75,6 +77,17 @@ fn check_input<S: Source>(alloc: Global, input: &mut S) -> Result<Output, IoErro
     match read_input(alloc, input)? {
         None => too_long(alloc),
         Some(text) => Ok(check(alloc, text.as_slice())?),
+    }
+}
+
+// `follow`
+fn follow_input<S: Source>(alloc: Global, input: &mut S) -> Result<Output, IoError>
+    ensures ok { IfOk result (λ o. PlainOfInput (S.incoming input.old) order.Follow o) }
+    ensures cause { IsCaused (S.faults input.old) (S.faults input.new) result }
+{
+    match read_input(alloc, input)? {
+        None => too_long(alloc),
+        Some(text) => Ok(follow(alloc, text.as_slice())?),
     }
 }
 
@@ -205,6 +218,7 @@ pub(crate) fn answer<F: Files, S: Source>(
         order.now o.text (status_of o.ending)) }
     ensures failed { IsErrOf result IoError.Failed → Rose (F.faults files.old) (F.faults files.new) ⊎ Rose (S.faults input.old) (S.faults input.new) }
     ensures files { (files.new ≡ files.old) ⊎ (has_file (readings order.now) ≡ true) }
+    ensures format { (files.new ≡ files.old) ⊎ HasFormat order.now }
     ensures input { (input.new ≡ input.old)
         ⊎ InputIsDue (record { files = F.files files.old; incoming = S.incoming input.old }) order.now }
 {
@@ -222,6 +236,22 @@ pub(crate) fn answer<F: Files, S: Source>(
             site,
         } => dry(alloc, files, request, reply, site),
         Order::Check => check_input(alloc, input),
+        Order::Follow => follow_input(alloc, input),
+        Order::Log {
+            format,
+            request,
+            reply,
+            workers,
+            map,
+        } => {
+            let names = LogNames {
+                request,
+                reply,
+                workers,
+                map,
+            };
+            log(alloc, files, format, &names)
+        }
         Order::Stop { path } => stop_front(alloc, files, path),
         _ => unreachable!(),
     }

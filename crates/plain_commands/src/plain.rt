@@ -3,7 +3,7 @@ ghost use Rattle.std.specs.Prelude.{◌≡◌, ◌↔◌, ◌⊎◌, true, false
 ghost use Rattle.jk_cli.specs.Names.{command_in};
 ghost use Rattle.jk_io.specs.Told.{Rose};
 ghost use Rattle.plain_commands.specs.Endings.{number_of, plain_side, AnswersOrder, EndsSo, Writes};
-ghost use Rattle.plain_commands.specs.Plain.{is_built, is_plain, readings, AreFilesDue, EndsWith, InputIsDue, IsInputDue, Prints, PrintsFront};
+ghost use Rattle.plain_commands.specs.Plain.{is_built, is_plain, readings, AreFilesDue, EndsWith, HasFormat, IsFormatDue, InputIsDue, IsInputDue, Prints, PrintsFront};
 ghost use Rattle.site_reports.specs.Readings.{has_file};
 
 use crate::commands::answer;
@@ -53,6 +53,8 @@ fn is_built(command: CommandName) -> bool
         | CommandName::Config
         | CommandName::Match
         | CommandName::Check
+        | CommandName::Follow
+        | CommandName::Log
         | CommandName::Stop => true,
         _ => false,
     }
@@ -97,6 +99,7 @@ fn answer_end<F: Files, S: Source, O: Sink>(
     ensures answers { let at = plain_side F.Files S.Meanings O.Meanings in
         AnswersOrder order.now (at files.old input.old out.old) (at files.new input.new out.new) result }
     ensures files { (files.new ≡ files.old) ⊎ (has_file (readings order.now) ≡ true) }
+    ensures format { (files.new ≡ files.old) ⊎ HasFormat order.now }
     ensures input { (input.new ≡ input.old)
         ⊎ InputIsDue (record { files = F.files files.old; incoming = S.incoming input.old }) order.now }
 {
@@ -120,6 +123,7 @@ fn end_of<F: Files, S: Source, O: Sink>(
     ensures ends { let at = plain_side F.Files S.Meanings O.Meanings in
         EndsSo words.now (at files.old input.old out.old) (at files.new input.new out.new) result }
     ensures files { (files.new ≡ files.old) ⊎ AreFilesDue words.now }
+    ensures format { (files.new ≡ files.old) ⊎ IsFormatDue words.now }
     ensures input { (input.new ≡ input.old)
         ⊎ IsInputDue words.now (record { files = F.files files.old; incoming = S.incoming input.old }) }
 {
@@ -154,12 +158,13 @@ pub fn run_plain<F: Files, S: Source, O: Sink>(
     ensures refused { result ≡ 3 → Prints words.now (record { files = F.files files.old; incoming = S.incoming input.old })
         (O.sent out.old) (O.sent out.new) 3 }
 
-    // Files are read where the command has some, and of the input nothing unless each of its files is there and not too long.
+    // Files are read where the command has some, of `log` once its format is one, and of the input nothing unless each of its files is there and not too long.
     ensures files { (files.new ≡ files.old) ⊎ AreFilesDue words.now }
+    ensures format { (files.new ≡ files.old) ⊎ IsFormatDue words.now }
     ensures input { (input.new ≡ input.old)
         ⊎ IsInputDue words.now (record { files = F.files files.old; incoming = S.incoming input.old }) }
 
-    // No plain command that is built (`play`, `dry`, `config`, `match`, `check` and `stop`), exactly by the words.
+    // No plain command that is built (`play`, `dry`, `config`, `match`, `check`, `log`, `follow` and `stop`), exactly by the words.
     ensures no_command { (result ≡ 2) ↔ (is_plain words.now ≡ false) }
     ensures no_words { result ≡ 2 → O.sent out.new ≡ O.sent out.old }
 

@@ -5,7 +5,7 @@ ghost use Rattle.property_lines.specs.Refusals.{LineRefusal};
 ghost use Rattle.site_reports.specs.Reports.{Refuses};
 ghost use Rattle.uri_map.specs.Lines.{read_text};
 ghost use Rattle.uri_map.specs.Sites.{stands_in};
-ghost use Rattle.plain_commands.specs.Dry.{Dries, IsDryRun, OfRules, ReportsDry};
+ghost use Rattle.plain_commands.specs.Dry.{Dries, IsDryRun, OfRules, ReportsDry, Runs};
 ghost use Rattle.plain_commands.specs.DryLines.{dry_text, end_words};
 ghost use Rattle.plain_commands.specs.DryStarts.{IsFirstClient, IsFirstDesk, IsFirstReach};
 
@@ -14,8 +14,9 @@ use crate::session::lines::{lines_of, put_number, words_of};
 use crate::session::one_reply::{OneReply, ReplyName, link_of};
 use crate::session::start::{desk_of, reach_of};
 use balancer_core::PlainDesk;
-use client_session::{SessionEnd, SessionSite, Surroundings, serve_session};
+use client_session::{SessionEnd, SessionSite, Surroundings, serve_session_with};
 use jk_io::{Bytes, MemLink, NoMemory, NumberList, Peer, StepClock};
+use jk_model::ServedList;
 use site_config::Config;
 use site_reports::Report;
 use std::alloc::Global;
@@ -37,9 +38,16 @@ pub(crate) struct Wire<'t> {
 }
 
 #[derive(Clone, Copy)]
-struct Site<'t> {
-    config: &'t Config,
-    map: &'t UriMap,
+pub(crate) struct Site<'t> {
+    pub config: &'t Config,
+    pub map: &'t UriMap,
+}
+
+/// What is told of a session: its lines, and a row for each request that was answered.
+#[derive(Drop)]
+pub(crate) struct Ran {
+    pub lines: Bytes,
+    pub rows: ServedList,
 }
 
 // Serves the client. The clock answers 0 whenever it is asked.
@@ -50,14 +58,14 @@ fn serve<N: ReplyName>(
     desk: &mut PlainDesk,
     reach: &mut OneReply<N>,
     client: &mut MemLink,
-) -> SessionEnd
+) -> (SessionEnd, ServedList)
     requires stands { stands_in site.now.config.now site.now.map.now ≡ true }
     requires peer { peer.now.addr ≡ codes "127.0.0.1" }
     requires desk { IsFirstDesk site.now.config.now.lbs desk.old }
     requires reach { IsFirstReach site.now.config.now.lbs reach.old }
     requires client { IsFirstClient client.old }
     ensures { (reach.new.faults ≡ 0) × (client.new.faults ≡ 0) → IsDryRun site.now.config.now site.now.map.now
-        client.old.incoming N.reply reach.new.book.talks client.new.sent result }
+        client.old.incoming N.reply reach.new.book.talks client.new.sent result.0 result.1.rows }
 {
     let mut clock = StepClock::new(NumberList::new(alloc));
     let site = SessionSite {
@@ -72,9 +80,10 @@ fn serve<N: ReplyName>(
         reach,
         client,
     };
-    let end = serve_session(alloc, &site, &mut around);
+    let mut rows = ServedList::new(alloc);
+    let end = serve_session_with(alloc, &site, &mut around, &mut rows);
     reach.vouch();
-    end
+    (end, rows)
 }
 
 // Whether no call of a link failed. Within a talk none is to fail, and a session makes no call outside of a talk; its
@@ -103,21 +112,22 @@ fn tell<N: ReplyName>(
     desk: &mut PlainDesk,
     reach: &mut OneReply<N>,
     client: &mut MemLink,
-) -> Result<Bytes, NoMemory>
+) -> Result<Ran, NoMemory>
     requires stands { stands_in site.now.config.now site.now.map.now ≡ true }
     requires desk { IsFirstDesk site.now.config.now.lbs desk.old }
     requires reach { IsFirstReach site.now.config.now.lbs reach.old }
     requires client { IsFirstClient client.old }
-    ensures { IfOk result (Dries site.now.config.now site.now.map.now client.old.incoming N.reply) }
+    ensures { IfOk result (λ r. Runs site.now.config.now site.now.map.now client.old.incoming N.reply r.lines r.rows.rows) }
 {
     let peer = Peer {
         addr: Bytes::from_slice(alloc, b"127.0.0.1")?,
     };
-    let end = serve(alloc, site, &peer, desk, reach, client);
+    let (end, rows) = serve(alloc, site, &peer, desk, reach, client);
     if !is_calm(reach, client) {
         return Err(NoMemory);
     }
-    tell_end(alloc, end, reach, client)
+    let lines = tell_end(alloc, end, reach, client)?;
+    Ok(Ran { lines, rows })
 }
 
 fn with_client<N: ReplyName>(
@@ -126,11 +136,11 @@ fn with_client<N: ReplyName>(
     request: &[u8],
     desk: &mut PlainDesk,
     reach: &mut OneReply<N>,
-) -> Result<Bytes, NoMemory>
+) -> Result<Ran, NoMemory>
     requires stands { stands_in site.now.config.now site.now.map.now ≡ true }
     requires desk { IsFirstDesk site.now.config.now.lbs desk.old }
     requires reach { IsFirstReach site.now.config.now.lbs reach.old }
-    ensures { IfOk result (Dries site.now.config.now site.now.map.now request.now N.reply) }
+    ensures { IfOk result (λ r. Runs site.now.config.now site.now.map.now request.now N.reply r.lines r.rows.rows) }
 {
     tell(alloc, site, desk, reach, &mut link_of(alloc, request)?)
 }
@@ -140,24 +150,25 @@ fn with_desk<N: ReplyName>(
     site: &Site<'_>,
     request: &[u8],
     reach: &mut OneReply<N>,
-) -> Result<Bytes, NoMemory>
+) -> Result<Ran, NoMemory>
     requires stands { stands_in site.now.config.now site.now.map.now ≡ true }
     requires reach { IsFirstReach site.now.config.now.lbs reach.old }
-    ensures { IfOk result (Dries site.now.config.now site.now.map.now request.now N.reply) }
+    ensures { IfOk result (λ r. Runs site.now.config.now site.now.map.now request.now N.reply r.lines r.rows.rows) }
 {
     let lbs = site.config.lbs.as_slice();
     with_client(alloc, site, request, &mut desk_of(alloc, lbs)?, reach)
 }
 
-fn with_reach<N: ReplyName>(
+/// A session over this site.
+pub(crate) fn with_reach<N: ReplyName>(
     alloc: Global,
     site: &Site<'_>,
     request: &[u8],
     reply: &[u8],
-) -> Result<Bytes, NoMemory>
+) -> Result<Ran, NoMemory>
     requires stands { stands_in site.now.config.now site.now.map.now ≡ true }
     requires reply { reply.now ≡ N.reply }
-    ensures { IfOk result (Dries site.now.config.now site.now.map.now request.now reply.now) }
+    ensures { IfOk result (λ r. Runs site.now.config.now site.now.map.now request.now reply.now r.lines r.rows.rows) }
 {
     let lbs = site.config.lbs.as_slice();
     match reach_of::<N>(alloc, lbs, reply) {
@@ -176,15 +187,15 @@ fn of_site(alloc: Global, site: &Site<'_>, wire: Wire<'_>) -> Result<Report, NoM
     ensures { IfOk result (λ r. Dries site.now.config.now site.now.map.now wire.entry.request.now wire.entry.reply.now r.text
         × (r.refused ≡ false)) }
 {
-    let text = with_reach::<Brand>(alloc, site, wire.request, wire.reply)?;
+    let Ran { lines, .. } = with_reach::<Brand>(alloc, site, wire.request, wire.reply)?;
     Ok(Report {
-        text,
+        text: lines,
         refused: false,
     })
 }
 
-// The first refusal of a file.
-fn refused(alloc: Global, file: &[u8], line: u32, code: u8) -> Result<Report, NoMemory>
+/// The first refusal of a file.
+pub(crate) fn refused(alloc: Global, file: &[u8], line: u32, code: u8) -> Result<Report, NoMemory>
     ensures { IfOk result (λ r. Refuses file.now (record { line = line; code = code }) r.text r.refused) }
 {
     let mut text = Bytes::new(alloc);
@@ -200,7 +211,8 @@ fn refused(alloc: Global, file: &[u8], line: u32, code: u8) -> Result<Report, No
 
 fn of_config(alloc: Global, config: &Config, map: &[u8], wire: Wire<'_>) -> Result<Report, NoMemory>
     requires short { length map.now ≤ MAX_INPUT_BYTES }
-    ensures { IfOk result (λ r. OfRules config.now (read_text config.now map.now) wire.entry.request.now wire.entry.reply.now r.text r.refused) }
+    ensures { IfOk result (λ r. OfRules (λ rules out. Dries config.now rules wire.entry.request.now wire.entry.reply.now out)
+        (read_text config.now map.now) r.text r.refused) }
 {
     match read_map(alloc, map, config) {
         Ok(map) => of_site(alloc, &Site { config, map: &map }, wire),

@@ -3,7 +3,7 @@ use Rattle.jk_cli.specs.declared.order.Order.TheVariants as order
 use Rattle.plain_commands.specs.Endings.{status_of}
 use Rattle.plain_commands.specs.Plain.{Plain}
 use Rattle.plain_commands.specs.declared.play.Output.{Output}
-use Rattle.plain_commands.proofs.PlainLemmas.{check_due, config_has_file, play_due, said_of}
+use Rattle.plain_commands.proofs.PlainLemmas.{check_due, config_has_file, follow_due, play_due, said_of}
 use Rattle.plain_commands.proofs.commands.answer.Goals as goal
 
 pub returns-in-Play-clause-ok : goal.returns-in-Play-clause-ok
@@ -50,3 +50,23 @@ returns-in-Stop-clause-ok g c =
 
 pub returns-in-Stop-clause-files : goal.returns-in-Stop-clause-files
 returns-in-Stop-clause-files g c = inr (rw c.in-Stop.is refl)
+
+pub returns-in-Follow-clause-ok : goal.returns-in-Follow-clause-ok
+returns-in-Follow-clause-ok g c =
+    rw c.in-Follow.is (said_of (λ (files : Option (List (List ℕ × List ℕ))) (o : Output). Plain (record { files = files; incoming = g.S.Meanings.incoming c.args.input.now }) order.Follow o.text (status_of o.ending))
+    (g.F.Files.files c.args.files.now) c.follow_input.result c.follow_input.ensures.ok)
+
+pub returns-in-Follow-clause-input : goal.returns-in-Follow-clause-input
+returns-in-Follow-clause-input g c =
+    inr (rw c.in-Follow.is (follow_due (record { files = g.F.Files.files c.args.files.now; incoming = g.S.Meanings.incoming c.args.input.now })))
+
+pub returns-in-Log-clause-ok : goal.returns-in-Log-clause-ok
+returns-in-Log-clause-ok g c =
+    rw c.in-Log.is (said_of (λ (incoming : Option (List ℕ)) (o : Output). Plain (record { files = g.F.Files.files c.args.files.now; incoming = incoming }) (order.Log c.in-Log.format c.in-Log.request c.in-Log.reply c.in-Log.workers c.in-Log.map) o.text (status_of o.ending))
+    (g.S.Meanings.incoming c.args.input.now) c.log.result c.log.ensures.ok)
+
+pub returns-in-Log-clause-files : goal.returns-in-Log-clause-files
+returns-in-Log-clause-files g c = inr (rw c.in-Log.is refl)
+
+pub returns-in-Log-clause-format : goal.returns-in-Log-clause-format
+returns-in-Log-clause-format g c = rw c.in-Log.is c.log.ensures.format

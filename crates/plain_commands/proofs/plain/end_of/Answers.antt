@@ -1,6 +1,6 @@
 use Rattle.std.proofs.Common.{sym, ◌∙◌}
 use Rattle.plain_commands.specs.Endings.{plain_side}
-use Rattle.plain_commands.proofs.PlainLemmas.{built_by, ends_by, files_by, input_by}
+use Rattle.plain_commands.proofs.PlainLemmas.{built_by, ends_by, files_by, format_by, input_by}
 use Rattle.plain_commands.proofs.plain.end_of.Goals as goal
 
 pub answer_end-end-requires : goal.answer_end-end-requires
@@ -18,3 +18,6 @@ returns-in-Ok-clause-files g c = files_by _ _ _ c.in-Ok.ensures.ok c.answer_end-
 
 pub returns-in-Ok-clause-input : goal.returns-in-Ok-clause-input
 returns-in-Ok-clause-input g c = input_by _ _ _ _ c.in-Ok.ensures.ok c.answer_end-end.ensures.input
+
+pub returns-in-Ok-clause-format : goal.returns-in-Ok-clause-format
+returns-in-Ok-clause-format g c = format_by _ _ _ c.in-Ok.ensures.ok c.answer_end-end.ensures.format

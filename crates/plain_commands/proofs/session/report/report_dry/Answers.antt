@@ -1,9 +1,9 @@
 use Rattle.uri_map.specs.Lines.{read_text}
 use Rattle.site_reports.proofs.ReportLemmas.{of_accepted}
-use Rattle.plain_commands.specs.Dry.{OfRules}
+use Rattle.plain_commands.specs.Dry.{Dries, OfRules}
 use Rattle.plain_commands.proofs.session.report.report_dry.Goals as goal
 
 pub returns-in-Ok : goal.returns-in-Ok
 returns-in-Ok c =
-    of_accepted c.args.workers.now (λ config out refused. OfRules config (read_text config c.args.map.now) c.args.wire.request.now c.args.wire.reply.now out refused)
+    of_accepted c.args.workers.now (λ config out refused. OfRules (λ rules out. Dries config rules c.args.wire.request.now c.args.wire.reply.now out) (read_text config c.args.map.now) out refused)
     c.in-Ok.config c.in-Ok.ensures.ok c.of_config.result c.of_config.ensures

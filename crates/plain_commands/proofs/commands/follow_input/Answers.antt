@@ -1,0 +1,18 @@
+use Rattle.std.proofs.Common.{[], ◌∷◌, inl, inr}
+use Rattle.plain_commands.specs.Plain.{Answers}
+use Rattle.jk_cli.specs.declared.order.Order.TheVariants as order
+use Rattle.site_reports.specs.Readings.{Input}
+use Rattle.plain_commands.proofs.PlainLemmas.{cause_kept, long_ok}
+use Rattle.plain_commands.proofs.commands.follow_input.Goals as goal
+
+pub returns-in_ok-follow-in-Some-clause-ok : goal.returns-in_ok-follow-in-Some-clause-ok
+returns-in_ok-follow-in-Some-clause-ok g c files =
+    inr (c.in-Some.text ∷ [], ((rw c.in-Some.is at c.in_ok-read_input.ensures.there, rw c.in-Some.is at c.in_ok-read_input.ensures.short), tt), rw c.as_slice.ensures at c.in_ok-follow-in-Some.ensures)
+
+pub returns-in-None-clause-ok : goal.returns-in-None-clause-ok
+returns-in-None-clause-ok g c =
+    long_ok (λ files. record { files = files; incoming = g.S.Meanings.incoming c.args.input.now }) (Input ∷ []) (Answers order.Follow) c.too_long.result c.too_long.ensures.text c.too_long.ensures.ending
+    (λ files. inl (rw c.in-None.is at c.in_ok-read_input.ensures.long))
+
+pub returns-in-None-clause-cause : goal.returns-in-None-clause-cause
+returns-in-None-clause-cause g c = cause_kept _ _ _ _ c.read_input.ensures.cause c.too_long.ensures.failed
