@@ -1,3 +1,4 @@
 pub mod LeastLaws
 pub mod PickLaws
 pub mod PlaceLaws
+mod IndexLaws

@@ -3,3 +3,5 @@ pub mod Standings
 pub mod Least
 pub mod RuleNumbers
 pub mod Picks
+pub mod Kept
+pub mod Weights

@@ -16,7 +16,7 @@ pub enum Among {
 }
 
 // Whether `member` is in a set of members.
-fn is_in(set: u64, member: usize) -> bool
+pub(crate) fn is_in(set: u64, member: usize) -> bool
     requires { member < MAX_MEMBERS }
     ensures { result ≡ is_in set member }
 {

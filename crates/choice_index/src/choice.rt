@@ -87,7 +87,7 @@ fn begins_trial(state: MemberState) -> bool
     matches!(state, MemberState::Error { at: _ } | MemberState::Recover)
 }
 
-fn begin_after(chosen: Option<u32>) -> usize
+pub(crate) fn begin_after(chosen: Option<u32>) -> usize
     ensures { result ≡ begin_after chosen }
 {
     match chosen {

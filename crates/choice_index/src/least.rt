@@ -12,7 +12,7 @@ use crate::standing::Standing;
 use jk_model::Ask;
 
 // A member's place in the cyclic order that begins with `begin`.
-fn place_from(count: usize, begin: usize, member: usize) -> usize
+pub(crate) fn place_from(count: usize, begin: usize, member: usize) -> usize
     requires few { count ≤ MAX_MEMBERS }
     requires within { member < MAX_MEMBERS }
     ensures { result ≡ place_from count begin member }
