@@ -2,8 +2,9 @@
 //!
 //! Source: own rules; the definitions are those of jk_model's specs/Choice.antt and specs/Multiple.antt.
 //! Shapes: a past is written oldest first, as a journal keeps it; `rules` is 1 or 2.
-//! Contract: the laws of `picks` and of `multiples`. Read first: specs/Unanswered.antt, then specs/Multiples.antt.
+//! Contract: the laws of `picks`, of `multiples` and of `halvings`. Read first: specs/Unanswered.antt, then specs/Multiples.antt.
 #![tactic(auto)]
 
+pub mod halvings;
 pub mod multiples;
 pub mod picks;
