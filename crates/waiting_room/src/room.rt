@@ -5,6 +5,7 @@ use crate::control::{Askers, Control};
 use crate::stay::{Limits, Phase, Stay};
 use crate::table::Table;
 use jk_io::ClientLimits;
+use libc::net::{SHUT_RDWR, shutdown};
 use mio::event::Event;
 use mio::unix::SourceFd;
 use mio::{Events, Interest, Poll, Registry, Token};
@@ -205,6 +206,8 @@ impl Room {
             self.ending
                 .set(now.saturating_add(grace.saturating_mul(1_000)));
             close_waiting(&mut table);
+            // Who dials from now on is refused at once.
+            shutdown(self.listener.as_raw_fd(), SHUT_RDWR);
         }
     }
 
