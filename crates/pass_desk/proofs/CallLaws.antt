@@ -32,8 +32,8 @@ use Rattle.pass_desk.proofs.GainLaws.{IsTaken, adds_of, command_gives, due_gives
 pub taken_out : (v : PassView) (b : Journal) (t : ℕ) → IsTaken v b → has_made t (own_in v) ≡ true → is_returned t (own_in v) ≡ false
     → is_out b.opening (past_of b) t ≡ true
 taken_out v b t taken made still =
-    whole_out v.opening taken.log b t (whole_of v.opening taken.log b taken.whole taken.sound)
-    ∙ own_is_out v.opening taken.log v.number t taken.history (subst (λ (es : List Entry). has_made t es ≡ true) taken.own made)
+    whole_out v.origin.opening taken.log b t (whole_of v.origin.opening taken.log b taken.stands.whole taken.stands.sound)
+    ∙ own_is_out v.origin.opening taken.log v.number t taken.history (subst (λ (es : List Entry). has_made t es ≡ true) taken.own made)
     (subst (λ (es : List Entry). is_returned t es ≡ false) taken.own still)
 
 pub return_gained : (v : PassView) (b new : Journal) (before now : List Receipt) (on : Occasion) (ticket : ℕ) (outcome : Outcome) (e : Entry)

@@ -108,11 +108,17 @@ pub command_held : (v w : PassView) (old new : DeskLists) (on : Occasion) (comma
 command_held v w old new on command (Ok done) ok err = ok.held
 command_held v w old new on command (Err e) ok err = err.held
 
-pub command_opening : (v w : PassView) (old new : DeskLists) (on : Occasion) (command : Command) (result : Result (Unit {0}) (AdminError FullMark))
-    → OnOk result (CallCommands v w old new on command) → IfErr result (CallRefuses v w old new on command) → w.opening ≡ v.opening
-command_opening v w old new on command (Ok done) ok err = ap (λ (x : PassView). x.opening) ok.commands.turn.after
-command_opening v w old new on command (Err e) ok err =
-    elim err.why [ inl d ↦ ap (λ (x : PassView). x.opening) d.turn.after | inr n ↦ ap (λ (x : PassView). x.opening) n.0.view ]
+pub command_origin : (v w : PassView) (old new : DeskLists) (on : Occasion) (command : Command) (result : Result (Unit {0}) (AdminError FullMark))
+    → OnOk result (CallCommands v w old new on command) → IfErr result (CallRefuses v w old new on command) → w.origin ≡ v.origin
+command_origin v w old new on command (Ok done) ok err = ap (λ (x : PassView). x.origin) ok.commands.turn.after
+command_origin v w old new on command (Err e) ok err =
+    elim err.why [ inl d ↦ ap (λ (x : PassView). x.origin) d.turn.after | inr n ↦ ap (λ (x : PassView). x.origin) n.0.view ]
+
+pub command_given : (v w : PassView) (old new : DeskLists) (on : Occasion) (command : Command) (result : Result (Unit {0}) (AdminError FullMark))
+    → OnOk result (CallCommands v w old new on command) → IfErr result (CallRefuses v w old new on command) → w.given ≡ v.given
+command_given v w old new on command (Ok done) ok err = ap (λ (x : PassView). x.given) ok.commands.turn.after
+command_given v w old new on command (Err e) ok err =
+    elim err.why [ inl d ↦ ap (λ (x : PassView). x.given) d.turn.after | inr n ↦ ap (λ (x : PassView). x.given) n.0.view ]
 
 pub command_got : (passes : List Pass) (lb : ℕ) (p q : Pass) (old new : DeskLists) (on : Occasion) (command : Command) (result : Result (Unit {0}) (AdminError FullMark))
     → get_elem? passes lb ≡ some p → OnOk result (CallCommands (view_of p) (view_of q) old new on command)
@@ -147,11 +153,17 @@ command_sees old' new' lb p q old new on command (Err e) at is was now ok err =
     ]
 
 -- A choice.
-pub choose_opening : (v w : PassView) (old new : DeskLists) (on : Occasion) (ask : Ask) (result : Result (Choice PlainLease) (RoomError FullMark))
-    → IfOk result (CallChooses v w old new on ask) → IfErr result (CallDenies v w old new on) → w.opening ≡ v.opening
-choose_opening v w old new on ask (Ok c) ok err = ap (λ (x : PassView). x.opening) ok.selects.turn.after
-choose_opening v w old new on ask (Err e) ok err =
-    elim err.why [ inl d ↦ ap (λ (x : PassView). x.opening) d.turn.after | inr n ↦ ap (λ (x : PassView). x.opening) n.0.view ]
+pub choose_origin : (v w : PassView) (old new : DeskLists) (on : Occasion) (ask : Ask) (result : Result (Choice PlainLease) (RoomError FullMark))
+    → IfOk result (CallChooses v w old new on ask) → IfErr result (CallDenies v w old new on) → w.origin ≡ v.origin
+choose_origin v w old new on ask (Ok c) ok err = ap (λ (x : PassView). x.origin) ok.selects.turn.after
+choose_origin v w old new on ask (Err e) ok err =
+    elim err.why [ inl d ↦ ap (λ (x : PassView). x.origin) d.turn.after | inr n ↦ ap (λ (x : PassView). x.origin) n.0.view ]
+
+pub choose_given : (v w : PassView) (old new : DeskLists) (on : Occasion) (ask : Ask) (result : Result (Choice PlainLease) (RoomError FullMark))
+    → IfOk result (CallChooses v w old new on ask) → IfErr result (CallDenies v w old new on) → w.given ≡ v.given
+choose_given v w old new on ask (Ok c) ok err = ap (λ (x : PassView). x.given) ok.selects.turn.after
+choose_given v w old new on ask (Err e) ok err =
+    elim err.why [ inl d ↦ ap (λ (x : PassView). x.given) d.turn.after | inr n ↦ ap (λ (x : PassView). x.given) n.0.view ]
 
 pub choose_sees : (old' new' : PassDeskState) (lb : ℕ) (p q : Pass) (old new : DeskLists) (on : Occasion) (ask : Ask) (result : Result (Choice PlainLease) (RoomError FullMark))
     → get_elem? old'.passes lb ≡ some p → new'.passes ≡ set old'.passes lb q → old'.desk.receipts ≡ old.receipts.items → new'.desk.receipts ≡ new.receipts.items
@@ -189,10 +201,10 @@ module _ (passes : List Pass) (lb : ℕ) (p q : Pass) (at : get_elem? passes lb 
   not_made : (b : Journal) (gained : List Receipt) (t : ℕ) → TakesTurn (view_of p) (view_of q) b gained → next_number b ≤ t → has_made t (own_in (view_of p)) ≡ true → ⊥
   not_made b gained t turn above made =
       let v = view_of p in
-      let whole = whole_of v.opening turn.log b turn.whole turn.sound in
-      let below : t < next_of v.opening (reverse turn.log) =
-      own_below 2 v.opening turn.log v.number t turn.before.legal (subst (λ (es : List Entry). has_made t es ≡ true) turn.own made) in
-      omega (arith, below, above, whole_next v.opening turn.log b whole)
+      let whole = whole_of v.origin.opening turn.log b turn.stands.whole turn.stands.sound in
+      let below : t < next_of v.origin.opening (reverse turn.log) =
+      own_below 2 v.origin.opening turn.log v.number t turn.before.legal (subst (λ (es : List Entry). has_made t es ≡ true) turn.own made) in
+      omega (arith, below, above, whole_next v.origin.opening turn.log b whole)
 
   picked_got : (b new : Journal) (r r' : List Receipt) (held held' : List (ℕ × ℕ)) (session at' : ℕ) (ask : Ask) (e : Entry) (a : Answer) → e.answer ≡ a
       → TakesTurn (view_of p) (view_of q) b (gained_in r r') → BookGainsLast b new r r' lb session at' (receipt_of (record { lb = lb; session = session; at = at' }) e)

@@ -8,20 +8,18 @@ use Rattle.atomic_table.specs.Table.{Final, Me, Seen}
 use Rattle.atomic_table.specs.declared.shared.Seat.{Seat}
 use Rattle.atomic_table.proofs.Lists.{at_longer}
 use Rattle.jk_model.specs.declared.journal.Entry.{Entry}
-use Rattle.jk_model.specs.declared.opening.Opening.{Opening}
-use Rattle.balancer_core.specs.Journal.{IsSound, Journal}
-use Rattle.seen_history.specs.Histories.{own_of}
+use Rattle.balancer_core.specs.Journal.{Journal}
+use Rattle.seen_history.specs.Histories.{IsHistory, own_of}
 use Rattle.seen_history.specs.Plays.{joined}
-use Rattle.seen_history.specs.Turns.{Carries, IsPassTable}
+use Rattle.seen_history.specs.Turns.{Carries, IsBookOf, IsPassTable}
+use Rattle.seen_history.specs.declared.pass_view.Origin.{Origin}
 use Rattle.seen_history.specs.declared.pass_view.PassView.{PassView}
 use Rattle.seen_history.proofs.EndLaws.{IsEnd, ends}
-use Rattle.seen_history.proofs.HistoryLaws.{uncut_whole}
 use Rattle.seen_history.proofs.SeatLaws.{carries_one}
 use Rattle.pass_desk.specs.Closing.{AreAllPasses, HasGathered, HasNumber, IsClosed, IsJoiner}
 use Rattle.pass_desk.specs.Holds.{IsIdle, own_in}
 use Rattle.pass_desk.specs.PassDesks.{view_of}
 use Rattle.pass_desk.specs.declared.pass.Pass.{Pass}
-use Rattle.pass_desk.proofs.GainLaws.{sound_uncut}
 
 carries_left : (xs ys : List (ℕ × List Entry)) (n : ℕ) (es : List Entry) → Carries xs n es → Carries (xs ++ ys) n es
 carries_left xs ys n es c = record { place = c.place; found = at_longer xs ys c.place (n, es) c.found }
@@ -56,6 +54,7 @@ gathered_one table p seat of me =
             number = zero_is;
             roots = ap (λ (m : Me Journal PassView). m.0.roots) me ∙ p.root zero_is;
             given = ap (λ (m : Me Journal PassView). m.0.given) me;
+            origin = ap (λ (m : Me Journal PassView). m.0.origin) me;
           };
     }
   where
@@ -80,6 +79,7 @@ gathered_first table done p seat next had zero_is of me =
         number = zero_is;
         roots = ap (λ (v : PassView). v.roots) view ∙ p.root zero_is;
         given = ap (λ (v : PassView). v.given) view;
+        origin = ap (λ (v : PassView). v.origin) view;
       };
     }
   where
@@ -107,6 +107,7 @@ gathered_other table done p seat next had other of me =
             number = gave.number;
             roots = ap (λ (v : PassView). v.roots) view ∙ gave.roots;
             given = ap (λ (v : PassView). v.given) view ∙ gave.given;
+            origin = ap (λ (v : PassView). v.origin) view ∙ gave.origin;
           };
     }
   where
@@ -130,7 +131,7 @@ gathered_more table done p seat next had of first other =
     ]
 
 -- The end.
-pub closes : (table : TableId) (passes : List Pass) (seat : Seat Journal PassView) (o : Opening) (words : List ℕ) (xs : List Journal) (b : Journal) → AreAllPasses table passes
+pub closes : (table : TableId) (passes : List Pass) (seat : Seat Journal PassView) (o : Origin) (words : List ℕ) (xs : List Journal) (b : Journal) → AreAllPasses table passes
     → HasGathered table passes seat → Final (Seen (IsPassTable o) seat.id seat.me.0) words xs → get_elem? xs 0 ≡ some b → IsClosed passes b
 closes table passes seat o words xs b are had final taken =
     let gave = had.root are.root in
@@ -141,13 +142,15 @@ closes table passes seat o words xs b are had final taken =
     (own_in (view_of has.pass), subst (λ (k : ℕ). Carries v.owns k (own_in (view_of has.pass))) has.number (had.carries has.place has.pass has.at))) in
     let end : IsEnd v xs = ends o seat.id v words xs had.joiner.turn gave.roots carried final in
     let same : end.book ≡ b = some-injective end.book b (sym end.found ∙ taken) in
-    let entries : end.log ≡ b.entries = uncut_whole v.opening end.log end.book end.whole end.uncut ∙ ap (λ (x : Journal). x.entries) same in
     record {
-      sound = subst (λ (x : Journal). IsSound x) same (sound_uncut v.opening end.log end.book end.history end.whole end.uncut);
-      own = λ k p at. end.own p.number (own_in (view_of p)) (had.carries k p at) ∙ ap (λ (h : List Entry). own_of p.number h) entries;
+      first = record { place = gave.place; pass = gave.pass; at = gave.at; number = gave.number };
+      log = end.log;
+      history = subst (λ (x : Origin). IsHistory x.opening end.log) gave.origin end.history;
+      stands = subst (λ (x : Origin). IsBookOf x end.log b) gave.origin (subst (λ (x : Journal). IsBookOf v.origin end.log x) same end.stands);
+      own = λ k p at. end.own p.number (own_in (view_of p)) (had.carries k p at);
       no_others = λ n nobody.
           elim (dec_le v.given n) [
-            | yes above ↦ sym (ap (λ (h : List Entry). own_of n h) entries) ∙ end.no_others n above
+            | yes above ↦ end.no_others n above
             | no below ↦ absurd (nobody (are.all gave.place gave.pass gave.at gave.number n (subst (λ (k : ℕ). n < k) gave.given (lt_of_not-le below))))
           ];
     }

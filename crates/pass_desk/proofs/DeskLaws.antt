@@ -58,12 +58,12 @@ keeps_desk number sizes sizes' r r' h h' f f' w w' same fulls wides = record {
   sound = none_sound sizes';
 }
 
-module _ (number : ℕ) (sizes sizes' : List ℕ) (lb : ℕ) (v w : PassView) (size : slice_index sizes lb ≡ members v.opening) where
+module _ (number : ℕ) (sizes sizes' : List ℕ) (lb : ℕ) (v w : PassView) (size : slice_index sizes lb ≡ members v.origin.opening) where
   found_taken : (b : Journal) (gained : List Receipt) → TakesTurn v w b gained → IsFound sizes None lb b
   found_taken b gained turn = record {
-    sound = turn.sound;
-    rules = turn.whole.rules;
-    size = whole_members v.opening turn.log b turn.whole ∙ sym size;
+    sound = turn.stands.sound;
+    rules = turn.stands.whole.rules;
+    size = whole_members v.origin.opening turn.log b turn.stands.whole ∙ sym size;
     told = λ x never. none_told x never;
   }
 
@@ -115,7 +115,7 @@ module _ (number : ℕ) (sizes sizes' : List ℕ) (lb : ℕ) (v w : PassView) (s
       ap (λ (n : ℕ). record { lb = n; member = lease.lease.member; ticket = lease.lease.ticket }) for.1
       ∙ ap (λ (n : ℕ). record { lb = lb; member = n; ticket = lease.lease.ticket }) (for.2 ∙ sym for.0)
       ∙ ap (λ (n : ℕ). record { lb = lb; member = member; ticket = n }) (for.3 ∙ ticket) in
-      let within : m < slice_index sizes lb = subst (λ (n : ℕ). m < n) (whole_members v.opening turn.log b turn.whole ∙ sym size) picks.1.member in (
+      let within : m < slice_index sizes lb = subst (λ (n : ℕ). m < n) (whole_members v.origin.opening turn.log b turn.stands.whole ∙ sym size) picks.1.member in (
         how,
         probe,
         is ∙ ap (λ (n : ℕ). answer.Chosen n t how probe) (sym for.0) ∙ ap (λ (n : ℕ). answer.Chosen member n how probe) ticket,
@@ -205,7 +205,7 @@ module _ (number : ℕ) (sizes sizes' : List ℕ) (lb : ℕ) (v w : PassView) (s
             (receipt_of (record { lb = lb; session = session; at = at }) e) s.turn s.gains.3;
         commanded = s.gains.1;
         done = s.gains.2;
-        named = subst (λ (n : ℕ). IsKnown n command) (whole_members v.opening s.turn.log s.book s.turn.whole ∙ sym size) s.named.0;
+        named = subst (λ (n : ℕ). IsKnown n command) (whole_members v.origin.opening s.turn.log s.book s.turn.stands.whole ∙ sym size) s.named.0;
         values = s.named.1;
         full = counts.0;
         wide = counts.1;
@@ -261,7 +261,7 @@ module _ (number : ℕ) (sizes sizes' : List ℕ) (lb : ℕ) (v w : PassView) (s
   desk_shows r h f x (Ok view) looks = record {
     book = looks.book;
     found = found_taken looks.book [] looks.turn;
-    rows = looks.present.rows.count ∙ whole_members v.opening looks.turn.log looks.book looks.turn.whole ∙ sym size;
+    rows = looks.present.rows.count ∙ whole_members v.origin.opening looks.turn.log looks.book looks.turn.stands.whole ∙ sym size;
     present = looks.present;
     sound = none_sound sizes;
   }

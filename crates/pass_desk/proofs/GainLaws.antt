@@ -6,25 +6,24 @@ use Rattle.std.proofs.Math.Seq.{drop-append_seam}
 use Rattle.std.proofs.lemmas.List.{length-map}
 use Rattle.std.proofs.lemmas.List.Elements.{All-head, All-tail}
 use Rattle.atomic_table.specs.Table.{Me, rest}
-use Rattle.jk_model.specs.Legal.{IsLegal}
 use Rattle.jk_model.specs.Tickets.{gives_back, is_returned}
 use Rattle.jk_model.specs.declared.ask.Ask.{Ask}
 use Rattle.jk_model.specs.declared.change.Command.{Command}
 use Rattle.jk_model.specs.declared.journal.Call.{Call}
 use Rattle.jk_model.specs.declared.journal.Call.TheVariants as call
 use Rattle.jk_model.specs.declared.journal.Entry.{Entry}
-use Rattle.jk_model.specs.declared.opening.Opening.{Opening}
 use Rattle.balancer_core.specs.Desks.{IsDue, IsOwn}
-use Rattle.balancer_core.specs.Journal.{IsSound, Journal}
+use Rattle.balancer_core.specs.Journal.{Journal}
 use Rattle.balancer_core.specs.PlainDesks.{BookGains}
 use Rattle.balancer_core.specs.ToldBooks.{AreNextAt, grown_by}
 use Rattle.balancer_core.specs.declared.receipt.Receipt.{Receipt}
-use Rattle.seen_history.specs.Histories.{AreOf, BeginsWith, IsHistory, IsHistoryOf, has_made, own_of}
+use Rattle.seen_history.specs.Histories.{AreOf, BeginsWith, IsHistory, has_made, own_of}
 use Rattle.seen_history.specs.Plays.{Took, grown_owns, last_in, turning}
-use Rattle.seen_history.specs.Turns.{Carries}
+use Rattle.seen_history.specs.Turns.{Carries, IsBookOf}
 use Rattle.seen_history.specs.declared.pass_view.PassView.{PassView}
 use Rattle.seen_history.specs.declared.pass_view.Turn.TheVariants.{Idle, Out}
-use Rattle.seen_history.proofs.HistoryLaws.{grown_of, history_more, uncut_whole}
+use Rattle.seen_history.proofs.BookLaws.{book_grown}
+use Rattle.seen_history.proofs.HistoryLaws.{history_more}
 use Rattle.seen_history.proofs.SeatLaws.{carries_one}
 use Rattle.pass_desk.specs.Holds.{Ended, IsIdle, IsTold, TakesTurn, entries_in, gained_in, own_in}
 
@@ -71,16 +70,9 @@ taken_is me m1 t took b lent =
 pub record IsTaken (v : PassView) (b : Journal) : Type 0 where
   pub log : List Entry
   pub begins : BeginsWith log v.seen
-  pub history : IsHistory v.opening log
-  pub whole : IsHistoryOf v.opening log b
-  pub uncut : b.opening ≡ v.opening
-  pub sound : IsSound b
+  pub history : IsHistory v.origin.opening log
+  pub stands : IsBookOf v.origin log b
   pub own : own_in v ≡ own_of v.number log
-
-pub sound_uncut : (o : Opening) (h : List Entry) (b : Journal) → IsHistory o h → IsHistoryOf o h b → b.opening ≡ o → IsSound b
-sound_uncut o h b history whole uncut =
-    let legal : IsLegal 2 o b.entries = subst (λ (es : List Entry). IsLegal 2 o es) (uncut_whole o h b whole uncut) history.legal in
-    subst (λ (v : ℕ). IsLegal v b.opening b.entries) (sym whole.rules) (subst (λ (x : Opening). IsLegal 2 x b.entries) (sym uncut) legal)
 
 pub taken_of : (me m1 : Me Journal PassView) (t : ℕ) (took : Took me t m1) → IsIdle me → (b : Journal) → m1.1 ≡ (0, b) ∷ rest m1.1 → IsTaken me.0 b
 taken_of me m1 t took idle b lent =
@@ -90,9 +82,7 @@ taken_of me m1 t took idle b lent =
       log = took.log;
       begins = took.begins;
       history = took.history;
-      whole = took.whole;
-      uncut = took.uncut;
-      sound = sound_uncut v.opening took.log took.book took.history took.whole took.uncut;
+      stands = took.stands;
       own = took.own v.number (own_in v) (subst (λ (xs : List (ℕ × List Entry)). Carries xs v.number (own_in v)) (sym idle.owns) (carries_one v.number (own_in v)));
     })
 
@@ -127,18 +117,15 @@ module _ (me m1 : Me Journal PassView) (t : ℕ) (took : Took me t m1) (idle : I
   last_new =
       ap (λ (x : Journal). drop (length x.entries - k) x.entries) adds.grown ∙ last_is b.entries (entries_in gained) k many_gained
 
-  whole_taken : IsHistoryOf me.0.opening took.log b
-  whole_taken = subst (λ (x : Journal). IsHistoryOf me.0.opening took.log x) (sym (taken_is me m1 t took b lent)) took.whole
-
-  uncut_taken : b.opening ≡ me.0.opening
-  uncut_taken = ap (λ (x : Journal). x.opening) (taken_is me m1 t took b lent) ∙ took.uncut
+  stands_taken : IsBookOf me.0.origin took.log b
+  stands_taken = subst (λ (x : Journal). IsBookOf me.0.origin took.log x) (sym (taken_is me m1 t took b lent)) took.stands
 
   own_taken : own_in me.0 ≡ own_of me.0.number took.log
   own_taken = took.own me.0.number (own_in me.0) (subst (λ (xs : List (ℕ × List Entry)). Carries xs me.0.number (own_in me.0)) (sym idle.owns) (carries_one me.0.number (own_in me.0)))
 
-  history_taken : IsHistory me.0.opening (took.log ++ entries_in gained)
+  history_taken : IsHistory me.0.origin.opening (took.log ++ entries_in gained)
   history_taken =
-      history_more me.0.opening took.log b at me.0.number gained took.history whole_taken taken.sound adds.next (own_all lb session at me.0.number gained caller adds.own)
+      history_more me.0.origin.opening took.log b at me.0.number gained took.history stands_taken.whole stands_taken.sound adds.next (own_all lb session at me.0.number gained caller adds.own)
       (λ u back. subst (λ (es : List Entry). has_made u es ≡ true) own_taken (gives u back))
 
   pub told_by : IsTold k (with_book m1 new)
@@ -150,11 +137,10 @@ module _ (me m1 : Me Journal PassView) (t : ℕ) (took : Took me t m1) (idle : I
         carried = refl;
         many = ap (λ (xs : List Entry). length xs) last_new ∙ sym many_gained;
         mine = subst (λ (xs : List Entry). AreOf me.0.number xs) (sym last_new) (own_all lb session at me.0.number gained caller adds.own);
-        history = subst (λ (xs : List Entry). IsHistory me.0.opening (took.log ++ xs)) (sym last_new) history_taken;
-        whole =
-            subst (λ (xs : List Entry). IsHistoryOf me.0.opening (took.log ++ xs) new) (sym last_new)
-            (subst (λ (x : Journal). IsHistoryOf me.0.opening (took.log ++ entries_in gained) x) (sym adds.grown) (grown_of me.0.opening took.log b gained whole_taken));
-        uncut = ap (λ (x : Journal). x.opening) adds.grown ∙ uncut_taken;
+        history = subst (λ (xs : List Entry). IsHistory me.0.origin.opening (took.log ++ xs)) (sym last_new) history_taken;
+        stands =
+            subst (λ (xs : List Entry). IsBookOf me.0.origin (took.log ++ xs) new) (sym last_new)
+            (subst (λ (x : Journal). IsBookOf me.0.origin (took.log ++ entries_in gained) x) (sym adds.grown) (book_grown me.0.origin took.log b at gained stands_taken adds.next));
       })
 
   after_turn : (after : Me Journal PassView) → Ended k (with_book m1 new) after
@@ -170,9 +156,7 @@ module _ (me m1 : Me Journal PassView) (t : ℕ) (took : Took me t m1) (idle : I
       subst (λ (g : List Receipt). TakesTurn me.0 after.0 b g) (sym (gained_is before now gained adds.receipts)) (record {
         log = took.log;
         begins = took.begins;
-        whole = whole_taken;
-        uncut = uncut_taken;
-        sound = taken.sound;
+        stands = stands_taken;
         own = own_taken;
         before = took.history;
         mine = own_all lb session at me.0.number gained caller adds.own;

@@ -13,35 +13,35 @@ use Rattle.jk_model.specs.Journal.{members}
 use Rattle.jk_model.specs.Present.{IsPresent}
 use Rattle.jk_model.specs.Tickets.{is_returned}
 use Rattle.jk_model.specs.declared.journal.Entry.{Entry}
-use Rattle.jk_model.specs.declared.opening.Opening.{Opening}
 use Rattle.jk_model.specs.declared.view.View.{View}
 use Rattle.balancer_core.specs.Desks.{holds, is_pair, without_last}
 use Rattle.balancer_core.specs.declared.receipt.Receipt.{Receipt}
 use Rattle.balancer_core.proofs.PlainLaws.{pair_is, without, without-none}
 use Rattle.seen_history.specs.Histories.{IsHistory, has_made, own_of}
+use Rattle.seen_history.specs.declared.pass_view.Origin.{Origin}
 use Rattle.seen_history.specs.declared.pass_view.PassView.{PassView}
 use Rattle.seen_history.proofs.HistoryLaws.{whole_present}
 use Rattle.seen_history.proofs.OwnLaws.{made_longer, own-append, own-same, returned-append}
 use Rattle.pass_desk.specs.Holds.{Looks, TakesTurn, entries_in, gained_in, own_in}
-use Rattle.pass_desk.specs.PassDesks.{AreGot, IsGot, IsPassDesk, PassDeskState, SeesAt, SeesMore, ShowsSeen, sizes_in, view_of}
+use Rattle.pass_desk.specs.PassDesks.{AreGot, IsGot, IsPassDesk, PassDeskState, SeesAt, SeesMore, ShowsSeen, StayPasses, StaysPass, sizes_in, view_of}
 use Rattle.pass_desk.proofs.GainLaws.{gained_is}
 use Rattle.pass_desk.specs.declared.pass.Pass.{Pass}
 use Rattle.pass_desk.specs.declared.pass_book.PassBook.{PassBook}
 
 pub within_sizes : (passes : List Pass) (lb : ℕ) → lb < length (sizes_in passes) → lb < length passes
-within_sizes passes lb lt = omega (arith, lt, length-map passes (λ (p : Pass). members (view_of p).opening))
+within_sizes passes lb lt = omega (arith, lt, length-map passes (λ (p : Pass). members (view_of p).origin.opening))
 
-pub size_at : (passes : List Pass) (lb : ℕ) (p : Pass) → get_elem? passes lb ≡ some p → slice_index (sizes_in passes) lb ≡ members (view_of p).opening
+pub size_at : (passes : List Pass) (lb : ℕ) (p : Pass) → get_elem? passes lb ≡ some p → slice_index (sizes_in passes) lb ≡ members (view_of p).origin.opening
 size_at [] lb p at = absurd (some-ne-none p (sym at))
-size_at (x ∷ xs) zero p at = ap (λ (y : Pass). members (view_of y).opening) (some-injective x p at)
+size_at (x ∷ xs) zero p at = ap (λ (y : Pass). members (view_of y).origin.opening) (some-injective x p at)
 size_at (x ∷ xs) (suc lb) p at = size_at xs lb p at
 
-pub sizes_set : (passes : List Pass) (lb : ℕ) (p q : Pass) → get_elem? passes lb ≡ some p → (view_of q).opening ≡ (view_of p).opening
+pub sizes_set : (passes : List Pass) (lb : ℕ) (p q : Pass) → get_elem? passes lb ≡ some p → (view_of q).origin ≡ (view_of p).origin
     → sizes_in (set passes lb q) ≡ sizes_in passes
 sizes_set [] lb p q at same = refl
 sizes_set (x ∷ xs) zero p q at same =
-    ap (λ (n : ℕ). n ∷ sizes_in xs) (ap members same ∙ sym (ap (λ (y : Pass). members (view_of y).opening) (some-injective x p at)))
-sizes_set (x ∷ xs) (suc lb) p q at same = ap (λ (ns : List ℕ). members (view_of x).opening ∷ ns) (sizes_set xs lb p q at same)
+    ap (λ (n : ℕ). n ∷ sizes_in xs) (ap (λ (o : Origin). members o.opening) same ∙ sym (ap (λ (y : Pass). members (view_of y).origin.opening) (some-injective x p at)))
+sizes_set (x ∷ xs) (suc lb) p q at same = ap (λ (ns : List ℕ). members (view_of x).origin.opening ∷ ns) (sizes_set xs lb p q at same)
 
 pub within_at : {A : Type 0} (xs : List A) (k : ℕ) (x : A) → get_elem? xs k ≡ some x → k < length xs
 within_at [] k x at = absurd (some-ne-none x (sym at))
@@ -75,21 +75,34 @@ desk_set books passes number lb held held' p q is at of same got = record {
   got = got;
 }
 
+-- Passes stay in their places where one call was done with one of them.
+stay_all : (passes : List Pass) → StayPasses passes passes
+stay_all [] = tt
+stay_all (p ∷ passes) = (record { of = refl; number = refl; origin = refl; given = refl }, stay_all passes)
+
+pub stay_set : (passes : List Pass) (lb : ℕ) (p q : Pass) → get_elem? passes lb ≡ some p → q.seat.table_id ≡ p.seat.table_id → q.number ≡ p.number
+    → (view_of q).origin ≡ (view_of p).origin → (view_of q).given ≡ (view_of p).given → StayPasses passes (set passes lb q)
+stay_set [] lb p q at of number origin given = tt
+stay_set (x ∷ xs) zero p q at of number origin given =
+    (subst (λ (y : Pass). StaysPass y q) (sym (some-injective x p at)) (record { of = of; number = number; origin = origin; given = given }), stay_all xs)
+stay_set (x ∷ xs) (suc lb) p q at of number origin given =
+    (record { of = refl; number = refl; origin = refl; given = refl }, stay_set xs lb p q at of number origin given)
+
 -- A turn, as the desk tells of it.
 pub sees_more : (v w : PassView) (b : _) (gained : List Receipt) → TakesTurn v w b gained → SeesMore v w (entries_in gained)
 sees_more v w b gained turn =
     let new : List Entry = entries_in gained in
     let begins : turn.log ≡ v.seen ++ turn.begins.rest = turn.begins.is in
     record {
-      opening = ap (λ (x : PassView). x.opening) turn.after;
+      origin = ap (λ (x : PassView). x.origin) turn.after;
       number = ap (λ (x : PassView). x.number) turn.after;
       between = turn.begins.rest;
       seen = ap (λ (x : PassView). x.seen) turn.after ∙ ap (λ (xs : List Entry). xs ++ new) begins;
       own = ap own_in turn.after;
       standing = record {
         history =
-            subst (λ (x : Opening). IsHistory x w.seen) (sym (ap (λ (x : PassView). x.opening) turn.after))
-            (subst (λ (xs : List Entry). IsHistory v.opening xs) (sym (ap (λ (x : PassView). x.seen) turn.after)) turn.history);
+            subst (λ (x : Origin). IsHistory x.opening w.seen) (sym (ap (λ (x : PassView). x.origin) turn.after))
+            (subst (λ (xs : List Entry). IsHistory v.origin.opening xs) (sym (ap (λ (x : PassView). x.seen) turn.after)) turn.history);
         begins = record { rest = []; is = sym (append-nil w.seen) };
         own =
             ap own_in turn.after
@@ -117,14 +130,14 @@ pub shows_set : (new : PassDeskState) (passes : List Pass) (lb : ℕ) (p q : Pas
 shows_set new passes lb p q (Ok view) at is looks =
     let turn = looks.turn in
     let seen : (view_of q).seen ≡ turn.log = ap (λ (x : PassView). x.seen) turn.after ∙ append-nil turn.log in
-    let opening : (view_of q).opening ≡ (view_of p).opening = ap (λ (x : PassView). x.opening) turn.after in
+    let origin : (view_of q).origin ≡ (view_of p).origin = ap (λ (x : PassView). x.origin) turn.after in
     record {
       pass = q;
       at = ap (λ (xs : List Pass). get_elem? xs lb) is ∙ set_here passes lb q (within_at passes lb p at);
       present =
-          subst (λ (x : Opening). IsPresent 2 x (reverse (view_of q).seen) view) (sym opening)
-          (subst (λ (xs : List Entry). IsPresent 2 (view_of p).opening (reverse xs) view) (sym seen)
-          (whole_present (view_of p).opening turn.log looks.book view turn.whole turn.sound looks.present));
+          subst (λ (x : Origin). IsPresent 2 x.opening (reverse (view_of q).seen) view) (sym origin)
+          (subst (λ (xs : List Entry). IsPresent 2 (view_of p).origin.opening (reverse xs) view) (sym seen)
+          (whole_present (view_of p).origin.opening turn.log looks.book view turn.stands.whole turn.stands.sound looks.present));
     }
 shows_set new passes lb p q (Err e) at is looks = tt
 

@@ -4,11 +4,11 @@ use mathlib.Core.Option.{none, some, some-ne-none}
 use lib.ListN.{get_elem?}
 use Rattle.atomic_table.specs.Table.{Allows, Me, Step, step}
 use Rattle.jk_model.specs.declared.journal.Entry.{Entry}
-use Rattle.jk_model.specs.declared.opening.Opening.{Opening}
 use Rattle.balancer_core.specs.Journal.{Journal}
 use Rattle.seen_history.specs.Histories.{BeginsWith}
 use Rattle.seen_history.specs.Plays.{PutTogether, joined}
 use Rattle.seen_history.specs.Turns.{IsPassTable}
+use Rattle.seen_history.specs.declared.pass_view.Origin.{Origin}
 use Rattle.seen_history.specs.declared.pass_view.PassView.{PassView}
 use Rattle.seen_history.proofs.JoinLaws.{puts_together}
 use Rattle.pass_desk.specs.Holds.{IsIdle, IsNote, first_own, own_in}
@@ -17,7 +17,7 @@ use Rattle.pass_desk.specs.PassDesks.{ArePassesOf, IsPassDesk}
 use Rattle.pass_desk.specs.declared.pass.Pass.{Pass}
 use Rattle.pass_desk.specs.declared.pass_book.PassBook.{PassBook}
 
-pub together_joined : (o : Opening) (slots id : ℕ) (me note m : Me Journal PassView) → IsIdle me → m ≡ (joined me.0 note.0, me.1)
+pub together_joined : (o : Origin) (slots id : ℕ) (me note m : Me Journal PassView) → IsIdle me → m ≡ (joined me.0 note.0, me.1)
     → Allows (IsPassTable o) slots id m 0 (λ n. n) (PutTogether (step slots 0 0 0 none) m)
 together_joined o slots id me note m idle is =
     subst (λ (x : Me Journal PassView). Allows (IsPassTable o) slots id x 0 (λ n. n) (PutTogether (step slots 0 0 0 none) x)) (sym is)
@@ -38,8 +38,9 @@ meets_of s me note m after found idle noted is put =
       own_seen = subst (λ (xs : List Entry). BeginsWith xs me.0.seen) (sym seen) here.own;
       note_seen = subst (λ (xs : List Entry). BeginsWith xs note.0.seen) (sym seen) here.told;
       one = subst (λ (xs : List Entry). (xs ≡ me.0.seen) ⊎ (xs ≡ note.0.seen)) (sym seen) here.one;
-      opening = ap (λ (x : PassView). x.opening) view;
+      origin = ap (λ (x : PassView). x.origin) view;
       owns = ap (λ (x : PassView). x.owns) view ∙ owns_joined me note idle noted;
+      given = ap (λ (x : PassView). x.given) view;
     }
 
 pub idle_met : (s : Step Journal) (me note m after : Me Journal PassView) (found : ℕ) → IsIdle me → IsNote note → m ≡ (joined me.0 note.0, me.1)

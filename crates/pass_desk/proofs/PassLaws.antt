@@ -5,28 +5,34 @@ use lib.ListN.{get_elem?}
 use Rattle.atomic_table.specs.Seated.{TableId}
 use Rattle.atomic_table.specs.Table.{Me, opening}
 use Rattle.atomic_table.proofs.Lists.{at_set}
-use Rattle.jk_model.specs.declared.opening.Opening.{Opening}
 use Rattle.balancer_core.specs.Journal.{IsSound, Journal}
 use Rattle.seen_history.specs.Plays.{giver_after, next_caller}
-use Rattle.seen_history.specs.Turns.{IsPassTable, first_view}
+use Rattle.seen_history.specs.Turns.{IsBookOf, IsPassTable, first_view}
+use Rattle.seen_history.specs.declared.pass_view.Origin.{Origin}
 use Rattle.seen_history.specs.declared.pass_view.PassView.{PassView}
 use Rattle.seen_history.proofs.EndLaws.{begins}
 use Rattle.seen_history.proofs.HistoryLaws.{begins_here}
 use Rattle.seen_history.proofs.SeatLaws.{at_end}
-use Rattle.pass_desk.specs.Passes.{AreNewPasses, IsNewPass}
+use Rattle.pass_desk.specs.Passes.{AreNewPasses, IsNewPass, origin_of}
 use Rattle.pass_desk.specs.declared.pass.Pass.{Pass}
 
 -- The table of a Book without an entry.
-pub begins_table : (b v : Journal) (items : List Journal) → v ≡ b → items ≡ b ∷ [] → b.rules ≡ 2 → b.entries ≡ [] → IsSound b
-    → IsPassTable v.opening (opening (0 ∷ 0 ∷ 0 ∷ []) items (first_view v.opening))
-begins_table b v items same all rules empty sound =
+pub begins_table : (b v : Journal) (cut_at : ℕ) (items : List Journal) → v ≡ b → items ≡ b ∷ [] → b.rules ≡ 2 → b.entries ≡ [] → IsSound b
+    → IsPassTable (origin_of v cut_at) (opening (0 ∷ 0 ∷ 0 ∷ []) items (first_view (origin_of v cut_at)))
+begins_table b v cut_at items same all rules empty sound =
     let here = begins_here b rules empty sound in
-    subst (λ (x : Journal). IsPassTable x.opening (opening (0 ∷ 0 ∷ 0 ∷ []) items (first_view x.opening))) (sym same)
-    (subst (λ (xs : List Journal). IsPassTable b.opening (opening (0 ∷ 0 ∷ 0 ∷ []) xs (first_view b.opening))) (sym all)
-    (begins b.opening b here.0 here.1 refl))
+    let stands : IsBookOf (origin_of b cut_at) [] b = record {
+      whole = here.1;
+      sound = sound;
+      counted = let sum : b.added ≡ b.added + 0 = omega arith in sum;
+      uncut = λ never. refl;
+    } in
+    subst (λ (x : Journal). IsPassTable (origin_of x cut_at) (opening (0 ∷ 0 ∷ 0 ∷ []) items (first_view (origin_of x cut_at)))) (sym same)
+    (subst (λ (xs : List Journal). IsPassTable (origin_of b cut_at) (opening (0 ∷ 0 ∷ 0 ∷ []) xs (first_view (origin_of b cut_at)))) (sym all)
+    (begins (origin_of b cut_at) b here.0 stands))
 
 -- The first pass after it gave a number.
-pub giver_new : (o : Opening) (table : TableId) (n : ℕ) (p q : Pass) → IsNewPass o table n 0 p → q.seat.table_id ≡ p.seat.table_id → q.number ≡ p.number
+pub giver_new : (o : Origin) (table : TableId) (n : ℕ) (p q : Pass) → IsNewPass o table n 0 p → q.seat.table_id ≡ p.seat.table_id → q.number ≡ p.number
     → q.seat.me ≡ (giver_after p.seat.me.0, p.seat.me.1) → IsNewPass o table (n + 1) 0 q
 giver_new o table n p q is of number me =
     let view : q.seat.me.0 ≡ giver_after p.seat.me.0 = ap (λ (x : Me Journal PassView). x.0) me in
@@ -34,7 +40,7 @@ giver_new o table n p q is of number me =
       of = of ∙ is.of;
       number = number ∙ is.number;
       view = record {
-        opening = ap (λ (x : PassView). x.opening) view ∙ is.view.opening;
+        origin = ap (λ (x : PassView). x.origin) view ∙ is.view.origin;
         numbered = ap (λ (x : PassView). x.number) view ∙ is.view.numbered;
         seen = ap (λ (x : PassView). x.seen) view ∙ is.view.seen;
         owns = ap (λ (x : PassView). x.owns) view ∙ is.view.owns;
@@ -43,7 +49,7 @@ giver_new o table n p q is of number me =
     }
 
 -- The pass of the number that it gave.
-pub caller_new : (o : Opening) (table : TableId) (n : ℕ) (p q : Pass) → 1 ≤ n → IsNewPass o table n 0 p → q.seat.table_id ≡ p.seat.table_id → q.number ≡ n
+pub caller_new : (o : Origin) (table : TableId) (n : ℕ) (p q : Pass) → 1 ≤ n → IsNewPass o table n 0 p → q.seat.table_id ≡ p.seat.table_id → q.number ≡ n
     → q.seat.me ≡ (next_caller p.seat.me.0, []) → IsNewPass o table (n + 1) n q
 caller_new o table n p q above is of number me =
     let view : q.seat.me.0 ≡ next_caller p.seat.me.0 = ap (λ (x : Me Journal PassView). x.0) me in
@@ -51,7 +57,7 @@ caller_new o table n p q above is of number me =
       of = of ∙ is.of;
       number = number;
       view = record {
-        opening = ap (λ (x : PassView). x.opening) view ∙ is.view.opening;
+        origin = ap (λ (x : PassView). x.origin) view ∙ is.view.origin;
         numbered = ap (λ (x : PassView). x.number) view ∙ is.root refl;
         seen = ap (λ (x : PassView). x.seen) view ∙ is.view.seen;
         owns = ap (λ (x : PassView). x.owns) view ∙ ap (λ (k : ℕ). (k, []) ∷ []) (is.root refl);
@@ -59,7 +65,7 @@ caller_new o table n p q above is of number me =
       root = λ none. absurd (omega arith);
     }
 
-pub deal_step : (o : Opening) (table : TableId) (n : ℕ) (xs ys : List Pass) (p q : Pass) → AreNewPasses o table n xs → ys ≡ set xs 0 p ++ q ∷ []
+pub deal_step : (o : Origin) (table : TableId) (n : ℕ) (xs ys : List Pass) (p q : Pass) → AreNewPasses o table n xs → ys ≡ set xs 0 p ++ q ∷ []
     → IsNewPass o table (n + 1) 0 p → IsNewPass o table (n + 1) n q → AreNewPasses o table (n + 1) ys
 deal_step o table n xs ys p q are is first last =
     subst (λ (zs : List Pass). AreNewPasses o table (n + 1) zs) (sym is) (record {

@@ -3,10 +3,10 @@ use Rattle.std.proofs.Common.{◌≡◌, ℕ, ◌+◌, ◌%◌, ◌^◌, List, [
 use mathlib.Core.Option.{none}
 use Rattle.atomic_table.specs.Table.{Allows, Me, Step, rest, step}
 use Rattle.jk_model.specs.declared.journal.Entry.{Entry}
-use Rattle.jk_model.specs.declared.opening.Opening.{Opening}
 use Rattle.balancer_core.specs.Journal.{Journal}
 use Rattle.seen_history.specs.Plays.{Drew, Left, Polled, Took, grown_owns, last_in, turn_of, turning}
 use Rattle.seen_history.specs.Turns.{IsPassTable}
+use Rattle.seen_history.specs.declared.pass_view.Origin.{Origin}
 use Rattle.seen_history.specs.declared.pass_view.PassView.{PassView}
 use Rattle.seen_history.specs.declared.pass_view.Turn.TheVariants.{Idle, Waits}
 use Rattle.seen_history.proofs.CountLaws.{leaves}
@@ -14,7 +14,7 @@ use Rattle.seen_history.proofs.DrawLaws.{polls}
 use Rattle.pass_desk.specs.Holds.{Ended, IsTold}
 
 -- A caller that drew a turn may look whether it has come.
-pub polls_drawn : (o : Opening) (slots id found : ℕ) (s : Step Journal) (me m : Me Journal PassView) → Drew s me found m
+pub polls_drawn : (o : Origin) (slots id found : ℕ) (s : Step Journal) (me m : Me Journal PassView) → Drew s me found m
     → Allows (IsPassTable o) slots id m 1 (λ n. n) (Polled (step slots 1 0 0 none) m)
 polls_drawn o slots id found s me m drew =
     subst (λ (x : Me Journal PassView). Allows (IsPassTable o) slots id x 1 (λ n. n) (Polled (step slots 1 0 0 none) x)) (sym drew.is)
@@ -36,8 +36,7 @@ came_drawn s s' me m after drawn found drew polled same =
         is = here.is;
         begins = here.begins;
         history = here.history;
-        whole = here.whole;
-        uncut = here.uncut;
+        stands = here.stands;
         own = here.own;
       },
     )
@@ -58,11 +57,11 @@ told_is : (k : ℕ) (me m : Me Journal PassView) (told : IsTold k me) → m ≡ 
 told_is k me m told is = is ∙ ap (λ (c : List (ℕ × Journal)). ((told_me k me).0, c)) told.carried
 
 -- It may leave.
-pub leaves_told : (o : Opening) (slots id k : ℕ) (me m : Me Journal PassView) → IsTold k me → m ≡ told_me k me
+pub leaves_told : (o : Origin) (slots id k : ℕ) (me m : Me Journal PassView) → IsTold k me → m ≡ told_me k me
     → Allows (IsPassTable o) slots id m 1 (λ n. (n + 1) % 2 ^ 64) (Left (step slots 1 1 0 none) m)
 leaves_told o slots id k me m told is =
     subst (λ (x : Me Journal PassView). Allows (IsPassTable o) slots id x 1 (λ n. (n + 1) % 2 ^ 64) (Left (step slots 1 1 0 none) x)) (sym (told_is k me m told is))
-    (leaves o slots id (told_me k me).0 told.book [] _ told.turn (ap (λ (xs : List (ℕ × List Entry)). grown_owns (last_in k me.1) xs) told.owns) told.whole told.uncut)
+    (leaves o slots id (told_me k me).0 told.book [] _ told.turn (ap (λ (xs : List (ℕ × List Entry)). grown_owns (last_in k me.1) xs) told.owns) told.stands)
 
 -- It left.
 pub ended_told : (k : ℕ) (me m after : Me Journal PassView) → IsTold k me → m ≡ told_me k me → after ≡ (turning m.0 Idle m.0.seen m.0.owns, rest m.1) → Ended k me after

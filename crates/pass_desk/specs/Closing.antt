@@ -5,9 +5,10 @@ use Rattle.atomic_table.specs.Table.{Me}
 use Rattle.atomic_table.specs.declared.shared.Seat.{Seat}
 use mathlib.Core.Option.{some}
 use lib.ListN.{get_elem?}
-use Rattle.balancer_core.specs.Journal.{IsSound, Journal}
-use Rattle.seen_history.specs.Histories.{own_of}
-use Rattle.seen_history.specs.Turns.{Carries}
+use Rattle.jk_model.specs.declared.journal.Entry.{Entry}
+use Rattle.balancer_core.specs.Journal.{Journal}
+use Rattle.seen_history.specs.Histories.{IsHistory, own_of}
+use Rattle.seen_history.specs.Turns.{Carries, IsBookOf}
 use Rattle.seen_history.specs.declared.pass_view.PassView.{PassView}
 use Rattle.seen_history.specs.declared.pass_view.Turn.TheVariants.{Idle}
 use Rattle.pass_desk.specs.Holds.{own_in}
@@ -40,6 +41,7 @@ pub record GaveRoot (done : List Pass) (v : PassView) : Type 0 where
   pub number : pass.number ≡ 0
   pub roots : v.roots ≡ true
   pub given : v.given ≡ (view_of pass).given
+  pub origin : v.origin ≡ (view_of pass).origin
 
 pub record HasGathered (table : TableId) (done : List Pass) (seat : Seat Journal PassView) : Type 0 where
   pub of : seat.table_id ≡ table
@@ -47,9 +49,13 @@ pub record HasGathered (table : TableId) (done : List Pass) (seat : Seat Journal
   pub carries : (k : ℕ) (p : Pass) → get_elem? done k ≡ some p → Carries seat.me.0.owns p.number (own_in (view_of p))
   pub root : HasNumber done 0 → GaveRoot done seat.me.0
 
--- The Book of closed passes has one history, which each of them has seen the beginning of; the passes' own entries are its entries
--- of their numbers, each once and in order, and it has no others.
+-- The Book of closed passes is that of one whole history, which begins where the pass of number 0 knows, and of which it keeps
+-- the entries since its last cut. In that history the passes' own entries are the entries of their numbers, each once and in
+-- order, and there are no others.
 pub record IsClosed (passes : List Pass) (b : Journal) : Type 0 where
-  pub sound : IsSound b
-  pub own : (k : ℕ) (p : Pass) → get_elem? passes k ≡ some p → own_in (view_of p) ≡ own_of p.number b.entries
-  pub no_others : (n : ℕ) → (HasNumber passes n → ⊥) → own_of n b.entries ≡ []
+  pub first : HasNumber passes 0
+  pub log : List Entry
+  pub history : IsHistory (view_of first.pass).origin.opening log
+  pub stands : IsBookOf (view_of first.pass).origin log b
+  pub own : (k : ℕ) (p : Pass) → get_elem? passes k ≡ some p → own_in (view_of p) ≡ own_of p.number log
+  pub no_others : (n : ℕ) → (HasNumber passes n → ⊥) → own_of n log ≡ []

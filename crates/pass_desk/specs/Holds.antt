@@ -17,14 +17,15 @@ use Rattle.jk_model.specs.declared.refusal.RoomError.{RoomError}
 use Rattle.jk_model.specs.declared.view.View.{View}
 use Rattle.balancer_core.specs.Commanded.{IsKnown}
 use Rattle.balancer_core.specs.Desks.{IsAskRefusal, IsCommandRefusal}
-use Rattle.balancer_core.specs.Journal.{AddsEntry, IsSound, Journal, past_of}
+use Rattle.balancer_core.specs.Journal.{AddsEntry, Journal, past_of}
 use Rattle.balancer_core.specs.Leases.{IsLeaseOf}
 use Rattle.balancer_core.specs.PlainDesks.{BookCommands, BookGainsDue, BookGainsLast, Picks, receipt_of}
 use Rattle.balancer_core.specs.declared.book.Picked.{Picked}
 use Rattle.balancer_core.specs.declared.desk.Occasion.{Occasion}
 use Rattle.balancer_core.specs.declared.receipt.Receipt.{Receipt}
-use Rattle.seen_history.specs.Histories.{AreOf, BeginsWith, IsHistory, IsHistoryOf, own_of}
+use Rattle.seen_history.specs.Histories.{AreOf, BeginsWith, IsHistory, own_of}
 use Rattle.seen_history.specs.Plays.{grown_owns, last_in, turn_of, turning}
+use Rattle.seen_history.specs.Turns.{IsBookOf}
 use Rattle.seen_history.specs.declared.pass_view.PassView.{PassView}
 use Rattle.seen_history.specs.declared.pass_view.Turn.TheVariants.{Idle, Out}
 
@@ -61,9 +62,8 @@ pub record IsTold (k : ℕ) (me : Me Journal PassView) : Type 0 where
   pub carried : me.1 ≡ (0, book) ∷ []
   pub many : length (last_in k me.1) ≡ k
   pub mine : AreOf me.0.number (last_in k me.1)
-  pub history : IsHistory me.0.opening (me.0.seen ++ last_in k me.1)
-  pub whole : IsHistoryOf me.0.opening (me.0.seen ++ last_in k me.1) book
-  pub uncut : book.opening ≡ me.0.opening
+  pub history : IsHistory me.0.origin.opening (me.0.seen ++ last_in k me.1)
+  pub stands : IsBookOf me.0.origin (me.0.seen ++ last_in k me.1) book
 
 -- It told them and gave the Book back.
 abbrev pub Ended : (k : ℕ) → Me Journal PassView → Me Journal PassView → Type 0
@@ -79,13 +79,11 @@ gained_in before now = drop (length before) now
 pub record TakesTurn (v w : PassView) (b : Journal) (gained : List Receipt) : Type 0 where
   pub log : List Entry
   pub begins : BeginsWith log v.seen
-  pub whole : IsHistoryOf v.opening log b
-  pub uncut : b.opening ≡ v.opening
-  pub sound : IsSound b
+  pub stands : IsBookOf v.origin log b
   pub own : own_in v ≡ own_of v.number log
-  pub before : IsHistory v.opening log
+  pub before : IsHistory v.origin.opening log
   pub mine : AreOf v.number (entries_in gained)
-  pub history : IsHistory v.opening (log ++ entries_in gained)
+  pub history : IsHistory v.origin.opening (log ++ entries_in gained)
   pub after : w ≡ turning v Idle (log ++ entries_in gained) ((v.number, own_in v ++ entries_in gained) ∷ [])
 
 -- A turn that chose.

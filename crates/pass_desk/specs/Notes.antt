@@ -11,7 +11,7 @@ use Rattle.pass_desk.specs.declared.pass.Pass.{Pass}
 -- A note of what this pass has seen.
 pub record IsNoteOf (p : Pass) (note : Note) : Type 0 where
   pub of : note.seat.table_id ≡ p.seat.table_id
-  pub opening : note.seat.me.0.opening ≡ (view_of p).opening
+  pub origin : note.seat.me.0.origin ≡ (view_of p).origin
   pub seen : note.seat.me.0.seen ≡ (view_of p).seen
 
 -- What the pass had seen and what the note has seen are both beginnings of what is then seen, which is the longer of them.
@@ -19,8 +19,9 @@ pub record Meets (v note w : PassView) : Type 0 where
   pub own_seen : BeginsWith w.seen v.seen
   pub note_seen : BeginsWith w.seen note.seen
   pub one : (w.seen ≡ v.seen) ⊎ (w.seen ≡ note.seen)
-  pub opening : w.opening ≡ v.opening
+  pub origin : w.origin ≡ v.origin
   pub owns : w.owns ≡ v.owns
+  pub given : w.given ≡ v.given
 
 -- The pass of balancer lb met the note, and every other pass is as it was.
 pub record MeetsAt (old new : PassDeskState) (lb : ℕ) (note : Note) : Type 0 where

@@ -2,6 +2,7 @@
 use Rattle.std.specs.Prelude.{◌≡◌, ℕ, ◌⊎◌, true, false, List, [], ◌∷◌, ◌++◌, length, map, reverse, Some, None}
 use mathlib.Core.Option.{some}
 use lib.ListN.{get_elem?}
+use Rattle.atomic_table.specs.Seated.{TableId}
 use Rattle.jk_model.specs.Journal.{members}
 use Rattle.jk_model.specs.Present.{IsPresent}
 use Rattle.jk_model.specs.Tickets.{is_returned}
@@ -24,9 +25,16 @@ pub record PassDeskState : Type 0 where
 abbrev pub view_of : Pass → PassView
 view_of p = p.seat.me.0
 
+-- The table that a pass is of, and that of a book.
+abbrev pub table_of : Pass → TableId
+table_of p = p.seat.table_id
+
+abbrev pub table_in : PassBook → TableId
+table_in b = b.table.shared.table_id
+
 -- The numbers of members, by what the passes know.
 abbrev pub sizes_in : List Pass → List ℕ
-sizes_in passes = map (λ p. members (view_of p).opening) passes
+sizes_in passes = map (λ p. members (view_of p).origin.opening) passes
 
 -- What is told of the desk of a caller with this number.
 abbrev pub pass_state : (number : ℕ) (sizes : List ℕ) → List Receipt → List (ℕ × ℕ) → (fulls wides : ℕ) → DeskState
@@ -74,17 +82,31 @@ pub record ArePassesOf (books : List PassBook) (passes : List Pass) : Type 0 whe
   pub of : (lb : ℕ) (b : PassBook) (p : Pass) → get_elem? books lb ≡ some b → get_elem? passes lb ≡ some p → p.seat.table_id ≡ b.table.shared.table_id
   pub one : (i j : ℕ) (p q : Pass) → get_elem? passes i ≡ some p → get_elem? passes j ≡ some q → p.number ≡ q.number
 
+-- A pass stays of its table and number, its history begins where it did, and it gave as many numbers.
+pub record StaysPass (p q : Pass) : Type 0 where
+  pub of : q.seat.table_id ≡ p.seat.table_id
+  pub number : q.number ≡ p.number
+  pub origin : (view_of q).origin ≡ (view_of p).origin
+  pub given : (view_of q).given ≡ (view_of p).given
+
+-- So does each of these, in its place.
+abbrev pub StayPasses : (old new : List Pass) → Type 0
+StayPasses [] [] = Unit {0}
+StayPasses [] (q ∷ qs) = ⊥
+StayPasses (p ∷ ps) [] = ⊥
+StayPasses (p ∷ ps) (q ∷ qs) = StaysPass p q × StayPasses ps qs
+
 -- What a pass knows of a history: it is a legal one from the opening that the pass knows, what the pass has seen is its beginning,
 -- and the pass's own entries are those of its number in it, each once and in the order of its calls.
 pub record Standing (v : PassView) (h : List Entry) : Type 0 where
-  pub history : IsHistory v.opening h
+  pub history : IsHistory v.origin.opening h
   pub begins : BeginsWith h v.seen
   pub own : own_in v ≡ own_of v.number h
 
 -- After a call all that a pass has seen is a legal history, which begins with all that it had seen and ends with the entries
 -- that the call added. Of the caller's entries it has just its own, each once and in the order of its calls.
 pub record SeesMore (v w : PassView) (new : List Entry) : Type 0 where
-  pub opening : w.opening ≡ v.opening
+  pub origin : w.origin ≡ v.origin
   pub number : w.number ≡ v.number
   pub between : List Entry
   pub seen : w.seen ≡ v.seen ++ between ++ new
@@ -105,4 +127,4 @@ MaySee old new lb = SeesAt old new lb ⊎ ((map view_of new.passes ≡ map view_
 pub record ShowsSeen (new : PassDeskState) (lb : ℕ) (view : View) : Type 0 where
   pub pass : Pass
   pub at : get_elem? new.passes lb ≡ some pass
-  pub present : IsPresent 2 (view_of pass).opening (reverse (view_of pass).seen) view
+  pub present : IsPresent 2 (view_of pass).origin.opening (reverse (view_of pass).seen) view

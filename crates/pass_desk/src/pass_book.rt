@@ -2,10 +2,10 @@
 ghost use Rattle.std.specs.Prelude.{◌≡◌, ◌<◌, ◌≤◌, [], IfOk, vec_capacity};
 ghost use Rattle.seen_history.specs.Plays.{giver_after, next_caller};
 ghost use Rattle.jk_model.specs.declared.segment.TheConstants.{MODERN_RULES};
-ghost use Rattle.pass_desk.specs.Passes.{AreNewPasses, IsNewPass};
+ghost use Rattle.pass_desk.specs.Passes.{AreNewPasses, IsNewPass, origin_of};
 
 use crate::pass::{Pass, PassList};
-use crate::rule::{InTurns, NextCaller};
+use crate::rule::{Founding, InTurns, NextCaller};
 use atomic_table::Table;
 use balancer_core::Book;
 use jk_io::NoMemory;
@@ -16,33 +16,36 @@ use std::snapshot::Snapshot;
 /// The most passes of a pass book.
 pub const MAX_PASSES: u32 = 64;
 
-pub(crate) type PassTable = Table<Book, PassView, Snapshot<Book>, InTurns, Global>;
+pub(crate) type PassTable = Table<Book, PassView, Founding, InTurns, Global>;
 
 /// A Book of rules 2 whose callers take turns. Its words are the turns drawn, the turns served and the count of all entries.
 #[derive(Drop)]
 pub struct PassBook {
     pub(crate) table: PassTable,
+    /// The number of kept entries from which on the journal is cut; 0 is never.
+    pub(crate) cut_at: u32,
     ghost words: { table.shared.table_id.words ≡ 3 },
     ghost slots: { table.shared.table_id.slots ≡ 1 },
-    ghost modern: { table.shared.key.value.rules ≡ MODERN_RULES },
+    ghost modern: { table.shared.key.book.value.rules ≡ MODERN_RULES },
+    ghost cuts: { table.shared.key.cut_at ≡ cut_at },
 }
 
 impl PassBook {
     ghost use Rattle.std.specs.Prelude.{◌≡◌, ◌≤◌, [], IfOk};
     ghost use Rattle.jk_model.specs.declared.segment.TheConstants.{MODERN_RULES};
-    ghost use Rattle.pass_desk.specs.Passes.{AreNewPasses};
+    ghost use Rattle.pass_desk.specs.Passes.{AreNewPasses, origin_of};
 
-    /// A Book whose callers take turns, and its passes, with the numbers from 0 up.
+    /// A Book whose callers take turns, and its passes, with the numbers from 0 up. It is never cut.
     pub fn new(alloc: Global, book: Book, passes: u32) -> Result<(PassBook, PassList), NoMemory>
         requires some { 1 ≤ passes }
         requires few { passes ≤ MAX_PASSES }
         requires modern { book.rules ≡ MODERN_RULES }
         requires empty { book.entries ≡ [] }
         requires none_out { book.opening.out ≡ [] }
-        ensures { IfOk result (λ made. AreNewPasses book.opening made.0.table.shared.table_id passes made.1) }
+        ensures { IfOk result (λ made. AreNewPasses (origin_of book 0) made.0.table.shared.table_id passes made.1) }
     {
         let mut list = Vec::with_capacity(alloc, passes as usize)?;
-        let (table, first) = begin_table(alloc, book)?;
+        let (table, first) = begin_table(alloc, book, 0)?;
         list.push(first).unwrap();
         deal(&table, &mut list, passes);
         Ok((table, PassList::from_vec(list)))
@@ -50,18 +53,21 @@ impl PassBook {
 }
 
 // The table of a Book, and its first caller.
-fn begin_table(alloc: Global, book: Book) -> Result<(PassBook, Pass), NoMemory>
+fn begin_table(alloc: Global, book: Book, cut_at: u32) -> Result<(PassBook, Pass), NoMemory>
     requires modern { book.rules ≡ MODERN_RULES }
     requires empty { book.entries ≡ [] }
-    ensures pass { IfOk result (λ made. IsNewPass book.opening made.0.table.shared.table_id 1 0 made.1) }
-    ensures opening { IfOk result (λ made. made.0.table.shared.key.value.opening ≡ book.opening) }
+    ensures pass { IfOk result (λ made. IsNewPass (origin_of book cut_at) made.0.table.shared.table_id 1 0 made.1) }
+    ensures founded { IfOk result (λ made. (made.0.table.shared.key.book.value ≡ book) × (made.0.cut_at ≡ cut_at)) }
 {
     let mut slots = Vec::with_capacity(alloc, 1)?;
     book.kept();
-    let about = Snapshot::of(&book);
+    let about = Founding {
+        book: Snapshot::of(&book),
+        cut_at,
+    };
     slots.push(book).unwrap();
     match Table::new(alloc, &[0, 0, 0], slots, &about) {
-        Ok((table, seat)) => Ok((PassBook { table }, Pass { seat, number: 0 })),
+        Ok((table, seat)) => Ok((PassBook { table, cut_at }, Pass { seat, number: 0 })),
         Err(_) => Err(NoMemory),
     }
 }
@@ -71,8 +77,8 @@ fn deal(book: &PassBook, list: &mut Vec<Pass>, passes: u32)
     requires few { passes ≤ MAX_PASSES }
     requires some { 1 ≤ passes }
     requires room { passes ≤ vec_capacity list.old }
-    requires first { AreNewPasses book.now.table.shared.key.value.opening book.now.table.shared.table_id 1 list.old.items }
-    ensures { AreNewPasses book.now.table.shared.key.value.opening book.now.table.shared.table_id passes list.new.items }
+    requires first { AreNewPasses (origin_of book.now.table.shared.key.book.value book.now.cut_at) book.now.table.shared.table_id 1 list.old.items }
+    ensures { AreNewPasses (origin_of book.now.table.shared.key.book.value book.now.cut_at) book.now.table.shared.table_id passes list.new.items }
 {
     for number in 1..passes {
         let pass = next_pass(book, &mut list[0], number);

@@ -47,7 +47,7 @@ impl<'b, 'r, R> PassDesk<'b, 'r, R> {
     ghost use lib.ListN.{get_elem?};
     ghost use Rattle.pass_desk.specs.declared.pass.Pass.{Pass};
     ghost use Rattle.pass_desk.specs.Notes.{IsNoteOf, MeetsAt};
-    ghost use Rattle.pass_desk.specs.PassDesks.{ArePassesOf, desk_value, view_of};
+    ghost use Rattle.pass_desk.specs.PassDesks.{ArePassesOf, StayPasses, desk_value, view_of};
 
     /// A desk with one pass of each book, in order, all of one number. It holds no ticket, and takes no memory.
     pub fn new(
@@ -89,6 +89,7 @@ impl<'b, 'r, R> PassDesk<'b, 'r, R> {
         ensures note { (p : Pass) → get_elem? self.old.passes lb ≡ some p → IsNoteOf p result }
         ensures desk { self.new.desk ≡ self.old.desk }
         ensures views { map view_of self.new.passes ≡ map view_of self.old.passes }
+        ensures stay { StayPasses self.old.passes self.new.passes }
     {
         note_at(&self.books[lb as usize], &mut self.passes[lb as usize])
     }
@@ -99,6 +100,7 @@ impl<'b, 'r, R> PassDesk<'b, 'r, R> {
         requires of { (p : Pass) → get_elem? self.old.passes lb ≡ some p → note.seat.table_id ≡ p.seat.table_id }
         ensures desk { self.new.desk ≡ self.old.desk }
         ensures meets { MeetsAt self.old self.new lb note }
+        ensures stay { StayPasses self.old.passes self.new.passes }
     {
         meet_at(
             &self.books[lb as usize],
@@ -137,7 +139,7 @@ impl<'b, 'r, R: Wait> Desk for PassDesk<'b, 'r, R> {
     };
     ghost use Rattle.balancer_core.specs.PlainLeases.{note_of};
     ghost use Rattle.jk_model.specs.declared.journal.TheConstants.{MOST_BYTES};
-    ghost use Rattle.pass_desk.specs.PassDesks.{MaySee, SeesAt, ShowsSeen};
+    ghost use Rattle.pass_desk.specs.PassDesks.{MaySee, SeesAt, ShowsSeen, StayPasses};
 
     type Lease = PlainLease;
 
@@ -168,6 +170,7 @@ impl<'b, 'r, R: Wait> Desk for PassDesk<'b, 'r, R> {
 
         // All that was seen was seen before, or is the call's own, or comes between the two.
         ensures seen { MaySee self.old self.new lb }
+        ensures stay { StayPasses self.old.passes self.new.passes }
     {
         let done = choose_at(
             self.rt,
@@ -200,6 +203,7 @@ impl<'b, 'r, R: Wait> Desk for PassDesk<'b, 'r, R> {
         ensures same { (self.new.desk.fulls ≡ self.old.desk.fulls) × (self.new.desk.wides ≡ self.old.desk.wides) }
         ensures kept { KeepsDesk self.old.desk self.new.desk }
         ensures seen { SeesAt self.old self.new (note_of lease).lb }
+        ensures stay { StayPasses self.old.passes self.new.passes }
     {
         let (lb, ticket) = lease.into_pair();
         return_at(
@@ -228,6 +232,7 @@ impl<'b, 'r, R: Wait> Desk for PassDesk<'b, 'r, R> {
         ensures stray { MeetsNone self.old.desk self.new.desk }
         ensures kept { KeepsDesk self.old.desk self.new.desk }
         ensures seen { MaySee self.old self.new lb }
+        ensures stay { StayPasses self.old.passes self.new.passes }
     {
         let done = command_at(
             self.rt,
@@ -248,6 +253,7 @@ impl<'b, 'r, R: Wait> Desk for PassDesk<'b, 'r, R> {
 
         // It is the view of all that the pass has then seen.
         ensures seen { SeesAt self.old self.new lb }
+        ensures stay { StayPasses self.old.passes self.new.passes }
         ensures present { IfOk result (λ view. ShowsSeen self.new lb view) }
     {
         look_in(

@@ -5,15 +5,23 @@ use balancer_core::Book;
 use seen_history::PassView;
 use std::snapshot::Snapshot;
 
-/// The rule, for the Book that the table began with.
+/// What a table began with, and the count of kept entries at which its Book is cut, 0 for never.
+#[derive(Drop)]
+pub(crate) struct Founding {
+    pub(crate) book: Snapshot<Book>,
+    pub(crate) cut_at: u32,
+}
+
+/// The rule, for what the table began with.
 pub(crate) struct InTurns;
 
-impl TableRule<Book, PassView, Snapshot<Book>> for InTurns {
+impl TableRule<Book, PassView, Founding> for InTurns {
     ghost use Rattle.seen_history.specs.Turns.{IsPassTable, first_view};
+    ghost use Rattle.pass_desk.specs.Passes.{origin_of};
 
-    ghost holds = { λ key. IsPassTable key.value.opening };
+    ghost holds = { λ key. IsPassTable (origin_of key.book.value key.cut_at) };
 
-    ghost first = { λ key. first_view key.value.opening };
+    ghost first = { λ key. first_view (origin_of key.book.value key.cut_at) };
 }
 
 /// A turn was drawn.

@@ -6,11 +6,11 @@ use mathlib.Core.Option.{Option, none, some, some-injective}
 use lib.ListN.{get_elem?}
 use Rattle.atomic_table.specs.Table.{Allows, gives, keeps, step}
 use Rattle.jk_model.specs.declared.journal.Entry.{Entry}
-use Rattle.jk_model.specs.declared.opening.Opening.{Opening}
 use Rattle.balancer_core.specs.Journal.{Journal}
-use Rattle.seen_history.specs.Histories.{AreOf, BeginsWith, IsHistory, IsHistoryOf, own_of}
+use Rattle.seen_history.specs.Histories.{AreOf, BeginsWith, IsHistory, own_of}
 use Rattle.seen_history.specs.Plays.{Counted, Left, grown_owns, last_in, turn_of, turning}
-use Rattle.seen_history.specs.Turns.{Carries, IsLive, IsPassTable, IsServed, IsWaiting, Queue, SlotFits, TurnFits, ViewFits}
+use Rattle.seen_history.specs.Turns.{Carries, IsBookOf, IsLive, IsPassTable, IsServed, IsWaiting, Queue, SlotFits, TurnFits, ViewFits}
+use Rattle.seen_history.specs.declared.pass_view.Origin.{Origin}
 use Rattle.seen_history.specs.declared.pass_view.PassView.{PassView}
 use Rattle.seen_history.specs.declared.pass_view.Turn.{Turn}
 use Rattle.seen_history.specs.declared.pass_view.Turn.TheVariants.{Idle, Waits, Out, Spent}
@@ -27,8 +27,8 @@ turn_counted q log more n u (Out t) first other fits =
     absurd (other (some-injective u.number n (sym fits.queued ∙ first)) fits.own fits.carried)
 turn_counted q log more n u Spent first other fits = fits
 
-pub counts : (o : Opening) (slots id : ℕ) (v : PassView) (c : List (ℕ × Journal)) (es : List Entry) (k : ℕ) → v.turn ≡ Out (turn_of v.turn)
-    → v.owns ≡ (v.number, es) ∷ [] → length (last_in k c) ≡ k → AreOf v.number (last_in k c) → IsHistory v.opening (v.seen ++ last_in k c)
+pub counts : (o : Origin) (slots id : ℕ) (v : PassView) (c : List (ℕ × Journal)) (es : List Entry) (k : ℕ) → v.turn ≡ Out (turn_of v.turn)
+    → v.owns ≡ (v.number, es) ∷ [] → length (last_in k c) ≡ k → AreOf v.number (last_in k c) → IsHistory v.origin.opening (v.seen ++ last_in k c)
     → Allows (IsPassTable o) slots id (v, c) 2 (λ n. (n + k) % 2 ^ 64) (Counted (step slots 2 k 0 none) (v, c))
 counts o slots id v c es k is_out owns many are history s h size at low =
     let q : Queue = h.queue in
@@ -40,7 +40,7 @@ counts o slots id v c es k is_out owns many are history s h size at low =
     let here : ViewFits o q h.given h.log v = h.fits id v at in
     let mine : IsServed q h.log v t = subst (λ (x : Turn). TurnFits q h.log v x) is_out here.turn in
     let carries : Carries v.owns n es = subst (λ (xs : List (ℕ × List Entry)). Carries xs n es) (sym owns) (carries_one n es) in
-    let live : v.opening ≡ o = here.opening (subst (λ (x : Turn). IsLive x) (sym is_out) tt) in
+    let live : v.origin ≡ o = here.origin (subst (λ (x : Turn). IsLive x) (sym is_out) tt) in
     let grown : grown_owns new v.owns ≡ (n, es ++ new) ∷ [] = ap (λ (xs : List (ℕ × List Entry)). grown_owns new xs) owns in
     let carries_more : Carries (grown_owns new v.owns) n (es ++ new) = subst (λ (xs : List (ℕ × List Entry)). Carries xs n (es ++ new)) (sym grown) (carries_one n (es ++ new)) in
     let one : (m : ℕ) (fs : List Entry) → Carries (grown_owns new v.owns) m fs → (m ≡ n) × (fs ≡ es ++ new) =
@@ -64,16 +64,15 @@ counts o slots id v c es k is_out owns many are history s h size at low =
         few = h.few;
         queued = h.queued;
         apart = h.apart;
-        history = subst (λ (x : Opening). IsHistory x log) live (subst (λ (xs : List Entry). IsHistory v.opening xs) seen_same history);
+        history = subst (λ (x : Origin). IsHistory x.opening log) live (subst (λ (xs : List Entry). IsHistory v.origin.opening xs) seen_same history);
         numbered = λ m above.
             let lt : n < h.given = (here.owns n es carries).0 in
             own-kept n m h.log new are (λ same. absurd (omega arith)) ∙ h.numbered m above;
         slot = slot_out o q.waiting h.log log s.homes q.out mine.taken h.slot;
-        uncut = h.uncut;
         fits =
             all_set (λ (j : ℕ) (u : PassView). ViewFits o q h.given log u) s.views id w
             (record {
-              opening = λ is. live;
+              origin = λ is. live;
               seen = subst (λ (xs : List Entry). BeginsWith log xs) (sym seen_same) (begins_itself log);
               met = begins_twice log h.log v.met (begins_more h.log new) here.met;
               owns = λ m fs carried.
@@ -90,7 +89,7 @@ counts o slots id v c es k is_out owns many are history s h size at low =
             (λ j u other found.
             let theirs : ViewFits o q h.given h.log u = h.fits j u found in
             record {
-              opening = theirs.opening;
+              origin = theirs.origin;
               seen = begins_twice log h.log u.seen (begins_more h.log new) theirs.seen;
               met = begins_twice log h.log u.met (begins_more h.log new) theirs.met;
               owns = λ m fs carried.
@@ -130,18 +129,15 @@ turn_left q log n u (Out t) first other fits =
     absurd (other (some-injective u.number n (sym fits.queued ∙ first)) fits.own fits.carried)
 turn_left q log n u Spent first other fits = fits
 
-slot_away : (o : Opening) (waiting : List ℕ) (log : List Entry) (homes : List (Option Journal)) (out : Bool) → out ≡ true → SlotFits o waiting log homes out
+slot_away : (o : Origin) (waiting : List ℕ) (log : List Entry) (homes : List (Option Journal)) (out : Bool) → out ≡ true → SlotFits o waiting log homes out
     → homes ≡ none ∷ []
 slot_away o waiting log homes true is fits = fits.0
 slot_away o waiting log homes false is fits = absurd cc
 
-same_home : (a b : Journal) → some a ∷ [] ≡ some b ∷ [] → a ≡ b
-same_home a b is = cc
-
-pub leaves : (o : Opening) (slots id : ℕ) (v : PassView) (b : Journal) (c : List (ℕ × Journal)) (es : List Entry) → v.turn ≡ Out (turn_of v.turn)
-    → v.owns ≡ (v.number, es) ∷ [] → IsHistoryOf v.opening v.seen b → b.opening ≡ v.opening
+pub leaves : (o : Origin) (slots id : ℕ) (v : PassView) (b : Journal) (c : List (ℕ × Journal)) (es : List Entry) → v.turn ≡ Out (turn_of v.turn)
+    → v.owns ≡ (v.number, es) ∷ [] → IsBookOf v.origin v.seen b
     → Allows (IsPassTable o) slots id (v, (0, b) ∷ c) 1 (λ n. (n + 1) % 2 ^ 64) (Left (step slots 1 1 0 none) (v, (0, b) ∷ c))
-leaves o slots id v b c es is_out owns whole uncut s h size at low =
+leaves o slots id v b c es is_out owns stands s h size at low =
     let q : Queue = h.queue in
     let n : ℕ = v.number in
     let t : ℕ = turn_of v.turn in
@@ -150,7 +146,7 @@ leaves o slots id v b c es is_out owns whole uncut s h size at low =
     let here : ViewFits o q h.given h.log v = h.fits id v at in
     let mine : IsServed q h.log v t = subst (λ (x : Turn). TurnFits q h.log v x) is_out here.turn in
     let carries : Carries v.owns n es = subst (λ (xs : List (ℕ × List Entry)). Carries xs n es) (sym owns) (carries_one n es) in
-    let live : v.opening ≡ o = here.opening (subst (λ (x : Turn). IsLive x) (sym is_out) tt) in
+    let live : v.origin ≡ o = here.origin (subst (λ (x : Turn). IsLive x) (sym is_out) tt) in
     let some_wait : 0 < length q.waiting = at_within q.waiting 0 n mine.queued in
     let home : set s.homes 0 (some b) ≡ some b ∷ [] =
     ap (λ (hs : List (Option Journal)). set hs 0 (some b)) (slot_away o q.waiting h.log s.homes q.out mine.taken h.slot) in
@@ -176,13 +172,12 @@ leaves o slots id v b c es is_out owns whole uncut s h size at low =
         slot = (
           b,
           home,
-          subst (λ (x : Opening). IsHistoryOf x h.log b) live (subst (λ (xs : List Entry). IsHistoryOf v.opening xs b) mine.all_seen whole),
+          subst (λ (x : Origin). IsBookOf x h.log b) live (subst (λ (xs : List Entry). IsBookOf v.origin xs b) mine.all_seen stands),
         );
-        uncut = λ a there. ap (λ (x : Journal). x.opening) (same_home a b (sym there ∙ home)) ∙ uncut ∙ live;
         fits =
             all_set (λ (j : ℕ) (u : PassView). ViewFits o q' h.given h.log u) s.views id w
             (record {
-              opening = λ is. live;
+              origin = λ is. live;
               seen = here.seen;
               met = here.met;
               owns = here.owns;
@@ -196,7 +191,7 @@ leaves o slots id v b c es is_out owns whole uncut s h size at low =
             (λ j u other found.
             let theirs : ViewFits o q h.given h.log u = h.fits j u found in
             record {
-              opening = theirs.opening;
+              origin = theirs.origin;
               seen = theirs.seen;
               met = theirs.met;
               owns = theirs.owns;

@@ -8,11 +8,11 @@ use lib.ListN.{get_elem?}
 use Rattle.atomic_table.specs.Table.{Allows, State, keeps, step, stepped, takes}
 use Rattle.atomic_table.proofs.Lists.{at_last, at_longer, one_turn, set_again}
 use Rattle.jk_model.specs.declared.journal.Entry.{Entry}
-use Rattle.jk_model.specs.declared.opening.Opening.{Opening}
 use Rattle.balancer_core.specs.Journal.{Journal}
-use Rattle.seen_history.specs.Histories.{IsHistory, IsHistoryOf}
+use Rattle.seen_history.specs.Histories.{IsHistory}
 use Rattle.seen_history.specs.Plays.{Drew, Polled, Took, turn_of, turning}
-use Rattle.seen_history.specs.Turns.{Carries, IsLive, IsPassTable, IsWaiting, Queue, SlotFits, TurnFits, ViewFits}
+use Rattle.seen_history.specs.Turns.{Carries, IsBookOf, IsLive, IsPassTable, IsWaiting, Queue, SlotFits, TurnFits, ViewFits}
+use Rattle.seen_history.specs.declared.pass_view.Origin.{Origin}
 use Rattle.seen_history.specs.declared.pass_view.PassView.{PassView}
 use Rattle.seen_history.specs.declared.pass_view.Turn.{Turn}
 use Rattle.seen_history.specs.declared.pass_view.Turn.TheVariants.{Idle, Waits, Out, Spent}
@@ -45,7 +45,7 @@ turn_longer q log n u (Out t) other fits = record {
 }
 turn_longer q log n u Spent other fits = fits
 
-pub draws : (o : Opening) (slots id : ℕ) (v : PassView) (c : List (ℕ × Journal)) (es : List Entry) → v.turn ≡ Idle → v.owns ≡ (v.number, es) ∷ []
+pub draws : (o : Origin) (slots id : ℕ) (v : PassView) (c : List (ℕ × Journal)) (es : List Entry) → v.turn ≡ Idle → v.owns ≡ (v.number, es) ∷ []
     → Allows (IsPassTable o) slots id (v, c) 0 (λ n. (n + 1) % 2 ^ 64) (Drew (step slots 0 1 0 none) (v, c))
 draws o slots id v c es idle owns s h size at low =
     let q : Queue = h.queue in
@@ -93,11 +93,10 @@ draws o slots id v c es idle owns s h size at low =
         history = h.history;
         numbered = h.numbered;
         slot = slot_longer o q.waiting n h.log s.homes q.out h.slot;
-        uncut = h.uncut;
         fits =
             all_set (λ (j : ℕ) (u : PassView). ViewFits o q' h.given h.log u) s.views id w
             (record {
-              opening = λ live. here.opening (subst (λ (x : Turn). IsLive x) (sym idle) tt);
+              origin = λ live. here.origin (subst (λ (x : Turn). IsLive x) (sym idle) tt);
               seen = here.seen;
               met = here.met;
               owns = here.owns;
@@ -114,7 +113,7 @@ draws o slots id v c es idle owns s h size at low =
             (λ j u other found.
             let theirs : ViewFits o q h.given h.log u = h.fits j u found in
             record {
-              opening = theirs.opening;
+              origin = theirs.origin;
               seen = theirs.seen;
               met = theirs.met;
               owns = theirs.owns;
@@ -150,16 +149,13 @@ turn_taken q log n u (Out t) first other fits = record {
 }
 turn_taken q log n u Spent first other fits = fits
 
-slot_home : (o : Opening) (waiting : List ℕ) (log : List Entry) (homes : List (Option Journal)) (out : Bool) → out ≡ false → SlotFits o waiting log homes out
-    → (b : Journal) × (homes ≡ some b ∷ []) × IsHistoryOf o log b
+slot_home : (o : Origin) (waiting : List ℕ) (log : List Entry) (homes : List (Option Journal)) (out : Bool) → out ≡ false → SlotFits o waiting log homes out
+    → (b : Journal) × (homes ≡ some b ∷ []) × IsBookOf o log b
 slot_home o waiting log homes true is fits = absurd cc
 slot_home o waiting log homes false is fits = fits
 
-no_home : {X : Type 0} (b : Journal) → none ∷ [] ≡ some b ∷ [] → X
-no_home b is = absurd cc
-
 -- A turn that has come: the Book is in its slot, and the caller takes it.
-comes : (o : Opening) (slots id : ℕ) (v : PassView) (c : List (ℕ × Journal)) → v.turn ≡ Waits (turn_of v.turn)
+comes : (o : Origin) (slots id : ℕ) (v : PassView) (c : List (ℕ × Journal)) → v.turn ≡ Waits (turn_of v.turn)
     → (s : State Journal PassView) (h : IsPassTable o s) → get_elem? s.views id ≡ some v → slice_index s.words 1 ≡ turn_of v.turn % 2 ^ 64
     → (b : Journal) × (s.homes ≡ some b ∷ []) × IsPassTable o (stepped s 1 (slice_index s.words 1) id c (turning v (Out (turn_of v.turn)) h.log v.owns) (takes 0 b))
     × Took (v, c) (turn_of v.turn) (turning v (Out (turn_of v.turn)) h.log v.owns, (0, b) ∷ c)
@@ -179,7 +175,7 @@ comes o slots id v c waits s h at found =
     let first_place : mine.place ≡ 0 = let sum : t ≡ q.served + mine.place = mine.turn in omega arith in
     let first : get_elem? q.waiting 0 ≡ some v.number = subst (λ (k : ℕ). get_elem? q.waiting k ≡ some v.number) first_place mine.queued in
     let home = slot_home o q.waiting h.log s.homes q.out (mine.home first_place) h.slot in
-    let live : v.opening ≡ o = here.opening (subst (λ (x : Turn). IsLive x) (sym waits) tt) in
+    let live : v.origin ≡ o = here.origin (subst (λ (x : Turn). IsLive x) (sym waits) tt) in
     let away : set s.homes 0 none ≡ none ∷ [] = ap (λ (hs : List (Option Journal)). set hs 0 none) home.1 in (
       home.0,
       home.1,
@@ -194,11 +190,10 @@ comes o slots id v c waits s h at found =
         history = h.history;
         numbered = h.numbered;
         slot = (away, omega arith);
-        uncut = λ b there. no_home b (sym away ∙ there);
         fits =
             all_set (λ (j : ℕ) (u : PassView). ViewFits o q' h.given h.log u) s.views id w
             (record {
-              opening = λ is. live;
+              origin = λ is. live;
               seen = begins_itself h.log;
               met = here.met;
               owns = here.owns;
@@ -208,7 +203,7 @@ comes o slots id v c waits s h at found =
             (λ j u other there.
             let theirs : ViewFits o q h.given h.log u = h.fits j u there in
             record {
-              opening = theirs.opening;
+              origin = theirs.origin;
               seen = theirs.seen;
               met = theirs.met;
               owns = theirs.owns;
@@ -226,21 +221,20 @@ comes o slots id v c waits s h at found =
         book = home.0;
         is = refl;
         begins = here.seen;
-        history = subst (λ (x : Opening). IsHistory x h.log) (sym live) h.history;
-        whole = subst (λ (x : Opening). IsHistoryOf x h.log home.0) (sym live) home.2;
-        uncut = h.uncut home.0 home.1 ∙ sym live;
+        history = subst (λ (x : Origin). IsHistory x.opening h.log) (sym live) h.history;
+        stands = subst (λ (x : Origin). IsBookOf x h.log home.0) (sym live) home.2;
         own = λ n es carried. (here.owns n es carried).1;
       },
     )
 
 -- A look changes nothing.
-pub unchanged : (o : Opening) (s : State Journal PassView) (i id : ℕ) (v : PassView) (c : List (ℕ × Journal)) → get_elem? s.views id ≡ some v
+pub unchanged : (o : Origin) (s : State Journal PassView) (i id : ℕ) (v : PassView) (c : List (ℕ × Journal)) → get_elem? s.views id ≡ some v
     → IsPassTable o s → (set s.words i (slice_index s.words i) ≡ s.words) → IsPassTable o (stepped s i (slice_index s.words i) id c v keeps)
 unchanged o s i id v c at h same =
     subst (λ (ws : List ℕ). IsPassTable o (record { words = ws; homes = s.homes; views = set s.views id v })) (sym same)
     (subst (λ (vs : List PassView). IsPassTable o (record { words = s.words; homes = s.homes; views = vs })) (sym (set_again s.views id v at)) h)
 
-pub polls : (o : Opening) (slots id : ℕ) (v : PassView) (c : List (ℕ × Journal)) → v.turn ≡ Waits (turn_of v.turn)
+pub polls : (o : Origin) (slots id : ℕ) (v : PassView) (c : List (ℕ × Journal)) → v.turn ≡ Waits (turn_of v.turn)
     → Allows (IsPassTable o) slots id (v, c) 1 (λ n. n) (Polled (step slots 1 0 0 none) (v, c))
 polls o slots id v c waits s h size at low =
     elim (ℕ_discrete (slice_index s.words 1) (turn_of v.turn % 2 ^ 64)) [

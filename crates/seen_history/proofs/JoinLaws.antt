@@ -6,11 +6,11 @@ use lib.ListN.{get_elem?}
 use Rattle.atomic_table.specs.Table.{Allows, Joins, Splits, keeps, step}
 use Rattle.atomic_table.proofs.Lists.{at_longer, at_set, set_again}
 use Rattle.jk_model.specs.declared.journal.Entry.{Entry}
-use Rattle.jk_model.specs.declared.opening.Opening.{Opening}
 use Rattle.balancer_core.specs.Journal.{Journal}
 use Rattle.seen_history.specs.Histories.{BeginsWith}
 use Rattle.seen_history.specs.Plays.{PutTogether, giver_after, joined, next_caller, noted, spent, turning}
 use Rattle.seen_history.specs.Turns.{Carries, IsLive, IsPassTable, Queue, TurnFits, ViewFits}
+use Rattle.seen_history.specs.declared.pass_view.Origin.{Origin}
 use Rattle.seen_history.specs.declared.pass_view.PassView.{PassView}
 use Rattle.seen_history.specs.declared.pass_view.Turn.{Turn}
 use Rattle.seen_history.specs.declared.pass_view.Turn.TheVariants.{Idle, Waits, Out, Spent}
@@ -44,14 +44,14 @@ alone_more views x alone new i j n u v es fs here there mine theirs =
     ]
 
 -- The view that gives the numbers gives the next one to a new caller.
-pub splits : (o : Opening) (id : ℕ) (v : PassView) → v.turn ≡ Idle → v.roots ≡ true → v.given < 64
+pub splits : (o : Origin) (id : ℕ) (v : PassView) → v.turn ≡ Idle → v.roots ≡ true → v.given < 64
     → Splits (IsPassTable o) id v (giver_after v) (next_caller v)
 splits o id v idle roots few s h at =
     let q : Queue = h.queue in
     let here : ViewFits o q h.given h.log v = h.fits id v at in
     let root = here.root roots in
     let is_idle : TurnFits q h.log v Idle = subst (λ (x : Turn). TurnFits q h.log v x) idle here.turn in
-    let live : v.opening ≡ o = here.opening (subst (λ (x : Turn). IsLive x) (sym idle) tt) in
+    let live : v.origin ≡ o = here.origin (subst (λ (x : Turn). IsLive x) (sym idle) tt) in
     let new_one : (m : ℕ) (fs : List Entry) → Carries (next_caller v).owns m fs → (m ≡ v.given) × (fs ≡ []) = λ m fs carried. one_carried v.given m [] fs carried in
     record {
       queue = q;
@@ -64,11 +64,10 @@ splits o id v idle roots few s h at =
       history = h.history;
       numbered = λ m above. h.numbered m (omega arith);
       slot = h.slot;
-      uncut = h.uncut;
       fits =
           all_more (λ (j : ℕ) (u : PassView). ViewFits o q (h.given + 1) h.log u) (set s.views id (giver_after v)) (next_caller v)
           (record {
-            opening = λ is. live;
+            origin = λ is. live;
             seen = here.seen;
             met = record { rest = h.log; is = refl };
             owns = λ m fs carried.
@@ -83,7 +82,7 @@ splits o id v idle roots few s h at =
           })
           (all_set (λ (j : ℕ) (u : PassView). ViewFits o q (h.given + 1) h.log u) s.views id (giver_after v)
           (record {
-            opening = here.opening;
+            origin = here.origin;
             seen = here.seen;
             met = here.met;
             owns = λ m fs carried. let was = here.owns m fs carried in (let lt : m < h.given = was.0 in omega arith, was.1);
@@ -93,7 +92,7 @@ splits o id v idle roots few s h at =
           (λ j u other found.
           let theirs : ViewFits o q h.given h.log u = h.fits j u found in
           record {
-            opening = theirs.opening;
+            origin = theirs.origin;
             seen = theirs.seen;
             met = theirs.met;
             owns = λ m fs carried. let was = theirs.owns m fs carried in (let lt : m < h.given = was.0 in omega arith, was.1);
@@ -113,11 +112,11 @@ splits o id v idle roots few s h at =
     }
 
 -- A note copies what was seen.
-pub notes : (o : Opening) (id : ℕ) (v : PassView) → v.turn ≡ Idle → Splits (IsPassTable o) id v v (noted v)
+pub notes : (o : Origin) (id : ℕ) (v : PassView) → v.turn ≡ Idle → Splits (IsPassTable o) id v v (noted v)
 notes o id v idle s h at =
     let q : Queue = h.queue in
     let here : ViewFits o q h.given h.log v = h.fits id v at in
-    let live : v.opening ≡ o = here.opening (subst (λ (x : Turn). IsLive x) (sym idle) tt) in
+    let live : v.origin ≡ o = here.origin (subst (λ (x : Turn). IsLive x) (sym idle) tt) in
     let with_note : IsPassTable o (record { words = s.words; homes = s.homes; views = s.views ++ noted v ∷ [] }) =
     record {
       queue = q;
@@ -130,11 +129,10 @@ notes o id v idle s h at =
       history = h.history;
       numbered = h.numbered;
       slot = h.slot;
-      uncut = h.uncut;
       fits =
           all_more (λ (j : ℕ) (u : PassView). ViewFits o q h.given h.log u) s.views (noted v)
           (record {
-            opening = λ is. live;
+            origin = λ is. live;
             seen = here.seen;
             met = record { rest = h.log; is = refl };
             owns = λ m fs carried. none_carried m fs carried;
@@ -203,7 +201,7 @@ joined_alone views id v other w at found apart alone i j n u x es fs here there 
     ]
 
 -- Both are idle: the joined view carries what both did, and was told what the other saw.
-pub joins : (o : Opening) (id : ℕ) (v : PassView) (other : ℕ) (w : PassView) → v.turn ≡ Idle → w.turn ≡ Idle
+pub joins : (o : Origin) (id : ℕ) (v : PassView) (other : ℕ) (w : PassView) → v.turn ≡ Idle → w.turn ≡ Idle
     → Joins (IsPassTable o) id v other w (joined v w) spent
 joins o id v other w idle idle' s h at apart there =
     let q : Queue = h.queue in
@@ -218,7 +216,7 @@ joins o id v other w idle idle' s h at apart there =
     let fits_set : (j : ℕ) (u : PassView) → get_elem? (set s.views id b) j ≡ some u → ViewFits o q h.given h.log u =
     all_set (λ (j : ℕ) (u : PassView). ViewFits o q h.given h.log u) s.views id b
     (record {
-      opening = here.opening;
+      origin = here.origin;
       seen = here.seen;
       met = its.seen;
       owns = λ m fs carried.
@@ -244,11 +242,10 @@ joins o id v other w idle idle' s h at apart there =
       history = h.history;
       numbered = h.numbered;
       slot = h.slot;
-      uncut = h.uncut;
       fits =
           all_set (λ (j : ℕ) (u : PassView). ViewFits o q h.given h.log u) (set s.views id b) other spent
           (record {
-            opening = λ live. absurd live;
+            origin = λ live. absurd live;
             seen = record { rest = h.log; is = refl };
             met = record { rest = h.log; is = refl };
             owns = λ m fs carried. none_carried m fs carried;
@@ -294,7 +291,7 @@ turn_idle q log v w (Waits t) idle same fits = absurd cc
 turn_idle q log v w (Out t) idle same fits = absurd cc
 turn_idle q log v w Spent idle same fits = absurd cc
 
-pub puts_together : (o : Opening) (slots id : ℕ) (v : PassView) (c : List (ℕ × Journal)) → v.turn ≡ Idle
+pub puts_together : (o : Origin) (slots id : ℕ) (v : PassView) (c : List (ℕ × Journal)) → v.turn ≡ Idle
     → Allows (IsPassTable o) slots id (v, c) 0 (λ n. n) (PutTogether (step slots 0 0 0 none) (v, c))
 puts_together o slots id v c idle s h size at low =
     let q : Queue = h.queue in
@@ -315,11 +312,10 @@ puts_together o slots id v c idle s h size at low =
         history = h.history;
         numbered = h.numbered;
         slot = h.slot;
-        uncut = h.uncut;
         fits =
             all_set (λ (j : ℕ) (u : PassView). ViewFits o q h.given h.log u) s.views id w
             (record {
-              opening = here.opening;
+              origin = here.origin;
               seen = l.within;
               met = here.met;
               owns = here.owns;

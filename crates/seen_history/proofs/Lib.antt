@@ -1,5 +1,6 @@
 pub mod OwnLaws
 pub mod HistoryLaws
+pub mod BookLaws
 pub mod SeatLaws
 pub mod DrawLaws
 pub mod CountLaws

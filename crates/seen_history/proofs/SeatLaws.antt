@@ -10,8 +10,8 @@ use mathlib.Core.Option.{some, some-injective, some-ne-none}
 use lib.ListN.{get_elem?}
 use Rattle.atomic_table.proofs.Lists.{at_set}
 use Rattle.jk_model.specs.declared.journal.Entry.{Entry}
-use Rattle.jk_model.specs.declared.opening.Opening.{Opening}
 use Rattle.seen_history.specs.Turns.{Carries, SlotFits}
+use Rattle.seen_history.specs.declared.pass_view.Origin.{Origin}
 use Rattle.seen_history.specs.declared.pass_view.PassView.{PassView}
 
 -- A fact of each view after the one at `id` became w.
@@ -113,17 +113,17 @@ few_waiting xs n below apart = length-le_from_distinct_below xs n (distinct xs a
         (distinct xs (λ j k y first second. let same : suc j ≡ suc k = apart (suc j) (suc k) y first second in omega arith))
 
 -- The slot, whatever the history, where the Book is out, and with a longer queue.
-pub slot_out : (o : Opening) (waiting : List ℕ) (log more : List Entry) (homes : List _) (out : Bool) → out ≡ true
+pub slot_out : (o : Origin) (waiting : List ℕ) (log more : List Entry) (homes : List _) (out : Bool) → out ≡ true
     → SlotFits o waiting log homes out → SlotFits o waiting more homes out
 slot_out o waiting log more homes true is fits = fits
 slot_out o waiting log more homes false is fits = absurd cc
 
-pub slot_longer : (o : Opening) (waiting : List ℕ) (n : ℕ) (log : List Entry) (homes : List _) (out : Bool)
+pub slot_longer : (o : Origin) (waiting : List ℕ) (n : ℕ) (log : List Entry) (homes : List _) (out : Bool)
     → SlotFits o waiting log homes out → SlotFits o (waiting ++ n ∷ []) log homes out
 slot_longer o waiting n log homes true fits = (fits.0, let some : 0 < length waiting = fits.1 in omega (arith, length-append waiting (n ∷ [])))
 slot_longer o waiting n log homes false fits = fits
 
-pub slot_free : (o : Opening) (waiting : List ℕ) (log : List Entry) (homes : List _) (out : Bool)
+pub slot_free : (o : Origin) (waiting : List ℕ) (log : List Entry) (homes : List _) (out : Bool)
     → SlotFits o waiting log homes out → length waiting ≡ 0 → out ≡ false
 slot_free o waiting log homes true fits none = absurd (let some : 0 < length waiting = fits.1 in omega arith)
 slot_free o waiting log homes false fits none = refl

@@ -6,9 +6,10 @@ use Rattle.jk_model.specs.declared.journal.Entry.{Entry}
 use Rattle.jk_model.specs.declared.member.Method.TheVariants as method
 use Rattle.jk_model.specs.declared.opening.Opening.{Opening}
 use Rattle.balancer_core.specs.Journal.{Journal}
-use Rattle.seen_history.specs.Histories.{BeginsWith, IsHistory, IsHistoryOf, own_of}
-use Rattle.seen_history.specs.Turns.{Carries}
+use Rattle.seen_history.specs.Histories.{BeginsWith, IsHistory, own_of}
+use Rattle.seen_history.specs.Turns.{Carries, IsBookOf}
 use Rattle.model_laws.proofs.SmallConfig.{one_counts, one_in_range, one_narrow, one_period, some_member}
+use Rattle.seen_history.specs.declared.pass_view.Origin.{Origin}
 use Rattle.seen_history.specs.declared.pass_view.PassView.{PassView}
 use Rattle.seen_history.specs.declared.pass_view.Turn.{Turn}
 use Rattle.seen_history.specs.declared.pass_view.Turn.TheVariants.{Idle, Waits, Out, Spent}
@@ -16,7 +17,7 @@ use Rattle.seen_history.specs.declared.pass_view.Turn.TheVariants.{Idle, Waits, 
 -- A view with another turn, other entries seen, and other own entries.
 abbrev pub turning : PassView → Turn → (seen : List Entry) → (owns : List (ℕ × List Entry)) → PassView
 turning v t seen owns = record {
-  opening = v.opening;
+  origin = v.origin;
   number = v.number;
   turn = t;
   seen = seen;
@@ -55,9 +56,8 @@ pub record Took (me : Me Journal PassView) (t : ℕ) (after : Me Journal PassVie
   pub book : Journal
   pub is : after ≡ (turning me.0 (Out t) log me.0.owns, (0, book) ∷ me.1)
   pub begins : BeginsWith log me.0.seen
-  pub history : IsHistory me.0.opening log
-  pub whole : IsHistoryOf me.0.opening log book
-  pub uncut : book.opening ≡ me.0.opening
+  pub history : IsHistory me.0.origin.opening log
+  pub stands : IsBookOf me.0.origin log book
   pub own : (n : ℕ) (es : List Entry) → Carries me.0.owns n es → es ≡ own_of n log
 
 -- It looked whether its turn has come.
@@ -77,7 +77,7 @@ Left s me found after = after ≡ (turning me.0 Idle me.0.seen me.0.owns, rest m
 -- The new caller of a split, with the next number.
 abbrev pub next_caller : PassView → PassView
 next_caller v = record {
-  opening = v.opening;
+  origin = v.origin;
   number = v.given;
   turn = Idle;
   seen = v.seen;
@@ -90,7 +90,7 @@ next_caller v = record {
 -- What splits it off gave one number more.
 abbrev pub giver_after : PassView → PassView
 giver_after v = record {
-  opening = v.opening;
+  origin = v.origin;
   number = v.number;
   turn = v.turn;
   seen = v.seen;
@@ -103,7 +103,7 @@ giver_after v = record {
 -- What a note carries: what was seen, and no number.
 abbrev pub noted : PassView → PassView
 noted v = record {
-  opening = v.opening;
+  origin = v.origin;
   number = 0;
   turn = Idle;
   seen = v.seen;
@@ -116,7 +116,7 @@ noted v = record {
 -- A caller to which another was joined: it carries the numbers of both, and was told what the other saw.
 abbrev pub joined : PassView → PassView → PassView
 joined v w = record {
-  opening = v.opening;
+  origin = v.origin;
   number = v.number;
   turn = v.turn;
   seen = v.seen;
@@ -154,9 +154,12 @@ no_config = record {
 abbrev pub no_opening : Opening
 no_opening = record { config = no_config; rows = []; out = []; next = 0; at = 0; maintained = 0; chosen = None }
 
+abbrev pub no_origin : Origin
+no_origin = record { opening = no_opening; added = 0; cut_at = 0 }
+
 abbrev pub spent : PassView
 spent = record {
-  opening = no_opening;
+  origin = no_origin;
   number = 0;
   turn = Spent;
   seen = [];

@@ -5,9 +5,9 @@ use mathlib.Core.Option.{Option, none, some}
 use lib.ListN.{get_elem?}
 use Rattle.atomic_table.specs.Table.{State}
 use Rattle.jk_model.specs.declared.journal.Entry.{Entry}
-use Rattle.jk_model.specs.declared.opening.Opening.{Opening}
-use Rattle.balancer_core.specs.Journal.{Journal}
+use Rattle.balancer_core.specs.Journal.{IsSound, Journal}
 use Rattle.seen_history.specs.Histories.{BeginsWith, IsHistory, IsHistoryOf, own_of}
+use Rattle.seen_history.specs.declared.pass_view.Origin.{Origin}
 use Rattle.seen_history.specs.declared.pass_view.PassView.{PassView}
 use Rattle.seen_history.specs.declared.pass_view.Turn.{Turn}
 use Rattle.seen_history.specs.declared.pass_view.Turn.TheVariants.{Idle, Waits, Out, Spent}
@@ -55,9 +55,16 @@ TurnFits q log v (Waits t) = IsWaiting q v t
 TurnFits q log v (Out t) = IsServed q log v t
 TurnFits q log v Spent = (n : ℕ) (es : List Entry) → Carries v.owns n es → ⊥
 
+-- The sound Book b has this whole history, and counted each of its entries once. One that is never cut has all of them.
+pub record IsBookOf (o : Origin) (log : List Entry) (b : Journal) : Type 0 where
+  pub whole : IsHistoryOf o.opening log b
+  pub sound : IsSound b
+  pub counted : b.added ≡ o.added + length log
+  pub uncut : o.cut_at ≡ 0 → b.opening ≡ o.opening
+
 -- What one caller knows is so.
-pub record ViewFits (o : Opening) (q : Queue) (given : ℕ) (log : List Entry) (v : PassView) : Type 0 where
-  pub opening : IsLive v.turn → v.opening ≡ o
+pub record ViewFits (o : Origin) (q : Queue) (given : ℕ) (log : List Entry) (v : PassView) : Type 0 where
+  pub origin : IsLive v.turn → v.origin ≡ o
   pub seen : BeginsWith log v.seen
   pub met : BeginsWith log v.met
   pub owns : (n : ℕ) (es : List Entry) → Carries v.owns n es → (n < given) × (es ≡ own_of n log)
@@ -65,13 +72,13 @@ pub record ViewFits (o : Opening) (q : Queue) (given : ℕ) (log : List Entry) (
   pub turn : TurnFits q log v v.turn
 
 -- The Book is in its slot with the whole history, or out with the first caller of the queue.
-abbrev pub SlotFits : Opening → (waiting : List ℕ) → (log : List Entry) → List (Option Journal) → (out : Bool) → Type 0
-SlotFits o waiting log homes false = (b : Journal) × (homes ≡ some b ∷ []) × IsHistoryOf o log b
+abbrev pub SlotFits : Origin → (waiting : List ℕ) → (log : List Entry) → List (Option Journal) → (out : Bool) → Type 0
+SlotFits o waiting log homes false = (b : Journal) × (homes ≡ some b ∷ []) × IsBookOf o log b
 SlotFits o waiting log homes true = (homes ≡ none ∷ []) × (0 < length waiting)
 
--- The rule, for the history's opening o: `log` is the whole history, and `given` numbers were given to callers. The Book is never
--- cut here; all but that is so of one that is cut, too.
-pub record IsPassTable (o : Opening) (st : State Journal PassView) : Type 0 where
+-- The rule, for a history of this origin: `log` is all of it, also where the Book was cut, and `given` numbers were given to
+-- callers.
+pub record IsPassTable (o : Origin) (st : State Journal PassView) : Type 0 where
   pub queue : Queue
   pub given : ℕ
   pub log : List Entry
@@ -79,18 +86,17 @@ pub record IsPassTable (o : Opening) (st : State Journal PassView) : Type 0 wher
   pub few : given ≤ 64
   pub queued : (k n : ℕ) → get_elem? queue.waiting k ≡ some n → n < given
   pub apart : (j k n : ℕ) → get_elem? queue.waiting j ≡ some n → get_elem? queue.waiting k ≡ some n → j ≡ k
-  pub history : IsHistory o log
+  pub history : IsHistory o.opening log
   pub numbered : (n : ℕ) → given ≤ n → own_of n log ≡ []
   pub slot : SlotFits o queue.waiting log st.homes queue.out
-  pub uncut : (b : Journal) → st.homes ≡ some b ∷ [] → b.opening ≡ o
   pub fits : (j : ℕ) (u : PassView) → get_elem? st.views j ≡ some u → ViewFits o queue given log u
   pub alone : (i j n : ℕ) (u v : PassView) (es fs : List Entry) → get_elem? st.views i ≡ some u → get_elem? st.views j ≡ some v
       → Carries u.owns n es → Carries v.owns n fs → i ≡ j
 
 -- The first caller of a history that begins here: it gives the numbers, and has the first one.
-abbrev pub first_view : Opening → PassView
+abbrev pub first_view : Origin → PassView
 first_view o = record {
-  opening = o;
+  origin = o;
   number = 0;
   turn = Idle;
   seen = [];

@@ -10,4 +10,4 @@
 
 mod pass_view;
 
-pub use pass_view::{PassView, Turn};
+pub use pass_view::{Origin, PassView, Turn};

@@ -15,10 +15,20 @@ pub enum Turn {
     Spent,
 }
 
-/// What a caller knows.
-pub struct PassView {
+/// What the one history began with, and when its Book is cut.
+pub struct Origin {
     /// The opening that the history begins with.
     pub opening: Opening,
+    /// How many entries the Book had added before.
+    pub added: u64,
+    /// A Book with this many kept entries is cut. It never is where this is 0.
+    pub cut_at: u32,
+}
+
+/// What a caller knows.
+pub struct PassView {
+    /// What the history began with.
+    pub origin: Origin,
     pub number: u64,
     pub turn: Turn,
     /// The entries that it has seen, from the first one on.

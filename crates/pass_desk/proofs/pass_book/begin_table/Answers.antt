@@ -5,4 +5,4 @@ use Rattle.pass_desk.proofs.pass_book.begin_table.Goals as goal
 
 pub new-requires : goal.new-requires
 new-requires c =
-    begins_table c.args.book c.of-about.result.value c.push.new.self.items (search rules) (search rules) c.requires.modern c.requires.empty (search rules)
+    begins_table c.args.book c.of.result.value c.args.cut_at c.push.new.self.items (search rules) (search rules) c.requires.modern c.requires.empty (search rules)

@@ -4,10 +4,10 @@ use mathlib.Core.Option.{some, some-injective}
 use lib.ListN.{get_elem?}
 use Rattle.pass_desk.specs.Holds.{first_own}
 use Rattle.pass_desk.specs.Notes.{Meets, MeetsAt}
-use Rattle.pass_desk.specs.PassDesks.{PassDeskState, desk_value, pass_state, view_of}
+use Rattle.pass_desk.specs.PassDesks.{PassDeskState, StayPasses, desk_value, pass_state, view_of}
 use Rattle.pass_desk.specs.declared.pass.Pass.{Pass}
 use Rattle.pass_desk.proofs.CalledLaws.{got_same}
-use Rattle.pass_desk.proofs.GotLaws.{at_place, desk_set, got_all, of_place, sizes_set, within_at}
+use Rattle.pass_desk.proofs.GotLaws.{at_place, desk_set, got_all, of_place, sizes_set, stay_set, within_at}
 use Rattle.atomic_table.proofs.Lists.{set_else, set_here}
 use Rattle.pass_desk.proofs.pass_desk.PassDesk.meet.Goals as goal
 
@@ -38,7 +38,7 @@ returns-clause-desk g c =
     let at = at_place c.self.inside.passes.items c.args.lb c.index_mut.result.now lt c.index_mut.ensures.value in
     let d = c.self.inside in
     ap (λ (ns : List ℕ). pass_state d.number ns d.lists.receipts.items d.lists.held.items d.fulls d.wides)
-    (sizes_set d.passes.items c.args.lb c.index_mut.result.now c.meet_at.new.pass at c.meet_at.ensures.meets.opening)
+    (sizes_set d.passes.items c.args.lb c.index_mut.result.now c.meet_at.new.pass at c.meet_at.ensures.meets.origin)
     ∙ ap (λ (s : PassDeskState). s.desk) c.self.view_is
 
 pub returns-clause-meets : goal.returns-clause-meets
@@ -55,3 +55,12 @@ returns-clause-meets g c =
         subst (λ (x : Pass). Meets (view_of x) c.args.note.seat.me.0 (view_of c.meet_at.new.pass)) (some-injective c.index_mut.result.now p (sym at ∙ there)) c.meet_at.ensures.meets,
       );
     })
+
+pub returns-clause-stay : goal.returns-clause-stay
+returns-clause-stay g c =
+    let lt = subst (λ (s : PassDeskState). c.args.lb < length s.desk.sizes) (sym c.self.view_is) c.requires.known in
+    let at = at_place c.self.inside.passes.items c.args.lb c.index_mut.result.now lt c.index_mut.ensures.value in
+    let d = c.self.inside in
+    let e = c.meet_at.ensures in
+    subst (λ (s : PassDeskState). StayPasses s.passes (set d.passes.items c.args.lb c.meet_at.new.pass)) c.self.view_is
+    (stay_set d.passes.items c.args.lb c.index_mut.result.now c.meet_at.new.pass at e.same.0 e.same.1 e.meets.origin e.meets.given)

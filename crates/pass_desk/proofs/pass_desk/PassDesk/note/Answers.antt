@@ -1,5 +1,5 @@
 -- A note changes nothing that a pass knows.
-use Rattle.std.proofs.Common.{◌≡◌, ◌∙◌, ◌<◌, ℕ, List, length, map, sym, ap, subst}
+use Rattle.std.proofs.Common.{◌≡◌, ◌∙◌, ◌<◌, ℕ, List, length, map, set, sym, ap, subst}
 use mathlib.Core.Option.{some, some-injective}
 use lib.ListN.{get_elem?}
 use Rattle.seen_history.specs.declared.pass_view.PassView.{PassView}
@@ -7,10 +7,10 @@ use Rattle.atomic_table.specs.Table.{Me}
 use Rattle.balancer_core.specs.Journal.{Journal}
 use Rattle.pass_desk.specs.Holds.{own_in}
 use Rattle.pass_desk.specs.Notes.{IsNoteOf}
-use Rattle.pass_desk.specs.PassDesks.{PassDeskState, pass_state, view_of}
+use Rattle.pass_desk.specs.PassDesks.{PassDeskState, StayPasses, pass_state, view_of}
 use Rattle.pass_desk.specs.declared.pass.Pass.{Pass}
 use Rattle.pass_desk.proofs.CalledLaws.{got_same, views_set}
-use Rattle.pass_desk.proofs.GotLaws.{at_place, desk_set, got_all, of_place, sizes_set}
+use Rattle.pass_desk.proofs.GotLaws.{at_place, desk_set, got_all, of_place, sizes_set, stay_set}
 use Rattle.pass_desk.proofs.pass_desk.PassDesk.note.Goals as goal
 
 pub note_at-requires : goal.note_at-requires
@@ -41,7 +41,7 @@ returns-clause-desk g c =
     let at = at_place c.self.inside.passes.items c.args.lb c.index_mut.result.now lt c.index_mut.ensures.value in
     let d = c.self.inside in
     ap (λ (ns : List ℕ). pass_state d.number ns d.lists.receipts.items d.lists.held.items d.fulls d.wides)
-    (sizes_set d.passes.items c.args.lb c.index_mut.result.now c.note_at.new.pass at (ap (λ (m : Me Journal PassView). m.0.opening) c.note_at.ensures.same.0))
+    (sizes_set d.passes.items c.args.lb c.index_mut.result.now c.note_at.new.pass at (ap (λ (m : Me Journal PassView). m.0.origin) c.note_at.ensures.same.0))
     ∙ ap (λ (s : PassDeskState). s.desk) c.self.view_is
 
 pub returns-clause-views : goal.returns-clause-views
@@ -51,3 +51,13 @@ returns-clause-views g c =
     let d = c.self.inside in
     views_set d.passes.items c.args.lb c.index_mut.result.now c.note_at.new.pass at (ap (λ (m : Me Journal PassView). m.0) c.note_at.ensures.same.0)
     ∙ ap (λ (s : PassDeskState). map view_of s.passes) c.self.view_is
+
+pub returns-clause-stay : goal.returns-clause-stay
+returns-clause-stay g c =
+    let lt = subst (λ (s : PassDeskState). c.args.lb < length s.desk.sizes) (sym c.self.view_is) c.requires.known in
+    let at = at_place c.self.inside.passes.items c.args.lb c.index_mut.result.now lt c.index_mut.ensures.value in
+    let d = c.self.inside in
+    let e = c.note_at.ensures.same in
+    subst (λ (s : PassDeskState). StayPasses s.passes (set d.passes.items c.args.lb c.note_at.new.pass)) c.self.view_is
+    (stay_set d.passes.items c.args.lb c.index_mut.result.now c.note_at.new.pass at e.1 e.2
+    (ap (λ (m : Me Journal PassView). m.0.origin) e.0) (ap (λ (m : Me Journal PassView). m.0.given) e.0))

@@ -3,10 +3,10 @@ use Rattle.std.proofs.Common.{◌≡◌, ◌∙◌, ◌<◌, length, set, refl, 
 use Rattle.std.specs.Prelude.{IfOk, IfErr, IfSome}
 use Rattle.balancer_core.specs.Desks.{Chooses, KeepsDesk, RefusesChoice}
 use Rattle.balancer_core.specs.PlainLeases.{note_of}
-use Rattle.pass_desk.specs.PassDesks.{MaySee, PassDeskState, desk_value, pass_state, sizes_in, view_of}
-use Rattle.pass_desk.proofs.CalledLaws.{choose_got, choose_opening, choose_sees}
+use Rattle.pass_desk.specs.PassDesks.{MaySee, PassDeskState, StayPasses, desk_value, pass_state, sizes_in, view_of}
+use Rattle.pass_desk.proofs.CalledLaws.{choose_given, choose_got, choose_origin, choose_sees}
 use Rattle.pass_desk.proofs.DeskLaws.{desk_chooses, desk_denies, keeps_desk}
-use Rattle.pass_desk.proofs.GotLaws.{at_place, desk_set, of_place, size_at, sizes_set}
+use Rattle.pass_desk.proofs.GotLaws.{at_place, desk_set, of_place, size_at, sizes_set, stay_set}
 use Rattle.pass_desk.proofs.pass_desk.PassDeskDesk.choose.Goals as goal
 
 pub choose_at-done-requires-clause-of : goal.choose_at-done-requires-clause-of
@@ -62,12 +62,12 @@ returns-clause-kept g c =
     let at = at_place c.self.inside.passes.items c.args.lb c.index_mut.result.now lt c.index_mut.ensures.value in
     let done = c.choose_at-done in
     let d = c.self.inside in
-    let opening = choose_opening (view_of c.index_mut.result.now) (view_of done.new.pass) d.lists done.new.lists _ c.args.ask.now done.result done.ensures.ok done.ensures.err in
+    let origin = choose_origin (view_of c.index_mut.result.now) (view_of done.new.pass) d.lists done.new.lists _ c.args.ask.now done.result done.ensures.ok done.ensures.err in
     let new = pass_state d.number (sizes_in (set d.passes.items c.args.lb done.new.pass)) done.new.lists.receipts.items done.new.lists.held.items c.count_full.new.fulls
     c.self.inside.wides in
     subst (λ (s : PassDeskState). KeepsDesk s.desk new) c.self.view_is
     (keeps_desk d.number (sizes_in d.passes.items) _ d.lists.receipts.items _ d.lists.held.items _ d.fulls _ d.wides _
-    (sizes_set d.passes.items c.args.lb c.index_mut.result.now done.new.pass at opening) c.count_full.ensures.no_fewer (omega arith))
+    (sizes_set d.passes.items c.args.lb c.index_mut.result.now done.new.pass at origin) c.count_full.ensures.no_fewer (omega arith))
 
 pub returns-clause-seen : goal.returns-clause-seen
 returns-clause-seen g c =
@@ -80,3 +80,16 @@ returns-clause-seen g c =
     subst (λ (s : PassDeskState). MaySee s new c.args.lb) c.self.view_is
     (choose_sees (desk_value d.number d.passes.items d.lists.receipts.items d.lists.held.items d.fulls d.wides) new c.args.lb c.index_mut.result.now done.new.pass d.lists done.new.lists _
     c.args.ask.now done.result at refl refl refl done.ensures.ok done.ensures.err)
+
+pub returns-clause-stay : goal.returns-clause-stay
+returns-clause-stay g c =
+    let lt = subst (λ (s : PassDeskState). c.args.lb < length s.desk.sizes) (sym c.self.view_is) c.requires.known in
+    let at = at_place c.self.inside.passes.items c.args.lb c.index_mut.result.now lt c.index_mut.ensures.value in
+    let d = c.self.inside in
+    let done = c.choose_at-done in
+    let v = view_of c.index_mut.result.now in
+    let w = view_of done.new.pass in
+    subst (λ (s : PassDeskState). StayPasses s.passes (set d.passes.items c.args.lb done.new.pass)) c.self.view_is
+    (stay_set d.passes.items c.args.lb c.index_mut.result.now done.new.pass at done.ensures.of done.ensures.number
+    (choose_origin v w d.lists done.new.lists _ c.args.ask.now done.result done.ensures.ok done.ensures.err)
+    (choose_given v w d.lists done.new.lists _ c.args.ask.now done.result done.ensures.ok done.ensures.err))

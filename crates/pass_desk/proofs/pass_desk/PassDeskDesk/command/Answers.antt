@@ -2,10 +2,10 @@
 use Rattle.std.proofs.Common.{◌≡◌, ◌∙◌, ◌<◌, length, set, refl, sym, ap, subst}
 use Rattle.std.specs.Prelude.{IfOk, IfErr, IfSome}
 use Rattle.balancer_core.specs.Desks.{Commands, KeepsDesk, RefusesCommand}
-use Rattle.pass_desk.specs.PassDesks.{MaySee, PassDeskState, desk_value, pass_state, sizes_in, view_of}
-use Rattle.pass_desk.proofs.CalledLaws.{command_held, command_opening, command_sees, command_got}
+use Rattle.pass_desk.specs.PassDesks.{MaySee, PassDeskState, StayPasses, desk_value, pass_state, sizes_in, view_of}
+use Rattle.pass_desk.proofs.CalledLaws.{command_given, command_held, command_origin, command_sees, command_got}
 use Rattle.pass_desk.proofs.DeskLaws.{desk_commands, desk_refuses, keeps_desk}
-use Rattle.pass_desk.proofs.GotLaws.{at_place, desk_set, of_place, size_at, sizes_set}
+use Rattle.pass_desk.proofs.GotLaws.{at_place, desk_set, of_place, size_at, sizes_set, stay_set}
 use Rattle.pass_desk.proofs.pass_desk.PassDeskDesk.command.Goals as goal
 
 pub command_at-done-requires-clause-of : goal.command_at-done-requires-clause-of
@@ -66,12 +66,12 @@ returns-clause-kept g c =
     let at = at_place c.self.inside.passes.items c.args.lb c.index_mut.result.now lt c.index_mut.ensures.value in
     let done = c.command_at-done in
     let d = c.self.inside in
-    let opening = command_opening (view_of c.index_mut.result.now) (view_of done.new.pass) d.lists done.new.lists _ c.args.command.now done.result done.ensures.ok done.ensures.err in
+    let origin = command_origin (view_of c.index_mut.result.now) (view_of done.new.pass) d.lists done.new.lists _ c.args.command.now done.result done.ensures.ok done.ensures.err in
     let new = pass_state d.number (sizes_in (set d.passes.items c.args.lb done.new.pass)) done.new.lists.receipts.items done.new.lists.held.items c.count_refusal.new.fulls
     c.count_refusal.new.wides in
     subst (λ (s : PassDeskState). KeepsDesk s.desk new) c.self.view_is
     (keeps_desk d.number (sizes_in d.passes.items) _ d.lists.receipts.items _ d.lists.held.items _ d.fulls _ d.wides _
-    (sizes_set d.passes.items c.args.lb c.index_mut.result.now done.new.pass at opening) c.count_refusal.ensures.no_fewer.0 c.count_refusal.ensures.no_fewer.1)
+    (sizes_set d.passes.items c.args.lb c.index_mut.result.now done.new.pass at origin) c.count_refusal.ensures.no_fewer.0 c.count_refusal.ensures.no_fewer.1)
 
 pub returns-clause-seen : goal.returns-clause-seen
 returns-clause-seen g c =
@@ -84,3 +84,16 @@ returns-clause-seen g c =
     subst (λ (s : PassDeskState). MaySee s new c.args.lb) c.self.view_is
     (command_sees (desk_value d.number d.passes.items d.lists.receipts.items d.lists.held.items d.fulls d.wides) new c.args.lb c.index_mut.result.now done.new.pass d.lists done.new.lists _
     c.args.command.now done.result at refl refl refl done.ensures.ok done.ensures.err)
+
+pub returns-clause-stay : goal.returns-clause-stay
+returns-clause-stay g c =
+    let lt = subst (λ (s : PassDeskState). c.args.lb < length s.desk.sizes) (sym c.self.view_is) c.requires.known in
+    let at = at_place c.self.inside.passes.items c.args.lb c.index_mut.result.now lt c.index_mut.ensures.value in
+    let d = c.self.inside in
+    let done = c.command_at-done in
+    let v = view_of c.index_mut.result.now in
+    let w = view_of done.new.pass in
+    subst (λ (s : PassDeskState). StayPasses s.passes (set d.passes.items c.args.lb done.new.pass)) c.self.view_is
+    (stay_set d.passes.items c.args.lb c.index_mut.result.now done.new.pass at done.ensures.of done.ensures.number
+    (command_origin v w d.lists done.new.lists _ c.args.command.now done.result done.ensures.ok done.ensures.err)
+    (command_given v w d.lists done.new.lists _ c.args.command.now done.result done.ensures.ok done.ensures.err))

@@ -8,12 +8,12 @@ use Rattle.balancer_core.specs.Desks.{KeepsDesk, TakesBack, holds, without_last}
 use Rattle.seen_history.specs.Histories.{has_made}
 use Rattle.seen_history.specs.declared.pass_view.PassView.{PassView}
 use Rattle.pass_desk.specs.Holds.{own_in}
-use Rattle.pass_desk.specs.PassDesks.{AreGot, PassDeskState, SeesAt, desk_value, pass_state, sizes_in, view_of}
+use Rattle.pass_desk.specs.PassDesks.{AreGot, PassDeskState, SeesAt, StayPasses, desk_value, pass_state, sizes_in, view_of}
 use Rattle.pass_desk.specs.declared.pass.Pass.{Pass}
 use Rattle.pass_desk.specs.declared.pass_book.PassBook.{PassBook}
 use Rattle.pass_desk.proofs.CalledLaws.{return_got, turn_sees}
 use Rattle.pass_desk.proofs.DeskLaws.{desk_returns, keeps_desk}
-use Rattle.pass_desk.proofs.GotLaws.{desk_set, got_found, got_last, size_at, sizes_set, within_at}
+use Rattle.pass_desk.proofs.GotLaws.{desk_set, got_found, got_last, size_at, sizes_set, stay_set, within_at}
 use Rattle.pass_desk.proofs.pass_desk.PassDeskDesk.hand_back.Goals as goal
 
 had_pair : (lb t lb' t' : ℕ) (held : List (ℕ × ℕ)) → lb' ≡ lb → t' ≡ t → holds held (lb, t) ≡ true → holds held (lb', t') ≡ true
@@ -130,11 +130,11 @@ returns-clause-kept g c =
     let got = got_found d.passes.items d.lists.held.items (c.into_pair-lb.result.0, c.into_pair-lb.result.1) had c.self.invariant.got in
     let lt = within_at d.passes.items c.into_pair-lb.result.0 got.pass got.found in
     let at = at_index d.passes.items c.into_pair-lb.result.0 c.index_mut.result.now lt c.index_mut.ensures.value in
-    let opening = ap (λ (x : PassView). x.opening) c.return_at.ensures.back.turn.after in
+    let origin = ap (λ (x : PassView). x.origin) c.return_at.ensures.back.turn.after in
     let new = pass_state d.number (sizes_in (set d.passes.items c.into_pair-lb.result.0 c.return_at.new.pass)) c.return_at.new.lists.receipts.items c.return_at.new.lists.held.items d.fulls d.wides in
     subst (λ (s : PassDeskState). KeepsDesk s.desk new) c.self.view_is
     (keeps_desk d.number (sizes_in d.passes.items) _ d.lists.receipts.items _ d.lists.held.items _ d.fulls d.fulls d.wides d.wides
-    (sizes_set d.passes.items c.into_pair-lb.result.0 c.index_mut.result.now c.return_at.new.pass at opening) (omega arith) (omega arith))
+    (sizes_set d.passes.items c.into_pair-lb.result.0 c.index_mut.result.now c.return_at.new.pass at origin) (omega arith) (omega arith))
 
 pub returns-clause-seen : goal.returns-clause-seen
 returns-clause-seen g c =
@@ -148,3 +148,17 @@ returns-clause-seen g c =
     let here = turn_sees (desk_value d.number d.passes.items d.lists.receipts.items d.lists.held.items d.fulls d.wides) new c.into_pair-lb.result.0 c.index_mut.result.now c.return_at.new.pass
     d.lists.receipts.items c.return_at.new.lists.receipts.items c.return_at.ensures.back.book at refl refl refl c.return_at.ensures.back.turn in
     subst (λ (n : ℕ). SeesAt c.args.self.now new n) pair.0 (subst (λ (s : PassDeskState). SeesAt s new c.into_pair-lb.result.0) c.self.view_is here)
+
+pub returns-clause-stay : goal.returns-clause-stay
+returns-clause-stay g c =
+    let d = c.self.inside in
+    let pair = c.into_pair-lb.ensures in
+    let had = had_pair _ _ _ _ d.lists.held.items pair.0 pair.1 (subst (λ (s : PassDeskState). holds s.desk.held (c.args.lease.lb, c.args.lease.lease.ticket) ≡ true) (sym c.self.view_is) c.requires.held) in
+    let got = got_found d.passes.items d.lists.held.items (c.into_pair-lb.result.0, c.into_pair-lb.result.1) had c.self.invariant.got in
+    let lt = within_at d.passes.items c.into_pair-lb.result.0 got.pass got.found in
+    let at = at_index d.passes.items c.into_pair-lb.result.0 c.index_mut.result.now lt c.index_mut.ensures.value in
+    let e = c.return_at.ensures in
+    let turn = e.back.turn in
+    subst (λ (s : PassDeskState). StayPasses s.passes (set d.passes.items c.into_pair-lb.result.0 c.return_at.new.pass)) c.self.view_is
+    (stay_set d.passes.items c.into_pair-lb.result.0 c.index_mut.result.now c.return_at.new.pass at e.of e.number
+    (ap (λ (x : PassView). x.origin) turn.after) (ap (λ (x : PassView). x.given) turn.after))

@@ -4,9 +4,9 @@ use Rattle.std.specs.Prelude.{IfOk}
 use Rattle.jk_model.specs.declared.journal.Entry.{Entry}
 use Rattle.balancer_core.specs.Desks.{Shows}
 use Rattle.seen_history.specs.declared.pass_view.PassView.{PassView}
-use Rattle.pass_desk.specs.PassDesks.{PassDeskState, SeesAt, SeesMore, desk_value, pass_state, sizes_in, view_of}
+use Rattle.pass_desk.specs.PassDesks.{PassDeskState, SeesAt, SeesMore, StayPasses, desk_value, pass_state, sizes_in, view_of}
 use Rattle.pass_desk.proofs.DeskLaws.{desk_shows}
-use Rattle.pass_desk.proofs.GotLaws.{at_place, desk_set, gained_none, got_all, got_turn, of_place, sees_more, sees_set, shows_set, size_at, sizes_set}
+use Rattle.pass_desk.proofs.GotLaws.{at_place, desk_set, gained_none, got_all, got_turn, of_place, sees_more, sees_set, shows_set, size_at, sizes_set, stay_set}
 use Rattle.pass_desk.proofs.pass_desk.PassDeskDesk.look.Goals as goal
 
 pub look_in-requires : goal.look_in-requires
@@ -37,7 +37,7 @@ returns-clause-same g c =
     let at = at_place c.self.inside.passes.items c.args.lb c.index_mut.result.now lt c.index_mut.ensures.value in
     let turn = c.look_in.ensures.looks.turn in
     ap (λ (ns : List ℕ). pass_state c.self.inside.number ns c.self.inside.lists.receipts.items c.self.inside.lists.held.items c.self.inside.fulls c.self.inside.wides)
-    (sizes_set c.self.inside.passes.items c.args.lb c.index_mut.result.now c.look_in.new.pass at (ap (λ (x : PassView). x.opening) turn.after))
+    (sizes_set c.self.inside.passes.items c.args.lb c.index_mut.result.now c.look_in.new.pass at (ap (λ (x : PassView). x.origin) turn.after))
     ∙ ap (λ (s : PassDeskState). s.desk) c.self.view_is
 
 pub returns-clause-seen : goal.returns-clause-seen
@@ -58,3 +58,13 @@ returns-clause-present g c =
     let at = at_place c.self.inside.passes.items c.args.lb c.index_mut.result.now lt c.index_mut.ensures.value in
     let d = c.self.inside in
     shows_set (desk_value d.number (set d.passes.items c.args.lb c.look_in.new.pass) d.lists.receipts.items d.lists.held.items d.fulls d.wides) c.self.inside.passes.items c.args.lb c.index_mut.result.now c.look_in.new.pass c.look_in.result at refl c.look_in.ensures.looks
+
+pub returns-clause-stay : goal.returns-clause-stay
+returns-clause-stay g c =
+    let lt = subst (λ (s : PassDeskState). c.args.lb < length s.desk.sizes) (sym c.self.view_is) c.requires.known in
+    let at = at_place c.self.inside.passes.items c.args.lb c.index_mut.result.now lt c.index_mut.ensures.value in
+    let d = c.self.inside in
+    let turn = c.look_in.ensures.looks.turn in
+    subst (λ (s : PassDeskState). StayPasses s.passes (set d.passes.items c.args.lb c.look_in.new.pass)) c.self.view_is
+    (stay_set d.passes.items c.args.lb c.index_mut.result.now c.look_in.new.pass at c.look_in.ensures.of c.look_in.ensures.number
+    (ap (λ (x : PassView). x.origin) turn.after) (ap (λ (x : PassView). x.given) turn.after))
