@@ -469,6 +469,33 @@ def status_workers():
     yield answered("a balancer that isn't there", "/jk?w=other", 404, STATUS + READ_ONLY)
 
 
+def waiting():
+    """A client whose next read would wait is left where a request is whole and nothing of the next one came."""
+    one = len(GET)
+    both = dict(client=GET * 2, links=[HI * 2], talks=[(0, forward(), True)] * 2, gets=reply() * 2, rows=["GET / 200 2 w1"] * 2, desk="next 4 w1 ok")
+    yield "a client that waits is left after a whole request"
+    yield done("after a reply", closed(1, "Idle"), words=f"waits={one}")
+    yield done("after the second of two", closed(2, "Idle"), words=f"waits={2 * one}", **both)
+    sent = post(LENGTH(b"hello"), b"hello")
+    yield posted("after a body that its member took", LENGTH(b"hello"), b"hello", HI, body(b"hello"), closed(1, "Idle"), words=f"waits={len(sent)}")
+    shown = request(path="/jk")
+    yield Row("after a page", shown, [], closed(1, "Idle"), gets=page(PAGE), rows=[f"GET /jk 200 {len(PAGE)} jkstatus"], desk="next 0 node1 ok node2 ok",
+              workers=STATUS + READ_ONLY, map_="/jk=jkstatus\n/*=lb\n", words=f"waits={len(shown)}")
+    yield "a client that waits is not left"
+    yield done("before its first request", words="waits=0")
+    yield done("where the next request came with this one", closed(2, "ByClient"), words=f"waits={one}", **both)
+    yield done("where a part of the next request came", "Truncated { requests: 1 }", client=GET + GET[:5], words=f"waits={one + 5}")
+    old = request(old=True)
+    yield done("after its last request", closed(1, "Last"), client=old, talks=[(0, forward(old=True), True)], gets=reply(last=True), rows=["GET / old 200 2 w1"],
+               words=f"waits={len(old)}")
+    yield refused("after an answer of the connector's own", request(headers=()), 400, words=f"waits={len(request(headers=()))}")
+    yield "a client is told what is awaited of it"
+    yield done("each head", words="awaits", desk="next 2 w1 ok client Client Client")
+    yield posted("a body", LENGTH(b"hello"), b"hello", HI, body(b"hello"), words="awaits", desk="next 2 w1 ok client Client Body Client")
+    yield done("no head after its last request", closed(1, "Last"), client=old, talks=[(0, forward(old=True), True)], gets=reply(last=True), rows=["GET / old 200 2 w1"],
+               words="awaits", desk="next 2 w1 ok client Client")
+
+
 def failing():
     yield "a body breaks the grammar of chunks"
     broken = dict(ends=own_end(0, 400), gets=own(400), rows=["POST / 400 16 -"], kept=False)
@@ -495,6 +522,13 @@ def failing():
     whole = reply()
     for place in range(len(whole)):
         yield done("", "ClientFault { requests: 0 }", gets=whole[:place], rows=[], ways=f"write@{place}", faults=1)
+    yield "a flush of what a client was written fails, numbered from 0"
+    yield done("of a reply", "ClientFault { requests: 0 }", rows=[], words="unflushed=0")
+    yield done("of the second of two", "ClientFault { requests: 1 }", client=GET * 2, links=[HI * 2], talks=[(0, forward(), True)] * 2, gets=reply() * 2,
+               desk="next 4 w1 ok", words="unflushed=1")
+    yield Row("of an own answer", request(headers=()), [], "ClientFault { requests: 0 }", gets=own(400), desk="next 0 w1 ok", words="unflushed=0")
+    yield Row("of a page", request(path="/jk"), [], "ClientFault { requests: 0 }", gets=page(PAGE), workers=STATUS + READ_ONLY, map_="/jk=jkstatus\n/*=lb\n",
+              desk="next 0 node1 ok node2 ok", words="unflushed=0")
     yield "a write of 100 Continue fails after so many bytes"
     hi = HOST + (("Content-Length", "2"), ("Expect", "100-continue"))
     for place in range(len(CONTINUE)):
@@ -532,8 +566,9 @@ SESSIONS = """# Sessions of one client, by RFC 9112, the AJPv1.3 reference, the 
 #   session WAYS | WORDS | WORKERS | MAP | LINKS | CLIENT | END ROWS TALKS client GOT faults N BALANCERS
 #
 # WAYS is of the client's link. WORDS has `first=N` for the number of the Books' first entry, `dial=N` where that dial, from 0,
-# fails, `client=N` where the client's write fails after N bytes; `-` is none of these. WORKERS and MAP are the two files of
-# the site, LINKS what each link that is dialled has to come, CLIENT what the client sends. END is how the session ended. Each
+# fails, `client=N` where the client's write fails after N bytes, `waits=N` where its next read would wait once N bytes were read,
+# `unflushed=N` where that flush to it, from 0, fails; `-` is none of these. With `awaits` the row ends with what the client's link
+# was told to await. WORKERS and MAP are the two files of the site, LINKS what each link that is dialled has to come, CLIENT what the client sends. END is how the session ended. Each
 # row of the log is `row METHOD TARGET STATUS BODY WORKER`; each talk `to LB.MEMBER SENT`, with `kept` where its link was.
 # Each balancer is told by its next number, and its members with their states."""
 
@@ -542,7 +577,7 @@ REPLIES = SESSIONS.replace("session WAYS | WORDS | WORKERS | MAP | LINKS | CLIEN
 
 
 def main(what):
-    parts = {"sessions": [plain_sessions, bodies, heads, others, status_workers], "failing": [failing], "replies": [replies]}[what]
+    parts = {"sessions": [plain_sessions, bodies, heads, others, status_workers, waiting], "failing": [failing], "replies": [replies]}[what]
     print(REPLIES if what == "replies" else SESSIONS)
     for part in parts:
         for row in part():

@@ -6,13 +6,15 @@ ghost use Rattle.uri_map.specs.Sites.{stands_in};
 
 use crate::sites::{config_of, map_of};
 use crate::start::desk_of;
-use crate::told::{put_balancer, put_rows, put_talks};
+use crate::told::{put_awaited, put_balancer, put_rows, put_talks};
 use balancer_core::PlainDesk;
 use check_rows::rows::{bytes_of, number};
 use check_rows::telling::{part, put_bytes, put_faults, put_word};
 use check_rows::ways::{Way, link_of, writing};
 use client_session::{SessionEnd, SessionSite, SessionStop, Surroundings, serve_session_with};
-use jk_io::{Bytes, MemLink, MemLinkList, MemReach, NoMemory, NumberList, Peer, StepClock};
+use jk_io::{
+    Bytes, MemLink, MemLinkList, MemReach, NoMemory, NumberList, PatientLink, Peer, StepClock,
+};
 use jk_model::{Served, ServedList};
 use site_books::member_counts;
 use site_config::Config;
@@ -79,18 +81,35 @@ fn said(words: &str, word: &str) -> Option<u64> {
     Some(number(rest.split_once(' ').map_or(rest, |cut| cut.0)))
 }
 
+/// A list of this number, if there is one.
+fn numbers_of(alloc: Global, number: Option<u64>) -> Result<NumberList, NoMemory> {
+    let mut numbers = NumberList::new(alloc);
+    if let Some(number) = number {
+        numbers.push(number)?;
+    }
+    Ok(numbers)
+}
+
 /// A client with these bytes to come; if `write` is given, one write to it fails after `write` bytes were taken.
 fn client_with(alloc: Global, text: &str, write: Option<u64>) -> Result<MemLink, NoMemory> {
     link_of(alloc, bytes_of(alloc, text)?.as_slice(), writing(write))
 }
 
-/// The client of a row.
-fn client_of(alloc: Global, row: Row<'_>) -> Result<MemLink, NoMemory> {
+/// What the client of a row sends, and what goes to it.
+fn line_of(alloc: Global, row: Row<'_>) -> Result<MemLink, NoMemory> {
     if row.of_member {
         client_with(alloc, row.fields[4], said(row.fields[1], "client="))
     } else {
         link_of(alloc, row.bytes, row.way)
     }
+}
+
+/// The client of a row, which waits and fails to take a flush where the row says so.
+fn client_of(alloc: Global, row: Row<'_>) -> Result<PatientLink, NoMemory> {
+    let words = row.fields[1];
+    let pauses = numbers_of(alloc, said(words, "waits="))?;
+    let unflushed = numbers_of(alloc, said(words, "unflushed="))?;
+    Ok(PatientLink::new(alloc, line_of(alloc, row)?, pauses, unflushed))
 }
 
 fn link_with(alloc: Global, text: &str) -> Result<MemLink, NoMemory> {
@@ -184,15 +203,6 @@ fn tell_desk(
     tell_linked(alloc, case, desk, &mut client_of(alloc, case.row)?, out)
 }
 
-/// The numbers of the begins that fail.
-fn failing(alloc: Global, begin: Option<u64>) -> Result<NumberList, NoMemory> {
-    let mut numbers = NumberList::new(alloc);
-    if let Some(begin) = begin {
-        numbers.push(begin)?;
-    }
-    Ok(numbers)
-}
-
 fn reach_over(
     alloc: Global,
     case: &Case<'_>,
@@ -215,7 +225,7 @@ fn reach_of(alloc: Global, case: &Case<'_>) -> Result<MemReach, NoMemory>
         alloc,
         case,
         links,
-        failing(alloc, said(case.row.fields[1], "dial="))?,
+        numbers_of(alloc, said(case.row.fields[1], "dial="))?,
     )
 }
 
@@ -223,7 +233,7 @@ fn tell_linked(
     alloc: Global,
     case: &Case<'_>,
     desk: &mut PlainDesk,
-    client: &mut MemLink,
+    client: &mut PatientLink,
     out: &mut String,
 ) -> Result<(), NoMemory>
     requires stands { stands_in case.now.config.now case.now.map.now ≡ true }
@@ -238,7 +248,7 @@ fn tell_over(
     case: &Case<'_>,
     desk: &mut PlainDesk,
     reach: &mut MemReach,
-    client: &mut MemLink,
+    client: &mut PatientLink,
     out: &mut String,
 ) -> Result<(), NoMemory>
     requires stands { stands_in case.now.config.now case.now.map.now ≡ true }
@@ -262,7 +272,7 @@ fn serve(
     case: &Case<'_>,
     desk: &mut PlainDesk,
     reach: &mut MemReach,
-    client: &mut MemLink,
+    client: &mut PatientLink,
     out: &mut String,
 ) -> Result<(), NoMemory>
     requires stands { stands_in case.now.config.now case.now.map.now ≡ true }
@@ -307,7 +317,7 @@ fn serve_into(
     case: &Case<'_>,
     desk: &mut PlainDesk,
     reach: &mut MemReach,
-    client: &mut MemLink,
+    client: &mut PatientLink,
     rows: &mut ServedList,
 ) -> Result<SessionEnd, NoMemory>
     requires stands { stands_in case.now.config.now case.now.map.now ≡ true }
@@ -349,14 +359,18 @@ fn put_rest(
     case: &Case<'_>,
     desk: &mut PlainDesk,
     reach: &MemReach,
-    client: &MemLink,
+    client: &PatientLink,
     out: &mut String,
 ) -> Result<(), NoMemory>
     requires { desk.old.sizes ≡ sizes_in case.now.config.now.lbs }
 {
     put_talks(reach.talks(), out)?;
     put_word(out, "client")?;
-    put_bytes(out, client.sent())?;
-    put_faults(out, client.faults())?;
-    put_balancers(case, desk, out)
+    put_bytes(out, client.link().sent())?;
+    put_faults(out, client.link().faults())?;
+    put_balancers(case, desk, out)?;
+    if case.row.fields[1].contains("awaits") {
+        put_awaited("client", client, out)?;
+    }
+    Ok(())
 }

@@ -3,6 +3,7 @@ ghost use Rattle.std.specs.Prelude.{◌≡◌, ◌<◌, ◌≤◌, None, length,
 ghost use Rattle.ajp_talk.specs.Ends.{IsPlan};
 ghost use Rattle.http_body_in.specs.State.{taken_of, failed_of};
 
+use crate::told::put_awaited;
 use ajp_talk::{TalkLimits, TalkPlan, talk};
 use check_rows::rows::{bytes_of, number};
 use check_rows::telling::{put_bytes, put_count, put_shown, put_word};
@@ -222,15 +223,6 @@ fn tell_talk(
     if words.contains("awaits") {
         put_awaited("line", line, out)?;
         put_awaited("client", client, out)?;
-    }
-    Ok(())
-}
-
-/// Adds what a link was told to await.
-fn put_awaited(whose: &str, link: &PatientLink, out: &mut String) -> Result<(), NoMemory> {
-    put_word(out, whose)?;
-    for what in link.awaited() {
-        put_shown(out, what)?;
     }
     Ok(())
 }

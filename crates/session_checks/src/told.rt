@@ -2,8 +2,8 @@
 ghost use Rattle.std.specs.Prelude.{◌≡◌, ◌<◌, length};
 
 use balancer_core::{Desk, PlainDesk};
-use check_rows::telling::{part, put_bytes, put_plain, put_word};
-use jk_io::{Bytes, NoMemory, Talk};
+use check_rows::telling::{part, put_bytes, put_plain, put_shown, put_word};
+use jk_io::{Bytes, NoMemory, PatientLink, Talk};
 use jk_model::{Asked, MemberRow, MemberState, Served, View};
 use std::fmt::Write;
 
@@ -106,4 +106,13 @@ pub fn put_balancer(desk: &mut PlainDesk, lb: u32, out: &mut String) -> Result<(
 {
     let view = desk.look(lb)?;
     put_view(&view, out)
+}
+
+/// Adds what a link was told to await.
+pub fn put_awaited(whose: &str, link: &PatientLink, out: &mut String) -> Result<(), NoMemory> {
+    put_word(out, whose)?;
+    for what in link.awaited() {
+        put_shown(out, what)?;
+    }
+    Ok(())
 }
