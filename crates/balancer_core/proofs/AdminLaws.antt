@@ -13,7 +13,7 @@ use Rattle.jk_model.specs.declared.refusal.AdminError.{AdminError}
 use Rattle.jk_model.specs.declared.refusal.AdminError.TheVariants as Admin
 use Rattle.jk_model.specs.declared.refusal.FullMark.{FullMark}
 use Rattle.balancer_core.specs.declared.present.Present.{Present}
-use Rattle.choice_index.specs.declared.standing.Standing.{Standing}
+use Rattle.lb_rules.specs.declared.standing.Standing.{Standing}
 use Rattle.balancer_core.specs.Commanded.{IsCommanded, IsJudged, IsKnown, common_commanded}
 use Rattle.balancer_core.specs.Journal.{IsMarked, Journal, next_number, tickets_out}
 use Rattle.balancer_core.specs.Kept.{IsKept}

@@ -11,7 +11,7 @@ use Rattle.jk_model.specs.declared.journal.Entry.{Entry}
 use Rattle.jk_model.specs.declared.member.Method.{Method}
 use Rattle.jk_model.specs.declared.opening.Opening.{Opening}
 use Rattle.balancer_core.specs.declared.present.Present.{Present}
-use Rattle.open_tickets.specs.Returns.{AreReturns}
+use Rattle.lb_rules.specs.Returns.{AreReturns}
 use Rattle.balancer_core.specs.Kept.{IsKept, IsNow}
 use Rattle.balancer_core.proofs.ReturnLaws.{returns-pushed}
 

@@ -12,11 +12,11 @@ use Rattle.jk_model.specs.declared.journal.Answer.{Answer}
 use Rattle.jk_model.specs.declared.journal.How.{How}
 use Rattle.jk_model.specs.declared.journal.Entry.{Entry}
 use Rattle.jk_model.specs.declared.opening.Opening.{Opening}
-use Rattle.choice_index.specs.declared.standing.Standing.{Standing}
-use Rattle.choice_index.specs.declared.among.Among.{Among}
-use Rattle.choice_index.specs.Standings.{passes, serves_row}
-use Rattle.choice_index.specs.Least.{row_before}
-use Rattle.choice_index.specs.Picks.{serves_at, redirect_at, passes_at, routed_at, is_forced_at, any_usable_at, is_candidate_at, is_before_at, IsLeastAt, IsOpenAt, IsChosenAt, IsPickAt, HasRoomFor}
+use Rattle.lb_rules.specs.declared.standing.Standing.{Standing}
+use Rattle.lb_rules.specs.declared.among.Among.{Among}
+use Rattle.lb_rules.specs.Standings.{passes, serves_row}
+use Rattle.lb_rules.specs.Least.{row_before}
+use Rattle.lb_rules.specs.Picks.{serves_at, redirect_at, passes_at, routed_at, is_forced_at, any_usable_at, is_candidate_at, is_before_at, IsLeastAt, IsOpenAt, IsChosenAt, IsPickAt, HasRoomFor}
 use Rattle.balancer_core.specs.declared.present.Present.{Present}
 use Rattle.balancer_core.specs.Kept.{IsStanding, IsNow}
 

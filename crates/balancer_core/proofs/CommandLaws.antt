@@ -31,7 +31,7 @@ use Rattle.jk_model.specs.declared.opening.Opening.{Opening}
 use Rattle.jk_model.specs.declared.state.MemberState.{MemberState}
 use Rattle.jk_model.specs.declared.state.MemberState.TheVariants as State
 use Rattle.balancer_core.specs.declared.present.Present.{Present}
-use Rattle.choice_index.specs.declared.standing.Standing.{Standing}
+use Rattle.lb_rules.specs.declared.standing.Standing.{Standing}
 use Rattle.balancer_core.specs.Commanded.{common_commanded, commanded_row, recovered_row, reset_row, row_setting, setting_commanded}
 use Rattle.balancer_core.specs.Kept.{IsNow, IsStanding}
 use Rattle.balancer_core.specs.Stepped.{AreStepped}

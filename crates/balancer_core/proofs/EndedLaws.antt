@@ -16,10 +16,10 @@ use Rattle.jk_model.specs.declared.journal.Answer.{Answer}
 use Rattle.jk_model.specs.declared.journal.Entry.{Entry}
 use Rattle.jk_model.specs.declared.member.MemberConfig.{MemberConfig}
 use Rattle.jk_model.specs.declared.opening.Opening.{Opening}
-use Rattle.choice_index.specs.declared.standing.Standing.{Standing}
+use Rattle.lb_rules.specs.declared.standing.Standing.{Standing}
 use Rattle.balancer_core.specs.Ending.{AreEarly, AreOwn, AreSettled, ending_member, still_out}
-use Rattle.open_tickets.specs.Returns.{AreReturns, IsReturnedAt}
-use Rattle.open_tickets.proofs.TableLaws.{any-returned}
+use Rattle.lb_rules.specs.Returns.{AreReturns, IsReturnedAt}
+use Rattle.lb_rules.proofs.TableLaws.{any-returned}
 use Rattle.balancer_core.proofs.CallLaws.{each-agree}
 use Rattle.balancer_core.proofs.ChoiceLaws.{nobody}
 

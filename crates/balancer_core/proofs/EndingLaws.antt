@@ -36,7 +36,7 @@ use Rattle.jk_model.specs.declared.state.MemberState.TheVariants as state
 use Rattle.jk_model.specs.declared.view.MemberRow.{MemberRow}
 use Rattle.jk_model.specs.declared.view.View.{View}
 use Rattle.balancer_core.specs.declared.present.Present.{Present}
-use Rattle.choice_index.specs.declared.standing.Standing.{Standing}
+use Rattle.lb_rules.specs.declared.standing.Standing.{Standing}
 use Rattle.balancer_core.specs.Ending.{IsCut, IsSettled, ending_member}
 use Rattle.balancer_core.specs.Kept.{IsNow, IsStanding}
 use Rattle.balancer_core.proofs.CallLaws.{each-agree}

@@ -17,14 +17,14 @@ use Rattle.jk_model.specs.declared.journal.Kind.TheVariants as Kind
 use Rattle.jk_model.specs.declared.journal.Outcome.{Outcome}
 use Rattle.jk_model.specs.declared.journal.Entry.{Entry}
 use Rattle.jk_model.specs.declared.opening.Opening.{Opening}
-use Rattle.choice_index.specs.declared.standing.Standing.{Standing}
+use Rattle.lb_rules.specs.declared.standing.Standing.{Standing}
 use Rattle.balancer_core.specs.declared.present.Present.{Present}
-use Rattle.choice_index.specs.Picks.{HasRoomFor, revives_at}
-use Rattle.open_tickets.specs.declared.tickets.Spot.{Spot}
-use Rattle.open_tickets.specs.Returns.{AreReturns}
-use Rattle.open_tickets.specs.Spots.{AreRising, IsSpot, IsPlaced, kept_noted, early_noted}
-use Rattle.open_tickets.proofs.SpotLaws.{opening_rising, spot_made}
-use Rattle.open_tickets.proofs.TableLaws.{spot_placed}
+use Rattle.lb_rules.specs.Picks.{HasRoomFor, revives_at}
+use Rattle.lb_rules.specs.declared.tickets.Spot.{Spot}
+use Rattle.lb_rules.specs.Returns.{AreReturns}
+use Rattle.lb_rules.specs.Spots.{AreRising, IsSpot, IsPlaced, kept_noted, early_noted}
+use Rattle.lb_rules.proofs.SpotLaws.{opening_rising, spot_made}
+use Rattle.lb_rules.proofs.TableLaws.{spot_placed}
 use Rattle.balancer_core.specs.Kept.{IsNow, IsKept}
 use Rattle.balancer_core.proofs.ChoiceLaws.{nobody}
 use Rattle.balancer_core.proofs.NowLaws.{IsSelected, IsGivenBack, now-selected, now-returned}

@@ -19,7 +19,7 @@ use Rattle.jk_model.specs.declared.journal.Entry.{Entry}
 use Rattle.jk_model.specs.declared.member.Method.{Method}
 use Rattle.jk_model.specs.declared.opening.Opening.{Opening}
 use Rattle.balancer_core.specs.declared.present.Present.{Present}
-use Rattle.choice_index.specs.declared.standing.Standing.{Standing}
+use Rattle.lb_rules.specs.declared.standing.Standing.{Standing}
 use Rattle.balancer_core.specs.Kept.{IsNow, IsStanding}
 use Rattle.balancer_core.specs.Maintained.{greatest_halved, maintained_load, maintained_row}
 use Rattle.balancer_core.specs.Stepped.{AreStepped}

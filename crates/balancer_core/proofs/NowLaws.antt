@@ -14,9 +14,9 @@ use Rattle.jk_model.specs.declared.journal.How.{How}
 use Rattle.jk_model.specs.declared.journal.Outcome.{Outcome}
 use Rattle.jk_model.specs.declared.journal.Entry.{Entry}
 use Rattle.jk_model.specs.declared.opening.Opening.{Opening}
-use Rattle.choice_index.specs.declared.standing.Standing.{Standing}
+use Rattle.lb_rules.specs.declared.standing.Standing.{Standing}
 use Rattle.balancer_core.specs.declared.present.Present.{Present}
-use Rattle.choice_index.specs.Picks.{HasRoomFor, revives_at}
+use Rattle.lb_rules.specs.Picks.{HasRoomFor, revives_at}
 use Rattle.balancer_core.specs.Steps.{returned_row}
 use Rattle.balancer_core.specs.Revived.{row_selected, tickets_after}
 use Rattle.balancer_core.specs.Kept.{IsStanding, IsNow}

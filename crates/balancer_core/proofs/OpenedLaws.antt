@@ -27,9 +27,9 @@ use Rattle.jk_model.specs.declared.journal.Entry.{Entry}
 use Rattle.jk_model.specs.declared.view.MemberRow.{MemberRow}
 use Rattle.jk_model.specs.declared.view.View.{View}
 use Rattle.jk_model.specs.declared.opening.Opening.{Opening}
-use Rattle.choice_index.specs.Opened.{opening_row}
-use Rattle.choice_index.specs.declared.standing.Standing.{Standing}
-use Rattle.open_tickets.specs.Returns.{AreReturns}
+use Rattle.lb_rules.specs.Opened.{opening_row}
+use Rattle.lb_rules.specs.declared.standing.Standing.{Standing}
+use Rattle.lb_rules.specs.Returns.{AreReturns}
 use Rattle.balancer_core.specs.declared.present.Present.{Present}
 use Rattle.balancer_core.specs.Journal.{Journal, past_of}
 use Rattle.balancer_core.specs.Shown.{AreShown, shown_row, AreOpened}

@@ -15,10 +15,10 @@ use Rattle.jk_model.proofs.OutFacts.{legal_opening, next_not_returned}
 use Rattle.jk_model.specs.declared.journal.Outcome.{Outcome}
 use Rattle.jk_model.specs.declared.journal.Entry.{Entry}
 use Rattle.jk_model.specs.declared.opening.Opening.{Opening}
-use Rattle.open_tickets.specs.declared.tickets.Spot.{Spot}
-use Rattle.open_tickets.specs.Returns.{AreReturns, IsReturnedAt}
-use Rattle.open_tickets.specs.Spots.{IsSpot, IsPlaced, kept_noted, early_noted}
-use Rattle.open_tickets.proofs.SpotLaws.{opening_rising, opening_below}
+use Rattle.lb_rules.specs.declared.tickets.Spot.{Spot}
+use Rattle.lb_rules.specs.Returns.{AreReturns, IsReturnedAt}
+use Rattle.lb_rules.specs.Spots.{IsSpot, IsPlaced, kept_noted, early_noted}
+use Rattle.lb_rules.proofs.SpotLaws.{opening_rising, opening_below}
 use Rattle.balancer_core.proofs.StepLaws.{return_entry}
 
 -- A ticket that the entry doesn't return.

@@ -12,8 +12,8 @@ use Rattle.jk_model.specs.declared.journal.Call.{Call}
 use Rattle.jk_model.specs.declared.journal.Entry.{Entry}
 use Rattle.jk_model.specs.declared.journal.How.{How}
 use Rattle.jk_model.specs.declared.opening.Opening.{Opening}
-use Rattle.choice_index.specs.declared.rules.Rules.{Rules}
-use Rattle.choice_index.specs.RuleNumbers.{rules_number}
+use Rattle.lb_rules.specs.declared.rules.Rules.{Rules}
+use Rattle.lb_rules.specs.RuleNumbers.{rules_number}
 
 pub are_rules : (number : ℕ) (rules : Rules) → number ≡ rules_number rules → AreRules number
 are_rules number Rules.One is = record { first = omega arith; last = omega arith }

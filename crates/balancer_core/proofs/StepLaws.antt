@@ -20,9 +20,9 @@ use Rattle.jk_model.specs.declared.journal.How.{How}
 use Rattle.jk_model.specs.declared.journal.Outcome.{Outcome}
 use Rattle.jk_model.specs.declared.journal.Entry.{Entry}
 use Rattle.jk_model.specs.declared.opening.Opening.{Opening}
-use Rattle.choice_index.specs.declared.standing.Standing.{Standing}
-use Rattle.choice_index.specs.declared.among.Among.TheVariants as Among
-use Rattle.choice_index.specs.Standings.{passes}
+use Rattle.lb_rules.specs.declared.standing.Standing.{Standing}
+use Rattle.lb_rules.specs.declared.among.Among.TheVariants as Among
+use Rattle.lb_rules.specs.Standings.{passes}
 use Rattle.balancer_core.specs.Steps.{chosen_row, returned_row}
 use Rattle.balancer_core.specs.Revived.{row_revived}
 use Rattle.balancer_core.specs.Kept.{IsStanding}

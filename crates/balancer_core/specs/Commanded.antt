@@ -15,7 +15,7 @@ use Rattle.jk_model.specs.declared.refusal.AdminError.TheVariants as Admin
 use Rattle.jk_model.specs.declared.refusal.FullMark.{FullMark}
 use Rattle.jk_model.specs.declared.state.MemberState.TheVariants as State
 use Rattle.balancer_core.specs.Journal.{IsMarked, Journal, next_number, past_of, tickets_out}
-use Rattle.choice_index.specs.declared.standing.Standing.{Standing}
+use Rattle.lb_rules.specs.declared.standing.Standing.{Standing}
 use Rattle.jk_model.specs.declared.validity.TheConstants.{MOST_NUMBERS}
 
 abbrev pub row_setting : Standing → Setting

@@ -20,7 +20,7 @@ use Rattle.jk_model.specs.declared.refusal.RoomError.TheVariants as room
 use Rattle.jk_model.specs.declared.refusal.Stray.{Stray}
 use Rattle.jk_model.specs.declared.view.View.{View}
 use Rattle.balancer_core.specs.Commanded.{IsKnown}
-use Rattle.open_tickets.specs.Returns.{IsReturnedAt}
+use Rattle.lb_rules.specs.Returns.{IsReturnedAt}
 use Rattle.balancer_core.specs.Journal.{Journal, past_of}
 use Rattle.balancer_core.specs.Refused.{RefusesAsk, RefusesChange, RefusesMaintain}
 use Rattle.balancer_core.specs.ToldBooks.{AreSound, Follows, IsFound, IsNoneDue, grown_by}

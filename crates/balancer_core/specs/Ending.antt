@@ -8,8 +8,8 @@ use Rattle.jk_model.specs.declared.config.LbConfig.{LbConfig}
 use Rattle.jk_model.specs.declared.journal.Entry.{Entry}
 use Rattle.jk_model.specs.declared.member.MemberConfig.{MemberConfig}
 use Rattle.jk_model.specs.declared.view.View.{View}
-use Rattle.choice_index.specs.declared.standing.Standing.{Standing}
-use Rattle.open_tickets.specs.Returns.{IsReturnedAt}
+use Rattle.lb_rules.specs.declared.standing.Standing.{Standing}
+use Rattle.lb_rules.specs.Returns.{IsReturnedAt}
 use Rattle.balancer_core.specs.Journal.{Journal, next_number, past_of}
 
 -- The ticket, if there is one and it didn't come back.

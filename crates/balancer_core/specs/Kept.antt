@@ -8,8 +8,8 @@ use Rattle.jk_model.specs.Loads.{load_of}
 use Rattle.jk_model.specs.Legal.{IsLegal}
 use Rattle.jk_model.specs.declared.journal.Entry.{Entry}
 use Rattle.jk_model.specs.declared.opening.Opening.{Opening}
-use Rattle.choice_index.specs.declared.standing.Standing.{Standing}
-use Rattle.open_tickets.specs.Returns.{AreReturns}
+use Rattle.lb_rules.specs.declared.standing.Standing.{Standing}
+use Rattle.lb_rules.specs.Returns.{AreReturns}
 use Rattle.balancer_core.specs.declared.present.Present.{Present}
 
 -- The row of member m after p, with the bounds that keep its numbers small.

@@ -4,7 +4,7 @@ use Rattle.jk_model.specs.Loads.{greatest, halved, load_by}
 use Rattle.jk_model.specs.StateRows.{is_over, maintained_state}
 use Rattle.jk_model.specs.declared.config.LbConfig.{LbConfig}
 use Rattle.jk_model.specs.declared.member.Method.{Method}
-use Rattle.choice_index.specs.declared.standing.Standing.{Standing}
+use Rattle.lb_rules.specs.declared.standing.Standing.{Standing}
 use Rattle.balancer_core.specs.Stepped.{AreStepped}
 
 -- The greatest of the loads after this many halvings; d stands where there is no row.

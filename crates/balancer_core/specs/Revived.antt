@@ -4,10 +4,10 @@ use Rattle.jk_model.specs.Journal.{chose}
 use Rattle.jk_model.specs.declared.ask.Ask.{Ask}
 use Rattle.jk_model.specs.declared.member.Method.{Method}
 use Rattle.jk_model.specs.declared.journal.Answer.{Answer}
-use Rattle.choice_index.specs.declared.choice.SelectAnswer.{SelectAnswer}
-use Rattle.choice_index.specs.declared.standing.Standing.{Standing}
-use Rattle.choice_index.specs.declared.among.Among.TheVariants as Among
-use Rattle.choice_index.specs.Standings.{passes}
+use Rattle.lb_rules.specs.declared.choice.SelectAnswer.{SelectAnswer}
+use Rattle.lb_rules.specs.declared.standing.Standing.{Standing}
+use Rattle.lb_rules.specs.declared.among.Among.TheVariants as Among
+use Rattle.lb_rules.specs.Standings.{passes}
 use Rattle.balancer_core.specs.Steps.{revived_row, chosen_row}
 
 -- Row m after a revival of all that may be revived.

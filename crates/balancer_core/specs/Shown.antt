@@ -2,8 +2,8 @@
 use Rattle.std.specs.Prelude.{◌≡◌, ℕ, ◌/◌, ◌<◌, List, length, slice_index_or}
 use Rattle.jk_model.specs.declared.member.MemberConfig.{MemberConfig}
 use Rattle.jk_model.specs.declared.view.MemberRow.{MemberRow}
-use Rattle.choice_index.specs.Opened.{opening_row}
-use Rattle.choice_index.specs.declared.standing.Standing.{Standing}
+use Rattle.lb_rules.specs.Opened.{opening_row}
+use Rattle.lb_rules.specs.declared.standing.Standing.{Standing}
 
 abbrev pub shown_row : MemberConfig → Standing → MemberRow
 shown_row c row = record {

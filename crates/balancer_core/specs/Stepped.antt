@@ -1,6 +1,6 @@
 -- Rows that are stepped one after the other.
 use Rattle.std.specs.Prelude.{◌≡◌, ℕ, ◌<◌, ◌≤◌, List, length, slice_index_or}
-use Rattle.choice_index.specs.declared.standing.Standing.{Standing}
+use Rattle.lb_rules.specs.declared.standing.Standing.{Standing}
 
 -- The first n rows were stepped, and the others are as before.
 pub record AreStepped (step : ℕ → Standing → Standing) (n : ℕ) (old new : List Standing) : Type 0 where

@@ -4,7 +4,7 @@ use Rattle.jk_model.specs.declared.member.Method.{Method}
 use Rattle.jk_model.specs.declared.journal.Outcome.{Outcome}
 use Rattle.jk_model.specs.Loads.{units_chosen, units_returned, load_by}
 use Rattle.jk_model.specs.StateRows.{chosen_state, returned_state, recovered_state}
-use Rattle.choice_index.specs.declared.standing.Standing.{Standing}
+use Rattle.lb_rules.specs.declared.standing.Standing.{Standing}
 
 abbrev pub chosen_row : Method → (ticket : ℕ) → Bool → Standing → Standing
 chosen_row method ticket fresh row = record row {

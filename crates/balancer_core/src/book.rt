@@ -12,13 +12,12 @@ use crate::book::adding::{add, take_room};
 use crate::opened::start_rows;
 use crate::present::Present;
 use crate::shown::shown_rows;
-use choice_index::Rules;
 use jk_io::NoMemory;
 use jk_model::{
     Answer, Ask, Call, Entry, FullMark, LbConfig, MOST_NUMBERS, Opening, Outcome, RoomError,
     RowList, Stray, TicketList, View,
 };
-use open_tickets::{locate, note_return};
+use lb_rules::{Rules, locate, note_return};
 use std::alloc::Global;
 use std::marker::Model;
 
@@ -40,7 +39,7 @@ pub struct Book {
 impl Model for Book {
     ghost use Rattle.std.specs.Prelude.{vec_capacity};
     ghost use Rattle.balancer_core.specs.Journal.{Journal};
-    ghost use Rattle.choice_index.specs.RuleNumbers.{rules_number};
+    ghost use Rattle.lb_rules.specs.RuleNumbers.{rules_number};
     ghost use Rattle.balancer_core.specs.Kept.{IsKept};
 
     ghost Value = { Journal };
@@ -108,7 +107,7 @@ impl Book {
     ghost use Rattle.jk_model.specs.Tickets.{is_out};
     ghost use Rattle.jk_model.specs.Segments.{AreRules};
     ghost use Rattle.jk_model.specs.Validity.{IsOpening};
-    ghost use Rattle.choice_index.specs.RuleNumbers.{rules_number};
+    ghost use Rattle.lb_rules.specs.RuleNumbers.{rules_number};
     ghost use Rattle.balancer_core.specs.Journal.{
       AddsEntry,
       IsFullUnless,
@@ -118,7 +117,7 @@ impl Book {
       past_of,
       tickets_out,
     };
-    ghost use Rattle.open_tickets.specs.Returns.{IsReturnedAt};
+    ghost use Rattle.lb_rules.specs.Returns.{IsReturnedAt};
     ghost use Rattle.balancer_core.specs.Leases.{IsLeaseOf};
     ghost use Rattle.balancer_core.specs.Bounds.{ChoseWell, IsBounded};
     ghost use Rattle.balancer_core.specs.Weights.{AreLevel, IsEvenEpoch};

@@ -18,15 +18,13 @@ ghost use Rattle.balancer_core.specs.Commanded.{
   settled_row,
 };
 ghost use Rattle.balancer_core.specs.Stepped.{AreStepped};
-ghost use Rattle.choice_index.specs.declared.standing.Standing.{Standing};
+ghost use Rattle.lb_rules.specs.declared.standing.Standing.{Standing};
 ghost use Rattle.jk_model.specs.declared.config.TheConstants.{MAX_MEMBERS};
 
 use crate::present::Present;
 use crate::steps::{by_method, load_by};
-use choice_index::Standing;
 use jk_model::{AdminError, Change, Command, FullMark, LbConfig, Method, Redirect, lcm_of};
-use lb_methods::unit_of;
-use member_state::{Touch, next_state};
+use lb_rules::{Standing, Touch, next_state, unit_of};
 
 fn redirect_exists(members: usize, redirect: Redirect) -> bool
     ensures { IsTrue result ↔ RedirectExists members redirect }

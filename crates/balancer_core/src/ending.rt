@@ -9,16 +9,15 @@ ghost use Rattle.jk_model.specs.Present.{IsEnding};
 ghost use Rattle.jk_model.specs.Tickets.{out, ticket_in};
 ghost use Rattle.balancer_core.specs.Ending.{AreEarly, AreEndingInRange, AreOwn, AreSettled, IsSettled, ending_member, still_out, tickets_made, unreturned};
 ghost use Rattle.balancer_core.specs.Kept.{IsNow};
-ghost use Rattle.choice_index.specs.declared.standing.Standing.{Standing};
-ghost use Rattle.open_tickets.specs.Returns.{AreReturns};
+ghost use Rattle.lb_rules.specs.declared.standing.Standing.{Standing};
+ghost use Rattle.lb_rules.specs.Returns.{AreReturns};
 ghost use Rattle.jk_model.specs.declared.validity.TheConstants.{MOST_NUMBERS};
 
 use crate::present::Present;
 use crate::shown::shown_rows;
-use choice_index::Standing;
 use jk_io::NoMemory;
 use jk_model::{Answer, Entry, LbConfig, MemberConfig, MemberList, Opening, RowList, TicketList};
-use open_tickets::next_after;
+use lb_rules::{Standing, next_after};
 use std::alloc::Global;
 
 // The member's configuration with the setting of its row.

@@ -5,14 +5,12 @@ ghost use Rattle.jk_model.specs.Loads.{halved};
 ghost use Rattle.jk_model.specs.StateRows.{is_over};
 ghost use Rattle.balancer_core.specs.Maintained.{AreMaintained, greatest_halved, maintained_load, maintained_row};
 ghost use Rattle.balancer_core.specs.Stepped.{AreStepped};
-ghost use Rattle.choice_index.specs.declared.standing.Standing.{Standing};
+ghost use Rattle.lb_rules.specs.declared.standing.Standing.{Standing};
 
 use crate::present::Present;
 use crate::steps::by_method;
-use choice_index::Standing;
 use jk_model::{LbConfig, MemberState, Method, halve};
-use lb_methods::halvings;
-use member_state::{Touch, next_state};
+use lb_rules::{Standing, Touch, halvings, next_state};
 
 // Whether a maintenance at this moment ends the error.
 fn is_over(state: MemberState, at: u64, recover: u64) -> bool

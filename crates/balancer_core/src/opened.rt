@@ -6,12 +6,11 @@ ghost use Rattle.jk_model.specs.Multiple.{multiple_of};
 ghost use Rattle.jk_model.specs.Ranges.{factors_in};
 ghost use Rattle.balancer_core.specs.Journal.{start_row};
 ghost use Rattle.balancer_core.specs.Shown.{AreOpened};
-ghost use Rattle.choice_index.specs.Opened.{opening_row};
+ghost use Rattle.lb_rules.specs.Opened.{opening_row};
 
-use choice_index::{Standing, opening_row};
 use jk_io::NoMemory;
 use jk_model::{MemberConfig, MemberRow, MemberState, lcm_of};
-use lb_methods::unit_of;
+use lb_rules::{Standing, opening_row, unit_of};
 use std::alloc::Global;
 
 fn start_row(member: &MemberConfig) -> Result<MemberRow, NoMemory>

@@ -3,14 +3,14 @@
 ghost use Rattle.std.specs.Prelude.{◌≡◌, ℕ, ◌+◌, ◌<◌, ◌≤◌, List, length, false, slice_index_or, vec_len, IfSome, None};
 ghost use Rattle.jk_model.specs.Journal.{chosen_in, newest_chosen};
 ghost use Rattle.balancer_core.specs.Revived.{AreOthersRevived, AreSelected, tickets_after};
-ghost use Rattle.choice_index.specs.Picks.{HasRoomFor};
+ghost use Rattle.lb_rules.specs.Picks.{HasRoomFor};
 ghost use Rattle.balancer_core.specs.Steps.{returned_row};
-ghost use Rattle.choice_index.specs.declared.standing.Standing.{Standing};
+ghost use Rattle.lb_rules.specs.declared.standing.Standing.{Standing};
 ghost use Rattle.jk_model.specs.declared.config.TheConstants.{MAX_MEMBERS};
 
 use crate::steps::{chosen_row, returned_row, revived_row};
-use choice_index::{Among, Rules, SelectAnswer, Standing, passes, pick};
 use jk_model::{Answer, Ask, LbConfig, Opening, Outcome};
+use lb_rules::{Among, Rules, SelectAnswer, Standing, passes, pick};
 
 /// The balancer as its journal leaves it.
 #[derive(Drop)]
@@ -43,8 +43,8 @@ impl Present {
     ghost use Rattle.jk_model.specs.Journal.{members, next_of};
     ghost use Rattle.jk_model.specs.Choice.{IsPick};
     ghost use Rattle.jk_model.specs.declared.journal.Entry.{Entry};
-    ghost use Rattle.choice_index.specs.RuleNumbers.{rules_number};
-    ghost use Rattle.choice_index.specs.Picks.{revives_at};
+    ghost use Rattle.lb_rules.specs.RuleNumbers.{rules_number};
+    ghost use Rattle.lb_rules.specs.Picks.{revives_at};
     ghost use Rattle.balancer_core.specs.Kept.{IsNow};
     ghost use Rattle.balancer_core.specs.declared.steps.TheConstants.{LOAD_LIMIT};
     ghost use Rattle.jk_model.specs.declared.config.TheConstants.{MAX_MEMBERS};

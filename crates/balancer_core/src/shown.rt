@@ -3,9 +3,9 @@
 ghost use Rattle.std.specs.Prelude.{◌≡◌, ℕ, List, length, IfOk};
 ghost use Rattle.balancer_core.specs.Shown.{AreShown, shown_row};
 
-use choice_index::Standing;
 use jk_io::NoMemory;
 use jk_model::{MemberConfig, MemberRow};
+use lb_rules::Standing;
 use std::alloc::Global;
 
 fn shown_row(member: &MemberConfig, row: &Standing) -> Result<MemberRow, NoMemory>

@@ -5,10 +5,8 @@ ghost use Rattle.jk_model.specs.Loads.{load_by};
 ghost use Rattle.balancer_core.specs.Steps.{chosen_row, returned_row, revived_row};
 ghost use Rattle.jk_model.specs.declared.journal.TheConstants.{MOST_BYTES};
 
-use choice_index::Standing;
 use jk_model::{Method, Outcome};
-use lb_methods::{gain_return, gain_select};
-use member_state::{Touch, next_state};
+use lb_rules::{Standing, Touch, gain_return, gain_select, next_state};
 
 /// Each load is below this, so that with what an entry adds it still fits a u128.
 pub(crate) const LOAD_LIMIT: u128 = 1 << 125;

@@ -21,8 +21,8 @@ use Rattle.http_body_in.specs.State.{failed_of, place_of, taken_of}
 use Rattle.http_front.specs.declared.head.Head.{Head}
 use Rattle.http_out.specs.ReplyBytes.{so_far}
 use Rattle.http_out.specs.declared.framing.RequestKind.{RequestKind}
-use Rattle.recovery_rule.specs.Recovery.{may_retry_of}
-use Rattle.recovery_rule.specs.declared.method.MethodKind.{MethodKind}
+use Rattle.forwarding.specs.Recovery.{may_retry_of}
+use Rattle.forwarding.specs.declared.method.MethodKind.{MethodKind}
 use Rattle.site_config.specs.declared.endpoint.Endpoint.{Endpoint}
 use Rattle.exchange.specs.Ends.{is_status, tries_again}
 use Rattle.exchange.specs.OneTalk.{Around, IsOneTalk}

@@ -22,10 +22,10 @@ use Rattle.ajp_talk.specs.declared.ending.TalkEnd.TheVariants as ends
 use Rattle.ajp_talk.specs.declared.plan.TalkPlan.{TalkPlan}
 use Rattle.forwarding.specs.FirstPiece.{first_len}
 use Rattle.http_body_in.specs.Body.{Data}
-use Rattle.recovery_rule.specs.Recovery.{is_always_recovered, is_on, may_retry_of}
-use Rattle.recovery_rule.specs.declared.method.MethodKind.{MethodKind}
-use Rattle.recovery_rule.specs.declared.method.MethodKind.TheVariants as method
-use Rattle.recovery_rule.specs.declared.options.RecoveryOption.TheVariants.{NotOnceGot, NotOnceHeaders, AlwaysHead, AlwaysGet}
+use Rattle.forwarding.specs.Recovery.{is_always_recovered, is_on, may_retry_of}
+use Rattle.forwarding.specs.declared.method.MethodKind.{MethodKind}
+use Rattle.forwarding.specs.declared.method.MethodKind.TheVariants as method
+use Rattle.forwarding.specs.declared.options.RecoveryOption.TheVariants.{NotOnceGot, NotOnceHeaders, AlwaysHead, AlwaysGet}
 use Rattle.site_config.specs.declared.endpoint.Endpoint.{Endpoint}
 use Rattle.exchange.specs.Exchanges.{EndsIn, IsExchange, IsOwnCause, begun_with as scene_with}
 use Rattle.exchange.specs.OneTalk.{Around, IsHeld, IsOneTalk, begun_with, keeps, plan_on}

@@ -9,14 +9,14 @@ use Rattle.http_front.specs.declared.head.Head.{Head}
 use Rattle.jk_io.specs.declared.traits.surroundings.Peer.{Peer}
 use Rattle.jk_model.specs.declared.ask.Ask.{Ask}
 use Rattle.jk_model.specs.declared.member.MemberConfig.{MemberConfig}
-use Rattle.recovery_rule.specs.Recovery.{is_on, may_retry_of}
-use Rattle.recovery_rule.specs.declared.method.MethodKind.{MethodKind}
-use Rattle.recovery_rule.specs.declared.method.MethodKind.TheVariants as method
-use Rattle.recovery_rule.specs.declared.options.RecoveryOption.TheVariants.{CloseWithClient}
+use Rattle.forwarding.specs.Recovery.{is_on, may_retry_of}
+use Rattle.forwarding.specs.declared.method.MethodKind.{MethodKind}
+use Rattle.forwarding.specs.declared.method.MethodKind.TheVariants as method
+use Rattle.forwarding.specs.declared.options.RecoveryOption.TheVariants.{CloseWithClient}
 use Rattle.site_config.specs.Limits.{reply_limit}
 use Rattle.site_config.specs.declared.endpoint.Endpoint.{Endpoint}
-use Rattle.sticky_routes.specs.Ids.{ids_of}
-use Rattle.sticky_routes.specs.Routes.{routed_of}
+use Rattle.forwarding.specs.Ids.{ids_of}
+use Rattle.forwarding.specs.Routes.{routed_of}
 use Rattle.jk_model.specs.declared.ask.Terms.{Terms}
 use Rattle.site_config.specs.declared.balancer.Lb.{Lb}
 use Rattle.exchange.specs.declared.request.Request.{Request}

@@ -7,8 +7,8 @@ use Rattle.jk_model.specs.declared.member.MemberConfig.{MemberConfig}
 use Rattle.ajp_talk.specs.Moments.{data_at}
 use Rattle.ajp_talk.specs.Owed.{opening}
 use Rattle.forwarding.specs.FirstPiece.{first_len}
-use Rattle.recovery_rule.specs.Recovery.{is_on}
-use Rattle.recovery_rule.specs.declared.options.RecoveryOption.TheVariants.{NotOnceGot, AlwaysHead, AlwaysGet}
+use Rattle.forwarding.specs.Recovery.{is_on}
+use Rattle.forwarding.specs.declared.options.RecoveryOption.TheVariants.{NotOnceGot, AlwaysHead, AlwaysGet}
 use Rattle.site_config.specs.declared.endpoint.Endpoint.{Endpoint}
 use Rattle.exchange.specs.OneTalk.{Around, plan_on}
 use Rattle.exchange.specs.Requests.{Errand, plan_for}

@@ -2,8 +2,8 @@
 ghost use Rattle.std.specs.Prelude.{◌≡◌};
 ghost use Rattle.exchange.specs.Requests.{is_get as is_get_of, is_head as is_head_of, method_of as kind_of};
 
+use forwarding::MethodKind;
 use http_front::Head;
-use recovery_rule::MethodKind;
 
 fn is_get(head: &Head) -> bool
     ensures { result ≡ is_get_of head.now }

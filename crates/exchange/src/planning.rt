@@ -9,13 +9,11 @@ use crate::methods::is_head;
 use crate::request::Request;
 use ajp_talk::{TalkLimits, TalkPlan};
 use ajp_wire::EncodeError;
-use forwarding::{forward_packet, piece_of};
+use forwarding::{IdList, RecoveryOption, forward_packet, piece_of, routed, session_ids};
 use jk_io::{Bytes, NoMemory};
 use jk_model::{Ask, MemberConfig};
-use recovery_rule::RecoveryOption;
 use site_config::Endpoint;
 use std::alloc::Global;
-use sticky_routes::{IdList, routed, session_ids};
 
 /// A talk fails once it received this many bytes.
 const MOST_RECEIVED: u64 = 1 << 40;

@@ -7,9 +7,9 @@ ghost use Rattle.exchange.specs.Requests.{allows as allows_another};
 use crate::ending::{ExchangeEnd, Ran, RoundVerdict};
 use crate::methods::method_of;
 use ajp_talk::{Cause, Stage, TalkEnd, Told};
+use forwarding::may_retry;
 use http_front::Head;
 use jk_model::{FailList, Kind, Outcome};
-use recovery_rule::may_retry;
 use site_config::Endpoint;
 
 fn allows(endpoint: &Endpoint, head: &Head, stage: Stage) -> bool

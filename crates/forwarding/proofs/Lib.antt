@@ -1,3 +1,5 @@
 pub mod AttributeLaws
 pub mod ForwardLaws
 pub mod FirstPieceLaws
+pub mod PositionLaws
+pub mod IdLaws

@@ -1,2 +1,5 @@
 pub mod Forwards
 pub mod FirstPiece
+pub mod Recovery
+pub mod Ids
+pub mod Routes

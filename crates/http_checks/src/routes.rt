@@ -5,15 +5,13 @@ use ajp_talk::Stage;
 use ajp_wire::EncodeError;
 use check_rows::rows::{bytes_of, number};
 use check_rows::telling::{part, put_bytes, put_count, put_shown, put_word};
-use forwarding::forward_packet;
+use forwarding::{IdList, MethodKind, forward_packet, may_retry, routed, session_ids};
 use http_front::{BodyPlan, Head, HeadLines};
 use jk_io::{Bytes, ListOf, NoMemory, Peer};
 use jk_model::{Activation, MemberConfig, MemberList};
-use recovery_rule::{MethodKind, may_retry};
 use site_config::{Endpoint, MemberLimits};
 use std::alloc::Global;
 use std::fmt::Write;
-use sticky_routes::{IdList, routed, session_ids};
 
 pub fn tell(
     alloc: Global,

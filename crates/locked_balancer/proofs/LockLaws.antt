@@ -22,7 +22,7 @@ use Rattle.jk_model.specs.declared.segment.Segment.{Segment}
 use Rattle.jk_model.specs.declared.view.View.{View}
 use Rattle.jk_model.proofs.OutFacts.{length-returned}
 use Rattle.balancer_core.specs.Desks.{IsDue, IsNotOut, LeaseNote}
-use Rattle.open_tickets.specs.Returns.{IsReturnedAt}
+use Rattle.lb_rules.specs.Returns.{IsReturnedAt}
 use Rattle.balancer_core.specs.Journal.{IsSound, Journal, next_number, past_of, tickets_out}
 use Rattle.balancer_core.specs.PlainDesks.{AreLegal}
 use Rattle.balancer_core.specs.ToldBooks.{IsFound, grown_by, sizes_of}

@@ -3,7 +3,7 @@
 use check_lines::texts::{long, put_number};
 use jk_io::{Bytes, NoMemory};
 use jk_model::{Activation, Kind, MemberState};
-use member_state::{Touch, next_state};
+use lb_rules::{Touch, next_state};
 
 fn counted_state(word: &str, number: &str) -> Option<MemberState> {
     match word {

@@ -7,7 +7,7 @@ use check_lines::judging::{Teller, judge_lines};
 use check_lines::texts::{long, put_number, short, words_of};
 use jk_io::{Bytes, NoMemory, put_decimal};
 use jk_model::{Method, halve, lcm_of};
-use lb_methods::{gain_return, gain_select, unit_of};
+use lb_rules::{gain_return, gain_select, unit_of};
 use std::alloc::Global;
 
 fn method_of(word: &str) -> Option<Method> {

@@ -15,7 +15,7 @@ impl<L: SiteName> Site<L> {
     ghost use Rattle.jk_model.specs.Tickets.{is_out};
     ghost use Rattle.jk_model.specs.declared.journal.Call.{Call};
     ghost use Rattle.balancer_core.specs.Journal.{IsSound, past_of};
-    ghost use Rattle.open_tickets.specs.Returns.{IsReturnedAt};
+    ghost use Rattle.lb_rules.specs.Returns.{IsReturnedAt};
     ghost use Rattle.balancer_core.specs.ToldBooks.{IsNoneDue};
     ghost use Rattle.locked_balancer.specs.Notes.{lease_of};
     ghost use Rattle.locked_balancer.specs.Sites.{AddsAt, At};

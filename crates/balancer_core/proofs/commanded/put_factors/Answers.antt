@@ -1,7 +1,7 @@
 use Rattle.std.proofs.Common.{◌≡◌, ℕ, ◌<◌, length, get_or, take, ◌∙◌, ap, sym, arith}
 use Rattle.std.proofs.lemmas.List.{get_or_default}
 use Rattle.jk_model.specs.Journal.{each}
-use Rattle.choice_index.specs.declared.standing.Standing.{Standing}
+use Rattle.lb_rules.specs.declared.standing.Standing.{Standing}
 use Rattle.balancer_core.specs.Commanded.{setting_commanded}
 use Rattle.balancer_core.proofs.CommandLaws.{each-set}
 use Rattle.balancer_core.proofs.commanded.put_factors.Goals as goal

@@ -1,7 +1,7 @@
 use Rattle.std.proofs.Common.{◌≡◌, get_or, take}
 use Rattle.jk_model.specs.Journal.{each}
 use Rattle.balancer_core.specs.Commanded.{setting_commanded}
-use Rattle.choice_index.specs.declared.standing.Standing.{Standing}
+use Rattle.lb_rules.specs.declared.standing.Standing.{Standing}
 use Rattle.balancer_core.proofs.commanded.put_factors.Given as goal
 
 abbrev pub invariant-loop-i : goal.invariant-loop-i

@@ -5,7 +5,7 @@ use Rattle.jk_model.specs.Present.{ArePresentRows}
 use Rattle.jk_model.specs.Ranges.{IsInRange}
 use Rattle.jk_model.specs.declared.member.MemberConfig.{MemberConfig}
 use Rattle.jk_model.specs.declared.view.MemberRow.{MemberRow}
-use Rattle.choice_index.specs.declared.standing.Standing.{Standing}
+use Rattle.lb_rules.specs.declared.standing.Standing.{Standing}
 use Rattle.balancer_core.specs.Ending.{IsSettled, ending_member}
 use Rattle.balancer_core.specs.Shown.{AreShown}
 use Rattle.balancer_core.proofs.EndingLaws.{is_ending}

@@ -1,6 +1,6 @@
 use Rattle.std.proofs.Common.{◌≡◌, get_or}
 use Rattle.jk_model.specs.Loads.{greatest, halved}
-use Rattle.choice_index.specs.declared.standing.Standing.{Standing}
+use Rattle.lb_rules.specs.declared.standing.Standing.{Standing}
 use Rattle.balancer_core.proofs.maintenance.greatest_halved.Given as goal
 
 abbrev pub invariant-loop-i : goal.invariant-loop-i

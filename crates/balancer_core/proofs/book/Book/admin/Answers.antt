@@ -8,10 +8,10 @@ use Rattle.jk_model.specs.declared.journal.Call.{Call}
 use Rattle.jk_model.specs.declared.journal.Entry.{Entry}
 use Rattle.jk_model.specs.declared.opening.Opening.{Opening}
 use Rattle.jk_model.specs.declared.refusal.AdminError.TheVariants as Admin
-use Rattle.choice_index.specs.declared.standing.Standing.{Standing}
+use Rattle.lb_rules.specs.declared.standing.Standing.{Standing}
 use Rattle.balancer_core.specs.Commanded.{IsCommanded}
 use Rattle.balancer_core.specs.Journal.{Journal, past_of, AddsEntry, IsSound}
-use Rattle.choice_index.specs.RuleNumbers.{rules_number}
+use Rattle.lb_rules.specs.RuleNumbers.{rules_number}
 use Rattle.balancer_core.specs.Kept.{IsKept, IsNow}
 use Rattle.balancer_core.proofs.AdminLaws.{commanded_by, judged_common, judged_doable, judged_full, judged_refused, judged_room, journal_of}
 use Rattle.balancer_core.proofs.CallLaws.{kept-called}

@@ -6,7 +6,7 @@ use Rattle.jk_model.proofs.OutFacts.{legal_opening}
 use Rattle.jk_model.specs.declared.journal.Entry.{Entry}
 use Rattle.balancer_core.specs.Ending.{IsCut}
 use Rattle.balancer_core.specs.Journal.{Journal}
-use Rattle.choice_index.specs.RuleNumbers.{rules_number}
+use Rattle.lb_rules.specs.RuleNumbers.{rules_number}
 use Rattle.balancer_core.proofs.EndingLaws.{ending_valid, is_cut, narrow_now, ranges_now}
 use Rattle.balancer_core.proofs.SegmentLaws.{are_rules, kept_entries}
 use Rattle.balancer_core.proofs.book.Book.cut.Goals as goal

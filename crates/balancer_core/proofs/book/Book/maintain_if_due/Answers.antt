@@ -9,7 +9,7 @@ use Rattle.jk_model.specs.declared.journal.Answer.TheVariants as answer
 use Rattle.jk_model.specs.declared.journal.Call.TheVariants as call
 use Rattle.jk_model.specs.declared.journal.Entry.{Entry}
 use Rattle.jk_model.specs.declared.opening.Opening.{Opening}
-use Rattle.choice_index.specs.RuleNumbers.{rules_number}
+use Rattle.lb_rules.specs.RuleNumbers.{rules_number}
 use Rattle.balancer_core.specs.Due.{due_moment, entry_moment}
 use Rattle.balancer_core.specs.Journal.{AddsEntry, IsMarked, IsSound, Journal, next_number, past_of, tickets_out}
 use Rattle.balancer_core.specs.Kept.{IsKept, IsNow}

@@ -1,4 +1,4 @@
-use Rattle.choice_index.specs.RuleNumbers.{rules_number}
+use Rattle.lb_rules.specs.RuleNumbers.{rules_number}
 use Rattle.balancer_core.proofs.book.Book.open.Goals as goal
 
 pub invariant_of-result : goal.invariant_of-result

@@ -4,11 +4,11 @@ use Rattle.std.proofs.lemmas.Bool.{true≢false}
 use Rattle.jk_model.specs.Legal.{IsLegal, IsNext}
 use Rattle.jk_model.specs.Tickets.{is_out}
 use Rattle.jk_model.specs.declared.journal.Entry.{Entry}
-use Rattle.open_tickets.specs.Returns.{IsReturnedAt}
-use Rattle.open_tickets.specs.Spots.{kept_noted, early_noted}
+use Rattle.lb_rules.specs.Returns.{IsReturnedAt}
+use Rattle.lb_rules.specs.Spots.{kept_noted, early_noted}
 use Rattle.balancer_core.specs.Journal.{Journal, past_of, AddsEntry, IsSound}
 use Rattle.balancer_core.specs.Kept.{IsKept}
-use Rattle.choice_index.specs.RuleNumbers.{rules_number}
+use Rattle.lb_rules.specs.RuleNumbers.{rules_number}
 use Rattle.balancer_core.proofs.KeptLaws.{IsLocated, kept_rising, kept_located, kept-returned, kept-wider, next_returned}
 use Rattle.balancer_core.proofs.StepLaws.{return_entry}
 use Rattle.balancer_core.proofs.AdminLaws.{journal_of}

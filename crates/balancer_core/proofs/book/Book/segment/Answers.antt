@@ -4,7 +4,7 @@ use Rattle.jk_model.specs.Validity.{IsOpening}
 use Rattle.jk_model.proofs.OutFacts.{legal_opening}
 use Rattle.jk_model.specs.declared.journal.Entry.{Entry}
 use Rattle.jk_model.specs.declared.opening.Opening.{Opening}
-use Rattle.choice_index.specs.RuleNumbers.{rules_number}
+use Rattle.lb_rules.specs.RuleNumbers.{rules_number}
 use Rattle.balancer_core.proofs.SegmentLaws.{kept_entries, are_rules}
 use Rattle.balancer_core.proofs.book.Book.segment.Goals as goal
 

@@ -6,9 +6,9 @@ use Rattle.jk_model.specs.Choice.{IsPick}
 use Rattle.jk_model.specs.Legal.{IsNext, KnowsTerms, IsLegal}
 use Rattle.jk_model.specs.declared.journal.Entry.{Entry}
 use Rattle.balancer_core.specs.Journal.{IsMarked, Journal, next_number, past_of, tickets_out, AddsEntry, IsSound}
-use Rattle.choice_index.specs.RuleNumbers.{rules_number}
+use Rattle.lb_rules.specs.RuleNumbers.{rules_number}
 use Rattle.balancer_core.specs.Kept.{IsKept}
-use Rattle.choice_index.proofs.PickLaws.{revives-none}
+use Rattle.lb_rules.proofs.PickLaws.{revives-none}
 use Rattle.balancer_core.proofs.ChoiceLaws.{nobody}
 use Rattle.balancer_core.proofs.KeptLaws.{next_is, next_selected, kept-moved, kept-selected}
 use Rattle.balancer_core.proofs.NumberLaws.{number_of_next, not_before, numbers_left, room_taken, room_beside}

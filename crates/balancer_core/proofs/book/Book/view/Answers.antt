@@ -3,7 +3,7 @@ use Rattle.jk_model.specs.Journal.{members}
 use Rattle.jk_model.specs.Present.{ArePresentRows}
 use Rattle.jk_model.specs.Rows.{HaveRedirectsWithin}
 use Rattle.jk_model.specs.declared.view.MemberRow.{MemberRow}
-use Rattle.choice_index.specs.RuleNumbers.{rules_number}
+use Rattle.lb_rules.specs.RuleNumbers.{rules_number}
 use Rattle.balancer_core.specs.Shown.{AreShown}
 use Rattle.balancer_core.specs.Journal.{IsSound, Journal}
 use Rattle.balancer_core.proofs.BoundLaws.{chose_well, view_bounded}

@@ -1,4 +1,4 @@
-use Rattle.choice_index.specs.RuleNumbers.{rules_number}
+use Rattle.lb_rules.specs.RuleNumbers.{rules_number}
 use Rattle.balancer_core.proofs.ChoiceLaws.{nobody, pick_now}
 use Rattle.balancer_core.proofs.present.Present.pick.Goals as goal
 

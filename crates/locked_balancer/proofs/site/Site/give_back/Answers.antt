@@ -4,7 +4,7 @@ use Rattle.std.specs.Prelude.{◌↔◌, slice_get, slice_set}
 use Rattle.jk_model.specs.Tickets.{is_out}
 use Rattle.jk_model.specs.declared.journal.Call.TheVariants as call
 use Rattle.balancer_core.specs.Desks.{LeaseNote}
-use Rattle.open_tickets.specs.Returns.{IsReturnedAt}
+use Rattle.lb_rules.specs.Returns.{IsReturnedAt}
 use Rattle.balancer_core.specs.Journal.{IsSound, Journal, past_of}
 use Rattle.balancer_core.specs.declared.receipt.Receipt.{Receipt}
 use Rattle.locked_balancer.specs.Sites.{AddsAt, At}

@@ -1,4 +1,0 @@
-pub mod LeastLaws
-pub mod PickLaws
-pub mod PlaceLaws
-mod IndexLaws

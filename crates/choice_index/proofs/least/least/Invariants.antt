@@ -1,5 +1,0 @@
-use Rattle.choice_index.specs.Least.{IsLeastOf}
-use Rattle.choice_index.proofs.least.least.Given as goal
-
-abbrev pub invariant-loop-i : goal.invariant-loop-i
-invariant-loop-i l = IsLeastOf l.among l.rows l.ask l.begin l.i l.best

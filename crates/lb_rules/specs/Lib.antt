@@ -1,0 +1,10 @@
+pub mod Touched
+pub mod Spots
+pub mod Returns
+pub mod Opened
+pub mod Standings
+pub mod Least
+pub mod RuleNumbers
+pub mod Picks
+pub mod Kept
+pub mod Weights

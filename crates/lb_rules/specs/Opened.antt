@@ -1,0 +1,19 @@
+-- The row of a member at an opening.
+use Rattle.std.specs.Prelude.{ℕ}
+use Rattle.jk_model.specs.declared.member.MemberConfig.{MemberConfig}
+use Rattle.jk_model.specs.declared.view.MemberRow.{MemberRow}
+use Rattle.lb_rules.specs.declared.standing.Standing.{Standing}
+
+-- What the opening shows of the member, with its pool, and what one request weighs on it.
+abbrev pub opening_row : (unit : ℕ) → MemberConfig → MemberRow → Standing
+opening_row unit c row = record {
+  state = row.state;
+  load = row.load;
+  busy = row.busy;
+  pool = c.pool;
+  unit = unit;
+  activation = row.activation;
+  factor = row.factor;
+  distance = row.distance;
+  redirect = row.redirect;
+}

@@ -1,2 +1,0 @@
-pub mod PositionLaws
-pub mod IdLaws
