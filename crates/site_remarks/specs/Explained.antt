@@ -1,4 +1,4 @@
--- What is said of a refused file: what is wrong with a line of it, in words, and the line as it stands.
+-- What is said of a refused line: in words what is wrong with it, and the line as it stands.
 use Rattle.std.specs.Prelude.{ℕ, ◌-◌, List, [], ◌++◌, codes, decimal, slice_get, unwrap_or, if◌then◌else◌, ◌==◌}
 use Rattle.property_lines.specs.Lines.{lines, without_mark}
 use Rattle.property_lines.specs.Refusals.{LineRefusal}
@@ -37,10 +37,6 @@ line_at text line = unwrap_or (slice_get (lines (without_mark text)) (line - 1))
 abbrev pub told_of : (file text words : List ℕ) → ℕ → List ℕ
 told_of file text words line = said_of file line (words ++ line_at text line)
 
--- the first refusal of a workers.properties
+-- what is wrong with the workers together, at the line that tells it
 abbrev pub explained_workers : (file text : List ℕ) → LineRefusal → List ℕ
 explained_workers file text r = told_of file text (workers_words (line_at text r.line) r.code) r.line
-
--- the first refusal of a uriworkermap.properties
-abbrev pub explained_map : (file text : List ℕ) → LineRefusal → List ℕ
-explained_map file text r = told_of file text (map_words r.code) r.line

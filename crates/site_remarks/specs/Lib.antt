@@ -4,5 +4,6 @@ pub mod Explained
 pub mod KindTables
 pub mod MapNotices
 pub mod Notices
+pub mod Refused
 pub mod Remarks
 pub mod Wanted

@@ -1,7 +1,7 @@
-//! What is said of a refused file: what is wrong with a line of it, in words, and the line as it stands.
+//! What is said of a refused line: in words what is wrong with it, and the line as it stands.
 ghost use Rattle.std.specs.Prelude.{◌≡◌, ◌++◌, codes, OnOk};
 ghost use Rattle.property_lines.specs.Refusals.{LineRefusal};
-ghost use Rattle.site_remarks.specs.Explained.{explained_map, explained_workers, line_at, map_words, said_of, told_of, workers_words};
+ghost use Rattle.site_remarks.specs.Explained.{explained_workers, line_at, map_words, said_of, told_of, workers_words};
 
 use crate::site_file::SiteFile;
 use crate::wanted::wanted_of;
@@ -50,7 +50,7 @@ fn line_at(text: &[u8], line: u32) -> &[u8]
 }
 
 /// What is wrong with a line of a workers.properties, by the number of its refusal.
-fn workers_words(line: &[u8], code: u8) -> &'static [u8]
+pub(crate) fn workers_words(line: &[u8], code: u8) -> &'static [u8]
     ensures { result.now ≡ workers_words line.now code }
 {
     if code == 1 {
@@ -75,7 +75,7 @@ fn workers_words(line: &[u8], code: u8) -> &'static [u8]
 }
 
 /// What is wrong with a line of a uriworkermap.properties, by the number of its refusal.
-fn map_words(code: u8) -> &'static [u8]
+pub(crate) fn map_words(code: u8) -> &'static [u8]
     ensures { result.now ≡ map_words code }
 {
     if code == 1 {
@@ -89,7 +89,7 @@ fn map_words(code: u8) -> &'static [u8]
     }
 }
 
-/// Adds what is said of the first refusal of a workers.properties.
+/// Adds what is said of the refusal of a workers.properties.
 pub(crate) fn explain_workers(
     out: &mut Bytes,
     workers: &SiteFile<'_>,
@@ -105,21 +105,4 @@ pub(crate) fn explain_workers(
         line,
     };
     put_said(out, at, workers_words(text, code), text)
-}
-
-/// Adds what is said of the first refusal of a uriworkermap.properties.
-pub(crate) fn explain_map(
-    out: &mut Bytes,
-    map: &SiteFile<'_>,
-    line: u32,
-    code: u8,
-) -> Result<(), NoMemory>
-    ensures { OnOk result (out.new ≡ out.old
-        ++ explained_map map.now.name.now map.now.text.now (record { line = line; code = code })) }
-{
-    let at = FileLine {
-        file: map.name,
-        line,
-    };
-    put_said(out, at, map_words(code), line_at(map.text, line))
 }

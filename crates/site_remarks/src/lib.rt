@@ -1,8 +1,8 @@
-//! What a person is told of a site's files: why a line is refused, and which lines have no effect.
+//! What a person is told of a site's files: why lines are refused, and which lines have no effect.
 //!
 //! Source: own rules (docs/FORMATS.md, "What a person is told"); which directives have an effect in mod_jk: its reference,
 //! "workers.properties" and "uriworkermap.properties".
-//! Contract: `site_remarks`. Read first: specs/Remarks.antt, then specs/Explained.antt, Notices.antt and MapNotices.antt.
+//! Contract: `site_remarks`. Read first: specs/Remarks.antt, then specs/Refused.antt, Explained.antt, Notices.antt, MapNotices.antt.
 //! Errors: a write that failed, only where the sink's count of faults rose, and want of memory.
 #![tactic(auto)]
 
@@ -11,6 +11,7 @@ mod explain;
 mod kinds;
 mod map_notices;
 mod notices;
+mod refused;
 mod remark_out;
 mod remarks;
 mod said_lines;

@@ -6,45 +6,46 @@ ghost use Rattle.property_lines.specs.Properties as properties;
 ghost use Rattle.property_lines.specs.declared.property.Property.{Property};
 ghost use Rattle.uri_map.specs.Lines.{read_text};
 ghost use Rattle.site_config.specs.declared.config.Config.{Config};
-ghost use Rattle.site_remarks.specs.Explained.{explained_map, explained_workers};
+ghost use Rattle.site_remarks.specs.Explained.{explained_workers};
 ghost use Rattle.site_remarks.specs.KindTables.{IsKindTable};
 ghost use Rattle.site_remarks.specs.Notices.{kinds_of, notices, site_kinds};
 ghost use Rattle.site_remarks.specs.Added.{AddsSaid, AddsText};
-ghost use Rattle.site_remarks.specs.Remarks.{AreRemarks, AreShort, IsShort, as_file, map_remarks, maps_of, rules_remarks, workers_remarks};
+ghost use Rattle.site_remarks.specs.Refused.{refused_lines, wrong_rule};
+ghost use Rattle.site_remarks.specs.Remarks.{AreRemarks, AreShort, IsShort, as_file, map_remarks, maps_of, rules_remarks, workers_refusals, workers_remarks};
 
 use crate::again::line_table;
-use crate::explain::{explain_map, explain_workers};
+use crate::explain::explain_workers;
 use crate::kinds::{KindTable, kind_table, redirect_table};
 use crate::map_notices::put_map_notices;
 use crate::notices::{LineTables, put_notices};
+use crate::refused::{Judge, put_refused};
 use crate::remark_out::RemarkOut;
 use crate::site_file::{SiteFile, SiteFiles};
 use jk_io::{Bytes, IoError, Sink};
 use property_lines::PropsError;
 use site_config::Config;
 use std::alloc::Global;
-use uri_map::{MapError, read_map};
+use uri_map::{MapError, Workers, read_map};
 use worker_props::read_workers;
 
-/// Adds what is said of the first refusal of a map.
-fn put_map_refusal<O: Sink + Drop>(
+/// Adds each line of a map that is refused.
+fn put_map_refusals<O: Sink + Drop>(
     alloc: Global,
     out: &mut RemarkOut<O>,
+    config: &Config,
     map: &SiteFile<'_>,
-    line: u32,
-    code: u8,
 ) -> Result<(), IoError>
-    ensures added { AddsText result out.old.said out.new.said
-        (explained_map map.now.name.now map.now.text.now (record { line = line; code = code })) }
+    requires { IsShort map.now }
+    ensures added { AddsText result out.old.said out.new.said (refused_lines (wrong_rule config.now) map.now.name.now map.now.text.now) }
     ensures cause { HasCause out.old.faults out.new.faults result }
     ensures steady { IsOk result → out.new.faults ≡ out.old.faults }
 {
-    let mut said = Bytes::new(alloc);
-    explain_map(&mut said, map, line, code)?;
-    out.put(said.as_slice())
+    let workers = Workers::new(alloc, config)?;
+    put_refused(alloc, out, Judge::Map(&workers), map)?;
+    Ok(())
 }
 
-/// Adds what is said of the first refusal of a workers.properties.
+/// Adds what is wrong with the workers of a workers.properties together.
 fn put_workers_refusal<O: Sink + Drop>(
     alloc: Global,
     out: &mut RemarkOut<O>,
@@ -60,6 +61,28 @@ fn put_workers_refusal<O: Sink + Drop>(
     let mut said = Bytes::new(alloc);
     explain_workers(&mut said, workers, line, code)?;
     out.put(said.as_slice())
+}
+
+/// Adds each line of a workers.properties that is refused by itself, or else what is wrong with the workers together.
+fn put_workers_refusals<O: Sink + Drop>(
+    alloc: Global,
+    out: &mut RemarkOut<O>,
+    workers: &SiteFile<'_>,
+    line: u32,
+    code: u8,
+) -> Result<(), IoError>
+    requires { IsShort workers.now }
+    ensures added { AddsText result out.old.said out.new.said
+        (workers_refusals (as_file workers.now) (record { line = line; code = code })) }
+    ensures cause { HasCause out.old.faults out.new.faults result }
+    ensures steady { IsOk result → out.new.faults ≡ out.old.faults }
+{
+    let told = put_refused(alloc, out, Judge::Workers, workers)?;
+    if told {
+        Ok(())
+    } else {
+        put_workers_refusal(alloc, out, workers, line, code)
+    }
 }
 
 /// Adds what is said of a map.
@@ -86,7 +109,7 @@ fn put_map<O: Sink + Drop>(
                 Ok(())
             }
         }
-        Err(MapError::Refused { line, code }) => put_map_refusal(alloc, out, map, line, code),
+        Err(MapError::Refused { .. }) => put_map_refusals(alloc, out, config, map),
         Err(MapError::NoMemory) => Err(IoError::NoMemory),
     }
 }
@@ -180,8 +203,9 @@ fn put_accepted<O: Sink + Drop>(
     put_any_map(alloc, out, config, &table, files.map, effects)
 }
 
-/// Adds what a person is told of a site's files: why the first refused one is refused, and, where `effects` is on, what in
-/// accepted ones a site of mod_jk would expect to have effect and hasn't. It is written as it is found, and not held.
+/// Adds what a person is told of a site's files: of the first that is refused each line that is refused, and, where `effects`
+/// is on, what in accepted ones a site of mod_jk would expect to have effect and hasn't. It is written as it is found, and not
+/// held.
 pub fn site_remarks<O: Sink + Drop>(
     alloc: Global,
     out: &mut RemarkOut<O>,
@@ -196,7 +220,7 @@ pub fn site_remarks<O: Sink + Drop>(
     match read_workers(alloc, files.workers.text) {
         Ok(config) => put_accepted(alloc, out, &config, files, effects),
         Err(PropsError::Refused { line, code }) => {
-            put_workers_refusal(alloc, out, &files.workers, line, code)
+            put_workers_refusals(alloc, out, &files.workers, line, code)
         }
         Err(PropsError::NoMemory) => Err(IoError::NoMemory),
     }

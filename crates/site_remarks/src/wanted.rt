@@ -54,13 +54,8 @@ fn wanted_by(directive: Directive) -> &'static [u8]
         }
         Directive::RecoverTime => b"the value must be a number from 1 to 86400: ",
         Directive::Cookie | Directive::Path => b"the value must not be empty: ",
-        Directive::Host
-        | Directive::Route
-        | Directive::Redirect
-        | Directive::Secret
-        | Directive::User
-        | Directive::Good
-        | Directive::Bad => b"",
+        Directive::Host | Directive::Route | Directive::Redirect | Directive::Secret => b"",
+        Directive::User | Directive::Good | Directive::Bad => b"",
     }
 }
 

@@ -20,6 +20,11 @@ Gives view (Ok x) read = read ≡ Ok (view x)
 Gives view (Err (errors.Refused line code)) read = read ≡ Err (record { line = line; code = code })
 Gives view (Err errors.NoMemory) read = Unit {0}
 
+-- the number of what a line is refused for, if it is
+abbrev pub code_in : {X : Type 0} → Result X LineRefusal → Option ℕ
+code_in (Ok x) = None
+code_in (Err r) = Some r.code
+
 -- a line that lacks something is refused for that
 abbrev pub or_refused : {X : Type 0} → ℕ → MapReason → Option X → Result X LineRefusal
 or_refused line why None = Err (refusal line why)

@@ -2,7 +2,7 @@
 //!
 //! Source: Apache Tomcat Connectors reference, "uriworkermap.properties".
 //! Own rules: the order of the rules that match a path, and the refusals' numbers.
-//! Contract: `read_map`, `UriMap::mount`, `UriMap::terms`. Read first: specs/Patterns.antt, Mounts.antt, then Lines.antt.
+//! Contract: `read_map`, `refusal_of`, `UriMap::mount`, `UriMap::terms`. Read first: specs/Patterns.antt, Mounts.antt, then Lines.antt.
 //! Errors: `MapError`.
 #![tactic(auto)]
 
@@ -19,7 +19,8 @@ mod uri_map;
 mod workers;
 
 pub use error::{MapError, MapReason};
-pub use lines::read_map;
+pub use lines::{read_map, refusal_of};
 pub use pattern::Pattern;
 pub use rule::{Mount, Role, Rule};
 pub use uri_map::UriMap;
+pub use workers::Workers;

@@ -3,7 +3,7 @@ ghost use Rattle.std.specs.Prelude.{◌≡◌, ◌≤◌, ◌+◌, ◌++◌, map
 ghost use Rattle.std.specs.Option.{option_map};
 ghost use Rattle.property_lines.specs.Properties.{is_silent};
 ghost use Rattle.uri_map.specs.Lines.{made_rules, read_text, rules_of, said, with_rules};
-ghost use Rattle.uri_map.specs.Refusals.{Gives};
+ghost use Rattle.uri_map.specs.Refusals.{Gives, code_in};
 ghost use Rattle.uri_map.specs.Sides.{as_patterns};
 ghost use Rattle.uri_map.specs.Sites.{stands_in};
 ghost use Rattle.jk_io.specs.declared.whole_input.TheConstants.{MAX_INPUT_BYTES};
@@ -106,6 +106,23 @@ fn push_line(
     match cut_at(text, b'=') {
         None => Err(refused(line, MapReason::BadPattern)),
         Some((left, right)) => push_sides(alloc, out, workers, line, left, right),
+    }
+}
+
+/// The number of the refusal of a trimmed line, if it is refused.
+pub fn refusal_of(
+    alloc: Global,
+    workers: &Workers<'_>,
+    line: u32,
+    text: &[u8],
+) -> Result<Option<u8>, NoMemory>
+    ensures { IfOk result (λ code. code ≡ code_in (said workers.now line text.now)) }
+{
+    let mut rules = Vec::new(alloc);
+    match push_line(alloc, &mut rules, workers, line, text) {
+        Ok(()) => Ok(None),
+        Err(MapError::Refused { code, .. }) => Ok(Some(code)),
+        Err(MapError::NoMemory) => Err(NoMemory),
     }
 }
 

@@ -14,7 +14,7 @@ use std::marker::Model;
 
 /// The workers of a configuration, the listed ones found by name at once. A contract sees the configuration.
 #[derive(Drop)]
-pub(crate) struct Workers<'c> {
+pub struct Workers<'c> {
     config: &'c Config,
     listed: HashMap<&'c [u8], Named>,
 }
@@ -44,7 +44,7 @@ fn table_of(alloc: Global, listed: &[(Bytes, Named)]) -> Result<HashMap<&[u8], N
 }
 
 impl<'c> Workers<'c> {
-    pub(crate) fn new(alloc: Global, config: &'c Config) -> Result<Workers<'c>, NoMemory>
+    pub fn new(alloc: Global, config: &'c Config) -> Result<Workers<'c>, NoMemory>
         ensures { IfOk result (λ w. w ≡ config.now) }
     {
         let listed = table_of(alloc, config.listed.as_slice())?;

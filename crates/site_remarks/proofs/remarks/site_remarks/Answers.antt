@@ -1,8 +1,7 @@
 use Rattle.std.proofs.Common.{◌++◌, refl, inl, inr}
 use Rattle.property_lines.specs.Refusals.{LineRefusal}
 use Rattle.worker_props.specs.Site.{IsConfig, IsRefused}
-use Rattle.site_remarks.specs.Explained.{explained_workers}
-use Rattle.site_remarks.specs.Remarks.{AreRemarks, as_file, map_remarks, maps_of, workers_remarks}
+use Rattle.site_remarks.specs.Remarks.{AreRemarks, as_file, map_remarks, maps_of, workers_refusals, workers_remarks}
 use Rattle.site_remarks.proofs.AddedLemmas.{adds_said}
 use Rattle.site_remarks.proofs.remarks.site_remarks.Goals as goal
 
@@ -20,5 +19,5 @@ returns-in-Err-Refused-clause-added g c =
     let files = c.args.files.now in
     let r : LineRefusal = record { line = c.in-Err-Refused.line; code = c.in-Err-Refused.code } in
     let refused : IsRefused files.workers.text.now r = rw c.in-Err-Refused.field-0-is at c.in-Err-Refused.ensures.refused in
-    adds_said c.put_workers_refusal.result _ _ (explained_workers files.workers.name.now files.workers.text.now r) (AreRemarks c.args.effects (as_file files.workers) (maps_of files))
-    c.put_workers_refusal.ensures.added (inl (r, refused, refl))
+    adds_said c.put_workers_refusals.result _ _ (workers_refusals (as_file files.workers) r) (AreRemarks c.args.effects (as_file files.workers) (maps_of files))
+    c.put_workers_refusals.ensures.added (inl (r, refused, refl))
