@@ -211,11 +211,11 @@ class Row:
 ONE = "worker.list=w1\nworker.w1.retries=1\n"
 
 
-def members(*names, options=None, more=""):
-    """A balancer lb with these members, each with one talk a round."""
+def members(*names, options=None, more="", retries=1):
+    """A balancer lb with these members, each with as many talks a round."""
     lines = ["worker.list=lb", "worker.lb.type=lb", "worker.lb.balance_workers=" + ",".join(names)]
     for name in names:
-        lines.append(f"worker.{name}.retries=1")
+        lines.append(f"worker.{name}.retries={retries}")
         if options is not None:
             lines.append(f"worker.{name}.recovery_options={options}")
     return "\n".join(lines) + "\n" + more
@@ -391,9 +391,10 @@ def heads():
     yield done("after a request", own_end(1, 400), client=GET + request(headers=()), gets=reply() + own(400), rows=["GET / 200 2 w1", "refused 400 16 -"])
 
 
-def balanced(name, links, talks, ends=None, gets=None, rows=None, desk="", options=None, client=GET, more="", **kept):
+def balanced(name, links, talks, ends=None, gets=None, rows=None, desk="", options=None, client=GET, more="", retries=1, **kept):
     """A request to a balancer with the members a and b."""
-    return Row(name, client, links, ends or closed(1, "ByClient"), talks, reply() if gets is None else gets, rows, desk, members("a", "b", options=options, more=more),
+    site = members("a", "b", options=options, more=more, retries=retries)
+    return Row(name, client, links, ends or closed(1, "ByClient"), talks, reply() if gets is None else gets, rows, desk, site,
                kept.pop("map_", LB), **kept)
 
 
@@ -427,6 +428,12 @@ def others():
     yield balanced("and none may", [down, HI], [on(0, kept=False)], own_end(0, 503), own(503), ["GET / 503 24 -"], "next 2 a error b ok", 2, more=listed)
     yield balanced("but not against the member", [down, HI], [on(0, kept=False), on(1)], rows=["GET / 200 2 b"], more="worker.a.fail_on_status=-503\n",
                    desk="next 4 a ok b ok")
+    yield "a status counts as a failure, and a member may have two talks"
+    yield balanced("it has one, and another member answers", [down, HI], [on(0, kept=False), on(1)], rows=["GET / 200 2 b"], more=listed, options=0, retries=2, **by_b)
+    yield balanced("it has one, and none may answer", [down, HI], [on(0, kept=False)], own_end(0, 503), own(503), ["GET / 503 24 -"], "next 2 a error b ok", 2,
+                   more=listed, retries=2)
+    yield balanced("it has one that doesn't count against it", [down, HI], [on(0, kept=False), on(1)], rows=["GET / 200 2 b"],
+                   more="worker.a.fail_on_status=-503\n", options=0, retries=2, desk="next 4 a ok b ok")
     yield "a session stays with its member"
     of = lambda route: HOST + (("Cookie", f"JSESSIONID=x.{route}"),)
     yield balanced("b has it", [HI], [on(1, headers=of("b"))], rows=["GET / 200 2 b"], client=request(headers=of("b")), desk="next 2 a ok b ok")
