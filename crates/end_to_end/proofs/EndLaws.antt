@@ -2,7 +2,7 @@
 use Rattle.std.proofs.Common.{◌≡◌, ℕ, ◌-◌, ◌^◌, ◌<◌, ◌≤◌, Bool, true, false, List, [], ◌∷◌, ◌++◌, length, reverse, take, Option, Some, None, IfSome, refl, sym, ap, subst, ◌∙◌, arith, append_assoc, length-append, length-take}
 use Rattle.std.specs.Prelude.{if◌then◌else◌, replicate}
 use Rattle.std.specs.Option.{option_map}
-use Rattle.std.proofs.lemmas.List.{reverse-append}
+use Rattle.std.proofs.lemmas.List.{append_cancel_left, reverse-append}
 use Rattle.jk_io.specs.Told.{appended}
 use Rattle.ajp_wire.specs.Packet.{packet}
 use Rattle.ajp_request.specs.Writing.{payload_of}
@@ -29,8 +29,9 @@ use Rattle.end_to_end.proofs.LengthLaws.{length_below, named_length}
 use Rattle.end_to_end.proofs.MeetingLaws.{Heard, SomeTalk, after_ping, heard, head-asks, chunks-asks, reverse-asks, some_talk, took_request}
 use Rattle.end_to_end.proofs.EchoLaws.{AreOwn, behind_request, same_answer}
 
-some-is : (x y : List ℕ) → Some x ≡ Some y → x ≡ y
-some-is x y same = cc
+-- what was added after the same bytes is the same
+added-is : (old x y : List ℕ) → Some (old ++ x) ≡ Some (old ++ y) → x ≡ y
+added-is old x y same = let lists : old ++ x ≡ old ++ y = cc in append_cancel_left old x y lists
 
 if-some : {A : Type 0} (o : Option A) (P : A → Type 0) (x : A) → IfSome o P → o ≡ Some x → P x
 if-some (Some y) P x p same = let is : y ≡ x = cc in subst P is p
@@ -93,12 +94,14 @@ end_to_end app q member endpoint own f s n t = t.connector.written ∙ ap (appen
         ∙ ap (λ (b : List ℕ). ping_of plan ++ b) (append_assoc (packet false payload) (first_packet t.first) (answers plan.piece rest past))
 
     asked_is : t.meet.asked ≡ t.connector.put
-    asked_is = some-is t.meet.asked t.connector.put (sym t.meet.sent ∙ t.connector.traffic.sent ∙ ap (λ (o : Option (List ℕ)). appended o t.connector.put) t.meet.nothing_yet.0)
+    asked_is =
+        added-is t.meet.sent_before t.meet.asked t.connector.put
+        (sym t.meet.sent ∙ t.connector.traffic.sent ∙ ap (λ (o : Option (List ℕ)). appended o t.connector.put) t.meet.had_sent)
 
     answered_is : t.meet.answered ≡ pong_of plan ++ t.connector.came
     answered_is =
-        some-is t.meet.answered (pong_of plan ++ t.connector.came)
-        (sym t.meet.received ∙ t.connector.traffic.came.kept ∙ ap (λ (o : Option (List ℕ)). appended o (pong_of plan ++ t.connector.came)) t.meet.nothing_yet.1)
+        added-is t.meet.received_before t.meet.answered (pong_of plan ++ t.connector.came)
+        (sym t.meet.received ∙ t.connector.traffic.came.kept ∙ ap (λ (o : Option (List ℕ)). appended o (pong_of plan ++ t.connector.came)) t.meet.had_received)
 
     some : t.connector.came ≡ [] → ⊥
     some = some-bytes plan.packet (End t.reuse) past t.connector.came t.connector.reply.spelled
@@ -109,7 +112,7 @@ end_to_end app q member endpoint own f s n t = t.connector.written ∙ ap (appen
         (subst (λ (b : List ℕ). SomeTalk app b (pong_of plan ++ t.connector.came)) put_is
         (subst (λ (b : List ℕ). SomeTalk app t.connector.put b) answered_is
         (subst (λ (b : List ℕ). SomeTalk app b t.meet.answered) asked_is
-        (some_talk app t.before t.after t.end t.meet.asked t.meet.answered t.container t.meet.to_come t.meet.none_answered t.meet.answers))))
+        (some_talk app t.before t.after t.end t.meet.asked t.meet.answered_before t.meet.answered t.container t.meet.to_come t.meet.had_answered t.meet.answers))))
         some
 
     few : length behind < 2 ^ 64

@@ -1,5 +1,6 @@
 -- A talk of which the law speaks: GET of a path where the container has no application.
-use Rattle.std.proofs.Common.{◌≡◌, ℕ, zero, suc, ◌+◌, ◌^◌, ◌<◌, ◌≤◌, Bool, true, false, ◌&&◌, ◌||◌, IsTrue, List, [], ◌∷◌, ◌++◌, length, reverse, slice_index, codes, Some, None, Ok, All, refl, sym, ap, subst, ◌∙◌, arith, inl, append-nil, leb-true, ltb-true}
+use Rattle.std.proofs.Common.{◌≡◌, ℕ, zero, suc, ◌+◌, ◌^◌, ◌<◌, ◌≤◌, Bool, true, false, IsTrue, List, [], ◌∷◌, ◌++◌, length, reverse, slice_index, codes, Some, None, Ok, All, refl, sym, ap, subst, ◌∙◌, arith, inl, append-nil, leb-true, length-append, ltb-true}
+use Rattle.std.specs.Prelude.{if◌then◌else◌}
 use Rattle.std.proofs.lemmas.List.Sums.{AllPass-from_list_all}
 use Rattle.std.proofs.lemmas.Str.{IsUtf8-from_ascii}
 use Rattle.std.specs.Fmt.{digits}
@@ -18,7 +19,7 @@ use Rattle.ajp_reply.specs.declared.message.Message.{Message}
 use Rattle.ajp_reply.specs.declared.message.Message.TheVariants.{Headers, Chunk, End}
 use Rattle.ajp_reply.specs.declared.message.ReplyParts.{ReplyParts}
 use Rattle.ajp_talk.specs.Moments.{TalkMoment}
-use Rattle.ajp_talk.specs.Owed.{opening, pong_of}
+use Rattle.ajp_talk.specs.Owed.{opening, ping_of, pong_of}
 use Rattle.ajp_talk.specs.Replies.{agrees, chunks_of, head_out, is_good, is_listed, kind_of, told_by, whole_of}
 use Rattle.ajp_talk.specs.Talk.{IsDone}
 use Rattle.ajp_talk.specs.declared.plan.TalkPlan.{TalkPlan}
@@ -39,7 +40,7 @@ use Rattle.site_config.specs.declared.endpoint.Endpoint.{Endpoint}
 use Rattle.mini_container.specs.Answer.{bytes_of}
 use Rattle.mini_container.specs.Ends.{IsTalk, end_of}
 use Rattle.mini_container.specs.Request.{application_of}
-use Rattle.mini_container.specs.Turns.{Came, Idle, Request, Taken, ContainerTurn, is_over, owed}
+use Rattle.mini_container.specs.Turns.{Came, Idle, Ping, Request, Taken, ContainerTurn, Turns, is_over, owed, requests_in}
 use Rattle.mini_container.specs.declared.app_config.AppConfig.{AppConfig}
 use Rattle.mini_container.specs.declared.application.Application.TheVariants.{Unknown}
 use Rattle.mini_container.specs.declared.ends.Stopped.TheVariants.{Closed}
@@ -185,43 +186,70 @@ answer-spelled app size open_to_all =
     (subst (λ (l : List Message). Spelled app.packet l (bytes_of (owed app turn))) (ap reverse (owed-is app size open_to_all))
     (owed-spelled app turn (ltb-true 0 (2 ^ 64) refl)))
 
-answer-short : (app : AppConfig) → app.packet ≡ 8192 → app.secret ≡ None → length (bytes_of (owed app turn)) < 1099511627776
+answer-short : (app : AppConfig) → app.packet ≡ 8192 → app.secret ≡ None → length (bytes_of (owed app turn)) < 8192
 answer-short app size open_to_all =
-    subst (λ (l : List Message). length (bytes_of l) < 1099511627776) (sym (owed-is app size open_to_all))
-    (ltb-true (length (bytes_of (Headers parts ∷ Chunk (codes "no application\n") ∷ End true ∷ []))) 1099511627776 refl)
+    subst (λ (l : List Message). length (bytes_of l) < 8192) (sym (owed-is app size open_to_all))
+    (ltb-true (length (bytes_of (Headers parts ∷ Chunk (codes "no application\n") ∷ End true ∷ []))) 8192 refl)
 
 -- ---- the container's end
 
 link : (incoming received sent : List ℕ) → Moment
 link incoming received sent = record { incoming = Some incoming; received = Some received; sent = Some sent; faults = 0 }
 
-container : (app : AppConfig) → app.packet ≡ 8192 → app.secret ≡ None
-    → IsTalk app (link (packet false (payload_of sent_forward)) [] []) (link [] (packet false (payload_of sent_forward)) (bytes_of (owed app turn))) (end_of 1 Closed)
+-- CPing before the request, and the CPong for it
+abbrev pub pings_for : Bool → List ContainerTurn
+pings_for true = Ping ∷ []
+pings_for false = []
+
+abbrev pub ping_bytes : Bool → List ℕ
+ping_bytes ping = if ping then packet false (10 ∷ []) else []
+
+abbrev pub pong_bytes : Bool → List ℕ
+pong_bytes ping = if ping then packet true (9 ∷ []) else []
+
+pub pinged : (app : AppConfig) (ping : Bool) → Turns app (pings_for ping) (ping_bytes ping) (pong_bytes ping)
+pinged app true = ([], packet false (10 ∷ []), [], (refl, refl), refl, refl, refl, sym (append-nil (packet true (9 ∷ []))))
+pinged app false = (refl, refl)
+
+pub no-request : (ping : Bool) → requests_in (pings_for ping) ≡ 0
+no-request true = refl
+no-request false = refl
+
+pub short-pong : (ping : Bool) → length (pong_bytes ping) ≤ 5
+short-pong true = leb-true (length (packet true (9 ∷ []))) 5 refl
+short-pong false = omega arith
+
+container : (app : AppConfig) (ping : Bool) (old : List ℕ) → app.packet ≡ 8192 → app.secret ≡ None
+    → IsTalk app (link (ping_bytes ping ++ packet false (payload_of sent_forward)) [] old)
+    (link [] (ping_bytes ping ++ packet false (payload_of sent_forward)) (old ++ (pong_bytes ping ++ bytes_of (owed app turn)))) (end_of 1 Closed)
 unfolding link
-container app size open_to_all = record {
-  past = turn ∷ [];
-  came = put;
-  sent = answer;
-  turns = ([], put, [], (refl, refl), over, came, refl, refl);
-  between = link [] put answer;
-  goes = record { came = record { used = ap Some (sym (append-nil put)); kept = refl }; sent = refl; steady = refl };
+container app ping old size open_to_all = record {
+  past = turn ∷ pings_for ping;
+  came = asked;
+  sent = answered;
+  turns = (ping_bytes ping, put, pong_bytes ping, pinged app ping, over, came, refl, refl);
+  between = link [] asked (old ++ answered);
+  goes = record { came = record { used = ap Some (sym (append-nil asked)); kept = refl }; sent = refl; steady = refl };
   stop = Closed;
   stops = record {
     turn = Idle;
     front = [];
     rest = [];
     came = refl;
-    comes = record { used = refl; kept = ap Some (sym (append-nil put)) };
-    stops = inl (record { waits = refl; sent = ap Some (sym (append-nil answer)); why = (refl, refl) });
+    comes = record { used = refl; kept = ap Some (sym (append-nil asked)) };
+    stops = inl (record { waits = refl; sent = ap Some (sym (append-nil (old ++ answered))); why = (refl, refl) });
   };
-  end_is = refl;
+  end_is = ap (λ (n : ℕ). end_of (n + 1) Closed) (sym (no-request ping));
 }
   where
     put : List ℕ
     put = packet false (payload_of sent_forward)
 
-    answer : List ℕ
-    answer = bytes_of (owed app turn)
+    asked : List ℕ
+    asked = ping_bytes ping ++ put
+
+    answered : List ℕ
+    answered = pong_bytes ping ++ bytes_of (owed app turn)
 
     over : IsTrue (is_over app turn)
     over = rw open_to_all refl
@@ -259,13 +287,14 @@ reply-is : whole_of kind (Some (head_out parts)) (chunks_of past) ≡ first_repl
 unfolding head_bytes digits
 reply-is = refl
 
-connector : (plan : TalkPlan) (body : BodyIn) (payload answer : List ℕ) → plan.ping ≡ false → plan.packet ≡ 8192 → plan.forward ≡ packet false payload
+connector : (plan : TalkPlan) (body : BodyIn) (payload answer sent received : List ℕ) → plan.packet ≡ 8192 → plan.forward ≡ packet false payload
     → plan.first ≡ [] → plan.most ≡ 1099511627776 → kind_of plan ≡ kind → is_listed plan.fail_on 404 ≡ false → failed_of body ≡ None
-    → Spelled 8192 (End true ∷ past) answer → length answer < 1099511627776
-    → IsDone plan (talk_moment body (link answer [] []) []) (talk_moment body (link [] answer (packet false payload)) first_reply)
-    (told_by (kind_of plan) parts (chunks_of past)) true (length (packet false payload) + length answer)
+    → Spelled 8192 (End true ∷ past) answer → length answer < 8192
+    → IsDone plan (talk_moment body (link (pong_of plan ++ answer) received sent) [])
+    (talk_moment body (link [] (received ++ (pong_of plan ++ answer)) (sent ++ (ping_of plan ++ packet false payload))) first_reply)
+    (told_by (kind_of plan) parts (chunks_of past)) true (length (ping_of plan ++ packet false payload) + length (pong_of plan ++ answer))
 unfolding link talk_moment
-connector plan body payload answer ping size forward first most kind_is unlisted going read short = record {
+connector plan body payload answer sent received size forward first most kind_is unlisted going read short = record {
   past = past;
   came = answer;
   put = put;
@@ -275,37 +304,43 @@ connector plan body payload answer ping size forward first most kind_is unlisted
     sum = subst (λ (k : RequestKind). agrees (framing_of k (head_out parts)) 15 ≡ true) (sym kind_is) refl;
   };
   unlisted = unlisted;
-  traffic = record {
-    came = record { used = ap Some (sym (append-nil answer) ∙ ap (λ (b : List ℕ). (b ++ answer) ++ []) (sym no_pong)); kept = ap Some (ap (λ (b : List ℕ). b ++ answer) (sym no_pong)) };
-    sent = refl;
-  };
-  below = subst (λ (m : ℕ). length (pong_of plan ++ answer) < m) (sym most) (subst (λ (b : List ℕ). length (b ++ answer) < 1099511627776) (sym no_pong) short);
+  traffic = record { came = record { used = ap Some (sym (append-nil (pong_of plan ++ answer))); kept = refl }; sent = refl };
+  below =
+      let pong : length (pong_of plan) ≤ 5 = short-pong plan.ping in
+      omega (arith, most, short, pong, length-append (pong_of plan) answer);
   opened = record { rest = []; joined = sym (append-nil (opening plan) ∙ open_is) };
   sent = sym (append-nil (opening plan) ∙ open_is);
   steady = refl;
   written = ap Some (sym (ap (λ (k : RequestKind). whole_of k (Some (head_out parts)) (chunks_of past)) kind_is ∙ reply-is));
   told_is = refl;
-  counted = ap (λ (b : List ℕ). length put + length (b ++ answer)) (sym no_pong);
+  counted = refl;
   taken = [];
   takes = record { uses = Uses-nil (Some []) (place_of body); counted = omega arith; going = going; most = refl };
   left = refl;
 }
   where
     put : List ℕ
-    put = packet false payload
+    put = ping_of plan ++ packet false payload
 
-    no_pong : pong_of plan ≡ []
-    no_pong = rw ping refl
-
-    open_is : opening plan ≡ packet false payload
-    open_is = rw (ping, forward, first) (append-nil (packet false payload))
+    open_is : opening plan ≡ ping_of plan ++ packet false payload
+    open_is = rw (forward, first) (ap (λ (b : List ℕ). ping_of plan ++ b) (append-nil (packet false payload)))
 
 -- ---- the two of them
 
 pub first_get : FirstGet
 unfolding link talk_moment
-first_get app balancer member endpoint body session lb terms is =
-    (as_read sent_forward, talk_moment body (link answer [] []) [], talk_moment body (link [] answer put) first_reply, talk, refl, refl)
+first_get app balancer member endpoint body session lb terms dialled sent received answered is = (
+  as_read sent_forward,
+  talk_moment body (link (pong ++ answer) received sent) [],
+  talk_moment body (link [] (received ++ (pong ++ answer)) (sent ++ (ping ++ put))) first_reply,
+  talk,
+  refl,
+  refl,
+  refl,
+  refl,
+  refl,
+  refl,
+)
   where
     put : List ℕ
     put = packet false (payload_of sent_forward)
@@ -314,24 +349,28 @@ first_get app balancer member endpoint body session lb terms is =
     answer = bytes_of (owed app turn)
 
     plan : TalkPlan
-    plan = plan_on (first_errand session lb balancer terms) [] member endpoint false
+    plan = plan_on (first_errand session lb balancer terms) [] member endpoint dialled
+
+    ping : List ℕ
+    ping = ping_of plan
+
+    pong : List ℕ
+    pong = pong_of plan
 
     same : forwarded (first_errand session lb balancer terms) member endpoint ≡ sent_forward
     same = forwarded-is balancer member endpoint session lb terms is.direct is.secret
 
-    no_ping : (a b : Bool) → a ≡ false → b ≡ false → (a || (b && false)) ≡ false
-    no_ping a b e g = rw (e, g) refl
-
     talk : IsDoneWith app (first_errand session lb balancer terms) member endpoint no_data (as_read sent_forward)
-        (talk_moment body (link answer [] []) []) (talk_moment body (link [] answer put) first_reply)
+        (talk_moment body (link (pong ++ answer) received sent) [])
+        (talk_moment body (link [] (received ++ (pong ++ answer)) (sent ++ (ping ++ put))) first_reply)
     talk = record {
       first = [];
-      dialled = false;
+      dialled = dialled;
       told = told_by (kind_of plan) parts (chunks_of past);
       reuse = true;
-      bytes = length put + length answer;
-      before = link put [] [];
-      after = link [] put answer;
+      bytes = length (ping ++ put) + length (pong ++ answer);
+      before = link (ping ++ put) [] answered;
+      after = link [] (ping ++ put) (answered ++ (pong ++ answer));
       end = end_of 1 Closed;
       size = is.packet ∙ sym is.app_packet;
       ready = record {
@@ -344,18 +383,22 @@ first_get app balancer member endpoint body session lb terms is =
         first_is = refl;
         left = ap (λ (p : Place). Some (ended_at p)) is.no_body;
       };
-      connector = connector plan body (payload_of sent_forward) answer (no_ping endpoint.ping_each endpoint.ping_new is.ping_each is.ping_new) is.packet
+      connector = connector plan body (payload_of sent_forward) answer sent received is.packet
           (ap (λ (g : Forward). packet false (payload_of g)) same) refl refl refl is.unlisted is.going (answer-spelled app is.app_packet is.app_secret)
           (answer-short app is.app_packet is.app_secret);
-      container = container app is.app_packet is.app_secret;
+      container = container app plan.ping answered is.app_packet is.app_secret;
       meet = record {
-        asked = put;
-        answered = answer;
-        nothing_yet = (refl, refl);
+        asked = ping ++ put;
+        answered = pong ++ answer;
+        sent_before = sent;
+        received_before = received;
+        answered_before = answered;
+        had_sent = refl;
+        had_received = refl;
         sent = refl;
         received = refl;
         to_come = refl;
-        none_answered = refl;
+        had_answered = refl;
         answers = refl;
       };
       spelled = subst (λ (g : Forward). SpellsForward (as_read sent_forward) (payload_of g)) (sym same) spelled;

@@ -5,3 +5,5 @@ pub mod MeetingLaws
 pub mod EchoLaws
 pub mod EndLaws
 pub mod FirstGetLaws
+pub mod FirstPostLaws
+pub mod GoingOnLaws

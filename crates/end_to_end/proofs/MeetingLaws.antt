@@ -1,7 +1,7 @@
 -- What a container makes of the bytes of one request, and that the connector on the other end has just its answer.
 use Rattle.std.proofs.Common.{◌≡◌, ℕ, zero, suc, ◌+◌, ◌^◌, ◌<◌, Bool, true, false, not, ◌&&◌, IsTrue, List, [], ◌∷◌, ◌++◌, length, map, reverse, Option, Some, None, refl, sym, ap, subst, ◌∙◌, arith, inl, inr, ◌⊎◌, append_assoc, append-nil, length-append}
 use Rattle.std.specs.Prelude.{replicate, if◌then◌else◌}
-use Rattle.std.proofs.lemmas.List.{reverse-append}
+use Rattle.std.proofs.lemmas.List.{append_cancel_left, reverse-append}
 use Rattle.jk_io.specs.Moments.{Moment}
 use Rattle.jk_io.specs.Told.{appended, prepended}
 use Rattle.ajp_wire.specs.Packet.{packet}
@@ -87,16 +87,17 @@ came-front : (put came : List ℕ) (after : Option (List ℕ)) → Some put ≡ 
 came-front put came None same = absurd cc
 came-front put came (Some rest) same = (rest, refl, some-is put (came ++ rest) same)
 
-pub some_talk : (app : AppConfig) (before after : Moment) (end : ContainerEnd) (put sent : List ℕ) → IsTalk app before after end
-    → before.incoming ≡ Some put → before.sent ≡ Some [] → after.sent ≡ Some sent → SomeTalk app put sent
-some_talk app before after end put sent t coming none answers =
+pub some_talk : (app : AppConfig) (before after : Moment) (end : ContainerEnd) (put old sent : List ℕ) → IsTalk app before after end
+    → before.incoming ≡ Some put → before.sent ≡ Some old → after.sent ≡ Some (old ++ sent) → SomeTalk app put sent
+some_talk app before after end put old sent t coming had answers =
     let first = came-front put t.came t.between.incoming (sym coming ∙ t.goes.came.used) in
     let behind = came-front first.0 (t.stops.front ++ t.stops.rest) after.incoming (sym first.1 ∙ t.stops.comes.used) in
     let turn = t.stops.turn in
     let out = stops-sends app.packet (place_of turn) (waits app turn) (is_dropped app turn) (bytes_of (owed app turn)) t.between after t.stops.rest t.stop t.stops.stops in
-    let between : t.between.sent ≡ Some t.sent = t.goes.sent ∙ ap (λ (o : Option (List ℕ)). appended o t.sent) none in
-    let sent_is : sent ≡ t.sent ++ out.front =
-    some-is sent (t.sent ++ out.front) (sym answers ∙ out.put ∙ ap (λ (o : Option (List ℕ)). appended o out.front) between) in
+    let between : t.between.sent ≡ Some (old ++ t.sent) = t.goes.sent ∙ ap (λ (o : Option (List ℕ)). appended o t.sent) had in
+    let all_sent : old ++ sent ≡ (old ++ t.sent) ++ out.front =
+    some-is (old ++ sent) ((old ++ t.sent) ++ out.front) (sym answers ∙ out.put ∙ ap (λ (o : Option (List ℕ)). appended o out.front) between) in
+    let sent_is : sent ≡ t.sent ++ out.front = append_cancel_left old sent (t.sent ++ out.front) (all_sent ∙ append_assoc old t.sent out.front) in
     let last : Last app first.0 out.front = record {
       turn = t.stops.turn;
       front = t.stops.front;

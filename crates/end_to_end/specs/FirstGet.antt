@@ -1,5 +1,5 @@
 -- A talk of which EndToEnd speaks, worked out by hand: a client asks for `/`, where the container has no application.
-use Rattle.std.specs.Prelude.{◌≡◌, ℕ, true, false, List, [], ◌∷◌, codes, Some, None}
+use Rattle.std.specs.Prelude.{◌≡◌, ℕ, Bool, true, false, List, [], ◌∷◌, codes, Some, None}
 use Rattle.jk_model.specs.declared.ask.Terms.{Terms}
 use Rattle.jk_model.specs.declared.member.MemberConfig.{MemberConfig}
 use Rattle.http_front.specs.declared.head.BodyPlan.TheVariants as plan
@@ -53,16 +53,14 @@ first_errand session lb balancer terms = record {
   terms = terms;
 }
 
--- A container and a member of the least packet, without secret or ping, in a balancer of its own; the status 404 doesn't
--- count as a failure, and the request has no body.
+-- A container and a member of the least packet, without secret, in a balancer of its own; the status 404 doesn't count as a
+-- failure, and the request has no body.
 pub record IsFirstGet (app : AppConfig) (balancer : Lb) (endpoint : Endpoint) (body : BodyIn) : Type 0 where
   pub app_packet : app.packet ≡ 8192
   pub app_secret : app.secret ≡ None
   pub direct : balancer.book.direct ≡ true
   pub packet : endpoint.packet ≡ 8192
   pub secret : endpoint.secret ≡ None
-  pub ping_new : endpoint.ping_new ≡ false
-  pub ping_each : endpoint.ping_each ≡ false
   pub unlisted : is_listed endpoint.fail_on 404 ≡ false
   pub no_body : place_of body ≡ at.Done
   pub going : failed_of body ≡ None
@@ -71,11 +69,14 @@ pub record IsFirstGet (app : AppConfig) (balancer : Lb) (endpoint : Endpoint) (b
 abbrev pub first_reply : List ℕ
 first_reply = codes "HTTP/1.1 404 Status\r\nContent-Length: 15\r\n\r\nno application\n"
 
--- There is such a talk, and its client gets just this.
+-- There is such a talk over a link that is newly dialled or not, on which these bytes had gone and come before, and its client
+-- gets just this. Where the member asks for CPing, it goes before the request.
 abbrev pub FirstGet : Type 0
 FirstGet =
     (app : AppConfig) (balancer : Lb) (member : MemberConfig) (endpoint : Endpoint) (body : BodyIn) (session lb : ℕ) (terms : Terms)
+    (dialled : Bool) (sent received answered : List ℕ)
     → IsFirstGet app balancer endpoint body
     → (f : Forward) × (s : TalkMoment) × (n : TalkMoment)
-    × IsDoneWith app (first_errand session lb balancer terms) member endpoint no_data f s n
+    × (talk : IsDoneWith app (first_errand session lb balancer terms) member endpoint no_data f s n)
+    × (talk.dialled ≡ dialled) × (s.line.sent ≡ Some sent) × (s.line.received ≡ Some received) × (talk.before.sent ≡ Some answered)
     × (s.body.body ≡ body) × (n.client.sent ≡ Some first_reply)

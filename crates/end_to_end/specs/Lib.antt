@@ -1,2 +1,3 @@
 pub mod FirstGet
+pub mod FirstPost
 pub mod Meeting

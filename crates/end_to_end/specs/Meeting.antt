@@ -1,6 +1,6 @@
 -- A talk whose other end is the container. Connector and container meet in bytes alone: what each of them says of its end
 -- stands in its own definitions, and here stands what the two ends have to do with one another. Read this first.
-use Rattle.std.specs.Prelude.{◌≡◌, ℕ, Bool, not, IsTrue, List, [], reverse, take, Some}
+use Rattle.std.specs.Prelude.{◌≡◌, ℕ, Bool, not, IsTrue, List, ◌++◌, reverse, take, Some}
 use Rattle.std.specs.Option.{option_map}
 use Rattle.jk_io.specs.Moments.{Moment}
 use Rattle.jk_io.specs.Told.{appended}
@@ -29,8 +29,10 @@ use Rattle.exchange.specs.OneTalk.{Around, plan_on as on_link}
 use Rattle.exchange.specs.Requests.{Errand, is_head, plan_for}
 use Rattle.mini_container.specs.Answer.{answer_of}
 use Rattle.mini_container.specs.Applications.{drops}
-use Rattle.mini_container.specs.Ends.{IsTalk}
+use Rattle.mini_container.specs.Ends.{Goes, IsTalk, end_of}
 use Rattle.mini_container.specs.Request.{application_of}
+use Rattle.mini_container.specs.Turns.{ContainerTurn, Turns, requests_in}
+use Rattle.mini_container.specs.declared.ends.Stopped.{Stopped}
 use Rattle.mini_container.specs.declared.app_config.AppConfig.{AppConfig}
 use Rattle.mini_container.specs.declared.ends.ContainerEnd.{ContainerEnd}
 
@@ -61,20 +63,24 @@ pub record IsReady (q : Errand) (member : MemberConfig) (endpoint : Endpoint) (o
 abbrev pub plan_on : Errand → (first : List ℕ) → MemberConfig → Endpoint → (dialled : Bool) → TalkPlan
 plan_on q first member endpoint dialled = on_link (plan_for q first member endpoint) endpoint dialled
 
--- The two ends of a link on which nothing had come or gone: what the connector sent is what the container had to come, and
--- what the container sent is what the connector received.
+-- The two ends of a link, whatever had come and gone on it before: what the connector sent is what the container had to come,
+-- and what the container sent is what the connector received.
 pub record Meet (s n : Moment) (before after : Moment) : Type 0 where
   pub asked : List ℕ
   pub answered : List ℕ
-  pub nothing_yet : (s.sent ≡ Some []) × (s.received ≡ Some [])
-  pub sent : n.sent ≡ Some asked
-  pub received : n.received ≡ Some answered
+  pub sent_before : List ℕ
+  pub received_before : List ℕ
+  pub answered_before : List ℕ
+  pub had_sent : s.sent ≡ Some sent_before
+  pub had_received : s.received ≡ Some received_before
+  pub sent : n.sent ≡ Some (sent_before ++ asked)
+  pub received : n.received ≡ Some (received_before ++ answered)
   pub to_come : before.incoming ≡ Some asked
-  pub none_answered : before.sent ≡ Some []
-  pub answers : after.sent ≡ Some answered
+  pub had_answered : before.sent ≡ Some answered_before
+  pub answers : after.sent ≡ Some (answered_before ++ answered)
 
 -- A done talk of a request with a member that has the container's packet size, and the container at the other end, whatever
--- its end. The container reads the Forward Request as f, which isn't for `/drop`.
+-- its end, from where it stood between two turns. It reads the Forward Request as f, which isn't for `/drop`.
 pub record IsDoneWith (app : AppConfig) (q : Errand) (member : MemberConfig) (endpoint : Endpoint) (own : Data) (f : Forward) (s n : TalkMoment) : Type 0 where
   pub first : List ℕ
   pub dialled : Bool
@@ -130,3 +136,20 @@ abbrev pub EndToEndOfExchange : Type 0
 EndToEndOfExchange =
     (app : AppConfig) (q : Errand) (member : ℕ) (own : Data) (f : Forward) (s n : Around) → IsExchangeWith app q member own f s n
     → n.client.sent ≡ appended s.client.sent (reply_for q (answer_of app f own.bytes))
+
+-- A container's talk from where it stood once the earlier of its turns were over: what came and was sent until then, and the
+-- talk that it is from there on, with the later ones.
+pub record GoesOnAfter (app : AppConfig) (earlier later : List ContainerTurn) (start after : Moment) (stop : Stopped) : Type 0 where
+  pub came : List ℕ
+  pub sent : List ℕ
+  pub turns : Turns app earlier came sent
+  pub mid : Moment
+  pub goes : Goes start mid came sent
+  pub talk : IsTalk app mid after (end_of (requests_in later) stop)
+
+-- A container that has answered any number of requests on a link serves the next one as if the link were new: each of its
+-- talks is one from each of its turns on.
+abbrev pub GoesOn : Type 0
+GoesOn =
+    (app : AppConfig) (start after : Moment) (end : ContainerEnd) (talk : IsTalk app start after end) (earlier later : List ContainerTurn)
+    → talk.past ≡ later ++ earlier → GoesOnAfter app earlier later start after talk.stop

@@ -8,6 +8,6 @@
 mod laws;
 
 pub use laws::{
-    a_first_get_is_answered, a_reply_is_the_applications_answer,
-    an_exchange_gives_the_applications_answer,
+    a_container_goes_on_after_each_turn, a_first_get_is_answered, a_post_gets_its_own_bytes,
+    a_reply_is_the_applications_answer, an_exchange_gives_the_applications_answer,
 };
