@@ -1,9 +1,10 @@
 -- Where a whole reply comes and nothing fails, a talk is done.
 use Rattle.std.proofs.Common.{◌≡◌, ◌≢◌, ℕ, ◌+◌, ◌≤◌, ◌<◌, ◌↔◌, Bool, true, false, List, [], ◌∷◌, ◌++◌, length, refl, sym, ap, subst, ◌∙◌, arith, append_assoc, append-nil, length-append, length-take, take, Option, Some, None, IfSome, is_some, inl, inr, ◌⊎◌, Result, Ok, Err}
 use Rattle.std.proofs.lemmas.Bool.{cond-true, ltb-true, eqb-true, cases_lt, or_right}
+use Rattle.jk_io.specs.Moments.{Moment}
 use Rattle.jk_io.specs.Told.{appended, prepended, Rose, IsEmpty}
 use Rattle.jk_io.specs.declared.failures.NoMemory.{NoMemory}
-use Rattle.ajp_wire.specs.Packet.{packet}
+use Rattle.ajp_wire.specs.Packet.{packet, HasCome}
 use Rattle.ajp_wire.proofs.PacketLaws.{packet-only, part-none}
 use Rattle.ajp_reply.specs.declared.message.Message.{Message}
 use Rattle.ajp_reply.specs.declared.message.Message.TheVariants.{Headers, Chunk, End, Ask, Pong}
@@ -18,7 +19,7 @@ use Rattle.ajp_talk.specs.Moments.{TalkMoment, data_at}
 use Rattle.ajp_talk.specs.Replies.{is_good, is_listed, chunks_of, sum_of, framing_in, exceeds, agrees, IsUnlisted, IsReply, bytes_for}
 use Rattle.ajp_talk.specs.Owed.{asked, pong_of}
 use Rattle.ajp_talk.specs.Talk.{IsTalk, HasFailed, HasNoPong, IsPingCause, IsCause, IsWrong, IsNext, BreaksSum, IsDone, IsGone, HasBadBody}
-use Rattle.ajp_talk.specs.Complete.{HasWhole, IsCompleted}
+use Rattle.ajp_talk.specs.Complete.{Brings, HasWhole, IsCompleted}
 use Rattle.ajp_talk.specs.declared.plan.TalkPlan.{TalkPlan}
 use Rattle.ajp_talk.specs.declared.ending.Stage.{Stage}
 use Rattle.ajp_talk.specs.declared.ending.Told.{Told}
@@ -245,10 +246,10 @@ module _ (plan : TalkPlan) (s n : TalkMoment) (all : List Message) (reply more :
   broken-sum later past Pong r split b = b
 
   no-cause : (past : List Message) (came rest inc : List ℕ) (refused : Option Message) (cause : Cause) → IsReply plan all reply → IsUnlisted plan all
-      → Spelled plan.packet past came → IsFront is_good past → came ++ (rest ++ inc) ≡ reply ++ more → n.line.incoming ≡ Some inc
+      → Spelled plan.packet past came → IsFront is_good past → came ++ (rest ++ inc) ≡ reply ++ more → (IsEmpty n.line.incoming → inc ≡ [])
       → (Rose s.line.faults n.line.faults → ⊥) → length (pong_of plan ++ reply) < plan.most → plan.most ≤ length (pong_of plan ++ (came ++ rest)) ⊎ (cause ≢ cause_is.TooLong)
       → IsCause plan s n past came rest refused cause → ⊥
-  no-cause past came rest inc refused cause r unlisted t front e left steady below limit why =
+  no-cause past came rest inc refused cause r unlisted t front e empty steady below limit why =
       of cause limit why
     where
       f : Follows plan.packet all past came reply (rest ++ inc)
@@ -265,9 +266,6 @@ module _ (plan : TalkPlan) (s n : TalkMoment) (all : List Message) (reply more :
             | inl front ↦ no_front (subst (λ (m : Message). IsFront is_good (m ∷ past)) (sym same) front)
             | inr form ↦ no_form (subst (λ (m : Message). IsForm is_good (m ∷ past)) (sym same) form)
           ]
-
-      empty : IsEmpty n.line.incoming → inc ≡ []
-      empty none = subst (λ (o : Option (List ℕ)). IsEmpty o) left none
 
       of : (cause : Cause) → plan.most ≤ length (pong_of plan ++ (came ++ rest)) ⊎ (cause ≢ cause_is.TooLong) → IsCause plan s n past came rest refused cause → ⊥
       of cause_is.NoLink limit h = h
@@ -294,9 +292,22 @@ module _ (plan : TalkPlan) (s n : TalkMoment) (all : List Message) (reply more :
 
 -- ---- the ends
 
-told-left : (front xs : List ℕ) (o : Option (List ℕ)) → Some xs ≡ prepended front o → (inc : List ℕ) × (o ≡ Some inc) × (xs ≡ front ++ inc)
+-- what is left of all that a link brings, when these bytes came: nothing, where it ended
+told-left : (front xs : List ℕ) (o : Option (List ℕ)) → Some xs ≡ prepended front o → (inc : List ℕ) × (IsEmpty o → inc ≡ []) × (xs ≡ front ++ inc)
 told-left front xs None e = absurd cc
-told-left front xs (Some inc) e = (inc, refl, (let same : xs ≡ front ++ inc = cc in same))
+told-left front xs (Some inc) e = (inc, (λ none. none), (let same : xs ≡ front ++ inc = cc in same))
+
+all-came : (front xs : List ℕ) (before : Option (List ℕ)) → IsEmpty before → Some xs ≡ appended before front → xs ≡ front
+all-came front xs None none e = absurd cc
+all-came front xs (Some old) none e =
+    let first : old ≡ [] = none in
+    let same : xs ≡ old ++ front = cc in
+    same ∙ ap (λ (b : List ℕ). b ++ front) first
+
+left-of : (s n : Moment) (front xs : List ℕ) → Brings s n xs → HasCome s n front → (inc : List ℕ) × (IsEmpty n.incoming → inc ≡ []) × (xs ≡ front ++ inc)
+left-of s n front xs (inl comes) came = told-left front xs n.incoming (sym comes ∙ came.used)
+left-of s n front xs (inr (none, received)) came =
+    ([], (λ over. refl), all-came front xs s.received none (sym received ∙ came.kept) ∙ sym (append-nil front))
 
 -- what came after CPong is where the reply is
 at-reply : (pong reply more got inc : List ℕ) → (pong ++ reply) ++ more ≡ (pong ++ got) ++ inc → got ++ inc ≡ reply ++ more
@@ -324,7 +335,7 @@ reached-or-other plan cause n limit = elim (cases_lt n plan.most) [
 module _ (plan : TalkPlan) (s n : TalkMoment) (all : List Message) (w : HasWhole plan s n all) where
   not_failed : (stage : Stage) (cause : Cause) (told : Option Told) (bytes : ℕ) → HasFailed plan s n stage cause told bytes → ⊥
   not_failed stage cause told bytes f =
-      let left = told-left (pong_of plan ++ (f.came ++ f.rest)) ((pong_of plan ++ w.reply) ++ w.more) n.line.incoming (sym w.comes ∙ f.traffic.came.used) in
+      let left = left-of s.line n.line (pong_of plan ++ (f.came ++ f.rest)) ((pong_of plan ++ w.reply) ++ w.more) w.comes f.traffic.came in
       no-cause plan s n all w.reply w.more f.past f.came f.rest left.0 f.refused cause w.is w.unlisted f.accepts.spelled f.accepts.front
       (sym (append_assoc f.came f.rest left.0) ∙ at-reply (pong_of plan) w.reply w.more (f.came ++ f.rest) left.0 left.2) left.1 w.line w.below
       (reached-or-other plan cause (length (pong_of plan ++ (f.came ++ f.rest))) f.too_long) f.why
@@ -335,8 +346,8 @@ module _ (plan : TalkPlan) (s n : TalkMoment) (all : List Message) (w : HasWhole
       pong : pong_of plan ≡ packet true (9 ∷ [])
       pong = cond-true plan.ping (packet true (9 ∷ [])) [] p.pings
 
-      left : (inc : List ℕ) × (n.line.incoming ≡ Some inc) × ((pong_of plan ++ w.reply) ++ w.more ≡ p.rest ++ inc)
-      left = told-left p.rest ((pong_of plan ++ w.reply) ++ w.more) n.line.incoming (sym w.comes ∙ p.traffic.came.used)
+      left : (inc : List ℕ) × (IsEmpty n.line.incoming → inc ≡ []) × ((pong_of plan ++ w.reply) ++ w.more ≡ p.rest ++ inc)
+      left = left-of s.line n.line p.rest ((pong_of plan ++ w.reply) ++ w.more) w.comes p.traffic.came
 
       is : IsPacketOf plan.packet Pong (packet true (9 ∷ []))
       is = pong-fits plan.packet all w.reply w.is.spelled w.is.form
@@ -345,7 +356,7 @@ module _ (plan : TalkPlan) (s n : TalkMoment) (all : List Message) (w : HasWhole
       place = sym left.2 ∙ append_assoc (pong_of plan) w.reply w.more ∙ ap (λ (b : List ℕ). b ++ (w.reply ++ w.more)) pong
 
       empty : IsEmpty n.line.incoming → left.0 ≡ []
-      empty none = subst (λ (o : Option (List ℕ)). IsEmpty o) left.1 none
+      empty none = left.1 none
 
       of : (cause : Cause) → (plan.most ≤ length p.rest) ⊎ (cause ≢ cause_is.TooLong) → IsPingCause plan s n p.rest cause → ⊥
       of cause_is.NoLink limit h = h
@@ -386,7 +397,7 @@ module _ (plan : TalkPlan) (s n : TalkMoment) (all : List Message) (w : HasWhole
 
   done_with : (told : Told) (reuse : Bool) (bytes : ℕ) → IsDone plan s n told reuse bytes → n.client.sent ≡ appended s.client.sent (bytes_for plan all)
   done_with told reuse bytes d =
-      let left = told-left (pong_of plan ++ d.came) ((pong_of plan ++ w.reply) ++ w.more) n.line.incoming (sym w.comes ∙ d.traffic.came.used) in
+      let left = left-of s.line n.line (pong_of plan ++ d.came) ((pong_of plan ++ w.reply) ++ w.more) w.comes d.traffic.came in
       let same : End reuse ∷ d.past ≡ all =
       one-reply plan.packet (End reuse ∷ d.past) all d.came w.reply left.0 w.more d.reply.spelled d.reply.form w.is.spelled w.is.form
       (at-reply (pong_of plan) w.reply w.more d.came left.0 left.2) in

@@ -1,6 +1,7 @@
 -- A talk to which nothing happens but that its reply comes whole.
-use Rattle.std.specs.Prelude.{◌≡◌, ℕ, ◌+◌, ◌<◌, true, List, ◌++◌, length, Some, Result, Ok, Err}
-use Rattle.jk_io.specs.Told.{appended, Rose}
+use Rattle.std.specs.Prelude.{◌≡◌, ℕ, ◌+◌, ◌<◌, ◌⊎◌, true, List, ◌++◌, length, Some, Result, Ok, Err}
+use Rattle.jk_io.specs.Moments.{Moment}
+use Rattle.jk_io.specs.Told.{appended, IsEmpty, Rose}
 use Rattle.jk_io.specs.declared.failures.NoMemory.{NoMemory}
 use Rattle.ajp_reply.specs.declared.message.Message.{Message}
 use Rattle.http_body_in.specs.Body.{Data}
@@ -12,12 +13,16 @@ use Rattle.ajp_talk.specs.declared.plan.TalkPlan.{TalkPlan}
 use Rattle.ajp_talk.specs.declared.ending.TalkEnd.{TalkEnd}
 use Rattle.ajp_talk.specs.declared.ending.TalkEnd.TheVariants as ends
 
--- What the link has to come begins with CPong, where the talk pings, and this reply, whose status isn't listed, below the
+-- The link had these bytes to come; or just these came on it, on which nothing had come before.
+abbrev pub Brings : (s n : Moment) → List ℕ → Type 0
+Brings s n bytes = (s.incoming ≡ Some bytes) ⊎ (IsEmpty s.received × (n.received ≡ Some bytes))
+
+-- What the link brings begins with CPong, where the talk pings, and this reply, whose status isn't listed, below the
 -- limit; the client's bytes have the body whole and below its own; and no fault rises.
 pub record HasWhole (plan : TalkPlan) (s n : TalkMoment) (all : List Message) : Type 0 where
   pub reply : List ℕ
   pub more : List ℕ
-  pub comes : s.line.incoming ≡ Some ((pong_of plan ++ reply) ++ more)
+  pub comes : Brings s.line n.line ((pong_of plan ++ reply) ++ more)
   pub is : IsReply plan all reply
   pub unlisted : IsUnlisted plan all
   pub below : length (pong_of plan ++ reply) < plan.most

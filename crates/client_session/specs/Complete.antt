@@ -33,7 +33,7 @@ with_bytes s body bytes = record {
 }
 
 -- The next request of the client's bytes, after `number` others, is mounted at a balancer. Its whole body is there, below the
--- limit. The first talk that the reach noted after `s` is t, and its link had to come this whole reply, whose status isn't
+-- limit. The first talk that the reach noted after `s` is t, and its link brings this whole reply, whose status isn't
 -- listed. Up to `n` no fault rises, and no ticket is a stray.
 pub record IsUndisturbed (v : Visit) (number : ℕ) (s n : ClientStanding) (head : Head) (t : Talk) (all : List Message) : Type 0 where
   pub used : List ℕ

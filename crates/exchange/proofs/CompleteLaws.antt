@@ -6,7 +6,7 @@ use Rattle.jk_io.specs.declared.failures.NoMemory.{NoMemory}
 use Rattle.jk_io.specs.declared.reaching.Talk.{Talk}
 use Rattle.jk_model.specs.declared.member.MemberConfig.{MemberConfig}
 use Rattle.ajp_reply.specs.declared.message.Message.{Message}
-use Rattle.ajp_talk.specs.Complete.{HasWhole as HasWholeTalk, IsCompleted as IsTalkCompleted}
+use Rattle.ajp_talk.specs.Complete.{Brings, HasWhole as HasWholeTalk, IsCompleted as IsTalkCompleted}
 use Rattle.jk_io.specs.Moments.{Moment}
 use Rattle.ajp_talk.specs.Moments.{data_at}
 use Rattle.ajp_talk.specs.Owed.{pong_of}
@@ -19,7 +19,7 @@ use Rattle.forwarding.specs.FirstPiece.{first_len}
 use Rattle.http_front.specs.declared.head.Head.{Head}
 use Rattle.http_body_in.specs.Body.{Data, dropped}
 use Rattle.site_config.specs.declared.endpoint.Endpoint.{Endpoint}
-use Rattle.exchange.specs.Complete.{Completes, HasWhole, IsCompleted, plan_of_note}
+use Rattle.exchange.specs.Complete.{BringsIn, Completes, HasWhole, IsCompleted, plan_of_note}
 use Rattle.exchange.specs.Exchanges.{EndsIn, IsExchange, IsOwnCause, begun_with as scene_with}
 use Rattle.exchange.specs.OneTalk.{Around, IsHeld, IsOneTalk, plan_on}
 use Rattle.exchange.specs.Requests.{Errand, plan_for}
@@ -31,7 +31,7 @@ use Rattle.exchange.specs.declared.ending.Ran.{Ran}
 use Rattle.exchange.specs.declared.ending.Ran.TheVariants as ran_is
 use Rattle.exchange.proofs.EarlyLaws.{IsEarly, rose_by_one, starts_early}
 use Rattle.exchange.proofs.ClientLaws.{silent_faults}
-use Rattle.exchange.proofs.GrowLaws.{Grows, appended_no_talk, grows_none, grows_twice, held_noted, note_of, one_grows, round_grows, rounds_grow, same_grows}
+use Rattle.exchange.proofs.GrowLaws.{Grows, appended_no_talk, bytes_in, grows_none, grows_twice, held_noted, note_of, told_received, one_grows, round_grows, rounds_grow, same_grows}
 use Rattle.exchange.proofs.UnmovedLaws.{again_follows, may_follow}
 use Rattle.exchange.proofs.WholeLaws.{known}
 
@@ -154,14 +154,24 @@ no_follow : (endpoint : Endpoint) (head : Head) (end : TalkEnd) (told : Told) (r
 no_follow endpoint head end told reuse moved is may =
     let no : false ≡ true = subst (λ (e : TalkEnd). may_follow endpoint head e ≡ true) is may in cc
 
+-- what the note says that the link brings, the link told
+brings : (lb member : ℕ) (endpoint : Endpoint) (plan : TalkPlan) (fresh : Bool) (s n : Around) (answer : Result TalkEnd NoMemory)
+    (held : IsHeld lb member endpoint plan fresh s n answer) (t : Talk) (before : List Talk) (bytes : List ℕ) → s.talks ≡ Some before
+    → note_of lb member endpoint plan fresh s n answer held ≡ t → BringsIn t bytes → Brings held.opened held.closed bytes
+brings lb member endpoint plan fresh s n answer held t before bytes talks noted (inl came) = inl (ap (λ (x : Talk). x.came) noted ∙ came)
+brings lb member endpoint plan fresh s n answer held t before bytes talks noted (inr received) =
+    let here : bytes_in held.closed.received ≡ bytes = ap (λ (x : Talk). x.received) noted ∙ received in
+    inr (held.nothing_yet.1, told_received lb member endpoint plan fresh s n answer held before talks ∙ ap Some here)
+
 -- what is told of the whole is told of its first talk
 whole_talk : (q : Errand) (first : List ℕ) (s n : Scene) (b now : Around) (member : ℕ) (config : MemberConfig) (endpoint : Endpoint) (fresh : Bool) (t : Talk) (all : List Message)
     (answer : Result TalkEnd NoMemory) (has : HasWhole q s n t all) (held : IsHeld q.lb member endpoint (plan_for q first config endpoint) fresh b now answer)
     → IsEarly q first s.around b → s.around.faults ≤ b.faults → Grows now n.around
     → note_of q.lb member endpoint (plan_for q first config endpoint) fresh b now answer held ≡ t → has.config ≡ config → has.endpoint ≡ endpoint
+    → b.talks ≡ Some has.before
     → HasWholeTalk (plan_on (plan_for q first config endpoint) endpoint held.dialled)
     (record { line = held.opened; client = b.client; body = b.body }) (record { line = held.closed; client = now.client; body = now.body }) all
-whole_talk q first s n b now member config endpoint fresh t all answer has held early reach grows noted same_config same_endpoint =
+whole_talk q first s n b now member config endpoint fresh t all answer has held early reach grows noted same_config same_endpoint talks =
     let piece : first ≡ take (first_len q.head.plan q.balancer.ends) has.data'.bytes =
     subst (λ (o : Option Data). IfSome o (λ d. first ≡ take (first_len q.head.plan q.balancer.ends) d.bytes)) has.told early.piece in
     let plan_is : plan_of_note q has.data' has.config has.endpoint t ≡ plan_on (plan_for q first config endpoint) endpoint held.dialled =
@@ -171,7 +181,9 @@ whole_talk q first s n b now member config endpoint fresh t all answer has held 
     record {
       reply = has.reply;
       more = has.more;
-      comes = ap (λ (x : Talk). x.came) noted ∙ has.comes ∙ ap (λ (p : TalkPlan). Some ((pong_of p ++ has.reply) ++ has.more)) plan_is;
+      comes =
+          subst (λ (p : TalkPlan). Brings held.opened held.closed ((pong_of p ++ has.reply) ++ has.more)) plan_is
+          (brings q.lb member endpoint (plan_for q first config endpoint) fresh b now answer held t has.before _ talks noted has.comes);
       is = subst (λ (p : TalkPlan). IsReply p all has.reply) plan_is has.is;
       unlisted = subst (λ (p : TalkPlan). IsUnlisted p all) plan_is has.unlisted;
       below = subst (λ (p : TalkPlan). length (pong_of p ++ has.reply) < 1099511627776) plan_is has.below;
@@ -238,7 +250,7 @@ first_talk q first s n t all has b now member config endpoint fresh answer confi
     let mine : member ≡ t.member = ap (λ (x : Talk). x.member) both.0 in
     let same_config : has.config ≡ config = known _ _ _ _ _ mine has.configured configured in
     let same_endpoint : has.endpoint ≡ endpoint = known _ _ _ _ _ mine has.reached reached in
-    let whole = whole_talk q first s n b now member config endpoint fresh t all answer has held early reach grows both.0 same_config same_endpoint in
+    let whole = whole_talk q first s n b now member config endpoint fresh t all answer has held early reach grows both.0 same_config same_endpoint (same ∙ has.talks_before) in
     first_held q s n t all has b now member grows.gained _ held.opened held.closed answer mine (sym both.1)
     (note_plan q first s n t all has b early member config endpoint held.dialled (ap (λ (x : Talk). x.dialled) both.0) same_config same_endpoint) (held.complete all whole)
 first_talk q first s n t all has b now member config endpoint fresh answer configured reached early reach same grows (inr (inl linkless)) =

@@ -1,5 +1,6 @@
 -- The talks that a reach notes over an exchange, and the counts of faults.
 use Rattle.std.proofs.Common.{◌≡◌, ℕ, ◌≤◌, Bool, List, [], ◌∷◌, ◌++◌, Option, Some, None, IfSome, Result, Ok, Err, refl, sym, ap, ◌∙◌, subst, inl, inr, arith, rules, append_assoc, append-nil}
+use Rattle.std.proofs.lemmas.List.{append_cancel_left}
 use Rattle.jk_io.specs.Told.{appended}
 use Rattle.jk_io.specs.Talks.{failed_talk}
 use Rattle.jk_io.specs.declared.failures.NoMemory.{NoMemory}
@@ -80,6 +81,38 @@ pub held_noted : (lb member : ℕ) (endpoint : Endpoint) (plan : TalkPlan) (fres
     (held : IsHeld lb member endpoint plan fresh s n answer) → n.talks ≡ appended s.talks (note_of lb member endpoint plan fresh s n answer held ∷ [])
 held_noted lb member endpoint plan fresh s n answer held =
     held.noted _ (record { begun_with = refl; sent_in = are_told held.closed.sent; received_in = are_told held.closed.received; kept = refl })
+
+none_told : (bytes : List ℕ) → IfSome None (λ (b : List ℕ). b ≡ bytes)
+none_told bytes = search rules
+
+untold : (told : Option (List ℕ)) (bytes : List ℕ) → told ≡ None → IfSome told (λ b. b ≡ bytes)
+untold told bytes none = subst (λ (o : Option (List ℕ)). IfSome o (λ b. b ≡ bytes)) (sym none) (none_told bytes)
+
+none_is_some : {A : Type 0} → (x : ℕ) (xs : List ℕ) → [] ≡ x ∷ xs → A
+none_is_some x xs same = absurd cc
+
+-- A reach that tells its talks told what this one received: one note alone says it.
+pub told_received : (lb member : ℕ) (endpoint : Endpoint) (plan : TalkPlan) (fresh : Bool) (s n : Around) (answer : Result TalkEnd NoMemory)
+    (held : IsHeld lb member endpoint plan fresh s n answer) (before : List Talk) → s.talks ≡ Some before
+    → held.closed.received ≡ Some (bytes_in held.closed.received)
+told_received lb member endpoint plan fresh s n answer held before talks = of held.closed.received refl
+  where
+    note : List ℕ → Talk
+    note bytes = note_with lb member endpoint fresh held.dialled held.opened (bytes_in held.closed.sent) bytes (keeps answer)
+
+    noted : (bytes : List ℕ) → held.closed.received ≡ None → n.talks ≡ Some (before ++ note bytes ∷ [])
+    noted bytes none =
+        held.noted (note bytes) (record { begun_with = refl; sent_in = are_told held.closed.sent; received_in = untold held.closed.received bytes none; kept = refl })
+        ∙ ap (λ (o : Option (List Talk)). appended o (note bytes ∷ [])) talks
+
+    of : (told : Option (List ℕ)) → held.closed.received ≡ told → told ≡ Some (bytes_in told)
+    of (Some bytes) is = refl
+    of None is =
+        let both : Some (before ++ note [] ∷ []) ≡ Some (before ++ note (0 ∷ []) ∷ []) = sym (noted [] is) ∙ noted (0 ∷ []) is in
+        let lists : before ++ note [] ∷ [] ≡ before ++ note (0 ∷ []) ∷ [] = cc in
+        let tails : note [] ∷ [] ≡ note (0 ∷ []) ∷ [] = append_cancel_left before _ _ lists in
+        let one : note [] ≡ note (0 ∷ []) = cc in
+        none_is_some 0 [] (ap (λ (x : Talk). x.received) one)
 
 pub held_grows : (lb member : ℕ) (endpoint : Endpoint) (plan : TalkPlan) (fresh : Bool) (s n : Around) (answer : Result TalkEnd NoMemory)
     → IsHeld lb member endpoint plan fresh s n answer → Grows s n

@@ -1,5 +1,5 @@
 -- An exchange to which nothing happens but that a member is chosen and its reply comes whole.
-use Rattle.std.specs.Prelude.{◌≡◌, ℕ, ◌+◌, ◌<◌, true, List, [], ◌∷◌, ◌++◌, length, take, slice_get, Some}
+use Rattle.std.specs.Prelude.{◌≡◌, ℕ, ◌+◌, ◌<◌, ◌⊎◌, true, List, [], ◌∷◌, ◌++◌, length, take, slice_get, Some}
 use Rattle.jk_io.specs.Told.{appended, Rose}
 use Rattle.jk_io.specs.declared.reaching.Talk.{Talk}
 use Rattle.jk_model.specs.declared.member.MemberConfig.{MemberConfig}
@@ -23,7 +23,11 @@ abbrev pub plan_of_note : Errand → Data → MemberConfig → Endpoint → Talk
 plan_of_note q data' config endpoint t =
     plan_on (plan_for q (take (first_len q.head.plan q.balancer.ends) data'.bytes) config endpoint) endpoint t.dialled
 
--- The first talk that the exchange noted is t, with this member's link. What the link had to come begins with CPong, where the
+-- These bytes were to come on the link of a noted talk, where it told that; or it received just these.
+abbrev pub BringsIn : Talk → List ℕ → Type 0
+BringsIn t bytes = (t.came ≡ Some bytes) ⊎ (t.received ≡ bytes)
+
+-- The first talk that the exchange noted is t, with this member's link. What the link brings begins with CPong, where the
 -- talk pings, and this reply, whose status isn't listed, below the limit. The client's bytes have the body whole and below its
 -- own limit. No fault rises, and no ticket is a stray.
 pub record HasWhole (q : Errand) (s n : Scene) (t : Talk) (all : List Message) : Type 0 where
@@ -41,7 +45,7 @@ pub record HasWhole (q : Errand) (s n : Scene) (t : Talk) (all : List Message) :
   pub within : taken_of s.around.body.body + length data'.bytes < most_of s.around.body.body
   pub reply : List ℕ
   pub more : List ℕ
-  pub comes : t.came ≡ Some ((pong_of (plan_of_note q data' config endpoint t) ++ reply) ++ more)
+  pub comes : BringsIn t ((pong_of (plan_of_note q data' config endpoint t) ++ reply) ++ more)
   pub is : IsReply (plan_of_note q data' config endpoint t) all reply
   pub unlisted : IsUnlisted (plan_of_note q data' config endpoint t) all
   pub below : length (pong_of (plan_of_note q data' config endpoint t) ++ reply) < 1099511627776
