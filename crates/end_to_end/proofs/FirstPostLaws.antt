@@ -1,6 +1,5 @@
 -- A talk of which the law speaks, with a body: POST of five bytes to the application that sends them back.
 use Rattle.std.proofs.Common.{◌≡◌, ℕ, zero, suc, ◌+◌, ◌-◌, ◌^◌, ◌<◌, ◌≤◌, Bool, true, false, IsTrue, List, [], ◌∷◌, ◌++◌, length, reverse, take, slice_index, codes, Some, None, Ok, All, refl, sym, ap, subst, ◌∙◌, arith, inl, append-nil, leb-true, length-append, ltb-true}
-use Rattle.std.specs.Prelude.{if◌then◌else◌}
 use Rattle.std.proofs.lemmas.List.Sums.{AllPass-from_list_all}
 use Rattle.std.proofs.lemmas.Str.{IsUtf8-from_ascii}
 use Rattle.std.specs.Fmt.{digits}
@@ -30,7 +29,7 @@ use Rattle.http_front.specs.declared.head.BodyPlan.TheVariants as plan_is
 use Rattle.http_front.specs.declared.head_lines.TheConstants.{MAX_HEAD_LINES}
 use Rattle.http_front.specs.declared.inbox.TheConstants.{MAX_HEAD_BYTES}
 use Rattle.http_front.specs.Cut.{header_lines}
-use Rattle.http_body_in.specs.Body.{Data, dropped, ended_at}
+use Rattle.http_body_in.specs.Body.{dropped, ended_at}
 use Rattle.http_body_in.specs.State.{failed_of, place_of}
 use Rattle.http_body_in.specs.declared.body.BodyIn.{BodyIn}
 use Rattle.http_body_in.specs.declared.place.Place.{Place}
@@ -48,7 +47,7 @@ use Rattle.mini_container.specs.declared.app_config.AppConfig.{AppConfig}
 use Rattle.mini_container.specs.declared.ends.Stopped.TheVariants.{Closed}
 use Rattle.mini_container.proofs.SentLaws.{owed-spelled}
 use Rattle.end_to_end.specs.FirstPost.{FirstPost, hello, hello_data, post_bytes, post_errand, post_head, post_reply}
-use Rattle.end_to_end.specs.Meeting.{IsDoneWith, IsRequest, forwarded, front_of, plan_on}
+use Rattle.end_to_end.specs.Meeting.{IsDoneWith, IsRequest, forwarded, plan_on}
 use Rattle.end_to_end.proofs.FirstGetLaws.{no-request, ping_bytes, pinged, pings_for, pong_bytes, short-pong}
 
 -- ---- the head

@@ -1,13 +1,11 @@
 -- A container's talk, seen from one of its turns on.
-use Rattle.std.proofs.Common.{◌≡◌, ℕ, IsTrue, List, [], ◌∷◌, ◌++◌, Option, Some, None, refl, sym, ap, subst, ◌∙◌, append_assoc, append-nil}
+use Rattle.std.proofs.Common.{◌≡◌, ℕ, List, [], ◌∷◌, ◌++◌, Option, Some, None, refl, sym, ap, subst, ◌∙◌, append_assoc, append-nil}
 use Rattle.jk_io.specs.Moments.{Moment}
 use Rattle.jk_io.specs.Told.{appended, prepended}
 use Rattle.mini_container.specs.Answer.{bytes_of}
-use Rattle.mini_container.specs.Ends.{Goes, IsTalk}
 use Rattle.mini_container.specs.Turns.{ContainerTurn, Turns, owed}
 use Rattle.mini_container.specs.declared.app_config.AppConfig.{AppConfig}
-use Rattle.mini_container.specs.declared.ends.ContainerEnd.{ContainerEnd}
-use Rattle.end_to_end.specs.Meeting.{GoesOn, GoesOnAfter}
+use Rattle.end_to_end.specs.Meeting.{GoesOn}
 
 -- Turns in two parts, each with what came and what was sent.
 record TwoParts (app : AppConfig) (later earlier : List ContainerTurn) (came sent : List ℕ) : Type 0 where
