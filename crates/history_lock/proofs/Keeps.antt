@@ -131,6 +131,8 @@ module _ {S E : Type 0} (tells : List (ℕ × E) → S → Type 0) where
             value = home.0;
             told = home.2;
             claims = λ k c there. r.claims id k me.0 c (record { view = at; claim = there });
+            apart = λ k m c d one other same.
+                (r.alone id id k m me.0 me.0 c d (record { view = at; claim = one }) (record { view = at; claim = other }) same).1;
             after_is = refl;
           };
           taken = λ ne. absurd (ne (found ∙ z));

@@ -34,6 +34,10 @@ module _ {E : Type 0} where
   abbrev pub caught_up : (log : List (ℕ × E)) → List (Claim E) → List (Claim E)
   caught_up log claims = map (λ c. record { number = c.number; seen = log }) claims
 
+  -- No two claims have one number.
+  abbrev pub AreApart : List (Claim E) → Type 0
+  AreApart claims = (k m : ℕ) (c d : Claim E) → get_elem? claims k ≡ some c → get_elem? claims m ≡ some d → c.number ≡ d.number → k ≡ m
+
   -- Claim c stands at place k of seat i.
   pub record Stands (views : List (View E)) (i k : ℕ) (v : View E) (c : Claim E) : Type 0 where
     pub view : get_elem? views i ≡ some v
@@ -59,18 +63,22 @@ module _ {S E : Type 0} where
     pub numbered : All (λ x. x.0 < length s.views) log
 
   -- The seat has the value. The history says what it is, begins with what the seat had seen, and has no further entry of it.
+  -- No two of its claims have one number.
   pub record Took (tells : List (ℕ × E) → S → Type 0) (v : View E) (slots : List (ℕ × Option S)) (after : Me (Option S) (View E)) : Type 0 where
     pub log : List (ℕ × E)
     pub value : S
     pub told : tells log value
     pub claims : (k : ℕ) (c : Claim E) → get_elem? v.claims k ≡ some c → IsClaim log c
+    pub apart : AreApart v.claims
     pub after_is : after ≡ (record { holds = true; claims = caught_up log v.claims }, (0, Some value) ∷ slots)
 
-  -- This value came out last: there is one history that says what it is, and of which these claims are true.
+  -- This value came out last: there is one history that says what it is, and of which these claims are true. No two of them
+  -- have one number.
   pub record IsLast (tells : List (ℕ × E) → S → Type 0) (claims : List (Claim E)) (value : S) : Type 0 where
     pub log : List (ℕ × E)
     pub told : tells log value
     pub true_of : (k : ℕ) (c : Claim E) → get_elem? claims k ≡ some c → IsClaim log c
+    pub apart : AreApart claims
 
   -- The lock was free and was taken, or it wasn't, and the seat is as it was.
   pub record Enters (tells : List (ℕ × E) → S → Type 0) (me : Me (Option S) (View E)) (found : ℕ) (after : Me (Option S) (View E)) : Type 0 where

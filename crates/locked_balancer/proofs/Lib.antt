@@ -1,6 +1,8 @@
+pub mod GoneLaws
 pub mod HeldLaws
 pub mod HistoryLaws
 pub mod HoldLaws
+pub mod LeftLaws
 pub mod LockLaws
 pub mod PoolLaws
 pub mod SeatLaws

@@ -118,6 +118,23 @@ pub record DeskSees (starts : List Opening) (old new : SeatNote) (gained : List 
 abbrev pub DeskMaySee : List Opening → (old new : SeatNote) → (gained : List (ℕ × Entry)) → (Wanting : Type 0) → Type 0
 DeskMaySee starts old new gained Wanting = DeskSees starts old new gained ⊎ ((new ≡ old) × (gained ≡ []) × Wanting)
 
+-- The entries that the desk of this number added, in their order, each with its balancer.
+abbrev pub own_in : (number : ℕ) → List (ℕ × (ℕ × Entry)) → List (ℕ × Entry)
+own_in number log = map (λ x. x.1) (filter (λ x. x.0 == number) log)
+
+-- No number stands in the list twice.
+abbrev pub AreDistinct : List ℕ → Type 0
+AreDistinct [] = Unit {0}
+AreDistinct (n ∷ ns) = All (λ m. m ≢ n) ns × AreDistinct ns
+
+-- One history of the Site made its Books what they are. Of each desk with one of these seats it has just the entries that the
+-- desk has seen as its own, in their order. No two of these desks have one number.
+pub record IsClosed (starts : List Opening) (seats : List SeatNote) (books : List Journal) : Type 0 where
+  pub log : List (ℕ × (ℕ × Entry))
+  pub history : IsSiteHistory starts log books
+  pub own : All (λ s. own_in s.number log ≡ own_in s.number s.seen) seats
+  pub apart : AreDistinct (map (λ s. s.number) seats)
+
 -- The view is that of balancer lb after this history of the Site.
 abbrev pub IsPresentOf : List Opening → (log : List (ℕ × (ℕ × Entry))) → (lb : ℕ) → ViewNote → Type 0
 IsPresentOf starts log lb v = (o : Opening) → slice_get starts lb ≡ Some o → IsPresent MODERN_RULES o (reverse (entries_of lb log)) v.view
@@ -127,3 +144,15 @@ pub record OfBooks (P : (books books' : List Journal) → Type 0) : Type 0 where
   pub books : List Journal
   pub after : List Journal
   pub is : P books after
+
+-- What a desk did since it had this seat and these receipts: it is at the same lock under the same number. Its receipts were
+-- only added to, and of its own entries it has seen just those of the added ones besides, in their order.
+pub record HasGone (seat : SeatNote) (receipts : List Receipt) (now : SeatNote) (receipts' : List Receipt) : Type 0 where
+  pub lock : now.lock ≡ seat.lock
+  pub number : now.number ≡ seat.number
+  pub grown : receipts' ≡ receipts ++ drop (length receipts) receipts'
+  pub own : own_in seat.number now.seen ≡ own_in seat.number seat.seen ++ gained_in receipts receipts'
+
+-- What a desk did since whatever moment, it did from here on too, and nothing else.
+abbrev pub GoesOn : (old : SeatNote) → (receipts : List Receipt) → (new : SeatNote) → (receipts' : List Receipt) → Type 0
+GoesOn old receipts new receipts' = (since : SeatNote) (first : List Receipt) → HasGone since first old receipts → HasGone since first new receipts'

@@ -1,5 +1,7 @@
 pub mod Histories
 pub mod Holds
+pub mod Loans
+pub mod Locks
 pub mod Notes
 pub mod SharedDesks
 pub mod SharedLists

@@ -16,8 +16,11 @@
 mod at_site;
 mod held;
 mod holds;
+mod left_seat;
+mod lent_desk;
 mod locked;
 mod mem_shelf;
+mod seated_desk;
 mod shared_desk;
 mod shared_site;
 mod shelf;
@@ -26,7 +29,10 @@ mod stake;
 mod threads;
 mod told;
 
+pub use left_seat::{LeftSeat, LeftSeatList};
+pub use lent_desk::{DeskLoan, LentDesk, Moment};
 pub use mem_shelf::{KeptList, MemShelf};
+pub use seated_desk::SeatedDesk;
 pub use shared_desk::{Leaving, SharedDesk};
 pub use shared_site::SharedSite;
 pub use shelf::Shelf;

@@ -3,6 +3,7 @@ ghost use Rattle.std.specs.Prelude.{◌≡◌, ◌+◌, ◌<◌, ◌≤◌, leng
 ghost use Rattle.locked_balancer.specs.SharedDesks.{CountsFull, CountsRefusal, IsPutAway, PutsAway, first_met};
 
 use crate::at_site::{choose_at, command_at, give_back_at, look_at, take_last};
+use crate::left_seat::LeftSeat;
 use crate::locked::HandedBack;
 use crate::shared_site::SharedSite;
 use crate::shelf::Shelf;
@@ -62,19 +63,21 @@ impl<'s, 'r, L: SiteName, S: Shelf, R> Model for SharedDesk<'s, 'r, L, S, R> {
         × (d.stake.seat.table_id ≡ d.site.now.lock.table.shared.table_id) × IsResting d.stake.seat.me };
 }
 
-/// What a desk leaves: its share, the receipts that it has, how many it forgot, and its shelf.
+/// What a desk leaves: its share, the receipts that it has, how many it forgot, its shelf, and its seat at the lock.
 #[derive(Drop)]
 pub struct Leaving<L: SiteName, S> {
     pub share: Share<L>,
     pub receipts: SiteReceiptList<L>,
     pub forgotten: u64,
     pub shelf: S,
+    pub seat: LeftSeat<L>,
     pub ghost part: { 0 < share.parts },
     pub ghost counted: { share.amount ≡ length receipts + forgotten },
 }
 
 impl<'s, 'r, L: SiteName, S: Shelf, R> SharedDesk<'s, 'r, L, S, R> {
     ghost use Rattle.std.specs.Prelude.{◌≡◌, ◌+◌, ◌<◌, ◌↔◌, [], None, false, true, length, IsSome};
+    ghost use Rattle.locked_balancer.specs.Locks.{lock_of};
     ghost use Rattle.locked_balancer.specs.SharedDesks.{SharedState, shared_desk};
 
     /// A desk with a part of the ledger, without a receipt or a ticket. It takes no memory.
@@ -90,6 +93,7 @@ impl<'s, 'r, L: SiteName, S: Shelf, R> SharedDesk<'s, 'r, L, S, R> {
         ensures shelf { result.shelf ≡ shelf }
         ensures none { (result.forgotten ≡ 0) × (result.wants ≡ 0) × (result.met ≡ None) }
         ensures nothing_seen { result.seat.seen ≡ [] }
+        ensures lock { result.seat.lock ≡ lock_of site.now }
     {
         SharedDesk {
             site,
@@ -152,6 +156,7 @@ impl<'s, 'r, L: SiteName, S: Shelf, R> SharedDesk<'s, 'r, L, S, R> {
         ensures shelf { result.shelf ≡ self.entry.shelf }
         ensures amount { result.share.amount ≡ self.entry.desk.added }
         ensures parts { self.entry.desk.parts ≡ Some result.share.parts }
+        ensures seat { result.seat ≡ self.entry.seat }
     {
         let SharedDesk {
             site: _,
@@ -166,12 +171,13 @@ impl<'s, 'r, L: SiteName, S: Shelf, R> SharedDesk<'s, 'r, L, S, R> {
             wants: _,
             forgotten,
         } = self;
-        let Stake { share, seat: _ } = stake;
+        let Stake { share, seat } = stake;
         Leaving {
             share,
             receipts: SiteReceiptList::from_vec(receipts),
             forgotten,
             shelf,
+            seat: LeftSeat::new(seat),
         }
     }
 }

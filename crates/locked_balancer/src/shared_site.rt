@@ -1,5 +1,6 @@
 //! A Site behind a lock.
 
+use crate::left_seat::LeftSeatList;
 use crate::locked::Locked;
 use crate::site::{Site, SiteName};
 use crate::told::{SiteLock, Told};
@@ -15,10 +16,10 @@ pub struct SharedSite<'r, L: SiteName, R> {
 }
 
 impl<'r, L: SiteName, R> SharedSite<'r, L, R> {
-    ghost use Rattle.std.specs.Prelude.{◌≡◌, ℕ, ◌<◌, List, []};
+    ghost use Rattle.std.specs.Prelude.{◌≡◌, ℕ, ◌<◌, []};
     ghost use Rattle.std.specs.List.{All};
-    ghost use Rattle.jk_model.specs.declared.journal.Entry.{Entry};
-    ghost use Rattle.locked_balancer.specs.Histories.{IsSiteHistory, starts_of};
+    ghost use Rattle.locked_balancer.specs.Histories.{IsClosed, starts_of};
+    ghost use Rattle.locked_balancer.specs.Locks.{lock_of};
     ghost use Rattle.locked_balancer.specs.Sites.{At};
 
     /// Puts a Site behind a lock, at the start of its history. A journal that has `cut_at` kept entries is cut before more
@@ -41,14 +42,19 @@ impl<'r, L: SiteName, R> SharedSite<'r, L, R> {
         }
     }
 
-    /// Takes the lock away, once no desk asks the Site any more. Its Books are what one history made of their openings.
-    pub fn into_site(self) -> Site<L>
+    /// Takes the lock away, once no desk asks the Site any more. Its Books are what one history made of their openings, and
+    /// of each of these desks it has just the entries that the desk has seen as its own.
+    pub fn into_site(self, seats: LeftSeatList<L>) -> Site<L>
     where
         R: Wait,
-        ensures { (log : List (ℕ × (ℕ × Entry))) × IsSiteHistory L.starts log result }
+        requires here { All (λ s. s.lock ≡ lock_of self) seats }
+        ensures { IsClosed L.starts seats result }
     {
         let SharedSite { rt, lock } = self;
-        let seat = lock.seat();
+        let mut seat = lock.seat();
+        for other in seats.into_vec() {
+            lock.join(&mut seat, other.into_seat());
+        }
         lock.close(rt, seat).into_locked().into_site()
     }
 }

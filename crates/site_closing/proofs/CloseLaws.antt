@@ -1,5 +1,6 @@
 -- What a discord of the receipts and the kept entries says of a closing.
-use Rattle.std.proofs.Common.{◌≡◌, ℕ, Bool, false, List, sym, ◌∙◌, subst}
+use Rattle.std.proofs.Common.{◌≡◌, ℕ, Bool, false, List, Result, Ok, Err, sym, ◌∙◌, subst}
+use Rattle.std.specs.Prelude.{IfErr, IfOk}
 use Rattle.std.specs.List.Sorted.{IsPermutation}
 use Rattle.jk_model.specs.declared.journal.Entry.{Entry}
 use Rattle.balancer_core.specs.Journal.{Journal}
@@ -33,3 +34,20 @@ once_from forgot All items all books told none noted same is every uncut =
     subst (λ (xs : List Journal). IsPermutation all (kept_from 0 xs)) same
     (subst (λ (ys : List (ℕ × Entry)). IsPermutation ys (kept_from 0 told)) noted
     (is (none every) (subst (λ (xs : List Journal). AreUncut xs) (sym same) uncut)))
+
+-- What was gathered, told of what the desks left.
+pub differs_left : (sizes firsts : List ℕ) (amount amount' : ℕ) (forgot : Bool) (All : Type 0) (items all : List (ℕ × Entry)) (d : DiscordNote)
+    → (forgot ≡ false → All) → items ≡ all → amount ≡ amount'
+    → (forgot ≡ false) × Differs sizes firsts amount items d → All × Differs sizes firsts amount' all d
+differs_left sizes firsts amount amount' forgot All items all d none noted sum is = (
+  none is.0,
+  subst (λ (ys : List (ℕ × Entry)). Differs sizes firsts amount' ys d) noted (subst (λ (n : ℕ). Differs sizes firsts n items d) sum is.1),
+)
+
+pub err_left : {T L : Type 0} (P Q : DiscordNote → Type 0) (r : Result T (CloseError L)) → ((d : DiscordNote) → P d → Q d) → IfErr r (IsCloseError P) → IfErr r (IsCloseError Q)
+err_left P Q (Ok c) then is = is
+err_left P Q (Err e) then is = close_error P Q e then is
+
+pub ok_left : {T E : Type 0} (P Q : T → Type 0) (r : Result T E) → ((c : T) → P c → Q c) → IfOk r P → IfOk r Q
+ok_left P Q (Ok c) then is = then c is
+ok_left P Q (Err e) then is = is

@@ -3,7 +3,8 @@ ghost use Rattle.std.specs.Prelude.{◌≡◌, ℕ, ◌<◌, ◌≤◌, List, fa
 ghost use Rattle.std.specs.List.{All, flat_map};
 ghost use Rattle.std.specs.List.Sorted.{IsPermutation};
 ghost use Rattle.jk_model.specs.declared.journal.Entry.{Entry};
-ghost use Rattle.locked_balancer.specs.Histories.{IsSiteHistory};
+ghost use Rattle.locked_balancer.specs.Histories.{IsClosed, IsSiteHistory};
+ghost use Rattle.locked_balancer.specs.Locks.{lock_of};
 ghost use Rattle.locked_balancer.specs.Sites.{AreSited, added_in};
 ghost use Rattle.site_closing.specs.CloseErrors.{IsCloseError};
 ghost use Rattle.site_closing.specs.Closings.{AreUncut, Differs, IsDiscord, kept_from, noted};
@@ -15,7 +16,7 @@ use crate::gather::{Gathered, LeavingList, ShelfList, gather};
 use crate::kept::{added_by, are_uncut, kept_in};
 use balancer_core::{Book, BookList};
 use jk_io::NoMemory;
-use locked_balancer::{SharedSite, SiteName};
+use locked_balancer::{LeftSeatList, SharedSite, SiteName};
 use std::alloc::AllocError;
 use std::sync::Wait;
 use std::sync::ledger::Share;
@@ -88,13 +89,55 @@ pub fn close_desks<'r, L: SiteName, S: Drop, R: Wait>(
     ensures differs { IfErr result (IsCloseError
         (Differs L.sizes L.firsts (sum_by (λ l. l.share.amount) leaving) (noted (flat_map (λ l. l.receipts) leaving)))) }
 {
+    let alloc = leaving.allocator();
+    let mut all = gather(leaving)?;
+    all.seats = Vec::new(alloc);
+    close_gathered(site, all)
+}
+
+/// As `close_desks`, of desks that were at this Site's lock.
+pub fn close_own_desks<'r, L: SiteName, S: Drop, R: Wait>(
+    site: SharedSite<'r, L, R>,
+    leaving: LeavingList<L, S>,
+) -> Result<Closed<S>, CloseError<L>>
+    requires some { 0 < length leaving }
+    requires whole { sum_by (λ l. l.share.parts) leaving ≡ L.parts }
+    requires here { All (λ l. l.seat.lock ≡ lock_of site) leaving }
+    ensures sited { IfOk result (λ c. AreSited L.sizes L.firsts c.books) }
+
+    // Of each desk the one history has just the entries that the desk has seen as its own.
+    ensures history { IfOk result (λ c. IsClosed L.starts (map (λ l. l.seat) leaving) c.books) }
+    ensures counted { IfOk result (λ c. c.entries ≡ sum_by (λ l. l.share.amount) leaving) }
+    ensures shelves { IfOk result (λ c. c.shelves ≡ map (λ l. l.shelf) leaving) }
+    ensures differs { IfErr result (IsCloseError
+        (Differs L.sizes L.firsts (sum_by (λ l. l.share.amount) leaving) (noted (flat_map (λ l. l.receipts) leaving)))) }
+{
+    close_gathered(site, gather(leaving)?)
+}
+
+// Takes the lock away, and compares what the desks left with what the Books keep.
+fn close_gathered<'r, L: SiteName, S: Drop, R: Wait>(
+    site: SharedSite<'r, L, R>,
+    all: Gathered<L, S>,
+) -> Result<Closed<S>, CloseError<L>>
+    requires whole { all.share.parts ≡ L.parts }
+    requires here { All (λ s. s.lock ≡ lock_of site) all.seats.items }
+    ensures sited { IfOk result (λ c. AreSited L.sizes L.firsts c.books) }
+    ensures history { IfOk result (λ c. IsClosed L.starts all.seats.items c.books) }
+    ensures entries { IfOk result (λ c. c.entries ≡ added_in c.books) }
+    ensures counted { IfOk result (λ c. c.entries ≡ all.share.amount) }
+    ensures shelves { IfOk result (λ c. c.shelves ≡ all.shelves.items) }
+    ensures once { IfOk result (λ c. all.forgot ≡ false → AreUncut c.books → IsPermutation all.noted.items (kept_from 0 c.books)) }
+    ensures differs { IfErr result (IsCloseError (λ d. (all.forgot ≡ false) × Differs L.sizes L.firsts all.share.amount all.noted.items d)) }
+{
     let Gathered {
         share,
         noted: list,
         shelves,
+        seats,
         forgot,
-    } = gather(leaving)?;
-    let (books, entries) = end_site(site, share);
+    } = all;
+    let (books, entries) = end_site(site, share, LeftSeatList::from_vec(seats));
     compare(forgot, list, books.as_slice())?;
     Ok(Closed {
         books,
@@ -107,14 +150,16 @@ pub fn close_desks<'r, L: SiteName, S: Drop, R: Wait>(
 fn end_site<'r, L: SiteName, R: Wait>(
     site: SharedSite<'r, L, R>,
     share: Share<L>,
+    seats: LeftSeatList<L>,
 ) -> (BookList, u64)
     requires whole { share.parts ≡ L.parts }
+    requires here { All (λ s. s.lock ≡ lock_of site) seats }
     ensures sited { AreSited L.sizes L.firsts result.0 }
-    ensures history { (log : List (ℕ × (ℕ × Entry))) × IsSiteHistory L.starts log result.0 }
+    ensures history { IsClosed L.starts seats result.0 }
     ensures amount { share.amount ≡ added_in result.0 }
     ensures entries { result.1 ≡ added_in result.0 }
 {
-    let mut site = site.into_site();
+    let mut site = site.into_site(seats);
     let mut share = share;
     site.audit(&mut share);
     let books = site.close(share);

@@ -15,7 +15,7 @@ mod kept;
 mod same;
 mod tried;
 
-pub use close::{CloseError, Closed, close_desks};
+pub use close::{CloseError, Closed, close_desks, close_own_desks};
 pub use discord::Discord;
 pub use gather::{LeavingList, ShelfList};
 pub use tried::try_a_site;

@@ -1,25 +1,25 @@
--- What the comparison says, told of what the desks left.
-use Rattle.balancer_core.proofs.HoldLaws.{of_error}
-use Rattle.site_closing.proofs.CloseLaws.{close_error, differs_from, once_from}
+-- What was gathered, told of what the desks left.
+use Rattle.std.proofs.Common.{refl}
+use Rattle.site_closing.proofs.CloseLaws.{differs_left, err_left, ok_left, once_from}
 use Rattle.site_closing.proofs.close.close_desks.Goals as goal
 
-pub returns-in_err-compare-clause-all : goal.returns-in_err-compare-clause-all
-returns-in_err-compare-clause-all g c =
-    of_error c.from_residual-in_err-compare.result c.in_err-compare.field-0.0 _ c.from_residual-in_err-compare.ensures.1
-    (close_error _ _ c.in_err-compare.field-0.0
-    (λ d is. (differs_from g.L.SiteName.sizes g.L.SiteName.firsts c.in_ok-share.field-0.share.amount _ c.in_ok-share.field-0.forgot _ c.in_ok-share.field-0.noted.items _ c.end_site-books.result.0 c.as_slice.result.now d
-    c.in_ok-share.ensures.forgot.0 c.in_ok-share.ensures.noted c.as_slice.ensures c.end_site-books.ensures.sited c.end_site-books.ensures.amount c.in_ok-share.ensures.amount is).0)
-    c.in_err-compare.ensures.differs)
-
-pub returns-in_err-compare-clause-differs : goal.returns-in_err-compare-clause-differs
-returns-in_err-compare-clause-differs g c =
-    of_error c.from_residual-in_err-compare.result c.in_err-compare.field-0.0 _ c.from_residual-in_err-compare.ensures.1
-    (close_error _ _ c.in_err-compare.field-0.0
-    (λ d is. (differs_from g.L.SiteName.sizes g.L.SiteName.firsts c.in_ok-share.field-0.share.amount _ c.in_ok-share.field-0.forgot _ c.in_ok-share.field-0.noted.items _ c.end_site-books.result.0 c.as_slice.result.now d
-    c.in_ok-share.ensures.forgot.0 c.in_ok-share.ensures.noted c.as_slice.ensures c.end_site-books.ensures.sited c.end_site-books.ensures.amount c.in_ok-share.ensures.amount is).1)
-    c.in_err-compare.ensures.differs)
+pub returns-clause-history : goal.returns-clause-history
+returns-clause-history g c = ok_left _ _ c.close_gathered.result (λ closed is. (is.log, is.history)) c.close_gathered.ensures.history
 
 pub returns-clause-once : goal.returns-clause-once
 returns-clause-once g c =
-    once_from c.in_ok-share.field-0.forgot _ c.in_ok-share.field-0.noted.items _ c.end_site-books.result.0 c.as_slice.result.now
-    c.in_ok-share.ensures.forgot.1 c.in_ok-share.ensures.noted c.as_slice.ensures c.in_ok-compare.ensures.once
+    ok_left _ _ c.close_gathered.result
+    (λ closed is none uncut. once_from _ _ _ _ closed.books closed.books
+    c.in_ok-all.ensures.forgot.1 c.in_ok-all.ensures.noted refl is none uncut) c.close_gathered.ensures.once
+
+pub returns-clause-all : goal.returns-clause-all
+returns-clause-all g c =
+    err_left _ _ c.close_gathered.result
+    (λ d is. (differs_left g.L.SiteName.sizes g.L.SiteName.firsts _ _ _ _ _ _ d c.in_ok-all.ensures.forgot.0 c.in_ok-all.ensures.noted c.in_ok-all.ensures.amount is).0)
+    c.close_gathered.ensures.differs
+
+pub returns-clause-differs : goal.returns-clause-differs
+returns-clause-differs g c =
+    err_left _ _ c.close_gathered.result
+    (λ d is. (differs_left g.L.SiteName.sizes g.L.SiteName.firsts _ _ _ _ _ _ d c.in_ok-all.ensures.forgot.0 c.in_ok-all.ensures.noted c.in_ok-all.ensures.amount is).1)
+    c.close_gathered.ensures.differs

@@ -15,6 +15,9 @@ returns-in_err-all-clause-noted g c = if_refused c.from_residual.result _ _ c.fr
 pub returns-in_err-all-clause-shelves : goal.returns-in_err-all-clause-shelves
 returns-in_err-all-clause-shelves g c = if_refused c.from_residual.result _ _ c.from_residual.ensures.1
 
+pub returns-in_err-all-clause-seats : goal.returns-in_err-all-clause-seats
+returns-in_err-all-clause-seats g c = if_refused c.from_residual.result _ _ c.from_residual.ensures.1
+
 pub returns-in_err-all-clause-forgot : goal.returns-in_err-all-clause-forgot
 returns-in_err-all-clause-forgot g c = if_refused c.from_residual.result _ _ c.from_residual.ensures.1
 
@@ -30,6 +33,9 @@ returns-in_err-take_all-clause-noted g c = if_refused c.from_residual-in_err-tak
 pub returns-in_err-take_all-clause-shelves : goal.returns-in_err-take_all-clause-shelves
 returns-in_err-take_all-clause-shelves g c = if_refused c.from_residual-in_err-take_all.result _ _ c.from_residual-in_err-take_all.ensures.1
 
+pub returns-in_err-take_all-clause-seats : goal.returns-in_err-take_all-clause-seats
+returns-in_err-take_all-clause-seats g c = if_refused c.from_residual-in_err-take_all.result _ _ c.from_residual-in_err-take_all.ensures.1
+
 pub returns-in_err-take_all-clause-forgot : goal.returns-in_err-take_all-clause-forgot
 returns-in_err-take_all-clause-forgot g c = if_refused c.from_residual-in_err-take_all.result _ _ c.from_residual-in_err-take_all.ensures.1
 
@@ -44,6 +50,9 @@ returns-clause-noted g c = noted_of _ _ _ _ _ _ c.split_first-first.ensures c.in
 
 pub returns-clause-shelves : goal.returns-clause-shelves
 returns-clause-shelves g c = map_of _ _ _ _ _ _ c.split_first-first.ensures c.in_ok-all.ensures.shelves c.in_ok-take_all.ensures.shelves
+
+pub returns-clause-seats : goal.returns-clause-seats
+returns-clause-seats g c = map_of _ _ _ _ _ _ c.split_first-first.ensures c.in_ok-all.ensures.seats c.in_ok-take_all.ensures.seats
 
 pub returns-clause-forgot : goal.returns-clause-forgot
 returns-clause-forgot g c = all_of (λ x. x.forgotten ≡ 0) _ _ _ _ _ c.split_first-first.ensures c.in_ok-all.ensures.forgot c.in_ok-take_all.ensures.forgot

@@ -16,7 +16,9 @@ loop-left-init g c =
       amount = ap (λ (xs : List _). c.args.all.now.share.amount + sum_by (λ x. x.share.amount) xs) is;
       noted = ap (λ (xs : List _). c.args.all.now.noted.items ++ noted (flat_map (λ x. x.receipts) xs)) is;
       shelves = ap (λ (xs : List _). c.args.all.now.shelves.items ++ map (λ x. x.shelf) xs) is;
-      room = omega (arith, c.requires, c.args.leaving.ok.0, ap length is);
+      seats = ap (λ (xs : List _). c.args.all.now.seats.items ++ map (λ x. x.seat) xs) is;
+      room = omega (arith, c.requires.room, c.args.leaving.ok.0, ap length is);
+      for_seats = omega (arith, c.requires.for_seats, c.args.leaving.ok.0, ap length is);
       forgot = subst P (sym is) (λ x. x, λ x. x);
     }
 
@@ -29,6 +31,7 @@ loop-left-preserved g c =
       amount = sum_step _ _ _ _ _ _ _ I.amount is c.take.ensures.amount;
       noted = noted_step _ _ _ _ _ _ _ I.noted is c.in_ok-take.ensures.noted;
       shelves = map_step _ _ _ _ _ _ _ I.shelves is c.in_ok-take.ensures.shelves;
+      seats = map_step _ _ _ _ _ _ _ I.seats is c.in_ok-take.ensures.seats;
       room = omega (
         arith,
         I.room,
@@ -38,6 +41,16 @@ loop-left-preserved g c =
         c.take.ensures.room,
         c.loop-left.all.shelves.ok.0,
         c.take.new.all.shelves.ok.0,
+      );
+      for_seats = omega (
+        arith,
+        I.for_seats,
+        ap length is,
+        ap length c.in_ok-take.ensures.seats,
+        length-append c.loop-left.all.seats.items (c.in-Some.left.seat ∷ []),
+        c.take.ensures.for_seats,
+        c.loop-left.all.seats.ok.0,
+        c.take.new.all.seats.ok.0,
       );
       forgot = all_step (λ x. x.forgotten ≡ 0) _ _ _ _ _ _ I.forgot is c.take.ensures.forgot;
     }
@@ -54,6 +67,9 @@ returns-in_err-take-clause-noted g c = if_refused c.from_residual.result _ _ c.f
 pub returns-in_err-take-clause-shelves : goal.returns-in_err-take-clause-shelves
 returns-in_err-take-clause-shelves g c = if_refused c.from_residual.result _ _ c.from_residual.ensures.1
 
+pub returns-in_err-take-clause-seats : goal.returns-in_err-take-clause-seats
+returns-in_err-take-clause-seats g c = if_refused c.from_residual.result _ _ c.from_residual.ensures.1
+
 pub returns-in_err-take-clause-forgot : goal.returns-in_err-take-clause-forgot
 returns-in_err-take-clause-forgot g c = if_refused c.from_residual.result _ _ c.from_residual.ensures.1
 
@@ -68,6 +84,9 @@ returns-clause-noted g c = noted_end _ _ _ _ c.loop-left.invariant.noted (no_ite
 
 pub returns-clause-shelves : goal.returns-clause-shelves
 returns-clause-shelves g c = map_end _ _ _ _ c.loop-left.invariant.shelves (no_items c.loop-left.left-iterator.rest.items (omega (arith, c.in-None.ensures.steps.0, c.loop-left.left-iterator.rest.ok.0)))
+
+pub returns-clause-seats : goal.returns-clause-seats
+returns-clause-seats g c = map_end _ _ _ _ c.loop-left.invariant.seats (no_items c.loop-left.left-iterator.rest.items (omega (arith, c.in-None.ensures.steps.0, c.loop-left.left-iterator.rest.ok.0)))
 
 pub returns-clause-forgot : goal.returns-clause-forgot
 returns-clause-forgot g c = all_end (λ x. x.forgotten ≡ 0) _ _ _ c.loop-left.invariant.forgot (no_items c.loop-left.left-iterator.rest.items (omega (arith, c.in-None.ensures.steps.0, c.loop-left.left-iterator.rest.ok.0)))

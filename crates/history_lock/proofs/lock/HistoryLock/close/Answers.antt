@@ -32,4 +32,4 @@ returns g c =
     let found : c.exchange.result ≡ Some took.value =
     sym (ap (λ xs. slot_in xs (Some took.value)) (ap (λ m. m.1) (sym took.after_is) ∙ c.exchange.ensures.2)) in
     let same : took.value ≡ c.unwrap.result = ap (λ x. some_in x took.value) (sym found ∙ c.unwrap.ensures) in
-    record { log = took.log; told = subst (g.T.Telling.tells took.log) same took.told; true_of = took.claims }
+    record { log = took.log; told = subst (g.T.Telling.tells took.log) same took.told; true_of = took.claims; apart = took.apart }

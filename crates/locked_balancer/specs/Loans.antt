@@ -1,0 +1,19 @@
+-- What is told of a desk that is lent.
+use Rattle.std.specs.Prelude.{ℕ, false, [], Option, Some, None}
+use Rattle.std.specs.Borrow.{MutBor}
+use Rattle.balancer_core.specs.Desks.{DeskState}
+use Rattle.locked_balancer.specs.Histories.{SeatNote, no_seat}
+use Rattle.locked_balancer.specs.SharedDesks.{shared_desk}
+
+-- which desk is lent, what it tells as each desk does, and its seat
+abbrev pub name_in : {B : Type 0} → Option (MutBor B) → ℕ
+name_in None = 0
+name_in (Some d) = d.ghost_name
+
+abbrev pub state_in : {B : Type 0} → (B → DeskState) → Option (MutBor B) → DeskState
+state_in state None = shared_desk [] 0 [] [] 0 0 0 0 false
+state_in state (Some d) = state d.now
+
+abbrev pub seat_in : {B : Type 0} → (B → SeatNote) → Option (MutBor B) → SeatNote
+seat_in seat None = no_seat
+seat_in seat (Some d) = seat d.now

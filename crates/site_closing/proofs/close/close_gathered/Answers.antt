@@ -1,0 +1,19 @@
+-- What the comparison says of what was gathered.
+use Rattle.std.proofs.Common.{refl, subst, sym}
+use Rattle.site_closing.specs.Closings.{AreUncut, kept_from}
+use Rattle.balancer_core.proofs.HoldLaws.{of_error}
+use Rattle.site_closing.proofs.CloseLaws.{close_error, differs_from, once_from}
+use Rattle.site_closing.proofs.close.close_gathered.Goals as goal
+
+pub returns-in_err-compare-clause-differs : goal.returns-in_err-compare-clause-differs
+returns-in_err-compare-clause-differs g c =
+    of_error c.from_residual.result c.in_err-compare.field-0.0 _ c.from_residual.ensures.1
+    (close_error _ _ c.in_err-compare.field-0.0
+    (λ d is. differs_from g.L.SiteName.sizes g.L.SiteName.firsts c.args.all.share.amount _ c.args.all.forgot _ c.args.all.noted.items _ c.end_site-books.result.0 c.as_slice.result.now d
+    (λ e. e) refl c.as_slice.ensures c.end_site-books.ensures.sited c.end_site-books.ensures.amount refl is)
+    c.in_err-compare.ensures.differs)
+
+pub returns-clause-once : goal.returns-clause-once
+returns-clause-once g c =
+    once_from c.args.all.forgot _ c.args.all.noted.items _ c.end_site-books.result.0 c.as_slice.result.now
+    (λ e. e) refl c.as_slice.ensures c.in_ok-compare.ensures.once

@@ -1,0 +1,19 @@
+-- What was gathered, told of what the desks left.
+use Rattle.std.proofs.Common.{◌≡◌, List, subst, sym}
+use Rattle.std.specs.List.{All}
+use Rattle.std.proofs.lemmas.List.Elements.{All-map}
+use Rattle.locked_balancer.specs.Histories.{SeatNote}
+use Rattle.site_closing.proofs.CloseLaws.{differs_left, err_left}
+use Rattle.site_closing.proofs.close.close_own_desks.Goals as goal
+
+pub returns-clause-differs : goal.returns-clause-differs
+returns-clause-differs g c =
+    err_left _ _ c.close_gathered.result
+    (λ d is. (differs_left g.L.SiteName.sizes g.L.SiteName.firsts _ _ _ _ _ _ d c.in_ok-gather.ensures.forgot.0 c.in_ok-gather.ensures.noted c.in_ok-gather.ensures.amount is).1)
+    c.close_gathered.ensures.differs
+
+-- Their seats are those of the desks.
+pub close_gathered-requires-clause-here : goal.close_gathered-requires-clause-here
+close_gathered-requires-clause-here g c =
+    subst (λ (ss : List SeatNote). All (λ s. s.lock ≡ c.args.site.lock.table.shared.table_id) ss) (sym c.in_ok-gather.ensures.seats)
+    (All-map (λ (s : SeatNote). s.lock ≡ c.args.site.lock.table.shared.table_id) _ _ c.requires.here)
