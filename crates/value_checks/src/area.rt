@@ -1,6 +1,6 @@
 //! What the rows of each file are about.
 
-use crate::{journals, openings, values, verdicts};
+use crate::{indexes, journals, openings, values, verdicts};
 use anyhow::Result;
 use check_lines::judging::{self, judge_files};
 use jk_io::NoMemory;
@@ -10,13 +10,15 @@ use std::rt::Files;
 /// What the rows of a file are about.
 enum Subject {
     Values,
+    Indexes,
     Openings,
     Journals,
     Verdicts,
 }
 
-static FILES: [(&str, Subject); 4] = [
+static FILES: [(&str, Subject); 5] = [
     ("value/values.txt", Subject::Values),
+    ("value/indexes.txt", Subject::Indexes),
     ("value/openings.txt", Subject::Openings),
     ("value/journals.txt", Subject::Journals),
     ("value/verdicts.txt", Subject::Verdicts),
@@ -26,6 +28,7 @@ impl judging::Subject for Subject {
     fn judge(&self, alloc: Global, row: &str, shown: &mut String) -> Result<u64, NoMemory> {
         match self {
             Subject::Values => values::judge(alloc, row, shown),
+            Subject::Indexes => indexes::judge(alloc, row, shown),
             Subject::Openings => openings::judge(alloc, row, shown),
             Subject::Journals => journals::judge(alloc, row, shown),
             Subject::Verdicts => verdicts::judge(alloc, row, shown),

@@ -1,5 +1,5 @@
-//! Makes single calls of the balancer, judges openings, reads and checks journals' texts, row by row, and shows each line
-//! that comes out otherwise.
+//! Makes single calls of the balancer, asks an index, judges openings, reads and checks journals' texts, row by row, and
+//! shows each line that comes out otherwise.
 //!
 //! What the rows of crates/checks/data/value want comes from the rules, worked out by hand. How a row is written stands in
 //! `check_lines`, and which lines it has at the head of each file.
@@ -7,6 +7,7 @@
 
 mod area;
 mod configs;
+mod indexes;
 mod journals;
 mod openings;
 mod states;
