@@ -8,6 +8,8 @@ hand from packets and lines.
     python3 vectors/sessions.py sessions > crates/checks/data/session/sessions.txt
     python3 vectors/sessions.py failing > crates/checks/data/session/failing.txt
     python3 vectors/sessions.py replies > crates/checks/data/session/replies.txt
+    python3 vectors/sessions.py places > crates/checks/data/session/places.txt
+    python3 vectors/sessions.py member_places > crates/checks/data/session/member_places.txt
 """
 import re
 import sys
@@ -205,7 +207,8 @@ class Row:
         return self.line("session", links, spelled(self.client))
 
     def of_member(self):
-        return self.line("reply", spelled(self.client), spelled(self.links[0]))
+        first, *others = map(spelled, self.links)
+        return self.line("reply", " & ".join([spelled(self.client), *others]), first)
 
 
 ONE = "worker.list=w1\nworker.w1.retries=1\n"
@@ -567,6 +570,34 @@ def replies():
         yield done("", ways=f"write@{place}", **{**unserved, "talks": [(0, forward()[:place], False)]})
 
 
+def place(number, what, member=False, *args, **more):
+    """A row of `places`; with `member` it is one whose first link has the way."""
+    row = balanced(f"{number}. {what}", [HI, HI], *args, **more)
+    row.by_member = member
+    return row
+
+
+def places():
+    """One call fails at each place in turn, in a session of one request to a balancer with the members a and b."""
+    by_b = dict(rows=["GET / 200 2 b"], desk="next 4 a error b ok")
+    sent, lost = [on(0, kept=False), on(1)], [on(0, kept=False)]
+    bad = dict(ends=own_end(0, 502), gets=own(502), rows=["GET / 502 16 -"], desk="next 2 a error b ok")
+    gone = dict(ends="ClientFault { requests: 0 }", rows=[], desk="next 2 a ok b ok", faults=1)
+    yield "one call fails at each place in turn"
+    yield place(1, "the client's read at 0", False, [], "ClientFault { requests: 0 }", b"", [], "next 0 a ok b ok", 0, ways="read@0", faults=1)
+    unsent = [on(0, kept=False, sent=False), on(1)]
+    yield place(2, "the dial to a", False, unsent, options=0, words="dial=0", **by_b)
+    yield place(3, "the write to a at 0, since the packet wasn't written whole", True, unsent, options=1, ways="write@0", **by_b)
+    yield place(4, "the read from a at 0", True, sent, options=0, ways="read@0", **by_b)
+    yield place(4, "with options 1", True, lost, options=1, ways="read@0", **bad)
+    yield place(5, "the read from a at 20", True, sent, options=0, ways="read@20", **by_b)
+    yield place(5, "with options 2", True, lost, options=2, ways="read@20", **bad)
+    yield place(6, "the read from a at 30", True, lost, closed(0, "Cut"), rows=["GET / 200 2 a"], options=0, ways="read@30", desk="next 2 a error b ok")
+    for number, at in ((7, 0), (8, 17)):
+        yield place(number, f"the write to the client at {at}", False, [on(0)], gets=reply()[:at], options=0, ways=f"write@{at}", **gone)
+        yield place(number, "with options 4", False, lost, gets=reply()[:at], options=4, ways=f"write@{at}", **gone)
+
+
 SESSIONS = """# Sessions of one client, by RFC 9112, the AJPv1.3 reference, the Tomcat Connectors reference and docs/FORMATS.md.
 # Made by vectors/sessions.py.
 #
@@ -583,17 +614,25 @@ REPLIES = SESSIONS.replace("session WAYS | WORDS | WORKERS | MAP | LINKS | CLIEN
     "WAYS is of the client's link.", "WAYS is of the first link to a member, LINK what it has to come.").replace("LINKS what each link that is dialled has to come, ", "")
 
 
+PLACES = SESSIONS + "\n#\n# One call fails in each row. Those of the first link to a member stand in member_places.txt."
+
+MEMBER_PLACES = REPLIES.replace("| CLIENT |", "| CLIENT & LINKS |").replace("CLIENT what the client sends.", "CLIENT what the client sends, LINKS what each link "
+                                "after the first has to come.") + "\n#\n# One call of the first link fails in each row. Those of the client, and the dial, stand in places.txt."
+
+
 def main(what):
-    parts = {"sessions": [plain_sessions, bodies, heads, others, status_workers, waiting], "failing": [failing], "replies": [replies]}[what]
-    print(REPLIES if what == "replies" else SESSIONS)
+    parts = {"sessions": [plain_sessions, bodies, heads, others, status_workers, waiting], "failing": [failing], "replies": [replies], "places": [places], "member_places": [places]}[what]
+    print({"replies": REPLIES, "places": PLACES, "member_places": MEMBER_PLACES}.get(what, SESSIONS))
     for part in parts:
         for row in part():
             if isinstance(row, str):
                 print(f"\n# {row}")
                 continue
+            if "places" in what and row.by_member != (what == "member_places"):
+                continue
             if row.name:
                 print(f"# {row.name}")
-            print(short(row.of_member() if what == "replies" else row.of_client()))
+            print(short(row.of_member() if what in ("replies", "member_places") else row.of_client()))
 
 
 if __name__ == "__main__":

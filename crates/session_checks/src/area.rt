@@ -17,12 +17,14 @@ enum Area {
     Members,
 }
 
-static FILES: [(&str, Area); 5] = [
+static FILES: [(&str, Area); 7] = [
     ("talk/containers.txt", Area::Containers),
     ("talk/talks.txt", Area::Talks),
     ("session/sessions.txt", Area::Clients),
     ("session/failing.txt", Area::Clients),
     ("session/replies.txt", Area::Members),
+    ("session/places.txt", Area::Clients),
+    ("session/member_places.txt", Area::Members),
 ];
 
 impl judging::Area for Area {

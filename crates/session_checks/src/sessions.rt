@@ -75,6 +75,11 @@ pub fn tell_member(
     tell(alloc, row, out)
 }
 
+/// What the client of a row sends whose last bytes are those of the first link, and what the links after it have to come.
+fn sides_of(field: &str) -> (&str, &str) {
+    field.split_once(" & ").unwrap_or((field, "-"))
+}
+
 /// The number after this word of a row; None where the word isn't there.
 fn said(words: &str, word: &str) -> Option<u64> {
     let (_, rest) = words.split_once(word)?;
@@ -98,7 +103,8 @@ fn client_with(alloc: Global, text: &str, write: Option<u64>) -> Result<MemLink,
 /// What the client of a row sends, and what goes to it.
 fn line_of(alloc: Global, row: Row<'_>) -> Result<MemLink, NoMemory> {
     if row.of_member {
-        client_with(alloc, row.fields[4], said(row.fields[1], "client="))
+        let (text, _) = sides_of(row.fields[4]);
+        client_with(alloc, text, said(row.fields[1], "client="))
     } else {
         link_of(alloc, row.bytes, row.way)
     }
@@ -138,7 +144,8 @@ fn push_list(alloc: Global, links: &mut MemLinkList, list: &str) -> Result<(), N
 
 fn push_links(alloc: Global, links: &mut MemLinkList, row: Row<'_>) -> Result<(), NoMemory> {
     if row.of_member {
-        push_bytes(alloc, links, row)
+        push_bytes(alloc, links, row)?;
+        push_list(alloc, links, sides_of(row.fields[4]).1)
     } else {
         push_list(alloc, links, row.fields[4])
     }
