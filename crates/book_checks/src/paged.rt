@@ -4,7 +4,7 @@ use balancer_core::Book;
 use check_lines::begin::named_opening;
 use jk_io::{Bytes, NoMemory};
 use jk_model::Method;
-use status_page::{BalancerType, PageList, PagePart, render};
+use status_page::{AddressList, BalancerType, PageList, PagePart, render};
 use std::alloc::Global;
 
 /// Balancers that are to stand on a page.
@@ -35,11 +35,13 @@ fn part_of(
     method: Method,
     book: &Book,
 ) -> Result<PagePart, NoMemory> {
+    let view = book.view()?;
     Ok(PagePart {
         type_,
         name,
         method,
-        view: book.view()?,
+        addresses: AddressList::new(view.rows.allocator()),
+        view,
     })
 }
 

@@ -20,9 +20,9 @@ use Rattle.ajp_talk.specs.Replies.{so_far_of_talk}
 use Rattle.http_out.specs.Own.{own_bytes, own_of}
 use Rattle.http_out.specs.declared.own_answers.Own.{Own}
 use Rattle.ajp_talk.specs.declared.ending.Told.{Told}
-use Rattle.status_page.specs.Page.{page_of}
+use Rattle.status_page.specs.Mimes.{mime_of}
 use Rattle.status_page.specs.declared.page.PagePart.{PagePart}
-use Rattle.status_worker.specs.Pages.{page_reply}
+use Rattle.status_worker.specs.Pages.{page_reply, shown_for}
 use Rattle.site_config.specs.declared.config.Status.{Status}
 use Rattle.exchange.specs.Clients.{GetsFront, GetsLess, GetsReplyFront, plan_in}
 use Rattle.exchange.specs.Deliveries.{PutsShort}
@@ -156,7 +156,7 @@ whole_at v head last s n fresh body rows is_fresh (inr (status, m, page, at, has
   answer = _;
   gone = [];
   talks = [];
-  is = inr (status, has.parts, at, refl, ap (page_reply (is_head head) last) has.is);
+  is = inr (status, has.parts, at, refl, ap (page_reply (mime_of head.query) (is_head head) last) has.is);
   moves = writes_on s m n _ (ap (λ (x : ClientStanding). x.client) has.alone) (ap (λ (x : ClientStanding). x.inbox) has.alone)
       (ap (λ (x : ClientStanding). x.reach) has.alone) written;
   place = ap Some (sym is_fresh.place) ∙ ap (λ (b : BodyIn). Some (place_of b)) (sym same);
@@ -435,14 +435,14 @@ status_reach : (v : Visit) (head : Head) (s told m n : ClientStanding) → IsTol
 status_reach v head s told m n on asked alone =
     ap (λ (x : ClientStanding). x.reach) alone ∙ ap (λ (x : ClientStanding). x.reach) asked ∙ ap (λ (x : ClientStanding). x.reach) on.written.alone
 
-page_due : (v : Visit) (head : Head) (last : Bool) (status : Status) (parts : List PagePart) (page : List ℕ) → IsAtStatus v head status → page ≡ page_of parts
-    → IsPageAnswer v head last [] (continue_for head ++ page_reply (is_head head) last page)
-page_due v head last status parts page at is = (page_reply (is_head head) last page, refl, (status, parts, at, refl, ap (page_reply (is_head head) last) is))
+page_due : (v : Visit) (head : Head) (last : Bool) (status : Status) (parts : List PagePart) (page : List ℕ) → IsAtStatus v head status → page ≡ shown_for status head.query parts
+    → IsPageAnswer v head last [] (continue_for head ++ page_reply (mime_of head.query) (is_head head) last page)
+page_due v head last status parts page at is = (page_reply (mime_of head.query) (is_head head) last page, refl, (status, parts, at, refl, ap (page_reply (mime_of head.query) (is_head head) last) is))
 
 by_status : (v : Visit) (number : ℕ) (head : Head) (s told n : ClientStanding) (status : Status) → IsToldOn v head s told → IsAtStatus v head status
     → IsStatusBegun v status head (is_last number head) told n → Fronts v number s n
 by_status v number head s told n status on at (inl (m, page, has, begun)) =
-    a_front v number s n head [] (continue_for head ++ page_reply (is_head head) (is_last number head) page)
+    a_front v number s n head [] (continue_for head ++ page_reply (mime_of head.query) (is_head head) (is_last number head) page)
     (begun_after v head s told m n _ on (ap (λ (x : ClientStanding). x.client) has.alone) begun)
     (inr (inr (inl (page_due v head (is_last number head) status has.parts page at has.is))))
     (unasked s n (status_reach v head s told m n on has.alone begun.alone))
@@ -454,7 +454,7 @@ by_status v number head s told n status on at (inr (m, code, turned, begun)) =
 less_by_status : (v : Visit) (number : ℕ) (head : Head) (s told n : ClientStanding) (status : Status) → IsToldOn v head s told → IsAtStatus v head status
     → IsStatusLess v status head (is_last number head) told n → Lesses v number s n
 less_by_status v number head s told n status on at (inl (m, page, has, less)) =
-    a_short v number s n head [] (continue_for head ++ page_reply (is_head head) (is_last number head) page)
+    a_short v number s n head [] (continue_for head ++ page_reply (mime_of head.query) (is_head head) (is_last number head) page)
     (less_after v head s told m n _ on (ap (λ (x : ClientStanding). x.client) has.alone) less)
     (inr (page_due v head (is_last number head) status has.parts page at has.is))
     (unasked s n (status_reach v head s told m n on has.alone less.alone))

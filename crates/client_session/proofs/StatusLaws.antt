@@ -8,7 +8,7 @@ use Rattle.exchange.specs.Requests.{is_head}
 use Rattle.client_session.specs.Answers.{HasPage, IsStatusAnswer, IsStatusBegun, IsStatusLess, own_for}
 use Rattle.status_worker.specs.Commanding.{IsPageCode}
 use Rattle.status_worker.specs.Commands.{IsBroken, IsDone, TurnsAway}
-use Rattle.status_worker.specs.Pages.{IsPage}
+use Rattle.status_worker.specs.Pages.{IsPage, shown_for}
 use Rattle.client_session.specs.Requests.{Visit, visit_of}
 use Rattle.balancer_core.specs.Desks.{DeskState}
 use Rattle.status_worker.specs.Desks.{DeskSide}
@@ -20,7 +20,6 @@ use Rattle.client_session.specs.declared.ending.SessionStop.TheVariants as stop
 use Rattle.client_session.specs.declared.inquiry.Inquiry.{Inquiry}
 use Rattle.client_session.specs.declared.ending.Why.TheVariants as why
 use Rattle.status_worker.specs.declared.pages.Page.{Page}
-use Rattle.status_page.specs.Page.{page_of}
 
 -- each status of an own answer in a page's place has one
 pub page_code : (code : ℕ) → IsPageCode code → IsSome (own_of code)
@@ -67,8 +66,8 @@ own_answered v status head last s d w code (stop.Stray ticket returned_at) turne
 own_answered v status head last s d w code stop.NoMemory turned known writes = inl (own_less v status head last s d w code turned writes)
 
 has_page : (v : Visit) (status : Status) (query : Option (List ℕ)) (s : ClientStanding) (d : DeskSide) (only : Option ℕ) (head_only last : Bool) (page : Page)
-    → IsDone v.cfg v.session status query s.desk d only → (seen : IsPage v.cfg d.state only head_only last page)
-    → HasPage v status query s (asked_on s d) (page_of seen.0)
+    → IsDone v.cfg v.session status query s.desk d only → (seen : IsPage v.cfg status query d.state only head_only last page)
+    → HasPage v status query s (asked_on s d) (shown_for status query seen.0)
 has_page v status query s d only head_only last page done seen = record {
   only = only;
   done = done;
@@ -79,40 +78,40 @@ has_page v status query s d only head_only last page done seen = record {
 }
 
 page_answered : (v : Visit) (status : Status) (head : Head) (last : Bool) (s : ClientStanding) (d : DeskSide) (w : Moment) (only : Option ℕ) (page : Page)
-    → IsDone v.cfg v.session status head.query s.desk d only → IsPage v.cfg d.state only (is_head head) last page → Puts s.client w page.reply
+    → IsDone v.cfg v.session status head.query s.desk d only → IsPage v.cfg status head.query d.state only (is_head head) last page → Puts s.client w page.reply
     → IsStatusAnswer v status head last s (written_on s d w) (Ok page.len)
 page_answered v status head last s d w only page done seen puts = (
   asked_on s d,
-  page_of seen.0,
+  shown_for status head.query seen.0,
   has_page v status head.query s d only (is_head head) last page done seen,
   record { puts = rw (← seen.2) puts; alone = refl },
   seen.3,
 )
 
 page_begun : (v : Visit) (status : Status) (head : Head) (last : Bool) (s : ClientStanding) (d : DeskSide) (w : Moment) (only : Option ℕ) (page : Page)
-    → IsDone v.cfg v.session status head.query s.desk d only → IsPage v.cfg d.state only (is_head head) last page → PutsPart s.client w page.reply
+    → IsDone v.cfg v.session status head.query s.desk d only → IsPage v.cfg status head.query d.state only (is_head head) last page → PutsPart s.client w page.reply
     → IsStatusBegun v status head last s (written_on s d w)
 page_begun v status head last s d w only page done seen puts =
     inl (
       asked_on s d,
-      page_of seen.0,
+      shown_for status head.query seen.0,
       has_page v status head.query s d only (is_head head) last page done seen,
       record { puts = rw (← seen.2) puts; alone = refl },
     )
 
 page_less : (v : Visit) (status : Status) (head : Head) (last : Bool) (s : ClientStanding) (d : DeskSide) (w : Moment) (only : Option ℕ) (page : Page)
-    → IsDone v.cfg v.session status head.query s.desk d only → IsPage v.cfg d.state only (is_head head) last page → PutsLess s.client w page.reply
+    → IsDone v.cfg v.session status head.query s.desk d only → IsPage v.cfg status head.query d.state only (is_head head) last page → PutsLess s.client w page.reply
     → IsStatusLess v status head last s (written_on s d w)
 page_less v status head last s d w only page done seen puts =
     inl (
       asked_on s d,
-      page_of seen.0,
+      shown_for status head.query seen.0,
       has_page v status head.query s d only (is_head head) last page done seen,
       record { puts = rw (← seen.2) puts; alone = refl },
     )
 
 page_broken : (v : Visit) (status : Status) (head : Head) (last : Bool) (s : ClientStanding) (d : DeskSide) (w : Moment) (only : Option ℕ) (page : Page) (stop' : SessionStop)
-    → IsDone v.cfg v.session status head.query s.desk d only → IsPage v.cfg d.state only (is_head head) last page
+    → IsDone v.cfg v.session status head.query s.desk d only → IsPage v.cfg status head.query d.state only (is_head head) last page
     → WritesPart {T = Unit {0}} page.reply s.client w (Err stop') → IsStatusAnswer v status head last s (written_on s d w) (Err stop')
 page_broken v status head last s d w only page (stop.Closed why') done seen writes = absurd writes
 page_broken v status head last s d w only page stop.ClientFault done seen writes =
@@ -137,14 +136,14 @@ unseen_at v status head last s seen now clock only same done =
     (nothing_seen v status head last s (side seen clock) only done)
 
 answered_at : (v : Visit) (status : Status) (head : Head) (last : Bool) (s : ClientStanding) (seen now : DeskState) (clock : Option (List ℕ)) (w : Moment) (only : Option ℕ) (page : Page) → now ≡ seen
-    → IsDone v.cfg v.session status head.query s.desk (side seen clock) only → IsPage v.cfg seen only (is_head head) last page → Puts s.client w page.reply
+    → IsDone v.cfg v.session status head.query s.desk (side seen clock) only → IsPage v.cfg status head.query seen only (is_head head) last page → Puts s.client w page.reply
     → IsStatusAnswer v status head last s (written_on s (side now clock) w) (Ok page.len)
 answered_at v status head last s seen now clock w only page same done is_seen puts =
     subst (λ (d : DeskState). IsStatusAnswer v status head last s (written_on s (side d clock) w) (Ok page.len)) (sym same)
     (page_answered v status head last s (side seen clock) w only page done is_seen puts)
 
 broken_at : (v : Visit) (status : Status) (head : Head) (last : Bool) (s : ClientStanding) (seen now : DeskState) (clock : Option (List ℕ)) (w : Moment) (only : Option ℕ) (page : Page) (stop' : SessionStop) → now ≡ seen
-    → IsDone v.cfg v.session status head.query s.desk (side seen clock) only → IsPage v.cfg seen only (is_head head) last page
+    → IsDone v.cfg v.session status head.query s.desk (side seen clock) only → IsPage v.cfg status head.query seen only (is_head head) last page
     → WritesPart {T = Unit {0}} page.reply s.client w (Err stop') → IsStatusAnswer v status head last s (written_on s (side now clock) w) (Err stop')
 broken_at v status head last s seen now clock w only page stop' same done is_seen writes =
     subst (λ (d : DeskState). IsStatusAnswer v status head last s (written_on s (side d clock) w) (Err stop')) (sym same)
@@ -152,7 +151,7 @@ broken_at v status head last s seen now clock w only page stop' same done is_see
 
 -- the page was sent, or it broke off
 pub page_sent : (i : Inquiry) (status : Status) (s : ClientStanding) (seen now : DeskState) (clock : Option (List ℕ)) (w : Moment) (only : Option ℕ) (answer : Result ℕ SessionStop) → now ≡ seen
-    → IsDone i.site.now.cfg.now i.site.now.session status i.head.now.query s.desk (side seen clock) only → SendsPage i only seen s.client w answer
+    → IsDone i.site.now.cfg.now i.site.now.session status i.head.now.query s.desk (side seen clock) only → SendsPage i status only seen s.client w answer
     → Shows i status s (written_on s (side now clock) w) answer
 page_sent i status s seen now clock w only (Ok len) same done (page, is_page, puts, len_is) =
     rw len_is (answered_at (visit_of i.site.now) status i.head.now i.last s seen now clock w only page same done is_page puts)

@@ -11,7 +11,7 @@ use Rattle.http_out.specs.declared.own_answers.Own.{Own}
 use Rattle.site_config.specs.declared.balancer.Lb.{Lb}
 use Rattle.site_config.specs.declared.config.Named.TheVariants as named
 use Rattle.site_config.specs.declared.config.Status.{Status}
-use Rattle.status_page.specs.Page.{page_of}
+use Rattle.status_page.specs.Mimes.{mime_of}
 use Rattle.status_page.specs.declared.page.PagePart.{PagePart}
 use Rattle.uri_map.specs.Mounts.{terms}
 use Rattle.ajp_talk.specs.declared.ending.Told.{Told}
@@ -25,7 +25,7 @@ use Rattle.exchange.specs.WholeTalks.{IsWholeOnce}
 use Rattle.exchange.specs.declared.ending.ExchangeEnd.TheVariants as exchange_end
 use Rattle.exchange.specs.declared.ending.ExchangeEnd.{ExchangeEnd}
 use Rattle.status_worker.specs.Commands.{IsBroken, IsDone, TurnsAway}
-use Rattle.status_worker.specs.Pages.{IsPageOf, page_reply, sent_of}
+use Rattle.status_worker.specs.Pages.{IsPageOf, page_reply, sent_of, shown_for}
 use Rattle.client_session.specs.Requests.{Visit, continue_for, mounted_at}
 use Rattle.client_session.specs.Standings.{IsBegun, IsLess, IsWritten, ClientStanding, with_body}
 use Rattle.client_session.specs.declared.ending.SessionStop.TheVariants as stop
@@ -115,7 +115,7 @@ pub record HasPage (v : Visit) (status : Status) (query : Option (List ℕ)) (s 
   pub alone : m ≡ record s { desk = m.desk }
   pub parts : List PagePart
   pub seen : IsPageOf v.cfg m.desk.state only parts
-  pub is : page ≡ page_of parts
+  pub is : page ≡ shown_for status query parts
 
 -- There is no page; what was asked before the refusal was done.
 pub record IsTurnedAway (v : Visit) (status : Status) (query : Option (List ℕ)) (s m : ClientStanding) (code : ℕ) : Type 0 where
@@ -125,13 +125,13 @@ pub record IsTurnedAway (v : Visit) (status : Status) (query : Option (List ℕ)
 -- Writing the page, or the own answer in its place, broke off.
 abbrev pub IsStatusBegun : Visit → Status → Head → (last : Bool) → (s n : ClientStanding) → Type 0
 IsStatusBegun v status head last s n =
-    ((m : ClientStanding) × (page : List ℕ) × HasPage v status head.query s m page × IsBegun m n (page_reply (is_head head) last page))
+    ((m : ClientStanding) × (page : List ℕ) × HasPage v status head.query s m page × IsBegun m n (page_reply (mime_of head.query) (is_head head) last page))
     ⊎ ((m : ClientStanding) × (code : ℕ) × IsTurnedAway v status head.query s m code × IsBegun m n (own_for code (is_head head)))
 
 -- Memory was wanted before the page, or the own answer in its place, was written whole.
 abbrev pub IsStatusLess : Visit → Status → Head → (last : Bool) → (s n : ClientStanding) → Type 0
 IsStatusLess v status head last s n =
-    ((m : ClientStanding) × (page : List ℕ) × HasPage v status head.query s m page × IsLess m n (page_reply (is_head head) last page))
+    ((m : ClientStanding) × (page : List ℕ) × HasPage v status head.query s m page × IsLess m n (page_reply (mime_of head.query) (is_head head) last page))
     ⊎ ((m : ClientStanding) × (code : ℕ) × IsTurnedAway v status head.query s m code × IsLess m n (own_for code (is_head head)))
 
 -- Nothing was written: memory was wanted before what was asked was done, or after it.
@@ -143,7 +143,7 @@ pub record IsStatusUnwritten (v : Visit) (status : Status) (query : Option (List
 abbrev pub IsStatusAnswer : Visit → Status → Head → (last : Bool) → (s n : ClientStanding) → Result ℕ SessionStop → Type 0
 IsStatusAnswer v status head last s n (Ok len) =
     (m : ClientStanding) × (page : List ℕ) × HasPage v status head.query s m page
-    × IsWritten m n (page_reply (is_head head) last page) × (len ≡ length (sent_of (is_head head) page))
+    × IsWritten m n (page_reply (mime_of head.query) (is_head head) last page) × (len ≡ length (sent_of (is_head head) page))
 IsStatusAnswer v status head last s n (Err (stop.Closed why.ByClient)) = ⊥
 IsStatusAnswer v status head last s n (Err (stop.Closed why.Idle)) = ⊥
 IsStatusAnswer v status head last s n (Err (stop.Closed why.Last)) = ⊥
@@ -169,7 +169,7 @@ IsAnswerAt v head last s n body body' answered.Whole rows =
     ((member : ℕ) × (told : Told) × (row : Served) × (is : IsForwarded v head last s n body body' (exchange_end.Done member told))
     × IsReplyRow head is.balancer member told row × (rows ≡ row ∷ []))
     ⊎ ((status : Status) × (m : ClientStanding) × (page : List ℕ) × IsAtStatus v head status × HasPage v status head.query s m page
-    × IsWritten m n (page_reply (is_head head) last page) × (body' ≡ body) × (rows ≡ page_row head status page ∷ []))
+    × IsWritten m n (page_reply (mime_of head.query) (is_head head) last page) × (body' ≡ body) × (rows ≡ page_row head status page ∷ []))
 IsAnswerAt v head last s n body body' (answered.Not (stop.Closed why.ByClient)) rows = ⊥
 IsAnswerAt v head last s n body body' (answered.Not (stop.Closed why.Idle)) rows = ⊥
 IsAnswerAt v head last s n body body' (answered.Not (stop.Closed why.Last)) rows = ⊥

@@ -20,9 +20,9 @@ use Rattle.site_config.specs.declared.balancer.Lb.{Lb}
 use Rattle.site_config.specs.declared.config.Named.TheVariants as named
 use Rattle.site_config.specs.declared.config.Status.{Status}
 use Rattle.site_config.specs.declared.endpoint.Endpoint.{Endpoint}
-use Rattle.status_page.specs.Page.{page_of}
+use Rattle.status_page.specs.Mimes.{mime_of}
 use Rattle.status_page.specs.declared.page.PagePart.{PagePart}
-use Rattle.status_worker.specs.Pages.{page_reply}
+use Rattle.status_worker.specs.Pages.{page_reply, shown_for}
 use Rattle.exchange.specs.OneTalk.{plan_on}
 use Rattle.exchange.specs.Requests.{is_head, plan_for}
 use Rattle.client_session.specs.Answers.{IsAtStatus, errand_at, own_for}
@@ -74,7 +74,7 @@ IsCutFor v head last talks bytes =
 abbrev pub IsPageFor : Visit → Head → (last : Bool) → List Talk → List ℕ → Type 0
 IsPageFor v head last talks bytes =
     (status : Status) × (parts : List PagePart) × IsAtStatus v head status × (talks ≡ [])
-    × (bytes ≡ page_reply (is_head head) last (page_of parts))
+    × (bytes ≡ page_reply (mime_of head.query) (is_head head) last (shown_for status head.query parts))
 
 -- 100 Continue where it is due, and then a whole reply or a page
 abbrev pub IsWholeAnswer : Visit → Head → (last : Bool) → List Talk → List ℕ → Type 0

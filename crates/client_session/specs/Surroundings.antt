@@ -68,11 +68,14 @@ abbrev pub Shows : Inquiry → Status → (s n : ClientStanding) → Result ℕ 
 Shows i status s n answer = IsStatusAnswer (visit_of i.site.now) status i.head.now i.last s n answer
 
 -- The page of what the desk shows was sent, or a front of it; or memory was wanted before.
-abbrev pub SendsPage : Inquiry → (only : Option ℕ) → DeskState → (s n : Moment) → Result ℕ SessionStop → Type 0
-SendsPage i only d s n (Ok len) = (page : Page) × IsPage i.site.now.cfg.now d only (is_head i.head.now) i.last page × Puts s n page.reply × (len ≡ page.len)
-SendsPage i only d s n (Err stop') =
+abbrev pub SendsPage : Inquiry → Status → (only : Option ℕ) → DeskState → (s n : Moment) → Result ℕ SessionStop → Type 0
+SendsPage i status only d s n (Ok len) =
+    (page : Page) × IsPage i.site.now.cfg.now status i.head.now.query d only (is_head i.head.now) i.last page
+    × Puts s n page.reply × (len ≡ page.len)
+SendsPage i status only d s n (Err stop') =
     ((stop' ≡ stop.NoMemory) × (n ≡ s))
-    ⊎ ((page : Page) × IsPage i.site.now.cfg.now d only (is_head i.head.now) i.last page × WritesPart {T = Unit {0}} page.reply s n (Err stop'))
+    ⊎ ((page : Page) × IsPage i.site.now.cfg.now status i.head.now.query d only (is_head i.head.now) i.last page
+    × WritesPart {T = Unit {0}} page.reply s n (Err stop'))
 
 -- The turn of a request whose head was read, wherever its bytes began.
 abbrev pub TurnsFrom : Visit → (number : ℕ) → Head → (s n : ClientStanding) → (puts : List Served → Type 0) → SessionTurn → Type 0

@@ -42,7 +42,7 @@ where
         query: &of.head.query,
     };
     match change(alloc, &asked, around.desk, around.clock) {
-        Ok(only) => send_page(alloc, of, only, around.desk, around.client),
+        Ok(only) => send_page(alloc, of, status, only, around.desk, around.client),
         Err(NoPage::Own(code)) => Err(write_own(code, is_head(of.head), around.client)),
         Err(NoPage::NoMemory) => Err(SessionStop::NoMemory),
     }
@@ -52,6 +52,7 @@ where
 fn send_page<B: Desk, C: Sink>(
     alloc: Global,
     of: &Inquiry,
+    status: &Status,
     only: Option<u32>,
     desk: &mut B,
     client: &mut C,
@@ -60,13 +61,18 @@ where
     B::Shown: Drop,
     requires within { IfSome only (λ lb. lb < length of.now.site.now.cfg.now.lbs) }
     requires sizes { (B.state desk.old).sizes ≡ sizes_of of.now.site.now.cfg.now.lbs }
-    ensures sent { SendsPage of.now only (B.state desk.old) (client_at C.Meanings client.old) (client_at C.Meanings client.new) result }
+    ensures sent { SendsPage of.now status.now only (B.state desk.old) (client_at C.Meanings client.old) (client_at C.Meanings client.new) result }
     ensures seen { B.state desk.new ≡ B.state desk.old }
     ensures beside { C.beside client.new ≡ C.beside client.old }
     ensures no_fewer { C.faults client.old ≤ C.faults client.new }
 {
-    let Inquiry { site, head, last } = *of;
-    let Ok(page) = page_at(alloc, site.cfg, only, is_head(head), last, desk) else {
+    let asked = PageRequest {
+        cfg: of.site.cfg,
+        session: of.site.session,
+        status,
+        query: &of.head.query,
+    };
+    let Ok(page) = page_at(alloc, &asked, only, is_head(of.head), of.last, desk) else {
         return Err(SessionStop::NoMemory);
     };
     match send(page.reply.as_slice(), client) {

@@ -15,9 +15,9 @@ abbrev pub type_of : (direct : Bool) → BalancerType
 type_of true = type.Ajp13
 type_of false = type.Lb
 
--- the balancer as a status page shows it
+-- the balancer as a status page shows it; a journal knows no addresses
 abbrev pub part_of : FollowView → PagePart
-part_of v = record { type_ = type_of v.direct; name = v.name; method = v.method; view = v.view }
+part_of v = record { type_ = type_of v.direct; name = v.name; method = v.method; view = v.view; addresses = [] }
 
 -- the page of the last opening that is whole and the entries after it
 abbrev pub shown_text : Option FollowView → List ℕ

@@ -12,7 +12,7 @@ use crate::play::{Ending, Output};
 use jk_io::{Bytes, NoMemory};
 use journal_follow::{FollowError, FollowView, Follower};
 use journal_verdict::{Ruling, put_bad};
-use status_page::{BalancerType, PageList, PagePart, render};
+use status_page::{AddressList, BalancerType, PageList, PagePart, render};
 use std::alloc::Global;
 
 fn type_of(direct: bool) -> BalancerType
@@ -25,8 +25,8 @@ fn type_of(direct: bool) -> BalancerType
     }
 }
 
-/// The balancer as a status page shows it.
-fn part_of(view: FollowView) -> PagePart
+/// The balancer as a status page shows it; a journal knows no addresses.
+fn part_of(alloc: Global, view: FollowView) -> PagePart
     ensures { result ≡ part_of view }
 {
     PagePart {
@@ -34,6 +34,7 @@ fn part_of(view: FollowView) -> PagePart
         name: view.name,
         method: view.method,
         view: view.view,
+        addresses: AddressList::new(alloc),
     }
 }
 
@@ -45,7 +46,7 @@ fn told(alloc: Global, shown: Option<FollowView>) -> Result<Bytes, NoMemory>
         return Bytes::from_slice(alloc, b"no opening\n");
     };
     let mut parts = PageList::new(alloc);
-    parts.push(part_of(view))?;
+    parts.push(part_of(alloc, view))?;
     render(alloc, &parts)
 }
 

@@ -4,10 +4,16 @@ pub mod Commands
 pub mod Effects
 pub mod Escapes
 pub mod Fields
+pub mod Form
 pub mod Lines
+pub mod Marks
 pub mod Meaning
+pub mod Metrics
+pub mod Mimes
 pub mod Names
 pub mod Page
+pub mod Shown
+pub mod Table
 pub mod Targets
 pub mod Values
 pub mod Words

@@ -29,3 +29,16 @@ state_word state.Ok = codes "ok"
 state_word (state.Error at) = codes "error"
 state_word state.Recover = codes "recover"
 state_word (state.Probe ticket) = codes "probe"
+
+-- ---- in words, as the table has them
+
+abbrev pub activation_word : Activation → List ℕ
+activation_word activation.Active = codes "active"
+activation_word activation.Disabled = codes "disabled"
+activation_word activation.Stopped = codes "stopped"
+
+abbrev pub state_phrase : MemberState → List ℕ
+state_phrase state.Ok = codes "ok"
+state_phrase (state.Error at) = codes "in error"
+state_phrase state.Recover = codes "to be tried again"
+state_phrase (state.Probe ticket) = codes "on trial"

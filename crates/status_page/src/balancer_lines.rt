@@ -2,22 +2,12 @@
 ghost use Rattle.std.specs.Prelude.{◌≡◌, ◌++◌, OnOk};
 ghost use Rattle.std.specs.List.{flat_map};
 ghost use Rattle.status_page.specs.Page.{balancer_line, member_line, names_of, part_lines};
-ghost use Rattle.status_page.specs.Words.{type_word};
 
 use crate::member_line::put_member;
-use crate::page::{BalancerType, PagePart};
-use crate::words::{method_letter, put_number, put_word};
+use crate::page::PagePart;
+use crate::words::{method_letter, put_number, put_word, type_word};
 use jk_io::{Bytes, NoMemory};
 use jk_model::MemberRow;
-
-fn type_word(type_: BalancerType) -> &'static [u8]
-    ensures { result.now ≡ type_word type_ }
-{
-    match type_ {
-        BalancerType::Lb => b"lb",
-        BalancerType::Ajp13 => b"ajp13",
-    }
-}
 
 fn put_balancer(out: &mut Bytes, part: &PagePart) -> Result<(), NoMemory>
     ensures { OnOk result (out.new ≡ out.old ++ balancer_line part.now) }

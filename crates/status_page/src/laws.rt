@@ -1,6 +1,6 @@
 //! What the definitions mean, as functions without a body whose contracts are laws.
-ghost use Rattle.std.specs.Prelude.{◌≡◌, ℕ, ◌+◌, ◌<◌, false, List, [], ◌∷◌, ◌++◌, length, None, Some, All, codes, count_by, sum_by};
-ghost use Rattle.std.specs.List.{join_with_byte};
+ghost use Rattle.std.specs.Prelude.{◌≡◌, ℕ, ◌+◌, ◌<◌, true, false, List, [], ◌∷◌, ◌++◌, length, None, Some, All, codes, count_by, sum_by};
+ghost use Rattle.std.specs.List.{join_with_byte, list_all};
 ghost use Rattle.percent_encoding.specs.declared.ascii_set.AsciiSet.{AsciiSet};
 ghost use Rattle.status_page.specs.declared.command.StatusCommand.{StatusCommand};
 ghost use Rattle.status_page.specs.declared.field.Field.{Field};
@@ -11,6 +11,7 @@ ghost use Rattle.status_page.specs.Asking.{IsAsked, fields_for};
 ghost use Rattle.status_page.specs.Commands.{AreGiven, Asks};
 ghost use Rattle.status_page.specs.Fields.{field_of, fields_of, parts_of};
 ghost use Rattle.status_page.specs.Lines.{IsShownPart, line_count, lines_of_part};
+ghost use Rattle.status_page.specs.Marks.{html_text, is_no_line_end, is_no_mark, label_read, label_text};
 ghost use Rattle.status_page.specs.Meaning.{command_in, meaning_of};
 ghost use Rattle.status_page.specs.Names.{has_name, texts_of};
 ghost use Rattle.status_page.specs.Page.{page_of};
@@ -65,4 +66,12 @@ pub fn pages_have_a_line_for_each()
     ensures lines { (parts : List PagePart) → All IsShownPart parts
         → line_count (page_of parts) ≡ 1 + sum_by lines_of_part parts }
     ensures none { page_of [] ≡ codes "jk status\n" }
+{}
+
+/// No text reaches the table with a `<`, a `>` or a quote of its own, and no label ends early: its value has no line end,
+/// and is read back as the text.
+pub fn texts_have_no_marks()
+    ensures table { (text : List ℕ) → list_all is_no_mark (html_text text) ≡ true }
+    ensures lines { (text : List ℕ) → list_all is_no_line_end (label_text text) ≡ true }
+    ensures label { (text : List ℕ) → label_read (label_text text) ≡ text }
 {}

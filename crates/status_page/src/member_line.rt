@@ -6,7 +6,8 @@ use crate::words::{activation_letter, put_number, put_word, state_word};
 use jk_io::{Bytes, NoMemory};
 use jk_model::MemberRow;
 
-fn name_at(rows: &[MemberRow], place: Option<u32>) -> &[u8]
+/// The name of the member at a place, `-` for none.
+pub(crate) fn name_at(rows: &[MemberRow], place: Option<u32>) -> &[u8]
     ensures { result.now ≡ name_at (names_of rows.now) place }
 {
     match place.and_then(|place| rows.get(place as usize)) {

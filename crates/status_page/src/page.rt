@@ -1,9 +1,15 @@
 //! The page.
 ghost use Rattle.std.specs.Prelude.{◌≡◌, ◌++◌, IfOk, OnOk};
 ghost use Rattle.std.specs.List.{flat_map};
+ghost use Rattle.status_page.specs.Metrics.{metrics_page};
 ghost use Rattle.status_page.specs.Page.{page_of, part_lines};
+ghost use Rattle.status_page.specs.Shown.{shown};
+ghost use Rattle.status_page.specs.Table.{html_page};
 
 use crate::balancer_lines::put_part;
+use crate::metrics::put_metrics_page;
+use crate::mime::Mime;
+use crate::table::put_html_page;
 use jk_io::{Bytes, ListOf, NoMemory};
 use jk_model::{Method, View};
 use std::alloc::Global;
@@ -17,6 +23,16 @@ pub enum BalancerType {
     Ajp13,
 }
 
+/// Where a member is reached.
+#[derive(Drop)]
+pub struct Address {
+    pub host: Bytes,
+    pub port: u16,
+}
+
+/// One for each member, by index.
+pub type AddressList = ListOf<Address>;
+
 /// A balancer as the page shows it.
 #[derive(Drop)]
 pub struct PagePart {
@@ -24,6 +40,8 @@ pub struct PagePart {
     pub name: Bytes,
     pub method: Method,
     pub view: View,
+    /// Of its members, which the table alone shows.
+    pub addresses: AddressList,
 }
 
 /// The balancers of a page, in order.
@@ -45,4 +63,36 @@ fn put_parts(out: &mut Bytes, parts: &[PagePart]) -> Result<(), NoMemory>
         put_part(out, part)?;
     }
     Ok(())
+}
+
+/// The page of these balancers as `mime` has it; the table has forms where changes may be made.
+pub fn render_as(
+    alloc: Global,
+    mime: Mime,
+    may_change: bool,
+    parts: &PageList,
+) -> Result<Bytes, NoMemory>
+    ensures { IfOk result (λ page. page ≡ shown mime may_change parts.now) }
+{
+    match mime {
+        Mime::Txt => render(alloc, parts),
+        Mime::Html => render_table(alloc, may_change, parts),
+        Mime::Prom => render_figures(alloc, parts),
+    }
+}
+
+fn render_table(alloc: Global, may_change: bool, parts: &PageList) -> Result<Bytes, NoMemory>
+    ensures { IfOk result (λ page. page ≡ html_page may_change parts.now) }
+{
+    let mut page = Bytes::new(alloc);
+    put_html_page(&mut page, may_change, parts.as_slice())?;
+    Ok(page)
+}
+
+fn render_figures(alloc: Global, parts: &PageList) -> Result<Bytes, NoMemory>
+    ensures { IfOk result (λ page. page ≡ metrics_page parts.now) }
+{
+    let mut page = Bytes::new(alloc);
+    put_metrics_page(&mut page, parts.as_slice())?;
+    Ok(page)
 }

@@ -1,9 +1,26 @@
 //! How single values stand on the page.
 ghost use Rattle.std.specs.Prelude.{◌≡◌, ◌++◌, OnOk, codes, decimal};
-ghost use Rattle.status_page.specs.Words.{method_letter, activation_letter, state_word};
+ghost use Rattle.status_page.specs.Words.{
+  activation_letter,
+  activation_word,
+  method_letter,
+  state_phrase,
+  state_word,
+  type_word,
+};
 
+use crate::page::BalancerType;
 use jk_io::{Bytes, NoMemory, put_decimal};
 use jk_model::{Activation, MemberState, Method};
+
+pub(crate) fn type_word(type_: BalancerType) -> &'static [u8]
+    ensures { result.now ≡ type_word type_ }
+{
+    match type_ {
+        BalancerType::Lb => b"lb",
+        BalancerType::Ajp13 => b"ajp13",
+    }
+}
 
 pub(crate) fn method_letter(method: Method) -> &'static [u8]
     ensures { result.now ≡ method_letter method }
@@ -26,6 +43,16 @@ pub(crate) fn activation_letter(activation: Activation) -> &'static [u8]
     }
 }
 
+pub(crate) fn activation_word(activation: Activation) -> &'static [u8]
+    ensures { result.now ≡ activation_word activation }
+{
+    match activation {
+        Activation::Active => b"active",
+        Activation::Disabled => b"disabled",
+        Activation::Stopped => b"stopped",
+    }
+}
+
 pub(crate) fn state_word(state: MemberState) -> &'static [u8]
     ensures { result.now ≡ state_word state }
 {
@@ -34,6 +61,18 @@ pub(crate) fn state_word(state: MemberState) -> &'static [u8]
         MemberState::Error { at: _ } => b"error",
         MemberState::Recover => b"recover",
         MemberState::Probe { ticket: _ } => b"probe",
+    }
+}
+
+/// A state in words.
+pub(crate) fn state_phrase(state: MemberState) -> &'static [u8]
+    ensures { result.now ≡ state_phrase state }
+{
+    match state {
+        MemberState::Ok => b"ok",
+        MemberState::Error { at: _ } => b"in error",
+        MemberState::Recover => b"to be tried again",
+        MemberState::Probe { ticket: _ } => b"on trial",
     }
 }
 

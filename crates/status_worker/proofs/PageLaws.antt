@@ -1,5 +1,5 @@
 -- Balancers that were looked at, one after the other.
-use Rattle.std.proofs.Common.{◌≡◌, ℕ, ◌+◌, List, [], ◌∷◌, ◌++◌, ◌<◌, ◌≤◌, length, take, get_or, refl, sym, subst, arith, ap, ◌∙◌, Some}
+use Rattle.std.proofs.Common.{◌≡◌, OnOk, Result, ℕ, ◌+◌, List, [], ◌∷◌, ◌++◌, ◌<◌, ◌≤◌, length, take, get_or, refl, sym, subst, arith, ap, ◌∙◌, Some}
 use Rattle.std.proofs.lemmas.List.{append_assoc, length-take-le, take_all}
 use Rattle.std.proofs.lemmas.Option.{slice_get_read}
 use Rattle.status_worker.proofs.CommandLaws.{next_taken}
@@ -48,3 +48,10 @@ five_put r0 r1 r2 r3 r4 r5 a b c d e p1 p2 p3 p4 p5 =
     let q3 : r3 ≡ r0 ++ (a ++ b ++ c) = p3 ∙ ap (λ (r : List ℕ). r ++ c) q2 ∙ append_assoc r0 (a ++ b) c in
     let q4 : r4 ≡ r0 ++ (a ++ b ++ c ++ d) = p4 ∙ ap (λ (r : List ℕ). r ++ d) q3 ∙ append_assoc r0 (a ++ b ++ c) d in
     p5 ∙ ap (λ (r : List ℕ). r ++ e) q4 ∙ append_assoc r0 (a ++ b ++ c ++ d) e
+
+-- three pieces were put, or memory was wanted for the last
+pub three_put : {T E : Type 0} (result : Result T E) (r0 r1 r2 r3 a b c : List ℕ) → r1 ≡ r0 ++ a → r2 ≡ r1 ++ b → OnOk result (r3 ≡ r2 ++ c)
+    → OnOk result (r3 ≡ r0 ++ (a ++ b ++ c))
+three_put result r0 r1 r2 r3 a b c p1 p2 last =
+    let q2 : r2 ≡ r0 ++ (a ++ b) = p2 ∙ ap (λ (r : List ℕ). r ++ b) p1 ∙ append_assoc r0 a b in
+    subst (λ (text : List ℕ). OnOk result (r3 ≡ text)) (ap (λ (r : List ℕ). r ++ c) q2 ∙ append_assoc r0 (a ++ b) c) last

@@ -1,9 +1,14 @@
 -- The reply with a status worker's page.
-use Rattle.std.specs.Prelude.{ℕ, ◌≡◌, ◌+◌, ◌++◌, Bool, List, [], ◌∷◌, length, Option, Some, None, slice_get, codes, decimal, if◌then◌else◌}
+use Rattle.std.specs.Prelude.{ℕ, ◌≡◌, ◌+◌, ◌++◌, Bool, not, List, [], ◌∷◌, length, map, Option, Some, None, slice_get, codes, decimal, if◌then◌else◌}
 use Rattle.balancer_core.specs.Desks.{DeskState, Shows}
 use Rattle.site_config.specs.declared.balancer.Lb.{Lb}
 use Rattle.site_config.specs.declared.config.Config.{Config}
-use Rattle.status_page.specs.Page.{page_of}
+use Rattle.site_config.specs.declared.config.Status.{Status}
+use Rattle.site_config.specs.declared.endpoint.Endpoint.{Endpoint}
+use Rattle.status_page.specs.Mimes.{content_type, mime_of}
+use Rattle.status_page.specs.Shown.{shown}
+use Rattle.status_page.specs.declared.mime.Mime.{Mime}
+use Rattle.status_page.specs.declared.page.Address.{Address}
 use Rattle.status_page.specs.declared.page.BalancerType.{BalancerType}
 use Rattle.status_page.specs.declared.page.BalancerType.TheVariants as type_is
 use Rattle.status_page.specs.declared.page.PagePart.{PagePart}
@@ -13,12 +18,16 @@ use Rattle.status_worker.specs.declared.pages.Page.{Page}
 abbrev pub type_of : Lb → BalancerType
 type_of lb = if lb.book.direct then type_is.Ajp13 else type_is.Lb
 
+abbrev pub address_of : Endpoint → Address
+address_of end = record { host = end.host; port = end.port }
+
 -- the balancer as a look at it shows it
 pub record IsSeen (desk : DeskState) (place : ℕ) (lb : Lb) (part : PagePart) : Type 0 where
   pub kind : part.type_ ≡ type_of lb
   pub name : part.name ≡ lb.name
   pub method : part.method ≡ lb.book.method
   pub view : Shows desk place part.view
+  pub addresses : part.addresses ≡ map address_of lb.ends
 
 -- these balancers, which stand from this place on, as looks at them show them
 abbrev pub AreSeen : DeskState → (place : ℕ) → List Lb → List PagePart → Type 0
@@ -36,20 +45,28 @@ IsPageOf cfg desk (Some place) parts =
 abbrev pub last_line : (last : Bool) → List ℕ
 last_line last = if last then codes "Connection: close\r\n" else []
 
+-- the lines before a page's length, which tell how it is written
+abbrev pub page_type : Mime → List ℕ
+page_type mime = codes "HTTP/1.1 200 OK\r\nContent-Type: " ++ content_type mime ++ codes "\r\nContent-Length: "
+
 -- the head of the reply with a page of that length
-abbrev pub page_head : (len : ℕ) → (last : Bool) → List ℕ
-page_head len last =
-    codes "HTTP/1.1 200 OK\r\nContent-Type: text/plain\r\nContent-Length: " ++ decimal len ++ codes "\r\n" ++ last_line last ++ codes "\r\n"
+abbrev pub page_head : Mime → (len : ℕ) → (last : Bool) → List ℕ
+page_head mime len last = page_type mime ++ decimal len ++ codes "\r\n" ++ last_line last ++ codes "\r\n"
 
 -- the part of a page that is sent: none for HEAD
 abbrev pub sent_of : (head_only : Bool) → List ℕ → List ℕ
 sent_of head_only page = if head_only then [] else page
 
-abbrev pub page_reply : (head_only last : Bool) → List ℕ → List ℕ
-page_reply head_only last page = page_head (length page) last ++ sent_of head_only page
+abbrev pub page_reply : Mime → (head_only last : Bool) → List ℕ → List ℕ
+page_reply mime head_only last page = page_head mime (length page) last ++ sent_of head_only page
+
+-- the page as its query asks for it; changes may be made unless the worker is read only
+abbrev pub shown_for : Status → (query : Option (List ℕ)) → List PagePart → List ℕ
+shown_for status query parts = shown (mime_of query) (not status.read_only) parts
 
 -- the page of the balancers that were looked at, ready to be sent
-abbrev pub IsPage : Config → DeskState → Option ℕ → (head_only last : Bool) → Page → Type 0
-IsPage cfg desk only head_only last page =
-    (parts : List PagePart) × IsPageOf cfg desk only parts × (page.reply ≡ page_reply head_only last (page_of parts))
-    × (page.len ≡ length (sent_of head_only (page_of parts)))
+abbrev pub IsPage : Config → Status → (query : Option (List ℕ)) → DeskState → Option ℕ → (head_only last : Bool) → Page → Type 0
+IsPage cfg status query desk only head_only last page =
+    (parts : List PagePart) × IsPageOf cfg desk only parts
+    × (page.reply ≡ page_reply (mime_of query) head_only last (shown_for status query parts))
+    × (page.len ≡ length (sent_of head_only (shown_for status query parts)))

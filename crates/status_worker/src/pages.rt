@@ -1,14 +1,30 @@
 //! The page of a status worker, as a reply.
-ghost use Rattle.std.specs.Prelude.{◌≡◌, ◌<◌, ◌++◌, length, IfOk, IfSome, OnOk};
-ghost use Rattle.status_page.specs.Page.{page_of};
+ghost use Rattle.std.specs.Prelude.{◌≡◌, ◌<◌, ◌++◌, length, map, IfOk, IfSome, OnOk};
+ghost use Rattle.status_page.specs.Mimes.{mime_of};
 ghost use Rattle.status_worker.specs.Desks.{members_in};
-ghost use Rattle.status_worker.specs.Pages.{AreSeen, IsPage, IsPageOf, IsSeen, last_line as last_line_of, page_head, page_reply, sent_of, type_of as type_by};
+ghost use Rattle.status_worker.specs.Pages.{
+  AreSeen,
+  IsPage,
+  IsPageOf,
+  IsSeen,
+  address_of as address_by,
+  last_line as last_line_of,
+  page_head,
+  page_reply,
+  page_type,
+  sent_of,
+  shown_for,
+  type_of as type_by,
+};
 
+use crate::request::PageRequest;
 use balancer_core::Desk;
 use jk_io::{Bytes, ListOf, NoMemory, put_decimal};
 use jk_model::View;
-use site_config::{Config, Lb};
-use status_page::{BalancerType, PageList, PagePart, render};
+use site_config::{Config, Endpoint, Lb};
+use status_page::{
+    Address, AddressList, BalancerType, Mime, PageList, PagePart, read_mime, render_as,
+};
 use std::alloc::Global;
 
 fn type_of(lb: &Lb) -> BalancerType
@@ -21,6 +37,26 @@ fn type_of(lb: &Lb) -> BalancerType
     }
 }
 
+fn address_of(end: &Endpoint) -> Result<Address, NoMemory>
+    ensures { IfOk result (λ address. address ≡ address_by end.now) }
+{
+    Ok(Address {
+        host: end.host.copy()?,
+        port: end.port,
+    })
+}
+
+/// Where the members are reached.
+fn addresses_of(alloc: Global, ends: &[Endpoint]) -> Result<AddressList, NoMemory>
+    ensures { IfOk result (λ addresses. addresses ≡ map address_by ends.now) }
+{
+    let mut addresses = ListOf::new(alloc);
+    for end in ends {
+        addresses.push(address_of(end)?)?;
+    }
+    Ok(addresses)
+}
+
 /// A balancer as it is seen now.
 fn part_of(lb: &Lb, view: &View) -> Result<PagePart, NoMemory>
     ensures { IfOk result (λ part. part ≡ record {
@@ -28,6 +64,7 @@ fn part_of(lb: &Lb, view: &View) -> Result<PagePart, NoMemory>
       name = lb.now.name;
       method = lb.now.book.method;
       view = view.now;
+      addresses = map address_by lb.now.ends;
     }) }
 {
     Ok(PagePart {
@@ -35,6 +72,7 @@ fn part_of(lb: &Lb, view: &View) -> Result<PagePart, NoMemory>
         name: lb.name.copy()?,
         method: lb.book.method,
         view: view.copy()?,
+        addresses: addresses_of(lb.ends.allocator(), lb.ends.as_slice())?,
     })
 }
 
@@ -95,11 +133,20 @@ fn last_line(last: bool) -> &'static [u8]
     if last { b"Connection: close\r\n" } else { b"" }
 }
 
-/// The head of a page's reply.
-fn put_page_head(reply: &mut Bytes, len: usize, last: bool) -> Result<(), NoMemory>
-    ensures { OnOk result (reply.new ≡ reply.old ++ page_head len last) }
+/// The lines of a page's reply up to its length.
+fn put_page_type(reply: &mut Bytes, mime: Mime) -> Result<(), NoMemory>
+    ensures { OnOk result (reply.new ≡ reply.old ++ page_type mime) }
 {
-    reply.extend(b"HTTP/1.1 200 OK\r\nContent-Type: text/plain\r\nContent-Length: ")?;
+    reply.extend(b"HTTP/1.1 200 OK\r\nContent-Type: ")?;
+    reply.extend(mime.content_type())?;
+    reply.extend(b"\r\nContent-Length: ")
+}
+
+/// The head of a page's reply.
+fn put_page_head(reply: &mut Bytes, mime: Mime, len: usize, last: bool) -> Result<(), NoMemory>
+    ensures { OnOk result (reply.new ≡ reply.old ++ page_head mime len last) }
+{
+    put_page_type(reply, mime)?;
     put_decimal(reply, len as u128)?;
     reply.extend(b"\r\n")?;
     reply.extend(last_line(last))?;
@@ -108,11 +155,17 @@ fn put_page_head(reply: &mut Bytes, len: usize, last: bool) -> Result<(), NoMemo
 }
 
 /// The page's reply: its head, and its bytes unless the head alone is asked for.
-fn reply_of(alloc: Global, page: &Bytes, head_only: bool, last: bool) -> Result<Bytes, NoMemory>
-    ensures { IfOk result (λ reply. reply ≡ page_reply head_only last page.now) }
+fn reply_of(
+    alloc: Global,
+    mime: Mime,
+    page: &Bytes,
+    head_only: bool,
+    last: bool,
+) -> Result<Bytes, NoMemory>
+    ensures { IfOk result (λ reply. reply ≡ page_reply mime head_only last page.now) }
 {
     let mut reply = Bytes::new(alloc);
-    put_page_head(&mut reply, page.len(), last)?;
+    put_page_head(&mut reply, mime, page.len(), last)?;
     if !head_only {
         reply.extend(page.as_slice())?;
     }
@@ -133,22 +186,41 @@ pub struct Page {
     pub len: u64,
 }
 
-/// The page of these balancers.
-fn page_for(alloc: Global, parts: &PageList, head_only: bool, last: bool) -> Result<Page, NoMemory>
-    ensures reply { IfOk result (λ page. page.reply ≡ page_reply head_only last (page_of parts.now)) }
-    ensures len { IfOk result (λ page. page.len ≡ length (sent_of head_only (page_of parts.now))) }
+/// How the page of this query is written.
+fn mime_of(alloc: Global, query: &Option<Bytes>) -> Result<Mime, NoMemory>
+    ensures { IfOk result (λ mime. mime ≡ mime_of query.now) }
 {
-    let page = render(alloc, parts)?;
+    match query {
+        None => read_mime(alloc, None),
+        Some(query) => read_mime(alloc, Some(query.as_slice())),
+    }
+}
+
+/// The page of these balancers.
+fn page_for(
+    alloc: Global,
+    asked: &PageRequest,
+    parts: &PageList,
+    head_only: bool,
+    last: bool,
+) -> Result<Page, NoMemory>
+    ensures reply { IfOk result (λ page. page.reply
+        ≡ page_reply (mime_of asked.now.query.now) head_only last (shown_for asked.now.status.now asked.now.query.now parts.now)) }
+    ensures len { IfOk result (λ page. page.len
+        ≡ length (sent_of head_only (shown_for asked.now.status.now asked.now.query.now parts.now))) }
+{
+    let mime = mime_of(alloc, asked.query)?;
+    let page = render_as(alloc, mime, !asked.status.read_only, parts)?;
     Ok(Page {
-        reply: reply_of(alloc, &page, head_only, last)?,
+        reply: reply_of(alloc, mime, &page, head_only, last)?,
         len: page_len(&page, head_only),
     })
 }
 
-/// The page of one balancer, or of all.
+/// The page of one balancer, or of all, written as the request asks for it.
 pub fn page_at<B: Desk>(
     alloc: Global,
-    cfg: &Config,
+    asked: &PageRequest,
     only: Option<u32>,
     head_only: bool,
     last: bool,
@@ -156,10 +228,11 @@ pub fn page_at<B: Desk>(
 ) -> Result<Page, NoMemory>
 where
     B::Shown: Drop,
-    requires within { IfSome only (λ lb. lb < length cfg.now.lbs) }
-    requires sizes { (B.state desk.old).sizes ≡ members_in cfg.now.lbs }
-    ensures page { IfOk result (IsPage cfg.now (B.state desk.old) only head_only last) }
+    requires within { IfSome only (λ lb. lb < length asked.now.cfg.now.lbs) }
+    requires sizes { (B.state desk.old).sizes ≡ members_in asked.now.cfg.now.lbs }
+    ensures page { IfOk result (λ page. IsPage asked.now.cfg.now asked.now.status.now asked.now.query.now (B.state desk.old) only head_only last page) }
     ensures same { B.state desk.new ≡ B.state desk.old }
 {
-    page_for(alloc, &parts_of(alloc, cfg, only, desk)?, head_only, last)
+    let parts = parts_of(alloc, asked.cfg, only, desk)?;
+    page_for(alloc, asked, &parts, head_only, last)
 }
