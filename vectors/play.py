@@ -8,6 +8,8 @@
     play.py large SEED               prints a script of up to 2,000 calls of every kind, of up to 64 members
     play.py rows                     prints the long and the large scripts with their output, as rows of plain_checks:
                                      vectors/play.py rows > crates/plain_checks/data/plain/plays.txt
+    play.py pairs                    prints 32,768 choices, each given back, twice from one opening, as the rows of
+                                     book_checks: vectors/play.py pairs > crates/checks/data/book/pairs.txt
 
 So the program is compared with a second reading of the rules, and not with itself. A balancer that a script starts has the
 rules of version 2, and its asks have no masks, so version 1 and masks stand in no script.
@@ -506,6 +508,46 @@ def rows():
     return "\n".join(told + [row(f"large {seed}", large(seed)) for seed in LARGE])
 
 
+def lend(book, at, kind):
+    """A fresh session's choice that is given back: the member, and the number of the return."""
+    ticket, name = book.select(at, None, True).split()[:2]
+    book.give_back(at, int(ticket), kind, 0)
+    return "abcd".index(name), int(ticket)
+
+
+def played(book):
+    """The lines of 32,768 pairs with a maintenance after each quarter."""
+    first = book.next
+    for at in (60, 120, 300, 360):
+        for _ in range(8192):
+            lend(book, at - 60, "done")
+        yield f"pairs 8192 1 {at - 60} return 0 done 0 -> done"
+        yield f"e {book.next} 1 {at} maintain done"
+        book.maintain_if_due(at)
+    yield "show -> " + "".join(f"{line}\\n" for line in book.show())
+    yield f"next -> {book.next}"
+    yield f"kept -> {book.next - first}"
+
+
+def pairs():
+    yield "# Many choices, and the same again from the opening that the journal was cut at. Made by vectors/play.py pairs. How a row is"
+    yield "# written stands at the head of books.txt; `pairs TIMES` before a call is `lend` so many times.\n"
+    yield "row 32,768 choices that are given back leave what a Book has that goes on from their opening"
+    factors = (1, 2, 3, 5)
+    book = Balancer(("R", True, False, 60, 60), [Member(name, factor, "A", 0, None, 64) for name, factor in zip("abcd", factors)], 0)
+    yield "lb lb R 1 0 0 60 60 4"
+    yield from (f"member {m.name} {m.name} {m.factor} 0 A - 64 ok 0" for m in book.members)
+    yield "from 0 0 0 -\nstart"
+    for kind in ("done", "failed", "done"):
+        member, ticket = lend(book, 0, kind)
+        yield f"lend 1 0 return 0 {kind} 0 -> member {member}, e {ticket + 1} 1 0 return {ticket} {kind} 0 done"
+    yield f"cut -> {book.next} from 0"
+    lines = list(played(book))
+    yield from lines
+    yield "reopen"
+    yield from lines
+
+
 def main(words):
     if words == ["run"]:
         out, status = run(sys.stdin.read())
@@ -513,6 +555,9 @@ def main(words):
         return status
     if words == ["rows"]:
         print(rows(), end="")
+        return 0
+    if words == ["pairs"]:
+        print("\n".join(pairs()))
         return 0
     if words[:1] == ["large"] and len(words) == 2:
         print("\n".join(large(int(words[1]))))

@@ -13,8 +13,9 @@ enum Subject {
     Queries,
 }
 
-static FILES: [(&str, Subject); 3] = [
+static FILES: [(&str, Subject); 4] = [
     ("book/books.txt", Subject::Books),
+    ("book/pairs.txt", Subject::Books),
     ("book/pages.txt", Subject::Books),
     ("book/queries.txt", Subject::Queries),
 ];

@@ -9,7 +9,7 @@ use balancer_checks::cite_bounds;
 use balancer_core::{Book, Picked};
 use check_lines::begin::resume;
 use check_lines::calls::{asked_call, call_of, outcome_of};
-use check_lines::texts::{first_word, put_number, say};
+use check_lines::texts::{first_word, long, put_number, say};
 use jk_io::{Bytes, NoMemory};
 use jk_model::{Ask, Call, Command, Entry, Outcome, Segment, Stray};
 use play_script::put_rows;
@@ -128,6 +128,46 @@ fn tell_lent(alloc: Global, book: &mut Book, call: &str, out: &mut Bytes) -> Res
     }
 }
 
+/// As `lent`, so many times, one after the other. False where one of them isn't done.
+fn lent_often(book: &mut Book, times: u64, asked: &Entry, outcome: Outcome) -> bool
+    requires bytes { outcome.bytes ≤ MOST_BYTES }
+    requires rules { book.old.rules ≡ MODERN_RULES }
+    ensures rules { book.new.rules ≡ MODERN_RULES }
+{
+    for _ in 0..times {
+        match lent(book, asked.session, asked.at, outcome) {
+            Some((_, Ok(_))) => {}
+            _ => return false,
+        }
+    }
+    true
+}
+
+fn lend_often(book: &mut Book, times: u64, asked: &Entry) -> bool
+    requires { book.old.rules ≡ MODERN_RULES }
+    ensures { book.new.rules ≡ MODERN_RULES }
+{
+    match outcome_of(asked) {
+        Some(outcome) => lent_often(book, times, asked, outcome),
+        None => false,
+    }
+}
+
+/// Tells that `TIMES CALL` was done: so many choices, each given back.
+fn tell_pairs(alloc: Global, book: &mut Book, rest: &str, out: &mut Bytes) -> Result<bool, NoMemory>
+    requires { book.old.rules ≡ MODERN_RULES }
+    ensures { book.new.rules ≡ MODERN_RULES }
+{
+    let (times, call) = first_word(rest);
+    match (long(times), call_of(alloc, call)?) {
+        (Some(times), Some(asked)) => {
+            out.extend(b"done")?;
+            Ok(lend_often(book, times, &asked))
+        }
+        _ => Ok(false),
+    }
+}
+
 fn put_segment(segment: &Segment, out: &mut Bytes) -> Result<bool, NoMemory> {
     put_number(out, "", segment.entries.len() as u64)?;
     put_number(out, " from ", segment.opening.next)?;
@@ -242,6 +282,7 @@ impl Held {
         match word {
             "e" | "no" => tell_asked(alloc, &mut self.book, asked, out),
             "lend" => tell_lent(alloc, &mut self.book, rest, out),
+            "pairs" => tell_pairs(alloc, &mut self.book, rest, out),
             "do" => tell_query(alloc, &mut self.book, lines, rest, out),
             "cut" => tell_cut(&mut self.book, out),
             "reopen" => reopen(&mut self.book, out),
