@@ -6,5 +6,6 @@ pub mod PassLaws
 pub mod DeskLaws
 pub mod GotLaws
 pub mod CalledLaws
+pub mod RoomLaws
 pub mod NoteLaws
 pub mod CloseLaws

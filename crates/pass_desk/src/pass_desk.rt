@@ -139,7 +139,11 @@ impl<'b, 'r, R: Wait> Desk for PassDesk<'b, 'r, R> {
     };
     ghost use Rattle.balancer_core.specs.PlainLeases.{note_of};
     ghost use Rattle.jk_model.specs.declared.journal.TheConstants.{MOST_BYTES};
-    ghost use Rattle.pass_desk.specs.PassDesks.{MaySee, SeesAt, ShowsSeen, StayPasses};
+    ghost use mathlib.Core.Option.{some};
+    ghost use lib.ListN.{get_elem?};
+    ghost use Rattle.pass_desk.specs.PassDesks.{MaySee, SeesAt, ShowsSeen, StayPasses, view_of};
+    ghost use Rattle.pass_desk.specs.Rooms.{AskFits, CommandFits};
+    ghost use Rattle.pass_desk.specs.declared.pass.Pass.{Pass};
 
     type Lease = PlainLease;
 
@@ -171,6 +175,9 @@ impl<'b, 'r, R: Wait> Desk for PassDesk<'b, 'r, R> {
         // All that was seen was seen before, or is the call's own, or comes between the two.
         ensures seen { MaySee self.old self.new lb }
         ensures stay { StayPasses self.old.passes self.new.passes }
+
+        // Full exactly where all that the pass has then seen leaves no room.
+        ensures fits { (p : Pass) → get_elem? self.new.passes lb ≡ some p → AskFits (view_of p) result }
     {
         let done = choose_at(
             self.rt,
@@ -233,6 +240,9 @@ impl<'b, 'r, R: Wait> Desk for PassDesk<'b, 'r, R> {
         ensures kept { KeepsDesk self.old.desk self.new.desk }
         ensures seen { MaySee self.old self.new lb }
         ensures stay { StayPasses self.old.passes self.new.passes }
+
+        // Full and TooWide exactly where all that the pass has then seen makes them so.
+        ensures fits { (p : Pass) → get_elem? self.new.passes lb ≡ some p → CommandFits command.now (view_of p) result }
     {
         let done = command_at(
             self.rt,

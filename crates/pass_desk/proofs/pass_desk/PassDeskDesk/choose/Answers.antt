@@ -7,6 +7,9 @@ use Rattle.pass_desk.specs.PassDesks.{MaySee, PassDeskState, StayPasses, desk_va
 use Rattle.pass_desk.proofs.CalledLaws.{choose_given, choose_got, choose_origin, choose_sees}
 use Rattle.pass_desk.proofs.DeskLaws.{desk_chooses, desk_denies, keeps_desk}
 use Rattle.pass_desk.proofs.GotLaws.{at_place, desk_set, of_place, size_at, sizes_set, stay_set}
+use Rattle.pass_desk.proofs.RoomLaws.{ask_fits, fits_set}
+use Rattle.pass_desk.specs.Rooms.{AskFits}
+use Rattle.seen_history.specs.declared.pass_view.PassView.{PassView}
 use Rattle.pass_desk.proofs.pass_desk.PassDeskDesk.choose.Goals as goal
 
 pub choose_at-done-requires-clause-of : goal.choose_at-done-requires-clause-of
@@ -93,3 +96,11 @@ returns-clause-stay g c =
     (stay_set d.passes.items c.args.lb c.index_mut.result.now done.new.pass at done.ensures.of done.ensures.number
     (choose_origin v w d.lists done.new.lists _ c.args.ask.now done.result done.ensures.ok done.ensures.err)
     (choose_given v w d.lists done.new.lists _ c.args.ask.now done.result done.ensures.ok done.ensures.err))
+
+pub returns-clause-fits : goal.returns-clause-fits
+returns-clause-fits g c =
+    let lt = subst (λ (s : PassDeskState). c.args.lb < length s.desk.sizes) (sym c.self.view_is) c.requires.known in
+    let at = at_place c.self.inside.passes.items c.args.lb c.index_mut.result.now lt c.index_mut.ensures.value in
+    let done = c.choose_at-done in
+    fits_set c.self.inside.passes.items c.args.lb c.index_mut.result.now done.new.pass (λ (v : PassView). AskFits v done.result) at
+    (ask_fits (view_of c.index_mut.result.now) (view_of done.new.pass) c.self.inside.lists done.new.lists _ c.args.ask.now done.result done.ensures.ok done.ensures.err)

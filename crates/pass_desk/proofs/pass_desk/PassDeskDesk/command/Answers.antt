@@ -6,6 +6,9 @@ use Rattle.pass_desk.specs.PassDesks.{MaySee, PassDeskState, StayPasses, desk_va
 use Rattle.pass_desk.proofs.CalledLaws.{command_given, command_held, command_origin, command_sees, command_got}
 use Rattle.pass_desk.proofs.DeskLaws.{desk_commands, desk_refuses, keeps_desk}
 use Rattle.pass_desk.proofs.GotLaws.{at_place, desk_set, of_place, size_at, sizes_set, stay_set}
+use Rattle.pass_desk.proofs.RoomLaws.{command_fits, fits_set}
+use Rattle.pass_desk.specs.Rooms.{CommandFits}
+use Rattle.seen_history.specs.declared.pass_view.PassView.{PassView}
 use Rattle.pass_desk.proofs.pass_desk.PassDeskDesk.command.Goals as goal
 
 pub command_at-done-requires-clause-of : goal.command_at-done-requires-clause-of
@@ -97,3 +100,11 @@ returns-clause-stay g c =
     (stay_set d.passes.items c.args.lb c.index_mut.result.now done.new.pass at done.ensures.of done.ensures.number
     (command_origin v w d.lists done.new.lists _ c.args.command.now done.result done.ensures.ok done.ensures.err)
     (command_given v w d.lists done.new.lists _ c.args.command.now done.result done.ensures.ok done.ensures.err))
+
+pub returns-clause-fits : goal.returns-clause-fits
+returns-clause-fits g c =
+    let lt = subst (λ (s : PassDeskState). c.args.lb < length s.desk.sizes) (sym c.self.view_is) c.requires.known in
+    let at = at_place c.self.inside.passes.items c.args.lb c.index_mut.result.now lt c.index_mut.ensures.value in
+    let done = c.command_at-done in
+    fits_set c.self.inside.passes.items c.args.lb c.index_mut.result.now done.new.pass (λ (v : PassView). CommandFits c.args.command.now v done.result) at
+    (command_fits (view_of c.index_mut.result.now) (view_of done.new.pass) c.self.inside.lists done.new.lists _ c.args.command.now done.result done.ensures.ok done.ensures.err)
