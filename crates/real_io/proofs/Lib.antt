@@ -1,1 +1,2 @@
 pub mod HeldLaws
+mod HeadLaws

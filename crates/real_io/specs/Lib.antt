@@ -1,3 +1,4 @@
 pub mod Pace
 pub mod Waitless
+pub mod Heads
 pub mod Notices

@@ -9,6 +9,7 @@
 #![tactic(auto)]
 
 mod ending;
+mod heads;
 mod held_bytes;
 mod moments;
 mod notices;
@@ -23,6 +24,7 @@ mod tcp_door;
 mod tcp_link;
 
 pub use ending::Ending;
+pub use heads::{MAX_HEAD_BYTES, head_end};
 pub use held_bytes::{HELD_BYTES, HeldBytes};
 pub use moments::moment;
 pub use notices::{Notices, Tally};

@@ -7,6 +7,7 @@ use jk_io::{Bytes, NoMemory, put_decimal};
 use libc::write;
 use std::alloc::Global;
 use std::io;
+use std::sync::atomic::{AtomicU64, Ordering};
 use std::sync::{Arc, Mutex};
 
 /// The milliseconds between two lines of a kind.
@@ -55,131 +56,290 @@ fn is_due(last: Option<u64>, now: u64) -> bool
     }
 }
 
-/// A member that can't be reached.
+/// Why a member fails.
+#[derive(Clone, Copy)]
+pub(crate) enum Failure<'a> {
+    /// It can't be reached, for this reason of the system.
+    Unreached(&'a io::Error),
+    /// Its link broke, for this reason of the system.
+    Broken(&'a io::Error),
+    /// It didn't answer, or took nothing, in time.
+    Silent,
+    /// It closed its link where an answer was waited for.
+    Closed,
+}
+
+/// The name of a worker that is reached at an address.
+#[derive(Drop)]
+struct Named {
+    host: Bytes,
+    port: u16,
+    name: Bytes,
+}
+
+/// A member that failed, and wasn't seen to serve since.
 #[derive(Drop)]
 struct Lost {
     host: Bytes,
     port: u16,
+    /// It couldn't be reached; else its link failed.
+    by_dial: bool,
 }
 
-/// The members that can't be reached, and the lines that say so.
+/// The members that fail, and the lines that say so.
 #[derive(Drop)]
 struct Members {
+    names: Vec<Named>,
     lost: Vec<Lost>,
-    tally: Tally,
+    unreached: Tally,
+    failed: Tally,
+    back: Tally,
+    unkept: Tally,
 }
 
-/// What is said of members that can't be reached, and that they are back. It is shared by all dials of a front.
+/// What is said of members that fail, that they are back, and of files that can't be written. It is shared by all dials of a
+/// front, their links and its shelves.
 #[derive(Drop)]
 pub struct Notices {
     alloc: Global,
     members: Arc<Mutex<Members>>,
+    /// How many members are lost.
+    lost: Arc<AtomicU64>,
 }
 
 impl Notices {
     pub fn new(alloc: Global) -> Result<Notices, NoMemory> {
         let members = Members {
+            names: Vec::new(alloc),
             lost: Vec::new(alloc),
-            tally: Tally::new(),
+            unreached: Tally::new(),
+            failed: Tally::new(),
+            back: Tally::new(),
+            unkept: Tally::new(),
         };
         Ok(Notices {
             alloc,
             members: Arc::new(alloc, Mutex::new(members))?,
+            lost: Arc::new(alloc, AtomicU64::new(0))?,
         })
     }
 
-    /// The same ones, for another dial.
+    /// The same ones, for another dial or link.
     pub fn share(&self) -> Result<Notices, NoMemory> {
         Ok(Notices {
             alloc: self.alloc,
             members: self.members.clone()?,
+            lost: self.lost.clone()?,
         })
     }
 
-    /// A member can't be reached, for this reason of the system.
-    pub fn lost(&self, host: &Bytes, port: u16, reason: &io::Error) {
+    /// The worker of this name is reached at this address.
+    pub fn name(&self, host: &Bytes, port: u16, name: &Bytes) -> Result<(), NoMemory> {
+        match self.members.try_lock() {
+            Some(mut members) if !members.has_name(host, port, name) => {
+                let named = Named {
+                    host: host.copy()?,
+                    port,
+                    name: name.copy()?,
+                };
+                Ok(members.names.push(named)?)
+            }
+            _ => Ok(()),
+        }
+    }
+
+    /// A file can't be written, for this reason of the system, and is tried again. Want of memory leaves a line out.
+    pub fn unkept(&self, path: &str, reason: &io::Error) {
+        if let Some(mut members) = self.members.try_lock()
+            && let Some(left_out) = members.unkept.ask(moment())
+        {
+            let _ = say_unkept(self.alloc, path, reason, left_out);
+        }
+    }
+
+    // A member fails. Want of memory leaves a line out.
+    pub(crate) fn fails(&self, host: &Bytes, port: u16, failure: Failure<'_>) {
         if let Some(mut members) = self.members.try_lock() {
-            let _ = members.note_lost(self.alloc, host, port);
-            if let Some(left_out) = members.tally.ask(moment()) {
-                let _ = say_lost(self.alloc, host, port, reason, left_out);
+            let by_dial = matches!(failure, Failure::Unreached(_));
+            let _ = members.note_lost(host, port, by_dial);
+            self.lost.store(members.lost.len() as u64, Ordering::SeqCst);
+            if let Some(left_out) = members.tally_of(by_dial).ask(moment()) {
+                let _ = members.say_lost(self.alloc, host, port, failure, left_out);
             }
         }
     }
 
-    /// A member was reached.
-    pub fn reached(&self, host: &Bytes, port: u16) {
+    // A member was reached, or where `serves` is true it gave bytes, as it does where it serves.
+    pub(crate) fn is_there(&self, host: &Bytes, port: u16, serves: bool) {
+        if self.lost.load(Ordering::SeqCst) == 0 {
+            return;
+        }
         if let Some(mut members) = self.members.try_lock()
-            && members.forget(host, port)
+            && members.forget(host, port, serves)
         {
-            let _ = say_back(self.alloc, host, port);
+            self.lost.store(members.lost.len() as u64, Ordering::SeqCst);
+            if let Some(left_out) = members.back.ask(moment()) {
+                let _ = members.say_back(self.alloc, host, port, left_out);
+            }
         }
     }
 }
 
 impl Members {
-    // The place of a member that can't be reached.
+    fn has_name(&self, host: &Bytes, port: u16, name: &Bytes) -> bool {
+        self.names.iter().any(|named| named.port == port
+            && named.host == *host
+            && named.name == *name)
+    }
+
+    // Which lines a failure belongs to.
+    fn tally_of(&mut self, by_dial: bool) -> &mut Tally {
+        if by_dial {
+            &mut self.unreached
+        } else {
+            &mut self.failed
+        }
+    }
+
+    // The place of a member that is lost.
     fn place_of(&self, host: &Bytes, port: u16) -> Option<usize> {
         self.lost
             .iter()
             .position(|lost| lost.port == port && lost.host == *host)
     }
 
-    fn note_lost(&mut self, alloc: Global, host: &Bytes, port: u16) -> Result<(), NoMemory> {
-        if self.place_of(host, port).is_none() {
-            let host = Bytes::from_slice(alloc, host.as_slice())?;
-            self.lost.push(Lost { host, port })?;
+    fn note_lost(&mut self, host: &Bytes, port: u16, by_dial: bool) -> Result<(), NoMemory> {
+        match self.place_of(host, port) {
+            Some(place) if place < self.lost.len() => self.lost[place].by_dial = by_dial,
+            _ => {
+                let host = host.copy()?;
+                self.lost.push(Lost {
+                    host,
+                    port,
+                    by_dial,
+                })?;
+            }
         }
         Ok(())
     }
 
-    // Whether it couldn't be reached until now.
-    fn forget(&mut self, host: &Bytes, port: u16) -> bool {
+    // Whether it was lost until now: one whose link failed is, until it serves.
+    fn forget(&mut self, host: &Bytes, port: u16, serves: bool) -> bool {
         match self.place_of(host, port) {
-            Some(place) if place < self.lost.len() => {
+            Some(place) if place < self.lost.len() && (serves || self.lost[place].by_dial) => {
                 drop(self.lost.swap_remove(place));
                 true
             }
             _ => false,
         }
     }
+
+    // Puts the names of the workers at an address, and the address.
+    fn put_member(&self, line: &mut Bytes, host: &Bytes, port: u16) -> Result<(), NoMemory> {
+        for named in &self.names {
+            if named.port == port && named.host == *host {
+                line.extend(named.name.as_slice())?;
+                line.push(b' ')?;
+            }
+        }
+        line.extend(b"at ")?;
+        line.extend(host.as_slice())?;
+        line.push(b':')?;
+        put_decimal(line, u128::from(port))
+    }
+
+    fn say_lost(
+        &self,
+        alloc: Global,
+        host: &Bytes,
+        port: u16,
+        failure: Failure<'_>,
+        left_out: u64,
+    ) -> Result<(), NoMemory> {
+        let mut line = Bytes::from_slice(alloc, b"jkd: ")?;
+        self.put_member(&mut line, host, port)?;
+        put_failure(alloc, &mut line, failure)?;
+        end_line(&mut line, left_out)
+    }
+
+    fn say_back(
+        &self,
+        alloc: Global,
+        host: &Bytes,
+        port: u16,
+        left_out: u64,
+    ) -> Result<(), NoMemory> {
+        let mut line = Bytes::from_slice(alloc, b"jkd: ")?;
+        self.put_member(&mut line, host, port)?;
+        line.extend(b" is back")?;
+        end_line(&mut line, left_out)
+    }
 }
 
-fn put_member(line: &mut Bytes, host: &Bytes, port: u16) -> Result<(), NoMemory> {
-    line.extend(host.as_slice())?;
-    line.push(b':')?;
-    put_decimal(line, u128::from(port))
-}
-
-fn say_lost(
+fn say_unkept(
     alloc: Global,
-    host: &Bytes,
-    port: u16,
+    path: &str,
     reason: &io::Error,
     left_out: u64,
 ) -> Result<(), NoMemory> {
-    let mut line = Bytes::from_slice(alloc, b"jkd: can't reach ")?;
-    put_member(&mut line, host, port)?;
-    let reason = format!(in alloc; ": {reason}")?;
-    line.extend(reason.as_bytes())?;
+    let text = format!(in alloc;
+        "jkd: can't write {path}: {reason}; it is tried again for a minute"
+    )?;
+    let mut line = Bytes::from_vec(text.into_bytes());
+    end_line(&mut line, left_out)
+}
+
+fn put_failure(alloc: Global, line: &mut Bytes, failure: Failure<'_>) -> Result<(), NoMemory> {
+    match failure {
+        Failure::Unreached(reason) => {
+            let reason = format!(in alloc; " can't be reached: {reason}")?;
+            line.extend(reason.as_bytes())
+        }
+        Failure::Broken(reason) => {
+            let reason = format!(in alloc; " failed: {reason}")?;
+            line.extend(reason.as_bytes())
+        }
+        Failure::Silent => line.extend(b" failed: no answer in time"),
+        Failure::Closed => line.extend(b" failed: it closed the link"),
+    }
+}
+
+// Writes a line to standard error, which may be closed, with how many were left out before it.
+fn end_line(line: &mut Bytes, left_out: u64) -> Result<(), NoMemory> {
     if left_out != 0 {
         line.extend(b" (left out before: ")?;
-        put_decimal(&mut line, u128::from(left_out))?;
+        put_decimal(line, u128::from(left_out))?;
         line.push(b')')?;
     }
     line.push(b'\n')?;
-    say(&line);
-    Ok(())
-}
-
-fn say_back(alloc: Global, host: &Bytes, port: u16) -> Result<(), NoMemory> {
-    let mut line = Bytes::from_slice(alloc, b"jkd: ")?;
-    put_member(&mut line, host, port)?;
-    line.extend(b" is back\n")?;
-    say(&line);
-    Ok(())
-}
-
-// Writes a line to standard error, which may be closed.
-fn say(line: &Bytes) {
     write(2, line.as_slice());
+    Ok(())
+}
+
+/// A member, of which it is said that it fails.
+#[derive(Drop)]
+pub(crate) struct Watched {
+    notices: Notices,
+    host: Bytes,
+    port: u16,
+}
+
+impl Watched {
+    pub fn new(notices: &Notices, host: &Bytes, port: u16) -> Result<Watched, NoMemory> {
+        Ok(Watched {
+            notices: notices.share()?,
+            host: host.copy()?,
+            port,
+        })
+    }
+
+    /// It fails.
+    pub fn fails(&self, failure: Failure<'_>) {
+        self.notices.fails(&self.host, self.port, failure);
+    }
+
+    /// It gave bytes.
+    pub fn serves(&self) {
+        self.notices.is_there(&self.host, self.port, true);
+    }
 }

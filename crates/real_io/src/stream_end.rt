@@ -5,6 +5,7 @@ ghost use Rattle.real_io.specs.Waitless.{IfCame, IsWaitless};
 
 use crate::ending::Ending;
 use crate::moments::moment;
+use crate::notices::{Failure, Watched};
 use crate::pace::Pace;
 use jk_io::{Awaited, ClientLimits, IoError, Meanings, Sink};
 use libc::net as c;
@@ -54,6 +55,8 @@ pub struct StreamEnd {
     taking: Option<Pace>,
     /// When all ends at the latest, where that is told.
     ending: Option<Ending>,
+    /// The member at the other end, where it is said that it fails.
+    watched: Option<Watched>,
     /// The other side's bytes ended.
     has_ended: bool,
     failed: u64,
@@ -74,6 +77,7 @@ impl StreamEnd {
             peer: None,
             taking: None,
             ending: None,
+            watched: None,
             has_ended: false,
             failed: 0,
         }
@@ -113,8 +117,12 @@ impl StreamEnd {
         self.peer
     }
 
-    /// A member's end, which fails once all ends.
-    pub fn of_member(stream: TcpStream, ending: Option<Ending>) -> StreamEnd
+    /// A member's end, which fails once all ends. Where it is watched, it is said that it fails.
+    pub(crate) fn of_member(
+        stream: TcpStream,
+        ending: Option<Ending>,
+        watched: Option<Watched>,
+    ) -> StreamEnd
         ensures { result.failed ≡ 0 }
     {
         let mut end = StreamEnd::new(stream);
@@ -122,7 +130,17 @@ impl StreamEnd {
             end.come_back_after(SLICE_MILLIS);
         }
         end.ending = ending;
+        end.watched = watched;
         end
+    }
+
+    // Says that the member at the other end fails, unless all ends.
+    fn tell(&self, failure: Failure<'_>) {
+        if let Some(watched) = &self.watched
+            && !self.is_all_over()
+        {
+            watched.fails(failure);
+        }
     }
 
     // Has a call of the system come back after so many milliseconds. A stream that refuses this is broken.
@@ -271,6 +289,7 @@ impl StreamEnd {
         let mut waited = 0;
         for _ in 0..u64::MAX {
             if self.is_over(waited) {
+                self.tell(Failure::Silent);
                 return None;
             }
             match self.stream.read(buf) {
@@ -286,7 +305,10 @@ impl StreamEnd {
         match error.kind() {
             ErrorKind::Interrupted => Some(waited),
             ErrorKind::WouldBlock | ErrorKind::TimedOut => Some(waited.saturating_add(self.slice)),
-            _ => None,
+            _ => {
+                self.tell(Failure::Broken(error));
+                None
+            }
         }
     }
 
@@ -294,6 +316,11 @@ impl StreamEnd {
         ensures { self.new.failed ≡ self.old.failed }
     {
         self.has_ended = count == 0;
+        match &self.watched {
+            Some(watched) if count != 0 => watched.serves(),
+            Some(_) => self.tell(Failure::Closed),
+            None => {}
+        }
         if let Patience::Paced(pace) = self.patience {
             self.patience = Patience::Paced(pace.after(count as u64, moment()));
         }
@@ -325,6 +352,7 @@ impl StreamEnd {
         let mut waited = 0;
         for _ in 0..u64::MAX {
             if self.is_stuck(waited) {
+                self.tell(Failure::Silent);
                 return None;
             }
             match self.stream.write(piece) {

@@ -3,7 +3,7 @@ ghost use Rattle.std.specs.Prelude.{◌≡◌, ◌-◌};
 
 use crate::ending::Ending;
 use crate::moments::moment;
-use crate::notices::Notices;
+use crate::notices::{Failure, Notices, Watched};
 use crate::outbox::Outbox;
 use crate::passing::{is_wanting, pause};
 use crate::stream_end::StreamEnd;
@@ -32,7 +32,7 @@ pub struct TcpDial<'r, R: Net<Stream = TcpStream>> {
     keepalive: bool,
     /// When all ends at the latest, where that is told.
     ending: Option<Ending>,
-    /// Where it is said that a member can't be reached.
+    /// Where it is said that a member fails.
     notices: Option<Notices>,
     failed: u64,
 }
@@ -62,7 +62,7 @@ impl<'r, R: Net<Stream = TcpStream>> TcpDial<'r, R> {
         dial
     }
 
-    /// As `with_outbox`; and its links fail once all ends, and it is said which members can't be reached.
+    /// As `with_outbox`; and its links fail once all ends, and it is said which members fail.
     pub fn of_front(rt: &'r R, outbox: Outbox, ending: Ending, notices: Notices) -> TcpDial<'r, R>
         ensures { result.failed ≡ 0 }
     {
@@ -76,14 +76,14 @@ impl<'r, R: Net<Stream = TcpStream>> TcpDial<'r, R> {
     fn tell(&self, host: &Bytes, port: u16, answer: &io::Result<TcpStream>) {
         if let Some(notices) = &self.notices {
             match answer {
-                Ok(_) => notices.reached(host, port),
-                Err(reason) => notices.lost(host, port, reason),
+                Ok(_) => notices.is_there(host, port, false),
+                Err(reason) => notices.fails(host, port, Failure::Unreached(reason)),
             }
         }
     }
 
     // The end of a stream to a member.
-    fn end_of(&self, stream: TcpStream) -> Result<StreamEnd, NoMemory> {
+    fn end_of(&self, stream: TcpStream, host: &Bytes, port: u16) -> Result<StreamEnd, NoMemory> {
         if self.keepalive {
             keep_alive(&stream);
         }
@@ -91,11 +91,14 @@ impl<'r, R: Net<Stream = TcpStream>> TcpDial<'r, R> {
             Some(ending) => Some(ending.share()?),
             None => None,
         };
-        Ok(StreamEnd::of_member(stream, ending))
+        let watched = match &self.notices {
+            Some(notices) => Some(Watched::new(notices, host, port)?),
+            None => None,
+        };
+        Ok(StreamEnd::of_member(stream, ending, watched))
     }
 
-    fn link_over(&self, alloc: Global, stream: TcpStream) -> Result<TcpLink, NoMemory> {
-        let end = self.end_of(stream)?;
+    fn link_over(&self, alloc: Global, end: StreamEnd) -> Result<TcpLink, NoMemory> {
         match &self.first {
             Some(outbox) => TcpLink::after(alloc, end, outbox),
             None => Ok(TcpLink::over(end, room_ahead(alloc)?)),
@@ -115,7 +118,7 @@ impl<'r, R: Net<Stream = TcpStream>> Dial for TcpDial<'r, R> {
         let answer = connect(self.rt, host, port, self.millis);
         self.tell(host, port, &answer);
         match answer {
-            Ok(stream) => Ok(self.link_over(alloc, stream)?),
+            Ok(stream) => Ok(self.link_over(alloc, self.end_of(stream, host, port)?)?),
             Err(_) => {
                 self.failed = self.failed.saturating_add(1);
                 Err(IoError::Failed)

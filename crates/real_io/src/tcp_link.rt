@@ -1,8 +1,11 @@
 //! A link over a TCP stream.
-ghost use Rattle.std.specs.Prelude.{◌≡◌, ◌≢◌, ◌+◌, ◌<◌, ◌≤◌, ◌⊎◌, IfOk, IfSome, IsOk, false, length, take, drop, true, vec_len};
+ghost use Rattle.std.specs.Prelude.{◌≡◌, ◌≢◌, ◌+◌, ◌-◌, ◌<◌, ◌≤◌, ◌⊎◌, ℕ, IfOk, IfSome, IsOk, false, length, take, drop, true, vec_len};
 ghost use Rattle.jk_io.specs.Told.{HasCause, Rose};
+ghost use Rattle.std.specs.List.{between};
+ghost use Rattle.real_io.specs.Heads.{EndsHead};
 ghost use Rattle.real_io.specs.Waitless.{IfCame};
 
+use crate::heads::{MAX_HEAD_BYTES, head_end};
 use crate::outbox::Outbox;
 use crate::stream_end::{AtHand, StreamEnd};
 use jk_io::{Awaited, IoError, Link, Meanings, NoMemory, Sink, Source};
@@ -33,6 +36,8 @@ pub struct TcpLink {
     ahead: Vec<u8>,
     from: usize,
     to: usize,
+    /// A client's head is waited for: no byte after it is given with it.
+    is_head: bool,
     /// It said that it waits, and nothing was read or written since.
     is_idle: bool,
     /// A number by which a door knows it again.
@@ -133,6 +138,7 @@ impl TcpLink {
             ahead,
             from: 0,
             to: 0,
+            is_head: false,
             is_idle: false,
             seat: 0,
             failed: 0,
@@ -150,6 +156,7 @@ impl TcpLink {
             ahead,
             from,
             to,
+            is_head: _,
             is_idle,
             seat,
             failed: _,
@@ -173,10 +180,67 @@ impl TcpLink {
         ensures on { self.new.from ≡ self.old.from + result }
         ensures same { (self.new.to ≡ self.old.to) × (self.new.ahead ≡ self.old.ahead) × (self.new.failed ≡ self.old.failed) }
     {
-        let n = buf.len().min(self.to - self.from);
+        let n = buf.len().min(self.to_give());
         buf[..n].copy_from_slice(&self.ahead[self.from..self.from + n]);
         self.from += n;
         n
+    }
+
+    // How many of the bytes that were read ahead are given at once: where a client's head is waited for, no more than its own.
+    fn to_give(&self) -> usize
+        ensures within { self.now.from + result ≤ self.now.to }
+        ensures some { self.now.from ≢ self.now.to → 0 < result }
+    {
+        if self.is_head
+            && let Some(n) = head_end(&self.ahead[self.from..self.to])
+        {
+            return n;
+        }
+        self.to - self.from
+    }
+
+    // Moves what was read ahead to the front of its room.
+    fn gather(&mut self)
+        ensures at_front { (self.new.from ≡ 0) × (self.new.to ≡ self.old.to - self.old.from) }
+        ensures kept { between 0 self.new.to self.new.ahead.items ≡ between self.old.from self.old.to self.old.ahead.items }
+        ensures same { (self.new.failed ≡ self.old.failed) × (vec_len self.new.ahead ≡ vec_len self.old.ahead) }
+    {
+        let held = self.to - self.from;
+        if self.from != 0 {
+            self.ahead.copy_within(self.from..self.to, 0);
+        }
+        self.from = 0;
+        self.to = held;
+    }
+
+    // Whether no whole head was read ahead, and not as many bytes as a head may have.
+    fn lacks_head(&self) -> bool
+        ensures { result ≡ true → (n : ℕ) → EndsHead (between self.now.from self.now.to self.now.ahead.items) n → ⊥ }
+    {
+        if self.to - self.from >= MAX_HEAD_BYTES {
+            return false;
+        }
+        match head_end(&self.ahead[self.from..self.to]) {
+            Some(_) => false,
+            None => true,
+        }
+    }
+
+    // Whether more of a client's next head is waited for; what is at hand of it is read ahead.
+    fn wants_more(&mut self) -> bool
+        ensures none { result ≡ true → (n : ℕ) → EndsHead (between self.new.from self.new.to self.new.ahead.items) n → ⊥ }
+        ensures same { self.new.failed ≡ self.old.failed }
+    {
+        if !self.lacks_head() {
+            return false;
+        }
+        self.gather();
+        match self.wire.at_hand(&mut self.ahead[self.to..]) {
+            AtHand::Came(0) | AtHand::Broken => return false,
+            AtHand::Came(n) => self.to += n,
+            AtHand::Nothing => {}
+        }
+        self.lacks_head()
     }
 
     // Empties the outbox whose bytes go first.
@@ -366,25 +430,14 @@ impl Sink for TcpLink {
 
 impl Link for TcpLink {
     fn waits(&mut self) -> bool
-        // Where bytes were read ahead it doesn't wait, and they stay.
-        ensures ahead { self.old.from ≢ self.old.to → (result ≡ false) × (self.new.ahead ≡ self.old.ahead)
-            × (self.new.from ≡ self.old.from) × (self.new.to ≡ self.old.to) }
-        ensures none { result ≡ true → self.new.from ≡ self.new.to }
+        // Where it waits, no whole head is there.
+        ensures none { result ≡ true → (n : ℕ) → EndsHead (between self.new.from self.new.to self.new.ahead.items) n → ⊥ }
         ensures idle { result ≡ self.new.is_idle }
 
         // What each link says.
         ensures same { self.new.failed ≡ self.old.failed }
     {
-        self.is_idle = false;
-        if self.from == self.to {
-            self.from = 0;
-            self.to = 0;
-            match self.wire.at_hand(self.ahead.as_mut_slice()) {
-                AtHand::Came(n) => self.to = n,
-                AtHand::Nothing => self.is_idle = true,
-                AtHand::Broken => {}
-            }
-        }
+        self.is_idle = self.wants_more();
         self.is_idle
     }
 
@@ -395,6 +448,7 @@ impl Link for TcpLink {
         // What each link says.
         ensures same { self.new.failed ≡ self.old.failed }
     {
+        self.is_head = what == Awaited::Client;
         self.wire.await_next(what);
     }
 

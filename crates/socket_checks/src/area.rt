@@ -56,6 +56,10 @@ where
         ),
         ("a head in two pieces comes whole", Claim::TwoPieces),
         (
+            "a part of a head after a whole one waits, and holds nobody",
+            Claim::PartWaits,
+        ),
+        (
             "of too many who wait the one goes who waited longest",
             Claim::OneWaits,
         ),

@@ -13,6 +13,11 @@ use waiting_room::{Room, RoomDoor, open_room};
 
 const HEAD: &[u8] = b"GET / HTTP/1.1\r\n\r\n";
 
+/// A head, and a part of the next one.
+const HEAD_AND_PART: &[u8] = b"GET / HTTP/1.1\r\n\r\nGET / HTT";
+
+const PART_BYTES: usize = 9;
+
 const REPLY: &[u8] = b"HTTP/1.1 200 OK\r\nContent-Length: 0\r\n\r\n";
 
 /// Limits by which a test ends soon.
@@ -68,19 +73,24 @@ fn replies<L: Link>(link: &mut L, came: usize) -> bool {
     read_len(link) == came && write_all(link, REPLY) == Ok(()) && link.flush() == Ok(())
 }
 
-/// Serves the next client, and leaves its link: whether so many bytes came, and it waits then unless there were more than a head.
-fn serves_next<D: Door>(alloc: Global, door: &mut D, came: usize) -> bool {
+/// Serves the next client, and leaves its link: whether its head came, and it waits then.
+fn serves_next<D: Door>(alloc: Global, door: &mut D) -> bool {
+    serves_one(alloc, door, true)
+}
+
+/// Serves the next client, and leaves its link: whether its head came, and whether it waits then, as is told.
+fn serves_one<D: Door>(alloc: Global, door: &mut D, waits: bool) -> bool {
     match door.accept(alloc) {
-        Ok(Some((link, _))) => serves(door, link, came),
+        Ok(Some((link, _))) => serves(door, link, waits),
         _ => false,
     }
 }
 
-fn serves<D: Door>(door: &mut D, link: D::L, came: usize) -> bool
+fn serves<D: Door>(door: &mut D, link: D::L, waits: bool) -> bool
     requires { 0 < D.room door.old }
 {
     let mut link = link;
-    let served = replies(&mut link, came) && link.waits() == (came == HEAD.len());
+    let served = replies(&mut link, HEAD.len()) && link.waits() == waits;
     door.leave(link);
     served
 }
@@ -97,10 +107,10 @@ fn sends<L: Link>(link: &mut L, piece: &[u8]) -> bool {
 /// Whether a client's link is given again once its next head is whole, and closed once it has waited too long between two.
 fn comes_again<D: Door, C: Link>(alloc: Global, door: &mut D, client: &mut C) -> bool {
     sends(client, HEAD)
-        && serves_next(alloc, door, HEAD.len())
+        && serves_next(alloc, door)
         && read_len(client) == REPLY.len()
         && sends(client, HEAD)
-        && serves_next(alloc, door, HEAD.len())
+        && serves_next(alloc, door)
         && read_len(client) == REPLY.len()
         && is_closed(alloc, door)
         && read_len(client) == 0
@@ -115,7 +125,7 @@ fn slow_head<D: Door, C: Link, B: Link>(
 ) -> bool {
     sends(slow, b"GET / HT")
         && sends(other, HEAD)
-        && serves_next(alloc, door, HEAD.len())
+        && serves_next(alloc, door)
         && read_len(other) == REPLY.len()
         && is_closed(alloc, door)
         && read_len(slow) == 0
@@ -130,11 +140,29 @@ fn two_pieces<D: Door, C: Link, B: Link>(
 ) -> bool {
     sends(slow, &HEAD[..9])
         && sends(other, HEAD)
-        && serves_next(alloc, door, HEAD.len())
+        && serves_next(alloc, door)
         && read_len(other) == REPLY.len()
         && sends(slow, &HEAD[9..])
-        && serves_next(alloc, door, HEAD.len())
+        && serves_next(alloc, door)
         && read_len(slow) == REPLY.len()
+}
+
+/// Whether a part of a head that came after a whole one waits in the room, and another client is served meanwhile.
+fn part_waits<D: Door, C: Link, B: Link>(
+    alloc: Global,
+    door: &mut D,
+    first: &mut C,
+    other: &mut B,
+) -> bool {
+    sends(first, HEAD_AND_PART)
+        && serves_next(alloc, door)
+        && read_len(first) == REPLY.len()
+        && sends(other, HEAD)
+        && serves_next(alloc, door)
+        && read_len(other) == REPLY.len()
+        && sends(first, &HEAD[PART_BYTES..])
+        && serves_next(alloc, door)
+        && read_len(first) == REPLY.len()
 }
 
 /// Whether the one who waits goes where another comes and one may wait.
@@ -145,7 +173,7 @@ fn one_waits<D: Door, C: Link, B: Link>(
     other: &mut B,
 ) -> bool {
     sends(other, HEAD)
-        && serves_next(alloc, door, HEAD.len())
+        && serves_next(alloc, door)
         && read_len(other) == REPLY.len()
         && read_len(first) == 0
 }
@@ -154,7 +182,7 @@ fn one_waits<D: Door, C: Link, B: Link>(
 fn lingers<D: Door, C: Link>(alloc: Global, door: &mut D, client: &mut C) -> bool {
     sends(client, HEAD)
         && sends(client, &[7; 32_768])
-        && serves_next(alloc, door, 128)
+        && serves_one(alloc, door, false)
         && read_len(client) == REPLY.len()
         && read_len(client) == 0
 }
@@ -171,6 +199,7 @@ pub enum Claim {
     Lingers,
     SlowHead,
     TwoPieces,
+    PartWaits,
     OneWaits,
 }
 
@@ -196,6 +225,7 @@ fn holds_of_two<D: Door, C: Link>(
     match claim {
         Claim::SlowHead => slow_head(alloc, door, first, other),
         Claim::TwoPieces => two_pieces(alloc, door, first, other),
+        Claim::PartWaits => part_waits(alloc, door, first, other),
         _ => one_waits(alloc, door, first, other),
     }
 }
@@ -232,7 +262,7 @@ fn limits_of(claim: Claim) -> (u64, ClientLimits) {
         Claim::ComesAgain => (1, limits(20, 1, 10)),
         Claim::Lingers => (1, limits(20, 60, 10)),
         Claim::SlowHead => (2, limits(1, 1, 10)),
-        Claim::TwoPieces => (2, limits(20, 60, 10)),
+        Claim::TwoPieces | Claim::PartWaits => (2, limits(20, 60, 10)),
         Claim::OneWaits => (2, limits(20, 60, 1)),
     }
 }

@@ -3,11 +3,12 @@ ghost use Rattle.std.specs.Prelude.{◌≡◌, ◌+◌, ◌<◌, ◌≤◌, IfOk
 ghost use Rattle.jk_io.specs.Told.{HasCause, Rose};
 
 use crate::client::Client;
-use crate::heads::{MAX_HEAD_BYTES, has_head};
 use crate::room::Room;
 use crate::stay::{Phase, Stay};
 use jk_io::{Bytes, Door, IoError, NoMemory, Peer};
-use real_io::{AtHand, LinkParts, Outbox, StreamEnd, TcpLink, moment, room_ahead};
+use real_io::{
+    AtHand, LinkParts, MAX_HEAD_BYTES, Outbox, StreamEnd, TcpLink, head_end, moment, room_ahead,
+};
 use std::alloc::Global;
 use std::sync::{Arc, Wait};
 
@@ -73,19 +74,18 @@ impl<'r, R: Wait + Eprint> RoomDoor<'r, R> {
         })
     }
 
-    // A client who was served: its link waits for more, or it goes.
-    fn put_back(&self, at: usize, end: StreamEnd, is_idle: bool) {
-        let client = Client {
-            end,
-            ahead: Vec::new(self.room.alloc),
-        };
-        if is_idle {
-            let stay = Stay::new(Phase::Between, moment());
-            self.room.give_back(self.rt, at, stay, client);
-        } else if client.end.has_ended() {
+    // A client who was served: its link waits for more, of which these bytes came, or it goes.
+    fn put_back(&self, at: usize, end: StreamEnd, is_idle: bool, came: &[u8]) {
+        let mut ahead = Vec::new(self.room.alloc);
+        if is_idle && ahead.extend_from_slice(came).is_ok() {
+            let now = moment();
+            let stay = Stay::new(Phase::Between, now).after(came.len() as u64, now);
+            self.room
+                .give_back(self.rt, at, stay, Client { end, ahead });
+        } else if end.has_ended() {
             self.room.free(self.rt, at);
         } else {
-            self.room.linger(self.rt, at, client);
+            self.room.linger(self.rt, at, Client { end, ahead });
         }
     }
 }
@@ -175,11 +175,11 @@ impl<'r, R: Wait + Eprint> Door for RoomDoor<'r, R> {
             is_idle,
             seat,
         } = link.into_parts();
-        self.buffer = Some(ahead);
         match end {
             None => self.room.free(self.rt, seat as usize),
-            Some(end) => self.put_back(seat as usize, end, is_idle && from == to),
+            Some(end) => self.put_back(seat as usize, end, is_idle, &ahead[from..to]),
         }
+        self.buffer = Some(ahead);
     }
 }
 
@@ -254,7 +254,7 @@ fn look_at(end: &mut StreamEnd, buffer: &mut [u8], have: usize) -> Look {
     let most = buffer.len().min(MAX_HEAD_BYTES);
     let mut have = have;
     for _ in 0..u64::MAX {
-        if have >= most || has_head(&buffer[..have]) {
+        if have >= most || head_end(&buffer[..have]).is_some() {
             return Look::Ready(have);
         }
         match end.at_hand(&mut buffer[have..most]) {

@@ -14,7 +14,6 @@
 mod client;
 mod control;
 mod door;
-mod heads;
 mod opening;
 mod places;
 mod room;
@@ -23,7 +22,6 @@ mod table;
 
 pub use client::Client;
 pub use door::RoomDoor;
-pub use heads::{MAX_HEAD_BYTES, has_head};
 pub use opening::{RoomError, open_room};
 pub use places::{Place, Places};
 pub use room::Room;

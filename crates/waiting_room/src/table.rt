@@ -1,4 +1,6 @@
 //! The clients of a room, with how many may still come.
+ghost use Rattle.std.specs.Prelude.{◌≡◌, ◌-◌, ◌↔◌, IsTrue, [], false};
+ghost use Rattle.waiting_room.specs.Counts.{IsOpen, admitted, one_fewer, one_more};
 
 use crate::client::Client;
 use crate::places::Places;
@@ -20,7 +22,9 @@ pub struct Table {
 }
 
 impl Table {
-    pub fn new(alloc: Global) -> Table {
+    pub fn new(alloc: Global) -> Table
+        ensures { (result.clients ≡ 0) × (result.away ≡ 0) × (result.lingering ≡ 0) × (result.left ≡ Some 0) × (result.is_stopped ≡ false) }
+    {
         Table {
             places: Places::new(alloc),
             clients: 0,
@@ -32,7 +36,9 @@ impl Table {
     }
 
     /// So many clients more may come; none: without end.
-    pub fn admit(&mut self, more: Option<u64>) {
+    pub fn admit(&mut self, more: Option<u64>)
+        ensures { self.new ≡ record self.old { left = admitted self.old.left more } }
+    {
         self.left = match (self.left, more) {
             (Some(left), Some(more)) => Some(left.saturating_add(more)),
             _ => None,
@@ -40,22 +46,30 @@ impl Table {
     }
 
     /// Whether another client may come.
-    pub fn is_open(&self) -> bool {
+    pub fn is_open(&self) -> bool
+        ensures { IsTrue result ↔ IsOpen self.now }
+    {
         !self.is_stopped && !matches!(self.left, Some(0))
     }
 
     /// Whether no client is there, and none comes any more.
-    pub fn is_over(&self) -> bool {
+    pub fn is_over(&self) -> bool
+        ensures { IsTrue result ↔ ((IsOpen self.now → ⊥) × (self.now.clients ≡ 0)) }
+    {
         !self.is_open() && self.clients == 0
     }
 
     /// How many clients wait.
-    pub fn waiting(&self) -> u64 {
+    pub fn waiting(&self) -> u64
+        ensures { result ≡ self.now.clients - self.now.away }
+    {
         self.clients.saturating_sub(self.away)
     }
 
     /// A client came.
-    pub fn note_come(&mut self) {
+    pub fn note_come(&mut self)
+        ensures { self.new ≡ record self.old { clients = one_more self.old.clients; left = one_fewer self.old.left } }
+    {
         self.clients = self.clients.saturating_add(1);
         self.left = match self.left {
             Some(left) => Some(left.saturating_sub(1)),
@@ -64,17 +78,23 @@ impl Table {
     }
 
     /// A client went who waited.
-    pub fn note_gone(&mut self) {
+    pub fn note_gone(&mut self)
+        ensures { self.new ≡ record self.old { clients = self.old.clients - 1 } }
+    {
         self.clients = self.clients.saturating_sub(1);
     }
 
     /// A client went to a worker.
-    pub fn note_away(&mut self) {
+    pub fn note_away(&mut self)
+        ensures { self.new ≡ record self.old { away = one_more self.old.away } }
+    {
         self.away = self.away.saturating_add(1);
     }
 
     /// A worker's client waits again, or goes.
-    pub fn note_back(&mut self) {
+    pub fn note_back(&mut self)
+        ensures { self.new ≡ record self.old { away = self.old.away - 1 } }
+    {
         self.away = self.away.saturating_sub(1);
     }
 }

@@ -1,0 +1,6 @@
+-- What is said of a value that isn't there.
+use Rattle.std.specs.Prelude.{Option, Some, None, IfNone}
+
+pub IfNone-map : {T : Type 0} {P Q : Type 0} (o : Option T) → (P → Q) → IfNone o P → IfNone o Q
+IfNone-map None f p = f p
+IfNone-map (Some x) f p = tt
