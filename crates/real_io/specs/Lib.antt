@@ -1,4 +1,5 @@
 pub mod Pace
 pub mod Waitless
 pub mod Heads
+pub mod Held
 pub mod Notices

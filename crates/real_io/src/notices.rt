@@ -13,6 +13,12 @@ use std::sync::{Arc, Mutex};
 /// The milliseconds between two lines of a kind.
 const APART_MILLIS: u64 = 1_000;
 
+/// What is said of a file that can't be written yet.
+const RETRIED: &str = "it is tried again for a minute";
+
+/// What is said of a file that can't be written any more.
+const GIVEN_UP: &str = "its worker ends";
+
 /// When a line of a kind was said last, and how many were left out since.
 #[derive(Clone, Copy)]
 pub struct Tally {
@@ -95,6 +101,7 @@ struct Members {
     failed: Tally,
     back: Tally,
     unkept: Tally,
+    given_up: Tally,
 }
 
 /// What is said of members that fail, that they are back, and of files that can't be written. It is shared by all dials of a
@@ -116,6 +123,7 @@ impl Notices {
             failed: Tally::new(),
             back: Tally::new(),
             unkept: Tally::new(),
+            given_up: Tally::new(),
         };
         Ok(Notices {
             alloc,
@@ -153,7 +161,16 @@ impl Notices {
         if let Some(mut members) = self.members.try_lock()
             && let Some(left_out) = members.unkept.ask(moment())
         {
-            let _ = say_unkept(self.alloc, path, reason, left_out);
+            let _ = say_unkept(self.alloc, path, reason, RETRIED, left_out);
+        }
+    }
+
+    /// A file couldn't be written, for this reason of the system, and its worker ends. Want of memory leaves a line out.
+    pub fn given_up(&self, path: &str, reason: &io::Error) {
+        if let Some(mut members) = self.members.try_lock()
+            && let Some(left_out) = members.given_up.ask(moment())
+        {
+            let _ = say_unkept(self.alloc, path, reason, GIVEN_UP, left_out);
         }
     }
 
@@ -234,15 +251,19 @@ impl Members {
         }
     }
 
-    // Puts the names of the workers at an address, and the address.
+    // Puts the names of the workers at an address, if they are known, and the address.
     fn put_member(&self, line: &mut Bytes, host: &Bytes, port: u16) -> Result<(), NoMemory> {
+        let mut is_named = false;
         for named in &self.names {
             if named.port == port && named.host == *host {
                 line.extend(named.name.as_slice())?;
                 line.push(b' ')?;
+                is_named = true;
             }
         }
-        line.extend(b"at ")?;
+        if is_named {
+            line.extend(b"at ")?;
+        }
         line.extend(host.as_slice())?;
         line.push(b':')?;
         put_decimal(line, u128::from(port))
@@ -280,11 +301,10 @@ fn say_unkept(
     alloc: Global,
     path: &str,
     reason: &io::Error,
+    what: &str,
     left_out: u64,
 ) -> Result<(), NoMemory> {
-    let text = format!(in alloc;
-        "jkd: can't write {path}: {reason}; it is tried again for a minute"
-    )?;
+    let text = format!(in alloc; "jkd: can't write {path}: {reason}; {what}")?;
     let mut line = Bytes::from_vec(text.into_bytes());
     end_line(&mut line, left_out)
 }

@@ -1,56 +1,84 @@
 //! What a worker wrote to its client and hasn't sent yet.
-ghost use Rattle.std.specs.Prelude.{◌<◌, ◌≤◌, IfSome, length};
+ghost use Rattle.std.specs.Prelude.{◌≡◌, ◌<◌, ◌≤◌, ◌++◌, [], IfNone, IfSome, IsSome, None, false, length, not, take, true};
+ghost use Rattle.real_io.specs.Held.{GoesOn};
 ghost use Rattle.real_io.specs.Waitless.{IfCame};
 
 use crate::held_bytes::HeldBytes;
 use crate::stream_end::{AtHand, StreamEnd};
-use jk_io::{Awaited, NoMemory};
+use jk_io::{Awaited, NoMemory, Sink};
 use std::alloc::Global;
 use std::sync::{Arc, Mutex};
 
-/// The end of a client's stream, with the bytes that wait to be sent on it.
+/// A client's end, with the bytes that wait to be sent on it.
 #[derive(Drop)]
-struct Held {
-    end: Option<StreamEnd>,
+struct Held<E> {
+    end: Option<E>,
     bytes: HeldBytes,
     /// A send failed, so what follows can't go out.
     is_broken: bool,
 }
 
-impl Held {
-    // Sends what waits, and tells whether nothing failed until now.
-    fn flush(&mut self) -> bool {
+impl<E: Sink> Held<E> {
+    // Sends what waits, and tells whether nothing failed until now. What couldn't go out stays held.
+    fn flush(&mut self) -> bool
+        ensures went { result ≡ true → self.new.bytes ≡ [] }
+        ensures whole { GoesOn E.sent self.old.end self.old.bytes self.new.end self.new.bytes }
+        ensures told { result ≡ not self.new.is_broken }
+        ensures stays { self.old.is_broken ≡ true → self.new ≡ self.old }
+    {
         if self.is_broken || self.bytes.is_empty() {
             return !self.is_broken;
         }
-        self.is_broken = match &mut self.end {
-            Some(end) => self.bytes.flush(end).is_err(),
-            None => true,
-        };
+        self.is_broken = !send_held(&mut self.end, &mut self.bytes);
         !self.is_broken
     }
 
-    // Holds a front of a piece back, or sends it after what is held, and answers how many bytes it was.
+    // Holds a front of a piece back, or sends it after what is held, and answers how many bytes it was. None: what is held stays.
     fn put(&mut self, piece: &[u8]) -> Option<usize>
         requires { 0 < length piece.now }
-        ensures { IfSome result (λ n. (0 < n) × (n ≤ length piece.now)) }
+        ensures count { IfSome result (λ n. (0 < n) × (n ≤ length piece.now)) }
+        ensures held { IfSome result (λ n. GoesOn E.sent self.old.end (self.old.bytes ++ take n piece.now) self.new.end self.new.bytes) }
+        ensures none { IfNone result (GoesOn E.sent self.old.end self.old.bytes self.new.end self.new.bytes) }
+        ensures stays { self.old.is_broken ≡ true → (result ≡ None) × (self.new ≡ self.old) }
     {
-        let end = self.end.as_mut()?;
         if self.is_broken {
             return None;
         }
-        match self.bytes.put(end, piece) {
-            Ok(n) => Some(n),
-            Err(_) => {
-                self.is_broken = true;
-                None
-            }
-        }
+        let put = put_held(&mut self.end, &mut self.bytes, piece);
+        self.is_broken = put.is_none();
+        put
     }
+}
 
+// Sends what is held, and tells whether all went out.
+fn send_held<E: Sink>(end: &mut Option<E>, bytes: &mut HeldBytes) -> bool
+    ensures went { result ≡ true → bytes.new ≡ [] }
+    ensures whole { GoesOn E.sent end.old bytes.old end.new bytes.new }
+{
+    match end {
+        Some(end) => bytes.flush(end).is_ok(),
+        None => false,
+    }
+}
+
+// Holds a front of a piece back, or sends it after what is held.
+fn put_held<E: Sink>(end: &mut Option<E>, bytes: &mut HeldBytes, piece: &[u8]) -> Option<usize>
+    requires { 0 < length piece.now }
+    ensures count { IfSome result (λ n. (0 < n) × (n ≤ length piece.now)) }
+    ensures held { IfSome result (λ n. GoesOn E.sent end.old (bytes.old ++ take n piece.now) end.new bytes.new) }
+    ensures none { IfNone result (GoesOn E.sent end.old bytes.old end.new bytes.new) }
+{
+    match end {
+        Some(end) => bytes.put(end, piece).ok(),
+        None => None,
+    }
+}
+
+impl Held<StreamEnd> {
     // Reads from the client, once all that waits was sent.
     fn receive(&mut self, buf: &mut [u8]) -> Option<usize>
-        ensures { IfSome result (λ n. n ≤ length buf.new) }
+        ensures count { IfSome result (λ n. n ≤ length buf.new) }
+        ensures first { IsSome result → self.new.bytes ≡ [] }
     {
         if !self.flush() {
             return None;
@@ -60,7 +88,8 @@ impl Held {
 
     // Reads what is there of the client, once all that waits was sent.
     fn at_hand(&mut self, buf: &mut [u8]) -> AtHand
-        ensures { IfCame result (λ n. n ≤ length buf.new) }
+        ensures count { IfCame result (λ n. n ≤ length buf.new) }
+        ensures first { self.new.is_broken ≡ false → self.new.bytes ≡ [] }
     {
         if !self.flush() {
             return AtHand::Broken;
@@ -77,7 +106,7 @@ impl Held {
 /// that came together go to the client together, and none is held back while its successor is waited for.
 #[derive(Drop)]
 pub struct Outbox {
-    held: Arc<Mutex<Held>>,
+    held: Arc<Mutex<Held<StreamEnd>>>,
 }
 
 impl Outbox {

@@ -1,5 +1,5 @@
 //! A link over a TCP stream.
-ghost use Rattle.std.specs.Prelude.{◌≡◌, ◌≢◌, ◌+◌, ◌-◌, ◌<◌, ◌≤◌, ◌⊎◌, ℕ, IfOk, IfSome, IsOk, false, length, take, drop, true, vec_len};
+ghost use Rattle.std.specs.Prelude.{◌≡◌, ◌≢◌, ◌+◌, ◌-◌, ◌<◌, ◌≤◌, ◌⊎◌, ℕ, IfOk, IfSome, IsOk, false, length, min, take, drop, true, vec_len};
 ghost use Rattle.jk_io.specs.Told.{HasCause, Rose};
 ghost use Rattle.std.specs.List.{between};
 ghost use Rattle.real_io.specs.Heads.{EndsHead};
@@ -42,6 +42,8 @@ pub struct TcpLink {
     is_idle: bool,
     /// A number by which a door knows it again.
     seat: u64,
+    /// How often all that was written went out: once for each whole reply.
+    replies: u64,
     failed: u64,
     ghost within: { (from ≤ to) × (to ≤ vec_len ahead) },
 }
@@ -58,6 +60,8 @@ pub struct LinkParts {
     /// It said that it waits, and nothing was read or written since.
     pub is_idle: bool,
     pub seat: u64,
+    /// How often all that was written went out: once for each whole reply.
+    pub replies: u64,
     ghost within: { (from ≤ to) × (to ≤ vec_len ahead) },
 }
 
@@ -141,6 +145,7 @@ impl TcpLink {
             is_head: false,
             is_idle: false,
             seat: 0,
+            replies: 0,
             failed: 0,
         }
     }
@@ -148,7 +153,7 @@ impl TcpLink {
     /// Sends what its outbox held back, and gives what it is made of.
     pub fn into_parts(self) -> LinkParts
         ensures ahead { (result.ahead ≡ self.ahead) × (result.from ≡ self.from) × (result.to ≡ self.to) }
-        ensures same { (result.is_idle ≡ self.is_idle) × (result.seat ≡ self.seat) }
+        ensures same { (result.is_idle ≡ self.is_idle) × (result.seat ≡ self.seat) × (result.replies ≡ self.replies) }
     {
         let TcpLink {
             wire,
@@ -159,6 +164,7 @@ impl TcpLink {
             is_head: _,
             is_idle,
             seat,
+            replies,
             failed: _,
         } = self;
         let end = end_of(wire);
@@ -169,6 +175,7 @@ impl TcpLink {
             to,
             is_idle,
             seat,
+            replies,
         }
     }
 
@@ -414,14 +421,16 @@ impl Sink for TcpLink {
     }
 
     fn flush(&mut self) -> Result<(), IoError>
-        // What was read ahead stays.
+        // What was read ahead stays, and a whole reply is counted.
         ensures rest { (self.new.from ≡ self.old.from) × (self.new.to ≡ self.old.to) × (self.new.ahead ≡ self.old.ahead) }
+        ensures counted { IsOk result → self.new.replies ≡ min (self.old.replies + 1) 18446744073709551615 }
 
         // What each sink says.
         ensures cause { HasCause self.old.failed self.new.failed result }
         ensures steady { IsOk result → self.new.failed ≡ self.old.failed }
     {
         if self.wire.flush() {
+            self.replies = self.replies.saturating_add(1);
             return Ok(());
         }
         Err(self.fail())

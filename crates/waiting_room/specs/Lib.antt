@@ -1,3 +1,4 @@
 pub mod Stays
 pub mod Rooms
 pub mod Counts
+pub mod Looks

@@ -1,6 +1,9 @@
 //! A worker's door into the room.
-ghost use Rattle.std.specs.Prelude.{◌≡◌, ◌+◌, ◌<◌, ◌≤◌, IfOk, IfNone, IfSome, IsOk, OnErr, length};
+ghost use Rattle.std.specs.Prelude.{◌≡◌, ◌+◌, ◌<◌, ◌≤◌, ◌++◌, IfOk, IfNone, IfSome, IsOk, OnErr, OnOk, length, min, take};
+ghost use Rattle.std.specs.List.{between};
 ghost use Rattle.jk_io.specs.Told.{HasCause, Rose};
+ghost use Rattle.real_io.specs.Waitless.{IfCame};
+ghost use Rattle.waiting_room.specs.Looks.{SeesAfter};
 
 use crate::client::Client;
 use crate::room::Room;
@@ -27,6 +30,8 @@ pub struct RoomDoor<'r, R: Wait + Eprint> {
     buffer: Option<Vec<u8>>,
     /// How many links are out and may be left.
     out: u64,
+    /// It said that no client comes any more.
+    is_closed: bool,
     failed: u64,
 }
 
@@ -44,8 +49,16 @@ impl<'r, R: Wait + Eprint> RoomDoor<'r, R> {
             clients,
             buffer: None,
             out: 0,
+            is_closed: false,
             failed: 0,
         }
+    }
+
+    /// Whether it said that no client comes any more.
+    pub fn is_closed(&self) -> bool
+        ensures { result ≡ self.now.is_closed }
+    {
+        self.is_closed
     }
 
     fn fail(&mut self) -> IoError
@@ -76,17 +89,26 @@ impl<'r, R: Wait + Eprint> RoomDoor<'r, R> {
 
     // A client who was served: its link waits for more, of which these bytes came, or it goes.
     fn put_back(&self, at: usize, end: StreamEnd, is_idle: bool, came: &[u8]) {
-        let mut ahead = Vec::new(self.room.alloc);
-        if is_idle && ahead.extend_from_slice(came).is_ok() {
-            let now = moment();
-            let stay = Stay::new(Phase::Between, now).after(came.len() as u64, now);
-            self.room
-                .give_back(self.rt, at, stay, Client { end, ahead });
-        } else if end.has_ended() {
-            self.room.free(self.rt, at);
-        } else {
-            self.room.linger(self.rt, at, Client { end, ahead });
+        if !is_idle {
+            return self.let_go(at, end);
         }
+        match Client::of(self.room.alloc, end, came) {
+            Ok(client) => {
+                let now = moment();
+                let stay = Stay::new(Phase::Between, now).after(came.len() as u64, now);
+                self.room.give_back(self.rt, at, stay, client);
+            }
+            Err(end) => self.let_go(at, end),
+        }
+    }
+
+    // A client who was served goes: its link lingers, unless its bytes ended.
+    fn let_go(&self, at: usize, end: StreamEnd) {
+        if end.has_ended() {
+            return self.room.free(self.rt, at);
+        }
+        let ahead = Vec::new(self.room.alloc);
+        self.room.linger(self.rt, at, Client { end, ahead });
     }
 }
 
@@ -155,7 +177,10 @@ impl<'r, R: Wait + Eprint> Door for RoomDoor<'r, R> {
                 self.out = out;
                 Ok(Some(seat.client(ready)))
             }
-            None => Ok(None),
+            None => {
+                self.is_closed = true;
+                Ok(None)
+            }
         }
     }
 
@@ -174,7 +199,9 @@ impl<'r, R: Wait + Eprint> Door for RoomDoor<'r, R> {
             to,
             is_idle,
             seat,
+            replies,
         } = link.into_parts();
+        self.room.note_replies(replies);
         match end {
             None => self.room.free(self.rt, seat as usize),
             Some(end) => self.put_back(seat as usize, end, is_idle, &ahead[from..to]),
@@ -194,7 +221,7 @@ fn next_ready<R: Wait + Eprint>(rt: &R, room: &Room, buffer: &mut Vec<u8>) -> Op
     unreachable!()
 }
 
-// Reads what came of a client. One of whose head not all came waits again.
+// Reads what came of a client, after what was read of it before. One of whose head not all came waits again.
 fn next_look<R: Wait + Eprint>(
     rt: &R,
     room: &Room,
@@ -202,7 +229,11 @@ fn next_look<R: Wait + Eprint>(
     at: usize,
     stay: Stay,
     client: Client,
-) -> Option<Ready> {
+) -> Option<Ready>
+    ensures same { IfSome result (λ ready. ready.at ≡ at) }
+    ensures ahead { let have = min (length client.ahead.items) (length buffer.old) in
+        IfSome result (λ ready. (have ≤ ready.count) × (take have buffer.new ≡ take have client.ahead.items)) }
+{
     let Client { end, ahead } = client;
     let mut end = end;
     let mut ahead = ahead;
@@ -223,19 +254,21 @@ fn next_look<R: Wait + Eprint>(
 
 // Puts what came before at the buffer's front, and answers how many bytes.
 fn put_ahead(buffer: &mut [u8], ahead: &[u8]) -> usize
-    ensures { result ≤ length buffer.new }
+    ensures count { result ≡ min (length ahead.now) (length buffer.old) }
+    ensures put { take result buffer.new ≡ take result ahead.now }
+    ensures len { length buffer.new ≡ length buffer.old }
 {
     let count = ahead.len().min(buffer.len());
     buffer[..count].copy_from_slice(&ahead[..count]);
     count
 }
 
-// Keeps what came now, behind what came before.
-fn keep(ahead: &mut Vec<u8>, buffer: &[u8], have: usize, count: usize) -> Result<(), NoMemory> {
-    match buffer.get(have..count) {
-        Some(more) => Ok(ahead.extend_from_slice(more)?),
-        None => Ok(()),
-    }
+// Keeps what came now, after what came before. Where there is no memory nothing is kept of it.
+fn keep(ahead: &mut Vec<u8>, buffer: &[u8], have: usize, count: usize) -> Result<(), NoMemory>
+    requires { (have ≤ count) × (count ≤ length buffer.now) }
+    ensures kept { OnOk result (ahead.new.items ≡ ahead.old.items ++ between have count buffer.now) }
+{
+    Ok(ahead.extend_from_slice(&buffer[have..count])?)
 }
 
 /// What a look at a client's bytes says, with how many there are.
@@ -249,21 +282,36 @@ enum Look {
     Gone,
 }
 
-// Reads what came, until a head is whole, the bytes end, they can't be a head any more, or nothing more is there.
-fn look_at(end: &mut StreamEnd, buffer: &mut [u8], have: usize) -> Look {
+// Reads what came, until a head is whole, the bytes end, they can't be a head any more, or nothing more is there. What was there
+// before stays at the buffer's front.
+fn look_at(end: &mut StreamEnd, buffer: &mut [u8], have: usize) -> Look
+    requires { have ≤ length buffer.old }
+    ensures len { length buffer.new ≡ length buffer.old }
+    ensures sees { SeesAfter have result (take have buffer.old) buffer.new }
+{
     let most = buffer.len().min(MAX_HEAD_BYTES);
-    let mut have = have;
+    let mut count = have;
     for _ in 0..u64::MAX {
-        if have >= most || head_end(&buffer[..have]).is_some() {
-            return Look::Ready(have);
+        if count >= most || head_end(&buffer[..count]).is_some() {
+            return Look::Ready(count);
         }
-        match end.at_hand(&mut buffer[have..most]) {
-            AtHand::Came(0) if have == 0 => return Look::Gone,
-            AtHand::Came(0) => return Look::Ready(have),
-            AtHand::Came(n) => have += n,
-            AtHand::Nothing => return Look::Part(have),
+        match read_on(end, buffer, count, most) {
+            AtHand::Came(0) if count == 0 => return Look::Gone,
+            AtHand::Came(0) => return Look::Ready(count),
+            AtHand::Came(n) => count += n,
+            AtHand::Nothing => return Look::Part(count),
             AtHand::Broken => return Look::Gone,
         }
     }
-    Look::Ready(have)
+    Look::Ready(count)
+}
+
+// One read of what is there, into the buffer from a place to another.
+fn read_on(end: &mut StreamEnd, buffer: &mut [u8], from: usize, to: usize) -> AtHand
+    requires { (from ≤ to) × (to ≤ length buffer.old) }
+    ensures count { IfCame result (λ n. from + n ≤ to) }
+    ensures kept { take from buffer.new ≡ take from buffer.old }
+    ensures len { length buffer.new ≡ length buffer.old }
+{
+    end.at_hand(&mut buffer[from..to])
 }

@@ -14,6 +14,7 @@ use std::os::fd::AsRawFd;
 use std::os::unix::net::{UnixListener, UnixStream};
 use std::rt::Files;
 use std::sync::Mutex;
+use std::sync::atomic::AtomicU64;
 use std::{fs, io};
 use thiserror::Error;
 
@@ -144,6 +145,7 @@ fn room_with<R: Net>(
             is_owed: true,
         }),
         table: Mutex::new(Table::new(alloc)),
+        replies: AtomicU64::new(0),
         askers: Mutex::new(Askers {
             streams: Vec::new(alloc),
         }),

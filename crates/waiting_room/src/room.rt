@@ -14,6 +14,7 @@ use std::alloc::Global;
 use std::io::ErrorKind;
 use std::net::{SocketAddr, TcpListener, TcpStream};
 use std::os::fd::AsRawFd;
+use std::sync::atomic::{AtomicU64, Ordering};
 use std::sync::{Mutex, Wait};
 use std::time::Duration;
 
@@ -67,6 +68,8 @@ pub struct Room {
     pub(crate) ending: Ending,
     pub(crate) lead: Mutex<Lead>,
     pub(crate) table: Mutex<Table>,
+    /// How many replies went out whole.
+    pub(crate) replies: AtomicU64,
     pub(crate) askers: Mutex<Askers>,
 }
 
@@ -198,17 +201,45 @@ impl Room {
         }
     }
 
-    // Closes the door: requests under way may go on for so many seconds.
+    // Closes the door, unless it is closed: requests under way may go on for so many seconds. Standard error that can't be written
+    // is no fault.
     fn stop<R: Wait + Eprint>(&self, rt: &R, now: u64, grace: u64) {
-        let mut table = self.table.lock(rt);
-        if !table.is_stopped {
-            table.is_stopped = true;
-            self.ending
-                .set(now.saturating_add(grace.saturating_mul(1_000)));
-            close_waiting(&mut table);
-            // Who dials from now on is refused at once.
-            shutdown(self.listener.as_raw_fd(), SHUT_RDWR);
+        if self.close_door(rt, now, grace) {
+            let _ = eprintln!(rt;
+                "jkd: it stops: no client is accepted any more, and requests under way may take {grace} seconds"
+            );
         }
+    }
+
+    // Closes the door, and tells whether it was open.
+    fn close_door<R: Wait + Eprint>(&self, rt: &R, now: u64, grace: u64) -> bool {
+        let mut table = self.table.lock(rt);
+        if table.is_stopped {
+            return false;
+        }
+        table.is_stopped = true;
+        self.ending
+            .set(now.saturating_add(grace.saturating_mul(1_000)));
+        close_waiting(&mut table);
+        // Who dials from now on is refused at once.
+        shutdown(self.listener.as_raw_fd(), SHUT_RDWR);
+        true
+    }
+
+    /// So many replies more went out whole.
+    pub(crate) fn note_replies(&self, count: u64) {
+        if count != 0 {
+            self.replies.fetch_add(count, Ordering::SeqCst);
+        }
+    }
+
+    // Says what was served. Standard error that can't be written is no fault.
+    fn say_served<R: Wait + Eprint>(&self, rt: &R) {
+        let came = self.table.lock(rt).came;
+        let replies = self.replies.load(Ordering::SeqCst);
+        let _ = eprintln!(rt;
+            "jkd: it ended: {came} clients came, and {replies} replies went out whole"
+        );
     }
 
     // Accepts those who wait for it, unless no client may come any more.
@@ -326,9 +357,10 @@ impl Room {
         }
     }
 
-    /// The run ended: who asked for a stop is told so, once no link lingers any more.
+    /// The run ended: what was served is said, and who asked for a stop is told so, once no link lingers any more.
     pub fn say_ended<R: Wait + Eprint>(&self, rt: &R) {
         self.wait_for_lingering(rt);
+        self.say_served(rt);
         self.askers.lock(rt).answer();
     }
 

@@ -16,6 +16,8 @@ pub struct Table {
     pub away: u64,
     /// How many links linger.
     pub lingering: u64,
+    /// How many clients came until now.
+    pub came: u64,
     /// How many clients may still come; none: without end.
     pub left: Option<u64>,
     pub is_stopped: bool,
@@ -23,13 +25,14 @@ pub struct Table {
 
 impl Table {
     pub fn new(alloc: Global) -> Table
-        ensures { (result.clients ≡ 0) × (result.away ≡ 0) × (result.lingering ≡ 0) × (result.left ≡ Some 0) × (result.is_stopped ≡ false) }
+        ensures { (result.clients ≡ 0) × (result.away ≡ 0) × (result.lingering ≡ 0) × (result.came ≡ 0) × (result.left ≡ Some 0) × (result.is_stopped ≡ false) }
     {
         Table {
             places: Places::new(alloc),
             clients: 0,
             away: 0,
             lingering: 0,
+            came: 0,
             left: Some(0),
             is_stopped: false,
         }
@@ -68,9 +71,10 @@ impl Table {
 
     /// A client came.
     pub fn note_come(&mut self)
-        ensures { self.new ≡ record self.old { clients = one_more self.old.clients; left = one_fewer self.old.left } }
+        ensures { self.new ≡ record self.old { clients = one_more self.old.clients; came = one_more self.old.came; left = one_fewer self.old.left } }
     {
         self.clients = self.clients.saturating_add(1);
+        self.came = self.came.saturating_add(1);
         self.left = match self.left {
             Some(left) => Some(left.saturating_sub(1)),
             None => None,
