@@ -1,6 +1,9 @@
 -- The file into which a segment of a journal goes: DIR/NAME-FIRST.jkj.
-use Rattle.std.specs.Prelude.{ℕ, ◌-◌, List, [], ◌∷◌, ◌++◌, length, replicate, codes, decimal}
+use Rattle.std.specs.Prelude.{◌≡◌, ℕ, ◌-◌, List, [], ◌∷◌, ◌++◌, Option, Some, None, length, replicate, codes, decimal}
+use Rattle.jk_model.specs.declared.segment.Segment.{Segment}
 use Rattle.journal_lines.specs.Names.{name_word}
+use Rattle.journal_text.specs.SegmentText.{segment_text}
+use Rattle.worker_gears.specs.declared.journal_files.SegmentFile.{SegmentFile}
 use Rattle.worker_gears.specs.declared.journal_files.TheConstants.{FIRST_DIGITS}
 
 -- a segment's first number, filled with zeros to 15 digits
@@ -13,3 +16,10 @@ file_name name first = name_word name ++ (45 ∷ []) ++ first_word first ++ code
 
 abbrev pub file_path : (dir name : List ℕ) → (first : ℕ) → List ℕ
 file_path dir name first = dir ++ (47 ∷ []) ++ file_name name first
+
+-- the file of a segment, where its balancer has a name
+abbrev pub IsFileOf : (dir : List ℕ) → (name : Option (List ℕ)) → Segment → Option SegmentFile → Type 0
+IsFileOf dir (Some name) segment (Some file) = (file.path ≡ file_path dir name segment.opening.next) × (file.text ≡ segment_text name segment)
+IsFileOf dir None segment None = Unit {0}
+IsFileOf dir (Some name) segment None = ⊥
+IsFileOf dir None segment (Some file) = ⊥

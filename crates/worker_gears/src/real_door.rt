@@ -18,6 +18,16 @@ pub enum RealDoor<'r, R: Wait + Eprint> {
     Plain(TcpDoor),
 }
 
+impl<'r, R: Wait + Eprint> RealDoor<'r, R> {
+    /// Whether its worker ended while clients might still come into its room.
+    pub(crate) fn is_left_open(&self) -> bool {
+        match self {
+            RealDoor::Waiting(door) => !door.is_closed(),
+            RealDoor::Plain(_) => false,
+        }
+    }
+}
+
 impl<'r, R: Wait + Eprint> Door for RealDoor<'r, R> {
     ghost use Rattle.std.specs.Prelude.{None};
     ghost use Rattle.worker_gears.specs.RealDoors.{door_faults, door_room};

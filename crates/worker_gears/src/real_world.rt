@@ -19,7 +19,7 @@ use jk_io::{Bytes, IoError, NoMemory};
 use real_io::{Notices, Outbox, RealClock, TcpDial, TcpDoor};
 use site_config::{Config, Lb};
 use std::alloc::Global;
-use std::io;
+use std::io::{self, ErrorKind};
 use std::net::{Net, TcpListener, TcpStream};
 use std::rt::Files;
 use std::sync::{Arc, Wait};
@@ -38,7 +38,7 @@ pub struct RealWorld<
     threads: u32,
     /// Where the clients of a site wait.
     room: Option<Arc<Room>>,
-    /// Where it is said that a member can't be reached.
+    /// Where it is said that a member fails.
     notices: Option<Notices>,
     /// Where the clients of a container come.
     listener: Option<TcpListener>,
@@ -117,8 +117,8 @@ impl<
         match listen(self.rt, &mut self.listener, address) {
             Ok(listener) => Ok(listener),
             Err(reason) => {
-                let address = shown(alloc, address)?;
-                Err(self.fail(Trouble::Listen { address, reason }))
+                let trouble = listen_trouble(alloc, address, reason)?;
+                Err(self.fail(trouble))
             }
         }
     }
@@ -168,13 +168,16 @@ impl<
     }
 
     // A share of what is said of members.
-    fn notices(&mut self, alloc: Global) -> Result<Notices, NoMemory>
+    fn notices(&mut self, alloc: Global, cfg: Option<&Config>) -> Result<Notices, NoMemory>
         ensures { (self.new.out ≡ self.old.out) × (self.new.failed ≡ self.old.failed) }
     {
         if let Some(notices) = &self.notices {
             return notices.share();
         }
         let first = Notices::new(alloc)?;
+        if let Some(cfg) = cfg {
+            name_members(&first, cfg.lbs.as_slice())?;
+        }
         let share = first.share()?;
         self.notices = Some(first);
         Ok(share)
@@ -233,23 +236,31 @@ impl<
         if let Ok(line) = str::from_utf8(line.as_slice()) {
             let _ = eprintln!(self.rt; "{line}");
         }
+        if asked.clients == Some(0) {
+            let _ = eprintln!(self.rt;
+                "jkd: --clients 0 lets no client in, so each worker ends at once"
+            );
+        }
         Ok(())
     }
 
     // Where the segments of a journal go.
     fn shelf(
-        &self,
+        &mut self,
         alloc: Global,
         journal: Option<&Bytes>,
         cfg: Option<&Config>,
     ) -> Result<RealShelf<'r, R>, NoMemory>
-        ensures { IfOk result (λ shelf. IsShelfFor (option_copied journal.entry) (option_map (λ c. map (λ lb. lb.name) c.lbs) (option_copied cfg.entry)) shelf) }
+        ensures same { (self.new.out ≡ self.old.out) × (self.new.failed ≡ self.old.failed) }
+        ensures shelf { IfOk result (λ shelf. IsShelfFor (option_copied journal.entry) (option_map (λ c. map (λ lb. lb.name) c.lbs) (option_copied cfg.entry)) shelf) }
     {
         let (Some(dir), Some(cfg)) = (journal, cfg) else {
             return Ok(RealShelf::Dropped(DropShelf));
         };
         let names = names_of(alloc, cfg.lbs.as_slice())?;
-        Ok(RealShelf::Files(FileShelf::new(self.rt, dir.copy()?, names)))
+        let notices = self.notices(alloc, Some(cfg))?;
+        let shelf = FileShelf::new(self.rt, dir.copy()?, names, notices);
+        Ok(RealShelf::Files(shelf))
     }
 
     // Looks whether a journal can be written in a directory, and its first files can be new.
@@ -323,7 +334,7 @@ impl<
     {
         if asked.cfg.is_some() {
             let room = self.room(alloc, asked)?;
-            let notices = self.notices(alloc)?;
+            let notices = self.notices(alloc, asked.cfg)?;
             return Ok(waiting_pair(self.rt, alloc, room, notices, asked.clients)?);
         }
         let listener = self.listener(alloc, asked.address)?;
@@ -383,10 +394,23 @@ fn shared(alloc: Global, room: Room) -> Result<Arc<Room>, IoError>
     }
 }
 
+// Tells the names of all members, each once for its address.
+fn name_members(notices: &Notices, lbs: &[Lb]) -> Result<(), NoMemory> {
+    for lb in lbs {
+        for (member, end) in lb.book.members.as_slice().iter().zip(lb.ends.as_slice()) {
+            notices.name(&end.host, end.port, &member.name)?;
+        }
+    }
+    Ok(())
+}
+
 // Why clients can't be waited for.
 fn listen_trouble(alloc: Global, address: &Bytes, reason: io::Error) -> Result<Trouble, NoMemory> {
     let address = shown(alloc, address)?;
-    Ok(Trouble::Listen { address, reason })
+    match reason.kind() {
+        ErrorKind::InvalidInput => Ok(Trouble::Address { address }),
+        _ => Ok(Trouble::Listen { address, reason }),
+    }
 }
 
 // Why the socket can't be made at which a stop is asked for.
@@ -400,6 +424,13 @@ fn control_trouble(
         None => String::new(alloc),
     };
     Ok(Trouble::Control { path, reason })
+}
+
+// Says that a worker ended before its room was closed, which no file explains. Standard error that can't be written is no fault.
+fn say_early<R: Eprint>(rt: &R) {
+    let _ = eprintln!(rt;
+        "jkd: a worker ended early: it wanted memory, or a ticket came back that was not out"
+    );
 }
 
 // A door into the room, by which so many clients more come, and a dial that shares its outbox.
@@ -520,11 +551,24 @@ where
         }
     }
 
-    fn back(&mut self, _gear: RealGear<'r, R>)
+    fn back(&mut self, gear: RealGear<'r, R>)
         requires out { 0 < self.old.out }
         ensures one_less { self.new.out + 1 ≡ self.old.out }
         ensures same { self.new.failed ≡ self.old.failed }
     {
         self.out -= 1;
+        let Gear {
+            door,
+            dial: _,
+            tape: _,
+            clock: _,
+            mut shelf,
+            log: _,
+        } = gear;
+        match shelf.take_trouble() {
+            Some(trouble) if self.trouble.is_none() => self.trouble = Some(trouble),
+            None if door.is_left_open() => say_early(self.rt),
+            _ => {}
+        }
     }
 }

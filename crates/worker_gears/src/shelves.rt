@@ -1,14 +1,25 @@
 //! Shelves of the real world: files in a directory, or none.
-ghost use Rattle.std.specs.Prelude.{◌≡◌, ◌≤◌, true, false, Ok, Err, IsErrOf, OnOk};
+ghost use Rattle.std.specs.Prelude.{◌≡◌, ◌≤◌, IfOk, IsSome, None, true, false, Ok, Err, IsErrOf, OnOk, slice_get};
+ghost use Rattle.std.specs.Fs.{asks_create_new, asks_write};
+ghost use Rattle.worker_gears.specs.Files.{IsFileOf};
 ghost use Rattle.jk_io.specs.Told.{HasCause};
 
 use crate::journal_files::{SegmentFile, segment_file};
+use crate::trouble::Trouble;
 use jk_io::{Bytes, IoError, ListOf, NoMemory};
 use jk_model::Segment;
+use libc::net::poll;
 use locked_balancer::Shelf;
-use std::fs::OpenOptions;
-use std::io::Write;
+use real_io::{Notices, moment};
+use std::fs::{self, OpenOptions};
+use std::io::{self, ErrorKind, Write};
 use std::rt::Files;
+
+/// The milliseconds for which it is tried to write a segment.
+const TRY_MILLIS: u64 = 60_000;
+
+/// The milliseconds between two tries.
+const APART_MILLIS: i32 = 500;
 
 /// A shelf that writes each segment into a new file `DIR/NAME-FIRST.jkj`. It tells nothing of what it holds.
 #[derive(Drop)]
@@ -17,29 +28,89 @@ pub struct FileShelf<'r, R: Files> {
     dir: Bytes,
     /// The balancers' names, in order.
     names: ListOf<Bytes>,
+    /// Where it is said that a segment can't be written.
+    notices: Notices,
+    /// Which segment couldn't be written first.
+    trouble: Option<Trouble>,
     failed: u64,
 }
 
 impl<'r, R: Files> FileShelf<'r, R> {
     /// A shelf in this directory, for the balancers of these names, in order. No file is made or looked at.
-    pub fn new(rt: &'r R, dir: Bytes, names: ListOf<Bytes>) -> FileShelf<'r, R>
+    pub fn new(rt: &'r R, dir: Bytes, names: ListOf<Bytes>, notices: Notices) -> FileShelf<'r, R>
         ensures { (result.dir ≡ dir) × (result.names ≡ names) × (result.failed ≡ 0) }
     {
         FileShelf {
             rt,
             dir,
             names,
+            notices,
+            trouble: None,
             failed: 0,
         }
     }
 
+    /// Which segment couldn't be written first, and why.
+    pub fn take_trouble(&mut self) -> Option<Trouble>
+        ensures { self.new.failed ≡ self.old.failed }
+    {
+        self.trouble.take()
+    }
+
     // Writes the file of a segment, and says whether that was done whole. A balancer that has no name here has no file.
-    fn write(&self, lb: u32, segment: &Segment) -> Result<bool, NoMemory> {
-        let Some(name) = self.names.get(lb as usize) else {
-            return Ok(false);
+    fn write(&mut self, lb: u32, segment: &Segment) -> Result<bool, NoMemory>
+        ensures { self.new.failed ≡ self.old.failed }
+    {
+        match self.file_of(lb, segment)? {
+            Some(file) => Ok(self.write_file(file)),
+            None => Ok(false),
+        }
+    }
+
+    // The file of a segment; none where its balancer has no name here.
+    fn file_of(&self, lb: u32, segment: &Segment) -> Result<Option<SegmentFile>, NoMemory>
+        ensures { IfOk result (IsFileOf self.now.dir (slice_get self.now.names lb) segment.now) }
+    {
+        match self.names.get(lb as usize) {
+            Some(name) => Ok(Some(segment_file(&self.dir, name, segment)?)),
+            None => Ok(None),
+        }
+    }
+
+    // For how many milliseconds it is tried to write a segment: a minute, and only once after one couldn't be written.
+    fn patience(&self) -> u64
+        ensures first { self.now.trouble ≡ None → result ≡ 60000 }
+        ensures later { IsSome self.now.trouble → result ≡ 0 }
+    {
+        match self.trouble {
+            None => TRY_MILLIS,
+            Some(_) => 0,
+        }
+    }
+
+    // Writes a new file, and says whether that was done whole. It isn't where the path isn't UTF-8.
+    fn write_file(&mut self, file: SegmentFile) -> bool
+        ensures { self.new.failed ≡ self.old.failed }
+    {
+        let SegmentFile { path, text } = file;
+        let Ok(path) = String::from_utf8(path.into_vec()) else {
+            return false;
         };
-        let file = segment_file(&self.dir, name, segment)?;
-        Ok(write_new(self.rt, &file))
+        let until = moment().saturating_add(self.patience());
+        match write_until(
+            self.rt,
+            &self.notices,
+            until,
+            path.as_str(),
+            text.as_slice(),
+        ) {
+            Ok(()) => true,
+            Err(reason) => {
+                self.notices.given_up(path.as_str(), &reason);
+                self.trouble = Some(Trouble::Segment { path, reason });
+                false
+            }
+        }
     }
 
     // The answer of a call; it is counted where nothing was written.
@@ -68,19 +139,50 @@ impl<'r, R: Files> FileShelf<'r, R> {
     }
 }
 
-// Writes a new file, and says whether that was done whole. It isn't where the path isn't UTF-8, or is taken.
-fn write_new<R: Files>(rt: &R, file: &SegmentFile) -> bool {
-    let Ok(path) = str::from_utf8(file.path.as_slice()) else {
-        return false;
-    };
-    match OpenOptions::new()
-        .write(true)
-        .create_new(true)
-        .open(rt, path)
-    {
-        Ok(mut out) => out.write_all(file.text.as_slice()).is_ok(),
-        Err(_) => false,
+// Writes a new file. Where that fails it is tried again until a moment, which is said on standard error; not where the file is
+// there already.
+fn write_until<R: Files>(
+    rt: &R,
+    notices: &Notices,
+    until: u64,
+    path: &str,
+    text: &[u8],
+) -> io::Result<()> {
+    let mut is_said = false;
+    for _ in 0..u64::MAX {
+        let Err(reason) = write_new(rt, path, text) else {
+            break;
+        };
+        if reason.kind() == ErrorKind::AlreadyExists || moment() >= until {
+            return Err(reason);
+        }
+        if !is_said {
+            notices.unkept(path, &reason);
+            is_said = true;
+        }
+        poll(&mut [], APART_MILLIS);
     }
+    Ok(())
+}
+
+// How a file is opened that is to be written: none that is there already is.
+fn only_new() -> OpenOptions
+    ensures { (asks_write result ≡ true) × (asks_create_new result ≡ true) }
+{
+    let mut options = OpenOptions::new();
+    options.write(true);
+    options.create_new(true);
+    options
+}
+
+// Writes a new file. One that isn't whole is taken away.
+fn write_new<R: Files>(rt: &R, path: &str, text: &[u8]) -> io::Result<()> {
+    let mut out = only_new().open(rt, path)?;
+    let written = out.write_all(text);
+    if written.is_err() {
+        let _ = fs::remove_file(rt, path);
+    }
+    written
 }
 
 impl<'r, R: Files> Shelf for FileShelf<'r, R> {
@@ -127,6 +229,16 @@ impl Shelf for DropShelf {
 pub enum RealShelf<'r, R: Files> {
     Files(FileShelf<'r, R>),
     Dropped(DropShelf),
+}
+
+impl<'r, R: Files> RealShelf<'r, R> {
+    /// Which segment couldn't be written first, and why.
+    pub(crate) fn take_trouble(&mut self) -> Option<Trouble> {
+        match self {
+            RealShelf::Files(shelf) => shelf.take_trouble(),
+            RealShelf::Dropped(_) => None,
+        }
+    }
 }
 
 impl<'r, R: Files> Shelf for RealShelf<'r, R> {

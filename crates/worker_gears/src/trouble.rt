@@ -8,11 +8,15 @@ use thiserror::Error;
 pub enum Trouble {
     #[error("can't wait for clients at {address}: {reason}")]
     Listen { address: String, reason: io::Error },
+    #[error("an address is HOST:PORT, as 127.0.0.1:8080, or 0.0.0.0:8080 for all of the machine's: {address}")]
+    Address { address: String },
     /// The socket at which a stop is asked for.
     #[error("can't be asked to stop at {path}: {reason}")]
     Control { path: String, reason: io::Error },
     #[error("can't write a journal in {dir}: {reason}")]
     Journal { dir: String, reason: io::Error },
+    #[error("can't write {path}: {reason}")]
+    Segment { path: String, reason: io::Error },
     /// A segment's file is never written over.
     #[error("a journal is there already: {path}")]
     Taken { path: String },
