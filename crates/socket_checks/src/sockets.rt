@@ -69,7 +69,12 @@ fn answers_and_closes<D: Door, A: Link>(alloc: Global, door: &mut D, near: &mut 
 }
 
 /// Whether a door answers its one client, and is closed then.
-fn answers_a_dial<D: Door, E: Dial>(alloc: Global, door: &mut D, dial: &mut E, port: u16) -> bool {
+pub fn answers_a_dial<D: Door, E: Dial>(
+    alloc: Global,
+    door: &mut D,
+    dial: &mut E,
+    port: u16,
+) -> bool {
     match dialled(alloc, dial, port) {
         Ok(near) => {
             let mut near = near;
