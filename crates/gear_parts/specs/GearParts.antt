@@ -1,10 +1,10 @@
 -- What of a gear goes where while its worker runs.
 use Rattle.std.specs.Prelude.{ℕ, false, List, [], ◌∷◌, map, Option, None}
+use Rattle.atomic_table.specs.Seated.{TableId}
 use Rattle.jk_io.specs.declared.reaching.Talk.{Talk}
 use Rattle.conn_pool.specs.Reaches.{PooledState}
 use Rattle.door_clients.specs.Doors.{DoorSide}
-use Rattle.locked_balancer.specs.Histories.{no_seat}
-use Rattle.locked_balancer.specs.SharedDesks.{SharedState, shared_desk, unseated}
+use Rattle.locked_balancer.specs.SharedDesks.{SharedState, shared_desk}
 use Rattle.gear_parts.specs.Gears.{GearSide}
 use Rattle.gear_parts.specs.declared.world.Gear.{Gear}
 use Rattle.gear_parts.specs.declared.left.Left.{Left}
@@ -24,7 +24,11 @@ rest_with dial tape clock shelf log = record { dial = dial; tape = tape; clock =
 
 -- ---- a connector's gear
 
--- what a worker has when it begins, whatever its desk's seat at the lock
+-- a desk, whatever its number at its lock
+abbrev pub unnumbered : {S : Type 0} → SharedState S → SharedState S
+unnumbered d = record d { seat = record d.seat { number = 0 } }
+
+-- what a worker has when it begins, whatever its desk's number at the lock
 pub record Start (D G T K S C : Type 0) : Type 0 where
   pub door : D
   pub reach : PooledState G T C
@@ -32,15 +36,16 @@ pub record Start (D G T K S C : Type 0) : Type 0 where
   pub desk : SharedState S
 
 abbrev pub start_with : {D G T K S C : Type 0} → D → PooledState G T C → K → SharedState S → Start D G T K S C
-start_with door reach clock desk = record { door = door; reach = reach; clock = clock; desk = unseated desk }
+start_with door reach clock desk = record { door = door; reach = reach; clock = clock; desk = unnumbered desk }
 
--- What the worker of a gear begins with: a desk of one part that has the gear's shelf, and a reach with its dial and its tape.
-abbrev pub start_of : {D G T K S O C : Type 0} → (sizes pools : List ℕ) → Gear D G T K S O → Start D G T K S C
-start_of sizes pools gear = record {
+-- What the worker of a gear begins with: a desk of one part at this lock that has the gear's shelf and has seen nothing, and a
+-- reach with its dial and its tape.
+abbrev pub start_of : {D G T K S O C : Type 0} → (lock : TableId) → (sizes pools : List ℕ) → Gear D G T K S O → Start D G T K S C
+start_of lock sizes pools gear = record {
   door = gear.door;
   reach = record { dial = gear.dial; tape = gear.tape; lent = None; back = None; sizes = pools; faults = 0 };
   clock = gear.clock;
-  desk = record { desk = shared_desk sizes 1 [] [] 0 0 0 0 false; shelf = gear.shelf; forgotten = 0; wants = 0; met = None; seat = no_seat };
+  desk = record { desk = shared_desk sizes 1 [] [] 0 0 0 0 false; shelf = gear.shelf; forgotten = 0; wants = 0; met = None; seat = record { lock = lock; number = 0; seen = [] } };
 }
 
 -- what a worker leaves beside its desk

@@ -2,6 +2,7 @@
 ghost use Rattle.std.specs.Prelude.{◌≡◌, ◌≤◌, [], map, vec_capacity, vec_len, IfOk};
 ghost use Rattle.std.specs.List.{All};
 ghost use Rattle.conn_pool.specs.Idle.{counts};
+ghost use Rattle.locked_balancer.specs.Locks.{lock_of};
 ghost use Rattle.gear_parts.specs.GearParts.{start_of, start_with};
 ghost use Rattle.gear_parts.specs.Memories.{HasLogs, HasMemory};
 
@@ -57,7 +58,7 @@ pub fn parts_for<
     requires amount { share.amount ≡ 0 }
     requires idle { All (λ g. T.is_idle g.tape) gears.items }
     ensures starts { IfOk result (λ m. map (λ p. start_with p.door p.reach p.clock p.desk) m.parts.items
-        ≡ map (start_of L.sizes (counts common.now.pools.now)) gears.items) }
+        ≡ map (start_of (lock_of common.now.site.now) L.sizes (counts common.now.pools.now)) gears.items) }
     ensures count { IfOk result (λ m. vec_len m.parts ≡ vec_len gears) }
     ensures after { IfOk result (λ m. HasLogs (vec_len gears) m.after) }
     ensures logs { IfOk result (λ m. m.after.logs.items ≡ map (λ g. g.log) gears.items) }
@@ -94,7 +95,7 @@ fn filled<
     requires idle { All (λ g. T.is_idle g.tape) gears.items }
     requires memory { HasMemory (vec_len gears) memory }
     ensures starts { map (λ p. start_with p.door p.reach p.clock p.desk) result.parts.items
-        ≡ map (start_of L.sizes (counts common.now.pools.now)) gears.items }
+        ≡ map (start_of (lock_of common.now.site.now) L.sizes (counts common.now.pools.now)) gears.items }
     ensures count { vec_len result.parts ≡ vec_len gears }
     ensures after { HasLogs (vec_len gears) result.after }
     ensures logs { result.after.logs.items ≡ map (λ g. g.log) gears.items }

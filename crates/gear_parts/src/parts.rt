@@ -2,6 +2,7 @@
 ghost use Rattle.std.specs.Prelude.{◌≡◌, ◌+◌, ◌<◌, ◌≤◌, ◌++◌, [], ◌∷◌, length, map, vec_capacity, vec_len};
 ghost use Rattle.std.specs.List.{All};
 ghost use Rattle.conn_pool.specs.Idle.{counts};
+ghost use Rattle.locked_balancer.specs.Locks.{lock_of};
 ghost use Rattle.gear_parts.specs.GearParts.{start_of, start_with};
 ghost use Rattle.gear_parts.specs.Putting.{PutsOne};
 
@@ -48,7 +49,7 @@ pub(crate) fn fill_parts<
     requires amount { share.amount ≡ 0 }
     requires idle { All (λ g. T.is_idle g.tape) gears.items }
     ensures starts { map (λ p. start_with p.door p.reach p.clock p.desk) parts.new.items
-        ≡ map (start_of L.sizes (counts common.now.pools.now)) gears.items }
+        ≡ map (start_of (lock_of common.now.site.now) L.sizes (counts common.now.pools.now)) gears.items }
     ensures logs { logs.new.items ≡ map (λ g. g.log) gears.items }
 {
     let mut share = share;
@@ -71,7 +72,7 @@ fn put_parts<'s, 'r, L: SiteName, D, G: Dial, T: Tape, K, S: Shelf, O, R>(
     requires amount { share.old.amount ≡ 0 }
     requires idle { All (λ g. T.is_idle g.tape) gears.old.rest.items }
     ensures starts { map (λ p. start_with p.door p.reach p.clock p.desk) parts.new.items
-        ≡ map (start_of L.sizes (counts common.now.pools.now)) gears.old.rest.items }
+        ≡ map (start_of (lock_of common.now.site.now) L.sizes (counts common.now.pools.now)) gears.old.rest.items }
     ensures logs { logs.new.items ≡ map (λ g. g.log) gears.old.rest.items }
 {
     'gears: while let Some(gear) = gears.next() {
@@ -92,7 +93,7 @@ fn put_part<'s, 'r, L: SiteName, D, G: Dial, T: Tape, K, S: Shelf, O, R>(
     requires amount { share.old.amount ≡ 0 }
     requires idle { T.is_idle gear.tape }
     requires room { (vec_len parts.old < vec_capacity parts.old) × (vec_len logs.old < vec_capacity logs.old) }
-    ensures part { PutsOne (λ p. start_with p.door p.reach p.clock p.desk ≡ start_of L.sizes (counts common.now.pools.now) gear)
+    ensures part { PutsOne (λ p. start_with p.door p.reach p.clock p.desk ≡ start_of (lock_of common.now.site.now) L.sizes (counts common.now.pools.now) gear)
         parts.old.items parts.new.items }
     ensures log { logs.new.items ≡ logs.old.items ++ gear.log ∷ [] }
     ensures share { (share.new.parts + 1 ≡ share.old.parts) × (share.new.amount ≡ 0) }
@@ -119,7 +120,7 @@ fn part_of<'s, 'r, L: SiteName, D, G: Dial, T: Tape, K, S: Shelf, O, R>(
     requires amount { share.amount ≡ 0 }
     requires idle { T.is_idle gear.tape }
     ensures part { start_with result.0.door result.0.reach result.0.clock result.0.desk
-        ≡ start_of L.sizes (counts common.now.pools.now) gear }
+        ≡ start_of (lock_of common.now.site.now) L.sizes (counts common.now.pools.now) gear }
     ensures log { result.1 ≡ gear.log }
 {
     let Gear {

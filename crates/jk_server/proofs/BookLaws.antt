@@ -8,7 +8,7 @@ use Rattle.locked_balancer.specs.Sites.{At, nexts_of}
 use Rattle.site_books.specs.Starts.{AreStarts}
 use Rattle.site_books.proofs.StartLaws.{starts_each}
 use Rattle.site_config.specs.declared.balancer.Lb.{Lb}
-use Rattle.jk_server.specs.Closings.{firsts_of}
+use Rattle.jk_server.specs.Headline.{firsts_of}
 
 -- the number that comes next in a Book that starts
 start_number : (lb : Lb) (at : ℕ) (b : Journal) → IsStart b lb.book at 0 → next_number b ≡ 0

@@ -4,22 +4,26 @@ use Rattle.std.specs.List.{AllZip}
 use Rattle.std.specs.Prelude.{OnErr}
 use Rattle.jk_io.specs.Told.{Rose}
 use Rattle.jk_io.specs.declared.reaching.Talk.{Talk}
+use Rattle.jk_model.specs.declared.opening.Opening.{Opening}
 use Rattle.jk_model.specs.declared.segment.Segment.{Segment}
 use Rattle.balancer_core.specs.Journal.{Journal}
 use Rattle.door_clients.specs.Doors.{DoorSide}
 use Rattle.exchange.specs.Requests.{sizes_of}
+use Rattle.locked_balancer.specs.Histories.{IsClosed, SeatNote, starts_of}
 use Rattle.locked_balancer.specs.Sites.{AreSited}
+use Rattle.site_books.specs.Starts.{AreStarts}
 use Rattle.site_config.specs.declared.balancer.Lb.{Lb}
 use Rattle.gear_parts.specs.Cuts.{AddsCuts, AddsFront, ToFirst}
 use Rattle.gear_parts.specs.GearParts.{gear_with, gears_with, Tools, tools}
 use Rattle.gear_parts.specs.Gears.{GearSide, gear_side, KeepsLog}
 use Rattle.gear_parts.specs.declared.world.Gear.{Gear}
 use Rattle.site_closing.specs.Closings.{DiscordNote}
-use Rattle.jk_server.specs.Closings.{Closes, firsts_of, IsDiscordOf, KeepsFirst, Shelves, ShelvesFront}
+use Rattle.jk_server.specs.Headline.{AreEnded, firsts_of}
+use Rattle.jk_server.specs.Closings.{Closes, IsDiscordOf, KeepsFirst, Shelves, ShelvesFront}
 use Rattle.jk_server.specs.Ends.{KeepsEach}
 use Rattle.jk_server.specs.declared.runs.ends.Closing.{Closing}
 use Rattle.jk_server.specs.declared.runs.ends.Closing.TheVariants as closing
-use Rattle.jk_server.specs.Shelved.{EndsSo, IsDiscordAt, IsPutBack, KeepsCuts}
+use Rattle.jk_server.specs.Shelved.{AreClosed, EndsSo, IsDiscordAt, IsPutBack, KeepsCuts}
 use Rattle.jk_server.proofs.GearRunLaws.{told_again}
 
 -- What was done with the first shelf, said of the gears.
@@ -33,9 +37,9 @@ first_kept {S = S} at talks answers Kept (t ∷ ts) (s ∷ old) (s' ∷ new) len
     (kept.0, refl, ap (λ (shelves : List S). gears_with (gear_with at talks answers) ts shelves) kept.1)
 
 -- The Books were those of the Site.
-pub last_kept : {S : Type 0} (shelved : S → Option (List (ℕ × Segment))) (lbs : List Lb) (books : List Journal) (old new : S)
-    → AreSited (sizes_of lbs) (firsts_of lbs) books → AddsCuts shelved books old new → Shelves shelved lbs old new
-last_kept shelved lbs books old new sited cuts = (cuts.0, (books, sited, cuts.1), cuts.2)
+pub last_kept : {S : Type 0} (shelved : S → Option (List (ℕ × Segment))) (lbs : List Lb) (seats : List SeatNote) (books : List Journal) (old new : S)
+    → AreEnded lbs seats books → AddsCuts shelved books old new → Shelves shelved lbs seats old new
+last_kept shelved lbs seats books old new ended cuts = (cuts.0, (books, ended, cuts.1), cuts.2)
 
 pub first_weaker : {S : Type 0} (P Q : S → S → Type 0) (old new : List S) → ((x y : S) → P x y → Q x y) → ToFirst P old new → ToFirst Q old new
 first_weaker P Q [] new then is = absurd is
@@ -54,19 +58,31 @@ kept_again {D} {G} {T} {K} {S} {O} {C} at talks answers Kept ts old new back len
     ∙ ap (λ (ss : List S). gears_with (gear_with at talks answers) ts ss) shelves_put))
     (first_kept at talks answers Kept ts old new len kept)
 
--- What a closing says by a Site's sizes and first numbers, said of the configuration.
+-- What the Books were at the end, said of the configuration.
+ended_said : (lbs : List Lb) (sizes firsts : List ℕ) (starts : List Opening) (seats : List SeatNote) (at : ℕ) (begun books : List Journal)
+    → sizes ≡ sizes_of lbs → firsts ≡ firsts_of lbs → starts ≡ starts_of begun → AreStarts lbs at 0 begun
+    → AreClosed sizes firsts starts seats books → AreEnded lbs seats books
+ended_said lbs sizes firsts starts seats at begun books same_sizes same_firsts same_starts begins closed = record {
+  sited =
+      subst (λ (ns : List ℕ). AreSited ns (firsts_of lbs) books) same_sizes
+      (subst (λ (ns : List ℕ). AreSited sizes ns books) same_firsts closed.sited);
+  at = at;
+  begun = begun;
+  starts = begins;
+  closed = subst (λ (os : List Opening). IsClosed os seats books) same_starts closed.history;
+}
+
+-- What a closing says of the Books of a Site, said of the configuration.
 kept_said : {D G T K S O C : Type 0} (at : D → DoorSide C) (talks : T → Option (List Talk)) (answers : K → Option (List ℕ)) (Kept : List Journal → S → S → Type 0) (Said : S → S → Type 0)
-    (lbs : List Lb) (sizes firsts : List ℕ) (ts : List (Tools D G T K)) (old : List S) (logs : List (Option O)) (back : List (Gear D G T K S O))
-    → sizes ≡ sizes_of lbs → firsts ≡ firsts_of lbs
-    → ((books : List Journal) (x y : S) → AreSited (sizes_of lbs) (firsts_of lbs) books → Kept books x y → Said x y)
-    → KeepsCuts Kept sizes firsts ts old logs back
+    (Ended Are : List Journal → Type 0) (ts : List (Tools D G T K)) (old : List S) (logs : List (Option O)) (back : List (Gear D G T K S O))
+    → ((books : List Journal) → Ended books → Are books)
+    → ((books : List Journal) (x y : S) → Are books → Kept books x y → Said x y)
+    → KeepsCuts Kept Ended ts old logs back
     → KeepsFirst Said (gears_with (gear_with at talks answers) ts old) (map (gear_side at talks answers) back)
-kept_said {D} {G} {T} {K} {S} {O} at talks answers Kept Said lbs sizes firsts ts old logs back same_sizes same_firsts say keeps =
-    let sited : AreSited (sizes_of lbs) (firsts_of lbs) keeps.0 =
-    subst (λ (ns : List ℕ). AreSited ns (firsts_of lbs) keeps.0) same_sizes (subst (λ (ns : List ℕ). AreSited sizes ns keeps.0) same_firsts keeps.1) in
+kept_said {D} {G} {T} {K} {S} {O} at talks answers Kept Said Ended Are ts old logs back are say keeps =
     kept_again at talks answers Said ts old (map (λ (g : Gear D G T K S O). g.shelf) back) back keeps.2.paired
     (first_weaker (Kept keeps.0) Said old (map (λ (g : Gear D G T K S O). g.shelf) back)
-    (λ x y kept. say keeps.0 x y sited kept) keeps.2.shelves_put)
+    (λ x y kept. say keeps.0 x y (are keeps.0 keeps.1) kept) keeps.2.shelves_put)
     keeps.2.tools_put refl
 
 discord_said : (lbs : List Lb) (sizes firsts : List ℕ) (d : DiscordNote) → sizes ≡ sizes_of lbs → firsts ≡ firsts_of lbs → IsDiscordAt sizes firsts d → IsDiscordOf lbs d
@@ -74,25 +90,30 @@ discord_said lbs sizes firsts d same_sizes same_firsts at =
     subst (λ (ns : List ℕ). IsDiscordAt ns (firsts_of lbs) d) same_sizes (subst (λ (ns : List ℕ). IsDiscordAt sizes ns d) same_firsts at)
 
 pub closes_said : {D G T K S O L C : Type 0} (at : D → DoorSide C) (talks : T → Option (List Talk)) (answers : K → Option (List ℕ)) (shelved : S → Option (List (ℕ × Segment)))
-    (faults : S → ℕ) (lbs : List Lb) (sizes firsts : List ℕ) (ts : List (Tools D G T K)) (old : List S) (logs : List (Option O)) (back : List (Gear D G T K S O)) (end : Closing L)
-    → sizes ≡ sizes_of lbs → firsts ≡ firsts_of lbs → EndsSo shelved faults sizes firsts ts old logs back end
-    → Closes shelved faults lbs (gears_with (gear_with at talks answers) ts old) (map (gear_side at talks answers) back) end
-closes_said at talks answers shelved faults lbs sizes firsts ts old logs back closing.Kept same_sizes same_firsts ends =
-    kept_said at talks answers (AddsCuts shelved) (Shelves shelved lbs) lbs sizes firsts ts old logs back same_sizes same_firsts
-    (λ books x y sited cuts. last_kept shelved lbs books x y sited cuts) ends
-closes_said {S = S} at talks answers shelved faults lbs sizes firsts ts old logs back closing.ShelfFault same_sizes same_firsts ends =
+    (faults : S → ℕ) (lbs : List Lb) (sizes firsts : List ℕ) (starts : List Opening) (seats : List SeatNote) (moment : ℕ) (begun : List Journal)
+    (ts : List (Tools D G T K)) (old : List S) (logs : List (Option O)) (back : List (Gear D G T K S O)) (end : Closing L)
+    → sizes ≡ sizes_of lbs → firsts ≡ firsts_of lbs → starts ≡ starts_of begun → AreStarts lbs moment 0 begun
+    → EndsSo shelved faults sizes firsts starts seats ts old logs back end
+    → Closes shelved faults lbs seats (gears_with (gear_with at talks answers) ts old) (map (gear_side at talks answers) back) end
+closes_said at talks answers shelved faults lbs sizes firsts starts seats moment begun ts old logs back closing.Kept same_sizes same_firsts same_starts begins ends =
+    kept_said at talks answers (AddsCuts shelved) (Shelves shelved lbs seats) (AreClosed sizes firsts starts seats) (AreEnded lbs seats) ts old logs back
+    (λ books closed. ended_said lbs sizes firsts starts seats moment begun books same_sizes same_firsts same_starts begins closed)
+    (λ books x y ended cuts. last_kept shelved lbs seats books x y ended cuts) ends
+closes_said {S = S} at talks answers shelved faults lbs sizes firsts starts seats moment begun ts old logs back closing.ShelfFault same_sizes same_firsts same_starts begins ends =
     kept_said at talks answers (λ (books : List Journal) (x y : S). AddsFront shelved books x y × Rose (faults x) (faults y))
-    (λ (x y : S). ShelvesFront shelved lbs x y × Rose (faults x) (faults y)) lbs sizes firsts ts old logs back same_sizes same_firsts
-    (λ books x y sited kept. ((books, sited, kept.0), kept.1)) ends
-closes_said {D} {G} {T} {K} {S} {O} at talks answers shelved faults lbs sizes firsts ts old logs back (closing.Differs d) same_sizes same_firsts ends = (
+    (λ (x y : S). ShelvesFront shelved lbs seats x y × Rose (faults x) (faults y)) (AreClosed sizes firsts starts seats) (AreEnded lbs seats) ts old logs back
+    (λ books closed. ended_said lbs sizes firsts starts seats moment begun books same_sizes same_firsts same_starts begins closed)
+    (λ books x y ended kept. ((books, ended, kept.0), kept.1)) ends
+closes_said {D} {G} {T} {K} {S} {O} at talks answers shelved faults lbs sizes firsts starts seats moment begun ts old logs back (closing.Differs d) same_sizes same_firsts same_starts begins ends = (
   discord_said lbs sizes firsts d same_sizes same_firsts ends.0,
   ap (λ (gs : List (Gear D G T K S O)). map (gear_side at talks answers) gs) ends.1,
 )
-closes_said {D} {G} {T} {K} {S} {O} at talks answers shelved faults lbs sizes firsts ts old logs back closing.NoMemory same_sizes same_firsts (inl none) =
+closes_said {D} {G} {T} {K} {S} {O} at talks answers shelved faults lbs sizes firsts starts seats moment begun ts old logs back closing.NoMemory same_sizes same_firsts same_starts begins (inl none) =
     inl (ap (λ (gs : List (Gear D G T K S O)). map (gear_side at talks answers) gs) none)
-closes_said at talks answers shelved faults lbs sizes firsts ts old logs back closing.NoMemory same_sizes same_firsts (inr keeps) =
-    inr (kept_said at talks answers (AddsFront shelved) (ShelvesFront shelved lbs) lbs sizes firsts ts old logs back same_sizes same_firsts
-    (λ books x y sited front. (books, sited, front)) keeps)
+closes_said at talks answers shelved faults lbs sizes firsts starts seats moment begun ts old logs back closing.NoMemory same_sizes same_firsts same_starts begins (inr keeps) =
+    inr (kept_said at talks answers (AddsFront shelved) (ShelvesFront shelved lbs seats) (AreClosed sizes firsts starts seats) (AreEnded lbs seats) ts old logs back
+    (λ books closed. ended_said lbs sizes firsts starts seats moment begun books same_sizes same_firsts same_starts begins closed)
+    (λ books x y ended front. (books, ended, front)) keeps)
 
 -- Gears that have the same logs have each its own.
 pub all_logs : {D G T K S O : Type 0} (gears back : List (Gear D G T K S O)) → map (λ g. g.log) back ≡ map (λ g. g.log) gears → AllZip KeepsLog gears back
@@ -104,14 +125,14 @@ all_logs (g ∷ gears) (b ∷ back) same =
     let tail : map (λ x. x.log) back ≡ map (λ x. x.log) gears = cc in (here, all_logs gears back tail)
 
 -- So of the gears that come back of a run.
-pub logs_said : {D G T K S O L : Type 0} (shelved : S → Option (List (ℕ × Segment))) (faults : S → ℕ) (sizes firsts : List ℕ) (ts : List (Tools D G T K)) (old : List S)
+pub logs_said : {D G T K S O L : Type 0} (shelved : S → Option (List (ℕ × Segment))) (faults : S → ℕ) (sizes firsts : List ℕ) (starts : List Opening) (seats : List SeatNote) (ts : List (Tools D G T K)) (old : List S)
     (logs : List (Option O)) (gears back : List (Gear D G T K S O)) (end : Closing L)
-    → logs ≡ map (λ g. g.log) gears → EndsSo shelved faults sizes firsts ts old logs back end → KeepsEach KeepsLog end gears back
-logs_said shelved faults sizes firsts ts old logs gears back closing.Kept same ends = all_logs gears back (ends.2.logs_put ∙ same)
-logs_said shelved faults sizes firsts ts old logs gears back closing.ShelfFault same ends = all_logs gears back (ends.2.logs_put ∙ same)
-logs_said shelved faults sizes firsts ts old logs gears back (closing.Differs d) same ends = ends.1
-logs_said shelved faults sizes firsts ts old logs gears back closing.NoMemory same (inl none) = inl none
-logs_said shelved faults sizes firsts ts old logs gears back closing.NoMemory same (inr keeps) = inr (all_logs gears back (keeps.2.logs_put ∙ same))
+    → logs ≡ map (λ g. g.log) gears → EndsSo shelved faults sizes firsts starts seats ts old logs back end → KeepsEach KeepsLog end gears back
+logs_said shelved faults sizes firsts starts seats ts old logs gears back closing.Kept same ends = all_logs gears back (ends.2.logs_put ∙ same)
+logs_said shelved faults sizes firsts starts seats ts old logs gears back closing.ShelfFault same ends = all_logs gears back (ends.2.logs_put ∙ same)
+logs_said shelved faults sizes firsts starts seats ts old logs gears back (closing.Differs d) same ends = ends.1
+logs_said shelved faults sizes firsts starts seats ts old logs gears back closing.NoMemory same (inl none) = inl none
+logs_said shelved faults sizes firsts starts seats ts old logs gears back closing.NoMemory same (inr keeps) = inr (all_logs gears back (keeps.2.logs_put ∙ same))
 
 -- What gears have that was had by others at their places.
 since_each : {D G T K S O : Type 0} (gears new back : List (Gear D G T K S O)) → map (λ g. g.log) new ≡ map (λ g. g.log) gears → AllZip KeepsLog new back → AllZip KeepsLog gears back

@@ -4,6 +4,7 @@ use Rattle.std.specs.Prelude.{sum_by}
 use Rattle.std.specs.List.{All}
 use Rattle.std.proofs.lemmas.List.Elements.{All-cons, All-head, All-nil, All-tail}
 use Rattle.std.proofs.lemmas.List.Sums.{sum_by-cons}
+use Rattle.atomic_table.specs.Seated.{TableId}
 use Rattle.jk_io.specs.declared.reaching.Talk.{Talk}
 use Rattle.jk_io.specs.declared.traits.streams.Meanings.{Ghosts}
 use Rattle.jk_io.specs.declared.traits.surroundings.Peer.{Peer}
@@ -18,6 +19,7 @@ use Rattle.gear_parts.specs.declared.memory.After.{After}
 use Rattle.gear_parts.specs.GearParts.{gear_with, gears_with, start_of, start_with, tools}
 use Rattle.gear_parts.specs.declared.part.Part.{Part}
 use Rattle.conn_pool.specs.Reaches.{PooledState}
+use Rattle.locked_balancer.specs.Histories.{SeatNote}
 use Rattle.locked_balancer.specs.declared.site.SiteName.{Ghosts as SiteGhosts}
 use Rattle.site_config.specs.declared.config.Config.{Config}
 use Rattle.uri_map.specs.declared.rule.Rule.{Rule}
@@ -29,29 +31,29 @@ use Rattle.jk_server.specs.Worker.{Keeps}
 
 -- Each gear was served by its worker, where that follows of its part, of what the worker left and of how it ended.
 pub gears_served : {P O V C S L X Y Z : Type 0} → (visits : ℕ → Peer → Visit) (told : Ghosts C X) (of : Keeps S Z) (Fresh : P → Type 0) (Is : ℕ → P → O → V → WorkerEnd L → Type 0)
-    (was : P → GearSide C S) (with : Y → S → GearSide C S) (tool : O → Y) (shelf : V → S)
+    (was : P → GearSide C S) (with : Y → S → GearSide C S) (tool : O → Y) (shelf : V → S) (seat : V → SeatNote)
     (n : ℕ) (ps : List P) (os : List O) (vs : List V) (es : List (WorkerEnd L)) → All Fresh ps → AreEach Is n ps os vs es
-    → ((k : ℕ) (p : P) (o : O) (v : V) (e : WorkerEnd L) → Fresh p → Is k p o v e → IsServedGear (visits k) told of (was p) (with (tool o) (shelf v)) e)
-    → AreServedGears visits told of n (map was ps) (gears_with with (map tool os) (map shelf vs)) es
-gears_served visits told of Fresh Is was with tool shelf n [] [] [] [] fresh each join = tt
-gears_served visits told of Fresh Is was with tool shelf n [] [] [] (e ∷ es) fresh each join = absurd each
-gears_served visits told of Fresh Is was with tool shelf n [] [] (v ∷ vs) es fresh each join = absurd each
-gears_served visits told of Fresh Is was with tool shelf n [] (o ∷ os) vs es fresh each join = absurd each
-gears_served visits told of Fresh Is was with tool shelf n (p ∷ ps) [] vs es fresh each join = absurd each
-gears_served visits told of Fresh Is was with tool shelf n (p ∷ ps) (o ∷ os) [] es fresh each join = absurd each
-gears_served visits told of Fresh Is was with tool shelf n (p ∷ ps) (o ∷ os) (v ∷ vs) [] fresh each join = absurd each
-gears_served visits told of Fresh Is was with tool shelf n (p ∷ ps) (o ∷ os) (v ∷ vs) (e ∷ es) fresh each join = (
+    → ((k : ℕ) (p : P) (o : O) (v : V) (e : WorkerEnd L) → Fresh p → Is k p o v e → IsServedGear (visits k) told of (was p) (with (tool o) (shelf v)) (seat v) e)
+    → AreServedGears visits told of n (map was ps) (gears_with with (map tool os) (map shelf vs)) (map seat vs) es
+gears_served visits told of Fresh Is was with tool shelf seat n [] [] [] [] fresh each join = tt
+gears_served visits told of Fresh Is was with tool shelf seat n [] [] [] (e ∷ es) fresh each join = absurd each
+gears_served visits told of Fresh Is was with tool shelf seat n [] [] (v ∷ vs) es fresh each join = absurd each
+gears_served visits told of Fresh Is was with tool shelf seat n [] (o ∷ os) vs es fresh each join = absurd each
+gears_served visits told of Fresh Is was with tool shelf seat n (p ∷ ps) [] vs es fresh each join = absurd each
+gears_served visits told of Fresh Is was with tool shelf seat n (p ∷ ps) (o ∷ os) [] es fresh each join = absurd each
+gears_served visits told of Fresh Is was with tool shelf seat n (p ∷ ps) (o ∷ os) (v ∷ vs) [] fresh each join = absurd each
+gears_served visits told of Fresh Is was with tool shelf seat n (p ∷ ps) (o ∷ os) (v ∷ vs) (e ∷ es) fresh each join = (
   join n p o v e (All-head Fresh p ps fresh) each.0,
-  gears_served visits told of Fresh Is was with tool shelf (n + 1) ps os vs es (All-tail Fresh p ps fresh) each.1 join,
+  gears_served visits told of Fresh Is was with tool shelf seat (n + 1) ps os vs es (All-tail Fresh p ps fresh) each.1 join,
 )
 
 -- So of lists that are the same.
 pub gears_told : {C S L X Y Z : Type 0} → (visits : ℕ → Peer → Visit) (told : Ghosts C X) (of : Keeps S Z) (n : ℕ) (before before' : List (GearSide C S)) (with : Y → S → GearSide C S)
-    (ts ts' : List Y) (shelves shelves' : List S) (es es' : List (WorkerEnd L)) → before ≡ before' → ts' ≡ ts → shelves' ≡ shelves → es' ≡ es
-    → AreServedGears visits told of n before (gears_with with ts shelves) es → AreServedGears visits told of n before' (gears_with with ts' shelves') es'
-gears_told {C} {S} {L} visits told of n before before' with ts ts' shelves shelves' es es' same_before same_tools same_shelves same_ends served =
-    rw (same_tools, same_shelves, same_ends)
-    (subst (λ (gs : List (GearSide C S)). AreServedGears visits told of n gs (gears_with with ts shelves) es) same_before served)
+    (ts ts' : List Y) (shelves shelves' : List S) (seats seats' : List SeatNote) (es es' : List (WorkerEnd L)) → before ≡ before' → ts' ≡ ts → shelves' ≡ shelves → seats' ≡ seats → es' ≡ es
+    → AreServedGears visits told of n before (gears_with with ts shelves) seats es → AreServedGears visits told of n before' (gears_with with ts' shelves') seats' es'
+gears_told {C} {S} {L} visits told of n before before' with ts ts' shelves shelves' seats seats' es es' same_before same_tools same_shelves same_seats same_ends served =
+    rw (same_tools, same_shelves, same_seats, same_ends)
+    (subst (λ (gs : List (GearSide C S)). AreServedGears visits told of n gs (gears_with with ts shelves) seats es) same_before served)
 
 -- Where each worker's share has one part, all have as many as there are workers.
 pub parts_whole : {P O V E : Type 0} → (Fresh : P → Type 0) (Is : ℕ → P → O → V → E → Type 0) (part : V → ℕ)
@@ -68,6 +70,20 @@ parts_whole Fresh Is part n (p ∷ ps) (o ∷ os) (v ∷ vs) (e ∷ es) fresh ea
     let here : part v ≡ 1 = one n p o v e (All-head Fresh p ps fresh) each.0 in
     let rest : sum_by part vs ≡ length ps = parts_whole Fresh Is part (n + 1) ps os vs es (All-tail Fresh p ps fresh) each.1 one in
     omega (arith, sum_by-cons part v vs, here, rest)
+
+-- So each worker left a desk of which this holds.
+pub each_left : {P O V E : Type 0} → (Fresh : P → Type 0) (Is : ℕ → P → O → V → E → Type 0) (Left : V → Type 0)
+    (n : ℕ) (ps : List P) (os : List O) (vs : List V) (es : List E) → All Fresh ps → AreEach Is n ps os vs es
+    → ((k : ℕ) (p : P) (o : O) (v : V) (e : E) → Fresh p → Is k p o v e → Left v) → All Left vs
+each_left Fresh Is Left n [] [] [] [] fresh each so = All-nil Left
+each_left Fresh Is Left n [] [] [] (e ∷ es) fresh each so = absurd each
+each_left Fresh Is Left n [] [] (v ∷ vs) es fresh each so = absurd each
+each_left Fresh Is Left n [] (o ∷ os) vs es fresh each so = absurd each
+each_left Fresh Is Left n (p ∷ ps) [] vs es fresh each so = absurd each
+each_left Fresh Is Left n (p ∷ ps) (o ∷ os) [] es fresh each so = absurd each
+each_left Fresh Is Left n (p ∷ ps) (o ∷ os) (v ∷ vs) [] fresh each so = absurd each
+each_left Fresh Is Left n (p ∷ ps) (o ∷ os) (v ∷ vs) (e ∷ es) fresh each so =
+    All-cons Left v vs (so n p o v e (All-head Fresh p ps fresh) each.0) (each_left Fresh Is Left (n + 1) ps os vs es (All-tail Fresh p ps fresh) each.1 so)
 
 -- There is an item for each worker in each list.
 pub as_many : {P O V E : Type 0} → (Is : ℕ → P → O → V → E → Type 0) (n : ℕ) (ps : List P) (os : List O) (vs : List V) (es : List E)
@@ -90,11 +106,11 @@ logs_so many count after same has = subst (λ (n : ℕ). HasLogs n after) (sym s
 
 -- What holds of all gears of which the parts and the logs were made, holds of these.
 pub runs_of : {D G T K S O L Y C X P W E : Type 0} {N : SiteGhosts L} → (told : RunTells D T K S Y C X) (cfg : Config) (rules : List Rule)
-    (parts : List (Part L D (PooledState G T P) K S W Y)) (logs : List (Option O)) (sizes pools : List ℕ) (gears : List (Gear D G T K S O)) (r : Result (Ran L D G T K S O N) E)
-    → map (λ p. start_with p.door p.reach p.clock p.desk) parts ≡ map (start_of sizes pools) gears → logs ≡ map (λ g. g.log) gears
-    → IfOk r (λ ran. RunsParts told cfg rules parts logs ran) → IfOk r (λ ran. IsRunOf told cfg rules gears ran)
-runs_of told cfg rules parts logs sizes pools gears (Ok ran) starts logged runs = runs sizes pools gears starts logged
-runs_of told cfg rules parts logs sizes pools gears (Err e) starts logged runs = runs
+    (parts : List (Part L D (PooledState G T P) K S W Y)) (logs : List (Option O)) (lock : TableId) (sizes pools : List ℕ) (gears : List (Gear D G T K S O)) (r : Result (Ran L D G T K S O N) E)
+    → map (λ p. start_with p.door p.reach p.clock p.desk) parts ≡ map (start_of lock sizes pools) gears → logs ≡ map (λ g. g.log) gears
+    → IfOk r (λ ran. RunsParts told cfg rules parts logs ran) → IfOk r (λ ran. IsRunOf told cfg rules lock gears ran)
+runs_of told cfg rules parts logs lock sizes pools gears (Ok ran) starts logged runs = runs lock sizes pools gears starts logged
+runs_of told cfg rules parts logs lock sizes pools gears (Err e) starts logged runs = runs
 
 -- What follows of each holds of all that the workers left.
 pub all_left : {P O V E : Type 0} → (Is : ℕ → P → O → V → E → Type 0) (Left : O → Type 0)

@@ -2,7 +2,9 @@ pub mod BookLaws
 pub mod CommandLaws
 pub mod CutLaws
 pub mod GearRunLaws
+pub mod HeadlineLaws
 pub mod ReturnLaws
 pub mod RunLaws
 pub mod SlotLaws
 pub mod StartLaws
+pub mod ToldLaws

@@ -5,6 +5,7 @@ use Rattle.std.proofs.lemmas.List.{length-map}
 use Rattle.std.proofs.lemmas.List.Elements.{All-map}
 use Rattle.conn_pool.specs.Idle.{counts}
 use Rattle.exchange.specs.Requests.{sizes_of}
+use Rattle.atomic_table.specs.Seated.{TableId}
 use Rattle.jk_io.specs.declared.reaching.Talk.{Talk}
 use Rattle.jk_io.specs.declared.traits.streams.Meanings.{Ghosts}
 use Rattle.jk_io.specs.declared.traits.surroundings.Peer.{Peer}
@@ -14,42 +15,52 @@ use Rattle.door_clients.specs.Doors.{DoorSide}
 use Rattle.site_config.specs.declared.balancer.Lb.{Lb}
 use Rattle.gear_parts.specs.Gears.{GearSide, gear_side}
 use Rattle.gear_parts.specs.declared.world.Gear.{Gear}
+use Rattle.jk_server.specs.Headline.{told_in}
 use Rattle.jk_server.specs.Served.{IsServed}
 use Rattle.jk_server.specs.Worker.{Keeps, WorkerSide}
 use Rattle.jk_server.specs.declared.part.WorkerEnd.{WorkerEnd}
-use Rattle.gear_parts.specs.GearParts.{Start, start_of}
+use Rattle.gear_parts.specs.GearParts.{Start, start_of, unnumbered}
 use Rattle.jk_server.specs.Closings.{Closes}
 use Rattle.jk_server.specs.Runs.{AreServedGears, IsNew, IsSiteRun, IsServedGear, WorksWith}
-use Rattle.locked_balancer.specs.SharedDesks.{SharedState, unseated}
+use Rattle.locked_balancer.specs.Histories.{SeatNote, noted, own_in}
+use Rattle.locked_balancer.specs.SharedDesks.{SharedState}
 use Rattle.gear_parts.specs.Starts.{AreStarted}
 use Rattle.jk_server.specs.ServedGears.{IsBeginning, start_side}
 use Rattle.jk_server.specs.Started.{IsStartedRun, pool_table}
 use Rattle.jk_server.specs.declared.runs.ends.Closing.{Closing}
 use Rattle.gear_parts.proofs.ListLaws.{all_of_map, map_map}
+use Rattle.jk_server.proofs.HeadlineLaws.{headline_of}
 
 -- Parts that begin so are told as their gears are.
-pub starts_told : {P D G T K S O C X : Type 0} → (at : D → DoorSide C) (talks : T → Option (List Talk)) (answers : K → Option (List ℕ)) (sizes pools : List ℕ)
+pub starts_told : {P D G T K S O C X : Type 0} → (at : D → DoorSide C) (talks : T → Option (List Talk)) (answers : K → Option (List ℕ)) (lock : TableId) (sizes pools : List ℕ)
     (start : P → Start D G T K S X) (parts : List P) (gears : List (Gear D G T K S O))
-    → map start parts ≡ map (start_of sizes pools) gears
+    → map start parts ≡ map (start_of lock sizes pools) gears
     → map (λ (p : P). start_side at talks answers (start p)) parts ≡ map (gear_side at talks answers) gears
-starts_told {C = C} {X = X} at talks answers sizes pools start parts gears same =
+starts_told {C = C} {X = X} at talks answers lock sizes pools start parts gears same =
     sym (map_map (start_side at talks answers) start parts)
     ∙ ap (map (start_side at talks answers)) same
-    ∙ map_map (start_side at talks answers) (start_of sizes pools) gears
+    ∙ map_map (start_side at talks answers) (start_of lock sizes pools) gears
 
 -- What is so of each start is so of the parts.
-pub starts_are : {P D G T K S O X : Type 0} → (sizes pools : List ℕ) (Q : Start D G T K S X → Type 0)
+pub starts_are : {P D G T K S O X : Type 0} → (lock : TableId) (sizes pools : List ℕ) (Q : Start D G T K S X → Type 0)
     (start : P → Start D G T K S X) (parts : List P) (gears : List (Gear D G T K S O))
-    → map start parts ≡ map (start_of sizes pools) gears → All (λ (g : Gear D G T K S O). Q (start_of sizes pools g)) gears
+    → map start parts ≡ map (start_of lock sizes pools) gears → All (λ (g : Gear D G T K S O). Q (start_of lock sizes pools g)) gears
     → All (λ (p : P). Q (start p)) parts
-starts_are sizes pools Q start parts gears same each =
-    all_of_map Q start parts (subst (λ xs. All Q xs) (sym same) (All-map Q (start_of sizes pools) gears each))
+starts_are lock sizes pools Q start parts gears same each =
+    all_of_map Q start parts (subst (λ xs. All Q xs) (sym same) (All-map Q (start_of lock sizes pools) gears each))
 
--- A desk that begins, wherever its seat is.
-pub begins_seated : {S : Type 0} (d : SharedState S) → IsBeginning (unseated d) → IsBeginning d
-begins_seated d is = (
-  record { no_receipt = is.0.no_receipt; none_held = is.0.none_held; none_forgotten = is.0.none_forgotten; no_stray = is.0.no_stray },
+-- A desk that begins, whatever its number.
+pub begins_seated : {S : Type 0} (lock : TableId) (d : SharedState S) → IsBeginning lock (unnumbered d) → IsBeginning lock d
+begins_seated lock d is = (
+  record {
+    no_receipt = is.0.no_receipt;
+    none_held = is.0.none_held;
+    none_forgotten = is.0.none_forgotten;
+    no_stray = is.0.no_stray;
+    none_seen = is.0.none_seen;
+  },
   is.1,
+  is.2,
 )
 
 pub one_part : (was now : Option ℕ) (n : ℕ) → now ≡ Some n → now ≡ was → was ≡ Some 1 → n ≡ 1
@@ -57,20 +68,21 @@ one_part was now n is same one = cc
 
 -- What the workers did and how the closing ended, from the start.
 pub run_done : {C S Y L X : Type 0} → (visits : ℕ → Peer → Visit) (told : Ghosts C X) (shelved : S → Option (List (ℕ × Segment))) (of : Keeps S Y) (lbs : List Lb)
-    (begun left back : List (GearSide C S)) (ends ends' : List (WorkerEnd L)) (closing : Closing L)
-    → AreServedGears visits told of 0 begun left ends → ends' ≡ ends → Closes shelved of.shelf_faults lbs left back closing
+    (begun left back : List (GearSide C S)) (seats : List SeatNote) (ends ends' : List (WorkerEnd L)) (closing : Closing L)
+    → AreServedGears visits told of 0 begun left seats ends → ends' ≡ ends → Closes shelved of.shelf_faults lbs seats left back closing
     → IsStartedRun visits told shelved of lbs begun back ends' closing
-run_done {L = L} visits told shelved of lbs begun left back ends ends' closing served same closed = record {
+run_done {L = L} visits told shelved of lbs begun left back seats ends ends' closing served same closed = record {
   left = left;
-  served = subst (λ (es : List (WorkerEnd L)). AreServedGears visits told of 0 begun left es) (sym same) served;
+  seats = seats;
+  served = subst (λ (es : List (WorkerEnd L)). AreServedGears visits told of 0 begun left seats es) (sym same) served;
   closed = closed;
 }
 
-pub served_gear : {C S Y L X : Type 0} → (visit : Peer → Visit) (told : Ghosts C X) (of : Keeps S Y) (before after : GearSide C S) (from to : WorkerSide S Y) (end : WorkerEnd L)
-    → IsServed visit told of before.door after.door from to end → WorksWith before from → IsNew from.desk → WorksWith after to
-    → IsServedGear visit told of before after end
-served_gear visit told of before after from to end served first fresh last =
-    record { from = from; to = to; first = first; fresh = fresh; last = last; served = served }
+pub served_gear : {C S Y L X : Type 0} → (visit : Peer → Visit) (told : Ghosts C X) (of : Keeps S Y) (before after : GearSide C S) (seat : SeatNote) (from to : WorkerSide S Y) (end : WorkerEnd L)
+    → (served : IsServed visit told of before.door after.door from to end) → WorksWith before from → IsNew from.desk → WorksWith after to
+    → own_in seat.number seat.seen ≡ noted (told_in served.runs) → IsServedGear visit told of before after seat end
+served_gear visit told of before after seat from to end served first fresh last own =
+    record { from = from; to = to; first = first; fresh = fresh; last = last; served = served; own = own }
 
 -- The run, from before its start.
 pub started_run : {D G T K S O C Y L X : Type 0} → (visits : ℕ → Peer → Visit) (told : Ghosts C X) (shelved : S → Option (List (ℕ × Segment))) (of : Keeps S Y) (lbs : List Lb)
@@ -84,8 +96,10 @@ started_run {D} {G} {T} {K} {S} {O} visits told shelved of lbs at gears lent new
   started =
       subst (λ (gs : List (Gear D G T K S O)). AreStarted (map at gs) (map at begun)) same
       (subst (λ (gs : List (Gear D G T K S O)). AreStarted (map at lent) (map at gs)) (sym written) started);
+  seats = run.seats;
   served = run.served;
   closed = run.closed;
+  headline = headline_of visits told of shelved of.shelf_faults lbs (map at begun) run.left (map at back) run.seats ends closing run.served run.closed;
 }
 
 pub ok_weaker : {T E : Type 0} (P Q : T → Type 0) (r : Result T E) → IfOk r P → ((x : T) → P x → Q x) → IfOk r Q

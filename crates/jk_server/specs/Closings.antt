@@ -1,25 +1,22 @@
 -- How the closing of a run ended: each balancer's last segment was kept on the first gear's shelf, or why not.
-use Rattle.std.specs.Prelude.{ℕ, ◌≡◌, ◌⊎◌, List, [], ◌∷◌, map, Option}
+use Rattle.std.specs.Prelude.{ℕ, ◌≡◌, ◌⊎◌, List, [], ◌∷◌, Option}
 use Rattle.jk_io.specs.Told.{appended, Rose}
 use Rattle.jk_model.specs.declared.journal.Entry.{Entry}
 use Rattle.jk_model.specs.declared.segment.Segment.{Segment}
 use Rattle.balancer_core.specs.Journal.{Journal}
 use Rattle.exchange.specs.Requests.{sizes_of}
-use Rattle.locked_balancer.specs.Sites.{AreSited}
+use Rattle.locked_balancer.specs.Histories.{SeatNote}
 use Rattle.site_closing.specs.Closings.{Differs, DiscordNote}
 use Rattle.site_config.specs.declared.balancer.Lb.{Lb}
 use Rattle.gear_parts.specs.Gears.{GearSide}
 use Rattle.gear_parts.specs.Cuts.{AddsFront, AreCuts}
+use Rattle.jk_server.specs.Headline.{AreEnded, firsts_of}
 use Rattle.jk_server.specs.declared.runs.ends.Closing.{Closing}
 use Rattle.jk_server.specs.declared.runs.ends.Closing.TheVariants as closing
 
--- each balancer's first number, which is 0
-abbrev pub firsts_of : List Lb → List ℕ
-firsts_of lbs = map (λ lb. 0) lbs
-
--- These are the last segments of the balancers of a configuration.
-abbrev pub AreLast : List Lb → List (ℕ × Segment) → Type 0
-AreLast lbs kept = (books : List Journal) × AreSited (sizes_of lbs) (firsts_of lbs) books × AreCuts 0 books kept
+-- These are the last segments of the balancers of a configuration, over which desks at these seats were.
+abbrev pub AreLast : List Lb → List SeatNote → List (ℕ × Segment) → Type 0
+AreLast lbs seats kept = (books : List Journal) × AreEnded lbs seats books × AreCuts 0 books kept
 
 -- The gears came back as the workers left them, but for the first one's shelf, for which `Kept` holds.
 abbrev pub KeepsFirst : {C S : Type 0} → (S → S → Type 0) → (left back : List (GearSide C S)) → Type 0
@@ -28,22 +25,21 @@ KeepsFirst Kept (first ∷ rest) (first' ∷ rest') =
 KeepsFirst Kept left back = ⊥
 
 -- Just the last segments were added to a shelf.
-abbrev pub Shelves : {S : Type 0} → (S → Option (List (ℕ × Segment))) → List Lb → (old new : S) → Type 0
-Shelves shelved lbs old new = (kept : List (ℕ × Segment)) × AreLast lbs kept × (shelved new ≡ appended (shelved old) kept)
+abbrev pub Shelves : {S : Type 0} → (S → Option (List (ℕ × Segment))) → List Lb → List SeatNote → (old new : S) → Type 0
+Shelves shelved lbs seats old new = (kept : List (ℕ × Segment)) × AreLast lbs seats kept × (shelved new ≡ appended (shelved old) kept)
 
 -- The last segments of the first balancers were added to a shelf, and those of the others weren't.
-abbrev pub ShelvesFront : {S : Type 0} → (S → Option (List (ℕ × Segment))) → List Lb → (old new : S) → Type 0
-ShelvesFront shelved lbs old new =
-    (books : List Journal) × AreSited (sizes_of lbs) (firsts_of lbs) books × AddsFront shelved books old new
+abbrev pub ShelvesFront : {S : Type 0} → (S → Option (List (ℕ × Segment))) → List Lb → List SeatNote → (old new : S) → Type 0
+ShelvesFront shelved lbs seats old new = (books : List Journal) × AreEnded lbs seats books × AddsFront shelved books old new
 
 -- The receipts of the workers aren't the entries that the Books keep, and this is where they differ first.
 abbrev pub IsDiscordOf : List Lb → DiscordNote → Type 0
 IsDiscordOf lbs d = (entries : ℕ) × (receipts : List (ℕ × Entry)) × Differs (sizes_of lbs) (firsts_of lbs) entries receipts d
 
 -- What each end of the closing says.
-abbrev pub Closes : {C S L : Type 0} → (S → Option (List (ℕ × Segment))) → (S → ℕ) → List Lb → (left back : List (GearSide C S)) → Closing L → Type 0
-Closes shelved faults lbs left back closing.Kept = KeepsFirst (Shelves shelved lbs) left back
-Closes shelved faults lbs left back closing.ShelfFault =
-    KeepsFirst (λ old new. ShelvesFront shelved lbs old new × Rose (faults old) (faults new)) left back
-Closes shelved faults lbs left back (closing.Differs d) = IsDiscordOf lbs d × (back ≡ [])
-Closes shelved faults lbs left back closing.NoMemory = (back ≡ []) ⊎ KeepsFirst (ShelvesFront shelved lbs) left back
+abbrev pub Closes : {C S L : Type 0} → (S → Option (List (ℕ × Segment))) → (S → ℕ) → List Lb → List SeatNote → (left back : List (GearSide C S)) → Closing L → Type 0
+Closes shelved faults lbs seats left back closing.Kept = KeepsFirst (Shelves shelved lbs seats) left back
+Closes shelved faults lbs seats left back closing.ShelfFault =
+    KeepsFirst (λ old new. ShelvesFront shelved lbs seats old new × Rose (faults old) (faults new)) left back
+Closes shelved faults lbs seats left back (closing.Differs d) = IsDiscordOf lbs d × (back ≡ [])
+Closes shelved faults lbs seats left back closing.NoMemory = (back ≡ []) ⊎ KeepsFirst (ShelvesFront shelved lbs seats) left back

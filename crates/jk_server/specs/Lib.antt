@@ -1,5 +1,6 @@
 pub mod Worker
 pub mod Served
+pub mod Headline
 pub mod PartTells
 pub mod Parts
 pub mod Turns

@@ -6,6 +6,7 @@ use Rattle.jk_io.specs.declared.traits.surroundings.Peer.{Peer}
 use Rattle.balancer_core.specs.declared.receipt.Receipt.{Receipt}
 use Rattle.client_session.specs.Requests.{Visit, visit}
 use Rattle.door_clients.specs.Doors.{DoorSide}
+use Rattle.locked_balancer.specs.Histories.{SeatNote}
 use Rattle.locked_balancer.specs.SharedDesks.{SharedState}
 use Rattle.locked_balancer.specs.declared.shared_desk.Leaving.{Leaving}
 use Rattle.locked_balancer.specs.declared.site.SiteName.{Ghosts as SiteGhosts}
@@ -19,16 +20,17 @@ use Rattle.gear_parts.specs.declared.part.Part.{Part}
 use Rattle.jk_server.specs.declared.part.ServeEnd.{ServeEnd}
 use Rattle.jk_server.specs.declared.part.WorkerEnd.{WorkerEnd}
 
--- What a desk left: its receipts, how many it forgot, its shelf, and its share, whose amount is the count of entries.
-pub record Leaves {S : Type 0} (desk : SharedState S) (receipts : List Receipt) (forgotten : ℕ) (shelf : S) (amount parts : ℕ) : Type 0 where
+-- What a desk left: its receipts, how many it forgot, its shelf, its share, whose amount is the count of entries, and its seat.
+pub record Leaves {S : Type 0} (desk : SharedState S) (receipts : List Receipt) (forgotten : ℕ) (shelf : S) (amount parts : ℕ) (seat : SeatNote) : Type 0 where
   pub receipts_left : receipts ≡ desk.desk.receipts
   pub forgot : forgotten ≡ desk.forgotten
   pub shelf_left : shelf ≡ desk.shelf
   pub counted : amount ≡ desk.desk.added
   pub parts_left : desk.desk.parts ≡ Some parts
+  pub seat_left : seat ≡ desk.seat
 
 abbrev pub DeskLeaves : {L S : Type 0} {N : SiteGhosts L} → SharedState S → Leaving L S N → Type 0
-DeskLeaves desk left = Leaves desk left.receipts left.forgotten left.shelf left.share.amount left.share.parts
+DeskLeaves desk left = Leaves desk left.receipts left.forgotten left.shelf left.share.amount left.share.parts left.seat
 
 -- A worker served its part, and may serve on with what it has. Its share keeps its parts.
 pub record IsWorked {C S Y L X : Type 0} (visit : Peer → Visit) (told : Ghosts C X) (of : Keeps S Y) (cfg : Config) (rules : List Rule) (before after : DoorSide C) (s n : WorkerSide S Y) (beside : Beside) (end : WorkerEnd L) : Type 0 where

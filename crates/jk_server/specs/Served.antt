@@ -18,6 +18,7 @@ use Rattle.client_session.specs.declared.ending.SessionStop.{SessionStop}
 use Rattle.client_session.specs.declared.ending.SessionStop.TheVariants as stop
 use Rattle.client_session.specs.declared.ending.Why.TheVariants as why
 use Rattle.status_worker.specs.Desks.{KeepsTickets}
+use Rattle.locked_balancer.specs.Histories.{HasGone}
 use Rattle.locked_balancer.specs.SharedDesks.{SharedState}
 use Rattle.jk_server.specs.Worker.{Begins, Keeps, Rests, standing_with, took, WorkerSide}
 use Rattle.jk_server.specs.PartTells.{PartTells, worker_of}
@@ -38,7 +39,7 @@ pub record Run (C S Y : Type 0) : Type 0 where
 -- The client was served by one session of this worker: the requests of its bytes, of which each row was put, and why it
 -- ended; the client has the parts of these requests, joined; and what holds of each session that ends so. The session gained
 -- receipts of this worker alone, and the desk holds the tickets that it held. Only a client whose reads may wait was left
--- while it waited.
+-- while it waited. What the desk was told in the session is just what its seat has seen besides as its own.
 pub record IsRun {C S Y X : Type 0} (visit : Peer → Visit) (told : Ghosts C X) (of : Keeps S Y) (r : Run C S Y) : Type 0 where
   pub session : Serves (visit r.peer) (standing_with r.from (client_at told r.link)) (standing_with r.to (client_at told r.back))
       (λ gained. of.log.gained r.from.log gained r.to.log) r.end
@@ -48,6 +49,7 @@ pub record IsRun {C S Y X : Type 0} (visit : Peer → Visit) (told : Ghosts C X)
   pub met : MeetsBy r.end.stop r.from.desk.desk r.to.desk.desk
   pub kept : KeepsTickets (visit r.peer).session r.from.desk.desk r.to.desk.desk
   pub idle_only : r.end.stop ≡ stop.Closed why.Idle → of.may_wait ≡ true
+  pub gone : HasGone r.from.desk.seat r.from.desk.desk.receipts r.to.desk.seat r.to.desk.desk.receipts
 
 -- a worker goes on after a session that ended so
 abbrev pub CanGoOn : SessionStop → Type 0

@@ -1,6 +1,7 @@
 -- What the workers of a run did with its gears, by what they left.
 use Rattle.std.specs.Prelude.{ℕ, ◌≡◌, false, is_some, List, length, map, Option, Some, sum_by}
 use Rattle.std.specs.List.{All}
+use Rattle.atomic_table.specs.Seated.{TableId}
 use Rattle.jk_io.specs.declared.reaching.Talk.{Talk}
 use Rattle.door_clients.specs.Doors.{DoorSide}
 use Rattle.locked_balancer.specs.SharedDesks.{SharedState}
@@ -22,31 +23,35 @@ use Rattle.jk_server.specs.declared.runs.ran.Ran.{Ran}
 abbrev pub ServesGears : {D G T K S O L Y C X : Type 0} {N : SiteGhosts L} → RunTells D T K S Y C X → Config → List Rule → List (Gear D G T K S O) → Ran L D G T K S O N → Type 0
 ServesGears told cfg rules gears ran =
     AreServedGears (visit cfg rules) told.link told.keeps 0 (gears_at told gears)
-    (gears_with (gear_with told.door told.talks told.answers) (tools_of ran.left.items) (map (λ l. l.shelf) ran.leaving)) ran.workers
+    (gears_with (gear_with told.door told.talks told.answers) (tools_of ran.left.items) (map (λ l. l.shelf) ran.leaving)) (map (λ l. l.seat) ran.leaving) ran.workers
 
 -- a gear as its worker begins with it
 abbrev pub start_side : {D G T K S C X : Type 0} → (D → DoorSide C) → (T → Option (List Talk)) → (K → Option (List ℕ)) → Start D G T K S X → GearSide C S
 start_side at talks answers s = record { door = at s.door; talks = talks s.reach.tape; clock = answers s.clock; shelf = s.desk.shelf }
 
--- A worker that begins has a new desk, and one part of the ledger.
-abbrev pub IsBeginning : {S : Type 0} → SharedState S → Type 0
-IsBeginning desk = IsNew desk × (desk.desk.parts ≡ Some 1)
+-- A worker that begins has a new desk at this lock, and one part of the ledger.
+abbrev pub IsBeginning : {S : Type 0} → TableId → SharedState S → Type 0
+IsBeginning lock desk = IsNew desk × (desk.desk.parts ≡ Some 1) × (desk.seat.lock ≡ lock)
 
--- The workers left tools and a desk for each of these parts, and no talk runs. Where each part had a new desk of one part of
--- the ledger, each worker served what its part was the start of, and the desks have a part of the ledger for each worker.
+-- The workers left tools and a desk for each of these parts, and no talk runs. Where each part had a new desk at one lock of one
+-- part of the ledger, each worker served what its part was the start of, and the desks have a part of the ledger for each worker
+-- and their seats at that lock.
 pub record LeavesParts {D G T K S L Y C X P W : Type 0} {N : SiteGhosts L} (told : RunTells D T K S Y C X) (cfg : Config) (rules : List Rule) (parts : List (Part L D (PooledState G T P) K S W Y)) (end : ServeEnd L D (PooledState G T P) K S Y N) : Type 0 where
   pub outs : length end.outside ≡ length parts
   pub desks : length end.leaving ≡ length parts
   pub idle : All (λ o. is_some o.reach.lent ≡ false) end.outside
-  pub served : All (λ p. IsBeginning p.desk) parts → AreServedGears (visit cfg rules) told.link told.keeps 0
+  pub served : (lock : TableId) → All (λ p. IsBeginning lock p.desk) parts → AreServedGears (visit cfg rules) told.link told.keeps 0
       (map (λ p. start_side told.door told.talks told.answers (start_with p.door p.reach p.clock p.desk)) parts)
       (gears_with (gear_with told.door told.talks told.answers) (map (λ o. tools o.door o.reach.dial o.reach.tape o.clock) end.outside) (map (λ l. l.shelf) end.leaving))
-      end.workers
-  pub whole : All (λ p. IsBeginning p.desk) parts → sum_by (λ l. l.share.parts) end.leaving ≡ length parts
+      (map (λ l. l.seat) end.leaving) end.workers
+  pub here : (lock : TableId) → All (λ p. IsBeginning lock p.desk) parts → All (λ l. l.seat.lock ≡ lock) end.leaving
+  pub whole : (lock : TableId) → All (λ p. IsBeginning lock p.desk) parts → sum_by (λ l. l.share.parts) end.leaving ≡ length parts
 
--- Each gear was served so. There is a desk and a part of the ledger for each gear, and the gears' logs are left in order.
-pub record IsRunOf {D G T K S O L Y C X : Type 0} {N : SiteGhosts L} (told : RunTells D T K S Y C X) (cfg : Config) (rules : List Rule) (gears : List (Gear D G T K S O)) (ran : Ran L D G T K S O N) : Type 0 where
+-- Each gear was served so. There is a desk at this lock and a part of the ledger for each gear, and the gears' logs are left in
+-- order.
+pub record IsRunOf {D G T K S O L Y C X : Type 0} {N : SiteGhosts L} (told : RunTells D T K S Y C X) (cfg : Config) (rules : List Rule) (lock : TableId) (gears : List (Gear D G T K S O)) (ran : Ran L D G T K S O N) : Type 0 where
   pub served : ServesGears told cfg rules gears ran
+  pub here : All (λ l. l.seat.lock ≡ lock) ran.leaving
   pub whole : sum_by (λ l. l.share.parts) ran.leaving ≡ length gears
   pub each : length ran.leaving ≡ length gears
   pub logs : map (λ l. l.log) ran.left.items ≡ map (λ g. g.log) gears
@@ -54,6 +59,6 @@ pub record IsRunOf {D G T K S O L Y C X : Type 0} {N : SiteGhosts L} (told : Run
 -- The run is one of the gears of which these parts and logs were made, whichever these gears are.
 abbrev pub RunsParts : {D G T K S O L Y C X P W : Type 0} {N : SiteGhosts L} → RunTells D T K S Y C X → Config → List Rule → List (Part L D (PooledState G T P) K S W Y) → List (Option O) → Ran L D G T K S O N → Type 0
 RunsParts {D} {G} {T} {K} {S} {O} told cfg rules parts logs ran =
-    (sizes pools : List ℕ) (gears : List (Gear D G T K S O))
-    → map (λ p. start_with p.door p.reach p.clock p.desk) parts ≡ map (start_of sizes pools) gears → logs ≡ map (λ g. g.log) gears
-    → IsRunOf told cfg rules gears ran
+    (lock : TableId) (sizes pools : List ℕ) (gears : List (Gear D G T K S O))
+    → map (λ p. start_with p.door p.reach p.clock p.desk) parts ≡ map (start_of lock sizes pools) gears → logs ≡ map (λ g. g.log) gears
+    → IsRunOf told cfg rules lock gears ran

@@ -4,6 +4,8 @@ use Rattle.jk_io.specs.Told.{Rose}
 use Rattle.jk_model.specs.declared.journal.Entry.{Entry}
 use Rattle.jk_model.specs.declared.segment.Segment.{Segment}
 use Rattle.balancer_core.specs.Journal.{Journal}
+use Rattle.jk_model.specs.declared.opening.Opening.{Opening}
+use Rattle.locked_balancer.specs.Histories.{IsClosed, SeatNote}
 use Rattle.locked_balancer.specs.Sites.{AreSited}
 use Rattle.site_closing.specs.Closings.{Differs, DiscordNote}
 use Rattle.gear_parts.specs.declared.world.Gear.{Gear}
@@ -20,20 +22,25 @@ pub record IsPutBack {D G T K S O : Type 0} (Kept : S → S → Type 0) (left : 
   pub shelves_put : ToFirst Kept shelves (map (λ g. g.shelf) back)
   pub logs_put : map (λ g. g.log) back ≡ logs
 
--- The Books of a Site of these sizes and first numbers were cut, and `Kept` says what became of them on the first shelf.
-abbrev pub KeepsCuts : {D G T K S O : Type 0} → (List Journal → S → S → Type 0) → (sizes firsts : List ℕ) → List (Tools D G T K) → List S → List (Option O) → (back : List (Gear D G T K S O)) → Type 0
-KeepsCuts Kept sizes firsts left shelves logs back =
-    (books : List Journal) × AreSited sizes firsts books × IsPutBack (Kept books) left shelves logs back
+-- The Books at the end, with the history that made them what they are.
+pub record AreClosed (sizes firsts : List ℕ) (starts : List Opening) (seats : List SeatNote) (books : List Journal) : Type 0 where
+  pub sited : AreSited sizes firsts books
+  pub history : IsClosed starts seats books
+
+-- The Books at the end were cut, and `Kept` says what became of them on the first shelf.
+abbrev pub KeepsCuts : {D G T K S O : Type 0} → (List Journal → S → S → Type 0) → (Ended : List Journal → Type 0) → List (Tools D G T K) → List S → List (Option O) → (back : List (Gear D G T K S O)) → Type 0
+KeepsCuts Kept Ended left shelves logs back =
+    (books : List Journal) × Ended books × IsPutBack (Kept books) left shelves logs back
 
 -- Where the receipts of the workers differ first from the entries that the Books of a Site of this kind keep.
 abbrev pub IsDiscordAt : (sizes firsts : List ℕ) → DiscordNote → Type 0
 IsDiscordAt sizes firsts d = (entries : ℕ) × (receipts : List (ℕ × Entry)) × Differs sizes firsts entries receipts d
 
 -- What each end of the closing says of the tools, shelves and logs that the workers left, and of the gears that came back.
-abbrev pub EndsSo : {D G T K S O L : Type 0} → (S → Option (List (ℕ × Segment))) → (S → ℕ) → (sizes firsts : List ℕ) → List (Tools D G T K) → List S → List (Option O) → (back : List (Gear D G T K S O)) → Closing L → Type 0
-EndsSo shelved faults sizes firsts left shelves logs back closing.Kept = KeepsCuts (AddsCuts shelved) sizes firsts left shelves logs back
-EndsSo shelved faults sizes firsts left shelves logs back closing.ShelfFault =
-    KeepsCuts (λ books old new. AddsFront shelved books old new × Rose (faults old) (faults new)) sizes firsts left shelves logs back
-EndsSo shelved faults sizes firsts left shelves logs back (closing.Differs d) = IsDiscordAt sizes firsts d × (back ≡ [])
-EndsSo shelved faults sizes firsts left shelves logs back closing.NoMemory =
-    (back ≡ []) ⊎ KeepsCuts (AddsFront shelved) sizes firsts left shelves logs back
+abbrev pub EndsSo : {D G T K S O L : Type 0} → (S → Option (List (ℕ × Segment))) → (S → ℕ) → (sizes firsts : List ℕ) → (starts : List Opening) → (seats : List SeatNote) → List (Tools D G T K) → List S → List (Option O) → (back : List (Gear D G T K S O)) → Closing L → Type 0
+EndsSo shelved faults sizes firsts starts seats left shelves logs back closing.Kept = KeepsCuts (AddsCuts shelved) (AreClosed sizes firsts starts seats) left shelves logs back
+EndsSo shelved faults sizes firsts starts seats left shelves logs back closing.ShelfFault =
+    KeepsCuts (λ books old new. AddsFront shelved books old new × Rose (faults old) (faults new)) (AreClosed sizes firsts starts seats) left shelves logs back
+EndsSo shelved faults sizes firsts starts seats left shelves logs back (closing.Differs d) = IsDiscordAt sizes firsts d × (back ≡ [])
+EndsSo shelved faults sizes firsts starts seats left shelves logs back closing.NoMemory =
+    (back ≡ []) ⊎ KeepsCuts (AddsFront shelved) (AreClosed sizes firsts starts seats) left shelves logs back

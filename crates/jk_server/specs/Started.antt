@@ -8,7 +8,7 @@ use Rattle.jk_model.specs.declared.segment.Segment.{Segment}
 use Rattle.client_session.specs.Requests.{Visit, visit}
 use Rattle.exchange.specs.Requests.{sizes_of}
 use Rattle.site_config.specs.declared.balancer.Lb.{Lb}
-use Rattle.locked_balancer.specs.Histories.{starts_of}
+use Rattle.locked_balancer.specs.Histories.{SeatNote, starts_of}
 use Rattle.site_books.specs.Starts.{AreStarts}
 use Rattle.site_config.specs.declared.config.Config.{Config}
 use Rattle.uri_map.specs.Sites.{stands_in}
@@ -16,7 +16,8 @@ use Rattle.uri_map.specs.declared.rule.Rule.{Rule}
 use Rattle.gear_parts.specs.Gears.{GearSide, KeepsLog}
 use Rattle.gear_parts.specs.declared.world.Gear.{Gear}
 use Rattle.jk_server.specs.declared.part.WorkerEnd.{WorkerEnd}
-use Rattle.jk_server.specs.Closings.{Closes, firsts_of}
+use Rattle.jk_server.specs.Closings.{Closes}
+use Rattle.jk_server.specs.Headline.{firsts_of}
 use Rattle.jk_server.specs.Runs.{AreServedGears}
 use Rattle.jk_server.specs.Ends.{KeepsEach}
 use Rattle.jk_server.specs.RunTells.{gears_at, RunTells}
@@ -52,8 +53,9 @@ pub record IsReady {D G T K S O : Type 0} (is_idle : T → Type 0) (parts : ℕ)
 -- The workers served with the gears as they were at the start, and the closing ended so.
 pub record IsStartedRun {C S Y L X : Type 0} (visits : ℕ → Peer → Visit) (told : Ghosts C X) (shelved : S → Option (List (ℕ × Segment))) (of : Keeps S Y) (lbs : List Lb) (begun back : List (GearSide C S)) (ends : List (WorkerEnd L)) (closing : Closing L) : Type 0 where
   pub left : List (GearSide C S)
-  pub served : AreServedGears visits told of 0 begun left ends
-  pub closed : Closes shelved of.shelf_faults lbs left back closing
+  pub seats : List SeatNote
+  pub served : AreServedGears visits told of 0 begun left seats ends
+  pub closed : Closes shelved of.shelf_faults lbs seats left back closing
 
 -- What `IsStartedRun` says of the gears as they were at the start, and of what the run gave back, each with the log that it had.
 pub record RunsStarted {D G T K S O L Y C X : Type 0} (told : RunTells D T K S Y C X) (cfg : Config) (rules : List Rule) (gears : List (Gear D G T K S O)) (run : SiteRun L (Gear D G T K S O)) : Type 0 where

@@ -1,5 +1,5 @@
 //! One client: its session, and what a worker makes of the session's end.
-ghost use Rattle.std.specs.Prelude.{◌≡◌, ◌<◌, ℕ, [], ◌∷◌, true, false, None, Some};
+ghost use Rattle.std.specs.Prelude.{◌≡◌, ◌<◌, ℕ, [], ◌∷◌, true, false, None, Some, IsSome};
 ghost use Rattle.jk_io.specs.Told.{appended};
 ghost use Rattle.client_session.specs.Ends.{MeetsBy, RisesBy};
 ghost use Rattle.client_session.specs.Parts.{HasParts};
@@ -10,6 +10,8 @@ ghost use Rattle.client_session.specs.Standings.{standing};
 ghost use Rattle.client_session.specs.Whole.{HoldsOfEach, IsWholeSession};
 ghost use Rattle.client_session.specs.declared.ending.Why.TheVariants as why;
 ghost use Rattle.status_worker.specs.Desks.{KeepsTickets};
+ghost use Rattle.locked_balancer.specs.Histories.{HasGone};
+ghost use Rattle.locked_balancer.specs.Loans.{name_in, seat_in, state_in};
 ghost use Rattle.locked_balancer.specs.Notes.{StrayNote};
 ghost use Rattle.locked_balancer.specs.SharedDesks.{SharedState};
 ghost use Rattle.gear_parts.specs.Logs.{log_tells};
@@ -24,8 +26,9 @@ use client_session::{SessionEnd, SessionSite, SessionStop, Surroundings, serve_s
 use gear_parts::{Part, WorkerLog};
 use jk_io::{Clock, Door, IoError, Link, NoMemory, Peer, Reach};
 use jk_model::RowSink;
-use locked_balancer::{SharedDesk, Shelf, SiteName};
+use locked_balancer::{DeskLoan, LentDesk, Moment, SeatedDesk, SharedDesk, Shelf, SiteName};
 use std::alloc::Global;
+use std::marker::{Brand, PhantomData};
 use std::sync::Wait;
 
 /// What a shelf had refused at a moment: how often it failed, and how often it wanted memory.
@@ -191,6 +194,82 @@ where
     serve_around(visit, &mut around, rows)
 }
 
+/// As `serve_visit`, by a desk that is lent since the moment M and put back.
+#[tactic(auto, using(crate::proofs::ToldLaws::lent_now))]
+fn serve_lent<B: SeatedDesk, R: Reach, C: Link, K: Clock, Y: RowSink, M: Moment>(
+    visit: &Visit<'_>,
+    loan: &mut DeskLoan<'_, B>,
+    clock: &mut K,
+    reach: &mut R,
+    client: &mut C,
+    rows: &mut Y,
+) -> SessionEnd
+where
+    B::Mark: Drop,
+    B::Shown: Drop,
+    requires there { IsSome loan.old.desk }
+    requires name { name_in loan.old.desk ≡ M.name }
+    requires seat { seat_in B.seat loan.old.desk ≡ M.seat }
+    requires receipts { (state_in B.state loan.old.desk).receipts ≡ M.receipts }
+    requires ready { IsReady (visit_of visit.now.site) (state_in B.state loan.old.desk) (R.beside reach.old) }
+    ensures there { IsSome loan.new.desk }
+    ensures same { name_in loan.new.desk ≡ name_in loan.old.desk }
+    ensures session { let at = standing (state_in B.state) K.answers R.Meanings C.Meanings in
+        Serves (visit_of visit.now.site) (at loan.old.desk clock.old reach.old client.old) (at loan.new.desk clock.new reach.new client.new)
+        (λ gained. Y.gained rows.old gained rows.new) result }
+    ensures parts { let at = standing (state_in B.state) K.answers R.Meanings C.Meanings in
+        HasParts (visit_of visit.now.site) (at loan.old.desk clock.old reach.old client.old []) (at loan.new.desk clock.new reach.new client.new []) result }
+    ensures each { HoldsOfEach (visit_of visit.now.site) result }
+    ensures fault { RisesBy result.stop (C.faults client.old) (C.faults client.new) }
+    ensures met { MeetsBy result.stop (state_in B.state loan.old.desk) (state_in B.state loan.new.desk) }
+    ensures kept { KeepsTickets (visit_of visit.now.site).session (state_in B.state loan.old.desk) (state_in B.state loan.new.desk) }
+    ensures ready { IsReady (visit_of visit.now.site) (state_in B.state loan.new.desk) (R.beside reach.new) }
+    ensures idle_only { result.stop ≡ SessionStop.Closed why.Idle → C.may_wait ≡ true }
+    ensures gone { HasGone M.seat M.receipts (seat_in B.seat loan.new.desk) (state_in B.state loan.new.desk).receipts }
+{
+    let desk = loan.desk.take().unwrap();
+    let mut lent: LentDesk<'_, B, M> = LentDesk {
+        desk,
+        of: PhantomData,
+    };
+    let end = serve_visit(visit, &mut lent, clock, reach, client, rows);
+    let LentDesk { desk, of: _ } = lent;
+    loan.desk = Some(desk);
+    end
+}
+
+/// As `serve_visit`, by a desk at a lock, which is known to stay there, and to have seen as its own what the session was told.
+fn serve_seated<B: SeatedDesk, R: Reach, C: Link, K: Clock, Y: RowSink>(
+    visit: &Visit<'_>,
+    desk: &mut B,
+    clock: &mut K,
+    reach: &mut R,
+    client: &mut C,
+    rows: &mut Y,
+) -> SessionEnd
+where
+    B::Mark: Drop,
+    B::Shown: Drop,
+    requires ready { IsReady (visit_of visit.now.site) (B.state desk.old) (R.beside reach.old) }
+    ensures session { let at = standing B.state K.answers R.Meanings C.Meanings in
+        Serves (visit_of visit.now.site) (at desk.old clock.old reach.old client.old) (at desk.new clock.new reach.new client.new)
+        (λ gained. Y.gained rows.old gained rows.new) result }
+    ensures parts { let at = standing B.state K.answers R.Meanings C.Meanings in
+        HasParts (visit_of visit.now.site) (at desk.old clock.old reach.old client.old []) (at desk.new clock.new reach.new client.new []) result }
+    ensures each { HoldsOfEach (visit_of visit.now.site) result }
+    ensures fault { RisesBy result.stop (C.faults client.old) (C.faults client.new) }
+    ensures met { MeetsBy result.stop (B.state desk.old) (B.state desk.new) }
+    ensures kept { KeepsTickets (visit_of visit.now.site).session (B.state desk.old) (B.state desk.new) }
+    ensures ready { IsReady (visit_of visit.now.site) (B.state desk.new) (R.beside reach.new) }
+    ensures idle_only { result.stop ≡ SessionStop.Closed why.Idle → C.may_wait ≡ true }
+    ensures gone { HasGone (B.seat desk.old) (B.state desk.old).receipts (B.seat desk.new) (B.state desk.new).receipts }
+{
+    let mut loan = DeskLoan { desk: Some(desk) };
+    let end = serve_lent::<B, R, C, K, Y, Brand>(visit, &mut loan, clock, reach, client, rows);
+    let _back = loan.desk.unwrap();
+    end
+}
+
 /// One session of a client.
 fn serve_link<'x, L: SiteName, D: Door, R: Reach, K: Clock, S: Shelf, W: Wait, Y: WorkerLog>(
     alloc: Global,
@@ -213,7 +292,7 @@ fn serve_link<'x, L: SiteName, D: Door, R: Reach, K: Clock, S: Shelf, W: Wait, Y
             peer,
         },
     };
-    serve_visit(
+    serve_seated(
         &visit,
         &mut part.desk,
         &mut part.clock,

@@ -1,16 +1,19 @@
 //! The closing of a connector's run. The desks are closed, and what the journals still keep goes to the first shelf.
 ghost use Rattle.std.specs.Prelude.{◌≡◌, ◌<◌, ◌≤◌, ℕ, [], List, length, map, sum_by, vec_capacity, vec_len};
-ghost use Rattle.locked_balancer.specs.Sites.{AreSited};
+ghost use Rattle.std.specs.List.{All};
+ghost use Rattle.jk_model.specs.declared.opening.Opening.{Opening};
+ghost use Rattle.locked_balancer.specs.Histories.{SeatNote};
+ghost use Rattle.locked_balancer.specs.Locks.{lock_of};
 ghost use Rattle.jk_model.specs.declared.config.TheConstants.{MAX_BALANCERS};
 ghost use Rattle.gear_parts.specs.GearParts.{tools_of};
-ghost use Rattle.jk_server.specs.Shelved.{EndsSo};
+ghost use Rattle.jk_server.specs.Shelved.{AreClosed, EndsSo};
 
 use crate::runs::ends::{Closing, SiteRun};
 use crate::runs::ran::Ran;
 use gear_parts::{Gear, Left, gears_again, keep_on_first};
 use jk_io::IoError;
 use locked_balancer::{SharedSite, Shelf, SiteName};
-use site_closing::{CloseError, Closed, LeavingList, close_desks};
+use site_closing::{CloseError, Closed, LeavingList, close_own_desks};
 use std::sync::Wait;
 
 /// Closes the desks of a run, keeps what the journals still have, and puts the gears together again.
@@ -27,8 +30,9 @@ pub(crate) fn settle<
 >(site: SharedSite<'r, L, R>, ran: Ran<L, D, G, T, K, S, O>) -> SiteRun<L, Gear<D, G, T, K, S, O>>
     requires some { 0 < length ran.leaving }
     requires whole { sum_by (λ l. l.share.parts) ran.leaving ≡ L.parts }
+    requires here { All (λ l. l.seat.lock ≡ lock_of site) ran.leaving }
     ensures workers { result.workers ≡ ran.workers }
-    ensures closed { EndsSo S.shelved S.faults L.sizes L.firsts (tools_of ran.left.items) (map (λ l. l.shelf) ran.leaving)
+    ensures closed { EndsSo S.shelved S.faults L.sizes L.firsts L.starts (map (λ l. l.seat) ran.leaving) (tools_of ran.left.items) (map (λ l. l.shelf) ran.leaving)
         (map (λ l. l.log) ran.left.items) result.gears.items result.closing }
 {
     let Ran {
@@ -65,13 +69,14 @@ fn close_gears<
 ) -> Closing<L>
     requires some { 0 < length leaving }
     requires whole { sum_by (λ l. l.share.parts) leaving ≡ L.parts }
+    requires here { All (λ l. l.seat.lock ≡ lock_of site) leaving }
     requires none { gears.old.items ≡ [] }
     requires paired { vec_len left ≡ length leaving }
     requires room { vec_len left ≤ vec_capacity gears.old }
-    ensures { EndsSo S.shelved S.faults L.sizes L.firsts (tools_of left.items) (map (λ l. l.shelf) leaving)
+    ensures { EndsSo S.shelved S.faults L.sizes L.firsts L.starts (map (λ l. l.seat) leaving) (tools_of left.items) (map (λ l. l.shelf) leaving)
         (map (λ l. l.log) left.items) gears.new.items result }
 {
-    match close_desks(site, leaving) {
+    match close_own_desks(site, leaving) {
         Ok(closed) => close_books(closed, left, gears),
         Err(CloseError::Differs(discord)) => Closing::Differs(discord),
         Err(CloseError::NoMemory) => Closing::NoMemory,
@@ -89,8 +94,8 @@ fn close_books<L, D: Drop, G: Drop, T: Drop, K: Drop, S: Shelf + Drop, O: Drop>(
     requires none { gears.old.items ≡ [] }
     requires paired { vec_len left ≡ length closed.shelves }
     requires room { vec_len left ≤ vec_capacity gears.old }
-    ensures { (sizes firsts : List ℕ) → AreSited sizes firsts closed.books
-        → EndsSo S.shelved S.faults sizes firsts (tools_of left.items) closed.shelves (map (λ l. l.log) left.items) gears.new.items result }
+    ensures { (sizes firsts : List ℕ) (starts : List Opening) (seats : List SeatNote) → AreClosed sizes firsts starts seats closed.books
+        → EndsSo S.shelved S.faults sizes firsts starts seats (tools_of left.items) closed.shelves (map (λ l. l.log) left.items) gears.new.items result }
 {
     let Closed {
         books,

@@ -4,6 +4,7 @@ ghost use Rattle.std.specs.List.{All};
 ghost use Rattle.conn_pool.specs.Idle.{counts};
 ghost use Rattle.conn_pool.specs.Reaches.{beside_of};
 ghost use Rattle.exchange.specs.Requests.{sizes_of};
+ghost use Rattle.locked_balancer.specs.Locks.{lock_of};
 ghost use Rattle.uri_map.specs.Sites.{stands_in};
 ghost use Rattle.gear_parts.specs.GearParts.{tools, tools_of};
 ghost use Rattle.gear_parts.specs.Memories.{HasLogs};
@@ -65,7 +66,7 @@ where
     requires desk_sizes { L.sizes ≡ sizes_of plan.cfg.now.lbs }
     requires pool_sizes { counts common.now.pools.now ≡ sizes_of plan.cfg.now.lbs }
     ensures { let told = run_tells D.coming D.left D.faults T.talks K.answers D.L.Meanings S.shelved (unlogged S.faults D.L.may_wait) in
-        IfOk result (IsRunOf told plan.entry.cfg.now plan.entry.map.now gears.items) }
+        IfOk result (IsRunOf told plan.entry.cfg.now plan.entry.map.now (lock_of common.now.site.now) gears.items) }
 {
     match parts_for(alloc, common, share, gears) {
         Ok(memory) => work_in(rt, alloc, plan, common.site, memory),

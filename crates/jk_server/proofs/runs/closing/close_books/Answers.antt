@@ -9,7 +9,7 @@ use Rattle.jk_server.proofs.CutLaws.{both_first, of_err, put_back}
 use Rattle.jk_server.proofs.runs.closing.close_books.Goals as goal
 
 pub returns-in-Ok : goal.returns-in-Ok
-returns-in-Ok g c = λ sizes firsts sited.
+returns-in-Ok g c = λ sizes firsts starts seats ended.
     let lent = ap length c.as_mut_slice.ensures.value in
     let whole = c.into_vec-shelves.result.ok.0 in
     let len = c.keep_on_first-kept.ensures.len in
@@ -18,14 +18,14 @@ returns-in-Ok g c = λ sizes firsts sited.
     let put = c.gears_again.ensures.shelves
     ∙ written_back c.into_vec-shelves.result.len c.keep_on_first-kept.new.shelves _ (omega (arith, lent, whole, len)) in (
       c.args.closed.books,
-      sited,
+      ended,
       put_back (AddsCuts g.S.Shelf.shelved c.args.closed.books) (tools_of c.args.left.items) c.args.closed.shelves _ c.keep_on_first-kept.new.shelves _ _
           paired c.gears_again.ensures.tools c.gears_again.ensures.logs (c.as_mut_slice.ensures.value ∙ c.into_vec-shelves.ensures) put
           c.in-Ok.ensures.kept,
     )
 
 pub returns-in-Err-Failed : goal.returns-in-Err-Failed
-returns-in-Err-Failed g c = λ sizes firsts sited.
+returns-in-Err-Failed g c = λ sizes firsts starts seats ended.
     let here : c.in-Err-Failed.field-0 ≡ Failed = rw c.in-Err-Failed.is at c.in-Err-Failed.field-0-is in
     let failed : c.keep_on_first-kept.result ≡ Err Failed = c.in-Err-Failed.is ∙ ap Err here in
     let lent = ap length c.as_mut_slice.ensures.value in
@@ -36,7 +36,7 @@ returns-in-Err-Failed g c = λ sizes firsts sited.
     let put = c.gears_again.ensures.shelves
     ∙ written_back c.into_vec-shelves.result.len c.keep_on_first-kept.new.shelves _ (omega (arith, lent, whole, len)) in (
       c.args.closed.books,
-      sited,
+      ended,
       put_back (λ old new. AddsFront g.S.Shelf.shelved c.args.closed.books old new × Rose (g.S.Shelf.faults old) (g.S.Shelf.faults new))
           (tools_of c.args.left.items) c.args.closed.shelves _ c.keep_on_first-kept.new.shelves _ _
           paired c.gears_again.ensures.tools c.gears_again.ensures.logs (c.as_mut_slice.ensures.value ∙ c.into_vec-shelves.ensures) put
@@ -45,7 +45,7 @@ returns-in-Err-Failed g c = λ sizes firsts sited.
     )
 
 pub returns-in-Err-NoMemory : goal.returns-in-Err-NoMemory
-returns-in-Err-NoMemory g c = λ sizes firsts sited.
+returns-in-Err-NoMemory g c = λ sizes firsts starts seats ended.
     let lent = ap length c.as_mut_slice.ensures.value in
     let whole = c.into_vec-shelves.result.ok.0 in
     let len = c.keep_on_first-kept.ensures.len in
@@ -55,7 +55,7 @@ returns-in-Err-NoMemory g c = λ sizes firsts sited.
     ∙ written_back c.into_vec-shelves.result.len c.keep_on_first-kept.new.shelves _ (omega (arith, lent, whole, len)) in
     inr (
       c.args.closed.books,
-      sited,
+      ended,
       put_back (AddsFront g.S.Shelf.shelved c.args.closed.books) (tools_of c.args.left.items) c.args.closed.shelves _ c.keep_on_first-kept.new.shelves _ _
           paired c.gears_again.ensures.tools c.gears_again.ensures.logs (c.as_mut_slice.ensures.value ∙ c.into_vec-shelves.ensures) put
           (of_err c.keep_on_first-kept.result _ _ c.in-Err-NoMemory.is c.keep_on_first-kept.ensures.front),

@@ -5,8 +5,9 @@ use Rattle.door_clients.specs.Doors.{side}
 use Rattle.gear_parts.specs.GearParts.{gear_with, start_with, tools}
 use Rattle.jk_server.specs.RunTells.{run_tells, unlogged}
 use Rattle.jk_server.specs.ServedGears.{IsBeginning, LeavesParts, start_side}
-use Rattle.jk_server.proofs.GearRunLaws.{all_left, as_many, gears_served, parts_whole}
+use Rattle.jk_server.proofs.GearRunLaws.{all_left, as_many, each_left, gears_served, parts_whole}
 use Rattle.jk_server.proofs.StartLaws.{ok_weaker, one_part, served_gear}
+use Rattle.jk_server.proofs.ToldLaws.{lock_left, told_left, told_served}
 use Rattle.jk_server.proofs.runs.parts.serve_all.Goals as goal
 
 pub run_serve-requires-clause-few : goal.run_serve-requires-clause-few
@@ -25,15 +26,19 @@ returns g c =
       outs = (as_many _ 0 c.args.parts.items end.outside end.leaving end.workers each).0;
       desks = (as_many _ 0 c.args.parts.items end.outside end.leaving end.workers each).1;
       idle = all_left _ (λ o. is_some o.reach.lent ≡ false) 0 c.args.parts.items end.outside end.leaving end.workers each (λ k p o v e is. is.worked.fit.idle);
-      served = λ fresh.
-          gears_served (visit c.args.plan.cfg.now c.args.plan.map.now) g.D.L.Meanings (unlogged g.S.Shelf.faults g.D.L.Link.may_wait) (λ p. IsBeginning p.desk) _
+      served = λ lock fresh.
+          gears_served (visit c.args.plan.cfg.now c.args.plan.map.now) g.D.L.Meanings (unlogged g.S.Shelf.faults g.D.L.Link.may_wait) (λ p. IsBeginning lock p.desk) _
           (λ p. start_side at g.T.Tape.talks g.K.Clock.answers (start_with p.door p.reach p.clock p.desk))
-          (gear_with at g.T.Tape.talks g.K.Clock.answers) (λ o. tools o.door o.reach.dial o.reach.tape o.clock) (λ v. v.shelf)
+          (gear_with at g.T.Tape.talks g.K.Clock.answers) (λ o. tools o.door o.reach.dial o.reach.tape o.clock) (λ v. v.shelf) (λ v. v.seat)
           0 c.args.parts.items end.outside end.leaving end.workers fresh each
           (λ k p o v e new is.
-          served_gear _ _ _ _ _ _ _ _ is.worked.served (record { shelf = refl; clock = refl; talks = refl }) new.0
-          (record { shelf = sym is.left.shelf_left; clock = refl; talks = refl }));
-      whole = λ fresh.
-          parts_whole (λ p. IsBeginning p.desk) _ (λ v. v.share.parts) 0 c.args.parts.items end.outside end.leaving end.workers fresh each
+          served_gear _ _ _ _ _ _ _ _ _ is.worked.served (record { shelf = refl; clock = refl; talks = refl }) new.0
+          (record { shelf = sym is.left.shelf_left; clock = refl; talks = refl })
+          (told_left _ _ _ _ (told_served _ _ _ _ _ _ _ _ is.worked.served) new.0.none_seen is.left.seat_left));
+      here = λ lock fresh.
+          each_left (λ p. IsBeginning lock p.desk) _ (λ v. v.seat.lock ≡ lock) 0 c.args.parts.items end.outside end.leaving end.workers fresh each
+          (λ k p o v e new is. lock_left _ _ _ _ lock (told_served _ _ _ _ _ _ _ _ is.worked.served) new.2 is.left.seat_left);
+      whole = λ lock fresh.
+          parts_whole (λ p. IsBeginning lock p.desk) _ (λ v. v.share.parts) 0 c.args.parts.items end.outside end.leaving end.workers fresh each
           (λ k p o v e new is. one_part _ _ _ is.left.parts_left is.worked.parts new.1);
     })

@@ -1,5 +1,6 @@
-use Rattle.std.proofs.Common.{◌∙◌, ap, length, map, refl, sym}
+use Rattle.std.proofs.Common.{◌≡◌, ◌∙◌, ap, length, map, refl, subst, sym}
 use Rattle.std.specs.Prelude.{sum_by}
+use Rattle.std.specs.List.{All}
 use Rattle.std.proofs.lemmas.List.Elements.{All-weaker}
 use Rattle.client_session.specs.Requests.{visit}
 use Rattle.door_clients.specs.Doors.{side}
@@ -27,19 +28,21 @@ pub ran_of-requires-clause-idle : goal.ran_of-requires-clause-idle
 ran_of-requires-clause-idle g c = λ κs within. c.in-Ok.ensures.idle
 
 pub returns-in-Ok : goal.returns-in-Ok
-returns-in-Ok g c = λ sizes pools gears starts logged.
+returns-in-Ok g c = λ lock sizes pools gears starts logged.
     let begun =
-    starts_are sizes pools (λ s. IsBeginning s.desk) (λ p. start_with p.door p.reach p.clock p.desk) c.args.memory.parts.items gears starts
-    (λ k d lt. (record { no_receipt = refl; none_held = refl; none_forgotten = refl; no_stray = refl }, refl)) in
-    let fresh = All-weaker _ (λ p. IsBeginning p.desk) (λ p is. begins_seated p.desk is) c.args.memory.parts.items begun in
+    starts_are lock sizes pools (λ s. IsBeginning lock s.desk) (λ p. start_with p.door p.reach p.clock p.desk) c.args.memory.parts.items gears starts
+    (λ k d lt. (record { no_receipt = refl; none_held = refl; none_forgotten = refl; no_stray = refl; none_seen = refl }, refl, refl)) in
+    let fresh = All-weaker _ (λ p. IsBeginning lock p.desk) (λ p is. begins_seated lock p.desk is) c.args.memory.parts.items begun in
     record {
       served =
-          gears_told (visit c.args.plan.cfg.now c.args.plan.map.now) g.D.L.Meanings (unlogged g.S.Shelf.faults g.D.L.Link.may_wait) 0 _ _ _ _ _ _ _ _ _
-          (starts_told (side g.D.Door.coming g.D.Door.left g.D.Door.faults) g.T.Tape.talks g.K.Clock.answers sizes pools
+          gears_told (visit c.args.plan.cfg.now c.args.plan.map.now) g.D.L.Meanings (unlogged g.S.Shelf.faults g.D.L.Link.may_wait) 0 _ _ _ _ _ _ _ _ _ _ _
+          (starts_told (side g.D.Door.coming g.D.Door.left g.D.Door.faults) g.T.Tape.talks g.K.Clock.answers lock sizes pools
           (λ p. start_with p.door p.reach p.clock p.desk) c.args.memory.parts.items gears starts)
-          c.ran_of.ensures.tools (ap (λ vs. map (λ v. v.shelf) vs) c.ran_of.ensures.leaving) c.ran_of.ensures.workers (c.in-Ok.ensures.served fresh);
+          c.ran_of.ensures.tools (ap (λ vs. map (λ v. v.shelf) vs) c.ran_of.ensures.leaving) (ap (λ vs. map (λ v. v.seat) vs) c.ran_of.ensures.leaving)
+          c.ran_of.ensures.workers (c.in-Ok.ensures.served lock fresh);
+      here = subst (λ vs. All (λ v. v.seat.lock ≡ lock) vs) (sym c.ran_of.ensures.leaving) (c.in-Ok.ensures.here lock fresh);
       whole =
-          ap (λ vs. sum_by (λ v. v.share.parts) vs) c.ran_of.ensures.leaving ∙ c.in-Ok.ensures.whole fresh
+          ap (λ vs. sum_by (λ v. v.share.parts) vs) c.ran_of.ensures.leaving ∙ c.in-Ok.ensures.whole lock fresh
           ∙ as_long _ _ c.args.memory.parts.items gears starts;
       each = ap length c.ran_of.ensures.leaving ∙ c.in-Ok.ensures.desks ∙ as_long _ _ c.args.memory.parts.items gears starts;
       logs = c.ran_of.ensures.logs ∙ logged;

@@ -35,14 +35,17 @@ settle-requires-clause-some g c = some_left _ _ (c.in-Ok.ensures.each ∙ sym c.
 pub settle-requires-clause-whole : goal.settle-requires-clause-whole
 settle-requires-clause-whole g c = c.in-Ok.ensures.whole ∙ sym c.args.gears.ok.0 ∙ sym c.requires.ready.each
 
+pub settle-requires-clause-here : goal.settle-requires-clause-here
+settle-requires-clause-here g c = c.in-Ok.ensures.here
+
 pub returns-in-Ok : goal.returns-in-Ok
 returns-in-Ok g c = record {
   ran = record {
     is =
-        run_done (visit c.args.plan.cfg.now c.args.plan.map.now) g.D.L.Meanings g.S.Shelf.shelved (unlogged g.S.Shelf.faults g.D.L.Link.may_wait) c.args.plan.cfg.now.lbs _ _ _
+        run_done (visit c.args.plan.cfg.now c.args.plan.map.now) g.D.L.Meanings g.S.Shelf.shelved (unlogged g.S.Shelf.faults g.D.L.Link.may_wait) c.args.plan.cfg.now.lbs _ _ _ _
         _ _ _ c.in-Ok.ensures.served c.settle.ensures.workers
         (closes_said (side g.D.Door.coming g.D.Door.left g.D.Door.faults) g.T.Tape.talks g.K.Clock.answers g.S.Shelf.shelved g.S.Shelf.faults
-        c.args.plan.cfg.now.lbs _ _ _ _ _ _ _ c.requires.new.sized c.requires.new.numbered c.settle.ensures.closed);
-    logs = logs_said g.S.Shelf.shelved g.S.Shelf.faults _ _ _ _ _ c.args.gears.items _ _ c.in-Ok.ensures.logs c.settle.ensures.closed;
+        c.args.plan.cfg.now.lbs _ _ _ _ _ _ _ _ _ _ _ c.requires.new.sized c.requires.new.numbered c.requires.new.begun c.requires.new.books c.settle.ensures.closed);
+    logs = logs_said g.S.Shelf.shelved g.S.Shelf.faults _ _ _ _ _ _ _ c.args.gears.items _ _ c.in-Ok.ensures.logs c.settle.ensures.closed;
   };
 }

@@ -1,0 +1,106 @@
+-- The headline of a run, by what its workers did and how its closing ended.
+use Rattle.std.proofs.Common.{ℕ, suc, ◌≡◌, ◌+◌, List, [], ◌∷◌, length, map, Option, refl, ap, ◌∙◌}
+use Rattle.std.specs.List.{All, AllZip}
+use Rattle.std.proofs.lemmas.List.Elements.{All-head, All-tail}
+use Rattle.jk_io.specs.Told.{Rose}
+use Rattle.jk_io.specs.declared.traits.streams.Meanings.{Ghosts}
+use Rattle.jk_io.specs.declared.traits.surroundings.Peer.{Peer}
+use Rattle.jk_model.specs.declared.journal.Entry.{Entry}
+use Rattle.jk_model.specs.declared.segment.Segment.{Segment}
+use Rattle.balancer_core.specs.Journal.{Journal}
+use Rattle.balancer_core.specs.declared.receipt.Receipt.{Receipt}
+use Rattle.client_session.specs.Requests.{Visit}
+use Rattle.locked_balancer.specs.Histories.{SeatNote, noted, own_in}
+use Rattle.site_config.specs.declared.balancer.Lb.{Lb}
+use Rattle.gear_parts.specs.Gears.{GearSide}
+use Rattle.jk_server.specs.Closings.{Closes, KeepsFirst, Shelves, ShelvesFront}
+use Rattle.jk_server.specs.Headline.{AreEnded, AreSessions, HasBooks, IsHeadline, IsOneList, told_in}
+use Rattle.jk_server.specs.Runs.{AreServedGears}
+use Rattle.jk_server.specs.Served.{Run}
+use Rattle.jk_server.specs.Worker.{Keeps}
+use Rattle.jk_server.specs.declared.part.WorkerEnd.{WorkerEnd}
+use Rattle.jk_server.specs.declared.runs.ends.Closing.{Closing}
+use Rattle.jk_server.specs.declared.runs.ends.Closing.TheVariants as closing
+
+-- The sessions of all workers, and what each seat has seen as its own.
+record HaveServed {C S Y L X : Type 0} (visits : ℕ → Peer → Visit) (told : Ghosts C X) (of : Keeps S Y) (number : ℕ) (seats : List SeatNote) (ends : List (WorkerEnd L)) : Type 0 where
+  workers : List (List (Run C S Y))
+  each : length workers ≡ length ends
+  sessions : AreSessions visits told of number workers
+  own : AllZip (λ (s : SeatNote) (runs : List (Run C S Y)). own_in s.number s.seen ≡ noted (told_in runs)) seats workers
+
+have_served : {C S Y L X : Type 0} (visits : ℕ → Peer → Visit) (told : Ghosts C X) (of : Keeps S Y) (number : ℕ) (before after : List (GearSide C S)) (seats : List SeatNote) (ends : List (WorkerEnd L))
+    → AreServedGears visits told of number before after seats ends → HaveServed visits told of number seats ends
+have_served visits told of number [] [] [] [] served = record { workers = []; each = refl; sessions = tt; own = tt }
+have_served visits told of number (b ∷ before) (a ∷ after) (s ∷ seats) (e ∷ ends) served =
+    let rest = have_served visits told of (number + 1) before after seats ends served.1 in
+    record {
+      workers = served.0.served.runs ∷ rest.workers;
+      each = ap (λ (n : ℕ). suc n) rest.each;
+      sessions = (served.0.served.sessions, rest.sessions);
+      own = (served.0.own, rest.own);
+    }
+have_served visits told of number [] [] [] (e ∷ ends) served = absurd served
+have_served visits told of number [] [] (s ∷ seats) ends served = absurd served
+have_served visits told of number [] (a ∷ after) seats ends served = absurd served
+have_served visits told of number (b ∷ before) [] seats ends served = absurd served
+have_served visits told of number (b ∷ before) (a ∷ after) [] ends served = absurd served
+have_served visits told of number (b ∷ before) (a ∷ after) (s ∷ seats) [] served = absurd served
+
+-- What the one history has of each desk is what its worker's sessions were told.
+told_each : {C S Y : Type 0} (log : List (ℕ × (ℕ × Entry))) (seats : List SeatNote) (workers : List (List (Run C S Y)))
+    → All (λ s. own_in s.number log ≡ own_in s.number s.seen) seats
+    → AllZip (λ (s : SeatNote) (runs : List (Run C S Y)). own_in s.number s.seen ≡ noted (told_in runs)) seats workers
+    → AllZip (λ (n : ℕ) (receipts : List Receipt). own_in n log ≡ noted receipts) (map (λ s. s.number) seats) (map told_in workers)
+told_each log [] [] all own = tt
+told_each log [] (w ∷ workers) all own = absurd own
+told_each log (s ∷ seats) [] all own = absurd own
+told_each log (s ∷ seats) (w ∷ workers) all own = (
+  All-head (λ (t : SeatNote). own_in t.number log ≡ own_in t.number t.seen) s seats all ∙ own.0,
+  told_each log seats workers (All-tail (λ (t : SeatNote). own_in t.number log ≡ own_in t.number t.seen) s seats all) own.1,
+)
+
+one_list : {C S Y : Type 0} (lbs : List Lb) (seats : List SeatNote) (workers : List (List (Run C S Y))) (books : List Journal) → AreEnded lbs seats books
+    → AllZip (λ (s : SeatNote) (runs : List (Run C S Y)). own_in s.number s.seen ≡ noted (told_in runs)) seats workers
+    → IsOneList lbs (map told_in workers) books
+one_list lbs seats workers books ended own = record {
+  at = ended.at;
+  begun = ended.begun;
+  starts = ended.starts;
+  log = ended.closed.log;
+  history = ended.closed.history;
+  numbers = map (λ s. s.number) seats;
+  apart = ended.closed.apart;
+  told = told_each ended.closed.log seats workers ended.closed.own own;
+}
+
+-- The Books of a closing that took them.
+first_ends : {C S : Type 0} (lbs : List Lb) (seats : List SeatNote) (Kept : S → S → Type 0) (left back : List (GearSide C S))
+    → ((x y : S) → Kept x y → (books : List Journal) × AreEnded lbs seats books) → KeepsFirst Kept left back → (books : List Journal) × AreEnded lbs seats books
+first_ends lbs seats Kept (first ∷ rest) (first' ∷ rest') say keeps = say first.shelf first'.shelf keeps.0
+first_ends lbs seats Kept [] back say keeps = absurd keeps
+first_ends lbs seats Kept (first ∷ rest) [] say keeps = absurd keeps
+
+ends_with : {C S L : Type 0} (shelved : S → Option (List (ℕ × Segment))) (faults : S → ℕ) (lbs : List Lb) (seats : List SeatNote) (left back : List (GearSide C S)) (end : Closing L)
+    → Closes shelved faults lbs seats left back end → HasBooks end → (books : List Journal) × AreEnded lbs seats books
+ends_with shelved faults lbs seats left back closing.Kept closes has =
+    first_ends lbs seats (Shelves shelved lbs seats) left back (λ x y kept. (kept.1.0, kept.1.1)) closes
+ends_with {S = S} shelved faults lbs seats left back closing.ShelfFault closes has =
+    first_ends lbs seats (λ (old new : S). ShelvesFront shelved lbs seats old new × Rose (faults old) (faults new)) left back (λ x y kept. (kept.0.0, kept.0.1)) closes
+ends_with shelved faults lbs seats left back (closing.Differs d) closes has = absurd has
+ends_with shelved faults lbs seats left back closing.NoMemory closes has = absurd has
+
+-- The headline.
+pub headline_of : {C S Y L X : Type 0} (visits : ℕ → Peer → Visit) (told : Ghosts C X) (of : Keeps S Y) (shelved : S → Option (List (ℕ × Segment))) (faults : S → ℕ) (lbs : List Lb)
+    (begun left back : List (GearSide C S)) (seats : List SeatNote) (ends : List (WorkerEnd L)) (end : Closing L)
+    → AreServedGears visits told of 0 begun left seats ends → Closes shelved faults lbs seats left back end → IsHeadline visits told of lbs ends end
+headline_of visits told of shelved faults lbs begun left back seats ends end served closes =
+    let all = have_served visits told of 0 begun left seats ends served in
+    record {
+      workers = all.workers;
+      each = all.each;
+      sessions = all.sessions;
+      journal = λ has.
+          let books = ends_with shelved faults lbs seats left back end closes has in
+          (books.0, one_list lbs seats all.workers books.0 books.1 all.own);
+    }

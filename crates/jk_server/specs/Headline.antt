@@ -1,0 +1,75 @@
+-- What a run of all workers comes to: one list of entries of the balancers, and what each client was given. Read this first.
+--
+-- Of the run there is one list of entries, sound from where the balancers of the configuration start and ending in the present
+-- state of the Books. The sessions of each worker were told exactly the entries of its own desk in it, in order, each once.
+-- Each client was served by one session, of which `IsRun` says what its requests were, what the desk, the talks and the client
+-- have of them, and why it ended.
+use Rattle.std.specs.Prelude.{ℕ, ◌≡◌, ◌+◌, List, [], ◌∷◌, length, map}
+use Rattle.std.specs.List.{All, AllZip, flat_map}
+use Rattle.jk_io.specs.declared.traits.streams.Meanings.{Ghosts}
+use Rattle.jk_io.specs.declared.traits.surroundings.Peer.{Peer}
+use Rattle.jk_model.specs.declared.journal.Entry.{Entry}
+use Rattle.balancer_core.specs.Journal.{Journal}
+use Rattle.balancer_core.specs.declared.receipt.Receipt.{Receipt}
+use Rattle.client_session.specs.Requests.{Visit}
+use Rattle.exchange.specs.Requests.{sizes_of}
+use Rattle.locked_balancer.specs.Histories.{AreDistinct, IsClosed, IsSiteHistory, SeatNote, noted, own_in, starts_of}
+use Rattle.locked_balancer.specs.Sites.{AreSited}
+use Rattle.site_books.specs.Starts.{AreStarts}
+use Rattle.site_config.specs.declared.balancer.Lb.{Lb}
+use Rattle.jk_server.specs.Served.{IsRun, Run}
+use Rattle.jk_server.specs.Worker.{Keeps}
+use Rattle.jk_server.specs.declared.part.WorkerEnd.{WorkerEnd}
+use Rattle.jk_server.specs.declared.runs.ends.Closing.{Closing}
+use Rattle.jk_server.specs.declared.runs.ends.Closing.TheVariants as closing
+
+-- What a worker's sessions were told: the receipts of each, in the order of the sessions. A session begins with none.
+abbrev pub told_in : {C S Y : Type 0} → List (Run C S Y) → List Receipt
+told_in runs = flat_map (λ r. r.to.desk.desk.receipts) runs
+
+-- One list of entries, each with the number of the desk that added it and with its balancer, made these Books what they are.
+-- The balancers began with number 0 at the moment `at`. Each worker had a desk of another number, and of that number the list
+-- has exactly what the worker's sessions were told, in order.
+pub record IsOneList (lbs : List Lb) (tellings : List (List Receipt)) (books : List Journal) : Type 0 where
+  pub at : ℕ
+  pub begun : List Journal
+  pub starts : AreStarts lbs at 0 begun
+  pub log : List (ℕ × (ℕ × Entry))
+  pub history : IsSiteHistory (starts_of begun) log books
+  pub numbers : List ℕ
+  pub apart : AreDistinct numbers
+  pub told : AllZip (λ number receipts. own_in number log ≡ noted receipts) numbers tellings
+
+-- Each client of these workers was served by a session of the worker's number.
+abbrev pub AreSessions : {C S Y X : Type 0} → (ℕ → Peer → Visit) → Ghosts C X → Keeps S Y → (number : ℕ) → List (List (Run C S Y)) → Type 0
+AreSessions visits told of number [] = Unit {0}
+AreSessions visits told of number (runs ∷ workers) = All (IsRun (visits number) told of) runs × AreSessions visits told of (number + 1) workers
+
+-- The closing took the Books from behind their lock.
+abbrev pub HasBooks : {L : Type 0} → Closing L → Type 0
+HasBooks closing.Kept = Unit {0}
+HasBooks closing.ShelfFault = Unit {0}
+HasBooks (closing.Differs d) = ⊥
+HasBooks closing.NoMemory = ⊥
+
+-- The headline: the sessions of each worker, in order, and the one list that tells the same as they were told.
+pub record IsHeadline {C S Y L X : Type 0} (visits : ℕ → Peer → Visit) (told : Ghosts C X) (of : Keeps S Y) (lbs : List Lb) (ends : List (WorkerEnd L)) (closing : Closing L) : Type 0 where
+  pub workers : List (List (Run C S Y))
+  pub each : length workers ≡ length ends
+  pub sessions : AreSessions visits told of 0 workers
+  pub journal : HasBooks closing → (books : List Journal) × IsOneList lbs (map told_in workers) books
+
+-- ---- by the seats that the desks left
+
+-- each balancer's first number, which is 0
+abbrev pub firsts_of : List Lb → List ℕ
+firsts_of lbs = map (λ lb. 0) lbs
+
+-- These are the Books of the balancers of a configuration at the end of a run whose workers had desks at these seats. One
+-- history made the Books what they are, and it has of each desk just the entries that the desk has seen as its own.
+pub record AreEnded (lbs : List Lb) (seats : List SeatNote) (books : List Journal) : Type 0 where
+  pub sited : AreSited (sizes_of lbs) (firsts_of lbs) books
+  pub at : ℕ
+  pub begun : List Journal
+  pub starts : AreStarts lbs at 0 begun
+  pub closed : IsClosed (starts_of begun) seats books
