@@ -6,13 +6,14 @@ apart from the program's own code: replies and packets are put together by sessi
 
     python3 vectors/serving.py serving > crates/serve_checks/data/serve/serving.txt
     python3 vectors/serving.py faults > crates/serve_checks/data/serve/faults.txt
+    python3 vectors/serving.py logs > crates/serve_checks/data/serve/logs.txt
     python3 vectors/serving.py words > crates/serve_checks/data/serve/words.txt
     python3 vectors/serving.py drills > crates/serve_checks/data/serve/drills.txt
 """
 import sys
 
 import drill
-from sessions import HI, forward, from_member, reply, request, sized
+from sessions import HI, forward, from_member, own, own_len, reply, request, sized
 
 SITE = "worker.list=w1\nworker.w1.retries=1\n"
 MAP = "/*=w1\n"
@@ -35,6 +36,10 @@ def text(data):
     """The lines of a text; the last one ends without a line feed."""
     *lines, last = data.split(b"\n")
     return [f"|{spelled(line)}" for line in lines] + ([f"+{spelled(last)}"] if last else [])
+
+
+def log(lines):
+    return b"log\n" + lines + b"\n"
 
 
 def left(data):
@@ -132,11 +137,28 @@ def faults():
     yield Row("the output fails", SERVE + "1", gears=[WHO_GEAR], files=bad, out=b"work", status=5, lines=["output-fails 4"])
 
 
+def logs():
+    who = journal(exchanges(WHO_BYTES))
+    lines = b"w1 GET /who 200 3\n" * 2
+    yield Row("each request has a line", SERVE + "1 --log d", gears=[WHO_GEAR], files=FILES, back=[WHO_BACK + who + log(lines)])
+    yield Row("lines of a form of one's own", SERVE + "1 --log=d --format %m_%r_%h_%D%%", gears=[WHO_GEAR], files=FILES,
+              back=[WHO_BACK + who + log(b"GET_GET /who HTTP/1.1_127.0.0.1_-%\nGET_GET /who HTTP/1.0_127.0.0.1_-%\n")])
+    yield Row("a refused head has a line", SERVE + "1 --log d", gears=[([b"GET\r\n\r\n"], [])], files=FILES,
+              back=[left(own(400)) + journal([]) + log(f"- - - 400 {own_len(400)}\n".encode())])
+    yield Row("each worker writes its own log", SERVE + "2 --log d", gears=[WHO_GEAR, ([], [])], files=FILES, back=[WHO_BACK + who + log(lines), log(b"")])
+    yield Row("a log that fails ends its worker", SERVE + "1 --log d", gears=[([WHO, GET], [WHO_LINK])], files=FILES, status=4, lines=["log-fails 5"],
+              back=[WHO_BACK + who + log(lines[:5])])
+    yield Row("a log that can't be made is no run", SERVE + "2 --log d", gears=[WHO_GEAR, ([], [])], files=FILES, status=4, faults=1,
+              lines=["gear-fails 3"], back=[b"", b""])
+    for at, form in ((0, "%x"), (1, "a%"), (5, "%m%%z%z")):
+        yield Row(f"a format is refused at {at}", SERVE + f"1 --log d --format {form}", gears=[WHO_GEAR], files=(), out=f"format refused at {at}\n".encode(), status=3)
+
+
 def words():
     for name, line in (("a word too many", "match w m x"), ("a word too few", "config"), ("an option of no command", "play --x"),
                        ("no THREADS", "serve w m 127.0.0.1:8080"), ("no thread", SERVE + "0"), ("too many threads", SERVE + "65"),
                        ("a container without its route", "container 127.0.0.1:8009 1"), ("a watch isn't built", SERVE + "1 --watch 5"),
-                       ("a log isn't built", SERVE + "1 --log d"), ("a log isn't built, in one word", "serve --log=d w m 127.0.0.1:8080 1"),
+                       ("a format without a log", SERVE + "1 --format %m"),
                        ("an option twice", SERVE + "1 --clients 1 --clients=2")):
         yield Row(f"{name} is no command", line, gears=[WHO_GEAR], files=FILES, status=2)
     yield Row("behind -- a word may be a file of any name", "config -- -w", files=(("-w", ""),), out=b"maintain 60\n")
@@ -164,4 +186,4 @@ def drills():
 
 
 print(f"# Made by vectors/serving.py {sys.argv[1]}. How a row is written stands at the head of serve_checks.\n")
-print("\n".join(row.show() for row in {"serving": serving, "faults": faults, "words": words, "drills": drills}[sys.argv[1]]()))
+print("\n".join(row.show() for row in {"serving": serving, "faults": faults, "logs": logs, "words": words, "drills": drills}[sys.argv[1]]()))

@@ -39,7 +39,7 @@ same_rests at talks answers (g ∷ gears) [] same = absurd cc
 same_rests {G = G} {T = T} {K = K} {S = S} {O = O} {C = C} at talks answers (g ∷ gears) (b ∷ back) same =
     let here : rest_with b.dial b.tape b.clock b.shelf b.log ≡ rest_with g.dial g.tape g.clock g.shelf g.log = cc in
     let tail : map (λ x. rest_with x.dial x.tape x.clock x.shelf x.log) back ≡ map (λ x. rest_with x.dial x.tape x.clock x.shelf x.log) gears = cc in (
-      ap (λ (r : RestOfGear G T K S O). record (gear_side at talks answers g) { door = at b.door; talks = talks r.tape; clock = answers r.clock; shelf = r.shelf }) here,
+      ap (λ (r : RestOfGear G T K S O). record (gear_side at talks answers g) { door = at b.door; talks = talks r.tape; clock = answers r.clock; shelf = r.shelf; log = r.log }) here,
       same_rests at talks answers gears back tail,
     )
 
@@ -61,7 +61,7 @@ rests_kept {D = D} {G = G} {T = T} {K = K} {S = S} {O = O} (g ∷ gears) (b ∷ 
 doors_told : {D G T K S O C : Type 0} → (at : D → DoorSide C) (talks : T → Option (List Talk)) (answers : K → Option (List ℕ)) (gears : List (Gear D G T K S O))
     → map at (map (λ g. g.door) gears) ≡ map (λ s. s.door) (map (gear_side at talks answers) gears)
 doors_told {D} {G} {T} {K} {S} {O} {C} at talks answers gears =
-    map_map at (λ (g : Gear D G T K S O). g.door) gears ∙ sym (map_map (λ (s : GearSide C S). s.door) (gear_side at talks answers) gears)
+    map_map at (λ (g : Gear D G T K S O). g.door) gears ∙ sym (map_map (λ (s : GearSide C S O). s.door) (gear_side at talks answers) gears)
 
 pub container_ran : {D G T K S O C X : Type 0} → (app : AppConfig) (told : Ghosts C X) (at : D → DoorSide C) (talks : T → Option (List Talk)) (answers : K → Option (List ℕ))
     (gears back : List (Gear D G T K S O)) (doors doors' : List D) (ends : List ContainerWorker)

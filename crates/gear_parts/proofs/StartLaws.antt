@@ -25,17 +25,12 @@ first_idle {D} {G} {T} {K} {S} {O} IsIdle (g ∷ gears) x clock all =
     All-cons (λ (h : Gear D G T K S O). IsIdle h.tape) (record g { clock = clock }) gears
     (All-head (λ (h : Gear D G T K S O). IsIdle h.tape) g gears all) (All-tail (λ (h : Gear D G T K S O). IsIdle h.tape) g gears all)
 
-pub first_logs : {D G T K S O : Type 0} → (gears : List (Gear D G T K S O)) (x : Gear D G T K S O) (clock : K)
-    → map (λ g. g.log) (set gears 0 (record (get_or gears 0 x) { clock = clock })) ≡ map (λ g. g.log) gears
-first_logs [] x clock = refl
-first_logs (g ∷ gears) x clock = refl
-
 pub first_as_long : {X : Type 0} → (xs : List X) (x : X) → length (set xs 0 x) ≡ length xs
 first_as_long [] x = refl
 first_as_long (y ∷ xs) x = refl
 
 -- So of the whole lists that were lent.
-pub started_back : {D G T K S O C : Type 0} → (at : Gear D G T K S O → GearSide C S) (gears lent new back : List (Gear D G T K S O))
+pub started_back : {D G T K S O C : Type 0} → (at : Gear D G T K S O → GearSide C S O) (gears lent new back : List (Gear D G T K S O))
     → lent ≡ gears → back ≡ new → AreStarted (map at lent) (map at new) → AreStarted (map at gears) (map at back)
 started_back {D} {G} {T} {K} {S} {O} at gears lent new back same written started =
     subst (λ (gs : List (Gear D G T K S O)). AreStarted (map at gs) (map at back)) same
@@ -48,11 +43,6 @@ idle_back {D} {G} {T} {K} {S} {O} IsIdle gears lent new back same written then a
     subst (λ (gs : List (Gear D G T K S O)). All (λ (g : Gear D G T K S O). IsIdle g.tape) gs) (sym written)
     (then (subst (λ (gs : List (Gear D G T K S O)). All (λ (g : Gear D G T K S O). IsIdle g.tape) gs) (sym same) all))
 
-pub logs_back : {D G T K S O : Type 0} → (gears lent new back : List (Gear D G T K S O)) → lent ≡ gears → back ≡ new
-    → map (λ g. g.log) new ≡ map (λ g. g.log) lent → map (λ g. g.log) back ≡ map (λ g. g.log) gears
-logs_back {D} {G} {T} {K} {S} {O} gears lent new back same written then =
-    ap (λ (gs : List (Gear D G T K S O)). map (λ g. g.log) gs) written ∙ then ∙ ap (λ (gs : List (Gear D G T K S O)). map (λ g. g.log) gs) same
-
 -- The moment is the one that the first gear's clock gave.
 pub first_gives : {D G T K S O C : Type 0} → (at : D → DoorSide C) (talks : T → Option (List Talk)) (answers : K → Option (List ℕ))
     (gears : List (Gear D G T K S O)) (x : Gear D G T K S O) (clock : K) (now : ℕ)
@@ -61,7 +51,7 @@ pub first_gives : {D G T K S O C : Type 0} → (at : D → DoorSide C) (talks : 
 first_gives at talks answers [] x clock now some read = absurd (omega (arith, some))
 first_gives at talks answers (g ∷ gears) x clock now some read = read
 
-pub gives_back : {D G T K S O C : Type 0} → (now : ℕ) (at : Gear D G T K S O → GearSide C S) (gears lent new back : List (Gear D G T K S O))
+pub gives_back : {D G T K S O C : Type 0} → (now : ℕ) (at : Gear D G T K S O → GearSide C S O) (gears lent new back : List (Gear D G T K S O))
     → lent ≡ gears → back ≡ new → GivesFirst now (map at lent) (map at new) → GivesFirst now (map at gears) (map at back)
 gives_back {D} {G} {T} {K} {S} {O} now at gears lent new back same written gives =
     subst (λ (gs : List (Gear D G T K S O)). GivesFirst now (map at gs) (map at back)) same

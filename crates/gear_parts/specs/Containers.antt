@@ -11,13 +11,13 @@ use Rattle.gear_parts.specs.declared.world.Gear.{Gear}
 use Rattle.gear_parts.specs.declared.container.ContainerRun.{ContainerRun}
 
 -- A container's worker uses its gear's door alone.
-abbrev pub SameButDoors : {C S : Type 0} → (before back : List (GearSide C S)) → Type 0
+abbrev pub SameButDoors : {C S O : Type 0} → (before back : List (GearSide C S O)) → Type 0
 SameButDoors [] [] = Unit {0}
 SameButDoors (b ∷ before) (a ∷ back) = (a ≡ record b { door = a.door }) × SameButDoors before back
 SameButDoors before back = ⊥
 
 -- Each worker served the links of its gear's door, and how it ended.
-pub record IsContainerRun {C S X : Type 0} (app : AppConfig) (told : Ghosts C X) (before back : List (GearSide C S)) (ends : List ContainerWorker) : Type 0 where
+pub record IsContainerRun {C S O X : Type 0} (app : AppConfig) (told : Ghosts C X) (before back : List (GearSide C S O)) (ends : List ContainerWorker) : Type 0 where
   pub served : AreEachServed app told (map (λ g. g.door) before) (map (λ g. g.door) back) ends
   pub same : SameButDoors before back
 

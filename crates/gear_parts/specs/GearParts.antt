@@ -5,6 +5,9 @@ use Rattle.jk_io.specs.declared.reaching.Talk.{Talk}
 use Rattle.conn_pool.specs.Reaches.{PooledState}
 use Rattle.door_clients.specs.Doors.{DoorSide}
 use Rattle.locked_balancer.specs.SharedDesks.{SharedState, shared_desk}
+use Rattle.request_log.specs.LogStates.{LogState}
+use Rattle.request_log.specs.declared.format.Part.{Part as FormatPart}
+use Rattle.gear_parts.specs.GearLogs.{new_log}
 use Rattle.gear_parts.specs.Gears.{GearSide}
 use Rattle.gear_parts.specs.declared.world.Gear.{Gear}
 use Rattle.gear_parts.specs.declared.left.Left.{Left}
@@ -29,45 +32,48 @@ abbrev pub unnumbered : {S : Type 0} → SharedState S → SharedState S
 unnumbered d = record d { seat = record d.seat { number = 0 } }
 
 -- what a worker has when it begins, whatever its desk's number at the lock
-pub record Start (D G T K S C : Type 0) : Type 0 where
+pub record Start (D G T K S O C : Type 0) : Type 0 where
   pub door : D
   pub reach : PooledState G T C
   pub clock : K
   pub desk : SharedState S
+  pub log : Option (LogState O)
 
-abbrev pub start_with : {D G T K S C : Type 0} → D → PooledState G T C → K → SharedState S → Start D G T K S C
-start_with door reach clock desk = record { door = door; reach = reach; clock = clock; desk = unnumbered desk }
+abbrev pub start_with : {D G T K S O C : Type 0} → D → PooledState G T C → K → SharedState S → Option (LogState O) → Start D G T K S O C
+start_with door reach clock desk log = record { door = door; reach = reach; clock = clock; desk = unnumbered desk; log = log }
 
--- What the worker of a gear begins with: a desk of one part at this lock that has the gear's shelf and has seen nothing, and a
--- reach with its dial and its tape.
-abbrev pub start_of : {D G T K S O C : Type 0} → (lock : TableId) → (sizes pools : List ℕ) → Gear D G T K S O → Start D G T K S C
-start_of lock sizes pools gear = record {
+-- What the worker of a gear begins with: a desk of one part at this lock that has the gear's shelf and has seen nothing, a
+-- reach with its dial and its tape, and a log of this format where the gear has one.
+abbrev pub start_of : {D G T K S O C : Type 0} → (lock : TableId) → (sizes pools : List ℕ) → List FormatPart → Gear D G T K S O → Start D G T K S O C
+start_of lock sizes pools format gear = record {
   door = gear.door;
   reach = record { dial = gear.dial; tape = gear.tape; lent = None; back = None; sizes = pools; faults = 0 };
   clock = gear.clock;
   desk = record { desk = shared_desk sizes 1 [] [] 0 0 0 0 false; shelf = gear.shelf; forgotten = 0; wants = 0; met = None; seat = record { lock = lock; number = 0; seen = [] } };
+  log = new_log format gear.log;
 }
 
--- what a worker leaves beside its desk
-pub record Tools (D G T K : Type 0) : Type 0 where
+-- what a worker leaves beside its desk, and what its log was written to
+pub record Tools (D G T K O : Type 0) : Type 0 where
   pub door : D
   pub dial : G
   pub tape : T
   pub clock : K
+  pub log : Option O
 
-abbrev pub tools : {D G T K : Type 0} → D → G → T → K → Tools D G T K
-tools door dial tape clock = record { door = door; dial = dial; tape = tape; clock = clock }
+abbrev pub tools : {D G T K O : Type 0} → D → G → T → K → Option O → Tools D G T K O
+tools door dial tape clock log = record { door = door; dial = dial; tape = tape; clock = clock; log = log }
 
 -- what workers left beside their desks, in order
-abbrev pub tools_of : {D G T K O : Type 0} → List (Left D G T K O) → List (Tools D G T K)
-tools_of left = map (λ l. tools l.door l.dial l.tape l.clock) left
+abbrev pub tools_of : {D G T K O : Type 0} → List (Left D G T K O) → List (Tools D G T K O)
+tools_of left = map (λ l. tools l.door l.dial l.tape l.clock l.log) left
 
 -- a gear of these parts, by what its types tell
-abbrev pub gear_with : {D G T K S C : Type 0} → (D → DoorSide C) → (T → Option (List Talk)) → (K → Option (List ℕ)) → Tools D G T K → S → GearSide C S
-gear_with at talks answers t shelf = record { door = at t.door; talks = talks t.tape; clock = answers t.clock; shelf = shelf }
+abbrev pub gear_with : {D G T K S O C : Type 0} → (D → DoorSide C) → (T → Option (List Talk)) → (K → Option (List ℕ)) → Tools D G T K O → S → GearSide C S O
+gear_with at talks answers t shelf = record { door = at t.door; talks = talks t.tape; clock = answers t.clock; shelf = shelf; log = t.log }
 
 -- gears of these tools and shelves, in order
-abbrev pub gears_with : {C S X : Type 0} → (X → S → GearSide C S) → List X → List S → List (GearSide C S)
+abbrev pub gears_with : {C S O X : Type 0} → (X → S → GearSide C S O) → List X → List S → List (GearSide C S O)
 gears_with with [] shelves = []
 gears_with with (x ∷ xs) [] = []
 gears_with with (x ∷ xs) (shelf ∷ shelves) = with x shelf ∷ gears_with with xs shelves

@@ -1,5 +1,7 @@
 pub mod Containers
 pub mod Cuts
+pub mod GearLogRules
+pub mod GearLogs
 pub mod GearParts
 pub mod Gears
 pub mod Logs

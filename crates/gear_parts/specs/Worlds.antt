@@ -1,5 +1,5 @@
 -- What a world tells at a moment, and what a command takes of it and gives back.
-use Rattle.std.specs.Prelude.{◌≡◌, ℕ, Bool, ◌+◌, ◌<◌, ◌≤◌, List, [], ◌∷◌, ◌++◌, length, Option, IfSome}
+use Rattle.std.specs.Prelude.{◌≡◌, ℕ, Bool, ◌+◌, ◌<◌, ◌≤◌, List, [], ◌∷◌, ◌++◌, length, Option, Some, None, IfSome}
 use Rattle.door_clients.specs.Doors.{side}
 use Rattle.jk_io.specs.Told.{appended, IsEmpty}
 use Rattle.jk_io.specs.declared.traits.streams.Meanings.{Ghosts}
@@ -9,7 +9,7 @@ use Rattle.site_config.specs.declared.config.Config.{Config}
 use Rattle.jk_model.specs.declared.segment.Segment.{Segment}
 use Rattle.conn_pool.specs.declared.tape.Tape.{Ghosts as TapeGhosts}
 use Rattle.locked_balancer.specs.declared.shelf.Shelf.{Ghosts as ShelfGhosts}
-use Rattle.gear_parts.specs.Gears.{gear_side, GearSide, KeepsLog, KeepsRest}
+use Rattle.gear_parts.specs.Gears.{AreGiven, gear_side, GearSide, KeepsRest}
 use Rattle.gear_parts.specs.Wants.{GearWants}
 use Rattle.gear_parts.specs.declared.world.Gear.{Gear}
 use Rattle.gear_parts.specs.declared.world.World.{Ghosts as WorldGhosts}
@@ -22,7 +22,7 @@ pub record WorldSide (G : Type 0) : Type 0 where
   pub faults : ℕ
 
 -- a world at a moment, by what its type tells: `world_side W.World world`
-abbrev pub world_side : {W D G T K S O C X E Y Z : Type 0} → WorldGhosts W D G T K S O C X E Y Z → W → WorldSide (Gear D G T K S O)
+abbrev pub world_side : {W D G T K S O C X E Y Z V : Type 0} → WorldGhosts W D G T K S O C X E Y Z V → W → WorldSide (Gear D G T K S O)
 world_side of_world world = record {
   handed = of_world.handed world;
   back = of_world.came_back world;
@@ -31,32 +31,35 @@ world_side of_world world = record {
 }
 
 -- a gear at a moment, by what its types tell: `gear_told W.D.Door W.T.Tape W.K.Clock gear`
-abbrev pub gear_told : {D G T K S O C X : Type 0} → DoorGhosts D C X → TapeGhosts T → ClockGhosts K → Gear D G T K S O → GearSide C S
+abbrev pub gear_told : {D G T K S O C X : Type 0} → DoorGhosts D C X → TapeGhosts T → ClockGhosts K → Gear D G T K S O → GearSide C S O
 gear_told of_door of_tape of_clock = gear_side (side of_door.coming of_door.left of_door.faults) of_tape.talks of_clock.answers
 
--- What a world and its parts tell: the world at a moment, a gear, a client's link, and a shelf with its faults; whether a read
--- of a client may wait; and whether a gear has the log that it had before, or all but its door, and whether it is what a worker wants.
-pub record Tells (W G C S X : Type 0) : Type 1 where
+-- What a world and its parts tell: the world at a moment, a gear, a client's link, a shelf with its faults, and what a log is
+-- written to; whether a read of a client may wait; whether gears were given the logs of a directory; whether a gear has all that
+-- it had before but for its door, and whether it is what a worker wants.
+pub record Tells (W G C S O X Z : Type 0) : Type 1 where
   pub world : W → WorldSide G
-  pub gear : G → GearSide C S
+  pub gear : G → GearSide C S O
   pub link : Ghosts C X
   pub shelved : S → Option (List (ℕ × Segment))
   pub shelf_faults : S → ℕ
+  pub log : Ghosts O Z
   pub may_wait : Bool
-  pub keeps_log : G → G → Type 0
+  pub are_given : Option (List ℕ) → List G → List G → Type 0
   pub keeps_rest : G → G → Type 0
   pub suits : ℕ → GearWants → Option Config → G → Type 0
 
--- what they tell, by their types: `tells W.World W.D.Door W.T.Tape W.K.Clock W.D.L.Meanings W.S.Shelf W.D.L.may_wait`
-abbrev pub tells : {W D G T K S O C X E Y Z : Type 0} → WorldGhosts W D G T K S O C X E Y Z → DoorGhosts D C X → TapeGhosts T → ClockGhosts K → Ghosts C X → ShelfGhosts S → Bool → Tells W (Gear D G T K S O) C S X
-tells of_world of_door of_tape of_clock of_link of_shelf may_wait = record {
+-- what they tell, by their types: `tells W.World W.D.Door W.T.Tape W.K.Clock W.D.L.Meanings W.S.Shelf W.O.Meanings W.D.L.may_wait`
+abbrev pub tells : {W D G T K S O C X E Y Z V : Type 0} → WorldGhosts W D G T K S O C X E Y Z V → DoorGhosts D C X → TapeGhosts T → ClockGhosts K → Ghosts C X → ShelfGhosts S → Ghosts O Z → Bool → Tells W (Gear D G T K S O) C S O X Z
+tells of_world of_door of_tape of_clock of_link of_shelf of_log may_wait = record {
   world = world_side of_world;
   gear = gear_told of_door of_tape of_clock;
   link = of_link;
   shelved = of_shelf.shelved;
   shelf_faults = of_shelf.faults;
+  log = of_log;
   may_wait = may_wait;
-  keeps_log = λ before after. KeepsLog before after;
+  are_given = λ dir before after. AreGiven of_world.is_log dir before after;
   keeps_rest = λ before after. KeepsRest before after;
   suits = of_world.suits;
 }
@@ -70,7 +73,7 @@ pub record HandsAndTakes {G : Type 0} (before after : WorldSide G) (gears back :
 
 -- A gear that was just made: its door has at most this many clients to come, where that is given; no link was left there, and
 -- no talk was noted.
-pub record IsMade {C S : Type 0} (clients : Option ℕ) (gear : GearSide C S) : Type 0 where
+pub record IsMade {C S O : Type 0} (clients : Option ℕ) (gear : GearSide C S O) : Type 0 where
   pub few : IfSome clients (λ most. IfSome gear.door.coming (λ coming. length coming ≤ most))
   pub none_left : IsEmpty gear.door.left
   pub no_talk : IsEmpty gear.talks
@@ -83,12 +86,12 @@ pub record RefusesGear {G : Type 0} (threads : ℕ) (before after : WorldSide G)
 
 -- What a world tells of its gears: a gear at a moment, whether its tape is idle, and whether it is what a worker wants.
 pub record GearTells (D G T K S O C : Type 0) : Type 1 where
-  pub told : Gear D G T K S O → GearSide C S
+  pub told : Gear D G T K S O → GearSide C S O
   pub is_idle : T → Type 0
   pub suits : ℕ → GearWants → Option Config → Gear D G T K S O → Type 0
 
 -- what the types of a world and its parts tell of its gears
-abbrev pub gear_tells : {W D G T K S O C X E Y Z : Type 0} → WorldGhosts W D G T K S O C X E Y Z → DoorGhosts D C X → TapeGhosts T → ClockGhosts K → GearTells D G T K S O C
+abbrev pub gear_tells : {W D G T K S O C X E Y Z V : Type 0} → WorldGhosts W D G T K S O C X E Y Z V → DoorGhosts D C X → TapeGhosts T → ClockGhosts K → GearTells D G T K S O C
 gear_tells of_world of_door of_tape of_clock = record {
   told = gear_told of_door of_tape of_clock;
   is_idle = of_tape.is_idle;

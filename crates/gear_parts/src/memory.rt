@@ -4,29 +4,29 @@ ghost use Rattle.std.specs.List.{All};
 ghost use Rattle.conn_pool.specs.Idle.{counts};
 ghost use Rattle.locked_balancer.specs.Locks.{lock_of};
 ghost use Rattle.gear_parts.specs.GearParts.{start_of, start_with};
-ghost use Rattle.gear_parts.specs.Memories.{HasLogs, HasMemory};
+ghost use Rattle.gear_parts.specs.Memories.{HasAfter, HasMemory};
 
+use crate::gear_log::GearLog;
 use crate::part::Part;
 use crate::parts::{Common, fill_parts};
 use crate::world::Gear;
 use conn_pool::{PooledReach, Tape};
 use jk_io::{Dial, NoMemory};
-use jk_model::NoRows;
 use locked_balancer::{Shelf, SiteName};
+use request_log::Timed;
 use std::alloc::Global;
 use std::sync::ledger::Share;
 
 /// The memory of a run: for the parts of the gears, and for what comes after the workers.
 #[derive(Drop)]
-pub struct Memory<P, O, A, B> {
+pub struct Memory<P, A, B> {
     pub parts: Vec<P>,
-    pub after: After<O, A, B>,
+    pub after: After<A, B>,
 }
 
-/// The memory for the logs of the gears, for what the workers leave, and for the gears again.
+/// The memory for what the workers leave, and for the gears again.
 #[derive(Drop)]
-pub struct After<O, A, B> {
-    pub logs: Vec<Option<O>>,
+pub struct After<A, B> {
     pub left: Vec<A>,
     pub back: Vec<B>,
 }
@@ -41,7 +41,7 @@ pub fn parts_for<
     T: Tape + Drop,
     K: Drop,
     S: Shelf + Drop,
-    O: Drop,
+    O: Timed + Drop,
     A: Drop,
     B: Drop,
     R,
@@ -51,17 +51,16 @@ pub fn parts_for<
     share: Share<L>,
     gears: Vec<Gear<D, G, T, K, S, O>>,
 ) -> Result<
-    Memory<Part<'s, 'r, L, D, PooledReach<'s, 'r, G, T, R>, K, S, R, NoRows>, O, A, B>,
+    Memory<Part<'s, 'r, L, D, PooledReach<'s, 'r, G, T, R>, K, S, R, GearLog<'s, O>>, A, B>,
     NoMemory,
 >
     requires parts { share.parts ≡ vec_len gears }
     requires amount { share.amount ≡ 0 }
     requires idle { All (λ g. T.is_idle g.tape) gears.items }
-    ensures starts { IfOk result (λ m. map (λ p. start_with p.door p.reach p.clock p.desk) m.parts.items
-        ≡ map (start_of (lock_of common.now.site.now) L.sizes (counts common.now.pools.now)) gears.items) }
+    ensures starts { IfOk result (λ m. map (λ p. start_with p.door p.reach p.clock p.desk p.log) m.parts.items
+        ≡ map (start_of (lock_of common.now.site.now) L.sizes (counts common.now.pools.now) common.now.format.now) gears.items) }
     ensures count { IfOk result (λ m. vec_len m.parts ≡ vec_len gears) }
-    ensures after { IfOk result (λ m. HasLogs (vec_len gears) m.after) }
-    ensures logs { IfOk result (λ m. m.after.logs.items ≡ map (λ g. g.log) gears.items) }
+    ensures after { IfOk result (λ m. HasAfter (vec_len gears) m.after) }
 {
     match memory_for(alloc, gears.len()) {
         Ok(memory) => Ok(filled(alloc, common, share, gears, memory)),
@@ -79,7 +78,7 @@ fn filled<
     T: Tape + Drop,
     K: Drop,
     S: Shelf + Drop,
-    O: Drop,
+    O: Timed + Drop,
     A,
     B,
     R,
@@ -88,33 +87,30 @@ fn filled<
     common: &Common<'s, 'r, L, G, R>,
     share: Share<L>,
     gears: Vec<Gear<D, G, T, K, S, O>>,
-    memory: Memory<Part<'s, 'r, L, D, PooledReach<'s, 'r, G, T, R>, K, S, R, NoRows>, O, A, B>,
-) -> Memory<Part<'s, 'r, L, D, PooledReach<'s, 'r, G, T, R>, K, S, R, NoRows>, O, A, B>
+    memory: Memory<Part<'s, 'r, L, D, PooledReach<'s, 'r, G, T, R>, K, S, R, GearLog<'s, O>>, A, B>,
+) -> Memory<Part<'s, 'r, L, D, PooledReach<'s, 'r, G, T, R>, K, S, R, GearLog<'s, O>>, A, B>
     requires parts { share.parts ≡ vec_len gears }
     requires amount { share.amount ≡ 0 }
     requires idle { All (λ g. T.is_idle g.tape) gears.items }
     requires memory { HasMemory (vec_len gears) memory }
-    ensures starts { map (λ p. start_with p.door p.reach p.clock p.desk) result.parts.items
-        ≡ map (start_of (lock_of common.now.site.now) L.sizes (counts common.now.pools.now)) gears.items }
+    ensures starts { map (λ p. start_with p.door p.reach p.clock p.desk p.log) result.parts.items
+        ≡ map (start_of (lock_of common.now.site.now) L.sizes (counts common.now.pools.now) common.now.format.now) gears.items }
     ensures count { vec_len result.parts ≡ vec_len gears }
-    ensures after { HasLogs (vec_len gears) result.after }
-    ensures logs { result.after.logs.items ≡ map (λ g. g.log) gears.items }
+    ensures after { HasAfter (vec_len gears) result.after }
 {
     let Memory { parts, after } = memory;
     let mut parts = parts;
-    let mut after = after;
-    fill_parts(alloc, common, share, gears, &mut parts, &mut after.logs);
+    fill_parts(alloc, common, share, gears, &mut parts);
     Memory { parts, after }
 }
 
 /// Takes the memory for `count` workers.
-fn memory_for<P: Drop, O: Drop, A: Drop, B: Drop>(
+fn memory_for<P: Drop, A: Drop, B: Drop>(
     alloc: Global,
     count: usize,
-) -> Result<Memory<P, O, A, B>, NoMemory>
-    ensures empty { IfOk result (λ m. (m.parts.items ≡ []) × (m.after.logs.items ≡ []) × (m.after.left.items ≡ []) × (m.after.back.items ≡ [])) }
+) -> Result<Memory<P, A, B>, NoMemory>
+    ensures empty { IfOk result (λ m. (m.parts.items ≡ []) × (m.after.left.items ≡ []) × (m.after.back.items ≡ [])) }
     ensures parts { IfOk result (λ m. count ≤ vec_capacity m.parts) }
-    ensures logs { IfOk result (λ m. count ≤ vec_capacity m.after.logs) }
     ensures left { IfOk result (λ m. count ≤ vec_capacity m.after.left) }
     ensures back { IfOk result (λ m. count ≤ vec_capacity m.after.back) }
 {
@@ -125,17 +121,12 @@ fn memory_for<P: Drop, O: Drop, A: Drop, B: Drop>(
 }
 
 /// Takes the memory for what comes after `count` workers.
-fn after_for<O: Drop, A: Drop, B: Drop>(
-    alloc: Global,
-    count: usize,
-) -> Result<After<O, A, B>, NoMemory>
-    ensures empty { IfOk result (λ m. (m.logs.items ≡ []) × (m.left.items ≡ []) × (m.back.items ≡ [])) }
-    ensures logs { IfOk result (λ m. count ≤ vec_capacity m.logs) }
+fn after_for<A: Drop, B: Drop>(alloc: Global, count: usize) -> Result<After<A, B>, NoMemory>
+    ensures empty { IfOk result (λ m. (m.left.items ≡ []) × (m.back.items ≡ [])) }
     ensures left { IfOk result (λ m. count ≤ vec_capacity m.left) }
     ensures back { IfOk result (λ m. count ≤ vec_capacity m.back) }
 {
     Ok(After {
-        logs: Vec::with_capacity(alloc, count)?,
         left: Vec::with_capacity(alloc, count)?,
         back: Vec::with_capacity(alloc, count)?,
     })

@@ -15,6 +15,8 @@ pub struct GearOrder<'a> {
     pub clients: Option<u64>,
     /// The directory into which cut journals are written, if into any.
     pub journal: Option<&'a Bytes>,
+    /// The directory of the logs of its requests, if there are any.
+    pub log: Option<&'a Bytes>,
     /// The site whose clients are served; a container has none.
     pub cfg: Option<&'a Config>,
     /// What a client may take.
@@ -26,7 +28,7 @@ pub struct GearOrder<'a> {
 }
 
 impl<'a> GearOrder<'a> {
-    /// An order for a container's gears: no journal, no site, no limits, and nothing that tells it to stop.
+    /// An order for a container's gears: no journal, no log, no site, no limits, and nothing that tells it to stop.
     pub fn of_container(address: &'a Bytes, clients: Option<u64>) -> GearOrder<'a>
         ensures wanted { wants_of result ≡ container_wants address.now clients }
         ensures none { (result.journal ≡ None) × (result.cfg ≡ None) }
@@ -35,6 +37,7 @@ impl<'a> GearOrder<'a> {
             address,
             clients,
             journal: None,
+            log: None,
             cfg: None,
             limits: ClientLimits {
                 head: 0,
@@ -56,6 +59,7 @@ impl<'a> GearOrder<'a> {
             address: self.address,
             clients: self.clients,
             journal: self.journal,
+            log: self.log,
             cfg: Some(cfg),
             limits: self.limits,
             control: self.control,

@@ -1,26 +1,28 @@
 //! The parts of gears, with which the workers of a connector work.
-ghost use Rattle.std.specs.Prelude.{◌≡◌, ◌+◌, ◌<◌, ◌≤◌, ◌++◌, [], ◌∷◌, length, map, vec_capacity, vec_len};
+ghost use Rattle.std.specs.Prelude.{◌≡◌, ◌+◌, ◌<◌, ◌≤◌, [], length, map, vec_capacity, vec_len};
 ghost use Rattle.std.specs.List.{All};
 ghost use Rattle.conn_pool.specs.Idle.{counts};
 ghost use Rattle.locked_balancer.specs.Locks.{lock_of};
 ghost use Rattle.gear_parts.specs.GearParts.{start_of, start_with};
 ghost use Rattle.gear_parts.specs.Putting.{PutsOne};
 
+use crate::gear_log::GearLog;
 use crate::part::Part;
 use crate::world::Gear;
 use conn_pool::{Idle, PooledReach, Pools, Tape};
 use jk_io::Dial;
-use jk_model::NoRows;
 use locked_balancer::{SharedDesk, SharedSite, Shelf, SiteName};
+use request_log::{Format, Timed};
 use std::alloc::Global;
 use std::sync::ledger::Share;
 use std::vec::IntoIter;
 
-/// What all workers ask: the balancers, and the pools of idle links.
+/// What all workers ask: the balancers, the pools of idle links, and the format of their logs.
 #[derive(Drop)]
 pub struct Common<'s, 'r, L: SiteName, G: Dial, R> {
     pub site: &'s SharedSite<'r, L, R>,
     pub pools: &'s Pools<'r, Idle<G::L>, R>,
+    pub format: &'s Format,
 }
 
 /// A part for each gear, with one part of the share.
@@ -33,95 +35,84 @@ pub(crate) fn fill_parts<
     T: Tape + Drop,
     K: Drop,
     S: Shelf + Drop,
-    O: Drop,
+    O: Timed + Drop,
     R,
 >(
     alloc: Global,
     common: &Common<'s, 'r, L, G, R>,
     share: Share<L>,
     gears: Vec<Gear<D, G, T, K, S, O>>,
-    parts: &mut Vec<Part<'s, 'r, L, D, PooledReach<'s, 'r, G, T, R>, K, S, R, NoRows>>,
-    logs: &mut Vec<Option<O>>,
+    parts: &mut Vec<Part<'s, 'r, L, D, PooledReach<'s, 'r, G, T, R>, K, S, R, GearLog<'s, O>>>,
 )
-    requires none { (parts.old.items ≡ []) × (logs.old.items ≡ []) }
-    requires room { (vec_len gears ≤ vec_capacity parts.old) × (vec_len gears ≤ vec_capacity logs.old) }
+    requires none { parts.old.items ≡ [] }
+    requires room { vec_len gears ≤ vec_capacity parts.old }
     requires parts { share.parts ≡ vec_len gears }
     requires amount { share.amount ≡ 0 }
     requires idle { All (λ g. T.is_idle g.tape) gears.items }
-    ensures starts { map (λ p. start_with p.door p.reach p.clock p.desk) parts.new.items
-        ≡ map (start_of (lock_of common.now.site.now) L.sizes (counts common.now.pools.now)) gears.items }
-    ensures logs { logs.new.items ≡ map (λ g. g.log) gears.items }
+    ensures starts { map (λ p. start_with p.door p.reach p.clock p.desk p.log) parts.new.items
+        ≡ map (start_of (lock_of common.now.site.now) L.sizes (counts common.now.pools.now) common.now.format.now) gears.items }
 {
     let mut share = share;
     let mut gears = gears.into_iter();
-    put_parts(alloc, common, &mut share, &mut gears, parts, logs);
+    put_parts(alloc, common, &mut share, &mut gears, parts);
 }
 
 /// As `fill_parts`, over gears and a share that the caller lends.
-fn put_parts<'s, 'r, L: SiteName, D, G: Dial, T: Tape, K, S: Shelf, O, R>(
+fn put_parts<'s, 'r, L: SiteName, D, G: Dial, T: Tape, K, S: Shelf, O: Timed, R>(
     alloc: Global,
     common: &Common<'s, 'r, L, G, R>,
     share: &mut Share<L>,
     gears: &mut IntoIter<Gear<D, G, T, K, S, O>>,
-    parts: &mut Vec<Part<'s, 'r, L, D, PooledReach<'s, 'r, G, T, R>, K, S, R, NoRows>>,
-    logs: &mut Vec<Option<O>>,
+    parts: &mut Vec<Part<'s, 'r, L, D, PooledReach<'s, 'r, G, T, R>, K, S, R, GearLog<'s, O>>>,
 )
-    requires none { (parts.old.items ≡ []) × (logs.old.items ≡ []) }
-    requires room { (length gears.old.rest.items ≤ vec_capacity parts.old) × (length gears.old.rest.items ≤ vec_capacity logs.old) }
+    requires none { parts.old.items ≡ [] }
+    requires room { length gears.old.rest.items ≤ vec_capacity parts.old }
     requires parts { share.old.parts ≡ length gears.old.rest.items }
     requires amount { share.old.amount ≡ 0 }
     requires idle { All (λ g. T.is_idle g.tape) gears.old.rest.items }
-    ensures starts { map (λ p. start_with p.door p.reach p.clock p.desk) parts.new.items
-        ≡ map (start_of (lock_of common.now.site.now) L.sizes (counts common.now.pools.now)) gears.old.rest.items }
-    ensures logs { logs.new.items ≡ map (λ g. g.log) gears.old.rest.items }
+    ensures starts { map (λ p. start_with p.door p.reach p.clock p.desk p.log) parts.new.items
+        ≡ map (start_of (lock_of common.now.site.now) L.sizes (counts common.now.pools.now) common.now.format.now) gears.old.rest.items }
 {
     'gears: while let Some(gear) = gears.next() {
-        put_part(alloc, common, share, gear, parts, logs);
+        put_part(alloc, common, share, gear, parts);
     }
 }
 
-/// Adds the part of a gear, and its log, at the end.
-fn put_part<'s, 'r, L: SiteName, D, G: Dial, T: Tape, K, S: Shelf, O, R>(
+/// Adds the part of a gear at the end.
+fn put_part<'s, 'r, L: SiteName, D, G: Dial, T: Tape, K, S: Shelf, O: Timed, R>(
     alloc: Global,
     common: &Common<'s, 'r, L, G, R>,
     share: &mut Share<L>,
     gear: Gear<D, G, T, K, S, O>,
-    parts: &mut Vec<Part<'s, 'r, L, D, PooledReach<'s, 'r, G, T, R>, K, S, R, NoRows>>,
-    logs: &mut Vec<Option<O>>,
+    parts: &mut Vec<Part<'s, 'r, L, D, PooledReach<'s, 'r, G, T, R>, K, S, R, GearLog<'s, O>>>,
 )
     requires some { 0 < share.old.parts }
     requires amount { share.old.amount ≡ 0 }
     requires idle { T.is_idle gear.tape }
-    requires room { (vec_len parts.old < vec_capacity parts.old) × (vec_len logs.old < vec_capacity logs.old) }
-    ensures part { PutsOne (λ p. start_with p.door p.reach p.clock p.desk ≡ start_of (lock_of common.now.site.now) L.sizes (counts common.now.pools.now) gear)
+    requires room { vec_len parts.old < vec_capacity parts.old }
+    ensures part { PutsOne (λ p. start_with p.door p.reach p.clock p.desk p.log
+        ≡ start_of (lock_of common.now.site.now) L.sizes (counts common.now.pools.now) common.now.format.now gear)
         parts.old.items parts.new.items }
-    ensures log { logs.new.items ≡ logs.old.items ++ gear.log ∷ [] }
     ensures share { (share.new.parts + 1 ≡ share.old.parts) × (share.new.amount ≡ 0) }
-    ensures len { (vec_len parts.new ≡ vec_len parts.old + 1) × (vec_len logs.new ≡ vec_len logs.old + 1) }
-    ensures capacity { (vec_capacity parts.new ≡ vec_capacity parts.old) × (vec_capacity logs.new ≡ vec_capacity logs.old) }
+    ensures len { vec_len parts.new ≡ vec_len parts.old + 1 }
+    ensures capacity { vec_capacity parts.new ≡ vec_capacity parts.old }
 {
     let mine = share.split_off(1, 0);
-    let (part, log) = part_of(alloc, common, mine, gear);
-    parts.push_reserved(part);
-    logs.push_reserved(log);
+    parts.push_reserved(part_of(alloc, common, mine, gear));
 }
 
-/// The part of a gear, and its log.
-fn part_of<'s, 'r, L: SiteName, D, G: Dial, T: Tape, K, S: Shelf, O, R>(
+/// The part of a gear.
+fn part_of<'s, 'r, L: SiteName, D, G: Dial, T: Tape, K, S: Shelf, O: Timed, R>(
     alloc: Global,
     common: &Common<'s, 'r, L, G, R>,
     share: Share<L>,
     gear: Gear<D, G, T, K, S, O>,
-) -> (
-    Part<'s, 'r, L, D, PooledReach<'s, 'r, G, T, R>, K, S, R, NoRows>,
-    Option<O>,
-)
+) -> Part<'s, 'r, L, D, PooledReach<'s, 'r, G, T, R>, K, S, R, GearLog<'s, O>>
     requires part { share.parts ≡ 1 }
     requires amount { share.amount ≡ 0 }
     requires idle { T.is_idle gear.tape }
-    ensures part { start_with result.0.door result.0.reach result.0.clock result.0.desk
-        ≡ start_of (lock_of common.now.site.now) L.sizes (counts common.now.pools.now) gear }
-    ensures log { result.1 ≡ gear.log }
+    ensures { start_with result.door result.reach result.clock result.desk result.log
+        ≡ start_of (lock_of common.now.site.now) L.sizes (counts common.now.pools.now) common.now.format.now gear }
 {
     let Gear {
         door,
@@ -131,12 +122,11 @@ fn part_of<'s, 'r, L: SiteName, D, G: Dial, T: Tape, K, S: Shelf, O, R>(
         shelf,
         log,
     } = gear;
-    let part = Part {
+    Part {
         door,
         reach: PooledReach::new(common.pools, dial, tape),
         clock,
         desk: SharedDesk::new(alloc, common.site, share, shelf),
-        log: NoRows,
-    };
-    (part, log)
+        log: GearLog::new(alloc, common.format, log),
+    }
 }

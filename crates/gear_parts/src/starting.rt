@@ -18,7 +18,6 @@ pub fn first_moment<D: Door, G, T: Tape, K: Clock, S, O>(
         AreStarted (map at gears.old.items) (map at gears.new.items) }
     ensures given { let at = gear_side (side D.coming D.left D.faults) T.talks K.answers in
         GivesFirst result (map at gears.old.items) (map at gears.new.items) }
-    ensures logs { map (λ g. g.log) gears.new.items ≡ map (λ g. g.log) gears.old.items }
     ensures idle { All (λ g. T.is_idle g.tape) gears.old.items → All (λ g. T.is_idle g.tape) gears.new.items }
     ensures len { vec_len gears.new ≡ vec_len gears.old }
 {
@@ -32,7 +31,6 @@ fn moment_of<D: Door, G, T: Tape, K: Clock, S, O>(gears: &mut [Gear<D, G, T, K, 
         AreStarted (map at gears.old) (map at gears.new) }
     ensures given { let at = gear_side (side D.coming D.left D.faults) T.talks K.answers in
         GivesFirst result (map at gears.old) (map at gears.new) }
-    ensures logs { map (λ g. g.log) gears.new ≡ map (λ g. g.log) gears.old }
     ensures idle { All (λ g. T.is_idle g.tape) gears.old → All (λ g. T.is_idle g.tape) gears.new }
     ensures len { length gears.new ≡ length gears.old }
 {

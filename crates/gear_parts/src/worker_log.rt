@@ -3,7 +3,7 @@ ghost use Rattle.std.specs.Prelude.{◌≡◌, ℕ, List, Option, None, Some};
 ghost use Rattle.gear_parts.specs.Logs.{BreaksLoudly};
 
 use jk_io::{IoError, Peer};
-use jk_model::{NoRows, RowSink};
+use jk_model::RowSink;
 
 /// A sink of rows that is told whose requests they are, and that may break.
 pub trait WorkerLog: RowSink {
@@ -36,20 +36,4 @@ pub trait WorkerLog: RowSink {
     // a row breaks it by a fault only where the faults rose
     ghost breaks_loudly: { (s t : Self) (rows : List AnyServed) → Self.gained s rows t
         → BreaksLoudly (broken_by s) (broken_by t) (log_faults s) (log_faults t) };
-}
-
-impl WorkerLog for NoRows {
-    ghost use Rattle.std.specs.Prelude.{None};
-
-    ghost broken_by = { λ _. None };
-
-    ghost log_faults = { λ _. 0 };
-
-    ghost breaks_loudly = { λ _ _ _ _ no. absurd Prim.cc };
-
-    fn greet(&mut self, _peer: &Peer) {}
-
-    fn broken(&self) -> Option<IoError> {
-        None
-    }
 }

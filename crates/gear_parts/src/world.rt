@@ -4,8 +4,9 @@ ghost use Rattle.jk_io.specs.Told.{HasCause, IsEmpty, appended};
 
 use crate::order::GearOrder;
 use conn_pool::Tape;
-use jk_io::{Bytes, Clock, Dial, Door, IoError, Sink};
+use jk_io::{Bytes, Clock, Dial, Door, IoError};
 use locked_balancer::Shelf;
+use request_log::Timed;
 use std::alloc::Global;
 
 /// What one worker uses of the outside. A container's worker uses the door alone.
@@ -44,7 +45,7 @@ pub trait World {
 
     type S: Shelf + Drop + Send;
 
-    type O: Sink + Drop + Send;
+    type O: Timed + Drop + Send;
 
     // the gears that were handed out, each as it was then
     ghost handed: { Self → Option (List (AnyGear Self.D Self.G Self.T Self.K Self.S Self.O)) };
@@ -57,6 +58,9 @@ pub trait World {
 
     // a gear is what a worker of this number wants, over this configuration; where it isn't told, each may be
     ghost suits: { ℕ → GearWants → Option AnyConfig → AnyGear Self.D Self.G Self.T Self.K Self.S Self.O → Type 0 } = { λ _ _ _ _. Unit {0} };
+
+    // a log is that of the worker of this number in this directory; where it isn't told, each may be
+    ghost is_log: { List ℕ → ℕ → Self.O → Type 0 } = { λ _ _ _. Unit {0} };
 
     // how many calls failed
     ghost faults: { Self → ℕ };
@@ -90,6 +94,7 @@ pub trait World {
 
     /// Makes the log of worker `number`, from 0, in a directory.
     fn log(&mut self, alloc: Global, dir: &Bytes, number: u32) -> Result<Self::O, IoError>
+        ensures made { IfOk result (λ log. is_log dir.now number log) }
         ensures same { (handed self.new ≡ handed self.old) × (came_back self.new ≡ came_back self.old) × (out self.new ≡ out self.old) }
         ensures cause { HasCause (faults self.old) (faults self.new) result }
         ensures steady { IsOk result → faults self.new ≡ faults self.old };

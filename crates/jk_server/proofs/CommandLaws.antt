@@ -1,11 +1,12 @@
 -- How a command that asks for workers ends where a gear is refused or memory is wanted.
-use Rattle.std.proofs.Common.{ℕ, ◌≡◌, ◌+◌, ◌<◌, ◌≤◌, List, [], length, None, Err, inl, inr, refl, arith, lit≤}
+use Rattle.std.proofs.Common.{ℕ, ◌≡◌, ◌+◌, ◌<◌, ◌≤◌, List, [], length, None, Err, inl, inr, refl, sym, ◌∙◌, arith, lit≤}
 use Rattle.jk_io.specs.Told.{appended, HasCause}
 use Rattle.jk_io.specs.declared.failures.IoError.{IoError}
 use Rattle.jk_io.specs.declared.failures.IoError.TheVariants as io
 use Rattle.mini_container.specs.declared.app_config.AppConfig.{AppConfig}
 use Rattle.site_reports.specs.Readings.{CommandOutside}
-use Rattle.jk_server.specs.Commands.{CommandSide, ContainsLinks, RunsContainer, Serves, Unread, Works, NoGear, NoRoom}
+use Rattle.jk_server.specs.Commands.{CommandSide, ContainsLinks, LacksLog, RunsContainer, ServesFiles, Unread, Works, NoGear, NoRoom}
+use Rattle.request_log.specs.declared.format.Part.{Part as FormatPart}
 use Rattle.jk_server.specs.Ends.{end_by}
 use Rattle.gear_parts.specs.Wants.{GearWants}
 use Rattle.gear_parts.specs.Worlds.{HandsAndTakes, RefusesGear, Tells, WorldSide}
@@ -42,23 +43,50 @@ pub some_asked : (n count : ℕ) → n ≡ count → 1 ≤ count → 0 < n
 some_asked n count same some = omega (arith, same, some)
 
 -- the files of a site couldn't be read
-pub unread : {W G C S X L T : Type 0} (told : Tells W G C S X) (outside : CommandOutside) (workers map : List ℕ) (threads : ℕ) (wanted : GearWants) (s n : CommandSide G) (e : IoError) (ended : CommandEnd L)
+pub unread : {W G C S O X Z L T : Type 0} (told : Tells W G C S O X Z) (outside : CommandOutside) (workers map : List ℕ) (format : List FormatPart) (threads : ℕ) (wanted : GearWants) (s n : CommandSide G) (e : IoError) (ended : CommandEnd L)
     → HasCause {T = T} s.file_faults n.file_faults (Err e) → ended ≡ end_by e → n.sent ≡ s.sent → n.world ≡ s.world
-    → Serves told outside workers map threads wanted s n ended
-unread told outside workers map threads wanted s n io.Failed ended cause is written world =
+    → ServesFiles told outside workers map format threads wanted s n ended
+unread told outside workers map format threads wanted s n io.Failed ended cause is written world =
     Unread (record { why = inl (is, cause.failed refl); written = written; world = world })
-unread told outside workers map threads wanted s n io.NoMemory ended cause is written world =
+unread told outside workers map format threads wanted s n io.NoMemory ended cause is written world =
     Unread (record { why = inr is; written = written; world = world })
 
 -- the application of a route that is short enough
 pub app_of : (route : List ℕ) → length route ≤ 1024 → AppConfig
 app_of route short = record { route = route; secret = None; packet = 8192; packet_at_least = lit≤ tt; packet_at_most = lit≤ tt; short_route = short }
 
-pub contains_none : {W G C S X L : Type 0} (told : Tells W G C S X) (route : List ℕ) (threads : ℕ) (wanted : GearWants) (s : WorldSide G) → length route ≤ 1024
+pub contains_none : {W G C S O X Z L : Type 0} (told : Tells W G C S O X Z) (route : List ℕ) (threads : ℕ) (wanted : GearWants) (s : WorldSide G) → length route ≤ 1024
     → ContainsLinks {L = L} told route threads wanted s s (end.Status 6)
 unfolding app_of
 contains_none told route threads wanted s short = record {
   app = app_of route short;
   is = record { name = refl; secret = refl; packet = refl };
   works = wants_room threads (RunsContainer told (app_of route short) threads wanted) s;
+}
+
+-- a log was refused, after the gears were taken
+pub lacks_log : {G L T : Type 0} (threads : ℕ) (s m n : WorldSide G) (gears : List G) (e : IoError) (ended : CommandEnd L)
+    → HandsAndTakes s m gears [] → m.faults ≡ s.faults → length gears ≡ threads → HandsAndTakes m n [] gears → HasCause {T = T} m.faults n.faults (Err e)
+    → ended ≡ end_by e → LacksLog threads s n ended
+lacks_log threads s m n gears io.Failed ended taken calm all given cause is = record {
+  gears = gears;
+  count = all;
+  passed = then_back s m n gears gears taken given;
+  why = inl (is, rw (sym calm) (cause.failed refl));
+}
+lacks_log threads s m n gears io.NoMemory ended taken calm all given cause is = record {
+  gears = gears;
+  count = all;
+  passed = then_back s m n gears gears taken given;
+  why = inr (is, cause.wanted refl ∙ calm);
+}
+
+-- nothing more was handed out or came back
+pub still_taken : {G : Type 0} (s m n : WorldSide G) (gears : List G) → HandsAndTakes s m gears [] → n.handed ≡ m.handed → n.back ≡ m.back → n.out ≡ m.out → n.faults ≡ m.faults
+    → HandsAndTakes s n gears []
+still_taken s m n gears taken handed back out faults = record {
+  handed = handed ∙ taken.handed;
+  came_back = back ∙ taken.came_back;
+  counted = omega (arith, taken.counted, out);
+  no_fewer = omega (arith, taken.no_fewer, faults);
 }

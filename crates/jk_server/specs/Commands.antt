@@ -1,6 +1,7 @@
 -- What `serve` and `container` do with the outside, and how they end. Read this first; what a run does is in specs/Runs.antt and
 -- specs/Containers.antt.
-use Rattle.std.specs.Prelude.{◌≡◌, ℕ, ◌≤◌, ◌⊎◌, min, Bool, List, [], length, map, Option, Some, None, unwrap_or}
+use Rattle.std.specs.Prelude.{◌≡◌, ℕ, ◌≤◌, ◌⊎◌, min, Bool, List, [], length, map, Option, Some, None, codes, unwrap_or}
+use Rattle.std.specs.Option.{option_copied}
 use Rattle.std.specs.List.{All, AllZip}
 use Rattle.client_session.specs.Requests.{visit}
 use Rattle.conn_pool.specs.declared.tape.Tape.{Ghosts as TapeGhosts}
@@ -16,14 +17,16 @@ use Rattle.site_reports.specs.Readings.{CommandOutside, OfFiles}
 use Rattle.site_reports.specs.Reports.{RefusesSite}
 use Rattle.site_config.specs.declared.config.Config.{Config}
 use Rattle.uri_map.specs.declared.rule.Rule.{Rule}
+use Rattle.request_log.specs.Formats.{IsFormat, IsRefusedFrom, refusal_line}
+use Rattle.request_log.specs.declared.format.Part.{Part as FormatPart}
 use Rattle.gear_parts.specs.declared.world.Gear.{Gear}
 use Rattle.gear_parts.specs.declared.world.World.{Ghosts as WorldGhosts}
 use Rattle.gear_parts.specs.Containers.{IsContainerRun}
 use Rattle.jk_server.specs.Runs.{IsSiteRun}
-use Rattle.jk_server.specs.RunTells.{unlogged}
+use Rattle.jk_server.specs.RunTells.{logging}
 use Rattle.jk_server.specs.declared.runs.ends.Closing.{Closing}
 use Rattle.jk_server.specs.declared.part.WorkerEnd.{WorkerEnd}
-use Rattle.jk_server.specs.Ends.{end_of_container, end_of_run, KeepsEach, returned}
+use Rattle.jk_server.specs.Ends.{end_of_container, end_of_run, returned}
 use Rattle.site_reports.specs.Sites.{IsSite}
 use Rattle.gear_parts.specs.Wants.{AreSuited, GearWants, wants_of}
 use Rattle.gear_parts.specs.Worlds.{tells, HandsAndTakes, IsMade, RefusesGear, Tells, WorldSide}
@@ -31,6 +34,7 @@ use Rattle.jk_server.specs.declared.orders.ends.CommandEnd.{CommandEnd}
 use Rattle.jk_server.specs.declared.orders.ends.CommandEnd.TheVariants as end
 use Rattle.gear_parts.specs.declared.order.GearOrder.{GearOrder}
 use Rattle.jk_server.specs.declared.orders.container.ContainerOrder.{ContainerOrder}
+use Rattle.jk_server.specs.declared.orders.serve.FormattedOrder.{FormattedOrder}
 use Rattle.jk_server.specs.declared.orders.serve.ServeOrder.{ServeOrder}
 use Rattle.site_reports.specs.declared.site.ReadSite.{ReadSite}
 
@@ -42,25 +46,25 @@ pub record CommandSide (G : Type 0) : Type 0 where
   pub world : WorldSide G
 
 -- What the types of a command tell of its files, of its output, and of its world.
-pub record CommandTells (F O W G C S X : Type 0) : Type 1 where
+pub record CommandTells (F O W G C S Y X Z : Type 0) : Type 1 where
   pub files : F → Option (List (List ℕ × List ℕ))
   pub file_faults : F → ℕ
   pub sent : O → Option (List ℕ)
   pub output_faults : O → ℕ
-  pub world : Tells W G C S X
+  pub world : Tells W G C S Y X Z
 
--- by their traits: `telling F.Files O.Meanings W.World W.D.Door W.T.Tape W.K.Clock W.D.L.Meanings W.S.Shelf W.D.L.may_wait`
-abbrev pub telling : {F P A W D G T K S O C X E Y Z : Type 0} → FilesGhosts F → Ghosts P A → WorldGhosts W D G T K S O C X E Y Z → DoorGhosts D C X → TapeGhosts T → ClockGhosts K → Ghosts C X → ShelfGhosts S → Bool → CommandTells F P W (Gear D G T K S O) C S X
-telling of_files of_output of_world of_door of_tape of_clock of_link of_shelf may_wait = record {
+-- by their traits: `telling F.Files O.Meanings W.World W.D.Door W.T.Tape W.K.Clock W.D.L.Meanings W.S.Shelf W.O.Meanings W.D.L.may_wait`
+abbrev pub telling : {F P A W D G T K S O C X E Y Z V : Type 0} → FilesGhosts F → Ghosts P A → WorldGhosts W D G T K S O C X E Y Z V → DoorGhosts D C X → TapeGhosts T → ClockGhosts K → Ghosts C X → ShelfGhosts S → Ghosts O Z → Bool → CommandTells F P W (Gear D G T K S O) C S O X Z
+telling of_files of_output of_world of_door of_tape of_clock of_link of_shelf of_log may_wait = record {
   files = of_files.files;
   file_faults = of_files.faults;
   sent = of_output.sent;
   output_faults = of_output.faults;
-  world = tells of_world of_door of_tape of_clock of_link of_shelf may_wait;
+  world = tells of_world of_door of_tape of_clock of_link of_shelf of_log may_wait;
 }
 
 -- a command over these files, this output and this world
-abbrev pub command_side : {F O W G C S X : Type 0} → CommandTells F O W G C S X → F × O × W → CommandSide G
+abbrev pub command_side : {F O W G C S Y X Z : Type 0} → CommandTells F O W G C S Y X Z → F × O × W → CommandSide G
 command_side told over = record {
   file_faults = told.file_faults over.0;
   sent = told.sent over.1;
@@ -97,24 +101,36 @@ pub data Works {G L : Type 0} (threads : ℕ) (Runs : WorldSide G → WorldSide 
   NoRoom : WantsMemory threads s n ended → Works threads Runs s n ended
   Ran : Runs s n ended → Works threads Runs s n ended
 
--- The workers of a site ran: the world handed out a gear for each, in order, each just made and as that worker wants it; what
--- one run over the site made of these gears came back, in order, each with the log that it had, as far as the run gives gears
--- back (`returned`); and the run's end is the command's.
-pub record RunsSite {W G C S X L : Type 0} (told : Tells W G C S X) (cfg : Config) (rules : List Rule) (threads : ℕ) (wanted : GearWants) (s n : WorldSide G) (ended : CommandEnd L) : Type 0 where
+-- A gear for each worker was handed out, and one of them had no log: all came back as they were.
+pub record LacksLog {G L : Type 0} (threads : ℕ) (s n : WorldSide G) (ended : CommandEnd L) : Type 0 where
   pub gears : List G
+  pub count : length gears ≡ threads
+  pub passed : HandsAndTakes s n gears gears
+  pub why : ((ended ≡ end.Status 4) × Rose s.faults n.faults) ⊎ ((ended ≡ end.Status 6) × (n.faults ≡ s.faults))
+
+-- The workers of a site ran: the world handed out a gear for each, in order, each just made and as that worker wants it, and
+-- each was given its log where logs are wanted; what one run over the site made of these gears came back, in order, as far as the run
+-- gives gears back (`returned`); and the run's end is the command's.
+pub record RunsSite {W G C S O X Z L : Type 0} (told : Tells W G C S O X Z) (cfg : Config) (rules : List Rule) (format : List FormatPart) (threads : ℕ) (wanted : GearWants) (s n : WorldSide G) (ended : CommandEnd L) : Type 0 where
+  pub gears : List G
+  pub begun : List G
   pub left : List G
   pub count : length gears ≡ threads
   pub made : All (λ g. IsMade wanted.clients (told.gear g)) gears
   pub suited : AreSuited (λ number. told.suits number wanted (Some cfg)) 0 gears
+  pub logged : told.are_given wanted.log gears begun
   pub ends : List (WorkerEnd L)
   pub closing : Closing L
-  pub run : IsSiteRun (visit cfg rules) told.link told.shelved (unlogged told.shelf_faults told.may_wait) cfg.lbs (map told.gear gears) (map told.gear left) ends closing
-  pub logs : KeepsEach told.keeps_log closing gears left
+  pub run : IsSiteRun (visit cfg rules) told.link told.shelved (logging told.shelf_faults told.log told.may_wait) format cfg.lbs (map told.gear begun) (map told.gear left) ends closing
   pub passed : HandsAndTakes s n gears (returned closing left)
   pub status : ended ≡ end_of_run ends closing
 
+-- The workers of a site ran, or one of them had no log.
+abbrev pub RunsLogged : {W G C S O X Z L : Type 0} → Tells W G C S O X Z → Config → List Rule → List FormatPart → (threads : ℕ) → GearWants → (s n : WorldSide G) → CommandEnd L → Type 0
+RunsLogged told cfg rules format threads wanted s n ended = LacksLog threads s n ended ⊎ RunsSite told cfg rules format threads wanted s n ended
+
 -- The workers of a container ran, in the same way. Each gear came back with all that it had but its door.
-pub record RunsContainer {W G C S X L : Type 0} (told : Tells W G C S X) (app : AppConfig) (threads : ℕ) (wanted : GearWants) (s n : WorldSide G) (ended : CommandEnd L) : Type 0 where
+pub record RunsContainer {W G C S O X Z L : Type 0} (told : Tells W G C S O X Z) (app : AppConfig) (threads : ℕ) (wanted : GearWants) (s n : WorldSide G) (ended : CommandEnd L) : Type 0 where
   pub gears : List G
   pub left : List G
   pub count : length gears ≡ threads
@@ -153,18 +169,45 @@ pub record LacksFiles {G L : Type 0} (s n : CommandSide G) (ended : CommandEnd L
   pub world : n.world ≡ s.world
 
 -- The files are a site, for which this many workers were wanted. Nothing was written.
-pub record ServesSite {W G C S X L : Type 0} (told : Tells W G C S X) (outside : CommandOutside) (workers map : List ℕ) (threads : ℕ) (wanted : GearWants) (s n : CommandSide G) (ended : CommandEnd L) : Type 0 where
+pub record ServesSite {W G C S O X Z L : Type 0} (told : Tells W G C S O X Z) (outside : CommandOutside) (workers map : List ℕ) (format : List FormatPart) (threads : ℕ) (wanted : GearWants) (s n : CommandSide G) (ended : CommandEnd L) : Type 0 where
   pub cfg : Config
   pub rules : List Rule
   pub site : IsSite outside workers map cfg rules
-  pub works : Works threads (RunsSite told cfg rules threads wanted) s.world n.world ended
+  pub works : Works threads (RunsLogged told cfg rules format threads wanted) s.world n.world ended
   pub written : n.sent ≡ s.sent
 
--- `serve WORKERS MAP ADDRESS THREADS`
-pub data Serves {W G C S X L : Type 0} (told : Tells W G C S X) (outside : CommandOutside) (workers map : List ℕ) (threads : ℕ) (wanted : GearWants) (s n : CommandSide G) (ended : CommandEnd L) : Type 0 where
-  Unread : LacksFiles s n ended → Serves told outside workers map threads wanted s n ended
-  Refused : RefusesFiles outside workers map s n ended → Serves told outside workers map threads wanted s n ended
-  Served : ServesSite told outside workers map threads wanted s n ended → Serves told outside workers map threads wanted s n ended
+-- A site of these files is served, with logs of this format where logs are wanted.
+pub data ServesFiles {W G C S O X Z L : Type 0} (told : Tells W G C S O X Z) (outside : CommandOutside) (workers map : List ℕ) (format : List FormatPart) (threads : ℕ) (wanted : GearWants) (s n : CommandSide G) (ended : CommandEnd L) : Type 0 where
+  Unread : LacksFiles s n ended → ServesFiles told outside workers map format threads wanted s n ended
+  Refused : RefusesFiles outside workers map s n ended → ServesFiles told outside workers map format threads wanted s n ended
+  Served : ServesSite told outside workers map format threads wanted s n ended → ServesFiles told outside workers map format threads wanted s n ended
+
+-- the format of the logs, as it is written; where it isn't, it has the worker, what was asked, the status and the length
+abbrev pub format_text : Option (List ℕ) → List ℕ
+format_text None = codes "%w %m %U%q %s %b"
+format_text (Some text) = text
+
+-- The format is refused, before any file is read, and the line that says where was written.
+pub record RefusesFormat {G L : Type 0} (text : List ℕ) (s n : CommandSide G) (ended : CommandEnd L) : Type 0 where
+  pub at : ℕ
+  pub refused : IsRefusedFrom text at
+  pub written : WritesLine s.sent n.sent s.output_faults n.output_faults (refusal_line at) ended
+  pub unread : n.file_faults ≡ s.file_faults
+  pub world : n.world ≡ s.world
+
+-- There was no memory for the format, and nothing was done.
+pub record LacksFormat {G L : Type 0} (s n : CommandSide G) (ended : CommandEnd L) : Type 0 where
+  pub status : ended ≡ end.Status 6
+  pub unread : n.file_faults ≡ s.file_faults
+  pub written : n.sent ≡ s.sent
+  pub world : n.world ≡ s.world
+
+-- `serve WORKERS MAP ADDRESS THREADS`, with logs of the format that this text is, where logs are wanted
+pub data Serves {W G C S O X Z L : Type 0} (told : Tells W G C S O X Z) (outside : CommandOutside) (workers map text : List ℕ) (threads : ℕ) (wanted : GearWants) (s n : CommandSide G) (ended : CommandEnd L) : Type 0 where
+  NoFormat : LacksFormat s n ended → Serves told outside workers map text threads wanted s n ended
+  Unformatted : RefusesFormat text s n ended → Serves told outside workers map text threads wanted s n ended
+  Formatted : (format : List FormatPart) → IsFormat text format → ServesFiles told outside workers map format threads wanted s n ended
+      → Serves told outside workers map text threads wanted s n ended
 
 -- The application of a container of this route: it asks for no secret, and a packet has at most 8,192 bytes.
 pub record IsAppOf (route : List ℕ) (app : AppConfig) : Type 0 where
@@ -173,35 +216,41 @@ pub record IsAppOf (route : List ℕ) (app : AppConfig) : Type 0 where
   pub packet : app.packet ≡ 8192
 
 -- The workers of a container of this route were wanted of the world.
-pub record ContainsLinks {W G C S X L : Type 0} (told : Tells W G C S X) (route : List ℕ) (threads : ℕ) (wanted : GearWants) (s n : WorldSide G) (ended : CommandEnd L) : Type 0 where
+pub record ContainsLinks {W G C S O X Z L : Type 0} (told : Tells W G C S O X Z) (route : List ℕ) (threads : ℕ) (wanted : GearWants) (s n : WorldSide G) (ended : CommandEnd L) : Type 0 where
   pub app : AppConfig
   pub is : IsAppOf route app
   pub works : Works threads (RunsContainer told app threads wanted) s n ended
 
 -- `container ROUTE ADDRESS THREADS`. Nothing was written.
-pub record Contains {W G C S X L : Type 0} (told : Tells W G C S X) (route : List ℕ) (threads : ℕ) (wanted : GearWants) (s n : CommandSide G) (ended : CommandEnd L) : Type 0 where
+pub record Contains {W G C S O X Z L : Type 0} (told : Tells W G C S O X Z) (route : List ℕ) (threads : ℕ) (wanted : GearWants) (s n : CommandSide G) (ended : CommandEnd L) : Type 0 where
   pub contained : ContainsLinks told route threads wanted s.world n.world ended
   pub written : n.sent ≡ s.sent
 
 -- ---- the same of what a command goes over, as it was before and is after it
 
 -- The workers of a site were wanted.
-abbrev pub WorksSite : {W G C S X L : Type 0} → Tells W G C S X → ReadSite → (threads : ℕ) → GearOrder → (before after : W) → CommandEnd L → Type 0
-WorksSite told site threads asked before after ended =
-    Works threads (RunsSite told site.cfg site.map threads (wants_of asked)) (told.world before) (told.world after) ended
+abbrev pub WorksSite : {W G C S O X Z L : Type 0} → Tells W G C S O X Z → ReadSite → List FormatPart → (threads : ℕ) → GearOrder → (before after : W) → CommandEnd L → Type 0
+WorksSite told site format threads asked before after ended =
+    Works threads (RunsLogged told site.cfg site.map format threads (wants_of asked)) (told.world before) (told.world after) ended
 
 -- The workers of a container were wanted.
-abbrev pub WorksContainer : {W G C S X L : Type 0} → Tells W G C S X → AppConfig → (threads : ℕ) → GearOrder → (before after : W) → CommandEnd L → Type 0
+abbrev pub WorksContainer : {W G C S O X Z L : Type 0} → Tells W G C S O X Z → AppConfig → (threads : ℕ) → GearOrder → (before after : W) → CommandEnd L → Type 0
 WorksContainer told app threads asked before after ended =
     Works threads (RunsContainer told app threads (wants_of asked)) (told.world before) (told.world after) ended
 
 -- The workers of a container of this route were wanted.
-abbrev pub ContainsAsked : {W G C S X L : Type 0} → Tells W G C S X → ContainerOrder → (before after : W) → CommandEnd L → Type 0
+abbrev pub ContainsAsked : {W G C S O X Z L : Type 0} → Tells W G C S O X Z → ContainerOrder → (before after : W) → CommandEnd L → Type 0
 ContainsAsked told order before after ended =
     ContainsLinks told order.route.now order.threads (wants_of order.asked) (told.world before) (told.world after) ended
 
+-- `serve` over its files, once its format was read, whatever the input.
+abbrev pub ServesFormatted : {F O W G C S Y X Z L : Type 0} → CommandTells F O W G C S Y X Z → FormattedOrder → (before after : F × O × W) → CommandEnd L → Type 0
+ServesFormatted told of before after ended =
+    OfFiles (told.files before.0) (λ outside. ServesFiles told.world outside of.order.workers.now of.order.map.now of.format.now of.order.threads (wants_of of.order.asked)
+    (command_side told before) (command_side told after) ended)
+
 -- `serve` over its files, whatever the input.
-abbrev pub ServesOrder : {F O W G C S X L : Type 0} → CommandTells F O W G C S X → ServeOrder → (before after : F × O × W) → CommandEnd L → Type 0
+abbrev pub ServesOrder : {F O W G C S Y X Z L : Type 0} → CommandTells F O W G C S Y X Z → ServeOrder → (before after : F × O × W) → CommandEnd L → Type 0
 ServesOrder told order before after ended =
-    OfFiles (told.files before.0) (λ outside. Serves told.world outside order.workers.now order.map.now order.threads (wants_of order.asked)
+    OfFiles (told.files before.0) (λ outside. Serves told.world outside order.workers.now order.map.now (format_text (option_copied order.format)) order.threads (wants_of order.asked)
     (command_side told before) (command_side told after) ended)

@@ -1,6 +1,5 @@
 -- How a command ends by the ends of its workers.
-use Rattle.std.specs.Prelude.{ℕ, ◌≡◌, ◌⊎◌, List, [], ◌∷◌}
-use Rattle.std.specs.List.{AllZip}
+use Rattle.std.specs.Prelude.{ℕ, List, [], ◌∷◌}
 use Rattle.container_server.specs.declared.ends.ContainerWorker.{ContainerWorker}
 use Rattle.container_server.specs.declared.ends.ContainerWorker.TheVariants as container
 use Rattle.jk_io.specs.declared.failures.IoError.{IoError}
@@ -52,11 +51,3 @@ returned closing.Kept gears = gears
 returned closing.ShelfFault gears = gears
 returned (closing.Differs discord) gears = gears
 returned closing.NoMemory gears = []
-
--- `Keeps` holds of each gear that was handed in and the one that came back at its place. Where receipts differ none came
--- back; after want of memory none did, or all.
-abbrev pub KeepsEach : {L G : Type 0} → (G → G → Type 0) → Closing L → (gears back : List G) → Type 0
-KeepsEach Keeps closing.Kept gears back = AllZip Keeps gears back
-KeepsEach Keeps closing.ShelfFault gears back = AllZip Keeps gears back
-KeepsEach Keeps (closing.Differs discord) gears back = back ≡ []
-KeepsEach Keeps closing.NoMemory gears back = (back ≡ []) ⊎ AllZip Keeps gears back

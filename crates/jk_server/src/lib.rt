@@ -27,6 +27,7 @@ pub use orders::ends::CommandEnd;
 pub use orders::serve::{ServeOrder, cut_at, serve};
 pub use part::{ServeEnd, WorkerEnd, WorkerEndList};
 pub use runs::ends::{Closing, SiteRun};
+pub use runs::parts::SitePlan;
 pub use runs::serve::serve_gears;
 pub use serving::serve_part;
 pub use workers::{MAX_WORKERS, run_serve};

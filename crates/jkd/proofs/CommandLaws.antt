@@ -9,7 +9,7 @@ use Rattle.jk_cli.specs.Orders.{order_of}
 use Rattle.jk_cli.specs.declared.order.Order.{Order}
 use Rattle.jk_cli.specs.declared.order.Order.TheVariants as order
 use Rattle.jk_io.specs.Told.{Rose}
-use Rattle.jk_server.specs.Commands.{CommandSide, RunsContainer, RunsSite, Serves, Unread, Refused, Served, Works, NoGear, NoRoom, Ran}
+use Rattle.jk_server.specs.Commands.{CommandSide, Formatted, format_text, NoFormat, RunsContainer, RunsLogged, Serves, ServesFiles, Unformatted, Unread, Refused, Served, Works, WritesLine, NoGear, NoRoom, Ran}
 use Rattle.jk_server.specs.Ends.{end_of_closing, end_of_container, end_of_run}
 use Rattle.gear_parts.specs.Wants.{container_wants, GearWants, wants}
 use Rattle.gear_parts.specs.Worlds.{Tells, WorldSide}
@@ -21,6 +21,8 @@ use Rattle.jk_server.specs.declared.runs.ends.Closing.{Closing}
 use Rattle.jk_server.specs.declared.runs.ends.Closing.TheVariants as closing
 use Rattle.jk_server.proofs.CommandLaws.{contains_none}
 use Rattle.plain_commands.specs.Plain.{readings, AreFilesDue}
+use Rattle.request_log.specs.Formats.{refusal_line}
+use Rattle.request_log.specs.declared.format.Part.{Part as FormatPart}
 use Rattle.site_reports.specs.Readings.{CommandOutside, has_file}
 use Rattle.jkd.specs.Commands.{DoesOrder}
 use Rattle.jkd.specs.Ends.{jkd_end, of_drill}
@@ -29,11 +31,11 @@ use Rattle.jkd.specs.declared.ends.EndOf.{EndOf}
 use Rattle.jkd.specs.declared.ends.EndOf.TheVariants as end
 
 -- memory was wanted before the words were read
-pub does_none : {W G C S X : Type 0} (L : Type 0) (told : Tells W G C S X) (outside : CommandOutside) (o : Order) (s : CommandSide G) → is_served o ≡ true → IsInRange o
+pub does_none : {W G C S O X Z : Type 0} (L : Type 0) (told : Tells W G C S O X Z) (outside : CommandOutside) (o : Order) (s : CommandSide G) → is_served o ≡ true → IsInRange o
     → DoesOrder {L = L} told outside o s s (end.Status 6)
 does_none L told outside (order.Serve workers map address threads clients journal watch idle log format cut limits control grace) s served range = record {
   by = server.Status 6;
-  said = Unread (record { why = inr refl; written = refl; world = refl });
+  said = NoFormat (record { status = refl; unread = refl; written = refl; world = refl });
   turned = refl;
 }
 does_none L told outside (order.Container route address threads clients) s served range = record {
@@ -96,16 +98,36 @@ works_status threads Runs s n ended k ran (Ran w) e = ran w e
 Answered : {G : Type 0} → (s n : CommandSide G) → ℕ → Type 0
 Answered s n k = IsOfRun k ⊎ (k ≡ 3) ⊎ ((k ≡ 5) × Rose s.output_faults n.output_faults)
 
-serve_status : {W G C S X L : Type 0} (told : Tells W G C S X) (outside : CommandOutside) (workers map : List ℕ) (threads : ℕ) (wanted : GearWants) (s n : CommandSide G) (ended : CommandEnd L) (k : ℕ)
-    → Serves told outside workers map threads wanted s n ended → ended ≡ server.Status k → Answered s n k
+-- a run of workers that may have lacked a log
+logged_status : {W G C S O X Z L : Type 0} (told : Tells W G C S O X Z) (cfg : _) (rules : _) (format : List FormatPart) (threads : ℕ) (wanted : GearWants) (s n : WorldSide G) (ended : CommandEnd L) (k : ℕ)
+    → RunsLogged told cfg rules format threads wanted s n ended → ended ≡ server.Status k → IsOfRun k
+unfolding IsOfRun
+logged_status told cfg rules format threads wanted s n ended k (inl lacks) e =
+    elim lacks.why [ inl a ↦ let status = a.0 in inr (inl cc) | inr b ↦ let status = b.0 in inr (inr cc) ]
+logged_status told cfg rules format threads wanted s n ended k (inr ran) e = run_status ran.ends ran.closing k (sym ran.status ∙ e)
+
+-- a line that refuses something
+line_status : {G L : Type 0} (s n : CommandSide G) (line : List ℕ) (ended : CommandEnd L) (k : ℕ) → WritesLine s.sent n.sent s.output_faults n.output_faults line ended → ended ≡ server.Status k → Answered s n k
 unfolding IsOfRun Answered
-serve_status told outside workers map threads wanted s n ended k (Unread w) e =
+line_status s n line ended k written e =
+    elim written [ inl a ↦ let status = a.1 in inr (inl cc) | inr b ↦ elim b [ inl c ↦ let status = c.1 in inr (inr (cc, c.2)) | inr d ↦ let status = d.1 in inl (inr (inr cc)) ] ]
+
+files_status : {W G C S O X Z L : Type 0} (told : Tells W G C S O X Z) (outside : CommandOutside) (workers map : List ℕ) (format : List FormatPart) (threads : ℕ) (wanted : GearWants) (s n : CommandSide G) (ended : CommandEnd L) (k : ℕ)
+    → ServesFiles told outside workers map format threads wanted s n ended → ended ≡ server.Status k → Answered s n k
+unfolding IsOfRun Answered
+files_status told outside workers map format threads wanted s n ended k (Unread w) e =
     elim w.why [ inl a ↦ let status = a.0 in inl (inr (inl cc)) | inr b ↦ inl (inr (inr cc)) ]
-serve_status told outside workers map threads wanted s n ended k (Refused w) e =
-    elim w.written [ inl a ↦ let status = a.1 in inr (inl cc) | inr b ↦ elim b [ inl c ↦ let status = c.1 in inr (inr (cc, c.2)) | inr d ↦ let status = d.1 in inl (inr (inr cc)) ] ]
-serve_status told outside workers map threads wanted s n ended k (Served w) e =
-    inl (works_status threads (RunsSite told w.cfg w.rules threads wanted) s.world n.world ended k
-    (λ ran is. run_status ran.ends ran.closing k (sym ran.status ∙ is)) w.works e)
+files_status told outside workers map format threads wanted s n ended k (Refused w) e = line_status s n w.line ended k w.written e
+files_status told outside workers map format threads wanted s n ended k (Served w) e =
+    inl (works_status threads (RunsLogged told w.cfg w.rules format threads wanted) s.world n.world ended k
+    (logged_status told w.cfg w.rules format threads wanted s.world n.world ended k) w.works e)
+
+serve_status : {W G C S O X Z L : Type 0} (told : Tells W G C S O X Z) (outside : CommandOutside) (workers map text : List ℕ) (threads : ℕ) (wanted : GearWants) (s n : CommandSide G) (ended : CommandEnd L) (k : ℕ)
+    → Serves told outside workers map text threads wanted s n ended → ended ≡ server.Status k → Answered s n k
+unfolding IsOfRun Answered
+serve_status told outside workers map text threads wanted s n ended k (NoFormat w) e = let status = w.status in inl (inr (inr cc))
+serve_status told outside workers map text threads wanted s n ended k (Unformatted w) e = line_status s n (refusal_line w.at) ended k w.written e
+serve_status told outside workers map text threads wanted s n ended k (Formatted format spelled serves) e = files_status told outside workers map format threads wanted s n ended k serves e
 
 -- a status of the command is that of the server's call
 served_status : {L : Type 0} (by : CommandEnd L) (k : ℕ) → jkd_end by ≡ end.Status k → by ≡ server.Status k
@@ -129,11 +151,11 @@ drill_status L seed threads requests text passes s n drilled.OutputFault k runs 
 drill_status L seed threads requests text passes s n drilled.NoMemory k runs e = inl (inr (inr cc))
 drill_status L seed threads requests text passes s n (drilled.Lacked error) k runs e = cc
 
-does_status : {W G C S X L : Type 0} (told : Tells W G C S X) (outside : CommandOutside) (o : Order) (s n : CommandSide G) (ended : EndOf L) (k : ℕ)
+does_status : {W G C S O X Z L : Type 0} (told : Tells W G C S O X Z) (outside : CommandOutside) (o : Order) (s n : CommandSide G) (ended : EndOf L) (k : ℕ)
     → DoesOrder told outside o s n ended → ended ≡ end.Status k → Answered s n k
 unfolding Answered
 does_status told outside (order.Serve workers map address threads clients journal watch idle log format cut limits control grace) s n ended k does e =
-    serve_status told outside workers map threads (wants address clients journal limits control grace) s n does.by k does.said (served_status does.by k (sym does.turned ∙ e))
+    serve_status told outside workers map (format_text format) threads (wants address clients journal log limits control grace) s n does.by k does.said (served_status does.by k (sym does.turned ∙ e))
 does_status told outside (order.Container route address threads clients) s n ended k does e =
     inl (works_status threads (RunsContainer told does.said.contained.app threads (container_wants address clients)) s.world n.world does.by k
     (λ ran is. container_status _ ran.ends k (sym ran.status ∙ is)) does.said.contained.works (served_status does.by k (sym does.turned ∙ e)))
@@ -150,7 +172,7 @@ does_status told outside (order.Drill seed threads requests text passes) s n end
     drill_status _ seed threads requests text passes s n does.runs.by k does.runs.said (sym does.runs.turned ∙ e)
 
 -- it never ends with the status of words that are no command
-pub does_done : {W G C S X L : Type 0} (told : Tells W G C S X) (outside : CommandOutside) (o : Order) (s n : CommandSide G) (ended : EndOf L)
+pub does_done : {W G C S O X Z L : Type 0} (told : Tells W G C S O X Z) (outside : CommandOutside) (o : Order) (s n : CommandSide G) (ended : EndOf L)
     → DoesOrder told outside o s n ended → ended ≢ end.Status 2
 unfolding IsOfRun Answered
 does_done told outside o s n ended does e =
@@ -160,7 +182,7 @@ does_done told outside o s n ended does e =
     ]
 
 -- it ends with status 5 only where the output's faults rose
-pub does_lose : {W G C S X L : Type 0} (told : Tells W G C S X) (outside : CommandOutside) (o : Order) (s n : CommandSide G) (ended : EndOf L)
+pub does_lose : {W G C S O X Z L : Type 0} (told : Tells W G C S O X Z) (outside : CommandOutside) (o : Order) (s n : CommandSide G) (ended : EndOf L)
     → DoesOrder told outside o s n ended → ended ≡ end.Status 5 → Rose s.output_faults n.output_faults
 unfolding IsOfRun Answered
 does_lose told outside o s n ended does e =

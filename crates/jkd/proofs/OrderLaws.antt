@@ -33,7 +33,7 @@ is_passes word = bytes_eq word (codes "passes")
 -- What an order for workers says of the parts after the command.
 abbrev pub FitsParts : List Part → Order → Type 0
 FitsParts parts (order.Serve workers map address threads clients journal watch idle log format cut limits control grace) =
-    (is_given (codes "watch") parts ≡ is_some watch) × (is_given (codes "log") parts ≡ is_some log) × (1 ≤ threads) × (threads ≤ 64)
+    (is_given (codes "watch") parts ≡ is_some watch) × (1 ≤ threads) × (threads ≤ 64)
 FitsParts parts (order.Container route address threads clients) = (1 ≤ threads) × (threads ≤ 64) × (length route ≤ 1024)
 FitsParts parts (order.Drill seed threads requests text passes) =
     (1 ≤ threads) × (threads ≤ 64) × (1 ≤ requests) × (requests ≤ 1000000) × (passes ≡ list_any is_passes (places_in parts))
@@ -83,7 +83,7 @@ from_clients parts clients = option_and_then (from_journal parts clients) (optio
 
 -- the options that are given stand there
 options_stand : (parts : List Part) (given : ServeOptions) → options_given parts ≡ Some given
-    → (is_given (codes "watch") parts ≡ is_some given.watch) × (is_given (codes "log") parts ≡ is_some given.log)
+    → is_given (codes "watch") parts ≡ is_some given.watch
 options_stand parts given e =
     let clients = bind_some (clients_of parts) (from_clients parts) given e in
     let journal = bind_some (option_in (codes "journal") parts) (from_journal parts clients.0) given clients.2 in
@@ -92,18 +92,15 @@ options_stand parts given e =
     let log = bind_some (option_in (codes "log") parts) (from_log parts clients.0 journal.0 watch.0 idle.0) given idle.2 in
     let format = bind_some (option_in (codes "format") parts) (from_format clients.0 journal.0 watch.0 idle.0 log.0) given log.2 in
     let same_watch : watch.0 ≡ given.watch = ap (λ (o : Option ServeOptions). elim o [ None ↦ None | Some g ↦ g.watch ]) format.2 in
-    let same_log : log.0 ≡ given.log = ap (λ (o : Option ServeOptions). elim o [ None ↦ None | Some g ↦ g.log ]) format.2 in (
-      watch_stands parts watch.0 watch.1 ∙ ap (λ (w : Option ℕ). is_some w) same_watch,
-      given_once (codes "log") parts log.0 log.1 ∙ ap (λ (l : Option (List ℕ)). is_some l) same_log,
-    )
+    watch_stands parts watch.0 watch.1 ∙ ap (λ (w : Option ℕ). is_some w) same_watch
 
 serve_stands : (parts : List Part) (given : ServeOptions) → serve_options parts ≡ Some given
-    → (is_given (codes "watch") parts ≡ is_some given.watch) × (is_given (codes "log") parts ≡ is_some given.log)
+    → is_given (codes "watch") parts ≡ is_some given.watch
 serve_stands parts given e =
     let all = bind_some (options_given parts) (λ g. if are_together g then Some g else None) given e in
     let kept = if_some (are_together all.0) (Some all.0) given all.2 in
     let same : all.0 ≡ given = cc in
-    subst (λ (g : ServeOptions). (is_given (codes "watch") parts ≡ is_some g.watch) × (is_given (codes "log") parts ≡ is_some g.log)) same
+    subst (λ (g : ServeOptions). is_given (codes "watch") parts ≡ is_some g.watch) same
     (options_stand parts all.0 all.1)
 
 -- ---- each command's words
@@ -119,7 +116,7 @@ in_serve parts (workers ∷ map ∷ address ∷ threads ∷ []) o e =
     let same : order.Serve workers map address count.0 given.0.clients given.0.journal given.0.watch given.0.idle given.0.log given.0.format front.0.cut front.0.limits front.0.control front.0.grace ≡ o = cc in
     let stands = serve_stands parts given.0 given.1 in
     let range = in_range 1 64 count.0 threads count.1 in
-    subst (FitsParts parts) same (stands.0, stands.1, range.0, range.1)
+    subst (FitsParts parts) same (stands, range.0, range.1)
 in_serve parts [] o e = cc
 in_serve parts (a ∷ []) o e = cc
 in_serve parts (a ∷ b ∷ []) o e = cc
@@ -323,7 +320,7 @@ fits word behind o e =
     in_order named.0 (parts_of behind) (places_in (parts_of behind)) o stands.0 refl stands.1
 
 in_words : (parts : List Part) (o : Order) → FitsParts parts o → IsInRange o
-in_words parts (order.Serve workers map address threads clients journal watch idle log format cut limits control grace) f = (f.2, f.3)
+in_words parts (order.Serve workers map address threads clients journal watch idle log format cut limits control grace) f = (f.1, f.2)
 in_words parts (order.Container route address threads clients) f = f
 in_words parts order.Play f = tt
 in_words parts (order.Dry request reply site) f = tt
@@ -342,14 +339,13 @@ range (word ∷ behind) o e = in_words (parts_of behind) o (fits word behind o e
 
 -- ---- which words ask for workers
 
-none_of : (watch : Option ℕ) (log : Option (List ℕ)) → (is_none watch && is_none log) ≡ (not (is_some watch) && not (is_some log))
-none_of None None = refl
-none_of None (Some log) = refl
-none_of (Some watch) log = refl
+none_of : (watch : Option ℕ) → is_none watch ≡ not (is_some watch)
+none_of None = refl
+none_of (Some watch) = refl
 
 serve_served : (parts : List Part) (o : Order) → command_in o ≡ name.Serve → FitsParts parts o
-    → is_served o ≡ (not (is_given (codes "watch") parts) && not (is_given (codes "log") parts))
-serve_served parts (order.Serve workers map address threads clients journal watch idle log format cut limits control grace) c f = rw (f.0, f.1) (none_of watch log)
+    → is_served o ≡ not (is_given (codes "watch") parts)
+serve_served parts (order.Serve workers map address threads clients journal watch idle log format cut limits control grace) c f = rw f.0 (none_of watch)
 serve_served parts (order.Container route address threads clients) c f = cc
 serve_served parts order.Play c f = cc
 serve_served parts (order.Dry request reply site) c f = cc
@@ -363,15 +359,15 @@ serve_served parts (order.Demo address) c f = cc
 serve_served parts (order.Drill seed threads requests text passes) c f = cc
 
 serve_found : (word : List ℕ) (behind : List (List ℕ)) (found : Option Order) → order_of (word ∷ behind) ≡ found → option_map command_in found ≡ Some name.Serve
-    → is_served_order found ≡ (not (is_given (codes "watch") (parts_of behind)) && not (is_given (codes "log") (parts_of behind)))
+    → is_served_order found ≡ not (is_given (codes "watch") (parts_of behind))
 serve_found word behind None e c = cc
 serve_found word behind (Some o) e c =
     let named : command_in o ≡ name.Serve = cc in
     serve_served (parts_of behind) o named (fits word behind o e)
 
--- words of `serve` ask for workers where they give neither `--watch` nor `--log`
+-- words of `serve` ask for workers where they give no `--watch`
 pub serve_words : (words : List (List ℕ)) → command_of words ≡ Some name.Serve → let behind = take (length words - 1) (drop 1 words) in
-    is_serving words ≡ (not (is_given (codes "watch") (parts_of behind)) && not (is_given (codes "log") (parts_of behind)))
+    is_serving words ≡ not (is_given (codes "watch") (parts_of behind))
 serve_words [] c = cc
 serve_words (word ∷ behind) c =
     rw (take_all (length (word ∷ behind) - 1) behind (omega arith)) (serve_found word behind (order_of (word ∷ behind)) refl c)

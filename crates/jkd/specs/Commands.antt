@@ -7,7 +7,7 @@ use Rattle.drill.specs.declared.writing.DrillEnd.{DrillEnd}
 use Rattle.jk_cli.specs.Orders.{order_of}
 use Rattle.jk_cli.specs.declared.order.Order.{Order}
 use Rattle.jk_cli.specs.declared.order.Order.TheVariants as order
-use Rattle.jk_server.specs.Commands.{command_side, CommandSide, CommandTells, Contains, Serves}
+use Rattle.jk_server.specs.Commands.{command_side, CommandSide, CommandTells, Contains, format_text, Serves}
 use Rattle.gear_parts.specs.Wants.{container_wants, wants}
 use Rattle.gear_parts.specs.Worlds.{Tells}
 use Rattle.jk_server.specs.declared.orders.ends.CommandEnd.{CommandEnd}
@@ -34,9 +34,9 @@ pub record Drills {G L : Type 0} (seed threads requests : ℕ) (text passes : Bo
   pub world : n.world ≡ s.world
 
 -- What an order that asks for workers or threads does.
-abbrev pub DoesOrder : {W G C S X L : Type 0} → Tells W G C S X → CommandOutside → Order → (s n : CommandSide G) → EndOf L → Type 0
+abbrev pub DoesOrder : {W G C S O X Z L : Type 0} → Tells W G C S O X Z → CommandOutside → Order → (s n : CommandSide G) → EndOf L → Type 0
 DoesOrder told outside (order.Serve workers map address threads clients journal watch idle log format cut limits control grace) s n ended =
-    EndsServed (Serves told outside workers map threads (wants address clients journal limits control grace) s n) ended
+    EndsServed (Serves told outside workers map (format_text format) threads (wants address clients journal log limits control grace) s n) ended
 DoesOrder told outside (order.Container route address threads clients) s n ended = EndsServed (Contains told route threads (container_wants address clients) s n) ended
 DoesOrder told outside (order.Drill seed threads requests text passes) s n ended = Drills seed threads requests text passes s n ended
 DoesOrder told outside other s n ended = ⊥
@@ -44,11 +44,11 @@ DoesOrder told outside other s n ended = ⊥
 -- ---- the same of what a command goes over, as it was before and is after it
 
 -- An order that asks for workers or threads, whatever the input.
-abbrev pub DoesAsked : {F O W G C S X L : Type 0} → CommandTells F O W G C S X → Order → (before after : F × O × W) → EndOf L → Type 0
+abbrev pub DoesAsked : {F O W G C S Y X Z L : Type 0} → CommandTells F O W G C S Y X Z → Order → (before after : F × O × W) → EndOf L → Type 0
 DoesAsked told o before after ended =
     OfFiles (told.files before.0) (λ outside. DoesOrder told.world outside o (command_side told before) (command_side told after) ended)
 
 -- Words that ask for workers or threads do what their order does.
-abbrev pub DoesWords : {F O W G C S X L : Type 0} → CommandTells F O W G C S X → (words : List (List ℕ)) → (before after : F × O × W) → EndOf L → Type 0
+abbrev pub DoesWords : {F O W G C S Y X Z L : Type 0} → CommandTells F O W G C S Y X Z → (words : List (List ℕ)) → (before after : F × O × W) → EndOf L → Type 0
 DoesWords told words before after ended =
     (o : Order) → order_of words ≡ Some o → is_served o ≡ true → DoesAsked told o before after ended

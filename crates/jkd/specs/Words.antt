@@ -1,5 +1,5 @@
 -- Which words ask for workers, and which are a command at all.
-use Rattle.std.specs.Prelude.{◌≡◌, ℕ, ◌≤◌, Bool, true, false, not, ◌&&◌, ◌||◌, List, [], ◌∷◌, length, Option, Some, None, is_none}
+use Rattle.std.specs.Prelude.{◌≡◌, ℕ, ◌≤◌, Bool, true, false, not, ◌||◌, List, [], ◌∷◌, length, Option, Some, None, is_none}
 use Rattle.std.specs.Str.{bytes_eq}
 use Rattle.jk_cli.specs.Orders.{order_of}
 use Rattle.jk_cli.specs.Parts.{Part, Place, Given, Stray, Verbose}
@@ -8,10 +8,10 @@ use Rattle.jk_cli.specs.declared.order.Order.TheVariants as order
 use Rattle.plain_commands.specs.Plain.{is_plain, readings}
 use Rattle.site_reports.specs.Readings.{has_file}
 
--- `serve`, `container` and `drill`. A watch, a log and passes aren't built: words with `--watch` or `--log`, without which
--- `--idle` and `--format` can't stand, and a drill with `passes` are no command yet.
+-- `serve`, `container` and `drill`. A watch and passes aren't built: words with `--watch`, without which `--idle` can't stand,
+-- and a drill with `passes` are no command yet.
 abbrev pub is_served : Order → Bool
-is_served (order.Serve workers map address threads clients journal watch idle log format cut limits control grace) = is_none watch && is_none log
+is_served (order.Serve workers map address threads clients journal watch idle log format cut limits control grace) = is_none watch
 is_served (order.Container route address threads clients) = true
 is_served (order.Drill seed threads requests text passes) = not passes
 is_served other = false

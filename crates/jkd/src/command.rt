@@ -33,7 +33,7 @@ where
     <W::D as Door>::L: Send,
     requires served { is_served order.now ≡ true }
     requires range { IsInRange order.now }
-    ensures does { DoesAsked (telling F.Files O.Meanings W.World W.D.Door W.T.Tape W.K.Clock W.D.L.Meanings W.S.Shelf W.D.L.may_wait)
+    ensures does { DoesAsked (telling F.Files O.Meanings W.World W.D.Door W.T.Tape W.K.Clock W.D.L.Meanings W.S.Shelf W.O.Meanings W.D.L.may_wait)
         order.now (files.old, out.old, world.old) (files.new, out.new, world.new) result }
     ensures files { (files.new ≡ files.old) ⊎ (reads_files order.now ≡ true) }
 {
@@ -45,6 +45,8 @@ where
             threads,
             clients,
             journal,
+            log,
+            format,
             cut,
             limits,
             control,
@@ -55,6 +57,7 @@ where
                 address,
                 clients: *clients,
                 journal: journal.as_ref(),
+                log: log.as_ref(),
                 cfg: None,
                 limits: *limits,
                 control: control.as_ref(),
@@ -65,6 +68,7 @@ where
                 map,
                 threads: *threads,
                 cut: cut_at(*cut),
+                format: format.as_ref(),
                 asked,
             };
             EndOf::from(serve(rt, alloc, order, files, out, world))
@@ -111,7 +115,7 @@ fn do_words<F: Files, O: Sink, W: World, R: Threads + Wait + Sync>(
 where
     <W::D as Door>::L: Send,
     requires serving { is_serving words.now ≡ true }
-    ensures serves { DoesWords (telling F.Files O.Meanings W.World W.D.Door W.T.Tape W.K.Clock W.D.L.Meanings W.S.Shelf W.D.L.may_wait)
+    ensures serves { DoesWords (telling F.Files O.Meanings W.World W.D.Door W.T.Tape W.K.Clock W.D.L.Meanings W.S.Shelf W.O.Meanings W.D.L.may_wait)
         words.now (files.old, out.old, world.old) (files.new, out.new, world.new) result }
     ensures files { (files.new ≡ files.old) ⊎ AreFilesRead words.now }
     ensures command { result ≢ EndOf.Status 2 }
@@ -158,7 +162,7 @@ pub fn run_jkd<F: Files, S: Source, O: Sink, W: World, R: Threads + Wait + Sync>
 where
     <W::D as Door>::L: Send,
     // Words that ask for workers or threads: `serve`, `container` and `drill`. Their input isn't looked at.
-    ensures serves { DoesWords (telling F.Files O.Meanings W.World W.D.Door W.T.Tape W.K.Clock W.D.L.Meanings W.S.Shelf W.D.L.may_wait)
+    ensures serves { DoesWords (telling F.Files O.Meanings W.World W.D.Door W.T.Tape W.K.Clock W.D.L.Meanings W.S.Shelf W.O.Meanings W.D.L.may_wait)
         words.now (files.old, out.old, world.old) (files.new, out.new, world.new) result }
 
     // Any other words: a plain command, or none. The world isn't asked.

@@ -1,5 +1,5 @@
 //! Which words ask for workers, told without memory.
-ghost use Rattle.std.specs.Prelude.{◌≡◌, ◌&&◌, ◌∷◌, [], codes, not};
+ghost use Rattle.std.specs.Prelude.{◌≡◌, ◌∷◌, [], codes, not};
 ghost use Rattle.jk_cli.specs.Parts.{alone, asks_value, equals_in, given_at, is_dashed, is_end, parts_of};
 ghost use Rattle.std.specs.List.{list_any};
 ghost use Rattle.std.specs.Str.{bytes_eq};
@@ -97,11 +97,11 @@ fn gives(words: &[Bytes], key: &[u8]) -> bool
     false
 }
 
-/// Whether the words after `serve` give neither a watch nor a log.
+/// Whether the words after `serve` give no watch.
 fn is_built(behind: &[Bytes]) -> bool
-    ensures { result ≡ (not (is_given (codes "watch") (parts_of behind.now)) && not (is_given (codes "log") (parts_of behind.now))) }
+    ensures { result ≡ not (is_given (codes "watch") (parts_of behind.now)) }
 {
-    !gives(behind, b"watch") && !gives(behind, b"log")
+    !gives(behind, b"watch")
 }
 
 /// Whether `passes` is among the words after `drill`.

@@ -103,7 +103,8 @@ fn greet<T: Times + Drop>(
 ) -> Result<(), NoMemory> {
     log.greet(&Peer {
         addr: bytes_of(alloc, addr)?,
-    })
+    });
+    Ok(())
 }
 
 fn put_logged(out: &mut String, link: &MemLink, broken: bool) -> Result<(), NoMemory> {

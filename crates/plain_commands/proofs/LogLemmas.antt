@@ -1,10 +1,9 @@
 -- What `log` prints of its format and its four texts.
 use Rattle.std.proofs.Common.{◌≡◌, ℕ, List, [], ◌∷◌, Option, Some, Result, Ok, Err, IfOk, inl, inr}
 use Rattle.jk_cli.specs.declared.order.Order.TheVariants as order
-use Rattle.request_log.specs.Formats.{IsFormat, IsRefusedFrom}
+use Rattle.request_log.specs.Formats.{IsFormat, IsRefusedFrom, refusal_line}
 use Rattle.request_log.specs.declared.format.Part.{Part}
 use Rattle.plain_commands.specs.Endings.{status_of, LogOfFiles, PrintsOfFiles}
-use Rattle.plain_commands.specs.Logged.{format_text}
 use Rattle.plain_commands.specs.Plain.{LogOf, LogOver, PrintsOf}
 use Rattle.site_reports.specs.Readings.{AreRead, File, OfFiles, CommandOutside}
 use Rattle.plain_commands.specs.declared.play.Output.{Output}
@@ -36,7 +35,7 @@ logged_ok files format request reply workers map parts (Err e) is says = tt
 
 -- and after one that is refused
 pub refused_ok : {E : Type 0} (files : Option (List (List ℕ × List ℕ))) (format request reply workers map : List ℕ) (at : ℕ) (result : Result Output E)
-    → IsRefusedFrom format at → IfOk result (λ o. (o.text ≡ format_text at) × (status_of o.ending ≡ 3))
+    → IsRefusedFrom format at → IfOk result (λ o. (o.text ≡ refusal_line at) × (status_of o.ending ≡ 3))
     → IfOk result (LogOfFiles files (order.Log format request reply workers map))
 refused_ok files format request reply workers map at (Ok o) is says = λ incoming. inl (at, is, says.0, says.1)
 refused_ok files format request reply workers map at (Err e) is says = tt

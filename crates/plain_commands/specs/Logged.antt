@@ -1,11 +1,7 @@
 -- What `log` prints of a format that is refused.
-use Rattle.std.specs.Prelude.{◌≡◌, ℕ, List, ◌++◌, codes, decimal}
-use Rattle.request_log.specs.Formats.{IsRefusedFrom}
-
--- the place at which a format is refused
-abbrev pub format_text : (at : ℕ) → List ℕ
-format_text at = codes "format refused at " ++ decimal at ++ codes "\n"
+use Rattle.std.specs.Prelude.{◌≡◌, ℕ, List}
+use Rattle.request_log.specs.Formats.{IsRefusedFrom, refusal_line}
 
 -- A format is refused.
 abbrev pub RefusesFormat : (format : List ℕ) → (out : List ℕ) → (status : ℕ) → Type 0
-RefusesFormat format out status = (at : ℕ) × IsRefusedFrom format at × (out ≡ format_text at) × (status ≡ 3)
+RefusesFormat format out status = (at : ℕ) × IsRefusedFrom format at × (out ≡ refusal_line at) × (status ≡ 3)

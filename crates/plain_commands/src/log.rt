@@ -3,9 +3,8 @@ ghost use Rattle.std.specs.Prelude.{◌≡◌, ◌⊎◌, List, [], ◌∷◌, I
 ghost use Rattle.jk_cli.specs.declared.order.Order.TheVariants as order;
 ghost use Rattle.plain_commands.specs.Causes.{IsCaused};
 ghost use Rattle.plain_commands.specs.Endings.{LogOfFiles, PrintsOfFiles, status_of};
-ghost use Rattle.plain_commands.specs.Logged.{format_text};
 ghost use Rattle.plain_commands.specs.Plain.{LogOf, LogOver};
-ghost use Rattle.request_log.specs.Formats.{IsFormat};
+ghost use Rattle.request_log.specs.Formats.{IsFormat, refusal_line as line_of_refusal};
 ghost use Rattle.request_log.specs.declared.format.Part.{Part as AnyPart};
 ghost use Rattle.site_reports.specs.Readings.{File};
 
@@ -14,8 +13,8 @@ use crate::play::{Ending, Output};
 use crate::session::log_report::report_log;
 use crate::session::report::Wire;
 use crate::texts::read_pair;
-use jk_io::{Bytes, Files, IoError, put_decimal};
-use request_log::{Format, FormatError, read_format};
+use jk_io::{Bytes, Files, IoError};
+use request_log::{Format, FormatError, read_format, refusal_line};
 use std::alloc::Global;
 
 /// The names of the files of `log`.
@@ -76,15 +75,11 @@ fn log_over<F: Files>(
 
 // A format is refused at this place.
 fn format_refused(alloc: Global, at: u64) -> Result<Output, IoError>
-    ensures ok { IfOk result (λ o. (o.text ≡ format_text at) × (status_of o.ending ≡ 3)) }
+    ensures ok { IfOk result (λ o. (o.text ≡ line_of_refusal at) × (status_of o.ending ≡ 3)) }
     ensures failed { IsErrOf result IoError.Failed → ⊥ }
 {
-    let mut text = Bytes::new(alloc);
-    text.extend(b"format refused at ")?;
-    put_decimal(&mut text, u128::from(at))?;
-    text.extend(b"\n")?;
     Ok(Output {
-        text,
+        text: refusal_line(alloc, at)?,
         ending: Ending::Refused,
     })
 }

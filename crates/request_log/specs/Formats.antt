@@ -1,5 +1,5 @@
 -- How a format is spelled: a byte that stands as it is is itself, `%` is `%%`, and the rest are letters after `%`. Read first.
-use Rattle.std.specs.Prelude.{ℕ, ◌≡◌, ◌==◌, ◌||◌, ◌&&◌, not, Bool, true, false, Option, Some, None, List, [], ◌∷◌, ◌++◌, length, codes, if◌then◌else◌}
+use Rattle.std.specs.Prelude.{ℕ, ◌≡◌, ◌==◌, ◌||◌, ◌&&◌, not, Bool, true, false, Option, Some, None, List, [], ◌∷◌, ◌++◌, length, codes, decimal, if◌then◌else◌}
 use Rattle.std.specs.List.{All, flat_map}
 use Rattle.std.specs.Option.{is_some}
 use Rattle.request_log.specs.declared.format.Part.{Part}
@@ -69,3 +69,7 @@ pub record IsRefusedFrom (text : List ℕ) (at : ℕ) : Type 0 where
 abbrev pub IsRefusedAt : List ℕ → FormatError → Type 0
 IsRefusedAt text (wrong.BadFormat at) = IsRefusedFrom text at
 IsRefusedAt text wrong.NoMemory = Unit {0}
+
+-- what is printed where a format is refused at this place
+abbrev pub refusal_line : (at : ℕ) → List ℕ
+refusal_line at = codes "format refused at " ++ decimal at ++ codes "\n"

@@ -1,9 +1,10 @@
 -- What a log that is written row by row gains.
-use Rattle.std.specs.Prelude.{ℕ, ◌≡◌, ◌≤◌, List, [], ◌++◌, Option, Some, None, IsSome}
+use Rattle.std.specs.Prelude.{ℕ, ◌≡◌, ◌⊎◌, ◌≤◌, List, [], ◌++◌, Option, Some, None, IsSome}
 use Rattle.jk_io.specs.Told.{appended, Rose}
 use Rattle.jk_io.specs.declared.failures.IoError.{IoError}
 use Rattle.jk_io.specs.declared.failures.IoError.TheVariants as io
 use Rattle.jk_io.specs.declared.traits.streams.Meanings.{Ghosts}
+use Rattle.jk_io.specs.declared.traits.surroundings.Peer.{Peer}
 use Rattle.jk_model.specs.declared.served.Served.{Served}
 use Rattle.request_log.specs.declared.format.Part.{Part}
 use Rattle.request_log.specs.Lines.{IsLogOf}
@@ -33,3 +34,12 @@ pub record GainsRows {G X : Type 0} (told : Ghosts G X) (s : LogState G) (rows :
   pub over : IsSome s.broken → (t.broken ≡ s.broken) × (told.sent t.sink ≡ told.sent s.sink)
   pub no_fewer : told.faults s.sink ≤ told.faults t.sink
   pub failed : s.broken ≡ None → t.broken ≡ Some io.Failed → Rose (told.faults s.sink) (told.faults t.sink)
+
+-- what broke it first; else want of memory
+abbrev pub broken_now : Option IoError → Option IoError
+broken_now None = Some io.NoMemory
+broken_now (Some error) = Some error
+
+-- It was told of a client, whose address the next lines have; or there was no memory for that, and it is broken.
+abbrev pub Greets : {G : Type 0} → LogState G → Peer → LogState G → Type 0
+Greets s peer t = (t ≡ record s { addr = peer.addr }) ⊎ (t ≡ record s { broken = broken_now s.broken })

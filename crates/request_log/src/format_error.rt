@@ -1,9 +1,10 @@
 //! Why a text is no format of a log.
-ghost use Rattle.std.specs.Prelude.{◌≡◌};
+ghost use Rattle.std.specs.Prelude.{◌≡◌, IfOk};
+ghost use Rattle.request_log.specs.Formats.{refusal_line};
 ghost use Rattle.request_log.specs.declared.format_error.FormatError.TheVariants as Wrong;
 
-use jk_io::NoMemory;
-use std::alloc::AllocFailed;
+use jk_io::{Bytes, NoMemory, put_decimal};
+use std::alloc::{AllocFailed, Global};
 use thiserror::Error;
 
 /// Why a text is no format of a log.
@@ -30,4 +31,14 @@ impl From<NoMemory> for FormatError {
     fn from(_error: NoMemory) -> FormatError {
         FormatError::NoMemory
     }
+}
+
+/// The line that says at which place a format is refused.
+pub fn refusal_line(alloc: Global, at: u64) -> Result<Bytes, NoMemory>
+    ensures { IfOk result (λ line. line ≡ refusal_line at) }
+{
+    let mut line = Bytes::from_slice(alloc, b"format refused at ")?;
+    put_decimal(&mut line, u128::from(at))?;
+    line.extend(b"\n")?;
+    Ok(line)
 }

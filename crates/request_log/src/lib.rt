@@ -19,8 +19,8 @@ mod seen;
 mod writing;
 
 pub use format::{Format, Part, read_format};
-pub use format_error::FormatError;
+pub use format_error::{FormatError, refusal_line};
 pub use line::put_line;
-pub use log_rows::{LogRows, NoTimes, Times};
+pub use log_rows::{LogRows, NoTimes, Timed, Times};
 pub use seen::Seen;
 pub use writing::{log_text, write_log};

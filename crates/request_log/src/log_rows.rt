@@ -3,13 +3,13 @@ ghost use Rattle.std.specs.Prelude.{◌≡◌, ◌/◌, ◌≤◌, None, [], OnO
 ghost use Rattle.jk_io.specs.Told.{HasCause, PutsFront, appended};
 ghost use Rattle.httpdate.specs.Date.{unix_secs};
 ghost use Rattle.request_log.specs.Lines.{between, line_of};
-ghost use Rattle.request_log.specs.LogStates.{GainsRows, LogState};
+ghost use Rattle.request_log.specs.LogStates.{GainsRows, Greets, LogState};
 
 use crate::format::Format;
 use crate::line::put_line;
 use crate::seen::Seen;
 use httpdate::HttpDate;
-use jk_io::{Bytes, IoError, NoMemory, Peer, Sink, write_all};
+use jk_io::{Bytes, IoError, MemLink, NoMemory, Peer, Sink, write_all};
 use jk_model::{RowSink, Served};
 use std::alloc::Global;
 use std::marker::Model;
@@ -27,6 +27,22 @@ pub struct NoTimes;
 impl Times for NoTimes {
     fn millis(&mut self) -> Option<u64> {
         None
+    }
+}
+
+/// What lines are written to, beside a clock for their moments.
+pub trait Timed: Sink {
+    type T: Times + Drop + Send;
+
+    /// The clock that tells the moments of its lines.
+    fn times(&self) -> Self::T;
+}
+
+impl Timed for MemLink {
+    type T = NoTimes;
+
+    fn times(&self) -> NoTimes {
+        NoTimes
     }
 }
 
@@ -54,6 +70,8 @@ impl<'a, G, T> Model for LogRows<'a, G, T> {
 }
 
 impl<'a, G: Sink, T: Times + Drop> LogRows<'a, G, T> {
+    ghost use Rattle.request_log.specs.LogStates.{Greets};
+
     /// No row was put. No memory is taken.
     pub fn new(alloc: Global, format: &'a Format, sink: G, times: T) -> LogRows<'a, G, T>
         ensures { result ≡ record { format = format.now; addr = []; sink = sink; broken = None } }
@@ -73,13 +91,14 @@ impl<'a, G: Sink, T: Times + Drop> LogRows<'a, G, T> {
         }
     }
 
-    /// Is told whose requests the next rows are.
-    pub fn greet(&mut self, peer: &Peer) -> Result<(), NoMemory>
-        ensures ok { OnOk result (self.new ≡ record self.old { addr = peer.now.addr }) }
-        ensures err { OnErr result (self.new ≡ self.old) }
+    /// Is told whose requests the next rows are. Where there is no memory for that, no more lines are written.
+    pub fn greet(&mut self, peer: &Peer)
+        ensures { Greets self.old peer.now self.new }
     {
-        self.seen.addr = peer.addr.copy()?;
-        Ok(())
+        match peer.addr.copy() {
+            Ok(addr) => self.seen.addr = addr,
+            Err(NoMemory) => self.broken = Some(self.broken.unwrap_or(IoError::NoMemory)),
+        }
     }
 
     /// Why no more lines are written, where it is so.

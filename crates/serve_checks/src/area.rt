@@ -14,10 +14,11 @@ use std::thread::Threads;
 use std::time::Clock;
 
 /// The files of rows.
-static FILES: [&str; 5] = [
+static FILES: [&str; 6] = [
     "serve/words.txt",
     "serve/serving.txt",
     "serve/faults.txt",
+    "serve/logs.txt",
     "serve/drills.txt",
     "serve/meeting.txt",
 ];

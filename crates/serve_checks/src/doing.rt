@@ -62,7 +62,7 @@ fn drilled<R: Threads + Wait + Sync>(
     Some(write_drill(rt, alloc, order, out).status())
 }
 
-/// The status of an order that asks for workers or threads; none of any other, and where a watch, a log or passes are asked for.
+/// The status of an order that asks for workers or threads; none of any other, and where a watch or passes are asked for.
 fn status_by<R: Threads + Wait + Sync>(
     rt: &R,
     alloc: Global,
@@ -80,7 +80,8 @@ fn status_by<R: Threads + Wait + Sync>(
             clients,
             journal,
             watch: None,
-            log: None,
+            log,
+            format,
             cut,
             limits,
             control,
@@ -91,6 +92,7 @@ fn status_by<R: Threads + Wait + Sync>(
                 address,
                 clients: *clients,
                 journal: journal.as_ref(),
+                log: log.as_ref(),
                 cfg: None,
                 limits: *limits,
                 control: control.as_ref(),
@@ -101,6 +103,7 @@ fn status_by<R: Threads + Wait + Sync>(
                 map,
                 threads: *threads,
                 cut: cut_at(*cut),
+                format: format.as_ref(),
                 asked,
             };
             served(rt, alloc, order, files, out, world)

@@ -5,10 +5,11 @@
 //!
 //!     gear CLIENTS LINKS  a gear that is handed out, in order, with CLIENTS clients to come to its door and LINKS links to
 //!                         be dialled; the bytes of each are those of the next `file`, clients first
-//!     gear-fails N        the call for a gear with this number, from 0, fails
+//!     gear-fails N        the call for a gear or for a log with this number, from 0, fails
 //!     door-fails N        the accept with this number, from 0, fails at each door
 //!     dial-fails N        the dial with this number fails in each gear
 //!     shelf-fails N       the keep with this number fails on each shelf
+//!     log-fails N         a write of each log fails after its first N bytes
 //!     file-fails N        the read of a file with this number fails
 //!     output-fails N      a write of the output fails after its first N bytes
 //!
@@ -17,7 +18,7 @@
 //! its member, and of the second's. What comes out is what was sent on the links that were left.
 //!
 //! Otherwise what comes out is: what was written, `status N`, `faults N` of the world, and of each gear that came back
-//! the links that were left at its door, its talks with members, and the segments on its shelf.
+//! the links that were left at its door, its talks with members, the segments on its shelf, and its log.
 #![tactic(auto)]
 
 mod area;

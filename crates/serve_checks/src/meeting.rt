@@ -9,10 +9,10 @@ use block_rows::comparing::wants;
 use block_rows::row::{BlockRow, RowError};
 use conn_pool::NoTape;
 use jk_io::{
-    Bytes, ClientList, Dial, Gate, GateLink, IoError, Link, MAX_INPUT_BYTES, MemDoor, MemLink,
-    NoMemory, NumberList, StepClock, Turn,
+    Bytes, ClientList, Dial, Gate, GateLink, IoError, Link, ListOf, MAX_INPUT_BYTES, MemDoor,
+    MemLink, NoMemory, NumberList, StepClock, Turn,
 };
-use jk_server::{cut_at, serve_gears};
+use jk_server::{SitePlan, cut_at, serve_gears};
 use locked_balancer::{KeptList, MemShelf};
 use site_config::Config;
 use std::alloc::Global;
@@ -64,7 +64,7 @@ struct Ends<L> {
 }
 
 /// What a worker works with, where no request is logged.
-type OverLinks<L> = Gear<MemDoor<L>, OneDial<L>, NoTape, StepClock, MemShelf, ()>;
+type OverLinks<L> = Gear<MemDoor<L>, OneDial<L>, NoTape, StepClock, MemShelf, MemLink>;
 
 /// The place that the second worker's client raises.
 const SECOND_IS_ANSWERED: u32 = 0;
@@ -199,7 +199,14 @@ fn over_links<L: Link + Shown + Drop + Send, R: Threads + Wait + Sync>(
     second: Ends<L>,
 ) -> Result<Bytes, NoMemory> {
     let gears = gears_of(alloc, first, second)?;
-    let run = serve_gears(rt, alloc, served.config, served.map, cut_at(None), gears)?;
+    let format = ListOf::new(alloc);
+    let plan = SitePlan {
+        cfg: served.config,
+        map: served.map,
+        cut: cut_at(None),
+        format: &format,
+    };
+    let run = serve_gears(rt, alloc, plan, gears)?;
     let told = told(alloc, run.gears.as_slice());
     let_go(run);
     told

@@ -35,6 +35,13 @@ fn put_segment(lb: u32, segment: &Segment, out: &mut Bytes) -> Result<(), NoMemo
     out.extend(text.as_slice())
 }
 
+/// Adds what was written of a log.
+fn put_log(log: &MemLink, out: &mut Bytes) -> Result<(), NoMemory> {
+    out.extend(b"log\n")?;
+    out.extend(log.sent())?;
+    out.extend(b"\n")
+}
+
 fn put_gear(gear: &MemGear<MemLink>, out: &mut Bytes) -> Result<(), NoMemory> {
     out.extend(b"back\n")?;
     for link in gear.door.left() {
@@ -45,6 +52,9 @@ fn put_gear(gear: &MemGear<MemLink>, out: &mut Bytes) -> Result<(), NoMemory> {
     }
     for (lb, segment) in gear.shelf.kept() {
         put_segment(*lb, segment, out)?;
+    }
+    if let Some(log) = &gear.log {
+        put_log(log, out)?;
     }
     Ok(())
 }

@@ -160,9 +160,32 @@ fn plans_of(alloc: Global, row: BlockRow<'_>) -> Result<MemPlanList<MemLink>, Ro
     Ok(plans)
 }
 
+/// A log that takes all, or in which a write fails after as many bytes as its row says.
+fn log_of(alloc: Global, row: BlockRow<'_>) -> Result<MemLink, RowError> {
+    let failing = row.numbers(alloc, "log-fails")?;
+    Ok(MemLink::failing_at(alloc, Bytes::new(alloc), NumberList::new(alloc), failing)?)
+}
+
+fn push_log(alloc: Global, row: BlockRow<'_>, logs: &mut MemLinkList) -> Result<(), RowError> {
+    let log = log_of(alloc, row)?;
+    Ok(push(logs, log)?)
+}
+
+/// A log for each gear of a row.
+fn logs_of(alloc: Global, row: BlockRow<'_>) -> Result<MemLinkList, RowError> {
+    let mut logs = ListOf::new(alloc);
+    for line in row.lines.lines() {
+        if line.starts_with("gear ") {
+            push_log(alloc, row, &mut logs)?;
+        }
+    }
+    Ok(logs)
+}
+
 /// The world that hands out the gears of a row.
 pub fn world_of(alloc: Global, row: BlockRow<'_>) -> Result<MemWorld<MemLink>, RowError> {
     let plans = plans_of(alloc, row)?;
+    let logs = logs_of(alloc, row)?;
     let failing = row.numbers(alloc, "gear-fails")?;
-    Ok(MemWorld::new(alloc, plans, ListOf::new(alloc), failing))
+    Ok(MemWorld::new(alloc, plans, logs, failing))
 }

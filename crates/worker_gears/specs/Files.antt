@@ -1,4 +1,4 @@
--- The file into which a segment of a journal goes: DIR/NAME-FIRST.jkj.
+-- The file into which a segment of a journal goes, DIR/NAME-FIRST.jkj, and that of a worker's log, DIR/worker-N.log.
 use Rattle.std.specs.Prelude.{◌≡◌, ℕ, ◌-◌, List, [], ◌∷◌, ◌++◌, Option, Some, None, length, replicate, codes, decimal}
 use Rattle.jk_model.specs.declared.segment.Segment.{Segment}
 use Rattle.journal_lines.specs.Names.{name_word}
@@ -23,3 +23,6 @@ IsFileOf dir (Some name) segment (Some file) = (file.path ≡ file_path dir name
 IsFileOf dir None segment None = Unit {0}
 IsFileOf dir (Some name) segment None = ⊥
 IsFileOf dir None segment (Some file) = ⊥
+
+abbrev pub worker_file : (dir : List ℕ) → (number : ℕ) → List ℕ
+worker_file dir number = dir ++ codes "/worker-" ++ decimal number ++ codes ".log"

@@ -1,26 +1,37 @@
 //! A log over a file.
 ghost use Rattle.std.specs.Prelude.{◌≡◌, ◌<◌, ◌≤◌, IfSome, length};
 
-use jk_io::{IoError, Meanings, Sink};
+use crate::real_times::RealTimes;
+use jk_io::{Bytes, IoError, Meanings, Sink};
+use request_log::Timed;
 use std::io::{ErrorKind, Write};
+use std::time::Clock;
 
-/// A sink at the end of a file. It tells nothing of what is written.
+/// A sink at the end of a file, whose lines have the system's moments. It tells nothing of what is written.
 #[derive(Drop)]
-pub struct FileLog<F: Write + Drop> {
+pub struct FileLog<'r, F: Write + Drop, R: Clock> {
+    rt: &'r R,
+    /// Where the file is.
+    path: Bytes,
     file: F,
     failed: u64,
 }
 
-impl<F: Write + Drop> FileLog<F> {
-    /// A sink over a file that was opened to write at its end.
-    pub fn new(file: F) -> FileLog<F>
-        ensures { (result.file ≡ file) × (result.failed ≡ 0) }
+impl<'r, F: Write + Drop, R: Clock> FileLog<'r, F, R> {
+    /// A sink over the file at this path, which was opened to write at its end.
+    pub fn new(rt: &'r R, path: Bytes, file: F) -> FileLog<'r, F, R>
+        ensures { (result.path ≡ path) × (result.file ≡ file) × (result.failed ≡ 0) }
     {
-        FileLog { file, failed: 0 }
+        FileLog {
+            rt,
+            path,
+            file,
+            failed: 0,
+        }
     }
 }
 
-impl<F: Write + Drop> Meanings for FileLog<F> {
+impl<'r, F: Write + Drop, R: Clock> Meanings for FileLog<'r, F, R> {
     ghost use Rattle.std.specs.Prelude.{None};
 
     type Beside = ();
@@ -36,7 +47,15 @@ impl<F: Write + Drop> Meanings for FileLog<F> {
     ghost faults = { λ l. l.failed };
 }
 
-impl<F: Write + Drop> Sink for FileLog<F> {
+impl<'r, F: Write + Drop, R: Clock + Sync> Timed for FileLog<'r, F, R> {
+    type T = RealTimes<'r, R>;
+
+    fn times(&self) -> RealTimes<'r, R> {
+        RealTimes::new(self.rt)
+    }
+}
+
+impl<'r, F: Write + Drop, R: Clock> Sink for FileLog<'r, F, R> {
     fn write(&mut self, piece: &[u8]) -> Result<usize, IoError> {
         match put(&mut self.file, piece) {
             Some(n) => Ok(n),

@@ -1,5 +1,6 @@
 //! What the real world opens: the socket that accepts clients, and files.
-ghost use Rattle.std.specs.Prelude.{◌≡◌, ◌++◌, IfOk, codes, decimal, map};
+ghost use Rattle.std.specs.Prelude.{◌≡◌, ◌++◌, IfOk, codes, map};
+ghost use Rattle.worker_gears.specs.Files.{worker_file};
 
 use crate::journal_files::path_of;
 use jk_io::{Bytes, ListOf, NoMemory, put_decimal};
@@ -85,7 +86,7 @@ pub(crate) fn make_and_remove<R: Files>(rt: &R, path: &Bytes) -> io::Result<()> 
 
 /// The file of a worker's log.
 pub(crate) fn log_path(dir: &Bytes, number: u32) -> Result<Bytes, NoMemory>
-    ensures { IfOk result (λ path. path ≡ dir.now ++ codes "/worker-" ++ decimal number ++ codes ".log") }
+    ensures { IfOk result (λ path. path ≡ worker_file dir.now number) }
 {
     let mut path = dir.copy()?;
     path.extend(b"/worker-")?;

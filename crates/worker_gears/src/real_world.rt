@@ -2,6 +2,7 @@
 ghost use Rattle.std.specs.Prelude.{◌≡◌, ◌+◌, ◌<◌, ◌≤◌, IfOk, IsErrOf, IsOk, IsSome, None, OnErr, OnOk, map};
 ghost use Rattle.std.specs.Option.{option_copied, option_map};
 ghost use Rattle.jk_io.specs.Told.{HasCause, Rose};
+ghost use Rattle.worker_gears.specs.Files.{worker_file};
 ghost use Rattle.worker_gears.specs.RealDoors.{door_clients};
 
 use crate::descriptors::fitting;
@@ -470,7 +471,7 @@ pub type RealGear<'r, R> = Gear<
     NoTape,
     RealClock<'r, R>,
     RealShelf<'r, R>,
-    FileLog<<R as Files>::File>,
+    FileLog<'r, <R as Files>::File, R>,
 >;
 
 impl<
@@ -483,6 +484,7 @@ where
     ghost use Rattle.std.specs.Prelude.{◌≡◌, None, map};
     ghost use Rattle.std.specs.Option.{option_map};
     ghost use Rattle.worker_gears.specs.Real.{IsShelfFor};
+    ghost use Rattle.worker_gears.specs.Files.{worker_file};
     ghost use Rattle.worker_gears.specs.RealDoors.{door_clients};
 
     type D = RealDoor<'r, R>;
@@ -495,7 +497,7 @@ where
 
     type S = RealShelf<'r, R>;
 
-    type O = FileLog<R::File>;
+    type O = FileLog<'r, R::File, R>;
 
     ghost handed = { λ _. None };
 
@@ -508,6 +510,9 @@ where
     // its door takes as many clients as are wanted, and the journal that is wanted is written
     ghost suits = { λ number wanted cfg gear. (door_clients gear.door ≡ wanted.clients)
         × IsShelfFor wanted.journal (option_map (λ c. map (λ lb. lb.name) c.lbs) cfg) gear.shelf };
+
+    // the log of a worker is written into its file
+    ghost is_log = { λ dir number log. log.path ≡ worker_file dir number };
 
     fn gear(
         &mut self,
@@ -540,10 +545,15 @@ where
         alloc: Global,
         dir: &Bytes,
         number: u32,
-    ) -> Result<FileLog<R::File>, IoError> {
+    ) -> Result<FileLog<'r, R::File, R>, IoError>
+        ensures made { IfOk result (λ log. log.path ≡ worker_file dir.now number) }
+        ensures cause { HasCause self.old.failed self.new.failed result }
+        ensures steady { IsOk result → self.new.failed ≡ self.old.failed }
+        ensures same { self.new.out ≡ self.old.out }
+    {
         let path = log_path(dir, number)?;
         match open_log(self.rt, &path) {
-            Ok(file) => Ok(FileLog::new(file)),
+            Ok(file) => Ok(FileLog::new(self.rt, path, file)),
             Err(reason) => {
                 let dir = shown(alloc, dir)?;
                 Err(self.fail(Trouble::Log { dir, reason }))

@@ -1,16 +1,20 @@
 //! `serve`: clients served over the balancers of a site.
 ghost use Rattle.std.specs.Prelude.{◌≡◌, ◌≤◌, [], length};
+ghost use Rattle.std.specs.Option.{option_copied};
 ghost use Rattle.jk_io.specs.Told.{HasCause};
-ghost use Rattle.jk_server.specs.Commands.{cut_at, telling, ServesOrder, WorksSite, WritesLine};
+ghost use Rattle.request_log.specs.Formats.{refusal_line as line_of_refusal};
+ghost use Rattle.jk_server.specs.Commands.{cut_at, format_text as text_of_format, telling, ServesFormatted, ServesOrder, WorksSite, WritesLine};
 ghost use Rattle.jk_server.specs.Ends.{end_of_run, returned};
 ghost use Rattle.gear_parts.specs.Worlds.{HandsAndTakes, tells, world_side};
 ghost use Rattle.jk_server.specs.declared.workers.TheConstants.{MAX_WORKERS};
 
 use crate::orders::ends::{CommandEnd, NO_MEMORY, OUTPUT_FAULT, REFUSED, end_by, end_of_run};
 use crate::runs::ends::{Closing, SiteRun};
+use crate::runs::parts::SitePlan;
 use crate::runs::serve::serve_gears;
-use gear_parts::{GearOf, GearOrder, World, give_back, take_gears};
+use gear_parts::{GearOf, GearOrder, World, give_back, log_gears, take_gears};
 use jk_io::{Bytes, Door, Files, IoError, NoMemory, Sink, write_all};
+use request_log::{Format, FormatError, read_format, refusal_line};
 use site_reports::{Judged, ReadSite, read_site};
 use std::alloc::Global;
 use std::marker::Brand;
@@ -26,8 +30,37 @@ pub struct ServeOrder<'a> {
     pub threads: u32,
     /// The number of kept entries at which a journal is cut.
     pub cut: u32,
+    /// The format of the logs, where it is written.
+    pub format: Option<&'a Bytes>,
     /// What the gears are for, but for their site.
     pub asked: GearOrder<'a>,
+}
+
+/// An order whose format was read.
+#[derive(Clone, Copy)]
+pub(crate) struct FormattedOrder<'a> {
+    pub(crate) order: ServeOrder<'a>,
+    pub(crate) format: &'a Format,
+}
+
+/// The format of the logs, as it is written.
+fn format_text<'a>(text: Option<&'a Bytes>) -> &'a [u8]
+    ensures { result.now ≡ text_of_format (option_copied text.entry) }
+{
+    match text {
+        Some(text) => text.as_slice(),
+        None => b"%w %m %U%q %s %b",
+    }
+}
+
+/// Writes the line that refuses a format at this place.
+fn refuse_format<O: Sink>(alloc: Global, at: u64, out: &mut O) -> CommandEnd<Brand>
+    ensures { WritesLine (O.sent out.old) (O.sent out.new) (O.faults out.old) (O.faults out.new) (line_of_refusal at) result }
+{
+    match refusal_line(alloc, at) {
+        Ok(line) => refuse(out, &line),
+        Err(NoMemory) => CommandEnd::Status(NO_MEMORY),
+    }
 }
 
 /// The number of kept entries at which a journal is cut, by the word that says so; 65,536 without one.
@@ -81,27 +114,60 @@ fn serve_site<W: World, R: Threads + Wait + Sync>(
     rt: &R,
     alloc: Global,
     site: &ReadSite,
-    order: &ServeOrder<'_>,
+    of: &FormattedOrder<'_>,
     world: &mut W,
 ) -> CommandEnd<Brand>
 where
     <W::D as Door>::L: Send,
-    requires threads { (1 ≤ order.now.threads) × (order.now.threads ≤ MAX_WORKERS) }
-    ensures { WorksSite (tells W.World W.D.Door W.T.Tape W.K.Clock W.D.L.Meanings W.S.Shelf W.D.L.may_wait)
-        site.now order.now.threads order.now.asked world.old world.new result }
+    requires threads { (1 ≤ of.now.order.threads) × (of.now.order.threads ≤ MAX_WORKERS) }
+    ensures { WorksSite (tells W.World W.D.Door W.T.Tape W.K.Clock W.D.L.Meanings W.S.Shelf W.O.Meanings W.D.L.may_wait)
+        site.now of.now.format.now of.now.order.threads of.now.order.asked world.old world.new result }
 {
+    let order = of.order;
     let asked = order.asked.over(&site.cfg);
     let gears = match take_gears(alloc, world, order.threads, &asked) {
         Ok(gears) => gears,
         Err(error) => return end_by(error),
     };
-    match serve_gears(rt, alloc, &site.cfg, &site.map, order.cut, gears) {
+    let gears = match log_gears(alloc, world, order.threads, order.asked.log, gears) {
+        Ok(gears) => gears,
+        Err(error) => return end_by(error),
+    };
+    let plan = SitePlan {
+        cfg: &site.cfg,
+        map: &site.map,
+        cut: order.cut,
+        format: of.format,
+    };
+    match serve_gears(rt, alloc, plan, gears) {
         Ok(ran) => settle(world, ran),
         Err(NoMemory) => CommandEnd::Status(NO_MEMORY),
     }
 }
 
-/// `serve`, over the files WORKERS and MAP.
+/// `serve`, once its format was read.
+fn serve_files<F: Files, O: Sink, W: World, R: Threads + Wait + Sync>(
+    rt: &R,
+    alloc: Global,
+    of: FormattedOrder<'_>,
+    files: &mut F,
+    out: &mut O,
+    world: &mut W,
+) -> CommandEnd<Brand>
+where
+    <W::D as Door>::L: Send,
+    requires threads { (1 ≤ of.order.threads) × (of.order.threads ≤ MAX_WORKERS) }
+    ensures serves { ServesFormatted (telling F.Files O.Meanings W.World W.D.Door W.T.Tape W.K.Clock W.D.L.Meanings W.S.Shelf W.O.Meanings W.D.L.may_wait)
+        of.entry (files.old, out.old, world.old) (files.new, out.new, world.new) result }
+{
+    match read_site(alloc, files, of.order.workers, of.order.map) {
+        Ok(Judged::Site(site)) => serve_site(rt, alloc, &site, &of, world),
+        Ok(Judged::Refused(line)) => refuse(out, &line),
+        Err(error) => end_by(error),
+    }
+}
+
+/// `serve`, over the files WORKERS and MAP. A format that is none is refused before any file is read.
 pub fn serve<F: Files, O: Sink, W: World, R: Threads + Wait + Sync>(
     rt: &R,
     alloc: Global,
@@ -113,12 +179,18 @@ pub fn serve<F: Files, O: Sink, W: World, R: Threads + Wait + Sync>(
 where
     <W::D as Door>::L: Send,
     requires threads { (1 ≤ order.threads) × (order.threads ≤ MAX_WORKERS) }
-    ensures serves { ServesOrder (telling F.Files O.Meanings W.World W.D.Door W.T.Tape W.K.Clock W.D.L.Meanings W.S.Shelf W.D.L.may_wait)
+    ensures serves { ServesOrder (telling F.Files O.Meanings W.World W.D.Door W.T.Tape W.K.Clock W.D.L.Meanings W.S.Shelf W.O.Meanings W.D.L.may_wait)
         order.entry (files.old, out.old, world.old) (files.new, out.new, world.new) result }
 {
-    match read_site(alloc, files, order.workers, order.map) {
-        Ok(Judged::Site(site)) => serve_site(rt, alloc, &site, &order, world),
-        Ok(Judged::Refused(line)) => refuse(out, &line),
-        Err(error) => end_by(error),
+    match read_format(alloc, format_text(order.format)) {
+        Ok(format) => {
+            let of = FormattedOrder {
+                order,
+                format: &format,
+            };
+            serve_files(rt, alloc, of, files, out, world)
+        }
+        Err(FormatError::BadFormat { at }) => refuse_format(alloc, at, out),
+        Err(FormatError::NoMemory) => CommandEnd::Status(NO_MEMORY),
     }
 }

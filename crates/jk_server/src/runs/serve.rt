@@ -5,11 +5,11 @@ ghost use Rattle.uri_map.specs.Sites.{stands_in};
 ghost use Rattle.jk_server.specs.Runs.{RunsGears};
 ghost use Rattle.site_books.specs.Starts.{AreStarts};
 ghost use Rattle.jk_server.specs.Started.{IsNewSite, IsReady, RunsStarted, pool_table};
-ghost use Rattle.jk_server.specs.RunTells.{run_tells, unlogged};
+ghost use Rattle.jk_server.specs.RunTells.{logging, run_tells};
 
 use crate::runs::closing::settle;
 use crate::runs::ends::SiteRun;
-use crate::runs::parts::{Plan, work};
+use crate::runs::parts::{SitePlan, work};
 use crate::workers::MAX_WORKERS;
 use balancer_core::BookList;
 use conn_pool::{Idle, Pools, Tape};
@@ -17,6 +17,7 @@ use gear_parts::{Common, Gear, first_moment};
 use jk_io::{Clock, Dial, Door, NoMemory, SizeList, SizeTable};
 use jk_model::MemberConfig;
 use locked_balancer::{SharedSite, Shelf, Site, SiteName};
+use request_log::Timed;
 use site_books::books_of;
 use site_config::{Config, Lb};
 use std::alloc::Global;
@@ -24,10 +25,10 @@ use std::marker::Brand;
 use std::sync::Wait;
 use std::sync::ledger::{Blank, Share};
 use std::thread::Threads;
-use uri_map::UriMap;
 
-/// Serves the clients of a site by a worker for each gear. The balancers start with number 0 at the moment that the first
-/// gear's clock gives, and a journal is cut where it keeps `cut` entries. After the run each is cut once more, in order, and
+/// Serves the clients of a site by a worker for each gear, which writes the log of its requests where its gear has one. The
+/// balancers start with number 0 at the moment that the first gear's clock gives, and a journal is cut where it keeps as many
+/// entries as the plan says. After the run each is cut once more, in order, and
 /// its segment goes to the first gear's shelf.
 pub fn serve_gears<
     D: Door + Drop + Send,
@@ -35,41 +36,27 @@ pub fn serve_gears<
     T: Tape + Drop + Send,
     K: Clock + Drop + Send,
     S: Shelf + Drop + Send,
-    O: Drop + Send,
+    O: Timed + Drop + Send,
     R: Threads + Wait + Sync,
 >(
     rt: &R,
     alloc: Global,
-    cfg: &Config,
-    mounts: &UriMap,
-    cut: u32,
+    plan: SitePlan<'_>,
     gears: Vec<Gear<D, G, T, K, S, O>>,
 ) -> Result<SiteRun<Brand, Gear<D, G, T, K, S, O>>, NoMemory>
 where
     D::L: Send,
     requires some { 0 < vec_len gears }
     requires few { vec_len gears ≤ MAX_WORKERS }
-    requires stands { stands_in cfg.now mounts.now ≡ true }
+    requires stands { stands_in plan.cfg.now plan.map.now ≡ true }
     requires idle { All (λ g. T.is_idle g.tape) gears.items }
-    ensures ran { let told = run_tells D.coming D.left D.faults T.talks K.answers D.L.Meanings S.shelved (unlogged S.faults D.L.may_wait) in
-        IfOk result (RunsGears told cfg.now mounts.now gears.items) }
+    ensures ran { let told = run_tells D.coming D.left D.faults T.talks K.answers D.L.Meanings S.shelved (logging S.faults O.Meanings D.L.may_wait) in
+        IfOk result (RunsGears told plan.entry.cfg.now plan.entry.map.now plan.entry.format.now gears.items) }
 {
     let mut gears = gears;
     let at = first_moment(&mut gears);
-    match new_site(alloc, cfg, at, gears.len()) {
-        Ok(new) => {
-            over_site::<Brand, D, G, T, K, S, O, R>(
-                rt,
-                alloc,
-                Plan {
-                    cfg,
-                    map: mounts,
-                    cut,
-                },
-                new,
-                gears,
-            )
-        }
+    match new_site(alloc, plan.cfg, at, gears.len()) {
+        Ok(new) => over_site::<Brand, D, G, T, K, S, O, R>(rt, alloc, plan, new, gears),
         Err(NoMemory) => Err(NoMemory),
     }
 }
@@ -131,12 +118,12 @@ fn over_site<
     T: Tape + Drop + Send,
     K: Clock + Drop + Send,
     S: Shelf + Drop + Send,
-    O: Drop,
+    O: Timed + Drop + Send,
     R: Threads + Wait + Sync,
 >(
     rt: &R,
     alloc: Global,
-    plan: Plan<'_>,
+    plan: SitePlan<'_>,
     new: NewSite,
     gears: Vec<Gear<D, G, T, K, S, O>>,
 ) -> Result<SiteRun<L, Gear<D, G, T, K, S, O>>, NoMemory>
@@ -144,8 +131,8 @@ where
     D::L: Send,
     requires new { IsNewSite L.name L.parts L.starts L.sizes L.firsts L.cut_at plan.cut plan.cfg.now.lbs new }
     requires ready { IsReady T.is_idle L.parts plan.cfg.now plan.map.now (vec_len gears) gears.items }
-    ensures ran { let told = run_tells D.coming D.left D.faults T.talks K.answers D.L.Meanings S.shelved (unlogged S.faults D.L.may_wait) in
-        IfOk result (RunsStarted told plan.entry.cfg.now plan.entry.map.now gears.items) }
+    ensures ran { let told = run_tells D.coming D.left D.faults T.talks K.answers D.L.Meanings S.shelved (logging S.faults O.Meanings D.L.may_wait) in
+        IfOk result (RunsStarted told plan.entry.cfg.now plan.entry.map.now plan.entry.format.now gears.items) }
 {
     match pools_for(rt, alloc, plan.cfg) {
         Ok(pools) => over_pools(rt, alloc, plan, new, gears, &pools),
@@ -162,12 +149,12 @@ fn over_pools<
     T: Tape + Drop + Send,
     K: Clock + Drop + Send,
     S: Shelf + Drop + Send,
-    O: Drop,
+    O: Timed + Drop + Send,
     R: Threads + Wait + Sync,
 >(
     rt: &'r R,
     alloc: Global,
-    plan: Plan<'_>,
+    plan: SitePlan<'_>,
     new: NewSite,
     gears: Vec<Gear<D, G, T, K, S, O>>,
     pools: &Pools<'r, Idle<G::L>, R>,
@@ -177,13 +164,14 @@ where
     requires pool_sizes { pools.now ≡ pool_table plan.cfg.now.lbs }
     requires new { IsNewSite L.name L.parts L.starts L.sizes L.firsts L.cut_at plan.cut plan.cfg.now.lbs new }
     requires ready { IsReady T.is_idle L.parts plan.cfg.now plan.map.now (vec_len gears) gears.items }
-    ensures ran { let told = run_tells D.coming D.left D.faults T.talks K.answers D.L.Meanings S.shelved (unlogged S.faults D.L.may_wait) in
-        IfOk result (RunsStarted told plan.entry.cfg.now plan.entry.map.now gears.items) }
+    ensures ran { let told = run_tells D.coming D.left D.faults T.talks K.answers D.L.Meanings S.shelved (logging S.faults O.Meanings D.L.may_wait) in
+        IfOk result (RunsStarted told plan.entry.cfg.now plan.entry.map.now plan.entry.format.now gears.items) }
 {
     let (shared, share) = shared_site::<L, R>(rt, alloc, plan, new)?;
     let common = Common {
         site: &shared,
         pools,
+        format: plan.format,
     };
     match work(rt, alloc, plan, &common, share, gears) {
         Ok(ran) => Ok(settle(shared, ran)),
@@ -195,7 +183,7 @@ where
 fn shared_site<'r, L: SiteName, R>(
     rt: &'r R,
     alloc: Global,
-    plan: Plan<'_>,
+    plan: SitePlan<'_>,
     new: NewSite,
 ) -> Result<(SharedSite<'r, L, R>, Share<L>), NoMemory>
     requires { IsNewSite L.name L.parts L.starts L.sizes L.firsts L.cut_at plan.cut plan.cfg.now.lbs new }

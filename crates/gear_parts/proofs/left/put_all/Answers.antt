@@ -9,7 +9,6 @@ returns g c =
     record {
       tools = no_more_of _ _ _ _ c.left.invariant.tools_put none;
       shelves = no_more _ _ _ c.left.invariant.shelves_put none_either;
-      logs = no_more_of _ _ _ _ c.left.invariant.logs_put none;
     }
 
 pub left-preserved : goal.left-preserved
@@ -19,7 +18,6 @@ left-preserved g c =
     record {
       tools_put = one_put _ _ _ _ _ _ _ _ _ c.left.invariant.tools_put first put.added put.is.0;
       shelves_put = one_put_as _ _ _ _ _ _ _ _ c.left.invariant.shelves_put put.taken put.added put.is.1;
-      logs_put = one_put _ _ _ _ _ _ _ _ _ c.left.invariant.logs_put first put.added put.is.2;
       paired = omega (arith, c.left.invariant.paired, ap length first, ap length put.taken);
       room = omega (arith, ap length first, c.left.invariant.room, c.put_gear.ensures.len, c.put_gear.ensures.capacity);
     }
@@ -30,7 +28,6 @@ left-init g c =
     record {
       tools_put = none_put _ _ _ _ _ c.requires.none first;
       shelves_put = none_put_as _ _ _ _ c.requires.none refl;
-      logs_put = none_put _ _ _ _ _ c.requires.none first;
       paired = omega (arith, ap length first, c.requires.paired, c.args.left.ok.0);
       room = omega (arith, ap length first, ap length c.requires.none, c.args.gears.now.ok.0, c.args.left.ok.0, c.requires.room);
     }

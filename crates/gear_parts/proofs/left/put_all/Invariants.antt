@@ -5,10 +5,9 @@ use Rattle.gear_parts.proofs.left.put_all.Given as goal
 
 abbrev pub invariant-left : goal.invariant-left
 invariant-left g l = record {
-  tools_put : map (λ x. tools x.door x.dial x.tape x.clock) l.gears.items ++ map (λ x. tools x.door x.dial x.tape x.clock) l.left-iterator.rest.items
-      ≡ map (λ x. tools x.door x.dial x.tape x.clock) l.fn.left.items;
+  tools_put : map (λ x. tools x.door x.dial x.tape x.clock x.log) l.gears.items ++ map (λ x. tools x.door x.dial x.tape x.clock x.log) l.left-iterator.rest.items
+      ≡ map (λ x. tools x.door x.dial x.tape x.clock x.log) l.fn.left.items;
   shelves_put : map (λ x. x.shelf) l.gears.items ++ l.shelves.rest.items ≡ l.initial.shelves.rest.items;
-  logs_put : map (λ x. x.log) l.gears.items ++ map (λ x. x.log) l.left-iterator.rest.items ≡ map (λ x. x.log) l.fn.left.items;
   paired : length l.left-iterator.rest.items ≡ length l.shelves.rest.items;
   room : vec_len l.gears + length l.left-iterator.rest.items ≤ vec_capacity l.gears;
 }

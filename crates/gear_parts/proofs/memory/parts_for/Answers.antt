@@ -5,13 +5,13 @@ use Rattle.gear_parts.proofs.memory.parts_for.Goals as goal
 pub filled-requires-clause-memory : goal.filled-requires-clause-memory
 filled-requires-clause-memory g c = λ κs within. record {
   no_part = c.in-Ok.ensures.empty.0;
-  no_log = c.in-Ok.ensures.empty.1;
-  no_left = c.in-Ok.ensures.empty.2;
-  no_back = c.in-Ok.ensures.empty.3;
   for_parts = few_so _ _ _ (sym c.len.ensures) c.in-Ok.ensures.parts;
-  for_logs = few_so _ _ _ (sym c.len.ensures) c.in-Ok.ensures.logs;
-  for_left = few_so _ _ _ (sym c.len.ensures) c.in-Ok.ensures.left;
-  for_back = few_so _ _ _ (sym c.len.ensures) c.in-Ok.ensures.back;
+  after = record {
+    no_left = c.in-Ok.ensures.empty.1;
+    no_back = c.in-Ok.ensures.empty.2;
+    for_left = few_so _ _ _ (sym c.len.ensures) c.in-Ok.ensures.left;
+    for_back = few_so _ _ _ (sym c.len.ensures) c.in-Ok.ensures.back;
+  };
 }
 
 pub returns-in-Ok-clause-starts : goal.returns-in-Ok-clause-starts
@@ -22,6 +22,3 @@ returns-in-Ok-clause-count g c = c.filled.ensures.count
 
 pub returns-in-Ok-clause-after : goal.returns-in-Ok-clause-after
 returns-in-Ok-clause-after g c = c.filled.ensures.after
-
-pub returns-in-Ok-clause-logs : goal.returns-in-Ok-clause-logs
-returns-in-Ok-clause-logs g c = c.filled.ensures.logs

@@ -1,17 +1,15 @@
 use Rattle.std.proofs.Common.{ap, length, refl, sym, arith}
 use Rattle.std.proofs.lemmas.List.Elements.{All-head, All-rest, All-same}
-use Rattle.gear_parts.proofs.ListLaws.{no_more_of, none_left, none_put, none_put_of, one_put, one_put_of}
+use Rattle.gear_parts.proofs.ListLaws.{no_more_of, none_left, none_put, one_put}
 use Rattle.gear_parts.proofs.parts.put_parts.Goals as goal
 
 pub gears-init : goal.gears-init
 gears-init g c = record {
-  started = none_put _ _ _ _ _ c.requires.none.0 refl;
-  logged = none_put_of _ _ _ _ c.requires.none.1 refl;
+  started = none_put _ _ _ _ _ c.requires.none refl;
   idle = c.requires.idle;
   parts_left = c.requires.parts;
   none_counted = c.requires.amount;
-  part_room = omega (arith, ap length c.requires.none.0, c.args.parts.now.ok.0, c.requires.room.0);
-  log_room = omega (arith, ap length c.requires.none.1, c.args.logs.now.ok.0, c.requires.room.1);
+  part_room = omega (arith, ap length c.requires.none, c.args.parts.now.ok.0, c.requires.room);
 }
 
 pub gears-preserved : goal.gears-preserved
@@ -20,12 +18,10 @@ gears-preserved g c =
     let put = c.put_part.ensures in
     record {
       started = one_put _ _ _ _ _ _ _ _ _ c.gears.invariant.started first put.part.added put.part.is;
-      logged = one_put_of _ _ _ _ _ _ _ _ c.gears.invariant.logged first put.log refl;
       idle = All-rest (λ x. g.T.Tape.is_idle x.tape) _ _ _ first c.gears.invariant.idle;
       parts_left = omega (arith, c.gears.invariant.parts_left, put.share.0, ap length first);
       none_counted = put.share.1;
-      part_room = omega (arith, ap length first, c.gears.invariant.part_room, put.len.0, put.capacity.0);
-      log_room = omega (arith, ap length first, c.gears.invariant.log_room, put.len.1, put.capacity.1);
+      part_room = omega (arith, ap length first, c.gears.invariant.part_room, put.len, put.capacity);
     }
 
 pub gears-smaller : goal.gears-smaller
@@ -44,13 +40,9 @@ put_part-requires-clause-idle g c = λ κs within.
 
 pub put_part-requires-clause-room : goal.put_part-requires-clause-room
 put_part-requires-clause-room g c = λ κs within.
-    let first = ap length c.in-Some.ensures.items in
-    (omega (arith, first, c.gears.invariant.part_room), omega (arith, first, c.gears.invariant.log_room))
+    omega (arith, ap length c.in-Some.ensures.items, c.gears.invariant.part_room)
 
-pub returns-clause-starts : goal.returns-clause-starts
-returns-clause-starts g c =
-    no_more_of _ _ _ _ c.gears.invariant.started (none_left _ _ c.gears.gears.rest.ok.0 c.in_default.ensures.variant.1)
-
-pub returns-clause-logs : goal.returns-clause-logs
-returns-clause-logs g c =
-    no_more_of _ _ _ _ c.gears.invariant.logged (none_left _ _ c.gears.gears.rest.ok.0 c.in_default.ensures.variant.1)
+pub returns : goal.returns
+returns g c = record {
+  starts = no_more_of _ _ _ _ c.gears.invariant.started (none_left _ _ c.gears.gears.rest.ok.0 c.in_default.ensures.variant.1);
+}

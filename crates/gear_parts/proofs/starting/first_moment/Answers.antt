@@ -2,7 +2,7 @@ use Rattle.std.proofs.Common.{sym, ◌∙◌}
 use Rattle.door_clients.specs.Doors.{side}
 use Rattle.gear_parts.specs.Gears.{gear_side}
 use Rattle.gear_parts.proofs.ListLaws.{some_so, written_back}
-use Rattle.gear_parts.proofs.StartLaws.{gives_back, idle_back, logs_back, started_back}
+use Rattle.gear_parts.proofs.StartLaws.{gives_back, idle_back, started_back}
 use Rattle.gear_parts.proofs.starting.first_moment.Goals as goal
 
 pub moment_of-requires : goal.moment_of-requires
@@ -21,12 +21,6 @@ returns-clause-idle g c = λ all.
     c.as_mut_slice.ensures.value
     (written_back c.args.gears.now.len c.moment_of.new.gears _ (sym c.as_mut_slice.ensures.len ∙ sym c.moment_of.ensures.len))
     c.moment_of.ensures.idle all
-
-pub returns-clause-logs : goal.returns-clause-logs
-returns-clause-logs g c =
-    logs_back _ _ _ _ c.as_mut_slice.ensures.value
-    (written_back c.args.gears.now.len c.moment_of.new.gears _ (sym c.as_mut_slice.ensures.len ∙ sym c.moment_of.ensures.len))
-    c.moment_of.ensures.logs
 
 pub returns-clause-given : goal.returns-clause-given
 returns-clause-given g c =

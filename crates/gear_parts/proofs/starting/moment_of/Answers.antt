@@ -1,5 +1,5 @@
 use Rattle.door_clients.specs.Doors.{side}
-use Rattle.gear_parts.proofs.StartLaws.{first_as_long, first_gives, first_idle, first_logs, first_read}
+use Rattle.gear_parts.proofs.StartLaws.{first_as_long, first_gives, first_idle, first_read}
 use Rattle.gear_parts.proofs.starting.moment_of.Goals as goal
 
 pub returns-clause-started : goal.returns-clause-started
@@ -12,9 +12,6 @@ returns-clause-idle g c = λ all. first_idle g.T.Tape.is_idle c.args.gears.now c
 
 pub returns-clause-len : goal.returns-clause-len
 returns-clause-len g c = first_as_long c.args.gears.now _
-
-pub returns-clause-logs : goal.returns-clause-logs
-returns-clause-logs g c = first_logs c.args.gears.now c.index-gears-0.result c.now.new.self
 
 pub returns-clause-given : goal.returns-clause-given
 returns-clause-given g c =

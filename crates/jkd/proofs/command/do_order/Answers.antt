@@ -5,7 +5,7 @@ pub returns-in-Serve-clause-does : goal.returns-in-Serve-clause-does
 returns-in-Serve-clause-does g c incoming =
     rw c.in-Serve.is (record {
       by = c.serve.result;
-      said = rw (c.as_ref.ensures.value, c.as_ref-in-Serve.ensures.value) at (c.serve.ensures.serves incoming);
+      said = rw (c.as_ref.ensures.value, c.as_ref-in-Serve.ensures.value, c.as_ref-in-Serve-2.ensures.value, c.as_ref-in-Serve-3.ensures.value) at (c.serve.ensures.serves incoming);
       turned = c.from.ensures;
     })
 

@@ -1,10 +1,9 @@
-use Rattle.std.proofs.Common.{ap, length, refl, sym, ◌∙◌}
+use Rattle.std.proofs.Common.{ap, inl, inr, refl, sym, ◌∙◌, arith}
 use Rattle.gear_parts.specs.Wants.{GearWants}
 use Rattle.jk_server.specs.Commands.{Ran}
-use Rattle.jk_server.specs.Ends.{returned}
-use Rattle.jk_server.proofs.CommandLaws.{some_asked, wants_gears, works_err}
+use Rattle.jk_server.proofs.CommandLaws.{lacks_log, some_asked, still_taken, wants_gears, works_err}
 use Rattle.gear_parts.proofs.ListLaws.{few_so}
-use Rattle.gear_parts.proofs.WorldLaws.{few_out, then_back}
+use Rattle.gear_parts.proofs.WorldLaws.{then_back}
 use Rattle.jk_server.proofs.ReturnLaws.{few_returned}
 use Rattle.jk_server.proofs.orders.serve.serve_site.Goals as goal
 
@@ -14,40 +13,61 @@ returns-in-Err g c = works_err _ _ _ _ c.in-Err.error _ c.in-Err.ensures.refused
 pub take_gears-requires-clause-named : goal.take_gears-requires-clause-named
 take_gears-requires-clause-named g c κs within = λ some. c.over-asked.ensures.site.1
 
+pub log_gears-requires-clause-out : goal.log_gears-requires-clause-out
+log_gears-requires-clause-out g c κs within = omega (arith, c.in-Ok.ensures.taken.counted, c.in-Ok.gears.ok.0)
+
+pub log_gears-requires-clause-count : goal.log_gears-requires-clause-count
+log_gears-requires-clause-count g c κs within = c.in-Ok.ensures.count
+
+pub returns-in-Err-log_gears : goal.returns-in-Err-log_gears
+returns-in-Err-log_gears g c =
+    Ran (inl (lacks_log _ _ _ _ c.in-Ok.gears.items c.in-Err-log_gears.error _ c.in-Ok.ensures.taken (c.in-Ok.ensures.steady refl)
+    (sym c.in-Ok.gears.ok.0 ∙ c.in-Ok.ensures.count) c.in-Err-log_gears.ensures.refused c.in-Err-log_gears.ensures.cause c.end_by-in-Err-log_gears.ensures))
+
 pub serve_gears-requires-clause-some : goal.serve_gears-requires-clause-some
-serve_gears-requires-clause-some g c κs within = some_asked _ _ c.in-Ok.ensures.count c.requires.threads.0
+serve_gears-requires-clause-some g c κs within = some_asked _ _ c.in-Ok-log_gears.ensures.len c.requires.threads.0
 
 pub serve_gears-requires-clause-few : goal.serve_gears-requires-clause-few
-serve_gears-requires-clause-few g c κs within = few_so _ _ _ c.in-Ok.ensures.count c.requires.threads.1
+serve_gears-requires-clause-few g c κs within = few_so _ _ _ c.in-Ok-log_gears.ensures.len c.requires.threads.1
 
 pub serve_gears-requires-clause-stands : goal.serve_gears-requires-clause-stands
 serve_gears-requires-clause-stands g c κs within = c.args.site.now.stands
 
 pub serve_gears-requires-clause-idle : goal.serve_gears-requires-clause-idle
-serve_gears-requires-clause-idle g c κs within = c.in-Ok.ensures.idle
+serve_gears-requires-clause-idle g c κs within = c.in-Ok-log_gears.ensures.idle c.in-Ok.ensures.idle
 
 pub returns-in-Err-serve_gears : goal.returns-in-Err-serve_gears
-returns-in-Err-serve_gears g c = wants_gears _ _ _ _ c.in-Ok.gears.items c.in-Ok.ensures.taken (sym c.in-Ok.gears.ok.0 ∙ c.in-Ok.ensures.count) (c.in-Ok.ensures.steady refl)
+returns-in-Err-serve_gears g c =
+    let same = c.in-Ok-log_gears.ensures.same in
+    let calm = c.in-Ok-log_gears.ensures.steady refl in
+    wants_gears _ _ _ _ c.in-Ok.gears.items (still_taken _ _ _ c.in-Ok.gears.items c.in-Ok.ensures.taken same.0 same.1 same.2 calm)
+    (sym c.in-Ok.gears.ok.0 ∙ c.in-Ok.ensures.count) (calm ∙ c.in-Ok.ensures.steady refl)
 
 pub settle-requires-clause-out : goal.settle-requires-clause-out
 settle-requires-clause-out g c κs within =
     let ran = c.in-Ok-serve_gears.ran in
-    few_out _ _ c.in-Ok.gears.items (length (returned ran.closing ran.gears.items)) c.in-Ok.ensures.taken
-    (few_returned _ _ _ _ _ _ c.in-Ok.gears.items ran.gears.items ran.workers ran.closing c.in-Ok-serve_gears.ensures.ran.is)
+    let begun = c.in-Ok-log_gears.gears in
+    let few = few_returned _ _ _ _ _ _ _ begun.items ran.gears.items ran.workers ran.closing c.in-Ok-serve_gears.ensures.ran in
+    omega (arith, few, begun.ok.0, c.in-Ok.gears.ok.0, c.in-Ok-log_gears.ensures.len, c.in-Ok.ensures.count, c.in-Ok.ensures.taken.counted, c.in-Ok-log_gears.ensures.same.2)
 
 pub returns-in-Ok-serve_gears : goal.returns-in-Ok-serve_gears
 returns-in-Ok-serve_gears g c =
     let ran = c.in-Ok-serve_gears.ran in
-    Ran (record {
+    let same = c.in-Ok-log_gears.ensures.same in
+    let calm = c.in-Ok-log_gears.ensures.steady refl in
+    Ran (inr (record {
       gears = c.in-Ok.gears.items;
+      begun = c.in-Ok-log_gears.gears.items;
       left = ran.gears.items;
       count = sym c.in-Ok.gears.ok.0 ∙ c.in-Ok.ensures.count;
       made = rw (ap (λ (w : GearWants). w.clients) c.over-asked.ensures.same) at c.in-Ok.ensures.made;
       suited = rw (c.over-asked.ensures.same, c.over-asked.ensures.site.0) at c.in-Ok.ensures.suited;
+      logged = c.in-Ok-log_gears.ensures.given;
       ends = ran.workers;
       closing = ran.closing;
-      run = c.in-Ok-serve_gears.ensures.ran.is;
-      logs = c.in-Ok-serve_gears.ensures.ran.logs;
-      passed = then_back _ _ _ _ _ c.in-Ok.ensures.taken c.settle.ensures.given;
+      run = c.in-Ok-serve_gears.ensures.ran;
+      passed =
+          then_back _ _ _ _ _ (still_taken _ _ _ c.in-Ok.gears.items c.in-Ok.ensures.taken same.0 same.1 same.2 calm)
+          c.settle.ensures.given;
       status = c.settle.ensures.ended;
-    })
+    }))

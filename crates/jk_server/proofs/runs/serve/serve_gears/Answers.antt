@@ -2,8 +2,7 @@ use Rattle.std.proofs.Common.{refl, ◌∙◌}
 use Rattle.client_session.specs.Requests.{visit}
 use Rattle.door_clients.specs.Doors.{side}
 use Rattle.gear_parts.specs.Gears.{gear_side}
-use Rattle.jk_server.specs.RunTells.{unlogged}
-use Rattle.jk_server.proofs.CutLaws.{logs_since}
+use Rattle.jk_server.specs.RunTells.{logging}
 use Rattle.gear_parts.proofs.ListLaws.{few_so, some_so}
 use Rattle.jk_server.proofs.StartLaws.{ok_weaker, started_run}
 use Rattle.jk_server.proofs.runs.serve.serve_gears.Goals as goal
@@ -33,12 +32,10 @@ pub returns-in-Ok : goal.returns-in-Ok
 returns-in-Ok g c = record {
   ran =
       ok_weaker _ _ c.over_site.result c.over_site.ensures.ran
-      (λ run is. record {
-        is =
-            started_run (visit c.args.cfg.now c.args.mounts.now) g.D.L.Meanings g.S.Shelf.shelved (unlogged g.S.Shelf.faults g.D.L.Link.may_wait) c.args.cfg.now.lbs
-            (gear_side (side g.D.Door.coming g.D.Door.left g.D.Door.faults) g.T.Tape.talks g.K.Clock.answers) c.args.gears.items
-            c.args.gears.items c.first_moment-at.new.gears.items c.first_moment-at.new.gears.items run.gears.items run.workers run.closing refl refl
-            c.first_moment-at.ensures.started is.is;
-        logs = logs_since c.args.gears.items c.first_moment-at.new.gears.items run.gears.items run.closing c.first_moment-at.ensures.logs is.logs;
-      });
+      (λ run is.
+      started_run (visit c.args.plan.cfg.now c.args.plan.map.now) g.D.L.Meanings g.S.Shelf.shelved (logging g.S.Shelf.faults g.O.Meanings g.D.L.Link.may_wait)
+      c.args.plan.format.now c.args.plan.cfg.now.lbs
+      (gear_side (side g.D.Door.coming g.D.Door.left g.D.Door.faults) g.T.Tape.talks g.K.Clock.answers) c.args.gears.items
+      c.args.gears.items c.first_moment-at.new.gears.items c.first_moment-at.new.gears.items run.gears.items run.workers run.closing refl refl
+      c.first_moment-at.ensures.started is);
 }

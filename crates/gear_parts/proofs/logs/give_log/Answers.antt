@@ -1,4 +1,4 @@
-use Rattle.gear_parts.proofs.left.put_left.Goals as goal
+use Rattle.gear_parts.proofs.logs.give_log.Goals as goal
 
 pub returns-clause-put : goal.returns-clause-put
 returns-clause-put g c = record {
@@ -6,5 +6,5 @@ returns-clause-put g c = record {
   item = _;
   taken = c.in-Some.ensures.cases.0;
   added = c.push_reserved.ensures.items;
-  is = (c.left_of.ensures.tools, c.left_of.ensures.log);
+  is = c.with_log.ensures;
 }

@@ -1,15 +1,10 @@
 use Rattle.std.proofs.Common.{◌≡◌, false, ap, length, arith}
 use Rattle.std.specs.Prelude.{is_some}
 use Rattle.std.proofs.lemmas.List.Elements.{All-same}
-use Rattle.gear_parts.proofs.left.take_all.Goals as goal
+use Rattle.gear_parts.proofs.left.take_apart.Goals as goal
 
 pub take_each-requires-clause-none : goal.take_each-requires-clause-none
 take_each-requires-clause-none g c = λ κs within. c.requires.none
-
-pub take_each-requires-clause-paired : goal.take_each-requires-clause-paired
-take_each-requires-clause-paired g c = λ κs within.
-    let all : c.into_iter-outside.result.rest.items ≡ c.args.outside.items = cc in
-    omega (arith, ap length all, c.requires.paired, c.args.outside.ok.0)
 
 pub take_each-requires-clause-room : goal.take_each-requires-clause-room
 take_each-requires-clause-room g c = λ κs within.
@@ -21,10 +16,7 @@ take_each-requires-clause-idle g c = λ κs within.
     let all : c.into_iter-outside.result.rest.items ≡ c.args.outside.items = cc in
     All-same (λ o. is_some o.reach.lent ≡ false) _ _ all c.requires.idle
 
-pub returns-clause-tools : goal.returns-clause-tools
-returns-clause-tools g c =
+pub returns : goal.returns
+returns g c =
     let all : c.into_iter-outside.result.rest.items ≡ c.args.outside.items = cc in
-    rw (← all) c.take_each.ensures.tools
-
-pub returns-clause-logs : goal.returns-clause-logs
-returns-clause-logs g c = c.take_each.ensures.logs
+    rw (← all) c.take_each.ensures
