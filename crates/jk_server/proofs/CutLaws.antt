@@ -1,6 +1,5 @@
 -- What the last cuts of a run do with the first gear.
 use Rattle.std.proofs.Common.{ℕ, ◌≡◌, List, [], ◌∷◌, length, map, Option, Result, Ok, Err, inl, inr, refl, sym, ap, ◌∙◌, subst, arith}
-use Rattle.std.specs.List.{AllZip}
 use Rattle.std.specs.Prelude.{OnErr}
 use Rattle.jk_io.specs.Told.{Rose}
 use Rattle.jk_io.specs.declared.reaching.Talk.{Talk}
@@ -15,20 +14,19 @@ use Rattle.site_books.specs.Starts.{AreStarts}
 use Rattle.site_config.specs.declared.balancer.Lb.{Lb}
 use Rattle.gear_parts.specs.Cuts.{AddsCuts, AddsFront, ToFirst}
 use Rattle.gear_parts.specs.GearParts.{gear_with, gears_with, Tools, tools}
-use Rattle.gear_parts.specs.Gears.{GearSide, gear_side, KeepsLog}
+use Rattle.gear_parts.specs.Gears.{GearSide, gear_side}
 use Rattle.gear_parts.specs.declared.world.Gear.{Gear}
 use Rattle.site_closing.specs.Closings.{DiscordNote}
 use Rattle.jk_server.specs.Headline.{AreEnded, firsts_of}
 use Rattle.jk_server.specs.Closings.{Closes, IsDiscordOf, KeepsFirst, Shelves, ShelvesFront}
-use Rattle.jk_server.specs.Ends.{KeepsEach}
 use Rattle.jk_server.specs.declared.runs.ends.Closing.{Closing}
 use Rattle.jk_server.specs.declared.runs.ends.Closing.TheVariants as closing
 use Rattle.jk_server.specs.Shelved.{AreClosed, EndsSo, IsDiscordAt, IsPutBack, KeepsCuts}
 use Rattle.jk_server.proofs.GearRunLaws.{told_again}
 
 -- What was done with the first shelf, said of the gears.
-pub first_kept : {D G T K S C : Type 0} (at : D → DoorSide C) (talks : T → Option (List Talk)) (answers : K → Option (List ℕ)) (Kept : S → S → Type 0)
-    (ts : List (Tools D G T K)) (old new : List S) → length ts ≡ length old → ToFirst Kept old new
+pub first_kept : {D G T K S O C : Type 0} (at : D → DoorSide C) (talks : T → Option (List Talk)) (answers : K → Option (List ℕ)) (Kept : S → S → Type 0)
+    (ts : List (Tools D G T K O)) (old new : List S) → length ts ≡ length old → ToFirst Kept old new
     → KeepsFirst Kept (gears_with (gear_with at talks answers) ts old) (gears_with (gear_with at talks answers) ts new)
 first_kept at talks answers Kept ts [] new len kept = absurd kept
 first_kept at talks answers Kept ts (s ∷ old) [] len kept = absurd kept
@@ -48,13 +46,13 @@ first_weaker P Q (x ∷ old) (y ∷ new) then is = (then x y is.0, is.1)
 
 -- So it is of the gears that were put together again.
 pub kept_again : {D G T K S O C : Type 0} (at : D → DoorSide C) (talks : T → Option (List Talk)) (answers : K → Option (List ℕ)) (Kept : S → S → Type 0)
-    (ts : List (Tools D G T K)) (old new : List S) (back : List (Gear D G T K S O)) → length ts ≡ length old → ToFirst Kept old new
-    → map (λ g. tools g.door g.dial g.tape g.clock) back ≡ ts → map (λ g. g.shelf) back ≡ new
+    (ts : List (Tools D G T K O)) (old new : List S) (back : List (Gear D G T K S O)) → length ts ≡ length old → ToFirst Kept old new
+    → map (λ g. tools g.door g.dial g.tape g.clock g.log) back ≡ ts → map (λ g. g.shelf) back ≡ new
     → KeepsFirst Kept (gears_with (gear_with at talks answers) ts old) (map (gear_side at talks answers) back)
 kept_again {D} {G} {T} {K} {S} {O} {C} at talks answers Kept ts old new back len kept tools_put shelves_put =
-    subst (λ (gs : List (GearSide C S)). KeepsFirst Kept (gears_with (gear_with at talks answers) ts old) gs)
+    subst (λ (gs : List (GearSide C S O)). KeepsFirst Kept (gears_with (gear_with at talks answers) ts old) gs)
     (sym (told_again at talks answers back
-    ∙ ap (λ (us : List (Tools D G T K)). gears_with (gear_with at talks answers) us (map (λ (g : Gear D G T K S O). g.shelf) back)) tools_put
+    ∙ ap (λ (us : List (Tools D G T K O)). gears_with (gear_with at talks answers) us (map (λ (g : Gear D G T K S O). g.shelf) back)) tools_put
     ∙ ap (λ (ss : List S). gears_with (gear_with at talks answers) ts ss) shelves_put))
     (first_kept at talks answers Kept ts old new len kept)
 
@@ -74,12 +72,12 @@ ended_said lbs sizes firsts starts seats at begun books same_sizes same_firsts s
 
 -- What a closing says of the Books of a Site, said of the configuration.
 kept_said : {D G T K S O C : Type 0} (at : D → DoorSide C) (talks : T → Option (List Talk)) (answers : K → Option (List ℕ)) (Kept : List Journal → S → S → Type 0) (Said : S → S → Type 0)
-    (Ended Are : List Journal → Type 0) (ts : List (Tools D G T K)) (old : List S) (logs : List (Option O)) (back : List (Gear D G T K S O))
+    (Ended Are : List Journal → Type 0) (ts : List (Tools D G T K O)) (old : List S) (back : List (Gear D G T K S O))
     → ((books : List Journal) → Ended books → Are books)
     → ((books : List Journal) (x y : S) → Are books → Kept books x y → Said x y)
-    → KeepsCuts Kept Ended ts old logs back
+    → KeepsCuts Kept Ended ts old back
     → KeepsFirst Said (gears_with (gear_with at talks answers) ts old) (map (gear_side at talks answers) back)
-kept_said {D} {G} {T} {K} {S} {O} at talks answers Kept Said Ended Are ts old logs back are say keeps =
+kept_said {D} {G} {T} {K} {S} {O} at talks answers Kept Said Ended Are ts old back are say keeps =
     kept_again at talks answers Said ts old (map (λ (g : Gear D G T K S O). g.shelf) back) back keeps.2.paired
     (first_weaker (Kept keeps.0) Said old (map (λ (g : Gear D G T K S O). g.shelf) back)
     (λ x y kept. say keeps.0 x y (are keeps.0 keeps.1) kept) keeps.2.shelves_put)
@@ -91,78 +89,39 @@ discord_said lbs sizes firsts d same_sizes same_firsts at =
 
 pub closes_said : {D G T K S O L C : Type 0} (at : D → DoorSide C) (talks : T → Option (List Talk)) (answers : K → Option (List ℕ)) (shelved : S → Option (List (ℕ × Segment)))
     (faults : S → ℕ) (lbs : List Lb) (sizes firsts : List ℕ) (starts : List Opening) (seats : List SeatNote) (moment : ℕ) (begun : List Journal)
-    (ts : List (Tools D G T K)) (old : List S) (logs : List (Option O)) (back : List (Gear D G T K S O)) (end : Closing L)
+    (ts : List (Tools D G T K O)) (old : List S) (back : List (Gear D G T K S O)) (end : Closing L)
     → sizes ≡ sizes_of lbs → firsts ≡ firsts_of lbs → starts ≡ starts_of begun → AreStarts lbs moment 0 begun
-    → EndsSo shelved faults sizes firsts starts seats ts old logs back end
+    → EndsSo shelved faults sizes firsts starts seats ts old back end
     → Closes shelved faults lbs seats (gears_with (gear_with at talks answers) ts old) (map (gear_side at talks answers) back) end
-closes_said at talks answers shelved faults lbs sizes firsts starts seats moment begun ts old logs back closing.Kept same_sizes same_firsts same_starts begins ends =
-    kept_said at talks answers (AddsCuts shelved) (Shelves shelved lbs seats) (AreClosed sizes firsts starts seats) (AreEnded lbs seats) ts old logs back
+closes_said at talks answers shelved faults lbs sizes firsts starts seats moment begun ts old back closing.Kept same_sizes same_firsts same_starts begins ends =
+    kept_said at talks answers (AddsCuts shelved) (Shelves shelved lbs seats) (AreClosed sizes firsts starts seats) (AreEnded lbs seats) ts old back
     (λ books closed. ended_said lbs sizes firsts starts seats moment begun books same_sizes same_firsts same_starts begins closed)
     (λ books x y ended cuts. last_kept shelved lbs seats books x y ended cuts) ends
-closes_said {S = S} at talks answers shelved faults lbs sizes firsts starts seats moment begun ts old logs back closing.ShelfFault same_sizes same_firsts same_starts begins ends =
+closes_said {S = S} at talks answers shelved faults lbs sizes firsts starts seats moment begun ts old back closing.ShelfFault same_sizes same_firsts same_starts begins ends =
     kept_said at talks answers (λ (books : List Journal) (x y : S). AddsFront shelved books x y × Rose (faults x) (faults y))
-    (λ (x y : S). ShelvesFront shelved lbs seats x y × Rose (faults x) (faults y)) (AreClosed sizes firsts starts seats) (AreEnded lbs seats) ts old logs back
+    (λ (x y : S). ShelvesFront shelved lbs seats x y × Rose (faults x) (faults y)) (AreClosed sizes firsts starts seats) (AreEnded lbs seats) ts old back
     (λ books closed. ended_said lbs sizes firsts starts seats moment begun books same_sizes same_firsts same_starts begins closed)
     (λ books x y ended kept. ((books, ended, kept.0), kept.1)) ends
-closes_said {D} {G} {T} {K} {S} {O} at talks answers shelved faults lbs sizes firsts starts seats moment begun ts old logs back (closing.Differs d) same_sizes same_firsts same_starts begins ends = (
+closes_said {D} {G} {T} {K} {S} {O} at talks answers shelved faults lbs sizes firsts starts seats moment begun ts old back (closing.Differs d) same_sizes same_firsts same_starts begins ends = (
   discord_said lbs sizes firsts d same_sizes same_firsts ends.0,
   ap (λ (gs : List (Gear D G T K S O)). map (gear_side at talks answers) gs) ends.1,
 )
-closes_said {D} {G} {T} {K} {S} {O} at talks answers shelved faults lbs sizes firsts starts seats moment begun ts old logs back closing.NoMemory same_sizes same_firsts same_starts begins (inl none) =
+closes_said {D} {G} {T} {K} {S} {O} at talks answers shelved faults lbs sizes firsts starts seats moment begun ts old back closing.NoMemory same_sizes same_firsts same_starts begins (inl none) =
     inl (ap (λ (gs : List (Gear D G T K S O)). map (gear_side at talks answers) gs) none)
-closes_said at talks answers shelved faults lbs sizes firsts starts seats moment begun ts old logs back closing.NoMemory same_sizes same_firsts same_starts begins (inr keeps) =
-    inr (kept_said at talks answers (AddsFront shelved) (ShelvesFront shelved lbs seats) (AreClosed sizes firsts starts seats) (AreEnded lbs seats) ts old logs back
+closes_said at talks answers shelved faults lbs sizes firsts starts seats moment begun ts old back closing.NoMemory same_sizes same_firsts same_starts begins (inr keeps) =
+    inr (kept_said at talks answers (AddsFront shelved) (ShelvesFront shelved lbs seats) (AreClosed sizes firsts starts seats) (AreEnded lbs seats) ts old back
     (λ books closed. ended_said lbs sizes firsts starts seats moment begun books same_sizes same_firsts same_starts begins closed)
     (λ books x y ended front. (books, ended, front)) keeps)
 
--- Gears that have the same logs have each its own.
-pub all_logs : {D G T K S O : Type 0} (gears back : List (Gear D G T K S O)) → map (λ g. g.log) back ≡ map (λ g. g.log) gears → AllZip KeepsLog gears back
-all_logs [] [] same = tt
-all_logs [] (b ∷ back) same = absurd cc
-all_logs (g ∷ gears) [] same = absurd cc
-all_logs (g ∷ gears) (b ∷ back) same =
-    let here : b.log ≡ g.log = cc in
-    let tail : map (λ x. x.log) back ≡ map (λ x. x.log) gears = cc in (here, all_logs gears back tail)
-
--- So of the gears that come back of a run.
-pub logs_said : {D G T K S O L : Type 0} (shelved : S → Option (List (ℕ × Segment))) (faults : S → ℕ) (sizes firsts : List ℕ) (starts : List Opening) (seats : List SeatNote) (ts : List (Tools D G T K)) (old : List S)
-    (logs : List (Option O)) (gears back : List (Gear D G T K S O)) (end : Closing L)
-    → logs ≡ map (λ g. g.log) gears → EndsSo shelved faults sizes firsts starts seats ts old logs back end → KeepsEach KeepsLog end gears back
-logs_said shelved faults sizes firsts starts seats ts old logs gears back closing.Kept same ends = all_logs gears back (ends.2.logs_put ∙ same)
-logs_said shelved faults sizes firsts starts seats ts old logs gears back closing.ShelfFault same ends = all_logs gears back (ends.2.logs_put ∙ same)
-logs_said shelved faults sizes firsts starts seats ts old logs gears back (closing.Differs d) same ends = ends.1
-logs_said shelved faults sizes firsts starts seats ts old logs gears back closing.NoMemory same (inl none) = inl none
-logs_said shelved faults sizes firsts starts seats ts old logs gears back closing.NoMemory same (inr keeps) = inr (all_logs gears back (keeps.2.logs_put ∙ same))
-
--- What gears have that was had by others at their places.
-since_each : {D G T K S O : Type 0} (gears new back : List (Gear D G T K S O)) → map (λ g. g.log) new ≡ map (λ g. g.log) gears → AllZip KeepsLog new back → AllZip KeepsLog gears back
-since_each [] [] [] same all = tt
-since_each [] [] (b ∷ back) same all = absurd all
-since_each [] (n ∷ new) back same all = absurd cc
-since_each (g ∷ gears) [] back same all = absurd cc
-since_each (g ∷ gears) (n ∷ new) [] same all = absurd all
-since_each (g ∷ gears) (n ∷ new) (b ∷ back) same all =
-    let here : n.log ≡ g.log = cc in
-    let tail : map (λ x. x.log) new ≡ map (λ x. x.log) gears = cc in (all.0 ∙ here, since_each gears new back tail all.1)
-
-pub logs_since : {D G T K S O L : Type 0} (gears new back : List (Gear D G T K S O)) (end : Closing L)
-    → map (λ g. g.log) new ≡ map (λ g. g.log) gears → KeepsEach KeepsLog end new back → KeepsEach KeepsLog end gears back
-logs_since gears new back closing.Kept same each = since_each gears new back same each
-logs_since gears new back closing.ShelfFault same each = since_each gears new back same each
-logs_since gears new back (closing.Differs d) same each = each
-logs_since gears new back closing.NoMemory same (inl none) = inl none
-logs_since gears new back closing.NoMemory same (inr each) = inr (since_each gears new back same each)
-
 -- The gears were put together so, of shelves that were lent.
-pub put_back : {D G T K S O : Type 0} (Kept : S → S → Type 0) (ts : List (Tools D G T K)) (old lent new : List S) (logs : List (Option O)) (back : List (Gear D G T K S O))
-    → length ts ≡ length old → map (λ g. tools g.door g.dial g.tape g.clock) back ≡ ts → map (λ g. g.log) back ≡ logs
-    → lent ≡ old → map (λ g. g.shelf) back ≡ new → ToFirst Kept lent new → IsPutBack Kept ts old logs back
-put_back {S = S} Kept ts old lent new logs back paired tools_put logs_put same put kept = record {
+pub put_back : {D G T K S O : Type 0} (Kept : S → S → Type 0) (ts : List (Tools D G T K O)) (old lent new : List S) (back : List (Gear D G T K S O))
+    → length ts ≡ length old → map (λ g. tools g.door g.dial g.tape g.clock g.log) back ≡ ts
+    → lent ≡ old → map (λ g. g.shelf) back ≡ new → ToFirst Kept lent new → IsPutBack Kept ts old back
+put_back {S = S} Kept ts old lent new back paired tools_put same put kept = record {
   paired = paired;
   tools_put = tools_put;
   shelves_put =
       subst (λ (ss : List S). ToFirst Kept old ss) (sym put) (subst (λ (ss : List S). ToFirst Kept ss new) same kept);
-  logs_put = logs_put;
 }
 
 pub both_first : {S : Type 0} (P Q : S → S → Type 0) (old new : List S) → ToFirst P old new → ToFirst Q old new → ToFirst (λ x y. P x y × Q x y) old new

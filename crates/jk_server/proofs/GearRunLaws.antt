@@ -10,9 +10,11 @@ use Rattle.jk_io.specs.declared.traits.streams.Meanings.{Ghosts}
 use Rattle.jk_io.specs.declared.traits.surroundings.Peer.{Peer}
 use Rattle.client_session.specs.Requests.{Visit}
 use Rattle.door_clients.specs.Doors.{DoorSide}
+use Rattle.request_log.specs.declared.format.Part.{Part as FormatPart}
+use Rattle.request_log.specs.LogStates.{LogState}
 use Rattle.gear_parts.specs.Gears.{GearSide, gear_side}
 use Rattle.gear_parts.specs.declared.world.Gear.{Gear}
-use Rattle.gear_parts.specs.Memories.{HasLogs}
+use Rattle.gear_parts.specs.Memories.{HasAfter}
 use Rattle.jk_server.specs.Parts.{AreEach}
 use Rattle.jk_server.specs.declared.part.WorkerEnd.{WorkerEnd}
 use Rattle.gear_parts.specs.declared.memory.After.{After}
@@ -30,30 +32,30 @@ use Rattle.jk_server.specs.Runs.{AreServedGears, IsServedGear}
 use Rattle.jk_server.specs.Worker.{Keeps}
 
 -- Each gear was served by its worker, where that follows of its part, of what the worker left and of how it ended.
-pub gears_served : {P O V C S L X Y Z : Type 0} → (visits : ℕ → Peer → Visit) (told : Ghosts C X) (of : Keeps S Z) (Fresh : P → Type 0) (Is : ℕ → P → O → V → WorkerEnd L → Type 0)
-    (was : P → GearSide C S) (with : Y → S → GearSide C S) (tool : O → Y) (shelf : V → S) (seat : V → SeatNote)
+pub gears_served : {P O V C S L X Y Z : Type 0} → (visits : ℕ → Peer → Visit) (told : Ghosts C X) (of : Keeps S (Option (LogState Z))) (format : List FormatPart) (Fresh : P → Type 0) (Is : ℕ → P → O → V → WorkerEnd L → Type 0)
+    (was : P → GearSide C S Z) (with : Y → S → GearSide C S Z) (tool : O → Y) (shelf : V → S) (seat : V → SeatNote)
     (n : ℕ) (ps : List P) (os : List O) (vs : List V) (es : List (WorkerEnd L)) → All Fresh ps → AreEach Is n ps os vs es
-    → ((k : ℕ) (p : P) (o : O) (v : V) (e : WorkerEnd L) → Fresh p → Is k p o v e → IsServedGear (visits k) told of (was p) (with (tool o) (shelf v)) (seat v) e)
-    → AreServedGears visits told of n (map was ps) (gears_with with (map tool os) (map shelf vs)) (map seat vs) es
-gears_served visits told of Fresh Is was with tool shelf seat n [] [] [] [] fresh each join = tt
-gears_served visits told of Fresh Is was with tool shelf seat n [] [] [] (e ∷ es) fresh each join = absurd each
-gears_served visits told of Fresh Is was with tool shelf seat n [] [] (v ∷ vs) es fresh each join = absurd each
-gears_served visits told of Fresh Is was with tool shelf seat n [] (o ∷ os) vs es fresh each join = absurd each
-gears_served visits told of Fresh Is was with tool shelf seat n (p ∷ ps) [] vs es fresh each join = absurd each
-gears_served visits told of Fresh Is was with tool shelf seat n (p ∷ ps) (o ∷ os) [] es fresh each join = absurd each
-gears_served visits told of Fresh Is was with tool shelf seat n (p ∷ ps) (o ∷ os) (v ∷ vs) [] fresh each join = absurd each
-gears_served visits told of Fresh Is was with tool shelf seat n (p ∷ ps) (o ∷ os) (v ∷ vs) (e ∷ es) fresh each join = (
+    → ((k : ℕ) (p : P) (o : O) (v : V) (e : WorkerEnd L) → Fresh p → Is k p o v e → IsServedGear (visits k) told of format (was p) (with (tool o) (shelf v)) (seat v) e)
+    → AreServedGears visits told of format n (map was ps) (gears_with with (map tool os) (map shelf vs)) (map seat vs) es
+gears_served visits told of format Fresh Is was with tool shelf seat n [] [] [] [] fresh each join = tt
+gears_served visits told of format Fresh Is was with tool shelf seat n [] [] [] (e ∷ es) fresh each join = absurd each
+gears_served visits told of format Fresh Is was with tool shelf seat n [] [] (v ∷ vs) es fresh each join = absurd each
+gears_served visits told of format Fresh Is was with tool shelf seat n [] (o ∷ os) vs es fresh each join = absurd each
+gears_served visits told of format Fresh Is was with tool shelf seat n (p ∷ ps) [] vs es fresh each join = absurd each
+gears_served visits told of format Fresh Is was with tool shelf seat n (p ∷ ps) (o ∷ os) [] es fresh each join = absurd each
+gears_served visits told of format Fresh Is was with tool shelf seat n (p ∷ ps) (o ∷ os) (v ∷ vs) [] fresh each join = absurd each
+gears_served visits told of format Fresh Is was with tool shelf seat n (p ∷ ps) (o ∷ os) (v ∷ vs) (e ∷ es) fresh each join = (
   join n p o v e (All-head Fresh p ps fresh) each.0,
-  gears_served visits told of Fresh Is was with tool shelf seat (n + 1) ps os vs es (All-tail Fresh p ps fresh) each.1 join,
+  gears_served visits told of format Fresh Is was with tool shelf seat (n + 1) ps os vs es (All-tail Fresh p ps fresh) each.1 join,
 )
 
 -- So of lists that are the same.
-pub gears_told : {C S L X Y Z : Type 0} → (visits : ℕ → Peer → Visit) (told : Ghosts C X) (of : Keeps S Z) (n : ℕ) (before before' : List (GearSide C S)) (with : Y → S → GearSide C S)
+pub gears_told : {C S L X Y Z : Type 0} → (visits : ℕ → Peer → Visit) (told : Ghosts C X) (of : Keeps S (Option (LogState Z))) (format : List FormatPart) (n : ℕ) (before before' : List (GearSide C S Z)) (with : Y → S → GearSide C S Z)
     (ts ts' : List Y) (shelves shelves' : List S) (seats seats' : List SeatNote) (es es' : List (WorkerEnd L)) → before ≡ before' → ts' ≡ ts → shelves' ≡ shelves → seats' ≡ seats → es' ≡ es
-    → AreServedGears visits told of n before (gears_with with ts shelves) seats es → AreServedGears visits told of n before' (gears_with with ts' shelves') seats' es'
-gears_told {C} {S} {L} visits told of n before before' with ts ts' shelves shelves' seats seats' es es' same_before same_tools same_shelves same_seats same_ends served =
+    → AreServedGears visits told of format n before (gears_with with ts shelves) seats es → AreServedGears visits told of format n before' (gears_with with ts' shelves') seats' es'
+gears_told {C} {S} {L} {Z = Z} visits told of format n before before' with ts ts' shelves shelves' seats seats' es es' same_before same_tools same_shelves same_seats same_ends served =
     rw (same_tools, same_shelves, same_seats, same_ends)
-    (subst (λ (gs : List (GearSide C S)). AreServedGears visits told of n gs (gears_with with ts shelves) seats es) same_before served)
+    (subst (λ (gs : List (GearSide C S Z)). AreServedGears visits told of format n gs (gears_with with ts shelves) seats es) same_before served)
 
 -- Where each worker's share has one part, all have as many as there are workers.
 pub parts_whole : {P O V E : Type 0} → (Fresh : P → Type 0) (Is : ℕ → P → O → V → E → Type 0) (part : V → ℕ)
@@ -101,16 +103,16 @@ as_many Is n (p ∷ ps) (o ∷ os) (v ∷ vs) (e ∷ es) each =
 pub some_left : {V : Type 0} → (left : List V) (count : ℕ) → length left ≡ count → 0 < count → 0 < length left
 some_left left count each some = omega (arith, each, some)
 
-pub logs_so : {X A B : Type 0} → (many count : ℕ) (after : After X A B) → many ≡ count → HasLogs count after → HasLogs many after
-logs_so many count after same has = subst (λ (n : ℕ). HasLogs n after) (sym same) has
+pub after_so : {A B : Type 0} → (many count : ℕ) (after : After A B) → many ≡ count → HasAfter count after → HasAfter many after
+after_so many count after same has = subst (λ (n : ℕ). HasAfter n after) (sym same) has
 
--- What holds of all gears of which the parts and the logs were made, holds of these.
-pub runs_of : {D G T K S O L Y C X P W E : Type 0} {N : SiteGhosts L} → (told : RunTells D T K S Y C X) (cfg : Config) (rules : List Rule)
-    (parts : List (Part L D (PooledState G T P) K S W Y)) (logs : List (Option O)) (lock : TableId) (sizes pools : List ℕ) (gears : List (Gear D G T K S O)) (r : Result (Ran L D G T K S O N) E)
-    → map (λ p. start_with p.door p.reach p.clock p.desk) parts ≡ map (start_of lock sizes pools) gears → logs ≡ map (λ g. g.log) gears
-    → IfOk r (λ ran. RunsParts told cfg rules parts logs ran) → IfOk r (λ ran. IsRunOf told cfg rules lock gears ran)
-runs_of told cfg rules parts logs lock sizes pools gears (Ok ran) starts logged runs = runs lock sizes pools gears starts logged
-runs_of told cfg rules parts logs lock sizes pools gears (Err e) starts logged runs = runs
+-- What holds of all gears of which the parts were made, holds of these.
+pub runs_of : {D G T K S O L C X P W E : Type 0} {N : SiteGhosts L} → (told : RunTells D T K S O C X) (cfg : Config) (rules : List Rule) (format : List FormatPart)
+    (parts : List (Part L D (PooledState G T P) K S W (Option (LogState O)))) (lock : TableId) (sizes pools : List ℕ) (gears : List (Gear D G T K S O)) (r : Result (Ran L D G T K S O N) E)
+    → map (λ p. start_with p.door p.reach p.clock p.desk p.log) parts ≡ map (start_of lock sizes pools format) gears
+    → IfOk r (λ ran. RunsParts told cfg rules format parts ran) → IfOk r (λ ran. IsRunOf told cfg rules format lock gears ran)
+runs_of told cfg rules format parts lock sizes pools gears (Ok ran) starts runs = runs lock sizes pools gears starts
+runs_of told cfg rules format parts lock sizes pools gears (Err e) starts runs = runs
 
 -- What follows of each holds of all that the workers left.
 pub all_left : {P O V E : Type 0} → (Is : ℕ → P → O → V → E → Type 0) (Left : O → Type 0)
@@ -128,7 +130,7 @@ all_left Is Left n (p ∷ ps) (o ∷ os) (v ∷ vs) (e ∷ es) each so =
 
 -- Gears that were put together are told by their tools and shelves.
 pub told_again : {D G T K S O C : Type 0} → (at : D → DoorSide C) (talks : T → Option (List Talk)) (answers : K → Option (List ℕ)) (gears : List (Gear D G T K S O))
-    → map (λ g. gear_side at talks answers g) gears ≡ gears_with (gear_with at talks answers) (map (λ g. tools g.door g.dial g.tape g.clock) gears) (map (λ g. g.shelf) gears)
+    → map (λ g. gear_side at talks answers g) gears ≡ gears_with (gear_with at talks answers) (map (λ g. tools g.door g.dial g.tape g.clock g.log) gears) (map (λ g. g.shelf) gears)
 told_again at talks answers [] = refl
-told_again {S = S} {C = C} at talks answers (g ∷ gears) =
-    ap (λ (rest : List (GearSide C S)). gear_side at talks answers g ∷ rest) (told_again at talks answers gears)
+told_again {S = S} {O = O} {C = C} at talks answers (g ∷ gears) =
+    ap (λ (rest : List (GearSide C S O)). gear_side at talks answers g ∷ rest) (told_again at talks answers gears)

@@ -12,6 +12,8 @@ use Rattle.balancer_core.specs.declared.receipt.Receipt.{Receipt}
 use Rattle.client_session.specs.Requests.{Visit}
 use Rattle.locked_balancer.specs.Histories.{SeatNote, noted, own_in}
 use Rattle.site_config.specs.declared.balancer.Lb.{Lb}
+use Rattle.request_log.specs.declared.format.Part.{Part as FormatPart}
+use Rattle.request_log.specs.LogStates.{LogState}
 use Rattle.gear_parts.specs.Gears.{GearSide}
 use Rattle.jk_server.specs.Closings.{Closes, KeepsFirst, Shelves, ShelvesFront}
 use Rattle.jk_server.specs.Headline.{AreEnded, AreSessions, HasBooks, IsHeadline, IsOneList, told_in}
@@ -29,23 +31,23 @@ record HaveServed {C S Y L X : Type 0} (visits : ℕ → Peer → Visit) (told :
   sessions : AreSessions visits told of number workers
   own : AllZip (λ (s : SeatNote) (runs : List (Run C S Y)). own_in s.number s.seen ≡ noted (told_in runs)) seats workers
 
-have_served : {C S Y L X : Type 0} (visits : ℕ → Peer → Visit) (told : Ghosts C X) (of : Keeps S Y) (number : ℕ) (before after : List (GearSide C S)) (seats : List SeatNote) (ends : List (WorkerEnd L))
-    → AreServedGears visits told of number before after seats ends → HaveServed visits told of number seats ends
-have_served visits told of number [] [] [] [] served = record { workers = []; each = refl; sessions = tt; own = tt }
-have_served visits told of number (b ∷ before) (a ∷ after) (s ∷ seats) (e ∷ ends) served =
-    let rest = have_served visits told of (number + 1) before after seats ends served.1 in
+have_served : {C S O L X : Type 0} (visits : ℕ → Peer → Visit) (told : Ghosts C X) (of : Keeps S (Option (LogState O))) (format : List FormatPart) (number : ℕ) (before after : List (GearSide C S O)) (seats : List SeatNote) (ends : List (WorkerEnd L))
+    → AreServedGears visits told of format number before after seats ends → HaveServed visits told of number seats ends
+have_served visits told of format number [] [] [] [] served = record { workers = []; each = refl; sessions = tt; own = tt }
+have_served visits told of format number (b ∷ before) (a ∷ after) (s ∷ seats) (e ∷ ends) served =
+    let rest = have_served visits told of format (number + 1) before after seats ends served.1 in
     record {
       workers = served.0.served.runs ∷ rest.workers;
       each = ap (λ (n : ℕ). suc n) rest.each;
       sessions = (served.0.served.sessions, rest.sessions);
       own = (served.0.own, rest.own);
     }
-have_served visits told of number [] [] [] (e ∷ ends) served = absurd served
-have_served visits told of number [] [] (s ∷ seats) ends served = absurd served
-have_served visits told of number [] (a ∷ after) seats ends served = absurd served
-have_served visits told of number (b ∷ before) [] seats ends served = absurd served
-have_served visits told of number (b ∷ before) (a ∷ after) [] ends served = absurd served
-have_served visits told of number (b ∷ before) (a ∷ after) (s ∷ seats) [] served = absurd served
+have_served visits told of format number [] [] [] (e ∷ ends) served = absurd served
+have_served visits told of format number [] [] (s ∷ seats) ends served = absurd served
+have_served visits told of format number [] (a ∷ after) seats ends served = absurd served
+have_served visits told of format number (b ∷ before) [] seats ends served = absurd served
+have_served visits told of format number (b ∷ before) (a ∷ after) [] ends served = absurd served
+have_served visits told of format number (b ∷ before) (a ∷ after) (s ∷ seats) [] served = absurd served
 
 -- What the one history has of each desk is what its worker's sessions were told.
 told_each : {C S Y : Type 0} (log : List (ℕ × (ℕ × Entry))) (seats : List SeatNote) (workers : List (List (Run C S Y)))
@@ -75,13 +77,13 @@ one_list lbs seats workers books ended own = record {
 }
 
 -- The Books of a closing that took them.
-first_ends : {C S : Type 0} (lbs : List Lb) (seats : List SeatNote) (Kept : S → S → Type 0) (left back : List (GearSide C S))
+first_ends : {C S O : Type 0} (lbs : List Lb) (seats : List SeatNote) (Kept : S → S → Type 0) (left back : List (GearSide C S O))
     → ((x y : S) → Kept x y → (books : List Journal) × AreEnded lbs seats books) → KeepsFirst Kept left back → (books : List Journal) × AreEnded lbs seats books
 first_ends lbs seats Kept (first ∷ rest) (first' ∷ rest') say keeps = say first.shelf first'.shelf keeps.0
 first_ends lbs seats Kept [] back say keeps = absurd keeps
 first_ends lbs seats Kept (first ∷ rest) [] say keeps = absurd keeps
 
-ends_with : {C S L : Type 0} (shelved : S → Option (List (ℕ × Segment))) (faults : S → ℕ) (lbs : List Lb) (seats : List SeatNote) (left back : List (GearSide C S)) (end : Closing L)
+ends_with : {C S O L : Type 0} (shelved : S → Option (List (ℕ × Segment))) (faults : S → ℕ) (lbs : List Lb) (seats : List SeatNote) (left back : List (GearSide C S O)) (end : Closing L)
     → Closes shelved faults lbs seats left back end → HasBooks end → (books : List Journal) × AreEnded lbs seats books
 ends_with shelved faults lbs seats left back closing.Kept closes has =
     first_ends lbs seats (Shelves shelved lbs seats) left back (λ x y kept. (kept.1.0, kept.1.1)) closes
@@ -91,11 +93,11 @@ ends_with shelved faults lbs seats left back (closing.Differs d) closes has = ab
 ends_with shelved faults lbs seats left back closing.NoMemory closes has = absurd has
 
 -- The headline.
-pub headline_of : {C S Y L X : Type 0} (visits : ℕ → Peer → Visit) (told : Ghosts C X) (of : Keeps S Y) (shelved : S → Option (List (ℕ × Segment))) (faults : S → ℕ) (lbs : List Lb)
-    (begun left back : List (GearSide C S)) (seats : List SeatNote) (ends : List (WorkerEnd L)) (end : Closing L)
-    → AreServedGears visits told of 0 begun left seats ends → Closes shelved faults lbs seats left back end → IsHeadline visits told of lbs ends end
-headline_of visits told of shelved faults lbs begun left back seats ends end served closes =
-    let all = have_served visits told of 0 begun left seats ends served in
+pub headline_of : {C S O L X : Type 0} (visits : ℕ → Peer → Visit) (told : Ghosts C X) (of : Keeps S (Option (LogState O))) (format : List FormatPart) (shelved : S → Option (List (ℕ × Segment))) (faults : S → ℕ) (lbs : List Lb)
+    (begun left back : List (GearSide C S O)) (seats : List SeatNote) (ends : List (WorkerEnd L)) (end : Closing L)
+    → AreServedGears visits told of format 0 begun left seats ends → Closes shelved faults lbs seats left back end → IsHeadline visits told of lbs ends end
+headline_of visits told of format shelved faults lbs begun left back seats ends end served closes =
+    let all = have_served visits told of format 0 begun left seats ends served in
     record {
       workers = all.workers;
       each = all.each;

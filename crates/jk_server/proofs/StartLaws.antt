@@ -1,5 +1,5 @@
 -- Workers that begin, said of their gears.
-use Rattle.std.proofs.Common.{ℕ, ◌≡◌, List, [], ◌∷◌, length, refl, map, IfOk, Result, Ok, Err, Option, Some, sym, ap, ◌∙◌, subst}
+use Rattle.std.proofs.Common.{ℕ, ◌≡◌, List, [], ◌∷◌, length, refl, map, IfOk, Result, Ok, Err, Option, Some, None, sym, ap, ◌∙◌, subst}
 use Rattle.std.specs.List.{All}
 use Rattle.std.proofs.lemmas.List.{length-map}
 use Rattle.std.proofs.lemmas.List.Elements.{All-map}
@@ -13,6 +13,9 @@ use Rattle.jk_model.specs.declared.segment.Segment.{Segment}
 use Rattle.client_session.specs.Requests.{Visit}
 use Rattle.door_clients.specs.Doors.{DoorSide}
 use Rattle.site_config.specs.declared.balancer.Lb.{Lb}
+use Rattle.request_log.specs.declared.format.Part.{Part as FormatPart}
+use Rattle.request_log.specs.LogStates.{LogState}
+use Rattle.gear_parts.specs.GearLogs.{broken_by, new_log, sink_of}
 use Rattle.gear_parts.specs.Gears.{GearSide, gear_side}
 use Rattle.gear_parts.specs.declared.world.Gear.{Gear}
 use Rattle.jk_server.specs.Headline.{told_in}
@@ -31,23 +34,45 @@ use Rattle.jk_server.specs.declared.runs.ends.Closing.{Closing}
 use Rattle.gear_parts.proofs.ListLaws.{all_of_map, map_map}
 use Rattle.jk_server.proofs.HeadlineLaws.{headline_of}
 
+-- A log that begins is written to what it was given, and isn't broken.
+pub sink_new : {O : Type 0} → (format : List FormatPart) (log : Option O) → sink_of (new_log format log) ≡ log
+sink_new format None = refl
+sink_new format (Some sink) = refl
+
+pub new_unbroken : {O : Type 0} → (format : List FormatPart) (log : Option O) → broken_by (new_log format log) ≡ None
+new_unbroken format None = refl
+new_unbroken format (Some sink) = refl
+
+pub new_so : {O : Type 0} → (format : List FormatPart) (log : Option O) → new_log format log ≡ new_log format (sink_of (new_log format log))
+new_so format log = ap (λ (l : Option _). new_log format l) (sym (sink_new format log))
+
+-- Gears are told as their workers begin.
+begun_told : {D G T K S O C : Type 0} → (X : Type 0) (at : D → DoorSide C) (talks : T → Option (List Talk)) (answers : K → Option (List ℕ)) (lock : TableId) (sizes pools : List ℕ)
+    (format : List FormatPart) (gears : List (Gear D G T K S O))
+    → map (λ (g : Gear D G T K S O). start_side {X = X} at talks answers (start_of lock sizes pools format g)) gears ≡ map (gear_side at talks answers) gears
+begun_told X at talks answers lock sizes pools format [] = refl
+begun_told {D} {G} {T} {K} {S} {O} {C} X at talks answers lock sizes pools format (g ∷ gears) =
+    ap (λ (l : Option O). record (gear_side at talks answers g) { log = l } ∷ map (λ (x : Gear D G T K S O). start_side {X = X} at talks answers (start_of lock sizes pools format x)) gears) (sink_new format g.log)
+    ∙ ap (λ (rest : List (GearSide C S O)). gear_side at talks answers g ∷ rest) (begun_told X at talks answers lock sizes pools format gears)
+
 -- Parts that begin so are told as their gears are.
 pub starts_told : {P D G T K S O C X : Type 0} → (at : D → DoorSide C) (talks : T → Option (List Talk)) (answers : K → Option (List ℕ)) (lock : TableId) (sizes pools : List ℕ)
-    (start : P → Start D G T K S X) (parts : List P) (gears : List (Gear D G T K S O))
-    → map start parts ≡ map (start_of lock sizes pools) gears
+    (format : List FormatPart) (start : P → Start D G T K S O X) (parts : List P) (gears : List (Gear D G T K S O))
+    → map start parts ≡ map (start_of lock sizes pools format) gears
     → map (λ (p : P). start_side at talks answers (start p)) parts ≡ map (gear_side at talks answers) gears
-starts_told {C = C} {X = X} at talks answers lock sizes pools start parts gears same =
+starts_told {C = C} {X = X} at talks answers lock sizes pools format start parts gears same =
     sym (map_map (start_side at talks answers) start parts)
     ∙ ap (map (start_side at talks answers)) same
-    ∙ map_map (start_side at talks answers) (start_of lock sizes pools) gears
+    ∙ map_map (start_side at talks answers) (start_of lock sizes pools format) gears
+    ∙ begun_told X at talks answers lock sizes pools format gears
 
 -- What is so of each start is so of the parts.
-pub starts_are : {P D G T K S O X : Type 0} → (lock : TableId) (sizes pools : List ℕ) (Q : Start D G T K S X → Type 0)
-    (start : P → Start D G T K S X) (parts : List P) (gears : List (Gear D G T K S O))
-    → map start parts ≡ map (start_of lock sizes pools) gears → All (λ (g : Gear D G T K S O). Q (start_of lock sizes pools g)) gears
+pub starts_are : {P D G T K S O X : Type 0} → (lock : TableId) (sizes pools : List ℕ) (format : List FormatPart) (Q : Start D G T K S O X → Type 0)
+    (start : P → Start D G T K S O X) (parts : List P) (gears : List (Gear D G T K S O))
+    → map start parts ≡ map (start_of lock sizes pools format) gears → All (λ (g : Gear D G T K S O). Q (start_of lock sizes pools format g)) gears
     → All (λ (p : P). Q (start p)) parts
-starts_are lock sizes pools Q start parts gears same each =
-    all_of_map Q start parts (subst (λ xs. All Q xs) (sym same) (All-map Q (start_of lock sizes pools) gears each))
+starts_are lock sizes pools format Q start parts gears same each =
+    all_of_map Q start parts (subst (λ xs. All Q xs) (sym same) (All-map Q (start_of lock sizes pools format) gears each))
 
 -- A desk that begins, whatever its number.
 pub begins_seated : {S : Type 0} (lock : TableId) (d : SharedState S) → IsBeginning lock (unnumbered d) → IsBeginning lock d
@@ -67,30 +92,31 @@ pub one_part : (was now : Option ℕ) (n : ℕ) → now ≡ Some n → now ≡ w
 one_part was now n is same one = cc
 
 -- What the workers did and how the closing ended, from the start.
-pub run_done : {C S Y L X : Type 0} → (visits : ℕ → Peer → Visit) (told : Ghosts C X) (shelved : S → Option (List (ℕ × Segment))) (of : Keeps S Y) (lbs : List Lb)
-    (begun left back : List (GearSide C S)) (seats : List SeatNote) (ends ends' : List (WorkerEnd L)) (closing : Closing L)
-    → AreServedGears visits told of 0 begun left seats ends → ends' ≡ ends → Closes shelved of.shelf_faults lbs seats left back closing
-    → IsStartedRun visits told shelved of lbs begun back ends' closing
-run_done {L = L} visits told shelved of lbs begun left back seats ends ends' closing served same closed = record {
+pub run_done : {C S O L X : Type 0} → (visits : ℕ → Peer → Visit) (told : Ghosts C X) (shelved : S → Option (List (ℕ × Segment))) (of : Keeps S (Option (LogState O))) (format : List FormatPart) (lbs : List Lb)
+    (begun left back : List (GearSide C S O)) (seats : List SeatNote) (ends ends' : List (WorkerEnd L)) (closing : Closing L)
+    → AreServedGears visits told of format 0 begun left seats ends → ends' ≡ ends → Closes shelved of.shelf_faults lbs seats left back closing
+    → IsStartedRun visits told shelved of format lbs begun back ends' closing
+run_done {L = L} visits told shelved of format lbs begun left back seats ends ends' closing served same closed = record {
   left = left;
   seats = seats;
-  served = subst (λ (es : List (WorkerEnd L)). AreServedGears visits told of 0 begun left seats es) (sym same) served;
+  served = subst (λ (es : List (WorkerEnd L)). AreServedGears visits told of format 0 begun left seats es) (sym same) served;
   closed = closed;
 }
 
-pub served_gear : {C S Y L X : Type 0} → (visit : Peer → Visit) (told : Ghosts C X) (of : Keeps S Y) (before after : GearSide C S) (seat : SeatNote) (from to : WorkerSide S Y) (end : WorkerEnd L)
+pub served_gear : {C S O L X : Type 0} → (visit : Peer → Visit) (told : Ghosts C X) (of : Keeps S (Option (LogState O))) (format : List FormatPart) (before after : GearSide C S O) (seat : SeatNote) (from to : WorkerSide S (Option (LogState O))) (end : WorkerEnd L)
     → (served : IsServed visit told of before.door after.door from to end) → WorksWith before from → IsNew from.desk → WorksWith after to
-    → own_in seat.number seat.seen ≡ noted (told_in served.runs) → IsServedGear visit told of before after seat end
-served_gear visit told of before after seat from to end served first fresh last own =
-    record { from = from; to = to; first = first; fresh = fresh; last = last; served = served; own = own }
+    → from.log ≡ new_log format before.log → sink_of to.log ≡ after.log
+    → own_in seat.number seat.seen ≡ noted (told_in served.runs) → IsServedGear visit told of format before after seat end
+served_gear visit told of format before after seat from to end served first fresh last begun left own =
+    record { from = from; to = to; first = first; fresh = fresh; last = last; begun = begun; left = left; served = served; own = own }
 
 -- The run, from before its start.
-pub started_run : {D G T K S O C Y L X : Type 0} → (visits : ℕ → Peer → Visit) (told : Ghosts C X) (shelved : S → Option (List (ℕ × Segment))) (of : Keeps S Y) (lbs : List Lb)
-    (at : Gear D G T K S O → GearSide C S) (gears lent new begun back : List (Gear D G T K S O)) (ends : List (WorkerEnd L)) (closing : Closing L)
+pub started_run : {D G T K S O C L X : Type 0} → (visits : ℕ → Peer → Visit) (told : Ghosts C X) (shelved : S → Option (List (ℕ × Segment))) (of : Keeps S (Option (LogState O))) (format : List FormatPart) (lbs : List Lb)
+    (at : Gear D G T K S O → GearSide C S O) (gears lent new begun back : List (Gear D G T K S O)) (ends : List (WorkerEnd L)) (closing : Closing L)
     → lent ≡ gears → begun ≡ new → AreStarted (map at lent) (map at new)
-    → IsStartedRun visits told shelved of lbs (map at begun) (map at back) ends closing
-    → IsSiteRun visits told shelved of lbs (map at gears) (map at back) ends closing
-started_run {D} {G} {T} {K} {S} {O} visits told shelved of lbs at gears lent new begun back ends closing same written started run = record {
+    → IsStartedRun visits told shelved of format lbs (map at begun) (map at back) ends closing
+    → IsSiteRun visits told shelved of format lbs (map at gears) (map at back) ends closing
+started_run {D} {G} {T} {K} {S} {O} visits told shelved of format lbs at gears lent new begun back ends closing same written started run = record {
   begun = map at begun;
   left = run.left;
   started =
@@ -99,7 +125,7 @@ started_run {D} {G} {T} {K} {S} {O} visits told shelved of lbs at gears lent new
   seats = run.seats;
   served = run.served;
   closed = run.closed;
-  headline = headline_of visits told of shelved of.shelf_faults lbs (map at begun) run.left (map at back) run.seats ends closing run.served run.closed;
+  headline = headline_of visits told of format shelved of.shelf_faults lbs (map at begun) run.left (map at back) run.seats ends closing run.served run.closed;
 }
 
 pub ok_weaker : {T E : Type 0} (P Q : T → Type 0) (r : Result T E) → IfOk r P → ((x : T) → P x → Q x) → IfOk r Q

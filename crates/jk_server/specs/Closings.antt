@@ -19,7 +19,7 @@ abbrev pub AreLast : List Lb → List SeatNote → List (ℕ × Segment) → Typ
 AreLast lbs seats kept = (books : List Journal) × AreEnded lbs seats books × AreCuts 0 books kept
 
 -- The gears came back as the workers left them, but for the first one's shelf, for which `Kept` holds.
-abbrev pub KeepsFirst : {C S : Type 0} → (S → S → Type 0) → (left back : List (GearSide C S)) → Type 0
+abbrev pub KeepsFirst : {C S O : Type 0} → (S → S → Type 0) → (left back : List (GearSide C S O)) → Type 0
 KeepsFirst Kept (first ∷ rest) (first' ∷ rest') =
     Kept first.shelf first'.shelf × (first' ≡ record first { shelf = first'.shelf }) × (rest' ≡ rest)
 KeepsFirst Kept left back = ⊥
@@ -37,7 +37,7 @@ abbrev pub IsDiscordOf : List Lb → DiscordNote → Type 0
 IsDiscordOf lbs d = (entries : ℕ) × (receipts : List (ℕ × Entry)) × Differs (sizes_of lbs) (firsts_of lbs) entries receipts d
 
 -- What each end of the closing says.
-abbrev pub Closes : {C S L : Type 0} → (S → Option (List (ℕ × Segment))) → (S → ℕ) → List Lb → List SeatNote → (left back : List (GearSide C S)) → Closing L → Type 0
+abbrev pub Closes : {C S O L : Type 0} → (S → Option (List (ℕ × Segment))) → (S → ℕ) → List Lb → List SeatNote → (left back : List (GearSide C S O)) → Closing L → Type 0
 Closes shelved faults lbs seats left back closing.Kept = KeepsFirst (Shelves shelved lbs seats) left back
 Closes shelved faults lbs seats left back closing.ShelfFault =
     KeepsFirst (λ old new. ShelvesFront shelved lbs seats old new × Rose (faults old) (faults new)) left back

@@ -14,13 +14,11 @@ use Rattle.gear_parts.specs.GearParts.{Tools, tools}
 use Rattle.jk_server.specs.declared.runs.ends.Closing.{Closing}
 use Rattle.jk_server.specs.declared.runs.ends.Closing.TheVariants as closing
 
--- The gears came back with the tools and shelves that their workers left, but for the first shelf, for which `Kept` holds, and
--- with these logs.
-pub record IsPutBack {D G T K S O : Type 0} (Kept : S → S → Type 0) (left : List (Tools D G T K)) (shelves : List S) (logs : List (Option O)) (back : List (Gear D G T K S O)) : Type 0 where
+-- The gears came back with the tools and shelves that their workers left, but for the first shelf, for which `Kept` holds.
+pub record IsPutBack {D G T K S O : Type 0} (Kept : S → S → Type 0) (left : List (Tools D G T K O)) (shelves : List S) (back : List (Gear D G T K S O)) : Type 0 where
   pub paired : length left ≡ length shelves
-  pub tools_put : map (λ g. tools g.door g.dial g.tape g.clock) back ≡ left
+  pub tools_put : map (λ g. tools g.door g.dial g.tape g.clock g.log) back ≡ left
   pub shelves_put : ToFirst Kept shelves (map (λ g. g.shelf) back)
-  pub logs_put : map (λ g. g.log) back ≡ logs
 
 -- The Books at the end, with the history that made them what they are.
 pub record AreClosed (sizes firsts : List ℕ) (starts : List Opening) (seats : List SeatNote) (books : List Journal) : Type 0 where
@@ -28,19 +26,19 @@ pub record AreClosed (sizes firsts : List ℕ) (starts : List Opening) (seats : 
   pub history : IsClosed starts seats books
 
 -- The Books at the end were cut, and `Kept` says what became of them on the first shelf.
-abbrev pub KeepsCuts : {D G T K S O : Type 0} → (List Journal → S → S → Type 0) → (Ended : List Journal → Type 0) → List (Tools D G T K) → List S → List (Option O) → (back : List (Gear D G T K S O)) → Type 0
-KeepsCuts Kept Ended left shelves logs back =
-    (books : List Journal) × Ended books × IsPutBack (Kept books) left shelves logs back
+abbrev pub KeepsCuts : {D G T K S O : Type 0} → (List Journal → S → S → Type 0) → (Ended : List Journal → Type 0) → List (Tools D G T K O) → List S → (back : List (Gear D G T K S O)) → Type 0
+KeepsCuts Kept Ended left shelves back =
+    (books : List Journal) × Ended books × IsPutBack (Kept books) left shelves back
 
 -- Where the receipts of the workers differ first from the entries that the Books of a Site of this kind keep.
 abbrev pub IsDiscordAt : (sizes firsts : List ℕ) → DiscordNote → Type 0
 IsDiscordAt sizes firsts d = (entries : ℕ) × (receipts : List (ℕ × Entry)) × Differs sizes firsts entries receipts d
 
--- What each end of the closing says of the tools, shelves and logs that the workers left, and of the gears that came back.
-abbrev pub EndsSo : {D G T K S O L : Type 0} → (S → Option (List (ℕ × Segment))) → (S → ℕ) → (sizes firsts : List ℕ) → (starts : List Opening) → (seats : List SeatNote) → List (Tools D G T K) → List S → List (Option O) → (back : List (Gear D G T K S O)) → Closing L → Type 0
-EndsSo shelved faults sizes firsts starts seats left shelves logs back closing.Kept = KeepsCuts (AddsCuts shelved) (AreClosed sizes firsts starts seats) left shelves logs back
-EndsSo shelved faults sizes firsts starts seats left shelves logs back closing.ShelfFault =
-    KeepsCuts (λ books old new. AddsFront shelved books old new × Rose (faults old) (faults new)) (AreClosed sizes firsts starts seats) left shelves logs back
-EndsSo shelved faults sizes firsts starts seats left shelves logs back (closing.Differs d) = IsDiscordAt sizes firsts d × (back ≡ [])
-EndsSo shelved faults sizes firsts starts seats left shelves logs back closing.NoMemory =
-    (back ≡ []) ⊎ KeepsCuts (AddsFront shelved) (AreClosed sizes firsts starts seats) left shelves logs back
+-- What each end of the closing says of the tools and shelves that the workers left, and of the gears that came back.
+abbrev pub EndsSo : {D G T K S O L : Type 0} → (S → Option (List (ℕ × Segment))) → (S → ℕ) → (sizes firsts : List ℕ) → (starts : List Opening) → (seats : List SeatNote) → List (Tools D G T K O) → List S → (back : List (Gear D G T K S O)) → Closing L → Type 0
+EndsSo shelved faults sizes firsts starts seats left shelves back closing.Kept = KeepsCuts (AddsCuts shelved) (AreClosed sizes firsts starts seats) left shelves back
+EndsSo shelved faults sizes firsts starts seats left shelves back closing.ShelfFault =
+    KeepsCuts (λ books old new. AddsFront shelved books old new × Rose (faults old) (faults new)) (AreClosed sizes firsts starts seats) left shelves back
+EndsSo shelved faults sizes firsts starts seats left shelves back (closing.Differs d) = IsDiscordAt sizes firsts d × (back ≡ [])
+EndsSo shelved faults sizes firsts starts seats left shelves back closing.NoMemory =
+    (back ≡ []) ⊎ KeepsCuts (AddsFront shelved) (AreClosed sizes firsts starts seats) left shelves back

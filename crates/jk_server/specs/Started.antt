@@ -13,13 +13,14 @@ use Rattle.site_books.specs.Starts.{AreStarts}
 use Rattle.site_config.specs.declared.config.Config.{Config}
 use Rattle.uri_map.specs.Sites.{stands_in}
 use Rattle.uri_map.specs.declared.rule.Rule.{Rule}
-use Rattle.gear_parts.specs.Gears.{GearSide, KeepsLog}
+use Rattle.request_log.specs.declared.format.Part.{Part as FormatPart}
+use Rattle.request_log.specs.LogStates.{LogState}
+use Rattle.gear_parts.specs.Gears.{GearSide}
 use Rattle.gear_parts.specs.declared.world.Gear.{Gear}
 use Rattle.jk_server.specs.declared.part.WorkerEnd.{WorkerEnd}
 use Rattle.jk_server.specs.Closings.{Closes}
 use Rattle.jk_server.specs.Headline.{firsts_of}
 use Rattle.jk_server.specs.Runs.{AreServedGears}
-use Rattle.jk_server.specs.Ends.{KeepsEach}
 use Rattle.jk_server.specs.RunTells.{gears_at, RunTells}
 use Rattle.jk_server.specs.Worker.{Keeps}
 use Rattle.jk_server.specs.declared.runs.ends.Closing.{Closing}
@@ -51,13 +52,13 @@ pub record IsReady {D G T K S O : Type 0} (is_idle : T → Type 0) (parts : ℕ)
   pub idle : All (λ g. is_idle g.tape) gears
 
 -- The workers served with the gears as they were at the start, and the closing ended so.
-pub record IsStartedRun {C S Y L X : Type 0} (visits : ℕ → Peer → Visit) (told : Ghosts C X) (shelved : S → Option (List (ℕ × Segment))) (of : Keeps S Y) (lbs : List Lb) (begun back : List (GearSide C S)) (ends : List (WorkerEnd L)) (closing : Closing L) : Type 0 where
-  pub left : List (GearSide C S)
+pub record IsStartedRun {C S O L X : Type 0} (visits : ℕ → Peer → Visit) (told : Ghosts C X) (shelved : S → Option (List (ℕ × Segment))) (of : Keeps S (Option (LogState O))) (format : List FormatPart) (lbs : List Lb) (begun back : List (GearSide C S O)) (ends : List (WorkerEnd L)) (closing : Closing L) : Type 0 where
+  pub left : List (GearSide C S O)
   pub seats : List SeatNote
-  pub served : AreServedGears visits told of 0 begun left seats ends
+  pub served : AreServedGears visits told of format 0 begun left seats ends
   pub closed : Closes shelved of.shelf_faults lbs seats left back closing
 
--- What `IsStartedRun` says of the gears as they were at the start, and of what the run gave back, each with the log that it had.
-pub record RunsStarted {D G T K S O L Y C X : Type 0} (told : RunTells D T K S Y C X) (cfg : Config) (rules : List Rule) (gears : List (Gear D G T K S O)) (run : SiteRun L (Gear D G T K S O)) : Type 0 where
-  pub is : IsStartedRun (visit cfg rules) told.link told.shelved told.keeps cfg.lbs (gears_at told gears) (gears_at told run.gears.items) run.workers run.closing
-  pub logs : KeepsEach KeepsLog run.closing gears run.gears.items
+-- What `IsStartedRun` says of the gears as they were at the start, and of what the run gave back.
+abbrev pub RunsStarted : {D G T K S O L C X : Type 0} → RunTells D T K S O C X → Config → List Rule → List FormatPart → List (Gear D G T K S O) → SiteRun L (Gear D G T K S O) → Type 0
+RunsStarted told cfg rules format gears run =
+    IsStartedRun (visit cfg rules) told.link told.shelved told.keeps format cfg.lbs (gears_at told gears) (gears_at told run.gears.items) run.workers run.closing

@@ -33,7 +33,7 @@ pub(crate) fn settle<
     requires here { All (λ l. l.seat.lock ≡ lock_of site) ran.leaving }
     ensures workers { result.workers ≡ ran.workers }
     ensures closed { EndsSo S.shelved S.faults L.sizes L.firsts L.starts (map (λ l. l.seat) ran.leaving) (tools_of ran.left.items) (map (λ l. l.shelf) ran.leaving)
-        (map (λ l. l.log) ran.left.items) result.gears.items result.closing }
+        result.gears.items result.closing }
 {
     let Ran {
         workers,
@@ -74,7 +74,7 @@ fn close_gears<
     requires paired { vec_len left ≡ length leaving }
     requires room { vec_len left ≤ vec_capacity gears.old }
     ensures { EndsSo S.shelved S.faults L.sizes L.firsts L.starts (map (λ l. l.seat) leaving) (tools_of left.items) (map (λ l. l.shelf) leaving)
-        (map (λ l. l.log) left.items) gears.new.items result }
+        gears.new.items result }
 {
     match close_own_desks(site, leaving) {
         Ok(closed) => close_books(closed, left, gears),
@@ -95,7 +95,7 @@ fn close_books<L, D: Drop, G: Drop, T: Drop, K: Drop, S: Shelf + Drop, O: Drop>(
     requires paired { vec_len left ≡ length closed.shelves }
     requires room { vec_len left ≤ vec_capacity gears.old }
     ensures { (sizes firsts : List ℕ) (starts : List Opening) (seats : List SeatNote) → AreClosed sizes firsts starts seats closed.books
-        → EndsSo S.shelved S.faults sizes firsts starts seats (tools_of left.items) closed.shelves (map (λ l. l.log) left.items) gears.new.items result }
+        → EndsSo S.shelved S.faults sizes firsts starts seats (tools_of left.items) closed.shelves gears.new.items result }
 {
     let Closed {
         books,

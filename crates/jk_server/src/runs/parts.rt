@@ -1,25 +1,26 @@
 //! The workers of a connector's run: a part for each gear, and what each leaves.
-ghost use Rattle.std.specs.Prelude.{◌≡◌, ◌<◌, ◌≤◌, None, false, is_some, length, map, true, vec_len, IfOk};
+ghost use Rattle.std.specs.Prelude.{◌≡◌, ◌<◌, ◌≤◌, false, is_some, length, map, true, vec_len, IfOk};
 ghost use Rattle.std.specs.List.{All};
 ghost use Rattle.conn_pool.specs.Idle.{counts};
 ghost use Rattle.conn_pool.specs.Reaches.{beside_of};
 ghost use Rattle.exchange.specs.Requests.{sizes_of};
 ghost use Rattle.locked_balancer.specs.Locks.{lock_of};
 ghost use Rattle.uri_map.specs.Sites.{stands_in};
+ghost use Rattle.gear_parts.specs.GearLogs.{broken_by, sink_of};
 ghost use Rattle.gear_parts.specs.GearParts.{tools, tools_of};
-ghost use Rattle.gear_parts.specs.Memories.{HasLogs};
+ghost use Rattle.gear_parts.specs.Memories.{HasAfter};
 ghost use Rattle.jk_server.specs.ServedGears.{IsRunOf, LeavesParts, RunsParts};
-ghost use Rattle.jk_server.specs.RunTells.{run_tells, unlogged};
+ghost use Rattle.jk_server.specs.RunTells.{logging, run_tells};
 ghost use Rattle.jk_server.specs.Worker.{MayBegin};
 
 use crate::part::ServeEnd;
 use crate::runs::ran::Ran;
 use crate::workers::{MAX_WORKERS, run_serve};
 use conn_pool::{PooledReach, Tape};
-use gear_parts::{After, Common, Gear, Left, Memory, Part, parts_for, take_apart};
+use gear_parts::{After, Common, Gear, GearLog, Left, Memory, Part, parts_for, take_apart};
 use jk_io::{Clock, Dial, Door, NoMemory};
-use jk_model::NoRows;
 use locked_balancer::{SharedSite, Shelf, SiteName};
+use request_log::{Format, Timed};
 use site_config::Config;
 use std::alloc::Global;
 use std::sync::Wait;
@@ -29,11 +30,13 @@ use uri_map::UriMap;
 
 /// The site by which the clients are served.
 #[derive(Clone, Copy)]
-pub(crate) struct Plan<'a> {
-    pub(crate) cfg: &'a Config,
-    pub(crate) map: &'a UriMap,
+pub struct SitePlan<'a> {
+    pub cfg: &'a Config,
+    pub map: &'a UriMap,
     /// The number of kept entries at which a journal is cut.
-    pub(crate) cut: u32,
+    pub cut: u32,
+    /// The format of the logs.
+    pub format: &'a Format,
 }
 
 /// A worker for each gear, with one part of the share each.
@@ -46,12 +49,12 @@ pub(crate) fn work<
     T: Tape + Drop + Send,
     K: Clock + Drop + Send,
     S: Shelf + Drop + Send,
-    O: Drop,
+    O: Timed + Drop + Send,
     R: Threads + Wait + Sync,
 >(
     rt: &'r R,
     alloc: Global,
-    plan: Plan<'_>,
+    plan: SitePlan<'_>,
     common: &Common<'s, 'r, L, G, R>,
     share: Share<L>,
     gears: Vec<Gear<D, G, T, K, S, O>>,
@@ -65,8 +68,9 @@ where
     requires amount { share.amount ≡ 0 }
     requires desk_sizes { L.sizes ≡ sizes_of plan.cfg.now.lbs }
     requires pool_sizes { counts common.now.pools.now ≡ sizes_of plan.cfg.now.lbs }
-    ensures { let told = run_tells D.coming D.left D.faults T.talks K.answers D.L.Meanings S.shelved (unlogged S.faults D.L.may_wait) in
-        IfOk result (IsRunOf told plan.entry.cfg.now plan.entry.map.now (lock_of common.now.site.now) gears.items) }
+    requires format { common.now.format.now ≡ plan.format.now }
+    ensures { let told = run_tells D.coming D.left D.faults T.talks K.answers D.L.Meanings S.shelved (logging S.faults O.Meanings D.L.may_wait) in
+        IfOk result (IsRunOf told plan.entry.cfg.now plan.entry.map.now plan.entry.format.now (lock_of common.now.site.now) gears.items) }
 {
     match parts_for(alloc, common, share, gears) {
         Ok(memory) => work_in(rt, alloc, plan, common.site, memory),
@@ -74,7 +78,7 @@ where
     }
 }
 
-/// As `work`, in the memory of the run, which has the parts and the logs.
+/// As `work`, in the memory of the run, which has the parts.
 fn work_in<
     's,
     'r,
@@ -84,16 +88,15 @@ fn work_in<
     T: Tape + Drop + Send,
     K: Clock + Drop + Send,
     S: Shelf + Drop + Send,
-    O: Drop,
+    O: Timed + Drop + Send,
     R: Threads + Wait + Sync,
 >(
     rt: &'r R,
     alloc: Global,
-    plan: Plan<'_>,
+    plan: SitePlan<'_>,
     site: &SharedSite<'r, L, R>,
     memory: Memory<
-        Part<'s, 'r, L, D, PooledReach<'s, 'r, G, T, R>, K, S, R, NoRows>,
-        O,
+        Part<'s, 'r, L, D, PooledReach<'s, 'r, G, T, R>, K, S, R, GearLog<'s, O>>,
         Left<D, G, T, K, O>,
         Gear<D, G, T, K, S, O>,
     >,
@@ -101,10 +104,10 @@ fn work_in<
 where
     D::L: Send,
     requires few { vec_len memory.parts ≤ MAX_WORKERS }
-    requires ready { All (λ p. MayBegin plan.cfg.now plan.map.now p.desk.desk (beside_of T.begun T.talks p.reach) None) memory.parts.items }
-    requires logs { HasLogs (vec_len memory.parts) memory.after }
-    ensures { let told = run_tells D.coming D.left D.faults T.talks K.answers D.L.Meanings S.shelved (unlogged S.faults D.L.may_wait) in
-        IfOk result (RunsParts told plan.entry.cfg.now plan.entry.map.now memory.entry.parts.items memory.entry.after.logs.items) }
+    requires ready { All (λ p. MayBegin plan.cfg.now plan.map.now p.desk.desk (beside_of T.begun T.talks p.reach) (broken_by p.log)) memory.parts.items }
+    requires after { HasAfter (vec_len memory.parts) memory.after }
+    ensures { let told = run_tells D.coming D.left D.faults T.talks K.answers D.L.Meanings S.shelved (logging S.faults O.Meanings D.L.may_wait) in
+        IfOk result (RunsParts told plan.entry.cfg.now plan.entry.map.now plan.entry.format.now memory.entry.parts.items) }
 {
     let Memory { parts, after } = memory;
     match serve_all(rt, alloc, plan, site, parts) {
@@ -123,25 +126,26 @@ fn serve_all<
     T: Tape + Drop + Send,
     K: Clock + Drop + Send,
     S: Shelf + Drop + Send,
+    O: Timed + Drop + Send,
     R: Threads + Wait + Sync,
 >(
     rt: &'r R,
     alloc: Global,
-    plan: Plan<'_>,
+    plan: SitePlan<'_>,
     site: &SharedSite<'r, L, R>,
-    parts: Vec<Part<'s, 'r, L, D, PooledReach<'s, 'r, G, T, R>, K, S, R, NoRows>>,
-) -> Result<ServeEnd<L, D, PooledReach<'s, 'r, G, T, R>, K, S, NoRows>, NoMemory>
+    parts: Vec<Part<'s, 'r, L, D, PooledReach<'s, 'r, G, T, R>, K, S, R, GearLog<'s, O>>>,
+) -> Result<ServeEnd<L, D, PooledReach<'s, 'r, G, T, R>, K, S, GearLog<'s, O>>, NoMemory>
 where
     D::L: Send,
     requires few { vec_len parts ≤ MAX_WORKERS }
-    requires ready { All (λ p. MayBegin plan.cfg.now plan.map.now p.desk.desk (beside_of T.begun T.talks p.reach) None) parts.items }
-    ensures { let told = run_tells D.coming D.left D.faults T.talks K.answers D.L.Meanings S.shelved (unlogged S.faults D.L.may_wait) in
-        IfOk result (LeavesParts told plan.entry.cfg.now plan.entry.map.now parts.entry.items) }
+    requires ready { All (λ p. MayBegin plan.cfg.now plan.map.now p.desk.desk (beside_of T.begun T.talks p.reach) (broken_by p.log)) parts.items }
+    ensures { let told = run_tells D.coming D.left D.faults T.talks K.answers D.L.Meanings S.shelved (logging S.faults O.Meanings D.L.may_wait) in
+        IfOk result (LeavesParts told plan.entry.cfg.now plan.entry.map.now plan.entry.format.now parts.entry.items) }
 {
     run_serve(rt, alloc, plan.cfg, plan.map, site, parts)
 }
 
-/// What the workers left, with their logs, in the memory for it.
+/// What the workers left, in the memory for it.
 fn ran_of<
     's,
     'r,
@@ -151,28 +155,27 @@ fn ran_of<
     T: Tape + Drop,
     K: Drop,
     S: Drop,
-    O: Drop,
+    O: Timed + Drop,
     R,
 >(
-    end: ServeEnd<L, D, PooledReach<'s, 'r, G, T, R>, K, S, NoRows>,
-    after: After<O, Left<D, G, T, K, O>, Gear<D, G, T, K, S, O>>,
+    end: ServeEnd<L, D, PooledReach<'s, 'r, G, T, R>, K, S, GearLog<'s, O>>,
+    after: After<Left<D, G, T, K, O>, Gear<D, G, T, K, S, O>>,
 ) -> Ran<L, D, G, T, K, S, O>
     requires paired { length end.leaving ≡ length end.outside }
-    requires logs { HasLogs (length end.outside) after }
+    requires after { HasAfter (length end.outside) after }
     requires idle { All (λ o. is_some o.reach.lent ≡ false) end.outside }
     ensures workers { result.workers ≡ end.entry.workers }
     ensures leaving { result.leaving ≡ end.entry.leaving }
-    ensures tools { tools_of result.left.items ≡ map (λ o. tools o.door o.reach.dial o.reach.tape o.clock) end.entry.outside }
-    ensures logs { map (λ l. l.log) result.left.items ≡ after.logs.items }
+    ensures tools { tools_of result.left.items ≡ map (λ o. tools o.door o.reach.dial o.reach.tape o.clock (sink_of o.log)) end.entry.outside }
 {
     let ServeEnd {
         workers,
         leaving,
         outside,
     } = end;
-    let After { logs, left, back } = after;
+    let After { left, back } = after;
     let mut left = left;
-    take_apart(outside.into_vec(), logs, &mut left);
+    take_apart(outside.into_vec(), &mut left);
     Ran {
         workers,
         leaving,

@@ -14,13 +14,13 @@ returns-in-Ok g c = λ sizes firsts starts seats ended.
     let whole = c.into_vec-shelves.result.ok.0 in
     let len = c.keep_on_first-kept.ensures.len in
     let paired : length (tools_of c.args.left.items) ≡ length c.args.closed.shelves =
-    omega (arith, length-map c.args.left.items (λ l. tools l.door l.dial l.tape l.clock), c.requires.paired, c.args.left.ok.0) in
+    omega (arith, length-map c.args.left.items (λ l. tools l.door l.dial l.tape l.clock l.log), c.requires.paired, c.args.left.ok.0) in
     let put = c.gears_again.ensures.shelves
     ∙ written_back c.into_vec-shelves.result.len c.keep_on_first-kept.new.shelves _ (omega (arith, lent, whole, len)) in (
       c.args.closed.books,
       ended,
-      put_back (AddsCuts g.S.Shelf.shelved c.args.closed.books) (tools_of c.args.left.items) c.args.closed.shelves _ c.keep_on_first-kept.new.shelves _ _
-          paired c.gears_again.ensures.tools c.gears_again.ensures.logs (c.as_mut_slice.ensures.value ∙ c.into_vec-shelves.ensures) put
+      put_back (AddsCuts g.S.Shelf.shelved c.args.closed.books) (tools_of c.args.left.items) c.args.closed.shelves _ c.keep_on_first-kept.new.shelves _
+          paired c.gears_again.ensures.tools (c.as_mut_slice.ensures.value ∙ c.into_vec-shelves.ensures) put
           c.in-Ok.ensures.kept,
     )
 
@@ -32,14 +32,14 @@ returns-in-Err-Failed g c = λ sizes firsts starts seats ended.
     let whole = c.into_vec-shelves.result.ok.0 in
     let len = c.keep_on_first-kept.ensures.len in
     let paired : length (tools_of c.args.left.items) ≡ length c.args.closed.shelves =
-    omega (arith, length-map c.args.left.items (λ l. tools l.door l.dial l.tape l.clock), c.requires.paired, c.args.left.ok.0) in
+    omega (arith, length-map c.args.left.items (λ l. tools l.door l.dial l.tape l.clock l.log), c.requires.paired, c.args.left.ok.0) in
     let put = c.gears_again.ensures.shelves
     ∙ written_back c.into_vec-shelves.result.len c.keep_on_first-kept.new.shelves _ (omega (arith, lent, whole, len)) in (
       c.args.closed.books,
       ended,
       put_back (λ old new. AddsFront g.S.Shelf.shelved c.args.closed.books old new × Rose (g.S.Shelf.faults old) (g.S.Shelf.faults new))
-          (tools_of c.args.left.items) c.args.closed.shelves _ c.keep_on_first-kept.new.shelves _ _
-          paired c.gears_again.ensures.tools c.gears_again.ensures.logs (c.as_mut_slice.ensures.value ∙ c.into_vec-shelves.ensures) put
+          (tools_of c.args.left.items) c.args.closed.shelves _ c.keep_on_first-kept.new.shelves _
+          paired c.gears_again.ensures.tools (c.as_mut_slice.ensures.value ∙ c.into_vec-shelves.ensures) put
           (both_first (AddsFront g.S.Shelf.shelved c.args.closed.books) (λ old new. Rose (g.S.Shelf.faults old) (g.S.Shelf.faults new)) _ _
           (of_err c.keep_on_first-kept.result _ _ c.in-Err-Failed.is c.keep_on_first-kept.ensures.front) (c.keep_on_first-kept.ensures.failed failed)),
     )
@@ -50,13 +50,13 @@ returns-in-Err-NoMemory g c = λ sizes firsts starts seats ended.
     let whole = c.into_vec-shelves.result.ok.0 in
     let len = c.keep_on_first-kept.ensures.len in
     let paired : length (tools_of c.args.left.items) ≡ length c.args.closed.shelves =
-    omega (arith, length-map c.args.left.items (λ l. tools l.door l.dial l.tape l.clock), c.requires.paired, c.args.left.ok.0) in
+    omega (arith, length-map c.args.left.items (λ l. tools l.door l.dial l.tape l.clock l.log), c.requires.paired, c.args.left.ok.0) in
     let put = c.gears_again.ensures.shelves
     ∙ written_back c.into_vec-shelves.result.len c.keep_on_first-kept.new.shelves _ (omega (arith, lent, whole, len)) in
     inr (
       c.args.closed.books,
       ended,
-      put_back (AddsFront g.S.Shelf.shelved c.args.closed.books) (tools_of c.args.left.items) c.args.closed.shelves _ c.keep_on_first-kept.new.shelves _ _
-          paired c.gears_again.ensures.tools c.gears_again.ensures.logs (c.as_mut_slice.ensures.value ∙ c.into_vec-shelves.ensures) put
+      put_back (AddsFront g.S.Shelf.shelved c.args.closed.books) (tools_of c.args.left.items) c.args.closed.shelves _ c.keep_on_first-kept.new.shelves _
+          paired c.gears_again.ensures.tools (c.as_mut_slice.ensures.value ∙ c.into_vec-shelves.ensures) put
           (of_err c.keep_on_first-kept.result _ _ c.in-Err-NoMemory.is c.keep_on_first-kept.ensures.front),
     )

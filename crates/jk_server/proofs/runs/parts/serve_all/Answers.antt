@@ -2,9 +2,10 @@ use Rattle.std.proofs.Common.{◌≡◌, false, refl, sym}
 use Rattle.std.specs.Prelude.{is_some}
 use Rattle.client_session.specs.Requests.{visit}
 use Rattle.door_clients.specs.Doors.{side}
+use Rattle.gear_parts.specs.GearLogs.{sink_of}
 use Rattle.gear_parts.specs.GearParts.{gear_with, start_with, tools}
-use Rattle.jk_server.specs.RunTells.{run_tells, unlogged}
-use Rattle.jk_server.specs.ServedGears.{IsBeginning, LeavesParts, start_side}
+use Rattle.jk_server.specs.RunTells.{logging, run_tells}
+use Rattle.jk_server.specs.ServedGears.{BeginsSo, LeavesParts, start_side}
 use Rattle.jk_server.proofs.GearRunLaws.{all_left, as_many, each_left, gears_served, parts_whole}
 use Rattle.jk_server.proofs.StartLaws.{ok_weaker, one_part, served_gear}
 use Rattle.jk_server.proofs.ToldLaws.{lock_left, told_left, told_served}
@@ -21,24 +22,25 @@ returns g c =
     let at = side g.D.Door.coming g.D.Door.left g.D.Door.faults in
     let told =
     run_tells g.D.Door.coming g.D.Door.left g.D.Door.faults g.T.Tape.talks g.K.Clock.answers g.D.L.Meanings g.S.Shelf.shelved
-    (unlogged g.S.Shelf.faults g.D.L.Link.may_wait) in
-    ok_weaker _ (λ end. LeavesParts told c.args.plan.cfg.now c.args.plan.map.now c.args.parts.items end) _ c.run_serve.ensures.served (λ end each. record {
+    (logging g.S.Shelf.faults g.O.Meanings g.D.L.Link.may_wait) in
+    ok_weaker _ (λ end. LeavesParts told c.args.plan.cfg.now c.args.plan.map.now c.args.plan.format.now c.args.parts.items end) _ c.run_serve.ensures.served (λ end each. record {
       outs = (as_many _ 0 c.args.parts.items end.outside end.leaving end.workers each).0;
       desks = (as_many _ 0 c.args.parts.items end.outside end.leaving end.workers each).1;
       idle = all_left _ (λ o. is_some o.reach.lent ≡ false) 0 c.args.parts.items end.outside end.leaving end.workers each (λ k p o v e is. is.worked.fit.idle);
       served = λ lock fresh.
-          gears_served (visit c.args.plan.cfg.now c.args.plan.map.now) g.D.L.Meanings (unlogged g.S.Shelf.faults g.D.L.Link.may_wait) (λ p. IsBeginning lock p.desk) _
-          (λ p. start_side at g.T.Tape.talks g.K.Clock.answers (start_with p.door p.reach p.clock p.desk))
-          (gear_with at g.T.Tape.talks g.K.Clock.answers) (λ o. tools o.door o.reach.dial o.reach.tape o.clock) (λ v. v.shelf) (λ v. v.seat)
+          gears_served (visit c.args.plan.cfg.now c.args.plan.map.now) g.D.L.Meanings (logging g.S.Shelf.faults g.O.Meanings g.D.L.Link.may_wait) c.args.plan.format.now
+          (λ p. BeginsSo lock c.args.plan.format.now p.desk p.log) _
+          (λ p. start_side at g.T.Tape.talks g.K.Clock.answers (start_with p.door p.reach p.clock p.desk p.log))
+          (gear_with at g.T.Tape.talks g.K.Clock.answers) (λ o. tools o.door o.reach.dial o.reach.tape o.clock (sink_of o.log)) (λ v. v.shelf) (λ v. v.seat)
           0 c.args.parts.items end.outside end.leaving end.workers fresh each
           (λ k p o v e new is.
-          served_gear _ _ _ _ _ _ _ _ _ is.worked.served (record { shelf = refl; clock = refl; talks = refl }) new.0
-          (record { shelf = sym is.left.shelf_left; clock = refl; talks = refl })
-          (told_left _ _ _ _ (told_served _ _ _ _ _ _ _ _ is.worked.served) new.0.none_seen is.left.seat_left));
+          served_gear _ _ _ _ _ _ _ _ _ _ is.worked.served (record { shelf = refl; clock = refl; talks = refl }) new.0.0
+          (record { shelf = sym is.left.shelf_left; clock = refl; talks = refl }) new.1 refl
+          (told_left _ _ _ _ (told_served _ _ _ _ _ _ _ _ is.worked.served) new.0.0.none_seen is.left.seat_left));
       here = λ lock fresh.
-          each_left (λ p. IsBeginning lock p.desk) _ (λ v. v.seat.lock ≡ lock) 0 c.args.parts.items end.outside end.leaving end.workers fresh each
-          (λ k p o v e new is. lock_left _ _ _ _ lock (told_served _ _ _ _ _ _ _ _ is.worked.served) new.2 is.left.seat_left);
+          each_left (λ p. BeginsSo lock c.args.plan.format.now p.desk p.log) _ (λ v. v.seat.lock ≡ lock) 0 c.args.parts.items end.outside end.leaving end.workers fresh each
+          (λ k p o v e new is. lock_left _ _ _ _ lock (told_served _ _ _ _ _ _ _ _ is.worked.served) new.0.2 is.left.seat_left);
       whole = λ lock fresh.
-          parts_whole (λ p. IsBeginning lock p.desk) _ (λ v. v.share.parts) 0 c.args.parts.items end.outside end.leaving end.workers fresh each
-          (λ k p o v e new is. one_part _ _ _ is.left.parts_left is.worked.parts new.1);
+          parts_whole (λ p. BeginsSo lock c.args.plan.format.now p.desk p.log) _ (λ v. v.share.parts) 0 c.args.parts.items end.outside end.leaving end.workers fresh each
+          (λ k p o v e new is. one_part _ _ _ is.left.parts_left is.worked.parts new.0.1);
     })

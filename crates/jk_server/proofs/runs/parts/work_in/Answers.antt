@@ -6,10 +6,10 @@ use Rattle.client_session.specs.Requests.{visit}
 use Rattle.door_clients.specs.Doors.{side}
 use Rattle.gear_parts.specs.GearParts.{start_with}
 use Rattle.gear_parts.proofs.ListLaws.{as_long}
-use Rattle.jk_server.specs.RunTells.{unlogged}
-use Rattle.jk_server.specs.ServedGears.{IsBeginning}
-use Rattle.jk_server.proofs.GearRunLaws.{gears_told, logs_so}
-use Rattle.jk_server.proofs.StartLaws.{begins_seated, starts_are, starts_told}
+use Rattle.jk_server.specs.RunTells.{logging}
+use Rattle.jk_server.specs.ServedGears.{BeginsSo}
+use Rattle.jk_server.proofs.GearRunLaws.{after_so, gears_told}
+use Rattle.jk_server.proofs.StartLaws.{begins_seated, new_so, starts_are, starts_told}
 use Rattle.jk_server.proofs.runs.parts.work_in.Goals as goal
 
 pub serve_all-requires-clause-few : goal.serve_all-requires-clause-few
@@ -21,23 +21,23 @@ serve_all-requires-clause-ready g c = λ κs within. c.requires.ready
 pub ran_of-requires-clause-paired : goal.ran_of-requires-clause-paired
 ran_of-requires-clause-paired g c = λ κs within. c.in-Ok.ensures.desks ∙ sym c.in-Ok.ensures.outs
 
-pub ran_of-requires-clause-logs : goal.ran_of-requires-clause-logs
-ran_of-requires-clause-logs g c = λ κs within. logs_so _ _ _ (c.in-Ok.ensures.outs ∙ sym c.args.memory.parts.ok.0) c.requires.logs
+pub ran_of-requires-clause-after : goal.ran_of-requires-clause-after
+ran_of-requires-clause-after g c = λ κs within. after_so _ _ _ (c.in-Ok.ensures.outs ∙ sym c.args.memory.parts.ok.0) c.requires.after
 
 pub ran_of-requires-clause-idle : goal.ran_of-requires-clause-idle
 ran_of-requires-clause-idle g c = λ κs within. c.in-Ok.ensures.idle
 
 pub returns-in-Ok : goal.returns-in-Ok
-returns-in-Ok g c = λ lock sizes pools gears starts logged.
+returns-in-Ok g c = λ lock sizes pools gears starts.
     let begun =
-    starts_are lock sizes pools (λ s. IsBeginning lock s.desk) (λ p. start_with p.door p.reach p.clock p.desk) c.args.memory.parts.items gears starts
-    (λ k d lt. (record { no_receipt = refl; none_held = refl; none_forgotten = refl; no_stray = refl; none_seen = refl }, refl, refl)) in
-    let fresh = All-weaker _ (λ p. IsBeginning lock p.desk) (λ p is. begins_seated lock p.desk is) c.args.memory.parts.items begun in
+    starts_are lock sizes pools c.args.plan.format.now (λ s. BeginsSo lock c.args.plan.format.now s.desk s.log) (λ p. start_with p.door p.reach p.clock p.desk p.log) c.args.memory.parts.items gears starts
+    (λ k d lt. ((record { no_receipt = refl; none_held = refl; none_forgotten = refl; no_stray = refl; none_seen = refl }, refl, refl), new_so c.args.plan.format.now _)) in
+    let fresh = All-weaker _ (λ p. BeginsSo lock c.args.plan.format.now p.desk p.log) (λ p is. (begins_seated lock p.desk is.0, is.1)) c.args.memory.parts.items begun in
     record {
       served =
-          gears_told (visit c.args.plan.cfg.now c.args.plan.map.now) g.D.L.Meanings (unlogged g.S.Shelf.faults g.D.L.Link.may_wait) 0 _ _ _ _ _ _ _ _ _ _ _
-          (starts_told (side g.D.Door.coming g.D.Door.left g.D.Door.faults) g.T.Tape.talks g.K.Clock.answers lock sizes pools
-          (λ p. start_with p.door p.reach p.clock p.desk) c.args.memory.parts.items gears starts)
+          gears_told (visit c.args.plan.cfg.now c.args.plan.map.now) g.D.L.Meanings (logging g.S.Shelf.faults g.O.Meanings g.D.L.Link.may_wait) c.args.plan.format.now 0 _ _ _ _ _ _ _ _ _ _ _
+          (starts_told (side g.D.Door.coming g.D.Door.left g.D.Door.faults) g.T.Tape.talks g.K.Clock.answers lock sizes pools c.args.plan.format.now
+          (λ p. start_with p.door p.reach p.clock p.desk p.log) c.args.memory.parts.items gears starts)
           c.ran_of.ensures.tools (ap (λ vs. map (λ v. v.shelf) vs) c.ran_of.ensures.leaving) (ap (λ vs. map (λ v. v.seat) vs) c.ran_of.ensures.leaving)
           c.ran_of.ensures.workers (c.in-Ok.ensures.served lock fresh);
       here = subst (λ vs. All (λ v. v.seat.lock ≡ lock) vs) (sym c.ran_of.ensures.leaving) (c.in-Ok.ensures.here lock fresh);
@@ -45,5 +45,4 @@ returns-in-Ok g c = λ lock sizes pools gears starts logged.
           ap (λ vs. sum_by (λ v. v.share.parts) vs) c.ran_of.ensures.leaving ∙ c.in-Ok.ensures.whole lock fresh
           ∙ as_long _ _ c.args.memory.parts.items gears starts;
       each = ap length c.ran_of.ensures.leaving ∙ c.in-Ok.ensures.desks ∙ as_long _ _ c.args.memory.parts.items gears starts;
-      logs = c.ran_of.ensures.logs ∙ logged;
     }

@@ -1,10 +1,10 @@
-use Rattle.std.proofs.Common.{ap, sym, ◌∙◌}
+use Rattle.std.proofs.Common.{ap, refl, sym, ◌∙◌}
 use Rattle.client_session.specs.Requests.{visit}
 use Rattle.conn_pool.specs.Idle.{counts}
 use Rattle.door_clients.specs.Doors.{side}
-use Rattle.jk_server.proofs.CutLaws.{closes_said, logs_said}
+use Rattle.jk_server.proofs.CutLaws.{closes_said}
 use Rattle.jk_server.proofs.GearRunLaws.{some_left}
-use Rattle.jk_server.specs.RunTells.{unlogged}
+use Rattle.jk_server.specs.RunTells.{logging}
 use Rattle.jk_server.proofs.StartLaws.{run_done, table_counts}
 use Rattle.jk_server.proofs.runs.serve.over_pools.Goals as goal
 
@@ -29,6 +29,9 @@ work-requires-clause-desk_sizes g c = λ κs within. c.requires.new.sized
 pub work-requires-clause-pool_sizes : goal.work-requires-clause-pool_sizes
 work-requires-clause-pool_sizes g c = λ κs within. ap (λ ps. counts ps) c.requires.pool_sizes ∙ table_counts c.args.plan.cfg.now.lbs
 
+pub work-requires-clause-format : goal.work-requires-clause-format
+work-requires-clause-format g c = λ κs within. refl
+
 pub settle-requires-clause-some : goal.settle-requires-clause-some
 settle-requires-clause-some g c = some_left _ _ (c.in-Ok.ensures.each ∙ sym c.args.gears.ok.0) c.requires.ready.some
 
@@ -40,12 +43,9 @@ settle-requires-clause-here g c = c.in-Ok.ensures.here
 
 pub returns-in-Ok : goal.returns-in-Ok
 returns-in-Ok g c = record {
-  ran = record {
-    is =
-        run_done (visit c.args.plan.cfg.now c.args.plan.map.now) g.D.L.Meanings g.S.Shelf.shelved (unlogged g.S.Shelf.faults g.D.L.Link.may_wait) c.args.plan.cfg.now.lbs _ _ _ _
-        _ _ _ c.in-Ok.ensures.served c.settle.ensures.workers
-        (closes_said (side g.D.Door.coming g.D.Door.left g.D.Door.faults) g.T.Tape.talks g.K.Clock.answers g.S.Shelf.shelved g.S.Shelf.faults
-        c.args.plan.cfg.now.lbs _ _ _ _ _ _ _ _ _ _ _ c.requires.new.sized c.requires.new.numbered c.requires.new.begun c.requires.new.books c.settle.ensures.closed);
-    logs = logs_said g.S.Shelf.shelved g.S.Shelf.faults _ _ _ _ _ _ _ c.args.gears.items _ _ c.in-Ok.ensures.logs c.settle.ensures.closed;
-  };
+  ran =
+      run_done (visit c.args.plan.cfg.now c.args.plan.map.now) g.D.L.Meanings g.S.Shelf.shelved (logging g.S.Shelf.faults g.O.Meanings g.D.L.Link.may_wait)
+      c.args.plan.format.now c.args.plan.cfg.now.lbs _ _ _ _ _ _ _ c.in-Ok.ensures.served c.settle.ensures.workers
+      (closes_said (side g.D.Door.coming g.D.Door.left g.D.Door.faults) g.T.Tape.talks g.K.Clock.answers g.S.Shelf.shelved g.S.Shelf.faults
+      c.args.plan.cfg.now.lbs _ _ _ _ _ _ _ _ _ _ c.requires.new.sized c.requires.new.numbered c.requires.new.begun c.requires.new.books c.settle.ensures.closed);
 }
