@@ -5,7 +5,8 @@ use Rattle.gear_parts.proofs.WorldLaws.{cause_again, no_cause}
 use Rattle.gear_parts.proofs.logs.log_gears.Goals as goal
 
 pub returns-in-Ok-clause-given : goal.returns-in-Ok-clause-given
-returns-in-Ok-clause-given g c = are_logged _ 0 _ _ _ c.all_logged.ensures.rest c.all_logged.ensures.logs c.in-Ok.ensures.suited
+returns-in-Ok-clause-given g c =
+    rw c.in-Some.is (are_logged _ 0 _ _ _ c.all_logged.ensures.rest c.all_logged.ensures.logs c.in-Ok.ensures.suited)
 
 pub returns-in-Ok-clause-idle : goal.returns-in-Ok-clause-idle
 returns-in-Ok-clause-idle g c = λ all. idle_kept g.W.T.Tape.is_idle _ _ c.all_logged.ensures.rest all
