@@ -1,4 +1,4 @@
-use Rattle.std.proofs.Common.{subst, arith}
+use Rattle.std.proofs.Common.{map, subst, arith}
 use Rattle.gear_parts.specs.GearParts.{tools_of}
 use Rattle.jk_server.specs.Shelved.{EndsSo}
 use Rattle.gear_parts.proofs.ListLaws.{as_long_as}
