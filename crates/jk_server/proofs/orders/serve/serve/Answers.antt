@@ -4,7 +4,7 @@ use Rattle.jk_server.proofs.orders.serve.serve.Goals as goal
 
 pub returns-in-Ok : goal.returns-in-Ok
 returns-in-Ok g c = record {
-  serves = λ incoming. Formatted c.in-Ok.format.items (rw c.format_text.ensures at c.in-Ok.ensures.ok) (c.serve_files.ensures.serves incoming);
+  serves = λ incoming. Formatted c.in-Ok.format (rw c.format_text.ensures at c.in-Ok.ensures.ok) (c.serve_files.ensures.serves incoming);
 }
 
 pub returns-in-Err-BadFormat : goal.returns-in-Err-BadFormat
@@ -12,7 +12,7 @@ returns-in-Err-BadFormat g c = record {
   serves = λ incoming.
       Unformatted (record {
         at = c.in-Err-BadFormat.at;
-        refused = rw c.format_text.ensures at c.in-Err-BadFormat.ensures.refused;
+        refused = rw c.in-Err-BadFormat.field-0-is at (rw c.format_text.ensures at c.in-Err-BadFormat.ensures.refused);
         written = c.refuse_format.ensures;
         unread = refl;
         world = refl;

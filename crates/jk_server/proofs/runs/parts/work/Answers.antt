@@ -1,9 +1,10 @@
-use Rattle.std.proofs.Common.{refl}
+use Rattle.std.proofs.Common.{◌≡◌, List, map, refl, subst}
 use Rattle.conn_pool.specs.Idle.{counts}
 use Rattle.conn_pool.specs.Reaches.{beside_of}
 use Rattle.jk_server.specs.Worker.{MayBegin}
+use Rattle.request_log.specs.declared.format.Part.{Part as FormatPart}
 use Rattle.gear_parts.specs.GearLogs.{broken_by}
-use Rattle.gear_parts.specs.GearParts.{start_with}
+use Rattle.gear_parts.specs.GearParts.{start_of, start_with}
 use Rattle.locked_balancer.specs.Locks.{lock_of}
 use Rattle.gear_parts.proofs.ListLaws.{few_so}
 use Rattle.jk_server.proofs.GearRunLaws.{after_so, runs_of}
@@ -35,4 +36,12 @@ pub work_in-requires-clause-after : goal.work_in-requires-clause-after
 work_in-requires-clause-after g c = λ κs within. after_so _ _ _ c.in-Ok.ensures.count c.in-Ok.ensures.after
 
 pub returns-in-Ok : goal.returns-in-Ok
-returns-in-Ok g c = runs_of _ _ _ _ _ _ _ _ _ _ (rw (← c.requires.format) c.in-Ok.ensures.starts) c.work_in.ensures
+returns-in-Ok g c =
+    let starts =
+    subst
+    (λ (f : List FormatPart).
+    map (λ p. start_with p.door p.reach p.clock p.desk p.log) c.in-Ok.memory.parts.items
+    ≡ map (start_of (lock_of c.args.common.now.site.now) g.L.SiteName.sizes (counts c.args.common.now.pools.now) f) c.args.gears.items)
+    c.requires.format c.in-Ok.ensures.starts in
+    runs_of _ _ _ c.args.plan.format.now c.in-Ok.memory.parts.items (lock_of c.args.common.now.site.now) g.L.SiteName.sizes (counts c.args.common.now.pools.now)
+    c.args.gears.items _ starts c.work_in.ensures

@@ -4,7 +4,7 @@ use Rattle.std.specs.List.{All}
 use Rattle.std.proofs.lemmas.List.Elements.{All-weaker}
 use Rattle.client_session.specs.Requests.{visit}
 use Rattle.door_clients.specs.Doors.{side}
-use Rattle.gear_parts.specs.GearParts.{start_with}
+use Rattle.gear_parts.specs.GearParts.{start_with, unnumbered}
 use Rattle.gear_parts.proofs.ListLaws.{as_long}
 use Rattle.jk_server.specs.RunTells.{logging}
 use Rattle.jk_server.specs.ServedGears.{BeginsSo}
@@ -32,7 +32,7 @@ returns-in-Ok g c = λ lock sizes pools gears starts.
     let begun =
     starts_are lock sizes pools c.args.plan.format.now (λ s. BeginsSo lock c.args.plan.format.now s.desk s.log) (λ p. start_with p.door p.reach p.clock p.desk p.log) c.args.memory.parts.items gears starts
     (λ k d lt. ((record { no_receipt = refl; none_held = refl; none_forgotten = refl; no_stray = refl; none_seen = refl }, refl, refl), new_so c.args.plan.format.now _)) in
-    let fresh = All-weaker _ (λ p. BeginsSo lock c.args.plan.format.now p.desk p.log) (λ p is. (begins_seated lock p.desk is.0, is.1)) c.args.memory.parts.items begun in
+    let fresh = All-weaker (λ p. BeginsSo lock c.args.plan.format.now (unnumbered p.desk) p.log) (λ p. BeginsSo lock c.args.plan.format.now p.desk p.log) (λ p is. (begins_seated lock p.desk is.0, is.1)) c.args.memory.parts.items begun in
     record {
       served =
           gears_told (visit c.args.plan.cfg.now c.args.plan.map.now) g.D.L.Meanings (logging g.S.Shelf.faults g.O.Meanings g.D.L.Link.may_wait) c.args.plan.format.now 0 _ _ _ _ _ _ _ _ _ _ _
