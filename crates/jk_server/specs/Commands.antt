@@ -22,7 +22,6 @@ use Rattle.request_log.specs.declared.format.Part.{Part as FormatPart}
 use Rattle.gear_parts.specs.declared.world.Gear.{Gear}
 use Rattle.gear_parts.specs.declared.world.World.{Ghosts as WorldGhosts}
 use Rattle.gear_parts.specs.Containers.{IsContainerRun}
-use Rattle.gear_parts.specs.Gears.{AreGiven, KeepsRest}
 use Rattle.jk_server.specs.Runs.{IsSiteRun}
 use Rattle.jk_server.specs.RunTells.{logging}
 use Rattle.jk_server.specs.declared.runs.ends.Closing.{Closing}
@@ -30,7 +29,7 @@ use Rattle.jk_server.specs.declared.part.WorkerEnd.{WorkerEnd}
 use Rattle.jk_server.specs.Ends.{end_of_container, end_of_run, returned}
 use Rattle.site_reports.specs.Sites.{IsSite}
 use Rattle.gear_parts.specs.Wants.{AreSuited, GearWants, wants_of}
-use Rattle.gear_parts.specs.Worlds.{gear_told, HandsAndTakes, IsMade, RefusesGear, Tells, world_side, WorldSide}
+use Rattle.gear_parts.specs.Worlds.{tells, HandsAndTakes, IsMade, RefusesGear, Tells, WorldSide}
 use Rattle.jk_server.specs.declared.orders.ends.CommandEnd.{CommandEnd}
 use Rattle.jk_server.specs.declared.orders.ends.CommandEnd.TheVariants as end
 use Rattle.gear_parts.specs.declared.order.GearOrder.{GearOrder}
@@ -54,22 +53,6 @@ pub record CommandTells (F O W G C S Y X Z : Type 0) : Type 1 where
   pub output_faults : O → ℕ
   pub world : Tells W G C S Y X Z
 
--- what a world and its parts tell, by their types:
--- `world_tells W.World W.D.Door W.T.Tape W.K.Clock W.D.L.Meanings W.S.Shelf W.O.Meanings W.D.L.may_wait`
-abbrev pub world_tells : {W D G T K S O C X E Y Z V : Type 0} → WorldGhosts W D G T K S O C X E Y Z V → DoorGhosts D C X → TapeGhosts T → ClockGhosts K → Ghosts C X → ShelfGhosts S → Ghosts O V → Bool → Tells W (Gear D G T K S O) C S O X V
-world_tells of_world of_door of_tape of_clock of_link of_shelf of_log may_wait = record {
-  world = world_side of_world;
-  gear = gear_told of_door of_tape of_clock;
-  link = of_link;
-  shelved = of_shelf.shelved;
-  shelf_faults = of_shelf.faults;
-  log = of_log;
-  may_wait = may_wait;
-  are_given = λ dir before after. AreGiven of_world.is_log dir before after;
-  keeps_rest = λ before after. KeepsRest before after;
-  suits = of_world.suits;
-}
-
 -- by their traits: `telling F.Files O.Meanings W.World W.D.Door W.T.Tape W.K.Clock W.D.L.Meanings W.S.Shelf W.O.Meanings W.D.L.may_wait`
 abbrev pub telling : {F P A W D G T K S O C X E Y Z V : Type 0} → FilesGhosts F → Ghosts P A → WorldGhosts W D G T K S O C X E Y Z V → DoorGhosts D C X → TapeGhosts T → ClockGhosts K → Ghosts C X → ShelfGhosts S → Ghosts O V → Bool → CommandTells F P W (Gear D G T K S O) C S O X V
 telling of_files of_output of_world of_door of_tape of_clock of_link of_shelf of_log may_wait = record {
@@ -77,7 +60,7 @@ telling of_files of_output of_world of_door of_tape of_clock of_link of_shelf of
   file_faults = of_files.faults;
   sent = of_output.sent;
   output_faults = of_output.faults;
-  world = world_tells of_world of_door of_tape of_clock of_link of_shelf of_log may_wait;
+  world = tells of_world of_door of_tape of_clock of_link of_shelf of_log may_wait;
 }
 
 -- a command over these files, this output and this world

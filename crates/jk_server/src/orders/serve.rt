@@ -3,9 +3,9 @@ ghost use Rattle.std.specs.Prelude.{◌≡◌, ◌≤◌, [], length};
 ghost use Rattle.std.specs.Option.{option_copied};
 ghost use Rattle.jk_io.specs.Told.{HasCause};
 ghost use Rattle.request_log.specs.Formats.{refusal_line as line_of_refusal};
-ghost use Rattle.jk_server.specs.Commands.{cut_at, format_text as text_of_format, telling, ServesFormatted, ServesOrder, WorksSite, WritesLine, world_tells};
+ghost use Rattle.jk_server.specs.Commands.{cut_at, format_text as text_of_format, telling, ServesFormatted, ServesOrder, WorksSite, WritesLine};
 ghost use Rattle.jk_server.specs.Ends.{end_of_run, returned};
-ghost use Rattle.gear_parts.specs.Worlds.{HandsAndTakes, world_side};
+ghost use Rattle.gear_parts.specs.Worlds.{HandsAndTakes, tells, world_side};
 ghost use Rattle.jk_server.specs.declared.workers.TheConstants.{MAX_WORKERS};
 
 use crate::orders::ends::{CommandEnd, NO_MEMORY, OUTPUT_FAULT, REFUSED, end_by, end_of_run};
@@ -120,7 +120,7 @@ fn serve_site<W: World, R: Threads + Wait + Sync>(
 where
     <W::D as Door>::L: Send,
     requires threads { (1 ≤ of.now.order.threads) × (of.now.order.threads ≤ MAX_WORKERS) }
-    ensures { WorksSite (world_tells W.World W.D.Door W.T.Tape W.K.Clock W.D.L.Meanings W.S.Shelf W.O.Meanings W.D.L.may_wait)
+    ensures { WorksSite (tells W.World W.D.Door W.T.Tape W.K.Clock W.D.L.Meanings W.S.Shelf W.O.Meanings W.D.L.may_wait)
         site.now of.now.format.now of.now.order.threads of.now.order.asked world.old world.new result }
 {
     let order = of.order;

@@ -1,5 +1,9 @@
 use Rattle.std.proofs.Common.{◌≡◌, false, refl, sym}
 use Rattle.std.specs.Prelude.{is_some}
+use denote.Exit.{no}
+use denote.Param.{param}
+use mir.Syntax.{named}
+use denote.Param.Send.{arg_send, param_send}
 use Rattle.client_session.specs.Requests.{visit}
 use Rattle.door_clients.specs.Doors.{side}
 use Rattle.gear_parts.specs.GearLogs.{sink_of}
@@ -7,6 +11,7 @@ use Rattle.gear_parts.specs.GearParts.{gear_with, start_with, tools}
 use Rattle.jk_server.specs.RunTells.{logging, run_tells}
 use Rattle.jk_server.specs.ServedGears.{BeginsSo, LeavesParts, start_side}
 use Rattle.jk_server.proofs.GearRunLaws.{all_left, as_many, each_left, gears_served, parts_whole}
+use Rattle.jk_server.proofs.SendLaws.{reach_send}
 use Rattle.jk_server.proofs.StartLaws.{ok_weaker, one_part, served_gear}
 use Rattle.jk_server.proofs.ToldLaws.{lock_left, told_left, told_served}
 use Rattle.jk_server.proofs.runs.parts.serve_all.Goals as goal
@@ -16,6 +21,14 @@ run_serve-requires-clause-few g c = λ κs within. c.requires.few
 
 pub run_serve-requires-clause-ready : goal.run_serve-requires-clause-ready
 run_serve-requires-clause-ready g c = λ κs within. c.requires.ready
+
+pub run_serve-requires-send-R : goal.run_serve-requires-send-R
+run_serve-requires-send-R g c κs within =
+    param_send 2 _
+    (arg_send _ no _
+    (reach_send (record { mir = named 15; lft = κs.1.1.1.1.1.1.1.1.1.1.1.1.1.1.1.0 }) (record { mir = named 16; lft = κs.1.1.1.1.1.1.1.1.1.1.1.1.1.1.1.1.0 })
+    (param 2 g.row.G) (param 3 g.row.T) (param 7 g.row.R) (param 10 g.row.G-L) (param 11 g.row.G-L-Beside) g.G.Dial g.G.L.Link g.G.L.Meanings g.T.Tape
+    c.type_bounds.send-G c.type_bounds.send-T c.type_bounds.sync-R c.type_bounds.send-G-L))
 
 pub returns : goal.returns
 returns g c =
