@@ -21,6 +21,7 @@ mod real_door;
 mod real_times;
 mod real_world;
 mod shelves;
+mod tries;
 mod trouble;
 
 pub use file_log::FileLog;

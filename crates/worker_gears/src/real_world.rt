@@ -427,6 +427,17 @@ fn control_trouble(
     Ok(Trouble::Control { path, reason })
 }
 
+// Why a worker's files couldn't be written: a segment's, or else its log.
+fn trouble_in<'r, R: Files + Clock>(
+    shelf: &mut RealShelf<'r, R>,
+    log: Option<FileLog<'r, R::File, R>>,
+) -> Option<Trouble> {
+    match (shelf.take_trouble(), log) {
+        (None, Some(mut log)) => log.take_trouble(),
+        (trouble, _) => trouble,
+    }
+}
+
 // Says that a worker ended before its room was closed, which no file explains. Standard error that can't be written is no fault.
 fn say_early<R: Eprint>(rt: &R) {
     let _ = eprintln!(rt;
@@ -552,8 +563,9 @@ where
         ensures same { self.new.out ≡ self.old.out }
     {
         let path = log_path(dir, number)?;
+        let notices = self.notices(alloc, None)?;
         match open_log(self.rt, &path) {
-            Ok(file) => Ok(FileLog::new(self.rt, path, file)),
+            Ok(file) => Ok(FileLog::new(self.rt, path, file, notices)),
             Err(reason) => {
                 let dir = shown(alloc, dir)?;
                 Err(self.fail(Trouble::Log { dir, reason }))
@@ -573,9 +585,9 @@ where
             tape: _,
             clock: _,
             mut shelf,
-            log: _,
+            log,
         } = gear;
-        match shelf.take_trouble() {
+        match trouble_in(&mut shelf, log) {
             Some(trouble) if self.trouble.is_none() => self.trouble = Some(trouble),
             None if door.is_left_open() => say_early(self.rt),
             _ => {}

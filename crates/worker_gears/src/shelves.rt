@@ -5,6 +5,7 @@ ghost use Rattle.worker_gears.specs.Files.{IsFileOf};
 ghost use Rattle.jk_io.specs.Told.{HasCause};
 
 use crate::journal_files::{SegmentFile, segment_file};
+use crate::tries::{APART_MILLIS, patience};
 use crate::trouble::Trouble;
 use jk_io::{Bytes, IoError, ListOf, NoMemory};
 use jk_model::Segment;
@@ -14,12 +15,6 @@ use real_io::{Notices, moment};
 use std::fs::{self, OpenOptions};
 use std::io::{self, ErrorKind, Write};
 use std::rt::Files;
-
-/// The milliseconds for which it is tried to write a segment.
-const TRY_MILLIS: u64 = 60_000;
-
-/// The milliseconds between two tries.
-const APART_MILLIS: i32 = 500;
 
 /// A shelf that writes each segment into a new file `DIR/NAME-FIRST.jkj`. It tells nothing of what it holds.
 #[derive(Drop)]
@@ -77,17 +72,6 @@ impl<'r, R: Files> FileShelf<'r, R> {
         }
     }
 
-    // For how many milliseconds it is tried to write a segment: a minute, and only once after one couldn't be written.
-    fn patience(&self) -> u64
-        ensures first { self.now.trouble ≡ None → result ≡ 60000 }
-        ensures later { IsSome self.now.trouble → result ≡ 0 }
-    {
-        match self.trouble {
-            None => TRY_MILLIS,
-            Some(_) => 0,
-        }
-    }
-
     // Writes a new file, and says whether that was done whole. It isn't where the path isn't UTF-8.
     fn write_file(&mut self, file: SegmentFile) -> bool
         ensures { self.new.failed ≡ self.old.failed }
@@ -96,7 +80,7 @@ impl<'r, R: Files> FileShelf<'r, R> {
         let Ok(path) = String::from_utf8(path.into_vec()) else {
             return false;
         };
-        let until = moment().saturating_add(self.patience());
+        let until = moment().saturating_add(patience(self.trouble.as_ref()));
         match write_until(
             self.rt,
             &self.notices,
@@ -107,7 +91,7 @@ impl<'r, R: Files> FileShelf<'r, R> {
             Ok(()) => true,
             Err(reason) => {
                 self.notices.given_up(path.as_str(), &reason);
-                self.trouble = Some(Trouble::Segment { path, reason });
+                self.trouble = Some(Trouble::Unwritten { path, reason });
                 false
             }
         }
@@ -151,7 +135,7 @@ fn write_until<R: Files>(
     let mut is_said = false;
     for _ in 0..u64::MAX {
         let Err(reason) = write_new(rt, path, text) else {
-            break;
+            return Ok(());
         };
         if reason.kind() == ErrorKind::AlreadyExists || moment() >= until {
             return Err(reason);
@@ -162,7 +146,7 @@ fn write_until<R: Files>(
         }
         poll(&mut [], APART_MILLIS);
     }
-    Ok(())
+    Err(ErrorKind::TimedOut.into())
 }
 
 // How a file is opened that is to be written: none that is there already is.

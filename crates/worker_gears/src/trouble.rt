@@ -16,7 +16,7 @@ pub enum Trouble {
     #[error("can't write a journal in {dir}: {reason}")]
     Journal { dir: String, reason: io::Error },
     #[error("can't write {path}: {reason}")]
-    Segment { path: String, reason: io::Error },
+    Unwritten { path: String, reason: io::Error },
     /// A segment's file is never written over.
     #[error("a journal is there already: {path}")]
     Taken { path: String },

@@ -20,7 +20,7 @@ both_ok (Ok x) P Q p q = (p, q)
 both_ok (Err e) P Q p q = tt
 
 pub gear-tells : goal.gear-tells
-gear-tells g _ _ _ _ _ _ _ _ c = record {
+gear-tells g _ _ _ _ _ _ _ _ _ c = record {
   handed = of_each c.result _ (λ gear. refl);
   one_more = c.ensures.one_more;
   few = of_each c.result _ (λ gear. of_any c.args.asked.now.clients _ (λ most. tt));
@@ -36,4 +36,12 @@ gear-tells g _ _ _ _ _ _ _ _ c = record {
 }
 
 pub back-tells : goal.back-tells
-back-tells g _ _ _ _ _ _ _ _ c = record { came_back = refl; one_less = c.ensures.one_less; same = (refl, c.ensures.same) }
+back-tells g _ _ _ _ _ _ _ _ _ c = record { came_back = refl; one_less = c.ensures.one_less; same = (refl, c.ensures.same) }
+
+pub log-tells : goal.log-tells
+log-tells g _ _ _ _ _ _ _ _ _ c = record {
+  made = c.ensures.made;
+  same = (refl, refl, c.ensures.same);
+  cause = c.ensures.cause;
+  steady = c.ensures.steady;
+}
