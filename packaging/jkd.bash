@@ -7,13 +7,13 @@ _jkd() {
         return
     fi
     case $before in
-    --journal) compopt -o dirnames 2>/dev/null; return ;;
-    --clients | --cut | --grace | --head | --keep | --rate | --waiting) return ;;
+    --journal | --log) compopt -o dirnames 2>/dev/null; return ;;
+    --clients | --cut | --format | --grace | --head | --keep | --rate | --waiting) return ;;
     esac
     case $command:$now in
     help:*) mapfile -t COMPREPLY < <(compgen -W "$COMMANDS" -- "$now") ;;
     serve:-*)
-        mapfile -t COMPREPLY < <(compgen -W "--clients --control --cut --grace --head --help --journal --keep --rate --waiting" -- "$now") ;;
+        mapfile -t COMPREPLY < <(compgen -W "--clients --control --cut --format --grace --head --help --journal --keep --log --rate --waiting" -- "$now") ;;
     container:-*) mapfile -t COMPREPLY < <(compgen -W "--clients --help" -- "$now") ;;
     match:-*) mapfile -t COMPREPLY < <(compgen -W "-v --help" -- "$now") ;;
     *:-*) mapfile -t COMPREPLY < <(compgen -W "--help" -- "$now") ;;

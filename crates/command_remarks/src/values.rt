@@ -12,7 +12,7 @@ struct Range {
     wanted: &'static str,
 }
 
-static RANGES: [Range; 12] = [
+static RANGES: [Range; 10] = [
     Range {
         name: "SEED",
         least: 0,
@@ -36,18 +36,6 @@ static RANGES: [Range; 12] = [
         least: 0,
         most: u64::MAX,
         wanted: "--clients must be a number",
-    },
-    Range {
-        name: "watch",
-        least: 1,
-        most: 86_400,
-        wanted: "--watch must be a number from 1 to 86400",
-    },
-    Range {
-        name: "idle",
-        least: 1,
-        most: 1_000_000,
-        wanted: "--idle must be a number from 1 to 1000000",
     },
     Range {
         name: "cut",
@@ -120,17 +108,12 @@ fn text_fault<'w>(given: &ArgMatches<'w>) -> Option<(&'static str, &'w str)> {
     if mode == "journal" || mode == "passes" {
         None
     } else {
-        Some(("MODE must be journal or passes", mode))
+        Some(("MODE must be journal", mode))
     }
 }
 
 /// An option that stands without the one that it needs, and its word.
 fn lone_option<'w>(given: &ArgMatches<'w>) -> Option<(&'static str, &'w str)> {
-    if let Some(rounds) = given.get_str("idle") {
-        if !given.contains_id("watch") {
-            return Some(("--idle needs --watch", rounds));
-        }
-    }
     if given.contains_id("log") {
         return None;
     }

@@ -80,7 +80,7 @@ const ADDRESS: Row = Row {
 
 const THREADS: Row = Row {
     name: "THREADS",
-    about: "1 to 64: how many clients are served at once",
+    about: "1 to 64: how many requests are under way at once",
     kind: Kind::Word,
 };
 
@@ -178,7 +178,7 @@ static JOURNAL_PAGES: [Page; 2] = [
     Page {
         name: "drill",
         about: "Run requests over memory from a seed, by threads that share one balancer",
-        usage: "jkd drill SEED THREADS REQUESTS [journal|passes]",
+        usage: "jkd drill SEED THREADS REQUESTS [journal]",
         rows: &[
             Row {
                 name: "SEED",
@@ -193,12 +193,12 @@ static JOURNAL_PAGES: [Page; 2] = [
             },
             Row {
                 name: "MODE",
-                about: "journal prints the journal's text, passes shares a book of passes",
+                about: "journal prints the journal's text",
                 kind: Kind::Spare,
             },
             HELP,
         ],
-        after: "Prints how many each member served, or the balancer's journal.\n\nExample: jkd drill 1 4 10000\n\nStatus: 0 done; 1 the receipts aren't the entries; 2 no command; 5 the output can't be written; 6 out of memory; 7 the journal lacks a request",
+        after: "Prints how many each member served, or the balancer's journal.\n\nExample: jkd drill 1 4 10000\n\nStatus: 0 done; 1 the journal lacks what the threads were told; 5 the output can't be written; 6 out of memory; 7 the journal lacks a request",
     },
 ];
 
@@ -216,16 +216,6 @@ static FRONT_PAGES: [Page; 1] = [Page {
             name: "journal",
             about: "Write the journals into DIR",
             kind: Kind::Long("DIR"),
-        },
-        Row {
-            name: "watch",
-            about: "Look through idle links every so many seconds, 1 to 86400",
-            kind: Kind::Long("SECONDS"),
-        },
-        Row {
-            name: "idle",
-            about: "With --watch, close a link idle for so many looks, 1 to 1000000; 10 where not given",
-            kind: Kind::Long("ROUNDS"),
         },
         Row {
             name: "log",
@@ -274,7 +264,7 @@ static FRONT_PAGES: [Page; 1] = [Page {
         },
         HELP,
     ],
-    after: "A thread serves one request at a time; clients without one wait, and take no thread.\n\nExample: jkd serve --control jkd.sock workers.properties uriworkermap.properties 127.0.0.1:8080 8\n\nHow it ends: jkd stop PATH, with the PATH of --control. No client is taken from then on; requests under way\nget --grace seconds. Time limits of members stand in WORKERS: see jkd config.\n\nStatus: 0 each thread ended since no client was to come, or it was stopped; 1 the receipts aren't the entries;\n3 a file is refused or too long; 4 an address, a directory or a file failed; 6 out of memory; 7 a stray ticket",
+    after: "A thread serves one request at a time; clients without one wait, and take no thread.\n\nExample: jkd serve --control jkd.sock workers.properties uriworkermap.properties 127.0.0.1:8080 8\n\nHow it ends: jkd stop PATH, with the PATH of --control. No client is taken from then on; requests under way\nget --grace seconds. Time limits of members stand in WORKERS: see jkd config.\n\nStatus: 0 each thread ended since no client was to come, or it was stopped; 1 the journals lack what the threads were told;\n3 a file is refused or too long; 4 an address, a directory or a file failed; 5 the output can't be written;\n6 out of memory; 7 a ticket came back that wasn't out",
 }];
 
 static OUTSIDE_PAGES: [Page; 3] = [
@@ -335,7 +325,7 @@ Each with its words:
   jkd check < JOURNAL
   jkd log FORMAT REQUEST REPLY WORKERS MAP
   jkd follow < JOURNAL
-  jkd drill SEED THREADS REQUESTS [journal|passes]
+  jkd drill SEED THREADS REQUESTS [journal]
   jkd serve [OPTIONS] WORKERS MAP ADDRESS THREADS
   jkd container [--clients N] ROUTE ADDRESS THREADS
   jkd stop PATH
@@ -349,8 +339,8 @@ Examples:
   jkd check < balancer.journal
   jkd log '%w %m %U %s' request.bin reply.bin workers.properties uriworkermap.properties
   jkd follow < balancer.journal
-  jkd drill 1 4 10000 passes
-  jkd serve --watch 10 workers.properties uriworkermap.properties 127.0.0.1:8080 8
+  jkd drill 1 4 10000
+  jkd serve --control jkd.sock workers.properties uriworkermap.properties 127.0.0.1:8080 8
   jkd container a 127.0.0.1:8009 4
   jkd stop jkd.sock
   jkd demo

@@ -8,10 +8,6 @@ use std::str;
 /// What is printed where the words are no command.
 pub const USAGE: &str = "usage: jkd COMMAND WORDS\njkd --help shows the commands.\n";
 
-/// What stands below each help.
-const BUILT: &str =
-    "\nThis jkd does not do `--watch` and `--log` of `serve`, and `passes` of `drill`: they end with status 2.\n";
-
 fn is(word: &Bytes, text: &[u8]) -> bool {
     word.as_slice() == text
 }
@@ -59,7 +55,6 @@ fn line_of<'w>(alloc: Global, words: &'w [Bytes]) -> Result<Vec<&'w str>, NoMemo
 fn shown_text(alloc: Global, shown: &clap::Error) -> Result<String, NoMemory> {
     match shown.kind() {
         ErrorKind::OutOfMemory => Err(NoMemory),
-        ErrorKind::DisplayHelp => Ok(format!(in alloc; "{shown}{BUILT}")?),
         _ => Ok(format!(in alloc; "{shown}")?),
     }
 }
