@@ -1,6 +1,6 @@
 # Completion of jkd's words in bash.
 _jkd() {
-    local COMMANDS="serve stop config match check follow log dry play drill container help"
+    local COMMANDS="serve stop config match check follow log dry play drill container demo help"
     local now=${COMP_WORDS[COMP_CWORD]} before=${COMP_WORDS[COMP_CWORD - 1]} command=${COMP_WORDS[1]}
     if [ "$COMP_CWORD" -eq 1 ]; then
         mapfile -t COMPREPLY < <(compgen -W "$COMMANDS --help --version" -- "$now")

@@ -1,3 +1,4 @@
 mod CommandLaws
+mod DemoLaws
 mod OptionLaws
 mod OrderLaws

@@ -1,4 +1,5 @@
 pub mod Commands
+pub mod Demo
 pub mod Ends
 pub mod Plain
 pub mod Words

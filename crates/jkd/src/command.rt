@@ -21,7 +21,7 @@ use std::thread::Threads;
 use worker_gears::World;
 
 /// Does an order that asks for workers or threads.
-fn do_order<F: Files, O: Sink, W: World, R: Threads + Wait + Sync>(
+pub(crate) fn do_order<F: Files, O: Sink, W: World, R: Threads + Wait + Sync>(
     rt: &R,
     alloc: Global,
     order: &Order,

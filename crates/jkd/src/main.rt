@@ -3,12 +3,15 @@
 //! Here stand the words of the command line, which of the crates below does what they ask for, and the real world.
 //!
 //! Source: own rules for the commands and their statuses.
-//! Contract: `run_jkd`, a clause for each status. Read first: specs/Commands.antt.
+//! Contract: `run_jkd`, a clause for each status; of `demo`, `serve_demo` and `contain_demo`. Read first: specs/Commands.antt,
+//! then specs/Demo.antt.
 //! Errors: the statuses 1 to 7, each with its cause; a `Discord`, a stray and a failed drill end `run_jkd` with their values.
 #![tactic(auto)]
 
 mod arguments;
 mod command;
+mod demo;
+mod demo_threads;
 mod ends;
 mod outside;
 mod telling;
@@ -17,6 +20,7 @@ mod write_sink;
 
 use arguments::{WordList, WordsError, read_words};
 use command::let_go;
+use demo_threads::{DEMO_THREADS, Demo, demo_of, end_of, run_part, send_end};
 use ends::{NO_MEMORY, OUTPUT_FAULT};
 use jk_io::{Bytes, IoError, NoMemory, Sink, write_all};
 use outside::{do_outside, tell_trouble, threads_of};
@@ -24,6 +28,7 @@ use plain_commands::{USAGE, asked_text};
 use real_io::StdOut;
 use std::process::ExitCode;
 use std::rt::Env;
+use std::thread;
 use worker_gears::RealWorld;
 
 /// The status of words that are no command.
@@ -83,6 +88,25 @@ fn main(rt: HostRuntime) -> ExitCode {
         Err(status) => return ended(&rt, status),
     };
     let words = words.as_slice();
+    match demo_of(&rt, words) {
+        None => {}
+        Some(Err(status)) => return ended(&rt, status),
+        Some(Ok(Demo { parts, ends })) => {
+            for part in parts {
+                let begun = thread::spawn(&rt, move || {
+                    let mut world = RealWorld::new(&rt, DEMO_THREADS);
+                    let end = run_part(&rt, part, &mut world);
+                    tell_trouble(&rt, world.trouble());
+                    let_go(world);
+                    send_end(&rt, end);
+                });
+                if begun.is_err() {
+                    return ended(&rt, NO_MEMORY);
+                }
+            }
+            return ended(&rt, end_of(&rt, &ends));
+        }
+    }
     let mut world = RealWorld::new(&rt, threads_of(rt.alloc(), words));
     let status = do_outside(&rt, words, &mut world, rt.stderr());
     tell_trouble(&rt, world.trouble());

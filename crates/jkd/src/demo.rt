@@ -1,0 +1,187 @@
+//! `demo`: two containers and a front before them, each as the command of its kind does it.
+ghost use Rattle.std.specs.Prelude.{◌≡◌, ◌++◌, ◌∷◌, [], ℕ, List, Some, codes, decimal, IfOk, OnOk};
+ghost use Rattle.jk_server.specs.Commands.{telling};
+ghost use Rattle.jkd.specs.Demo.{DoesPart, demo_container, demo_files, demo_front, demo_workers, port_of, route_of};
+
+use crate::command::{do_order, let_go};
+use crate::ends::{EndOf, JkdEnd, NO_MEMORY};
+use jk_cli::Order;
+use jk_io::{
+    Bytes, ClientLimits, Door, FileList, Files, MemFiles, NoMemory, NumberList, Sink, put_decimal,
+};
+use std::alloc::Global;
+use std::sync::Wait;
+use std::thread::Threads;
+use worker_gears::World;
+
+/// Where the two containers are, on this machine.
+#[derive(Clone, Copy)]
+pub(crate) struct DemoPorts {
+    pub a: u16,
+    pub b: u16,
+}
+
+/// A container of the demo, at this port.
+#[derive(Clone, Copy)]
+pub(crate) enum DemoContainer {
+    A(u16),
+    B(u16),
+}
+
+/// The name of the demo's workers.properties.
+const WORKERS: &[u8] = b"workers.properties";
+
+/// The name of its uriworkermap.properties.
+const MAP: &[u8] = b"uriworkermap.properties";
+
+/// The text of the demo's workers.properties.
+fn workers_text(alloc: Global, ports: DemoPorts) -> Result<Bytes, NoMemory>
+    ensures { IfOk result (λ text. text ≡ demo_workers ports.a ports.b) }
+{
+    let mut text = Bytes::from_slice(
+        alloc,
+        b"worker.list=demo,jk-status\nworker.demo.type=lb\nworker.demo.balance_workers=a,b\nworker.demo.sticky_session=true\nworker.a.host=127.0.0.1\nworker.a.lbfactor=1\nworker.a.port=",
+    )?;
+    put_decimal(&mut text, u128::from(ports.a))?;
+    text.extend(b"\nworker.b.host=127.0.0.1\nworker.b.lbfactor=2\nworker.b.port=")?;
+    put_decimal(&mut text, u128::from(ports.b))?;
+    text.extend(b"\nworker.jk-status.type=status\n")?;
+    Ok(text)
+}
+
+/// Adds a file.
+fn put_file(alloc: Global, files: &mut FileList, name: &[u8], text: Bytes) -> Result<(), NoMemory>
+    ensures { OnOk result (files.new ≡ files.old ++ (name.now, text) ∷ []) }
+{
+    let name = Bytes::from_slice(alloc, name)?;
+    files.push((name, text))?;
+    Ok(())
+}
+
+/// The demo's files.
+pub(crate) fn demo_files(alloc: Global, ports: DemoPorts) -> Result<MemFiles, NoMemory>
+    ensures { IfOk result (λ made. made.files ≡ demo_files ports.a ports.b) }
+{
+    let map = Bytes::from_slice(alloc, b"/*=demo\n/jk-status=jk-status\n")?;
+    let mut files = FileList::new(alloc);
+    put_file(alloc, &mut files, WORKERS, workers_text(alloc, ports)?)?;
+    put_file(alloc, &mut files, MAP, map)?;
+    Ok(MemFiles::new(files, NumberList::new(alloc)))
+}
+
+/// What the front is asked for.
+fn front_order(alloc: Global, address: &Bytes) -> Result<Order, NoMemory>
+    ensures { IfOk result (λ made. made ≡ demo_front address.now) }
+{
+    Ok(Order::Serve {
+        workers: Bytes::from_slice(alloc, WORKERS)?,
+        map: Bytes::from_slice(alloc, MAP)?,
+        address: address.copy()?,
+        threads: 8,
+        clients: None,
+        journal: None,
+        watch: None,
+        idle: None,
+        log: None,
+        format: None,
+        cut: None,
+        limits: ClientLimits {
+            head: 20,
+            keep: 60,
+            rate: 500,
+            waiting: 10_000,
+        },
+        control: None,
+        grace: 30,
+    })
+}
+
+/// The route of its session ids.
+fn route_of(which: DemoContainer) -> &'static [u8]
+    ensures { result.now ≡ route_of which }
+{
+    match which {
+        DemoContainer::A(_) => b"a",
+        DemoContainer::B(_) => b"b",
+    }
+}
+
+/// Where it is on this machine.
+fn port_of(which: DemoContainer) -> u16
+    ensures { result ≡ port_of which }
+{
+    match which {
+        DemoContainer::A(port) | DemoContainer::B(port) => port,
+    }
+}
+
+/// The address of a port of this machine.
+fn local_address(alloc: Global, port: u16) -> Result<Bytes, NoMemory>
+    ensures { IfOk result (λ text. text ≡ codes "127.0.0.1:" ++ decimal port) }
+{
+    let mut text = Bytes::from_slice(alloc, b"127.0.0.1:")?;
+    put_decimal(&mut text, u128::from(port))?;
+    Ok(text)
+}
+
+/// What a container is asked for.
+fn container_order(alloc: Global, which: DemoContainer) -> Result<Order, NoMemory>
+    ensures { IfOk result (λ made. made ≡ demo_container which) }
+{
+    Ok(Order::Container {
+        route: Bytes::from_slice(alloc, route_of(which))?,
+        address: local_address(alloc, port_of(which))?,
+        threads: 8,
+        clients: None,
+    })
+}
+
+/// The demo's front, over its files: what `serve` does with them, for clients at this address.
+pub(crate) fn serve_demo<F: Files, O: Sink, W: World, R: Threads + Wait + Sync>(
+    rt: &R,
+    alloc: Global,
+    address: &Bytes,
+    files: &mut F,
+    out: &mut O,
+    world: &mut W,
+) -> JkdEnd
+where
+    <W::D as Door>::L: Send,
+    ensures serves { (a : ℕ) → (b : ℕ) → F.files files.old ≡ Some (demo_files a b)
+        → DoesPart (telling F.Files O.Meanings W.World W.D.Door W.T.Tape W.K.Clock W.D.L.Meanings W.S.Shelf W.O.Meanings W.D.L.may_wait)
+        (demo_files a b) (demo_front address.now) (files.old, out.old, world.old) (files.new, out.new, world.new) result }
+{
+    match front_order(alloc, address) {
+        Ok(order) => {
+            let end = do_order(rt, alloc, &order, files, out, world);
+            let_go(order);
+            end
+        }
+        Err(NoMemory) => EndOf::Status(NO_MEMORY),
+    }
+}
+
+/// One of the demo's containers: what `container` does, with its route. It reads no file.
+pub(crate) fn contain_demo<F: Files, O: Sink, W: World, R: Threads + Wait + Sync>(
+    rt: &R,
+    alloc: Global,
+    which: DemoContainer,
+    files: &mut F,
+    out: &mut O,
+    world: &mut W,
+) -> JkdEnd
+where
+    <W::D as Door>::L: Send,
+    ensures contains { (held : List (List ℕ × List ℕ)) → F.files files.old ≡ Some held
+        → DoesPart (telling F.Files O.Meanings W.World W.D.Door W.T.Tape W.K.Clock W.D.L.Meanings W.S.Shelf W.O.Meanings W.D.L.may_wait)
+        held (demo_container which) (files.old, out.old, world.old) (files.new, out.new, world.new) result }
+{
+    match container_order(alloc, which) {
+        Ok(order) => {
+            let end = do_order(rt, alloc, &order, files, out, world);
+            let_go(order);
+            end
+        }
+        Err(NoMemory) => EndOf::Status(NO_MEMORY),
+    }
+}
