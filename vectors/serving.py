@@ -13,7 +13,7 @@ apart from the program's own code: replies and packets are put together by sessi
 import sys
 
 import drill
-from sessions import HI, forward, from_member, own, own_len, reply, request, sized
+from sessions import HI, LB, forward, from_member, members, own, own_len, reply, request, sized
 
 SITE = "worker.list=w1\nworker.w1.retries=1\n"
 MAP = "/*=w1\n"
@@ -50,20 +50,25 @@ def talk(member, sent, kept=True):
     return f"to 0.{member}".encode() + (b" kept" if kept else b"") + b"\n" + sent + b"\n"
 
 
-def journal(entries, name="w1", direct=1, members=("w1",)):
-    """The last segment of a balancer that began at moment 0 with number 0."""
-    lines = ["jkj 2", f"lb lb R 0 0 {direct} 60 60 {len(members)}"]
-    lines += [f"member {m} {m} 1 0 A - 64 ok 0" for m in members] + ["from 0 0 0 -"]
-    lines += [f"e {n} {entry}" for n, entry in enumerate(entries)] + [f"end {len(entries)}"]
+def journal(entries, first=0, members=("w1",)):
+    """The segment of these entries, the first of which has this number, of a balancer that began at moment 0 with number 0 and
+    has had each second entry from a choice, of each of its members in turn. That of a worker alone is direct, and isn't sticky."""
+    alone, choices = len(members) == 1, first // 2
+    loads = [len(range(m, choices, len(members))) for m in range(len(members))]
+    lines = ["jkj 2", f"lb lb R {'0 0 1' if alone else '1 0 0'} 60 60 {len(members)}"]
+    lines += [f"member {name} {name} 1 0 A - 64 ok {load}" for name, load in zip(members, loads)]
+    lines += [f"from {first} 0 0 {(choices - 1) % len(members) if choices else '-'}"]
+    lines += [f"e {first + n} {entry}" for n, entry in enumerate(entries)] + [f"end {len(entries)}"]
     return b"segment of 0\n" + ("\n".join(lines) + "\n").encode()
 
 
-def exchanges(sessions):
-    """A choice and its return for each exchange, each with its session, and how many bytes its talk sent and received."""
+def exchanges(sessions, members=1):
+    """A choice of each member in turn and its return for each exchange, each with its session, and how many bytes its talk sent
+    and received."""
     entries = []
-    for session, number in sessions:
+    for place, (session, number) in enumerate(sessions):
         ticket = len(entries)
-        entries += [f"{session} 0 select - 1 0 0 0 chosen 0 balanced 0", f"{session} 0 return {ticket} done {number} done"]
+        entries += [f"{session} 0 select - 1 0 0 0 chosen {place % members} balanced 0", f"{session} 0 return {ticket} done {number} done"]
     return entries
 
 
@@ -105,6 +110,12 @@ def serving():
     # either thread may take the link that the other one kept, so each link has the replies of all four talks to come
     yield Row("two threads serve two clients each", SERVE + "2", gears=[([GET, GET], [HI * 4]), ([GET, GET], [HI * 4])], files=FILES,
               parts=[b"status 0\nfaults 0\nback\n" + two_left, b"segment of 0\njkj 2\n", b"end 8\nback\n" + two_left])
+    pair = ("a", "b")
+    to = [forward(route=pair[n % 2]) for n in range(3)]
+    entries = exchanges([(0, len(sent) + len(HI)) for sent in to], 2)
+    yield Row("a journal is cut at four", SERVE + "1 --cut 4", gears=[([GET * 3], [HI * 2, HI])], files=(("w", members(*pair)), ("m", LB)),
+              back=[left(reply() * 3) + b"".join(talk(n % 2, sent) for n, sent in enumerate(to))
+                    + journal(entries[:4], members=pair) + journal(entries[4:], 4, pair)])
     yield Row("no client comes", SERVE + "1", gears=[([], [])], files=FILES, back=[journal([])])
     yield Row("a site of a status worker alone keeps no journal", SERVE + "1", gears=[([], [])],
               files=(("w", "worker.list=s\nworker.s.type=status\n"), ("m", "/=s\n")), back=[b""])
@@ -124,6 +135,9 @@ def faults():
               lines=["gear-fails 1"], back=[b""])
     yield Row("a door fails", SERVE + "1", gears=[([GET, GET], [HI])], files=FILES, status=4, lines=["door-fails 1"],
               back=[left(reply()) + talk(0, forward()) + journal(exchanges([(0, len(forward()) + len(HI))]))])
+    twice = exchanges([(0, len(forward()) + len(HI))] * 2)
+    yield Row("a shelf fails in a session, whose replies were written", SERVE + "1 --cut 1", gears=[([GET * 2, GET], [HI * 2])], files=FILES, status=4,
+              lines=["shelf-fails 0"], back=[left(reply() * 2) + talk(0, forward()) * 2 + journal(twice[2:], 2)])
     yield Row("a container's door fails", "container n1 127.0.0.1:8009 1", gears=[([], [])], status=4, lines=["door-fails 0"], back=[b""])
     yield Row("a shelf fails in the closing", SERVE + "1", gears=[([], [])], files=FILES, status=4, lines=["shelf-fails 0"], back=[b""])
     bad = (("w", "worker.list"), ("m", MAP))
