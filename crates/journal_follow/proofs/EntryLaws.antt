@@ -1,5 +1,5 @@
 -- A line among the entries.
-use Rattle.std.proofs.Common.{◌≡◌, ℕ, Bool, true, false, List, [], ◌∷◌, ◌++◌, Option, Some, None, Result, Ok, Err, IfErr, refl, sym, subst, ap, ◌∙◌}
+use Rattle.std.proofs.Common.{◌≡◌, ℕ, Bool, true, false, List, [], ◌∷◌, ◌++◌, Option, Some, None, Result, Ok, Err, IfErr, OnOk, refl, sym, subst, ap, ◌∙◌}
 use Rattle.std.specs.Result.{IsErrAnd}
 use Rattle.journal_lines.specs.Readings.{line_of}
 use Rattle.journal_lines.specs.declared.line.Line.{Line}
@@ -54,7 +54,7 @@ rules_of x run is = let same : x ≡ run = cc in ap (λ (o : RunState). o.rules)
 -- a further entry is taken
 pub takes_entry : (m : Machine) (s : Stand) (text : List ℕ) (r : Run) (e : Entry) (after : Run) → IsAt m s → m.among ≡ true → m.run ≡ Some r
     → Some (line.Entry e) ≡ line_of m.reader.rules text → ((run : RunState) → IsRun true r run → TakesOn run e after)
-    → (t : Stand) × Takes s text t × IsAt (record { reader = m.reader; taken = m.taken; run = Some after; among = true }) t
+    → (t : Stand) × Takes s text t × IsAt (record m { run = Some after }) t
 takes_entry m s text r e after at among is found takes =
     let has = run_of s.among m.run s.run r at.run is in
     let on = takes has.run (subst (λ (b : Bool). IsRun b r has.run) (sym at.among ∙ among) has.is) in
@@ -66,7 +66,7 @@ takes_entry m s text r e after at among is found takes =
         reader = at.reader;
         sound = at.sound;
         empty = at.empty;
-        among = sym among ∙ at.among;
+        among = at.among;
         outside = at.outside;
         taken = at.taken;
         run = subst (λ (b : Bool). HasRun b (Some after) t.run) (sym among ∙ at.among) on.1;
@@ -76,8 +76,8 @@ takes_entry m s text r e after at among is found takes =
 
 -- a segment's end is taken
 pub takes_end : (m : Machine) (s : Stand) (text : List ℕ) (r : Run) (count number : ℕ) (after : Run) → IsAt m s → m.among ≡ true → m.run ≡ Some r
-    → Some (line.End count) ≡ line_of m.reader.rules text → ((run : RunState) → IsRun true r run → EndsRun run count number (Ok after))
-    → (t : Stand) × Takes s text t × IsAt (record { reader = m.reader; taken = m.taken; run = Some after; among = false }) t
+    → Some (line.End count) ≡ line_of m.reader.rules text → ((run : RunState) → IsRun true r run → EndsRun run count number after (Ok tt))
+    → (t : Stand) × Takes s text t × IsAt (record m { run = Some after; among = false }) t
 takes_end m s text r count number after at among is found takes =
     let has = run_of s.among m.run s.run r at.run is in
     let on = takes has.run (subst (λ (b : Bool). IsRun b r has.run) (sym at.among ∙ among) has.is) in
@@ -110,7 +110,21 @@ differs_entry m s text r e number (wrong.Bad number' kept ruled) at among is fou
     (by.0, refuses_by s.among s.run s text has.run kept ruled (sym at.among ∙ among) has.known (subst (λ (l : Option Line). DiffersEntry has.run l kept ruled) line' by.1))
 differs_entry m s text r e number wrong.NoMemory at among is found differs = tt
 
+-- what an entry makes of the machine, or of the line
+pub entered_ok : (m : Machine) (s : Stand) (text : List ℕ) (r : Run) (e : Entry) (after : Run) (result : Result (Unit {0}) FollowError) → IsAt m s → m.among ≡ true → m.run ≡ Some r
+    → Some (line.Entry e) ≡ line_of m.reader.rules text → ((run : RunState) → IsRun true r run → OnOk result (TakesOn run e after))
+    → OnOk result ((t : Stand) × Takes s text t × IsAt (record m { run = Some after }) t)
+entered_ok m s text r e after (Ok done) at among is found takes = takes_entry m s text r e after at among is found takes
+entered_ok m s text r e after (Err error) at among is found takes = tt
+
+-- and a segment's end
+pub ended_ok : (m : Machine) (s : Stand) (text : List ℕ) (r : Run) (count number : ℕ) (after : Run) (result : Result (Unit {0}) FollowError) → IsAt m s → m.among ≡ true → m.run ≡ Some r
+    → Some (line.End count) ≡ line_of m.reader.rules text → ((run : RunState) → IsRun true r run → EndsRun run count number after result)
+    → OnOk result ((t : Stand) × Takes s text t × IsAt (record m { run = Some after; among = false }) t)
+ended_ok m s text r count number after (Ok done) at among is found ends = takes_end m s text r count number after at among is found ends
+ended_ok m s text r count number after (Err error) at among is found ends = tt
+
 -- what a refusal is that was passed on
-pub told_err : (r : Result Machine FollowError) (x : FollowError) (P : FollowError → Type 0) → IsErrAnd r (λ e. e ≡ x) → P x → IfErr r P
+pub told_err : (r : Result (Unit {0}) FollowError) (x : FollowError) (P : FollowError → Type 0) → IsErrAnd r (λ e. e ≡ x) → P x → IfErr r P
 told_err (Ok m) x P told h = tt
 told_err (Err e) x P told h = subst P (sym told) h

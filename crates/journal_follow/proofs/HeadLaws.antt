@@ -6,6 +6,7 @@ use Rattle.std.proofs.lemmas.Option.{cond_some}
 use Rattle.journal_lines.specs.Readings.{line_of}
 use Rattle.journal_lines.specs.declared.line.Line.{Line}
 use Rattle.journal_lines.specs.declared.line.Line.TheVariants as line
+use Rattle.journal_text.specs.Kept.{IsSound}
 use Rattle.journal_text.specs.Reading.{TakesAt, TakesText, is_body, is_full}
 use Rattle.journal_text.specs.declared.reader.Reader.{Reader}
 use Rattle.journal_text.specs.declared.reader.TextPlace.{TextPlace}
@@ -149,3 +150,25 @@ goes_wrong m s text ruled read number e at shut takes misfits is =
     let takes' = subst (λ (r : Reader). TakesText r text (Some read)) at.reader takes in
     let has = subst (λ (b : Bool). HasRun b m.run s.run) shut' at.run in
     rw is (refl, bad_shut s.among s.run s text _ _ shut' (differs_by m.run s m.taken text ruled read has at.taken takes' misfits))
+
+-- no opening is whole yet
+pub stays : (s : Stand) (read : Reader) (m : Machine) → IsSound read → is_body read.place ≡ false → m.reader ≡ read → m.among ≡ false → AddsHead s read m.taken m.run m
+stays s read m sound shut same closed empty taken has = by read.place refl
+  where
+    at : IsAt m (record { reader = read; run = s.run; among = false })
+    at = record {
+      reader = same;
+      sound = sound;
+      empty = empty;
+      among = closed;
+      outside = shut;
+      taken = taken shut;
+      run = has;
+      rules = λ run there known. absurd (let wrong : false ≡ true = there in cc);
+    }
+
+    by : (p : TextPlace) → read.place ≡ p → IsAt m (headed s read.rules p read)
+    by place.Outside is = at
+    by place.Ruled is = at
+    by (place.Heading d) is = at
+    by (place.Body name o entries) is = absurd (let wrong : true ≡ false = sym (ap is_body is) ∙ shut in cc)

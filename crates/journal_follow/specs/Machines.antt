@@ -59,13 +59,13 @@ DiffersBy run e number (wrong.Unreadable line) = ⊥
 DiffersBy run e number (wrong.Bad line kept ruled) = (line ≡ number) × Differs run.rules run.opening (reverse run.entries) e kept ruled
 DiffersBy run e number wrong.NoMemory = Unit {0}
 
--- What is answered to a count at the end of a segment.
-abbrev pub EndsRun : RunState → (count number : ℕ) → Result Run FollowError → Type 0
-EndsRun run count number (Ok r) = (count ≡ length run.entries) × IsRun false r run
-EndsRun run count number (Err (wrong.Unreadable line)) = ⊥
-EndsRun run count number (Err (wrong.Bad line kept ruled)) =
+-- What is answered to a count at the end of a segment, and what the run is then.
+abbrev pub EndsRun : RunState → (count number : ℕ) → Run → Result (Unit {0}) FollowError → Type 0
+EndsRun run count number r (Ok done) = (count ≡ length run.entries) × IsRun false r run
+EndsRun run count number r (Err (wrong.Unreadable line)) = ⊥
+EndsRun run count number r (Err (wrong.Bad line kept ruled)) =
     (line ≡ number) × (count ≢ length run.entries) × (kept ≡ ruling.Count count) × (ruled ≡ ruling.Count (length run.entries))
-EndsRun run count number (Err wrong.NoMemory) = Unit {0}
+EndsRun run count number r (Err wrong.NoMemory) = Unit {0}
 
 abbrev pub HasRun : (among : Bool) → Option Run → Option RunState → Type 0
 HasRun among None None = among ≡ false

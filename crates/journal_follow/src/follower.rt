@@ -1,6 +1,6 @@
 //! A balancer's journal, followed as its bytes come.
-ghost use Rattle.std.specs.Prelude.{◌≡◌, ◌⊎◌, ℕ, List, [], ◌++◌, IfOk, true};
-ghost use Rattle.journal_follow.specs.Followed.{IsFed, IsFollowed, IsOpened};
+ghost use Rattle.std.specs.Prelude.{◌≡◌, ℕ, List, [], ◌∷◌, ◌++◌, IfErr, IfOk, OnOk, true};
+ghost use Rattle.journal_follow.specs.Followed.{IsFed, IsFollowed, IsOpened, IsStopped};
 ghost use Rattle.journal_follow.specs.Machines.{Answers, FollowerState, HasFed, IsViewOf, Knows, ShowsNone, is_going};
 ghost use Rattle.journal_follow.specs.declared.known.Known.{Known as AnyKnown};
 ghost use Rattle.journal_follow.specs.declared.error.FollowError.{FollowError as AnyError};
@@ -13,7 +13,6 @@ use crate::view::FollowView;
 use jk_io::{Bytes, NoMemory};
 use std::alloc::Global;
 use std::marker::Model;
-use std::mem;
 
 /// What a balancer's journal shows, as far as its bytes came.
 #[derive(Drop)]
@@ -34,69 +33,81 @@ impl Model for Follower {
     ghost invariant = { λ f. (bytes : List ℕ) × Knows f.known f.part bytes };
 }
 
-/// What is known after further bytes; those after the last LF are put behind `part`.
-fn follow(alloc: Global, part: &mut Bytes, machine: Machine, number: u64, piece: &[u8]) -> Known
-    requires { (bytes : List ℕ) × Knows (AnyKnown.Going machine number) part.old bytes }
-    ensures { (bytes : List ℕ) → Knows (AnyKnown.Going machine number) part.old bytes → Knows result part.new (bytes ++ piece.now) }
+/// Takes a further byte; one that ends no line is put behind `part`.
+fn take_byte(
+    alloc: Global,
+    machine: &mut Machine,
+    number: &mut u64,
+    part: &mut Bytes,
+    byte: u8,
+) -> Result<(), FollowError>
+    requires { (bytes : List ℕ) × Knows (AnyKnown.Going machine.old number.old) part.old bytes }
+    ensures ok { (bytes : List ℕ) → Knows (AnyKnown.Going machine.old number.old) part.old bytes
+        → OnOk result (Knows (AnyKnown.Going machine.new number.new) part.new (bytes ++ byte ∷ [])) }
+    ensures err { (bytes : List ℕ) → Knows (AnyKnown.Going machine.old number.old) part.old bytes
+        → IfErr result (IsStopped (bytes ++ byte ∷ [])) }
 {
-    let mut machine = machine;
-    let mut number = number;
+    if byte != b'\n' {
+        return Ok(part.push(byte)?);
+    }
+    machine.take(alloc, part.as_slice(), *number)?;
+    let Some(next) = number.checked_add(1) else {
+        return Err(FollowError::NoMemory);
+    };
+    *number = next;
+    part.clear();
+    Ok(())
+}
+
+/// Takes further bytes.
+fn follow(
+    alloc: Global,
+    machine: &mut Machine,
+    number: &mut u64,
+    part: &mut Bytes,
+    piece: &[u8],
+) -> Result<(), FollowError>
+    requires { (bytes : List ℕ) × Knows (AnyKnown.Going machine.old number.old) part.old bytes }
+    ensures ok { (bytes : List ℕ) → Knows (AnyKnown.Going machine.old number.old) part.old bytes
+        → OnOk result (Knows (AnyKnown.Going machine.new number.new) part.new (bytes ++ piece.now)) }
+    ensures err { (bytes : List ℕ) → Knows (AnyKnown.Going machine.old number.old) part.old bytes
+        → IfErr result (IsStopped (bytes ++ piece.now)) }
+{
     for byte in piece {
-        if *byte != b'\n' {
-            let Ok(()) = part.push(*byte) else {
-                return Known::Stopped(FollowError::NoMemory);
-            };
-            continue;
-        }
-        machine = match machine.take(alloc, part.as_slice(), number) {
-            Ok(next) => next,
-            Err(error) => return Known::Stopped(error),
-        };
-        number = match number.checked_add(1) {
-            Some(next) => next,
-            None => return Known::Stopped(FollowError::NoMemory),
-        };
-        part.clear();
+        take_byte(alloc, machine, number, part, *byte)?;
     }
-    Known::Going(machine, number)
+    Ok(())
 }
 
-/// What is known after further bytes, whatever was known before.
-fn fed(alloc: Global, part: &mut Bytes, known: Known, piece: &[u8]) -> Known
-    requires { (bytes : List ℕ) × Knows known part.old bytes }
-    ensures known { (bytes : List ℕ) → Knows known part.old bytes → Knows result part.new (bytes ++ piece.now) }
-    ensures stopped { (e : AnyError) → known ≡ Known.Stopped e → result ≡ Known.Stopped e }
+/// Takes further bytes, unless a line was refused.
+fn fed(alloc: Global, known: &mut Known, part: &mut Bytes, piece: &[u8])
+    requires { (bytes : List ℕ) × Knows known.old part.old bytes }
+    ensures known { (bytes : List ℕ) → Knows known.old part.old bytes → Knows known.new part.new (bytes ++ piece.now) }
+    ensures stopped { (e : AnyError) → known.old ≡ Known.Stopped e → known.new ≡ Known.Stopped e }
 {
-    match known {
-        Known::Going(machine, number) => follow(alloc, part, machine, number, piece),
-        Known::Stopped(error) => Known::Stopped(error),
+    let Known::Going(machine, number) = known else {
+        return;
+    };
+    if let Err(error) = follow(alloc, machine, number, part, piece) {
+        *known = Known::Stopped(error);
     }
 }
 
-/// A refusal twice. Where memory for the second one is wanting, that is the refusal.
-fn twice(error: FollowError) -> (FollowError, FollowError)
-    ensures same { result.0 ≡ result.1 }
-    ensures which { (result.0 ≡ error) ⊎ (result.0 ≡ FollowError.NoMemory) }
+/// What is answered of what is known. A refusal is answered and kept; where memory for the second one is wanting, that is the
+/// refusal.
+fn answered(known: &mut Known) -> Result<(), FollowError>
+    ensures kept { (part : List ℕ) → (bytes : List ℕ) → Knows known.old part bytes → Knows known.new part bytes }
+    ensures said { (part : List ℕ) → (bytes : List ℕ) → Knows known.old part bytes → IsFed bytes result }
+    ensures answers { Answers known.old known.new result }
 {
-    match error.again() {
-        FollowError::NoMemory => (FollowError::NoMemory, FollowError::NoMemory),
-        again => (error, again),
+    let Known::Stopped(error) = known else {
+        return Ok(());
+    };
+    let again = error.again();
+    if matches!(again, FollowError::NoMemory) {
+        *known = Known::Stopped(FollowError::NoMemory);
     }
-}
-
-/// What is answered of what is known, and what is known then.
-fn answered(known: Known) -> (Known, Result<(), FollowError>)
-    ensures kept { (part : List ℕ) → (bytes : List ℕ) → Knows known part bytes → Knows result.0 part bytes }
-    ensures said { (part : List ℕ) → (bytes : List ℕ) → Knows known part bytes → IsFed bytes result.1 }
-    ensures answers { Answers known result.0 result.1 }
-{
-    match known {
-        Known::Going(machine, number) => (Known::Going(machine, number), Ok(())),
-        Known::Stopped(error) => {
-            let (kept, said) = twice(error);
-            (Known::Stopped(kept), Err(said))
-        }
-    }
+    Err(again)
 }
 
 /// The view of a run.
@@ -140,10 +151,8 @@ impl Follower {
         ensures answers { (known : AnyKnown) × Answers known self.new.known result
             × ((e : AnyError) → self.old.known ≡ Known.Stopped e → known ≡ Known.Stopped e) }
     {
-        let known = mem::replace(&mut self.known, Known::Stopped(FollowError::NoMemory));
-        let (known, answer) = answered(fed(alloc, &mut self.part, known, piece));
-        self.known = known;
-        answer
+        fed(alloc, &mut self.known, &mut self.part, piece);
+        answered(&mut self.known)
     }
 
     /// The last opening that is whole, and the entries after it that are.

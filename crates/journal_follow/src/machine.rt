@@ -1,7 +1,8 @@
 //! What is known after some lines, and what a further line makes of it.
-ghost use Rattle.std.specs.Prelude.{◌≡◌, ◌<◌, ◌^◌, IfErr, IfOk, true, false, Some};
+ghost use Rattle.std.specs.Prelude.{◌≡◌, ◌+◌, ◌<◌, ◌^◌, IfErr, IfOk, OnOk, true, false, None, Some};
 ghost use Rattle.jk_model.specs.Validity.{IsOpening};
 ghost use Rattle.journal_text.specs.Kept.{IsSound};
+ghost use Rattle.journal_text.specs.Reading.{TakesText, held};
 ghost use Rattle.journal_follow.specs.Lines.{Refuses, RunState, Stand, Takes, at_first, is_among};
 ghost use Rattle.journal_follow.specs.Machines.{AddsHead, IsAt};
 
@@ -13,6 +14,7 @@ use journal_lines::{Line, read_line};
 use journal_text::Reader;
 use journal_verdict::Ruling;
 use std::alloc::Global;
+use std::mem;
 
 /// What is known after some lines.
 #[derive(Drop)]
@@ -37,27 +39,41 @@ fn bad_line(alloc: Global, number: u64, text: &[u8], ruled: Bytes) -> Result<Fol
     })
 }
 
-/// After a line of an opening, or one between segments.
-fn after_head(reader: Reader, taken: u32, run: Option<Run>) -> Result<Machine, NoMemory>
-    requires sound { IsSound reader }
-    ensures { (s : Stand) → IfOk result (AddsHead s reader taken run) }
+/// Takes a line's text. False: it can't be read there.
+fn take_text(alloc: Global, reader: &mut Reader, text: &[u8]) -> Result<bool, NoMemory>
+    requires few { held reader.old.place < 2 ^ 32 }
+    requires sound { IsSound reader.old }
+    ensures sound { IfOk result (λ taken. taken ≡ true → IsSound reader.new) }
+    ensures taken { IfOk result (λ taken. taken ≡ true → TakesText reader.old text.now (Some reader.new)) }
+    ensures unread { IfOk result (λ taken. taken ≡ false → TakesText reader.old text.now None) }
 {
-    let (reader, opened) = reader.take_opening();
+    let before = mem::replace(reader, Reader::new(alloc));
+    match before.take_text(alloc, text)? {
+        Some(after) => {
+            *reader = after;
+            Ok(true)
+        }
+        None => Ok(false),
+    }
+}
+
+/// After a line of an opening, or one between segments.
+fn after_head(alloc: Global, machine: &mut Machine) -> Result<(), NoMemory>
+    requires sound { IsSound machine.old.reader }
+    requires few { machine.old.taken + 1 < 2 ^ 32 }
+    requires shut { machine.old.among ≡ false }
+    ensures { (s : Stand) → OnOk result (AddsHead s machine.old.reader (machine.old.taken + 1) machine.old.run machine.new) }
+{
+    machine.taken += 1;
+    let (reader, opened) = mem::replace(&mut machine.reader, Reader::new(alloc)).take_opening();
+    machine.reader = reader;
     let Some((name, opening)) = opened else {
-        return Ok(Machine {
-            reader,
-            taken,
-            run,
-            among: false,
-        });
+        return Ok(());
     };
-    let run = Run::begin(name, opening, reader.rules())?;
-    Ok(Machine {
-        reader,
-        taken: 0,
-        run: Some(run),
-        among: true,
-    })
+    machine.run = Some(Run::begin(name, opening, machine.reader.rules())?);
+    machine.taken = 0;
+    machine.among = true;
+    Ok(())
 }
 
 /// Whether a line may stand among entries.
@@ -68,7 +84,7 @@ fn is_among(read: &Option<Line>) -> bool
 }
 
 impl Machine {
-    ghost use Rattle.std.specs.Prelude.{◌≡◌, IfErr, IfOk, true, false};
+    ghost use Rattle.std.specs.Prelude.{◌≡◌, IfErr, OnOk, true, false};
     ghost use Rattle.journal_follow.specs.Lines.{Refuses, Stand, Takes, at_first};
     ghost use Rattle.journal_follow.specs.Machines.{IsAt};
 
@@ -84,74 +100,58 @@ impl Machine {
         }
     }
 
-    fn take_entry(self, alloc: Global, text: &[u8], number: u64) -> Result<Machine, FollowError>
-        requires among { self.among ≡ true }
-        requires known { (s : Stand) × IsAt self s }
-        ensures ok { (s : Stand) → IsAt self s → IfOk result (λ m. (t : Stand) × Takes s text.now t × IsAt m t) }
-        ensures err { (s : Stand) → IsAt self s → IfErr result (Refuses s number text.now) }
+    fn take_entry(&mut self, alloc: Global, text: &[u8], number: u64) -> Result<(), FollowError>
+        requires among { self.old.among ≡ true }
+        requires known { (s : Stand) × IsAt self.old s }
+        ensures ok { (s : Stand) → IsAt self.old s → OnOk result ((t : Stand) × Takes s text.now t × IsAt self.new t) }
+        ensures err { (s : Stand) → IsAt self.old s → IfErr result (Refuses s number text.now) }
     {
-        let Machine {
-            reader,
-            taken,
-            run,
-            ..
-        } = self;
-        let Some(run) = run else { unreachable!() };
-        let read = read_line(alloc, reader.rules(), text)?;
+        let read = read_line(alloc, self.reader.rules(), text)?;
         if !is_among(&read) {
             return Err(FollowError::Unreadable { line: number });
         }
+        let Some(run) = &mut self.run else {
+            unreachable!()
+        };
         match read {
-            Some(Line::Entry(entry)) => Ok(Machine {
-                reader,
-                taken,
-                run: Some(run.take_entry(&entry, number)?),
-                among: true,
-            }),
-            Some(Line::End(count)) => Ok(Machine {
-                reader,
-                taken,
-                run: Some(run.take_end(count, number)?),
-                among: false,
-            }),
+            Some(Line::Entry(entry)) => run.take_entry(&entry, number),
+            Some(Line::End(count)) => {
+                let ended = run.take_end(count, number);
+                self.among = false;
+                ended
+            }
             _ => unreachable!(),
         }
     }
 
-    fn take_head(self, alloc: Global, text: &[u8], number: u64) -> Result<Machine, FollowError>
-        requires shut { self.among ≡ false }
-        requires known { (s : Stand) × IsAt self s }
-        ensures ok { (s : Stand) → IsAt self s → IfOk result (λ m. (t : Stand) × Takes s text.now t × IsAt m t) }
-        ensures err { (s : Stand) → IsAt self s → IfErr result (Refuses s number text.now) }
+    fn take_head(&mut self, alloc: Global, text: &[u8], number: u64) -> Result<(), FollowError>
+        requires shut { self.old.among ≡ false }
+        requires known { (s : Stand) × IsAt self.old s }
+        ensures ok { (s : Stand) → IsAt self.old s → OnOk result ((t : Stand) × Takes s text.now t × IsAt self.new t) }
+        ensures err { (s : Stand) → IsAt self.old s → IfErr result (Refuses s number text.now) }
     {
-        let Machine {
-            reader,
-            taken,
-            run,
-            ..
-        } = self;
-        if taken == u32::MAX {
+        if self.taken == u32::MAX {
             return Err(FollowError::NoMemory);
         }
-        let Some(reader) = reader.take_text(alloc, text)? else {
+        if !take_text(alloc, &mut self.reader, text)? {
             return Err(FollowError::Unreadable { line: number });
-        };
-        if let Some(ruled) = difference(alloc, &run, taken, text)? {
+        }
+        if let Some(ruled) = difference(alloc, &self.run, self.taken, text)? {
             return Err(bad_line(alloc, number, text, ruled)?);
         }
-        Ok(after_head(reader, taken + 1, run)?)
+        Ok(after_head(alloc, self)?)
     }
 
-    /// Takes a further line, which has this number.
+    /// Takes a further line, which has this number. After a refusal nothing is said of the machine.
     pub(crate) fn take(
-        self,
+        &mut self,
         alloc: Global,
         text: &[u8],
         number: u64,
-    ) -> Result<Machine, FollowError>
-        requires known { (s : Stand) × IsAt self s }
-        ensures ok { (s : Stand) → IsAt self s → IfOk result (λ m. (t : Stand) × Takes s text.now t × IsAt m t) }
-        ensures err { (s : Stand) → IsAt self s → IfErr result (Refuses s number text.now) }
+    ) -> Result<(), FollowError>
+        requires known { (s : Stand) × IsAt self.old s }
+        ensures ok { (s : Stand) → IsAt self.old s → OnOk result ((t : Stand) × Takes s text.now t × IsAt self.new t) }
+        ensures err { (s : Stand) → IsAt self.old s → IfErr result (Refuses s number text.now) }
     {
         if self.among {
             self.take_entry(alloc, text, number)

@@ -23,7 +23,7 @@ pub(crate) struct Run {
 }
 
 impl Run {
-    ghost use Rattle.std.specs.Prelude.{◌≡◌, ◌++◌, ◌∷◌, [], IfErr, IfOk, true, false};
+    ghost use Rattle.std.specs.Prelude.{◌≡◌, ◌++◌, ◌∷◌, [], IfErr, IfOk, OnOk, true, false};
     ghost use Rattle.balancer_core.specs.Journal.{past_of};
     ghost use Rattle.jk_model.specs.Journal.{moment_of};
     ghost use Rattle.jk_model.specs.Legal.{IsNext};
@@ -54,17 +54,16 @@ impl Run {
     }
 
     /// Takes a further entry, if it follows from those before it.
-    pub(crate) fn take_entry(self, entry: &Entry, number: u64) -> Result<Run, FollowError>
-        requires at { self.at ≡ moment_of self.book.opening (past_of self.book) }
-        requires kept { IsKeptEntry self.book.rules entry.now }
-        ensures ok { (run : RunState) → IsRun true self run → IfOk result (TakesOn run entry.now) }
-        ensures err { (run : RunState) → IsRun true self run → IfErr result (DiffersBy run entry.now number) }
+    pub(crate) fn take_entry(&mut self, entry: &Entry, number: u64) -> Result<(), FollowError>
+        requires at { self.old.at ≡ moment_of self.old.book.opening (past_of self.old.book) }
+        requires kept { IsKeptEntry self.old.book.rules entry.now }
+        ensures ok { (run : RunState) → IsRun true self.old run → OnOk result (TakesOn run entry.now self.new) }
+        ensures err { (run : RunState) → IsRun true self.old run → IfErr result (DiffersBy run entry.now number) }
     {
-        let mut run = self;
-        match judge(&mut run.book, run.at, entry)? {
+        match judge(&mut self.book, self.at, entry)? {
             None => {
-                run.at = entry.at;
-                Ok(run)
+                self.at = entry.at;
+                Ok(())
             }
             Some((kept, ruled)) => Err(FollowError::Bad {
                 line: number,
@@ -75,11 +74,10 @@ impl Run {
     }
 
     /// Ends the segment, if this is the count of its entries.
-    pub(crate) fn take_end(self, count: u64, number: u64) -> Result<Run, FollowError>
-        ensures { (run : RunState) → IsRun true self run → EndsRun run count number result }
+    pub(crate) fn take_end(&mut self, count: u64, number: u64) -> Result<(), FollowError>
+        ensures { (run : RunState) → IsRun true self.old run → EndsRun run count number self.new result }
     {
-        let mut run = self;
-        let kept = run.book.kept();
+        let kept = self.book.kept();
         if count != kept {
             return Err(FollowError::Bad {
                 line: number,
@@ -87,7 +85,7 @@ impl Run {
                 ruled: Ruling::Count(kept),
             });
         }
-        let _kept = run.book.cut()?;
-        Ok(run)
+        let _kept = self.book.cut()?;
+        Ok(())
     }
 }
