@@ -1,11 +1,12 @@
 /* A load of one request over many connections: requests a second, latencies, and the front's own processor time.
  *
  * usage: load PORT CONNECTIONS REQUESTS PATH [BODY_BYTES [FRONT_PID]]     speaks HTTP/1.1 to 127.0.0.1:PORT
+ *        load PORT CONNECTIONS 5s PATH ..                                 for 5 seconds, instead of a number of requests
  *        load PORT CONNECTIONS REQUESTS /size/%                           each asks for another length, up to 9,972 bytes
  *        load PORT CONNECTIONS REQUESTS ajp:PATH                          speaks AJPv1.3, as a connector does
  *
  * Each connection is kept, and has one request under way at a time. It ends once REQUESTS replies have come, or after
- * 120 seconds. It prints one line; a reply that isn't whole, or whose status isn't 200, counts as wrong, and so does one of
+ * 120 seconds, or after the seconds that were given. It prints one line; a reply that isn't whole, or whose status isn't 200, counts as wrong, and so does one of
  * another length than the one that was asked for by `%`: it would be the reply to another request.
  */
 #define _GNU_SOURCE
@@ -22,7 +23,7 @@
 #include <time.h>
 #include <unistd.h>
 
-enum { MOST_CONNECTIONS = 1024, HEAD_ROOM = 16384, LIMIT_SECONDS = 120, OWN_ROOM = 256, LENGTHS = 9973 };
+enum { MOST_CONNECTIONS = 1024, HEAD_ROOM = 16384, LIMIT_SECONDS = 120, OWN_ROOM = 256, LENGTHS = 9973, MOST_TIMED = 16000000 };
 
 struct connection {
     int fd;
@@ -202,6 +203,9 @@ int main(int argc, char **argv) {
     if (argc < 5 || argc > 7) { fprintf(stderr, "usage: load PORT CONNECTIONS REQUESTS PATH [BODY_BYTES [FRONT_PID]]\n"); return 2; }
     int port = atoi(argv[1]), count = atoi(argv[2]), pid = argc > 6 ? atoi(argv[6]) : 0;
     long total = atol(argv[3]), begun = 0, done = 0, wrong = 0, broken = 0, reopened = 0;
+    int is_timed = strchr(argv[3], 's') != NULL;
+    uint64_t limit = (uint64_t)(is_timed ? total : LIMIT_SECONDS) * 1000000000u;
+    if (is_timed) total = MOST_TIMED;
     if (count < 1 || count > MOST_CONNECTIONS || total < count) { fprintf(stderr, "load: bad counts\n"); return 2; }
     is_ajp = !strncmp(argv[4], "ajp:", 4);
     if (is_ajp) make_ajp(argv[4] + 4); else make_http(argv[4], argc > 5 ? (size_t)atol(argv[5]) : 0);
@@ -219,7 +223,7 @@ int main(int argc, char **argv) {
         epoll_ctl(poll, EPOLL_CTL_ADD, c->fd, &event);
     }
     int open = count;
-    while (open && done < total && now_ns() - start < (uint64_t)LIMIT_SECONDS * 1000000000u) {
+    while (open && done < total && now_ns() - start < limit) {
         struct epoll_event events[64];
         int n = epoll_wait(poll, events, 64, 1000);
         for (int i = 0; i < n; i++) {
@@ -262,5 +266,5 @@ int main(int argc, char **argv) {
            (double)done / seconds, done ? (double)took[done / 2] / 1e3 : 0, done ? (double)took[done * 99 / 100] / 1e3 : 0, wrong, broken, reopened);
     if (pid) printf("  front %5.1f us/request %ld KB", (cpu_of(pid) - cpu) / (double)(done ? done : 1), memory_of(pid));
     printf("\n");
-    return wrong || broken || done < total;
+    return wrong || broken || (!is_timed && done < total);
 }

@@ -19,6 +19,9 @@ import tempfile
 import threading
 import time
 
+from member import packet, read_packet, start_member, whole_reply
+from running import free_port, is_good, programs_in_a_folder, reply_of
+
 DOC = os.path.join(os.path.dirname(os.path.abspath(__file__)), "..", "docs", "OPERATING.md")
 MODULES = ["mpm_event", "authz_core", "ssl", "headers", "proxy", "proxy_http", "socache_shmcb"]
 
@@ -29,58 +32,7 @@ def block(heading, language):
     return re.search(rf"\n```{language}\n(.*?)\n```\n", part, re.S)[1]
 
 
-def free_port():
-    with socket.create_server(("127.0.0.1", 0)) as door:
-        return door.getsockname()[1]
-
-
-def await_port(port, running):
-    for _ in range(200):
-        if running.poll() is not None:
-            sys.exit(f"{running.args} ended with {running.returncode}")
-        with contextlib.suppress(OSError), socket.create_connection(("127.0.0.1", port), 1):
-            return
-        time.sleep(0.1)
-    sys.exit(f"{running.args} doesn't listen at {port}")
-
-
-class Programs:
-    """The programs that run; all of them are ended at the end."""
-
-    def __init__(self, folder):
-        self.folder, self.running = folder, []
-
-    def start(self, port, *words):
-        said = open(f"{self.folder}/said", "ab")
-        running = subprocess.Popen(words, stdin=subprocess.DEVNULL, stdout=said, stderr=said)
-        self.running.append(running)
-        await_port(port, running)
-        return running
-
-    def write(self, name, text):
-        with open(f"{self.folder}/{name}", "w", encoding="utf-8") as file:
-            file.write(text)
-        return f"{self.folder}/{name}"
-
-    def end(self):
-        for running in reversed(self.running):
-            running.terminate()
-        for running in self.running:
-            try:
-                running.wait(10)
-            except subprocess.TimeoutExpired:
-                running.kill()
-
-
 # A container that tells what it got.
-
-def packet(payload):
-    return b"AB" + struct.pack(">H", len(payload)) + payload
-
-
-def text(data):
-    return struct.pack(">H", len(data)) + data + b"\0"
-
 
 class Fields:
     """The fields of a Forward Request, in order."""
@@ -123,20 +75,6 @@ class Fields:
         return lines + [f"{name}: {value}" for name, value in headers], length > 0 or chunked, chunked
 
 
-def read_whole(link, count):
-    data = b""
-    while len(data) < count:
-        part = link.recv(count - len(data))
-        if not part:
-            raise EOFError
-        data += part
-    return data
-
-
-def read_packet(link):
-    return read_whole(link, struct.unpack(">H", read_whole(link, 4)[2:])[0])
-
-
 def body_of(link, chunked):
     """The bytes of a body: the first piece comes unasked but where its length isn't known."""
     total, first = 0, not chunked
@@ -150,25 +88,12 @@ def body_of(link, chunked):
         total += struct.unpack(">H", piece[:2])[0]
 
 
-def serve_link(link):
-    with contextlib.suppress(EOFError, OSError), link:
-        while True:
-            payload = read_packet(link)
-            if payload == b"\x0a":
-                link.sendall(packet(b"\x09"))
-                continue
-            lines, has_body, chunked = Fields(payload).told()
-            if has_body:
-                lines.append(f"body {body_of(link, chunked)}")
-            page = "".join(line + "\n" for line in lines).encode("latin-1")
-            head = b"\x04" + struct.pack(">H", 200) + text(b"OK") + struct.pack(">H", 1) + b"\xa0\x03" + text(str(len(page)).encode())
-            link.sendall(packet(head) + packet(b"\x03" + text(page)) + packet(b"\x05\x01"))
-
-
-def tell_requests(door):
-    while True:
-        link, _ = door.accept()
-        threading.Thread(target=serve_link, args=(link,), daemon=True).start()
+def told_reply(link, payload):
+    """A page of what a request told."""
+    lines, has_body, chunked = Fields(payload).told()
+    if has_body:
+        lines.append(f"body {body_of(link, chunked)}")
+    return whole_reply("".join(line + "\n" for line in lines).encode("latin-1"))
 
 
 # Servers that end TLS.
@@ -193,27 +118,6 @@ def apache_words(programs, port, front, folder):
     around = f"ServerRoot /etc/apache2\nPidFile {folder}/apache.pid\nDefaultRuntimeDir {folder}\nErrorLog {folder}/apache.log\n"
     around += f"ServerName localhost\nUser www-data\nGroup www-data\n{modules}Listen 127.0.0.1:{port}\n{site}\n"
     return ["apache2", "-X", "-f", programs.write("apache.conf", around)]
-
-
-def reply_of(link):
-    """The status and the body of a reply with a length or of chunks."""
-    with link.makefile("rb") as stream:
-        first = stream.readline().split()
-        if len(first) < 2:
-            return 0, "no reply"
-        status, fields = int(first[1]), {}
-        for line in iter(stream.readline, b"\r\n"):
-            name, value = line.split(b":", 1)
-            fields[name.lower()] = value.strip()
-        if b"chunked" in fields.get(b"transfer-encoding", b""):
-            body = b""
-            while size := int(stream.readline().split(b";")[0], 16):
-                body += stream.read(size)
-                stream.readline()
-            stream.readline()
-        else:
-            body = stream.read(int(fields.get(b"content-length", 0)))
-    return status, body.decode("latin-1")
 
 
 def tls_link(port):
@@ -266,9 +170,8 @@ def try_tls(program, programs, folder):
             "-out", f"{folder}/cert.pem"]
     subprocess.run(make, check=True, capture_output=True)
     programs.write("both.pem", open(f"{folder}/cert.pem", encoding="utf-8").read() + open(f"{folder}/key.pem", encoding="utf-8").read())
-    door, front = socket.create_server(("127.0.0.1", 0)), free_port()
-    threading.Thread(target=tell_requests, args=(door,), daemon=True).start()
-    workers = programs.write("w", f"worker.list=app,status\nworker.app.port={door.getsockname()[1]}\nworker.app.host=127.0.0.1\nworker.status.type=status\n")
+    member, front = start_member(told_reply), free_port()
+    workers = programs.write("w", f"worker.list=app,status\nworker.app.port={member}\nworker.app.host=127.0.0.1\nworker.status.type=status\n")
     programs.start(front, program, "serve", workers, programs.write("m", "/*=app\n/jkstatus=status\n"), f"127.0.0.1:{front}", "8")
     count = 0
     for name, words_of in (("nginx", nginx_words), ("haproxy", haproxy_words), ("apache", apache_words)):
@@ -359,14 +262,6 @@ def start_front(programs, program, name, port, folder):
     return programs.start(port, program, *words), journal
 
 
-def is_good(program, journal):
-    """Whether the journal that a front left is good by its rules."""
-    parts = sorted(name for name in os.listdir(journal) if name.startswith("lb-"))
-    whole = b"".join(open(f"{journal}/{name}", "rb").read() for name in parts)
-    done = subprocess.run([program, "check"], input=whole, capture_output=True, check=False)
-    return done.returncode == 0, done.stdout.decode().strip()
-
-
 def is_well(name, clients, start, gone, links):
     """Prints what was lost of the requests that were begun since a moment, and whether none of them was begun once the front
     was gone and the balancer had half a second to see it."""
@@ -433,15 +328,8 @@ def main():
     tries = {"tls": try_tls, "two": try_two}
     if len(sys.argv) != 3 or sys.argv[1] not in tries:
         sys.exit(__doc__)
-    with tempfile.TemporaryDirectory() as folder:
-        os.chmod(folder, 0o755)
-        programs = Programs(folder)
-        try:
-            good = tries[sys.argv[1]](os.path.abspath(sys.argv[2]), programs, folder)
-        finally:
-            programs.end()
-            if "-v" in os.environ.get("SHOW", ""):
-                print(open(f"{folder}/said", encoding="latin-1").read())
+    with programs_in_a_folder() as programs:
+        good = tries[sys.argv[1]](os.path.abspath(sys.argv[2]), programs, programs.folder)
     sys.exit(0 if good else 1)
 
 
