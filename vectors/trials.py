@@ -46,8 +46,8 @@ class Site:
         return self.programs.start(port, *before, self.program, "serve", *options, *files, f"127.0.0.1:{port}", str(threads)), port
 
 
-def dial(port):
-    return socket.create_connection(("127.0.0.1", port), 30)
+def dial(port, seconds=30):
+    return socket.create_connection(("127.0.0.1", port), seconds)
 
 
 def send(link, path, body=None, more=""):
@@ -226,7 +226,7 @@ def try_refused(site):
     for status, path, more, announced in cases:
         for close in ("", "Connection: close\r\n"):
             for _ in range(3):
-                came = post_beside(dial(port), path, more + close, 5_000_000, announced)
+                came = post_beside(dial(port, 10), path, more + close, 5_000_000, announced)
                 if came != status:
                     wrong.append((status, close.strip(), came))
     print(f"{len(cases) * 6 - len(wrong)} of {len(cases) * 6} replies arrived", *wrong, sep="\n    ")
@@ -333,10 +333,10 @@ def try_shelf(site, name, break_it, mend=None):
 
 
 def fill(journal):
-    with open(f"{journal}/full", "wb") as file:
+    with open(f"{journal}/full", "wb", buffering=0) as file:
         try:
             while file.write(b"x" * 4096):
-                file.flush()
+                pass
         except OSError:
             pass
 
