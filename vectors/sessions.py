@@ -14,6 +14,8 @@ hand from packets and lines.
 import re
 import sys
 
+import pages
+
 REASONS = {
     400: "Bad Request", 403: "Forbidden", 404: "Not Found", 413: "Content Too Large",
     431: "Request Header Fields Too Large", 500: "Internal Server Error", 501: "Not Implemented", 502: "Bad Gateway",
@@ -248,8 +250,18 @@ PAGE = b"jk status\nlb lb R 2 0\nnode1 A ok 0 0 1 0 -\nnode2 D ok 0 0 1 0 -\n"
 DOUBLED = b"jk status\nlb lb R 2 1\nnode1 A ok 0 0 2 0 -\nnode2 D ok 0 0 1 0 -\n"
 
 
-def page(text, last=False, head_only=False):
-    lines = f"HTTP/1.1 200 OK\r\nContent-Type: text/plain\r\nContent-Length: {len(text)}\r\n"
+def nodes(next_=0, factor=1):
+    """The balancer of these sites as its table and its figures show it."""
+    first, second = pages.member("node1", factor=factor, address="localhost:8109"), pages.member("node2", "D", address="localhost:8209")
+    return [dict(type="lb", name="lb", method="R", next=next_, members=[first, second])]
+
+
+HTML = "text/html; charset=utf-8"
+PROM = "text/plain; version=0.0.4; charset=utf-8"
+
+
+def page(text, last=False, head_only=False, kind="text/plain"):
+    lines = f"HTTP/1.1 200 OK\r\nContent-Type: {kind}\r\nContent-Length: {len(text)}\r\n"
     return (lines + ("Connection: close\r\n" if last else "") + "\r\n").encode() + (b"" if head_only else text)
 
 
@@ -271,9 +283,9 @@ def answered(name, path, status, workers, desk="next 0 node1 ok node2 ok", metho
                desk=desk, workers=workers, map_="/jk=jkstatus\n/*=lb\n")
 
 
-def paged(name, path, text, row_len=None, method="GET", old=False, workers=STATUS + READ_ONLY, desk="next 0 node1 ok node2 ok"):
+def paged(name, path, text, kind="text/plain", method="GET", old=False, workers=STATUS + READ_ONLY, desk="next 0 node1 ok node2 ok"):
     sent = 0 if method == "HEAD" else len(text)
-    return Row(name, request(method, path, old=old), [], closed(1, "Last" if old else "ByClient"), gets=page(text, old, method == "HEAD"),
+    return Row(name, request(method, path, old=old), [], closed(1, "Last" if old else "ByClient"), gets=page(text, old, method == "HEAD", kind),
                rows=[f"{method} {path}{' old' if old else ''} 200 {sent} jkstatus"], desk=desk, workers=workers, map_="/jk=jkstatus\n/*=lb\n")
 
 
@@ -470,6 +482,16 @@ def status_workers():
     yield paged("to HEAD without a body", "/jk", PAGE, method="HEAD")
     yield paged("and ends the session of HTTP/1.0", "/jk", PAGE, old=True)
     yield paged("after a change", "/jk?cmd=update&w=lb&sw=node1&vwf=2", DOUBLED, workers=STATUS, desk="next 1 node1 ok node2 ok")
+    yield "a status worker's page is written as its query says"
+    table = pages.table(nodes(), False).encode()
+    yield paged("as a table", "/jk?mime=html", table, HTML)
+    yield paged("as a table with forms", "/jk?mime=html", pages.table(nodes(), True).encode(), HTML, workers=STATUS)
+    yield paged("as a table after a change", "/jk?cmd=update&w=lb&sw=node1&vwf=2&mime=html", pages.table(nodes(1, 2), True).encode(), HTML, workers=STATUS,
+                desk="next 1 node1 ok node2 ok")
+    yield paged("as a table to HEAD", "/jk?mime=html", table, HTML, method="HEAD")
+    yield paged("as figures", "/jk?mime=prom", pages.figures(nodes()).encode(), PROM)
+    yield paged("as lines", "/jk?mime=txt", PAGE)
+    yield paged("as lines where the value is another", "/jk?mime=xml", PAGE)
     yield "a status worker refuses"
     yield answered("a change where it is read only", "/jk?cmd=update&w=lb&sw=node1&vwf=2", 403, STATUS + READ_ONLY)
     yield answered("a member that isn't there", "/jk?cmd=update&w=lb&sw=node9&vwf=2", 404, STATUS)

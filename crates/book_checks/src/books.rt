@@ -106,7 +106,7 @@ impl Teller for BookRow {
             ("start", _) => self.start(alloc, out),
             ("resume", _) => self.resume(alloc, out),
             ("part", type_) => self.show_on_page(alloc, type_, out),
-            ("page", _) => self.pages.tell(alloc, out),
+            ("page", way) => self.pages.tell(alloc, way, out),
             _ => self.tell_of_book(alloc, asked, out),
         }
     }

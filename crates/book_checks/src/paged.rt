@@ -4,7 +4,7 @@ use balancer_core::Book;
 use check_lines::begin::named_opening;
 use jk_io::{Bytes, NoMemory};
 use jk_model::Method;
-use status_page::{AddressList, BalancerType, PageList, PagePart, render};
+use status_page::{Address, AddressList, BalancerType, Mime, PageList, PagePart, render_as};
 use std::alloc::Global;
 
 /// Balancers that are to stand on a page.
@@ -29,7 +29,20 @@ fn name_of(alloc: Global, lines: &[u8]) -> Result<Option<(Bytes, Method)>, NoMem
     }
 }
 
+/// The addresses of a balancer's members, all of them localhost:8009.
+fn addresses_of(alloc: Global, members: usize) -> Result<AddressList, NoMemory> {
+    let mut addresses = AddressList::new(alloc);
+    for _ in 0..members {
+        addresses.push(Address {
+            host: Bytes::from_slice(alloc, b"localhost")?,
+            port: 8009,
+        })?;
+    }
+    Ok(addresses)
+}
+
 fn part_of(
+    alloc: Global,
     type_: BalancerType,
     name: Bytes,
     method: Method,
@@ -40,9 +53,20 @@ fn part_of(
         type_,
         name,
         method,
-        addresses: AddressList::new(view.rows.allocator()),
+        addresses: addresses_of(alloc, view.rows.len())?,
         view,
     })
+}
+
+/// How a page is written, and whether its table has forms.
+fn way_of(word: &str) -> Option<(Mime, bool)> {
+    match word {
+        "" => Some((Mime::Txt, true)),
+        "html" => Some((Mime::Html, false)),
+        "forms" => Some((Mime::Html, true)),
+        "prom" => Some((Mime::Prom, true)),
+        _ => None,
+    }
 }
 
 impl Paged {
@@ -54,12 +78,13 @@ impl Paged {
 
     fn add_named(
         &mut self,
+        alloc: Global,
         type_: BalancerType,
         name: Bytes,
         method: Method,
         book: &Book,
     ) -> Result<bool, NoMemory> {
-        self.parts.push(part_of(type_, name, method, book)?)?;
+        self.parts.push(part_of(alloc, type_, name, method, book)?)?;
         Ok(true)
     }
 
@@ -71,7 +96,7 @@ impl Paged {
         book: &Book,
     ) -> Result<bool, NoMemory> {
         match name_of(alloc, lines)? {
-            Some((name, method)) => self.add_named(type_, name, method, book),
+            Some((name, method)) => self.add_named(alloc, type_, name, method, book),
             None => Ok(false),
         }
     }
@@ -90,9 +115,12 @@ impl Paged {
         }
     }
 
-    /// Puts the page, and takes the balancers from it.
-    pub fn tell(&mut self, alloc: Global, out: &mut Bytes) -> Result<bool, NoMemory> {
-        out.extend(render(alloc, &self.parts)?.as_slice())?;
+    /// Puts the page, written in the way of this word, and takes the balancers from it. False for another word.
+    pub fn tell(&mut self, alloc: Global, way: &str, out: &mut Bytes) -> Result<bool, NoMemory> {
+        let Some((mime, may_change)) = way_of(way) else {
+            return Ok(false);
+        };
+        out.extend(render_as(alloc, mime, may_change, &self.parts)?.as_slice())?;
         self.parts = PageList::new(alloc);
         Ok(true)
     }

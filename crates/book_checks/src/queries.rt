@@ -7,8 +7,8 @@ use check_lines::texts::{first_word, put_given, put_line, say};
 use jk_io::{Bytes, NoMemory};
 use jk_model::{Activation, Answer, Call, Command, Entry, LbConfig};
 use status_page::{
-    CommandList, NamedChange, NamedRedirect, StatusCommand, StatusError, commands_for,
-    member_named, read_command,
+    CommandList, Mime, NamedChange, NamedRedirect, StatusCommand, StatusError, commands_for,
+    member_named, read_command, read_mime,
 };
 use std::alloc::Global;
 
@@ -213,6 +213,15 @@ fn tell_of_members(
     }
 }
 
+/// Puts how the page of a query is written.
+fn tell_mime(alloc: Global, query: &str, out: &mut Bytes) -> Result<bool, NoMemory> {
+    match read_mime(alloc, Some(query.as_bytes()))? {
+        Mime::Txt => say(out, "txt"),
+        Mime::Html => say(out, "html"),
+        Mime::Prom => say(out, "prom"),
+    }
+}
+
 impl Teller for QueryRow {
     fn tell(&mut self, alloc: Global, asked: &str, out: &mut Bytes) -> Result<bool, NoMemory> {
         if is_opening_line(asked) {
@@ -222,6 +231,7 @@ impl Teller for QueryRow {
         match first_word(asked) {
             ("none", _) => tell_meaning(alloc, None, out),
             ("means", query) => tell_meaning(alloc, Some(query.as_bytes()), out),
+            ("written", query) => tell_mime(alloc, query, out),
             ("kind", query) => tell_kind(alloc, query, out),
             _ => tell_of_members(alloc, self.lines.as_slice(), asked, out),
         }
