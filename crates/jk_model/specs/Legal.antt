@@ -2,6 +2,7 @@
 use Rattle.std.specs.Prelude.{◌≡◌, ℕ, ◌+◌, ◌^◌, ◌<◌, ◌≤◌, true, List, [], ◌∷◌, length, reverse, Option, Some, None}
 use Rattle.jk_model.specs.Choice.{IsPick}
 use Rattle.jk_model.specs.Journal.{members, maintained_of, moment_of, next_of}
+use Rattle.jk_model.specs.Limits.{most_bytes, most_numbers}
 use Rattle.jk_model.specs.Settings.{common_after}
 use Rattle.jk_model.specs.Tickets.{is_out, out}
 use Rattle.jk_model.specs.Validity.{IsOpening}
@@ -15,8 +16,6 @@ use Rattle.jk_model.specs.declared.journal.Call.{Call}
 use Rattle.jk_model.specs.declared.journal.Call.TheVariants as call
 use Rattle.jk_model.specs.declared.journal.Entry.{Entry}
 use Rattle.jk_model.specs.declared.opening.Opening.{Opening}
-use Rattle.jk_model.specs.declared.journal.TheConstants.{MOST_BYTES}
-use Rattle.jk_model.specs.declared.validity.TheConstants.{MOST_NUMBERS}
 
 -- How many numbers a call takes from those that the Returns don't need: its own, and for a Select that of its Return.
 abbrev pub taken_by : Call → ℕ
@@ -75,7 +74,7 @@ KnowsTerms v ask = v ≡ 1 → (ask.disabled ≡ 0) × (ask.stopped ≡ 0)
 -- The answer of an entry follows from the entries before it.
 abbrev pub IsAnswered : ℕ → Opening → List Entry → Entry → Call → Type 0
 IsAnswered v o p e (call.Select ask) = IsPick v o p ask e.answer × KnowsTerms v ask
-IsAnswered v o p e (call.Return t w) = (is_out o p t ≡ true) × (w.bytes ≤ MOST_BYTES) × (e.answer ≡ answer.Done)
+IsAnswered v o p e (call.Return t w) = (is_out o p t ≡ true) × (w.bytes ≤ most_bytes) × (e.answer ≡ answer.Done)
 IsAnswered v o p e call.Maintain = (maintained_of o p + o.config.maintain ≤ e.at) × (e.answer ≡ answer.Done)
 IsAnswered v o p e (call.Admin c) = IsDoable o p c × (e.answer ≡ answer.Done)
 
@@ -83,7 +82,7 @@ IsAnswered v o p e (call.Admin c) = IsDoable o p c × (e.answer ≡ answer.Done)
 pub record IsNext (v : ℕ) (o : Opening) (p : List Entry) (e : Entry) : Type 0 where
   pub number : e.seq ≡ next_of o p
   pub moment : moment_of o p ≤ e.at
-  pub room : e.seq + length (out o p) + taken_by e.call ≤ MOST_NUMBERS
+  pub room : e.seq + length (out o p) + taken_by e.call ≤ most_numbers
   pub answered : IsAnswered v o p e e.call
 
 -- A legal history whose entries are p, newest first.

@@ -3,6 +3,7 @@ pub mod Free
 pub mod Journal
 pub mod Laws
 pub mod Legal
+pub mod Limits
 pub mod Loads
 pub mod Multiple
 pub mod Present

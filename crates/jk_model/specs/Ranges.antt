@@ -1,10 +1,10 @@
 -- The ranges of a balancer's values, and the refusals of a configuration that isn't within them.
 use Rattle.std.specs.Prelude.{◌≡◌, ℕ, ◌<◌, ◌≤◌, ◌^◌, ◌==◌, ◌&&◌, nat_lt, not, Bool, true, List, length, map, Option, Some, None, slice_get}
+use Rattle.jk_model.specs.Limits.{most_members, most_seconds}
 use Rattle.jk_model.specs.Multiple.{multiple_of}
 use Rattle.jk_model.specs.declared.member.MemberConfig.{MemberConfig}
 use Rattle.jk_model.specs.declared.config_error.ConfigError.{ConfigError}
 use Rattle.jk_model.specs.declared.config_error.ConfigError.TheVariants as Refusal
-use Rattle.jk_model.specs.declared.config.TheConstants.{MAX_MEMBERS, MAX_PERIOD_SECONDS}
 
 -- A redirect of member i of n leads to another member.
 abbrev pub redirects_within : (n i : ℕ) → Option ℕ → Bool
@@ -31,12 +31,12 @@ factors_in ms = map (λ m. m.factor) ms
 -- 1 to 64 members.
 pub record IsCount (n : ℕ) : Type 0 where
   pub some : 1 ≤ n
-  pub few : n ≤ MAX_MEMBERS
+  pub few : n ≤ most_members
 
 -- Seconds of a period, up to a day.
 pub record IsPeriod (seconds : ℕ) : Type 0 where
   pub above : 1 ≤ seconds
-  pub below : seconds ≤ MAX_PERIOD_SECONDS
+  pub below : seconds ≤ most_seconds
 
 -- Member i is the first one with a value out of its range.
 pub record IsFirstBad (ms : List MemberConfig) (i : ℕ) : Type 0 where
@@ -47,7 +47,7 @@ pub record IsFirstBad (ms : List MemberConfig) (i : ℕ) : Type 0 where
 -- When a configuration is refused, each refusal after those before it.
 abbrev pub IsRefused : (maintain recover : ℕ) → List MemberConfig → ConfigError → Type 0
 IsRefused maintain recover ms Refusal.NoMembers = length ms ≡ 0
-IsRefused maintain recover ms Refusal.TooMany = MAX_MEMBERS < length ms
+IsRefused maintain recover ms Refusal.TooMany = most_members < length ms
 IsRefused maintain recover ms (Refusal.BadMember index) = IsCount (length ms) × IsFirstBad ms index
 IsRefused maintain recover ms Refusal.BadTime =
     IsCount (length ms) × AreInRange ms × ¬ (IsPeriod maintain × IsPeriod recover)

@@ -1,12 +1,12 @@
 -- What a segment of a journal keeps of its entries, whether or not they are legal.
 use Rattle.std.specs.Prelude.{◌≡◌, ℕ, ◌≤◌, Bool, List, Some, slice_get}
+use Rattle.jk_model.specs.Limits.{most_bytes}
 use Rattle.jk_model.specs.declared.ask.Ask.{Ask}
 use Rattle.jk_model.specs.declared.journal.Answer.TheVariants as answer
 use Rattle.jk_model.specs.declared.journal.Call.TheVariants as call
 use Rattle.jk_model.specs.declared.journal.Entry.{Entry}
 use Rattle.jk_model.specs.declared.journal.How.{How}
 use Rattle.jk_model.specs.declared.journal.Outcome.{Outcome}
-use Rattle.jk_model.specs.declared.journal.TheConstants.{MOST_BYTES}
 
 -- Rules 1 or 2.
 pub record AreRules (v : ℕ) : Type 0 where
@@ -15,7 +15,7 @@ pub record AreRules (v : ℕ) : Type 0 where
 
 pub record IsKeptEntry (v : ℕ) (e : Entry) : Type 0 where
   pub ticket : (m t : ℕ) (how : How) (probe : Bool) → e.answer ≡ answer.Chosen m t how probe → t ≡ e.seq
-  pub bytes : (t : ℕ) (w : Outcome) → e.call ≡ call.Return t w → w.bytes ≤ MOST_BYTES
+  pub bytes : (t : ℕ) (w : Outcome) → e.call ≡ call.Return t w → w.bytes ≤ most_bytes
   pub disabled : (ask : Ask) → v ≡ 1 → e.call ≡ call.Select ask → ask.disabled ≡ 0
   pub stopped : (ask : Ask) → v ≡ 1 → e.call ≡ call.Select ask → ask.stopped ≡ 0
 

@@ -2,6 +2,7 @@
 use Rattle.std.specs.Prelude.{◌≡◌, ℕ, ◌+◌, ◌*◌, ◌/◌, ◌^◌, ◌<◌, ◌≤◌, ◌==◌, ◌&&◌, true, List, [], ◌∷◌, length, reverse, count_by, Option, Some, None, slice_get}
 use Rattle.std.specs.List.{list_any}
 use Rattle.jk_model.specs.Journal.{members}
+use Rattle.jk_model.specs.Limits.{most_numbers}
 use Rattle.jk_model.specs.Multiple.{multiple_of}
 use Rattle.jk_model.specs.Ranges.{factors_in}
 use Rattle.jk_model.specs.Tickets.{Ticket}
@@ -12,7 +13,6 @@ use Rattle.jk_model.specs.declared.opening.Opening.{Opening}
 use Rattle.jk_model.specs.declared.state.MemberState.{MemberState}
 use Rattle.jk_model.specs.declared.state.MemberState.TheVariants as state
 use Rattle.jk_model.specs.declared.view.MemberRow.{MemberRow}
-use Rattle.jk_model.specs.declared.validity.TheConstants.{MOST_NUMBERS}
 
 -- Tickets, newest first: each is below the one before it, the first is below `next`, and each is on one of n members.
 abbrev pub AreTickets : (n next : ℕ) → List Ticket → Type 0
@@ -66,4 +66,4 @@ pub record IsOpening (o : Opening) : Type 0 where
   pub chosen : IsWithin (members o) o.chosen
   pub rows : AreOpeningRows o
   pub maintained : o.maintained ≤ o.at
-  pub room : o.next + length o.out ≤ MOST_NUMBERS
+  pub room : o.next + length o.out ≤ most_numbers

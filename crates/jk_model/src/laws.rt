@@ -7,12 +7,12 @@ ghost use Rattle.jk_model.specs.Choice.{IsPick};
 ghost use Rattle.jk_model.specs.Journal.{members, next_of};
 ghost use Rattle.jk_model.specs.Laws.{BeginsTicket, HalvesLoads, IsGoodChoice, MayBeChosen};
 ghost use Rattle.jk_model.specs.Legal.{IsLegal, IsLegalPast};
+ghost use Rattle.jk_model.specs.Limits.{most_numbers};
 ghost use Rattle.jk_model.specs.Loads.{epoch, halved, units_by, units_of};
 ghost use Rattle.jk_model.specs.Settings.{pool_of};
 ghost use Rattle.jk_model.specs.States.{state_of};
 ghost use Rattle.jk_model.specs.Tickets.{busy_of, gives_back, is_out, out};
 ghost use Rattle.jk_model.specs.Touches.{Untouched, gives, touches};
-ghost use Rattle.jk_model.specs.declared.validity.TheConstants.{MOST_NUMBERS};
 
 use crate::ask::Ask;
 use crate::journal::{Answer, Call, Entry, How};
@@ -83,7 +83,7 @@ pub fn history_is_bounded(rules: u8, opening: &Opening, past: &[Entry], member: 
     ensures busy { busy_of opening.now (reverse past.now) member ≤ pool_of opening.now member }
     ensures trial { (t : ℕ) → state_of rules opening.now (reverse past.now) member ≡ MemberState.Probe t
         → list_any (λ x. (x.0 == t) && (x.1 == member)) (out opening.now (reverse past.now)) ≡ true }
-    ensures room { next_of opening.now (reverse past.now) + length (out opening.now (reverse past.now)) ≤ MOST_NUMBERS }
+    ensures room { next_of opening.now (reverse past.now) + length (out opening.now (reverse past.now)) ≤ most_numbers }
 {}
 
 /// Halving twice is halving by the sum, and halving keeps order.

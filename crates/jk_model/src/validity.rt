@@ -1,5 +1,6 @@
 ghost use Rattle.std.specs.Prelude.{◌≡◌, ℕ, ◌+◌, ◌*◌, ◌/◌, ◌^◌, ◌≤◌, ◌<◌, ◌==◌, ◌&&◌, ◌↔◌, length, reverse, count_by, IsTrue, Bool};
 ghost use Rattle.std.specs.List.{list_any};
+ghost use Rattle.jk_model.specs.Limits.{most_numbers};
 ghost use Rattle.jk_model.specs.Multiple.{multiple_of};
 ghost use Rattle.jk_model.specs.Ranges.{factors_in};
 ghost use Rattle.jk_model.specs.Validity.{AreOpeningRows, AreTickets, IsOpeningRow, IsOpeningState, IsRunning, IsWithin, ShowsMember};
@@ -14,7 +15,7 @@ use crate::view::MemberRow;
 pub const MOST_NUMBERS: u64 = 1 << 48;
 
 pub(crate) fn has_room(next: u64, out: usize) -> bool
-    ensures value { IsTrue result ↔ (next + out ≤ MOST_NUMBERS) }
+    ensures value { IsTrue result ↔ (next + out ≤ most_numbers) }
 {
     next <= MOST_NUMBERS && out as u64 <= MOST_NUMBERS - next
 }
@@ -90,7 +91,7 @@ fn is_busy(opening: &Opening, index: u32, busy: u32, pool: u32) -> bool
 
 // `running` is the load of the tickets that are out.
 fn is_load(opening: &Opening, running: u64, load: u128) -> bool
-    requires room { opening.now.next ≤ MOST_NUMBERS }
+    requires room { opening.now.next ≤ most_numbers }
     ensures value { IsTrue result ↔ ((load ≤ opening.now.next * 2 ^ 76) × IsRunning opening.now.config.method running load) }
 {
     load <= u128::from(opening.next) << 76 && is_running(opening.config.method, running, load)
@@ -105,7 +106,7 @@ fn is_opening_row(
 ) -> bool
     requires factor { 1 ≤ member.now.factor }
     requires common { common ≡ multiple_of (factors_in opening.now.config.members) }
-    requires room { opening.now.next ≤ MOST_NUMBERS }
+    requires room { opening.now.next ≤ most_numbers }
     ensures value { IsTrue result ↔ IsOpeningRow opening.now index member.now row.now }
 {
     let running = u64::from(row.busy) * u64::from(common / member.factor);
@@ -116,7 +117,7 @@ fn is_opening_row(
 }
 
 pub(crate) fn are_opening_rows(opening: &Opening) -> bool
-    requires room { opening.now.next ≤ MOST_NUMBERS }
+    requires room { opening.now.next ≤ most_numbers }
     ensures value { IsTrue result ↔ AreOpeningRows opening.now }
 {
     let members = opening.config.members.as_slice();
