@@ -17,7 +17,7 @@ use Rattle.property_lines.specs.Names.{is_name, words}
 use Rattle.property_lines.specs.Directives.{directive_of, worker_part, list_key, maintain_key}
 use Rattle.property_lines.specs.Values.{is_value, target_of, number_in}
 use Rattle.property_lines.specs.Refusals.{LineRefusal, refusal}
-use Rattle.jk_model.specs.declared.config.TheConstants.{MAX_PERIOD_SECONDS}
+use Rattle.jk_model.specs.Limits.{most_seconds}
 
 -- each word of a list is a name
 abbrev pub are_names : List ℕ → Bool
@@ -43,7 +43,7 @@ directive_fault (Some d) value = value_fault (is_value d value)
 
 -- a key of no worker: the list of workers, the time between maintenances, or one that is ignored
 abbrev pub other_fault : List ℕ → List ℕ → Option Fault
-other_fault key value = if bytes_eq key list_key then name_fault (are_names value) else (if bytes_eq key maintain_key then value_fault (is_some (number_in 1 MAX_PERIOD_SECONDS value)) else None)
+other_fault key value = if bytes_eq key list_key then name_fault (are_names value) else (if bytes_eq key maintain_key then value_fault (is_some (number_in 1 most_seconds value)) else None)
 
 -- a bad name goes before a bad value
 abbrev pub fault_at : Option (List ℕ × List ℕ) → List ℕ → List ℕ → Option Fault

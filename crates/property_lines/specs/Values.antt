@@ -5,6 +5,7 @@ use Rattle.std.specs.Option.{option_map, option_and_then, is_some}
 use Rattle.std.specs.List.{list_any, list_all}
 use Rattle.std.specs.Str.{bytes_eq}
 use Rattle.jk_io.specs.Decimals.{decimal_of}
+use Rattle.jk_model.specs.Limits.{most_seconds}
 use Rattle.jk_model.specs.declared.member.Activation.{Activation}
 use Rattle.jk_model.specs.declared.member.Activation.TheVariants as activation
 use Rattle.jk_model.specs.declared.member.Method.{Method}
@@ -15,8 +16,6 @@ use Rattle.property_lines.specs.declared.directive.Directive.{Directive}
 use Rattle.property_lines.specs.declared.directive.Directive.TheVariants as directive
 use Rattle.property_lines.specs.Directives.{behind_worker}
 use Rattle.property_lines.specs.Names.{words}
-use Rattle.jk_model.specs.declared.config.TheConstants.{MAX_PERIOD_SECONDS}
-use Rattle.property_lines.specs.declared.statuses.TheConstants.{MAX_STATUSES}
 
 -- a number of this range
 abbrev pub within : ℕ → ℕ → Option ℕ → Option ℕ
@@ -87,7 +86,7 @@ has_status n negated statuses = list_any (λ s. (s.0 == n) && beq s.1 negated) s
 -- a status after others: one that is there adds nothing, one with the other sign is refused, and so is a 65th
 abbrev pub status_after : List (ℕ × Bool) → Option (ℕ × Bool) → Option (List (ℕ × Bool))
 status_after before None = None
-status_after before (Some s) = if has_status s.0 s.1 before then Some before else (if has_status s.0 (not s.1) before || nat_le MAX_STATUSES (length before) then None else Some (before ++ s ∷ []))
+status_after before (Some s) = if has_status s.0 s.1 before then Some before else (if has_status s.0 (not s.1) before || nat_le 64 (length before) then None else Some (before ++ s ∷ []))
 
 -- the statuses of these words after others
 abbrev pub statuses_after : Option (List (ℕ × Bool)) → List (List ℕ) → Option (List (ℕ × Bool))
@@ -130,7 +129,7 @@ is_value directive.BalanceWorkers text = true
 is_value directive.Method text = is_some (method_of text)
 is_value directive.Sticky text = is_some (truth_of text)
 is_value directive.Force text = is_some (truth_of text)
-is_value directive.RecoverTime text = is_some (number_in 1 MAX_PERIOD_SECONDS text)
+is_value directive.RecoverTime text = is_some (number_in 1 most_seconds text)
 is_value directive.Cookie text = nat_lt 0 (length text)
 is_value directive.Path text = nat_lt 0 (length text)
 is_value directive.ReadOnly text = is_some (truth_of text)
