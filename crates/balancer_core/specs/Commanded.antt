@@ -2,6 +2,7 @@
 use Rattle.std.specs.Prelude.{◌≡◌, ℕ, ◌*◌, ◌/◌, ◌+◌, ◌^◌, ◌<◌, ◌≤◌, ◌==◌, List, length, slice_index_or, Result, Ok, Err, if◌then◌else◌}
 use Rattle.jk_model.specs.Journal.{each, members}
 use Rattle.jk_model.specs.Legal.{HasValues, IsDoable, TargetExists, subject_of}
+use Rattle.jk_model.specs.Limits.{most_numbers}
 use Rattle.jk_model.specs.Loads.{load_by}
 use Rattle.jk_model.specs.Multiple.{multiple_of}
 use Rattle.jk_model.specs.Settings.{Setting, commanded, common_after}
@@ -16,7 +17,6 @@ use Rattle.jk_model.specs.declared.refusal.FullMark.{FullMark}
 use Rattle.jk_model.specs.declared.state.MemberState.TheVariants as State
 use Rattle.balancer_core.specs.Journal.{IsMarked, Journal, next_number, past_of, tickets_out}
 use Rattle.lb_rules.specs.declared.standing.Standing.{Standing}
-use Rattle.jk_model.specs.declared.validity.TheConstants.{MOST_NUMBERS}
 
 abbrev pub row_setting : Standing → Setting
 row_setting row =
@@ -66,16 +66,16 @@ IsKnown n c = (subject_of c < n) × TargetExists n c
 -- What is answered to a command, by what holds of it: each refusal after those before it.
 abbrev pub IsCommanded : Journal → Command → Result Entry (AdminError FullMark) → Type 0
 IsCommanded b c (Ok e) =
-    IsDoable b.opening (past_of b) c × (next_number b + tickets_out b + 1 ≤ MOST_NUMBERS)
+    IsDoable b.opening (past_of b) c × (next_number b + tickets_out b + 1 ≤ most_numbers)
 IsCommanded b c (Err Admin.UnknownMember) = ¬ IsKnown (members b.opening) c
 IsCommanded b c (Err Admin.BadValue) = IsKnown (members b.opening) c × ¬ HasValues c
 IsCommanded b c (Err (Admin.TooWide mark)) =
     IsKnown (members b.opening) c × HasValues c × (2 ^ 32 ≤ common_after b.opening (past_of b) (Call.Admin c))
     × IsMarked (next_number b) (tickets_out b) mark
 IsCommanded b c (Err (Admin.Full mark)) =
-    IsDoable b.opening (past_of b) c × (MOST_NUMBERS < next_number b + tickets_out b + 1) × IsMarked (next_number b) (tickets_out b) mark
+    IsDoable b.opening (past_of b) c × (most_numbers < next_number b + tickets_out b + 1) × IsMarked (next_number b) (tickets_out b) mark
 IsCommanded b c (Err Admin.NoMemory) =
-    IsDoable b.opening (past_of b) c × (next_number b + tickets_out b + 1 ≤ MOST_NUMBERS)
+    IsDoable b.opening (past_of b) c × (next_number b + tickets_out b + 1 ≤ most_numbers)
 
 -- What the rows say of a command, before there is a number for it.
 abbrev pub IsJudged : (n : ℕ) → List Standing → Standing → Command → FullMark → Result ℕ (AdminError FullMark) → Type 0

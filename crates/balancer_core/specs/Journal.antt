@@ -1,6 +1,7 @@
 -- What contracts see of a Book, and what its calls do with it.
 use Rattle.std.specs.Prelude.{◌≡◌, ℕ, ◌+◌, ◌<◌, ◌≤◌, max, List, [], ◌∷◌, ◌++◌, length, map, reverse, None, Result, Ok, Err}
 use Rattle.jk_model.specs.Journal.{next_of, moment_of}
+use Rattle.jk_model.specs.Limits.{modern_rules, most_numbers}
 use Rattle.jk_model.specs.Tickets.{out}
 use Rattle.jk_model.specs.Legal.{IsLegal}
 use Rattle.jk_model.specs.declared.member.MemberConfig.{MemberConfig}
@@ -14,8 +15,6 @@ use Rattle.jk_model.specs.declared.segment.Segment.{Segment}
 use Rattle.jk_model.specs.declared.refusal.FullMark.{FullMark}
 use Rattle.jk_model.specs.declared.refusal.RoomError.{RoomError}
 use Rattle.jk_model.specs.declared.refusal.RoomError.TheVariants as Room
-use Rattle.jk_model.specs.declared.segment.TheConstants.{MODERN_RULES}
-use Rattle.jk_model.specs.declared.validity.TheConstants.{MOST_NUMBERS}
 
 -- A Book: its rules, the opening, the kept entries, oldest first, and how many it ever added.
 pub record Journal : Type 0 where
@@ -60,9 +59,9 @@ IsMarked next out mark = (mark.next ≡ next) × (mark.out ≡ out)
 
 -- A refusal for want of numbers comes exactly where `more` beside those of the tickets out are too many.
 abbrev pub IsFullUnless : {T : Type 0} → (next out more : ℕ) → Result T (RoomError FullMark) → Type 0
-IsFullUnless next out more (Ok value) = next + out + more ≤ MOST_NUMBERS
-IsFullUnless next out more (Err (Room.Full mark)) = (MOST_NUMBERS < next + out + more) × IsMarked next out mark
-IsFullUnless next out more (Err Room.NoMemory) = next + out + more ≤ MOST_NUMBERS
+IsFullUnless next out more (Ok value) = next + out + more ≤ most_numbers
+IsFullUnless next out more (Err (Room.Full mark)) = (most_numbers < next + out + more) × IsMarked next out mark
+IsFullUnless next out more (Err Room.NoMemory) = next + out + more ≤ most_numbers
 
 -- A member's row at the start.
 abbrev pub start_row : MemberConfig → MemberRow
@@ -79,7 +78,7 @@ start_row c = record {
 
 -- A Book of rules 2 that starts at a moment with a number: every member is Ok, without load or tickets.
 pub record IsStart (b : Journal) (config : LbConfig) (at first : ℕ) : Type 0 where
-  pub rules : b.rules ≡ MODERN_RULES
+  pub rules : b.rules ≡ modern_rules
   pub empty : b.entries ≡ []
   pub added : b.added ≡ 0
   pub configured : b.opening.config ≡ config

@@ -3,6 +3,7 @@ use Rattle.std.specs.Prelude.{◌≡◌, ℕ, ◌+◌, ◌<◌, ◌≤◌, ◌�
 use Rattle.std.specs.List.{All}
 use Rattle.jk_model.specs.Free.{is_in}
 use Rattle.jk_model.specs.Journal.{members}
+use Rattle.jk_model.specs.Limits.{modern_rules}
 use Rattle.jk_model.specs.Tickets.{is_out}
 use Rattle.jk_model.specs.declared.ask.Ask.{Ask}
 use Rattle.jk_model.specs.declared.change.Command.{Command}
@@ -20,11 +21,10 @@ use Rattle.balancer_core.specs.Journal.{IsSound, Journal, past_of}
 use Rattle.balancer_core.specs.ToldBooks.{AreNextAt, grown_by, sizes_of}
 use Rattle.balancer_core.specs.declared.desk.Occasion.{Occasion}
 use Rattle.balancer_core.specs.declared.receipt.Receipt.{Receipt}
-use Rattle.jk_model.specs.declared.segment.TheConstants.{MODERN_RULES}
 
 -- Each Book has rules 2.
 abbrev pub AreModern : List Journal → Type 0
-AreModern books = (lb : ℕ) (b : Journal) → slice_get books lb ≡ Some b → b.rules ≡ MODERN_RULES
+AreModern books = (lb : ℕ) (b : Journal) → slice_get books lb ≡ Some b → b.rules ≡ modern_rules
 
 -- Each Book is sound.
 abbrev pub AreLegal : List Journal → Type 0

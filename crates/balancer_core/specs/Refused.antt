@@ -2,6 +2,7 @@
 use Rattle.std.specs.Prelude.{ℕ, ◌+◌, ◌^◌, ◌<◌, ◌≤◌}
 use Rattle.jk_model.specs.Journal.{members}
 use Rattle.jk_model.specs.Legal.{HasValues, IsDoable}
+use Rattle.jk_model.specs.Limits.{most_numbers}
 use Rattle.jk_model.specs.Settings.{common_after}
 use Rattle.jk_model.specs.declared.change.Command.{Command}
 use Rattle.jk_model.specs.declared.journal.Call.TheVariants as call
@@ -13,11 +14,10 @@ use Rattle.jk_model.specs.declared.refusal.RoomError.TheVariants as room
 use Rattle.balancer_core.specs.Commanded.{IsKnown}
 use Rattle.balancer_core.specs.Due.{due_moment, entry_moment}
 use Rattle.balancer_core.specs.Journal.{IsMarked, Journal, next_number, past_of, tickets_out}
-use Rattle.jk_model.specs.declared.validity.TheConstants.{MOST_NUMBERS}
 
 -- Full is told with the journal's numbers, and only where `more` beside those of the tickets out aren't left.
 abbrev pub IsFullAt : (more : ℕ) → Journal → FullMark → Type 0
-IsFullAt more b mark = (MOST_NUMBERS < next_number b + tickets_out b + more) × IsMarked (next_number b) (tickets_out b) mark
+IsFullAt more b mark = (most_numbers < next_number b + tickets_out b + more) × IsMarked (next_number b) (tickets_out b) mark
 
 -- An ask needs its own number and that of its ticket's Return. Want of memory needs no cause, here and below.
 abbrev pub RefusesAsk : {M : Type 0} → (M → FullMark) → Journal → RoomError M → Type 0

@@ -2,11 +2,11 @@
 use Rattle.std.specs.Prelude.{◌≡◌, ℕ, ◌+◌, ◌<◌, ◌≤◌, List, [], ◌∷◌, ◌++◌, length, map, Option, Some, None, slice_get, slice_index}
 use Rattle.jk_model.specs.Journal.{members}
 use Rattle.jk_model.specs.Legal.{IsNext}
+use Rattle.jk_model.specs.Limits.{modern_rules}
 use Rattle.jk_model.specs.declared.journal.Entry.{Entry}
 use Rattle.balancer_core.specs.Due.{due_moment, entry_moment}
 use Rattle.balancer_core.specs.Journal.{IsSound, Journal, past_of}
 use Rattle.balancer_core.specs.declared.receipt.Receipt.{Receipt}
-use Rattle.jk_model.specs.declared.segment.TheConstants.{MODERN_RULES}
 
 -- The Book of balancer lb, where it is told.
 abbrev pub book_in : Option (List Journal) → (lb : ℕ) → Option Journal
@@ -50,7 +50,7 @@ IsNoneDue b at = entry_moment b at < due_moment b
 -- A journal that balancer lb may have: it is sound, of rules 2 and of the balancer's size, and the told one where one is told.
 pub record IsFound (sizes : List ℕ) (books : Option (List Journal)) (lb : ℕ) (b : Journal) : Type 0 where
   pub sound : IsSound b
-  pub rules : b.rules ≡ MODERN_RULES
+  pub rules : b.rules ≡ modern_rules
   pub size : members b.opening ≡ slice_index sizes lb
   pub told : WhereTold books lb (λ told. told ≡ b)
 
