@@ -2,6 +2,7 @@
 use Rattle.std.specs.Prelude.{ℕ, ◌≤◌, Bool, true, false, List, [], ◌∷◌, Option, Some, None, codes, if◌then◌else◌, option_map}
 use Rattle.std.specs.Str.{bytes_eq}
 use Rattle.jk_io.specs.Decimals.{decimal_of}
+use Rattle.jk_model.specs.Limits.{most_bytes}
 use Rattle.jk_model.specs.declared.ask.Ask.{Ask}
 use Rattle.jk_model.specs.declared.change.Change.{Change}
 use Rattle.jk_model.specs.declared.member.Activation.{Activation}
@@ -20,7 +21,6 @@ use Rattle.play_script.specs.Names.{index_of}
 use Rattle.play_script.specs.Verbs.{verb_of}
 use Rattle.play_script.specs.Values.{◌>>=◌, byte_count, end, only, value_of, past}
 use Rattle.play_script.specs.Fields.{activation_in, number_in, redirect_in}
-use Rattle.jk_model.specs.declared.journal.TheConstants.{MOST_BYTES}
 
 -- an ask with no member tried, disabled or stopped
 abbrev pub ask_of : Bool → Option ℕ → Ask
@@ -97,7 +97,7 @@ step_of names line = step_from names (parts_of 32 line)
 -- A Return moves at most 2^44 bytes.
 abbrev pub HasSmallBytes : Call → Type 0
 HasSmallBytes (call.Select ask) = Unit {0}
-HasSmallBytes (call.Return ticket outcome) = outcome.bytes ≤ MOST_BYTES
+HasSmallBytes (call.Return ticket outcome) = outcome.bytes ≤ most_bytes
 HasSmallBytes call.Maintain = Unit {0}
 HasSmallBytes (call.Admin c) = Unit {0}
 
