@@ -2,6 +2,7 @@
 use Rattle.std.specs.Prelude.{◌≡◌, ℕ, ◌^◌, ◌<◌, ◌≤◌, ◌==◌, All, List, Option, Some, None}
 use Rattle.std.specs.Bool.{MatchBool}
 use Rattle.jk_model.specs.Legal.{KnowsTerms}
+use Rattle.jk_model.specs.Limits.{most_bytes}
 use Rattle.jk_model.specs.Segments.{AreRules}
 use Rattle.jk_model.specs.declared.ask.Ask.{Ask}
 use Rattle.jk_model.specs.declared.change.Change.{Change}
@@ -21,7 +22,6 @@ use Rattle.journal_lines.specs.declared.line.Beginning.{Beginning}
 use Rattle.journal_lines.specs.declared.line.Line.{Line}
 use Rattle.journal_lines.specs.declared.line.Line.TheVariants as line
 use Rattle.journal_lines.specs.declared.line.MemberValues.{MemberValues}
-use Rattle.jk_model.specs.declared.journal.TheConstants.{MOST_BYTES}
 
 abbrev pub IsLong : ℕ → Type 0
 IsLong n = n < 2 ^ 64
@@ -68,7 +68,7 @@ FitsCommand (command.Recover member) = IsShort member
 
 abbrev pub FitsCall : (rules : ℕ) → Call → Type 0
 FitsCall rules (call.Select ask) = FitsAsk rules ask
-FitsCall rules (call.Return ticket outcome) = IsLong ticket × (outcome.bytes ≤ MOST_BYTES)
+FitsCall rules (call.Return ticket outcome) = IsLong ticket × (outcome.bytes ≤ most_bytes)
 FitsCall rules call.Maintain = Unit {0}
 FitsCall rules (call.Admin c) = FitsCommand c
 
@@ -125,7 +125,7 @@ HasTicket seq answer.Done = Unit {0}
 -- a Return moves at most 2^44 bytes, and under rules 1 an ask knows no mount terms
 abbrev pub IsKeptCall : (rules : ℕ) → Call → Type 0
 IsKeptCall rules (call.Select ask) = KnowsTerms rules ask
-IsKeptCall rules (call.Return ticket outcome) = outcome.bytes ≤ MOST_BYTES
+IsKeptCall rules (call.Return ticket outcome) = outcome.bytes ≤ most_bytes
 IsKeptCall rules call.Maintain = Unit {0}
 IsKeptCall rules (call.Admin c) = Unit {0}
 
