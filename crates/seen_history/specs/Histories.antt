@@ -2,11 +2,11 @@
 use Rattle.std.specs.Prelude.{◌≡◌, ℕ, ◌==◌, ◌⊎◌, Bool, true, List, [], ◌∷◌, ◌++◌, reverse, filter}
 use Rattle.std.specs.List.{filter_map, list_any}
 use Rattle.jk_model.specs.Legal.{IsLegal}
+use Rattle.jk_model.specs.Limits.{modern_rules}
 use Rattle.jk_model.specs.Present.{IsEnding}
 use Rattle.jk_model.specs.Tickets.{is_returned, ticket_in}
 use Rattle.jk_model.specs.declared.journal.Entry.{Entry}
 use Rattle.jk_model.specs.declared.opening.Opening.{Opening}
-use Rattle.jk_model.specs.declared.segment.TheConstants.{MODERN_RULES}
 use Rattle.balancer_core.specs.Journal.{Journal}
 
 -- The entries of caller n, in their order.
@@ -33,17 +33,17 @@ AreOwnReturns h = (n t : ℕ) → is_returned t (own_of n h) ≡ true → has_ma
 
 -- A history from the opening o, under rules 2: it is legal, and who gives a ticket back is who got it.
 pub record IsHistory (o : Opening) (h : List Entry) : Type 0 where
-  pub legal : IsLegal MODERN_RULES o h
+  pub legal : IsLegal modern_rules o h
   pub returns : AreOwnReturns h
 
 -- The opening `later` is the one to which the entries `front` lead from o: o itself, or what a journal of them ends with.
 abbrev pub LeadsTo : Opening → (front : List Entry) → (later : Opening) → Type 0
 LeadsTo o front later =
-    ((front ≡ []) × (later ≡ o)) ⊎ (IsLegal MODERN_RULES o front × IsEnding MODERN_RULES o (reverse front) later)
+    ((front ≡ []) × (later ≡ o)) ⊎ (IsLegal modern_rules o front × IsEnding modern_rules o (reverse front) later)
 
 -- h is the whole history of a Book from the opening o: what was cut from it, and then its kept entries.
 pub record IsHistoryOf (o : Opening) (h : List Entry) (b : Journal) : Type 0 where
-  pub rules : b.rules ≡ MODERN_RULES
+  pub rules : b.rules ≡ modern_rules
   pub front : List Entry
   pub leads : LeadsTo o front b.opening
   pub whole : h ≡ front ++ b.entries
