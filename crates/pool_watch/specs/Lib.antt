@@ -1,3 +1,4 @@
 pub mod Judging
 pub mod Looks
 pub mod Pings
+pub mod Watched

@@ -4,19 +4,42 @@ ghost use Rattle.std.specs.Prelude.{◌≡◌, ℕ};
 use crate::aged_link::AgedLink;
 use jk_io::{Bytes, Dial, IoError};
 use std::alloc::Global;
+use std::marker::Model;
 
 /// A dial of such links.
 #[derive(Drop)]
 pub struct AgedDial<D> {
-    pub dial: D,
+    dial: D,
+}
+
+impl<D> Model for AgedDial<D> {
+    ghost Value = { D };
+
+    ghost view = { λ d. d.dial };
+}
+
+impl<D> AgedDial<D> {
+    /// A dial of such links.
+    pub fn new(dial: D) -> AgedDial<D>
+        ensures { result ≡ dial }
+    {
+        AgedDial { dial }
+    }
+
+    /// The dial below it.
+    pub fn into_dial(self) -> D
+        ensures { result ≡ self }
+    {
+        self.dial
+    }
 }
 
 impl<D: Dial> Dial for AgedDial<D> {
     type L = AgedLink<D::L>;
 
-    ghost faults = { λ d. D.faults d.dial };
+    ghost faults = { λ d. D.faults d };
 
-    ghost gives = { λ before host port link after. D.gives before.dial host port link.link after.dial × (link.rounds ≡ 0) };
+    ghost gives = { λ before host port link after. D.gives before host port link.link after × (link.rounds ≡ 0) };
 
     fn dial(&mut self, alloc: Global, host: &Bytes, port: u16) -> Result<AgedLink<D::L>, IoError> {
         let link = self.dial.dial(alloc, host, port)?;
