@@ -1,8 +1,8 @@
 //! Links served as a servlet container does, by a worker thread for each door.
 //!
 //! Own rules: the causes of a worker's end (docs/DECISIONS.md).
-//! Contract: `run_container`, clause `served`. Read first: specs/Served.antt, over door_clients' specs/Doors.antt.
-//! Errors: `NoMemory` before a door was asked; after that each worker's end is a `ContainerWorker`.
+//! Contract: `run_container`, clauses `served` and `unasked`. Read first: specs/Served.antt, over door_clients' specs/Doors.antt.
+//! Errors: the doors come back for want of memory, before one was asked; after that each worker's end is a `ContainerWorker`.
 #![tactic(auto)]
 
 mod ends;

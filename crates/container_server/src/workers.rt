@@ -1,10 +1,10 @@
 //! A worker for each door.
-ghost use Rattle.std.specs.Prelude.{◌≡◌, ◌+◌, ◌≤◌, ◌++◌, [], length, map, vec_capacity, vec_len, IfOk};
+ghost use Rattle.std.specs.Prelude.{◌≡◌, ◌+◌, ◌≤◌, ◌++◌, [], length, map, vec_capacity, vec_len, IfErr, IfOk};
 ghost use Rattle.door_clients.specs.Doors.{side};
 ghost use Rattle.container_server.specs.Served.{AreEachServed, AreServedDoors, IsServedDoor};
 ghost use Rattle.container_server.specs.declared.workers.Slot.{Slot as AnySlot};
 
-use crate::ends::{ContainerRunEnd, ContainerWorker};
+use crate::ends::{ContainerRunEnd, ContainerWorker, DoorList};
 use crate::serving::serve_links;
 use jk_io::{Door, ListOf, NoMemory};
 use mini_container::AppConfig;
@@ -19,23 +19,11 @@ struct Slot<D> {
     end: ContainerWorker,
 }
 
-/// Serves each door by a worker of its own, and waits for all of them. After `NoMemory` no door was asked: what takes
-/// memory knows no more of a door than that it may be let go.
-pub fn run_container<D: Door + Drop + Send, R: Threads + Wait + Sync>(
-    rt: &R,
-    alloc: Global,
-    app: &AppConfig,
-    doors: Vec<D>,
-) -> Result<ContainerRunEnd<D>, NoMemory>
-where
-    D::L: Send,
-    ensures served { IfOk result (λ e. let at = side D.coming D.left D.faults in
-        AreEachServed app.now D.L.Meanings (map at doors.items) (map at e.doors) e.workers) }
-{
-    let mut slots = slots_of(alloc, doors)?;
-    let room = room_for(alloc, slots.len())?;
-    serve_all(rt, alloc, app, slots.as_mut_slice());
-    Ok(end_of(slots, room))
+/// The memory of a run: a slot for each worker, and room for what the run gives back.
+#[derive(Drop)]
+struct Memory<D> {
+    slots: Vec<Slot<D>>,
+    room: Room<D>,
 }
 
 /// The room for what a run gives back.
@@ -45,15 +33,62 @@ struct Room<D> {
     left: Vec<D>,
 }
 
-/// Room for `count` workers and doors.
-fn room_for<D: Drop>(alloc: Global, count: usize) -> Result<Room<D>, NoMemory>
-    ensures none { IfOk result (λ r. (r.workers.items ≡ []) × (r.left.items ≡ [])) }
-    ensures room { IfOk result (λ r. (count ≤ vec_capacity r.workers) × (count ≤ vec_capacity r.left)) }
+/// Serves each door by a worker of its own, and waits for all of them. For want of memory the doors come back, and none
+/// was asked.
+pub fn run_container<D: Door + Drop + Send, R: Threads + Wait + Sync>(
+    rt: &R,
+    alloc: Global,
+    app: &AppConfig,
+    doors: Vec<D>,
+) -> Result<ContainerRunEnd<D>, DoorList<D>>
+where
+    D::L: Send,
+    ensures served { IfOk result (λ e. let at = side D.coming D.left D.faults in
+        AreEachServed app.now D.L.Meanings (map at doors.items) (map at e.doors) e.workers) }
+    ensures unasked { IfErr result (λ back. back ≡ doors.items) }
 {
-    Ok(Room {
-        workers: Vec::with_capacity(alloc, count)?,
-        left: Vec::with_capacity(alloc, count)?,
+    match memory_for(alloc, doors.len()) {
+        Ok(memory) => Ok(run_in(rt, alloc, app, doors, memory)),
+        Err(NoMemory) => Err(ListOf::from_vec(doors)),
+    }
+}
+
+/// Takes the memory for `count` doors.
+fn memory_for<D: Drop>(alloc: Global, count: usize) -> Result<Memory<D>, NoMemory>
+    ensures slots { IfOk result (λ m. (m.slots.items ≡ []) × (count ≤ vec_capacity m.slots)) }
+    ensures none { IfOk result (λ m. (m.room.workers.items ≡ []) × (m.room.left.items ≡ [])) }
+    ensures room { IfOk result (λ m. (count ≤ vec_capacity m.room.workers) × (count ≤ vec_capacity m.room.left)) }
+{
+    Ok(Memory {
+        slots: Vec::with_capacity(alloc, count)?,
+        room: Room {
+            workers: Vec::with_capacity(alloc, count)?,
+            left: Vec::with_capacity(alloc, count)?,
+        },
     })
+}
+
+/// A run in its memory.
+fn run_in<D: Door + Drop + Send, R: Threads + Wait + Sync>(
+    rt: &R,
+    alloc: Global,
+    app: &AppConfig,
+    doors: Vec<D>,
+    memory: Memory<D>,
+) -> ContainerRunEnd<D>
+where
+    D::L: Send,
+    requires slots { (memory.slots.items ≡ []) × (vec_len doors ≤ vec_capacity memory.slots) }
+    requires none { (memory.room.workers.items ≡ []) × (memory.room.left.items ≡ []) }
+    requires room { (vec_len doors ≤ vec_capacity memory.room.workers) × (vec_len doors ≤ vec_capacity memory.room.left) }
+    ensures served { let at = side D.coming D.left D.faults in
+        AreEachServed app.now D.L.Meanings (map at doors.items) (map at result.doors) result.workers }
+{
+    let Memory { slots, room } = memory;
+    let mut slots = slots;
+    fill_slots(&mut slots, doors);
+    serve_all(rt, alloc, app, slots.as_mut_slice());
+    end_of(slots, room)
 }
 
 /// What the slots hold after a run.
@@ -72,15 +107,6 @@ fn end_of<D: Drop>(slots: Vec<Slot<D>>, room: Room<D>) -> ContainerRunEnd<D>
         workers: ListOf::from_vec(workers),
         doors: ListOf::from_vec(left),
     }
-}
-
-/// A slot for each door.
-fn slots_of<D: Drop>(alloc: Global, doors: Vec<D>) -> Result<Vec<Slot<D>>, NoMemory>
-    ensures { IfOk result (λ slots. map (λ (s : AnySlot D). s.door) slots.items ≡ doors.items) }
-{
-    let mut slots = Vec::with_capacity(alloc, doors.len())?;
-    fill_slots(&mut slots, doors);
-    Ok(slots)
 }
 
 /// Puts each door into a slot.

@@ -112,7 +112,9 @@ where
     let mut rests = rests;
     let mut back = back;
     take_doors(gears, &mut doors, &mut rests);
-    let ContainerRunEnd { workers, doors } = run_container(rt, alloc, app, doors)?;
+    let Ok(ContainerRunEnd { workers, doors }) = run_container(rt, alloc, app, doors) else {
+        return Err(NoMemory);
+    };
     put_doors(doors.into_vec(), rests, &mut back);
     Ok(ContainerRun {
         workers,

@@ -8,7 +8,7 @@ pub put_doors-requires-clause-paired : goal.put_doors-requires-clause-paired
 put_doors-requires-clause-paired g c =
     let back =
     doors_back c.args.app.now g.D.L.Meanings (side g.D.Door.coming g.D.Door.left g.D.Door.faults) c.take_doors.new.doors.items
-    c.in_ok-workers.field-0.doors c.in_ok-workers.field-0.workers c.in_ok-workers.ensures.served in
+    c.in-Ok.field-0.doors c.in-Ok.field-0.workers c.in-Ok.ensures.served in
     omega (
       arith,
       back,
@@ -23,7 +23,7 @@ pub put_doors-requires-clause-room : goal.put_doors-requires-clause-room
 put_doors-requires-clause-room g c =
     let back =
     doors_back c.args.app.now g.D.L.Meanings (side g.D.Door.coming g.D.Door.left g.D.Door.faults) c.take_doors.new.doors.items
-    c.in_ok-workers.field-0.doors c.in_ok-workers.field-0.workers c.in_ok-workers.ensures.served in
+    c.in-Ok.field-0.doors c.in-Ok.field-0.workers c.in-Ok.ensures.served in
     omega (
       arith,
       back,
@@ -38,8 +38,8 @@ pub returns : goal.returns
 returns g c = record {
   ran = λ talks answers.
       container_ran c.args.app.now g.D.L.Meanings (side g.D.Door.coming g.D.Door.left g.D.Door.faults) talks answers c.args.gears.items
-      c.put_doors.new.gears.items c.take_doors.new.doors.items c.in_ok-workers.field-0.doors c.in_ok-workers.field-0.workers
-      c.take_doors.ensures.doors (c.put_doors.ensures.doors ∙ c.into_vec.ensures) c.in_ok-workers.ensures.served
+      c.put_doors.new.gears.items c.take_doors.new.doors.items c.in-Ok.field-0.doors c.in-Ok.field-0.workers
+      c.take_doors.ensures.doors (c.put_doors.ensures.doors ∙ c.into_vec.ensures) c.in-Ok.ensures.served
       (c.put_doors.ensures.rests ∙ c.take_doors.ensures.rests);
   rests = rests_kept c.args.gears.items c.put_doors.new.gears.items (c.put_doors.ensures.rests ∙ c.take_doors.ensures.rests);
 }
