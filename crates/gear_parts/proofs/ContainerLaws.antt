@@ -57,6 +57,25 @@ rests_kept {D = D} {G = G} {T = T} {K = K} {S = S} {O = O} (g ∷ gears) (b ∷ 
       rests_kept gears back tail,
     )
 
+-- Gears that have the same doors and the same rests are the same.
+pub same_gears : {D G T K S O : Type 0} → (gears back : List (Gear D G T K S O))
+    → map (λ g. g.door) back ≡ map (λ g. g.door) gears
+    → map (λ g. rest_with g.dial g.tape g.clock g.shelf g.log) back ≡ map (λ g. rest_with g.dial g.tape g.clock g.shelf g.log) gears
+    → back ≡ gears
+same_gears [] [] doors rests = refl
+same_gears [] (b ∷ back) doors rests = absurd cc
+same_gears (g ∷ gears) [] doors rests = absurd cc
+same_gears {D = D} {G = G} {T = T} {K = K} {S = S} {O = O} (g ∷ gears) (b ∷ back) doors rests =
+    let door : b.door ≡ g.door = cc in
+    let rest : rest_with b.dial b.tape b.clock b.shelf b.log ≡ rest_with g.dial g.tape g.clock g.shelf g.log = cc in
+    let later_doors : map (λ x. x.door) back ≡ map (λ x. x.door) gears = cc in
+    let later_rests : map (λ x. rest_with x.dial x.tape x.clock x.shelf x.log) back ≡ map (λ x. rest_with x.dial x.tape x.clock x.shelf x.log) gears = cc in
+    let both : (b.door, rest_with b.dial b.tape b.clock b.shelf b.log) ≡ (g.door, rest_with g.dial g.tape g.clock g.shelf g.log) = cc in
+    let here : b ≡ g =
+    ap (λ (p : D × RestOfGear G T K S O). record g { door = p.0; dial = p.1.dial; tape = p.1.tape; clock = p.1.clock; shelf = p.1.shelf; log = p.1.log }) both in
+    let later = same_gears gears back later_doors later_rests in
+    cc
+
 -- the doors of gears
 doors_told : {D G T K S O C : Type 0} → (at : D → DoorSide C) (talks : T → Option (List Talk)) (answers : K → Option (List ℕ)) (gears : List (Gear D G T K S O))
     → map at (map (λ g. g.door) gears) ≡ map (λ s. s.door) (map (gear_side at talks answers) gears)

@@ -1,5 +1,5 @@
 //! A container's run.
-ghost use Rattle.std.specs.Prelude.{◌≡◌, ◌+◌, ◌<◌, ◌≤◌, [], length, map, vec_capacity, vec_len, IfOk};
+ghost use Rattle.std.specs.Prelude.{◌≡◌, ◌+◌, ◌<◌, ◌≤◌, [], length, map, vec_capacity, vec_len, IfErr, IfOk};
 ghost use Rattle.std.specs.List.{AllZip};
 ghost use Rattle.door_clients.specs.Doors.{side};
 ghost use Rattle.gear_parts.specs.Containers.{ContainsGears};
@@ -41,7 +41,8 @@ struct Rest<G, T, K, S, O> {
     log: Option<O>,
 }
 
-/// Serves links as a servlet container by a worker for each gear, of which it uses the door alone.
+/// Serves links as a servlet container by a worker for each gear, of which it uses the door alone. For want of memory the
+/// gears come back, and no door was asked.
 pub fn contain_gears<
     D: Door + Drop + Send,
     G: Drop,
@@ -55,14 +56,17 @@ pub fn contain_gears<
     alloc: Global,
     app: &AppConfig,
     gears: Vec<Gear<D, G, T, K, S, O>>,
-) -> Result<ContainerRun<Gear<D, G, T, K, S, O>>, NoMemory>
+) -> Result<ContainerRun<Gear<D, G, T, K, S, O>>, Vec<Gear<D, G, T, K, S, O>>>
 where
     D::L: Send,
     ensures ran { IfOk result (ContainsGears app.now D.L.Meanings (side D.coming D.left D.faults) gears.items) }
     ensures rests { IfOk result (λ run. AllZip KeepsRest gears.items run.gears.items) }
+    ensures unasked { IfErr result (λ back. back.items ≡ gears.items) }
 {
-    let memory = memory_for(alloc, gears.len())?;
-    contain_in(rt, alloc, app, gears, memory)
+    match memory_for(alloc, gears.len()) {
+        Ok(memory) => contain_in(rt, alloc, app, gears, memory),
+        Err(NoMemory) => Err(gears),
+    }
 }
 
 /// Takes the memory for `count` gears.
@@ -97,7 +101,7 @@ fn contain_in<
     app: &AppConfig,
     gears: Vec<Gear<D, G, T, K, S, O>>,
     memory: Memory<D, Rest<G, T, K, S, O>, Gear<D, G, T, K, S, O>>,
-) -> Result<ContainerRun<Gear<D, G, T, K, S, O>>, NoMemory>
+) -> Result<ContainerRun<Gear<D, G, T, K, S, O>>, Vec<Gear<D, G, T, K, S, O>>>
 where
     D::L: Send,
     requires empty { (memory.doors.items ≡ []) × (memory.rests.items ≡ []) × (memory.back.items ≡ []) }
@@ -106,20 +110,26 @@ where
     requires back { vec_len gears ≤ vec_capacity memory.back }
     ensures ran { IfOk result (ContainsGears app.now D.L.Meanings (side D.coming D.left D.faults) gears.items) }
     ensures rests { IfOk result (λ run. AllZip KeepsRest gears.items run.gears.items) }
+    ensures unasked { IfErr result (λ back. back.items ≡ gears.items) }
 {
     let Memory { doors, rests, back } = memory;
     let mut doors = doors;
     let mut rests = rests;
     let mut back = back;
     take_doors(gears, &mut doors, &mut rests);
-    let Ok(ContainerRunEnd { workers, doors }) = run_container(rt, alloc, app, doors) else {
-        return Err(NoMemory);
-    };
-    put_doors(doors.into_vec(), rests, &mut back);
-    Ok(ContainerRun {
-        workers,
-        gears: back,
-    })
+    match run_container(rt, alloc, app, doors) {
+        Ok(ContainerRunEnd { workers, doors }) => {
+            put_doors(doors.into_vec(), rests, &mut back);
+            Ok(ContainerRun {
+                workers,
+                gears: back,
+            })
+        }
+        Err(unasked) => {
+            put_doors(unasked.into_vec(), rests, &mut back);
+            Err(back)
+        }
+    }
 }
 
 /// Takes the door off each gear.

@@ -30,6 +30,12 @@ pub wants_gears : {G L : Type 0} (threads : ℕ) (Runs : WorldSide G → WorldSi
     → HandsAndTakes s n gears [] → length gears ≡ threads → n.faults ≡ s.faults → Works threads Runs s n (end.Status 6)
 wants_gears threads Runs s n gears taken all calm = NoRoom (record { gears = gears; back = []; passed = taken; few = omega (arith, all); unserved = inr refl; calm = calm; status = refl })
 
+-- memory was wanted after gears were taken, and they came back as they were
+pub wants_back : {G L : Type 0} (threads : ℕ) (Runs : WorldSide G → WorldSide G → CommandEnd L → Type 0) (s n : WorldSide G) (gears back : List G)
+    → HandsAndTakes s n gears back → back ≡ gears → length gears ≡ threads → n.faults ≡ s.faults → Works threads Runs s n (end.Status 6)
+wants_back threads Runs s n gears back passed same all calm =
+    NoRoom (record { gears = gears; back = back; passed = passed; few = omega (arith, all); unserved = inl same; calm = calm; status = refl })
+
 -- all that were taken come back
 pub may_come_back : {G : Type 0} (s m : WorldSide G) (gears left : List G) (count : ℕ) → HandsAndTakes s m gears [] → count ≡ length left → length left ≡ length gears → count ≤ m.out
 may_come_back s m gears left count taken whole all = few_out s m gears count taken (omega (arith, whole, all))

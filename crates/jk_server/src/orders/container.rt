@@ -52,7 +52,10 @@ where
             give_back(world, gears);
             end_of_container(workers.as_slice())
         }
-        Err(NoMemory) => CommandEnd::Status(NO_MEMORY),
+        Err(gears) => {
+            give_back(world, gears);
+            CommandEnd::Status(NO_MEMORY)
+        }
     }
 }
 

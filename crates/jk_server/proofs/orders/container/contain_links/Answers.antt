@@ -1,6 +1,6 @@
-use Rattle.std.proofs.Common.{refl, sym, ◌∙◌, rules}
+use Rattle.std.proofs.Common.{length, ap, refl, sym, ◌∙◌, rules}
 use Rattle.jk_server.specs.Commands.{Ran}
-use Rattle.jk_server.proofs.CommandLaws.{all_came_back, may_come_back, wants_gears, works_err}
+use Rattle.jk_server.proofs.CommandLaws.{all_came_back, may_come_back, wants_back, works_err}
 use Rattle.jk_server.proofs.ReturnLaws.{all_returned}
 use Rattle.jk_server.proofs.orders.container.contain_links.Goals as goal
 
@@ -10,8 +10,18 @@ take_gears-requires-clause-named g c κs within = search rules
 pub returns-in-Err : goal.returns-in-Err
 returns-in-Err g c = works_err _ _ _ _ c.in-Err.error _ c.in-Err.ensures.refused c.in-Err.ensures.cause c.end_by.ensures
 
+pub give_back-requires-in-Err-contain_gears-clause-out : goal.give_back-requires-in-Err-contain_gears-clause-out
+give_back-requires-in-Err-contain_gears-clause-out g c κs within =
+    let back = c.in-Err-contain_gears.gears in
+    may_come_back _ _ c.in-Ok.gears.items back.items _ c.in-Ok.ensures.taken back.ok.0 (ap length c.in-Err-contain_gears.ensures.unasked)
+
 pub returns-in-Err-contain_gears : goal.returns-in-Err-contain_gears
-returns-in-Err-contain_gears g c = wants_gears _ _ _ _ c.in-Ok.gears.items c.in-Ok.ensures.taken (sym c.in-Ok.gears.ok.0 ∙ c.in-Ok.ensures.count) (c.in-Ok.ensures.steady refl)
+returns-in-Err-contain_gears g c =
+    let back = c.in-Err-contain_gears.gears in
+    wants_back _ _ _ _ c.in-Ok.gears.items back.items
+    (all_came_back _ _ _ _ back.items _ c.in-Ok.ensures.taken c.give_back-in-Err-contain_gears.ensures.came_back c.give_back-in-Err-contain_gears.ensures.fewer back.ok.0
+    c.give_back-in-Err-contain_gears.ensures.same.0 c.give_back-in-Err-contain_gears.ensures.same.1)
+    c.in-Err-contain_gears.ensures.unasked (sym c.in-Ok.gears.ok.0 ∙ c.in-Ok.ensures.count) (c.give_back-in-Err-contain_gears.ensures.same.1 ∙ c.in-Ok.ensures.steady refl)
 
 pub give_back-requires-clause-out : goal.give_back-requires-clause-out
 give_back-requires-clause-out g c κs within =
