@@ -12,7 +12,6 @@ use Rattle.ajp_request.specs.declared.forward.Forward.{Forward}
 use Rattle.http_front.specs.Fields.{HeaderLine}
 use Rattle.http_front.specs.declared.head.Head.{Head}
 use Rattle.site_config.specs.declared.endpoint.Endpoint.{Endpoint}
-use Rattle.ajp_wire.specs.declared.head_pairs.TheConstants.{MAX_HEADERS}
 
 -- the protocol, as the client wrote it
 abbrev pub protocol_of : Bool → List ℕ
@@ -75,7 +74,7 @@ forward_in d = forward_for d.head d.peer d.direct d.member d.endpoint
 -- What the standard's spelling holds: a port, at most 100 headers, and fields that fit their lengths.
 pub record IsSpellable (d : Delivery) : Type 0 where
   pub port : d.head.port < 65536
-  pub few : length d.head.headers ≤ MAX_HEADERS
+  pub few : length d.head.headers ≤ 100
   pub fits : FieldsFit (forward_in d)
 
 -- its packet
