@@ -13,17 +13,26 @@ apart from the program's own code: replies and packets are put together by sessi
 import sys
 
 import drill
-from sessions import HI, LB, forward, from_member, members, own, own_len, reply, request, sized
+import sessions
+from sessions import HI, LB, dated, forward, from_member, members, own_len, request, sized
 
 SITE = "worker.list=w1\nworker.w1.retries=1\n"
 MAP = "/*=w1\n"
 WHO = request(path="/who", headers=(("Host", "h"),)) + request(path="/who", headers=(), old=True)
-WHO_REPLIES = reply(b"n1\n") + reply(b"n1\n", last=True)
 WHO_TALKS = [(forward(path="/who", headers=(("Host", "h"),), host="h"), True), (forward(path="/who", headers=(), old=True), True)]
 WHO_LINK = sized(b"n1\n") * 2
 WHO_BYTES = [(0, len(sent) + len(sized(b"n1\n"))) for sent, _ in WHO_TALKS]
 GET = request()
 MOST = (1 << 64) - 1
+
+
+def reply(*what, **more):
+    """A reply as a client gets it, whose head came in the first second: the clock of a world in memory stands there."""
+    return dated(0, sessions.reply(*what, **more))
+
+
+def own(status):
+    return dated(0, sessions.own(status))
 
 
 def spelled(data):
@@ -95,6 +104,7 @@ class Row:
         return "\n".join(lines) + "\n"
 
 
+WHO_REPLIES = reply(b"n1\n") + reply(b"n1\n", last=True)
 FILES = (("w", SITE), ("m", MAP))
 SERVE = "serve w m 127.0.0.1:8080 "
 WHO_GEAR = ([WHO], [WHO_LINK])

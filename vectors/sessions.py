@@ -11,6 +11,7 @@ hand from packets and lines.
     python3 vectors/sessions.py places > crates/checks/data/session/places.txt
     python3 vectors/sessions.py member_places > crates/checks/data/session/member_places.txt
 """
+import email.utils
 import re
 import sys
 
@@ -160,6 +161,14 @@ def own(status, head_only=False):
 
 def own_len(status):
     return len(f"{status} {REASONS[status]}\n")
+
+
+def dated(at, answer, before="Connection: close"):
+    """The answer with the moment of its head, before that line; where it has none, at the end of its lines."""
+    line = f"Date: {email.utils.formatdate(at, usegmt=True)}\r\n".encode()
+    head, empty, rest = answer.partition(b"\r\n\r\n")
+    front, close, more = (head + b"\r\n").partition(before.encode() + b"\r\n")
+    return front + line + close + more + b"\r\n" + rest
 
 
 CONTINUE = b"HTTP/1.1 100 Continue\r\n\r\n"
@@ -406,6 +415,36 @@ def heads():
     yield done("after a request", own_end(1, 400), client=GET + request(headers=()), gets=reply() + own(400), rows=["GET / 200 2 w1", "refused 400 16 -"])
 
 
+EXAMPLE = 784111777
+EARLY = 59
+
+
+def moments():
+    said = f"dated={EXAMPLE}"
+    # a hold at this moment begins with a Maintain, since the Books stand at the first second
+    due = dict(words=said, desk="next 3 w1 ok")
+    yield "answers tell the moment at which their head was read"
+    yield done("a reply whose member tells none", gets=dated(EXAMPLE, reply()), **due)
+    own_date = send_headers(headers=[("Date", "Mon, 07 Nov 1994 08:49:37 GMT"), ("Content-Length", "2")]) + chunk(b"hi") + end()
+    yield done("a reply whose member tells its own", links=[own_date],
+               gets=reply(headers=[("Date", "Mon, 07 Nov 1994 08:49:37 GMT"), ("Content-Length", "2")]), **due)
+    unsized = send_headers() + chunk(b"hi") + end()
+    yield done("before the lines that tell how the body ends", links=[unsized],
+               gets=dated(EXAMPLE, b"HTTP/1.1 200 OK\r\nTransfer-Encoding: chunked\r\n\r\n2\r\nhi\r\n0\r\n\r\n", "Transfer-Encoding: chunked"), **due)
+    yield done("two requests, the second refused", own_end(1, 400), client=GET + request(headers=()), gets=dated(EXAMPLE, reply()) + dated(EXAMPLE, own(400)),
+               rows=["GET / 200 2 w1", "refused 400 16 -"], **due)
+    yield done("within the first minute no Maintain is due", gets=dated(EARLY, reply()), words=f"dated={EARLY}")
+    yield Row("a head that is refused", request(headers=()), [], own_end(0, 400), gets=dated(EXAMPLE, own(400)), rows=["refused 400 16 -"],
+              desk="next 0 w1 ok", words=said)
+    yield Row("HEAD of a path that is mounted nowhere", request("HEAD"), [], own_end(0, 404), gets=dated(EXAMPLE, own(404, True)),
+              rows=["HEAD / 404 0 -"], map_="/a=w1\n", desk="next 0 w1 ok", words=said)
+    yield Row("a status worker's page", request(path="/jk"), [], closed(1, "ByClient"), gets=dated(EXAMPLE, page(PAGE)), rows=["GET /jk 200 %d jkstatus" % len(PAGE)],
+              desk="next 0 node1 ok node2 ok", workers=STATUS, map_="/jk=jkstatus\n/*=lb\n", words=said)
+    yield Row("a query that means no command", request(path="/jk?cmd=list&cmd=list"), [], own_end(0, 400), gets=dated(EXAMPLE, own(400)),
+              rows=["GET /jk?cmd=list&cmd=list 400 16 -"], desk="next 0 node1 ok node2 ok", workers=STATUS, map_="/jk=jkstatus\n/*=lb\n", words=said)
+    yield done("none after the year 9999", words="dated=253402300800", desk="next 3 w1 ok")
+
+
 def balanced(name, links, talks, ends=None, gets=None, rows=None, desk="", options=None, client=GET, more="", retries=1, **kept):
     """A request to a balancer with the members a and b."""
     site = members("a", "b", options=options, more=more, retries=retries)
@@ -627,7 +666,7 @@ SESSIONS = """# Sessions of one client, by RFC 9112, the AJPv1.3 reference, the 
 #
 # WAYS is of the client's link. WORDS has `first=N` for the number of the Books' first entry, `dial=N` where that dial, from 0,
 # fails, `client=N` where the client's write fails after N bytes, `waits=N` where its next read would wait once N bytes were read,
-# `unflushed=N` where that flush to it, from 0, fails; `-` is none of these. With `awaits` the row ends with what the client's link
+# `unflushed=N` where that flush to it, from 0, fails, `dated=N` where answers tell their moment and the clock is at N; `-` is none of these. With `awaits` the row ends with what the client's link
 # was told to await. WORKERS and MAP are the two files of the site, LINKS what each link that is dialled has to come, CLIENT what the client sends. END is how the session ended. Each
 # row of the log is `row METHOD TARGET STATUS BODY WORKER`; each talk `to LB.MEMBER SENT`, with `kept` where its link was.
 # Each balancer is told by its next number, and its members with their states."""
@@ -643,7 +682,7 @@ MEMBER_PLACES = REPLIES.replace("| CLIENT |", "| CLIENT & LINKS |").replace("CLI
 
 
 def main(what):
-    parts = {"sessions": [plain_sessions, bodies, heads, others, status_workers, waiting], "failing": [failing], "replies": [replies], "places": [places], "member_places": [places]}[what]
+    parts = {"sessions": [plain_sessions, bodies, heads, moments, others, status_workers, waiting], "failing": [failing], "replies": [replies], "places": [places], "member_places": [places]}[what]
     print({"replies": REPLIES, "places": PLACES, "member_places": MEMBER_PLACES}.get(what, SESSIONS))
     for part in parts:
         for row in part():

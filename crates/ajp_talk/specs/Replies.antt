@@ -37,7 +37,7 @@ abbrev pub is_listed : List (ℕ × Bool) → ℕ → Bool
 is_listed listed status = list_any (λ (entry : ℕ × Bool). entry.0 == status) listed
 
 abbrev pub kind_of : TalkPlan → RequestKind
-kind_of plan = record { old = plan.old; head_only = plan.head_only; last = plan.last }
+kind_of plan = record { old = plan.old; head_only = plan.head_only; last = plan.last; date = plan.date }
 
 -- the bytes of the chunks, the newest first
 abbrev pub chunks_of : List Message → List (List ℕ)

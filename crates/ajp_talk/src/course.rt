@@ -13,7 +13,7 @@ use crate::plan::TalkPlan;
 use crate::send_headers::reply_head;
 use crate::turn::Turn;
 use ajp_reply::ReplyParts;
-use http_out::{OutError, ReplyWriter};
+use http_out::{OutError, ReplyWriter, RequestKind};
 use jk_io::Sink;
 use std::alloc::Global;
 
@@ -29,13 +29,24 @@ pub(crate) struct Course {
     pub(crate) received: u64,
 }
 
+fn kind_of(plan: &TalkPlan) -> RequestKind
+    ensures { result ≡ kind_of plan.now }
+{
+    RequestKind {
+        old: plan.old,
+        head_only: plan.head_only,
+        last: plan.last,
+        date: plan.date,
+    }
+}
+
 impl Course {
     /// Nothing of a reply yet.
     pub(crate) fn new(alloc: Global, plan: &TalkPlan, sent: u64, received: u64) -> Course
         ensures { result ≡ record { writer = new_writer (kind_of plan.now); headers = false; told = record { status = 0; body = 0 }; sent = sent; received = received } }
     {
         Course {
-            writer: ReplyWriter::new(alloc, plan.old, plan.head_only, plan.last),
+            writer: ReplyWriter::new(alloc, kind_of(plan)),
             headers: false,
             told: Told { status: 0, body: 0 },
             sent,

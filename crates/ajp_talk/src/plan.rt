@@ -1,5 +1,6 @@
 //! `TalkPlan`: what a talk is told before it begins.
 
+use httpdate::HttpDate;
 use jk_io::Bytes;
 use jk_model::FailList;
 
@@ -33,6 +34,8 @@ pub struct TalkPlan {
     pub head_only: bool,
     /// No request follows it on the client's connection.
     pub last: bool,
+    /// The moment that its reply tells where the container's lines tell none.
+    pub date: Option<HttpDate>,
     /// The link is closed as soon as a write to the client fails.
     pub close_on_client: bool,
     /// The statuses that count as a failure of the member.

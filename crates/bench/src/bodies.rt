@@ -9,7 +9,7 @@ use crate::done::Done;
 use crate::feed::Feed;
 use http_body_in::BodyIn;
 use http_front::{BodyPlan, HeadLines, Inbox};
-use http_out::{OutError, ReplyHead, ReplyWriter};
+use http_out::{OutError, ReplyHead, ReplyWriter, RequestKind};
 use jk_io::{Bytes, NoMemory};
 use std::alloc::Global;
 
@@ -130,11 +130,19 @@ fn head(alloc: Global, is_by_length: bool) -> Result<ReplyHead, NoMemory> {
     })
 }
 
+/// A request of HTTP/1.1, whose reply tells no moment.
+const KIND: RequestKind = RequestKind {
+    old: false,
+    head_only: false,
+    last: false,
+    date: None,
+};
+
 /// A writer that has taken a head.
 fn opened(alloc: Global, is_by_length: bool) -> Result<ReplyWriter, OutError>
     ensures { IfOk result (λ writer. IsOpen writer) }
 {
-    let mut writer = ReplyWriter::new(alloc, false, false, false);
+    let mut writer = ReplyWriter::new(alloc, KIND);
     writer.headers(head(alloc, is_by_length)?)?;
     Ok(writer)
 }

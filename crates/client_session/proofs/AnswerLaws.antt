@@ -8,6 +8,7 @@ use Rattle.jk_model.specs.declared.served.Served.{Served}
 use Rattle.http_front.specs.declared.head.BodyPlan.{BodyPlan}
 use Rattle.http_front.specs.declared.head.Head.{Head}
 use Rattle.http_body_in.specs.declared.body.BodyIn.{BodyIn}
+use Rattle.http_out.specs.declared.own_answers.OwnKind.{OwnKind}
 use Rattle.site_config.specs.declared.config.Named.{Named}
 use Rattle.site_config.specs.declared.config.Named.TheVariants as named
 use Rattle.site_config.specs.declared.config.Status.{Status}
@@ -17,7 +18,7 @@ use Rattle.exchange.specs.Requests.{is_head}
 use Rattle.client_session.specs.Answers.{IsAnswer, IsAnswerAt, IsAtStatus, IsStatusAnswer, StopsEarly, own_for}
 use Rattle.client_session.specs.Concluding.{IsKnownStop, IsNotFound, rows_of, settled_by, stopped_by}
 use Rattle.client_session.specs.Ends.{MeetsBy, RisesBy}
-use Rattle.client_session.specs.Requests.{IsNewBody, Visit, continue_for, mounted_at}
+use Rattle.client_session.specs.Requests.{IsNewBody, Visit, continue_for, mounted_at, own_kind_at}
 use Rattle.client_session.specs.Rows.{worker_row}
 use Rattle.client_session.specs.Standings.{Puts, ClientStanding}
 use Rattle.client_session.specs.Turns.{GoesOn, MeetsInAnswer, RisesInAnswer}
@@ -187,13 +188,13 @@ no_fewer_early bytes s n stop.NoMemory (inr writes) = let steady = writes.steady
 
 -- ---- a request that is mounted nowhere
 
-not_found_by : (v : Visit) (head : Head) (s : ClientStanding) (w : Moment) (x : SessionStop) → mounted_at v head ≡ None → WritesOwn 404 (is_head head) s.client w x
+not_found_by : (v : Visit) (head : Head) (s : ClientStanding) (w : Moment) (x : SessionStop) → mounted_at v head ≡ None → WritesOwn 404 (own_kind_at v head) s.client w x
     → StopsEarly v head s (record s { client = w }) (settled_by x (line_of head) (is_head head)).answered (rows_of (settled_by x (line_of head) (is_head head)).row)
 not_found_by v head s w (stop.Closed why.ByClient) none writes = absurd writes
 not_found_by v head s w (stop.Closed why.Idle) none writes = absurd writes
 not_found_by v head s w (stop.Closed why.Last) none writes = absurd writes
 not_found_by v head s w (stop.Closed (why.Own code)) none writes =
-    (writes.0, none, record { puts = subst (λ (k : ℕ). Puts s.client w (own_for k (is_head head))) (sym writes.0) writes.1; alone = refl }, refl)
+    (writes.0, none, record { puts = subst (λ (k : ℕ). Puts s.client w (own_for k (own_kind_at v head))) (sym writes.0) writes.1; alone = refl }, refl)
 not_found_by v head s w (stop.Closed why.Cut) none writes = absurd writes
 not_found_by v head s w (stop.Closed why.Unread) none writes = absurd writes
 not_found_by v head s w stop.ClientFault none writes = (refl, writes.0, inl (none, record { puts = writes.1; alone = refl }))
@@ -202,7 +203,7 @@ not_found_by v head s w (stop.Stray ticket returned_at) none writes = absurd wri
 not_found_by v head s w stop.NoMemory none writes = (refl, inr (inl (none, record { puts = writes; alone = refl })))
 
 pub not_found_answers : (v : Visit) (head : Head) (last : Bool) (s : ClientStanding) (w : Moment) (body : BodyIn) (settled : Settled) → mounted_at v head ≡ None
-    → IsNotFound head s.client w settled → IsAnswer v head last s (record s { client = w }) body body settled.answered (rows_of settled.row)
+    → IsNotFound v head s.client w settled → IsAnswer v head last s (record s { client = w }) body body settled.answered (rows_of settled.row)
 not_found_answers v head last s w body settled none (inl (same, is)) =
     subst (λ (x : Settled). IsAnswer v head last s (record s { client = w }) body body x.answered (rows_of x.row)) (sym is)
     (inl (refl, inl (ap (λ (m : Moment). record s { client = m }) same)))
@@ -210,46 +211,46 @@ not_found_answers v head last s w body settled none (inr (stop', writes, is)) =
     subst (λ (x : Settled). IsAnswer v head last s (record s { client = w }) body body x.answered (rows_of x.row)) (sym is)
     (inl (not_found_by v head s w stop' none writes))
 
-not_found_meets_by : (head_only : Bool) (line : Asked) (s n : Moment) (x : SessionStop) (desk : DeskState) → WritesOwn 404 head_only s n x
+not_found_meets_by : (kind : OwnKind) (head_only : Bool) (line : Asked) (s n : Moment) (x : SessionStop) (desk : DeskState) → WritesOwn 404 kind s n x
     → MeetsInAnswer (settled_by x line head_only).answered desk desk
-not_found_meets_by head_only line s n (stop.Closed why.ByClient) desk writes = absurd writes
-not_found_meets_by head_only line s n (stop.Closed why.Idle) desk writes = absurd writes
-not_found_meets_by head_only line s n (stop.Closed why.Last) desk writes = absurd writes
-not_found_meets_by head_only line s n (stop.Closed (why.Own code)) desk writes = none_met desk
-not_found_meets_by head_only line s n (stop.Closed why.Cut) desk writes = absurd writes
-not_found_meets_by head_only line s n (stop.Closed why.Unread) desk writes = absurd writes
-not_found_meets_by head_only line s n stop.ClientFault desk writes = none_met desk
-not_found_meets_by head_only line s n stop.Truncated desk writes = absurd writes
-not_found_meets_by head_only line s n (stop.Stray ticket returned_at) desk writes = absurd writes
-not_found_meets_by head_only line s n stop.NoMemory desk writes = none_met desk
+not_found_meets_by kind head_only line s n (stop.Closed why.ByClient) desk writes = absurd writes
+not_found_meets_by kind head_only line s n (stop.Closed why.Idle) desk writes = absurd writes
+not_found_meets_by kind head_only line s n (stop.Closed why.Last) desk writes = absurd writes
+not_found_meets_by kind head_only line s n (stop.Closed (why.Own code)) desk writes = none_met desk
+not_found_meets_by kind head_only line s n (stop.Closed why.Cut) desk writes = absurd writes
+not_found_meets_by kind head_only line s n (stop.Closed why.Unread) desk writes = absurd writes
+not_found_meets_by kind head_only line s n stop.ClientFault desk writes = none_met desk
+not_found_meets_by kind head_only line s n stop.Truncated desk writes = absurd writes
+not_found_meets_by kind head_only line s n (stop.Stray ticket returned_at) desk writes = absurd writes
+not_found_meets_by kind head_only line s n stop.NoMemory desk writes = none_met desk
 
-pub not_found_meets : (head : Head) (s n : Moment) (settled : Settled) (desk : DeskState) → IsNotFound head s n settled → MeetsInAnswer settled.answered desk desk
-not_found_meets head s n settled desk (inl (same, is)) = subst (λ (x : Settled). MeetsInAnswer x.answered desk desk) (sym is) (none_met desk)
-not_found_meets head s n settled desk (inr (stop', writes, is)) =
-    subst (λ (x : Settled). MeetsInAnswer x.answered desk desk) (sym is) (not_found_meets_by (is_head head) (line_of head) s n stop' desk writes)
+pub not_found_meets : (v : Visit) (head : Head) (s n : Moment) (settled : Settled) (desk : DeskState) → IsNotFound v head s n settled → MeetsInAnswer settled.answered desk desk
+not_found_meets v head s n settled desk (inl (same, is)) = subst (λ (x : Settled). MeetsInAnswer x.answered desk desk) (sym is) (none_met desk)
+not_found_meets v head s n settled desk (inr (stop', writes, is)) =
+    subst (λ (x : Settled). MeetsInAnswer x.answered desk desk) (sym is) (not_found_meets_by (own_kind_at v head) (is_head head) (line_of head) s n stop' desk writes)
 
-not_found_rises_by : (head_only : Bool) (line : Asked) (s n : Moment) (x : SessionStop) → WritesOwn 404 head_only s n x
+not_found_rises_by : (kind : OwnKind) (head_only : Bool) (line : Asked) (s n : Moment) (x : SessionStop) → WritesOwn 404 kind s n x
     → RisesInAnswer (settled_by x line head_only).answered s.faults n.faults
-not_found_rises_by head_only line s n (stop.Closed why.ByClient) writes = absurd writes
-not_found_rises_by head_only line s n (stop.Closed why.Idle) writes = absurd writes
-not_found_rises_by head_only line s n (stop.Closed why.Last) writes = absurd writes
-not_found_rises_by head_only line s n (stop.Closed (why.Own code)) writes = writes.1.steady
-not_found_rises_by head_only line s n (stop.Closed why.Cut) writes = absurd writes
-not_found_rises_by head_only line s n (stop.Closed why.Unread) writes = absurd writes
-not_found_rises_by head_only line s n stop.ClientFault writes = writes.0
-not_found_rises_by head_only line s n stop.Truncated writes = absurd writes
-not_found_rises_by head_only line s n (stop.Stray ticket returned_at) writes = absurd writes
-not_found_rises_by head_only line s n stop.NoMemory writes = writes.steady
+not_found_rises_by kind head_only line s n (stop.Closed why.ByClient) writes = absurd writes
+not_found_rises_by kind head_only line s n (stop.Closed why.Idle) writes = absurd writes
+not_found_rises_by kind head_only line s n (stop.Closed why.Last) writes = absurd writes
+not_found_rises_by kind head_only line s n (stop.Closed (why.Own code)) writes = writes.1.steady
+not_found_rises_by kind head_only line s n (stop.Closed why.Cut) writes = absurd writes
+not_found_rises_by kind head_only line s n (stop.Closed why.Unread) writes = absurd writes
+not_found_rises_by kind head_only line s n stop.ClientFault writes = writes.0
+not_found_rises_by kind head_only line s n stop.Truncated writes = absurd writes
+not_found_rises_by kind head_only line s n (stop.Stray ticket returned_at) writes = absurd writes
+not_found_rises_by kind head_only line s n stop.NoMemory writes = writes.steady
 
-pub not_found_rises : (head : Head) (s n : Moment) (settled : Settled) → IsNotFound head s n settled → RisesInAnswer settled.answered s.faults n.faults
-not_found_rises head s n settled (inl (same, is)) =
+pub not_found_rises : (v : Visit) (head : Head) (s n : Moment) (settled : Settled) → IsNotFound v head s n settled → RisesInAnswer settled.answered s.faults n.faults
+not_found_rises v head s n settled (inl (same, is)) =
     subst (λ (x : Settled). RisesInAnswer x.answered s.faults n.faults) (sym is) (ap (λ (m : Moment). m.faults) same)
-not_found_rises head s n settled (inr (stop', writes, is)) =
-    subst (λ (x : Settled). RisesInAnswer x.answered s.faults n.faults) (sym is) (not_found_rises_by (is_head head) (line_of head) s n stop' writes)
+not_found_rises v head s n settled (inr (stop', writes, is)) =
+    subst (λ (x : Settled). RisesInAnswer x.answered s.faults n.faults) (sym is) (not_found_rises_by (own_kind_at v head) (is_head head) (line_of head) s n stop' writes)
 
-pub not_found_no_fewer : (head : Head) (s n : Moment) (settled : Settled) → IsNotFound head s n settled → s.faults ≤ n.faults
-not_found_no_fewer head s n settled (inl (same, is)) = subst (λ (m : Moment). s.faults ≤ m.faults) (sym same) (omega arith)
-not_found_no_fewer head s n settled (inr (stop', writes, is)) = own_no_fewer 404 (is_head head) s n stop' writes
+pub not_found_no_fewer : (v : Visit) (head : Head) (s n : Moment) (settled : Settled) → IsNotFound v head s n settled → s.faults ≤ n.faults
+not_found_no_fewer v head s n settled (inl (same, is)) = subst (λ (m : Moment). s.faults ≤ m.faults) (sym same) (omega arith)
+not_found_no_fewer v head s n settled (inr (stop', writes, is)) = own_no_fewer 404 (own_kind_at v head) s n stop' writes
 
 -- ---- a request that goes on to its worker
 

@@ -62,8 +62,8 @@ form_code form_is.Connect = inr (inr (inr refl))
 form_code form_is.TooLong = inr (inl refl)
 form_code form_is.BadPath = inl refl
 
-head_code : (s n : ClientStanding) (code : ℕ) → IsHeadRefused s n code → IsHeadCode code
-head_code s n code r = subst IsHeadCode (sym r.status) (form_code r.form)
+head_code : (v : Visit) (s n : ClientStanding) (code : ℕ) → IsHeadRefused v s n code → IsHeadCode code
+head_code v s n code r = subst IsHeadCode (sym r.status) (form_code r.form)
 
 abbrev IsReplyCode : ℕ → Type 0
 IsReplyCode code = (code ≡ 400) ⊎ ((code ≡ 413) ⊎ ((code ≡ 500) ⊎ ((code ≡ 502) ⊎ (code ≡ 503))))
@@ -130,7 +130,7 @@ page_code v s n code r =
 
 abbrev Origin : Visit → (number : ℕ) → (s n : ClientStanding) → (code : ℕ) → Type 0
 Origin v number s n code =
-    IsHeadRefused s n code ⊎ (((code ≡ 404) × IsUnmounted v s) ⊎ (HasNoReply v number s n code ⊎ HasNoPage v s n code))
+    IsHeadRefused v s n code ⊎ (((code ≡ 404) × IsUnmounted v s) ⊎ (HasNoReply v number s n code ⊎ HasNoPage v s n code))
 
 origin : (v : Visit) (number requests : ℕ) (s n : ClientStanding) (rows : List Served) (code : ℕ) → EndsIn v number s n rows requests (stop.Closed (why.Own code))
     → Origin v number s n code
@@ -213,11 +213,11 @@ page_full v s n r same =
 
 -- ---- the rows, each by where the answer comes from
 
-refuses_as : (s n : ClientStanding) (code known : ℕ) → IsHeadRefused s n code → code ≡ known → RefusesAs s known
-refuses_as s n code known r is = (r.read, r.form, r.reads, sym r.status ∙ is)
+refuses_as : (v : Visit) (s n : ClientStanding) (code known : ℕ) → IsHeadRefused v s n code → code ≡ known → RefusesAs s known
+refuses_as v s n code known r is = (r.read, r.form, r.reads, sym r.status ∙ is)
 
-not_head : (s n : ClientStanding) (code known : ℕ) → IsHeadRefused s n code → code ≡ known → (IsHeadCode known → ⊥) → ⊥
-not_head s n code known r is other = other (subst IsHeadCode is (head_code s n code r))
+not_head : (v : Visit) (s n : ClientStanding) (code known : ℕ) → IsHeadRefused v s n code → code ≡ known → (IsHeadCode known → ⊥) → ⊥
+not_head v s n code known r is other = other (subst IsHeadCode is (head_code v s n code r))
 
 not_reply : (v : Visit) (number : ℕ) (s n : ClientStanding) (code known : ℕ) → HasNoReply v number s n code → code ≡ known → (IsReplyCode known → ⊥) → ⊥
 not_reply v number s n code known r is other = other (subst IsReplyCode is (reply_code v number s n code r))
@@ -227,39 +227,39 @@ not_page v s n code known r is other = other (subst IsPageCode is (page_code v s
 
 bad_request : (v : Visit) (number : ℕ) (s n : ClientStanding) (code : ℕ) → Origin v number s n code → code ≡ 400
     → RefusesAs s 400 ⊎ (((r : HasNoReply v number s n code) × HasBadLine v number s n code r) ⊎ HasNoPage v s n 400)
-bad_request v number s n code (inl head) is = inl (refuses_as s n code 400 head is)
+bad_request v number s n code (inl head) is = inl (refuses_as v s n code 400 head is)
 bad_request v number s n code (inr (inl unmounted)) is = absurd (omega (arith, unmounted.0, is))
 bad_request v number s n code (inr (inr (inl r))) is = inr (inl (r, r.forwarded.forwarded.gives.bad_line is))
 bad_request v number s n code (inr (inr (inr r))) is = inr (inr (subst (HasNoPage v s n) is r))
 
 forbidden : (v : Visit) (number : ℕ) (s n : ClientStanding) (code : ℕ) → Origin v number s n code → code ≡ 403 → HasNoPage v s n 403
-forbidden v number s n code (inl head) is = absurd (not_head s n code 403 head is (λ x. omega (arith, x)))
+forbidden v number s n code (inl head) is = absurd (not_head v s n code 403 head is (λ x. omega (arith, x)))
 forbidden v number s n code (inr (inl unmounted)) is = absurd (omega (arith, unmounted.0, is))
 forbidden v number s n code (inr (inr (inl r))) is = absurd (not_reply v number s n code 403 r is (λ x. omega (arith, x)))
 forbidden v number s n code (inr (inr (inr r))) is = subst (HasNoPage v s n) is r
 
 not_found : (v : Visit) (number : ℕ) (s n : ClientStanding) (code : ℕ) → Origin v number s n code → code ≡ 404 → IsUnmounted v s ⊎ HasNoPage v s n 404
-not_found v number s n code (inl head) is = absurd (not_head s n code 404 head is (λ x. omega (arith, x)))
+not_found v number s n code (inl head) is = absurd (not_head v s n code 404 head is (λ x. omega (arith, x)))
 not_found v number s n code (inr (inl unmounted)) is = inl unmounted.1
 not_found v number s n code (inr (inr (inl r))) is = absurd (not_reply v number s n code 404 r is (λ x. omega (arith, x)))
 not_found v number s n code (inr (inr (inr r))) is = inr (subst (HasNoPage v s n) is r)
 
 too_large : (v : Visit) (number : ℕ) (s n : ClientStanding) (code : ℕ) → Origin v number s n code → code ≡ 413
     → RefusesAs s 413 ⊎ ((r : HasNoReply v number s n code) × IsTooMuch v number s n code r)
-too_large v number s n code (inl head) is = inl (refuses_as s n code 413 head is)
+too_large v number s n code (inl head) is = inl (refuses_as v s n code 413 head is)
 too_large v number s n code (inr (inl unmounted)) is = absurd (omega (arith, unmounted.0, is))
 too_large v number s n code (inr (inr (inl r))) is = inr (r, r.forwarded.forwarded.gives.too_large is)
 too_large v number s n code (inr (inr (inr r))) is = absurd (not_page v s n code 413 r is (λ x. omega (arith, x)))
 
 many_fields : (v : Visit) (number : ℕ) (s n : ClientStanding) (code : ℕ) → Origin v number s n code → code ≡ 431 → RefusesAs s 431
-many_fields v number s n code (inl head) is = refuses_as s n code 431 head is
+many_fields v number s n code (inl head) is = refuses_as v s n code 431 head is
 many_fields v number s n code (inr (inl unmounted)) is = absurd (omega (arith, unmounted.0, is))
 many_fields v number s n code (inr (inr (inl r))) is = absurd (not_reply v number s n code 431 r is (λ x. omega (arith, x)))
 many_fields v number s n code (inr (inr (inr r))) is = absurd (not_page v s n code 431 r is (λ x. omega (arith, x)))
 
 internal : (v : Visit) (number : ℕ) (s n : ClientStanding) (code : ℕ) → Origin v number s n code → code ≡ 500
     → EndsWith s.desk.state n.desk.state answer.Forced ⊎ Rose s.desk.state.fulls n.desk.state.fulls
-internal v number s n code (inl head) is = absurd (not_head s n code 500 head is (λ x. omega (arith, x)))
+internal v number s n code (inl head) is = absurd (not_head v s n code 500 head is (λ x. omega (arith, x)))
 internal v number s n code (inr (inl unmounted)) is = absurd (omega (arith, unmounted.0, is))
 internal v number s n code (inr (inr (inl r))) is =
     subst (λ (d : DeskSide). EndsWith d.state n.desk.state answer.Forced ⊎ Rose d.state.fulls n.desk.state.fulls)
@@ -269,21 +269,21 @@ internal v number s n code (inr (inr (inr r))) is =
     inr (page_full v s n page (same_desk v s page.read page.begun page.head page.reads page.told_on))
 
 unbuilt : (v : Visit) (number : ℕ) (s n : ClientStanding) (code : ℕ) → Origin v number s n code → code ≡ 501 → RefusesAs s 501
-unbuilt v number s n code (inl head) is = refuses_as s n code 501 head is
+unbuilt v number s n code (inl head) is = refuses_as v s n code 501 head is
 unbuilt v number s n code (inr (inl unmounted)) is = absurd (omega (arith, unmounted.0, is))
 unbuilt v number s n code (inr (inr (inl r))) is = absurd (not_reply v number s n code 501 r is (λ x. omega (arith, x)))
 unbuilt v number s n code (inr (inr (inr r))) is = absurd (not_page v s n code 501 r is (λ x. omega (arith, x)))
 
 gateway : (v : Visit) (number : ℕ) (s n : ClientStanding) (code : ℕ) → Origin v number s n code → code ≡ 502
     → (r : HasNoReply v number s n code) × GaveUp v number s n code r false
-gateway v number s n code (inl head) is = absurd (not_head s n code 502 head is (λ x. omega (arith, x)))
+gateway v number s n code (inl head) is = absurd (not_head v s n code 502 head is (λ x. omega (arith, x)))
 gateway v number s n code (inr (inl unmounted)) is = absurd (omega (arith, unmounted.0, is))
 gateway v number s n code (inr (inr (inl r))) is = (r, r.forwarded.forwarded.gives.gateway is)
 gateway v number s n code (inr (inr (inr r))) is = absurd (not_page v s n code 502 r is (λ x. omega (arith, x)))
 
 unavailable : (v : Visit) (number : ℕ) (s n : ClientStanding) (code : ℕ) → Origin v number s n code → code ≡ 503
     → EndsWith s.desk.state n.desk.state answer.NoMember ⊎ ((r : HasNoReply v number s n code) × GaveUp v number s n code r true)
-unavailable v number s n code (inl head) is = absurd (not_head s n code 503 head is (λ x. omega (arith, x)))
+unavailable v number s n code (inl head) is = absurd (not_head v s n code 503 head is (λ x. omega (arith, x)))
 unavailable v number s n code (inr (inl unmounted)) is = absurd (omega (arith, unmounted.0, is))
 unavailable v number s n code (inr (inr (inl r))) is =
     elim (r.forwarded.forwarded.gives.unavailable is) [

@@ -1,6 +1,7 @@
 pub mod DeskLaws
 pub mod ConcludeLaws
 pub mod StatusLaws
+pub mod MomentLaws
 pub mod WritingLaws
 pub mod TurnLaws
 pub mod SessionLaws

@@ -17,8 +17,11 @@ use Rattle.http_body_in.specs.declared.fault.BodyFault.{BodyFault}
 use Rattle.http_body_in.specs.declared.place.Place.{Place}
 use Rattle.http_body_in.proofs.BodyLemmas.{place_behind-append}
 use Rattle.ajp_talk.specs.Replies.{so_far_of_talk}
+use Rattle.jk_io.specs.Moments.{Moment}
 use Rattle.http_out.specs.Own.{own_bytes, own_of}
 use Rattle.http_out.specs.declared.own_answers.Own.{Own}
+use Rattle.http_out.specs.declared.own_answers.OwnKind.{OwnKind}
+use Rattle.httpdate.specs.declared.date.HttpDate.{HttpDate}
 use Rattle.ajp_talk.specs.declared.ending.Told.{Told}
 use Rattle.status_page.specs.Mimes.{mime_of}
 use Rattle.status_page.specs.declared.page.PagePart.{PagePart}
@@ -26,12 +29,13 @@ use Rattle.status_worker.specs.Pages.{page_reply, shown_for}
 use Rattle.site_config.specs.declared.config.Status.{Status}
 use Rattle.exchange.specs.Clients.{GetsFront, GetsLess, GetsReplyFront, plan_in}
 use Rattle.exchange.specs.Deliveries.{PutsShort}
-use Rattle.exchange.specs.Requests.{is_head}
 use Rattle.exchange.specs.declared.ending.ExchangeEnd.TheVariants as exchange_end
 use Rattle.exchange.specs.declared.ending.ExchangeEnd.{ExchangeEnd}
 use Rattle.client_session.specs.Answers.{IsAnswer, IsAnswerAt, IsAtStatus, IsEarlyBegun, IsEarlyLess, IsForwarded, IsStatusBegun, IsStatusLess, IsToldOn, errand_at, own_bytes_of, own_for}
 use Rattle.client_session.specs.Parts.{AreParts, HasParts, IsCutFor, IsDueAnswer, IsFrontOfAnswer, IsLastWritten, IsLessOfAnswer, IsOwnAnswer, IsPageAnswer, IsPageFor, IsPart, IsReplyFor, IsUnreadAnswer, IsWholeAnswer, SessionPart, taken_in, talks_in, written_in}
-use Rattle.client_session.specs.Requests.{IsNewBody, Visit, continue_for, is_last}
+use Rattle.client_session.specs.Moments.{IsTold}
+use Rattle.client_session.proofs.MomentLaws.{StaysButClock, last_stays, moment_stays, told_last, told_moment}
+use Rattle.client_session.specs.Requests.{IsNewBody, Visit, continue_for, is_last, kind_at, own_kind_at, refused_kind, visit_at}
 use Rattle.client_session.specs.Sessions.{EndsIn, HaveServed, IsRefusalBegun, IsRefusalWanted, IsRequest, IsServed, IsSession, IsUnread, ReadsHead}
 use Rattle.client_session.specs.Standings.{IsBegun, IsClientAlone, IsLess, IsWritten, ClientStanding, ReachSide, unread_at, with_body}
 use Rattle.client_session.specs.declared.ending.SessionEnd.{SessionEnd}
@@ -67,6 +71,14 @@ unasked s n same = ap (λ (r : ReachSide). r.talks) same ∙ sym (appended-nil s
 
 alone_reach : (s n : ClientStanding) → IsClientAlone s n → n.reach ≡ s.reach
 alone_reach s n alone = ap (λ (x : ClientStanding). x.reach) alone
+
+-- from where nothing but the clock differs
+moves_from : (s t n : ClientStanding) (taken written : List ℕ) (talks : List Talk) → StaysButClock s t → Moves t n taken written talks → Moves s n taken written talks
+moves_from s t n taken written talks stays moves = record {
+  used = sym (ap (λ (i : List ℕ). unread i t.client.incoming) stays.inbox ∙ ap (λ (c : Moment). unread s.inbox c.incoming) stays.client) ∙ moves.used;
+  put = moves.put ∙ ap (λ (c : Moment). appended c.sent written) stays.client;
+  noted = moves.noted ∙ ap (λ (r : ReachSide). appended r.talks talks) stays.reach;
+}
 
 -- nothing was written
 reads_on : (s n : ClientStanding) (front : List ℕ) → unread_at s ≡ prepended front (unread_at n) → n.client.sent ≡ s.client.sent → IsClientAlone s n
@@ -156,7 +168,7 @@ whole_at v head last s n fresh body rows is_fresh (inr (status, m, page, at, has
   answer = _;
   gone = [];
   talks = [];
-  is = inr (status, has.parts, at, refl, ap (page_reply (mime_of head.query) (is_head head) last) has.is);
+  is = inr (status, has.parts, at, refl, ap (page_reply (mime_of head.query) (kind_at v head last)) has.is);
   moves = writes_on s m n _ (ap (λ (x : ClientStanding). x.client) has.alone) (ap (λ (x : ClientStanding). x.inbox) has.alone)
       (ap (λ (x : ClientStanding). x.reach) has.alone) written;
   place = ap Some (sym is_fresh.place) ∙ ap (λ (b : BodyIn). Some (place_of b)) (sym same);
@@ -196,16 +208,18 @@ whole_request v number s n body rows r =
       place = has.place;
     }
 
-part_of : (v : Visit) (number : ℕ) (s n : ClientStanding) (rows : List Served) → IsServed v number s n rows
+part_of : (v : Visit) (date : Option HttpDate) (number : ℕ) (s n : ClientStanding) (rows : List Served) → IsTold v date → IsServed (visit_at v date) number s n rows
     → (part : SessionPart) × IsPart v number part × Moves s n part.taken part.written part.talks
-part_of v number s n rows served =
+part_of v date number s n rows told served =
     let r = served.going_on.request in
     let on = served.skips.passes.on in
-    let has = whole_request v number s served.mid served.body rows r in
+    let has = whole_request (visit_at v date) number s served.mid served.body rows r in
     let moves = moves_twice s served.mid n (has.front ++ has.gone) has.written on.uses.gone [] has.talks [] has.moves
     (reads_on served.mid n on.uses.gone on.uses.used on.sent served.skips.alone) in (
       record { taken = has.front ++ (has.gone ++ on.uses.gone); written = has.written; talks = has.talks },
       record {
+        date = date;
+        told = told;
         head = r.head;
         request = record {
           front = has.front;
@@ -230,10 +244,10 @@ part_of v number s n rows served =
 pub parts_of : (v : Visit) (number : ℕ) (s n : ClientStanding) (rows : List Served) → HaveServed v number s n rows
     → (parts : List SessionPart) × AreParts v number parts × Moves s n (taken_in parts) (written_in parts) (talks_in parts)
 parts_of v zero s n rows served = ([], refl, moves_none s n served.0)
-parts_of v (suc number) s n rows (mid, before, last, served, one, added) =
+parts_of v (suc number) s n rows (mid, before, last, date, timed, served, reads, one, added) =
     let all = parts_of v number s mid before served in
-    let next = part_of v number mid n last one in
-    let moves = moves_twice s mid n _ _ _ _ _ _ all.2 next.2 in (
+    let next = part_of v date number timed n last (told_moment v mid timed date reads) one in
+    let moves = moves_twice s mid n _ _ _ _ _ _ all.2 (moves_from mid timed n _ _ _ (moment_stays v mid timed date reads) next.2) in (
       all.0 ++ next.0 ∷ [],
       (all.0, next.0, all.1, next.1, refl),
       record {
@@ -266,7 +280,7 @@ said_as A B s n f ends = record { bytes = ends.bytes; talks = ends.talks; is = f
 -- what may be due to a request, a front of which is written where the client fails
 abbrev IsDueFor : Visit → (number : ℕ) → Head → List Talk → List ℕ → Type 0
 IsDueFor v number head talks whole =
-    (whole ≡ continue_for head) ⊎ (((status : ℕ) × IsOwnAnswer head status whole)
+    (whole ≡ continue_for head) ⊎ (((status : ℕ) × IsOwnAnswer v head status whole)
     ⊎ (IsPageAnswer v head (is_last number head) talks whole ⊎ IsDueAnswer v head (is_last number head) talks whole))
 
 nothing : (v : Visit) (number : ℕ) (s n : ClientStanding) → n.client.sent ≡ s.client.sent → n.reach ≡ s.reach → Fronts v number s n
@@ -298,7 +312,7 @@ a_less_front v number s n head talks whole puts due noted = record {
 
 -- and of what isn't
 a_short : (v : Visit) (number : ℕ) (s n : ClientStanding) (head : Head) (talks : List Talk) (whole : List ℕ) → PutsShort s.client.sent n.client.sent whole
-    → ((status : ℕ) × IsOwnAnswer head status whole) ⊎ IsPageAnswer v head (is_last number head) talks whole → n.reach.talks ≡ appended s.reach.talks talks
+    → ((status : ℕ) × IsOwnAnswer v head status whole) ⊎ IsPageAnswer v head (is_last number head) talks whole → n.reach.talks ≡ appended s.reach.talks talks
     → Lesses v number s n
 a_short v number s n head talks whole puts due noted = record {
   bytes = puts.front.front;
@@ -381,8 +395,8 @@ due_reply v number head told n fresh body end is reply = (
   refl,
 )
 
-own_due : (head : Head) (status : ℕ) (own : Own) → own_of status ≡ Some own → IsOwnAnswer head status (continue_for head ++ own_bytes own (is_head head))
-own_due head status own is = inr (ap (λ (o : Option Own). continue_for head ++ own_bytes_of o (is_head head)) (sym is))
+own_due : (v : Visit) (head : Head) (status : ℕ) (own : Own) → own_of status ≡ Some own → IsOwnAnswer v head status (continue_for head ++ own_bytes own (own_kind_at v head))
+own_due v head status own is = inr (ap (λ (o : Option Own). continue_for head ++ own_bytes_of o (own_kind_at v head)) (sym is))
 
 by_forward : (v : Visit) (number : ℕ) (head : Head) (s told n : ClientStanding) (fresh body : BodyIn) (end : ExchangeEnd) → IsToldOn v head s told
     → (is : IsForwarded v head (is_last number head) told n fresh body end)
@@ -392,9 +406,9 @@ by_forward v number head s told n fresh body end on is (inl same) =
     (put_all s.client.sent n.client.sent (continue_for head) (same ∙ sent_told v head s told on)) (inl refl)
     (noted_told v head s told n _ on is.forwarded.noted.1)
 by_forward v number head s told n fresh body end on is (inr (inl own)) =
-    a_front v number s n head is.forwarded.noted.0 (continue_for head ++ own_bytes own.own (is_head head))
+    a_front v number s n head is.forwarded.noted.0 (continue_for head ++ own_bytes own.own (own_kind_at v head))
     (put_after s.client.sent told.client.sent n.client.sent (continue_for head) _ (sent_told v head s told on) own.written)
-    (inr (inl (own.status, own_due head own.status own.own own.is_own))) (noted_told v head s told n _ on is.forwarded.noted.1)
+    (inr (inl (own.status, own_due v head own.status own.own own.is_own))) (noted_told v head s told n _ on is.forwarded.noted.1)
 by_forward v number head s told n fresh body end on is (inr (inr reply)) =
     a_front v number s n head (reply.noted.others ++ reply.noted.note ∷ []) (continue_for head ++ reply.whole)
     (put_after s.client.sent told.client.sent n.client.sent (continue_for head) reply.whole (sent_told v head s told on) reply.written)
@@ -409,9 +423,9 @@ less_by_forward v number head s told n fresh body end on is (inl same) =
     (put_all s.client.sent n.client.sent (continue_for head) (same ∙ sent_told v head s told on)) (inl refl)
     (noted_told v head s told n _ on is.forwarded.noted.1)
 less_by_forward v number head s told n fresh body end on is (inr (inl own)) =
-    a_short v number s n head is.forwarded.noted.0 (continue_for head ++ own_bytes own.own (is_head head))
+    a_short v number s n head is.forwarded.noted.0 (continue_for head ++ own_bytes own.own (own_kind_at v head))
     (short_after s.client.sent told.client.sent n.client.sent (continue_for head) _ (sent_told v head s told on) own.written)
-    (inl (own.status, own_due head own.status own.own own.is_own)) (noted_told v head s told n _ on is.forwarded.noted.1)
+    (inl (own.status, own_due v head own.status own.own own.is_own)) (noted_told v head s told n _ on is.forwarded.noted.1)
 less_by_forward v number head s told n fresh body end on is (inr (inr reply)) =
     a_less_front v number s n head (reply.noted.others ++ reply.noted.note ∷ []) (continue_for head ++ reply.whole)
     (put_after s.client.sent told.client.sent n.client.sent (continue_for head) reply.whole (sent_told v head s told on) reply.written)
@@ -436,30 +450,30 @@ status_reach v head s told m n on asked alone =
     ap (λ (x : ClientStanding). x.reach) alone ∙ ap (λ (x : ClientStanding). x.reach) asked ∙ ap (λ (x : ClientStanding). x.reach) on.written.alone
 
 page_due : (v : Visit) (head : Head) (last : Bool) (status : Status) (parts : List PagePart) (page : List ℕ) → IsAtStatus v head status → page ≡ shown_for status head.query parts
-    → IsPageAnswer v head last [] (continue_for head ++ page_reply (mime_of head.query) (is_head head) last page)
-page_due v head last status parts page at is = (page_reply (mime_of head.query) (is_head head) last page, refl, (status, parts, at, refl, ap (page_reply (mime_of head.query) (is_head head) last) is))
+    → IsPageAnswer v head last [] (continue_for head ++ page_reply (mime_of head.query) (kind_at v head last) page)
+page_due v head last status parts page at is = (page_reply (mime_of head.query) (kind_at v head last) page, refl, (status, parts, at, refl, ap (page_reply (mime_of head.query) (kind_at v head last)) is))
 
 by_status : (v : Visit) (number : ℕ) (head : Head) (s told n : ClientStanding) (status : Status) → IsToldOn v head s told → IsAtStatus v head status
     → IsStatusBegun v status head (is_last number head) told n → Fronts v number s n
 by_status v number head s told n status on at (inl (m, page, has, begun)) =
-    a_front v number s n head [] (continue_for head ++ page_reply (mime_of head.query) (is_head head) (is_last number head) page)
+    a_front v number s n head [] (continue_for head ++ page_reply (mime_of head.query) (kind_at v head (is_last number head)) page)
     (begun_after v head s told m n _ on (ap (λ (x : ClientStanding). x.client) has.alone) begun)
     (inr (inr (inl (page_due v head (is_last number head) status has.parts page at has.is))))
     (unasked s n (status_reach v head s told m n on has.alone begun.alone))
 by_status v number head s told n status on at (inr (m, code, turned, begun)) =
-    a_front v number s n head [] (continue_for head ++ own_for code (is_head head))
+    a_front v number s n head [] (continue_for head ++ own_for code (own_kind_at v head))
     (begun_after v head s told m n _ on (ap (λ (x : ClientStanding). x.client) turned.alone) begun)
     (inr (inl (code, inr refl))) (unasked s n (status_reach v head s told m n on turned.alone begun.alone))
 
 less_by_status : (v : Visit) (number : ℕ) (head : Head) (s told n : ClientStanding) (status : Status) → IsToldOn v head s told → IsAtStatus v head status
     → IsStatusLess v status head (is_last number head) told n → Lesses v number s n
 less_by_status v number head s told n status on at (inl (m, page, has, less)) =
-    a_short v number s n head [] (continue_for head ++ page_reply (mime_of head.query) (is_head head) (is_last number head) page)
+    a_short v number s n head [] (continue_for head ++ page_reply (mime_of head.query) (kind_at v head (is_last number head)) page)
     (less_after v head s told m n _ on (ap (λ (x : ClientStanding). x.client) has.alone) less)
     (inr (page_due v head (is_last number head) status has.parts page at has.is))
     (unasked s n (status_reach v head s told m n on has.alone less.alone))
 less_by_status v number head s told n status on at (inr (m, code, turned, less)) =
-    a_short v number s n head [] (continue_for head ++ own_for code (is_head head))
+    a_short v number s n head [] (continue_for head ++ own_for code (own_kind_at v head))
     (less_after v head s told m n _ on (ap (λ (x : ClientStanding). x.client) turned.alone) less)
     (inl (code, inr refl)) (unasked s n (status_reach v head s told m n on turned.alone less.alone))
 
@@ -533,20 +547,20 @@ unread_whole v number requests s n rows why' count (body, mid, going_on, breaks)
       noted = ap (λ (r : ReachSide). r.talks) (alone_reach mid n breaks.alone) ∙ has.moves.noted;
     }
 
-own_is : (code : ℕ) (head_only : Bool) (own : Own) → own_of code ≡ Some own → own_for code head_only ≡ own_bytes own head_only
-own_is code head_only own is = ap (λ (o : Option Own). own_bytes_of o head_only) is
+own_is : (code : ℕ) (kind : OwnKind) (own : Own) → own_of code ≡ Some own → own_for code kind ≡ own_bytes own kind
+own_is code kind own is = ap (λ (o : Option Own). own_bytes_of o kind) is
 
 -- by an own answer
-abbrev Owns : (code : ℕ) → List Talk → List ℕ → Type 0
-Owns code talks bytes = (head : Head) × IsOwnAnswer head code bytes
+abbrev Owns : Visit → (code : ℕ) → List Talk → List ℕ → Type 0
+Owns v code talks bytes = (head : Head) × IsOwnAnswer v head code bytes
 
 own_written : (v : Visit) (number : ℕ) (s n : ClientStanding) (body : BodyIn) (rows : List Served) (code : ℕ)
-    → IsRequest v number s n body (answered.Not (stop.Closed (why.Own code))) rows → Ends (Owns code) s n
-own_written v number s n body rows code r = since_head (Owns code) s r.read n r.head r.reads (by_answer r.answers)
+    → IsRequest v number s n body (answered.Not (stop.Closed (why.Own code))) rows → Ends (Owns v code) s n
+own_written v number s n body rows code r = since_head (Owns v code) s r.read n r.head r.reads (by_answer r.answers)
   where
-    by_answer : IsAnswer v r.head (is_last number r.head) r.read n r.fresh body (answered.Not (stop.Closed (why.Own code))) rows → Ends (Owns code) r.read n
+    by_answer : IsAnswer v r.head (is_last number r.head) r.read n r.fresh body (answered.Not (stop.Closed (why.Own code))) rows → Ends (Owns v code) r.read n
     by_answer (inl (is, nowhere, written, added)) = record {
-      bytes = own_for code (is_head r.head);
+      bytes = own_for code (own_kind_at v r.head);
       talks = [];
       is = (r.head, inl refl);
       put = written.puts.sent;
@@ -555,21 +569,21 @@ own_written v number s n body rows code r = since_head (Owns code) s r.read n r.
     by_answer (inr (told, on, (added, inl is))) =
         let gets = is.forwarded.gives in
         record {
-          bytes = continue_for r.head ++ own_for code (is_head r.head);
+          bytes = continue_for r.head ++ own_for code (own_kind_at v r.head);
           talks = is.forwarded.noted.0;
           is = (r.head, inr refl);
-          put = gets.written ∙ ap (λ (b : List ℕ). appended told.client.sent b) (sym (own_is code (is_head r.head) gets.own gets.is_own))
-              ∙ ap (λ o. appended o (own_for code (is_head r.head))) (sent_told v r.head r.read told on)
-              ∙ appended-appended r.read.client.sent (continue_for r.head) (own_for code (is_head r.head));
+          put = gets.written ∙ ap (λ (b : List ℕ). appended told.client.sent b) (sym (own_is code (own_kind_at v r.head) gets.own gets.is_own))
+              ∙ ap (λ o. appended o (own_for code (own_kind_at v r.head))) (sent_told v r.head r.read told on)
+              ∙ appended-appended r.read.client.sent (continue_for r.head) (own_for code (own_kind_at v r.head));
           noted = noted_told v r.head r.read told n _ on is.forwarded.noted.1;
         }
     by_answer (inr (told, on, (added, inr (status, at, (m, turned, written, some))))) = record {
-      bytes = continue_for r.head ++ own_for code (is_head r.head);
+      bytes = continue_for r.head ++ own_for code (own_kind_at v r.head);
       talks = [];
       is = (r.head, inr refl);
-      put = written.puts.sent ∙ ap (λ (x : ClientStanding). appended x.client.sent (own_for code (is_head r.head))) turned.alone
-          ∙ ap (λ o. appended o (own_for code (is_head r.head))) (sent_told v r.head r.read told on)
-          ∙ appended-appended r.read.client.sent (continue_for r.head) (own_for code (is_head r.head));
+      put = written.puts.sent ∙ ap (λ (x : ClientStanding). appended x.client.sent (own_for code (own_kind_at v r.head))) turned.alone
+          ∙ ap (λ o. appended o (own_for code (own_kind_at v r.head))) (sent_told v r.head r.read told on)
+          ∙ appended-appended r.read.client.sent (continue_for r.head) (own_for code (own_kind_at v r.head));
       noted = unasked r.read n (status_reach v r.head r.read told m n on turned.alone written.alone);
     }
 
@@ -622,7 +636,7 @@ cut_written v number s n body rows r = since_head (Cuts v number) s r.read n r.h
         }
 
 -- a refused head
-refusal_begun : (v : Visit) (number : ℕ) (s n : ClientStanding) → IsRefusalBegun s n → Fronts v number s n
+refusal_begun : (v : Visit) (number : ℕ) (s n : ClientStanding) → IsRefusalBegun v s n → Fronts v number s n
 refusal_begun v number s n refusal =
     let puts = put_since s.client.sent refusal.read.client.sent n.client.sent _ refusal.reads.on.sent refusal.begun.puts.sent in
     record {
@@ -633,7 +647,7 @@ refusal_begun v number s n refusal =
       noted = unasked s n (ap (λ (x : ClientStanding). x.reach) refusal.begun.alone ∙ alone_reach s refusal.read refusal.reads.on.alone);
     }
 
-refusal_wanted : (v : Visit) (number : ℕ) (s n : ClientStanding) → IsRefusalWanted s n → Lesses v number s n
+refusal_wanted : (v : Visit) (number : ℕ) (s n : ClientStanding) → IsRefusalWanted v s n → Lesses v number s n
 refusal_wanted v number s n refusal =
     let puts = short_since s.client.sent refusal.read.client.sent n.client.sent _ refusal.reads.on.sent refusal.wanted.puts.sent in
     record {
@@ -663,10 +677,10 @@ last_of v number requests s n rows (stop.Closed why.Last) (count, (body, r, is))
     let has = whole_request v number s n body rows r in
     record { bytes = has.written; talks = has.talks; is = (count, (r.head, is, has.answer)); put = has.moves.put; noted = has.moves.noted }
 last_of v number requests s n rows (stop.Closed (why.Own code)) (count, inl (refused, added)) = record {
-  bytes = own_for code false;
+  bytes = own_for code (refused_kind v.date);
   talks = [];
   is = (count, inl refl);
-  put = refused.written.puts.sent ∙ ap (λ o. appended o (own_for code false)) refused.reads.on.sent;
+  put = refused.written.puts.sent ∙ ap (λ o. appended o (own_for code (refused_kind v.date))) refused.reads.on.sent;
   noted = unasked s n (ap (λ (x : ClientStanding). x.reach) refused.written.alone ∙ alone_reach s refused.read refused.reads.on.alone);
 }
 last_of v number requests s n rows (stop.Closed (why.Own code)) (count, inr (body, r)) =
@@ -710,16 +724,19 @@ pub has_parts : (v : Visit) (s n : ClientStanding) (rows : List Served) (end : S
     → HasParts v s n end
 has_parts v s n rows end fresh is =
     let all = parts_of v is.number s is.mid is.before is.served in
-    let last = last_of v is.number end.requests is.mid n is.last end.stop is.ends in
+    let stays = last_stays end.stop v is.mid is.timed is.date is.reads in
+    let last = last_of (visit_at v is.date) is.number end.requests is.timed n is.last end.stop is.ends in
     record {
       number = is.number;
       parts = all.0;
       are = all.1;
       last = last.bytes;
       last_talks = last.talks;
+      date = is.date;
+      told = told_last end.stop v is.mid is.timed is.date is.reads;
       is_last = last.is;
       left = unread_at is.mid;
       used = sym (ap (λ (i : List ℕ). unread i s.client.incoming) fresh ∙ prepended-nil s.client.incoming) ∙ all.2.used;
-      written = last.put ∙ ap (λ o. appended o last.bytes) all.2.put ∙ appended-appended s.client.sent (written_in all.0) last.bytes;
-      talks = last.noted ∙ ap (λ o. appended o last.talks) all.2.noted ∙ appended-appended s.reach.talks (talks_in all.0) last.talks;
+      written = last.put ∙ ap (λ (c : Moment). appended c.sent last.bytes) stays.client ∙ ap (λ o. appended o last.bytes) all.2.put ∙ appended-appended s.client.sent (written_in all.0) last.bytes;
+      talks = last.noted ∙ ap (λ (r : ReachSide). appended r.talks last.talks) stays.reach ∙ ap (λ o. appended o last.talks) all.2.noted ∙ appended-appended s.reach.talks (talks_in all.0) last.talks;
     }

@@ -1,11 +1,12 @@
 -- Requests one after the other, and the session's end.
-use Rattle.std.proofs.Common.{◌≡◌, ◌≤◌, ◌<◌, ℕ, suc, ◌+◌, List, [], ◌∷◌, ◌++◌, false, refl, sym, subst, inl, inr, ap, ◌∙◌, arith, IfSome, Option}
+use Rattle.std.proofs.Common.{◌≡◌, ◌≤◌, ◌<◌, ℕ, suc, ◌+◌, List, [], ◌∷◌, ◌++◌, false, refl, sym, subst, inl, inr, ap, ◌∙◌, arith, IfSome, Option, None}
 use Rattle.std.specs.Prelude.{Err, IsErrOf}
 use Rattle.std.proofs.lemmas.List.{append-nil}
 use Rattle.jk_io.specs.Moments.{Moment}
 use Rattle.jk_io.specs.Told.{IsEmpty, Rose}
 use Rattle.jk_io.specs.declared.reaching.Beside.{Beside}
 use Rattle.jk_model.specs.declared.served.Served.{Served}
+use Rattle.httpdate.specs.declared.date.HttpDate.{HttpDate}
 use Rattle.http_front.specs.Answer.{IfRefused, IsCalm}
 use Rattle.http_front.specs.Refusal.{status_of}
 use Rattle.http_front.specs.Request.{EndsWithin, IsDecided, Refuses}
@@ -19,9 +20,11 @@ use Rattle.status_worker.specs.Desks.{KeepsTickets}
 use Rattle.client_session.specs.Ends.{MeetsBy, RisesBy, end_of}
 use Rattle.client_session.specs.Finishing.{RefusesHead, StopsWithoutHead}
 use Rattle.client_session.specs.Ready.{IsReady}
-use Rattle.client_session.specs.Requests.{Visit}
+use Rattle.client_session.specs.Moments.{ReadsLast}
+use Rattle.client_session.specs.Requests.{Visit, visit_at}
 use Rattle.client_session.specs.Sessions.{EndsIn, HaveServed, IsSession, ReadsEnd, ReadsRefused, refused_row}
 use Rattle.client_session.specs.Standings.{IsClientAlone, ClientStanding, StopsReading, unread_at}
+use Rattle.client_session.specs.Surroundings.{TurnsNow}
 use Rattle.client_session.specs.Turns.{Turns}
 use Rattle.client_session.specs.declared.ending.SessionEnd.{SessionEnd}
 use Rattle.client_session.specs.declared.ending.SessionStop.{SessionStop}
@@ -38,7 +41,7 @@ rose_since : (first before now : ℕ) → before ≡ first → Rose before now �
 rose_since first before now is rose = subst (λ (k : ℕ). Rose k now) is rose
 
 pub refuses : (v : Visit) (number : ℕ) (s read n : ClientStanding) (form : Form) (puts : List Served → Type 0) (stop' : SessionStop) → ReadsRefused s read form
-    → n ≡ record read { client = n.client } → RefusesHead form read.client n.client puts stop' → Turns v number s n puts (turn.EndsAt stop')
+    → n ≡ record read { client = n.client } → RefusesHead v.date form read.client n.client puts stop' → Turns v number s n puts (turn.EndsAt stop')
 refuses v number s read n form puts stop' reads alone (inl wanted) =
     subst (λ (x : SessionStop). Turns v number s n puts (turn.EndsAt x)) (sym wanted.0)
     ([], wanted.2, inl (refl, refl, inr (inr (inl (read, form, reads, same_again read n alone wanted.1)))))
@@ -71,42 +74,42 @@ refuses v number s read n form puts stop.NoMemory reads alone (inr written) = (
   inl (refl, refl, inr (inl (record { read = read; form = form; reads = reads; wanted = record { puts = written.0; alone = alone } }))),
 )
 
-refused_meets : (form : Form) (s n : Moment) (puts : List Served → Type 0) (stop' : SessionStop) (desk : DeskState) → RefusesHead form s n puts stop'
+refused_meets : (date : Option HttpDate) (form : Form) (s n : Moment) (puts : List Served → Type 0) (stop' : SessionStop) (desk : DeskState) → RefusesHead date form s n puts stop'
     → MeetsBy stop' desk desk
-refused_meets form s n puts stop' desk (inl wanted) = subst (λ (x : SessionStop). MeetsBy x desk desk) (sym wanted.0) (none_met desk)
-refused_meets form s n puts (stop.Closed w) desk (inr written) = none_met desk
-refused_meets form s n puts stop.ClientFault desk (inr written) = none_met desk
-refused_meets form s n puts stop.Truncated desk (inr written) = none_met desk
-refused_meets form s n puts (stop.Stray ticket returned_at) desk (inr written) = absurd written.0
-refused_meets form s n puts stop.NoMemory desk (inr written) = none_met desk
+refused_meets date form s n puts stop' desk (inl wanted) = subst (λ (x : SessionStop). MeetsBy x desk desk) (sym wanted.0) (none_met desk)
+refused_meets date form s n puts (stop.Closed w) desk (inr written) = none_met desk
+refused_meets date form s n puts stop.ClientFault desk (inr written) = none_met desk
+refused_meets date form s n puts stop.Truncated desk (inr written) = none_met desk
+refused_meets date form s n puts (stop.Stray ticket returned_at) desk (inr written) = absurd written.0
+refused_meets date form s n puts stop.NoMemory desk (inr written) = none_met desk
 
-refused_rises : (form : Form) (first : ℕ) (s n : Moment) (puts : List Served → Type 0) (stop' : SessionStop) → s.faults ≡ first → RefusesHead form s n puts stop'
+refused_rises : (date : Option HttpDate) (form : Form) (first : ℕ) (s n : Moment) (puts : List Served → Type 0) (stop' : SessionStop) → s.faults ≡ first → RefusesHead date form s n puts stop'
     → RisesBy stop' first n.faults
-refused_rises form first s n puts stop' steady (inl wanted) =
+refused_rises date form first s n puts stop' steady (inl wanted) =
     subst (λ (x : SessionStop). RisesBy x first n.faults) (sym wanted.0) (ap (λ (m : Moment). m.faults) wanted.1 ∙ steady)
-refused_rises form first s n puts (stop.Closed why.ByClient) steady (inr written) = absurd written.0
-refused_rises form first s n puts (stop.Closed why.Idle) steady (inr written) = absurd written.0
-refused_rises form first s n puts (stop.Closed why.Last) steady (inr written) = absurd written.0
-refused_rises form first s n puts (stop.Closed (why.Own code)) steady (inr written) = written.0.1.steady ∙ steady
-refused_rises form first s n puts (stop.Closed why.Cut) steady (inr written) = absurd written.0
-refused_rises form first s n puts (stop.Closed why.Unread) steady (inr written) = absurd written.0
-refused_rises form first s n puts stop.ClientFault steady (inr written) = rose_since _ _ _ steady written.0.0
-refused_rises form first s n puts stop.Truncated steady (inr written) = absurd written.0
-refused_rises form first s n puts (stop.Stray ticket returned_at) steady (inr written) = tt
-refused_rises form first s n puts stop.NoMemory steady (inr written) = written.0.steady ∙ steady
+refused_rises date form first s n puts (stop.Closed why.ByClient) steady (inr written) = absurd written.0
+refused_rises date form first s n puts (stop.Closed why.Idle) steady (inr written) = absurd written.0
+refused_rises date form first s n puts (stop.Closed why.Last) steady (inr written) = absurd written.0
+refused_rises date form first s n puts (stop.Closed (why.Own code)) steady (inr written) = written.0.1.steady ∙ steady
+refused_rises date form first s n puts (stop.Closed why.Cut) steady (inr written) = absurd written.0
+refused_rises date form first s n puts (stop.Closed why.Unread) steady (inr written) = absurd written.0
+refused_rises date form first s n puts stop.ClientFault steady (inr written) = rose_since _ _ _ steady written.0.0
+refused_rises date form first s n puts stop.Truncated steady (inr written) = absurd written.0
+refused_rises date form first s n puts (stop.Stray ticket returned_at) steady (inr written) = tt
+refused_rises date form first s n puts stop.NoMemory steady (inr written) = written.0.steady ∙ steady
 
-refused_no_fewer : (form : Form) (s n : Moment) (puts : List Served → Type 0) (stop' : SessionStop) → RefusesHead form s n puts stop' → s.faults ≤ n.faults
-refused_no_fewer form s n puts stop' (inl wanted) = subst (λ (m : Moment). s.faults ≤ m.faults) (sym wanted.1) (omega arith)
-refused_no_fewer form s n puts (stop.Closed why.ByClient) (inr written) = absurd written.0
-refused_no_fewer form s n puts (stop.Closed why.Idle) (inr written) = absurd written.0
-refused_no_fewer form s n puts (stop.Closed why.Last) (inr written) = absurd written.0
-refused_no_fewer form s n puts (stop.Closed (why.Own code)) (inr written) = omega (arith, written.0.1.steady)
-refused_no_fewer form s n puts (stop.Closed why.Cut) (inr written) = absurd written.0
-refused_no_fewer form s n puts (stop.Closed why.Unread) (inr written) = absurd written.0
-refused_no_fewer form s n puts stop.ClientFault (inr written) = written.0.1.no_fewer
-refused_no_fewer form s n puts stop.Truncated (inr written) = absurd written.0
-refused_no_fewer form s n puts (stop.Stray ticket returned_at) (inr written) = absurd written.0
-refused_no_fewer form s n puts stop.NoMemory (inr written) = omega (arith, written.0.steady)
+refused_no_fewer : (date : Option HttpDate) (form : Form) (s n : Moment) (puts : List Served → Type 0) (stop' : SessionStop) → RefusesHead date form s n puts stop' → s.faults ≤ n.faults
+refused_no_fewer date form s n puts stop' (inl wanted) = subst (λ (m : Moment). s.faults ≤ m.faults) (sym wanted.1) (omega arith)
+refused_no_fewer date form s n puts (stop.Closed why.ByClient) (inr written) = absurd written.0
+refused_no_fewer date form s n puts (stop.Closed why.Idle) (inr written) = absurd written.0
+refused_no_fewer date form s n puts (stop.Closed why.Last) (inr written) = absurd written.0
+refused_no_fewer date form s n puts (stop.Closed (why.Own code)) (inr written) = omega (arith, written.0.1.steady)
+refused_no_fewer date form s n puts (stop.Closed why.Cut) (inr written) = absurd written.0
+refused_no_fewer date form s n puts (stop.Closed why.Unread) (inr written) = absurd written.0
+refused_no_fewer date form s n puts stop.ClientFault (inr written) = written.0.1.no_fewer
+refused_no_fewer date form s n puts stop.Truncated (inr written) = absurd written.0
+refused_no_fewer date form s n puts (stop.Stray ticket returned_at) (inr written) = absurd written.0
+refused_no_fewer date form s n puts stop.NoMemory (inr written) = omega (arith, written.0.steady)
 
 -- ---- no head
 
@@ -132,7 +135,7 @@ ends_there v number s read n puts stop' x alone stops why' =
     (subst (λ (y : SessionStop). Turns v number s read puts (turn.EndsAt y)) (sym stops.0) ([], stops.2, why'))
 
 pub without_head : (v : Visit) (number : ℕ) (s read n : ClientStanding) (e : HeadError) (puts : List Served → Type 0) (stop' : SessionStop) → ReadsNoHead s read e
-    → n ≡ record read { client = n.client } → StopsWithoutHead e read.client n.client puts stop' → Turns v number s n puts (turn.EndsAt stop')
+    → n ≡ record read { client = n.client } → StopsWithoutHead v.date e read.client n.client puts stop' → Turns v number s n puts (turn.EndsAt stop')
 without_head v number s read n (error.Refused status form) puts stop' reads alone stops =
     refuses v number s read n form puts stop'
     (record { refused = reads.refused.1; unused = reads.unused; on = record { alone = reads.alone; sent = reads.sent; steady = reads.steady tt } }) alone stops
@@ -146,32 +149,32 @@ without_head v number s read n error.Fault puts stop' reads alone stops =
 without_head v number s read n error.NoMemory puts stop' reads alone stops =
     ends_there v number s read n puts stop' stop.NoMemory alone stops (inl (refl, refl, inl (record { stops = stays s read error.NoMemory reads; steady = reads.steady tt })))
 
-pub meets_without_head : (e : HeadError) (s n : Moment) (puts : List Served → Type 0) (stop' : SessionStop) (desk : DeskState) → StopsWithoutHead e s n puts stop'
+pub meets_without_head : (date : Option HttpDate) (e : HeadError) (s n : Moment) (puts : List Served → Type 0) (stop' : SessionStop) (desk : DeskState) → StopsWithoutHead date e s n puts stop'
     → MeetsBy stop' desk desk
-meets_without_head (error.Refused status form) s n puts stop' desk stops = refused_meets form s n puts stop' desk stops
-meets_without_head error.Truncated s n puts stop' desk stops = subst (λ (x : SessionStop). MeetsBy x desk desk) (sym stops.0) (none_met desk)
-meets_without_head error.Fault s n puts stop' desk stops = subst (λ (x : SessionStop). MeetsBy x desk desk) (sym stops.0) (none_met desk)
-meets_without_head error.NoMemory s n puts stop' desk stops = subst (λ (x : SessionStop). MeetsBy x desk desk) (sym stops.0) (none_met desk)
+meets_without_head date (error.Refused status form) s n puts stop' desk stops = refused_meets date form s n puts stop' desk stops
+meets_without_head date error.Truncated s n puts stop' desk stops = subst (λ (x : SessionStop). MeetsBy x desk desk) (sym stops.0) (none_met desk)
+meets_without_head date error.Fault s n puts stop' desk stops = subst (λ (x : SessionStop). MeetsBy x desk desk) (sym stops.0) (none_met desk)
+meets_without_head date error.NoMemory s n puts stop' desk stops = subst (λ (x : SessionStop). MeetsBy x desk desk) (sym stops.0) (none_met desk)
 
-pub rises_without_head : (s read : ClientStanding) (n : Moment) (e : HeadError) (puts : List Served → Type 0) (stop' : SessionStop) → ReadsNoHead s read e
-    → StopsWithoutHead e read.client n puts stop' → RisesBy stop' s.client.faults n.faults
-rises_without_head s read n (error.Refused status form) puts stop' reads stops =
-    refused_rises form s.client.faults read.client n puts stop' (reads.steady tt) stops
-rises_without_head s read n error.Truncated puts stop' reads stops =
+pub rises_without_head : (date : Option HttpDate) (s read : ClientStanding) (n : Moment) (e : HeadError) (puts : List Served → Type 0) (stop' : SessionStop) → ReadsNoHead s read e
+    → StopsWithoutHead date e read.client n puts stop' → RisesBy stop' s.client.faults n.faults
+rises_without_head date s read n (error.Refused status form) puts stop' reads stops =
+    refused_rises date form s.client.faults read.client n puts stop' (reads.steady tt) stops
+rises_without_head date s read n error.Truncated puts stop' reads stops =
     subst (λ (x : SessionStop). RisesBy x s.client.faults n.faults) (sym stops.0)
     (ap (λ (m : Moment). m.faults) stops.1 ∙ reads.steady tt)
-rises_without_head s read n error.Fault puts stop' reads stops =
+rises_without_head date s read n error.Fault puts stop' reads stops =
     subst (λ (x : SessionStop). RisesBy x s.client.faults n.faults) (sym stops.0)
     (subst (λ (m : Moment). Rose s.client.faults m.faults) (sym stops.1) (reads.fault refl))
-rises_without_head s read n error.NoMemory puts stop' reads stops =
+rises_without_head date s read n error.NoMemory puts stop' reads stops =
     subst (λ (x : SessionStop). RisesBy x s.client.faults n.faults) (sym stops.0)
     (ap (λ (m : Moment). m.faults) stops.1 ∙ reads.steady tt)
 
-pub no_fewer_without_head : (e : HeadError) (s n : Moment) (puts : List Served → Type 0) (stop' : SessionStop) → StopsWithoutHead e s n puts stop' → s.faults ≤ n.faults
-no_fewer_without_head (error.Refused status form) s n puts stop' stops = refused_no_fewer form s n puts stop' stops
-no_fewer_without_head error.Truncated s n puts stop' stops = subst (λ (m : Moment). s.faults ≤ m.faults) (sym stops.1) (omega arith)
-no_fewer_without_head error.Fault s n puts stop' stops = subst (λ (m : Moment). s.faults ≤ m.faults) (sym stops.1) (omega arith)
-no_fewer_without_head error.NoMemory s n puts stop' stops = subst (λ (m : Moment). s.faults ≤ m.faults) (sym stops.1) (omega arith)
+pub no_fewer_without_head : (date : Option HttpDate) (e : HeadError) (s n : Moment) (puts : List Served → Type 0) (stop' : SessionStop) → StopsWithoutHead date e s n puts stop' → s.faults ≤ n.faults
+no_fewer_without_head date (error.Refused status form) s n puts stop' stops = refused_no_fewer date form s n puts stop' stops
+no_fewer_without_head date error.Truncated s n puts stop' stops = subst (λ (m : Moment). s.faults ≤ m.faults) (sym stops.1) (omega arith)
+no_fewer_without_head date error.Fault s n puts stop' stops = subst (λ (m : Moment). s.faults ≤ m.faults) (sym stops.1) (omega arith)
+no_fewer_without_head date error.NoMemory s n puts stop' stops = subst (λ (m : Moment). s.faults ≤ m.faults) (sym stops.1) (omega arith)
 
 -- the client's bytes ended between two requests
 pub ends_by_client : (v : Visit) (number : ℕ) (s n : ClientStanding) (puts : List Served → Type 0) → puts [] → ReadsEnd s n
@@ -199,20 +202,31 @@ abbrev pub PutOn : (puts more all : List Served → Type 0) → Type 0
 PutOn puts more all = (xs ys : List Served) → puts xs → more ys → all (xs ++ ys)
 
 pub goes_on : (v : Visit) (number : ℕ) (s mid n : ClientStanding) (puts more all : List Served → Type 0) → PutOn puts more all → IsUnderWay v number s mid puts
-    → Turns v number mid n more turn.Next → IsUnderWay v (number + 1) s n all
-goes_on v number s mid n puts more all on way turned = record {
-  before = way.before ++ turned.0;
-  served = one_more v number s n (way.before ++ turned.0) (mid, way.before, turned.0, way.served, turned.2, refl);
-  added = on way.before turned.0 way.added turned.1;
+    → TurnsNow v number mid n more turn.Next → IsUnderWay v (number + 1) s n all
+goes_on v number s mid n puts more all on way (date, timed, reads, (added, put, served)) = record {
+  before = way.before ++ added;
+  served = one_more v number s n (way.before ++ added) (mid, way.before, added, date, timed, way.served, reads, served, refl);
+  added = on way.before added way.added put;
 }
 
-pub ends : (v : Visit) (number requests : ℕ) (s mid n : ClientStanding) (puts more all : List Served → Type 0) (added : List Served) (stop' : SessionStop)
-    → PutOn puts more all → IsUnderWay v number s mid puts → more added → EndsIn v number mid n added requests stop'
-    → (gained : List Served) × all gained × IsSession v s n gained (end_of stop' requests)
-ends v number requests s mid n puts more all added stop' on way put ending = (
+pub ends : (v : Visit) (number requests : ℕ) (s mid timed n : ClientStanding) (date : Option HttpDate) (puts more all : List Served → Type 0) (added : List Served) (stop' : SessionStop)
+    → PutOn puts more all → IsUnderWay v number s mid puts → ReadsLast stop' v mid timed date → more added
+    → EndsIn (visit_at v date) number timed n added requests stop' → (gained : List Served) × all gained × IsSession v s n gained (end_of stop' requests)
+ends v number requests s mid timed n date puts more all added stop' on way reads put ending = (
   way.before ++ added,
   on way.before added way.added put,
-  record { number = number; mid = mid; before = way.before; last = added; served = way.served; ends = ending; joined = refl },
+  record {
+    number = number;
+    mid = mid;
+    date = date;
+    timed = timed;
+    before = way.before;
+    last = added;
+    served = way.served;
+    reads = reads;
+    ends = ending;
+    joined = refl;
+  },
 )
 
 -- a session that wanted memory before it read anything
@@ -220,9 +234,12 @@ pub unbegun : (v : Visit) (s : ClientStanding) → IsSession v s s [] (end_of st
 unbegun v s = record {
   number = 0;
   mid = s;
+  date = None;
+  timed = s;
   before = [];
   last = [];
   served = (refl, refl);
+  reads = inl (refl, refl);
   ends = inl (refl, refl, inl (record { stops = record { alone = refl; sent = refl; unused = refl; no_fewer = omega arith }; steady = refl }));
   joined = refl;
 }
@@ -260,11 +277,12 @@ risen_at_end stop' count end before mid now is same rises =
 -- the last request's turn, as the end of the session
 pub ended : (v : Visit) (number : ℕ) (s mid n : ClientStanding) (puts more all : List Served → Type 0) (stop' : SessionStop) (count : ℕ) (end : SessionEnd)
     → PutOn puts more all → IsUnderWay v number s mid puts → end ≡ end_of stop' count
-    → (added : List Served) × more added × EndsIn v number mid n added count stop'
+    → (date : Option HttpDate) × (timed : ClientStanding) × ReadsLast stop' v mid timed date
+    × ((added : List Served) × more added × EndsIn (visit_at v date) number timed n added count stop')
     → (gained : List Served) × all gained × IsSession v s n gained end
-ended v number s mid n puts more all stop' count end on way is turned =
+ended v number s mid n puts more all stop' count end on way is (date, timed, reads, (added, put, ending)) =
     subst (λ (x : SessionEnd). (gained : List Served) × all gained × IsSession v s n gained x) (sym is)
-    (ends v number count s mid n puts more all turned.0 stop' on way turned.1 turned.2)
+    (ends v number count s mid timed n date puts more all added stop' on way reads put ending)
 
 -- a look at the client changed nothing that is told
 pub same_client : (mid : ClientStanding) (client : Moment) → client ≡ mid.client → record mid { client = client } ≡ mid
@@ -285,9 +303,12 @@ idles v number s mid n puts end way some none same is =
       record {
         number = number;
         mid = mid;
+        date = None;
+        timed = mid;
         before = way.before;
         last = [];
         served = way.served;
+        reads = inl (refl, refl);
         ends = (refl, some, none, same, refl);
         joined = sym (append-nil way.before);
       },

@@ -3,13 +3,13 @@ use Rattle.std.proofs.Common.{◌≡◌, ℕ, Bool, List, Option, IsSome, Result
 use Rattle.jk_io.specs.Moments.{Moment}
 use Rattle.http_front.specs.declared.head.Head.{Head}
 use Rattle.http_out.specs.Own.{own_of}
+use Rattle.http_out.specs.declared.framing.RequestKind.{RequestKind}
 use Rattle.site_config.specs.declared.config.Status.{Status}
-use Rattle.exchange.specs.Requests.{is_head}
 use Rattle.client_session.specs.Answers.{HasPage, IsStatusAnswer, IsStatusBegun, IsStatusLess, own_for}
 use Rattle.status_worker.specs.Commanding.{IsPageCode}
 use Rattle.status_worker.specs.Commands.{IsBroken, IsDone, TurnsAway}
 use Rattle.status_worker.specs.Pages.{IsPage, shown_for}
-use Rattle.client_session.specs.Requests.{Visit, visit_of}
+use Rattle.client_session.specs.Requests.{Visit, kind_at, own_kind_at, visit_in}
 use Rattle.balancer_core.specs.Desks.{DeskState}
 use Rattle.status_worker.specs.Desks.{DeskSide}
 use Rattle.client_session.specs.Standings.{Puts, PutsLess, PutsPart, ClientStanding}
@@ -37,19 +37,19 @@ abbrev written_on : ClientStanding → DeskSide → Moment → ClientStanding
 written_on s d w = record s { desk = d; client = w }
 
 own_begun : (v : Visit) (status : Status) (head : Head) (last : Bool) (s : ClientStanding) (d : DeskSide) (w : Moment) (code : ℕ)
-    → TurnsAway v.cfg v.session status head.query s.desk d code → PutsPart s.client w (own_for code (is_head head))
+    → TurnsAway v.cfg v.session status head.query s.desk d code → PutsPart s.client w (own_for code (own_kind_at v head))
     → IsStatusBegun v status head last s (written_on s d w)
 own_begun v status head last s d w code turned puts =
     inr (asked_on s d, code, record { turned = turned; alone = refl }, record { puts = puts; alone = refl })
 
 own_less : (v : Visit) (status : Status) (head : Head) (last : Bool) (s : ClientStanding) (d : DeskSide) (w : Moment) (code : ℕ)
-    → TurnsAway v.cfg v.session status head.query s.desk d code → PutsLess s.client w (own_for code (is_head head))
+    → TurnsAway v.cfg v.session status head.query s.desk d code → PutsLess s.client w (own_for code (own_kind_at v head))
     → IsStatusLess v status head last s (written_on s d w)
 own_less v status head last s d w code turned puts =
     inr (asked_on s d, code, record { turned = turned; alone = refl }, record { puts = puts; alone = refl })
 
 pub own_answered : (v : Visit) (status : Status) (head : Head) (last : Bool) (s : ClientStanding) (d : DeskSide) (w : Moment) (code : ℕ) (stop' : SessionStop)
-    → TurnsAway v.cfg v.session status head.query s.desk d code → IsSome (own_of code) → WritesOwn code (is_head head) s.client w stop'
+    → TurnsAway v.cfg v.session status head.query s.desk d code → IsSome (own_of code) → WritesOwn code (own_kind_at v head) s.client w stop'
     → IsStatusAnswer v status head last s (written_on s d w) (Err stop')
 own_answered v status head last s d w code (stop.Closed why.ByClient) turned known writes = absurd writes
 own_answered v status head last s d w code (stop.Closed why.Idle) turned known writes = absurd writes
@@ -65,10 +65,10 @@ own_answered v status head last s d w code stop.Truncated turned known writes = 
 own_answered v status head last s d w code (stop.Stray ticket returned_at) turned known writes = absurd writes
 own_answered v status head last s d w code stop.NoMemory turned known writes = inl (own_less v status head last s d w code turned writes)
 
-has_page : (v : Visit) (status : Status) (query : Option (List ℕ)) (s : ClientStanding) (d : DeskSide) (only : Option ℕ) (head_only last : Bool) (page : Page)
-    → IsDone v.cfg v.session status query s.desk d only → (seen : IsPage v.cfg status query d.state only head_only last page)
+has_page : (v : Visit) (status : Status) (query : Option (List ℕ)) (s : ClientStanding) (d : DeskSide) (only : Option ℕ) (kind : RequestKind) (page : Page)
+    → IsDone v.cfg v.session status query s.desk d only → (seen : IsPage v.cfg status query d.state only kind page)
     → HasPage v status query s (asked_on s d) (shown_for status query seen.0)
-has_page v status query s d only head_only last page done seen = record {
+has_page v status query s d only kind page done seen = record {
   only = only;
   done = done;
   alone = refl;
@@ -78,40 +78,40 @@ has_page v status query s d only head_only last page done seen = record {
 }
 
 page_answered : (v : Visit) (status : Status) (head : Head) (last : Bool) (s : ClientStanding) (d : DeskSide) (w : Moment) (only : Option ℕ) (page : Page)
-    → IsDone v.cfg v.session status head.query s.desk d only → IsPage v.cfg status head.query d.state only (is_head head) last page → Puts s.client w page.reply
+    → IsDone v.cfg v.session status head.query s.desk d only → IsPage v.cfg status head.query d.state only (kind_at v head last) page → Puts s.client w page.reply
     → IsStatusAnswer v status head last s (written_on s d w) (Ok page.len)
 page_answered v status head last s d w only page done seen puts = (
   asked_on s d,
   shown_for status head.query seen.0,
-  has_page v status head.query s d only (is_head head) last page done seen,
+  has_page v status head.query s d only (kind_at v head last) page done seen,
   record { puts = rw (← seen.2) puts; alone = refl },
   seen.3,
 )
 
 page_begun : (v : Visit) (status : Status) (head : Head) (last : Bool) (s : ClientStanding) (d : DeskSide) (w : Moment) (only : Option ℕ) (page : Page)
-    → IsDone v.cfg v.session status head.query s.desk d only → IsPage v.cfg status head.query d.state only (is_head head) last page → PutsPart s.client w page.reply
+    → IsDone v.cfg v.session status head.query s.desk d only → IsPage v.cfg status head.query d.state only (kind_at v head last) page → PutsPart s.client w page.reply
     → IsStatusBegun v status head last s (written_on s d w)
 page_begun v status head last s d w only page done seen puts =
     inl (
       asked_on s d,
       shown_for status head.query seen.0,
-      has_page v status head.query s d only (is_head head) last page done seen,
+      has_page v status head.query s d only (kind_at v head last) page done seen,
       record { puts = rw (← seen.2) puts; alone = refl },
     )
 
 page_less : (v : Visit) (status : Status) (head : Head) (last : Bool) (s : ClientStanding) (d : DeskSide) (w : Moment) (only : Option ℕ) (page : Page)
-    → IsDone v.cfg v.session status head.query s.desk d only → IsPage v.cfg status head.query d.state only (is_head head) last page → PutsLess s.client w page.reply
+    → IsDone v.cfg v.session status head.query s.desk d only → IsPage v.cfg status head.query d.state only (kind_at v head last) page → PutsLess s.client w page.reply
     → IsStatusLess v status head last s (written_on s d w)
 page_less v status head last s d w only page done seen puts =
     inl (
       asked_on s d,
       shown_for status head.query seen.0,
-      has_page v status head.query s d only (is_head head) last page done seen,
+      has_page v status head.query s d only (kind_at v head last) page done seen,
       record { puts = rw (← seen.2) puts; alone = refl },
     )
 
 page_broken : (v : Visit) (status : Status) (head : Head) (last : Bool) (s : ClientStanding) (d : DeskSide) (w : Moment) (only : Option ℕ) (page : Page) (stop' : SessionStop)
-    → IsDone v.cfg v.session status head.query s.desk d only → IsPage v.cfg status head.query d.state only (is_head head) last page
+    → IsDone v.cfg v.session status head.query s.desk d only → IsPage v.cfg status head.query d.state only (kind_at v head last) page
     → WritesPart {T = Unit {0}} page.reply s.client w (Err stop') → IsStatusAnswer v status head last s (written_on s d w) (Err stop')
 page_broken v status head last s d w only page (stop.Closed why') done seen writes = absurd writes
 page_broken v status head last s d w only page stop.ClientFault done seen writes =
@@ -136,14 +136,14 @@ unseen_at v status head last s seen now clock only same done =
     (nothing_seen v status head last s (side seen clock) only done)
 
 answered_at : (v : Visit) (status : Status) (head : Head) (last : Bool) (s : ClientStanding) (seen now : DeskState) (clock : Option (List ℕ)) (w : Moment) (only : Option ℕ) (page : Page) → now ≡ seen
-    → IsDone v.cfg v.session status head.query s.desk (side seen clock) only → IsPage v.cfg status head.query seen only (is_head head) last page → Puts s.client w page.reply
+    → IsDone v.cfg v.session status head.query s.desk (side seen clock) only → IsPage v.cfg status head.query seen only (kind_at v head last) page → Puts s.client w page.reply
     → IsStatusAnswer v status head last s (written_on s (side now clock) w) (Ok page.len)
 answered_at v status head last s seen now clock w only page same done is_seen puts =
     subst (λ (d : DeskState). IsStatusAnswer v status head last s (written_on s (side d clock) w) (Ok page.len)) (sym same)
     (page_answered v status head last s (side seen clock) w only page done is_seen puts)
 
 broken_at : (v : Visit) (status : Status) (head : Head) (last : Bool) (s : ClientStanding) (seen now : DeskState) (clock : Option (List ℕ)) (w : Moment) (only : Option ℕ) (page : Page) (stop' : SessionStop) → now ≡ seen
-    → IsDone v.cfg v.session status head.query s.desk (side seen clock) only → IsPage v.cfg status head.query seen only (is_head head) last page
+    → IsDone v.cfg v.session status head.query s.desk (side seen clock) only → IsPage v.cfg status head.query seen only (kind_at v head last) page
     → WritesPart {T = Unit {0}} page.reply s.client w (Err stop') → IsStatusAnswer v status head last s (written_on s (side now clock) w) (Err stop')
 broken_at v status head last s seen now clock w only page stop' same done is_seen writes =
     subst (λ (d : DeskState). IsStatusAnswer v status head last s (written_on s (side d clock) w) (Err stop')) (sym same)
@@ -154,11 +154,11 @@ pub page_sent : (i : Inquiry) (status : Status) (s : ClientStanding) (seen now :
     → IsDone i.site.now.cfg.now i.site.now.session status i.head.now.query s.desk (side seen clock) only → SendsPage i status only seen s.client w answer
     → Shows i status s (written_on s (side now clock) w) answer
 page_sent i status s seen now clock w only (Ok len) same done (page, is_page, puts, len_is) =
-    rw len_is (answered_at (visit_of i.site.now) status i.head.now i.last s seen now clock w only page same done is_page puts)
+    rw len_is (answered_at (visit_in i) status i.head.now i.last s seen now clock w only page same done is_page puts)
 page_sent i status s seen now clock w only (Err stop') same done sent =
     elim sent [
-      | inl (wanted, unwritten) ↦ rw (wanted, unwritten) (unseen_at (visit_of i.site.now) status i.head.now i.last s seen now clock only same done)
-      | inr (page, is_page, writes) ↦ broken_at (visit_of i.site.now) status i.head.now i.last s seen now clock w only page stop' same done is_page writes
+      | inl (wanted, unwritten) ↦ rw (wanted, unwritten) (unseen_at (visit_in i) status i.head.now i.last s seen now clock only same done)
+      | inr (page, is_page, writes) ↦ broken_at (visit_in i) status i.head.now i.last s seen now clock w only page stop' same done is_page writes
     ]
 
 -- memory was wanted before all that was asked was done

@@ -1,10 +1,12 @@
 -- What a request comes to: the session goes on, or ends at it or after it.
-use Rattle.std.proofs.Common.{◌≡◌, ℕ, ◌+◌, ◌≤◌, ◌<◌, ◌==◌, ◌||◌, Bool, true, false, List, [], ◌++◌, refl, sym, None, subst, inl, inr, ap, ◌∙◌, arith}
+use Rattle.std.proofs.Common.{◌≡◌, ℕ, ◌+◌, ◌≤◌, ◌<◌, ◌==◌, ◌||◌, Bool, true, false, List, [], ◌++◌, refl, sym, Option, None, subst, inl, inr, ap, ◌∙◌, arith}
 use Rattle.std.proofs.lemmas.Bool.{eq-eqb, true≢false}
 use Rattle.jk_io.specs.Moments.{Moment}
 use Rattle.jk_io.specs.Told.{Rose}
 use Rattle.jk_model.specs.declared.served.Served.{Served}
 use Rattle.http_front.specs.Refusal.{status_of}
+use Rattle.http_out.specs.declared.own_answers.OwnKind.{OwnKind}
+use Rattle.httpdate.specs.declared.date.HttpDate.{HttpDate}
 use Rattle.http_front.specs.declared.answers.HeadError.{HeadError}
 use Rattle.http_front.specs.declared.answers.HeadError.TheVariants as error
 use Rattle.http_front.specs.declared.head.Head.{Head}
@@ -18,7 +20,7 @@ use Rattle.client_session.specs.Answers.{IsAnswer}
 use Rattle.balancer_core.specs.Desks.{DeskState, MeetsNone}
 use Rattle.client_session.specs.Ends.{MeetsBy, RisesBy, end_of}
 use Rattle.client_session.specs.Finishing.{Finishes, StopsWithoutHead, TurnsAfter, stop_after}
-use Rattle.client_session.specs.Requests.{IsNewBody, Visit, is_last}
+use Rattle.client_session.specs.Requests.{IsNewBody, Visit, is_last, refused_kind}
 use Rattle.client_session.specs.Sessions.{EndsIn, IsGoingOn, IsRequest, ReadsHead}
 use Rattle.client_session.specs.Standings.{IsClientAlone, ClientStanding}
 use Rattle.client_session.specs.Turns.{GoesOn, IsBusy, IsBusyStop, IsTurn, MeetsInAnswer, MeetsInTurn, RisesInAnswer, RisesInTurn, Turns}
@@ -316,24 +318,24 @@ pub turn_busy : (v : Visit) (head : Head) (l last : Bool) (s n : ClientStanding)
 turn_busy v head l last s n body body' a rows b b' turn' answers turned = follows_busy a last b b' turn' turned (answer_busy v head l s n body body' a rows answers)
 
 -- nor does a head that wasn't read
-own_busy : (status : ℕ) (head_only : Bool) (s n : Moment) (stop' : SessionStop) → WritesOwn status head_only s n stop' → IsBusyStop stop'
-own_busy status head_only s n (stop.Closed why.ByClient) writes = tt
-own_busy status head_only s n (stop.Closed why.Idle) writes = writes
-own_busy status head_only s n (stop.Closed why.Last) writes = tt
-own_busy status head_only s n (stop.Closed (why.Own code)) writes = tt
-own_busy status head_only s n (stop.Closed why.Cut) writes = tt
-own_busy status head_only s n (stop.Closed why.Unread) writes = tt
-own_busy status head_only s n stop.ClientFault writes = tt
-own_busy status head_only s n stop.Truncated writes = tt
-own_busy status head_only s n (stop.Stray ticket returned_at) writes = tt
-own_busy status head_only s n stop.NoMemory writes = tt
+own_busy : (status : ℕ) (kind : OwnKind) (s n : Moment) (stop' : SessionStop) → WritesOwn status kind s n stop' → IsBusyStop stop'
+own_busy status kind s n (stop.Closed why.ByClient) writes = tt
+own_busy status kind s n (stop.Closed why.Idle) writes = writes
+own_busy status kind s n (stop.Closed why.Last) writes = tt
+own_busy status kind s n (stop.Closed (why.Own code)) writes = tt
+own_busy status kind s n (stop.Closed why.Cut) writes = tt
+own_busy status kind s n (stop.Closed why.Unread) writes = tt
+own_busy status kind s n stop.ClientFault writes = tt
+own_busy status kind s n stop.Truncated writes = tt
+own_busy status kind s n (stop.Stray ticket returned_at) writes = tt
+own_busy status kind s n stop.NoMemory writes = tt
 
-pub busy_without_head : (e : HeadError) (s n : Moment) (puts : List Served → Type 0) (stop' : SessionStop) → StopsWithoutHead e s n puts stop' → IsBusyStop stop'
-busy_without_head (error.Refused status form) s n puts stop' (inl wanted) = subst IsBusyStop (sym wanted.0) tt
-busy_without_head (error.Refused status form) s n puts stop' (inr written) = own_busy (status_of form) false s n stop' written.0
-busy_without_head error.Truncated s n puts stop' stops = subst IsBusyStop (sym stops.0) tt
-busy_without_head error.Fault s n puts stop' stops = subst IsBusyStop (sym stops.0) tt
-busy_without_head error.NoMemory s n puts stop' stops = subst IsBusyStop (sym stops.0) tt
+pub busy_without_head : (date : Option HttpDate) (e : HeadError) (s n : Moment) (puts : List Served → Type 0) (stop' : SessionStop) → StopsWithoutHead date e s n puts stop' → IsBusyStop stop'
+busy_without_head date (error.Refused status form) s n puts stop' (inl wanted) = subst IsBusyStop (sym wanted.0) tt
+busy_without_head date (error.Refused status form) s n puts stop' (inr written) = own_busy (status_of form) (refused_kind date) s n stop' written.0
+busy_without_head date error.Truncated s n puts stop' stops = subst IsBusyStop (sym stops.0) tt
+busy_without_head date error.Fault s n puts stop' stops = subst IsBusyStop (sym stops.0) tt
+busy_without_head date error.NoMemory s n puts stop' stops = subst IsBusyStop (sym stops.0) tt
 
 -- a session that ended so didn't end for a client that waits
 pub ended_busy : (stop' : SessionStop) (count : ℕ) (end : SessionEnd) (P : Type 0) → end ≡ end_of stop' count → IsBusyStop stop' → end.stop ≡ stop.Closed why.Idle → P

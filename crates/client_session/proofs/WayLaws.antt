@@ -4,7 +4,7 @@ use Rattle.jk_model.specs.declared.served.Served.{Served}
 use Rattle.client_session.specs.Causes.{IsDecided, IsOwnCaused}
 use Rattle.client_session.specs.Complete.{EndsWhole}
 use Rattle.client_session.specs.Parts.{HasParts}
-use Rattle.client_session.specs.Requests.{Visit}
+use Rattle.client_session.specs.Requests.{Visit, visit_at}
 use Rattle.client_session.specs.Sessions.{InEachSession, Serves}
 use Rattle.client_session.specs.Ends.{end_of}
 use Rattle.client_session.specs.Standings.{ClientStanding}
@@ -17,14 +17,14 @@ use Rattle.client_session.proofs.DecideLaws.{decides}
 use Rattle.client_session.proofs.PartsLaws.{has_parts}
 use Rattle.client_session.proofs.SessionLaws.{unbegun}
 
-pub owned : (v : Visit) (end : SessionEnd) → InEachSession v end (IsOwnCaused v)
-owned v end s n rows way = own_cause v way.number way.mid n way.last end.requests end.stop way.ends
+pub owned : (v : Visit) (end : SessionEnd) → InEachSession v end IsOwnCaused
+owned v end s n rows way = own_cause (visit_at v way.date) way.number way.timed n way.last end.requests end.stop way.ends
 
-pub decided : (v : Visit) (end : SessionEnd) → InEachSession v end (IsDecided v)
-decided v end s n rows way bytes told = decides v way.number way.mid n way.last end bytes way.ends told
+pub decided : (v : Visit) (end : SessionEnd) → InEachSession v end IsDecided
+decided v end s n rows way bytes told = decides (visit_at v way.date) way.number way.timed n way.last end bytes way.ends told
 
-pub completed : (v : Visit) (end : SessionEnd) → InEachSession v end (EndsWhole v)
-completed v end s n rows way = ends_whole v way.number way.mid n way.last end.requests end.stop way.ends
+pub completed : (v : Visit) (end : SessionEnd) → InEachSession v end EndsWhole
+completed v end s n rows way = ends_whole (visit_at v way.date) way.number way.timed n way.last end.requests end.stop way.ends
 
 -- all of it
 pub holds_of_each : (v : Visit) (end : SessionEnd) → HoldsOfEach v end
@@ -32,7 +32,7 @@ holds_of_each v end = record {
   own = owned v end;
   by_bytes = decided v end;
   complete = completed v end;
-  served = λ number s n gained served. serves_whole v number s n gained served;
+  served = λ date number s n gained served. serves_whole (visit_at v date) number s n gained served;
 }
 
 -- ---- a session that wanted memory before it read anything

@@ -6,13 +6,15 @@ use Rattle.jk_io.specs.declared.failures.IoError.TheVariants as io
 use Rattle.exchange.specs.Deliveries.{Delivers}
 use Rattle.http_out.specs.Own.{own_bytes}
 use Rattle.http_out.specs.declared.own_answers.Own.{Own}
+use Rattle.http_out.specs.declared.own_answers.OwnKind.{OwnKind}
+use Rattle.httpdate.specs.declared.date.HttpDate.{HttpDate}
 use Rattle.client_session.specs.Answers.{own_bytes_of, own_for}
 use Rattle.http_front.specs.Refusal.{status_of}
 use Rattle.http_front.specs.declared.answers.Form.{Form}
 use Rattle.http_front.specs.declared.head.Head.{Head}
 use Rattle.jk_model.specs.declared.served.Served.{Served}
 use Rattle.client_session.specs.Finishing.{AddsRefused, RefusesHead}
-use Rattle.client_session.specs.Requests.{awaits_continue, continue_for}
+use Rattle.client_session.specs.Requests.{awaits_continue, continue_for, refused_kind}
 use Rattle.client_session.specs.Sessions.{refused_row}
 use Rattle.client_session.specs.Standings.{Puts}
 use Rattle.client_session.specs.Writing.{WritesOwn, WritesPart, stop_by}
@@ -36,27 +38,27 @@ part_broken T bytes s n io.NoMemory no_fewer delivered =
     record { sent = delivered.written.0; steady = delivered.written.1; incoming = delivered.incoming; received = delivered.received }
 
 -- the same of an own answer
-pub own_broken : (status : ℕ) (head_only : Bool) (s n : Moment) (error : IoError) → s.faults ≤ n.faults
-    → Delivers {T = Unit {0}} (own_for status head_only) s n (Err error) → WritesOwn status head_only s n (stop_by error)
-own_broken status head_only s n io.Failed no_fewer delivered = (
+pub own_broken : (status : ℕ) (kind : OwnKind) (s n : Moment) (error : IoError) → s.faults ≤ n.faults
+    → Delivers {T = Unit {0}} (own_for status kind) s n (Err error) → WritesOwn status kind s n (stop_by error)
+own_broken status kind s n io.Failed no_fewer delivered = (
   delivered.written.1,
   record { sent = delivered.written.0; no_fewer = no_fewer; incoming = delivered.incoming; received = delivered.received },
 )
-own_broken status head_only s n io.NoMemory no_fewer delivered =
+own_broken status kind s n io.NoMemory no_fewer delivered =
     record { sent = delivered.written.0; steady = delivered.written.1; incoming = delivered.incoming; received = delivered.received }
 
 -- no write of an own answer takes a fault back
-pub own_no_fewer : (status : ℕ) (head_only : Bool) (s n : Moment) (stop' : SessionStop) → WritesOwn status head_only s n stop' → s.faults ≤ n.faults
-own_no_fewer status head_only s n (stop.Closed why.ByClient) writes = absurd writes
-own_no_fewer status head_only s n (stop.Closed why.Idle) writes = absurd writes
-own_no_fewer status head_only s n (stop.Closed why.Last) writes = absurd writes
-own_no_fewer status head_only s n (stop.Closed (why.Own code)) writes = let steady = writes.1.steady in omega arith
-own_no_fewer status head_only s n (stop.Closed why.Cut) writes = absurd writes
-own_no_fewer status head_only s n (stop.Closed why.Unread) writes = absurd writes
-own_no_fewer status head_only s n stop.ClientFault writes = writes.1.no_fewer
-own_no_fewer status head_only s n stop.Truncated writes = absurd writes
-own_no_fewer status head_only s n (stop.Stray ticket returned_at) writes = absurd writes
-own_no_fewer status head_only s n stop.NoMemory writes = let steady = writes.steady in omega arith
+pub own_no_fewer : (status : ℕ) (kind : OwnKind) (s n : Moment) (stop' : SessionStop) → WritesOwn status kind s n stop' → s.faults ≤ n.faults
+own_no_fewer status kind s n (stop.Closed why.ByClient) writes = absurd writes
+own_no_fewer status kind s n (stop.Closed why.Idle) writes = absurd writes
+own_no_fewer status kind s n (stop.Closed why.Last) writes = absurd writes
+own_no_fewer status kind s n (stop.Closed (why.Own code)) writes = let steady = writes.1.steady in omega arith
+own_no_fewer status kind s n (stop.Closed why.Cut) writes = absurd writes
+own_no_fewer status kind s n (stop.Closed why.Unread) writes = absurd writes
+own_no_fewer status kind s n stop.ClientFault writes = writes.1.no_fewer
+own_no_fewer status kind s n stop.Truncated writes = absurd writes
+own_no_fewer status kind s n (stop.Stray ticket returned_at) writes = absurd writes
+own_no_fewer status kind s n stop.NoMemory writes = let steady = writes.steady in omega arith
 
 -- nor does a write of other bytes
 pub part_no_fewer : {T : Type 0} (bytes : List ℕ) (s n : Moment) (result : Result T SessionStop) → WritesPart bytes s n result → s.faults ≤ n.faults
@@ -68,10 +70,15 @@ part_no_fewer bytes s n (Err (stop.Stray ticket returned_at)) writes = absurd wr
 part_no_fewer bytes s n (Err stop.NoMemory) writes = let steady = writes.steady in omega arith
 
 -- the bytes of the own answer that there is
-pub own_known : (found : Option Own) (head_only : Bool) (bytes : List ℕ) → IsSome found → IfSome found (λ own. bytes ≡ own_bytes own head_only)
-    → bytes ≡ own_bytes_of found head_only
-own_known None head_only bytes some is = absurd cc
-own_known (Some own) head_only bytes some is = is
+pub own_known : (found : Option Own) (kind : OwnKind) (bytes : List ℕ) → IsSome found → IfSome found (λ own. bytes ≡ own_bytes own kind)
+    → bytes ≡ own_bytes_of found kind
+own_known None kind bytes some is = absurd cc
+own_known (Some own) kind bytes some is = is
+
+-- the same, of bytes that are the answer's
+pub known_slice : (found : Option Own) (kind : OwnKind) (answer bytes : List ℕ) → bytes ≡ answer → IfSome found (λ own. answer ≡ own_bytes own kind)
+    → IfSome found (λ own. bytes ≡ own_bytes own kind)
+known_slice found kind answer bytes are is = subst (λ (b : List ℕ). IfSome found (λ own. b ≡ own_bytes own kind)) (sym are) is
 
 -- where the client waits for it, 100 Continue is what it is told
 pub sent_continue : (head : Head) (s n : Moment) (answer : Result (Unit {0}) SessionStop) → awaits_continue head ≡ true
@@ -80,6 +87,6 @@ sent_continue head s n answer is writes =
     subst (λ (b : Bool). WritesPart (if b then codes "HTTP/1.1 100 Continue\r\n\r\n" else []) s n answer) (sym is) writes
 
 -- a refused head was answered, and its row was put
-pub refused_closed : (form : Form) (s n : Moment) (puts : List Served → Type 0) (stop' : SessionStop) (w : Why) → stop' ≡ stop.Closed w
-    → WritesOwn (status_of form) false s n stop' → puts (refused_row (status_of form) ∷ []) → RefusesHead form s n puts stop'
-refused_closed form s n puts stop' w is writes put = inr (writes, subst (AddsRefused (status_of form) puts) (sym is) put)
+pub refused_closed : (date : Option HttpDate) (form : Form) (s n : Moment) (puts : List Served → Type 0) (stop' : SessionStop) (w : Why) → stop' ≡ stop.Closed w
+    → WritesOwn (status_of form) (refused_kind date) s n stop' → puts (refused_row (status_of form) ∷ []) → RefusesHead date form s n puts stop'
+refused_closed date form s n puts stop' w is writes put = inr (writes, subst (AddsRefused (status_of form) puts) (sym is) put)

@@ -8,6 +8,7 @@ use Rattle.http_front.specs.declared.head.Head.{Head}
 use Rattle.http_body_in.specs.declared.body.BodyIn.{BodyIn}
 use Rattle.http_out.specs.Own.{own_body, own_bytes, own_of}
 use Rattle.http_out.specs.declared.own_answers.Own.{Own}
+use Rattle.http_out.specs.declared.own_answers.OwnKind.{OwnKind}
 use Rattle.site_config.specs.declared.balancer.Lb.{Lb}
 use Rattle.site_config.specs.declared.config.Named.TheVariants as named
 use Rattle.site_config.specs.declared.config.Status.{Status}
@@ -26,7 +27,7 @@ use Rattle.exchange.specs.declared.ending.ExchangeEnd.TheVariants as exchange_en
 use Rattle.exchange.specs.declared.ending.ExchangeEnd.{ExchangeEnd}
 use Rattle.status_worker.specs.Commands.{IsBroken, IsDone, TurnsAway}
 use Rattle.status_worker.specs.Pages.{IsPageOf, page_reply, sent_of, shown_for}
-use Rattle.client_session.specs.Requests.{Visit, continue_for, mounted_at}
+use Rattle.client_session.specs.Requests.{Visit, continue_for, kind_at, mounted_at, own_kind_at}
 use Rattle.client_session.specs.Standings.{IsBegun, IsLess, IsWritten, ClientStanding, with_body}
 use Rattle.client_session.specs.declared.ending.SessionStop.TheVariants as stop
 use Rattle.client_session.specs.declared.ending.SessionStop.{SessionStop}
@@ -65,13 +66,13 @@ page_row head status page = row_of head 200 (length (sent_of (is_head head) page
 
 -- ---- own answers
 
-abbrev pub own_bytes_of : Option Own → (head_only : Bool) → List ℕ
-own_bytes_of None head_only = []
-own_bytes_of (Some own) head_only = own_bytes own head_only
+abbrev pub own_bytes_of : Option Own → OwnKind → List ℕ
+own_bytes_of None kind = []
+own_bytes_of (Some own) kind = own_bytes own kind
 
 -- the bytes of the own answer with that status
-abbrev pub own_for : (status : ℕ) → (head_only : Bool) → List ℕ
-own_for status head_only = own_bytes_of (own_of status) head_only
+abbrev pub own_for : (status : ℕ) → OwnKind → List ℕ
+own_for status kind = own_bytes_of (own_of status) kind
 
 -- ---- a request at a balancer
 
@@ -90,7 +91,7 @@ pub record IsForwardedAt (v : Visit) (q : Errand) (s n : ClientStanding) (body b
 
 -- the errand of a request for the balancer at this place
 abbrev pub errand_at : Visit → Head → (last : Bool) → (lb : ℕ) → Lb → Errand
-errand_at v head last lb balancer = errand head v.peer last v.session lb (terms v.rules head.clean) balancer
+errand_at v head last lb balancer = errand head v.peer last v.date v.session lb (terms v.rules head.clean) balancer
 
 -- The request is mounted at a balancer, and was forwarded.
 pub record IsForwarded (v : Visit) (head : Head) (last : Bool) (s n : ClientStanding) (body body' : BodyIn) (end : ExchangeEnd) : Type 0 where
@@ -125,14 +126,14 @@ pub record IsTurnedAway (v : Visit) (status : Status) (query : Option (List ℕ)
 -- Writing the page, or the own answer in its place, broke off.
 abbrev pub IsStatusBegun : Visit → Status → Head → (last : Bool) → (s n : ClientStanding) → Type 0
 IsStatusBegun v status head last s n =
-    ((m : ClientStanding) × (page : List ℕ) × HasPage v status head.query s m page × IsBegun m n (page_reply (mime_of head.query) (is_head head) last page))
-    ⊎ ((m : ClientStanding) × (code : ℕ) × IsTurnedAway v status head.query s m code × IsBegun m n (own_for code (is_head head)))
+    ((m : ClientStanding) × (page : List ℕ) × HasPage v status head.query s m page × IsBegun m n (page_reply (mime_of head.query) (kind_at v head last) page))
+    ⊎ ((m : ClientStanding) × (code : ℕ) × IsTurnedAway v status head.query s m code × IsBegun m n (own_for code (own_kind_at v head)))
 
 -- Memory was wanted before the page, or the own answer in its place, was written whole.
 abbrev pub IsStatusLess : Visit → Status → Head → (last : Bool) → (s n : ClientStanding) → Type 0
 IsStatusLess v status head last s n =
-    ((m : ClientStanding) × (page : List ℕ) × HasPage v status head.query s m page × IsLess m n (page_reply (mime_of head.query) (is_head head) last page))
-    ⊎ ((m : ClientStanding) × (code : ℕ) × IsTurnedAway v status head.query s m code × IsLess m n (own_for code (is_head head)))
+    ((m : ClientStanding) × (page : List ℕ) × HasPage v status head.query s m page × IsLess m n (page_reply (mime_of head.query) (kind_at v head last) page))
+    ⊎ ((m : ClientStanding) × (code : ℕ) × IsTurnedAway v status head.query s m code × IsLess m n (own_for code (own_kind_at v head)))
 
 -- Nothing was written: memory was wanted before what was asked was done, or after it.
 pub record IsStatusUnwritten (v : Visit) (status : Status) (query : Option (List ℕ)) (s n : ClientStanding) : Type 0 where
@@ -143,12 +144,12 @@ pub record IsStatusUnwritten (v : Visit) (status : Status) (query : Option (List
 abbrev pub IsStatusAnswer : Visit → Status → Head → (last : Bool) → (s n : ClientStanding) → Result ℕ SessionStop → Type 0
 IsStatusAnswer v status head last s n (Ok len) =
     (m : ClientStanding) × (page : List ℕ) × HasPage v status head.query s m page
-    × IsWritten m n (page_reply (mime_of head.query) (is_head head) last page) × (len ≡ length (sent_of (is_head head) page))
+    × IsWritten m n (page_reply (mime_of head.query) (kind_at v head last) page) × (len ≡ length (sent_of (is_head head) page))
 IsStatusAnswer v status head last s n (Err (stop.Closed why.ByClient)) = ⊥
 IsStatusAnswer v status head last s n (Err (stop.Closed why.Idle)) = ⊥
 IsStatusAnswer v status head last s n (Err (stop.Closed why.Last)) = ⊥
 IsStatusAnswer v status head last s n (Err (stop.Closed (why.Own code))) =
-    (m : ClientStanding) × IsTurnedAway v status head.query s m code × IsWritten m n (own_for code (is_head head)) × IsSome (own_of code)
+    (m : ClientStanding) × IsTurnedAway v status head.query s m code × IsWritten m n (own_for code (own_kind_at v head)) × IsSome (own_of code)
 IsStatusAnswer v status head last s n (Err (stop.Closed why.Cut)) = ⊥
 IsStatusAnswer v status head last s n (Err (stop.Closed why.Unread)) = ⊥
 IsStatusAnswer v status head last s n (Err stop.ClientFault) = Rose s.client.faults n.client.faults × IsStatusBegun v status head last s n
@@ -169,7 +170,7 @@ IsAnswerAt v head last s n body body' answered.Whole rows =
     ((member : ℕ) × (told : Told) × (row : Served) × (is : IsForwarded v head last s n body body' (exchange_end.Done member told))
     × IsReplyRow head is.balancer member told row × (rows ≡ row ∷ []))
     ⊎ ((status : Status) × (m : ClientStanding) × (page : List ℕ) × IsAtStatus v head status × HasPage v status head.query s m page
-    × IsWritten m n (page_reply (mime_of head.query) (is_head head) last page) × (body' ≡ body) × (rows ≡ page_row head status page ∷ []))
+    × IsWritten m n (page_reply (mime_of head.query) (kind_at v head last) page) × (body' ≡ body) × (rows ≡ page_row head status page ∷ []))
 IsAnswerAt v head last s n body body' (answered.Not (stop.Closed why.ByClient)) rows = ⊥
 IsAnswerAt v head last s n body body' (answered.Not (stop.Closed why.Idle)) rows = ⊥
 IsAnswerAt v head last s n body body' (answered.Not (stop.Closed why.Last)) rows = ⊥
@@ -199,13 +200,13 @@ pub record IsToldOn (v : Visit) (head : Head) (s told : ClientStanding) : Type 0
 -- writing the 404 of a request that is mounted nowhere broke off, or writing 100 Continue of one that is mounted
 abbrev pub IsEarlyBegun : Visit → Head → (s n : ClientStanding) → Type 0
 IsEarlyBegun v head s n =
-    ((mounted_at v head ≡ None) × IsBegun s n (own_for 404 (is_head head)))
+    ((mounted_at v head ≡ None) × IsBegun s n (own_for 404 (own_kind_at v head)))
     ⊎ (IsSome (mounted_at v head) × IsBegun s n (continue_for head))
 
 -- the same, where memory was wanted before all of it was written
 abbrev pub IsEarlyLess : Visit → Head → (s n : ClientStanding) → Type 0
 IsEarlyLess v head s n =
-    ((mounted_at v head ≡ None) × IsLess s n (own_for 404 (is_head head)))
+    ((mounted_at v head ≡ None) × IsLess s n (own_for 404 (own_kind_at v head)))
     ⊎ (IsSome (mounted_at v head) × IsLess s n (continue_for head))
 
 -- What comes before 100 Continue: 404 where no worker is mounted there; or nothing whole was written.
@@ -215,7 +216,7 @@ StopsEarly v head s n (answered.Not (stop.Closed why.ByClient)) rows = ⊥
 StopsEarly v head s n (answered.Not (stop.Closed why.Idle)) rows = ⊥
 StopsEarly v head s n (answered.Not (stop.Closed why.Last)) rows = ⊥
 StopsEarly v head s n (answered.Not (stop.Closed (why.Own code))) rows =
-    (code ≡ 404) × (mounted_at v head ≡ None) × IsWritten s n (own_for code (is_head head)) × (rows ≡ own_row head code ∷ [])
+    (code ≡ 404) × (mounted_at v head ≡ None) × IsWritten s n (own_for code (own_kind_at v head)) × (rows ≡ own_row head code ∷ [])
 StopsEarly v head s n (answered.Not (stop.Closed why.Cut)) rows = ⊥
 StopsEarly v head s n (answered.Not (stop.Closed why.Unread)) rows = ⊥
 StopsEarly v head s n (answered.Not stop.ClientFault) rows =

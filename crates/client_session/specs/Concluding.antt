@@ -14,6 +14,7 @@ use Rattle.site_config.specs.declared.config.Named.{Named}
 use Rattle.site_config.specs.declared.config.Named.TheVariants as named
 use Rattle.exchange.specs.declared.ending.ExchangeEnd.TheVariants as exchange_end
 use Rattle.exchange.specs.declared.ending.ExchangeEnd.{ExchangeEnd}
+use Rattle.client_session.specs.Requests.{Visit, own_kind_at}
 use Rattle.client_session.specs.Rows.{IsRowOf, own_row_by, worker_row}
 use Rattle.client_session.specs.Writing.{WritesOwn}
 use Rattle.client_session.specs.declared.ending.SessionStop.TheVariants as stop
@@ -114,8 +115,8 @@ abbrev pub HasRoom : Config → Named → Head → Row → Type 0
 HasRoom cfg worker head row = (longest : ℕ) × IsRowOf head longest row × HasNamesWithin cfg worker longest
 
 -- 404 was written whole, or a front of it, or memory was wanted
-abbrev pub IsNotFound : Head → Moment → Moment → Settled → Type 0
-IsNotFound head s n settled =
+abbrev pub IsNotFound : Visit → Head → Moment → Moment → Settled → Type 0
+IsNotFound v head s n settled =
     ((n ≡ s) × (settled ≡ stopped_by stop.NoMemory))
-    ⊎ ((stop' : SessionStop) × WritesOwn 404 (is_head head) s n stop'
+    ⊎ ((stop' : SessionStop) × WritesOwn 404 (own_kind_at v head) s n stop'
     × (settled ≡ settled_by stop' (asked.Line head.method head.target head.old) (is_head head)))

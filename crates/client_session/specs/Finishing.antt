@@ -1,5 +1,5 @@
 -- What follows an answer, the rest of its body among it, and what is done where no head was read.
-use Rattle.std.specs.Prelude.{ℕ, ◌≡◌, ◌⊎◌, Bool, true, false, List, [], ◌∷◌}
+use Rattle.std.specs.Prelude.{ℕ, ◌≡◌, ◌⊎◌, Bool, true, false, List, [], ◌∷◌, Option}
 use Rattle.jk_io.specs.Moments.{Moment}
 use Rattle.jk_model.specs.declared.served.Served.{Served}
 use Rattle.http_front.specs.Refusal.{status_of}
@@ -10,6 +10,8 @@ use Rattle.http_body_in.specs.Takes.{BodyMoment, MeetsFault, PassesRest}
 use Rattle.http_body_in.specs.Wants.{Rest}
 use Rattle.http_body_in.specs.declared.fault.BodyFault.{BodyFault}
 use Rattle.http_body_in.specs.declared.fault.BodyFault.TheVariants as fault
+use Rattle.httpdate.specs.declared.date.HttpDate.{HttpDate}
+use Rattle.client_session.specs.Requests.{refused_kind}
 use Rattle.client_session.specs.Sessions.{refused_row}
 use Rattle.client_session.specs.Writing.{WritesOwn}
 use Rattle.client_session.specs.declared.ending.SessionStop.{SessionStop}
@@ -49,14 +51,14 @@ AddsRefused status puts (stop.Stray ticket returned_at) = puts []
 AddsRefused status puts stop.NoMemory = puts []
 
 -- the refused head was answered with its status; or memory was wanted before
-abbrev pub RefusesHead : Form → Moment → Moment → (puts : List Served → Type 0) → SessionStop → Type 0
-RefusesHead form s n puts stop' =
+abbrev pub RefusesHead : Option HttpDate → Form → Moment → Moment → (puts : List Served → Type 0) → SessionStop → Type 0
+RefusesHead date form s n puts stop' =
     ((stop' ≡ stop.NoMemory) × (n ≡ s) × puts [])
-    ⊎ (WritesOwn (status_of form) false s n stop' × AddsRefused (status_of form) puts stop')
+    ⊎ (WritesOwn (status_of form) (refused_kind date) s n stop' × AddsRefused (status_of form) puts stop')
 
 -- a refused head was answered, and otherwise nothing was written
-abbrev pub StopsWithoutHead : HeadError → Moment → Moment → (puts : List Served → Type 0) → SessionStop → Type 0
-StopsWithoutHead (error.Refused status form) s n puts stop' = RefusesHead form s n puts stop'
-StopsWithoutHead error.Truncated s n puts stop' = (stop' ≡ stop.Truncated) × (n ≡ s) × puts []
-StopsWithoutHead error.Fault s n puts stop' = (stop' ≡ stop.ClientFault) × (n ≡ s) × puts []
-StopsWithoutHead error.NoMemory s n puts stop' = (stop' ≡ stop.NoMemory) × (n ≡ s) × puts []
+abbrev pub StopsWithoutHead : Option HttpDate → HeadError → Moment → Moment → (puts : List Served → Type 0) → SessionStop → Type 0
+StopsWithoutHead date (error.Refused status form) s n puts stop' = RefusesHead date form s n puts stop'
+StopsWithoutHead date error.Truncated s n puts stop' = (stop' ≡ stop.Truncated) × (n ≡ s) × puts []
+StopsWithoutHead date error.Fault s n puts stop' = (stop' ≡ stop.ClientFault) × (n ≡ s) × puts []
+StopsWithoutHead date error.NoMemory s n puts stop' = (stop' ≡ stop.NoMemory) × (n ≡ s) × puts []

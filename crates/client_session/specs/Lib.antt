@@ -1,5 +1,6 @@
 pub mod Standings
 pub mod Requests
+pub mod Moments
 pub mod Answers
 pub mod Sessions
 pub mod Causes

@@ -24,9 +24,11 @@ use Rattle.status_page.specs.Mimes.{mime_of}
 use Rattle.status_page.specs.declared.page.PagePart.{PagePart}
 use Rattle.status_worker.specs.Pages.{page_reply, shown_for}
 use Rattle.exchange.specs.OneTalk.{plan_on}
-use Rattle.exchange.specs.Requests.{is_head, plan_for}
+use Rattle.exchange.specs.Requests.{plan_for}
 use Rattle.client_session.specs.Answers.{IsAtStatus, errand_at, own_for}
-use Rattle.client_session.specs.Requests.{Visit, continue_for, is_last, mounted_at}
+use Rattle.httpdate.specs.declared.date.HttpDate.{HttpDate}
+use Rattle.client_session.specs.Moments.{IsTold}
+use Rattle.client_session.specs.Requests.{Visit, continue_for, is_last, kind_at, mounted_at, own_kind_at, refused_kind, visit_at}
 use Rattle.client_session.specs.Standings.{ClientStanding}
 use Rattle.client_session.specs.declared.ending.SessionEnd.{SessionEnd}
 use Rattle.client_session.specs.declared.ending.SessionStop.{SessionStop}
@@ -74,7 +76,7 @@ IsCutFor v head last talks bytes =
 abbrev pub IsPageFor : Visit → Head → (last : Bool) → List Talk → List ℕ → Type 0
 IsPageFor v head last talks bytes =
     (status : Status) × (parts : List PagePart) × IsAtStatus v head status × (talks ≡ [])
-    × (bytes ≡ page_reply (mime_of head.query) (is_head head) last (shown_for status head.query parts))
+    × (bytes ≡ page_reply (mime_of head.query) (kind_at v head last) (shown_for status head.query parts))
 
 -- 100 Continue where it is due, and then a whole reply or a page
 abbrev pub IsWholeAnswer : Visit → Head → (last : Bool) → List Talk → List ℕ → Type 0
@@ -82,9 +84,9 @@ IsWholeAnswer v head last talks written =
     (answer : List ℕ) × (written ≡ continue_for head ++ answer) × (IsReplyFor v head last talks answer ⊎ IsPageFor v head last talks answer)
 
 -- an own answer, or 100 Continue and then an own answer
-abbrev pub IsOwnAnswer : Head → (status : ℕ) → List ℕ → Type 0
-IsOwnAnswer head status written =
-    (written ≡ own_for status (is_head head)) ⊎ (written ≡ continue_for head ++ own_for status (is_head head))
+abbrev pub IsOwnAnswer : Visit → Head → (status : ℕ) → List ℕ → Type 0
+IsOwnAnswer v head status written =
+    (written ≡ own_for status (own_kind_at v head)) ⊎ (written ≡ continue_for head ++ own_for status (own_kind_at v head))
 
 -- 100 Continue where it is due, and then a page
 abbrev pub IsPageAnswer : Visit → Head → (last : Bool) → List Talk → List ℕ → Type 0
@@ -128,12 +130,14 @@ pub record IsRequestWhole (head : Head) (bytes : List ℕ) : Type 0 where
   pub body : place_behind rest (start_of head.plan) ≡ Some place
   pub whole : is_whole place ≡ true
 
--- A request that isn't last, and its whole answer. It is the one after `number` others.
+-- A request that isn't last, and its whole answer, with a moment of its own. It is the one after `number` others.
 pub record IsPart (v : Visit) (number : ℕ) (part : SessionPart) : Type 0 where
+  pub date : Option HttpDate
+  pub told : IsTold v date
   pub head : Head
   pub request : IsRequestWhole head part.taken
   pub more : is_last number head ≡ false
-  pub answer : IsWholeAnswer v head (is_last number head) part.talks part.written
+  pub answer : IsWholeAnswer (visit_at v date) head (is_last number head) part.talks part.written
 
 -- the parts of that number of requests, in order
 abbrev pub AreParts : Visit → (number : ℕ) → List SessionPart → Type 0
@@ -147,9 +151,9 @@ AreParts v (suc number) parts =
 abbrev pub IsFrontOfAnswer : Visit → (number : ℕ) → List Talk → List ℕ → Type 0
 IsFrontOfAnswer v number talks bytes =
     (bytes ≡ [])
-    ⊎ (((status : ℕ) × IsFrontOf bytes (own_for status false))
+    ⊎ (((status : ℕ) × IsFrontOf bytes (own_for status (refused_kind v.date)))
     ⊎ ((head : Head) × (whole : List ℕ) × IsFrontOf bytes whole
-    × ((whole ≡ continue_for head) ⊎ (((status : ℕ) × IsOwnAnswer head status whole)
+    × ((whole ≡ continue_for head) ⊎ (((status : ℕ) × IsOwnAnswer v head status whole)
     ⊎ (IsPageAnswer v head (is_last number head) talks whole ⊎ IsDueAnswer v head (is_last number head) talks whole)))))
 
 -- the first bytes of others, and not all of them
@@ -162,10 +166,10 @@ pub record IsShortOf (front whole : List ℕ) : Type 0 where
 abbrev pub IsLessOfAnswer : Visit → (number : ℕ) → List Talk → List ℕ → Type 0
 IsLessOfAnswer v number talks bytes =
     (bytes ≡ [])
-    ⊎ (((status : ℕ) × IsShortOf bytes (own_for status false))
+    ⊎ (((status : ℕ) × IsShortOf bytes (own_for status (refused_kind v.date)))
     ⊎ ((head : Head) × (whole : List ℕ)
     × ((IsFrontOf bytes whole × ((whole ≡ continue_for head) ⊎ IsDueAnswer v head (is_last number head) talks whole))
-    ⊎ (IsShortOf bytes whole × (((status : ℕ) × IsOwnAnswer head status whole) ⊎ IsPageAnswer v head (is_last number head) talks whole)))))
+    ⊎ (IsShortOf bytes whole × (((status : ℕ) × IsOwnAnswer v head status whole) ⊎ IsPageAnswer v head (is_last number head) talks whole)))))
 
 -- the answer was whole, and the rest of its request wasn't read
 abbrev pub IsUnreadAnswer : Visit → (number : ℕ) → (requests : ℕ) → List Talk → List ℕ → Type 0
@@ -180,7 +184,7 @@ IsLastWritten v number requests (stop.Closed why.Idle) talks bytes = (requests �
 IsLastWritten v number requests (stop.Closed why.Last) talks bytes =
     (requests ≡ number + 1) × ((head : Head) × (is_last number head ≡ true) × IsWholeAnswer v head (is_last number head) talks bytes)
 IsLastWritten v number requests (stop.Closed (why.Own status)) talks bytes =
-    (requests ≡ number) × ((bytes ≡ own_for status false) ⊎ ((head : Head) × IsOwnAnswer head status bytes))
+    (requests ≡ number) × ((bytes ≡ own_for status (refused_kind v.date)) ⊎ ((head : Head) × IsOwnAnswer v head status bytes))
 IsLastWritten v number requests (stop.Closed why.Cut) talks bytes =
     (requests ≡ number)
     × ((head : Head) × (reply : List ℕ) × IsCutFor v head (is_last number head) talks reply × (bytes ≡ continue_for head ++ reply))
@@ -202,7 +206,9 @@ pub record HasParts (v : Visit) (s n : ClientStanding) (end : SessionEnd) : Type
   pub are : AreParts v number parts
   pub last : List ℕ
   pub last_talks : List Talk
-  pub is_last : IsLastWritten v number end.requests end.stop last_talks last
+  pub date : Option HttpDate
+  pub told : IsTold v date
+  pub is_last : IsLastWritten (visit_at v date) number end.requests end.stop last_talks last
   pub left : Option (List ℕ)
   pub used : s.client.incoming ≡ prepended (taken_in parts) left
   pub written : n.client.sent ≡ appended s.client.sent (written_in parts ++ last)

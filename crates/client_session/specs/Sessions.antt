@@ -3,7 +3,7 @@
 -- It is a chain of standings. Each request leads from one to the next, and what it wrote is added to what the client had.
 -- So the client has the parts of its requests joined, in order: 100 Continue where it is due, then a reply, a page or an
 -- own answer; and a front of the last part where that broke off.
-use Rattle.std.specs.Prelude.{ℕ, zero, suc, ◌≡◌, ◌+◌, ◌<◌, ◌⊎◌, true, false, List, [], ◌∷◌, ◌++◌, None}
+use Rattle.std.specs.Prelude.{ℕ, zero, suc, ◌≡◌, ◌+◌, ◌<◌, ◌⊎◌, true, false, List, [], ◌∷◌, ◌++◌, Option, None}
 use Rattle.jk_io.specs.Told.{IsEmpty, Rose}
 use Rattle.jk_model.specs.declared.served.Asked.TheVariants as asked
 use Rattle.jk_model.specs.declared.served.Served.{Served}
@@ -19,7 +19,9 @@ use Rattle.http_body_in.specs.declared.body.BodyIn.{BodyIn}
 use Rattle.http_body_in.specs.declared.fault.BodyFault.{BodyFault}
 use Rattle.http_body_in.specs.declared.fault.BodyFault.TheVariants as fault
 use Rattle.client_session.specs.Answers.{IsAnswer, own_for, own_len}
-use Rattle.client_session.specs.Requests.{IsNewBody, Visit, is_last}
+use Rattle.httpdate.specs.declared.date.HttpDate.{HttpDate}
+use Rattle.client_session.specs.Moments.{ReadsLast, ReadsMoment}
+use Rattle.client_session.specs.Requests.{IsNewBody, Visit, is_last, refused_kind, visit_at}
 use Rattle.client_session.specs.Standings.{IsBegun, IsClientAlone, IsLess, IsReadOn, IsWritten, ClientStanding, FailsReading, WantsReading, unread_at}
 use Rattle.client_session.specs.declared.ending.SessionEnd.{SessionEnd}
 use Rattle.client_session.specs.declared.ending.SessionStop.{SessionStop}
@@ -89,12 +91,13 @@ pub record IsServed (v : Visit) (number : ℕ) (s n : ClientStanding) (rows : Li
   pub going_on : IsGoingOn v number s mid body rows
   pub skips : SkipsRest mid n body
 
--- That number of requests was served, one after the other. The rows are theirs, in order.
+-- That number of requests was served, one after the other, each with a moment of its own. The rows are theirs, in order.
 abbrev pub HaveServed : Visit → (number : ℕ) → ClientStanding → ClientStanding → List Served → Type 0
 HaveServed v zero s n rows = (n ≡ s) × (rows ≡ [])
 HaveServed v (suc number) s n rows =
-    (mid : ClientStanding) × (before : List Served) × (last : List Served)
-    × HaveServed v number s mid before × IsServed v number mid n last × (rows ≡ before ++ last)
+    (mid : ClientStanding) × (before : List Served) × (last : List Served) × (date : Option HttpDate) × (timed : ClientStanding)
+    × HaveServed v number s mid before × ReadsMoment v mid timed date × IsServed (visit_at v date) number timed n last
+    × (rows ≡ before ++ last)
 
 -- ---- the end
 
@@ -103,26 +106,26 @@ abbrev pub refused_row : (status : ℕ) → Served
 refused_row status = record { asked = asked.Refused; status = status; body = own_len status false; worker = None }
 
 -- A refused head was answered with its status.
-pub record IsHeadRefused (s n : ClientStanding) (code : ℕ) : Type 0 where
+pub record IsHeadRefused (v : Visit) (s n : ClientStanding) (code : ℕ) : Type 0 where
   pub read : ClientStanding
   pub form : Form
   pub reads : ReadsRefused s read form
   pub status : code ≡ status_of form
-  pub written : IsWritten read n (own_for code false)
+  pub written : IsWritten read n (own_for code (refused_kind v.date))
 
 -- Writing that answer broke off.
-pub record IsRefusalBegun (s n : ClientStanding) : Type 0 where
+pub record IsRefusalBegun (v : Visit) (s n : ClientStanding) : Type 0 where
   pub read : ClientStanding
   pub form : Form
   pub reads : ReadsRefused s read form
-  pub begun : IsBegun read n (own_for (status_of form) false)
+  pub begun : IsBegun read n (own_for (status_of form) (refused_kind v.date))
 
 -- Memory was wanted before that answer was written whole.
-pub record IsRefusalWanted (s n : ClientStanding) : Type 0 where
+pub record IsRefusalWanted (v : Visit) (s n : ClientStanding) : Type 0 where
   pub read : ClientStanding
   pub form : Form
   pub reads : ReadsRefused s read form
-  pub wanted : IsLess read n (own_for (status_of form) false)
+  pub wanted : IsLess read n (own_for (status_of form) (refused_kind v.date))
 
 -- A request was answered otherwise than whole.
 abbrev pub IsStopped : Visit → (number : ℕ) → (s n : ClientStanding) → List Served → SessionStop → Type 0
@@ -143,14 +146,14 @@ EndsIn v number s n rows requests (stop.Closed why.Last) =
     × ((body : BodyIn) × (request : IsRequest v number s n body answered.Whole rows) × (is_last number request.head ≡ true))
 EndsIn v number s n rows requests (stop.Closed (why.Own code)) =
     (requests ≡ number)
-    × ((IsHeadRefused s n code × (rows ≡ refused_row code ∷ [])) ⊎ IsStopped v number s n rows (stop.Closed (why.Own code)))
+    × ((IsHeadRefused v s n code × (rows ≡ refused_row code ∷ [])) ⊎ IsStopped v number s n rows (stop.Closed (why.Own code)))
 EndsIn v number s n rows requests (stop.Closed why.Cut) =
     (requests ≡ number) × IsStopped v number s n rows (stop.Closed why.Cut)
 EndsIn v number s n rows requests (stop.Closed why.Unread) =
     (requests ≡ number + 1) × (IsUnread v number s n rows fault.BadChunk ⊎ IsUnread v number s n rows fault.TooLong)
 EndsIn v number s n rows requests stop.ClientFault =
     ((requests ≡ number) × (rows ≡ []) × Rose s.client.faults n.client.faults
-    × (FailsReading s n ⊎ (IsRefusalBegun s n ⊎ IsStopped v number s n rows stop.ClientFault)))
+    × (FailsReading s n ⊎ (IsRefusalBegun v s n ⊎ IsStopped v number s n rows stop.ClientFault)))
     ⊎ ((requests ≡ number + 1) × IsUnread v number s n rows fault.Fault)
 EndsIn v number s n rows requests stop.Truncated =
     ((requests ≡ number) × (rows ≡ []) × (ReadsCut s n ⊎ IsStopped v number s n rows stop.Truncated))
@@ -159,20 +162,23 @@ EndsIn v number s n rows requests (stop.Stray ticket returned_at) =
     (requests ≡ number) × (rows ≡ []) × IsStopped v number s n rows (stop.Stray ticket returned_at)
 EndsIn v number s n rows requests stop.NoMemory =
     ((requests ≡ number) × (rows ≡ []) × (WantsReading s n
-    ⊎ (IsRefusalWanted s n ⊎ (((read : ClientStanding) × (form : Form) × ReadsRefused s read form × (n ≡ read))
+    ⊎ (IsRefusalWanted v s n ⊎ (((read : ClientStanding) × (form : Form) × ReadsRefused s read form × (n ≡ read))
     ⊎ IsStopped v number s n rows stop.NoMemory))))
     ⊎ ((requests ≡ number + 1) × IsUnread v number s n rows fault.NoMemory)
 
 -- ---- the whole
 
--- Requests were served, and then the session ended.
+-- Requests were served, and then the session ended, with a moment that its last answer tells.
 pub record IsSession (v : Visit) (s n : ClientStanding) (rows : List Served) (end : SessionEnd) : Type 0 where
   pub number : ℕ
   pub mid : ClientStanding
+  pub date : Option HttpDate
+  pub timed : ClientStanding
   pub before : List Served
   pub last : List Served
   pub served : HaveServed v number s mid before
-  pub ends : EndsIn v number mid n last end.requests end.stop
+  pub reads : ReadsLast end.stop v mid timed date
+  pub ends : EndsIn (visit_at v date) number timed n last end.requests end.stop
   pub joined : rows ≡ before ++ last
 
 -- A session from a client of which nothing was read. What it had read at its end and not used is lost. Its rows were put, of
@@ -183,6 +189,8 @@ pub record Serves (v : Visit) (at_first : List ℕ → ClientStanding) (at_last 
   pub session : IsSession v (at_first []) (at_last inbox) gained end
   pub added : puts gained
 
--- P of each session of this visit that ends so: of how many requests were served, where that led, and where it ended.
-abbrev pub InEachSession : Visit → SessionEnd → (SessionEnd → (number : ℕ) → (s n : ClientStanding) → Type 0) → Type 0
-InEachSession v end P = (s n : ClientStanding) (rows : List Served) → (way : IsSession v s n rows end) → P end way.number way.mid n
+-- P of each session of this visit that ends so: of the visit at its last moment, of how many requests were served, where that
+-- led, and where it ended.
+abbrev pub InEachSession : Visit → SessionEnd → (Visit → SessionEnd → (number : ℕ) → (s n : ClientStanding) → Type 0) → Type 0
+InEachSession v end P =
+    (s n : ClientStanding) (rows : List Served) → (way : IsSession v s n rows end) → P (visit_at v way.date) end way.number way.timed n

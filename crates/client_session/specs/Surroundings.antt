@@ -4,17 +4,19 @@ use Rattle.jk_io.specs.Moments.{Moment}
 use Rattle.jk_io.specs.declared.reaching.Beside.{Beside}
 use Rattle.jk_io.specs.declared.traits.streams.Meanings.{Ghosts}
 use Rattle.http_body_in.specs.declared.body.BodyIn.{BodyIn}
+use Rattle.httpdate.specs.declared.date.HttpDate.{HttpDate}
 use Rattle.balancer_core.specs.Desks.{DeskState}
 use Rattle.jk_model.specs.declared.served.Served.{Served}
 use Rattle.http_front.specs.declared.head.Head.{Head}
 use Rattle.site_config.specs.declared.config.Status.{Status}
 use Rattle.status_worker.specs.Pages.{IsPage}
 use Rattle.status_worker.specs.declared.pages.Page.{Page}
-use Rattle.exchange.specs.Requests.{AtPlace, is_head}
+use Rattle.exchange.specs.Requests.{AtPlace}
 use Rattle.exchange.specs.declared.ending.ExchangeEnd.{ExchangeEnd}
 use Rattle.client_session.specs.Answers.{IsAnswer, IsAnswerAt, IsForwardedAt, IsStatusAnswer, errand_at}
 use Rattle.client_session.specs.Concluding.{rows_of}
-use Rattle.client_session.specs.Requests.{Visit, visit_of}
+use Rattle.client_session.specs.Moments.{ReadsInTurn}
+use Rattle.client_session.specs.Requests.{Visit, kind_at, visit_at, visit_in}
 use Rattle.client_session.specs.Sessions.{IsSession, ReadsHead}
 use Rattle.client_session.specs.Standings.{Puts, ClientStanding, standing}
 use Rattle.client_session.specs.Turns.{Turns}
@@ -48,11 +50,11 @@ AreSame s n =
 
 -- The request was answered so.
 abbrev pub IsAnswered : Inquiry → (s n : ClientStanding) → (body body' : BodyIn) → Settled → Type 0
-IsAnswered i s n body body' settled = IsAnswer (visit_of i.site.now) i.head.now i.last s n body body' settled.answered (rows_of settled.row)
+IsAnswered i s n body body' settled = IsAnswer (visit_in i) i.head.now i.last s n body body' settled.answered (rows_of settled.row)
 
 -- It is mounted, and its client was told to go on.
 abbrev pub IsAnsweredAt : Inquiry → (s n : ClientStanding) → (body body' : BodyIn) → Settled → Type 0
-IsAnsweredAt i s n body body' settled = IsAnswerAt (visit_of i.site.now) i.head.now i.last s n body body' settled.answered (rows_of settled.row)
+IsAnsweredAt i s n body body' settled = IsAnswerAt (visit_in i) i.head.now i.last s n body body' settled.answered (rows_of settled.row)
 
 -- The session added its rows at the end.
 abbrev pub AddsSession : Visit → (s n : ClientStanding) → (puts : List Served → Type 0) → SessionEnd → Type 0
@@ -61,22 +63,27 @@ AddsSession v s n puts end = (gained : List Served) × puts gained × IsSession 
 -- The request was forwarded to the balancer at this place.
 abbrev pub ForwardsTo : Inquiry → (lb : ℕ) → (s n : ClientStanding) → (body body' : BodyIn) → ExchangeEnd → Type 0
 ForwardsTo i lb s n body body' end = AtPlace i.site.now.cfg.now.lbs lb (λ b.
-    IsForwardedAt (visit_of i.site.now) (errand_at (visit_of i.site.now) i.head.now i.last lb b) s n body body' end)
+    IsForwardedAt (visit_in i) (errand_at (visit_in i) i.head.now i.last lb b) s n body body' end)
 
 -- The request was answered by that status worker.
 abbrev pub Shows : Inquiry → Status → (s n : ClientStanding) → Result ℕ SessionStop → Type 0
-Shows i status s n answer = IsStatusAnswer (visit_of i.site.now) status i.head.now i.last s n answer
+Shows i status s n answer = IsStatusAnswer (visit_in i) status i.head.now i.last s n answer
 
 -- The page of what the desk shows was sent, or a front of it; or memory was wanted before.
 abbrev pub SendsPage : Inquiry → Status → (only : Option ℕ) → DeskState → (s n : Moment) → Result ℕ SessionStop → Type 0
 SendsPage i status only d s n (Ok len) =
-    (page : Page) × IsPage i.site.now.cfg.now status i.head.now.query d only (is_head i.head.now) i.last page
+    (page : Page) × IsPage i.site.now.cfg.now status i.head.now.query d only (kind_at (visit_in i) i.head.now i.last) page
     × Puts s n page.reply × (len ≡ page.len)
 SendsPage i status only d s n (Err stop') =
     ((stop' ≡ stop.NoMemory) × (n ≡ s))
-    ⊎ ((page : Page) × IsPage i.site.now.cfg.now status i.head.now.query d only (is_head i.head.now) i.last page
+    ⊎ ((page : Page) × IsPage i.site.now.cfg.now status i.head.now.query d only (kind_at (visit_in i) i.head.now i.last) page
     × WritesPart {T = Unit {0}} page.reply s n (Err stop'))
+
+-- The moment of a turn was read, and so the session turned.
+abbrev pub TurnsNow : Visit → (number : ℕ) → (s n : ClientStanding) → (puts : List Served → Type 0) → SessionTurn → Type 0
+TurnsNow v number s n puts turn' =
+    (date : Option HttpDate) × (timed : ClientStanding) × ReadsInTurn turn' v s timed date × Turns (visit_at v date) number timed n puts turn'
 
 -- The turn of a request whose head was read, wherever its bytes began.
 abbrev pub TurnsFrom : Visit → (number : ℕ) → Head → (s n : ClientStanding) → (puts : List Served → Type 0) → SessionTurn → Type 0
-TurnsFrom v number head s n puts turn' = (start : ClientStanding) → ReadsHead start s head → Turns v number start n puts turn'
+TurnsFrom v number head s n puts turn' = (start : ClientStanding) → ReadsHead start s head → TurnsNow v number start n puts turn'

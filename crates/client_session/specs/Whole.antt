@@ -10,7 +10,8 @@ use Rattle.client_session.specs.Complete.{EndsWhole, ServesWhole}
 use Rattle.client_session.specs.Ends.{MeetsBy, RisesBy}
 use Rattle.client_session.specs.Parts.{HasParts}
 use Rattle.client_session.specs.Ready.{IsReady}
-use Rattle.client_session.specs.Requests.{Visit}
+use Rattle.httpdate.specs.declared.date.HttpDate.{HttpDate}
+use Rattle.client_session.specs.Requests.{Visit, visit_at}
 use Rattle.client_session.specs.Sessions.{InEachSession, IsServed, Serves}
 use Rattle.client_session.specs.Standings.{ClientStanding}
 use Rattle.client_session.specs.Surroundings.{standing_with}
@@ -49,7 +50,8 @@ pub record IsWholeSession {B K R C X : Type 0} (state : B → DeskState) (answer
 -- can; and a request that nothing disturbs is answered with exactly its member's reply, whether the session goes on after it
 -- or not.
 pub record HoldsOfEach (v : Visit) (end : SessionEnd) : Type 0 where
-  pub own : InEachSession v end (IsOwnCaused v)
-  pub by_bytes : InEachSession v end (IsDecided v)
-  pub complete : InEachSession v end (EndsWhole v)
-  pub served : (number : ℕ) (s n : ClientStanding) (gained : List Served) → IsServed v number s n gained → ServesWhole v number s n
+  pub own : InEachSession v end IsOwnCaused
+  pub by_bytes : InEachSession v end IsDecided
+  pub complete : InEachSession v end EndsWhole
+  pub served : (date : Option HttpDate) (number : ℕ) (s n : ClientStanding) (gained : List Served) → IsServed (visit_at v date) number s n gained
+      → ServesWhole (visit_at v date) number s n

@@ -4,6 +4,7 @@ use Rattle.jk_io.specs.Moments.{Moment}
 use Rattle.jk_io.specs.Told.{Rose}
 use Rattle.jk_io.specs.declared.failures.IoError.{IoError}
 use Rattle.jk_io.specs.declared.failures.IoError.TheVariants as io
+use Rattle.http_out.specs.declared.own_answers.OwnKind.{OwnKind}
 use Rattle.client_session.specs.Answers.{own_for}
 use Rattle.client_session.specs.Standings.{Puts, PutsLess, PutsPart}
 use Rattle.client_session.specs.declared.ending.SessionStop.{SessionStop}
@@ -16,17 +17,17 @@ stop_by io.Failed = stop.ClientFault
 stop_by io.NoMemory = stop.NoMemory
 
 -- the own answer was written whole and went out; or a front of it, where the client failed; or not all of it
-abbrev pub WritesOwn : (status : ℕ) → (head_only : Bool) → Moment → Moment → SessionStop → Type 0
-WritesOwn status head_only s n (stop.Closed why.ByClient) = ⊥
-WritesOwn status head_only s n (stop.Closed why.Idle) = ⊥
-WritesOwn status head_only s n (stop.Closed why.Last) = ⊥
-WritesOwn status head_only s n (stop.Closed (why.Own code)) = (code ≡ status) × Puts s n (own_for status head_only)
-WritesOwn status head_only s n (stop.Closed why.Cut) = ⊥
-WritesOwn status head_only s n (stop.Closed why.Unread) = ⊥
-WritesOwn status head_only s n stop.ClientFault = Rose s.faults n.faults × PutsPart s n (own_for status head_only)
-WritesOwn status head_only s n stop.Truncated = ⊥
-WritesOwn status head_only s n (stop.Stray ticket returned_at) = ⊥
-WritesOwn status head_only s n stop.NoMemory = PutsLess s n (own_for status head_only)
+abbrev pub WritesOwn : (status : ℕ) → OwnKind → Moment → Moment → SessionStop → Type 0
+WritesOwn status kind s n (stop.Closed why.ByClient) = ⊥
+WritesOwn status kind s n (stop.Closed why.Idle) = ⊥
+WritesOwn status kind s n (stop.Closed why.Last) = ⊥
+WritesOwn status kind s n (stop.Closed (why.Own code)) = (code ≡ status) × Puts s n (own_for status kind)
+WritesOwn status kind s n (stop.Closed why.Cut) = ⊥
+WritesOwn status kind s n (stop.Closed why.Unread) = ⊥
+WritesOwn status kind s n stop.ClientFault = Rose s.faults n.faults × PutsPart s n (own_for status kind)
+WritesOwn status kind s n stop.Truncated = ⊥
+WritesOwn status kind s n (stop.Stray ticket returned_at) = ⊥
+WritesOwn status kind s n stop.NoMemory = PutsLess s n (own_for status kind)
 
 -- bytes were written whole and went out; or a front of them, or not all, and the session is to end
 abbrev pub WritesPart : {T : Type 0} → List ℕ → Moment → Moment → Result T SessionStop → Type 0

@@ -10,7 +10,7 @@ ghost use Rattle.client_session.specs.Answers.{errand_at};
 ghost use Rattle.client_session.specs.Concluding.{HasNamesWithin, HasRoom, IsKnownStop, IsNotFound};
 ghost use Rattle.client_session.specs.Keeping.{IsShown, KeepsAround, TellsAnswer};
 ghost use Rattle.client_session.specs.Ready.{IsReady};
-ghost use Rattle.client_session.specs.Requests.{IsNewBody, continue_for, mounted_at, visit_of};
+ghost use Rattle.client_session.specs.Requests.{IsNewBody, continue_for, mounted_at, visit_in, visit_of};
 ghost use Rattle.client_session.specs.Standings.{Puts, client_at};
 ghost use Rattle.client_session.specs.Surroundings.{IsAnswered, IsAnsweredAt, ForwardsTo, standing_of};
 ghost use Rattle.client_session.specs.Turns.{GoesOn};
@@ -18,7 +18,7 @@ ghost use Rattle.client_session.specs.Writing.{BreaksOff, WritesPart};
 
 use crate::concluding::{conclude, conclude_stop};
 use crate::ending::SessionStop;
-use crate::inquiry::Inquiry;
+use crate::inquiry::{Inquiry, own_kind_of};
 use crate::requests::{awaits_continue, is_head};
 use crate::rows::Row;
 use crate::status::serve_status;
@@ -78,13 +78,19 @@ fn request_at<'a>(of: &Inquiry<'a, 'a>, lb: u32) -> Request<'a>
     ensures session { result.session ≡ of.now.site.now.session }
     ensures lb { result.lb ≡ lb }
     ensures balancer { slice_get of.now.site.now.cfg.now.lbs lb ≡ Some result.balancer.now }
-    ensures errand { errand_of result ≡ errand_at (visit_of of.now.site.now) of.now.head.now of.now.last lb result.balancer.now }
+    ensures errand { errand_of result ≡ errand_at (visit_in of.now) of.now.head.now of.now.last lb result.balancer.now }
 {
-    let Inquiry { site, head, last } = *of;
+    let Inquiry {
+        site,
+        head,
+        last,
+        date,
+    } = *of;
     Request {
         head,
         peer: site.peer,
         last,
+        date,
         session: site.session,
         lb,
         balancer: &site.cfg.lbs.as_slice()[lb as usize],
@@ -135,7 +141,7 @@ fn forward<B: Desk, R: Reach, C: Link, K: Clock>(
 where
     B::Mark: Drop,
     requires ready { IsReady (visit_of of.now.site.now) (B.state around.old.desk.now) (R.beside around.old.reach.now) }
-    requires mounted { mounted_at (visit_of of.now.site.now) of.now.head.now ≡ Some (named_is.Balancer lb) }
+    requires mounted { mounted_at (visit_in of.now) of.now.head.now ≡ Some (named_is.Balancer lb) }
     requires worker { lb < length of.now.site.now.cfg.now.lbs }
     requires fresh { IsNewBody of.now.head.now.plan body.old }
     requires room { HasRoom of.now.site.now.cfg.now (named_is.Balancer lb) of.now.head.now row }
@@ -181,7 +187,7 @@ where
     B::Mark: Drop,
     B::Shown: Drop,
     requires ready { IsReady (visit_of of.now.site.now) (B.state around.old.desk.now) (R.beside around.old.reach.now) }
-    requires mounted { mounted_at (visit_of of.now.site.now) of.now.head.now ≡ Some (named_is.Status place) }
+    requires mounted { mounted_at (visit_in of.now) of.now.head.now ≡ Some (named_is.Status place) }
     requires worker { place < length of.now.site.now.cfg.now.statuses }
     requires room { HasRoom of.now.site.now.cfg.now (named_is.Status place) of.now.head.now row }
     ensures answer { (body : AnyBody) → let at = standing_of B.state K.answers R.Meanings C.Meanings in
@@ -207,7 +213,7 @@ where
     B::Mark: Drop,
     B::Shown: Drop,
     requires ready { IsReady (visit_of of.now.site.now) (B.state around.old.desk.now) (R.beside around.old.reach.now) }
-    requires mounted { mounted_at (visit_of of.now.site.now) of.now.head.now ≡ Some worker }
+    requires mounted { mounted_at (visit_in of.now) of.now.head.now ≡ Some worker }
     requires worker { is_worker of.now.site.now.cfg.now worker ≡ true }
     requires fresh { IsNewBody of.now.head.now.plan body.old }
     requires room { HasRoom of.now.site.now.cfg.now worker of.now.head.now row }
@@ -255,14 +261,18 @@ fn begin<C: Sink>(
 }
 
 /// Answers a request that is mounted nowhere.
-fn not_found<C: Sink>(alloc: Global, head: &Head, client: &mut C) -> Settled
-    ensures answer { IsNotFound head.now (client_at C.Meanings client.old) (client_at C.Meanings client.new) result }
+fn not_found<C: Sink>(alloc: Global, of: &Inquiry, client: &mut C) -> Settled
+    ensures answer { IsNotFound (visit_in of.now) of.now.head.now (client_at C.Meanings client.old) (client_at C.Meanings client.new) result }
     ensures beside { C.beside client.new ≡ C.beside client.old }
 {
-    let Ok(row) = Row::of(alloc, head, 0) else {
+    let Ok(row) = Row::of(alloc, of.head, 0) else {
         return stopped(SessionStop::NoMemory);
     };
-    conclude_stop(write_own(404, is_head(head), client), is_head(head), row)
+    conclude_stop(
+        write_own(404, own_kind_of(of), client),
+        is_head(of.head),
+        row,
+    )
 }
 
 /// Answers a request that was read.
@@ -284,7 +294,7 @@ where
     ensures kept { KeepsAround B.state R.Meanings C.Meanings (visit_of of.now.site.now) around.old around.new }
 {
     let Some(worker) = of.site.map.mount(of.head.clean.as_slice()) else {
-        return not_found(alloc, of.head, around.client);
+        return not_found(alloc, of, around.client);
     };
     match begin(alloc, of.site.cfg, worker, of.head, around.client) {
         Ok(row) => answer_at(alloc, of, worker, row, body, around),

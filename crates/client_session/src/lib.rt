@@ -14,6 +14,7 @@ mod answering;
 mod concluding;
 mod ending;
 mod inquiry;
+mod moments;
 mod requests;
 mod rows;
 mod serving;

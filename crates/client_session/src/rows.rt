@@ -6,7 +6,7 @@ ghost use Rattle.client_session.specs.Answers.{own_len as own_length};
 ghost use Rattle.client_session.specs.Rows.{IsRowOf, own_row_by, worker_row};
 
 use http_front::Head;
-use http_out::own_answer;
+use http_out::own_body;
 use jk_io::{Bytes, NoMemory};
 use jk_model::{Asked, Served};
 use std::alloc::Global;
@@ -19,7 +19,7 @@ fn own_len(status: u16, head_only: bool) -> u64
     if head_only {
         return 0;
     }
-    (own_answer(status, false).len() - own_answer(status, true).len()) as u64
+    own_body(status).len() as u64
 }
 
 /// A row under way: what was asked for, and memory for the worker's name.

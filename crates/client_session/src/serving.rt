@@ -5,15 +5,16 @@ ghost use Rattle.client_session.specs.Concluding.{rows_of};
 ghost use Rattle.client_session.specs.Finishing.{Finishes, RefusesHead, StopsWithoutHead, TurnsAfter, stop_after};
 ghost use Rattle.client_session.specs.Keeping.{KeepsAround, TellsEnd, TellsTurn};
 ghost use Rattle.client_session.specs.Ready.{IsReady};
-ghost use Rattle.client_session.specs.Requests.{visit_of};
+ghost use Rattle.client_session.specs.Requests.{refused_kind as refused_kind_of, visit_of};
 ghost use Rattle.client_session.specs.Standings.{client_at};
-ghost use Rattle.client_session.specs.Surroundings.{AddsSession, TurnsFrom, standing_of};
-ghost use Rattle.client_session.specs.Turns.{IsBusy, Turns};
+ghost use Rattle.client_session.specs.Surroundings.{AddsSession, TurnsFrom, TurnsNow, standing_of};
+ghost use Rattle.client_session.specs.Turns.{IsBusy};
 ghost use Rattle.client_session.specs.Whole.{HoldsOfEach, IsWholeSession};
 
 use crate::answering::answer;
 use crate::ending::{SessionEnd, SessionStop, Why};
 use crate::inquiry::Inquiry;
+use crate::moments::moment_of;
 use crate::requests::{MAX_REQUESTS, is_last};
 use crate::rows::Row;
 use crate::session_site::SessionSite;
@@ -23,6 +24,8 @@ use crate::writing::write_own;
 use balancer_core::Desk;
 use http_body_in::{BodyFault, BodyIn};
 use http_front::{Form, Head, HeadError, HeadGot, Inbox, MAX_BODY_BYTES, read_head};
+use http_out::OwnKind;
+use httpdate::HttpDate;
 use jk_io::{Awaited, Clock, Link, Reach, Sink};
 use jk_model::{NoRows, RowSink, Served};
 use std::alloc::Global;
@@ -103,33 +106,50 @@ where
     ensures told { TellsTurn B.state C.Meanings result around.old around.new }
     ensures kept { KeepsAround B.state R.Meanings C.Meanings (visit_of site.now) around.old around.new }
 {
+    let date = moment_of(site.dated, around.clock);
     let mut body = BodyIn::new(head.plan, MAX_BODY_BYTES);
     let Ok(()) = rows.room() else {
         return SessionTurn::EndsAt(SessionStop::NoMemory);
     };
     let last = is_last(number, head);
-    let of = Inquiry { site, head, last };
+    let of = Inquiry {
+        site,
+        head,
+        last,
+        date,
+    };
     let Settled { answered, row } = answer(alloc, &of, &mut body, around);
     put_row(rows, row);
     turn_after(answered, last, &mut body, around.inbox, around.client)
 }
 
+/// What decides the bytes of the own answer to a refused head.
+fn refused_kind(date: Option<HttpDate>) -> OwnKind
+    ensures { result ≡ refused_kind_of date }
+{
+    OwnKind {
+        head_only: false,
+        date,
+    }
+}
+
 /// Answers a refused head.
 fn refuse<C: Sink, W: RowSink>(
     alloc: Global,
+    date: Option<HttpDate>,
     form: Form,
     client: &mut C,
     rows: &mut W,
 ) -> SessionStop
     ensures refused { let see = client_at C.Meanings in
-        RefusesHead form (see client.old) (see client.new) (λ gained. W.gained rows.old gained rows.new) result }
+        RefusesHead date form (see client.old) (see client.new) (λ gained. W.gained rows.old gained rows.new) result }
     ensures beside { C.beside client.new ≡ C.beside client.old }
 {
     let Ok(()) = rows.room() else {
         return SessionStop::NoMemory;
     };
     let status = form.status();
-    let stop = write_own(status, false, client);
+    let stop = write_own(status, refused_kind(date), client);
     if let SessionStop::Closed(_) = stop {
         rows.put(Row::refused(alloc).own(status, false));
     }
@@ -139,16 +159,17 @@ fn refuse<C: Sink, W: RowSink>(
 /// Why the session ends where no head was read; a refused one is answered.
 fn stop_without_head<C: Sink, W: RowSink>(
     alloc: Global,
+    date: Option<HttpDate>,
     error: HeadError,
     client: &mut C,
     rows: &mut W,
 ) -> SessionStop
     ensures stops { let see = client_at C.Meanings in
-        StopsWithoutHead error (see client.old) (see client.new) (λ gained. W.gained rows.old gained rows.new) result }
+        StopsWithoutHead date error (see client.old) (see client.new) (λ gained. W.gained rows.old gained rows.new) result }
     ensures beside { C.beside client.new ≡ C.beside client.old }
 {
     match error {
-        HeadError::Refused { status: _, form } => refuse(alloc, form, client, rows),
+        HeadError::Refused { status: _, form } => refuse(alloc, date, form, client, rows),
         HeadError::Truncated => SessionStop::Truncated,
         HeadError::Fault => SessionStop::ClientFault,
         HeadError::NoMemory => SessionStop::NoMemory,
@@ -169,7 +190,7 @@ where
     requires ready { IsReady (visit_of site.now) (B.state around.old.desk.now) (R.beside around.old.reach.now) }
     requires number { number < MAX_REQUESTS }
     ensures turn { let at = standing_of B.state K.answers R.Meanings C.Meanings in
-        Turns (visit_of site.now) number (at around.old) (at around.new) (λ gained. W.gained rows.old gained rows.new) result }
+        TurnsNow (visit_of site.now) number (at around.old) (at around.new) (λ gained. W.gained rows.old gained rows.new) result }
     ensures more { result ≡ SessionTurn.Next → number + 1 < MAX_REQUESTS }
     ensures busy { IsBusy result }
     ensures told { TellsTurn B.state C.Meanings result around.old around.new }
@@ -179,7 +200,10 @@ where
     match read_head(alloc, around.inbox, around.client) {
         Ok(HeadGot::Head(head)) => serve_head(alloc, site, &head, number, around, rows),
         Ok(HeadGot::End) => SessionTurn::EndsAt(SessionStop::Closed(Why::ByClient)),
-        Err(error) => SessionTurn::EndsAt(stop_without_head(alloc, error, around.client, rows)),
+        Err(error) => {
+            let date = moment_of(site.dated, around.clock);
+            SessionTurn::EndsAt(stop_without_head(alloc, date, error, around.client, rows))
+        }
     }
 }
 

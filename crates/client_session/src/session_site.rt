@@ -12,4 +12,6 @@ pub struct SessionSite<'a> {
     /// The number of the worker.
     pub session: u32,
     pub peer: &'a Peer,
+    /// Answers tell their moment, where the container tells none.
+    pub dated: bool,
 }

@@ -9,8 +9,7 @@ ghost use Rattle.client_session.specs.Standings.{client_at};
 ghost use Rattle.client_session.specs.Surroundings.{SendsPage, Shows, standing_of};
 
 use crate::ending::SessionStop;
-use crate::inquiry::Inquiry;
-use crate::requests::is_head;
+use crate::inquiry::{Inquiry, kind_of, own_kind_of};
 use crate::surroundings::Sitting;
 use crate::writing::{send, write_own};
 use balancer_core::Desk;
@@ -43,7 +42,7 @@ where
     };
     match change(alloc, &asked, around.desk, around.clock) {
         Ok(only) => send_page(alloc, of, status, only, around.desk, around.client),
-        Err(NoPage::Own(code)) => Err(write_own(code, is_head(of.head), around.client)),
+        Err(NoPage::Own(code)) => Err(write_own(code, own_kind_of(of), around.client)),
         Err(NoPage::NoMemory) => Err(SessionStop::NoMemory),
     }
 }
@@ -72,7 +71,7 @@ where
         status,
         query: &of.head.query,
     };
-    let Ok(page) = page_at(alloc, &asked, only, is_head(of.head), of.last, desk) else {
+    let Ok(page) = page_at(alloc, &asked, only, kind_of(of), desk) else {
         return Err(SessionStop::NoMemory);
     };
     match send(page.reply.as_slice(), client) {

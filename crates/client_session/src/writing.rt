@@ -6,7 +6,7 @@ ghost use Rattle.client_session.specs.Writing.{WritesOwn, WritesPart, stop_by};
 
 use crate::ending::{SessionStop, Why};
 use exchange::deliver;
-use http_out::own_answer;
+use http_out::{OwnKind, own_answer};
 use jk_io::{IoError, Sink};
 
 /// Why a write to the client ended the session.
@@ -31,12 +31,12 @@ pub(crate) fn send<C: Sink>(bytes: &[u8], client: &mut C) -> Result<(), SessionS
 }
 
 /// Writes the answer with this status, after which the session ends.
-pub(crate) fn write_own<C: Sink>(status: u16, head_only: bool, client: &mut C) -> SessionStop
+pub(crate) fn write_own<C: Sink>(status: u16, kind: OwnKind, client: &mut C) -> SessionStop
     requires { IsSome (own_of status) }
-    ensures own { WritesOwn status head_only (client_at C.Meanings client.old) (client_at C.Meanings client.new) result }
+    ensures own { WritesOwn status kind (client_at C.Meanings client.old) (client_at C.Meanings client.new) result }
     ensures beside { C.beside client.new ≡ C.beside client.old }
 {
-    match deliver(client, own_answer(status, head_only)) {
+    match deliver(client, own_answer(status, kind).as_slice()) {
         Ok(()) => SessionStop::Closed(Why::Own(status)),
         Err(error) => stop_of(error),
     }

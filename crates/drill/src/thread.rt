@@ -45,6 +45,7 @@ where
         map: &post.site.map,
         session: post.number,
         peer: post.peer,
+        dated: false,
     };
     let mut around = Surroundings {
         desk,

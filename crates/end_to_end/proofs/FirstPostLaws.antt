@@ -280,7 +280,7 @@ container app ping old size open_to_all = record {
 -- ---- the connector's end
 
 abbrev kind : RequestKind
-kind = record { old = false; head_only = false; last = false }
+kind = record { old = false; head_only = false; last = false; date = None }
 
 talk_moment : BodyIn → Moment → List ℕ → TalkMoment
 talk_moment body line sent = record {

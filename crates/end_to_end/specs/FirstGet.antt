@@ -47,6 +47,7 @@ first_errand session lb balancer terms = record {
   head = first_head;
   peer = codes "127.0.0.1";
   last = false;
+  date = None;
   session = session;
   lb = lb;
   balancer = balancer;

@@ -50,6 +50,7 @@ post_errand session lb balancer terms = record {
   head = post_head;
   peer = codes "127.0.0.1";
   last = false;
+  date = None;
   session = session;
   lb = lb;
   balancer = balancer;

@@ -99,7 +99,7 @@ pub record IsDoneWith (app : AppConfig) (q : Errand) (member : MemberConfig) (en
   pub answered : IsTrue (not (drops (application_of app f)))
 
 abbrev pub kind_for : Errand → RequestKind
-kind_for q = record { old = q.head.old; head_only = is_head q.head; last = q.last }
+kind_for q = record { old = q.head.old; head_only = is_head q.head; last = q.last; date = q.date }
 
 -- the client's bytes for a whole list of a container's messages, the oldest first
 abbrev pub reply_for : Errand → List Message → List ℕ

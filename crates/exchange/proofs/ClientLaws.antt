@@ -35,7 +35,7 @@ use Rattle.exchange.specs.Deliveries.{PutsShort}
 use Rattle.exchange.specs.Exchanges.{BreaksOwn, EndsIn, HasReply, IsExchange, IsLast, IsOwnCause, LostClient, WantsOwn, WritesOwn, begun_with}
 use Rattle.exchange.specs.FirstPiece.{IsFirstFailure}
 use Rattle.exchange.specs.OneTalk.{Around, IsHeld, IsOneTalk, keeps, no_link, plan_on}
-use Rattle.exchange.specs.Requests.{Errand, is_head, plan_for}
+use Rattle.exchange.specs.Requests.{Errand, own_kind, plan_for}
 use Rattle.exchange.specs.Rounds.{Round, Scene, is_later}
 use Rattle.exchange.specs.Talks.{HasRun}
 use Rattle.exchange.specs.declared.ending.ExchangeEnd.{ExchangeEnd}
@@ -315,12 +315,12 @@ long_before q first s b n status early (inr limit) is =
 -- ---- by the end
 
 whole_own : (q : Errand) (before now : Option (List ℕ)) (status : ℕ) (own : Own) → own_of status ≡ Some own
-    → IfSome (own_of status) (λ own. now ≡ appended before (own_bytes own (is_head q.head))) → now ≡ appended before (own_bytes own (is_head q.head))
-whole_own q before now status own is written = subst (λ (o : Option Own). IfSome o (λ x. now ≡ appended before (own_bytes x (is_head q.head)))) is written
+    → IfSome (own_of status) (λ own. now ≡ appended before (own_bytes own (own_kind q))) → now ≡ appended before (own_bytes own (own_kind q))
+whole_own q before now status own is written = subst (λ (o : Option Own). IfSome o (λ x. now ≡ appended before (own_bytes x (own_kind q)))) is written
 
 front_own : (q : Errand) (before now : Option (List ℕ)) (status : ℕ) (own : Own) → own_of status ≡ Some own
-    → IfSome (own_of status) (λ own. PutsFront before now (own_bytes own (is_head q.head))) → PutsFront before now (own_bytes own (is_head q.head))
-front_own q before now status own is written = subst (λ (o : Option Own). IfSome o (λ x. PutsFront before now (own_bytes x (is_head q.head)))) is written
+    → IfSome (own_of status) (λ own. PutsFront before now (own_bytes own (own_kind q))) → PutsFront before now (own_bytes own (own_kind q))
+front_own q before now status own is written = subst (λ (o : Option Own). IfSome o (λ x. PutsFront before now (own_bytes x (own_kind q)))) is written
 
 not_failed_by : (b : Bool) (status other : ℕ) → status ≡ (if b then 503 else 502) → status ≡ other → other < 500 → ⊥
 not_failed_by true status other is known small = omega (arith, is, known, small)
@@ -418,8 +418,8 @@ gets_broken q first s past a m n status own is early cause breaks =
     }))
 
 short_own : (q : Errand) (before now : Option (List ℕ)) (status : ℕ) (own : Own) → own_of status ≡ Some own
-    → IfSome (own_of status) (λ own. PutsShort before now (own_bytes own (is_head q.head))) → PutsShort before now (own_bytes own (is_head q.head))
-short_own q before now status own is written = subst (λ (o : Option Own). IfSome o (λ x. PutsShort before now (own_bytes x (is_head q.head)))) is written
+    → IfSome (own_of status) (λ own. PutsShort before now (own_bytes own (own_kind q))) → PutsShort before now (own_bytes own (own_kind q))
+short_own q before now status own is written = subst (λ (o : Option Own). IfSome o (λ x. PutsShort before now (own_bytes x (own_kind q)))) is written
 
 short_on : (s m n : Option (List ℕ)) (bytes : List ℕ) → m ≡ s → PutsShort m n bytes → PutsShort s n bytes
 unfolding front_on

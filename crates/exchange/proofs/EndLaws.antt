@@ -6,7 +6,7 @@ use Rattle.ajp_talk.specs.declared.ending.TalkEnd.TheVariants as ends
 use Rattle.ajp_talk.specs.declared.ending.Told.{Told}
 use Rattle.exchange.specs.Ends.{status_for}
 use Rattle.exchange.specs.Exchanges.{EndsIn, IsLast, IsOwnAfter, IsOwnCause, WritesOwn}
-use Rattle.exchange.specs.Requests.{Errand, allows, is_head}
+use Rattle.exchange.specs.Requests.{Errand, allows, own_kind}
 use Rattle.exchange.specs.Rounds.{MayGoOn, Round, Scene, is_later, tried_in}
 use Rattle.exchange.specs.Steps.{Concludes, IsNoChoice, IsStep, IsWritten, after_failure, verdict_for}
 use Rattle.exchange.specs.declared.ending.ExchangeEnd.{ExchangeEnd}
@@ -130,7 +130,7 @@ step_end q first past s m end (inr (inr (r, stray, round, is))) =
 -- ---- both
 
 written_end : (q : Errand) (first : List ℕ) (past : List Round) (s m n : Scene) (status : ℕ) (end : ExchangeEnd) → IsOwnCause q first past s m status
-    → n ≡ record m { around = record m.around { client = n.around.client } } → m.around.client.faults ≤ n.around.client.faults → IsWritten status (is_head q.head) m.around.client n.around.client end
+    → n ≡ record m { around = record m.around { client = n.around.client } } → m.around.client.faults ≤ n.around.client.faults → IsWritten status (own_kind q) m.around.client n.around.client end
     → EndsIn q first past s m n end
 written_end q first past s m n status (exchange_end.Done member told) cause rest no_fewer written = absurd written
 written_end q first past s m n status (exchange_end.Own other) cause rest no_fewer written =
@@ -145,7 +145,7 @@ written_end q first past s m n status exchange_end.NoMemory cause rest no_fewer 
     inr (inr (status, cause, record { written = written.0; steady = written.1; rest = rest }))
 
 pub ends_in : (q : Errand) (first : List ℕ) (past : List Round) (s m n : Scene) (v : RoundVerdict) (end : ExchangeEnd)
-    → IsStep q first (tried_in past) (is_later past) s m v → Concludes (is_head q.head) v m n end → EndsIn q first past s m n end
+    → IsStep q first (tried_in past) (is_later past) s m v → Concludes (own_kind q) v m n end → EndsIn q first past s m n end
 ends_in q first past s m n (verdict.Again member) end step concluded = absurd concluded
 ends_in q first past s m n (verdict.Answer status) end step concluded =
     written_end q first past s m n status end (own_cause q first past s m status step) concluded.0 concluded.1 concluded.2

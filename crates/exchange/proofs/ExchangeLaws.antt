@@ -19,7 +19,7 @@ use Rattle.site_config.specs.declared.endpoint.Endpoint.{Endpoint}
 use Rattle.exchange.specs.Exchanges.{GoesThrough, IsCalm, IsExchange, begun_with}
 use Rattle.exchange.specs.FirstPiece.{IsFirstFailure, TakesFirst}
 use Rattle.exchange.specs.OneTalk.{Around}
-use Rattle.exchange.specs.Requests.{Errand, ask_for, is_head, plan_for}
+use Rattle.exchange.specs.Requests.{Errand, ask_for, own_kind, plan_for}
 use Rattle.exchange.specs.Rounds.{HaveGoneOn, IsRound, MayGoOn, Round, Scene, is_later, tried_in}
 use Rattle.exchange.specs.Steps.{Concludes, IsNoChoice, IsStep, IsWritten}
 use Rattle.exchange.specs.Talks.{HasRun, is_fresh}
@@ -116,7 +116,7 @@ searches_on q first s n m ask next fresh member way step is =
     }
 
 pub goes_through : (q : Errand) (first : List ℕ) (b n m e : Scene) (ask : Ask) (fresh : Bool) (v : RoundVerdict) (end : ExchangeEnd)
-    → IsSearching q first b n ask fresh → IsStep q first ask.tried fresh n m v → Concludes (is_head q.head) v m e end → GoesThrough q first b e end
+    → IsSearching q first b n ask fresh → IsStep q first ask.tried fresh n m v → Concludes (own_kind q) v m e end → GoesThrough q first b e end
 goes_through q first b n m e ask fresh v end way step concluded = record {
   past = way.past;
   asked = n;
@@ -143,7 +143,7 @@ never_began q s n end why desk clock talks faults written steady used =
 
 pub goes_own : (q : Errand) (first : List ℕ) (b n m : Scene) (ask : Ask) (fresh : Bool) (status : ℕ) (client : Moment) (body : BodyAt) (end : ExchangeEnd)
     → IsSearching q first b n ask fresh → IsStep q first ask.tried fresh n m (verdict.Answer status) → body ≡ m.around.body → m.around.client.faults ≤ client.faults
-    → IsWritten status (is_head q.head) m.around.client client end → GoesThrough q first b (record m { around = record m.around { client = client; body = body } }) end
+    → IsWritten status (own_kind q) m.around.client client end → GoesThrough q first b (record m { around = record m.around { client = client; body = body } }) end
 goes_own q first b n m ask fresh status client body end way step same no_fewer written =
     let with : BodyAt → Scene = λ x. record m { around = record m.around { client = client; body = x } } in
     goes_through q first b n m (with body) ask fresh (verdict.Answer status) end way step (ap with same, no_fewer, written)

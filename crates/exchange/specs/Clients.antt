@@ -31,7 +31,7 @@ use Rattle.site_config.specs.declared.endpoint.Endpoint.{Endpoint}
 use Rattle.exchange.specs.Deliveries.{PutsShort}
 use Rattle.exchange.specs.Ends.{is_status}
 use Rattle.exchange.specs.OneTalk.{Around, IsHeld, IsOneTalk, plan_on}
-use Rattle.exchange.specs.Requests.{Errand, allows, is_head, plan_for}
+use Rattle.exchange.specs.Requests.{Errand, allows, own_kind, plan_for}
 use Rattle.exchange.specs.Rounds.{IsRound, Round, Scene}
 use Rattle.exchange.specs.declared.ending.ExchangeEnd.{ExchangeEnd}
 use Rattle.exchange.specs.declared.ending.ExchangeEnd.TheVariants as exchange_end
@@ -123,14 +123,14 @@ pub record GetsOwnFront (q : Errand) (s n : Around) : Type 0 where
   pub status : ℕ
   pub own : Own
   pub is_own : own_of status ≡ Some own
-  pub written : PutsFront s.client.sent n.client.sent (own_bytes own (is_head q.head))
+  pub written : PutsFront s.client.sent n.client.sent (own_bytes own (own_kind q))
 
 -- Not all of one was.
 pub record GetsOwnShort (q : Errand) (s n : Around) : Type 0 where
   pub status : ℕ
   pub own : Own
   pub is_own : own_of status ≡ Some own
-  pub written : PutsShort s.client.sent n.client.sent (own_bytes own (is_head q.head))
+  pub written : PutsShort s.client.sent n.client.sent (own_bytes own (own_kind q))
 
 -- Nothing was written, or a front of what the client was to get.
 abbrev pub GetsFront : Errand → Around → Around → Type 0
@@ -192,7 +192,7 @@ pub record MeetsBody (q : Errand) (s n : Around) (status : ℕ) : Type 0 where
 pub record GetsOwn (q : Errand) (status : ℕ) (s n : Scene) : Type 0 where
   pub own : Own
   pub is_own : own_of status ≡ Some own
-  pub written : n.around.client.sent ≡ appended s.around.client.sent (own_bytes own (is_head q.head))
+  pub written : n.around.client.sent ≡ appended s.around.client.sent (own_bytes own (own_kind q))
   pub bad_line : status ≡ 400
       → MeetsBody q s.around n.around 400 × IfSome (data_at s.around.body) (λ d. (d.whole ≡ false) × (d.bad ≡ true))
   pub too_large : status ≡ 413 → IsTooLarge q n ⊎ (MeetsBody q s.around n.around 413

@@ -14,7 +14,7 @@ use Rattle.http_out.specs.Own.{own_bytes, own_of}
 use Rattle.exchange.specs.Deliveries.{PutsShort}
 use Rattle.exchange.specs.Ends.{status_for}
 use Rattle.exchange.specs.FirstPiece.{IsFirstFailure, TakesFirst}
-use Rattle.exchange.specs.Requests.{Errand, allows, is_head}
+use Rattle.exchange.specs.Requests.{Errand, allows, own_kind}
 use Rattle.exchange.specs.Rounds.{FindsNone, HasEnded, HaveGoneOn, IsForced, IsFull, IsRound, IsUnchosen, Round, Scene, WantsMemory, is_later, tried_in}
 use Rattle.exchange.specs.declared.ending.ExchangeEnd.{ExchangeEnd}
 use Rattle.exchange.specs.declared.ending.ExchangeEnd.TheVariants as exchange_end
@@ -68,19 +68,19 @@ IsOwnCause q first past s n status =
 
 -- the answer with this status was written whole and went out, no call failed, and nothing else was done
 pub record WritesOwn (q : Errand) (s n : Scene) (status : ℕ) : Type 0 where
-  pub written : IfSome (own_of status) (λ own. n.around.client.sent ≡ appended s.around.client.sent (own_bytes own (is_head q.head)))
+  pub written : IfSome (own_of status) (λ own. n.around.client.sent ≡ appended s.around.client.sent (own_bytes own (own_kind q)))
   pub steady : n.around.client.faults ≡ s.around.client.faults
   pub rest : n ≡ record s { around = record s.around { client = n.around.client } }
 
 -- a front of it was written, and nothing else was done
 pub record BreaksOwn (q : Errand) (s n : Scene) (status : ℕ) : Type 0 where
-  pub written : IfSome (own_of status) (λ own. PutsFront s.around.client.sent n.around.client.sent (own_bytes own (is_head q.head)))
+  pub written : IfSome (own_of status) (λ own. PutsFront s.around.client.sent n.around.client.sent (own_bytes own (own_kind q)))
   pub no_fewer : s.around.client.faults ≤ n.around.client.faults
   pub rest : n ≡ record s { around = record s.around { client = n.around.client } }
 
 -- memory was wanted before all of it was written, no call failed, and nothing else was done
 pub record WantsOwn (q : Errand) (s n : Scene) (status : ℕ) : Type 0 where
-  pub written : IfSome (own_of status) (λ own. PutsShort s.around.client.sent n.around.client.sent (own_bytes own (is_head q.head)))
+  pub written : IfSome (own_of status) (λ own. PutsShort s.around.client.sent n.around.client.sent (own_bytes own (own_kind q)))
   pub steady : n.around.client.faults ≡ s.around.client.faults
   pub rest : n ≡ record s { around = record s.around { client = n.around.client } }
 

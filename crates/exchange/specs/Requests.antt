@@ -6,6 +6,8 @@ use Rattle.forwarding.specs.FirstPiece.{piece_for}
 use Rattle.ajp_request.specs.declared.forward.Forward.{Forward}
 use Rattle.forwarding.specs.Forwards.{forward_for, packet_for}
 use Rattle.http_front.specs.declared.head.Head.{Head}
+use Rattle.http_out.specs.declared.own_answers.OwnKind.{OwnKind}
+use Rattle.httpdate.specs.declared.date.HttpDate.{HttpDate}
 use Rattle.jk_io.specs.declared.traits.surroundings.Peer.{Peer}
 use Rattle.jk_model.specs.declared.ask.Ask.{Ask}
 use Rattle.jk_model.specs.declared.member.MemberConfig.{MemberConfig}
@@ -26,16 +28,18 @@ pub record Errand : Type 0 where
   pub head : Head
   pub peer : List ℕ
   pub last : Bool
+  pub date : Option HttpDate
   pub session : ℕ
   pub lb : ℕ
   pub balancer : Lb
   pub terms : Terms
 
-abbrev pub errand : Head → Peer → (last : Bool) → (session lb : ℕ) → Terms → Lb → Errand
-errand head peer last session lb terms balancer = record {
+abbrev pub errand : Head → Peer → (last : Bool) → Option HttpDate → (session lb : ℕ) → Terms → Lb → Errand
+errand head peer last date session lb terms balancer = record {
   head = head;
   peer = peer.addr;
   last = last;
+  date = date;
   session = session;
   lb = lb;
   balancer = balancer;
@@ -43,7 +47,7 @@ errand head peer last session lb terms balancer = record {
 }
 
 abbrev pub errand_of : Request → Errand
-errand_of q = errand q.head.now q.peer.now q.last q.session q.lb q.terms q.balancer.now
+errand_of q = errand q.head.now q.peer.now q.last q.date q.session q.lb q.terms q.balancer.now
 
 -- P of the balancer at this place
 abbrev pub AtPlace : List Lb → (lb : ℕ) → (Lb → Type 0) → Type 0
@@ -58,6 +62,10 @@ is_get head = bytes_eq head.method (codes "GET")
 
 abbrev pub is_head : Head → Bool
 is_head head = bytes_eq head.method (codes "HEAD")
+
+-- what decides the bytes of an own answer to it
+abbrev pub own_kind : Errand → OwnKind
+own_kind q = record { head_only = is_head q.head; date = q.date }
 
 -- its method, as far as a member's options speak of one
 abbrev pub method_of : Head → MethodKind
@@ -102,6 +110,7 @@ plan_for q first member endpoint = record {
   old = q.head.old;
   head_only = is_head q.head;
   last = q.last;
+  date = q.date;
   close_on_client = is_on endpoint.recovery CloseWithClient;
   fail_on = endpoint.fail_on;
   limits = record { pong = 0; reply = reply_limit q.terms.reply_timeout endpoint.limits };

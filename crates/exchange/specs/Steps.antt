@@ -14,6 +14,7 @@ use Rattle.ajp_talk.specs.declared.ending.TalkEnd.TheVariants as ends
 use Rattle.ajp_talk.specs.declared.ending.Told.{Told}
 use Rattle.http_front.specs.declared.head.Head.{Head}
 use Rattle.http_out.specs.Own.{own_bytes, own_of}
+use Rattle.http_out.specs.declared.own_answers.OwnKind.{OwnKind}
 use Rattle.site_config.specs.declared.endpoint.Endpoint.{Endpoint}
 use Rattle.exchange.specs.Deliveries.{PutsShort}
 use Rattle.exchange.specs.Ends.{outcome_for, status_for}
@@ -93,22 +94,22 @@ IsStep q first tried fresh s n v =
 
 -- An own answer was written whole and went out, and no call failed; or a front of it was, where the client failed; or not all
 -- of it, where memory was wanted.
-abbrev pub IsWritten : (status : ℕ) → (head_only : Bool) → Moment → Moment → ExchangeEnd → Type 0
-IsWritten status head_only s n (exchange_end.Done member told) = ⊥
-IsWritten status head_only s n (exchange_end.Own written) =
-    (written ≡ status) × IfSome (own_of status) (λ own. n.sent ≡ appended s.sent (own_bytes own head_only)) × (n.faults ≡ s.faults)
-IsWritten status head_only s n (exchange_end.Cut member told) = ⊥
-IsWritten status head_only s n exchange_end.ClientFault =
-    Rose s.faults n.faults × IfSome (own_of status) (λ own. PutsFront s.sent n.sent (own_bytes own head_only))
-IsWritten status head_only s n exchange_end.Truncated = ⊥
-IsWritten status head_only s n (exchange_end.Stray ticket returned_at) = ⊥
-IsWritten status head_only s n exchange_end.NoMemory =
-    IfSome (own_of status) (λ own. PutsShort s.sent n.sent (own_bytes own head_only)) × (n.faults ≡ s.faults)
+abbrev pub IsWritten : (status : ℕ) → OwnKind → Moment → Moment → ExchangeEnd → Type 0
+IsWritten status kind s n (exchange_end.Done member told) = ⊥
+IsWritten status kind s n (exchange_end.Own written) =
+    (written ≡ status) × IfSome (own_of status) (λ own. n.sent ≡ appended s.sent (own_bytes own kind)) × (n.faults ≡ s.faults)
+IsWritten status kind s n (exchange_end.Cut member told) = ⊥
+IsWritten status kind s n exchange_end.ClientFault =
+    Rose s.faults n.faults × IfSome (own_of status) (λ own. PutsFront s.sent n.sent (own_bytes own kind))
+IsWritten status kind s n exchange_end.Truncated = ⊥
+IsWritten status kind s n (exchange_end.Stray ticket returned_at) = ⊥
+IsWritten status kind s n exchange_end.NoMemory =
+    IfSome (own_of status) (λ own. PutsShort s.sent n.sent (own_bytes own kind)) × (n.faults ≡ s.faults)
 
 -- The last round's verdict: the answer is written, and nothing else done; or the exchange ended with the round.
-abbrev pub Concludes : (head_only : Bool) → RoundVerdict → Scene → Scene → ExchangeEnd → Type 0
-Concludes head_only (verdict.Again member) s n end = ⊥
-Concludes head_only (verdict.Answer status) s n end =
+abbrev pub Concludes : OwnKind → RoundVerdict → Scene → Scene → ExchangeEnd → Type 0
+Concludes kind (verdict.Again member) s n end = ⊥
+Concludes kind (verdict.Answer status) s n end =
     (n ≡ record s { around = record s.around { client = n.around.client } }) × (s.around.client.faults ≤ n.around.client.faults)
-    × IsWritten status head_only s.around.client n.around.client end
-Concludes head_only (verdict.End ended) s n end = (end ≡ ended) × (n ≡ s)
+    × IsWritten status kind s.around.client n.around.client end
+Concludes kind (verdict.End ended) s n end = (end ≡ ended) × (n ≡ s)

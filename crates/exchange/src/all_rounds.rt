@@ -6,9 +6,8 @@ ghost use Rattle.exchange.specs.Means.{scene_of};
 ghost use Rattle.exchange.specs.Requests.{ask_for, errand_of};
 
 use crate::ending::{ExchangeEnd, RoundVerdict};
-use crate::methods::is_head;
 use crate::own::write_own;
-use crate::request::Request;
+use crate::request::{Request, own_kind};
 use crate::rounds::one_round;
 use crate::sides::Means;
 use crate::tried::with_member;
@@ -43,7 +42,7 @@ where
                 fresh = true;
             }
             RoundVerdict::Answer(status) => {
-                return write_own(status, is_head(request.head), means.sides.client);
+                return write_own(status, own_kind(request), means.sides.client);
             }
             RoundVerdict::End(end) => return end,
         }

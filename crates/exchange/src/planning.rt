@@ -80,6 +80,7 @@ pub(crate) fn plan_for(
         old: request.head.old,
         head_only: is_head(request.head),
         last: request.last,
+        date: request.date,
         close_on_client: RecoveryOption::CloseWithClient.is_on(endpoint.recovery),
         fail_on: endpoint.fail_on.copy()?,
         limits: TalkLimits {

@@ -6,7 +6,8 @@ use check_rows::rows::{bytes_of, number, pair_of};
 use check_rows::telling::{put_bytes, put_shown, put_word};
 use check_rows::ways::{Way, link_of};
 use http_front::HeadLines;
-use http_out::{OutError, ReplyHead, ReplyWriter, own_answer};
+use http_out::{OutError, OwnAnswer, OwnKind, ReplyHead, ReplyWriter, RequestKind, own_answer};
+use httpdate::HttpDate;
 use jk_io::{Bytes, MemLink, NoMemory};
 use std::alloc::Global;
 
@@ -18,7 +19,7 @@ pub fn tell(
     out: &mut String,
 ) -> Result<(), NoMemory> {
     match fields[0] {
-        "own" => tell_own(number(fields[1]), out),
+        "own" => tell_own(fields[1], out),
         "message" => put_end(out, &judged(alloc, bytes)),
         _ => tell_over(alloc, fields, way, out),
     }
@@ -33,25 +34,47 @@ fn tell_over(
     tell_reply(alloc, fields, &mut link_of(alloc, &[], way)?, out)
 }
 
-/// The answer to HEAD, and what more the answer to another method has.
-fn tell_own(status: u64, out: &mut String) -> Result<(), NoMemory> {
-    let head = own(status, true);
+/// The answer to HEAD, and what more the answer to another method has; with the moment of the row.
+fn tell_own(words: &str, out: &mut String) -> Result<(), NoMemory> {
+    let status = number(words.split_once(' ').map_or(words, |cut| cut.0));
+    let date = date_in(words);
+    let heads = own(status, true, date);
+    let wholes = own(status, false, date);
+    let head = heads.as_ref().map_or(b"".as_slice(), OwnAnswer::as_slice);
+    let whole = wholes.as_ref().map_or(b"".as_slice(), OwnAnswer::as_slice);
     put_bytes(out, head)?;
-    put_bytes(out, own(status, false).strip_prefix(head).unwrap_or(&[]))
+    put_bytes(out, whole.strip_prefix(head).unwrap_or(&[]))
 }
 
-fn own(status: u64, head_only: bool) -> &'static [u8] {
+fn own(status: u64, head_only: bool, date: Option<HttpDate>) -> Option<OwnAnswer> {
+    let kind = OwnKind { head_only, date };
     match status {
-        400 => own_answer(400, head_only),
-        403 => own_answer(403, head_only),
-        404 => own_answer(404, head_only),
-        413 => own_answer(413, head_only),
-        431 => own_answer(431, head_only),
-        500 => own_answer(500, head_only),
-        501 => own_answer(501, head_only),
-        502 => own_answer(502, head_only),
-        503 => own_answer(503, head_only),
-        _ => b"",
+        400 => Some(own_answer(400, kind)),
+        403 => Some(own_answer(403, kind)),
+        404 => Some(own_answer(404, kind)),
+        413 => Some(own_answer(413, kind)),
+        431 => Some(own_answer(431, kind)),
+        500 => Some(own_answer(500, kind)),
+        501 => Some(own_answer(501, kind)),
+        502 => Some(own_answer(502, kind)),
+        503 => Some(own_answer(503, kind)),
+        _ => None,
+    }
+}
+
+/// The moment after `at=` in these words, in seconds since 1970; none where the word isn't there.
+fn date_in(words: &str) -> Option<HttpDate> {
+    let (_, rest) = words.split_once("at=")?;
+    HttpDate::from_unix_secs(number(rest.split_once(' ').map_or(rest, |cut| cut.0))).ok()
+}
+
+/// The request that these words tell of.
+fn kind_in(words: &str) -> RequestKind {
+    RequestKind {
+        old: words.contains("1.0"),
+        head_only: words.contains("HEAD"),
+        last: words.contains("last"),
+        date: date_in(words),
     }
 }
 
@@ -65,7 +88,7 @@ fn put_end(out: &mut String, end: &Result<(), OutError>) -> Result<(), NoMemory>
 /// What a head with this message is answered.
 fn judged(alloc: Global, message: &[u8]) -> Result<(), OutError> {
     let head = head_with(alloc, 200, message, "-")?;
-    ReplyWriter::new(alloc, false, false, false).headers(head)
+    ReplyWriter::new(alloc, kind_in("")).headers(head)
 }
 
 fn head_with(
@@ -128,12 +151,7 @@ fn opened(alloc: Global, fields: &[&str; 8]) -> Result<ReplyWriter, OutError>
     ensures { IfOk result (λ writer. IsOpen writer) }
 {
     let asked = fields[1];
-    let mut writer = ReplyWriter::new(
-        alloc,
-        asked.contains("1.0"),
-        asked.contains("HEAD"),
-        asked.contains("last"),
-    );
+    let mut writer = ReplyWriter::new(alloc, kind_in(asked));
     let status = u16::try_from(number(fields[2])).unwrap_or(0);
     writer.headers(head_with(alloc, status, b"OK", fields[3])?)?;
     Ok(writer)

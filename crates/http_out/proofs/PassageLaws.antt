@@ -1,9 +1,9 @@
 -- A write that was refused, by the count of the bytes that were taken.
-use Rattle.std.proofs.Common.{◌≡◌, ℕ, ◌-◌, ◌≤◌, ◌<◌, Bool, true, false, ◌||◌, List, [], ◌++◌, length, take, drop, refl, sym, arith, Option, length-take}
+use Rattle.std.proofs.Common.{◌≡◌, ℕ, ◌-◌, ◌≤◌, Bool, true, false, ◌||◌, List, [], length, take, drop, refl, sym, arith, Option, length-take}
 use Rattle.std.specs.Prelude.{nat_lt}
 use Rattle.std.proofs.lemmas.List.{take-append-drop}
 use Rattle.jk_io.proofs.ToldLaws.{appended-nil}
-use Rattle.jk_io.specs.Told.{appended, PutsFront}
+use Rattle.jk_io.specs.Told.{appended}
 use Rattle.http_out.specs.declared.passage.Passage.{Passage}
 use Rattle.http_out.specs.Passage.{IsBroken}
 

@@ -1,16 +1,15 @@
 -- A step of the writer, from what its one write left behind.
-use Rattle.std.proofs.Common.{◌≡◌, ℕ, Bool, true, false, ◌||◌, not, List, [], ◌++◌, length, refl, sym, inl, inr, Option, Some, Result, Ok, Err}
-use Rattle.std.specs.Prelude.{nat_lt, OnOk}
+use Rattle.std.proofs.Common.{◌≡◌, ℕ, Bool, true, false, List, [], ◌++◌, length, refl, inl, inr, Option, Some, Result, Ok, Err}
+use Rattle.std.specs.Prelude.{OnOk}
 use Rattle.std.proofs.lemmas.Bool.{cases_Bool}
-use Rattle.jk_io.specs.Told.{appended}
 use Rattle.http_out.specs.declared.framing.RequestKind.{RequestKind}
 use Rattle.http_out.specs.declared.framing.Framing.{Framing}
 use Rattle.http_out.specs.declared.passage.Passage.{Passage}
 use Rattle.http_out.specs.declared.reply_head.OutError.{OutError}
 use Rattle.http_out.specs.declared.reply_head.OutError.TheVariants as Out
 use Rattle.http_out.specs.Framing.{framed, is_passed, closing_bytes, spent, is_beyond, is_complete}
-use Rattle.http_out.specs.Passage.{IsSent, IsBroken}
-use Rattle.http_out.specs.Writer.{Writer, IsStep, IsEndStep, IsChunkStep, IsOpen, BreaksOff, after_bytes, after_chunk, writes_chunk, framing_now}
+use Rattle.http_out.specs.Passage.{IsSent}
+use Rattle.http_out.specs.Writer.{Writer, IsStep, IsEndStep, IsChunkStep, IsOpen, after_bytes, after_chunk, writes_chunk, framing_now}
 
 -- the writer with these parts
 abbrev pub writer_with : RequestKind → Framing → List ℕ → Passage → Bool → Writer

@@ -1,5 +1,5 @@
 -- How a client learns where the body of a reply ends (RFC 9112, section 6).
-use Rattle.std.specs.Prelude.{if◌then◌else◌, ◌≡◌, ℕ, suc, zero, ◌-◌, ◌/◌, ◌%◌, Bool, true, false, ◌||◌, ◌==◌, List, [], ◌∷◌, ◌++◌, length, codes, nat_lt}
+use Rattle.std.specs.Prelude.{if◌then◌else◌, ℕ, suc, zero, ◌-◌, ◌/◌, ◌%◌, Bool, true, false, ◌||◌, ◌==◌, List, [], ◌∷◌, ◌++◌, length, codes, nat_lt}
 use Rattle.std.specs.Fmt.{digit_glyph}
 use Rattle.http_out.specs.declared.reply_head.ReplyHead.{ReplyHead}
 use Rattle.http_out.specs.declared.framing.RequestKind.{RequestKind}

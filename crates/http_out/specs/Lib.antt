@@ -1,4 +1,5 @@
 pub mod Head
+pub mod Dates
 pub mod Framing
 pub mod ReplyBytes
 pub mod Passage

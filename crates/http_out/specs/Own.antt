@@ -1,8 +1,10 @@
--- The answers that the connector makes itself: a status line, three lines, and the status once more as the body.
-use Rattle.std.specs.Prelude.{ℕ, Bool, ◌==◌, List, ◌++◌, length, Option, Some, None, codes, if◌then◌else◌}
+-- The answers that the connector makes itself: a status line, three lines or four, and the status once more as the body.
+use Rattle.std.specs.Prelude.{ℕ, ◌==◌, List, ◌++◌, length, Option, Some, None, codes, if◌then◌else◌}
 use Rattle.std.specs.Fmt.{decimal}
+use Rattle.httpdate.specs.declared.date.HttpDate.{HttpDate}
+use Rattle.http_out.specs.Dates.{date_field}
+use Rattle.http_out.specs.declared.own_answers.OwnKind.{OwnKind}
 use Rattle.http_out.specs.declared.own_answers.Own.{Own}
-use Rattle.http_out.specs.declared.own_answers.Own.TheVariants as Own
 
 abbrev pub status_of : Own → ℕ
 status_of Own.BadRequest = 400
@@ -33,13 +35,18 @@ status_text own = (decimal (status_of own) ++ codes " ") ++ reason_of own
 abbrev pub own_body : Own → List ℕ
 own_body own = status_text own ++ codes "\n"
 
-abbrev pub own_head : Own → List ℕ
-own_head own = (((codes "HTTP/1.1 " ++ status_text own) ++ codes "\r\nContent-Type: text/plain\r\nContent-Length: ")
-    ++ decimal (length (own_body own))) ++ codes "\r\nConnection: close\r\n\r\n"
+-- the status line, and the lines that tell type and length
+abbrev pub own_lines : Own → List ℕ
+own_lines own = (((codes "HTTP/1.1 " ++ status_text own) ++ codes "\r\nContent-Type: text/plain\r\nContent-Length: ")
+    ++ decimal (length (own_body own))) ++ codes "\r\n"
+
+-- with the moment, where it is told one
+abbrev pub own_head : Own → Option HttpDate → List ℕ
+own_head own date = (own_lines own ++ date_field date) ++ codes "Connection: close\r\n\r\n"
 
 -- an answer to HEAD has the same head and no body
-abbrev pub own_bytes : Own → Bool → List ℕ
-own_bytes own head_only = if head_only then own_head own else own_head own ++ own_body own
+abbrev pub own_bytes : Own → OwnKind → List ℕ
+own_bytes own kind = if kind.head_only then own_head own kind.date else own_head own kind.date ++ own_body own
 
 -- the answer with that status
 abbrev pub own_of : ℕ → Option Own

@@ -1,5 +1,5 @@
 -- What a write to the client leaves behind.
-use Rattle.std.specs.Prelude.{◌≡◌, ℕ, Bool, true, ◌||◌, List, length, nat_lt, Option, Result, Ok, Err, ⊤}
+use Rattle.std.specs.Prelude.{◌≡◌, ℕ, true, ◌||◌, List, length, nat_lt, Option, Result, Ok, Err, ⊤}
 use Rattle.jk_io.specs.Told.{appended, PutsFront}
 use Rattle.http_out.specs.declared.passage.Passage.{Passage}
 use Rattle.http_out.specs.declared.reply_head.OutError.{OutError}

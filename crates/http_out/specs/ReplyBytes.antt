@@ -1,8 +1,9 @@
 -- The bytes of a reply, for a whole list of what the container sent: a head, and chunks, the newest first.
-use Rattle.std.specs.Prelude.{if◌then◌else◌, ◌≡◌, ℕ, Bool, false, ◌&&◌, ◌||◌, not, ◌==◌, List, [], ◌∷◌, ◌++◌, filter, Option, Some, None, codes}
-use Rattle.std.specs.List.{flat_map}
+use Rattle.std.specs.Prelude.{if◌then◌else◌, ℕ, Bool, false, ◌&&◌, ◌||◌, not, ◌==◌, List, [], ◌∷◌, ◌++◌, filter, Option, Some, None, codes}
+use Rattle.std.specs.List.{flat_map, list_any}
 use Rattle.std.specs.Fmt.{decimal}
 use Rattle.http_front.specs.Fields.{HeaderLine, is_named}
+use Rattle.http_out.specs.Dates.{date_field}
 use Rattle.http_out.specs.declared.reply_head.ReplyHead.{ReplyHead}
 use Rattle.http_out.specs.declared.framing.RequestKind.{RequestKind}
 use Rattle.http_out.specs.declared.framing.Framing.{Framing}
@@ -21,6 +22,14 @@ line_bytes line = ((line.0 ++ codes ": ") ++ line.1) ++ codes "\r\n"
 abbrev pub lines_bytes : ℕ → List HeaderLine → List ℕ
 lines_bytes status lines = flat_map line_bytes (filter (passes status) lines)
 
+-- a line tells the moment at which the reply was made
+abbrev pub has_date : List HeaderLine → Bool
+has_date lines = list_any (is_named (codes "date")) lines
+
+-- the moment, where the container's lines tell none (RFC 9110, section 6.6.1)
+abbrev pub date_line : RequestKind → ReplyHead → List ℕ
+date_line kind h = if has_date h.headers then [] else date_field kind.date
+
 -- the lines that the connector adds
 abbrev pub framing_line : Framing → List ℕ
 framing_line By.Chunks = codes "Transfer-Encoding: chunked\r\n"
@@ -37,7 +46,8 @@ status_line h = (((codes "HTTP/1.1 " ++ decimal h.status) ++ codes " ") ++ h.mes
 -- the status line, the lines, an empty line
 unfoldable pub head_bytes : RequestKind → ReplyHead → List ℕ
 head_bytes kind h =
-    (((status_line h ++ lines_bytes h.status h.headers) ++ framing_line (framing_of kind h)) ++ last_line kind) ++ codes "\r\n"
+    ((((status_line h ++ lines_bytes h.status h.headers) ++ date_line kind h) ++ framing_line (framing_of kind h)) ++ last_line kind)
+    ++ codes "\r\n"
 
 -- the body's bytes so far
 abbrev pub body_bytes : Framing → List (List ℕ) → List ℕ

@@ -4,10 +4,11 @@ ghost use Rattle.std.specs.Fmt.{digit_glyph};
 ghost use Rattle.http_out.specs.Framing.{framing_by, hex_digits, framed, closing_bytes};
 
 use crate::content_length::ContentLength;
+use httpdate::HttpDate;
 use jk_io::{Bytes, NoMemory};
 
 /// What of a request decides the bytes of its reply.
-#[derive(Clone, Copy, PartialEq, Eq)]
+#[derive(Clone, Copy)]
 pub struct RequestKind {
     /// A request of HTTP/1.0.
     pub old: bool,
@@ -15,6 +16,8 @@ pub struct RequestKind {
     pub head_only: bool,
     /// No request follows it on the connection.
     pub last: bool,
+    /// The moment that a reply tells whose lines tell none; none where it tells none.
+    pub date: Option<HttpDate>,
 }
 
 /// Where the body ends (RFC 9112, section 6.3).

@@ -1,16 +1,17 @@
 //! The bytes of a reply's head.
 ghost use Rattle.std.specs.Prelude.{◌≡◌, ◌++◌, IfOk, OnOk};
 ghost use Rattle.http_out.specs.Framing.{framing_of};
-ghost use Rattle.http_out.specs.ReplyBytes.{head_bytes, passes, line_bytes, lines_bytes, framing_line, last_line, status_line};
+ghost use Rattle.http_out.specs.ReplyBytes.{date_line, framing_line, has_date, head_bytes, last_line, line_bytes, lines_bytes, passes, status_line};
 
 use crate::content_length::is_content_length;
+use crate::dates::put_date;
 use crate::framing::{Framing, RequestKind};
 use crate::reply_head::ReplyHead;
 use jk_io::{Bytes, NoMemory, put_decimal};
 use std::alloc::Global;
 
 /// Room for a status line, the added lines and the empty line.
-const FIXED_ROOM: usize = 80;
+const FIXED_ROOM: usize = 120;
 
 /// The head's bytes, in memory that is taken once.
 #[tactic(auto, unfolding(crate::specs::ReplyBytes::head_bytes))]
@@ -26,6 +27,7 @@ pub fn head_text(
     let mut text = Bytes::with_capacity(alloc, room_of(head))?;
     put_status(&mut text, head)?;
     put_lines(&mut text, head.status, head.headers.as_slice())?;
+    put_moment(&mut text, kind, head)?;
     put_added(&mut text, kind, framing)?;
     text.extend(b"\r\n")?;
     Ok(text)
@@ -82,6 +84,25 @@ fn put_lines(text: &mut Bytes, status: u16, lines: &[(Bytes, Bytes)]) -> Result<
         }
     }
     Ok(())
+}
+
+/// Whether a line of the container's tells the moment.
+fn has_date(lines: &[(Bytes, Bytes)]) -> bool
+    ensures { result ≡ has_date lines.now }
+{
+    lines
+        .iter()
+        .any(|line| line.0.as_slice().eq_ignore_ascii_case(b"date"))
+}
+
+/// Adds the line that tells the moment, where the container's lines tell none.
+fn put_moment(text: &mut Bytes, kind: RequestKind, head: &ReplyHead) -> Result<(), NoMemory>
+    ensures { OnOk result (text.new ≡ text.old ++ date_line kind head.now) }
+{
+    if has_date(head.headers.as_slice()) {
+        return Ok(());
+    }
+    put_date(text, kind.date)
 }
 
 /// Adds the lines that are the connector's own.

@@ -8,6 +8,7 @@
 #![tactic(auto)]
 
 mod content_length;
+mod dates;
 mod framing;
 mod head_text;
 mod own_answers;
@@ -17,8 +18,9 @@ mod reply_head;
 mod reply_laws;
 mod reply_writer;
 
+pub use dates::put_date;
 pub use framing::RequestKind;
-pub use own_answers::own_answer;
+pub use own_answers::{OwnAnswer, OwnKind, own_answer, own_body};
 pub use reply_head::{OutError, ReplyHead};
 pub use reply_laws::{replies_end_whole, replies_grow_by_chunks, what_is_written_stays_a_prefix};
 pub use reply_writer::ReplyWriter;

@@ -42,18 +42,13 @@ impl Model for ReplyWriter {
 }
 
 impl ReplyWriter {
-    /// A writer for the reply to a request. `old`: it is of HTTP/1.0; `head_only`: its method is HEAD; `last`: no request
-    /// follows it on the connection. No memory is taken.
-    pub fn new(alloc: Global, old: bool, head_only: bool, last: bool) -> ReplyWriter
-        ensures { result ≡ new_writer (record { old = old; head_only = head_only; last = last }) }
+    /// A writer for the reply to a request of this kind. No memory is taken.
+    pub fn new(alloc: Global, kind: RequestKind) -> ReplyWriter
+        ensures { result ≡ new_writer kind }
     {
         ReplyWriter {
             alloc,
-            kind: RequestKind {
-                old,
-                head_only,
-                last,
-            },
+            kind,
             framing: None,
             text: Bytes::new(alloc),
             passage: Passage {

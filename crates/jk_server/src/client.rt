@@ -290,6 +290,7 @@ fn serve_link<'x, L: SiteName, D: Door, R: Reach, K: Clock, S: Shelf, W: Wait, Y
             map: post.map,
             session: post.number,
             peer,
+            dated: true,
         },
     };
     serve_seated(

@@ -51,10 +51,7 @@ run_from v v' first at_first at_last puts end talks sent way same begun talked w
       calm = calm;
       parts = parts;
       awake = awake;
-      own = each.own _ _ _ way.session;
-      by_bytes = each.by_bytes _ _ _ way.session;
-      complete = each.complete _ _ _ way.session;
-      served = each.served;
+      each = each;
     }))
 
 -- its rows are those that were listed

@@ -13,12 +13,11 @@ use Rattle.site_config.specs.declared.config.Config.{Config}
 use Rattle.uri_map.specs.Lines.{read_text}
 use Rattle.uri_map.specs.declared.rule.Rule.{Rule}
 use Rattle.site_reports.specs.Reports.{OfWorkers, Refuses}
-use Rattle.client_session.specs.Causes.{IsDecided, IsOwnCaused}
-use Rattle.client_session.specs.Complete.{EndsWhole, ServesWhole}
 use Rattle.client_session.specs.Parts.{HasParts}
-use Rattle.client_session.specs.Requests.{Visit, visit}
-use Rattle.client_session.specs.Sessions.{IsServed, IsSession}
+use Rattle.client_session.specs.Requests.{Visit, undated, visit}
+use Rattle.client_session.specs.Sessions.{IsSession}
 use Rattle.client_session.specs.Standings.{ClientStanding}
+use Rattle.client_session.specs.Whole.{HoldsOfEach}
 use Rattle.client_session.specs.declared.ending.SessionEnd.{SessionEnd}
 use Rattle.client_session.specs.declared.ending.SessionStop.TheVariants as stop
 use Rattle.client_session.specs.declared.ending.Why.TheVariants as why
@@ -29,7 +28,7 @@ use Rattle.plain_commands.specs.DryLinks.{AreTalksOver, reply_link}
 
 -- the session's worker has the number 0, and its client this address
 abbrev pub dry_visit : Config → List Rule → Visit
-dry_visit c rules = visit c rules 0 (record { addr = codes "127.0.0.1" })
+dry_visit c rules = undated (visit c rules 0 (record { addr = codes "127.0.0.1" }))
 
 -- Nothing was done yet: the Books as they start, a clock whose every answer is 0, no talk, and all bytes of the client are
 -- to come.
@@ -56,10 +55,7 @@ pub record IsRun (v : Visit) (first : ClientStanding) (talks : List Talk) (sent 
   pub calm : (last.reach.faults ≡ 0) × (last.client.faults ≡ 0)
   pub parts : HasParts v first last end
   pub awake : end.stop ≡ stop.Closed why.Idle → ⊥
-  pub own : IsOwnCaused v end session.number session.mid last
-  pub by_bytes : IsDecided v end session.number session.mid last
-  pub complete : EndsWhole v end session.number session.mid last
-  pub served : (number : ℕ) (s n : ClientStanding) (gained : List Served) → IsServed v number s n gained → ServesWhole v number s n
+  pub each : HoldsOfEach v end
 
 -- The first link that was dialled had the reply to come, and each later one nothing.
 abbrev pub AreOverReply : (reply : List ℕ) → List Talk → Type 0

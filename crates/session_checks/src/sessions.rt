@@ -334,12 +334,14 @@ fn serve_into(
     ensures { desk.new.sizes ≡ desk.old.sizes }
 {
     let peer = local(alloc)?;
-    let mut clock = StepClock::new(NumberList::new(alloc));
+    let at = said(case.row.fields[1], "dated=");
+    let mut clock = StepClock::new(numbers_of(alloc, at)?);
     let site = SessionSite {
         cfg: case.config,
         map: case.map,
         session: 0,
         peer: &peer,
+        dated: at.is_some(),
     };
     let mut around = Surroundings {
         desk,

@@ -157,6 +157,7 @@ fn plan_with(alloc: Global, words: &str, first: Bytes) -> Result<TalkPlan, NoMem
         old: false,
         head_only: false,
         last: false,
+        date: None,
         close_on_client: words.contains("close"),
         fail_on: FailList::new(alloc),
         limits: TalkLimits {

@@ -41,13 +41,19 @@ sees_one cfg desk place lb parts part within is seen one =
     (lb, part, slice_get_read cfg.lbs (length cfg.lbs) place lb refl within is, seen, one)
 
 -- five pieces were put, one after the other
-pub five_put : (r0 r1 r2 r3 r4 r5 a b c d e : List ℕ) → r1 ≡ r0 ++ a → r2 ≡ r1 ++ b → r3 ≡ r2 ++ c → r4 ≡ r3 ++ d → r5 ≡ r4 ++ e
+five_put : (r0 r1 r2 r3 r4 r5 a b c d e : List ℕ) → r1 ≡ r0 ++ a → r2 ≡ r1 ++ b → r3 ≡ r2 ++ c → r4 ≡ r3 ++ d → r5 ≡ r4 ++ e
     → r5 ≡ r0 ++ (a ++ b ++ c ++ d ++ e)
 five_put r0 r1 r2 r3 r4 r5 a b c d e p1 p2 p3 p4 p5 =
     let q2 : r2 ≡ r0 ++ (a ++ b) = p2 ∙ ap (λ (r : List ℕ). r ++ b) p1 ∙ append_assoc r0 a b in
     let q3 : r3 ≡ r0 ++ (a ++ b ++ c) = p3 ∙ ap (λ (r : List ℕ). r ++ c) q2 ∙ append_assoc r0 (a ++ b) c in
     let q4 : r4 ≡ r0 ++ (a ++ b ++ c ++ d) = p4 ∙ ap (λ (r : List ℕ). r ++ d) q3 ∙ append_assoc r0 (a ++ b ++ c) d in
     p5 ∙ ap (λ (r : List ℕ). r ++ e) q4 ∙ append_assoc r0 (a ++ b ++ c ++ d) e
+
+-- six pieces were
+pub six_put : (r0 r1 r2 r3 r4 r5 r6 a b c d e f : List ℕ) → r1 ≡ r0 ++ a → r2 ≡ r1 ++ b → r3 ≡ r2 ++ c → r4 ≡ r3 ++ d → r5 ≡ r4 ++ e → r6 ≡ r5 ++ f
+    → r6 ≡ r0 ++ (a ++ b ++ c ++ d ++ e ++ f)
+six_put r0 r1 r2 r3 r4 r5 r6 a b c d e f p1 p2 p3 p4 p5 p6 =
+    p6 ∙ ap (λ (r : List ℕ). r ++ f) (five_put r0 r1 r2 r3 r4 r5 a b c d e p1 p2 p3 p4 p5) ∙ append_assoc r0 (a ++ b ++ c ++ d ++ e) f
 
 -- three pieces were put, or memory was wanted for the last
 pub three_put : {T E : Type 0} (result : Result T E) (r0 r1 r2 r3 a b c : List ℕ) → r1 ≡ r0 ++ a → r2 ≡ r1 ++ b → OnOk result (r3 ≡ r2 ++ c)

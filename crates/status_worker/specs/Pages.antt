@@ -1,6 +1,8 @@
 -- The reply with a status worker's page.
 use Rattle.std.specs.Prelude.{ℕ, ◌≡◌, ◌+◌, ◌++◌, Bool, not, List, [], ◌∷◌, length, map, Option, Some, None, slice_get, codes, decimal, if◌then◌else◌}
 use Rattle.balancer_core.specs.Desks.{DeskState, Shows}
+use Rattle.http_out.specs.Dates.{date_field}
+use Rattle.http_out.specs.declared.framing.RequestKind.{RequestKind}
 use Rattle.site_config.specs.declared.balancer.Lb.{Lb}
 use Rattle.site_config.specs.declared.config.Config.{Config}
 use Rattle.site_config.specs.declared.config.Status.{Status}
@@ -49,24 +51,25 @@ last_line last = if last then codes "Connection: close\r\n" else []
 abbrev pub page_type : Mime → List ℕ
 page_type mime = codes "HTTP/1.1 200 OK\r\nContent-Type: " ++ content_type mime ++ codes "\r\nContent-Length: "
 
--- the head of the reply with a page of that length
-abbrev pub page_head : Mime → (len : ℕ) → (last : Bool) → List ℕ
-page_head mime len last = page_type mime ++ decimal len ++ codes "\r\n" ++ last_line last ++ codes "\r\n"
+-- the head of the reply with a page of that length; it tells the moment where one is told
+abbrev pub page_head : Mime → (len : ℕ) → RequestKind → List ℕ
+page_head mime len kind =
+    page_type mime ++ decimal len ++ codes "\r\n" ++ date_field kind.date ++ last_line kind.last ++ codes "\r\n"
 
 -- the part of a page that is sent: none for HEAD
 abbrev pub sent_of : (head_only : Bool) → List ℕ → List ℕ
 sent_of head_only page = if head_only then [] else page
 
-abbrev pub page_reply : Mime → (head_only last : Bool) → List ℕ → List ℕ
-page_reply mime head_only last page = page_head mime (length page) last ++ sent_of head_only page
+abbrev pub page_reply : Mime → RequestKind → List ℕ → List ℕ
+page_reply mime kind page = page_head mime (length page) kind ++ sent_of kind.head_only page
 
 -- the page as its query asks for it; changes may be made unless the worker is read only
 abbrev pub shown_for : Status → (query : Option (List ℕ)) → List PagePart → List ℕ
 shown_for status query parts = shown (mime_of query) (not status.read_only) parts
 
 -- the page of the balancers that were looked at, ready to be sent
-abbrev pub IsPage : Config → Status → (query : Option (List ℕ)) → DeskState → Option ℕ → (head_only last : Bool) → Page → Type 0
-IsPage cfg status query desk only head_only last page =
+abbrev pub IsPage : Config → Status → (query : Option (List ℕ)) → DeskState → Option ℕ → RequestKind → Page → Type 0
+IsPage cfg status query desk only kind page =
     (parts : List PagePart) × IsPageOf cfg desk only parts
-    × (page.reply ≡ page_reply (mime_of query) head_only last (shown_for status query parts))
-    × (page.len ≡ length (sent_of head_only (shown_for status query parts)))
+    × (page.reply ≡ page_reply (mime_of query) kind (shown_for status query parts))
+    × (page.len ≡ length (sent_of kind.head_only (shown_for status query parts)))

@@ -19,6 +19,7 @@ ghost use Rattle.status_worker.specs.Pages.{
 
 use crate::request::PageRequest;
 use balancer_core::Desk;
+use http_out::{RequestKind, put_date};
 use jk_io::{Bytes, ListOf, NoMemory, put_decimal};
 use jk_model::View;
 use site_config::{Config, Endpoint, Lb};
@@ -143,30 +144,30 @@ fn put_page_type(reply: &mut Bytes, mime: Mime) -> Result<(), NoMemory>
 }
 
 /// The head of a page's reply.
-fn put_page_head(reply: &mut Bytes, mime: Mime, len: usize, last: bool) -> Result<(), NoMemory>
-    ensures { OnOk result (reply.new ≡ reply.old ++ page_head mime len last) }
+fn put_page_head(
+    reply: &mut Bytes,
+    mime: Mime,
+    len: usize,
+    kind: RequestKind,
+) -> Result<(), NoMemory>
+    ensures { OnOk result (reply.new ≡ reply.old ++ page_head mime len kind) }
 {
     put_page_type(reply, mime)?;
     put_decimal(reply, len as u128)?;
     reply.extend(b"\r\n")?;
-    reply.extend(last_line(last))?;
+    put_date(reply, kind.date)?;
+    reply.extend(last_line(kind.last))?;
     reply.extend(b"\r\n")?;
     Ok(())
 }
 
 /// The page's reply: its head, and its bytes unless the head alone is asked for.
-fn reply_of(
-    alloc: Global,
-    mime: Mime,
-    page: &Bytes,
-    head_only: bool,
-    last: bool,
-) -> Result<Bytes, NoMemory>
-    ensures { IfOk result (λ reply. reply ≡ page_reply mime head_only last page.now) }
+fn reply_of(alloc: Global, mime: Mime, page: &Bytes, kind: RequestKind) -> Result<Bytes, NoMemory>
+    ensures { IfOk result (λ reply. reply ≡ page_reply mime kind page.now) }
 {
     let mut reply = Bytes::new(alloc);
-    put_page_head(&mut reply, mime, page.len(), last)?;
-    if !head_only {
+    put_page_head(&mut reply, mime, page.len(), kind)?;
+    if !kind.head_only {
         reply.extend(page.as_slice())?;
     }
     Ok(reply)
@@ -201,19 +202,18 @@ fn page_for(
     alloc: Global,
     asked: &PageRequest,
     parts: &PageList,
-    head_only: bool,
-    last: bool,
+    kind: RequestKind,
 ) -> Result<Page, NoMemory>
     ensures reply { IfOk result (λ page. page.reply
-        ≡ page_reply (mime_of asked.now.query.now) head_only last (shown_for asked.now.status.now asked.now.query.now parts.now)) }
+        ≡ page_reply (mime_of asked.now.query.now) kind (shown_for asked.now.status.now asked.now.query.now parts.now)) }
     ensures len { IfOk result (λ page. page.len
-        ≡ length (sent_of head_only (shown_for asked.now.status.now asked.now.query.now parts.now))) }
+        ≡ length (sent_of kind.head_only (shown_for asked.now.status.now asked.now.query.now parts.now))) }
 {
     let mime = mime_of(alloc, asked.query)?;
     let page = render_as(alloc, mime, !asked.status.read_only, parts)?;
     Ok(Page {
-        reply: reply_of(alloc, mime, &page, head_only, last)?,
-        len: page_len(&page, head_only),
+        reply: reply_of(alloc, mime, &page, kind)?,
+        len: page_len(&page, kind.head_only),
     })
 }
 
@@ -222,17 +222,16 @@ pub fn page_at<B: Desk>(
     alloc: Global,
     asked: &PageRequest,
     only: Option<u32>,
-    head_only: bool,
-    last: bool,
+    kind: RequestKind,
     desk: &mut B,
 ) -> Result<Page, NoMemory>
 where
     B::Shown: Drop,
     requires within { IfSome only (λ lb. lb < length asked.now.cfg.now.lbs) }
     requires sizes { (B.state desk.old).sizes ≡ members_in asked.now.cfg.now.lbs }
-    ensures page { IfOk result (λ page. IsPage asked.now.cfg.now asked.now.status.now asked.now.query.now (B.state desk.old) only head_only last page) }
+    ensures page { IfOk result (λ page. IsPage asked.now.cfg.now asked.now.status.now asked.now.query.now (B.state desk.old) only kind page) }
     ensures same { B.state desk.new ≡ B.state desk.old }
 {
     let parts = parts_of(alloc, asked.cfg, only, desk)?;
-    page_for(alloc, asked, &parts, head_only, last)
+    page_for(alloc, asked, &parts, kind)
 }

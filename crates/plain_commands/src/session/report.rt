@@ -73,6 +73,7 @@ fn serve<N: ReplyName>(
         map: site.map,
         session: 0,
         peer,
+        dated: false,
     };
     let mut around = Surroundings {
         desk,

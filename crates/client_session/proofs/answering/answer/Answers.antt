@@ -1,7 +1,7 @@
 -- The request came to its end before a worker was asked.
 use Rattle.std.proofs.Common.{◌≡◌, None, Some, refl, rules}
 use Rattle.status_worker.proofs.DeskLaws.{untouched}
-use Rattle.client_session.specs.Requests.{continue_for, mounted_at, visit_of}
+use Rattle.client_session.specs.Requests.{continue_for, mounted_at, visit_in}
 use Rattle.client_session.specs.Standings.{client_at, standing}
 use Rattle.client_session.specs.Surroundings.{standing_of}
 use Rattle.client_session.proofs.AnswerLaws.{answers_early, goes_on_new, meets_early, no_fewer_early, not_found_answers, not_found_meets, not_found_no_fewer, not_found_rises, rises_early, told_on}
@@ -10,16 +10,16 @@ use Rattle.client_session.proofs.answering.answer.Goals as goal
 
 pub returns-in-Err-clause-answer : goal.returns-in-Err-clause-answer
 returns-in-Err-clause-answer g c =
-    let mounted : mounted_at (visit_of c.args.of.now.site.now) c.args.of.now.head.now ≡ Some c.in-Some.worker = search rules in
-    answers_early (visit_of c.args.of.now.site.now) c.args.of.now.head.now c.args.of.now.last
+    let mounted : mounted_at (visit_in c.args.of.now) c.args.of.now.head.now ≡ Some c.in-Some.worker = search rules in
+    answers_early (visit_in c.args.of.now) c.args.of.now.head.now c.args.of.now.last
     (standing_of g.B.Desk.state g.K.Clock.answers g.R.Meanings g.C.Meanings c.args.around.now)
     (standing g.B.Desk.state g.K.Clock.answers g.R.Meanings g.C.Meanings c.args.around.now.desk.now c.args.around.now.clock.now c.args.around.now.reach.now c.begin.new.client c.args.around.now.inbox.now)
     c.args.body.now c.in-Some.worker c.in-Err.stop c.stopped.result mounted refl c.in-Err.ensures.broken c.stopped.ensures
 
 pub returns-in_default-clause-answer : goal.returns-in_default-clause-answer
 returns-in_default-clause-answer g c =
-    let none : mounted_at (visit_of c.args.of.now.site.now) c.args.of.now.head.now ≡ None = search rules in
-    not_found_answers (visit_of c.args.of.now.site.now) c.args.of.now.head.now c.args.of.now.last
+    let none : mounted_at (visit_in c.args.of.now) c.args.of.now.head.now ≡ None = search rules in
+    not_found_answers (visit_in c.args.of.now) c.args.of.now.head.now c.args.of.now.last
     (standing_of g.B.Desk.state g.K.Clock.answers g.R.Meanings g.C.Meanings c.args.around.now)
     (client_at g.C.Meanings c.not_found.new.client) c.args.body.now c.not_found.result none c.not_found.ensures.answer
 
@@ -28,8 +28,8 @@ returns-in_default-clause-going g c = goes_on_new _ _ _ c.requires.fresh
 
 pub returns-in-Ok-clause-answer : goal.returns-in-Ok-clause-answer
 returns-in-Ok-clause-answer g c =
-    let mounted : mounted_at (visit_of c.args.of.now.site.now) c.args.of.now.head.now ≡ Some c.in-Some.worker = search rules in
-    told_on (visit_of c.args.of.now.site.now) c.args.of.now.head.now c.args.of.now.last
+    let mounted : mounted_at (visit_in c.args.of.now) c.args.of.now.head.now ≡ Some c.in-Some.worker = search rules in
+    told_on (visit_in c.args.of.now) c.args.of.now.head.now c.args.of.now.last
     (standing_of g.B.Desk.state g.K.Clock.answers g.R.Meanings g.C.Meanings c.args.around.now)
     (standing_of g.B.Desk.state g.K.Clock.answers g.R.Meanings g.C.Meanings c.answer_at.new.around) (client_at g.C.Meanings c.begin.new.client) _ _ _ _ c.in-Some.worker mounted
     c.in-Ok.ensures.told c.answer_at.ensures.answer
@@ -49,14 +49,14 @@ answer_at-requires-clause-fresh g c = c.requires.fresh
 -- the client of a request that is mounted nowhere
 pub returns-in_default-clause-told : goal.returns-in_default-clause-told
 returns-in_default-clause-told g c = record {
-  met = not_found_meets c.args.of.now.head.now (client_at g.C.Meanings c.args.around.now.client.now) (client_at g.C.Meanings c.not_found.new.client) c.not_found.result _ c.not_found.ensures.answer;
-  fault = not_found_rises c.args.of.now.head.now (client_at g.C.Meanings c.args.around.now.client.now) (client_at g.C.Meanings c.not_found.new.client) c.not_found.result c.not_found.ensures.answer;
+  met = not_found_meets (visit_in c.args.of.now) c.args.of.now.head.now (client_at g.C.Meanings c.args.around.now.client.now) (client_at g.C.Meanings c.not_found.new.client) c.not_found.result _ c.not_found.ensures.answer;
+  fault = not_found_rises (visit_in c.args.of.now) c.args.of.now.head.now (client_at g.C.Meanings c.args.around.now.client.now) (client_at g.C.Meanings c.not_found.new.client) c.not_found.result c.not_found.ensures.answer;
 }
 
 pub returns-in_default-clause-kept : goal.returns-in_default-clause-kept
 returns-in_default-clause-kept g c =
     keeps_by _ _ _ _ _ _ c.requires.ready (untouched _ _) refl refl c.not_found.ensures.beside
-    (not_found_no_fewer c.args.of.now.head.now (client_at g.C.Meanings c.args.around.now.client.now) (client_at g.C.Meanings c.not_found.new.client) c.not_found.result c.not_found.ensures.answer)
+    (not_found_no_fewer (visit_in c.args.of.now) c.args.of.now.head.now (client_at g.C.Meanings c.args.around.now.client.now) (client_at g.C.Meanings c.not_found.new.client) c.not_found.result c.not_found.ensures.answer)
     (refl, refl, refl, refl, refl)
 
 pub returns-in-Ok-clause-told : goal.returns-in-Ok-clause-told

@@ -4,7 +4,7 @@ use Rattle.std.proofs.lemmas.Option.{get_or_from_slice_get}
 use Rattle.site_config.specs.declared.balancer.Lb.{Lb}
 use Rattle.exchange.proofs.SizeLaws.{size_in, within_sizes}
 use Rattle.client_session.specs.Answers.{errand_at}
-use Rattle.client_session.specs.Requests.{visit_of}
+use Rattle.client_session.specs.Requests.{visit_in}
 use Rattle.client_session.proofs.DeskLaws.{after_exchange}
 use Rattle.client_session.proofs.SessionLaws.{ready_again}
 use Rattle.client_session.proofs.SurroundingsLaws.{forwarded_back, same_balancer}
@@ -34,7 +34,7 @@ returns-clause-forwarded g c = λ balancer there.
     forwarded_back g.B.Desk.state g.K.Clock.answers g.R.Meanings g.C.Meanings _ _ _ _ _ _ _ _ _ _ _ _ _ _ _ _
     (c.around-3-1.given.1 (sym x.kept.sides.same.0)) (c.around-2-1.given.1 (sym x.kept.sides.same.1))
     (c.around-1.given.1 (sym x.kept.sides.same.3)) (c.body-1.given.1 (sym x.kept.sides.same.2))
-    (e.errand ∙ ap (λ (b : Lb). errand_at (visit_of c.args.of.now.site.now) c.args.of.now.head.now c.args.of.now.last c.args.lb b)
+    (e.errand ∙ ap (λ (b : Lb). errand_at (visit_in c.args.of.now) c.args.of.now.head.now c.args.of.now.last c.args.lb b)
     (same_balancer c.args.of.now.site.now.cfg.now.lbs c.args.lb _ balancer e.balancer there))
     (record {
       exchange = did;

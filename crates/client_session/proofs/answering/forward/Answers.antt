@@ -1,7 +1,7 @@
 -- What the exchange's end means to the session.
 use Rattle.std.proofs.Common.{ap, sym, ◌∙◌}
 use Rattle.site_config.specs.declared.balancer.Lb.{Lb}
-use Rattle.client_session.specs.Requests.{visit_of}
+use Rattle.client_session.specs.Requests.{visit_in}
 use Rattle.client_session.specs.Surroundings.{standing_of}
 use Rattle.client_session.proofs.ConcludeLaws.{concluded_by, forwards, goes_on, meets, rises, stands_there, within}
 use Rattle.client_session.proofs.answering.forward.Goals as goal
@@ -11,7 +11,7 @@ conclude-requires-clause-within g c =
     let stands = stands_there c.args.of.now.site.now.cfg.now.lbs c.args.lb c.index-as_slice-lb.result c.requires.worker (rw c.as_slice.ensures at c.index-as_slice-lb.is) in
     let are = c.as_slice-members.ensures ∙ ap (λ (b : Lb). b.book.members) (sym c.index-as_slice-lb.is) in
     rw are
-    (within (visit_of c.args.of.now.site.now) c.args.of.now.head.now c.args.of.now.last
+    (within (visit_in c.args.of.now) c.args.of.now.head.now c.args.of.now.last
     (standing_of g.B.Desk.state g.K.Clock.answers g.R.Meanings g.C.Meanings c.args.around.now)
     (standing_of g.B.Desk.state g.K.Clock.answers g.R.Meanings g.C.Meanings c.exchange_at-end.new.around) c.args.body.now c.exchange_at-end.new.body c.args.lb c.index-as_slice-lb.result c.requires.room.0 _ c.exchange_at-end.result stands c.requires.room.2 c.requires.room.1.room
     (c.exchange_at-end.ensures.forwarded c.index-as_slice-lb.result stands))
@@ -20,7 +20,7 @@ pub returns-clause-answer : goal.returns-clause-answer
 returns-clause-answer g c =
     let stands = stands_there c.args.of.now.site.now.cfg.now.lbs c.args.lb c.index-as_slice-lb.result c.requires.worker (rw c.as_slice.ensures at c.index-as_slice-lb.is) in
     let are = c.as_slice-members.ensures ∙ ap (λ (b : Lb). b.book.members) (sym c.index-as_slice-lb.is) in
-    forwards (visit_of c.args.of.now.site.now) c.args.of.now.head.now c.args.of.now.last
+    forwards (visit_in c.args.of.now) c.args.of.now.head.now c.args.of.now.last
     (standing_of g.B.Desk.state g.K.Clock.answers g.R.Meanings g.C.Meanings c.args.around.now)
     (standing_of g.B.Desk.state g.K.Clock.answers g.R.Meanings g.C.Meanings c.exchange_at-end.new.around) c.args.body.now c.exchange_at-end.new.body c.args.lb c.index-as_slice-lb.result c.exchange_at-end.result c.conclude.result c.requires.mounted stands
     (c.exchange_at-end.ensures.forwarded c.index-as_slice-lb.result stands)
@@ -30,7 +30,7 @@ pub returns-clause-going : goal.returns-clause-going
 returns-clause-going g c =
     let stands = stands_there c.args.of.now.site.now.cfg.now.lbs c.args.lb c.index-as_slice-lb.result c.requires.worker (rw c.as_slice.ensures at c.index-as_slice-lb.is) in
     let are = c.as_slice-members.ensures ∙ ap (λ (b : Lb). b.book.members) (sym c.index-as_slice-lb.is) in
-    goes_on (visit_of c.args.of.now.site.now) c.args.of.now.head.now c.args.of.now.last
+    goes_on (visit_in c.args.of.now) c.args.of.now.head.now c.args.of.now.last
     (standing_of g.B.Desk.state g.K.Clock.answers g.R.Meanings g.C.Meanings c.args.around.now)
     (standing_of g.B.Desk.state g.K.Clock.answers g.R.Meanings g.C.Meanings c.exchange_at-end.new.around) c.args.body.now c.exchange_at-end.new.body c.args.lb c.index-as_slice-lb.result c.exchange_at-end.result c.conclude.result
     (c.exchange_at-end.ensures.forwarded c.index-as_slice-lb.result stands)
@@ -43,11 +43,11 @@ returns-clause-told g c =
     let forwarded = c.exchange_at-end.ensures.forwarded c.index-as_slice-lb.result stands in
     let concluded = concluded_by c.exchange_at-end.result c.as_slice-members.result.now c.index-as_slice-lb.result c.is_head.result c.args.of.now.head.now c.args.row.asked c.conclude.result are c.is_head.ensures c.requires.room.1.asked' c.conclude.ensures in
     record {
-      met = meets (visit_of c.args.of.now.site.now) c.args.of.now.head.now c.args.of.now.last
+      met = meets (visit_in c.args.of.now) c.args.of.now.head.now c.args.of.now.last
           (standing_of g.B.Desk.state g.K.Clock.answers g.R.Meanings g.C.Meanings c.args.around.now)
           (standing_of g.B.Desk.state g.K.Clock.answers g.R.Meanings g.C.Meanings c.exchange_at-end.new.around) c.args.body.now c.exchange_at-end.new.body c.args.lb c.index-as_slice-lb.result c.exchange_at-end.result c.conclude.result
           forwarded concluded;
-      fault = rises (visit_of c.args.of.now.site.now) c.args.of.now.head.now c.args.of.now.last
+      fault = rises (visit_in c.args.of.now) c.args.of.now.head.now c.args.of.now.last
           (standing_of g.B.Desk.state g.K.Clock.answers g.R.Meanings g.C.Meanings c.args.around.now)
           (standing_of g.B.Desk.state g.K.Clock.answers g.R.Meanings g.C.Meanings c.exchange_at-end.new.around) c.args.body.now c.exchange_at-end.new.body c.args.lb c.index-as_slice-lb.result c.exchange_at-end.result c.conclude.result
           forwarded concluded;

@@ -1,5 +1,5 @@
 -- The page was shown, or an own answer took its place, or nothing whole was written.
-use Rattle.client_session.specs.Requests.{visit_of}
+use Rattle.client_session.specs.Requests.{visit_in}
 use Rattle.client_session.proofs.AnswerLaws.{at_status}
 use Rattle.client_session.proofs.KeepingLaws.{room_for_status, shown_answers, shown_known, shown_meets, shown_rises}
 use Rattle.client_session.proofs.answering.show.Goals as goal
@@ -17,12 +17,12 @@ shown-requires-clause-unnamed g c = c.requires.room.1.unnamed
 
 pub shown-requires-clause-known : goal.shown-requires-clause-known
 shown-requires-clause-known g c =
-    shown_known (visit_of c.args.of.now.site.now) c.args.of.now.head.now c.args.of.now.last _ _ c.index-as_slice-place.result c.serve_status-answer.result
+    shown_known (visit_in c.args.of.now) c.args.of.now.head.now c.args.of.now.last _ _ c.index-as_slice-place.result c.serve_status-answer.result
     c.serve_status-answer.ensures.answer
 
 pub returns-clause-answer : goal.returns-clause-answer
 returns-clause-answer g c = λ body.
-    shown_answers (visit_of c.args.of.now.site.now) c.args.of.now.head.now c.args.of.now.last _ _ body c.index-as_slice-place.result c.serve_status-answer.result _ c.shown.result
+    shown_answers (visit_in c.args.of.now) c.args.of.now.head.now c.args.of.now.last _ _ body c.index-as_slice-place.result c.serve_status-answer.result _ c.shown.result
     (at_status _ _ _ c.index-as_slice-place.result c.requires.mounted c.requires.worker (rw c.as_slice.ensures at c.index-as_slice-place.is))
     c.serve_status-answer.ensures.answer c.requires.room.1.asked' (rw c.is_head.ensures at c.shown.ensures)
 
@@ -30,9 +30,9 @@ pub returns-clause-told : goal.returns-clause-told
 returns-clause-told g c =
     let is = rw c.is_head.ensures at c.shown.ensures in
     record {
-      met = shown_meets (visit_of c.args.of.now.site.now) c.args.of.now.head.now c.args.of.now.last _ _ c.index-as_slice-place.result c.serve_status-answer.result _ c.shown.result _ _
+      met = shown_meets (visit_in c.args.of.now) c.args.of.now.head.now c.args.of.now.last _ _ c.index-as_slice-place.result c.serve_status-answer.result _ c.shown.result _ _
           c.serve_status-answer.ensures.answer is c.serve_status-answer.ensures.met;
-      fault = shown_rises (visit_of c.args.of.now.site.now) c.args.of.now.head.now c.args.of.now.last _ _ c.index-as_slice-place.result c.serve_status-answer.result _ c.shown.result
+      fault = shown_rises (visit_in c.args.of.now) c.args.of.now.head.now c.args.of.now.last _ _ c.index-as_slice-place.result c.serve_status-answer.result _ c.shown.result
           c.serve_status-answer.ensures.answer is;
     }
 

@@ -1,11 +1,13 @@
 -- A head was read, the bytes ended, or no head was read.
-use Rattle.std.proofs.Common.{refl, ◌∙◌, arith}
-use Rattle.client_session.specs.Requests.{visit_of}
+use Rattle.std.proofs.Common.{None, refl, ◌∙◌, arith}
+use Rattle.client_session.specs.Requests.{visit_at, visit_of}
 use Rattle.client_session.specs.Standings.{client_at, standing}
 use Rattle.client_session.specs.Surroundings.{standing_of}
+use Rattle.client_session.specs.declared.turn.SessionTurn.TheVariants as turn
 use Rattle.status_worker.proofs.DeskLaws.{none_met, untouched}
 use Rattle.client_session.proofs.KeepingLaws.{keeps_by, keeps_twice}
 use Rattle.client_session.proofs.SessionLaws.{ends_by_client, meets_without_head, no_fewer_without_head, rises_without_head, without_head}
+use Rattle.client_session.proofs.MomentLaws.{clocked, turned_now, turned_unread}
 use Rattle.client_session.proofs.TurnLaws.{busy_without_head, none_next, rises_since}
 use Rattle.client_session.proofs.serving.serve_one.Goals as goal
 
@@ -20,21 +22,27 @@ returns-in-Ok-Head-clause-turn g c =
 
 pub returns-in-Ok-End-clause-turn : goal.returns-in-Ok-End-clause-turn
 returns-in-Ok-End-clause-turn g c =
-    ends_by_client (visit_of c.args.site.now) c.args.number
+    turned_unread _ _ _ _ _
+    (ends_by_client (visit_at (visit_of c.args.site.now) None) c.args.number
     (standing_of g.B.Desk.state g.K.Clock.answers g.R.Meanings g.C.Meanings c.args.around.now)
     (standing g.B.Desk.state g.K.Clock.answers g.R.Meanings g.C.Meanings c.args.around.now.desk.now c.args.around.now.clock.now c.args.around.now.reach.now c.read_head.new.client c.read_head.new.inbox) _
     (g.met.W.RowSink.gains_nothing _)
     (record {
       used = rw (c.in-Ok-End.field-0-is, c.await_next.ensures.same_bytes.0) at c.in-Ok-End.ensures.end;
       on = record { alone = refl; sent = c.read_head.ensures.same.0 ∙ c.await_next.ensures.same_bytes.2; steady = c.in-Ok-End.ensures.steady tt ∙ c.await_next.ensures.same.1 };
-    })
+    }))
 
 pub returns-in-Err-clause-turn : goal.returns-in-Err-clause-turn
 returns-in-Err-clause-turn g c =
-    without_head (visit_of c.args.site.now) c.args.number
-    (standing_of g.B.Desk.state g.K.Clock.answers g.R.Meanings g.C.Meanings c.args.around.now)
-    (standing g.B.Desk.state g.K.Clock.answers g.R.Meanings g.C.Meanings c.args.around.now.desk.now c.args.around.now.clock.now c.args.around.now.reach.now c.read_head.new.client c.read_head.new.inbox)
-    (standing g.B.Desk.state g.K.Clock.answers g.R.Meanings g.C.Meanings c.args.around.now.desk.now c.args.around.now.clock.now c.args.around.now.reach.now c.stop_without_head.new.client c.read_head.new.inbox)
+    let clock = g.K.Clock.answers c.moment_of-date.new.clock in
+    let s = standing_of g.B.Desk.state g.K.Clock.answers g.R.Meanings g.C.Meanings c.args.around.now in
+    let end =
+    standing g.B.Desk.state g.K.Clock.answers g.R.Meanings g.C.Meanings c.args.around.now.desk.now c.moment_of-date.new.clock c.args.around.now.reach.now c.stop_without_head.new.client
+    c.read_head.new.inbox in
+    turned_now (visit_of c.args.site.now) c.args.number s end clock c.moment_of-date.result _ (turn.EndsAt c.stop_without_head.result) c.moment_of-date.ensures
+    (without_head (visit_at (visit_of c.args.site.now) c.moment_of-date.result) c.args.number (clocked s clock)
+    (standing g.B.Desk.state g.K.Clock.answers g.R.Meanings g.C.Meanings c.args.around.now.desk.now c.moment_of-date.new.clock c.args.around.now.reach.now c.read_head.new.client c.read_head.new.inbox)
+    end
     c.in-Err.error _ c.stop_without_head.result
     (record {
       alone = refl;
@@ -47,7 +55,7 @@ returns-in-Err-clause-turn g c =
       awaited = c.in-Err.ensures.awaited;
       steady = λ calm. c.in-Err.ensures.steady calm ∙ c.await_next.ensures.same.1;
     })
-    refl c.stop_without_head.ensures.stops
+    refl c.stop_without_head.ensures.stops)
 
 pub returns-in-Ok-Head-clause-more : goal.returns-in-Ok-Head-clause-more
 returns-in-Ok-Head-clause-more g c = c.serve_head.ensures.more
@@ -88,9 +96,9 @@ returns-in-Ok-End-clause-kept g c =
 
 pub returns-in-Err-clause-told : goal.returns-in-Err-clause-told
 returns-in-Err-clause-told g c = record {
-  met = meets_without_head c.in-Err.error (client_at g.C.Meanings c.read_head.new.client) (client_at g.C.Meanings c.stop_without_head.new.client) _
+  met = meets_without_head c.moment_of-date.result c.in-Err.error (client_at g.C.Meanings c.read_head.new.client) (client_at g.C.Meanings c.stop_without_head.new.client) _
       c.stop_without_head.result _ c.stop_without_head.ensures.stops;
-  fault = rises_without_head
+  fault = rises_without_head c.moment_of-date.result
       (standing_of g.B.Desk.state g.K.Clock.answers g.R.Meanings g.C.Meanings c.args.around.now)
       (standing g.B.Desk.state g.K.Clock.answers g.R.Meanings g.C.Meanings c.args.around.now.desk.now c.args.around.now.clock.now c.args.around.now.reach.now c.read_head.new.client c.read_head.new.inbox)
       (client_at g.C.Meanings c.stop_without_head.new.client) c.in-Err.error _ c.stop_without_head.result
@@ -110,7 +118,7 @@ returns-in-Err-clause-told g c = record {
 
 pub returns-in-Err-clause-kept : goal.returns-in-Err-clause-kept
 returns-in-Err-clause-kept g c =
-    let more = no_fewer_without_head c.in-Err.error (client_at g.C.Meanings c.read_head.new.client) (client_at g.C.Meanings c.stop_without_head.new.client) _
+    let more = no_fewer_without_head c.moment_of-date.result c.in-Err.error (client_at g.C.Meanings c.read_head.new.client) (client_at g.C.Meanings c.stop_without_head.new.client) _
     c.stop_without_head.result c.stop_without_head.ensures.stops in
     keeps_by _ _ _ _ _ _ c.requires.ready (untouched _ _) refl refl (c.stop_without_head.ensures.beside ∙ c.read_head.ensures.same.1 ∙ c.await_next.ensures.same.0)
     (omega (arith, more, c.read_head.ensures.no_fewer, c.await_next.ensures.same.1)) (refl, refl, refl, refl, refl)
@@ -123,5 +131,5 @@ returns-in-Ok-End-clause-busy g c = tt
 
 pub returns-in-Err-clause-busy : goal.returns-in-Err-clause-busy
 returns-in-Err-clause-busy g c =
-    busy_without_head c.in-Err.error (client_at g.C.Meanings c.read_head.new.client) (client_at g.C.Meanings c.stop_without_head.new.client) _
+    busy_without_head c.moment_of-date.result c.in-Err.error (client_at g.C.Meanings c.read_head.new.client) (client_at g.C.Meanings c.stop_without_head.new.client) _
     c.stop_without_head.result c.stop_without_head.ensures.stops

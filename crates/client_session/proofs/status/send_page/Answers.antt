@@ -25,12 +25,12 @@ pub returns-in_default-clause-no_fewer : goal.returns-in_default-clause-no_fewer
 returns-in_default-clause-no_fewer g c = no_fewer_at g.C.Meanings.faults _ _ refl
 
 pub returns-in-Ok-send-clause-sent : goal.returns-in-Ok-send-clause-sent
-returns-in-Ok-send-clause-sent g c = (c.in-Ok.page, rw c.is_head.ensures at c.in-Ok.ensures.page, rw c.as_slice.ensures at c.in-Ok-send.ensures.sent, refl)
+returns-in-Ok-send-clause-sent g c = (c.in-Ok.page, rw c.kind_of.ensures at c.in-Ok.ensures.page, rw c.as_slice.ensures at c.in-Ok-send.ensures.sent, refl)
 
 pub returns-clause-sent : goal.returns-clause-sent
 returns-clause-sent g c = inr (
   c.in-Ok.page,
-  rw c.is_head.ensures at c.in-Ok.ensures.page,
+  rw c.kind_of.ensures at c.in-Ok.ensures.page,
   subst (λ (bytes : List ℕ). WritesPart {T = Unit {0}} bytes (client_at g.C.Meanings c.args.client.now) (client_at g.C.Meanings c.send.new.client) (Err c.in-Err.stop)) c.as_slice.ensures
       c.in-Err.ensures.sent,
 )

@@ -2,7 +2,7 @@
 use Rattle.std.proofs.Common.{refl, sym, subst, ◌∙◌}
 use Rattle.balancer_core.specs.Desks.{DeskState, MeetsNone}
 use Rattle.status_worker.specs.Desks.{KeepsTickets, desk_side}
-use Rattle.client_session.specs.Requests.{visit_of}
+use Rattle.client_session.specs.Requests.{visit_in}
 use Rattle.client_session.specs.Standings.{client_at}
 use Rattle.client_session.specs.Surroundings.{standing_of}
 use Rattle.client_session.proofs.KeepingLaws.{keeps_by}
@@ -23,9 +23,9 @@ returns-in-Ok-clause-met g c = subst (λ (d : DeskState). MeetsNone (g.B.Desk.st
 pub returns-in-Err-Own-clause-answer : goal.returns-in-Err-Own-clause-answer
 returns-in-Err-Own-clause-answer g c =
     let failed = rw c.in-Err-Own.field-0-is at c.in-Err-Own.ensures.err in
-    own_answered (visit_of c.args.of.now.site.now) c.args.status.now c.args.of.now.head.now c.args.of.now.last (standing_of g.B.Desk.state g.K.Clock.answers g.R.Meanings g.C.Meanings c.args.around.now)
+    own_answered (visit_in c.args.of.now) c.args.status.now c.args.of.now.head.now c.args.of.now.last (standing_of g.B.Desk.state g.K.Clock.answers g.R.Meanings g.C.Meanings c.args.around.now)
     (desk_side g.B.Desk.state g.K.Clock.answers c.change.new.desk c.change.new.clock) (client_at g.C.Meanings c.write_own.new.client)
-    c.in-Err-Own.code c.write_own.result failed.0 (page_code _ failed.1) (rw (c.is_head.ensures, c.in-Err-Own.code-is) at c.write_own.ensures.own)
+    c.in-Err-Own.code c.write_own.result failed.0 (page_code _ failed.1) (rw (c.own_kind_of.ensures, c.in-Err-Own.code-is) at c.write_own.ensures.own)
 
 pub send_page-requires-clause-within : goal.send_page-requires-clause-within
 send_page-requires-clause-within g c = c.in-Ok.ensures.within
@@ -43,7 +43,7 @@ returns-in-Err-Own-clause-met g c = c.change.ensures.met
 
 pub returns-in-Err-NoMemory-clause-answer : goal.returns-in-Err-NoMemory-clause-answer
 returns-in-Err-NoMemory-clause-answer g c =
-    never_done (visit_of c.args.of.now.site.now) c.args.status.now c.args.of.now.head.now c.args.of.now.last
+    never_done (visit_in c.args.of.now) c.args.status.now c.args.of.now.head.now c.args.of.now.last
     (standing_of g.B.Desk.state g.K.Clock.answers g.R.Meanings g.C.Meanings c.args.around.now)
     (desk_side g.B.Desk.state g.K.Clock.answers c.change.new.desk c.change.new.clock) (rw c.in-Err-NoMemory.field-0-is at c.in-Err-NoMemory.ensures.err)
 

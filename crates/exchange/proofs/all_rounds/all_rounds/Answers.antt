@@ -60,7 +60,7 @@ returns-in-Answer-clause-through g c =
     goes_own _ _ _ _ _ _ _ c.in-Answer.status
     (link_at g.C.Meanings c.write_own.new.client) _ c.write_own.result
     c.loop-member.invariant.way c.in-Answer.ensures.step (same_body _ _ _ _ c.write_own.ensures.same.0) c.write_own.ensures.no_fewer
-    (rw c.is_head.ensures at c.write_own.ensures.written)
+    (rw c.own_kind.ensures at c.write_own.ensures.written)
 
 -- after the last round just the client was written to
 pub returns-in-Answer-clause-kept : goal.returns-in-Answer-clause-kept

@@ -1,5 +1,5 @@
 use Rattle.std.proofs.Common.{◌++◌}
-use Rattle.http_out.specs.Framing.{framed, closing_bytes}
+use Rattle.http_out.specs.Framing.{framed}
 use Rattle.http_out.proofs.PassageLaws.{nothing_sent}
 use Rattle.http_out.proofs.pieces.write_piece.Goals as goal
 
