@@ -1,9 +1,9 @@
 -- What an lb worker makes of its members, without a look at the lines that name them.
 use Rattle.std.specs.Prelude.{◌≡◌, ℕ, ◌≤◌, ◌<◌, ◌^◌, true, false, List, Option, ◌⊎◌, length, codes, map}
+use Rattle.jk_model.specs.Limits.{most_balancers, most_members, most_seconds}
 use Rattle.jk_model.specs.Multiple.{multiple_of}
 use Rattle.jk_model.specs.Ranges.{AreInRange, factors_in}
 use Rattle.jk_model.specs.declared.config.LbConfig.{LbConfig}
-use Rattle.jk_model.specs.declared.config.TheConstants.{MAX_BALANCERS, MAX_MEMBERS, MAX_PERIOD_SECONDS}
 use Rattle.jk_model.specs.declared.member.MemberConfig.{MemberConfig}
 use Rattle.property_lines.specs.declared.directive.Directive.{Directive}
 use Rattle.property_lines.specs.declared.directive.Directive.TheVariants as directive
@@ -19,7 +19,7 @@ use Rattle.worker_props.specs.Site.{Breaks, Chained, Each, FirstBad, IsAjp13, Is
 -- members that a balancer can have, where their factors aren't too wide
 pub record AreBookable (ms : List MemberConfig) (es : List Endpoint) : Type 0 where
   pub some : 1 ≤ length ms
-  pub few : length ms ≤ MAX_MEMBERS
+  pub few : length ms ≤ most_members
   pub within : AreInRange ms
   pub paired : length es ≡ length ms
 
@@ -36,7 +36,7 @@ pub record IsBook (v : Directive → Option Property) (maintain : ℕ) (ms : Lis
   pub force : b.force ≡ truth_or false (v directive.Force)
   pub indirect : b.direct ≡ false
   pub period : b.maintain ≡ maintain
-  pub recover : b.recover ≡ number_or 1 MAX_PERIOD_SECONDS 60 (v directive.RecoverTime)
+  pub recover : b.recover ≡ number_or 1 most_seconds 60 (v directive.RecoverTime)
   pub members : b.members ≡ ms
 
 -- a balancer of these parts
@@ -59,7 +59,7 @@ pub record IsLbOf (v : Directive → Option Property) (maintain : ℕ) (name : L
 pub record Pass (ps : List Property) (count : ℕ) (ms : List Listing) : Type 0 where
   pub chained : Each (Chained ps) ms
   pub known : Each (Known ps) ms
-  pub room : count < MAX_BALANCERS
+  pub room : count < most_balancers
   pub ajp13 : Each (IsAjp13 ps) ms
 
 -- their first refusal, each after those before it
@@ -67,5 +67,5 @@ abbrev pub RefusesMembers : List Property → (count : ℕ) → Listing → List
 RefusesMembers ps count l ms r =
     FirstBad (Chained ps) (Breaks ps) ms r
     ⊎ ((Each (Chained ps) ms × FirstBad (Known ps) (IsUnknown ps) ms r)
-    ⊎ ((Each (Chained ps) ms × Each (Known ps) ms × (MAX_BALANCERS ≤ count) × (r ≡ refusal l.line reason.BadValue))
-    ⊎ (Each (Chained ps) ms × Each (Known ps) ms × (count < MAX_BALANCERS) × FirstBad (IsAjp13 ps) (IsNoAjp13 ps) ms r)))
+    ⊎ ((Each (Chained ps) ms × Each (Known ps) ms × (most_balancers ≤ count) × (r ≡ refusal l.line reason.BadValue))
+    ⊎ (Each (Chained ps) ms × Each (Known ps) ms × (count < most_balancers) × FirstBad (IsAjp13 ps) (IsNoAjp13 ps) ms r)))

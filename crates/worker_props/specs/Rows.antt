@@ -8,7 +8,6 @@ use Rattle.worker_props.specs.declared.row.Progress.TheVariants as progress
 use Rattle.property_lines.specs.Directives.{slot_of, directive_of, worker_part}
 use Rattle.worker_props.specs.Numbers.{number_of}
 use Rattle.worker_props.specs.Given.{last_given, IsChain, in_force}
-use Rattle.property_lines.specs.declared.directive.TheConstants.{DIRECTIVE_COUNT}
 
 abbrev pub place_at : Row → Directive → Option ℕ
 place_at row d = slice_index_or row.places (slot_of d) None
@@ -22,7 +21,7 @@ property_at ps row d = picked ps (place_at row d)
 
 -- the row has these lines, one for each directive that has one
 pub record HasLines (ps : List Property) (lines : Directive → Option Property) (row : Row) : Type 0 where
-  pub wide : length row.places ≡ DIRECTIVE_COUNT
+  pub wide : length row.places ≡ 36
   pub held : (d : Directive) → is_some (place_at row d) ≡ is_some (property_at ps row d)
   pub lines_are : (d : Directive) → property_at ps row d ≡ lines d
 

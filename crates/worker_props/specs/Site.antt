@@ -2,6 +2,7 @@
 use Rattle.std.specs.Prelude.{◌≡◌, ℕ, ◌+◌, ◌<◌, ◌≤◌, ◌^◌, Bool, true, false, List, [], ◌∷◌, ◌++◌, Option, Some, None, Ok, Err, ◌⊎◌, ◌≢◌, if◌then◌else◌, not, length, map, filter, codes}
 use Rattle.std.specs.Option.{is_some}
 use Rattle.std.specs.Str.{bytes_eq}
+use Rattle.jk_model.specs.Limits.{most_balancers, most_members, most_seconds}
 use Rattle.jk_model.specs.Multiple.{multiple_of}
 use Rattle.jk_model.specs.Ranges.{factors_in}
 use Rattle.jk_model.specs.declared.member.MemberConfig.{MemberConfig}
@@ -24,7 +25,6 @@ use Rattle.property_lines.specs.Properties.{read_text}
 use Rattle.worker_props.specs.Given.{IsChain, in_force, is_given, last_of, BreaksAt}
 use Rattle.worker_props.specs.Lists.{Listing, firsts, site_list, members_in}
 use Rattle.worker_props.specs.Settings.{IsEndpoint, IsMember, filled_or, is_closed, kind_in, method_in, number_or, shared, text_in, truth_or}
-use Rattle.jk_model.specs.declared.config.TheConstants.{MAX_BALANCERS, MAX_MEMBERS, MAX_PERIOD_SECONDS}
 
 -- the members of these names, from place i on, with how each is reached
 abbrev pub AreMembers : List Property → List (List ℕ) → ℕ → List Listing → List MemberConfig → List Endpoint → Type 0
@@ -45,7 +45,7 @@ pub record IsLb (ps : List Property) (v : Directive → Option Property) (mainta
   pub force : lb.book.force ≡ truth_or false (v directive.Force)
   pub indirect : lb.book.direct ≡ false
   pub period : lb.book.maintain ≡ maintain
-  pub recover : lb.book.recover ≡ number_or 1 MAX_PERIOD_SECONDS 60 (v directive.RecoverTime)
+  pub recover : lb.book.recover ≡ number_or 1 most_seconds 60 (v directive.RecoverTime)
   pub own : List Endpoint
   pub members : AreMembers ps (routes_of lb.book.members) 0 ls lb.book.members own
   pub ends : lb.ends ≡ map (shared (text_in (v directive.Secret))) own
@@ -105,8 +105,8 @@ IsAjp13 ps l = HasKind ps l.name kind.Ajp13
 abbrev pub RefusesBook : List Property → ℕ → List Listing → LineRefusal → Type 0
 RefusesBook ps line members r =
     ((length members ≡ 0) × (r ≡ refusal line reason.NoMembers))
-    ⊎ (((MAX_MEMBERS < length members) × (r ≡ refusal line reason.TooManyMembers))
-    ⊎ ((ms : List MemberConfig) × (es : List Endpoint) × (1 ≤ length members) × (length members ≤ MAX_MEMBERS)
+    ⊎ (((most_members < length members) × (r ≡ refusal line reason.TooManyMembers))
+    ⊎ ((ms : List MemberConfig) × (es : List Endpoint) × (1 ≤ length members) × (length members ≤ most_members)
     × AreMembers ps (routes_of ms) 0 members ms es × (2 ^ 32 ≤ multiple_of (factors_in ms)) × (r ≡ refusal line reason.TooWide)))
 
 abbrev pub line_in : Option Property → ℕ
@@ -118,13 +118,13 @@ abbrev pub RefusesLb : List Property → ℕ → Listing → (Directive → Opti
 RefusesLb ps count l v members r =
     FirstBad (Chained ps) (Breaks ps) members r
     ⊎ ((Each (Chained ps) members × FirstBad (Known ps) (IsUnknown ps) members r)
-    ⊎ ((Each (Chained ps) members × Each (Known ps) members × (MAX_BALANCERS ≤ count) × (r ≡ refusal l.line reason.BadValue))
-    ⊎ ((Each (Chained ps) members × Each (Known ps) members × (count < MAX_BALANCERS) × FirstBad (IsAjp13 ps) (IsNoAjp13 ps) members r)
-    ⊎ (Each (Known ps) members × (count < MAX_BALANCERS) × Each (IsAjp13 ps) members × RefusesBook ps (line_in (v directive.Kind)) (firsts members) r))))
+    ⊎ ((Each (Chained ps) members × Each (Known ps) members × (most_balancers ≤ count) × (r ≡ refusal l.line reason.BadValue))
+    ⊎ ((Each (Chained ps) members × Each (Known ps) members × (count < most_balancers) × FirstBad (IsAjp13 ps) (IsNoAjp13 ps) members r)
+    ⊎ (Each (Known ps) members × (count < most_balancers) × Each (IsAjp13 ps) members × RefusesBook ps (line_in (v directive.Kind)) (firsts members) r))))
 
 abbrev pub RefusesKind : List Property → ℕ → Listing → (Directive → Option Property) → WorkerKind → LineRefusal → Type 0
 RefusesKind ps count l v kind.Status r = ⊥
-RefusesKind ps count l v kind.Ajp13 r = (MAX_BALANCERS ≤ count) × (r ≡ refusal l.line reason.BadValue)
+RefusesKind ps count l v kind.Ajp13 r = (most_balancers ≤ count) × (r ≡ refusal l.line reason.BadValue)
 RefusesKind ps count l v kind.Lb r = RefusesLb ps count l v (members_in ps (v directive.BalanceWorkers)) r
 
 -- the refusals of a listed worker after `count` balancers
@@ -147,10 +147,10 @@ abbrev pub AddsKind : List Property → ℕ → Listing → (Directive → Optio
 AddsKind ps maintain l v kind.Status old new =
     (s : Status) × (s.name ≡ l.name) × (s.read_only ≡ truth_or false (v directive.ReadOnly)) × (s.closed ≡ is_closed v) × (new ≡ with_status old l.name s)
 AddsKind ps maintain l v kind.Ajp13 old new =
-    (length old.lbs < MAX_BALANCERS) × (lb : Lb) × IsDirect ps maintain l lb × (new ≡ with_lb old l.name lb)
+    (length old.lbs < most_balancers) × (lb : Lb) × IsDirect ps maintain l lb × (new ≡ with_lb old l.name lb)
 AddsKind ps maintain l v kind.Lb old new =
     let members = members_in ps (v directive.BalanceWorkers) in
-    (length old.lbs < MAX_BALANCERS) × Each (Known ps) members × Each (IsAjp13 ps) members
+    (length old.lbs < most_balancers) × Each (Known ps) members × Each (IsAjp13 ps) members
     × (lb : Lb) × IsLb ps v maintain l.name (firsts members) lb × (new ≡ with_lb old l.name lb)
 
 abbrev pub Adds : List Property → ℕ → Listing → Draft → Draft → Type 0
@@ -173,7 +173,7 @@ abbrev pub is_maintain_line : Property → Bool
 is_maintain_line p = bytes_eq p.key maintain_key
 
 abbrev pub maintain_of : List Property → ℕ
-maintain_of ps = number_or 1 MAX_PERIOD_SECONDS 60 (last_of is_maintain_line ps)
+maintain_of ps = number_or 1 most_seconds 60 (last_of is_maintain_line ps)
 
 -- whether a key has an effect
 abbrev pub is_built_part : Option (List ℕ × List ℕ) → List ℕ → Bool

@@ -12,7 +12,6 @@ use Rattle.property_lines.specs.declared.error.PropsError.TheVariants as errors
 use Rattle.worker_props.specs.Numbers.{number_of}
 use Rattle.worker_props.specs.Given.{last_given, is_given, is_among, target_at, target_in, Walks, BreaksAt, or_else}
 use Rattle.worker_props.specs.Rows.{place_at, property_at, HasLines, HasForce, AreRows}
-use Rattle.property_lines.specs.declared.directive.TheConstants.{DIRECTIVE_COUNT}
 
 abbrev pub was_passed : Progress → Bool
 was_passed progress.Own = false
@@ -110,6 +109,6 @@ place_or own (Some from) d = or_else own (place_at from d)
 
 -- the row with the lines of the other where it has none
 pub record Inherits (old : Row) (from : Option Row) (new : Row) : Type 0 where
-  pub wide : length new.places ≡ DIRECTIVE_COUNT
+  pub wide : length new.places ≡ 36
   pub progress_is : is_whole new ≡ true
   pub places_are : (d : Directive) → place_at new d ≡ place_or (place_at old d) from d
