@@ -9,3 +9,4 @@ pub mod CalledLaws
 pub mod RoomLaws
 pub mod NoteLaws
 pub mod CloseLaws
+pub mod PlacedLaws

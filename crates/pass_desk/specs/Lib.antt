@@ -5,3 +5,4 @@ pub mod PassDesks
 pub mod Rooms
 pub mod Notes
 pub mod Closing
+pub mod Placed

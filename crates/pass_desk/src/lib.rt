@@ -17,6 +17,7 @@ mod notes;
 mod pass;
 mod pass_book;
 mod pass_desk;
+mod placed_desk;
 mod rule;
 mod turns;
 
@@ -24,3 +25,4 @@ pub use closing::{CloseRefused, close_passes};
 pub use pass::{Note, Pass, PassList};
 pub use pass_book::{MAX_PASSES, PassBook};
 pub use pass_desk::PassDesk;
+pub use placed_desk::{PassPlace, PlacedDesk};
