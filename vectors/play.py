@@ -5,8 +5,9 @@
     play.py make SEED LINES [FORM]   prints a script of LINES lines; FORM is `first` (only the lines member, select, done and
                                      failed), `calls` (every line but maintain, update, reset and recover) or `whole`
                                      (every line in every form; the default)
+    play.py short SEED               prints a script of some 80 calls of every kind, of a few members
     play.py large SEED               prints a script of up to 2,000 calls of every kind, of up to 64 members
-    play.py rows                     prints the long and the large scripts with their output, as rows of plain_checks:
+    play.py rows                     prints some short and large scripts with their output, as rows of plain_checks:
                                      vectors/play.py rows > crates/plain_checks/data/plain/plays.txt
     play.py pairs                    prints 32,768 choices, each given back, twice from one opening, as the rows of
                                      book_checks: vectors/play.py pairs > crates/checks/data/book/pairs.txt
@@ -407,14 +408,14 @@ class Writer:
             return [dice.choice([d for d in range(1, 55441) if 55440 % d == 0]) for _ in range(count)]
         return [dice.choice([1, 65535, 65534, 32767, 13107]) for _ in range(count)]
 
-    def head(self):
+    def head(self, counts):
         dice = self.dice
         method = "RSTB"[dice.randrange(4)]
         if dice.random() < 0.2:
             self.add("lb R 1 0 60 60")
         self.add(f"lb {method} {dice.choice('1110')} {dice.choice('01')} {dice.choice([1, 7, 60, 86400])} {dice.choice([1, 30, 60, 600])}")
         self.add(f"at {dice.choice([0, 7, 1700000000, 2**40])}")
-        count = dice.choice([1, 2, 3, 4, 5, 8, 13, 21, 34, 48, 63, 64])
+        count = dice.choice(counts)
         self.names = [dice.choice(["node", "n-", "A_", "x"]) + str(m) for m in range(count)]
         for name, factor in zip(self.names, self.factors(count)):
             text = f"member {name} {factor}"
@@ -478,22 +479,32 @@ class Writer:
         return [] if last is None else [last, "select"]
 
 
-def large(seed):
+def written(seed, counts, moods, calls):
+    """A script of this many stretches of this many calls, each in a mood, of one of these numbers of members."""
     writer = Writer(seed)
-    writer.head()
+    writer.head(counts)
     dice = writer.dice
     writer.add("select")
-    for _ in range(dice.randint(3, 12)):
+    for _ in range(dice.randint(*moods)):
         mood = dice.choice(["calm", "calm", "failing", "filling"])
-        for _ in range(dice.randint(40, 300)):
+        for _ in range(dice.randint(*calls)):
             if len(writer.script) < 2000:
                 writer.call(mood)
     return writer.script + writer.end()
 
 
-LONG = [(1, 80, "first"), (2, 100, "calls"), (3, 100, "calls")] + [(seed, 400, "whole") for seed in (11, 12, 13)]
+def short(seed):
+    return written(seed, [1, 2, 2, 3, 3, 4, 5, 8], (2, 4), (10, 40))
 
-LARGE = range(101, 131)
+
+def large(seed):
+    return written(seed, [1, 2, 3, 4, 5, 8, 13, 21, 34, 48, 63, 64], (3, 12), (40, 300))
+
+
+# Of 400 short scripts those that tell the most mistakes and kinds of events (telling.py), and some large ones, of 64 members too.
+SHORT = (20, 84, 89, 110, 111, 129, 130, 156, 159, 162, 164, 186, 204, 239, 241, 264, 292, 297, 305, 329, 333, 367, 372, 374, 377)
+
+LARGE = (110, 117)
 
 
 def row(name, script):
@@ -503,8 +514,8 @@ def row(name, script):
 
 
 def rows():
-    told = ["# Long and large scripts, with what they print: vectors/play.py rows > crates/plain_checks/data/plain/plays.txt\n"]
-    told += [row(f"long {seed}", make(seed, lines, form)) for seed, lines, form in LONG]
+    told = ["# Scripts with what they print: vectors/play.py rows > crates/plain_checks/data/plain/plays.txt\n"]
+    told += [row(f"short {seed}", short(seed)) for seed in SHORT]
     return "\n".join(told + [row(f"large {seed}", large(seed)) for seed in LARGE])
 
 
@@ -559,8 +570,8 @@ def main(words):
     if words == ["pairs"]:
         print("\n".join(pairs()))
         return 0
-    if words[:1] == ["large"] and len(words) == 2:
-        print("\n".join(large(int(words[1]))))
+    if words[:1] in (["short"], ["large"]) and len(words) == 2:
+        print("\n".join({"short": short, "large": large}[words[0]](int(words[1]))))
         return 0
     if words[:1] == ["make"] and len(words) in (3, 4):
         form = words[3] if len(words) == 4 else "whole"
