@@ -501,6 +501,33 @@ def large(seed):
     return written(seed, [1, 2, 3, 4, 5, 8, 13, 21, 34, 48, 63, 64], (3, 12), (40, 300))
 
 
+# What few scripts meet: a member that a maintenance takes out of error, whose load was less than another's, and a maintenance at a
+# moment that is before the last entry's.
+RECOVERED = """lb R 1 0 60 30
+member a 1
+member b 3
+member c 2
+select
+select
+select
+select
+select
+failed 1
+done 0
+at 59
+maintain
+show
+at 60
+maintain
+show
+select
+select
+at 130
+select
+at 100
+maintain
+show""".split("\n")
+
 # Of 400 short scripts those that tell the most mistakes and kinds of events (telling.py), and some large ones, of 64 members too.
 SHORT = (20, 84, 89, 110, 111, 129, 130, 156, 159, 162, 164, 186, 204, 239, 241, 264, 292, 297, 305, 329, 333, 367, 372, 374, 377)
 
@@ -515,6 +542,7 @@ def row(name, script):
 
 def rows():
     told = ["# Scripts with what they print: vectors/play.py rows > crates/plain_checks/data/plain/plays.txt\n"]
+    told.append(row("recovered", RECOVERED))
     told += [row(f"short {seed}", short(seed)) for seed in SHORT]
     return "\n".join(told + [row(f"large {seed}", large(seed)) for seed in LARGE])
 

@@ -218,7 +218,7 @@ def choose(seeds, least):
 
 
 def main(words):
-    scripts = [play.short(seed) for seed in play.SHORT] + [play.large(seed) for seed in play.LARGE]
+    scripts = [play.RECOVERED] + [play.short(seed) for seed in play.SHORT] + [play.large(seed) for seed in play.LARGE]
     if words == ["mistakes"]:
         mistakes(scripts)
     elif words == ["kinds"]:
