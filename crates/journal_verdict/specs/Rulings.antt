@@ -3,6 +3,7 @@ use Rattle.std.specs.Prelude.{◌≡◌, ℕ, zero, suc, ◌+◌, ◌^◌, ◌<�
 use Rattle.balancer_core.specs.Commanded.{IsKnown}
 use Rattle.jk_model.specs.Journal.{maintained_of, members, moment_of, next_of}
 use Rattle.jk_model.specs.Legal.{HasValues, IsDoable, IsLegal, IsNext, taken_by}
+use Rattle.jk_model.specs.Limits.{most_numbers}
 use Rattle.jk_model.specs.Settings.{common_after}
 use Rattle.jk_model.specs.Tickets.{is_out, out}
 use Rattle.jk_model.specs.declared.change.Command.{Command}
@@ -12,7 +13,6 @@ use Rattle.jk_model.specs.declared.journal.Entry.{Entry}
 use Rattle.jk_model.specs.declared.opening.Opening.{Opening}
 use Rattle.journal_verdict.specs.declared.ruling.Ruling.{Ruling}
 use Rattle.journal_verdict.specs.declared.ruling.Ruling.TheVariants as ruling
-use Rattle.jk_model.specs.declared.validity.TheConstants.{MOST_NUMBERS}
 
 -- Why a command can't be done: 1 no such member, 2 a value out of its range, 3 too wide a multiple; each after those before it.
 abbrev pub IsRefusal : Opening → List Entry → Command → (code : ℕ) → Type 0
@@ -34,7 +34,7 @@ abbrev pub Refuses : Opening → List Entry → Entry → Call → Ruling → Ty
 Refuses o p e (call.Return ticket outcome) ruling.Stray = is_out o p ticket ≡ false
 Refuses o p e call.Maintain ruling.NotDue = e.at < maintained_of o p + o.config.maintain
 Refuses o p e (call.Admin c) (ruling.Refused code) = IsRefusal o p c code
-Refuses o p e asked ruling.Full = IsAllowed o p e.at asked × (MOST_NUMBERS < e.seq + length (out o p) + taken_by asked)
+Refuses o p e asked ruling.Full = IsAllowed o p e.at asked × (most_numbers < e.seq + length (out o p) + taken_by asked)
 Refuses o p e asked other = ⊥
 
 -- What is ruled on an entry whose number and moment are right: the one legal answer, or why there is none.
