@@ -1,3 +1,4 @@
+pub mod CountLaws
 pub mod GoneLaws
 pub mod HeldLaws
 pub mod HistoryLaws

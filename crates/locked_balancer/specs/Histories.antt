@@ -122,6 +122,10 @@ DeskMaySee starts old new gained Wanting = DeskSees starts old new gained ⊎ ((
 abbrev pub own_in : (number : ℕ) → List (ℕ × (ℕ × Entry)) → List (ℕ × Entry)
 own_in number log = map (λ x. x.1) (filter (λ x. x.0 == number) log)
 
+-- How many entries the desk with this seat has seen as its own.
+abbrev pub own_count : SeatNote → ℕ
+own_count s = length (own_in s.number s.seen)
+
 -- No number stands in the list twice.
 abbrev pub AreDistinct : List ℕ → Type 0
 AreDistinct [] = Unit {0}

@@ -1,5 +1,6 @@
 //! A desk of one thread over the Site that all threads share.
 ghost use Rattle.std.specs.Prelude.{◌≡◌, ◌+◌, ◌<◌, ◌≤◌, length};
+ghost use Rattle.locked_balancer.specs.Histories.{own_count};
 ghost use Rattle.locked_balancer.specs.SharedDesks.{CountsFull, CountsRefusal, IsPutAway, PutsAway, first_met};
 
 use crate::at_site::{choose_at, command_at, give_back_at, look_at, take_last};
@@ -40,7 +41,7 @@ pub struct SharedDesk<'s, 'r, L: SiteName, S: Shelf, R> {
 
 impl<'s, 'r, L: SiteName, S: Shelf, R> Model for SharedDesk<'s, 'r, L, S, R> {
     ghost use Rattle.std.specs.Prelude.{◌≡◌, is_some, length, vec_capacity};
-    ghost use Rattle.locked_balancer.specs.Histories.{IsResting, number_of, seen_of};
+    ghost use Rattle.locked_balancer.specs.Histories.{IsResting, number_of, own_count, seat_note, seen_of};
     ghost use Rattle.locked_balancer.specs.SharedDesks.{IsShared, SharedState, shared_desk};
 
     ghost Value = { SharedState S };
@@ -60,10 +61,12 @@ impl<'s, 'r, L: SiteName, S: Shelf, R> Model for SharedDesk<'s, 'r, L, S, R> {
 
     ghost invariant = { λ d. IsShared (length L.sizes) d.receipts.items d.held.items d.stake.share.parts d.stake.share.amount d.forgotten
         (vec_capacity d.receipts)
-        × (d.stake.seat.table_id ≡ d.site.now.lock.table.shared.table_id) × IsResting d.stake.seat.me };
+        × (d.stake.seat.table_id ≡ d.site.now.lock.table.shared.table_id) × IsResting d.stake.seat.me
+        × (own_count (seat_note d.stake.seat.table_id d.stake.seat.me) ≡ d.stake.share.amount) };
 }
 
-/// What a desk leaves: its share, the receipts that it has, how many it forgot, its shelf, and its seat at the lock.
+/// What a desk leaves: its share, the receipts that it has, how many it forgot, its shelf, and its seat at the lock. Its share
+/// counts just the entries that its seat has seen as its own.
 #[derive(Drop)]
 pub struct Leaving<L: SiteName, S> {
     pub share: Share<L>,
@@ -73,6 +76,7 @@ pub struct Leaving<L: SiteName, S> {
     pub seat: LeftSeat<L>,
     pub ghost part: { 0 < share.parts },
     pub ghost counted: { share.amount ≡ length receipts + forgotten },
+    pub ghost own: { own_count seat ≡ share.amount },
 }
 
 impl<'s, 'r, L: SiteName, S: Shelf, R> SharedDesk<'s, 'r, L, S, R> {

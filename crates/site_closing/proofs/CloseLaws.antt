@@ -51,3 +51,7 @@ err_left P Q (Err e) then is = close_error P Q e then is
 pub ok_left : {T E : Type 0} (P Q : T → Type 0) (r : Result T E) → ((c : T) → P c → Q c) → IfOk r P → IfOk r Q
 ok_left P Q (Ok c) then is = then c is
 ok_left P Q (Err e) then is = is
+
+pub ok_both : {T E : Type 0} (P Q : T → Type 0) (r : Result T E) → IfOk r P → IfOk r Q → IfOk r (λ c. P c × Q c)
+ok_both P Q (Ok c) p q = (p, q)
+ok_both P Q (Err e) p q = p

@@ -1,2 +1,3 @@
 pub mod CloseLaws
 pub mod ListLaws
+pub mod WholeLaws

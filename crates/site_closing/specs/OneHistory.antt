@@ -1,25 +1,12 @@
--- The one history of a run: what the desks of a Site were told, beside what its Books are at the end. Read this first.
-use Rattle.std.specs.Prelude.{ℕ, ◌≡◌, ◌==◌, List, length, map, Some, slice_get}
-use Rattle.std.specs.List.{All, Contains, filter}
-use Rattle.jk_model.specs.declared.journal.Entry.{Entry}
+-- The one history of a run, by the desks that left. Read this with locked_balancer's specs/Histories.antt.
+use Rattle.std.specs.Prelude.{List, map}
+use Rattle.std.specs.List.{All, Contains}
 use Rattle.jk_model.specs.declared.opening.Opening.{Opening}
 use Rattle.balancer_core.specs.Journal.{Journal}
-use Rattle.balancer_core.specs.declared.receipt.Receipt.{Receipt}
-use Rattle.locked_balancer.specs.Histories.{IsSiteHistory, noted}
+use Rattle.locked_balancer.specs.Histories.{IsClosed, SeatNote}
 
--- The entries that the desk of this number added, in their order, each with its balancer.
-abbrev pub own_in : (number : ℕ) → List (ℕ × (ℕ × Entry)) → List (ℕ × Entry)
-own_in number log = map (λ x. x.1) (filter (λ x. x.0 == number) log)
-
--- The run of all desks has one history. It begins with the openings of the balancers; it is legal, each recorded answer
--- being that of the one-thread rule; and it ends in what the Books are. Each desk has a number of its own, and what it was
--- told in all its calls are just the entries of that number, in their order; there are no entries of anybody else.
-pub record IsOneHistory (starts : List Opening) (books : List Journal) (told : List (List Receipt)) : Type 0 where
-  pub log : List (ℕ × (ℕ × Entry))
-  pub history : IsSiteHistory starts log books
-  pub desks : List ℕ
-  pub each : length desks ≡ length told
-  pub apart : (i j n : ℕ) → slice_get desks i ≡ Some n → slice_get desks j ≡ Some n → i ≡ j
-  pub own : (i n : ℕ) (receipts : List Receipt) → slice_get desks i ≡ Some n → slice_get told i ≡ Some receipts
-      → own_in n log ≡ noted receipts
-  pub no_other : All (λ x. Contains desks x.0) log
+-- One history of the Site made its Books what they are. Of each desk with one of these seats it has just the entries that the
+-- desk has seen as its own, and it has no entry of anybody else.
+pub record IsWhole (starts : List Opening) (seats : List SeatNote) (books : List Journal) : Type 0 where
+  pub closed : IsClosed starts seats books
+  pub no_other : All (λ x. Contains (map (λ s. s.number) seats) x.0) closed.log

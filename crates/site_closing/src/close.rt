@@ -8,6 +8,7 @@ ghost use Rattle.locked_balancer.specs.Locks.{lock_of};
 ghost use Rattle.locked_balancer.specs.Sites.{AreSited, added_in};
 ghost use Rattle.site_closing.specs.CloseErrors.{IsCloseError};
 ghost use Rattle.site_closing.specs.Closings.{AreUncut, Differs, IsDiscord, kept_from, noted};
+ghost use Rattle.site_closing.specs.OneHistory.{IsWhole};
 ghost use Rattle.jk_model.specs.declared.config.TheConstants.{MAX_BALANCERS};
 
 use crate::compare::{Noted, first_difference, put_in_order};
@@ -105,8 +106,9 @@ pub fn close_own_desks<'r, L: SiteName, S: Drop, R: Wait>(
     requires here { All (λ l. l.seat.lock ≡ lock_of site) leaving }
     ensures sited { IfOk result (λ c. AreSited L.sizes L.firsts c.books) }
 
-    // Of each desk the one history has just the entries that the desk has seen as its own.
+    // Of each desk the one history has just the entries that the desk has seen as its own, and none of anybody else.
     ensures history { IfOk result (λ c. IsClosed L.starts (map (λ l. l.seat) leaving) c.books) }
+    ensures whole { IfOk result (λ c. IsWhole L.starts (map (λ l. l.seat) leaving) c.books) }
     ensures counted { IfOk result (λ c. c.entries ≡ sum_by (λ l. l.share.amount) leaving) }
     ensures shelves { IfOk result (λ c. c.shelves ≡ map (λ l. l.shelf) leaving) }
     ensures differs { IfErr result (IsCloseError

@@ -2,7 +2,8 @@
 //!
 //! Own rule: the comparison is made where no desk forgot a receipt and no journal was cut (docs/DECISIONS.md).
 //! Shapes: entries are compared with their balancers, in the order of balancers and numbers.
-//! Contract: `close_desks`, clauses `counted`, `once` and `differs`. Read first: specs/Closings.antt.
+//! Contract: `close_desks`, clauses `counted`, `once` and `differs`; `close_own_desks`, clauses `history` and `whole`. Read first:
+//! specs/Closings.antt; then specs/OneHistory.antt.
 //! `try_a_site` runs two desks on two threads over a Site of its own, and closes them.
 //! Errors: `CloseError`. A `Discord` is made by `close_desks` alone.
 #![tactic(auto)]

@@ -5,6 +5,7 @@ use Rattle.jk_model.specs.declared.refusal.RoomError.TheVariants as room
 use Rattle.balancer_core.specs.Desks.{Chooses, DeskState, KeepsDesk, RefusesChoice}
 use Rattle.locked_balancer.specs.SharedDesks.{PutsAwayOf, SharedState, shared_desk}
 use Rattle.locked_balancer.specs.Histories.{DeskMaySee, gained_in, seat_note}
+use Rattle.locked_balancer.proofs.CountLaws.{adds_choice, count_may}
 use Rattle.locked_balancer.proofs.SeatLaws.{desk_may_see, may_rest}
 use Rattle.locked_balancer.proofs.SharedLaws.{final_err, final_ok, full_kept}
 use Rattle.locked_balancer.proofs.shared_desk.SharedDeskDesk.choose.Goals as goal
@@ -14,6 +15,10 @@ invariant_of-self g c = (
   c.choose_at-segment.ensures.kept c.self.inside.forgotten c.self.invariant.0,
   c.choose_at-segment.ensures.table ∙ c.self.invariant.1,
   may_rest g.L.SiteName.starts c.self.inside.stake.seat.me c.choose_at-segment.new.stake.seat.me _ _ c.self.invariant.2 c.choose_at-segment.ensures.sees,
+  count_may g.L.SiteName.starts c.self.inside.stake.seat.table_id c.choose_at-segment.new.stake.seat.table_id c.self.inside.stake.seat.me c.choose_at-segment.new.stake.seat.me _ _ _ _ c.self.inside.forgotten _ c.choose_at-segment.ensures.sees
+      (adds_choice _ (record { parts = c.self.inside.stake.share.parts; amount = c.self.inside.stake.share.amount; receipts = c.self.inside.receipts.items; room = 0; held = _ })
+      (record { parts = c.choose_at-segment.new.stake.share.parts; amount = c.choose_at-segment.new.stake.share.amount; receipts = c.choose_at-segment.new.receipts.items; room = 0; held = _ }) _ _ c.choose_at-segment.result.1 c.choose_at-segment.ensures.ok c.choose_at-segment.ensures.err)
+      c.self.invariant.0.counted (c.choose_at-segment.ensures.kept c.self.inside.forgotten c.self.invariant.0).counted c.self.invariant.3,
 )
 
 pub returns-clause-ok : goal.returns-clause-ok

@@ -5,6 +5,7 @@ use Rattle.jk_model.specs.declared.refusal.AdminError.TheVariants as admin
 use Rattle.balancer_core.specs.Desks.{Commands, DeskState, GainsDue, IsCommandRefusal, KeepsDesk, RefusesCommand}
 use Rattle.locked_balancer.specs.SharedDesks.{IsShared, PutsAwayOf, SharedState, shared_desk}
 use Rattle.locked_balancer.specs.Histories.{DeskMaySee, gained_in, seat_note}
+use Rattle.locked_balancer.proofs.CountLaws.{adds_command, count_may}
 use Rattle.locked_balancer.proofs.SeatLaws.{desk_may_see, may_rest}
 use Rattle.locked_balancer.proofs.SharedLaws.{final_done, final_refused, refusal_kept}
 use Rattle.locked_balancer.proofs.shared_desk.SharedDeskDesk.command.Goals as goal
@@ -16,6 +17,10 @@ invariant_of-self g c =
       kept c.self.invariant.0,
       c.command_at-segment.ensures.table ∙ c.self.invariant.1,
       may_rest g.L.SiteName.starts c.self.inside.stake.seat.me c.command_at-segment.new.stake.seat.me _ _ c.self.invariant.2 c.command_at-segment.ensures.sees,
+      count_may g.L.SiteName.starts c.self.inside.stake.seat.table_id c.command_at-segment.new.stake.seat.table_id c.self.inside.stake.seat.me c.command_at-segment.new.stake.seat.me _ _ _ _ c.self.inside.forgotten _ c.command_at-segment.ensures.sees
+          (adds_command _ (record { parts = c.self.inside.stake.share.parts; amount = c.self.inside.stake.share.amount; receipts = c.self.inside.receipts.items; room = 0; held = _ })
+          (record { parts = c.command_at-segment.new.stake.share.parts; amount = c.command_at-segment.new.stake.share.amount; receipts = c.command_at-segment.new.receipts.items; room = 0; held = _ }) _ _ c.command_at-segment.result.1 c.command_at-segment.ensures.ok c.command_at-segment.ensures.err)
+          c.self.invariant.0.counted (kept c.self.invariant.0).counted c.self.invariant.3,
     )
 
 pub returns-clause-ok : goal.returns-clause-ok

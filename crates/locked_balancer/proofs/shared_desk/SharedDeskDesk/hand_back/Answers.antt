@@ -1,8 +1,9 @@
 -- A lease that is held is of a balancer of the Site.
-use Rattle.std.proofs.Common.{◌≡◌, ℕ, true, length, sym, ap, subst, ◌∙◌}
+use Rattle.std.proofs.Common.{◌≡◌, ℕ, true, length, sym, ap, subst, ◌∙◌, arith}
 use Rattle.std.specs.Prelude.{vec_capacity}
 use Rattle.balancer_core.specs.Desks.{DeskState, holds}
 use Rattle.locked_balancer.specs.SharedDesks.{SharedState}
+use Rattle.locked_balancer.proofs.CountLaws.{count_back}
 use Rattle.locked_balancer.proofs.SharedLaws.{known_held, shared_back, shared_stray}
 use Rattle.locked_balancer.proofs.shared_desk.SharedDeskDesk.hand_back.Goals as goal
 
@@ -23,6 +24,9 @@ invariant_of-self g c =
           c.in-Ok.ensures.length c.in-Ok.ensures.amount c.give_back_at-done.ensures.few c.give_back_at-done.ensures.parts c.take_last.ensures.held c.give_back_at-done.ensures.room,
       c.give_back_at-done.ensures.table ∙ c.self.invariant.1,
       c.give_back_at-done.ensures.sees.rests,
+      count_back g.L.SiteName.starts c.self.inside.stake.seat.table_id c.give_back_at-done.new.stake.seat.table_id c.self.inside.stake.seat.me c.give_back_at-done.new.stake.seat.me c.self.inside.receipts.items c.give_back_at-done.new.receipts.items
+          c.self.inside.stake.share.amount c.give_back_at-done.new.stake.share.amount 1 c.give_back_at-done.ensures.sees
+          c.in-Ok.ensures.length c.in-Ok.ensures.amount c.self.invariant.3,
     )
 
 pub invariant_of-self-in-Err : goal.invariant_of-self-in-Err
@@ -32,6 +36,9 @@ invariant_of-self-in-Err g c = (
       c.in-Err.ensures.err.0 c.in-Err.ensures.err.1 c.give_back_at-done.ensures.parts c.take_last.ensures.held c.give_back_at-done.ensures.room,
   c.give_back_at-done.ensures.table ∙ c.self.invariant.1,
   c.give_back_at-done.ensures.sees.rests,
+  count_back g.L.SiteName.starts c.self.inside.stake.seat.table_id c.give_back_at-done.new.stake.seat.table_id c.self.inside.stake.seat.me c.give_back_at-done.new.stake.seat.me c.self.inside.receipts.items c.give_back_at-done.new.receipts.items
+      c.self.inside.stake.share.amount c.give_back_at-done.new.stake.share.amount 0 c.give_back_at-done.ensures.sees
+      (omega (arith, ap length c.in-Err.ensures.err.0)) (omega (arith, c.in-Err.ensures.err.1)) c.self.invariant.3,
 )
 
 pub give_back_at-done-requires-clause-seat : goal.give_back_at-done-requires-clause-seat

@@ -1,8 +1,9 @@
 -- The balancer that is looked at is the journal that the hold found.
-use Rattle.std.proofs.Common.{ap, subst}
+use Rattle.std.proofs.Common.{ap, subst, ◌∙◌}
 use Rattle.std.specs.Prelude.{IfOk, is_some}
 use Rattle.balancer_core.specs.Desks.{DeskState, Shows}
 use Rattle.locked_balancer.specs.SharedDesks.{SharedState}
+use Rattle.locked_balancer.proofs.CountLaws.{count_looked}
 use Rattle.locked_balancer.proofs.SharedLaws.{shows_shared}
 use Rattle.locked_balancer.proofs.shared_desk.SharedDeskDesk.look.Goals as goal
 
@@ -15,3 +16,17 @@ returns-clause-shown g c =
 
 pub look_at-requires-clause-seat : goal.look_at-requires-clause-seat
 look_at-requires-clause-seat g c = (c.self.invariant.1, c.self.invariant.2)
+
+pub invariant_of-self : goal.invariant_of-self
+invariant_of-self g c = (
+  record {
+    part = rw c.look_at.ensures.parts c.self.invariant.0.part;
+    counted = c.look_at.ensures.amount ∙ c.self.invariant.0.counted;
+    few = rw c.look_at.ensures.amount c.self.invariant.0.few;
+    known = c.self.invariant.0.known;
+    roomy = c.self.invariant.0.roomy;
+  },
+  c.look_at.ensures.table ∙ c.self.invariant.1,
+  c.look_at.ensures.sees.rests,
+  count_looked g.L.SiteName.starts c.self.inside.stake.seat.table_id c.look_at.new.stake.seat.table_id c.self.inside.stake.seat.me c.look_at.new.stake.seat.me _ _ c.look_at.ensures.sees c.look_at.ensures.amount c.self.invariant.3,
+)
