@@ -1,8 +1,8 @@
 -- What was gathered, told of what the desks left.
-use Rattle.std.proofs.Common.{◌≡◌, List, ap, subst, sym, ◌∙◌, sum_by}
+use Rattle.std.proofs.Common.{◌≡◌, List, subst, sym, ◌∙◌}
 use Rattle.std.specs.List.{All}
 use Rattle.std.proofs.lemmas.List.Elements.{All-map}
-use Rattle.locked_balancer.specs.Histories.{IsClosed, SeatNote, own_count}
+use Rattle.locked_balancer.specs.Histories.{IsClosed, SeatNote}
 use Rattle.site_closing.proofs.CloseLaws.{differs_left, err_left, ok_both, ok_left}
 use Rattle.site_closing.proofs.WholeLaws.{amounts, whole_by}
 use Rattle.site_closing.proofs.close.close_own_desks.Goals as goal
