@@ -1,7 +1,6 @@
 -- The files and the input that a command reads whole, each of at most 67,108,864 bytes.
 use Rattle.std.specs.Prelude.{◌≡◌, ℕ, Bool, true, false, ◌<◌, ◌≤◌, ◌⊎◌, List, [], ◌∷◌, length, Option, Some, IfSome, IsSomeAnd}
 use Rattle.jk_io.specs.Stored.{content_of}
-use Rattle.jk_io.specs.declared.whole_input.TheConstants.{MAX_INPUT_BYTES}
 
 -- What a command may read: files, each a name and a content, and an input; of the real ones nothing is told.
 pub record CommandOutside : Type 0 where
@@ -39,12 +38,12 @@ IsThere outside Input text = IfSome outside.incoming (λ incoming. text ≡ inco
 
 -- The text that is there is read whole.
 abbrev pub IsRead : CommandOutside → Reading → List ℕ → Type 0
-IsRead outside reading text = IsThere outside reading text × (length text ≤ MAX_INPUT_BYTES)
+IsRead outside reading text = IsThere outside reading text × (length text ≤ 67108864)
 
 -- What is there has too many bytes, where that is told.
 abbrev pub IsLong : CommandOutside → Reading → Type 0
-IsLong outside (File name) = IfSome outside.files (λ files. IsSomeAnd (content_of files name) (λ text. MAX_INPUT_BYTES < length text))
-IsLong outside Input = IfSome outside.incoming (λ incoming. MAX_INPUT_BYTES < length incoming)
+IsLong outside (File name) = IfSome outside.files (λ files. IsSomeAnd (content_of files name) (λ text. 67108864 < length text))
+IsLong outside Input = IfSome outside.incoming (λ incoming. 67108864 < length incoming)
 
 -- Each is read whole, in this order.
 abbrev pub AreRead : CommandOutside → List Reading → List (List ℕ) → Type 0
