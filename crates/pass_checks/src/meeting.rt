@@ -1,0 +1,163 @@
+//! Two callers side by side: the first gives its ticket back only once the second has had a whole exchange. Were all done by
+//! one thread, the first would wait in vain.
+ghost use Rattle.std.specs.Prelude.{◌≡◌, ◌∷◌, [], Some};
+ghost use Rattle.pass_desk.specs.PassDesks.{table_in};
+ghost use Rattle.pass_desk.specs.Passes.{AreNewPasses};
+ghost use Rattle.pass_desk.specs.Placed.{IsBack};
+ghost use Rattle.pass_desk.specs.declared.pass_book.PassBook.{PassBook};
+
+use crate::callers::{FRESH, give};
+use crate::start::start_book;
+use anyhow::Result as Judged;
+use balancer_core::Desk;
+use balancer_core::desk::Choice;
+use check_rows::files::print_claim;
+use jk_io::{Gate, NoMemory};
+use pass_desk::{Pass, PassBook, PassList, PassPlace, PlacedDesk};
+use std::alloc::Global;
+use std::marker::Brand;
+use std::slice::from_ref;
+use std::sync::Wait;
+use std::thread::{self, Threads};
+use std::time::{Clock, Duration};
+
+/// How often the first caller looks, a millisecond apart, before it gives up.
+const MOST_LOOKS: u32 = 10_000;
+
+/// The place that the second caller raises.
+const SECOND_IS_DONE: u32 = 0;
+
+/// A caller that holds no ticket.
+#[derive(Drop)]
+struct Caller<'b, 'r, P: PassPlace, R> {
+    desk: PlacedDesk<'b, 'r, P, R>,
+    number: u32,
+    ghost caller: { desk.desk.desk.caller ≡ Some number },
+    ghost none_held: { desk.desk.desk.held ≡ [] },
+}
+
+impl<'b, 'r, P: PassPlace, R> Caller<'b, 'r, P, R> {
+    ghost use Rattle.std.specs.Prelude.{◌≡◌, [], Some};
+
+    fn new(desk: PlacedDesk<'b, 'r, P, R>, number: u32) -> Caller<'b, 'r, P, R>
+        requires caller { desk.desk.desk.caller ≡ Some number }
+        requires none_held { desk.desk.desk.held ≡ [] }
+    {
+        Caller { desk, number }
+    }
+}
+
+/// Whether the second caller was done within that many looks.
+fn comes<R: Wait + Clock>(rt: &R, gate: &Gate<'_, R>) -> bool {
+    for _ in 0..MOST_LOOKS {
+        if gate.is_raised(SECOND_IS_DONE) {
+            return true;
+        }
+        thread::sleep(rt, Duration::from_millis(1));
+    }
+    false
+}
+
+/// An exchange that ends only once the second caller is done; whether it did.
+fn hold_on<P: PassPlace, R: Wait + Clock>(
+    rt: &R,
+    gate: &Gate<'_, R>,
+    caller: &mut Caller<'_, '_, P, R>,
+) -> bool {
+    match caller.desk.choose(0, caller.number, 0, &FRESH) {
+        Ok(Choice::Chosen { member: _, lease }) => {
+            let came = comes(rt, gate);
+            give(&mut caller.desk, caller.number, lease);
+            came
+        }
+        Ok(Choice::NoMember | Choice::Forced) => false,
+        Err(_) => false,
+    }
+}
+
+/// An exchange, after which the place is raised; whether there was one.
+fn go_by<P: PassPlace, R: Wait>(gate: &Gate<'_, R>, caller: &mut Caller<'_, '_, P, R>) -> bool {
+    match caller.desk.choose(0, caller.number, 0, &FRESH) {
+        Ok(Choice::Chosen { member: _, lease }) => {
+            give(&mut caller.desk, caller.number, lease);
+            gate.raise(SECOND_IS_DONE);
+            true
+        }
+        Ok(Choice::NoMember | Choice::Forced) => false,
+        Err(_) => false,
+    }
+}
+
+/// Whether both callers had an exchange, the first one's beginning before the second's and ending after it.
+fn go_side_by_side<P: PassPlace + Send + Sync, R: Threads + Wait + Clock + Sync>(
+    rt: &R,
+    first: &mut Caller<'_, '_, P, R>,
+    second: &mut Caller<'_, '_, P, R>,
+) -> bool {
+    let gate = Gate::new(rt);
+    let (held, went) = thread::join(rt, || hold_on(rt, &gate, first), || go_by(&gate, second));
+    held && went
+}
+
+/// A caller with a desk of this pass.
+fn caller_of<'b, 'r, P: PassPlace, R>(
+    alloc: Global,
+    rt: &'r R,
+    books: &'b [PassBook],
+    pass: Pass,
+    number: u32,
+) -> Result<Caller<'b, 'r, P, R>, NoMemory>
+    requires book { (b : PassBook) × (books.now ≡ b ∷ []) × (table_in b ≡ P.table) }
+    requires pass { IsBack P.table P.origin P.given pass }
+    requires number { pass.number ≡ number }
+{
+    Ok(Caller::new(PlacedDesk::new(alloc, rt, books, pass)?, number))
+}
+
+/// Whether the callers of these two passes go side by side.
+fn go_over<P: PassPlace + Send + Sync, R: Threads + Wait + Clock + Sync>(
+    rt: &R,
+    alloc: Global,
+    books: &[PassBook],
+    first: Pass,
+    second: Pass,
+) -> Result<bool, NoMemory>
+    requires book { (b : PassBook) × (books.now ≡ b ∷ []) × (table_in b ≡ P.table) }
+    requires first { IsBack P.table P.origin P.given first × (first.number ≡ 0) }
+    requires second { IsBack P.table P.origin P.given second × (second.number ≡ 1) }
+{
+    let mut first = caller_of::<P, R>(alloc, rt, books, first, 0)?;
+    let mut second = caller_of::<P, R>(alloc, rt, books, second, 1)?;
+    Ok(go_side_by_side(rt, &mut first, &mut second))
+}
+
+/// The same with the two passes of a list.
+fn go_in<P: PassPlace + Send + Sync, R: Threads + Wait + Clock + Sync>(
+    rt: &R,
+    alloc: Global,
+    books: &[PassBook],
+    passes: PassList,
+) -> Result<bool, NoMemory>
+    requires book { (b : PassBook) × (books.now ≡ b ∷ []) × (table_in b ≡ P.table) }
+    requires passes { AreNewPasses P.origin P.table 2 passes }
+    requires given { P.given ≡ 2 }
+{
+    let mut list = passes.into_vec();
+    match (list.pop(), list.pop()) {
+        (Some(second), Some(first)) => go_over::<P, R>(rt, alloc, books, first, second),
+        _ => unreachable!(),
+    }
+}
+
+/// Whether two callers of a new Book go side by side.
+fn goes<R: Threads + Wait + Clock + Sync>(rt: &R, alloc: Global) -> Result<bool, NoMemory> {
+    let start = start_book(alloc)?;
+    let (book, passes) = PassBook::new(alloc, start, 2)?;
+    go_in::<Brand, R>(rt, alloc, from_ref(&book), passes)
+}
+
+/// Prints whether two callers go side by side.
+pub fn judge<R: Print + AllocGlobal + Threads + Wait + Clock + Sync>(rt: &R) -> Judged<()> {
+    let holds = goes(rt, rt.alloc())?;
+    print_claim(rt, "two callers that take turns go side by side", holds)
+}

@@ -1,0 +1,134 @@
+//! The row of two callers, and what is told of it.
+ghost use Rattle.std.specs.Prelude.{◌≡◌, ◌∷◌, [], ℕ, IfOk};
+ghost use Rattle.pass_desk.specs.PassDesks.{table_in};
+ghost use Rattle.pass_desk.specs.Passes.{AreNewPasses};
+ghost use Rattle.pass_desk.specs.Placed.{AreBack, IsBack};
+ghost use Rattle.pass_desk.specs.declared.pass_book.PassBook.{PassBook};
+
+use crate::callers::{Met, meet_by_note};
+use crate::start::start_book;
+use anyhow::Result as Judged;
+use check_rows::files::{print_count, read_rows};
+use jk_io::{Bytes, NoMemory, put_decimal};
+use jk_model::MemberRow;
+use pass_desk::{Pass, PassBook, PassList, PassPlace, PlacedDesk, close_passes};
+use std::alloc::Global;
+use std::marker::Brand;
+use std::rt::Files;
+use std::slice::from_ref;
+use std::sync::Wait;
+
+/// The file of the row.
+const FILE: &str = "pass/notes.txt";
+
+/// Puts a text, and a number after it.
+fn put_number(out: &mut Bytes, text: &[u8], number: u64) -> Result<(), NoMemory> {
+    out.extend(text)?;
+    put_decimal(out, u128::from(number))
+}
+
+/// Puts how many tickets of each member are out.
+fn put_busy(out: &mut Bytes, rows: &[MemberRow]) -> Result<(), NoMemory> {
+    out.extend(b"\nbusy")?;
+    for row in rows {
+        put_number(out, b" ", u64::from(row.busy))?;
+    }
+    out.push(b'\n')
+}
+
+/// Puts what the two callers were told.
+fn put_met(met: &Met, out: &mut Bytes) -> Result<(), NoMemory> {
+    put_number(out, b"first chose ", u64::from(met.first))?;
+    put_number(out, b"\nsecond chose ", u64::from(met.second))?;
+    put_number(out, b"\nthen next ", met.seen.next)?;
+    put_busy(out, met.seen.rows.as_slice())
+}
+
+fn tell_met(met: Option<Met>, out: &mut Bytes) -> Result<(), NoMemory> {
+    match met {
+        Some(met) => put_met(&met, out),
+        None => out.extend(b"refused\n"),
+    }
+}
+
+/// Has the two callers of these passes meet over their desks, and gives the passes back.
+fn meet_over<P: PassPlace, R: Wait>(
+    rt: &R,
+    alloc: Global,
+    books: &[PassBook],
+    first: Pass,
+    second: Pass,
+    out: &mut Bytes,
+) -> Result<PassList, NoMemory>
+    requires book { (b : PassBook) × (books.now ≡ b ∷ []) × (table_in b ≡ P.table) }
+    requires first { IsBack P.table P.origin P.given first × (first.number ≡ 0) }
+    requires second { IsBack P.table P.origin P.given second × (second.number ≡ 1) }
+    requires given { P.given ≡ 2 }
+    ensures { IfOk result (AreBack P.table P.origin P.given) }
+{
+    let mut back = Vec::with_capacity(alloc, 2)?;
+    let mut first = PlacedDesk::<P, R>::new(alloc, rt, books, first)?;
+    let mut second = PlacedDesk::<P, R>::new(alloc, rt, books, second)?;
+    tell_met(meet_by_note(&mut first, &mut second), out)?;
+    back.push_reserved(first.into_pass());
+    back.push_reserved(second.into_pass());
+    Ok(PassList::from_vec(back))
+}
+
+/// The same with the two passes of a list.
+fn meet_in<P: PassPlace, R: Wait>(
+    rt: &R,
+    alloc: Global,
+    books: &[PassBook],
+    passes: PassList,
+    out: &mut Bytes,
+) -> Result<PassList, NoMemory>
+    requires book { (b : PassBook) × (books.now ≡ b ∷ []) × (table_in b ≡ P.table) }
+    requires passes { AreNewPasses P.origin P.table 2 passes }
+    requires given { P.given ≡ 2 }
+    ensures { IfOk result (AreBack P.table P.origin P.given) }
+{
+    let mut list = passes.into_vec();
+    match (list.pop(), list.pop()) {
+        (Some(second), Some(first)) => meet_over::<P, R>(rt, alloc, books, first, second, out),
+        _ => unreachable!(),
+    }
+}
+
+/// Puts how many entries the Book has that two callers leave.
+fn tell_kept<R: Wait>(rt: &R, alloc: Global, out: &mut Bytes) -> Result<(), NoMemory> {
+    let start = start_book(alloc)?;
+    let (book, passes) = PassBook::new(alloc, start, 2)?;
+    let back = meet_in::<Brand, R>(rt, alloc, from_ref(&book), passes, out)?;
+    match close_passes(book, back) {
+        Ok(book) => {
+            put_number(out, b"kept ", book.kept())?;
+            out.push(b'\n')
+        }
+        Err(_) => Err(NoMemory),
+    }
+}
+
+/// What is wanted of the row.
+fn wanted_in(text: &str) -> &str {
+    match text.split_once("\nrow notes meet\n") {
+        Some((_, wanted)) => wanted,
+        None => "",
+    }
+}
+
+/// Shows what is told of the row where it is otherwise than the row says.
+fn judge_told<R: Print + AllocGlobal>(rt: &R, text: &str, told: &[u8]) -> Judged<()> {
+    if wanted_in(text).as_bytes() == told {
+        return print_count(rt, "", 1, "rows", FILE);
+    }
+    print_count(rt, str::from_utf8(told).unwrap_or(""), 0, "rows", FILE)
+}
+
+/// Judges the row.
+pub fn judge<R: Print + AllocGlobal + Files + Wait>(rt: &R) -> Judged<()> {
+    let text = read_rows(rt, FILE)?;
+    let mut told = Bytes::new(rt.alloc());
+    tell_kept(rt, rt.alloc(), &mut told)?;
+    judge_told(rt, text.as_str(), told.as_slice())
+}
