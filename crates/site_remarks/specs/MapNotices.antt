@@ -1,6 +1,7 @@
 -- What in a uriworkermap.properties has no effect: what follows the worker of an exclusion or a worker of type status,
--- and parts of other names than a rule's.
+-- and parts of other names than a rule's. And what a map without a rule means.
 use Rattle.std.specs.Prelude.{ℕ, ◌+◌, Bool, true, false, List, [], ◌∷◌, ◌++◌, Option, Some, None, codes, if◌then◌else◌, ◌||◌, ◌&&◌}
+use Rattle.std.specs.Bool.{nat_eq}
 use Rattle.std.specs.List.{flat_map, list_all}
 use Rattle.std.specs.Str.{bytes_eq}
 use Rattle.jk_io.specs.Decimals.{trimmed}
@@ -12,8 +13,10 @@ use Rattle.property_lines.specs.declared.values.WorkerKind.TheVariants as kind
 use Rattle.site_remarks.specs.Explained.{said_of}
 use Rattle.site_remarks.specs.Notices.{kind_among}
 use Rattle.site_remarks.specs.Wanted.{key_in}
+use Rattle.uri_map.specs.Mounts.{line_count}
 use Rattle.uri_map.specs.Parts.{disabled, pieces_of, reply_timeout, sticky_ignore, stopped}
 use Rattle.uri_map.specs.Sides.{Left, left_of}
+use Rattle.uri_map.specs.declared.rule.Rule.{Rule}
 
 -- a name of a part that has an effect
 abbrev pub is_part_name : List ℕ → Bool
@@ -66,3 +69,7 @@ notices_from file line kinds (l ∷ ls) = line_notices file line kinds (trimmed 
 
 abbrev pub map_notices : (file : List ℕ) → List (List ℕ × WorkerKind) → (text : List ℕ) → List ℕ
 map_notices file kinds text = notices_from file 1 kinds (lines (without_mark text))
+
+-- what is said of a map of which no line has a rule
+abbrev pub empty_words : (file : List ℕ) → List Rule → List ℕ
+empty_words file rules = if nat_eq (line_count rules) 0 then file ++ codes " has no rule, so each request gets 404\n" else []

@@ -1,5 +1,6 @@
 -- What a person reads of a site's files on standard error: of each line that is refused the line as it stands and what is
--- wrong with it, and of files that are accepted, where it is asked for, what has no effect. A file is its name and its text.
+-- wrong with it, and of files that are accepted, where it is asked for, what has no effect, and that a map has no rule. A file
+-- is its name and its text.
 use Rattle.std.specs.Prelude.{◌≡◌, ◌≤◌, ℕ, Bool, true, false, List, [], ◌++◌, ◌⊎◌, Option, Some, None, IfSome, Result, Ok, Err, length}
 use Rattle.std.specs.Option.{option_map}
 use Rattle.jk_io.specs.declared.whole_input.TheConstants.{MAX_INPUT_BYTES}
@@ -10,7 +11,7 @@ use Rattle.site_config.specs.declared.config.Config.{Config}
 use Rattle.site_remarks.specs.declared.site_file.SiteFile.{SiteFile}
 use Rattle.site_remarks.specs.declared.site_file.SiteFiles.{SiteFiles}
 use Rattle.site_remarks.specs.Explained.{explained_workers}
-use Rattle.site_remarks.specs.MapNotices.{map_notices}
+use Rattle.site_remarks.specs.MapNotices.{empty_words, map_notices}
 use Rattle.site_remarks.specs.Notices.{kinds_of, notices, site_kinds}
 use Rattle.site_remarks.specs.Refused.{is_refused_by_line, refused_lines, wrong_line, wrong_rule}
 use Rattle.uri_map.specs.Lines.{read_text}
@@ -24,7 +25,7 @@ workers_remarks false file c ps = []
 
 abbrev pub rules_remarks : (effects : Bool) → Config → List ℕ × List ℕ → Result (List Rule) LineRefusal → List ℕ
 rules_remarks effects c map (Err r) = refused_lines (wrong_rule c) map.0 map.1
-rules_remarks true c map (Ok rules) = map_notices map.0 (kinds_of c) map.1
+rules_remarks true c map (Ok rules) = map_notices map.0 (kinds_of c) map.1 ++ empty_words map.0 rules
 rules_remarks false c map (Ok rules) = []
 
 -- of a map, where there is one

@@ -1,4 +1,4 @@
-//! What a person is told of a site's files: why lines are refused, and which lines have no effect.
+//! What a person is told of a site's files: why lines are refused, which lines have no effect, and that a map has no rule.
 //!
 //! Source: own rules (docs/FORMATS.md, "What a person is told"); which directives have an effect in mod_jk: its reference,
 //! "workers.properties" and "uriworkermap.properties".
@@ -9,6 +9,7 @@
 mod again;
 mod explain;
 mod kinds;
+mod map_effects;
 mod map_notices;
 mod notices;
 mod refused;

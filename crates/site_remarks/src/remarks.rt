@@ -16,7 +16,7 @@ ghost use Rattle.site_remarks.specs.Remarks.{AreRemarks, AreShort, IsShort, as_f
 use crate::again::line_table;
 use crate::explain::explain_workers;
 use crate::kinds::{KindTable, kind_table, redirect_table};
-use crate::map_notices::put_map_notices;
+use crate::map_effects::put_map_effects;
 use crate::notices::{LineTables, put_notices};
 use crate::refused::{Judge, put_refused};
 use crate::remark_out::RemarkOut;
@@ -102,9 +102,9 @@ fn put_map<O: Sink + Drop>(
     ensures steady { IsOk result → out.new.faults ≡ out.old.faults }
 {
     match read_map(alloc, map.text, config) {
-        Ok(_rules) => {
+        Ok(rules) => {
             if effects {
-                put_map_notices(alloc, out, table, map)
+                put_map_effects(alloc, out, table, map, &rules)
             } else {
                 Ok(())
             }
@@ -204,8 +204,8 @@ fn put_accepted<O: Sink + Drop>(
 }
 
 /// Adds what a person is told of a site's files: of the first that is refused each line that is refused, and, where `effects`
-/// is on, what in accepted ones a site of mod_jk would expect to have effect and hasn't. It is written as it is found, and not
-/// held.
+/// is on, what in accepted ones a site of mod_jk would expect to have effect and hasn't, and that a map has no rule. It is
+/// written as it is found, and not held.
 pub fn site_remarks<O: Sink + Drop>(
     alloc: Global,
     out: &mut RemarkOut<O>,
