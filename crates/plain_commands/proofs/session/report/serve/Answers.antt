@@ -2,7 +2,7 @@ use Rattle.std.proofs.Common.{◌≡◌, false, true, List, [], ℕ, Some, refl,
 use Rattle.jk_io.specs.Memory.{MemLinkState}
 use Rattle.jk_io.specs.MemReaches.{MemReachState}
 use Rattle.jk_model.specs.declared.served.Served.{Served}
-use Rattle.client_session.specs.Requests.{visit}
+use Rattle.client_session.specs.Requests.{undated, visit}
 use Rattle.client_session.proofs.SurroundingsLaws.{parts_at}
 use Rattle.plain_commands.proofs.SessionLemmas.{first_is, run_from, run_listed}
 use Rattle.site_books.proofs.StartLaws.{starts_sizes}
@@ -35,7 +35,7 @@ returns g c calm =
       started = d.started;
       run = run_listed _ _ _ _ _ _ e.session.session.gained (e.session.session.added ∙ ap (λ (before : List Served). before ++ e.session.session.gained) c.new-rows.ensures)
           (run_from _ _ _ _ _ _ _ _ _ e.session.session
-          (ap (λ (addr : List ℕ). visit c.args.site.now.config.now c.args.site.now.map.now 0 (record { addr = addr })) c.requires.peer)
+          (ap (λ (addr : List ℕ). undated (visit c.args.site.now.config.now c.args.site.now.map.now 0 (record { addr = addr }))) c.requires.peer)
           (first_is _ _ c.args.reach.now c.args.client.now d.books d.is (c.new-clock.ensures ∙ c.new.ensures) c.requires.reach.no_talk c.requires.reach.no_fault k.received k.sent k.no_fault)
           (ap (λ (r : MemReachState). Some r.book.talks) (sym reach)) (ap (λ (l : MemLinkState). Some l.sent) (sym client))
           (rw (reach, client) at calm) (parts_at _ _ _ [] e.session.session.inbox _ e.session.parts) (λ idle. absurd (let no : false ≡ true = e.idle_only idle in cc)) e.each);
