@@ -4,7 +4,6 @@
 #![tactic(auto)]
 
 use anyhow::Result;
-use worker_gears::RealWorld;
 
 fn main(rt: HostRuntime) -> Result<()> {
     wire_checks::judge(&rt)?;
@@ -15,5 +14,5 @@ fn main(rt: HostRuntime) -> Result<()> {
     desk_checks::judge(&rt)?;
     outside_checks::judge(&rt)?;
     log_checks::judge(&rt)?;
-    socket_checks::judge(&rt, &mut RealWorld::new(&rt, 2))
+    socket_checks::judge(&rt)
 }

@@ -19,17 +19,22 @@
 //!
 //! Otherwise what comes out is: what was written, `status N`, `faults N` of the world, and of each gear that came back
 //! the links that were left at its door, its talks with members, the segments on its shelf, and its log.
+//!
+//! Then looks at files that a worker writes, and at a gear of the real world, and shows each claim, and whether it holds.
 #![tactic(auto)]
 
 mod area;
 mod doing;
+mod gears;
 mod meeting;
 mod serving;
 mod told;
 mod worlds;
 
 use anyhow::Result;
+use worker_gears::RealWorld;
 
 fn main(rt: HostRuntime) -> Result<()> {
-    area::judge(&rt)
+    area::judge(&rt)?;
+    gears::judge(&rt, &mut RealWorld::new(&rt, 2))
 }

@@ -1,17 +1,16 @@
 //! The claims on links of real sockets and on two threads.
 
 use crate::rooms::{Claim, holds};
-use crate::{gears, outboxes, silent, sockets, threads};
+use crate::{outboxes, silent, sockets, threads};
 use anyhow::Result;
 use check_rows::files::print_claim;
-use gear_parts::World;
 use std::net::{Net, TcpListener, TcpStream};
 use std::rt::{Clock, Files};
 use std::sync::Wait;
 use std::thread::Threads;
 
-/// Shows each claim, and whether it holds; some of them of the real world, that is lent.
-pub fn judge<R, W: World>(rt: &R, world: &mut W) -> Result<()>
+/// Shows each claim, and whether it holds.
+pub fn judge<R>(rt: &R) -> Result<()>
 where
     R: Print
         + AllocGlobal
@@ -32,7 +31,6 @@ where
     print_claim(rt, "what a worker writes is held back until it waits", held)?;
     judge_rooms(rt)?;
     judge_limits(rt)?;
-    judge_gears(rt, world)?;
     let once = threads::pass_each_once(rt, alloc);
     print_claim(rt, "two threads end with every link once", once)
 }
@@ -95,22 +93,4 @@ where
         "a dial to which nobody answers is given up in time",
         full,
     )
-}
-
-/// Shows each claim on what a worker gets of the real world, and whether it holds.
-fn judge_gears<R, W: World>(rt: &R, world: &mut W) -> Result<()>
-where
-    R: Print + AllocGlobal + Net<Listener = TcpListener, Stream = TcpStream> + Files,
-{
-    let alloc = rt.alloc();
-    let kept = gears::keep_a_segment(rt, alloc);
-    print_claim(
-        rt,
-        "a segment goes into a file of its own, which is never written over",
-        kept,
-    )?;
-    let went_on = gears::go_on_with_a_log(rt, alloc, world);
-    print_claim(rt, "a log goes on at the end of its file", went_on)?;
-    let accepted = gears::accept_by_a_gear(rt, alloc, world);
-    print_claim(rt, "a gear accepts who dials its address", accepted)
 }

@@ -1,13 +1,15 @@
 //! Files of segments and of logs, and a gear of the real world over the loopback.
 ghost use Rattle.std.specs.Prelude.{◌≤◌, length};
 
-use crate::sockets::{answers_a_dial, listener};
+use anyhow::Result;
+use check_rows::files::print_claim;
 use gear_parts::{GearOrder, World};
 use jk_io::{Bytes, Files, ListOf, MAX_INPUT_BYTES, NoMemory, Sink, put_decimal, write_all};
 use jk_model::Segment;
 use journal_text::read_segments;
 use locked_balancer::Shelf;
 use real_io::{Notices, RealFiles};
+use socket_checks::{answers_a_dial, listener};
 use std::alloc::Global;
 use std::fs;
 use std::net::{Net, TcpListener, TcpStream};
@@ -72,7 +74,7 @@ fn shelf_here<'r, R: SystemFiles>(rt: &'r R, alloc: Global) -> Result<FileShelf<
 }
 
 /// Whether a segment goes into a file of its own, which no other one is written over.
-pub fn keep_a_segment<R: SystemFiles + Net>(rt: &R, alloc: Global) -> bool {
+fn keep_a_segment<R: SystemFiles + Net>(rt: &R, alloc: Global) -> bool {
     match shelf_here(rt, alloc) {
         Ok(shelf) => {
             let mut shelf = shelf;
@@ -109,11 +111,7 @@ fn goes_on<W: World, F: Files>(alloc: Global, world: &mut W, files: &mut F) -> b
 }
 
 /// Whether a log of the world keeps what is written in its file, and goes on at its end.
-pub fn go_on_with_a_log<R: SystemFiles + Net, W: World>(
-    rt: &R,
-    alloc: Global,
-    world: &mut W,
-) -> bool {
+fn go_on_with_a_log<R: SystemFiles + Net, W: World>(rt: &R, alloc: Global, world: &mut W) -> bool {
     let went_on = goes_on(alloc, world, &mut RealFiles::new(rt));
     went_on && fs::remove_file(rt, LOG).is_ok()
 }
@@ -144,7 +142,7 @@ fn free_port<R: Net<Listener = TcpListener, Stream = TcpStream>>(rt: &R) -> Opti
 }
 
 /// Whether a gear of the world accepts who dials its address by host and port.
-pub fn accept_by_a_gear<R: Net<Listener = TcpListener, Stream = TcpStream>, W: World>(
+fn accept_by_a_gear<R: Net<Listener = TcpListener, Stream = TcpStream>, W: World>(
     rt: &R,
     alloc: Global,
     world: &mut W,
@@ -156,4 +154,22 @@ pub fn accept_by_a_gear<R: Net<Listener = TcpListener, Stream = TcpStream>, W: W
         Ok(address) => gear_answers(alloc, world, &address, port),
         Err(_) => false,
     }
+}
+
+/// Shows each claim on what a worker gets of the real world, and whether it holds.
+pub fn judge<R, W: World>(rt: &R, world: &mut W) -> Result<()>
+where
+    R: Print + AllocGlobal + Net<Listener = TcpListener, Stream = TcpStream> + SystemFiles,
+{
+    let alloc = rt.alloc();
+    let kept = keep_a_segment(rt, alloc);
+    print_claim(
+        rt,
+        "a segment goes into a file of its own, which is never written over",
+        kept,
+    )?;
+    let went_on = go_on_with_a_log(rt, alloc, world);
+    print_claim(rt, "a log goes on at the end of its file", went_on)?;
+    let accepted = accept_by_a_gear(rt, alloc, world);
+    print_claim(rt, "a gear accepts who dials its address", accepted)
 }
