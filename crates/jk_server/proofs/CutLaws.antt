@@ -8,7 +8,7 @@ use Rattle.jk_model.specs.declared.segment.Segment.{Segment}
 use Rattle.balancer_core.specs.Journal.{Journal}
 use Rattle.door_clients.specs.Doors.{DoorSide}
 use Rattle.exchange.specs.Requests.{sizes_of}
-use Rattle.locked_balancer.specs.Histories.{IsClosed, SeatNote, starts_of}
+use Rattle.locked_balancer.specs.Histories.{SeatNote, starts_of}
 use Rattle.locked_balancer.specs.Sites.{AreSited}
 use Rattle.site_books.specs.Starts.{AreStarts}
 use Rattle.site_config.specs.declared.balancer.Lb.{Lb}
@@ -17,6 +17,7 @@ use Rattle.gear_parts.specs.GearParts.{gear_with, gears_with, Tools, tools}
 use Rattle.gear_parts.specs.Gears.{GearSide, gear_side}
 use Rattle.gear_parts.specs.declared.world.Gear.{Gear}
 use Rattle.site_closing.specs.Closings.{DiscordNote}
+use Rattle.site_closing.specs.OneHistory.{IsWhole}
 use Rattle.jk_server.specs.Headline.{AreEnded, firsts_of}
 use Rattle.jk_server.specs.Closings.{Closes, IsDiscordOf, KeepsFirst, Shelves, ShelvesFront}
 use Rattle.jk_server.specs.declared.runs.ends.Closing.{Closing}
@@ -36,8 +37,8 @@ first_kept {S = S} at talks answers Kept (t ∷ ts) (s ∷ old) (s' ∷ new) len
 
 -- The Books were those of the Site.
 pub last_kept : {S : Type 0} (shelved : S → Option (List (ℕ × Segment))) (lbs : List Lb) (seats : List SeatNote) (books : List Journal) (old new : S)
-    → AreEnded lbs seats books → AddsCuts shelved books old new → Shelves shelved lbs seats old new
-last_kept shelved lbs seats books old new ended cuts = (cuts.0, (books, ended, cuts.1), cuts.2)
+    → AreEnded lbs seats books → AddsCuts shelved books old new → Shelves shelved lbs seats books old new
+last_kept shelved lbs seats books old new ended cuts = (cuts.0, (ended, cuts.1), cuts.2)
 
 pub first_weaker : {S : Type 0} (P Q : S → S → Type 0) (old new : List S) → ((x y : S) → P x y → Q x y) → ToFirst P old new → ToFirst Q old new
 first_weaker P Q [] new then is = absurd is
@@ -67,21 +68,23 @@ ended_said lbs sizes firsts starts seats at begun books same_sizes same_firsts s
   at = at;
   begun = begun;
   starts = begins;
-  closed = subst (λ (os : List Opening). IsClosed os seats books) same_starts closed.history;
+  closed = subst (λ (os : List Opening). IsWhole os seats books) same_starts closed.history;
 }
 
 -- What a closing says of the Books of a Site, said of the configuration.
-kept_said : {D G T K S O C : Type 0} (at : D → DoorSide C) (talks : T → Option (List Talk)) (answers : K → Option (List ℕ)) (Kept : List Journal → S → S → Type 0) (Said : S → S → Type 0)
+kept_said : {D G T K S O C : Type 0} (at : D → DoorSide C) (talks : T → Option (List Talk)) (answers : K → Option (List ℕ)) (Kept Said : List Journal → S → S → Type 0)
     (Ended Are : List Journal → Type 0) (ts : List (Tools D G T K O)) (old : List S) (back : List (Gear D G T K S O))
     → ((books : List Journal) → Ended books → Are books)
-    → ((books : List Journal) (x y : S) → Are books → Kept books x y → Said x y)
+    → ((books : List Journal) (x y : S) → Are books → Kept books x y → Said books x y)
     → KeepsCuts Kept Ended ts old back
-    → KeepsFirst Said (gears_with (gear_with at talks answers) ts old) (map (gear_side at talks answers) back)
-kept_said {D} {G} {T} {K} {S} {O} at talks answers Kept Said Ended Are ts old back are say keeps =
-    kept_again at talks answers Said ts old (map (λ (g : Gear D G T K S O). g.shelf) back) back keeps.2.paired
-    (first_weaker (Kept keeps.0) Said old (map (λ (g : Gear D G T K S O). g.shelf) back)
-    (λ x y kept. say keeps.0 x y (are keeps.0 keeps.1) kept) keeps.2.shelves_put)
-    keeps.2.tools_put refl
+    → (books : List Journal) × KeepsFirst (Said books) (gears_with (gear_with at talks answers) ts old) (map (gear_side at talks answers) back)
+kept_said {D} {G} {T} {K} {S} {O} at talks answers Kept Said Ended Are ts old back are say keeps = (
+  keeps.0,
+  kept_again at talks answers (Said keeps.0) ts old (map (λ (g : Gear D G T K S O). g.shelf) back) back keeps.2.paired
+      (first_weaker (Kept keeps.0) (Said keeps.0) old (map (λ (g : Gear D G T K S O). g.shelf) back)
+      (λ x y kept. say keeps.0 x y (are keeps.0 keeps.1) kept) keeps.2.shelves_put)
+      keeps.2.tools_put refl,
+)
 
 discord_said : (lbs : List Lb) (sizes firsts : List ℕ) (d : DiscordNote) → sizes ≡ sizes_of lbs → firsts ≡ firsts_of lbs → IsDiscordAt sizes firsts d → IsDiscordOf lbs d
 discord_said lbs sizes firsts d same_sizes same_firsts at =
@@ -92,26 +95,30 @@ pub closes_said : {D G T K S O L C : Type 0} (at : D → DoorSide C) (talks : T 
     (ts : List (Tools D G T K O)) (old : List S) (back : List (Gear D G T K S O)) (end : Closing L)
     → sizes ≡ sizes_of lbs → firsts ≡ firsts_of lbs → starts ≡ starts_of begun → AreStarts lbs moment 0 begun
     → EndsSo shelved faults sizes firsts starts seats ts old back end
-    → Closes shelved faults lbs seats (gears_with (gear_with at talks answers) ts old) (map (gear_side at talks answers) back) end
+    → (books : List Journal) × Closes shelved faults lbs seats books (gears_with (gear_with at talks answers) ts old) (map (gear_side at talks answers) back) end
 closes_said at talks answers shelved faults lbs sizes firsts starts seats moment begun ts old back closing.Kept same_sizes same_firsts same_starts begins ends =
     kept_said at talks answers (AddsCuts shelved) (Shelves shelved lbs seats) (AreClosed sizes firsts starts seats) (AreEnded lbs seats) ts old back
     (λ books closed. ended_said lbs sizes firsts starts seats moment begun books same_sizes same_firsts same_starts begins closed)
     (λ books x y ended cuts. last_kept shelved lbs seats books x y ended cuts) ends
 closes_said {S = S} at talks answers shelved faults lbs sizes firsts starts seats moment begun ts old back closing.ShelfFault same_sizes same_firsts same_starts begins ends =
     kept_said at talks answers (λ (books : List Journal) (x y : S). AddsFront shelved books x y × Rose (faults x) (faults y))
-    (λ (x y : S). ShelvesFront shelved lbs seats x y × Rose (faults x) (faults y)) (AreClosed sizes firsts starts seats) (AreEnded lbs seats) ts old back
+    (λ (books : List Journal) (x y : S). ShelvesFront shelved lbs seats books x y × Rose (faults x) (faults y)) (AreClosed sizes firsts starts seats) (AreEnded lbs seats) ts old back
     (λ books closed. ended_said lbs sizes firsts starts seats moment begun books same_sizes same_firsts same_starts begins closed)
-    (λ books x y ended kept. ((books, ended, kept.0), kept.1)) ends
+    (λ books x y ended kept. ((ended, kept.0), kept.1)) ends
 closes_said {D} {G} {T} {K} {S} {O} at talks answers shelved faults lbs sizes firsts starts seats moment begun ts old back (closing.Differs d) same_sizes same_firsts same_starts begins ends = (
-  discord_said lbs sizes firsts d same_sizes same_firsts ends.0,
-  ap (λ (gs : List (Gear D G T K S O)). map (gear_side at talks answers) gs) ends.1,
+  [],
+  (
+    discord_said lbs sizes firsts d same_sizes same_firsts ends.0,
+    ap (λ (gs : List (Gear D G T K S O)). map (gear_side at talks answers) gs) ends.1,
+  ),
 )
 closes_said {D} {G} {T} {K} {S} {O} at talks answers shelved faults lbs sizes firsts starts seats moment begun ts old back closing.NoMemory same_sizes same_firsts same_starts begins (inl none) =
-    inl (ap (λ (gs : List (Gear D G T K S O)). map (gear_side at talks answers) gs) none)
+    ([], inl (ap (λ (gs : List (Gear D G T K S O)). map (gear_side at talks answers) gs) none))
 closes_said at talks answers shelved faults lbs sizes firsts starts seats moment begun ts old back closing.NoMemory same_sizes same_firsts same_starts begins (inr keeps) =
-    inr (kept_said at talks answers (AddsFront shelved) (ShelvesFront shelved lbs seats) (AreClosed sizes firsts starts seats) (AreEnded lbs seats) ts old back
+    let said = kept_said at talks answers (AddsFront shelved) (ShelvesFront shelved lbs seats) (AreClosed sizes firsts starts seats) (AreEnded lbs seats) ts old back
     (λ books closed. ended_said lbs sizes firsts starts seats moment begun books same_sizes same_firsts same_starts begins closed)
-    (λ books x y ended front. (books, ended, front)) keeps)
+    (λ books x y ended front. (ended, front)) keeps in
+    (said.0, inr said.1)
 
 -- The gears were put together so, of shelves that were lent.
 pub put_back : {D G T K S O : Type 0} (Kept : S → S → Type 0) (ts : List (Tools D G T K O)) (old lent new : List S) (back : List (Gear D G T K S O))

@@ -69,40 +69,39 @@ one_list lbs seats workers books ended own = record {
   at = ended.at;
   begun = ended.begun;
   starts = ended.starts;
-  log = ended.closed.log;
-  history = ended.closed.history;
+  log = ended.closed.closed.log;
+  history = ended.closed.closed.history;
   numbers = map (λ s. s.number) seats;
-  apart = ended.closed.apart;
-  told = told_each ended.closed.log seats workers ended.closed.own own;
+  apart = ended.closed.closed.apart;
+  told = told_each ended.closed.closed.log seats workers ended.closed.closed.own own;
+  no_other = ended.closed.no_other;
 }
 
 -- The Books of a closing that took them.
-first_ends : {C S O : Type 0} (lbs : List Lb) (seats : List SeatNote) (Kept : S → S → Type 0) (left back : List (GearSide C S O))
-    → ((x y : S) → Kept x y → (books : List Journal) × AreEnded lbs seats books) → KeepsFirst Kept left back → (books : List Journal) × AreEnded lbs seats books
-first_ends lbs seats Kept (first ∷ rest) (first' ∷ rest') say keeps = say first.shelf first'.shelf keeps.0
-first_ends lbs seats Kept [] back say keeps = absurd keeps
-first_ends lbs seats Kept (first ∷ rest) [] say keeps = absurd keeps
+first_ends : {C S O : Type 0} (lbs : List Lb) (seats : List SeatNote) (books : List Journal) (Kept : S → S → Type 0) (left back : List (GearSide C S O))
+    → ((x y : S) → Kept x y → AreEnded lbs seats books) → KeepsFirst Kept left back → AreEnded lbs seats books
+first_ends lbs seats books Kept (first ∷ rest) (first' ∷ rest') say keeps = say first.shelf first'.shelf keeps.0
+first_ends lbs seats books Kept [] back say keeps = absurd keeps
+first_ends lbs seats books Kept (first ∷ rest) [] say keeps = absurd keeps
 
-ends_with : {C S O L : Type 0} (shelved : S → Option (List (ℕ × Segment))) (faults : S → ℕ) (lbs : List Lb) (seats : List SeatNote) (left back : List (GearSide C S O)) (end : Closing L)
-    → Closes shelved faults lbs seats left back end → HasBooks end → (books : List Journal) × AreEnded lbs seats books
-ends_with shelved faults lbs seats left back closing.Kept closes has =
-    first_ends lbs seats (Shelves shelved lbs seats) left back (λ x y kept. (kept.1.0, kept.1.1)) closes
-ends_with {S = S} shelved faults lbs seats left back closing.ShelfFault closes has =
-    first_ends lbs seats (λ (old new : S). ShelvesFront shelved lbs seats old new × Rose (faults old) (faults new)) left back (λ x y kept. (kept.0.0, kept.0.1)) closes
-ends_with shelved faults lbs seats left back (closing.Differs d) closes has = absurd has
-ends_with shelved faults lbs seats left back closing.NoMemory closes has = absurd has
+ends_with : {C S O L : Type 0} (shelved : S → Option (List (ℕ × Segment))) (faults : S → ℕ) (lbs : List Lb) (seats : List SeatNote) (books : List Journal) (left back : List (GearSide C S O)) (end : Closing L)
+    → Closes shelved faults lbs seats books left back end → HasBooks end → AreEnded lbs seats books
+ends_with shelved faults lbs seats books left back closing.Kept closes has =
+    first_ends lbs seats books (Shelves shelved lbs seats books) left back (λ x y kept. kept.1.0) closes
+ends_with {S = S} shelved faults lbs seats books left back closing.ShelfFault closes has =
+    first_ends lbs seats books (λ (old new : S). ShelvesFront shelved lbs seats books old new × Rose (faults old) (faults new)) left back (λ x y kept. kept.0.0) closes
+ends_with shelved faults lbs seats books left back (closing.Differs d) closes has = absurd has
+ends_with shelved faults lbs seats books left back closing.NoMemory closes has = absurd has
 
 -- The headline.
 pub headline_of : {C S O L X : Type 0} (visits : ℕ → Peer → Visit) (told : Ghosts C X) (of : Keeps S (Option (LogState O))) (format : List FormatPart) (shelved : S → Option (List (ℕ × Segment))) (faults : S → ℕ) (lbs : List Lb)
-    (begun left back : List (GearSide C S O)) (seats : List SeatNote) (ends : List (WorkerEnd L)) (end : Closing L)
-    → AreServedGears visits told of format 0 begun left seats ends → Closes shelved faults lbs seats left back end → IsHeadline visits told of lbs ends end
-headline_of visits told of format shelved faults lbs begun left back seats ends end served closes =
+    (begun left back : List (GearSide C S O)) (seats : List SeatNote) (books : List Journal) (ends : List (WorkerEnd L)) (end : Closing L)
+    → AreServedGears visits told of format 0 begun left seats ends → Closes shelved faults lbs seats books left back end → IsHeadline visits told of lbs ends end books
+headline_of visits told of format shelved faults lbs begun left back seats books ends end served closes =
     let all = have_served visits told of format 0 begun left seats ends served in
     record {
       workers = all.workers;
       each = all.each;
       sessions = all.sessions;
-      journal = λ has.
-          let books = ends_with shelved faults lbs seats left back end closes has in
-          (books.0, one_list lbs seats all.workers books.0 books.1 all.own);
+      journal = λ has. one_list lbs seats all.workers books (ends_with shelved faults lbs seats books left back end closes has) all.own;
     }

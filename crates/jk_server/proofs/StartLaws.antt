@@ -10,6 +10,7 @@ use Rattle.jk_io.specs.declared.reaching.Talk.{Talk}
 use Rattle.jk_io.specs.declared.traits.streams.Meanings.{Ghosts}
 use Rattle.jk_io.specs.declared.traits.surroundings.Peer.{Peer}
 use Rattle.jk_model.specs.declared.segment.Segment.{Segment}
+use Rattle.balancer_core.specs.Journal.{Journal}
 use Rattle.client_session.specs.Requests.{Visit}
 use Rattle.door_clients.specs.Doors.{DoorSide}
 use Rattle.site_config.specs.declared.balancer.Lb.{Lb}
@@ -94,13 +95,14 @@ one_part was now n is same one = cc
 -- What the workers did and how the closing ended, from the start.
 pub run_done : {C S O L X : Type 0} → (visits : ℕ → Peer → Visit) (told : Ghosts C X) (shelved : S → Option (List (ℕ × Segment))) (of : Keeps S (Option (LogState O))) (format : List FormatPart) (lbs : List Lb)
     (begun left back : List (GearSide C S O)) (seats : List SeatNote) (ends ends' : List (WorkerEnd L)) (closing : Closing L)
-    → AreServedGears visits told of format 0 begun left seats ends → ends' ≡ ends → Closes shelved of.shelf_faults lbs seats left back closing
+    → AreServedGears visits told of format 0 begun left seats ends → ends' ≡ ends → (books : List Journal) × Closes shelved of.shelf_faults lbs seats books left back closing
     → IsStartedRun visits told shelved of format lbs begun back ends' closing
 run_done {L = L} visits told shelved of format lbs begun left back seats ends ends' closing served same closed = record {
   left = left;
   seats = seats;
   served = subst (λ (es : List (WorkerEnd L)). AreServedGears visits told of format 0 begun left seats es) (sym same) served;
-  closed = closed;
+  books = closed.0;
+  closed = closed.1;
 }
 
 pub served_gear : {C S O L X : Type 0} → (visit : Peer → Visit) (told : Ghosts C X) (of : Keeps S (Option (LogState O))) (format : List FormatPart) (before after : GearSide C S O) (seat : SeatNote) (from to : WorkerSide S (Option (LogState O))) (end : WorkerEnd L)
@@ -124,8 +126,9 @@ started_run {D} {G} {T} {K} {S} {O} visits told shelved of format lbs at gears l
       (subst (λ (gs : List (Gear D G T K S O)). AreStarted (map at lent) (map at gs)) (sym written) started);
   seats = run.seats;
   served = run.served;
+  books = run.books;
   closed = run.closed;
-  headline = headline_of visits told of format shelved of.shelf_faults lbs (map at begun) run.left (map at back) run.seats ends closing run.served run.closed;
+  headline = headline_of visits told of format shelved of.shelf_faults lbs (map at begun) run.left (map at back) run.seats run.books ends closing run.served run.closed;
 }
 
 pub ok_weaker : {T E : Type 0} (P Q : T → Type 0) (r : Result T E) → IfOk r P → ((x : T) → P x → Q x) → IfOk r Q

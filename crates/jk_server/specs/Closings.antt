@@ -14,9 +14,9 @@ use Rattle.jk_server.specs.Headline.{AreEnded, firsts_of}
 use Rattle.jk_server.specs.declared.runs.ends.Closing.{Closing}
 use Rattle.jk_server.specs.declared.runs.ends.Closing.TheVariants as closing
 
--- These are the last segments of the balancers of a configuration, over which desks at these seats were.
-abbrev pub AreLast : List Lb → List SeatNote → List (ℕ × Segment) → Type 0
-AreLast lbs seats kept = (books : List Journal) × AreEnded lbs seats books × AreCuts 0 books kept
+-- These are the last segments of the balancers of a configuration, whose Books are these, and over which desks at these seats were.
+abbrev pub AreLast : List Lb → List SeatNote → List Journal → List (ℕ × Segment) → Type 0
+AreLast lbs seats books kept = AreEnded lbs seats books × AreCuts 0 books kept
 
 -- The gears came back as the workers left them, but for the first one's shelf, for which `Kept` holds.
 abbrev pub KeepsFirst : {C S O : Type 0} → (S → S → Type 0) → (left back : List (GearSide C S O)) → Type 0
@@ -25,21 +25,22 @@ KeepsFirst Kept (first ∷ rest) (first' ∷ rest') =
 KeepsFirst Kept left back = ⊥
 
 -- Just the last segments were added to a shelf.
-abbrev pub Shelves : {S : Type 0} → (S → Option (List (ℕ × Segment))) → List Lb → List SeatNote → (old new : S) → Type 0
-Shelves shelved lbs seats old new = (kept : List (ℕ × Segment)) × AreLast lbs seats kept × (shelved new ≡ appended (shelved old) kept)
+abbrev pub Shelves : {S : Type 0} → (S → Option (List (ℕ × Segment))) → List Lb → List SeatNote → List Journal → (old new : S) → Type 0
+Shelves shelved lbs seats books old new =
+    (kept : List (ℕ × Segment)) × AreLast lbs seats books kept × (shelved new ≡ appended (shelved old) kept)
 
 -- The last segments of the first balancers were added to a shelf, and those of the others weren't.
-abbrev pub ShelvesFront : {S : Type 0} → (S → Option (List (ℕ × Segment))) → List Lb → List SeatNote → (old new : S) → Type 0
-ShelvesFront shelved lbs seats old new = (books : List Journal) × AreEnded lbs seats books × AddsFront shelved books old new
+abbrev pub ShelvesFront : {S : Type 0} → (S → Option (List (ℕ × Segment))) → List Lb → List SeatNote → List Journal → (old new : S) → Type 0
+ShelvesFront shelved lbs seats books old new = AreEnded lbs seats books × AddsFront shelved books old new
 
 -- The receipts of the workers aren't the entries that the Books keep, and this is where they differ first.
 abbrev pub IsDiscordOf : List Lb → DiscordNote → Type 0
 IsDiscordOf lbs d = (entries : ℕ) × (receipts : List (ℕ × Entry)) × Differs (sizes_of lbs) (firsts_of lbs) entries receipts d
 
--- What each end of the closing says.
-abbrev pub Closes : {C S O L : Type 0} → (S → Option (List (ℕ × Segment))) → (S → ℕ) → List Lb → List SeatNote → (left back : List (GearSide C S O)) → Closing L → Type 0
-Closes shelved faults lbs seats left back closing.Kept = KeepsFirst (Shelves shelved lbs seats) left back
-Closes shelved faults lbs seats left back closing.ShelfFault =
-    KeepsFirst (λ old new. ShelvesFront shelved lbs seats old new × Rose (faults old) (faults new)) left back
-Closes shelved faults lbs seats left back (closing.Differs d) = IsDiscordOf lbs d × (back ≡ [])
-Closes shelved faults lbs seats left back closing.NoMemory = (back ≡ []) ⊎ KeepsFirst (ShelvesFront shelved lbs seats) left back
+-- What each end of the closing says of the Books that it took.
+abbrev pub Closes : {C S O L : Type 0} → (S → Option (List (ℕ × Segment))) → (S → ℕ) → List Lb → List SeatNote → List Journal → (left back : List (GearSide C S O)) → Closing L → Type 0
+Closes shelved faults lbs seats books left back closing.Kept = KeepsFirst (Shelves shelved lbs seats books) left back
+Closes shelved faults lbs seats books left back closing.ShelfFault =
+    KeepsFirst (λ old new. ShelvesFront shelved lbs seats books old new × Rose (faults old) (faults new)) left back
+Closes shelved faults lbs seats books left back (closing.Differs d) = IsDiscordOf lbs d × (back ≡ [])
+Closes shelved faults lbs seats books left back closing.NoMemory = (back ≡ []) ⊎ KeepsFirst (ShelvesFront shelved lbs seats books) left back

@@ -1,11 +1,12 @@
 -- What a run of all workers comes to: one list of entries of the balancers, and what each client was given. Read this first.
 --
 -- Of the run there is one list of entries, sound from where the balancers of the configuration start and ending in the present
--- state of the Books. The sessions of each worker were told exactly the entries of its own desk in it, in order, each once.
+-- state of the Books, of which the last segments went to the shelf. The sessions of each worker were told exactly the entries of
+-- its own desk in it, in order, each once; and each entry of the list was told to a session of one worker.
 -- Each client was served by one session, of which `IsRun` says what its requests were, what the desk, the talks and the client
 -- have of them, and why it ended.
 use Rattle.std.specs.Prelude.{ℕ, ◌≡◌, ◌+◌, List, [], ◌∷◌, length, map}
-use Rattle.std.specs.List.{All, AllZip, flat_map}
+use Rattle.std.specs.List.{All, AllZip, Contains, flat_map}
 use Rattle.jk_io.specs.declared.traits.streams.Meanings.{Ghosts}
 use Rattle.jk_io.specs.declared.traits.surroundings.Peer.{Peer}
 use Rattle.jk_model.specs.declared.journal.Entry.{Entry}
@@ -13,9 +14,10 @@ use Rattle.balancer_core.specs.Journal.{Journal}
 use Rattle.balancer_core.specs.declared.receipt.Receipt.{Receipt}
 use Rattle.client_session.specs.Requests.{Visit}
 use Rattle.exchange.specs.Requests.{sizes_of}
-use Rattle.locked_balancer.specs.Histories.{AreDistinct, IsClosed, IsSiteHistory, SeatNote, noted, own_in, starts_of}
+use Rattle.locked_balancer.specs.Histories.{AreDistinct, IsSiteHistory, SeatNote, noted, own_in, starts_of}
 use Rattle.locked_balancer.specs.Sites.{AreSited}
 use Rattle.site_books.specs.Starts.{AreStarts}
+use Rattle.site_closing.specs.OneHistory.{IsWhole}
 use Rattle.site_config.specs.declared.balancer.Lb.{Lb}
 use Rattle.jk_server.specs.Served.{IsRun, Run}
 use Rattle.jk_server.specs.Worker.{Keeps}
@@ -29,7 +31,7 @@ told_in runs = flat_map (λ r. r.to.desk.desk.receipts) runs
 
 -- One list of entries, each with the number of the desk that added it and with its balancer, made these Books what they are.
 -- The balancers began with number 0 at the moment `at`. Each worker had a desk of another number, and of that number the list
--- has exactly what the worker's sessions were told, in order.
+-- has exactly what the worker's sessions were told, in order. It has no other entries: each has the number of one of these desks.
 pub record IsOneList (lbs : List Lb) (tellings : List (List Receipt)) (books : List Journal) : Type 0 where
   pub at : ℕ
   pub begun : List Journal
@@ -39,6 +41,7 @@ pub record IsOneList (lbs : List Lb) (tellings : List (List Receipt)) (books : L
   pub numbers : List ℕ
   pub apart : AreDistinct numbers
   pub told : AllZip (λ number receipts. own_in number log ≡ noted receipts) numbers tellings
+  pub no_other : All (λ x. Contains numbers x.0) log
 
 -- Each client of these workers was served by a session of the worker's number.
 abbrev pub AreSessions : {C S Y X : Type 0} → (ℕ → Peer → Visit) → Ghosts C X → Keeps S Y → (number : ℕ) → List (List (Run C S Y)) → Type 0
@@ -52,12 +55,13 @@ HasBooks closing.ShelfFault = Unit {0}
 HasBooks (closing.Differs d) = ⊥
 HasBooks closing.NoMemory = ⊥
 
--- The headline: the sessions of each worker, in order, and the one list that tells the same as they were told.
-pub record IsHeadline {C S Y L X : Type 0} (visits : ℕ → Peer → Visit) (told : Ghosts C X) (of : Keeps S Y) (lbs : List Lb) (ends : List (WorkerEnd L)) (closing : Closing L) : Type 0 where
+-- The headline: the sessions of each worker, in order, and the one list that tells the same as they were told and made the Books
+-- that the closing took what they are.
+pub record IsHeadline {C S Y L X : Type 0} (visits : ℕ → Peer → Visit) (told : Ghosts C X) (of : Keeps S Y) (lbs : List Lb) (ends : List (WorkerEnd L)) (closing : Closing L) (books : List Journal) : Type 0 where
   pub workers : List (List (Run C S Y))
   pub each : length workers ≡ length ends
   pub sessions : AreSessions visits told of 0 workers
-  pub journal : HasBooks closing → (books : List Journal) × IsOneList lbs (map told_in workers) books
+  pub journal : HasBooks closing → IsOneList lbs (map told_in workers) books
 
 -- ---- by the seats that the desks left
 
@@ -66,10 +70,10 @@ abbrev pub firsts_of : List Lb → List ℕ
 firsts_of lbs = map (λ lb. 0) lbs
 
 -- These are the Books of the balancers of a configuration at the end of a run whose workers had desks at these seats. One
--- history made the Books what they are, and it has of each desk just the entries that the desk has seen as its own.
+-- history made the Books what they are; it has of each desk just the entries that the desk has seen as its own, and no others.
 pub record AreEnded (lbs : List Lb) (seats : List SeatNote) (books : List Journal) : Type 0 where
   pub sited : AreSited (sizes_of lbs) (firsts_of lbs) books
   pub at : ℕ
   pub begun : List Journal
   pub starts : AreStarts lbs at 0 begun
-  pub closed : IsClosed (starts_of begun) seats books
+  pub closed : IsWhole (starts_of begun) seats books

@@ -3,6 +3,7 @@ use Rattle.std.specs.Prelude.{ℕ, ◌≡◌, ◌+◌, List, [], ◌∷◌, Opti
 use Rattle.jk_io.specs.declared.traits.streams.Meanings.{Ghosts}
 use Rattle.jk_io.specs.declared.traits.surroundings.Peer.{Peer}
 use Rattle.jk_model.specs.declared.segment.Segment.{Segment}
+use Rattle.balancer_core.specs.Journal.{Journal}
 use Rattle.client_session.specs.Requests.{Visit, visit}
 use Rattle.locked_balancer.specs.Histories.{SeatNote, noted, own_in}
 use Rattle.locked_balancer.specs.SharedDesks.{SharedState}
@@ -59,16 +60,17 @@ AreServedGears visits told of format number (b ∷ before) (a ∷ after) (s ∷ 
     IsServedGear (visits number) told of format b a s e × AreServedGears visits told of format (number + 1) before after seats ends
 AreServedGears visits told of format number _ _ _ _ = ⊥
 
--- The gears as they were handed in and as they came back, how each worker ended, and how the closing did; and what the run
--- comes to.
+-- The gears as they were handed in and as they came back, how each worker ended, and how the closing did with the Books that it
+-- took; and what the run comes to, by these very Books.
 pub record IsSiteRun {C S O L X : Type 0} (visits : ℕ → Peer → Visit) (told : Ghosts C X) (shelved : S → Option (List (ℕ × Segment))) (of : Keeps S (Option (LogState O))) (format : List FormatPart) (lbs : List Lb) (before back : List (GearSide C S O)) (ends : List (WorkerEnd L)) (closing : Closing L) : Type 0 where
   pub begun : List (GearSide C S O)
   pub left : List (GearSide C S O)
   pub started : AreStarted before begun
   pub seats : List SeatNote
   pub served : AreServedGears visits told of format 0 begun left seats ends
-  pub closed : Closes shelved of.shelf_faults lbs seats left back closing
-  pub headline : IsHeadline visits told of lbs ends closing
+  pub books : List Journal
+  pub closed : Closes shelved of.shelf_faults lbs seats books left back closing
+  pub headline : IsHeadline visits told of lbs ends closing books
 
 -- What `IsSiteRun` says of the gears that were handed in, and of what the run gave back.
 abbrev pub RunsGears : {D G T K S O L C X : Type 0} → RunTells D T K S O C X → Config → List Rule → List FormatPart → List (Gear D G T K S O) → SiteRun L (Gear D G T K S O) → Type 0

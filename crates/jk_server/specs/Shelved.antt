@@ -5,9 +5,10 @@ use Rattle.jk_model.specs.declared.journal.Entry.{Entry}
 use Rattle.jk_model.specs.declared.segment.Segment.{Segment}
 use Rattle.balancer_core.specs.Journal.{Journal}
 use Rattle.jk_model.specs.declared.opening.Opening.{Opening}
-use Rattle.locked_balancer.specs.Histories.{IsClosed, SeatNote}
+use Rattle.locked_balancer.specs.Histories.{SeatNote}
 use Rattle.locked_balancer.specs.Sites.{AreSited}
 use Rattle.site_closing.specs.Closings.{Differs, DiscordNote}
+use Rattle.site_closing.specs.OneHistory.{IsWhole}
 use Rattle.gear_parts.specs.declared.world.Gear.{Gear}
 use Rattle.gear_parts.specs.Cuts.{AddsCuts, AddsFront, ToFirst}
 use Rattle.gear_parts.specs.GearParts.{Tools, tools}
@@ -23,7 +24,7 @@ pub record IsPutBack {D G T K S O : Type 0} (Kept : S → S → Type 0) (left : 
 -- The Books at the end, with the history that made them what they are.
 pub record AreClosed (sizes firsts : List ℕ) (starts : List Opening) (seats : List SeatNote) (books : List Journal) : Type 0 where
   pub sited : AreSited sizes firsts books
-  pub history : IsClosed starts seats books
+  pub history : IsWhole starts seats books
 
 -- The Books at the end were cut, and `Kept` says what became of them on the first shelf.
 abbrev pub KeepsCuts : {D G T K S O : Type 0} → (List Journal → S → S → Type 0) → (Ended : List Journal → Type 0) → List (Tools D G T K O) → List S → (back : List (Gear D G T K S O)) → Type 0

@@ -5,6 +5,7 @@ use Rattle.jk_io.specs.declared.traits.streams.Meanings.{Ghosts}
 use Rattle.jk_io.specs.declared.traits.surroundings.Peer.{Peer}
 use Rattle.jk_model.specs.declared.opening.Opening.{Opening}
 use Rattle.jk_model.specs.declared.segment.Segment.{Segment}
+use Rattle.balancer_core.specs.Journal.{Journal}
 use Rattle.client_session.specs.Requests.{Visit, visit}
 use Rattle.exchange.specs.Requests.{sizes_of}
 use Rattle.site_config.specs.declared.balancer.Lb.{Lb}
@@ -56,7 +57,8 @@ pub record IsStartedRun {C S O L X : Type 0} (visits : ℕ → Peer → Visit) (
   pub left : List (GearSide C S O)
   pub seats : List SeatNote
   pub served : AreServedGears visits told of format 0 begun left seats ends
-  pub closed : Closes shelved of.shelf_faults lbs seats left back closing
+  pub books : List Journal
+  pub closed : Closes shelved of.shelf_faults lbs seats books left back closing
 
 -- What `IsStartedRun` says of the gears as they were at the start, and of what the run gave back.
 abbrev pub RunsStarted : {D G T K S O L C X : Type 0} → RunTells D T K S O C X → Config → List Rule → List FormatPart → List (Gear D G T K S O) → SiteRun L (Gear D G T K S O) → Type 0

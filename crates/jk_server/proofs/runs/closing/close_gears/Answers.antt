@@ -10,7 +10,7 @@ returns-in-Ok g c =
     (λ ss. EndsSo {L = g.row.L.Denot} g.S.Shelf.shelved g.S.Shelf.faults g.L.SiteName.sizes g.L.SiteName.firsts g.L.SiteName.starts (map (λ l. l.seat) c.args.leaving) (tools_of c.args.left.items) ss
     c.close_books.new.gears.items c.close_books.result)
     c.in-Ok.ensures.shelves (c.close_books.ensures g.L.SiteName.sizes g.L.SiteName.firsts g.L.SiteName.starts (map (λ l. l.seat) c.args.leaving)
-    (record { sited = c.in-Ok.ensures.sited; history = c.in-Ok.ensures.history }))
+    (record { sited = c.in-Ok.ensures.sited; history = c.in-Ok.ensures.whole }))
 
 pub returns-in-Err-Differs : goal.returns-in-Err-Differs
 returns-in-Err-Differs g c = ((_, _, rw c.in-Err-Differs.field-0-is at c.in-Err-Differs.ensures.differs), c.requires.none)
