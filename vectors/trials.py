@@ -3,7 +3,7 @@
 
     python3 vectors/trials.py PROGRAM [TRIAL ..]
 
-Without a TRIAL all of them, some four minutes: stopped, silent, restarted, strays, refused, pipelined, stops, descriptors, disk. Each prints
+Without a TRIAL all of them, some four minutes: stopped, silent, restarted, strays, refused, pipelined, stops, effects, descriptors, disk. Each prints
 what came, and whether it is as docs/MEASURED.md and docs/OPERATING.md say. All listens at 127.0.0.1; `disk` mounts a small tmpfs where it
 may, as root. Status: 0 all was as said; 1 else.
 """
@@ -289,6 +289,22 @@ def try_stops(site):
         sound, said = is_good(site.program, kept)
         print(f"{how}: status {status} after {took:.2f} s; {told(came)}; the journal: {said}")
         good &= status == 0 and sound and not any("cut" in str(one) for one in came)
+    return good
+
+
+def try_effects(site):
+    """A front says at its start what of its files has no effect, each line after `jkd: `; `config` says the same lines."""
+    good = True
+    for rules, of_map in (("/*=lb;active=n0\n", ", line 1: active is not supported in a rule and has no effect"), ("", " has no rule, so each request gets 404")):
+        workers, rules = site.write([free_port()], "worker.@.css=1\n", rules=rules)
+        lines = [f"{workers}, line 6: worker.n0.css is not supported and has no effect\n", f"{rules}{of_map}\n"]
+        by_config = subprocess.run([site.program, "config", workers, rules], capture_output=True, text=True, check=False).stderr
+        before = len(site.programs.said())
+        front, _ = site.serve((workers, rules), threads=1)
+        by_serve = site.programs.said()[before:]
+        front.kill()
+        print("config:", by_config.strip(), "serve:", by_serve.strip(), sep="\n    ")
+        good &= by_config == "".join(lines) and by_serve.startswith("".join(f"jkd: {line}" for line in lines))
     return good
 
 

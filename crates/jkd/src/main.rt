@@ -8,11 +8,14 @@
 //! Errors: the statuses 1 to 7, each with its cause; a `Discord`, a stray and a failed drill end `run_jkd` with their values.
 #![tactic(auto)]
 
+mod ahead_files;
 mod arguments;
 mod command;
 mod demo;
 mod demo_threads;
+mod effects;
 mod ends;
+mod marked_sink;
 mod outside;
 mod telling;
 mod words;
@@ -21,6 +24,7 @@ mod write_sink;
 use arguments::{WordList, WordsError, read_words};
 use command::let_go;
 use demo_threads::{DEMO_THREADS, Demo, demo_of, end_of, run_part, send_end};
+use effects::tell_effects;
 use ends::{NO_MEMORY, OUTPUT_FAULT};
 use jk_io::{Bytes, IoError, NoMemory, Sink, write_all};
 use outside::{do_outside, tell_trouble, threads_of};
@@ -107,8 +111,9 @@ fn main(rt: HostRuntime) -> ExitCode {
             return ended(&rt, end_of(&rt, &ends));
         }
     }
+    let ahead = tell_effects(&rt, words, rt.stderr());
     let mut world = RealWorld::new(&rt, threads_of(rt.alloc(), words));
-    let status = do_outside(&rt, words, &mut world, rt.stderr());
+    let status = do_outside(&rt, words, ahead, &mut world, rt.stderr());
     tell_trouble(&rt, world.trouble());
     if status == 0 {
         world.say_ended();

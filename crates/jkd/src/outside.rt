@@ -7,6 +7,7 @@ ghost use Rattle.jkd.specs.Ends.{status_of};
 ghost use Rattle.jkd.specs.Plain.{RunsPlain};
 ghost use Rattle.jkd.specs.Words.{is_serving};
 
+use crate::ahead_files::{Ahead, AheadFiles};
 use crate::command::{let_go, run_jkd};
 use crate::ends::JkdEnd;
 use crate::telling::tell;
@@ -64,17 +65,17 @@ where
     (end, status)
 }
 
-/// Does the command of the words in this world, over the system's files and streams. Tells a person of it, and answers its
-/// status.
+/// Does the command of the words in this world, over the system's files and streams, of which some were read ahead. Tells a
+/// person of it, and answers its status.
 pub(crate) fn do_outside<
     W: World,
     E: Write + Drop,
     R: Print + Input + SystemFiles + Net + AllocGlobal + Threads + Wait + Sync,
->(rt: &R, words: &[Bytes], world: &mut W, err: E) -> u8
+>(rt: &R, words: &[Bytes], ahead: Ahead, world: &mut W, err: E) -> u8
 where
     <W::D as Door>::L: Send,
 {
-    let mut files = KeptFiles::new(rt.alloc(), RealFiles::new(rt));
+    let mut files = KeptFiles::new(rt.alloc(), AheadFiles::new(RealFiles::new(rt), ahead));
     let mut input = CountedInput::new(StdIn::new(rt.reader()));
     let mut out = StdOut::new(rt);
     let (end, status) = do_in(rt, words, &mut files, &mut input, &mut out, world);

@@ -46,7 +46,7 @@ impl<W: Write + Drop> Sink for WriteSink<W> {
 }
 
 /// How many bytes of the piece one write took, at least one; a signal in its midst is no failure.
-fn put_some<W: Write>(writer: &mut W, piece: &[u8]) -> Option<usize>
+pub(crate) fn put_some<W: Write>(writer: &mut W, piece: &[u8]) -> Option<usize>
     ensures { IfSome result (λ n. (0 < n) × (n ≤ length piece.now)) }
 {
     for _ in 0..u64::MAX {
