@@ -11,6 +11,7 @@ import os
 import socket
 import subprocess
 import sys
+import threading
 import time
 
 from joined import Reader, chunked, exchanges, head, wrong_of
@@ -27,7 +28,8 @@ def requests():
     """A name, the bytes, and how its reply is read: whole bytes, a chunked body, or a status."""
     for number, (asked, whole, body) in enumerate(exchanges()):
         yield f"exchange {number}: {asked[:30].split(b' HTTP')[0].decode()}", asked, whole, body
-    yield "a head of 15 KB", head("GET", "/who", (("Host", "h"),) + LONG), reply(b"n1\n"), None
+    yield "a head of 7 KB", head("GET", "/who", (("Host", "h"),) + LONG[:45]), reply(b"n1\n"), None
+    yield "a head of 15 KB, longer than a packet", head("GET", "/who", (("Host", "h"),) + LONG), None, 413
     data = b"z" * 5_000_000
     yield "a post of 5 MB", head("POST", "/echo", (("Host", "h"), ("Transfer-Encoding", "chunked"))) + chunked(data, 60_000), reply(
         b"", headers=[("Transfer-Encoding", "chunked")]), data
@@ -35,7 +37,7 @@ def requests():
     yield "a status page", head("GET", PAGE), None, 200
     yield "a status page as a table", head("GET", f"{PAGE}?mime=html"), None, 200
     yield "figures", head("GET", f"{PAGE}?mime=prom"), None, 200
-    yield "a member that is silent", head("GET", "/silent"), None, 502
+    yield "a member that isn't there", head("GET", "/gone"), None, 503
 
 
 class Front:
@@ -47,7 +49,7 @@ class Front:
                                       f"worker.n1.host=127.0.0.1\nworker.n1.port={self.member}\nworker.n1.retries=1\n"
                                       f"worker.gone.host=127.0.0.1\nworker.gone.port={free_port()}\nworker.gone.retries=1\n")
         rules = "".join(f"/{word}*=n1\n" for word in ("who", "size", "echo", "status", "session"))
-        self.map = programs.write("map", f"{rules}/silent=gone\n{PAGE}=status\n")
+        self.map = programs.write("map", f"{rules}/gone=gone\n{PAGE}=status\n")
 
     def peak(self, asked, whole, body):
         """The most bytes of a front that serves one client with these bytes after a first small request."""
@@ -72,7 +74,6 @@ def connect(port):
 
 
 def talk(port, asked, whole, body):
-    import threading
     with connect(port) as link:
         link.sendall(head("GET", "/who"))
         reader = Reader(link)
