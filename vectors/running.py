@@ -43,6 +43,8 @@ class Programs:
         return f"{self.folder}/{name}"
 
     def said(self):
+        if not os.path.exists(f"{self.folder}/said"):
+            return ""
         with open(f"{self.folder}/said", encoding="latin-1") as file:
             return file.read()
 
