@@ -4,7 +4,6 @@ use Rattle.std.specs.Option.{is_none, option_map}
 use Rattle.jk_cli.specs.Orders.{command_of}
 use Rattle.jk_cli.specs.declared.name.CommandName.{CommandName}
 use Rattle.jk_cli.specs.declared.name.CommandName.TheVariants as name
-use Rattle.jk_io.specs.declared.whole_input.TheConstants.{MAX_INPUT_BYTES}
 use Rattle.command_remarks.specs.declared.input_seen.InputSeen.{InputSeen}
 use Rattle.command_remarks.specs.declared.read_file.ReadFile.{ReadFile}
 use Rattle.command_remarks.specs.declared.site.SitePlace.{SitePlace}
@@ -68,7 +67,7 @@ SaysInput false at reads said = SaysPlaced at reads said
 
 abbrev pub SaysLong : Option (List ℕ) → InputSeen → Option SitePlace → List ReadFile → (said : List ℕ) → Type 0
 SaysLong (Some name) input at reads said = said ≡ too_long_text name
-SaysLong None input at reads said = SaysInput (nat_lt MAX_INPUT_BYTES input.bytes) at reads said
+SaysLong None input at reads said = SaysInput (nat_lt 67108864 input.bytes) at reads said
 
 -- why a command refused what it read
 abbrev pub SaysRefused : (words : List (List ℕ)) → List ReadFile → InputSeen → (said : List ℕ) → Type 0

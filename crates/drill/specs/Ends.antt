@@ -1,6 +1,7 @@
 -- What a drill hands out, and why there is none.
 use Rattle.std.specs.Prelude.{◌≡◌, ℕ, Bool, true, false, List, [], ◌∷◌}
 use Rattle.jk_model.specs.Journal.{members}
+use Rattle.jk_model.specs.Limits.{modern_rules}
 use Rattle.jk_model.specs.declared.journal.Entry.{Entry}
 use Rattle.balancer_core.specs.Journal.{IsSound, Journal, next_number}
 use Rattle.site_closing.specs.Closings.{Differs, DiscordNote}
@@ -9,18 +10,17 @@ use Rattle.drill.specs.Sites.{IsDrillBook}
 use Rattle.drill.specs.Summaries.{IsJournalText, summary_text}
 use Rattle.drill.specs.declared.drill_error.DrillError.{DrillError}
 use Rattle.drill.specs.declared.drill_error.DrillError.TheVariants as error
-use Rattle.jk_model.specs.declared.segment.TheConstants.{MODERN_RULES}
 
 -- A Book of rules 2 with two members that began with number 0, and whose journal, replayed, gives each recorded answer.
 pub record IsOfDrill (b : Journal) : Type 0 where
-  pub rules : b.rules ≡ MODERN_RULES
+  pub rules : b.rules ≡ modern_rules
   pub two : members b.opening ≡ 2
   pub numbered : next_number b ≡ b.added
   pub sound : IsSound b
 
 -- It is the Book of a drill's balancer at moment 0, and has no entry yet.
 pub record IsStarted (b : Journal) : Type 0 where
-  pub rules : b.rules ≡ MODERN_RULES
+  pub rules : b.rules ≡ modern_rules
   pub two : members b.opening ≡ 2
   pub first : next_number b ≡ 0
   pub moment : b.opening.at ≡ 0

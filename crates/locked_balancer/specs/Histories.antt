@@ -3,10 +3,10 @@ use Rattle.std.specs.Prelude.{◌≡◌, ◌≢◌, ◌⊎◌, ℕ, ◌-◌, ◌
 use Rattle.std.specs.List.{All, filter}
 use Rattle.atomic_table.specs.Seated.{TableId}
 use Rattle.atomic_table.specs.Table.{Me}
+use Rattle.jk_model.specs.Limits.{modern_rules}
 use Rattle.jk_model.specs.Present.{IsPresent}
 use Rattle.jk_model.specs.declared.journal.Entry.{Entry}
 use Rattle.jk_model.specs.declared.opening.Opening.{Opening}
-use Rattle.jk_model.specs.declared.segment.TheConstants.{MODERN_RULES}
 use Rattle.balancer_core.specs.Journal.{Journal}
 use Rattle.balancer_core.specs.declared.receipt.Receipt.{Receipt}
 use Rattle.history_lock.specs.Seats.{by_seat, seated}
@@ -141,7 +141,7 @@ pub record IsClosed (starts : List Opening) (seats : List SeatNote) (books : Lis
 
 -- The view is that of balancer lb after this history of the Site.
 abbrev pub IsPresentOf : List Opening → (log : List (ℕ × (ℕ × Entry))) → (lb : ℕ) → ViewNote → Type 0
-IsPresentOf starts log lb v = (o : Opening) → slice_get starts lb ≡ Some o → IsPresent MODERN_RULES o (reverse (entries_of lb log)) v.view
+IsPresentOf starts log lb v = (o : Opening) → slice_get starts lb ≡ Some o → IsPresent modern_rules o (reverse (entries_of lb log)) v.view
 
 -- The Books as a hold found them and as it left them, of which this is so.
 pub record OfBooks (P : (books books' : List Journal) → Type 0) : Type 0 where

@@ -3,6 +3,7 @@ use Rattle.std.specs.Prelude.{◌≡◌, ℕ, ◌+◌, ◌<◌, ◌≤◌, ◌�
 use Rattle.std.specs.List.{All}
 use Rattle.jk_model.specs.Free.{is_in}
 use Rattle.jk_model.specs.Legal.{HasValues}
+use Rattle.jk_model.specs.Limits.{most_numbers}
 use Rattle.jk_model.specs.declared.ask.Ask.{Ask}
 use Rattle.jk_model.specs.declared.change.Command.{Command}
 use Rattle.jk_model.specs.declared.journal.Answer.{Answer}
@@ -29,7 +30,6 @@ use Rattle.locked_balancer.specs.Shelves.{CutsAt}
 use Rattle.locked_balancer.specs.Sites.{AreSited, At}
 use Rattle.locked_balancer.specs.declared.site.MarkKind.{MarkKind}
 use Rattle.locked_balancer.specs.declared.site.MarkKind.TheVariants as refusal
-use Rattle.jk_model.specs.declared.validity.TheConstants.{MOST_NUMBERS}
 
 -- How many tickets may be out in a Book at a time.
 abbrev pub pools_of : Journal → ℕ
@@ -169,7 +169,7 @@ pub record IsMark (lb : ℕ) (why : MarkKind) (mark : MarkNote) : Type 0 where
   pub refusal : mark.refusal ≡ why
 
 abbrev pub IsFullMark : (lb more : ℕ) → MarkNote → Type 0
-IsFullMark lb more mark = IsMark lb refusal.Full mark × (MOST_NUMBERS < mark.numbers.next + mark.numbers.out + more)
+IsFullMark lb more mark = IsMark lb refusal.Full mark × (most_numbers < mark.numbers.next + mark.numbers.out + more)
 
 abbrev pub IsRoomMark : (lb more : ℕ) → RoomError MarkNote → Type 0
 IsRoomMark lb more (room.Full mark) = IsFullMark lb more mark

@@ -16,7 +16,6 @@ use Rattle.balancer_core.specs.declared.desk.Choice.TheVariants as choice
 use Rattle.balancer_core.specs.declared.receipt.Receipt.{Receipt}
 use Rattle.locked_balancer.specs.Histories.{SeatNote, no_seat}
 use Rattle.locked_balancer.specs.Notes.{MarkNote, StrayNote}
-use Rattle.locked_balancer.specs.declared.site.TheConstants.{MOST_ENTRIES}
 
 -- A desk over a shared Site: what each desk tells, its shelf, how many receipts it forgot, for how many segments the
 -- shelf wanted memory, the first stray that it met since the last was taken, and its seat at the lock.
@@ -108,11 +107,11 @@ abbrev pub AreKnown : (n : ℕ) → List (ℕ × ℕ) → Type 0
 AreKnown n held = All (λ x. x.0 < n) held
 
 -- The fields of a desk: its share counts its receipts and those that it forgot, and it has the room for the receipts of
--- the Returns to come.
+-- the Returns to come. A share counts at most 2 to the 58th entries.
 pub record IsShared (n : ℕ) (receipts : List Receipt) (held : List (ℕ × ℕ)) (parts amount forgotten room : ℕ) : Type 0 where
   pub part : 0 < parts
   pub counted : amount ≡ length receipts + forgotten
-  pub few : amount ≤ MOST_ENTRIES
+  pub few : amount ≤ 288230376151711744
   pub known : AreKnown n held
   pub roomy : length receipts + length held ≤ room
 

@@ -2,6 +2,7 @@
 use Rattle.std.specs.Prelude.{◌≡◌, ℕ, ◌+◌, ◌^◌, ◌<◌, ◌≤◌, Option, Some, None, Result, Ok, Err}
 use Rattle.jk_model.specs.Journal.{members}
 use Rattle.jk_model.specs.Legal.{HasValues, IsDoable}
+use Rattle.jk_model.specs.Limits.{most_numbers}
 use Rattle.jk_model.specs.Settings.{common_after}
 use Rattle.jk_model.specs.declared.change.Command.{Command}
 use Rattle.jk_model.specs.declared.journal.Call.TheVariants as call
@@ -15,7 +16,6 @@ use Rattle.balancer_core.specs.Journal.{Journal, next_number, past_of, tickets_o
 use Rattle.locked_balancer.specs.Notes.{MarkNote}
 use Rattle.locked_balancer.specs.declared.site.MarkKind.{MarkKind}
 use Rattle.locked_balancer.specs.declared.site.MarkKind.TheVariants as refusal
-use Rattle.jk_model.specs.declared.validity.TheConstants.{MOST_NUMBERS}
 
 -- The mark is of this refusal of balancer lb, and has the numbers of its Book.
 pub record IsMarkOf (lb : ℕ) (why : MarkKind) (b : Journal) (mark : MarkNote) : Type 0 where
@@ -26,10 +26,10 @@ pub record IsMarkOf (lb : ℕ) (why : MarkKind) (b : Journal) (mark : MarkNote) 
 
 -- At least `more` numbers are left beside those of the Returns to come.
 abbrev pub HasRoom : (more : ℕ) → Journal → Type 0
-HasRoom more b = next_number b + tickets_out b + more ≤ MOST_NUMBERS
+HasRoom more b = next_number b + tickets_out b + more ≤ most_numbers
 
 abbrev pub IsFullAt : (lb more : ℕ) → Journal → MarkNote → Type 0
-IsFullAt lb more b mark = (MOST_NUMBERS < next_number b + tickets_out b + more) × IsMarkOf lb refusal.Full b mark
+IsFullAt lb more b mark = (most_numbers < next_number b + tickets_out b + more) × IsMarkOf lb refusal.Full b mark
 
 -- Full comes exactly where fewer than `more` numbers are left.
 abbrev pub IsRoomAt : {T : Type 0} → (lb more : ℕ) → Journal → Result T (RoomError MarkNote) → Type 0

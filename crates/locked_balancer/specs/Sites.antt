@@ -1,12 +1,12 @@
 -- The Books of a Site, and what its calls do with them.
 use Rattle.std.specs.Prelude.{◌≡◌, ℕ, ◌+◌, ◌≤◌, List, [], ◌∷◌, length, map, sum_by, Some, slice_get, slice_index, slice_set}
+use Rattle.jk_model.specs.Limits.{most_balancers}
 use Rattle.jk_model.specs.declared.journal.Call.{Call}
 use Rattle.balancer_core.specs.Desks.{IsOwn}
 use Rattle.balancer_core.specs.Journal.{Journal, next_number}
 use Rattle.balancer_core.specs.PlainDesks.{AreLegal, AreModern}
 use Rattle.balancer_core.specs.ToldBooks.{IsNextAt, grown_by, sizes_of}
 use Rattle.balancer_core.specs.declared.receipt.Receipt.{Receipt}
-use Rattle.jk_model.specs.declared.config.TheConstants.{MAX_BALANCERS}
 
 -- How many entries the Books ever added.
 abbrev pub added_in : List Journal → ℕ
@@ -30,7 +30,7 @@ pub record AreSited (sizes firsts : List ℕ) (books : List Journal) : Type 0 wh
   pub numbered : AreNumbered firsts books
   pub modern : AreModern books
   pub sound : AreLegal books
-  pub few : length books ≤ MAX_BALANCERS
+  pub few : length books ≤ most_balancers
 
 -- The call of a session at a moment added the entry of this receipt to the Book of balancer lb. It may follow those
 -- before it, and has the greater of this moment and theirs. No other Book changed.

@@ -2,6 +2,7 @@
 use Rattle.std.specs.Prelude.{◌≡◌, ℕ, ◌+◌, ◌<◌, ◌≤◌, max, ◌⊎◌, false, List, [], ◌∷◌, ◌++◌, length, Some}
 use Rattle.std.specs.Bool.{MatchBool}
 use Rattle.balancer_core.specs.Journal.{Journal, IsSound, past_of}
+use Rattle.jk_model.specs.Limits.{modern_rules}
 use Rattle.jk_model.specs.declared.journal.Call.{Call}
 use Rattle.jk_model.specs.declared.journal.Call.TheVariants as call
 use Rattle.jk_model.specs.declared.journal.Entry.{Entry}
@@ -15,11 +16,10 @@ use Rattle.play_script.specs.Play.{is_skipped, AddsCall, AsksFor, Says, SaysLine
 use Rattle.play_script.specs.Steps.{step_of}
 use Rattle.plain_commands.specs.declared.turn.Stop.{Stop}
 use Rattle.plain_commands.specs.declared.turn.Stop.TheVariants as stop
-use Rattle.jk_model.specs.declared.segment.TheConstants.{MODERN_RULES}
 
 -- The Book of a script: it has rules 2 and began with number 0 and no ticket out.
 pub record IsPlayed (b : Journal) : Type 0 where
-  pub rules : b.rules ≡ MODERN_RULES
+  pub rules : b.rules ≡ modern_rules
   pub sound : IsSound b
   pub first : b.opening.next ≡ 0
   pub none_out : b.opening.out ≡ []

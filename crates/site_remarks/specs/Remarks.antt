@@ -3,7 +3,6 @@
 -- is its name and its text.
 use Rattle.std.specs.Prelude.{◌≡◌, ◌≤◌, ℕ, Bool, true, false, List, [], ◌++◌, ◌⊎◌, Option, Some, None, IfSome, Result, Ok, Err, length}
 use Rattle.std.specs.Option.{option_map}
-use Rattle.jk_io.specs.declared.whole_input.TheConstants.{MAX_INPUT_BYTES}
 use Rattle.property_lines.specs.Properties as properties
 use Rattle.property_lines.specs.Refusals.{LineRefusal}
 use Rattle.property_lines.specs.declared.property.Property.{Property}
@@ -57,9 +56,9 @@ as_file file = (file.name.now, file.text.now)
 abbrev pub maps_of : SiteFiles → Option (List ℕ × List ℕ)
 maps_of files = option_map as_file files.map
 
--- the text is one that a command takes
+-- the text is one that a command takes: at most 67,108,864 bytes
 abbrev pub IsShort : SiteFile → Type 0
-IsShort file = length file.text.now ≤ MAX_INPUT_BYTES
+IsShort file = length file.text.now ≤ 67108864
 
 abbrev pub AreShort : SiteFiles → Type 0
 AreShort files = IsShort files.workers × IfSome files.map IsShort

@@ -4,11 +4,10 @@ use Rattle.jk_model.specs.declared.segment.Segment.{Segment}
 use Rattle.journal_lines.specs.Names.{name_word}
 use Rattle.journal_text.specs.SegmentText.{segment_text}
 use Rattle.worker_gears.specs.declared.journal_files.SegmentFile.{SegmentFile}
-use Rattle.worker_gears.specs.declared.journal_files.TheConstants.{FIRST_DIGITS}
 
 -- a segment's first number, filled with zeros to 15 digits
 abbrev pub first_word : ℕ → List ℕ
-first_word first = replicate (FIRST_DIGITS - length (decimal first)) 48 ++ decimal first
+first_word first = replicate (15 - length (decimal first)) 48 ++ decimal first
 
 -- the balancer's name as it stands in the journal's text, and the number
 abbrev pub file_name : (name : List ℕ) → (first : ℕ) → List ℕ
