@@ -1,6 +1,7 @@
 //! Lines on standard error, at most one a second of a kind.
-ghost use Rattle.std.specs.Prelude.{◌≡◌, ◌↔◌, IsTrue, None};
-ghost use Rattle.real_io.specs.Notices.{Asks, IsDueAfter};
+ghost use Rattle.std.specs.Prelude.{◌≡◌, ◌↔◌, ◌++◌, [], IsTrue, None, OnOk, codes, if◌then◌else◌};
+ghost use Rattle.std.specs.List.{flat_map, list_any};
+ghost use Rattle.real_io.specs.Notices.{Asks, IsDueAfter, is_at, member_text, name_at};
 
 use crate::moments::moment;
 use jk_io::{Bytes, NoMemory, put_decimal};
@@ -251,24 +252,6 @@ impl Members {
         }
     }
 
-    // Puts the names of the workers at an address, if they are known, and the address.
-    fn put_member(&self, line: &mut Bytes, host: &Bytes, port: u16) -> Result<(), NoMemory> {
-        let mut is_named = false;
-        for named in &self.names {
-            if named.port == port && named.host == *host {
-                line.extend(named.name.as_slice())?;
-                line.push(b' ')?;
-                is_named = true;
-            }
-        }
-        if is_named {
-            line.extend(b"at ")?;
-        }
-        line.extend(host.as_slice())?;
-        line.push(b':')?;
-        put_decimal(line, u128::from(port))
-    }
-
     fn say_lost(
         &self,
         alloc: Global,
@@ -278,7 +261,7 @@ impl Members {
         left_out: u64,
     ) -> Result<(), NoMemory> {
         let mut line = Bytes::from_slice(alloc, b"jkd: ")?;
-        self.put_member(&mut line, host, port)?;
+        put_member(&mut line, self.names.as_slice(), host, port)?;
         put_failure(alloc, &mut line, failure)?;
         end_line(&mut line, left_out)
     }
@@ -291,10 +274,67 @@ impl Members {
         left_out: u64,
     ) -> Result<(), NoMemory> {
         let mut line = Bytes::from_slice(alloc, b"jkd: ")?;
-        self.put_member(&mut line, host, port)?;
+        put_member(&mut line, self.names.as_slice(), host, port)?;
         line.extend(b" is back")?;
         end_line(&mut line, left_out)
     }
+}
+
+// Whether a worker is reached at an address.
+fn is_at(worker: &Named, host: &Bytes, port: u16) -> bool
+    ensures { result ≡ is_at host.now port worker.now }
+{
+    worker.port == port && worker.host == *host
+}
+
+// Puts the name of a worker, if it is reached at an address.
+fn put_name(line: &mut Bytes, worker: &Named, host: &Bytes, port: u16) -> Result<(), NoMemory>
+    ensures { OnOk result (line.new ≡ line.old ++ name_at host.now port worker.now) }
+{
+    if !is_at(worker, host, port) {
+        return Ok(());
+    }
+    line.extend(worker.name.as_slice())?;
+    line.push(b' ')
+}
+
+// Puts the names of the workers that are reached at an address.
+fn put_names(line: &mut Bytes, workers: &[Named], host: &Bytes, port: u16) -> Result<(), NoMemory>
+    ensures { OnOk result (line.new ≡ line.old ++ flat_map (name_at host.now port) workers.now) }
+{
+    for worker in workers {
+        put_name(line, worker, host, port)?;
+    }
+    Ok(())
+}
+
+// Whether a worker is known that is reached at an address.
+fn is_known(workers: &[Named], host: &Bytes, port: u16) -> bool
+    ensures { result ≡ list_any (is_at host.now port) workers.now }
+{
+    workers.iter().any(|worker| is_at(worker, host, port))
+}
+
+// Puts the end of the names, if there are some.
+fn put_at(line: &mut Bytes, workers: &[Named], host: &Bytes, port: u16) -> Result<(), NoMemory>
+    ensures { OnOk result (line.new ≡ line.old ++ (if list_any (is_at host.now port) workers.now then codes "at " else [])) }
+{
+    if is_known(workers, host, port) {
+        line.extend(b"at ")
+    } else {
+        Ok(())
+    }
+}
+
+// Puts the names of the workers at an address, if they are known, and the address.
+fn put_member(line: &mut Bytes, workers: &[Named], host: &Bytes, port: u16) -> Result<(), NoMemory>
+    ensures { OnOk result (line.new ≡ line.old ++ member_text workers.now host.now port) }
+{
+    put_names(line, workers, host, port)?;
+    put_at(line, workers, host, port)?;
+    line.extend(host.as_slice())?;
+    line.push(b':')?;
+    put_decimal(line, u128::from(port))
 }
 
 fn say_unkept(
