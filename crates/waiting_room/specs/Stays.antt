@@ -1,4 +1,4 @@
--- When a client has waited too long.
+-- When a client has waited too long, and when all ends after a stop.
 use Rattle.std.specs.Prelude.{◌≡◌, ℕ, ◌+◌, ◌*◌, ◌<◌, ◌≤◌, ◌⊎◌, ◌==◌, if◌then◌else◌, min}
 use Rattle.waiting_room.specs.declared.stay.Limits.{Limits}
 use Rattle.waiting_room.specs.declared.stay.Phase.{Phase}
@@ -29,3 +29,7 @@ abbrev pub stay_after : Phase → Stay → ℕ → ℕ → Stay
 stay_after Head stay count now = stay
 stay_after Between stay count now = if count == 0 then stay else record { phase = Head; since = now; last = now }
 stay_after Lingers stay count now = stay
+
+-- when all ends after a stop at this moment, at which requests under way may take so many seconds
+abbrev pub end_after : (now : ℕ) → (grace : ℕ) → ℕ
+end_after now grace = min (now + millis_of grace) 18446744073709551615

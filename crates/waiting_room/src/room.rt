@@ -1,4 +1,6 @@
 //! The room: what all doors share.
+ghost use Rattle.std.specs.Prelude.{◌≡◌};
+ghost use Rattle.waiting_room.specs.Stays.{end_after};
 
 use crate::client::Client;
 use crate::control::{Askers, Control};
@@ -101,7 +103,9 @@ impl Room {
     }
 
     /// When all ends, once a stop was asked for.
-    pub fn ending(&self) -> &Ending {
+    pub fn ending(&self) -> &Ending
+        ensures { result.now ≡ self.now.ending }
+    {
         &self.ending
     }
 
@@ -218,8 +222,7 @@ impl Room {
             return false;
         }
         table.is_stopped = true;
-        self.ending
-            .set(now.saturating_add(grace.saturating_mul(1_000)));
+        self.ending.set(end_after(now, grace));
         close_waiting(&mut table);
         // Who dials from now on is refused at once.
         shutdown(self.listener.as_raw_fd(), SHUT_RDWR);
@@ -386,6 +389,13 @@ fn tell_want<R: Eprint>(rt: &R, told: &mut Option<u64>, now: u64) {
     }
     *told = Some(now);
     let _ = eprintln!(rt; "jkd: no client is accepted until one goes: no descriptor is left");
+}
+
+// When all ends where a stop comes now and requests under way may take so many seconds.
+fn end_after(now: u64, grace: u64) -> u64
+    ensures { result ≡ end_after now grace }
+{
+    now.saturating_add(grace.saturating_mul(1_000))
 }
 
 fn token_of(event: &Event) -> usize {
