@@ -1,7 +1,7 @@
 //! The claims on links of real sockets and on two threads.
 
 use crate::rooms::{Claim, holds};
-use crate::{outboxes, silent, sockets, threads};
+use crate::{outboxes, silent, sockets, stops, threads};
 use anyhow::Result;
 use check_rows::files::print_claim;
 use std::net::{Net, TcpListener, TcpStream};
@@ -30,6 +30,12 @@ where
     let held = outboxes::hold_back(rt, alloc);
     print_claim(rt, "what a worker writes is held back until it waits", held)?;
     judge_rooms(rt)?;
+    let spared = stops::spare_a_client(rt, alloc);
+    print_claim(
+        rt,
+        "a client whom a worker has at a stop gets its whole reply",
+        spared,
+    )?;
     judge_limits(rt)?;
     let once = threads::pass_each_once(rt, alloc);
     print_claim(rt, "two threads end with every link once", once)

@@ -11,17 +11,17 @@ use std::rt::Files;
 use std::sync::{Arc, Wait};
 use waiting_room::{Room, RoomDoor, open_room};
 
-const HEAD: &[u8] = b"GET / HTTP/1.1\r\n\r\n";
+pub(crate) const HEAD: &[u8] = b"GET / HTTP/1.1\r\n\r\n";
 
 /// A head, and a part of the next one.
 const HEAD_AND_PART: &[u8] = b"GET / HTTP/1.1\r\n\r\nGET / HTT";
 
 const PART_BYTES: usize = 9;
 
-const REPLY: &[u8] = b"HTTP/1.1 200 OK\r\nContent-Length: 0\r\n\r\n";
+pub(crate) const REPLY: &[u8] = b"HTTP/1.1 200 OK\r\nContent-Length: 0\r\n\r\n";
 
 /// Limits by which a test ends soon.
-fn limits(head: u64, keep: u64, waiting: u64) -> ClientLimits {
+pub(crate) fn limits(head: u64, keep: u64, waiting: u64) -> ClientLimits {
     ClientLimits {
         head,
         keep,
@@ -68,7 +68,7 @@ fn new_front<'r, R: Net<Listener = TcpListener, Stream = TcpStream> + Files + Wa
 }
 
 /// Whether so many bytes of a client come, and its reply goes out.
-fn replies<L: Link>(link: &mut L, came: usize) -> bool {
+pub(crate) fn replies<L: Link>(link: &mut L, came: usize) -> bool {
     link.await_next(Awaited::Client);
     read_len(link) == came && write_all(link, REPLY) == Ok(()) && link.flush() == Ok(())
 }
@@ -96,11 +96,11 @@ fn serves<D: Door>(door: &mut D, link: D::L, waits: bool) -> bool
 }
 
 /// Whether no client comes any more.
-fn is_closed<D: Door>(alloc: Global, door: &mut D) -> bool {
+pub(crate) fn is_closed<D: Door>(alloc: Global, door: &mut D) -> bool {
     matches!(door.accept(alloc), Ok(None))
 }
 
-fn sends<L: Link>(link: &mut L, piece: &[u8]) -> bool {
+pub(crate) fn sends<L: Link>(link: &mut L, piece: &[u8]) -> bool {
     write_all(link, piece) == Ok(())
 }
 
