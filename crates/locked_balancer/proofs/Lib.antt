@@ -9,4 +9,5 @@ pub mod PoolLaws
 pub mod SeatLaws
 pub mod SetLaws
 pub mod SharedLaws
+pub mod ShelfLaws
 pub mod SiteLaws

@@ -4,8 +4,9 @@ use Rattle.std.specs.Borrow.{MutBor}
 use Rattle.balancer_core.specs.Desks.{DeskState}
 use Rattle.locked_balancer.specs.Histories.{SeatNote, no_seat}
 use Rattle.locked_balancer.specs.SharedDesks.{shared_desk}
+use Rattle.locked_balancer.specs.Shelves.{ShelfNote, no_shelf}
 
--- which desk is lent, what it tells as each desk does, and its seat
+-- which desk is lent, what it tells as each desk does, its seat, and its shelf
 abbrev pub name_in : {B : Type 0} → Option (MutBor B) → ℕ
 name_in None = 0
 name_in (Some d) = d.ghost_name
@@ -17,3 +18,7 @@ state_in state (Some d) = state d.now
 abbrev pub seat_in : {B : Type 0} → (B → SeatNote) → Option (MutBor B) → SeatNote
 seat_in seat None = no_seat
 seat_in seat (Some d) = seat d.now
+
+abbrev pub shelf_in : {B : Type 0} → (B → ShelfNote) → Option (MutBor B) → ShelfNote
+shelf_in shelf None = no_shelf
+shelf_in shelf (Some d) = shelf d.now

@@ -16,6 +16,7 @@ use Rattle.balancer_core.specs.declared.desk.Choice.TheVariants as choice
 use Rattle.balancer_core.specs.declared.receipt.Receipt.{Receipt}
 use Rattle.locked_balancer.specs.Histories.{SeatNote, no_seat}
 use Rattle.locked_balancer.specs.Notes.{MarkNote, StrayNote}
+use Rattle.locked_balancer.specs.Shelves.{ShelfNote}
 
 -- A desk over a shared Site: what each desk tells, its shelf, how many receipts it forgot, for how many segments the
 -- shelf wanted memory, the first stray that it met since the last was taken, and its seat at the lock.
@@ -26,6 +27,10 @@ pub record SharedState (S : Type 0) : Type 0 where
   pub wants : ℕ
   pub met : Option StrayNote
   pub seat : SeatNote
+
+-- What is told of its shelf.
+abbrev pub shelf_note : {S : Type 0} → (S → Option (List (ℕ × Segment))) → (S → ℕ) → SharedState S → ShelfNote
+shelf_note shelved faults d = record { shelved = shelved d.shelf; faults = faults d.shelf; wants = d.wants; forgotten = d.forgotten }
 
 -- A desk but for its seat, which is nowhere.
 abbrev pub unseated : {S : Type 0} → SharedState S → SharedState S
@@ -66,6 +71,7 @@ pub record IsPutAway {S : Type 0} (shelved : S → Option (List (ℕ × Segment)
   pub went : ((shelved new ≡ appended (shelved old) (cut ∷ [])) × (faults new ≡ faults old) × (wants' ≡ wants))
       ⊎ ((shelved new ≡ shelved old) × (FailsOnce (faults old) (faults new) wants wants' ⊎ WantsOnce (faults old) (faults new) wants wants'))
   pub no_fewer : faults old ≤ faults new
+  pub no_less : wants ≤ wants'
 
 abbrev pub PutsAway : {S : Type 0} → (S → Option (List (ℕ × Segment))) → (S → ℕ) → (old new : S) → (wants wants' : ℕ) → Option (ℕ × Segment) → Type 0
 PutsAway shelved faults old new wants wants' None = (new ≡ old) × (wants' ≡ wants)

@@ -1,6 +1,7 @@
 //! A desk that is lent for a session: what it was told since a moment.
 ghost use Rattle.std.specs.Prelude.{◌≡◌};
 ghost use Rattle.locked_balancer.specs.Histories.{HasGone};
+ghost use Rattle.locked_balancer.specs.Shelves.{HasShelved};
 
 use crate::seated_desk::SeatedDesk;
 use balancer_core::Desk;
@@ -14,6 +15,7 @@ pub trait Moment {
     ghost use Rattle.std.specs.Prelude.{List, ℕ};
     ghost use Rattle.balancer_core.specs.declared.receipt.Receipt.{Receipt};
     ghost use Rattle.locked_balancer.specs.Histories.{SeatNote};
+    ghost use Rattle.locked_balancer.specs.Shelves.{ShelfNote};
 
     // which desk it is
     ghost name: { ℕ };
@@ -23,17 +25,23 @@ pub trait Moment {
 
     // the receipts that it had then
     ghost receipts: { List Receipt };
+
+    // what its shelf had then
+    ghost shelf: { ShelfNote };
 }
 
 impl Moment for Brand {
     ghost use Rattle.std.specs.Prelude.{[]};
     ghost use Rattle.locked_balancer.specs.Histories.{no_seat};
+    ghost use Rattle.locked_balancer.specs.Shelves.{no_shelf};
 
     ghost name = { 0 };
 
     ghost seat = { no_seat };
 
     ghost receipts = { [] };
+
+    ghost shelf = { no_shelf };
 }
 
 /// A desk that is handed on for a while, and put back.
@@ -49,6 +57,7 @@ pub struct LentDesk<'a, B: SeatedDesk, M: Moment> {
     pub of: PhantomData<M>,
     pub ghost same: { desk.ghost_name ≡ M.name },
     pub ghost gone: { HasGone M.seat M.receipts (B.seat desk.now) (B.state desk.now).receipts },
+    pub ghost shelved: { HasShelved M.shelf (B.shelf desk.now) },
 }
 
 impl<'a, B: SeatedDesk, M: Moment> Desk for LentDesk<'a, B, M> {

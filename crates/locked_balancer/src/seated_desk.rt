@@ -10,7 +10,7 @@ use jk_model::{AdminError, Ask, Command, Outcome, RoomError, Stray};
 use std::sync::Wait;
 
 /// A desk at a lock. After each call its seat is at that lock under its number, and has seen besides as its own just what the
-/// desk was told.
+/// desk was told; and its shelf was only added to.
 pub trait SeatedDesk: Desk {
     ghost use Rattle.std.specs.Prelude.{◌≡◌, ◌≤◌, ◌<◌, true, length, IfSome, IfOk, IfErr};
     ghost use Rattle.balancer_core.specs.Desks.{
@@ -29,8 +29,11 @@ pub trait SeatedDesk: Desk {
     };
     ghost use Rattle.jk_model.specs.declared.journal.TheConstants.{MOST_BYTES};
     ghost use Rattle.locked_balancer.specs.Histories.{GoesOn, SeatNote};
+    ghost use Rattle.locked_balancer.specs.Shelves.{ShelfNote, ShelvesOn};
 
     ghost seat: { Self → SeatNote };
+
+    ghost shelf: { Self → ShelfNote };
 
     /// As `choose`.
     fn choose_here(
@@ -45,7 +48,8 @@ pub trait SeatedDesk: Desk {
         ensures ok { IfOk result (λ c. Chooses Self.note (Self.state self.old) (Self.state self.new) lb session at ask.now c) }
         ensures err { IfErr result (λ e. RefusesChoice Self.numbers (Self.state self.old) (Self.state self.new) lb session at e) }
         ensures kept { KeepsDesk (Self.state self.old) (Self.state self.new) }
-        ensures gone { GoesOn (seat self.old) (Self.state self.old).receipts (seat self.new) (Self.state self.new).receipts };
+        ensures gone { GoesOn (seat self.old) (Self.state self.old).receipts (seat self.new) (Self.state self.new).receipts }
+        ensures shelf { ShelvesOn (shelf self.old) (shelf self.new) };
 
     /// As `hand_back`.
     fn hand_back_here(
@@ -63,7 +67,8 @@ pub trait SeatedDesk: Desk {
         ensures held { (Self.state self.new).held ≡ without_last (Self.state self.old).held (pair_of (Self.note lease)) }
         ensures same { ((Self.state self.new).fulls ≡ (Self.state self.old).fulls) × ((Self.state self.new).wides ≡ (Self.state self.old).wides) }
         ensures kept { KeepsDesk (Self.state self.old) (Self.state self.new) }
-        ensures gone { GoesOn (seat self.old) (Self.state self.old).receipts (seat self.new) (Self.state self.new).receipts };
+        ensures gone { GoesOn (seat self.old) (Self.state self.old).receipts (seat self.new) (Self.state self.new).receipts }
+        ensures shelf { ShelvesOn (shelf self.old) (shelf self.new) };
 
     /// As `command`.
     fn command_here(
@@ -80,18 +85,24 @@ pub trait SeatedDesk: Desk {
         ensures held { (Self.state self.new).held ≡ (Self.state self.old).held }
         ensures stray { MeetsNone (Self.state self.old) (Self.state self.new) }
         ensures kept { KeepsDesk (Self.state self.old) (Self.state self.new) }
-        ensures gone { GoesOn (seat self.old) (Self.state self.old).receipts (seat self.new) (Self.state self.new).receipts };
+        ensures gone { GoesOn (seat self.old) (Self.state self.old).receipts (seat self.new) (Self.state self.new).receipts }
+        ensures shelf { ShelvesOn (shelf self.old) (shelf self.new) };
 
     /// As `look`.
     fn look_here(&mut self, lb: u32) -> Result<Self::Shown, NoMemory>
         requires known { lb < length (Self.state self.old).sizes }
         ensures shown { IfOk result (λ shown. Shows (Self.state self.old) lb (Self.view shown)) }
         ensures same { Self.state self.new ≡ Self.state self.old }
-        ensures gone { GoesOn (seat self.old) (Self.state self.old).receipts (seat self.new) (Self.state self.new).receipts };
+        ensures gone { GoesOn (seat self.old) (Self.state self.old).receipts (seat self.new) (Self.state self.new).receipts }
+        ensures shelf { ShelvesOn (shelf self.old) (shelf self.new) };
 }
 
 impl<'s, 'r, L: SiteName, S: Shelf, R: Wait> SeatedDesk for SharedDesk<'s, 'r, L, S, R> {
+    ghost use Rattle.locked_balancer.specs.SharedDesks.{shelf_note};
+
     ghost seat = { λ d. d.seat };
+
+    ghost shelf = { λ d. shelf_note S.shelved S.faults d };
 
     fn choose_here(
         &mut self,
