@@ -124,8 +124,8 @@ def answer(status, message, headers, pieces=(), old=False, bare=False, last=Fals
     return out + b"".join(b"%x\r\n%s\r\n" % (len(piece), piece) for piece in pieces if piece) + b"0\r\n\r\n"
 
 
-def own(status, bare=False):
-    text = f"{status} {TEXTS[status]}\n"
+def own(status, bare=False, words=""):
+    text = f"{status} {TEXTS[status]}\n" + (words and words + "\n")
     lines = f"HTTP/1.1 {status} {TEXTS[status]}\r\nContent-Type: text/plain\r\nContent-Length: {len(text)}\r\nConnection: close\r\n\r\n"
     return (lines + ("" if bare else text)).encode()
 
@@ -134,6 +134,14 @@ def page(text, last=False, bare=False):
     headers = [("Content-Type", "text/plain"), ("Content-Length", str(len(text)))]
     return answer(200, "OK", headers, [text.encode()], last=last, bare=bare)
 
+
+def refusal(status, words):
+    """What a status worker answers that refuses a request."""
+    return own(status, words=words)
+
+
+FORBIDDEN, UNMEANT = (403, "this status worker is read only"), (400, "the query means no command")
+UNKNOWN, BAD = (404, "no balancer or member has this name"), (400, "the value is out of its range")
 
 # ---- rows
 
@@ -435,20 +443,20 @@ def status_workers():
     assert len(PAGE.format(0, 1, "D")) == 64
     for query in ("", "?", "?cmd=list", "?cmd=list&w=lb", "?w=lb&x=y", "?%63md=list"):
         asks(f"the page by '{query}'", query, page(PAGE.format(0, 1, "D")), "by-client 1", read_only)
-    for query, status in (
-        ("?cmd=update&w=lb&sw=node1&vwf=2", 403), ("?cmd=reset&w=lb", 403), ("?cmd=recover&w=lb&sw=node1", 403),
-        ("?cmd=update&w=lb&sw=node1", 400), ("?cmd=list&cmd=list", 400), ("?w=other", 404), ("?cmd=no", 400), ("?a", 400),
-        ("?cmd=update&w=lb&sw=node1&vwf=x", 400), ("?cmd=list&w=%zz", 400),
+    for query, why in (
+        ("?cmd=update&w=lb&sw=node1&vwf=2", FORBIDDEN), ("?cmd=reset&w=lb", FORBIDDEN), ("?cmd=recover&w=lb&sw=node1", FORBIDDEN),
+        ("?cmd=update&w=lb&sw=node1", UNMEANT), ("?cmd=list&cmd=list", UNMEANT), ("?w=other", UNKNOWN), ("?cmd=no", UNMEANT), ("?a", UNMEANT),
+        ("?cmd=update&w=lb&sw=node1&vwf=x", UNMEANT), ("?cmd=list&w=%zz", UNMEANT),
     ):
-        asks(f"a read-only status worker at '{query}'", query, own(status), f"own-{status} 0", read_only)
+        asks(f"a read-only status worker at '{query}'", query, refusal(*why), f"own-{why[0]} 0", read_only)
     asks("an update", "?cmd=update&w=lb&sw=node1&vwf=2", page(PAGE.format(1, 2, "D")), "by-client 1", STATUS)
     asks("an update of an activation", "?cmd=update&w=lb&sw=node2&vwa=a", page(PAGE.format(1, 1, "A")), "by-client 1", STATUS)
     asks("a reset of all members", "?cmd=reset&w=lb", page(PAGE.format(2, 1, "D")), "by-client 1", STATUS)
-    for query, status in (
-        ("?cmd=update&w=lb&sw=node9&vwf=2", 404), ("?cmd=update&w=lb&sw=node1&vwf=0", 400), ("?cmd=update&w=no&sw=node1&vwf=2", 404),
-        ("?cmd=update&w=lb&sw=node1&vwr=node1", 400), ("?cmd=update&w=lb&sw=node1&vwr=no", 404),
+    for query, why in (
+        ("?cmd=update&w=lb&sw=node9&vwf=2", UNKNOWN), ("?cmd=update&w=lb&sw=node1&vwf=0", BAD), ("?cmd=update&w=no&sw=node1&vwf=2", UNKNOWN),
+        ("?cmd=update&w=lb&sw=node1&vwr=node1", BAD), ("?cmd=update&w=lb&sw=node1&vwr=no", UNKNOWN),
     ):
-        asks(f"a status worker at '{query}'", query, own(status), f"own-{status} 0", STATUS)
+        asks(f"a status worker at '{query}'", query, refusal(*why), f"own-{why[0]} 0", STATUS)
     shown = PAGE.format(2, 1, "D").replace("node1 A ok 0", "node1 A ok 1")
     row("the page after a request", request("GET", "/p", HOST) + request("GET", "/jk", HOST), OK_HI,
         forward("GET", "/p", HOST, route="node1"), GOT_HI + page(shown), "by-client 2", (read_only, SHOWN + "/p=lb\n"))
@@ -460,7 +468,7 @@ def status_workers():
         "worker.list=lb,jkstatus\nworker.jkstatus.type=status\nworker.lb.type=lb\nworker.lb.balance_workers=a,b,c\n"
         "worker.a.lbfactor=65521\nworker.b.lbfactor=65519\nworker.c.lbfactor=1\n"
     )
-    asks("factors that make too wide a unit", "?cmd=update&w=lb&sw=c&vwf=65497", own(400), "own-400 0", three)
+    asks("factors that make too wide a unit", "?cmd=update&w=lb&sw=c&vwf=65497", refusal(400, "the values together are too wide for a journal"), "own-400 0", three)
     text = PAGE.format(0, 1, "D")
     row("the page for HEAD", request("HEAD", "/jk", HOST), b"", b"", page(text, bare=True), "by-client 1", (read_only, SHOWN))
     close = HOST + [("Connection", "close")]

@@ -23,6 +23,17 @@ REASONS = {
     503: "Service Unavailable",
 }
 
+# Why a status worker refuses a request, with the status and the words of its answer.
+REFUSALS = {
+    "Closed": (403, "this status worker is closed, since users or addresses are named for it"),
+    "ReadOnly": (403, "this status worker is read only"),
+    "BadQuery": (400, "the query means no command"),
+    "UnknownName": (404, "no balancer or member has this name"),
+    "BadValue": (400, "the value is out of its range"),
+    "TooWide": (400, "the values together are too wide for a journal"),
+    "Full": (500, "the journal is full"),
+}
+
 # ---- how a row is written
 
 
@@ -153,14 +164,26 @@ def reply(text=b"hi", status=200, message="OK", headers=None, last=False):
     return f"HTTP/1.1 {status} {message}\r\n{lines}{close}\r\n".encode() + text
 
 
-def own(status, head_only=False):
-    page = f"{status} {REASONS[status]}\n".encode()
+def own(status, head_only=False, words=""):
+    """An answer of the connector's own; that to a refused request of a status worker has words in a second line."""
+    page = f"{status} {REASONS[status]}\n".encode() + (words + "\n").encode() * (words != "")
     lines = f"Content-Type: text/plain\r\nContent-Length: {len(page)}\r\nConnection: close\r\n\r\n"
     return f"HTTP/1.1 {status} {REASONS[status]}\r\n{lines}".encode() + (b"" if head_only else page)
 
 
 def own_len(status):
     return len(f"{status} {REASONS[status]}\n")
+
+
+def refusal(why, head_only=False):
+    status, words = REFUSALS[why]
+    return own(status, head_only, words)
+
+
+def refusal_row(path, why, method="GET"):
+    status, words = REFUSALS[why]
+    sent = 0 if method == "HEAD" else own_len(status) + len(words) + 1
+    return f"{method} {path} {status} {sent} -"
 
 
 def dated(at, answer, before="Connection: close"):
@@ -183,6 +206,10 @@ def closed(requests, why):
 
 def own_end(requests, status):
     return closed(requests, f"Own({status})")
+
+
+def refusal_end(requests, why):
+    return closed(requests, f"Refused({why})")
 
 
 class Row:
@@ -255,6 +282,10 @@ worker.lb.sticky_session=1
 worker.jkstatus.type=status
 """
 READ_ONLY = "worker.jkstatus.read_only=true\n"
+PRIMES = (
+    "worker.list=lb,jkstatus\nworker.jkstatus.type=status\nworker.lb.type=lb\nworker.lb.balance_workers=a,b,c\n"
+    "worker.a.lbfactor=65521\nworker.b.lbfactor=65519\nworker.c.lbfactor=1\n"
+)
 PAGE = b"jk status\nlb lb R 2 0\nnode1 A ok 0 0 1 0 -\nnode2 D ok 0 0 1 0 -\n"
 DOUBLED = b"jk status\nlb lb R 2 1\nnode1 A ok 0 0 2 0 -\nnode2 D ok 0 0 1 0 -\n"
 
@@ -286,9 +317,9 @@ def refused(name, client, status, **more):
     return Row(name, client, [], own_end(0, status), gets=own(status), rows=[f"refused {status} {own_len(status)} -"], desk="next 0 w1 ok", **more)
 
 
-def answered(name, path, status, workers, desk="next 0 node1 ok node2 ok", method="GET"):
-    """A status worker's request that gets an own answer."""
-    return Row(name, request(method, path), [], own_end(0, status), gets=own(status, method == "HEAD"), rows=[f"{method} {path} {status} {own_len(status)} -"],
+def answered(name, path, why, workers, desk="next 0 node1 ok node2 ok", method="GET"):
+    """A status worker's request that is refused."""
+    return Row(name, request(method, path), [], refusal_end(0, why), gets=refusal(why, method == "HEAD"), rows=[refusal_row(path, why, method)],
                desk=desk, workers=workers, map_="/jk=jkstatus\n/*=lb\n")
 
 
@@ -440,8 +471,8 @@ def moments():
               rows=["HEAD / 404 0 -"], map_="/a=w1\n", desk="next 0 w1 ok", words=said)
     yield Row("a status worker's page", request(path="/jk"), [], closed(1, "ByClient"), gets=dated(EXAMPLE, page(PAGE)), rows=["GET /jk 200 %d jkstatus" % len(PAGE)],
               desk="next 0 node1 ok node2 ok", workers=STATUS, map_="/jk=jkstatus\n/*=lb\n", words=said)
-    yield Row("a query that means no command", request(path="/jk?cmd=list&cmd=list"), [], own_end(0, 400), gets=dated(EXAMPLE, own(400)),
-              rows=["GET /jk?cmd=list&cmd=list 400 16 -"], desk="next 0 node1 ok node2 ok", workers=STATUS, map_="/jk=jkstatus\n/*=lb\n", words=said)
+    yield Row("a query that means no command", request(path="/jk?cmd=list&cmd=list"), [], refusal_end(0, "BadQuery"), gets=dated(EXAMPLE, refusal("BadQuery")),
+              rows=[refusal_row("/jk?cmd=list&cmd=list", "BadQuery")], desk="next 0 node1 ok node2 ok", workers=STATUS, map_="/jk=jkstatus\n/*=lb\n", words=said)
     yield done("none after the year 9999", words="dated=253402300800", desk="next 3 w1 ok")
 
 
@@ -532,12 +563,24 @@ def status_workers():
     yield paged("as lines", "/jk?mime=txt", PAGE)
     yield paged("as lines where the value is another", "/jk?mime=xml", PAGE)
     yield "a status worker refuses"
-    yield answered("a change where it is read only", "/jk?cmd=update&w=lb&sw=node1&vwf=2", 403, STATUS + READ_ONLY)
-    yield answered("a member that isn't there", "/jk?cmd=update&w=lb&sw=node9&vwf=2", 404, STATUS)
-    yield answered("a factor of 0", "/jk?cmd=update&w=lb&sw=node1&vwf=0", 400, STATUS)
-    yield answered("an update of nothing", "/jk?cmd=update&w=lb&sw=node1", 400, STATUS + READ_ONLY)
-    yield answered("a name twice", "/jk?cmd=list&cmd=list", 400, STATUS + READ_ONLY)
-    yield answered("a balancer that isn't there", "/jk?w=other", 404, STATUS + READ_ONLY)
+    change = "/jk?cmd=update&w=lb&sw=node1&vwf="
+    yield answered("a change where it is read only", change + "2", "ReadOnly", STATUS + READ_ONLY)
+    yield answered("and to HEAD without its words", change + "2", "ReadOnly", STATUS + READ_ONLY, method="HEAD")
+    yield answered("a member that isn't there", "/jk?cmd=update&w=lb&sw=node9&vwf=2", "UnknownName", STATUS)
+    yield answered("a factor of 0", change + "0", "BadValue", STATUS)
+    yield answered("an update of nothing", "/jk?cmd=update&w=lb&sw=node1", "BadQuery", STATUS + READ_ONLY)
+    yield answered("a name twice", "/jk?cmd=list&cmd=list", "BadQuery", STATUS + READ_ONLY)
+    yield answered("a balancer that isn't there", "/jk?w=other", "UnknownName", STATUS + READ_ONLY)
+    yield answered("factors that make too wide a unit", "/jk?cmd=update&w=lb&sw=c&vwf=65497", "TooWide", PRIMES, "next 0 a ok b ok c ok")
+    yield "a status worker for which users are named refuses"
+    for name, path in (("its page", "/jk"), ("a change", change + "2"), ("a query that means no command", "/jk?cmd=no")):
+        yield answered(name, path, "Closed", STATUS + "worker.jkstatus.user=admin\n")
+    yield "a journal is full, and a status worker refuses"
+    first, second = change + "2", change + "3"
+    full = DOUBLED.replace(b"R 2 1\n", b"R 2 281474976710656\n")
+    yield Row("the change that has no number", request(path=first) + request(path=second), [], refusal_end(1, "Full"), gets=page(full) + refusal("Full"),
+              rows=[f"GET {first} 200 {len(full)} jkstatus", refusal_row(second, "Full")], desk="next 281474976710656 node1 ok node2 ok", workers=STATUS,
+              map_="/jk=jkstatus\n/*=lb\n", words="first=281474976710655")
 
 
 def waiting():

@@ -1,5 +1,5 @@
--- Why an own answer was given, by its status.
-use Rattle.std.proofs.Common.{◌≡◌, ℕ, ◌⊎◌, Bool, true, false, List, [], ◌∷◌, Option, Some, None, Ok, Err, refl, sym, subst, inl, inr, ap, ◌∙◌, arith, if◌then◌else◌}
+-- Why an own answer was given, by its status, or a refusal.
+use Rattle.std.proofs.Common.{◌≡◌, ◌≢◌, ℕ, ◌⊎◌, Bool, true, false, List, [], ◌∷◌, Option, Some, None, Ok, Err, refl, sym, subst, inl, inr, ap, ◌∙◌, arith, if◌then◌else◌}
 use Rattle.jk_io.specs.Told.{Rose}
 use Rattle.jk_model.specs.declared.change.Command.{Command}
 use Rattle.jk_model.specs.declared.journal.Answer.TheVariants as answer
@@ -30,14 +30,12 @@ use Rattle.exchange.specs.Talks.{HasRun, HaveTalked}
 use Rattle.exchange.specs.declared.ending.ExchangeEnd.TheVariants as exchange_end
 use Rattle.exchange.specs.declared.ending.Ran.{Ran}
 use Rattle.exchange.specs.declared.ending.Ran.TheVariants as ran_is
-use Rattle.status_worker.specs.Commanding.{IsPageCode}
-use Rattle.status_worker.specs.Commands.{DoesAll, IsRefused, StopsAt}
-use Rattle.status_worker.specs.Commands.{status_of as page_status}
+use Rattle.status_worker.specs.Commands.{DoesAll, IsRefused, StopsAt, refusal_by}
 use Rattle.status_worker.specs.Desks.{DeskSide}
 use Rattle.status_worker.specs.declared.asking.Work.{Work}
-use Rattle.status_worker.proofs.CommandLaws.{refused_known}
+use Rattle.status_worker.specs.declared.refusal.PageRefusal.{PageRefusal}
 use Rattle.client_session.specs.Answers.{IsToldOn}
-use Rattle.client_session.specs.Causes.{GaveUp, HasBadLine, HasNoPage, HasNoReply, HasOwnCause, IfOwn, IsTooMuch, IsUnmounted, RefusesAs}
+use Rattle.client_session.specs.Causes.{GaveUp, HasBadLine, HasNoPage, HasNoReply, HasOwnCause, HasRefusalCause, IfOwn, IsTooMuch, IsUnmounted, RefusesAs}
 use Rattle.client_session.specs.Requests.{Visit}
 use Rattle.client_session.specs.Sessions.{EndsIn, IsHeadRefused, ReadsHead}
 use Rattle.client_session.specs.Standings.{ClientStanding}
@@ -112,25 +110,11 @@ exchange_code q s n status (inr rounds) = own_code q _ _ _ _ status rounds.throu
 reply_code : (v : Visit) (number : ℕ) (s n : ClientStanding) (code : ℕ) → HasNoReply v number s n code → IsReplyCode code
 reply_code v number s n code r = exchange_code _ _ _ code r.forwarded.forwarded.exchange
 
-turned_code : (error : AdminError FullMark) (code : ℕ) → page_status error ≡ Some code → IsPageCode code
-turned_code admin.UnknownMember code is = let e : code ≡ 404 = cc in inr (inr (inl e))
-turned_code admin.BadValue code is = let e : code ≡ 400 = cc in inl e
-turned_code (admin.TooWide mark) code is = let e : code ≡ 400 = cc in inl e
-turned_code (admin.Full mark) code is = let e : code ≡ 500 = cc in inr (inr (inr e))
-turned_code admin.NoMemory code is = absurd cc
-
-page_code : (v : Visit) (s n : ClientStanding) (code : ℕ) → HasNoPage v s n code → IsPageCode code
-page_code v s n code r =
-    elim r.turned.turned [
-      | inl refused ↦ refused_known v.cfg r.status r.head.query code refused.0
-      | inr (work, error, asks, stops, is) ↦ turned_code error code is
-    ]
-
 -- ---- where the own answer comes from
 
 abbrev Origin : Visit → (number : ℕ) → (s n : ClientStanding) → (code : ℕ) → Type 0
 Origin v number s n code =
-    IsHeadRefused v s n code ⊎ (((code ≡ 404) × IsUnmounted v s) ⊎ (HasNoReply v number s n code ⊎ HasNoPage v s n code))
+    IsHeadRefused v s n code ⊎ (((code ≡ 404) × IsUnmounted v s) ⊎ HasNoReply v number s n code)
 
 origin : (v : Visit) (number requests : ℕ) (s n : ClientStanding) (rows : List Served) (code : ℕ) → EndsIn v number s n rows requests (stop.Closed (why.Own code))
     → Origin v number s n code
@@ -138,8 +122,8 @@ origin v number requests s n rows code (counted, inl (refused, added)) = inl ref
 origin v number requests s n rows code (counted, inr (body, request)) =
     elim request.answers [
       | inl early ↦ inr (inl (early.0, (request.read, request.head, request.reads, early.1)))
-      | inr (begun, told_on, (added, inl forwarded)) ↦
-          inr (inr (inl (record {
+      | inr (begun, told_on, (added, forwarded)) ↦
+          inr (inr (record {
             head = request.head;
             read = request.read;
             reads = request.reads;
@@ -148,9 +132,17 @@ origin v number requests s n rows code (counted, inr (body, request)) =
             body = request.fresh;
             body' = body;
             forwarded = forwarded;
-          })))
-      | inr (begun, told_on, (added, inr (status, at, (asked, turned, written, known)))) ↦
-          inr (inr (inr (record {
+          }))
+    ]
+
+-- where a refusal comes from
+no_page : (v : Visit) (number requests : ℕ) (s n : ClientStanding) (rows : List Served) (refusal : PageRefusal)
+    → EndsIn v number s n rows requests (stop.Closed (why.Refused refusal)) → HasNoPage v s n refusal
+no_page v number requests s n rows refusal (counted, (body, request)) =
+    elim request.answers [
+      | inl early ↦ absurd early
+      | inr (begun, told_on, (added, (status, at, (asked, turned, written)))) ↦
+          record {
             head = request.head;
             read = request.read;
             reads = request.reads;
@@ -161,7 +153,7 @@ origin v number requests s n rows code (counted, inr (body, request)) =
             asked = asked;
             turned = turned;
             desk = ap (λ (x : ClientStanding). x.desk) written.alone;
-          })))
+          }
     ]
 
 -- what was read and told is nothing to the desk
@@ -177,18 +169,36 @@ same_fulls session lb (c ∷ rest) s n (mid, does, more) = same_fulls session lb
 rose_from : (first before now : ℕ) → before ≡ first → RisesByOne before now → Rose first now
 rose_from first before now same rises = omega (arith, same, rises)
 
-same_number : (a b : ℕ) → Some a ≡ Some b → a ≡ b
-same_number a b is = cc
+one_refusal : (a b : PageRefusal) → Some a ≡ Some b → a ≡ b
+one_refusal a b is = cc
 
--- that status is of a journal that was full
-full_by : (error : AdminError FullMark) → page_status error ≡ Some 500 → (mark : FullMark) × (error ≡ admin.Full mark)
-full_by admin.UnknownMember is = absurd (omega (arith, same_number 404 500 is))
-full_by admin.BadValue is = absurd (omega (arith, same_number 400 500 is))
-full_by (admin.TooWide mark) is = absurd (omega (arith, same_number 400 500 is))
+closed_full : PageRefusal.Closed ≡ PageRefusal.Full → ⊥
+closed_full is = cc
+
+read_only_full : PageRefusal.ReadOnly ≡ PageRefusal.Full → ⊥
+read_only_full is = cc
+
+query_full : PageRefusal.BadQuery ≡ PageRefusal.Full → ⊥
+query_full is = cc
+
+name_full : PageRefusal.UnknownName ≡ PageRefusal.Full → ⊥
+name_full is = cc
+
+value_full : PageRefusal.BadValue ≡ PageRefusal.Full → ⊥
+value_full is = cc
+
+wide_full : PageRefusal.TooWide ≡ PageRefusal.Full → ⊥
+wide_full is = cc
+
+-- that refusal is of a journal that was full
+full_by : (error : AdminError FullMark) → refusal_by error ≡ Some PageRefusal.Full → (mark : FullMark) × (error ≡ admin.Full mark)
+full_by admin.UnknownMember is = absurd (name_full (one_refusal PageRefusal.UnknownName PageRefusal.Full is))
+full_by admin.BadValue is = absurd (value_full (one_refusal PageRefusal.BadValue PageRefusal.Full is))
+full_by (admin.TooWide mark) is = absurd (wide_full (one_refusal PageRefusal.TooWide PageRefusal.Full is))
 full_by (admin.Full mark) is = (mark, refl)
 full_by admin.NoMemory is = absurd cc
 
-page_full : (v : Visit) (s n : ClientStanding) (r : HasNoPage v s n 500) → r.begun.desk ≡ s.desk → Rose s.desk.state.fulls n.desk.state.fulls
+page_full : (v : Visit) (s n : ClientStanding) (r : HasNoPage v s n PageRefusal.Full) → r.begun.desk ≡ s.desk → Rose s.desk.state.fulls n.desk.state.fulls
 page_full v s n r same =
     subst (λ (d : DeskSide). Rose d.state.fulls n.desk.state.fulls) same
     (subst (λ (d : DeskSide). Rose r.begun.desk.state.fulls d.state.fulls) (sym r.desk) (
@@ -198,18 +208,26 @@ page_full v s n r same =
     ]
     ))
   where
-    never_refused : (cfg : Config) (status : Status) (query : Option (List ℕ)) → IsRefused cfg status query 500 → ⊥
-    never_refused cfg status query (inl closed') = omega (arith, closed'.0)
-    never_refused cfg status query (inr (open', inl bad)) = omega (arith, bad.0)
-    never_refused cfg status query (inr (open', inr (inl forbidden))) = omega (arith, forbidden.1)
-    never_refused cfg status query (inr (open', inr (inr unknown))) = omega (arith, unknown.1)
+    never_refused : (cfg : Config) (status : Status) (query : Option (List ℕ)) → IsRefused cfg status query PageRefusal.Full → ⊥
+    never_refused cfg status query (inl closed') = closed_full (sym closed'.0)
+    never_refused cfg status query (inr (open', inl bad)) = query_full (sym bad.0)
+    never_refused cfg status query (inr (open', inr (inl forbidden))) = read_only_full (sym forbidden.1)
+    never_refused cfg status query (inr (open', inr (inr unknown))) = name_full (sym unknown.1)
 
-    by_error : (session : ℕ) (work : Work) (old new : DeskSide) (error : AdminError FullMark) → StopsAt session work old new error → page_status error ≡ Some 500
+    by_error : (session : ℕ) (work : Work) (old new : DeskSide) (error : AdminError FullMark) → StopsAt session work old new error → refusal_by error ≡ Some PageRefusal.Full
         → Rose old.state.fulls new.state.fulls
     by_error session work old new error stops is =
         let full = full_by error is in
         rose_from old.state.fulls stops.mid.state.fulls new.state.fulls (same_fulls session stops.lb stops.done old stops.mid stops.worked)
         (subst (IsCounted stops.mid.state new.state) full.1 stops.stops.refused.counted).0
+
+of_page : (v : Visit) (s n : ClientStanding) (refusal : PageRefusal) → HasNoPage v s n refusal → HasRefusalCause v s n refusal
+of_page v s n refusal r = record {
+  page = r;
+  full = λ is.
+      let page = subst (HasNoPage v s n) is r in
+      page_full v s n page (same_desk v s page.read page.begun page.head page.reads page.told_on);
+}
 
 -- ---- the rows, each by where the answer comes from
 
@@ -222,75 +240,61 @@ not_head v s n code known r is other = other (subst IsHeadCode is (head_code v s
 not_reply : (v : Visit) (number : ℕ) (s n : ClientStanding) (code known : ℕ) → HasNoReply v number s n code → code ≡ known → (IsReplyCode known → ⊥) → ⊥
 not_reply v number s n code known r is other = other (subst IsReplyCode is (reply_code v number s n code r))
 
-not_page : (v : Visit) (s n : ClientStanding) (code known : ℕ) → HasNoPage v s n code → code ≡ known → (IsPageCode known → ⊥) → ⊥
-not_page v s n code known r is other = other (subst IsPageCode is (page_code v s n code r))
-
 bad_request : (v : Visit) (number : ℕ) (s n : ClientStanding) (code : ℕ) → Origin v number s n code → code ≡ 400
-    → RefusesAs s 400 ⊎ (((r : HasNoReply v number s n code) × HasBadLine v number s n code r) ⊎ HasNoPage v s n 400)
+    → RefusesAs s 400 ⊎ ((r : HasNoReply v number s n code) × HasBadLine v number s n code r)
 bad_request v number s n code (inl head) is = inl (refuses_as v s n code 400 head is)
 bad_request v number s n code (inr (inl unmounted)) is = absurd (omega (arith, unmounted.0, is))
-bad_request v number s n code (inr (inr (inl r))) is = inr (inl (r, r.forwarded.forwarded.gives.bad_line is))
-bad_request v number s n code (inr (inr (inr r))) is = inr (inr (subst (HasNoPage v s n) is r))
+bad_request v number s n code (inr (inr r)) is = inr (r, r.forwarded.forwarded.gives.bad_line is)
 
-forbidden : (v : Visit) (number : ℕ) (s n : ClientStanding) (code : ℕ) → Origin v number s n code → code ≡ 403 → HasNoPage v s n 403
-forbidden v number s n code (inl head) is = absurd (not_head v s n code 403 head is (λ x. omega (arith, x)))
-forbidden v number s n code (inr (inl unmounted)) is = absurd (omega (arith, unmounted.0, is))
-forbidden v number s n code (inr (inr (inl r))) is = absurd (not_reply v number s n code 403 r is (λ x. omega (arith, x)))
-forbidden v number s n code (inr (inr (inr r))) is = subst (HasNoPage v s n) is r
+forbidden : (v : Visit) (number : ℕ) (s n : ClientStanding) (code : ℕ) → Origin v number s n code → code ≢ 403
+forbidden v number s n code (inl head) is = not_head v s n code 403 head is (λ x. omega (arith, x))
+forbidden v number s n code (inr (inl unmounted)) is = omega (arith, unmounted.0, is)
+forbidden v number s n code (inr (inr r)) is = not_reply v number s n code 403 r is (λ x. omega (arith, x))
 
-not_found : (v : Visit) (number : ℕ) (s n : ClientStanding) (code : ℕ) → Origin v number s n code → code ≡ 404 → IsUnmounted v s ⊎ HasNoPage v s n 404
+not_found : (v : Visit) (number : ℕ) (s n : ClientStanding) (code : ℕ) → Origin v number s n code → code ≡ 404 → IsUnmounted v s
 not_found v number s n code (inl head) is = absurd (not_head v s n code 404 head is (λ x. omega (arith, x)))
-not_found v number s n code (inr (inl unmounted)) is = inl unmounted.1
-not_found v number s n code (inr (inr (inl r))) is = absurd (not_reply v number s n code 404 r is (λ x. omega (arith, x)))
-not_found v number s n code (inr (inr (inr r))) is = inr (subst (HasNoPage v s n) is r)
+not_found v number s n code (inr (inl unmounted)) is = unmounted.1
+not_found v number s n code (inr (inr r)) is = absurd (not_reply v number s n code 404 r is (λ x. omega (arith, x)))
 
 too_large : (v : Visit) (number : ℕ) (s n : ClientStanding) (code : ℕ) → Origin v number s n code → code ≡ 413
     → RefusesAs s 413 ⊎ ((r : HasNoReply v number s n code) × IsTooMuch v number s n code r)
 too_large v number s n code (inl head) is = inl (refuses_as v s n code 413 head is)
 too_large v number s n code (inr (inl unmounted)) is = absurd (omega (arith, unmounted.0, is))
-too_large v number s n code (inr (inr (inl r))) is = inr (r, r.forwarded.forwarded.gives.too_large is)
-too_large v number s n code (inr (inr (inr r))) is = absurd (not_page v s n code 413 r is (λ x. omega (arith, x)))
+too_large v number s n code (inr (inr r)) is = inr (r, r.forwarded.forwarded.gives.too_large is)
 
 many_fields : (v : Visit) (number : ℕ) (s n : ClientStanding) (code : ℕ) → Origin v number s n code → code ≡ 431 → RefusesAs s 431
 many_fields v number s n code (inl head) is = refuses_as v s n code 431 head is
 many_fields v number s n code (inr (inl unmounted)) is = absurd (omega (arith, unmounted.0, is))
-many_fields v number s n code (inr (inr (inl r))) is = absurd (not_reply v number s n code 431 r is (λ x. omega (arith, x)))
-many_fields v number s n code (inr (inr (inr r))) is = absurd (not_page v s n code 431 r is (λ x. omega (arith, x)))
+many_fields v number s n code (inr (inr r)) is = absurd (not_reply v number s n code 431 r is (λ x. omega (arith, x)))
 
 internal : (v : Visit) (number : ℕ) (s n : ClientStanding) (code : ℕ) → Origin v number s n code → code ≡ 500
     → EndsWith s.desk.state n.desk.state answer.Forced ⊎ Rose s.desk.state.fulls n.desk.state.fulls
 internal v number s n code (inl head) is = absurd (not_head v s n code 500 head is (λ x. omega (arith, x)))
 internal v number s n code (inr (inl unmounted)) is = absurd (omega (arith, unmounted.0, is))
-internal v number s n code (inr (inr (inl r))) is =
+internal v number s n code (inr (inr r)) is =
     subst (λ (d : DeskSide). EndsWith d.state n.desk.state answer.Forced ⊎ Rose d.state.fulls n.desk.state.fulls)
     (same_desk v s r.read r.begun r.head r.reads r.told_on) (r.forwarded.forwarded.gives.internal is)
-internal v number s n code (inr (inr (inr r))) is =
-    let page = subst (HasNoPage v s n) is r in
-    inr (page_full v s n page (same_desk v s page.read page.begun page.head page.reads page.told_on))
 
 unbuilt : (v : Visit) (number : ℕ) (s n : ClientStanding) (code : ℕ) → Origin v number s n code → code ≡ 501 → RefusesAs s 501
 unbuilt v number s n code (inl head) is = refuses_as v s n code 501 head is
 unbuilt v number s n code (inr (inl unmounted)) is = absurd (omega (arith, unmounted.0, is))
-unbuilt v number s n code (inr (inr (inl r))) is = absurd (not_reply v number s n code 501 r is (λ x. omega (arith, x)))
-unbuilt v number s n code (inr (inr (inr r))) is = absurd (not_page v s n code 501 r is (λ x. omega (arith, x)))
+unbuilt v number s n code (inr (inr r)) is = absurd (not_reply v number s n code 501 r is (λ x. omega (arith, x)))
 
 gateway : (v : Visit) (number : ℕ) (s n : ClientStanding) (code : ℕ) → Origin v number s n code → code ≡ 502
     → (r : HasNoReply v number s n code) × GaveUp v number s n code r false
 gateway v number s n code (inl head) is = absurd (not_head v s n code 502 head is (λ x. omega (arith, x)))
 gateway v number s n code (inr (inl unmounted)) is = absurd (omega (arith, unmounted.0, is))
-gateway v number s n code (inr (inr (inl r))) is = (r, r.forwarded.forwarded.gives.gateway is)
-gateway v number s n code (inr (inr (inr r))) is = absurd (not_page v s n code 502 r is (λ x. omega (arith, x)))
+gateway v number s n code (inr (inr r)) is = (r, r.forwarded.forwarded.gives.gateway is)
 
 unavailable : (v : Visit) (number : ℕ) (s n : ClientStanding) (code : ℕ) → Origin v number s n code → code ≡ 503
     → EndsWith s.desk.state n.desk.state answer.NoMember ⊎ ((r : HasNoReply v number s n code) × GaveUp v number s n code r true)
 unavailable v number s n code (inl head) is = absurd (not_head v s n code 503 head is (λ x. omega (arith, x)))
 unavailable v number s n code (inr (inl unmounted)) is = absurd (omega (arith, unmounted.0, is))
-unavailable v number s n code (inr (inr (inl r))) is =
+unavailable v number s n code (inr (inr r)) is =
     elim (r.forwarded.forwarded.gives.unavailable is) [
       | inl none ↦ inl (subst (λ (d : DeskSide). EndsWith d.state n.desk.state answer.NoMember) (same_desk v s r.read r.begun r.head r.reads r.told_on) none)
       | inr gave_up ↦ inr (r, gave_up)
     ]
-unavailable v number s n code (inr (inr (inr r))) is = absurd (not_page v s n code 503 r is (λ x. omega (arith, x)))
 
 of_origin : (v : Visit) (number : ℕ) (s n : ClientStanding) (code : ℕ) → Origin v number s n code → HasOwnCause v number s n code
 of_origin v number s n code from = record {
@@ -306,11 +310,12 @@ of_origin v number s n code from = record {
 }
 
 pub own_cause : (v : Visit) (number : ℕ) (s n : ClientStanding) (rows : List Served) (requests : ℕ) (stop' : SessionStop) → EndsIn v number s n rows requests stop'
-    → IfOwn stop' (HasOwnCause v number s n)
+    → IfOwn stop' (HasOwnCause v number s n) (HasRefusalCause v s n)
 own_cause v number s n rows requests (stop.Closed why.ByClient) ends_in = tt
 own_cause v number s n rows requests (stop.Closed why.Idle) ends_in = tt
 own_cause v number s n rows requests (stop.Closed why.Last) ends_in = tt
 own_cause v number s n rows requests (stop.Closed (why.Own code)) ends_in = of_origin v number s n code (origin v number requests s n rows code ends_in)
+own_cause v number s n rows requests (stop.Closed (why.Refused refusal)) ends_in = of_page v s n refusal (no_page v number requests s n rows refusal ends_in)
 own_cause v number s n rows requests (stop.Closed why.Cut) ends_in = tt
 own_cause v number s n rows requests (stop.Closed why.Unread) ends_in = tt
 own_cause v number s n rows requests stop.ClientFault ends_in = tt

@@ -34,6 +34,7 @@ use Rattle.client_session.specs.Standings.{ClientStanding, unread_at, with_body}
 use Rattle.client_session.specs.declared.ending.SessionStop.{SessionStop}
 use Rattle.client_session.specs.declared.ending.SessionStop.TheVariants as stop
 use Rattle.client_session.specs.declared.ending.Why.TheVariants as why
+use Rattle.status_worker.specs.declared.refusal.PageRefusal.{PageRefusal}
 use Rattle.client_session.specs.declared.turn.Answered.{Answered}
 use Rattle.client_session.specs.declared.turn.Answered.TheVariants as answered
 use Rattle.client_session.proofs.DecideLaws.{cut_bytes, end_bytes, front_of_told, refused_bytes}
@@ -205,11 +206,18 @@ no_own v number s n head t all u body rows code r = by_answer r.answers
   where
     by_answer : IsAnswer v head (is_last number head) r.read n r.fresh body (answered.Not (stop.Closed (why.Own code))) rows → ⊥
     by_answer (inl early) = not_nowhere v head u.lb u.mounted early.1
-    by_answer (inr (told, on, (added, inl is))) =
+    by_answer (inr (told, on, (added, is))) =
         let b = begun v s r.read told head u.rest r.reads r.left on in
         let at = forwarded_as v head (is_last number head) told n r.fresh body _ u.lb u.balancer is u.mounted u.stands in
         at.complete t all (whole_in v number s told n n head t all u r.fresh body r.is_fresh b (at_once n))
-    by_answer (inr (told, on, (added, inr (status, at, answer)))) = not_status v head u.lb at.place u.mounted at.mounted
+
+no_refusal : (v : Visit) (number : ℕ) (s n : ClientStanding) (head : Head) (t : Talk) (all : List Message) (u : IsUndisturbed v number s n head t all) (body : BodyIn) (rows : List Served)
+    (refusal : PageRefusal) → IsAsked v number s n head u.rest body (answered.Not (stop.Closed (why.Refused refusal))) rows → ⊥
+no_refusal v number s n head t all u body rows refusal r = by_answer r.answers
+  where
+    by_answer : IsAnswer v head (is_last number head) r.read n r.fresh body (answered.Not (stop.Closed (why.Refused refusal))) rows → ⊥
+    by_answer (inl early) = absurd early
+    by_answer (inr (told, on, (added, (status, at, answer)))) = not_status v head u.lb at.place u.mounted at.mounted
 
 no_cut : (v : Visit) (number : ℕ) (s n : ClientStanding) (head : Head) (t : Talk) (all : List Message) (u : IsUndisturbed v number s n head t all) (body : BodyIn) (rows : List Served)
     → IsAsked v number s n head u.rest body (answered.Not (stop.Closed why.Cut)) rows → ⊥
@@ -363,6 +371,8 @@ ends_whole v number s n rows requests (stop.Closed (why.Own code)) (count, inl (
     absurd (head-refused (u.used ++ u.rest) u.used u.rest head refused.form refl u.is_head (refused_bytes s refused.read refused.form (u.used ++ u.rest) refused.reads u.told))
 ends_whole v number s n rows requests (stop.Closed (why.Own code)) (count, inr (body, r)) head t all u =
     absurd (no_own v number s n head t all u body rows code (asked v number s n head u.used u.rest body _ rows u.told u.is_head r))
+ends_whole v number s n rows requests (stop.Closed (why.Refused refusal)) (count, (body, r)) head t all u =
+    absurd (no_refusal v number s n head t all u body rows refusal (asked v number s n head u.used u.rest body _ rows u.told u.is_head r))
 ends_whole v number s n rows requests (stop.Closed why.Cut) (count, (body, r)) head t all u =
     absurd (no_cut v number s n head t all u body rows (asked v number s n head u.used u.rest body _ rows u.told u.is_head r))
 ends_whole v number s n rows requests (stop.Closed why.Unread) (count, inl unread') head t all u =

@@ -56,7 +56,7 @@ forwards v head last s n body body' lb balancer (exchange_end.Done member told) 
     ))
 forwards v head last s n body body' lb balancer (exchange_end.Own status) settled mounted stands at concluded =
     subst (Settles v head last s n body body') (sym concluded)
-    (refl, inl (record { lb = lb; balancer = balancer; mounted = mounted; stands = stands; forwarded = at }))
+    (refl, record { lb = lb; balancer = balancer; mounted = mounted; stands = stands; forwarded = at })
 forwards v head last s n body body' lb balancer (exchange_end.Cut member told) settled mounted stands at concluded =
     subst (Settles v head last s n body body') (sym concluded.2) (
       member,

@@ -35,6 +35,8 @@ use Rattle.client_session.specs.declared.ending.SessionEnd.{SessionEnd}
 use Rattle.client_session.specs.declared.ending.SessionStop.{SessionStop}
 use Rattle.client_session.specs.declared.ending.SessionStop.TheVariants as stop
 use Rattle.client_session.specs.declared.ending.Why.TheVariants as why
+use Rattle.client_session.specs.declared.ending.Why.{Why}
+use Rattle.status_worker.specs.declared.refusal.PageRefusal.{PageRefusal}
 use Rattle.client_session.specs.declared.turn.Answered.{Answered}
 use Rattle.client_session.specs.declared.turn.Answered.TheVariants as answered
 
@@ -56,6 +58,7 @@ calmly_on (stop.Closed why.ByClient) p f = f p
 calmly_on (stop.Closed why.Idle) p f = tt
 calmly_on (stop.Closed why.Last) p f = f p
 calmly_on (stop.Closed (why.Own code)) p f = f p
+calmly_on (stop.Closed (why.Refused refusal)) p f = f p
 calmly_on (stop.Closed why.Cut) p f = f p
 calmly_on (stop.Closed why.Unread) p f = f p
 calmly_on stop.ClientFault p f = tt
@@ -131,7 +134,7 @@ same_command query a b one two = one_some (meaning_of query) a b one two
 none_some : (query : Option (List ℕ)) (c : StatusCommand) → meaning_of query ≡ None → meaning_of query ≡ Some c → ⊥
 none_some query c none some = not_none (meaning_of query) c none some
 
-open_one : (cfg : Config) (status : Status) (query : Option (List ℕ)) (code other : ℕ) → IsRefusedOpen cfg status query code → IsRefusedOpen cfg status query other
+open_one : (cfg : Config) (status : Status) (query : Option (List ℕ)) (code other : PageRefusal) → IsRefusedOpen cfg status query code → IsRefusedOpen cfg status query other
     → code ≡ other
 open_one cfg status query code other (inl a) (inl b) = a.0 ∙ sym b.0
 open_one cfg status query code other (inl a) (inr (inl b)) = absurd (none_some query b.0 a.1 b.2)
@@ -143,7 +146,7 @@ open_one cfg status query code other (inr (inr a)) (inl b) = absurd (none_some q
 open_one cfg status query code other (inr (inr a)) (inr (inl b)) = absurd (not_allowed status a.0 b.0 (same_command query a.0 b.0 a.2 b.2) a.3 b.3 b.4)
 open_one cfg status query code other (inr (inr a)) (inr (inr b)) = a.1 ∙ sym b.1
 
-refused_one : (cfg : Config) (status : Status) (query : Option (List ℕ)) (code other : ℕ) → IsRefused cfg status query code → IsRefused cfg status query other
+refused_one : (cfg : Config) (status : Status) (query : Option (List ℕ)) (code other : PageRefusal) → IsRefused cfg status query code → IsRefused cfg status query other
     → code ≡ other
 refused_one cfg status query code other (inl a) (inl b) = a.0 ∙ sym b.0
 refused_one cfg status query code other (inl a) (inr b) = absurd (both_ways status.closed b.0 a.1)
@@ -167,29 +170,30 @@ named_none cfg c work (name, of, inr (place, lb, is, none)) (inr (name', place',
     not_none (commands_for lb'.book.members c) work.commands
     (subst (λ (x : Lb). commands_for x.book.members c ≡ None) balancer none) done
 
-open_unasked : (cfg : Config) (status : Status) (query : Option (List ℕ)) (code : ℕ) (work : Work) → IsRefusedOpen cfg status query code → AsksOpen cfg status query work → ⊥
+open_unasked : (cfg : Config) (status : Status) (query : Option (List ℕ)) (code : PageRefusal) (work : Work) → IsRefusedOpen cfg status query code → AsksOpen cfg status query work → ⊥
 open_unasked cfg status query code work (inl none) asks = none_some query asks.0 none.1 asks.1
 open_unasked cfg status query code work (inr (inl r)) asks = not_allowed status asks.0 r.0 (same_command query asks.0 r.0 asks.1 r.2) asks.2 r.3 r.4
 open_unasked cfg status query code work (inr (inr r)) asks =
     named_none cfg asks.0 work (subst (NamesNone cfg) (same_command query r.0 asks.0 r.2 asks.1) r.4) asks.3
 
-refused_unasked : (cfg : Config) (status : Status) (query : Option (List ℕ)) (code : ℕ) (work : Work) → IsRefused cfg status query code → Asks cfg status query work → ⊥
+refused_unasked : (cfg : Config) (status : Status) (query : Option (List ℕ)) (code : PageRefusal) (work : Work) → IsRefused cfg status query code → Asks cfg status query work → ⊥
 refused_unasked cfg status query code work (inl closed') asks = both_ways status.closed asks.0 closed'.1
 refused_unasked cfg status query code work (inr refused) asks = open_unasked cfg status query code work refused.1 asks.1
 
 -- ---- a request's answer, where its head is mounted nowhere, or at a status worker that refuses it
 
--- the answer is this own one, or the client failed, or memory was wanted
-abbrev IsOwnOrLess : (code : ℕ) → Answered → Type 0
-IsOwnOrLess code a =
-    (a ≡ answered.Not (stop.Closed (why.Own code))) ⊎ ((a ≡ answered.Not stop.ClientFault) ⊎ (a ≡ answered.Not stop.NoMemory))
+-- the answer closes the session for this reason, or the client failed, or memory was wanted
+abbrev IsOwnOrLess : Why → Answered → Type 0
+IsOwnOrLess w a =
+    (a ≡ answered.Not (stop.Closed w)) ⊎ ((a ≡ answered.Not stop.ClientFault) ⊎ (a ≡ answered.Not stop.NoMemory))
 
-early_own : (v : Visit) (head : Head) (s n : ClientStanding) (a : Answered) (rows : List Served) → StopsEarly v head s n a rows → IsOwnOrLess 404 a
+early_own : (v : Visit) (head : Head) (s n : ClientStanding) (a : Answered) (rows : List Served) → StopsEarly v head s n a rows → IsOwnOrLess (why.Own 404) a
 early_own v head s n answered.Whole rows early = absurd early
 early_own v head s n (answered.Not (stop.Closed why.ByClient)) rows early = absurd early
 early_own v head s n (answered.Not (stop.Closed why.Idle)) rows early = absurd early
 early_own v head s n (answered.Not (stop.Closed why.Last)) rows early = absurd early
 early_own v head s n (answered.Not (stop.Closed (why.Own code))) rows early = inl (ap (λ (k : ℕ). answered.Not (stop.Closed (why.Own k))) early.0)
+early_own v head s n (answered.Not (stop.Closed (why.Refused refusal))) rows early = absurd early
 early_own v head s n (answered.Not (stop.Closed why.Cut)) rows early = absurd early
 early_own v head s n (answered.Not (stop.Closed why.Unread)) rows early = absurd early
 early_own v head s n (answered.Not stop.ClientFault) rows early = inr (inl refl)
@@ -198,26 +202,27 @@ early_own v head s n (answered.Not (stop.Stray ticket returned_at)) rows early =
 early_own v head s n (answered.Not stop.NoMemory) rows early = inr (inr refl)
 
 unmounted_own : (v : Visit) (head : Head) (last : Bool) (s n : ClientStanding) (body body' : BodyIn) (a : Answered) (rows : List Served)
-    → IsAnswer v head last s n body body' a rows → mounted_at v head ≡ None → IsOwnOrLess 404 a
+    → IsAnswer v head last s n body body' a rows → mounted_at v head ≡ None → IsOwnOrLess (why.Own 404) a
 unmounted_own v head last s n body body' a rows (inl early) none = early_own v head s n a rows early
 unmounted_own v head last s n body body' a rows (inr (begun, told_on, at)) none =
     absurd (is_none (mounted_at v head) told_on.mounted none)
 
 -- a request that is mounted at a status worker was answered early by no own answer
-early_less : (v : Visit) (head : Head) (s n : ClientStanding) (a : Answered) (rows : List Served) (status : Status) (code : ℕ) → StopsEarly v head s n a rows
-    → IsAtStatus v head status → IsOwnOrLess code a
-early_less v head s n answered.Whole rows status code early at = absurd early
-early_less v head s n (answered.Not (stop.Closed why.ByClient)) rows status code early at = absurd early
-early_less v head s n (answered.Not (stop.Closed why.Idle)) rows status code early at = absurd early
-early_less v head s n (answered.Not (stop.Closed why.Last)) rows status code early at = absurd early
-early_less v head s n (answered.Not (stop.Closed (why.Own code'))) rows status code early at =
+early_less : (v : Visit) (head : Head) (s n : ClientStanding) (a : Answered) (rows : List Served) (status : Status) (w : Why) → StopsEarly v head s n a rows
+    → IsAtStatus v head status → IsOwnOrLess w a
+early_less v head s n answered.Whole rows status w early at = absurd early
+early_less v head s n (answered.Not (stop.Closed why.ByClient)) rows status w early at = absurd early
+early_less v head s n (answered.Not (stop.Closed why.Idle)) rows status w early at = absurd early
+early_less v head s n (answered.Not (stop.Closed why.Last)) rows status w early at = absurd early
+early_less v head s n (answered.Not (stop.Closed (why.Own code'))) rows status w early at =
     absurd (not_none (mounted_at v head) (named.Status at.place) early.1 at.mounted)
-early_less v head s n (answered.Not (stop.Closed why.Cut)) rows status code early at = absurd early
-early_less v head s n (answered.Not (stop.Closed why.Unread)) rows status code early at = absurd early
-early_less v head s n (answered.Not stop.ClientFault) rows status code early at = inr (inl refl)
-early_less v head s n (answered.Not stop.Truncated) rows status code early at = absurd early
-early_less v head s n (answered.Not (stop.Stray ticket returned_at)) rows status code early at = absurd early
-early_less v head s n (answered.Not stop.NoMemory) rows status code early at = inr (inr refl)
+early_less v head s n (answered.Not (stop.Closed (why.Refused refusal))) rows status w early at = absurd early
+early_less v head s n (answered.Not (stop.Closed why.Cut)) rows status w early at = absurd early
+early_less v head s n (answered.Not (stop.Closed why.Unread)) rows status w early at = absurd early
+early_less v head s n (answered.Not stop.ClientFault) rows status w early at = inr (inl refl)
+early_less v head s n (answered.Not stop.Truncated) rows status w early at = absurd early
+early_less v head s n (answered.Not (stop.Stray ticket returned_at)) rows status w early at = absurd early
+early_less v head s n (answered.Not stop.NoMemory) rows status w early at = inr (inr refl)
 
 two_kinds : (lb place : ℕ) → named.Balancer lb ≡ named.Status place → ⊥
 two_kinds lb place same = cc
@@ -236,13 +241,13 @@ one_status v head a b one two =
     one_some (slice_get v.cfg.statuses one.place) a b one.stands
     (subst (λ (k : ℕ). slice_get v.cfg.statuses k ≡ Some b) (sym same) two.stands)
 
-turned_own : (cfg : Config) (session : ℕ) (status : Status) (query : Option (List ℕ)) (s n : DeskSide) (code other : ℕ) → IsRefused cfg status query code
+turned_own : (cfg : Config) (session : ℕ) (status : Status) (query : Option (List ℕ)) (s n : DeskSide) (code other : PageRefusal) → IsRefused cfg status query code
     → TurnsAway cfg session status query s n other → other ≡ code
 turned_own cfg session status query s n code other refused (inl turned) = refused_one cfg status query other code turned.0 refused
 turned_own cfg session status query s n code other refused (inr (work, error, asks, stops, is)) = absurd (refused_unasked cfg status query code work refused asks)
 
-refused_own : (v : Visit) (head : Head) (last : Bool) (s n : ClientStanding) (body body' : BodyIn) (a : Answered) (rows : List Served) (status : Status) (code : ℕ)
-    → IsAnswerAt v head last s n body body' a rows → IsAtStatus v head status → IsRefused v.cfg status head.query code → IsOwnOrLess code a
+refused_own : (v : Visit) (head : Head) (last : Bool) (s n : ClientStanding) (body body' : BodyIn) (a : Answered) (rows : List Served) (status : Status) (code : PageRefusal)
+    → IsAnswerAt v head last s n body body' a rows → IsAtStatus v head status → IsRefused v.cfg status head.query code → IsOwnOrLess (why.Refused code) a
 refused_own v head last s n body body' answered.Whole rows status code (inl (member, told, row, is, row_is, added)) at refused =
     absurd (not_both v head is.lb status is.mounted at)
 refused_own v head last s n body body' answered.Whole rows status code (inr (other, m, page, there, has, written, same, added)) at refused =
@@ -251,10 +256,10 @@ refused_own v head last s n body body' answered.Whole rows status code (inr (oth
 refused_own v head last s n body body' (answered.Not (stop.Closed why.ByClient)) rows status code answer at refused = absurd answer
 refused_own v head last s n body body' (answered.Not (stop.Closed why.Idle)) rows status code answer at refused = absurd answer
 refused_own v head last s n body body' (answered.Not (stop.Closed why.Last)) rows status code answer at refused = absurd answer
-refused_own v head last s n body body' (answered.Not (stop.Closed (why.Own other))) rows status code (added, inl is) at refused =
+refused_own v head last s n body body' (answered.Not (stop.Closed (why.Own other))) rows status code (added, is) at refused =
     absurd (not_both v head is.lb status is.mounted at)
-refused_own v head last s n body body' (answered.Not (stop.Closed (why.Own other))) rows status code (added, inr (status', there, (m, turned, written, known))) at refused =
-    inl (ap (λ (k : ℕ). answered.Not (stop.Closed (why.Own k)))
+refused_own v head last s n body body' (answered.Not (stop.Closed (why.Refused other))) rows status code (added, (status', there, (m, turned, written))) at refused =
+    inl (ap (λ (k : PageRefusal). answered.Not (stop.Closed (why.Refused k)))
     (turned_own v.cfg v.session status head.query s.desk m.desk code other refused
     (subst (λ (x : Status). TurnsAway v.cfg v.session x head.query s.desk m.desk other) (one_status v head status' status there at) turned.turned)))
 refused_own v head last s n body body' (answered.Not (stop.Closed why.Cut)) rows status code (member, told, row, is, row_is, added) at refused =
@@ -275,12 +280,12 @@ record HasHead (v : Visit) (number : ℕ) (s : ClientStanding) (end : SessionEnd
   head : Head
   reads : ReadsHead s read head
   unmounted : mounted_at v head ≡ None → end ≡ end_of (stop.Closed (why.Own 404)) number
-  turned_away : (status : Status) (code : ℕ) → IsAtStatus v head status → IsRefused v.cfg status head.query code
-      → end ≡ end_of (stop.Closed (why.Own code)) number
+  turned_away : (status : Status) (code : PageRefusal) → IsAtStatus v head status → IsRefused v.cfg status head.query code
+      → end ≡ end_of (stop.Closed (why.Refused code)) number
 
--- an own answer ends the session, and neither a fault of the client nor want of memory was met
+-- where such an answer closes the session, neither a fault of the client nor want of memory was met
 abbrev IsEndOf : (number : ℕ) → Answered → SessionEnd → Type 0
-IsEndOf number a end = (code : ℕ) → IsOwnOrLess code a → end ≡ end_of (stop.Closed (why.Own code)) number
+IsEndOf number a end = (w : Why) → IsOwnOrLess w a → end ≡ end_of (stop.Closed w) number
 
 at_head : (v : Visit) (number : ℕ) (s n : ClientStanding) (body : BodyIn) (a : Answered) (rows : List Served) (end : SessionEnd)
     → IsRequest v number s n body a rows → IsEndOf number a end → HasHead v number s end
@@ -288,40 +293,35 @@ at_head v number s n body a rows end request is = record {
   read = request.read;
   head = request.head;
   reads = request.reads;
-  unmounted = λ none. is 404 (unmounted_own v request.head _ _ _ _ _ a rows request.answers none);
-  turned_away = λ status code at refused. is code (
+  unmounted = λ none. is (why.Own 404) (unmounted_own v request.head _ _ _ _ _ a rows request.answers none);
+  turned_away = λ status code at refused. is (why.Refused code) (
       elim request.answers [
-        | inl early ↦ early_less v request.head _ _ a rows status code early at
+        | inl early ↦ early_less v request.head _ _ a rows status (why.Refused code) early at
         | inr (begun, told_on, answer) ↦ refused_own v request.head _ _ _ _ _ a rows status code answer at refused
       ]
       );
 }
 
--- an answer that is none of these three
+-- an answer that is none of these three, or that closes the session
 whole_other : (number : ℕ) (end : SessionEnd) → IsEndOf number answered.Whole end
-whole_other number end code (inl is) = absurd cc
-whole_other number end code (inr (inl is)) = absurd cc
-whole_other number end code (inr (inr is)) = absurd cc
-
-cut_other : (number : ℕ) (end : SessionEnd) → IsEndOf number (answered.Not (stop.Closed why.Cut)) end
-cut_other number end code (inl is) = absurd cc
-cut_other number end code (inr (inl is)) = absurd cc
-cut_other number end code (inr (inr is)) = absurd cc
+whole_other number end w (inl is) = absurd cc
+whole_other number end w (inr (inl is)) = absurd cc
+whole_other number end w (inr (inr is)) = absurd cc
 
 truncated_other : (number : ℕ) (end : SessionEnd) → IsEndOf number (answered.Not stop.Truncated) end
-truncated_other number end code (inl is) = absurd cc
-truncated_other number end code (inr (inl is)) = absurd cc
-truncated_other number end code (inr (inr is)) = absurd cc
+truncated_other number end w (inl is) = absurd cc
+truncated_other number end w (inr (inl is)) = absurd cc
+truncated_other number end w (inr (inr is)) = absurd cc
 
 stray_other : (number ticket : ℕ) (returned_at : Option ℕ) (end : SessionEnd) → IsEndOf number (answered.Not (stop.Stray ticket returned_at)) end
-stray_other number ticket returned_at end code (inl is) = absurd cc
-stray_other number ticket returned_at end code (inr (inl is)) = absurd cc
-stray_other number ticket returned_at end code (inr (inr is)) = absurd cc
+stray_other number ticket returned_at end w (inl is) = absurd cc
+stray_other number ticket returned_at end w (inr (inl is)) = absurd cc
+stray_other number ticket returned_at end w (inr (inr is)) = absurd cc
 
-own_other : (number requests other : ℕ) → requests ≡ number → IsEndOf number (answered.Not (stop.Closed (why.Own other))) (end_of (stop.Closed (why.Own other)) requests)
-own_other number requests other counted code (inl is) = let same : other ≡ code = cc in cc
-own_other number requests other counted code (inr (inl is)) = absurd cc
-own_other number requests other counted code (inr (inr is)) = absurd cc
+closed_other : (number requests : ℕ) (other : Why) → requests ≡ number → IsEndOf number (answered.Not (stop.Closed other)) (end_of (stop.Closed other) requests)
+closed_other number requests other counted w (inl is) = let same : other ≡ w = cc in cc
+closed_other number requests other counted w (inr (inl is)) = absurd cc
+closed_other number requests other counted w (inr (inr is)) = absurd cc
 
 -- what stands at the front, and the end that goes with it
 abbrev IsAtFront : Visit → (number : ℕ) → (s n : ClientStanding) → SessionEnd → Type 0
@@ -346,9 +346,11 @@ at_front v number s n rows requests (stop.Closed (why.Own code)) (counted, inl (
       ap (λ (k : ℕ). end_of (stop.Closed (why.Own code)) k) counted ∙ ap (λ (k : ℕ). end_of (stop.Closed (why.Own k)) number) refused.status,
     )))
 at_front v number s n rows requests (stop.Closed (why.Own code)) (counted, inr (body, request)) =
-    inr (inr (inr (at_head v number s n body _ rows _ request (own_other number requests code counted))))
+    inr (inr (inr (at_head v number s n body _ rows _ request (closed_other number requests (why.Own code) counted))))
+at_front v number s n rows requests (stop.Closed (why.Refused refusal)) (counted, (body, request)) =
+    inr (inr (inr (at_head v number s n body _ rows _ request (closed_other number requests (why.Refused refusal) counted))))
 at_front v number s n rows requests (stop.Closed why.Cut) (counted, (body, request)) =
-    inr (inr (inr (at_head v number s n body _ rows _ request (cut_other number _))))
+    inr (inr (inr (at_head v number s n body _ rows _ request (closed_other number requests why.Cut counted))))
 at_front v number s n rows requests (stop.Closed why.Unread) (counted, inl (body, mid, going_on, breaks)) =
     inr (inr (inr (at_head v number s mid body _ rows _ going_on.request (whole_other number _))))
 at_front v number s n rows requests (stop.Closed why.Unread) (counted, inr (body, mid, going_on, breaks)) =

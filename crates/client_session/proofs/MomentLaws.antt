@@ -1,5 +1,5 @@
 -- A moment that was read leaves all but the clock as it was.
-use Rattle.std.proofs.Common.{◌≡◌, Bool, true, false, List, ℕ, Option, None, Some, refl, sym, ap, ◌∙◌, subst, inl, inr}
+use Rattle.std.proofs.Common.{◌≡◌, Bool, true, false, List, ℕ, Option, None, refl, ap, subst, inl, inr}
 use Rattle.httpdate.specs.declared.date.HttpDate.{HttpDate}
 use Rattle.http_front.specs.declared.head.Head.{Head}
 use Rattle.jk_model.specs.declared.served.Served.{Served}
@@ -44,6 +44,7 @@ told_last (stop.Closed why.Idle) v s n date (inl reads) undated = reads.1
 told_last (stop.Closed why.Idle) v s n date (inr reads) undated = told_moment v s n date reads undated
 told_last (stop.Closed why.Last) v s n date reads undated = told_moment v s n date reads undated
 told_last (stop.Closed (why.Own code)) v s n date reads undated = told_moment v s n date reads undated
+told_last (stop.Closed (why.Refused refusal)) v s n date reads undated = told_moment v s n date reads undated
 told_last (stop.Closed why.Cut) v s n date reads undated = told_moment v s n date reads undated
 told_last (stop.Closed why.Unread) v s n date reads undated = told_moment v s n date reads undated
 told_last stop.ClientFault v s n date reads undated = told_moment v s n date reads undated
@@ -82,6 +83,7 @@ last_stays (stop.Closed why.Idle) v s n date (inl reads) = same_stays s n reads.
 last_stays (stop.Closed why.Idle) v s n date (inr reads) = moment_stays v s n date reads
 last_stays (stop.Closed why.Last) v s n date reads = moment_stays v s n date reads
 last_stays (stop.Closed (why.Own code)) v s n date reads = moment_stays v s n date reads
+last_stays (stop.Closed (why.Refused refusal)) v s n date reads = moment_stays v s n date reads
 last_stays (stop.Closed why.Cut) v s n date reads = moment_stays v s n date reads
 last_stays (stop.Closed why.Unread) v s n date reads = moment_stays v s n date reads
 last_stays stop.ClientFault v s n date reads = moment_stays v s n date reads
@@ -97,6 +99,7 @@ reads_last (stop.Closed why.ByClient) v s n date reads = inr reads
 reads_last (stop.Closed why.Idle) v s n date reads = inr reads
 reads_last (stop.Closed why.Last) v s n date reads = reads
 reads_last (stop.Closed (why.Own code)) v s n date reads = reads
+reads_last (stop.Closed (why.Refused refusal)) v s n date reads = reads
 reads_last (stop.Closed why.Cut) v s n date reads = reads
 reads_last (stop.Closed why.Unread) v s n date reads = reads
 reads_last stop.ClientFault v s n date reads = reads

@@ -1,5 +1,5 @@
 -- The parts of a session's requests, joined in order.
-use Rattle.std.proofs.Common.{◌≡◌, ℕ, zero, suc, ◌+◌, ◌⊎◌, Bool, false, List, [], ◌∷◌, ◌++◌, Option, Some, refl, sym, subst, inl, inr, ap, ◌∙◌}
+use Rattle.std.proofs.Common.{◌≡◌, ℕ, zero, suc, ◌+◌, ◌⊎◌, Bool, List, [], ◌∷◌, ◌++◌, Option, Some, refl, sym, subst, inl, inr, ap, ◌∙◌}
 use Rattle.std.proofs.lemmas.List.{append_assoc, append-nil}
 use Rattle.jk_io.specs.Told.{PutsFront, appended, prepended}
 use Rattle.jk_io.specs.declared.reaching.Talk.{Talk}
@@ -26,13 +26,15 @@ use Rattle.ajp_talk.specs.declared.ending.Told.{Told}
 use Rattle.status_page.specs.Mimes.{mime_of}
 use Rattle.status_page.specs.declared.page.PagePart.{PagePart}
 use Rattle.status_worker.specs.Pages.{page_reply, shown_for}
+use Rattle.status_worker.specs.Refusals.{refusal_bytes}
+use Rattle.status_worker.specs.declared.refusal.PageRefusal.{PageRefusal}
 use Rattle.site_config.specs.declared.config.Status.{Status}
 use Rattle.exchange.specs.Clients.{GetsFront, GetsLess, GetsReplyFront, plan_in}
 use Rattle.exchange.specs.Deliveries.{PutsShort}
 use Rattle.exchange.specs.declared.ending.ExchangeEnd.TheVariants as exchange_end
 use Rattle.exchange.specs.declared.ending.ExchangeEnd.{ExchangeEnd}
 use Rattle.client_session.specs.Answers.{IsAnswer, IsAnswerAt, IsAtStatus, IsEarlyBegun, IsEarlyLess, IsForwarded, IsStatusBegun, IsStatusLess, IsToldOn, errand_at, own_bytes_of, own_for}
-use Rattle.client_session.specs.Parts.{AreParts, HasParts, IsCutFor, IsDueAnswer, IsFrontOfAnswer, IsLastWritten, IsLessOfAnswer, IsOwnAnswer, IsPageAnswer, IsPageFor, IsPart, IsReplyFor, IsUnreadAnswer, IsWholeAnswer, SessionPart, taken_in, talks_in, written_in}
+use Rattle.client_session.specs.Parts.{AreParts, HasParts, IsCutFor, IsDueAnswer, IsFrontOfAnswer, IsLastWritten, IsLessOfAnswer, IsOwnAnswer, IsPageAnswer, IsPageFor, IsPart, IsRefusalAnswer, IsReplyFor, IsUnreadAnswer, IsWholeAnswer, SessionPart, taken_in, talks_in, written_in}
 use Rattle.client_session.specs.Moments.{IsTold}
 use Rattle.client_session.proofs.MomentLaws.{StaysButClock, last_stays, moment_stays, told_last, told_moment}
 use Rattle.client_session.specs.Requests.{IsNewBody, Visit, continue_for, is_last, kind_at, own_kind_at, refused_kind, visit_at}
@@ -451,7 +453,11 @@ status_reach v head s told m n on asked alone =
 
 page_due : (v : Visit) (head : Head) (last : Bool) (status : Status) (parts : List PagePart) (page : List ℕ) → IsAtStatus v head status → page ≡ shown_for status head.query parts
     → IsPageAnswer v head last [] (continue_for head ++ page_reply (mime_of head.query) (kind_at v head last) page)
-page_due v head last status parts page at is = (page_reply (mime_of head.query) (kind_at v head last) page, refl, (status, parts, at, refl, ap (page_reply (mime_of head.query) (kind_at v head last)) is))
+page_due v head last status parts page at is = (page_reply (mime_of head.query) (kind_at v head last) page, refl, inl (status, parts, at, refl, ap (page_reply (mime_of head.query) (kind_at v head last)) is))
+
+refusal_due : (v : Visit) (head : Head) (last : Bool) (status : Status) (refusal : PageRefusal) → IsAtStatus v head status
+    → IsPageAnswer v head last [] (continue_for head ++ refusal_bytes refusal (own_kind_at v head))
+refusal_due v head last status refusal at = (refusal_bytes refusal (own_kind_at v head), refl, inr (refusal, (status, at, refl, refl)))
 
 by_status : (v : Visit) (number : ℕ) (head : Head) (s told n : ClientStanding) (status : Status) → IsToldOn v head s told → IsAtStatus v head status
     → IsStatusBegun v status head (is_last number head) told n → Fronts v number s n
@@ -460,10 +466,11 @@ by_status v number head s told n status on at (inl (m, page, has, begun)) =
     (begun_after v head s told m n _ on (ap (λ (x : ClientStanding). x.client) has.alone) begun)
     (inr (inr (inl (page_due v head (is_last number head) status has.parts page at has.is))))
     (unasked s n (status_reach v head s told m n on has.alone begun.alone))
-by_status v number head s told n status on at (inr (m, code, turned, begun)) =
-    a_front v number s n head [] (continue_for head ++ own_for code (own_kind_at v head))
+by_status v number head s told n status on at (inr (m, refusal, turned, begun)) =
+    a_front v number s n head [] (continue_for head ++ refusal_bytes refusal (own_kind_at v head))
     (begun_after v head s told m n _ on (ap (λ (x : ClientStanding). x.client) turned.alone) begun)
-    (inr (inl (code, inr refl))) (unasked s n (status_reach v head s told m n on turned.alone begun.alone))
+    (inr (inr (inl (refusal_due v head (is_last number head) status refusal at))))
+    (unasked s n (status_reach v head s told m n on turned.alone begun.alone))
 
 less_by_status : (v : Visit) (number : ℕ) (head : Head) (s told n : ClientStanding) (status : Status) → IsToldOn v head s told → IsAtStatus v head status
     → IsStatusLess v status head (is_last number head) told n → Lesses v number s n
@@ -472,10 +479,11 @@ less_by_status v number head s told n status on at (inl (m, page, has, less)) =
     (less_after v head s told m n _ on (ap (λ (x : ClientStanding). x.client) has.alone) less)
     (inr (page_due v head (is_last number head) status has.parts page at has.is))
     (unasked s n (status_reach v head s told m n on has.alone less.alone))
-less_by_status v number head s told n status on at (inr (m, code, turned, less)) =
-    a_short v number s n head [] (continue_for head ++ own_for code (own_kind_at v head))
+less_by_status v number head s told n status on at (inr (m, refusal, turned, less)) =
+    a_short v number s n head [] (continue_for head ++ refusal_bytes refusal (own_kind_at v head))
     (less_after v head s told m n _ on (ap (λ (x : ClientStanding). x.client) turned.alone) less)
-    (inl (code, inr refl)) (unasked s n (status_reach v head s told m n on turned.alone less.alone))
+    (inr (refusal_due v head (is_last number head) status refusal at))
+    (unasked s n (status_reach v head s told m n on turned.alone less.alone))
 
 unwritten : (v : Visit) (number : ℕ) (head : Head) (s told n : ClientStanding) → IsToldOn v head s told → n ≡ record told { desk = n.desk } → Lesses v number s n
 unwritten v number head s told n on alone =
@@ -566,7 +574,7 @@ own_written v number s n body rows code r = since_head (Owns v code) s r.read n 
       put = written.puts.sent;
       noted = unasked r.read n (ap (λ (x : ClientStanding). x.reach) written.alone);
     }
-    by_answer (inr (told, on, (added, inl is))) =
+    by_answer (inr (told, on, (added, is))) =
         let gets = is.forwarded.gives in
         record {
           bytes = continue_for r.head ++ own_for code (own_kind_at v r.head);
@@ -577,13 +585,24 @@ own_written v number s n body rows code r = since_head (Owns v code) s r.read n 
               ∙ appended-appended r.read.client.sent (continue_for r.head) (own_for code (own_kind_at v r.head));
           noted = noted_told v r.head r.read told n _ on is.forwarded.noted.1;
         }
-    by_answer (inr (told, on, (added, inr (status, at, (m, turned, written, some))))) = record {
-      bytes = continue_for r.head ++ own_for code (own_kind_at v r.head);
+
+-- by a refusal
+abbrev Refusals : Visit → PageRefusal → List Talk → List ℕ → Type 0
+Refusals v refusal talks bytes = (head : Head) × IsRefusalAnswer v head refusal talks bytes
+
+refusal_written : (v : Visit) (number : ℕ) (s n : ClientStanding) (body : BodyIn) (rows : List Served) (refusal : PageRefusal)
+    → IsRequest v number s n body (answered.Not (stop.Closed (why.Refused refusal))) rows → Ends (Refusals v refusal) s n
+refusal_written v number s n body rows refusal r = since_head (Refusals v refusal) s r.read n r.head r.reads (by_answer r.answers)
+  where
+    by_answer : IsAnswer v r.head (is_last number r.head) r.read n r.fresh body (answered.Not (stop.Closed (why.Refused refusal))) rows → Ends (Refusals v refusal) r.read n
+    by_answer (inl early) = absurd early
+    by_answer (inr (told, on, (added, (status, at, (m, turned, written))))) = record {
+      bytes = continue_for r.head ++ refusal_bytes refusal (own_kind_at v r.head);
       talks = [];
-      is = (r.head, inr refl);
-      put = written.puts.sent ∙ ap (λ (x : ClientStanding). appended x.client.sent (own_for code (own_kind_at v r.head))) turned.alone
-          ∙ ap (λ o. appended o (own_for code (own_kind_at v r.head))) (sent_told v r.head r.read told on)
-          ∙ appended-appended r.read.client.sent (continue_for r.head) (own_for code (own_kind_at v r.head));
+      is = (r.head, (refusal_bytes refusal (own_kind_at v r.head), refl, (status, at, refl, refl)));
+      put = written.puts.sent ∙ ap (λ (x : ClientStanding). appended x.client.sent (refusal_bytes refusal (own_kind_at v r.head))) turned.alone
+          ∙ ap (λ o. appended o (refusal_bytes refusal (own_kind_at v r.head))) (sent_told v r.head r.read told on)
+          ∙ appended-appended r.read.client.sent (continue_for r.head) (refusal_bytes refusal (own_kind_at v r.head));
       noted = unasked r.read n (status_reach v r.head r.read told m n on turned.alone written.alone);
     }
 
@@ -685,6 +704,8 @@ last_of v number requests s n rows (stop.Closed (why.Own code)) (count, inl (ref
 }
 last_of v number requests s n rows (stop.Closed (why.Own code)) (count, inr (body, r)) =
     said_as _ _ s n (λ talks bytes own. (count, inr own)) (own_written v number s n body rows code r)
+last_of v number requests s n rows (stop.Closed (why.Refused refusal)) (count, (body, r)) =
+    said_as _ _ s n (λ talks bytes refused. (count, refused)) (refusal_written v number s n body rows refusal r)
 last_of v number requests s n rows (stop.Closed why.Cut) (count, (body, r)) =
     said_as _ _ s n (λ talks bytes cut. (count, cut)) (cut_written v number s n body rows r)
 last_of v number requests s n rows (stop.Closed why.Unread) (count, inl unread') = unread_whole v number requests s n rows _ count unread'

@@ -54,6 +54,7 @@ refuses v number s read n form puts (stop.Closed (why.Own code)) reads alone (in
       written.1,
       (refl, inl (record { read = read; form = form; reads = reads; status = refl; written = record { puts = written.0.1; alone = alone } }, refl)),
     )
+refuses v number s read n form puts (stop.Closed (why.Refused refusal)) reads alone (inr written) = absurd written.0
 refuses v number s read n form puts (stop.Closed why.Cut) reads alone (inr written) = absurd written.0
 refuses v number s read n form puts (stop.Closed why.Unread) reads alone (inr written) = absurd written.0
 refuses v number s read n form puts stop.ClientFault reads alone (inr written) = (
@@ -91,6 +92,7 @@ refused_rises date form first s n puts (stop.Closed why.ByClient) steady (inr wr
 refused_rises date form first s n puts (stop.Closed why.Idle) steady (inr written) = absurd written.0
 refused_rises date form first s n puts (stop.Closed why.Last) steady (inr written) = absurd written.0
 refused_rises date form first s n puts (stop.Closed (why.Own code)) steady (inr written) = written.0.1.steady ∙ steady
+refused_rises date form first s n puts (stop.Closed (why.Refused refusal)) steady (inr written) = absurd written.0
 refused_rises date form first s n puts (stop.Closed why.Cut) steady (inr written) = absurd written.0
 refused_rises date form first s n puts (stop.Closed why.Unread) steady (inr written) = absurd written.0
 refused_rises date form first s n puts stop.ClientFault steady (inr written) = rose_since _ _ _ steady written.0.0
@@ -104,6 +106,7 @@ refused_no_fewer date form s n puts (stop.Closed why.ByClient) (inr written) = a
 refused_no_fewer date form s n puts (stop.Closed why.Idle) (inr written) = absurd written.0
 refused_no_fewer date form s n puts (stop.Closed why.Last) (inr written) = absurd written.0
 refused_no_fewer date form s n puts (stop.Closed (why.Own code)) (inr written) = omega (arith, written.0.1.steady)
+refused_no_fewer date form s n puts (stop.Closed (why.Refused refusal)) (inr written) = absurd written.0
 refused_no_fewer date form s n puts (stop.Closed why.Cut) (inr written) = absurd written.0
 refused_no_fewer date form s n puts (stop.Closed why.Unread) (inr written) = absurd written.0
 refused_no_fewer date form s n puts stop.ClientFault (inr written) = written.0.1.no_fewer

@@ -1,32 +1,25 @@
 -- A status worker's request, from what was asked to what its client has.
-use Rattle.std.proofs.Common.{◌≡◌, ℕ, Bool, List, Option, IsSome, Result, Ok, Err, refl, sym, subst, inl, inr}
+use Rattle.std.proofs.Common.{◌≡◌, ℕ, Bool, List, Option, Result, Ok, Err, refl, sym, subst, inl, inr}
 use Rattle.jk_io.specs.Moments.{Moment}
 use Rattle.http_front.specs.declared.head.Head.{Head}
-use Rattle.http_out.specs.Own.{own_of}
 use Rattle.http_out.specs.declared.framing.RequestKind.{RequestKind}
 use Rattle.site_config.specs.declared.config.Status.{Status}
-use Rattle.client_session.specs.Answers.{HasPage, IsStatusAnswer, IsStatusBegun, IsStatusLess, own_for}
-use Rattle.status_worker.specs.Commanding.{IsPageCode}
+use Rattle.client_session.specs.Answers.{HasPage, IsStatusAnswer, IsStatusBegun, IsStatusLess}
 use Rattle.status_worker.specs.Commands.{IsBroken, IsDone, TurnsAway}
 use Rattle.status_worker.specs.Pages.{IsPage, shown_for}
+use Rattle.status_worker.specs.Refusals.{refusal_bytes}
 use Rattle.client_session.specs.Requests.{Visit, kind_at, own_kind_at, visit_in}
 use Rattle.balancer_core.specs.Desks.{DeskState}
 use Rattle.status_worker.specs.Desks.{DeskSide}
 use Rattle.client_session.specs.Standings.{Puts, PutsLess, PutsPart, ClientStanding}
 use Rattle.client_session.specs.Surroundings.{SendsPage, Shows}
-use Rattle.client_session.specs.Writing.{WritesOwn, WritesPart}
+use Rattle.client_session.specs.Writing.{WritesPart, WritesRefusal}
 use Rattle.client_session.specs.declared.ending.SessionStop.{SessionStop}
 use Rattle.client_session.specs.declared.ending.SessionStop.TheVariants as stop
 use Rattle.client_session.specs.declared.inquiry.Inquiry.{Inquiry}
-use Rattle.client_session.specs.declared.ending.Why.TheVariants as why
+use Rattle.client_session.specs.declared.ending.Why.{Why}
+use Rattle.status_worker.specs.declared.refusal.PageRefusal.{PageRefusal}
 use Rattle.status_worker.specs.declared.pages.Page.{Page}
-
--- each status of an own answer in a page's place has one
-pub page_code : (code : ℕ) → IsPageCode code → IsSome (own_of code)
-page_code code (inl bad) = subst (λ (n : ℕ). IsSome (own_of n)) (sym bad) refl
-page_code code (inr (inl forbidden)) = subst (λ (n : ℕ). IsSome (own_of n)) (sym forbidden) refl
-page_code code (inr (inr (inl unknown))) = subst (λ (n : ℕ). IsSome (own_of n)) (sym unknown) refl
-page_code code (inr (inr (inr full))) = subst (λ (n : ℕ). IsSome (own_of n)) (sym full) refl
 
 -- the desk's side alone went on
 abbrev asked_on : ClientStanding → DeskSide → ClientStanding
@@ -36,34 +29,29 @@ asked_on s d = record s { desk = d }
 abbrev written_on : ClientStanding → DeskSide → Moment → ClientStanding
 written_on s d w = record s { desk = d; client = w }
 
-own_begun : (v : Visit) (status : Status) (head : Head) (last : Bool) (s : ClientStanding) (d : DeskSide) (w : Moment) (code : ℕ)
-    → TurnsAway v.cfg v.session status head.query s.desk d code → PutsPart s.client w (own_for code (own_kind_at v head))
+refusal_begun : (v : Visit) (status : Status) (head : Head) (last : Bool) (s : ClientStanding) (d : DeskSide) (w : Moment) (refusal : PageRefusal)
+    → TurnsAway v.cfg v.session status head.query s.desk d refusal → PutsPart s.client w (refusal_bytes refusal (own_kind_at v head))
     → IsStatusBegun v status head last s (written_on s d w)
-own_begun v status head last s d w code turned puts =
-    inr (asked_on s d, code, record { turned = turned; alone = refl }, record { puts = puts; alone = refl })
+refusal_begun v status head last s d w refusal turned puts =
+    inr (asked_on s d, refusal, record { turned = turned; alone = refl }, record { puts = puts; alone = refl })
 
-own_less : (v : Visit) (status : Status) (head : Head) (last : Bool) (s : ClientStanding) (d : DeskSide) (w : Moment) (code : ℕ)
-    → TurnsAway v.cfg v.session status head.query s.desk d code → PutsLess s.client w (own_for code (own_kind_at v head))
+refusal_less : (v : Visit) (status : Status) (head : Head) (last : Bool) (s : ClientStanding) (d : DeskSide) (w : Moment) (refusal : PageRefusal)
+    → TurnsAway v.cfg v.session status head.query s.desk d refusal → PutsLess s.client w (refusal_bytes refusal (own_kind_at v head))
     → IsStatusLess v status head last s (written_on s d w)
-own_less v status head last s d w code turned puts =
-    inr (asked_on s d, code, record { turned = turned; alone = refl }, record { puts = puts; alone = refl })
+refusal_less v status head last s d w refusal turned puts =
+    inr (asked_on s d, refusal, record { turned = turned; alone = refl }, record { puts = puts; alone = refl })
 
-pub own_answered : (v : Visit) (status : Status) (head : Head) (last : Bool) (s : ClientStanding) (d : DeskSide) (w : Moment) (code : ℕ) (stop' : SessionStop)
-    → TurnsAway v.cfg v.session status head.query s.desk d code → IsSome (own_of code) → WritesOwn code (own_kind_at v head) s.client w stop'
+pub refusal_answered : (v : Visit) (status : Status) (head : Head) (last : Bool) (s : ClientStanding) (d : DeskSide) (w : Moment) (refusal : PageRefusal) (stop' : SessionStop)
+    → TurnsAway v.cfg v.session status head.query s.desk d refusal → WritesRefusal refusal (own_kind_at v head) s.client w stop'
     → IsStatusAnswer v status head last s (written_on s d w) (Err stop')
-own_answered v status head last s d w code (stop.Closed why.ByClient) turned known writes = absurd writes
-own_answered v status head last s d w code (stop.Closed why.Idle) turned known writes = absurd writes
-own_answered v status head last s d w code (stop.Closed why.Last) turned known writes = absurd writes
-own_answered v status head last s d w code (stop.Closed (why.Own other)) turned known writes =
-    subst (λ (n : ℕ). IsStatusAnswer v status head last s (written_on s d w) (Err (stop.Closed (why.Own n)))) (sym writes.0)
-    (asked_on s d, record { turned = turned; alone = refl }, record { puts = writes.1; alone = refl }, known)
-own_answered v status head last s d w code (stop.Closed why.Cut) turned known writes = absurd writes
-own_answered v status head last s d w code (stop.Closed why.Unread) turned known writes = absurd writes
-own_answered v status head last s d w code stop.ClientFault turned known writes =
-    (writes.0, own_begun v status head last s d w code turned writes.1)
-own_answered v status head last s d w code stop.Truncated turned known writes = absurd writes
-own_answered v status head last s d w code (stop.Stray ticket returned_at) turned known writes = absurd writes
-own_answered v status head last s d w code stop.NoMemory turned known writes = inl (own_less v status head last s d w code turned writes)
+refusal_answered v status head last s d w refusal (stop.Closed x) turned writes =
+    subst (λ (y : Why). IsStatusAnswer v status head last s (written_on s d w) (Err (stop.Closed y))) (sym writes.0)
+    (asked_on s d, record { turned = turned; alone = refl }, record { puts = writes.1; alone = refl })
+refusal_answered v status head last s d w refusal stop.ClientFault turned writes =
+    (writes.0, refusal_begun v status head last s d w refusal turned writes.1)
+refusal_answered v status head last s d w refusal stop.Truncated turned writes = absurd writes
+refusal_answered v status head last s d w refusal (stop.Stray ticket returned_at) turned writes = absurd writes
+refusal_answered v status head last s d w refusal stop.NoMemory turned writes = inl (refusal_less v status head last s d w refusal turned writes)
 
 has_page : (v : Visit) (status : Status) (query : Option (List ℕ)) (s : ClientStanding) (d : DeskSide) (only : Option ℕ) (kind : RequestKind) (page : Page)
     → IsDone v.cfg v.session status query s.desk d only → (seen : IsPage v.cfg status query d.state only kind page)

@@ -1,5 +1,5 @@
 -- What a request comes to: the session goes on, or ends at it or after it.
-use Rattle.std.proofs.Common.{◌≡◌, ℕ, ◌+◌, ◌≤◌, ◌<◌, ◌==◌, ◌||◌, Bool, true, false, List, [], ◌++◌, refl, sym, Option, None, subst, inl, inr, ap, ◌∙◌, arith}
+use Rattle.std.proofs.Common.{◌≡◌, ℕ, ◌+◌, ◌≤◌, ◌<◌, ◌==◌, ◌||◌, Bool, true, false, List, [], refl, sym, Option, None, subst, inl, inr, ap, ◌∙◌, arith}
 use Rattle.std.proofs.lemmas.Bool.{eq-eqb, true≢false}
 use Rattle.jk_io.specs.Moments.{Moment}
 use Rattle.jk_io.specs.Told.{Rose}
@@ -55,6 +55,8 @@ stops v number s read n head fresh body (stop.Closed why.Last) rows reads is_fre
     elim answers [ inl early ↦ absurd early | inr later ↦ absurd later.2 ]
 stops v number s read n head fresh body (stop.Closed (why.Own code)) rows reads is_fresh answers rises =
     (refl, inr (body, request v number s read n head fresh body (answered.Not (stop.Closed (why.Own code))) rows reads is_fresh answers))
+stops v number s read n head fresh body (stop.Closed (why.Refused refusal)) rows reads is_fresh answers rises =
+    (refl, (body, request v number s read n head fresh body (answered.Not (stop.Closed (why.Refused refusal))) rows reads is_fresh answers))
 stops v number s read n head fresh body (stop.Closed why.Cut) rows reads is_fresh answers rises =
     (refl, (body, request v number s read n head fresh body (answered.Not (stop.Closed why.Cut)) rows reads is_fresh answers))
 stops v number s read n head fresh body (stop.Closed why.Unread) rows reads is_fresh answers rises =
@@ -289,6 +291,7 @@ answer_busy v head last s n body body' (answered.Not (stop.Closed why.ByClient))
 answer_busy v head last s n body body' (answered.Not (stop.Closed why.Idle)) rows answers = never_idle v head last s n body body' rows answers
 answer_busy v head last s n body body' (answered.Not (stop.Closed why.Last)) rows answers = tt
 answer_busy v head last s n body body' (answered.Not (stop.Closed (why.Own code))) rows answers = tt
+answer_busy v head last s n body body' (answered.Not (stop.Closed (why.Refused refusal))) rows answers = tt
 answer_busy v head last s n body body' (answered.Not (stop.Closed why.Cut)) rows answers = tt
 answer_busy v head last s n body body' (answered.Not (stop.Closed why.Unread)) rows answers = tt
 answer_busy v head last s n body body' (answered.Not stop.ClientFault) rows answers = tt
@@ -323,6 +326,7 @@ own_busy status kind s n (stop.Closed why.ByClient) writes = tt
 own_busy status kind s n (stop.Closed why.Idle) writes = writes
 own_busy status kind s n (stop.Closed why.Last) writes = tt
 own_busy status kind s n (stop.Closed (why.Own code)) writes = tt
+own_busy status kind s n (stop.Closed (why.Refused refusal)) writes = tt
 own_busy status kind s n (stop.Closed why.Cut) writes = tt
 own_busy status kind s n (stop.Closed why.Unread) writes = tt
 own_busy status kind s n stop.ClientFault writes = tt

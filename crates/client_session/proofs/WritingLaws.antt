@@ -1,5 +1,5 @@
 -- Writing to the client, whole or broken off.
-use Rattle.std.proofs.Common.{◌≡◌, ◌≤◌, ℕ, Bool, List, Option, None, Some, IfSome, IsSome, Result, Ok, Err, refl, arith, true, false, [], ◌∷◌, codes, sym, subst, inr, if◌then◌else◌}
+use Rattle.std.proofs.Common.{◌≡◌, ◌≤◌, ℕ, Bool, List, Option, None, Some, IfSome, IsSome, Result, Ok, Err, arith, true, [], ◌∷◌, codes, sym, subst, inr, if◌then◌else◌}
 use Rattle.jk_io.specs.Moments.{Moment}
 use Rattle.jk_io.specs.declared.failures.IoError.{IoError}
 use Rattle.jk_io.specs.declared.failures.IoError.TheVariants as io
@@ -8,6 +8,8 @@ use Rattle.http_out.specs.Own.{own_bytes}
 use Rattle.http_out.specs.declared.own_answers.Own.{Own}
 use Rattle.http_out.specs.declared.own_answers.OwnKind.{OwnKind}
 use Rattle.httpdate.specs.declared.date.HttpDate.{HttpDate}
+use Rattle.status_worker.specs.Refusals.{refusal_bytes}
+use Rattle.status_worker.specs.declared.refusal.PageRefusal.{PageRefusal}
 use Rattle.client_session.specs.Answers.{own_bytes_of, own_for}
 use Rattle.http_front.specs.Refusal.{status_of}
 use Rattle.http_front.specs.declared.answers.Form.{Form}
@@ -17,7 +19,7 @@ use Rattle.client_session.specs.Finishing.{AddsRefused, RefusesHead}
 use Rattle.client_session.specs.Requests.{awaits_continue, continue_for, refused_kind}
 use Rattle.client_session.specs.Sessions.{refused_row}
 use Rattle.client_session.specs.Standings.{Puts}
-use Rattle.client_session.specs.Writing.{WritesOwn, WritesPart, stop_by}
+use Rattle.client_session.specs.Writing.{WritesOwn, WritesPart, WritesRefusal, stop_by}
 use Rattle.client_session.specs.declared.ending.SessionStop.{SessionStop}
 use Rattle.client_session.specs.declared.ending.SessionStop.TheVariants as stop
 use Rattle.client_session.specs.declared.ending.Why.{Why}
@@ -53,6 +55,7 @@ own_no_fewer status kind s n (stop.Closed why.ByClient) writes = absurd writes
 own_no_fewer status kind s n (stop.Closed why.Idle) writes = absurd writes
 own_no_fewer status kind s n (stop.Closed why.Last) writes = absurd writes
 own_no_fewer status kind s n (stop.Closed (why.Own code)) writes = let steady = writes.1.steady in omega arith
+own_no_fewer status kind s n (stop.Closed (why.Refused refusal)) writes = absurd writes
 own_no_fewer status kind s n (stop.Closed why.Cut) writes = absurd writes
 own_no_fewer status kind s n (stop.Closed why.Unread) writes = absurd writes
 own_no_fewer status kind s n stop.ClientFault writes = writes.1.no_fewer
@@ -60,7 +63,27 @@ own_no_fewer status kind s n stop.Truncated writes = absurd writes
 own_no_fewer status kind s n (stop.Stray ticket returned_at) writes = absurd writes
 own_no_fewer status kind s n stop.NoMemory writes = let steady = writes.steady in omega arith
 
--- nor does a write of other bytes
+-- ---- the answer to a refused request
+
+pub refusal_broken : (refusal : PageRefusal) (kind : OwnKind) (s n : Moment) (error : IoError) → s.faults ≤ n.faults
+    → Delivers {T = Unit {0}} (refusal_bytes refusal kind) s n (Err error) → WritesRefusal refusal kind s n (stop_by error)
+refusal_broken refusal kind s n io.Failed no_fewer delivered = (
+  delivered.written.1,
+  record { sent = delivered.written.0; no_fewer = no_fewer; incoming = delivered.incoming; received = delivered.received },
+)
+refusal_broken refusal kind s n io.NoMemory no_fewer delivered =
+    record { sent = delivered.written.0; steady = delivered.written.1; incoming = delivered.incoming; received = delivered.received }
+
+pub refusal_no_fewer : (refusal : PageRefusal) (kind : OwnKind) (s n : Moment) (stop' : SessionStop) → WritesRefusal refusal kind s n stop' → s.faults ≤ n.faults
+refusal_no_fewer refusal kind s n (stop.Closed w) writes = let steady = writes.1.steady in omega arith
+refusal_no_fewer refusal kind s n stop.ClientFault writes = writes.1.no_fewer
+refusal_no_fewer refusal kind s n stop.Truncated writes = absurd writes
+refusal_no_fewer refusal kind s n (stop.Stray ticket returned_at) writes = absurd writes
+refusal_no_fewer refusal kind s n stop.NoMemory writes = let steady = writes.steady in omega arith
+
+-- ---- other bytes
+
+-- no write of them takes a fault back either
 pub part_no_fewer : {T : Type 0} (bytes : List ℕ) (s n : Moment) (result : Result T SessionStop) → WritesPart bytes s n result → s.faults ≤ n.faults
 part_no_fewer bytes s n (Ok value) writes = let steady = writes.steady in omega arith
 part_no_fewer bytes s n (Err (stop.Closed w)) writes = absurd writes

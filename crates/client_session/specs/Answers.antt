@@ -27,6 +27,8 @@ use Rattle.exchange.specs.declared.ending.ExchangeEnd.TheVariants as exchange_en
 use Rattle.exchange.specs.declared.ending.ExchangeEnd.{ExchangeEnd}
 use Rattle.status_worker.specs.Commands.{IsBroken, IsDone, TurnsAway}
 use Rattle.status_worker.specs.Pages.{IsPageOf, page_reply, sent_of, shown_for}
+use Rattle.status_worker.specs.Refusals.{code_of, refusal_body, refusal_bytes}
+use Rattle.status_worker.specs.declared.refusal.PageRefusal.{PageRefusal}
 use Rattle.client_session.specs.Requests.{Visit, continue_for, kind_at, mounted_at, own_kind_at}
 use Rattle.client_session.specs.Standings.{IsBegun, IsLess, IsWritten, ClientStanding, with_body}
 use Rattle.client_session.specs.declared.ending.SessionStop.TheVariants as stop
@@ -63,6 +65,10 @@ pub record IsReplyRow (head : Head) (balancer : Lb) (member : ℕ) (told : Told)
 -- the row of a page
 abbrev pub page_row : Head → Status → (page : List ℕ) → Served
 page_row head status page = row_of head 200 (length (sent_of (is_head head) page)) (Some status.name)
+
+-- the row of a refusal in a page's place
+abbrev pub refusal_row : Head → PageRefusal → Served
+refusal_row head refusal = row_of head (code_of refusal) (length (sent_of (is_head head) (refusal_body refusal))) None
 
 -- ---- own answers
 
@@ -119,21 +125,21 @@ pub record HasPage (v : Visit) (status : Status) (query : Option (List ℕ)) (s 
   pub is : page ≡ shown_for status query parts
 
 -- There is no page; what was asked before the refusal was done.
-pub record IsTurnedAway (v : Visit) (status : Status) (query : Option (List ℕ)) (s m : ClientStanding) (code : ℕ) : Type 0 where
-  pub turned : TurnsAway v.cfg v.session status query s.desk m.desk code
+pub record IsTurnedAway (v : Visit) (status : Status) (query : Option (List ℕ)) (s m : ClientStanding) (refusal : PageRefusal) : Type 0 where
+  pub turned : TurnsAway v.cfg v.session status query s.desk m.desk refusal
   pub alone : m ≡ record s { desk = m.desk }
 
--- Writing the page, or the own answer in its place, broke off.
+-- Writing the page, or the refusal in its place, broke off.
 abbrev pub IsStatusBegun : Visit → Status → Head → (last : Bool) → (s n : ClientStanding) → Type 0
 IsStatusBegun v status head last s n =
     ((m : ClientStanding) × (page : List ℕ) × HasPage v status head.query s m page × IsBegun m n (page_reply (mime_of head.query) (kind_at v head last) page))
-    ⊎ ((m : ClientStanding) × (code : ℕ) × IsTurnedAway v status head.query s m code × IsBegun m n (own_for code (own_kind_at v head)))
+    ⊎ ((m : ClientStanding) × (refusal : PageRefusal) × IsTurnedAway v status head.query s m refusal × IsBegun m n (refusal_bytes refusal (own_kind_at v head)))
 
--- Memory was wanted before the page, or the own answer in its place, was written whole.
+-- Memory was wanted before the page, or the refusal in its place, was written whole.
 abbrev pub IsStatusLess : Visit → Status → Head → (last : Bool) → (s n : ClientStanding) → Type 0
 IsStatusLess v status head last s n =
     ((m : ClientStanding) × (page : List ℕ) × HasPage v status head.query s m page × IsLess m n (page_reply (mime_of head.query) (kind_at v head last) page))
-    ⊎ ((m : ClientStanding) × (code : ℕ) × IsTurnedAway v status head.query s m code × IsLess m n (own_for code (own_kind_at v head)))
+    ⊎ ((m : ClientStanding) × (refusal : PageRefusal) × IsTurnedAway v status head.query s m refusal × IsLess m n (refusal_bytes refusal (own_kind_at v head)))
 
 -- Nothing was written: memory was wanted before what was asked was done, or after it.
 pub record IsStatusUnwritten (v : Visit) (status : Status) (query : Option (List ℕ)) (s n : ClientStanding) : Type 0 where
@@ -148,8 +154,9 @@ IsStatusAnswer v status head last s n (Ok len) =
 IsStatusAnswer v status head last s n (Err (stop.Closed why.ByClient)) = ⊥
 IsStatusAnswer v status head last s n (Err (stop.Closed why.Idle)) = ⊥
 IsStatusAnswer v status head last s n (Err (stop.Closed why.Last)) = ⊥
-IsStatusAnswer v status head last s n (Err (stop.Closed (why.Own code))) =
-    (m : ClientStanding) × IsTurnedAway v status head.query s m code × IsWritten m n (own_for code (own_kind_at v head)) × IsSome (own_of code)
+IsStatusAnswer v status head last s n (Err (stop.Closed (why.Own code))) = ⊥
+IsStatusAnswer v status head last s n (Err (stop.Closed (why.Refused refusal))) =
+    (m : ClientStanding) × IsTurnedAway v status head.query s m refusal × IsWritten m n (refusal_bytes refusal (own_kind_at v head))
 IsStatusAnswer v status head last s n (Err (stop.Closed why.Cut)) = ⊥
 IsStatusAnswer v status head last s n (Err (stop.Closed why.Unread)) = ⊥
 IsStatusAnswer v status head last s n (Err stop.ClientFault) = Rose s.client.faults n.client.faults × IsStatusBegun v status head last s n
@@ -175,8 +182,9 @@ IsAnswerAt v head last s n body body' (answered.Not (stop.Closed why.ByClient)) 
 IsAnswerAt v head last s n body body' (answered.Not (stop.Closed why.Idle)) rows = ⊥
 IsAnswerAt v head last s n body body' (answered.Not (stop.Closed why.Last)) rows = ⊥
 IsAnswerAt v head last s n body body' (answered.Not (stop.Closed (why.Own code))) rows =
-    (rows ≡ own_row head code ∷ [])
-    × (IsForwarded v head last s n body body' (exchange_end.Own code) ⊎ IsPaged v head last s n (Err (stop.Closed (why.Own code))))
+    (rows ≡ own_row head code ∷ []) × IsForwarded v head last s n body body' (exchange_end.Own code)
+IsAnswerAt v head last s n body body' (answered.Not (stop.Closed (why.Refused refusal))) rows =
+    (rows ≡ refusal_row head refusal ∷ []) × IsPaged v head last s n (Err (stop.Closed (why.Refused refusal)))
 IsAnswerAt v head last s n body body' (answered.Not (stop.Closed why.Cut)) rows =
     (member : ℕ) × (told : Told) × (row : Served) × (is : IsForwarded v head last s n body body' (exchange_end.Cut member told))
     × IsReplyRow head is.balancer member told row × (rows ≡ row ∷ [])
@@ -217,6 +225,7 @@ StopsEarly v head s n (answered.Not (stop.Closed why.Idle)) rows = ⊥
 StopsEarly v head s n (answered.Not (stop.Closed why.Last)) rows = ⊥
 StopsEarly v head s n (answered.Not (stop.Closed (why.Own code))) rows =
     (code ≡ 404) × (mounted_at v head ≡ None) × IsWritten s n (own_for code (own_kind_at v head)) × (rows ≡ own_row head code ∷ [])
+StopsEarly v head s n (answered.Not (stop.Closed (why.Refused refusal))) rows = ⊥
 StopsEarly v head s n (answered.Not (stop.Closed why.Cut)) rows = ⊥
 StopsEarly v head s n (answered.Not (stop.Closed why.Unread)) rows = ⊥
 StopsEarly v head s n (answered.Not stop.ClientFault) rows =

@@ -1,5 +1,5 @@
--- What the client's bytes decide of a session's end, and why an own answer was given, by its status.
-use Rattle.std.specs.Prelude.{ℕ, ◌≡◌, ◌≤◌, ◌+◌, ◌⊎◌, Bool, true, false, List, ◌++◌, length, Some, None, IfSome}
+-- What the client's bytes decide of a session's end, and why an own answer was given, by its status, or a refusal.
+use Rattle.std.specs.Prelude.{ℕ, ◌≡◌, ◌≢◌, ◌≤◌, ◌+◌, ◌⊎◌, Bool, true, false, List, ◌++◌, length, Some, None, IfSome}
 use Rattle.jk_io.specs.Told.{Rose}
 use Rattle.jk_model.specs.declared.journal.Answer.TheVariants as answer
 use Rattle.http_front.specs.Refusal.{status_of}
@@ -15,6 +15,8 @@ use Rattle.exchange.specs.Ends.{is_status}
 use Rattle.exchange.specs.declared.ending.ExchangeEnd.TheVariants as exchange_end
 use Rattle.site_config.specs.declared.config.Status.{Status}
 use Rattle.status_worker.specs.Commands.{IsRefused}
+use Rattle.status_worker.specs.declared.refusal.PageRefusal.{PageRefusal}
+use Rattle.status_worker.specs.declared.refusal.PageRefusal.TheVariants as refusal_is
 use Rattle.client_session.specs.Answers.{IsAtStatus, IsForwarded, IsToldOn, IsTurnedAway, errand_at}
 use Rattle.client_session.specs.Ends.{end_of}
 use Rattle.client_session.specs.Requests.{Visit, is_last, mounted_at}
@@ -33,6 +35,7 @@ Calmly (stop.Closed why.ByClient) P = P
 Calmly (stop.Closed why.Idle) P = Unit {0}
 Calmly (stop.Closed why.Last) P = P
 Calmly (stop.Closed (why.Own code)) P = P
+Calmly (stop.Closed (why.Refused refusal)) P = P
 Calmly (stop.Closed why.Cut) P = P
 Calmly (stop.Closed why.Unread) P = P
 Calmly stop.ClientFault P = Unit {0}
@@ -49,8 +52,9 @@ pub record DecidesEnd (v : Visit) (number : ℕ) (bytes : List ℕ) (end : Sessi
   pub refused : (form : Form) → Refuses bytes form → Calmly end.stop (end ≡ end_of (stop.Closed (why.Own (status_of form))) number)
   pub unmounted : (used rest : List ℕ) (head : Head) → bytes ≡ used ++ rest → IsHeadOf used head → mounted_at v head ≡ None
       → Calmly end.stop (end ≡ end_of (stop.Closed (why.Own 404)) number)
-  pub turned_away : (used rest : List ℕ) (head : Head) (status : Status) (code : ℕ) → bytes ≡ used ++ rest → IsHeadOf used head
-      → IsAtStatus v head status → IsRefused v.cfg status head.query code → Calmly end.stop (end ≡ end_of (stop.Closed (why.Own code)) number)
+  pub turned_away : (used rest : List ℕ) (head : Head) (status : Status) (refusal : PageRefusal) → bytes ≡ used ++ rest → IsHeadOf used head
+      → IsAtStatus v head status → IsRefused v.cfg status head.query refusal
+      → Calmly end.stop (end ≡ end_of (stop.Closed (why.Refused refusal)) number)
 
 -- ---- why an own answer was given
 
@@ -62,8 +66,8 @@ RefusesAs s code = (read : ClientStanding) × (form : Form) × ReadsRefused s re
 abbrev pub IsUnmounted : Visit → ClientStanding → Type 0
 IsUnmounted v s = (read : ClientStanding) × (head : Head) × ReadsHead s read head × (mounted_at v head ≡ None)
 
--- A status worker's request got this own answer in its page's place.
-pub record HasNoPage (v : Visit) (s n : ClientStanding) (code : ℕ) : Type 0 where
+-- A status worker's request was refused for this reason, and has no page.
+pub record HasNoPage (v : Visit) (s n : ClientStanding) (refusal : PageRefusal) : Type 0 where
   pub head : Head
   pub read : ClientStanding
   pub reads : ReadsHead s read head
@@ -72,7 +76,7 @@ pub record HasNoPage (v : Visit) (s n : ClientStanding) (code : ℕ) : Type 0 wh
   pub status : Status
   pub at : IsAtStatus v head status
   pub asked : ClientStanding
-  pub turned : IsTurnedAway v status head.query begun asked code
+  pub turned : IsTurnedAway v status head.query begun asked refusal
   pub desk : n.desk ≡ asked.desk
 
 -- A request that was forwarded got this own answer.
@@ -110,9 +114,9 @@ IsTooMuch v number s n code r =
 -- counts of the desk are the request's.
 pub record HasOwnCause (v : Visit) (number : ℕ) (s n : ClientStanding) (code : ℕ) : Type 0 where
   pub bad_request : code ≡ 400
-      → RefusesAs s 400 ⊎ (((r : HasNoReply v number s n code) × HasBadLine v number s n code r) ⊎ HasNoPage v s n 400)
-  pub forbidden : code ≡ 403 → HasNoPage v s n 403
-  pub not_found : code ≡ 404 → IsUnmounted v s ⊎ HasNoPage v s n 404
+      → RefusesAs s 400 ⊎ ((r : HasNoReply v number s n code) × HasBadLine v number s n code r)
+  pub forbidden : code ≢ 403
+  pub not_found : code ≡ 404 → IsUnmounted v s
   pub too_large : code ≡ 413 → RefusesAs s 413 ⊎ ((r : HasNoReply v number s n code) × IsTooMuch v number s n code r)
   pub many_fields : code ≡ 431 → RefusesAs s 431
   pub internal : code ≡ 500 → EndsWith s.desk.state n.desk.state answer.Forced ⊎ Rose s.desk.state.fulls n.desk.state.fulls
@@ -121,22 +125,29 @@ pub record HasOwnCause (v : Visit) (number : ℕ) (s n : ClientStanding) (code :
   pub unavailable : code ≡ 503
       → EndsWith s.desk.state n.desk.state answer.NoMember ⊎ ((r : HasNoReply v number s n code) × GaveUp v number s n code r true)
 
--- of an end by an own answer
-abbrev pub IfOwn : SessionStop → (ℕ → Type 0) → Type 0
-IfOwn (stop.Closed why.ByClient) P = Unit {0}
-IfOwn (stop.Closed why.Idle) P = Unit {0}
-IfOwn (stop.Closed why.Last) P = Unit {0}
-IfOwn (stop.Closed (why.Own code)) P = P code
-IfOwn (stop.Closed why.Cut) P = Unit {0}
-IfOwn (stop.Closed why.Unread) P = Unit {0}
-IfOwn stop.ClientFault P = Unit {0}
-IfOwn stop.Truncated P = Unit {0}
-IfOwn (stop.Stray ticket returned_at) P = Unit {0}
-IfOwn stop.NoMemory P = Unit {0}
+-- The cause of a refusal: the status worker's request has no page for this reason. Where it says that the journal is full, the
+-- desk's count of that rose.
+pub record HasRefusalCause (v : Visit) (s n : ClientStanding) (refusal : PageRefusal) : Type 0 where
+  pub page : HasNoPage v s n refusal
+  pub full : refusal ≡ refusal_is.Full → Rose s.desk.state.fulls n.desk.state.fulls
 
--- an own answer at the end has its cause
+-- P of an end by an own answer, and Q of one by a refusal
+abbrev pub IfOwn : SessionStop → (P : ℕ → Type 0) → (Q : PageRefusal → Type 0) → Type 0
+IfOwn (stop.Closed why.ByClient) P Q = Unit {0}
+IfOwn (stop.Closed why.Idle) P Q = Unit {0}
+IfOwn (stop.Closed why.Last) P Q = Unit {0}
+IfOwn (stop.Closed (why.Own code)) P Q = P code
+IfOwn (stop.Closed (why.Refused refusal)) P Q = Q refusal
+IfOwn (stop.Closed why.Cut) P Q = Unit {0}
+IfOwn (stop.Closed why.Unread) P Q = Unit {0}
+IfOwn stop.ClientFault P Q = Unit {0}
+IfOwn stop.Truncated P Q = Unit {0}
+IfOwn (stop.Stray ticket returned_at) P Q = Unit {0}
+IfOwn stop.NoMemory P Q = Unit {0}
+
+-- an own answer or a refusal at the end has its cause
 abbrev pub IsOwnCaused : Visit → SessionEnd → (number : ℕ) → (s n : ClientStanding) → Type 0
-IsOwnCaused v end number s n = IfOwn end.stop (HasOwnCause v number s n)
+IsOwnCaused v end number s n = IfOwn end.stop (HasOwnCause v number s n) (HasRefusalCause v s n)
 
 -- where they are told, the bytes that no request used decide the end
 abbrev pub IsDecided : Visit → SessionEnd → (number : ℕ) → (s n : ClientStanding) → Type 0

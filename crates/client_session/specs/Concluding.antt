@@ -14,8 +14,9 @@ use Rattle.site_config.specs.declared.config.Named.{Named}
 use Rattle.site_config.specs.declared.config.Named.TheVariants as named
 use Rattle.exchange.specs.declared.ending.ExchangeEnd.TheVariants as exchange_end
 use Rattle.exchange.specs.declared.ending.ExchangeEnd.{ExchangeEnd}
+use Rattle.status_worker.specs.declared.refusal.PageRefusal.{PageRefusal}
 use Rattle.client_session.specs.Requests.{Visit, own_kind_at}
-use Rattle.client_session.specs.Rows.{IsRowOf, own_row_by, worker_row}
+use Rattle.client_session.specs.Rows.{IsRowOf, own_row_by, refusal_row_by, worker_row}
 use Rattle.client_session.specs.Writing.{WritesOwn}
 use Rattle.client_session.specs.declared.ending.SessionStop.TheVariants as stop
 use Rattle.client_session.specs.declared.rows.Row.{Row}
@@ -60,6 +61,10 @@ abbrev pub own_settled : Asked → (status : ℕ) → (head_only : Bool) → Set
 own_settled asked' status head_only =
     record { answered = answered.Not (stop.Closed (why.Own status)); row = Some (own_row_by asked' status head_only) }
 
+abbrev pub refused_settled : Asked → PageRefusal → (head_only : Bool) → Settled
+refused_settled asked' refusal head_only =
+    record { answered = answered.Not (stop.Closed (why.Refused refusal)); row = Some (refusal_row_by asked' refusal head_only) }
+
 abbrev pub stopped_by : SessionStop → Settled
 stopped_by stop' = record { answered = answered.Not stop'; row = None }
 
@@ -82,6 +87,7 @@ IsKnownStop (stop.Closed why.ByClient) = Unit {0}
 IsKnownStop (stop.Closed why.Idle) = Unit {0}
 IsKnownStop (stop.Closed why.Last) = Unit {0}
 IsKnownStop (stop.Closed (why.Own status)) = IsSome (own_of status)
+IsKnownStop (stop.Closed (why.Refused refusal)) = Unit {0}
 IsKnownStop (stop.Closed why.Cut) = Unit {0}
 IsKnownStop (stop.Closed why.Unread) = Unit {0}
 IsKnownStop stop.ClientFault = Unit {0}
@@ -89,12 +95,13 @@ IsKnownStop stop.Truncated = Unit {0}
 IsKnownStop (stop.Stray ticket returned_at) = Unit {0}
 IsKnownStop stop.NoMemory = Unit {0}
 
--- an own answer has a row, and nothing else that isn't whole
+-- an own answer has a row, and a refusal, and nothing else that isn't whole
 abbrev pub settled_by : SessionStop → Asked → (head_only : Bool) → Settled
 settled_by (stop.Closed why.ByClient) asked' head_only = stopped_by (stop.Closed why.ByClient)
 settled_by (stop.Closed why.Idle) asked' head_only = stopped_by (stop.Closed why.Idle)
 settled_by (stop.Closed why.Last) asked' head_only = stopped_by (stop.Closed why.Last)
 settled_by (stop.Closed (why.Own status)) asked' head_only = own_settled asked' status head_only
+settled_by (stop.Closed (why.Refused refusal)) asked' head_only = refused_settled asked' refusal head_only
 settled_by (stop.Closed why.Cut) asked' head_only = stopped_by (stop.Closed why.Cut)
 settled_by (stop.Closed why.Unread) asked' head_only = stopped_by (stop.Closed why.Unread)
 settled_by stop.ClientFault asked' head_only = stopped_by stop.ClientFault

@@ -36,6 +36,7 @@ ReadsLast (stop.Closed why.ByClient) v s n date = ReadsNoMoment s n date ⊎ Rea
 ReadsLast (stop.Closed why.Idle) v s n date = ReadsNoMoment s n date ⊎ ReadsMoment v s n date
 ReadsLast (stop.Closed why.Last) v s n date = ReadsMoment v s n date
 ReadsLast (stop.Closed (why.Own code)) v s n date = ReadsMoment v s n date
+ReadsLast (stop.Closed (why.Refused refusal)) v s n date = ReadsMoment v s n date
 ReadsLast (stop.Closed why.Cut) v s n date = ReadsMoment v s n date
 ReadsLast (stop.Closed why.Unread) v s n date = ReadsMoment v s n date
 ReadsLast stop.ClientFault v s n date = ReadsMoment v s n date

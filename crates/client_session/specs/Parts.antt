@@ -23,6 +23,8 @@ use Rattle.site_config.specs.declared.endpoint.Endpoint.{Endpoint}
 use Rattle.status_page.specs.Mimes.{mime_of}
 use Rattle.status_page.specs.declared.page.PagePart.{PagePart}
 use Rattle.status_worker.specs.Pages.{page_reply, shown_for}
+use Rattle.status_worker.specs.Refusals.{refusal_bytes}
+use Rattle.status_worker.specs.declared.refusal.PageRefusal.{PageRefusal}
 use Rattle.exchange.specs.OneTalk.{plan_on}
 use Rattle.exchange.specs.Requests.{plan_for}
 use Rattle.client_session.specs.Answers.{IsAtStatus, errand_at, own_for}
@@ -78,6 +80,11 @@ IsPageFor v head last talks bytes =
     (status : Status) × (parts : List PagePart) × IsAtStatus v head status × (talks ≡ [])
     × (bytes ≡ page_reply (mime_of head.query) (kind_at v head last) (shown_for status head.query parts))
 
+-- those of the refusal in its place
+abbrev pub IsRefusalFor : Visit → Head → PageRefusal → List Talk → List ℕ → Type 0
+IsRefusalFor v head refusal talks bytes =
+    (status : Status) × IsAtStatus v head status × (talks ≡ []) × (bytes ≡ refusal_bytes refusal (own_kind_at v head))
+
 -- 100 Continue where it is due, and then a whole reply or a page
 abbrev pub IsWholeAnswer : Visit → Head → (last : Bool) → List Talk → List ℕ → Type 0
 IsWholeAnswer v head last talks written =
@@ -88,10 +95,16 @@ abbrev pub IsOwnAnswer : Visit → Head → (status : ℕ) → List ℕ → Type
 IsOwnAnswer v head status written =
     (written ≡ own_for status (own_kind_at v head)) ⊎ (written ≡ continue_for head ++ own_for status (own_kind_at v head))
 
--- 100 Continue where it is due, and then a page
+-- 100 Continue where it is due, and then that refusal
+abbrev pub IsRefusalAnswer : Visit → Head → PageRefusal → List Talk → List ℕ → Type 0
+IsRefusalAnswer v head refusal talks written =
+    (answer : List ℕ) × (written ≡ continue_for head ++ answer) × IsRefusalFor v head refusal talks answer
+
+-- 100 Continue where it is due, and then a page, or a refusal in its place
 abbrev pub IsPageAnswer : Visit → Head → (last : Bool) → List Talk → List ℕ → Type 0
 IsPageAnswer v head last talks written =
-    (page : List ℕ) × (written ≡ continue_for head ++ page) × IsPageFor v head last talks page
+    (answer : List ℕ) × (written ≡ continue_for head ++ answer)
+    × (IsPageFor v head last talks answer ⊎ ((refusal : PageRefusal) × IsRefusalFor v head refusal talks answer))
 
 -- 100 Continue where it is due, and then what messages that came in the last of these talks make of a reply, so far or whole
 abbrev pub IsDueAnswer : Visit → Head → (last : Bool) → List Talk → List ℕ → Type 0
@@ -162,7 +175,7 @@ pub record IsShortOf (front whole : List ℕ) : Type 0 where
   pub joined : whole ≡ front ++ rest
   pub some : rest ≢ []
 
--- the same, where memory was wanted: an own answer or a page isn't whole
+-- the same, where memory was wanted: an own answer, a page or a refusal isn't whole
 abbrev pub IsLessOfAnswer : Visit → (number : ℕ) → List Talk → List ℕ → Type 0
 IsLessOfAnswer v number talks bytes =
     (bytes ≡ [])
@@ -185,6 +198,8 @@ IsLastWritten v number requests (stop.Closed why.Last) talks bytes =
     (requests ≡ number + 1) × ((head : Head) × (is_last number head ≡ true) × IsWholeAnswer v head (is_last number head) talks bytes)
 IsLastWritten v number requests (stop.Closed (why.Own status)) talks bytes =
     (requests ≡ number) × ((bytes ≡ own_for status (refused_kind v.date)) ⊎ ((head : Head) × IsOwnAnswer v head status bytes))
+IsLastWritten v number requests (stop.Closed (why.Refused refusal)) talks bytes =
+    (requests ≡ number) × ((head : Head) × IsRefusalAnswer v head refusal talks bytes)
 IsLastWritten v number requests (stop.Closed why.Cut) talks bytes =
     (requests ≡ number)
     × ((head : Head) × (reply : List ℕ) × IsCutFor v head (is_last number head) talks reply × (bytes ≡ continue_for head ++ reply))

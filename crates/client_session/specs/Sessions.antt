@@ -1,8 +1,8 @@
 -- A session whole: which requests its client's bytes are, what each gives, where it ends and why. Read this first.
 --
 -- It is a chain of standings. Each request leads from one to the next, and what it wrote is added to what the client had.
--- So the client has the parts of its requests joined, in order: 100 Continue where it is due, then a reply, a page or an
--- own answer; and a front of the last part where that broke off.
+-- So the client has the parts of its requests joined, in order: 100 Continue where it is due, then a reply, a page, a refusal
+-- or an own answer; and a front of the last part where that broke off.
 use Rattle.std.specs.Prelude.{ℕ, zero, suc, ◌≡◌, ◌+◌, ◌<◌, ◌⊎◌, true, false, List, [], ◌∷◌, ◌++◌, Option, None}
 use Rattle.jk_io.specs.Told.{IsEmpty, Rose}
 use Rattle.jk_model.specs.declared.served.Asked.TheVariants as asked
@@ -147,6 +147,8 @@ EndsIn v number s n rows requests (stop.Closed why.Last) =
 EndsIn v number s n rows requests (stop.Closed (why.Own code)) =
     (requests ≡ number)
     × ((IsHeadRefused v s n code × (rows ≡ refused_row code ∷ [])) ⊎ IsStopped v number s n rows (stop.Closed (why.Own code)))
+EndsIn v number s n rows requests (stop.Closed (why.Refused refusal)) =
+    (requests ≡ number) × IsStopped v number s n rows (stop.Closed (why.Refused refusal))
 EndsIn v number s n rows requests (stop.Closed why.Cut) =
     (requests ≡ number) × IsStopped v number s n rows (stop.Closed why.Cut)
 EndsIn v number s n rows requests (stop.Closed why.Unread) =

@@ -55,6 +55,7 @@ IsBusyStop (stop.Closed why.ByClient) = Unit {0}
 IsBusyStop (stop.Closed why.Idle) = ⊥
 IsBusyStop (stop.Closed why.Last) = Unit {0}
 IsBusyStop (stop.Closed (why.Own code)) = Unit {0}
+IsBusyStop (stop.Closed (why.Refused refusal)) = Unit {0}
 IsBusyStop (stop.Closed why.Cut) = Unit {0}
 IsBusyStop (stop.Closed why.Unread) = Unit {0}
 IsBusyStop stop.ClientFault = Unit {0}

@@ -1,7 +1,7 @@
 //! What an exchange's end, or a status worker's answer, means to its session.
 ghost use Rattle.std.specs.Prelude.{◌≡◌, [], vec_capacity, IsSome};
 ghost use Rattle.http_out.specs.Own.{own_of};
-ghost use Rattle.client_session.specs.Concluding.{HoldsName, IsConclusion, IsKnownStop, IsMemberRow, IsWithin, cut_settled, own_settled, settled_by};
+ghost use Rattle.client_session.specs.Concluding.{HoldsName, IsConclusion, IsKnownStop, IsMemberRow, IsWithin, cut_settled, own_settled, refused_settled, settled_by};
 
 use crate::ending::{SessionStop, Why};
 use crate::rows::Row;
@@ -9,6 +9,7 @@ use crate::turn::{Answered, Settled, stopped};
 use ajp_talk::Told;
 use exchange::ExchangeEnd;
 use jk_model::{MemberConfig, Served};
+use status_worker::PageRefusal;
 
 /// The row of what a member gave.
 fn member_row(row: Row, members: &[MemberConfig], member: u32, told: Told) -> Served
@@ -72,13 +73,24 @@ fn own(status: u16, head_only: bool, row: Row) -> Settled
     }
 }
 
-/// No page and no reply was written: an own answer, or nothing whole.
+/// The answer to a refused request of a status worker was written.
+fn turned_away(refusal: PageRefusal, head_only: bool, row: Row) -> Settled
+    ensures { result ≡ refused_settled row.asked refusal head_only }
+{
+    Settled {
+        answered: Answered::Not(SessionStop::Closed(Why::Refused(refusal))),
+        row: Some(row.turned_away(refusal, head_only)),
+    }
+}
+
+/// No page and no reply was written: an own answer, a refusal, or nothing whole.
 pub(crate) fn conclude_stop(stop: SessionStop, head_only: bool, row: Row) -> Settled
     requires { IsKnownStop stop }
     ensures { result ≡ settled_by stop row.asked head_only }
 {
     match stop {
         SessionStop::Closed(Why::Own(status)) => own(status, head_only, row),
+        SessionStop::Closed(Why::Refused(refusal)) => turned_away(refusal, head_only, row),
         stop => stopped(stop),
     }
 }

@@ -2,6 +2,8 @@
 ghost use Rattle.std.specs.Prelude.{◌≡◌};
 ghost use Rattle.client_session.specs.Ends.{end_of};
 
+use status_worker::PageRefusal;
+
 /// Why a session that nothing disturbed came to its end.
 #[derive(Clone, Copy, Debug, PartialEq, Eq)]
 pub enum Why {
@@ -13,6 +15,8 @@ pub enum Why {
     Last,
     /// An answer of the connector's own was written, with this status.
     Own(u16),
+    /// A status worker refused the request, and its answer says so.
+    Refused(PageRefusal),
     /// A talk failed, or the client's body was bad, after a byte of the reply was passed.
     Cut,
     /// The rest of a body, after a reply or a page, was bad or too long.

@@ -2,13 +2,16 @@
 ghost use Rattle.std.specs.Prelude.{◌≡◌, ◌≤◌, [], length, vec_capacity, IfOk, IsSome};
 ghost use Rattle.http_out.specs.Own.{own_of};
 ghost use Rattle.jk_model.specs.declared.served.Asked.TheVariants as asked_is;
+ghost use Rattle.status_worker.specs.Pages.{sent_of};
+ghost use Rattle.status_worker.specs.Refusals.{refusal_body};
 ghost use Rattle.client_session.specs.Answers.{own_len as own_length};
-ghost use Rattle.client_session.specs.Rows.{IsRowOf, own_row_by, worker_row};
+ghost use Rattle.client_session.specs.Rows.{IsRowOf, own_row_by, refusal_row_by, worker_row};
 
 use http_front::Head;
 use http_out::own_body;
 use jk_io::{Bytes, NoMemory};
 use jk_model::{Asked, Served};
+use status_worker::PageRefusal;
 use std::alloc::Global;
 
 /// The length of an own answer's body.
@@ -22,6 +25,16 @@ fn own_len(status: u16, head_only: bool) -> u64
     own_body(status).len() as u64
 }
 
+/// The length of a refusal's body, as much of it as is sent.
+fn refusal_len(refusal: PageRefusal, head_only: bool) -> u64
+    ensures { result ≡ length (sent_of head_only (refusal_body refusal)) }
+{
+    if head_only {
+        return 0;
+    }
+    refusal.body().len() as u64
+}
+
 /// A row under way: what was asked for, and memory for the worker's name.
 #[derive(Drop)]
 pub struct Row {
@@ -33,7 +46,7 @@ impl Row {
     ghost use Rattle.std.specs.Prelude.{◌≡◌, ◌≤◌, [], length, vec_capacity, IfOk, IsSome};
     ghost use Rattle.http_out.specs.Own.{own_of};
     ghost use Rattle.jk_model.specs.declared.served.Asked.TheVariants as asked_is;
-    ghost use Rattle.client_session.specs.Rows.{IsRowOf, own_row_by, worker_row};
+    ghost use Rattle.client_session.specs.Rows.{IsRowOf, own_row_by, refusal_row_by, worker_row};
 
     /// The row of a refused head.
     pub(crate) fn refused(alloc: Global) -> Row
@@ -87,6 +100,19 @@ impl Row {
             asked,
             status,
             body: own_len(status, head_only),
+            worker: None,
+        }
+    }
+
+    /// The row of a status worker's request that was refused.
+    pub(crate) fn turned_away(self, refusal: PageRefusal, head_only: bool) -> Served
+        ensures { result ≡ refusal_row_by self.asked refusal head_only }
+    {
+        let Row { asked, name: _ } = self;
+        Served {
+            asked,
+            status: refusal.code(),
+            body: refusal_len(refusal, head_only),
             worker: None,
         }
     }

@@ -11,7 +11,7 @@ ghost use Rattle.client_session.specs.Surroundings.{SendsPage, Shows, standing_o
 use crate::ending::SessionStop;
 use crate::inquiry::{Inquiry, kind_of, own_kind_of};
 use crate::surroundings::Sitting;
-use crate::writing::{send, write_own};
+use crate::writing::{send, write_refusal};
 use balancer_core::Desk;
 use jk_io::{Clock, Link, Reach, Sink};
 use site_config::Status;
@@ -42,7 +42,9 @@ where
     };
     match change(alloc, &asked, around.desk, around.clock) {
         Ok(only) => send_page(alloc, of, status, only, around.desk, around.client),
-        Err(NoPage::Own(code)) => Err(write_own(code, own_kind_of(of), around.client)),
+        Err(NoPage::Refused(refusal)) => {
+            Err(write_refusal(refusal, own_kind_of(of), around.client))
+        }
         Err(NoPage::NoMemory) => Err(SessionStop::NoMemory),
     }
 }

@@ -2,12 +2,13 @@
 ghost use Rattle.std.specs.Prelude.{◌≡◌, IsSome};
 ghost use Rattle.http_out.specs.Own.{own_of};
 ghost use Rattle.client_session.specs.Standings.{client_at};
-ghost use Rattle.client_session.specs.Writing.{WritesOwn, WritesPart, stop_by};
+ghost use Rattle.client_session.specs.Writing.{WritesOwn, WritesPart, WritesRefusal, stop_by};
 
 use crate::ending::{SessionStop, Why};
 use exchange::deliver;
 use http_out::{OwnKind, own_answer};
 use jk_io::{IoError, Sink};
+use status_worker::{PageRefusal, refusal_answer};
 
 /// Why a write to the client ended the session.
 fn stop_of(error: IoError) -> SessionStop
@@ -38,6 +39,21 @@ pub(crate) fn write_own<C: Sink>(status: u16, kind: OwnKind, client: &mut C) -> 
 {
     match deliver(client, own_answer(status, kind).as_slice()) {
         Ok(()) => SessionStop::Closed(Why::Own(status)),
+        Err(error) => stop_of(error),
+    }
+}
+
+/// Writes the answer to a refused request of a status worker, after which the session ends.
+pub(crate) fn write_refusal<C: Sink>(
+    refusal: PageRefusal,
+    kind: OwnKind,
+    client: &mut C,
+) -> SessionStop
+    ensures refusal { WritesRefusal refusal kind (client_at C.Meanings client.old) (client_at C.Meanings client.new) result }
+    ensures beside { C.beside client.new ≡ C.beside client.old }
+{
+    match deliver(client, refusal_answer(refusal, kind).as_slice()) {
+        Ok(()) => SessionStop::Closed(Why::Refused(refusal)),
         Err(error) => stop_of(error),
     }
 }

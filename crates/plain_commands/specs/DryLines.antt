@@ -3,6 +3,7 @@ use Rattle.std.specs.Prelude.{ℕ, List, [], ◌∷◌, ◌++◌, length, Option
 use Rattle.std.specs.List.{flat_map}
 use Rattle.hex.specs.Hex.{encode_lower}
 use Rattle.jk_io.specs.declared.reaching.Talk.{Talk}
+use Rattle.status_worker.specs.Refusals.{code_of}
 use Rattle.client_session.specs.declared.ending.SessionEnd.{SessionEnd}
 use Rattle.client_session.specs.declared.ending.SessionStop.{SessionStop}
 use Rattle.client_session.specs.declared.ending.SessionStop.TheVariants as stop
@@ -22,12 +23,14 @@ bytes_line to bytes = to ++ decimal (length bytes) ++ codes " " ++ hex_or_dash b
 abbrev pub sent_in : List Talk → List ℕ
 sent_in talks = flat_map (λ t. t.sent) talks
 
--- why the session was closed and after how many requests; none where its client waits
+-- why the session was closed and after how many requests; none where its client waits. A refusal is told as an own answer of its
+-- status.
 abbrev pub why_words : Why → (requests : ℕ) → Option (List ℕ)
 why_words why.ByClient requests = Some (codes "by-client " ++ decimal requests)
 why_words why.Idle requests = None
 why_words why.Last requests = Some (codes "last " ++ decimal requests)
 why_words (why.Own status) requests = Some (codes "own-" ++ decimal status ++ codes " " ++ decimal requests)
+why_words (why.Refused refusal) requests = Some (codes "own-" ++ decimal (code_of refusal) ++ codes " " ++ decimal requests)
 why_words why.Cut requests = Some (codes "cut " ++ decimal requests)
 why_words why.Unread requests = Some (codes "unread " ++ decimal requests)
 

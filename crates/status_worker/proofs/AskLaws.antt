@@ -9,11 +9,12 @@ use Rattle.status_page.specs.BookCommands.{commands_for}
 use Rattle.status_page.specs.Effects.{is_change}
 use Rattle.status_page.specs.Meaning.{meaning_of}
 use Rattle.status_page.specs.declared.command.StatusCommand.{StatusCommand}
-use Rattle.status_worker.specs.Asking.{AsksBy, IfCode, IsNamedBalancer, IsRefusedBy}
+use Rattle.status_worker.specs.Asking.{AsksBy, IfRefused, IsNamedBalancer, IsRefusedBy}
 use Rattle.status_worker.specs.Commands.{Asks, AsksOpen, IsAllowed, IsRefused, IsRefusedOpen, IsWorkFor, NamesNone}
 use Rattle.status_worker.specs.declared.asking.NoPage.{NoPage}
 use Rattle.status_worker.specs.declared.asking.NoPage.TheVariants as no_page
 use Rattle.status_worker.specs.declared.asking.Work.{Work}
+use Rattle.status_worker.specs.declared.refusal.PageRefusal.{PageRefusal}
 
 -- a change that isn't forbidden is allowed, as is what changes nothing
 pub allowed : (status : Status) (c : StatusCommand) → (is_change c && status.read_only) ≡ false → IsAllowed status c
@@ -24,13 +25,13 @@ allowed status c is = by_tests (is_change c) status.read_only is
     by_tests true false e = inr refl
     by_tests true true e = absurd cc
 
-pub forbidden : (cfg : Config) (status : Status) (c : StatusCommand) → (is_change c && status.read_only) ≡ true → IsRefusedBy cfg status c 403
+pub forbidden : (cfg : Config) (status : Status) (c : StatusCommand) → (is_change c && status.read_only) ≡ true → IsRefusedBy cfg status c PageRefusal.ReadOnly
 forbidden cfg status c is = let both = and_parts (is_change c) status.read_only is in inl (refl, both.0, both.1)
 
 -- the query means no command
 pub means_none : (cfg : Config) (status : Status) (query : Option (List ℕ)) (why : NoPage)
-    → IfCode (λ code. (code ≡ 400) × (meaning_of query ≡ None)) why → IfCode (IsRefusedOpen cfg status query) why
-means_none cfg status query (no_page.Own code) bad = inl bad
+    → IfRefused (λ x. (x ≡ PageRefusal.BadQuery) × (meaning_of query ≡ None)) why → IfRefused (IsRefusedOpen cfg status query) why
+means_none cfg status query (no_page.Refused refusal) bad = inl bad
 means_none cfg status query no_page.NoMemory bad = tt
 
 pub works_for : (cfg : Config) (c : StatusCommand) (place : ℕ) (mine : Lb) (work : Work) (named : IsNamedBalancer cfg c (Some place)) → mine ≡ named.1
@@ -67,17 +68,17 @@ all_within cfg c (Err why) works = tt
 
 -- a name is nobody's
 pub none_named : (cfg : Config) (status : Status) (c : StatusCommand) (r : Result Work NoPage) → (is_change c && status.read_only) ≡ false
-    → IfErr r (IfCode (λ code. (code ≡ 404) × NamesNone cfg c)) → IfErr r (IfCode (IsRefusedBy cfg status c))
+    → IfErr r (IfRefused (λ x. (x ≡ PageRefusal.UnknownName) × NamesNone cfg c)) → IfErr r (IfRefused (IsRefusedBy cfg status c))
 none_named cfg status c (Ok work) may none = tt
-none_named cfg status c (Err (no_page.Own code)) may none = inr (none.0, allowed status c may, none.1)
+none_named cfg status c (Err (no_page.Refused refusal)) may none = inr (none.0, allowed status c may, none.1)
 none_named cfg status c (Err no_page.NoMemory) may none = tt
 
 -- why the command isn't done is why the query isn't
 pub refused : (cfg : Config) (status : Status) (query : Option (List ℕ)) (c : StatusCommand) (r : Result Work NoPage) → meaning_of query ≡ Some c
-    → IfErr r (IfCode (IsRefusedBy cfg status c)) → IfErr r (IfCode (IsRefusedOpen cfg status query))
+    → IfErr r (IfRefused (IsRefusedBy cfg status c)) → IfErr r (IfRefused (IsRefusedOpen cfg status query))
 refused cfg status query c (Ok work) means why = tt
-refused cfg status query c (Err (no_page.Own code)) means (inl change) = inr (inl (c, change.0, means, change.1, change.2))
-refused cfg status query c (Err (no_page.Own code)) means (inr name) = inr (inr (c, name.0, means, name.1, name.2))
+refused cfg status query c (Err (no_page.Refused refusal)) means (inl change) = inr (inl (c, change.0, means, change.1, change.2))
+refused cfg status query c (Err (no_page.Refused refusal)) means (inr name) = inr (inr (c, name.0, means, name.1, name.2))
 refused cfg status query c (Err no_page.NoMemory) means why = tt
 
 -- ---- an open status worker
@@ -88,7 +89,7 @@ open_asks cfg status query (Ok work) open' asks = (open', asks)
 open_asks cfg status query (Err why) open' asks = tt
 
 pub open_refuses : (cfg : Config) (status : Status) (query : Option (List ℕ)) (r : Result Work NoPage) → status.closed ≡ false
-    → IfErr r (IfCode (IsRefusedOpen cfg status query)) → IfErr r (IfCode (IsRefused cfg status query))
+    → IfErr r (IfRefused (IsRefusedOpen cfg status query)) → IfErr r (IfRefused (IsRefused cfg status query))
 open_refuses cfg status query (Ok work) open' why = tt
-open_refuses cfg status query (Err (no_page.Own code)) open' why = inr (open', why)
+open_refuses cfg status query (Err (no_page.Refused refusal)) open' why = inr (open', why)
 open_refuses cfg status query (Err no_page.NoMemory) open' why = tt

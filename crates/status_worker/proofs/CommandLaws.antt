@@ -8,8 +8,8 @@ use Rattle.jk_model.specs.declared.refusal.AdminError.TheVariants as admin
 use Rattle.jk_model.specs.declared.refusal.FullMark.{FullMark}
 use Rattle.site_config.specs.declared.config.Config.{Config}
 use Rattle.site_config.specs.declared.config.Status.{Status}
-use Rattle.status_worker.specs.Asking.{IfCode}
-use Rattle.status_worker.specs.Commanding.{FailsChange, FailsOne, FailsWork, IsPageCode, no_page_by}
+use Rattle.status_worker.specs.Asking.{IfRefused}
+use Rattle.status_worker.specs.Commanding.{FailsChange, FailsOne, FailsWork, no_page_by}
 use Rattle.status_worker.specs.Commands.{Asks, Does, DoesAll, IsRefused, StopsAt, TurnsAway}
 use Rattle.status_worker.specs.Desks.{DeskSide}
 use Rattle.status_worker.specs.declared.asking.NoPage.{NoPage}
@@ -22,24 +22,18 @@ does_one_more session lb [] c s mid n before more = (n, subst (λ (d : DeskSide)
 does_one_more session lb (first ∷ done) c s mid n before more =
     (before.0, before.1, does_one_more session lb done c before.0 mid n before.2 more)
 
-pub refused_known : (cfg : Config) (status : Status) (query : Option (List ℕ)) (code : ℕ) → IsRefused cfg status query code → IsPageCode code
-refused_known cfg status query code (inl closed') = inr (inl closed'.0)
-refused_known cfg status query code (inr (open', inl bad)) = inl bad.0
-refused_known cfg status query code (inr (open', inr (inl forbidden))) = inr (inl forbidden.1)
-refused_known cfg status query code (inr (open', inr (inr unknown))) = inr (inr (inl unknown.1))
-
 -- nothing was asked
-pub unasked : (cfg : Config) (session : ℕ) (status : Status) (query : Option (List ℕ)) (s : DeskSide) (why : NoPage) → IfCode (IsRefused cfg status query) why
+pub unasked : (cfg : Config) (session : ℕ) (status : Status) (query : Option (List ℕ)) (s : DeskSide) (why : NoPage) → IfRefused (IsRefused cfg status query) why
     → FailsChange cfg session status query s s why
-unasked cfg session status query s (no_page.Own code) refused = (inl (refused, refl), refused_known cfg status query code refused)
+unasked cfg session status query s (no_page.Refused refusal) refused = inl (refused, refl)
 unasked cfg session status query s no_page.NoMemory refused = inl refl
 
 stopped : (cfg : Config) (session : ℕ) (status : Status) (query : Option (List ℕ)) (work : Work) (s n : DeskSide) (error : AdminError FullMark)
     → Asks cfg status query work → StopsAt session work s n error → FailsChange cfg session status query s n (no_page_by error)
-stopped cfg session status query work s n admin.UnknownMember asks stops = (inr (work, admin.UnknownMember, asks, stops, refl), inr (inr (inl refl)))
-stopped cfg session status query work s n admin.BadValue asks stops = (inr (work, admin.BadValue, asks, stops, refl), inl refl)
-stopped cfg session status query work s n (admin.TooWide mark) asks stops = (inr (work, admin.TooWide mark, asks, stops, refl), inl refl)
-stopped cfg session status query work s n (admin.Full mark) asks stops = (inr (work, admin.Full mark, asks, stops, refl), inr (inr (inr refl)))
+stopped cfg session status query work s n admin.UnknownMember asks stops = inr (work, admin.UnknownMember, asks, stops, refl)
+stopped cfg session status query work s n admin.BadValue asks stops = inr (work, admin.BadValue, asks, stops, refl)
+stopped cfg session status query work s n (admin.TooWide mark) asks stops = inr (work, admin.TooWide mark, asks, stops, refl)
+stopped cfg session status query work s n (admin.Full mark) asks stops = inr (work, admin.Full mark, asks, stops, refl)
 stopped cfg session status query work s n admin.NoMemory asks stops = inr (work, asks, stops)
 
 -- a command was refused

@@ -9,11 +9,12 @@ use Rattle.status_worker.specs.Commands.{IsAllowed, IsNamed, IsWorkFor, NamesNon
 use Rattle.status_worker.specs.declared.asking.NoPage.{NoPage}
 use Rattle.status_worker.specs.declared.asking.NoPage.TheVariants as no_page
 use Rattle.status_worker.specs.declared.asking.Work.{Work}
+use Rattle.status_worker.specs.declared.refusal.PageRefusal.{PageRefusal}
 
--- P holds of the status of an own answer
-abbrev pub IfCode : (ℕ → Type 0) → NoPage → Type 0
-IfCode P (no_page.Own code) = P code
-IfCode P no_page.NoMemory = Unit {0}
+-- P holds of why the request is refused
+abbrev pub IfRefused : (PageRefusal → Type 0) → NoPage → Type 0
+IfRefused P (no_page.Refused why) = P why
+IfRefused P no_page.NoMemory = Unit {0}
 
 -- the place of the balancer that the command names, or none where it names none
 abbrev pub IsNamedBalancer : Config → StatusCommand → Option ℕ → Type 0
@@ -24,8 +25,8 @@ IsNamedBalancer cfg c (Some place) = (name : List ℕ) × (lb : Lb) × (worker_o
 abbrev pub AsksBy : Config → Status → StatusCommand → Work → Type 0
 AsksBy cfg status c work = IsAllowed status c × IsWorkFor cfg c work
 
--- why it is not done: 403 for a change where the worker is read only, then 404 for a name that is nobody's
-abbrev pub IsRefusedBy : Config → Status → StatusCommand → (code : ℕ) → Type 0
-IsRefusedBy cfg status c code =
-    ((code ≡ 403) × (is_change c ≡ true) × (status.read_only ≡ true))
-    ⊎ ((code ≡ 404) × IsAllowed status c × NamesNone cfg c)
+-- why it is not done: it is a change and the worker is read only; or else a name is nobody's
+abbrev pub IsRefusedBy : Config → Status → StatusCommand → PageRefusal → Type 0
+IsRefusedBy cfg status c why =
+    ((why ≡ PageRefusal.ReadOnly) × (is_change c ≡ true) × (status.read_only ≡ true))
+    ⊎ ((why ≡ PageRefusal.UnknownName) × IsAllowed status c × NamesNone cfg c)

@@ -1,5 +1,5 @@
 -- The ways out of a status worker's commands.
-use Rattle.std.specs.Prelude.{ℕ, ◌≡◌, ◌⊎◌, List, Option}
+use Rattle.std.specs.Prelude.{ℕ, ◌≡◌, List, Option}
 use Rattle.jk_model.specs.declared.change.Command.{Command}
 use Rattle.jk_model.specs.declared.refusal.AdminError.{AdminError}
 use Rattle.jk_model.specs.declared.refusal.AdminError.TheVariants as admin
@@ -11,18 +11,15 @@ use Rattle.status_worker.specs.Desks.{DeskSide}
 use Rattle.status_worker.specs.declared.asking.NoPage.{NoPage}
 use Rattle.status_worker.specs.declared.asking.NoPage.TheVariants as no_page
 use Rattle.status_worker.specs.declared.asking.Work.{Work}
+use Rattle.status_worker.specs.declared.refusal.PageRefusal.{PageRefusal}
 use Rattle.status_worker.specs.declared.request.PageRequest.{PageRequest}
-
--- a status of an own answer in a page's place
-abbrev pub IsPageCode : ℕ → Type 0
-IsPageCode code = (code ≡ 400) ⊎ ((code ≡ 403) ⊎ ((code ≡ 404) ⊎ (code ≡ 500)))
 
 -- what a command's refusal makes of the request
 abbrev pub no_page_by : {M : Type 0} → AdminError M → NoPage
-no_page_by admin.UnknownMember = no_page.Own 404
-no_page_by admin.BadValue = no_page.Own 400
-no_page_by (admin.TooWide mark) = no_page.Own 400
-no_page_by (admin.Full mark) = no_page.Own 500
+no_page_by admin.UnknownMember = no_page.Refused PageRefusal.UnknownName
+no_page_by admin.BadValue = no_page.Refused PageRefusal.BadValue
+no_page_by (admin.TooWide mark) = no_page.Refused PageRefusal.TooWide
+no_page_by (admin.Full mark) = no_page.Refused PageRefusal.Full
 no_page_by admin.NoMemory = no_page.NoMemory
 
 -- the command was refused, with what that makes of the request
@@ -35,7 +32,7 @@ FailsWork session work s n why = (error : AdminError FullMark) × StopsAt sessio
 
 -- there is no page
 abbrev pub FailsChange : Config → (session : ℕ) → Status → (query : Option (List ℕ)) → DeskSide → DeskSide → NoPage → Type 0
-FailsChange cfg session status query s n (no_page.Own code) = TurnsAway cfg session status query s n code × IsPageCode code
+FailsChange cfg session status query s n (no_page.Refused refusal) = TurnsAway cfg session status query s n refusal
 FailsChange cfg session status query s n no_page.NoMemory = IsBroken cfg session status query s n
 
 -- what a request asks for was done

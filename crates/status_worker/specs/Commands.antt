@@ -17,6 +17,7 @@ use Rattle.status_page.specs.Meaning.{meaning_of}
 use Rattle.status_page.specs.declared.command.StatusCommand.{StatusCommand}
 use Rattle.status_worker.specs.Desks.{DeskSide}
 use Rattle.status_worker.specs.declared.asking.Work.{Work}
+use Rattle.status_worker.specs.declared.refusal.PageRefusal.{PageRefusal}
 
 -- ---- what a query asks for
 
@@ -52,18 +53,18 @@ NamesNone cfg c =
     × (((place : ℕ) → named_among name cfg.listed ≡ Some (named.Balancer place) → ⊥)
     ⊎ ((place : ℕ) × (lb : Lb) × IsNamed cfg name place lb × (commands_for lb.book.members c ≡ None)))
 
--- Why nothing is asked of an open one, in this order: 400 where the query means no command, 403 for a change where the worker
--- is read only, 404 for a name that is no balancer's or no member's.
-abbrev pub IsRefusedOpen : Config → Status → (query : Option (List ℕ)) → (code : ℕ) → Type 0
-IsRefusedOpen cfg status query code =
-    ((code ≡ 400) × (meaning_of query ≡ None))
-    ⊎ (((c : StatusCommand) × (code ≡ 403) × (meaning_of query ≡ Some c) × (is_change c ≡ true) × (status.read_only ≡ true))
-    ⊎ ((c : StatusCommand) × (code ≡ 404) × (meaning_of query ≡ Some c) × IsAllowed status c × NamesNone cfg c))
+-- Why nothing is asked of an open one, in this order: the query means no command; it is a change and the worker is read only;
+-- a name is no balancer's or no member's.
+abbrev pub IsRefusedOpen : Config → Status → (query : Option (List ℕ)) → PageRefusal → Type 0
+IsRefusedOpen cfg status query why =
+    ((why ≡ PageRefusal.BadQuery) × (meaning_of query ≡ None))
+    ⊎ (((c : StatusCommand) × (why ≡ PageRefusal.ReadOnly) × (meaning_of query ≡ Some c) × (is_change c ≡ true) × (status.read_only ≡ true))
+    ⊎ ((c : StatusCommand) × (why ≡ PageRefusal.UnknownName) × (meaning_of query ≡ Some c) × IsAllowed status c × NamesNone cfg c))
 
--- Why nothing is asked: 403 for each request of a closed status worker, and else for what the query says.
-abbrev pub IsRefused : Config → Status → (query : Option (List ℕ)) → (code : ℕ) → Type 0
-IsRefused cfg status query code =
-    ((code ≡ 403) × (status.closed ≡ true)) ⊎ ((status.closed ≡ false) × IsRefusedOpen cfg status query code)
+-- Why nothing is asked: the status worker is closed, whatever the query says; and else for what the query says.
+abbrev pub IsRefused : Config → Status → (query : Option (List ℕ)) → PageRefusal → Type 0
+IsRefused cfg status query why =
+    ((why ≡ PageRefusal.Closed) × (status.closed ≡ true)) ⊎ ((status.closed ≡ false) × IsRefusedOpen cfg status query why)
 
 -- ---- how it is done
 
@@ -105,19 +106,19 @@ pub record StopsAt (session : ℕ) (work : Work) (s n : DeskSide) (error : Admin
   pub worked : DoesAll session lb done s mid
   pub stops : RefusesOne session lb refused mid n error
 
--- the status of the answer to a refused command
-abbrev pub status_of : AdminError FullMark → Option ℕ
-status_of admin.UnknownMember = Some 404
-status_of admin.BadValue = Some 400
-status_of (admin.TooWide mark) = Some 400
-status_of (admin.Full mark) = Some 500
-status_of admin.NoMemory = None
+-- why the request of a refused command is refused
+abbrev pub refusal_by : AdminError FullMark → Option PageRefusal
+refusal_by admin.UnknownMember = Some PageRefusal.UnknownName
+refusal_by admin.BadValue = Some PageRefusal.BadValue
+refusal_by (admin.TooWide mark) = Some PageRefusal.TooWide
+refusal_by (admin.Full mark) = Some PageRefusal.Full
+refusal_by admin.NoMemory = None
 
 -- Why there is no page: nothing is asked, or a command was refused.
-abbrev pub TurnsAway : Config → (session : ℕ) → Status → (query : Option (List ℕ)) → DeskSide → DeskSide → (code : ℕ) → Type 0
-TurnsAway cfg session status query s n code =
-    (IsRefused cfg status query code × (n ≡ s))
-    ⊎ ((work : Work) × (error : AdminError FullMark) × Asks cfg status query work × StopsAt session work s n error × (status_of error ≡ Some code))
+abbrev pub TurnsAway : Config → (session : ℕ) → Status → (query : Option (List ℕ)) → DeskSide → DeskSide → PageRefusal → Type 0
+TurnsAway cfg session status query s n why =
+    (IsRefused cfg status query why × (n ≡ s))
+    ⊎ ((work : Work) × (error : AdminError FullMark) × Asks cfg status query work × StopsAt session work s n error × (refusal_by error ≡ Some why))
 
 -- What was asked was done whole.
 abbrev pub IsDone : Config → (session : ℕ) → Status → (query : Option (List ℕ)) → DeskSide → DeskSide → (only : Option ℕ) → Type 0

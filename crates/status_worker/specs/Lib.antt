@@ -1,4 +1,5 @@
 pub mod Desks
+pub mod Refusals
 pub mod Commands
 pub mod Pages
 pub mod Asking

@@ -2,9 +2,10 @@
 ghost use Rattle.std.specs.Prelude.{◌≡◌, ◌<◌, ◌&&◌, None, Some, length, IfOk, IfErr, IfSome};
 ghost use Rattle.status_page.specs.Effects.{is_change};
 ghost use Rattle.status_page.specs.Meaning.{meaning_of};
-ghost use Rattle.status_worker.specs.Asking.{AsksBy, IfCode, IsNamedBalancer, IsRefusedBy};
+ghost use Rattle.status_worker.specs.Asking.{AsksBy, IfRefused, IsNamedBalancer, IsRefusedBy};
 ghost use Rattle.status_worker.specs.Commands.{Asks, AsksOpen, IsRefused, IsRefusedOpen, IsWorkFor, NamesNone};
 
+use crate::refusal::PageRefusal;
 use jk_io::{Bytes, NoMemory};
 use site_config::{Config, Named, Status};
 use status_page::{CommandList, StatusCommand, StatusError, commands_for, read_command};
@@ -13,8 +14,8 @@ use std::alloc::Global;
 /// Why a status worker's request gets no page.
 #[derive(Clone, Copy, PartialEq, Eq)]
 pub enum NoPage {
-    /// An own answer with this status.
-    Own(u16),
+    /// The request is refused, and its answer says why.
+    Refused(PageRefusal),
     NoMemory,
 }
 
@@ -41,7 +42,7 @@ pub struct Work {
 /// The command that a query means.
 fn read_query(alloc: Global, query: &Option<Bytes>) -> Result<StatusCommand, NoPage>
     ensures ok { IfOk result (λ c. meaning_of query.now ≡ Some c) }
-    ensures err { IfErr result (IfCode (λ code. (code ≡ 400) × (meaning_of query.now ≡ None))) }
+    ensures err { IfErr result (IfRefused (λ why. (why ≡ PageRefusal.BadQuery) × (meaning_of query.now ≡ None))) }
 {
     let read = match query {
         None => read_command(alloc, None),
@@ -49,7 +50,7 @@ fn read_query(alloc: Global, query: &Option<Bytes>) -> Result<StatusCommand, NoP
     };
     match read {
         Ok(command) => Ok(command),
-        Err(StatusError::BadQuery) => Err(NoPage::Own(400)),
+        Err(StatusError::BadQuery) => Err(NoPage::Refused(PageRefusal::BadQuery)),
         Err(StatusError::NoMemory) => Err(NoPage::NoMemory),
     }
 }
@@ -57,21 +58,21 @@ fn read_query(alloc: Global, query: &Option<Bytes>) -> Result<StatusCommand, NoP
 /// The balancer that a command names; none where it names none.
 fn named_balancer(cfg: &Config, command: &StatusCommand) -> Result<Option<u32>, NoPage>
     ensures ok { IfOk result (IsNamedBalancer cfg.now command.now) }
-    ensures err { IfErr result (IfCode (λ code. (code ≡ 404) × NamesNone cfg.now command.now)) }
+    ensures err { IfErr result (IfRefused (λ why. (why ≡ PageRefusal.UnknownName) × NamesNone cfg.now command.now)) }
 {
     let Some(name) = command.worker() else {
         return Ok(None);
     };
     match cfg.find(name.as_slice()) {
         Some(Named::Balancer(lb)) => Ok(Some(lb)),
-        Some(Named::Status(_)) | None => Err(NoPage::Own(404)),
+        Some(Named::Status(_)) | None => Err(NoPage::Refused(PageRefusal::UnknownName)),
     }
 }
 
 /// What a command asks for.
 fn work_for(alloc: Global, cfg: &Config, command: &StatusCommand) -> Result<Work, NoPage>
     ensures ok { IfOk result (IsWorkFor cfg.now command.now) }
-    ensures err { IfErr result (IfCode (λ code. (code ≡ 404) × NamesNone cfg.now command.now)) }
+    ensures err { IfErr result (IfRefused (λ why. (why ≡ PageRefusal.UnknownName) × NamesNone cfg.now command.now)) }
 {
     let only = named_balancer(cfg, command)?;
     let Some(lb) = only else {
@@ -82,7 +83,7 @@ fn work_for(alloc: Global, cfg: &Config, command: &StatusCommand) -> Result<Work
     };
     match commands_for(alloc, &cfg.lbs.as_slice()[lb as usize].book, command)? {
         Some(commands) => Ok(Work { only, commands }),
-        None => Err(NoPage::Own(404)),
+        None => Err(NoPage::Refused(PageRefusal::UnknownName)),
     }
 }
 
@@ -102,15 +103,16 @@ fn work_by(
 ) -> Result<Work, NoPage>
     ensures ok { IfOk result (AsksBy cfg.now status.now command.now) }
     ensures within { IfOk result (λ work. IfSome work.only (λ lb. lb < length cfg.now.lbs)) }
-    ensures err { IfErr result (IfCode (IsRefusedBy cfg.now status.now command.now)) }
+    ensures err { IfErr result (IfRefused (IsRefusedBy cfg.now status.now command.now)) }
 {
     if is_forbidden(status, command) {
-        return Err(NoPage::Own(403));
+        return Err(NoPage::Refused(PageRefusal::ReadOnly));
     }
     work_for(alloc, cfg, command)
 }
 
-/// What a request of an open status worker asks for, or the first refusal: 400, 403, 404.
+/// What a request of an open status worker asks for, or the first refusal: of its query, of a change where it is read only,
+/// of a name.
 fn open_work(
     alloc: Global,
     cfg: &Config,
@@ -119,7 +121,7 @@ fn open_work(
 ) -> Result<Work, NoPage>
     ensures ok { IfOk result (AsksOpen cfg.now status.now query.now) }
     ensures within { IfOk result (λ work. IfSome work.only (λ lb. lb < length cfg.now.lbs)) }
-    ensures err { IfErr result (IfCode (IsRefusedOpen cfg.now status.now query.now)) }
+    ensures err { IfErr result (IfRefused (IsRefusedOpen cfg.now status.now query.now)) }
 {
     let command = read_query(alloc, query)?;
     work_by(alloc, cfg, status, &command)
@@ -134,10 +136,10 @@ pub(crate) fn work_of(
 ) -> Result<Work, NoPage>
     ensures ok { IfOk result (Asks cfg.now status.now query.now) }
     ensures within { IfOk result (λ work. IfSome work.only (λ lb. lb < length cfg.now.lbs)) }
-    ensures err { IfErr result (IfCode (IsRefused cfg.now status.now query.now)) }
+    ensures err { IfErr result (IfRefused (IsRefused cfg.now status.now query.now)) }
 {
     if status.closed {
-        return Err(NoPage::Own(403));
+        return Err(NoPage::Refused(PageRefusal::Closed));
     }
     open_work(alloc, cfg, status, query)
 }

@@ -6,6 +6,7 @@ ghost use Rattle.status_worker.specs.Commanding.{FailsFor, FailsOne, FailsWork, 
 ghost use Rattle.status_worker.specs.Desks.{KeepsTickets, desk_side, members_in};
 
 use crate::asking::{NoPage, Work, work_of};
+use crate::refusal::PageRefusal;
 use crate::request::PageRequest;
 use balancer_core::Desk;
 use jk_io::Clock;
@@ -17,9 +18,10 @@ fn no_page<M: Drop>(error: AdminError<M>) -> NoPage
     ensures { result ≡ no_page_by error }
 {
     match error {
-        AdminError::UnknownMember => NoPage::Own(404),
-        AdminError::BadValue | AdminError::TooWide(_) => NoPage::Own(400),
-        AdminError::Full(_) => NoPage::Own(500),
+        AdminError::UnknownMember => NoPage::Refused(PageRefusal::UnknownName),
+        AdminError::BadValue => NoPage::Refused(PageRefusal::BadValue),
+        AdminError::TooWide(_) => NoPage::Refused(PageRefusal::TooWide),
+        AdminError::Full(_) => NoPage::Refused(PageRefusal::Full),
         AdminError::NoMemory => NoPage::NoMemory,
     }
 }

@@ -65,6 +65,7 @@ fn put_why(out: &mut Bytes, why: Why, requests: u32) -> Result<(), NoMemory>
         Why::ByClient => put_number(out, b"by-client ", requests),
         Why::Last => put_number(out, b"last ", requests),
         Why::Own(status) => put_own(out, status, requests),
+        Why::Refused(refusal) => put_own(out, refusal.code(), requests),
         Why::Cut => put_number(out, b"cut ", requests),
         Why::Unread => put_number(out, b"unread ", requests),
         Why::Idle => Err(NoMemory),

@@ -1,4 +1,4 @@
--- The commands were done or refused, and then a page or an own answer was written, or a front of it.
+-- The commands were done or refused, and then a page or a refusal was written, or a front of it.
 use Rattle.std.proofs.Common.{refl, sym, subst, ◌∙◌}
 use Rattle.balancer_core.specs.Desks.{DeskState, MeetsNone}
 use Rattle.status_worker.specs.Desks.{KeepsTickets, desk_side}
@@ -6,9 +6,9 @@ use Rattle.client_session.specs.Requests.{visit_in}
 use Rattle.client_session.specs.Standings.{client_at}
 use Rattle.client_session.specs.Surroundings.{standing_of}
 use Rattle.client_session.proofs.KeepingLaws.{keeps_by}
-use Rattle.client_session.proofs.StatusLaws.{never_done, own_answered, page_code, page_sent}
+use Rattle.client_session.proofs.StatusLaws.{never_done, page_sent, refusal_answered}
 use Rattle.client_session.proofs.SurroundingsLaws.{no_fewer_at}
-use Rattle.client_session.proofs.WritingLaws.{own_no_fewer}
+use Rattle.client_session.proofs.WritingLaws.{refusal_no_fewer}
 use Rattle.client_session.proofs.status.serve_status.Goals as goal
 
 pub returns-in-Ok-clause-answer : goal.returns-in-Ok-clause-answer
@@ -20,12 +20,12 @@ returns-in-Ok-clause-answer g c =
 pub returns-in-Ok-clause-met : goal.returns-in-Ok-clause-met
 returns-in-Ok-clause-met g c = subst (λ (d : DeskState). MeetsNone (g.B.Desk.state c.args.around.now.desk.now) d) (sym c.send_page.ensures.seen) c.change.ensures.met
 
-pub returns-in-Err-Own-clause-answer : goal.returns-in-Err-Own-clause-answer
-returns-in-Err-Own-clause-answer g c =
-    let failed = rw c.in-Err-Own.field-0-is at c.in-Err-Own.ensures.err in
-    own_answered (visit_in c.args.of.now) c.args.status.now c.args.of.now.head.now c.args.of.now.last (standing_of g.B.Desk.state g.K.Clock.answers g.R.Meanings g.C.Meanings c.args.around.now)
-    (desk_side g.B.Desk.state g.K.Clock.answers c.change.new.desk c.change.new.clock) (client_at g.C.Meanings c.write_own.new.client)
-    c.in-Err-Own.code c.write_own.result failed.0 (page_code _ failed.1) (rw (c.own_kind_of.ensures, c.in-Err-Own.code-is) at c.write_own.ensures.own)
+pub returns-in-Err-Refused-clause-answer : goal.returns-in-Err-Refused-clause-answer
+returns-in-Err-Refused-clause-answer g c =
+    let failed = rw c.in-Err-Refused.field-0-is at c.in-Err-Refused.ensures.err in
+    refusal_answered (visit_in c.args.of.now) c.args.status.now c.args.of.now.head.now c.args.of.now.last (standing_of g.B.Desk.state g.K.Clock.answers g.R.Meanings g.C.Meanings c.args.around.now)
+    (desk_side g.B.Desk.state g.K.Clock.answers c.change.new.desk c.change.new.clock) (client_at g.C.Meanings c.write_refusal.new.client)
+    c.in-Err-Refused.refusal c.write_refusal.result failed (rw (c.own_kind_of.ensures, c.in-Err-Refused.refusal-is) at c.write_refusal.ensures.refusal)
 
 pub send_page-requires-clause-within : goal.send_page-requires-clause-within
 send_page-requires-clause-within g c = c.in-Ok.ensures.within
@@ -33,13 +33,8 @@ send_page-requires-clause-within g c = c.in-Ok.ensures.within
 pub send_page-requires-clause-sizes : goal.send_page-requires-clause-sizes
 send_page-requires-clause-sizes g c = c.change.ensures.kept.sizes ∙ c.requires.ready.desk_sizes
 
-pub write_own-requires : goal.write_own-requires
-write_own-requires g c =
-    let failed = rw c.in-Err-Own.field-0-is at c.in-Err-Own.ensures.err in
-    rw c.in-Err-Own.code-is (page_code _ failed.1)
-
-pub returns-in-Err-Own-clause-met : goal.returns-in-Err-Own-clause-met
-returns-in-Err-Own-clause-met g c = c.change.ensures.met
+pub returns-in-Err-Refused-clause-met : goal.returns-in-Err-Refused-clause-met
+returns-in-Err-Refused-clause-met g c = c.change.ensures.met
 
 pub returns-in-Err-NoMemory-clause-answer : goal.returns-in-Err-NoMemory-clause-answer
 returns-in-Err-NoMemory-clause-answer g c =
@@ -62,10 +57,10 @@ returns-in-Ok-clause-kept g c =
     (subst (λ (d : DeskState). KeepsTickets c.args.of.now.site.now.session (g.B.Desk.state c.args.around.now.desk.now) d) (sym c.send_page.ensures.seen) c.change.ensures.kept)
     refl refl c.send_page.ensures.beside c.send_page.ensures.no_fewer (refl, refl, refl, refl, refl)
 
-pub returns-in-Err-Own-clause-kept : goal.returns-in-Err-Own-clause-kept
-returns-in-Err-Own-clause-kept g c =
-    keeps_by _ _ _ _ _ _ c.requires.ready c.change.ensures.kept refl refl c.write_own.ensures.beside
-    (own_no_fewer _ _ (client_at g.C.Meanings c.args.around.now.client.now) (client_at g.C.Meanings c.write_own.new.client) c.write_own.result c.write_own.ensures.own)
+pub returns-in-Err-Refused-clause-kept : goal.returns-in-Err-Refused-clause-kept
+returns-in-Err-Refused-clause-kept g c =
+    keeps_by _ _ _ _ _ _ c.requires.ready c.change.ensures.kept refl refl c.write_refusal.ensures.beside
+    (refusal_no_fewer _ _ (client_at g.C.Meanings c.args.around.now.client.now) (client_at g.C.Meanings c.write_refusal.new.client) c.write_refusal.result c.write_refusal.ensures.refusal)
     (refl, refl, refl, refl, refl)
 
 pub returns-in-Err-NoMemory-clause-kept : goal.returns-in-Err-NoMemory-clause-kept
