@@ -8,12 +8,12 @@ _jkd() {
     fi
     case $before in
     --journal | --log) compopt -o dirnames 2>/dev/null; return ;;
-    --clients | --cut | --format | --grace | --head | --keep | --rate | --waiting) return ;;
+    --clients | --cut | --format | --grace | --head | --idle | --keep | --rate | --waiting | --watch) return ;;
     esac
     case $command:$now in
     help:*) mapfile -t COMPREPLY < <(compgen -W "$COMMANDS" -- "$now") ;;
     serve:-*)
-        mapfile -t COMPREPLY < <(compgen -W "--clients --control --cut --format --grace --head --help --journal --keep --log --rate --waiting" -- "$now") ;;
+        mapfile -t COMPREPLY < <(compgen -W "--clients --control --cut --format --grace --head --help --idle --journal --keep --log --rate --waiting --watch" -- "$now") ;;
     container:-*) mapfile -t COMPREPLY < <(compgen -W "--clients --help" -- "$now") ;;
     match:-*) mapfile -t COMPREPLY < <(compgen -W "-v --help" -- "$now") ;;
     *:-*) mapfile -t COMPREPLY < <(compgen -W "--help" -- "$now") ;;

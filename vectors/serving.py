@@ -7,6 +7,7 @@ apart from the program's own code: replies and packets are put together by sessi
     python3 vectors/serving.py serving > crates/serve_checks/data/serve/serving.txt
     python3 vectors/serving.py faults > crates/serve_checks/data/serve/faults.txt
     python3 vectors/serving.py logs > crates/serve_checks/data/serve/logs.txt
+    python3 vectors/serving.py watch > crates/serve_checks/data/serve/watch.txt
     python3 vectors/serving.py words > crates/serve_checks/data/serve/words.txt
     python3 vectors/serving.py drills > crates/serve_checks/data/serve/drills.txt
 """
@@ -71,13 +72,13 @@ def journal(entries, first=0, members=("w1",)):
     return b"segment of 0\n" + ("\n".join(lines) + "\n").encode()
 
 
-def exchanges(sessions, members=1):
+def exchanges(sessions, members=1, moments=None):
     """A choice of each member in turn and its return for each exchange, each with its session, and how many bytes its talk sent
-    and received."""
+    and received; at these moments, or all at 0."""
     entries = []
     for place, (session, number) in enumerate(sessions):
-        ticket = len(entries)
-        entries += [f"{session} 0 select - 1 0 0 0 chosen {place % members} balanced 0", f"{session} 0 return {ticket} done {number} done"]
+        ticket, at = len(entries), moments[place] if moments else 0
+        entries += [f"{session} {at} select - 1 0 0 0 chosen {place % members} balanced 0", f"{session} {at} return {ticket} done {number} done"]
     return entries
 
 
@@ -178,10 +179,41 @@ def logs():
         yield Row(f"a format is refused at {at}", SERVE + f"1 --log d --format {form}", gears=[WHO_GEAR], files=(), out=f"format refused at {at}\n".encode(), status=3)
 
 
+def watch():
+    """Clients that come one after another, the Nth in second N, from 0, after whom the clock tells the next one: there the idle links are
+    looked at if it is time. The reply of a second link tells that it was dialled."""
+    bad, first, second, pong = b"GET\r\n\r\n", b"hi", b"2\n", from_member(b"\x09")
+
+    def row(name, options, told, link, site=SITE):
+        """`told`: what each client's reply has in it; None for a head that is refused. `link`: the bytes of the first link."""
+        replies = [dated(at, sessions.own(400) if body is None else sessions.reply(body)) for at, body in enumerate(told)]
+        asked = [at for at, body in enumerate(told) if body is not None]
+        counts = [(0, len(forward()) + len(sized(told[at]))) for at in asked]
+        # at the start, as a head came, at a choice and at its return, and after the session
+        clock = ["0"] + [str(n) for at, body in enumerate(told) for n in ([at] * (1 if body is None else 3) + [at + 1])]
+        return Row(name, SERVE + "1" + options, gears=[([bad if body is None else GET for body in told], [link, sized(second)])],
+                   files=(("w", site), ("m", MAP)), lines=["clock " + " ".join(clock)],
+                   back=[b"".join(map(left, replies)) + talk(0, forward()) * len(asked) + journal(exchanges(counts, 1, asked))])
+
+    stays, closed = [first, None, first], [first, None, second]
+    yield row("a link that was idle for as many looks as it may be is closed", " --watch 1 --idle 1", closed, HI * 2)
+    yield row("a look before the link was idle so long leaves it", " --watch 1 --idle 2", stays, HI * 2)
+    yield row("without a number ten looks may pass", " --watch 1", stays, HI * 2)
+    yield row("no look comes too early", " --watch 2 --idle 1", stays, HI * 2)
+    yield row("nobody looks without a watch", "", stays, HI * 2)
+    yield row("a link that is used between two looks stays", " --watch 1 --idle 1", [first] * 3, HI * 3)
+    pinged = SITE + "worker.w1.ping_mode=I\n"
+    yield row("a link that answers a ping stays", " --watch 1", [first] * 2, HI + pong + HI, pinged)
+    yield row("a link that answers no ping is closed", " --watch 1", [first, second], HI, pinged)
+    yield row("a link that answers a ping with a reply is closed", " --watch 1", [first, second], HI * 2, pinged)
+    yield row("a member's seconds go before the looks of all", " --watch 1", closed, HI * 2, SITE + "worker.w1.connection_pool_timeout=1\n")
+    yield row("a member's links are pinged at its interval alone", " --watch 1", stays, HI + pong + HI, SITE + "worker.w1.connection_ping_interval=2\n")
+
+
 def words():
     for name, line in (("a word too many", "match w m x"), ("a word too few", "config"), ("an option of no command", "play --x"),
                        ("no THREADS", "serve w m 127.0.0.1:8080"), ("no thread", SERVE + "0"), ("too many threads", SERVE + "65"),
-                       ("a container without its route", "container 127.0.0.1:8009 1"), ("a watch isn't built", SERVE + "1 --watch 5"),
+                       ("a container without its route", "container 127.0.0.1:8009 1"), ("looks without a watch", SERVE + "1 --idle 5"), ("a watch of no second", SERVE + "1 --watch 0"),
                        ("a format without a log", SERVE + "1 --format %m"),
                        ("an option twice", SERVE + "1 --clients 1 --clients=2")):
         yield Row(f"{name} is no command", line, gears=[WHO_GEAR], files=FILES, status=2)
@@ -210,4 +242,4 @@ def drills():
 
 
 print(f"# Made by vectors/serving.py {sys.argv[1]}. How a row is written stands at the head of serve_checks.\n")
-print("\n".join(row.show() for row in {"serving": serving, "faults": faults, "logs": logs, "words": words, "drills": drills}[sys.argv[1]]()))
+print("\n".join(row.show() for row in {"serving": serving, "faults": faults, "logs": logs, "watch": watch, "words": words, "drills": drills}[sys.argv[1]]()))

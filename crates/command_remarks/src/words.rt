@@ -50,7 +50,6 @@ fn parsed(alloc: Global, line: &[&str]) -> Result<String, NoMemory> {
 /// What is told of a command that isn't done.
 fn put_undone(out: &mut Bytes, command: CommandName, words: &[Bytes]) -> Result<(), NoMemory> {
     match command {
-        CommandName::Serve => out.extend(b"error: this jkd does not do --watch of serve"),
         CommandName::Drill => out.extend(b"error: this jkd does not do passes of drill"),
         _ => {
             out.extend(b"error: this jkd does not do the command ")?;

@@ -2,9 +2,10 @@
 use Rattle.std.specs.Prelude.{ℕ, false, List, [], ◌∷◌, map, Option, None}
 use Rattle.atomic_table.specs.Seated.{TableId}
 use Rattle.jk_io.specs.declared.reaching.Talk.{Talk}
-use Rattle.conn_pool.specs.Reaches.{PooledState}
 use Rattle.door_clients.specs.Doors.{DoorSide}
 use Rattle.locked_balancer.specs.SharedDesks.{SharedState, shared_desk}
+use Rattle.pool_watch.specs.Watched.{WatchedState}
+use Rattle.pool_watch.specs.declared.watch.Watch.{Watch}
 use Rattle.request_log.specs.LogStates.{LogState}
 use Rattle.request_log.specs.declared.format.Part.{Part as FormatPart}
 use Rattle.gear_parts.specs.GearLogs.{new_log}
@@ -34,20 +35,23 @@ unnumbered d = record d { seat = record d.seat { number = 0 } }
 -- what a worker has when it begins, whatever its desk's number at the lock
 pub record Start (D G T K S O C : Type 0) : Type 0 where
   pub door : D
-  pub reach : PooledState G T C
+  pub reach : WatchedState G T C
   pub clock : K
   pub desk : SharedState S
   pub log : Option (LogState O)
 
-abbrev pub start_with : {D G T K S O C : Type 0} → D → PooledState G T C → K → SharedState S → Option (LogState O) → Start D G T K S O C
+abbrev pub start_with : {D G T K S O C : Type 0} → D → WatchedState G T C → K → SharedState S → Option (LogState O) → Start D G T K S O C
 start_with door reach clock desk log = record { door = door; reach = reach; clock = clock; desk = unnumbered desk; log = log }
 
 -- What the worker of a gear begins with: a desk of one part at this lock that has the gear's shelf and has seen nothing, a
--- reach with its dial and its tape, and a log of this format where the gear has one.
-abbrev pub start_of : {D G T K S O C : Type 0} → (lock : TableId) → (sizes pools : List ℕ) → List FormatPart → Gear D G T K S O → Start D G T K S O C
-start_of lock sizes pools format gear = record {
+-- reach with its dial, its tape and this watch, and a log of this format where the gear has one.
+abbrev pub start_of : {D G T K S O C : Type 0} → (lock : TableId) → (sizes pools : List ℕ) → Option Watch → List FormatPart → Gear D G T K S O → Start D G T K S O C
+start_of lock sizes pools watch format gear = record {
   door = gear.door;
-  reach = record { dial = gear.dial; tape = gear.tape; lent = None; back = None; sizes = pools; faults = 0 };
+  reach = record {
+    pooled = record { dial = gear.dial; tape = gear.tape; lent = None; back = None; sizes = pools; faults = 0 };
+    watch = watch;
+  };
   clock = gear.clock;
   desk = record { desk = shared_desk sizes 1 [] [] 0 0 0 0 false; shelf = gear.shelf; forgotten = 0; wants = 0; met = None; seat = record { lock = lock; number = 0; seen = [] } };
   log = new_log format gear.log;

@@ -8,8 +8,9 @@ ghost use Rattle.gear_parts.specs.Putting.{PutsNext};
 use crate::gear_log::GearLog;
 use crate::part::Outside;
 use crate::world::Gear;
-use conn_pool::{PooledReach, Tape};
+use conn_pool::Tape;
 use jk_io::Dial;
+use pool_watch::WatchedReach;
 use request_log::Timed;
 use std::vec::IntoIter;
 
@@ -25,14 +26,14 @@ pub struct Left<D, G, T, K, O> {
 
 /// Takes the reach and the log of each worker apart.
 pub fn take_apart<'s, 'r, 'f, D: Drop, G: Dial + Drop, T: Tape + Drop, K: Drop, O: Timed + Drop, R>(
-    outside: Vec<Outside<D, PooledReach<'s, 'r, G, T, R>, K, GearLog<'f, O>>>,
+    outside: Vec<Outside<D, WatchedReach<'s, 'r, G, T, R>, K, GearLog<'f, O>>>,
     left: &mut Vec<Left<D, G, T, K, O>>,
 )
     requires none { left.old.items ≡ [] }
     requires room { vec_len outside ≤ vec_capacity left.old }
-    requires idle { All (λ o. is_some o.reach.lent ≡ false) outside.items }
+    requires idle { All (λ o. is_some o.reach.pooled.lent ≡ false) outside.items }
     ensures { tools_of left.new.items
-        ≡ map (λ o. tools o.door o.reach.dial o.reach.tape o.clock (sink_of o.log)) outside.entry.items }
+        ≡ map (λ o. tools o.door o.reach.pooled.dial o.reach.pooled.tape o.clock (sink_of o.log)) outside.entry.items }
 {
     let mut outside = outside.into_iter();
     take_each(&mut outside, left);
@@ -40,14 +41,14 @@ pub fn take_apart<'s, 'r, 'f, D: Drop, G: Dial + Drop, T: Tape + Drop, K: Drop, 
 
 /// As `take_apart`, over workers that the caller lends.
 fn take_each<'s, 'r, 'f, D: Drop, G: Dial + Drop, T: Tape + Drop, K: Drop, O: Timed + Drop, R>(
-    outside: &mut IntoIter<Outside<D, PooledReach<'s, 'r, G, T, R>, K, GearLog<'f, O>>>,
+    outside: &mut IntoIter<Outside<D, WatchedReach<'s, 'r, G, T, R>, K, GearLog<'f, O>>>,
     left: &mut Vec<Left<D, G, T, K, O>>,
 )
     requires none { left.old.items ≡ [] }
     requires room { length outside.old.rest.items ≤ vec_capacity left.old }
-    requires idle { All (λ o. is_some o.reach.lent ≡ false) outside.old.rest.items }
+    requires idle { All (λ o. is_some o.reach.pooled.lent ≡ false) outside.old.rest.items }
     ensures { tools_of left.new.items
-        ≡ map (λ o. tools o.door o.reach.dial o.reach.tape o.clock (sink_of o.log)) outside.old.rest.items }
+        ≡ map (λ o. tools o.door o.reach.pooled.dial o.reach.pooled.tape o.clock (sink_of o.log)) outside.old.rest.items }
 {
     'outside: while let Some(one) = outside.next() {
         left.push_reserved(left_of(one));
@@ -56,11 +57,11 @@ fn take_each<'s, 'r, 'f, D: Drop, G: Dial + Drop, T: Tape + Drop, K: Drop, O: Ti
 
 /// What one worker leaves.
 fn left_of<'s, 'r, 'f, D, G: Dial, T: Tape, K, O: Timed, R>(
-    outside: Outside<D, PooledReach<'s, 'r, G, T, R>, K, GearLog<'f, O>>,
+    outside: Outside<D, WatchedReach<'s, 'r, G, T, R>, K, GearLog<'f, O>>,
 ) -> Left<D, G, T, K, O>
-    requires idle { is_some outside.reach.lent ≡ false }
+    requires idle { is_some outside.reach.pooled.lent ≡ false }
     ensures { tools result.door result.dial result.tape result.clock result.log
-        ≡ tools outside.entry.door outside.entry.reach.dial outside.entry.reach.tape outside.entry.clock (sink_of outside.entry.log) }
+        ≡ tools outside.entry.door outside.entry.reach.pooled.dial outside.entry.reach.pooled.tape outside.entry.clock (sink_of outside.entry.log) }
 {
     let Outside {
         door,

@@ -10,9 +10,10 @@ use crate::gear_log::GearLog;
 use crate::part::Part;
 use crate::parts::{Common, fill_parts};
 use crate::world::Gear;
-use conn_pool::{PooledReach, Tape};
+use conn_pool::Tape;
 use jk_io::{Dial, NoMemory};
 use locked_balancer::{Shelf, SiteName};
+use pool_watch::WatchedReach;
 use request_log::Timed;
 use std::alloc::Global;
 use std::sync::ledger::Share;
@@ -51,14 +52,14 @@ pub fn parts_for<
     share: Share<L>,
     gears: Vec<Gear<D, G, T, K, S, O>>,
 ) -> Result<
-    Memory<Part<'s, 'r, L, D, PooledReach<'s, 'r, G, T, R>, K, S, R, GearLog<'s, O>>, A, B>,
+    Memory<Part<'s, 'r, L, D, WatchedReach<'s, 'r, G, T, R>, K, S, R, GearLog<'s, O>>, A, B>,
     NoMemory,
 >
     requires parts { share.parts ≡ vec_len gears }
     requires amount { share.amount ≡ 0 }
     requires idle { All (λ g. T.is_idle g.tape) gears.items }
     ensures starts { IfOk result (λ m. map (λ p. start_with p.door p.reach p.clock p.desk p.log) m.parts.items
-        ≡ map (start_of (lock_of common.now.site.now) L.sizes (counts common.now.pools.now) common.now.format.now) gears.items) }
+        ≡ map (start_of (lock_of common.now.site.now) L.sizes (counts common.now.pools.now) common.now.watch common.now.format.now) gears.items) }
     ensures count { IfOk result (λ m. vec_len m.parts ≡ vec_len gears) }
     ensures after { IfOk result (λ m. HasAfter (vec_len gears) m.after) }
 {
@@ -87,14 +88,18 @@ fn filled<
     common: &Common<'s, 'r, L, G, R>,
     share: Share<L>,
     gears: Vec<Gear<D, G, T, K, S, O>>,
-    memory: Memory<Part<'s, 'r, L, D, PooledReach<'s, 'r, G, T, R>, K, S, R, GearLog<'s, O>>, A, B>,
-) -> Memory<Part<'s, 'r, L, D, PooledReach<'s, 'r, G, T, R>, K, S, R, GearLog<'s, O>>, A, B>
+    memory: Memory<
+        Part<'s, 'r, L, D, WatchedReach<'s, 'r, G, T, R>, K, S, R, GearLog<'s, O>>,
+        A,
+        B,
+    >,
+) -> Memory<Part<'s, 'r, L, D, WatchedReach<'s, 'r, G, T, R>, K, S, R, GearLog<'s, O>>, A, B>
     requires parts { share.parts ≡ vec_len gears }
     requires amount { share.amount ≡ 0 }
     requires idle { All (λ g. T.is_idle g.tape) gears.items }
     requires memory { HasMemory (vec_len gears) memory }
     ensures starts { map (λ p. start_with p.door p.reach p.clock p.desk p.log) result.parts.items
-        ≡ map (start_of (lock_of common.now.site.now) L.sizes (counts common.now.pools.now) common.now.format.now) gears.items }
+        ≡ map (start_of (lock_of common.now.site.now) L.sizes (counts common.now.pools.now) common.now.watch common.now.format.now) gears.items }
     ensures count { vec_len result.parts ≡ vec_len gears }
     ensures after { HasAfter (vec_len gears) result.after }
 {

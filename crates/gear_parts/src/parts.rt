@@ -1,28 +1,37 @@
 //! The parts of gears, with which the workers of a connector work.
 ghost use Rattle.std.specs.Prelude.{◌≡◌, ◌+◌, ◌<◌, ◌≤◌, [], length, map, vec_capacity, vec_len};
+ghost use Rattle.std.specs.Option.{ForSome};
 ghost use Rattle.std.specs.List.{All};
 ghost use Rattle.conn_pool.specs.Idle.{counts};
 ghost use Rattle.locked_balancer.specs.Locks.{lock_of};
+ghost use Rattle.pool_watch.specs.Looks.{ends_of};
 ghost use Rattle.gear_parts.specs.GearParts.{start_of, start_with};
 ghost use Rattle.gear_parts.specs.Putting.{PutsOne};
 
 use crate::gear_log::GearLog;
 use crate::part::Part;
 use crate::world::Gear;
-use conn_pool::{Idle, PooledReach, Pools, Tape};
+use conn_pool::{Idle, Pools, Tape};
 use jk_io::Dial;
 use locked_balancer::{SharedDesk, SharedSite, Shelf, SiteName};
+use pool_watch::{AgedLink, Watch, WatchedReach};
 use request_log::{Format, Timed};
+use site_config::Config;
 use std::alloc::Global;
 use std::sync::ledger::Share;
 use std::vec::IntoIter;
 
-/// What all workers ask: the balancers, the pools of idle links, and the format of their logs.
+/// What all workers ask: the balancers, the pools of idle links and how these are looked after, and the format of their logs.
 #[derive(Drop)]
 pub struct Common<'s, 'r, L: SiteName, G: Dial, R> {
     pub site: &'s SharedSite<'r, L, R>,
-    pub pools: &'s Pools<'r, Idle<G::L>, R>,
+    pub pools: &'s Pools<'r, Idle<AgedLink<G::L>>, R>,
+    pub cfg: &'s Config,
+    /// When each worker looks at the idle links, if it does.
+    pub watch: Option<Watch>,
     pub format: &'s Format,
+    pub ghost every: { ForSome watch (λ w. 0 < w.every) },
+    pub ghost ends: { counts pools.now ≡ ends_of cfg.now.lbs },
 }
 
 /// A part for each gear, with one part of the share.
@@ -42,7 +51,7 @@ pub(crate) fn fill_parts<
     common: &Common<'s, 'r, L, G, R>,
     share: Share<L>,
     gears: Vec<Gear<D, G, T, K, S, O>>,
-    parts: &mut Vec<Part<'s, 'r, L, D, PooledReach<'s, 'r, G, T, R>, K, S, R, GearLog<'s, O>>>,
+    parts: &mut Vec<Part<'s, 'r, L, D, WatchedReach<'s, 'r, G, T, R>, K, S, R, GearLog<'s, O>>>,
 )
     requires none { parts.old.items ≡ [] }
     requires room { vec_len gears ≤ vec_capacity parts.old }
@@ -50,7 +59,7 @@ pub(crate) fn fill_parts<
     requires amount { share.amount ≡ 0 }
     requires idle { All (λ g. T.is_idle g.tape) gears.items }
     ensures starts { map (λ p. start_with p.door p.reach p.clock p.desk p.log) parts.new.items
-        ≡ map (start_of (lock_of common.now.site.now) L.sizes (counts common.now.pools.now) common.now.format.now) gears.items }
+        ≡ map (start_of (lock_of common.now.site.now) L.sizes (counts common.now.pools.now) common.now.watch common.now.format.now) gears.items }
 {
     let mut share = share;
     let mut gears = gears.into_iter();
@@ -63,7 +72,7 @@ fn put_parts<'s, 'r, L: SiteName, D, G: Dial, T: Tape, K, S: Shelf, O: Timed, R>
     common: &Common<'s, 'r, L, G, R>,
     share: &mut Share<L>,
     gears: &mut IntoIter<Gear<D, G, T, K, S, O>>,
-    parts: &mut Vec<Part<'s, 'r, L, D, PooledReach<'s, 'r, G, T, R>, K, S, R, GearLog<'s, O>>>,
+    parts: &mut Vec<Part<'s, 'r, L, D, WatchedReach<'s, 'r, G, T, R>, K, S, R, GearLog<'s, O>>>,
 )
     requires none { parts.old.items ≡ [] }
     requires room { length gears.old.rest.items ≤ vec_capacity parts.old }
@@ -71,7 +80,7 @@ fn put_parts<'s, 'r, L: SiteName, D, G: Dial, T: Tape, K, S: Shelf, O: Timed, R>
     requires amount { share.old.amount ≡ 0 }
     requires idle { All (λ g. T.is_idle g.tape) gears.old.rest.items }
     ensures starts { map (λ p. start_with p.door p.reach p.clock p.desk p.log) parts.new.items
-        ≡ map (start_of (lock_of common.now.site.now) L.sizes (counts common.now.pools.now) common.now.format.now) gears.old.rest.items }
+        ≡ map (start_of (lock_of common.now.site.now) L.sizes (counts common.now.pools.now) common.now.watch common.now.format.now) gears.old.rest.items }
 {
     'gears: while let Some(gear) = gears.next() {
         put_part(alloc, common, share, gear, parts);
@@ -84,14 +93,14 @@ fn put_part<'s, 'r, L: SiteName, D, G: Dial, T: Tape, K, S: Shelf, O: Timed, R>(
     common: &Common<'s, 'r, L, G, R>,
     share: &mut Share<L>,
     gear: Gear<D, G, T, K, S, O>,
-    parts: &mut Vec<Part<'s, 'r, L, D, PooledReach<'s, 'r, G, T, R>, K, S, R, GearLog<'s, O>>>,
+    parts: &mut Vec<Part<'s, 'r, L, D, WatchedReach<'s, 'r, G, T, R>, K, S, R, GearLog<'s, O>>>,
 )
     requires some { 0 < share.old.parts }
     requires amount { share.old.amount ≡ 0 }
     requires idle { T.is_idle gear.tape }
     requires room { vec_len parts.old < vec_capacity parts.old }
     ensures part { PutsOne (λ p. start_with p.door p.reach p.clock p.desk p.log
-        ≡ start_of (lock_of common.now.site.now) L.sizes (counts common.now.pools.now) common.now.format.now gear)
+        ≡ start_of (lock_of common.now.site.now) L.sizes (counts common.now.pools.now) common.now.watch common.now.format.now gear)
         parts.old.items parts.new.items }
     ensures share { (share.new.parts + 1 ≡ share.old.parts) × (share.new.amount ≡ 0) }
     ensures len { vec_len parts.new ≡ vec_len parts.old + 1 }
@@ -107,12 +116,12 @@ fn part_of<'s, 'r, L: SiteName, D, G: Dial, T: Tape, K, S: Shelf, O: Timed, R>(
     common: &Common<'s, 'r, L, G, R>,
     share: Share<L>,
     gear: Gear<D, G, T, K, S, O>,
-) -> Part<'s, 'r, L, D, PooledReach<'s, 'r, G, T, R>, K, S, R, GearLog<'s, O>>
+) -> Part<'s, 'r, L, D, WatchedReach<'s, 'r, G, T, R>, K, S, R, GearLog<'s, O>>
     requires part { share.parts ≡ 1 }
     requires amount { share.amount ≡ 0 }
     requires idle { T.is_idle gear.tape }
     ensures { start_with result.door result.reach result.clock result.desk result.log
-        ≡ start_of (lock_of common.now.site.now) L.sizes (counts common.now.pools.now) common.now.format.now gear }
+        ≡ start_of (lock_of common.now.site.now) L.sizes (counts common.now.pools.now) common.now.watch common.now.format.now gear }
 {
     let Gear {
         door,
@@ -124,7 +133,7 @@ fn part_of<'s, 'r, L: SiteName, D, G: Dial, T: Tape, K, S: Shelf, O: Timed, R>(
     } = gear;
     Part {
         door,
-        reach: PooledReach::new(common.pools, dial, tape),
+        reach: WatchedReach::new(common.pools, dial, tape, common.cfg, common.watch),
         clock,
         desk: SharedDesk::new(alloc, common.site, share, shelf),
         log: GearLog::new(alloc, common.format, log),

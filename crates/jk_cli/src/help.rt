@@ -218,6 +218,16 @@ static FRONT_PAGES: [Page; 1] = [Page {
             kind: Kind::Long("DIR"),
         },
         Row {
+            name: "watch",
+            about: "Look through idle links every so many seconds, 1 to 86400",
+            kind: Kind::Long("SECONDS"),
+        },
+        Row {
+            name: "idle",
+            about: "With --watch, close a link idle for so many looks, 1 to 1000000; 10 where not given",
+            kind: Kind::Long("ROUNDS"),
+        },
+        Row {
             name: "log",
             about: "Write the request logs into DIR",
             kind: Kind::Long("DIR"),

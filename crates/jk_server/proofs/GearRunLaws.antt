@@ -20,7 +20,8 @@ use Rattle.jk_server.specs.declared.part.WorkerEnd.{WorkerEnd}
 use Rattle.gear_parts.specs.declared.memory.After.{After}
 use Rattle.gear_parts.specs.GearParts.{gear_with, gears_with, start_of, start_with, tools}
 use Rattle.gear_parts.specs.declared.part.Part.{Part}
-use Rattle.conn_pool.specs.Reaches.{PooledState}
+use Rattle.pool_watch.specs.Watched.{WatchedState}
+use Rattle.pool_watch.specs.declared.watch.Watch.{Watch}
 use Rattle.locked_balancer.specs.Histories.{SeatNote}
 use Rattle.locked_balancer.specs.declared.site.SiteName.{Ghosts as SiteGhosts}
 use Rattle.site_config.specs.declared.config.Config.{Config}
@@ -108,11 +109,11 @@ after_so many count after same has = subst (λ (n : ℕ). HasAfter n after) (sym
 
 -- What holds of all gears of which the parts were made, holds of these.
 pub runs_of : {D G T K S O L C X P W E : Type 0} {N : SiteGhosts L} → (told : RunTells D T K S O C X) (cfg : Config) (rules : List Rule) (format : List FormatPart)
-    (parts : List (Part L D (PooledState G T P) K S W (Option (LogState O)))) (lock : TableId) (sizes pools : List ℕ) (gears : List (Gear D G T K S O)) (r : Result (Ran L D G T K S O N) E)
-    → map (λ p. start_with p.door p.reach p.clock p.desk p.log) parts ≡ map (start_of lock sizes pools format) gears
+    (parts : List (Part L D (WatchedState G T P) K S W (Option (LogState O)))) (lock : TableId) (sizes pools : List ℕ) (watch : Option Watch) (gears : List (Gear D G T K S O)) (r : Result (Ran L D G T K S O N) E)
+    → map (λ p. start_with p.door p.reach p.clock p.desk p.log) parts ≡ map (start_of lock sizes pools watch format) gears
     → IfOk r (λ ran. RunsParts told cfg rules format parts ran) → IfOk r (λ ran. IsRunOf told cfg rules format lock gears ran)
-runs_of told cfg rules format parts lock sizes pools gears (Ok ran) starts runs = runs lock sizes pools gears starts
-runs_of told cfg rules format parts lock sizes pools gears (Err e) starts runs = runs
+runs_of told cfg rules format parts lock sizes pools watch gears (Ok ran) starts runs = runs lock sizes pools watch gears starts
+runs_of told cfg rules format parts lock sizes pools watch gears (Err e) starts runs = runs
 
 -- What follows of each holds of all that the workers left.
 pub all_left : {P O V E : Type 0} → (Is : ℕ → P → O → V → E → Type 0) (Left : O → Type 0)

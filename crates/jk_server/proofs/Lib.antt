@@ -5,7 +5,6 @@ pub mod GearRunLaws
 pub mod HeadlineLaws
 pub mod ReturnLaws
 pub mod RunLaws
-pub mod SendLaws
 pub mod SlotLaws
 pub mod StartLaws
 pub mod ToldLaws

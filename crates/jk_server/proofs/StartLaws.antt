@@ -5,6 +5,7 @@ use Rattle.std.proofs.lemmas.List.{length-map}
 use Rattle.std.proofs.lemmas.List.Elements.{All-map}
 use Rattle.conn_pool.specs.Idle.{counts}
 use Rattle.exchange.specs.Requests.{sizes_of}
+use Rattle.pool_watch.specs.Looks.{ends_of}
 use Rattle.atomic_table.specs.Seated.{TableId}
 use Rattle.jk_io.specs.declared.reaching.Talk.{Talk}
 use Rattle.jk_io.specs.declared.traits.streams.Meanings.{Ghosts}
@@ -24,6 +25,7 @@ use Rattle.jk_server.specs.Served.{IsServed}
 use Rattle.jk_server.specs.Worker.{Keeps, WorkerSide}
 use Rattle.jk_server.specs.declared.part.WorkerEnd.{WorkerEnd}
 use Rattle.gear_parts.specs.GearParts.{Start, start_of, unnumbered}
+use Rattle.pool_watch.specs.declared.watch.Watch.{Watch}
 use Rattle.jk_server.specs.Closings.{Closes}
 use Rattle.jk_server.specs.Runs.{AreServedGears, IsNew, IsSiteRun, IsServedGear, WorksWith}
 use Rattle.locked_balancer.specs.Histories.{SeatNote, noted, own_in}
@@ -49,31 +51,31 @@ new_so format log = ap (λ (l : Option _). new_log format l) (sym (sink_new form
 
 -- Gears are told as their workers begin.
 begun_told : {D G T K S O C : Type 0} → (X : Type 0) (at : D → DoorSide C) (talks : T → Option (List Talk)) (answers : K → Option (List ℕ)) (lock : TableId) (sizes pools : List ℕ)
-    (format : List FormatPart) (gears : List (Gear D G T K S O))
-    → map (λ (g : Gear D G T K S O). start_side {X = X} at talks answers (start_of lock sizes pools format g)) gears ≡ map (gear_side at talks answers) gears
-begun_told X at talks answers lock sizes pools format [] = refl
-begun_told {D} {G} {T} {K} {S} {O} {C} X at talks answers lock sizes pools format (g ∷ gears) =
-    ap (λ (l : Option O). record (gear_side at talks answers g) { log = l } ∷ map (λ (x : Gear D G T K S O). start_side {X = X} at talks answers (start_of lock sizes pools format x)) gears) (sink_new format g.log)
-    ∙ ap (λ (rest : List (GearSide C S O)). gear_side at talks answers g ∷ rest) (begun_told X at talks answers lock sizes pools format gears)
+    (watch : Option Watch) (format : List FormatPart) (gears : List (Gear D G T K S O))
+    → map (λ (g : Gear D G T K S O). start_side {X = X} at talks answers (start_of lock sizes pools watch format g)) gears ≡ map (gear_side at talks answers) gears
+begun_told X at talks answers lock sizes pools watch format [] = refl
+begun_told {D} {G} {T} {K} {S} {O} {C} X at talks answers lock sizes pools watch format (g ∷ gears) =
+    ap (λ (l : Option O). record (gear_side at talks answers g) { log = l } ∷ map (λ (x : Gear D G T K S O). start_side {X = X} at talks answers (start_of lock sizes pools watch format x)) gears) (sink_new format g.log)
+    ∙ ap (λ (rest : List (GearSide C S O)). gear_side at talks answers g ∷ rest) (begun_told X at talks answers lock sizes pools watch format gears)
 
 -- Parts that begin so are told as their gears are.
 pub starts_told : {P D G T K S O C X : Type 0} → (at : D → DoorSide C) (talks : T → Option (List Talk)) (answers : K → Option (List ℕ)) (lock : TableId) (sizes pools : List ℕ)
-    (format : List FormatPart) (start : P → Start D G T K S O X) (parts : List P) (gears : List (Gear D G T K S O))
-    → map start parts ≡ map (start_of lock sizes pools format) gears
+    (watch : Option Watch) (format : List FormatPart) (start : P → Start D G T K S O X) (parts : List P) (gears : List (Gear D G T K S O))
+    → map start parts ≡ map (start_of lock sizes pools watch format) gears
     → map (λ (p : P). start_side at talks answers (start p)) parts ≡ map (gear_side at talks answers) gears
-starts_told {C = C} {X = X} at talks answers lock sizes pools format start parts gears same =
+starts_told {C = C} {X = X} at talks answers lock sizes pools watch format start parts gears same =
     sym (map_map (start_side at talks answers) start parts)
     ∙ ap (map (start_side at talks answers)) same
-    ∙ map_map (start_side at talks answers) (start_of lock sizes pools format) gears
-    ∙ begun_told X at talks answers lock sizes pools format gears
+    ∙ map_map (start_side at talks answers) (start_of lock sizes pools watch format) gears
+    ∙ begun_told X at talks answers lock sizes pools watch format gears
 
 -- What is so of each start is so of the parts.
-pub starts_are : {P D G T K S O X : Type 0} → (lock : TableId) (sizes pools : List ℕ) (format : List FormatPart) (Q : Start D G T K S O X → Type 0)
+pub starts_are : {P D G T K S O X : Type 0} → (lock : TableId) (sizes pools : List ℕ) (watch : Option Watch) (format : List FormatPart) (Q : Start D G T K S O X → Type 0)
     (start : P → Start D G T K S O X) (parts : List P) (gears : List (Gear D G T K S O))
-    → map start parts ≡ map (start_of lock sizes pools format) gears → All (λ (g : Gear D G T K S O). Q (start_of lock sizes pools format g)) gears
+    → map start parts ≡ map (start_of lock sizes pools watch format) gears → All (λ (g : Gear D G T K S O). Q (start_of lock sizes pools watch format g)) gears
     → All (λ (p : P). Q (start p)) parts
-starts_are lock sizes pools format Q start parts gears same each =
-    all_of_map Q start parts (subst (λ xs. All Q xs) (sym same) (All-map Q (start_of lock sizes pools format) gears each))
+starts_are lock sizes pools watch format Q start parts gears same each =
+    all_of_map Q start parts (subst (λ xs. All Q xs) (sym same) (All-map Q (start_of lock sizes pools watch format) gears each))
 
 -- A desk that begins, whatever its number.
 pub begins_seated : {S : Type 0} (lock : TableId) (d : SharedState S) → IsBeginning lock (unnumbered d) → IsBeginning lock d
@@ -141,3 +143,10 @@ table_counts [] = refl
 table_counts (lb ∷ lbs) =
     ap (λ (n : ℕ). n ∷ counts (pool_table lbs)) (length-map lb.book.members (λ m. m.pool))
     ∙ ap (λ (ns : List ℕ). length lb.book.members ∷ ns) (table_counts lbs)
+
+-- a balancer has as many ends as members
+pub table_ends : (lbs : List Lb) → sizes_of lbs ≡ ends_of lbs
+table_ends [] = refl
+table_ends (lb ∷ lbs) =
+    ap (λ (n : ℕ). n ∷ sizes_of lbs) (sym lb.paired)
+    ∙ ap (λ (ns : List ℕ). length lb.ends ∷ ns) (table_ends lbs)

@@ -15,6 +15,7 @@ pub mod Runs
 pub mod ServedGears
 pub mod Shelved
 pub mod Started
+pub mod Watches
 pub use Rattle.gear_parts.specs.Starts
 pub use Rattle.gear_parts.specs.Worlds
 pub use Rattle.site_reports.specs.Sites

@@ -10,7 +10,8 @@ use Rattle.client_session.specs.Requests.{visit}
 use Rattle.locked_balancer.specs.declared.site.SiteName.{Ghosts as SiteGhosts}
 use Rattle.site_config.specs.declared.config.Config.{Config}
 use Rattle.uri_map.specs.declared.rule.Rule.{Rule}
-use Rattle.conn_pool.specs.Reaches.{PooledState}
+use Rattle.pool_watch.specs.Watched.{WatchedState}
+use Rattle.pool_watch.specs.declared.watch.Watch.{Watch}
 use Rattle.request_log.specs.declared.format.Part.{Part as FormatPart}
 use Rattle.request_log.specs.LogStates.{LogState}
 use Rattle.gear_parts.specs.GearLogs.{new_log, sink_of}
@@ -30,7 +31,7 @@ ServesGears told cfg rules format gears ran =
 
 -- a gear as its worker begins with it
 abbrev pub start_side : {D G T K S O C X : Type 0} → (D → DoorSide C) → (T → Option (List Talk)) → (K → Option (List ℕ)) → Start D G T K S O X → GearSide C S O
-start_side at talks answers s = record { door = at s.door; talks = talks s.reach.tape; clock = answers s.clock; shelf = s.desk.shelf; log = sink_of s.log }
+start_side at talks answers s = record { door = at s.door; talks = talks s.reach.pooled.tape; clock = answers s.clock; shelf = s.desk.shelf; log = sink_of s.log }
 
 -- A worker that begins has a new desk at this lock, and one part of the ledger.
 abbrev pub IsBeginning : {S : Type 0} → TableId → SharedState S → Type 0
@@ -43,13 +44,13 @@ BeginsSo lock format desk log = IsBeginning lock desk × (log ≡ new_log format
 -- The workers left tools and a desk for each of these parts, and no talk runs. Where each part had a new desk at one lock of one
 -- part of the ledger and began its log, each worker served what its part was the start of, and the desks have a part of the
 -- ledger for each worker and their seats at that lock.
-pub record LeavesParts {D G T K S O L C X P W : Type 0} {N : SiteGhosts L} (told : RunTells D T K S O C X) (cfg : Config) (rules : List Rule) (format : List FormatPart) (parts : List (Part L D (PooledState G T P) K S W (Option (LogState O)))) (end : ServeEnd L D (PooledState G T P) K S (Option (LogState O)) N) : Type 0 where
+pub record LeavesParts {D G T K S O L C X P W : Type 0} {N : SiteGhosts L} (told : RunTells D T K S O C X) (cfg : Config) (rules : List Rule) (format : List FormatPart) (parts : List (Part L D (WatchedState G T P) K S W (Option (LogState O)))) (end : ServeEnd L D (WatchedState G T P) K S (Option (LogState O)) N) : Type 0 where
   pub outs : length end.outside ≡ length parts
   pub desks : length end.leaving ≡ length parts
-  pub idle : All (λ o. is_some o.reach.lent ≡ false) end.outside
+  pub idle : All (λ o. is_some o.reach.pooled.lent ≡ false) end.outside
   pub served : (lock : TableId) → All (λ p. BeginsSo lock format p.desk p.log) parts → AreServedGears (visit cfg rules) told.link told.keeps format 0
       (map (λ p. start_side told.door told.talks told.answers (start_with p.door p.reach p.clock p.desk p.log)) parts)
-      (gears_with (gear_with told.door told.talks told.answers) (map (λ o. tools o.door o.reach.dial o.reach.tape o.clock (sink_of o.log)) end.outside) (map (λ l. l.shelf) end.leaving))
+      (gears_with (gear_with told.door told.talks told.answers) (map (λ o. tools o.door o.reach.pooled.dial o.reach.pooled.tape o.clock (sink_of o.log)) end.outside) (map (λ l. l.shelf) end.leaving))
       (map (λ l. l.seat) end.leaving) end.workers
   pub here : (lock : TableId) → All (λ p. BeginsSo lock format p.desk p.log) parts → All (λ l. l.seat.lock ≡ lock) end.leaving
   pub whole : (lock : TableId) → All (λ p. BeginsSo lock format p.desk p.log) parts → sum_by (λ l. l.share.parts) end.leaving ≡ length parts
@@ -62,8 +63,8 @@ pub record IsRunOf {D G T K S O L C X : Type 0} {N : SiteGhosts L} (told : RunTe
   pub each : length ran.leaving ≡ length gears
 
 -- The run is one of the gears of which these parts were made, whichever these gears are.
-abbrev pub RunsParts : {D G T K S O L C X P W : Type 0} {N : SiteGhosts L} → RunTells D T K S O C X → Config → List Rule → List FormatPart → List (Part L D (PooledState G T P) K S W (Option (LogState O))) → Ran L D G T K S O N → Type 0
+abbrev pub RunsParts : {D G T K S O L C X P W : Type 0} {N : SiteGhosts L} → RunTells D T K S O C X → Config → List Rule → List FormatPart → List (Part L D (WatchedState G T P) K S W (Option (LogState O))) → Ran L D G T K S O N → Type 0
 RunsParts {D} {G} {T} {K} {S} {O} told cfg rules format parts ran =
-    (lock : TableId) (sizes pools : List ℕ) (gears : List (Gear D G T K S O))
-    → map (λ p. start_with p.door p.reach p.clock p.desk p.log) parts ≡ map (start_of lock sizes pools format) gears
+    (lock : TableId) (sizes pools : List ℕ) (watch : Option Watch) (gears : List (Gear D G T K S O))
+    → map (λ p. start_with p.door p.reach p.clock p.desk p.log) parts ≡ map (start_of lock sizes pools watch format) gears
     → IsRunOf told cfg rules format lock gears ran

@@ -26,7 +26,7 @@ use Rattle.jk_server.specs.RunTells.{gears_at, RunTells}
 use Rattle.jk_server.specs.Worker.{Keeps}
 use Rattle.jk_server.specs.declared.runs.ends.Closing.{Closing}
 use Rattle.jk_server.specs.declared.runs.ends.SiteRun.{SiteRun}
-use Rattle.jk_server.specs.declared.runs.serve.NewSite.{NewSite}
+use Rattle.jk_server.specs.declared.runs.new_site.NewSite.{NewSite}
 
 -- the pool sizes of each balancer's members
 abbrev pub pool_table : List Lb → List (List ℕ)

@@ -24,10 +24,10 @@ pub use container_server::{
 pub use gear_parts::{ContainerRun, GearOrder, Outside, OutsideList, Part, contain_gears};
 pub use orders::container::{ContainerOrder, MOST_ROUTE_BYTES, contain};
 pub use orders::ends::CommandEnd;
-pub use orders::serve::{ServeOrder, cut_at, serve};
+pub use orders::serve::{ServeOrder, cut_at, serve, watch_plan};
 pub use part::{ServeEnd, WorkerEnd, WorkerEndList};
 pub use runs::ends::{Closing, SiteRun};
-pub use runs::parts::SitePlan;
+pub use runs::parts::{SitePlan, WatchPlan};
 pub use runs::serve::serve_gears;
 pub use serving::serve_part;
 pub use workers::{MAX_WORKERS, run_serve};

@@ -1,4 +1,3 @@
 mod CommandLaws
 mod DemoLaws
-mod OptionLaws
 mod OrderLaws

@@ -1,5 +1,5 @@
 -- The orders that words are: how many workers they ask for, and which options stand there.
-use Rattle.std.proofs.Common.{ℕ, ◌≡◌, ◌≤◌, ◌-◌, Bool, true, false, ◌&&◌, ◌||◌, not, List, [], ◌∷◌, length, map, take, drop, Option, Some, None, is_some, is_none, if◌then◌else◌, codes, refl, sym, ◌∙◌, ap, subst, arith}
+use Rattle.std.proofs.Common.{ℕ, ◌≡◌, ◌≤◌, ◌-◌, Bool, true, false, ◌&&◌, ◌||◌, not, List, [], ◌∷◌, length, map, take, drop, Option, Some, None, if◌then◌else◌, codes, refl, sym, ◌∙◌, ap, subst, arith}
 use Rattle.std.specs.Prelude.{nat_eq, nat_le, option_and_then, option_map}
 use Rattle.std.specs.List.{list_all, list_any, starts_with}
 use Rattle.std.specs.Str.{bytes_eq, is_utf8}
@@ -8,14 +8,13 @@ use Rattle.std.proofs.lemmas.List.{take_all}
 use Rattle.std.proofs.lemmas.Slice.Eq.{bytes_eq-Decides}
 use Rattle.jk_io.specs.Decimals.{decimal_of}
 use Rattle.jk_cli.specs.Names.{command_in, name_of, may_stand}
-use Rattle.jk_cli.specs.Orders.{number_in, number_given, number_option, threads_of, clients_of, ServeOptions, are_together, options_given, serve_options, front_options, play_of, dry_of, config_of, match_of, check_of, log_of, follow_of, mode_named, mode_of, drill_of, serve_of, container_of, stop_of, demo_of, order_by, order_from, order_of, command_of}
-use Rattle.jk_cli.specs.Parts.{Part, Place, Stray, Verbose, alone, asks_value, equals_in, flag_in, given_at, is_dashed, is_end, parts_of, places_in, option_in}
+use Rattle.jk_cli.specs.Orders.{number_in, threads_of, clients_of, serve_options, front_options, play_of, dry_of, config_of, match_of, check_of, log_of, follow_of, mode_named, mode_of, drill_of, serve_of, container_of, stop_of, demo_of, order_by, order_from, order_of, command_of}
+use Rattle.jk_cli.specs.Parts.{Part, Place, Stray, Verbose, alone, asks_value, equals_in, flag_in, given_at, is_dashed, is_end, parts_of, places_in}
 use Rattle.jk_cli.specs.declared.name.CommandName.{CommandName}
 use Rattle.jk_cli.specs.declared.name.CommandName.TheVariants as name
 use Rattle.jk_cli.specs.declared.order.Order.{Order}
 use Rattle.jk_cli.specs.declared.order.Order.TheVariants as order
-use Rattle.jkd.specs.Words.{is_given, is_served, is_served_order, is_serving, IsInRange}
-use Rattle.jkd.proofs.OptionLaws.{given_once}
+use Rattle.jkd.specs.Words.{is_served, is_served_order, is_serving, IsInRange}
 
 -- a step that gave something had something
 bind_some : {A B : Type 0} (o : Option A) (f : A → Option B) (b : B) → option_and_then f o ≡ Some b → (a : A) × (o ≡ Some a) × (f a ≡ Some b)
@@ -33,7 +32,7 @@ is_passes word = bytes_eq word (codes "passes")
 -- What an order for workers says of the parts after the command.
 abbrev pub FitsParts : List Part → Order → Type 0
 FitsParts parts (order.Serve workers map address threads clients journal watch idle log format cut limits control grace) =
-    (is_given (codes "watch") parts ≡ is_some watch) × (1 ≤ threads) × (threads ≤ 64)
+    (1 ≤ threads) × (threads ≤ 64)
 FitsParts parts (order.Container route address threads clients) = (1 ≤ threads) × (threads ≤ 64) × (length route ≤ 1024)
 FitsParts parts (order.Drill seed threads requests text passes) =
     (1 ≤ threads) × (threads ≤ 64) × (1 ≤ requests) × (requests ≤ 1000000) × (passes ≡ list_any is_passes (places_in parts))
@@ -48,61 +47,6 @@ in_range least most n text e =
     let same : d.0 ≡ n = cc in
     subst (λ (k : ℕ). (least ≤ k) × (k ≤ most)) same (leb-true least d.0 p.0, leb-true d.0 most p.1)
 
-map_stands : (o : Option ℕ) (n : Option ℕ) → option_map (λ k. Some k) o ≡ Some n → true ≡ is_some n
-map_stands None n e = cc
-map_stands (Some k) n e = ap (λ (o : Option (Option ℕ)). elim o [ None ↦ true | Some v ↦ is_some v ]) e
-
-number_stands : (least most : ℕ) (text : Option (List ℕ)) (n : Option ℕ) → number_given least most text ≡ Some n → is_some text ≡ is_some n
-number_stands least most None n e = ap (λ (o : Option (Option ℕ)). elim o [ None ↦ false | Some v ↦ is_some v ]) e
-number_stands least most (Some text) n e = map_stands (number_in least most text) n e
-
-watch_stands : (parts : List Part) (n : Option ℕ) → number_option (codes "watch") 1 86400 parts ≡ Some n → is_given (codes "watch") parts ≡ is_some n
-watch_stands parts n e =
-    let o = bind_some (option_in (codes "watch") parts) (number_given 1 86400) n e in
-    given_once (codes "watch") parts o.0 o.1 ∙ number_stands 1 86400 o.0 n o.2
-
--- the options, from each one on
-abbrev from_format : (clients : Option ℕ) (journal : Option (List ℕ)) (watch idle : Option ℕ) (log format : Option (List ℕ)) → Option ServeOptions
-from_format clients journal watch idle log format =
-    Some (record { clients = clients; journal = journal; watch = watch; idle = idle; log = log; format = format })
-
-abbrev from_log : List Part → (clients : Option ℕ) (journal : Option (List ℕ)) (watch idle : Option ℕ) (log : Option (List ℕ)) → Option ServeOptions
-from_log parts clients journal watch idle log = option_and_then (from_format clients journal watch idle log) (option_in (codes "format") parts)
-
-abbrev from_idle : List Part → (clients : Option ℕ) (journal : Option (List ℕ)) (watch idle : Option ℕ) → Option ServeOptions
-from_idle parts clients journal watch idle = option_and_then (from_log parts clients journal watch idle) (option_in (codes "log") parts)
-
-abbrev from_watch : List Part → (clients : Option ℕ) (journal : Option (List ℕ)) (watch : Option ℕ) → Option ServeOptions
-from_watch parts clients journal watch = option_and_then (from_idle parts clients journal watch) (number_option (codes "idle") 1 1000000 parts)
-
-abbrev from_journal : List Part → (clients : Option ℕ) (journal : Option (List ℕ)) → Option ServeOptions
-from_journal parts clients journal = option_and_then (from_watch parts clients journal) (number_option (codes "watch") 1 86400 parts)
-
-abbrev from_clients : List Part → (clients : Option ℕ) → Option ServeOptions
-from_clients parts clients = option_and_then (from_journal parts clients) (option_in (codes "journal") parts)
-
--- the options that are given stand there
-options_stand : (parts : List Part) (given : ServeOptions) → options_given parts ≡ Some given
-    → is_given (codes "watch") parts ≡ is_some given.watch
-options_stand parts given e =
-    let clients = bind_some (clients_of parts) (from_clients parts) given e in
-    let journal = bind_some (option_in (codes "journal") parts) (from_journal parts clients.0) given clients.2 in
-    let watch = bind_some (number_option (codes "watch") 1 86400 parts) (from_watch parts clients.0 journal.0) given journal.2 in
-    let idle = bind_some (number_option (codes "idle") 1 1000000 parts) (from_idle parts clients.0 journal.0 watch.0) given watch.2 in
-    let log = bind_some (option_in (codes "log") parts) (from_log parts clients.0 journal.0 watch.0 idle.0) given idle.2 in
-    let format = bind_some (option_in (codes "format") parts) (from_format clients.0 journal.0 watch.0 idle.0 log.0) given log.2 in
-    let same_watch : watch.0 ≡ given.watch = ap (λ (o : Option ServeOptions). elim o [ None ↦ None | Some g ↦ g.watch ]) format.2 in
-    watch_stands parts watch.0 watch.1 ∙ ap (λ (w : Option ℕ). is_some w) same_watch
-
-serve_stands : (parts : List Part) (given : ServeOptions) → serve_options parts ≡ Some given
-    → is_given (codes "watch") parts ≡ is_some given.watch
-serve_stands parts given e =
-    let all = bind_some (options_given parts) (λ g. if are_together g then Some g else None) given e in
-    let kept = if_some (are_together all.0) (Some all.0) given all.2 in
-    let same : all.0 ≡ given = cc in
-    subst (λ (g : ServeOptions). is_given (codes "watch") parts ≡ is_some g.watch) same
-    (options_stand parts all.0 all.1)
-
 -- ---- each command's words
 
 in_serve : (parts : List Part) (places : List (List ℕ)) (o : Order) → serve_of parts places ≡ Some o → FitsParts parts o
@@ -114,9 +58,8 @@ in_serve parts (workers ∷ map ∷ address ∷ threads ∷ []) o e =
     let front = bind_some (front_options parts) (λ front.
     Some (order.Serve workers map address count.0 given.0.clients given.0.journal given.0.watch given.0.idle given.0.log given.0.format front.cut front.limits front.control front.grace)) o given.2 in
     let same : order.Serve workers map address count.0 given.0.clients given.0.journal given.0.watch given.0.idle given.0.log given.0.format front.0.cut front.0.limits front.0.control front.0.grace ≡ o = cc in
-    let stands = serve_stands parts given.0 given.1 in
     let range = in_range 1 64 count.0 threads count.1 in
-    subst (FitsParts parts) same (stands, range.0, range.1)
+    subst (FitsParts parts) same (range.0, range.1)
 in_serve parts [] o e = cc
 in_serve parts (a ∷ []) o e = cc
 in_serve parts (a ∷ b ∷ []) o e = cc
@@ -320,7 +263,7 @@ fits word behind o e =
     in_order named.0 (parts_of behind) (places_in (parts_of behind)) o stands.0 refl stands.1
 
 in_words : (parts : List Part) (o : Order) → FitsParts parts o → IsInRange o
-in_words parts (order.Serve workers map address threads clients journal watch idle log format cut limits control grace) f = (f.1, f.2)
+in_words parts (order.Serve workers map address threads clients journal watch idle log format cut limits control grace) f = f
 in_words parts (order.Container route address threads clients) f = f
 in_words parts order.Play f = tt
 in_words parts (order.Dry request reply site) f = tt
@@ -339,38 +282,27 @@ range (word ∷ behind) o e = in_words (parts_of behind) o (fits word behind o e
 
 -- ---- which words ask for workers
 
-none_of : (watch : Option ℕ) → is_none watch ≡ not (is_some watch)
-none_of None = refl
-none_of (Some watch) = refl
+serve_served : (o : Order) → command_in o ≡ name.Serve → is_served o ≡ true
+serve_served (order.Serve workers map address threads clients journal watch idle log format cut limits control grace) c = refl
+serve_served (order.Container route address threads clients) c = cc
+serve_served order.Play c = cc
+serve_served (order.Dry request reply site) c = cc
+serve_served (order.Config workers map) c = cc
+serve_served (order.Match workers map verbose) c = cc
+serve_served order.Check c = cc
+serve_served (order.Log format request reply workers map) c = cc
+serve_served order.Follow c = cc
+serve_served (order.Stop path) c = cc
+serve_served (order.Demo address) c = cc
+serve_served (order.Drill seed threads requests text passes) c = cc
 
-serve_served : (parts : List Part) (o : Order) → command_in o ≡ name.Serve → FitsParts parts o
-    → is_served o ≡ not (is_given (codes "watch") parts)
-serve_served parts (order.Serve workers map address threads clients journal watch idle log format cut limits control grace) c f = rw f.0 (none_of watch)
-serve_served parts (order.Container route address threads clients) c f = cc
-serve_served parts order.Play c f = cc
-serve_served parts (order.Dry request reply site) c f = cc
-serve_served parts (order.Config workers map) c f = cc
-serve_served parts (order.Match workers map verbose) c f = cc
-serve_served parts order.Check c f = cc
-serve_served parts (order.Log format request reply workers map) c f = cc
-serve_served parts order.Follow c f = cc
-serve_served parts (order.Stop path) c f = cc
-serve_served parts (order.Demo address) c f = cc
-serve_served parts (order.Drill seed threads requests text passes) c f = cc
+serve_found : (found : Option Order) → option_map command_in found ≡ Some name.Serve → is_served_order found ≡ true
+serve_found None c = cc
+serve_found (Some o) c = let named : command_in o ≡ name.Serve = cc in serve_served o named
 
-serve_found : (word : List ℕ) (behind : List (List ℕ)) (found : Option Order) → order_of (word ∷ behind) ≡ found → option_map command_in found ≡ Some name.Serve
-    → is_served_order found ≡ not (is_given (codes "watch") (parts_of behind))
-serve_found word behind None e c = cc
-serve_found word behind (Some o) e c =
-    let named : command_in o ≡ name.Serve = cc in
-    serve_served (parts_of behind) o named (fits word behind o e)
-
--- words of `serve` ask for workers where they give no `--watch`
-pub serve_words : (words : List (List ℕ)) → command_of words ≡ Some name.Serve → let behind = take (length words - 1) (drop 1 words) in
-    is_serving words ≡ not (is_given (codes "watch") (parts_of behind))
-serve_words [] c = cc
-serve_words (word ∷ behind) c =
-    rw (take_all (length (word ∷ behind) - 1) behind (omega arith)) (serve_found word behind (order_of (word ∷ behind)) refl c)
+-- words of `serve` ask for workers
+pub serve_words : (words : List (List ℕ)) → command_of words ≡ Some name.Serve → is_serving words ≡ true
+serve_words words c = serve_found (order_of words) c
 
 -- ---- which words of a drill ask for passes
 

@@ -1,17 +1,14 @@
 -- Which words ask for workers, and which are a command at all.
-use Rattle.std.specs.Prelude.{◌≡◌, ℕ, ◌≤◌, Bool, true, false, not, ◌||◌, List, [], ◌∷◌, length, Option, Some, None, is_none}
-use Rattle.std.specs.Str.{bytes_eq}
+use Rattle.std.specs.Prelude.{◌≡◌, ℕ, ◌≤◌, Bool, true, false, not, ◌||◌, List, length, Option, Some, None}
 use Rattle.jk_cli.specs.Orders.{order_of}
-use Rattle.jk_cli.specs.Parts.{Part, Place, Given, Stray, Verbose}
 use Rattle.jk_cli.specs.declared.order.Order.{Order}
 use Rattle.jk_cli.specs.declared.order.Order.TheVariants as order
 use Rattle.plain_commands.specs.Plain.{is_plain, readings}
 use Rattle.site_reports.specs.Readings.{has_file}
 
--- `serve`, `container` and `drill`. A watch and passes aren't built: words with `--watch`, without which `--idle` can't stand,
--- and a drill with `passes` are no command yet.
+-- `serve`, `container` and `drill`. Passes aren't built: a drill with `passes` is no command yet.
 abbrev pub is_served : Order → Bool
-is_served (order.Serve workers map address threads clients journal watch idle log format cut limits control grace) = is_none watch
+is_served (order.Serve workers map address threads clients journal watch idle log format cut limits control grace) = true
 is_served (order.Container route address threads clients) = true
 is_served (order.Drill seed threads requests text passes) = not passes
 is_served other = false
@@ -44,11 +41,3 @@ IsInRange (order.Container route address threads clients) = (1 ≤ threads) × (
 IsInRange (order.Drill seed threads requests text passes) =
     (1 ≤ threads) × (threads ≤ 64) × (1 ≤ requests) × (requests ≤ 1000000)
 IsInRange other = Unit {0}
-
--- an option of this name stands among the parts
-abbrev pub is_given : List ℕ → List Part → Bool
-is_given key [] = false
-is_given key (Place word ∷ parts) = is_given key parts
-is_given key (Given name value ∷ parts) = bytes_eq name key || is_given key parts
-is_given key (Verbose ∷ parts) = is_given key parts
-is_given key (Stray ∷ parts) = is_given key parts

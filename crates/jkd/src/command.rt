@@ -13,7 +13,7 @@ use crate::words::is_serving;
 use drill::{DrillOrder, write_drill};
 use jk_cli::{Order, read_words};
 use jk_io::{Bytes, Door, Files, Sink, Source};
-use jk_server::{ContainerOrder, GearOrder, ServeOrder, contain, cut_at, serve};
+use jk_server::{ContainerOrder, GearOrder, ServeOrder, contain, cut_at, serve, watch_plan};
 use plain_commands::run_plain;
 use std::alloc::Global;
 use std::sync::Wait;
@@ -45,13 +45,14 @@ where
             threads,
             clients,
             journal,
+            watch,
+            idle,
             log,
             format,
             cut,
             limits,
             control,
             grace,
-            ..
         } => {
             let asked = GearOrder {
                 address,
@@ -69,6 +70,7 @@ where
                 threads: *threads,
                 cut: cut_at(*cut),
                 format: format.as_ref(),
+                watch: watch_plan(*watch, *idle),
                 asked,
             };
             EndOf::from(serve(rt, alloc, order, files, out, world))

@@ -14,11 +14,12 @@ use std::thread::Threads;
 use std::time::Clock;
 
 /// The files of rows.
-static FILES: [&str; 6] = [
+static FILES: [&str; 7] = [
     "serve/words.txt",
     "serve/serving.txt",
     "serve/faults.txt",
     "serve/logs.txt",
+    "serve/watch.txt",
     "serve/drills.txt",
     "serve/meeting.txt",
 ];

@@ -7,6 +7,7 @@ use jk_cli::{Order, read_words};
 use jk_io::{Bytes, MemFiles, MemLink, NumberList};
 use jk_server::{
     ContainerOrder, GearOrder, MAX_WORKERS, MOST_ROUTE_BYTES, ServeOrder, contain, cut_at, serve,
+    watch_plan,
 };
 use plain_commands::run_plain;
 use std::alloc::Global;
@@ -62,7 +63,7 @@ fn drilled<R: Threads + Wait + Sync>(
     Some(write_drill(rt, alloc, order, out).status())
 }
 
-/// The status of an order that asks for workers or threads; none of any other, and where a watch or passes are asked for.
+/// The status of an order that asks for workers or threads; none of any other, and where passes are asked for.
 fn status_by<R: Threads + Wait + Sync>(
     rt: &R,
     alloc: Global,
@@ -79,14 +80,14 @@ fn status_by<R: Threads + Wait + Sync>(
             threads,
             clients,
             journal,
-            watch: None,
+            watch,
+            idle,
             log,
             format,
             cut,
             limits,
             control,
             grace,
-            ..
         } => {
             let asked = GearOrder {
                 address,
@@ -104,6 +105,7 @@ fn status_by<R: Threads + Wait + Sync>(
                 threads: *threads,
                 cut: cut_at(*cut),
                 format: format.as_ref(),
+                watch: watch_plan(*watch, *idle),
                 asked,
             };
             served(rt, alloc, order, files, out, world)

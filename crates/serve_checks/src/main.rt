@@ -8,6 +8,7 @@
 //!     gear-fails N        the call for a gear or for a log with this number, from 0, fails
 //!     door-fails N        the accept with this number, from 0, fails at each door
 //!     dial-fails N        the dial with this number fails in each gear
+//!     clock N N ..        what each clock answers in turn, and the last one from then on; without it 0
 //!     shelf-fails N       the keep with this number fails on each shelf
 //!     log-fails N         a write of each log fails after its first N bytes
 //!     file-fails N        the read of a file with this number fails

@@ -205,6 +205,7 @@ fn over_links<L: Link + Shown + Drop + Send, R: Threads + Wait + Sync>(
         map: served.map,
         cut: cut_at(None),
         format: &format,
+        watch: None,
     };
     let run = serve_gears(rt, alloc, plan, gears)?;
     let told = told(alloc, run.gears.as_slice());

@@ -2,7 +2,7 @@
 use block_rows::row::{BlockRow, RowError};
 use jk_io::{
     Bytes, ClientList, ListOf, MemDial, MemLink, MemLinkList, NoMemory, NumberList, Peer,
-    parse_decimal,
+    StepClock, parse_decimal,
 };
 use locked_balancer::{KeptList, MemShelf};
 use std::alloc::Global;
@@ -122,6 +122,8 @@ fn fill_plan(
     set(&mut plan.refused, refused);
     let dial = dial_of(alloc, row, links, file)?;
     set(&mut plan.dial, dial);
+    let answers = row.numbers(alloc, "clock")?;
+    set(&mut plan.clock, StepClock::new(answers));
     let shelf = shelf_of(alloc, row)?;
     set(&mut plan.shelf, shelf);
     Ok(())

@@ -5,12 +5,13 @@ ghost use Rattle.jk_io.specs.Told.{HasCause};
 ghost use Rattle.request_log.specs.Formats.{refusal_line as line_of_refusal};
 ghost use Rattle.jk_server.specs.Commands.{cut_at, format_text as text_of_format, telling, ServesFormatted, ServesOrder, WorksSite, WritesLine};
 ghost use Rattle.jk_server.specs.Ends.{end_of_run, returned};
+ghost use Rattle.jk_server.specs.Watches.{watch_plan};
 ghost use Rattle.gear_parts.specs.Worlds.{HandsAndTakes, tells, world_side};
 ghost use Rattle.jk_server.specs.declared.workers.TheConstants.{MAX_WORKERS};
 
 use crate::orders::ends::{CommandEnd, NO_MEMORY, OUTPUT_FAULT, REFUSED, end_by, end_of_run};
 use crate::runs::ends::{Closing, SiteRun};
-use crate::runs::parts::SitePlan;
+use crate::runs::parts::{SitePlan, WatchPlan};
 use crate::runs::serve::serve_gears;
 use gear_parts::{GearOf, GearOrder, World, give_back, log_gears, take_gears};
 use jk_io::{Bytes, Door, Files, IoError, NoMemory, Sink, write_all};
@@ -32,6 +33,8 @@ pub struct ServeOrder<'a> {
     pub cut: u32,
     /// The format of the logs, where it is written.
     pub format: Option<&'a Bytes>,
+    /// How idle links are looked after, if they are.
+    pub watch: Option<WatchPlan>,
     /// What the gears are for, but for their site.
     pub asked: GearOrder<'a>,
 }
@@ -68,6 +71,16 @@ pub fn cut_at(cut: Option<u64>) -> u32
     ensures { result ≡ cut_at cut }
 {
     u32::try_from(cut.unwrap_or(65_536)).unwrap_or(u32::MAX)
+}
+
+/// How idle links are looked after, by the words that say so; where no looks are given a link may stay idle for ten.
+pub fn watch_plan(seconds: Option<u64>, looks: Option<u32>) -> Option<WatchPlan>
+    ensures { result ≡ watch_plan seconds looks }
+{
+    Some(WatchPlan {
+        every: seconds?,
+        limit: looks.unwrap_or(10),
+    })
 }
 
 /// Writes the line that refuses a site's files.
@@ -138,6 +151,7 @@ where
         map: &site.map,
         cut: order.cut,
         format: of.format,
+        watch: order.watch,
     };
     match serve_gears(rt, alloc, plan, gears) {
         Ok(ran) => settle(world, ran),

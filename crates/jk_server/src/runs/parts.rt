@@ -16,10 +16,11 @@ ghost use Rattle.jk_server.specs.Worker.{MayBegin};
 use crate::part::ServeEnd;
 use crate::runs::ran::Ran;
 use crate::workers::{MAX_WORKERS, run_serve};
-use conn_pool::{PooledReach, Tape};
+use conn_pool::Tape;
 use gear_parts::{After, Common, Gear, GearLog, Left, Memory, Part, parts_for, take_apart};
 use jk_io::{Clock, Dial, Door, NoMemory};
 use locked_balancer::{SharedSite, Shelf, SiteName};
+use pool_watch::WatchedReach;
 use request_log::{Format, Timed};
 use site_config::Config;
 use std::alloc::Global;
@@ -27,6 +28,15 @@ use std::sync::Wait;
 use std::sync::ledger::Share;
 use std::thread::Threads;
 use uri_map::UriMap;
+
+/// How idle links are looked after.
+#[derive(Clone, Copy)]
+pub struct WatchPlan {
+    /// The seconds between two looks; with 0 there are none.
+    pub every: u64,
+    /// The most looks that a link may stay idle for, where its member says nothing else.
+    pub limit: u32,
+}
 
 /// The site by which the clients are served.
 #[derive(Clone, Copy)]
@@ -37,6 +47,8 @@ pub struct SitePlan<'a> {
     pub cut: u32,
     /// The format of the logs.
     pub format: &'a Format,
+    /// How idle links are looked after, if they are.
+    pub watch: Option<WatchPlan>,
 }
 
 /// A worker for each gear, with one part of the share each.
@@ -96,7 +108,7 @@ fn work_in<
     plan: SitePlan<'_>,
     site: &SharedSite<'r, L, R>,
     memory: Memory<
-        Part<'s, 'r, L, D, PooledReach<'s, 'r, G, T, R>, K, S, R, GearLog<'s, O>>,
+        Part<'s, 'r, L, D, WatchedReach<'s, 'r, G, T, R>, K, S, R, GearLog<'s, O>>,
         Left<D, G, T, K, O>,
         Gear<D, G, T, K, S, O>,
     >,
@@ -104,7 +116,7 @@ fn work_in<
 where
     D::L: Send,
     requires few { vec_len memory.parts ≤ MAX_WORKERS }
-    requires ready { All (λ p. MayBegin plan.cfg.now plan.map.now p.desk.desk (beside_of T.begun T.talks p.reach) (broken_by p.log)) memory.parts.items }
+    requires ready { All (λ p. MayBegin plan.cfg.now plan.map.now p.desk.desk (beside_of T.begun T.talks p.reach.pooled) (broken_by p.log)) memory.parts.items }
     requires after { HasAfter (vec_len memory.parts) memory.after }
     ensures { let told = run_tells D.coming D.left D.faults T.talks K.answers D.L.Meanings S.shelved (logging S.faults O.Meanings D.L.may_wait) in
         IfOk result (RunsParts told plan.entry.cfg.now plan.entry.map.now plan.entry.format.now memory.entry.parts.items) }
@@ -133,12 +145,12 @@ fn serve_all<
     alloc: Global,
     plan: SitePlan<'_>,
     site: &SharedSite<'r, L, R>,
-    parts: Vec<Part<'s, 'r, L, D, PooledReach<'s, 'r, G, T, R>, K, S, R, GearLog<'s, O>>>,
-) -> Result<ServeEnd<L, D, PooledReach<'s, 'r, G, T, R>, K, S, GearLog<'s, O>>, NoMemory>
+    parts: Vec<Part<'s, 'r, L, D, WatchedReach<'s, 'r, G, T, R>, K, S, R, GearLog<'s, O>>>,
+) -> Result<ServeEnd<L, D, WatchedReach<'s, 'r, G, T, R>, K, S, GearLog<'s, O>>, NoMemory>
 where
     D::L: Send,
     requires few { vec_len parts ≤ MAX_WORKERS }
-    requires ready { All (λ p. MayBegin plan.cfg.now plan.map.now p.desk.desk (beside_of T.begun T.talks p.reach) (broken_by p.log)) parts.items }
+    requires ready { All (λ p. MayBegin plan.cfg.now plan.map.now p.desk.desk (beside_of T.begun T.talks p.reach.pooled) (broken_by p.log)) parts.items }
     ensures { let told = run_tells D.coming D.left D.faults T.talks K.answers D.L.Meanings S.shelved (logging S.faults O.Meanings D.L.may_wait) in
         IfOk result (LeavesParts told plan.entry.cfg.now plan.entry.map.now plan.entry.format.now parts.entry.items) }
 {
@@ -158,15 +170,15 @@ fn ran_of<
     O: Timed + Drop,
     R,
 >(
-    end: ServeEnd<L, D, PooledReach<'s, 'r, G, T, R>, K, S, GearLog<'s, O>>,
+    end: ServeEnd<L, D, WatchedReach<'s, 'r, G, T, R>, K, S, GearLog<'s, O>>,
     after: After<Left<D, G, T, K, O>, Gear<D, G, T, K, S, O>>,
 ) -> Ran<L, D, G, T, K, S, O>
     requires paired { length end.leaving ≡ length end.outside }
     requires after { HasAfter (length end.outside) after }
-    requires idle { All (λ o. is_some o.reach.lent ≡ false) end.outside }
+    requires idle { All (λ o. is_some o.reach.pooled.lent ≡ false) end.outside }
     ensures workers { result.workers ≡ end.entry.workers }
     ensures leaving { result.leaving ≡ end.entry.leaving }
-    ensures tools { tools_of result.left.items ≡ map (λ o. tools o.door o.reach.dial o.reach.tape o.clock (sink_of o.log)) end.entry.outside }
+    ensures tools { tools_of result.left.items ≡ map (λ o. tools o.door o.reach.pooled.dial o.reach.pooled.tape o.clock (sink_of o.log)) end.entry.outside }
 {
     let ServeEnd {
         workers,

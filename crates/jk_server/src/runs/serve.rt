@@ -1,22 +1,25 @@
 //! A connector's run: the balancers start, the workers serve, the desks are closed.
 ghost use Rattle.std.specs.Prelude.{◌≡◌, ◌<◌, ◌≤◌, map, true, vec_len, IfOk};
+ghost use Rattle.std.specs.Option.{ForSome};
 ghost use Rattle.std.specs.List.{All};
 ghost use Rattle.uri_map.specs.Sites.{stands_in};
 ghost use Rattle.jk_server.specs.Runs.{RunsGears};
 ghost use Rattle.site_books.specs.Starts.{AreStarts};
 ghost use Rattle.jk_server.specs.Started.{IsNewSite, IsReady, RunsStarted, pool_table};
 ghost use Rattle.jk_server.specs.RunTells.{logging, run_tells};
+ghost use Rattle.jk_server.specs.Watches.{watch_at};
 
 use crate::runs::closing::settle;
 use crate::runs::ends::SiteRun;
-use crate::runs::parts::{SitePlan, work};
+use crate::runs::new_site::NewSite;
+use crate::runs::parts::{SitePlan, WatchPlan, work};
 use crate::workers::MAX_WORKERS;
-use balancer_core::BookList;
 use conn_pool::{Idle, Pools, Tape};
 use gear_parts::{Common, Gear, first_moment};
 use jk_io::{Clock, Dial, Door, NoMemory, SizeList, SizeTable};
 use jk_model::MemberConfig;
 use locked_balancer::{SharedSite, Shelf, Site, SiteName};
+use pool_watch::{AgedLink, Watch};
 use request_log::Timed;
 use site_books::books_of;
 use site_config::{Config, Lb};
@@ -55,21 +58,38 @@ where
 {
     let mut gears = gears;
     let at = first_moment(&mut gears);
-    match new_site(alloc, plan.cfg, at, gears.len()) {
+    match new_site(alloc, plan, at, gears.len()) {
         Ok(new) => over_site::<Brand, D, G, T, K, S, O, R>(rt, alloc, plan, new, gears),
         Err(NoMemory) => Err(NoMemory),
     }
 }
 
 /// A Site for this many workers that isn't open yet.
-fn new_site(alloc: Global, cfg: &Config, at: u64, workers: usize) -> Result<NewSite, NoMemory>
+fn new_site(alloc: Global, plan: SitePlan<'_>, at: u64, workers: usize) -> Result<NewSite, NoMemory>
     ensures parts { IfOk result (λ new. new.blank.parts ≡ workers) }
-    ensures books { IfOk result (λ new. AreStarts cfg.now.lbs at 0 new.books) }
+    ensures books { IfOk result (λ new. AreStarts plan.entry.cfg.now.lbs at 0 new.books) }
+    ensures watch { IfOk result (λ new. new.watch ≡ watch_at plan.entry.watch at) }
 {
     Ok(NewSite {
         blank: Blank::new(workers as u64),
-        books: books_of(alloc, cfg.lbs.as_slice(), at, 0)?,
+        books: books_of(alloc, plan.cfg.lbs.as_slice(), at, 0)?,
+        watch: watch_at(plan.watch, at),
     })
+}
+
+/// The watch that begins at this moment.
+fn watch_at(plan: Option<WatchPlan>, at: u64) -> Option<Watch>
+    ensures watch { result ≡ watch_at plan at }
+    ensures every { ForSome result (λ w. 0 < w.every) }
+{
+    match plan {
+        Some(WatchPlan { every, limit }) if every > 0 => Some(Watch {
+            every,
+            limit,
+            last: at,
+        }),
+        _ => None,
+    }
 }
 
 /// The pool sizes of each balancer's members.
@@ -101,13 +121,6 @@ fn pools_for<'r, C: Drop, R>(
     let lbs = cfg.lbs.as_slice();
     let pools = Pools::new(rt, alloc, &pool_sizes(alloc, lbs)?)?;
     Ok(pools)
-}
-
-/// A Site that isn't open yet.
-#[derive(Drop)]
-pub(crate) struct NewSite {
-    pub(crate) blank: Blank,
-    pub(crate) books: BookList,
 }
 
 /// Serves over the Site with this name: makes the pools of idle links, and runs the workers with them.
@@ -157,7 +170,7 @@ fn over_pools<
     plan: SitePlan<'_>,
     new: NewSite,
     gears: Vec<Gear<D, G, T, K, S, O>>,
-    pools: &Pools<'r, Idle<G::L>, R>,
+    pools: &Pools<'r, Idle<AgedLink<G::L>>, R>,
 ) -> Result<SiteRun<L, Gear<D, G, T, K, S, O>>, NoMemory>
 where
     D::L: Send,
@@ -167,10 +180,13 @@ where
     ensures ran { let told = run_tells D.coming D.left D.faults T.talks K.answers D.L.Meanings S.shelved (logging S.faults O.Meanings D.L.may_wait) in
         IfOk result (RunsStarted told plan.entry.cfg.now plan.entry.map.now plan.entry.format.now gears.items) }
 {
+    let watch = new.watch;
     let (shared, share) = shared_site::<L, R>(rt, alloc, plan, new)?;
     let common = Common {
         site: &shared,
         pools,
+        cfg: plan.cfg,
+        watch,
         format: plan.format,
     };
     match work(rt, alloc, plan, &common, share, gears) {
@@ -189,7 +205,11 @@ fn shared_site<'r, L: SiteName, R>(
     requires { IsNewSite L.name L.parts L.starts L.sizes L.firsts L.cut_at plan.cut plan.cfg.now.lbs new }
     ensures { IfOk result (λ x. (x.1.parts ≡ L.parts) × (x.1.amount ≡ 0)) }
 {
-    let NewSite { blank, books } = new;
+    let NewSite {
+        blank,
+        books,
+        watch: _,
+    } = new;
     let (site, share) = Site::<L>::open(blank, books);
     let shared = SharedSite::new(rt, alloc, site, plan.cut)?;
     Ok((shared, share))

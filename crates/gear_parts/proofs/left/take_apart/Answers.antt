@@ -14,7 +14,7 @@ take_each-requires-clause-room g c = λ κs within.
 pub take_each-requires-clause-idle : goal.take_each-requires-clause-idle
 take_each-requires-clause-idle g c = λ κs within.
     let all : c.into_iter-outside.result.rest.items ≡ c.args.outside.items = cc in
-    All-same (λ o. is_some o.reach.lent ≡ false) _ _ all c.requires.idle
+    All-same (λ o. is_some o.reach.pooled.lent ≡ false) _ _ all c.requires.idle
 
 pub returns : goal.returns
 returns g c =

@@ -19,15 +19,15 @@ push_reserved-requires g c = omega (arith, c.outside.invariant.room, ap length c
 
 pub left_of-requires-clause-idle : goal.left_of-requires-clause-idle
 left_of-requires-clause-idle g c = λ κs within.
-    All-head (λ o. is_some o.reach.lent ≡ false) _ _
-    (All-same (λ o. is_some o.reach.lent ≡ false) _ _ (sym c.in-Some.ensures.items) c.outside.invariant.idle)
+    All-head (λ o. is_some o.reach.pooled.lent ≡ false) _ _
+    (All-same (λ o. is_some o.reach.pooled.lent ≡ false) _ _ (sym c.in-Some.ensures.items) c.outside.invariant.idle)
 
 pub outside-preserved : goal.outside-preserved
 outside-preserved g c =
     let first = c.in-Some.ensures.items in
     record {
       tools_left = one_put _ _ _ _ _ _ _ _ _ c.outside.invariant.tools_left first c.push_reserved.ensures.items c.left_of.ensures;
-      idle = All-rest (λ o. is_some o.reach.lent ≡ false) _ _ _ first c.outside.invariant.idle;
+      idle = All-rest (λ o. is_some o.reach.pooled.lent ≡ false) _ _ _ first c.outside.invariant.idle;
       room = omega (arith, ap length first, c.outside.invariant.room, c.push_reserved.ensures.len, c.push_reserved.ensures.capacity);
     }
 

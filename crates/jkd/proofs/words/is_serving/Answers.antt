@@ -4,7 +4,7 @@ use Rattle.jkd.proofs.OrderLaws.{drill_words, serve_words}
 use Rattle.jkd.proofs.words.is_serving.Goals as goal
 
 pub returns-in-Some-Serve : goal.returns-in-Some-Serve
-returns-in-Some-Serve c = c.is_built.ensures ∙ sym (serve_words c.args.words.now (sym c.command_of.ensures ∙ c.in-Some-Serve.is ∙ ap (λ (n : CommandName). Some n) c.in-Some-Serve.field-0-is))
+returns-in-Some-Serve c = sym (serve_words c.args.words.now (sym c.command_of.ensures ∙ c.in-Some-Serve.is ∙ ap (λ (n : CommandName). Some n) c.in-Some-Serve.field-0-is))
 
 pub returns-in-Some-Drill : goal.returns-in-Some-Drill
 returns-in-Some-Drill c =

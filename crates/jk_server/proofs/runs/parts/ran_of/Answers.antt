@@ -11,7 +11,7 @@ take_apart-requires-clause-room g c = λ κs within. few_so _ _ _ (c.into_vec.re
 
 pub take_apart-requires-clause-idle : goal.take_apart-requires-clause-idle
 take_apart-requires-clause-idle g c = λ κs within.
-    subst (λ os. All (λ o. is_some o.reach.lent ≡ false) os) (sym c.into_vec.ensures) c.requires.idle
+    subst (λ os. All (λ o. is_some o.reach.pooled.lent ≡ false) os) (sym c.into_vec.ensures) c.requires.idle
 
 pub invariant_of-result : goal.invariant_of-result
 invariant_of-result g c =
@@ -24,4 +24,4 @@ invariant_of-result g c =
 
 pub returns-clause-tools : goal.returns-clause-tools
 returns-clause-tools g c =
-    c.take_apart.ensures ∙ ap (λ os. map (λ o. tools o.door o.reach.dial o.reach.tape o.clock (sink_of o.log)) os) c.into_vec.ensures
+    c.take_apart.ensures ∙ ap (λ os. map (λ o. tools o.door o.reach.pooled.dial o.reach.pooled.tape o.clock (sink_of o.log)) os) c.into_vec.ensures

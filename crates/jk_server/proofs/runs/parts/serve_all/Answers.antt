@@ -11,7 +11,7 @@ use Rattle.gear_parts.specs.GearParts.{gear_with, start_with, tools}
 use Rattle.jk_server.specs.RunTells.{logging, run_tells}
 use Rattle.jk_server.specs.ServedGears.{BeginsSo, LeavesParts, start_side}
 use Rattle.jk_server.proofs.GearRunLaws.{all_left, as_many, each_left, gears_served, parts_whole}
-use Rattle.jk_server.proofs.SendLaws.{reach_send}
+use Rattle.pool_watch.proofs.SendLaws.{watched_send}
 use Rattle.jk_server.proofs.StartLaws.{ok_weaker, one_part, served_gear}
 use Rattle.jk_server.proofs.ToldLaws.{lock_left, told_left, told_served}
 use Rattle.jk_server.proofs.runs.parts.serve_all.Goals as goal
@@ -26,8 +26,8 @@ pub run_serve-requires-send-R : goal.run_serve-requires-send-R
 run_serve-requires-send-R g c κs within =
     param_send 2 _
     (arg_send _ no _
-    (reach_send (record { mir = named 15; lft = κs.1.1.1.1.1.1.1.1.1.1.1.1.1.1.1.0 }) (record { mir = named 16; lft = κs.1.1.1.1.1.1.1.1.1.1.1.1.1.1.1.1.0 })
-    (param 2 g.row.G) (param 3 g.row.T) (param 7 g.row.R) (param 10 g.row.G-L) (param 11 g.row.G-L-Beside) g.G.Dial g.G.L.Link g.G.L.Meanings g.T.Tape
+    (watched_send (record { mir = named 15; lft = κs.1.1.1.1.1.1.1.1.1.1.1.1.1.1.1.0 }) (record { mir = named 16; lft = κs.1.1.1.1.1.1.1.1.1.1.1.1.1.1.1.1.0 })
+    (param 2 g.row.G) (param 3 g.row.T) (param 7 g.row.R) (param 10 g.row.G-L) (param 11 g.row.G-L-Beside) g.G.Dial g.G.L.Link g.G.L.Meanings g.T.Tape g.G.L.Source g.G.L.Sink
     c.type_bounds.send-G c.type_bounds.send-T c.type_bounds.sync-R c.type_bounds.send-G-L))
 
 pub returns : goal.returns
@@ -39,12 +39,12 @@ returns g c =
     ok_weaker _ (λ end. LeavesParts told c.args.plan.cfg.now c.args.plan.map.now c.args.plan.format.now c.args.parts.items end) _ c.run_serve.ensures.served (λ end each. record {
       outs = (as_many _ 0 c.args.parts.items end.outside end.leaving end.workers each).0;
       desks = (as_many _ 0 c.args.parts.items end.outside end.leaving end.workers each).1;
-      idle = all_left _ (λ o. is_some o.reach.lent ≡ false) 0 c.args.parts.items end.outside end.leaving end.workers each (λ k p o v e is. is.worked.fit.idle);
+      idle = all_left _ (λ o. is_some o.reach.pooled.lent ≡ false) 0 c.args.parts.items end.outside end.leaving end.workers each (λ k p o v e is. is.worked.fit.idle);
       served = λ lock fresh.
           gears_served (visit c.args.plan.cfg.now c.args.plan.map.now) g.D.L.Meanings (logging g.S.Shelf.faults g.O.Meanings g.D.L.Link.may_wait) c.args.plan.format.now
           (λ p. BeginsSo lock c.args.plan.format.now p.desk p.log) _
           (λ p. start_side at g.T.Tape.talks g.K.Clock.answers (start_with p.door p.reach p.clock p.desk p.log))
-          (gear_with at g.T.Tape.talks g.K.Clock.answers) (λ o. tools o.door o.reach.dial o.reach.tape o.clock (sink_of o.log)) (λ v. v.shelf) (λ v. v.seat)
+          (gear_with at g.T.Tape.talks g.K.Clock.answers) (λ o. tools o.door o.reach.pooled.dial o.reach.pooled.tape o.clock (sink_of o.log)) (λ v. v.shelf) (λ v. v.seat)
           0 c.args.parts.items end.outside end.leaving end.workers fresh each
           (λ k p o v e new is.
           served_gear _ _ _ _ _ _ _ _ _ _ is.worked.served (record { shelf = refl; clock = refl; talks = refl }) new.0.0

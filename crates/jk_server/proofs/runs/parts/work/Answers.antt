@@ -17,8 +17,8 @@ work_in-requires-clause-few g c = λ κs within. few_so _ _ _ c.in-Ok.ensures.co
 pub work_in-requires-clause-ready : goal.work_in-requires-clause-ready
 work_in-requires-clause-ready g c = λ κs within.
     starts_are (lock_of c.args.common.now.site.now) g.L.SiteName.sizes (counts c.args.common.now.pools.now)
-    c.args.common.now.format.now
-    (λ s. MayBegin c.args.plan.cfg.now c.args.plan.map.now s.desk.desk (beside_of g.T.Tape.begun g.T.Tape.talks s.reach) (broken_by s.log))
+    c.args.common.now.watch c.args.common.now.format.now
+    (λ s. MayBegin c.args.plan.cfg.now c.args.plan.map.now s.desk.desk (beside_of g.T.Tape.begun g.T.Tape.talks s.reach.pooled) (broken_by s.log))
     (λ p. start_with p.door p.reach p.clock p.desk p.log) c.in-Ok.memory.parts.items c.args.gears.items c.in-Ok.ensures.starts
     (λ k d lt. record {
       fit = record {
@@ -41,7 +41,7 @@ returns-in-Ok g c =
     subst
     (λ (f : List FormatPart).
     map (λ p. start_with p.door p.reach p.clock p.desk p.log) c.in-Ok.memory.parts.items
-    ≡ map (start_of (lock_of c.args.common.now.site.now) g.L.SiteName.sizes (counts c.args.common.now.pools.now) f) c.args.gears.items)
+    ≡ map (start_of (lock_of c.args.common.now.site.now) g.L.SiteName.sizes (counts c.args.common.now.pools.now) c.args.common.now.watch f) c.args.gears.items)
     c.requires.format c.in-Ok.ensures.starts in
     runs_of _ _ _ c.args.plan.format.now c.in-Ok.memory.parts.items (lock_of c.args.common.now.site.now) g.L.SiteName.sizes (counts c.args.common.now.pools.now)
-    c.args.gears.items _ starts c.work_in.ensures
+    c.args.common.now.watch c.args.gears.items _ starts c.work_in.ensures

@@ -5,8 +5,14 @@ use Rattle.door_clients.specs.Doors.{side}
 use Rattle.jk_server.proofs.CutLaws.{closes_said}
 use Rattle.jk_server.proofs.GearRunLaws.{some_left}
 use Rattle.jk_server.specs.RunTells.{logging}
-use Rattle.jk_server.proofs.StartLaws.{run_done, table_counts}
+use Rattle.jk_server.proofs.StartLaws.{run_done, table_counts, table_ends}
 use Rattle.jk_server.proofs.runs.serve.over_pools.Goals as goal
+
+pub invariant_of-common : goal.invariant_of-common
+invariant_of-common g c = record {
+  every = c.args.new.every;
+  ends = ap (λ ps. counts ps) c.requires.pool_sizes ∙ table_counts c.args.plan.cfg.now.lbs ∙ table_ends c.args.plan.cfg.now.lbs;
+}
 
 pub work-requires-clause-few : goal.work-requires-clause-few
 work-requires-clause-few g c = λ κs within. c.requires.ready.few
