@@ -35,23 +35,23 @@ def whole_reply(page):
     return packet(head) + packet(b"\x03" + text(page)) + packet(b"\x05\x01")
 
 
-def serve_link(link, answer):
-    """Pongs, and sends what `answer` gives for each other packet, until the link ends."""
+def serve_link(link, answer, pong):
+    """Sends `pong` for a CPing, and what `answer` gives for each other packet, until the link ends."""
     with contextlib.suppress(EOFError, OSError), link:
         link.setsockopt(socket.IPPROTO_TCP, socket.TCP_NODELAY, 1)
         while True:
             payload = read_packet(link)
-            link.sendall(packet(CPONG) if payload == CPING else answer(link, payload))
+            link.sendall(pong if payload == CPING else answer(link, payload))
 
 
-def serve_links(door, answer):
+def serve_links(door, answer, pong):
     while True:
         link, _ = door.accept()
-        threading.Thread(target=serve_link, args=(link, answer), daemon=True).start()
+        threading.Thread(target=serve_link, args=(link, answer, pong), daemon=True).start()
 
 
-def start_member(answer):
-    """A member at a port that the system gives."""
+def start_member(answer, pong=packet(CPONG)):
+    """A member at a port that the system gives. With an empty `pong` it answers no CPing."""
     door = socket.create_server(("127.0.0.1", 0), backlog=512)
-    threading.Thread(target=serve_links, args=(door, answer), daemon=True).start()
+    threading.Thread(target=serve_links, args=(door, answer, pong), daemon=True).start()
     return door.getsockname()[1]

@@ -3,9 +3,9 @@
 
     python3 vectors/trials.py PROGRAM [TRIAL ..]
 
-Without a TRIAL all of them, some four minutes: stopped, silent, restarted, strays, refused, pipelined, stops, effects, descriptors, disk. Each prints
-what came, and whether it is as docs/MEASURED.md and docs/OPERATING.md say. All listens at 127.0.0.1; `disk` mounts a small tmpfs where it
-may, as root. Status: 0 all was as said; 1 else.
+Without a TRIAL all of them, some four minutes: stopped, silent, hung, restarted, strays, refused, pipelined, stops, effects, descriptors,
+disk. Each prints what came, and whether it is as docs/MEASURED.md and docs/OPERATING.md say. All listens at 127.0.0.1; `disk` mounts a small
+tmpfs where it may, as root. Status: 0 all was as said; 1 else.
 """
 import collections
 import os
@@ -17,7 +17,7 @@ import sys
 import threading
 import time
 
-from member import start_member, whole_reply
+from member import CPONG, packet, start_member, whole_reply
 from running import free_port, is_good, programs_in_a_folder, reply_of
 
 SCRIPT = os.path.join(os.path.dirname(os.path.abspath(__file__)), "..", "examples", "jkd-serve.sh")
@@ -156,6 +156,29 @@ def try_silent(site):
             statuses, slowest = {status for status, _ in asked}, max(took for _, took in asked)
             good &= slowest < 4 and statuses <= ({200} if beside else {502, 503})
             print(f"{kind}{' beside a good one' if beside else ''}: {statuses}, the slowest took {slowest:.2f} s")
+    return good
+
+
+def try_hung(site):
+    """A look at the idle links, one of each member, with and without a CPong: a link that hangs costs its limit of 500 ms and no more."""
+    good = True
+    for members in (1, 3):
+        for pong in (packet(CPONG), b""):
+            links = set()
+
+            def answer(link, _payload, links=links):
+                links.add(link)
+                return whole_reply(b"well")
+            ports = [start_member(answer, pong) for _ in range(members)]
+            front, port = site.serve(site.write(ports, "worker.@.ping_mode=I\nworker.@.ping_timeout=500\n"), "--watch", "3", threads=1)
+            came = [ask(port) for _ in range(members)]
+            time.sleep(3.2)
+            # The look comes after the first of these, and the second waits for it.
+            came += [ask(port), ask(port)]
+            front.kill()
+            took, limits, dialled = came[-1][1], 0 if pong else members * 0.5, members + (0 if pong else 1)
+            good &= {status for status, _ in came} == {200} and limits - 0.1 < took < limits + 0.4 and len(links) == dialled
+            print(f"{members} of {members} {'pong' if pong else 'hang'}: the look took {took:.2f} s, {len(links)} links were dialled")
     return good
 
 
