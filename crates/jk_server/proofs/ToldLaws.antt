@@ -13,7 +13,9 @@ use Rattle.client_session.specs.Requests.{Visit}
 use Rattle.door_clients.specs.Doors.{DoorSide}
 use Rattle.locked_balancer.specs.Histories.{HasGone, SeatNote, noted, own_in}
 use Rattle.locked_balancer.specs.SharedDesks.{SharedState}
+use Rattle.locked_balancer.specs.Shelves.{HasShelved, ShelfNote}
 use Rattle.locked_balancer.proofs.LeftLaws.{gone_none}
+use Rattle.locked_balancer.proofs.ShelfLaws.{shelved_none}
 use Rattle.jk_server.specs.Headline.{told_in}
 use Rattle.jk_server.specs.Served.{EndsAtLast, EndsBy, HaveRested, IsRun, IsServed, Run, left_by}
 use Rattle.jk_server.specs.Worker.{Begins, Keeps, WorkerSide}
@@ -24,6 +26,9 @@ use Rattle.jk_server.specs.declared.part.WorkerEnd.TheVariants as worker
 pub lent_now : (s t : SeatNote) (rs us : List Receipt) → t ≡ s → us ≡ rs → HasGone s rs t us
 lent_now s t rs us seat receipts =
     subst (λ (x : SeatNote). HasGone s rs x us) (sym seat) (subst (λ (xs : List Receipt). HasGone s rs s xs) (sym receipts) (gone_none s rs))
+
+pub lent_shelf : (s t : ShelfNote) → t ≡ s → HasShelved s t
+lent_shelf s t same = subst (λ (x : ShelfNote). HasShelved s x) (sym same) (shelved_none s)
 
 -- From one moment to another a desk stayed at its lock, under its number, and has seen besides as its own just the entries of
 -- these receipts.

@@ -121,7 +121,7 @@ pub record RunsSite {W G C S O X Z L : Type 0} (told : Tells W G C S O X Z) (cfg
   pub logged : told.are_given wanted.log gears begun
   pub ends : List (WorkerEnd L)
   pub closing : Closing L
-  pub run : IsSiteRun (visit cfg rules) told.link told.shelved (logging told.shelf_faults told.log told.may_wait) format cfg.lbs (map told.gear begun) (map told.gear left) ends closing
+  pub run : IsSiteRun (visit cfg rules) told.link told.shelved (logging told.shelved told.shelf_faults told.log told.may_wait) format cfg.lbs (map told.gear begun) (map told.gear left) ends closing
   pub passed : HandsAndTakes s n gears (returned closing left)
   pub status : ended ≡ end_of_run ends closing
 

@@ -32,9 +32,9 @@ run_tells coming left faults talks answers link shelved keeps' = record {
   keeps = keeps';
 }
 
--- what is told of a shelf, and of logs that are written to this: `logging S.faults O.Meanings D.L.may_wait`
-abbrev pub logging : {S O Z : Type 0} → (S → ℕ) → Ghosts O Z → Bool → Keeps S (Option (LogState O))
-logging faults told may_wait = keeps faults (log_tells (Gains told) (λ s peer t. GreetsIf s peer t) (λ s. broken_by s) (λ s. log_faults told.faults s)) may_wait
+-- what is told of a shelf, and of logs that are written to this: `logging S.shelved S.faults O.Meanings D.L.may_wait`
+abbrev pub logging : {S O Z : Type 0} → (S → Option (List (ℕ × Segment))) → (S → ℕ) → Ghosts O Z → Bool → Keeps S (Option (LogState O))
+logging shelved faults told may_wait = keeps shelved faults (log_tells (Gains told) (λ s peer t. GreetsIf s peer t) (λ s. broken_by s) (λ s. log_faults told.faults s)) may_wait
 
 -- gears at a moment, in order
 abbrev pub gears_at : {D G T K S O C X : Type 0} → RunTells D T K S O C X → List (Gear D G T K S O) → List (GearSide C S O)

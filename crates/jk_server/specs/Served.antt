@@ -1,5 +1,5 @@
 -- What a connector's worker did with its clients, and why it ended. Read this first.
-use Rattle.std.specs.Prelude.{ℕ, ◌≡◌, ◌<◌, ◌≤◌, ◌⊎◌, min, true, List, [], ◌∷◌, ◌++◌, length, map, Option, Some, None}
+use Rattle.std.specs.Prelude.{ℕ, ◌≡◌, ◌<◌, ◌⊎◌, min, true, List, [], ◌∷◌, ◌++◌, length, map, Option, Some, None}
 use Rattle.std.specs.List.{All}
 use Rattle.jk_io.specs.Told.{appended, IsEmpty, Rose}
 use Rattle.jk_io.specs.declared.failures.IoError.{IoError}
@@ -20,7 +20,8 @@ use Rattle.client_session.specs.declared.ending.Why.TheVariants as why
 use Rattle.status_worker.specs.Desks.{KeepsTickets}
 use Rattle.locked_balancer.specs.Histories.{HasGone}
 use Rattle.locked_balancer.specs.SharedDesks.{SharedState}
-use Rattle.jk_server.specs.Worker.{Begins, Keeps, Rests, standing_with, took, WorkerSide}
+use Rattle.locked_balancer.specs.Shelves.{HasShelved}
+use Rattle.jk_server.specs.Worker.{Begins, Keeps, Rests, shelf_of, standing_with, took, WorkerSide}
 use Rattle.jk_server.specs.PartTells.{PartTells, worker_of}
 use Rattle.gear_parts.specs.declared.part.Part.{Part}
 use Rattle.jk_server.specs.declared.part.WorkerEnd.{WorkerEnd}
@@ -39,7 +40,8 @@ pub record Run (C S Y : Type 0) : Type 0 where
 -- The client was served by one session of this worker: the requests of its bytes, of which each row was put, and why it
 -- ended; the client has the parts of these requests, joined; and what holds of each session that ends so. The session gained
 -- receipts of this worker alone, and the desk holds the tickets that it held. Only a client whose reads may wait was left
--- while it waited. What the desk was told in the session is just what its seat has seen besides as its own.
+-- while it waited. What the desk was told in the session is just what its seat has seen besides as its own. Its shelf was only
+-- added to, its faults and wants didn't fall, and it forgot no receipt.
 pub record IsRun {C S Y X : Type 0} (visit : Peer → Visit) (told : Ghosts C X) (of : Keeps S Y) (r : Run C S Y) : Type 0 where
   pub session : Serves (visit r.peer) (standing_with r.from (client_at told r.link)) (standing_with r.to (client_at told r.back))
       (λ gained. of.log.gained r.from.log gained r.to.log) r.end
@@ -50,6 +52,7 @@ pub record IsRun {C S Y X : Type 0} (visit : Peer → Visit) (told : Ghosts C X)
   pub kept : KeepsTickets (visit r.peer).session r.from.desk.desk r.to.desk.desk
   pub idle_only : r.end.stop ≡ stop.Closed why.Idle → of.may_wait ≡ true
   pub gone : HasGone r.from.desk.seat r.from.desk.desk.receipts r.to.desk.seat r.to.desk.desk.receipts
+  pub shelf : HasShelved (shelf_of of r.from.desk) (shelf_of of r.to.desk)
 
 -- a worker goes on after a session that ended so
 abbrev pub CanGoOn : SessionStop → Type 0
@@ -66,11 +69,11 @@ IsStray stop.Truncated = ⊥
 IsStray (stop.Stray ticket returned_at) = Unit {0}
 IsStray stop.NoMemory = ⊥
 
--- A desk goes on after a session that ended so, if the shelf kept all that was cut in it.
+-- A desk goes on after a session that ended so, if the shelf kept all that was cut in it: neither its faults nor its wants rose.
 pub record DeskGoesOn {S : Type 0} (faults : S → ℕ) (from to : SharedState S) (end : SessionStop) : Type 0 where
   pub can : CanGoOn end
-  pub kept : faults to.shelf ≤ faults from.shelf
-  pub room : to.wants ≤ from.wants
+  pub kept : faults to.shelf ≡ faults from.shelf
+  pub room : to.wants ≡ from.wants
 
 -- Why a worker ended right after a session, by its desk. A fault of the shelf goes before a stray, and both before want of
 -- memory.
@@ -79,9 +82,9 @@ DeskEnds faults from to end (worker.Closed sessions) = ⊥
 DeskEnds faults from to end worker.DoorFault = ⊥
 DeskEnds faults from to end worker.ShelfFault = Rose (faults from.shelf) (faults to.shelf)
 DeskEnds faults from to end worker.LogFault = ⊥
-DeskEnds faults from to end (worker.Stray stray) = IsStray end × (to.met ≡ Some stray) × (faults to.shelf ≤ faults from.shelf)
+DeskEnds faults from to end (worker.Stray stray) = IsStray end × (to.met ≡ Some stray) × (faults to.shelf ≡ faults from.shelf)
 DeskEnds faults from to end worker.NoMemory =
-    ((end ≡ stop.NoMemory) ⊎ (from.wants < to.wants)) × (faults to.shelf ≤ faults from.shelf) × (IsStray end → ⊥)
+    ((end ≡ stop.NoMemory) ⊎ (from.wants < to.wants)) × (faults to.shelf ≡ faults from.shelf) × (IsStray end → ⊥)
 
 -- A worker goes on, if its log took each row besides.
 pub record GoesOn {S Y : Type 0} (of : Keeps S Y) (from to : WorkerSide S Y) (end : SessionEnd) : Type 0 where

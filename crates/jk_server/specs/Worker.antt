@@ -10,7 +10,9 @@ use Rattle.balancer_core.specs.Desks.{DeskState}
 use Rattle.client_session.specs.Standings.{ReachSide, ClientStanding}
 use Rattle.exchange.specs.Requests.{sizes_of}
 use Rattle.gear_parts.specs.Logs.{LogTells}
-use Rattle.locked_balancer.specs.SharedDesks.{SharedState}
+use Rattle.jk_model.specs.declared.segment.Segment.{Segment}
+use Rattle.locked_balancer.specs.SharedDesks.{SharedState, shelf_note}
+use Rattle.locked_balancer.specs.Shelves.{ShelfNote}
 use Rattle.site_config.specs.declared.config.Config.{Config}
 use Rattle.uri_map.specs.Sites.{stands_in}
 use Rattle.uri_map.specs.declared.rule.Rule.{Rule}
@@ -33,13 +35,18 @@ worker_side answers told desk clock reach log = record {
 
 -- What is told of a worker's shelf and of its log, and whether a read of its clients may wait.
 pub record Keeps (S Y : Type 0) : Type 1 where
+  pub shelved : S → Option (List (ℕ × Segment))
   pub shelf_faults : S → ℕ
   pub log : LogTells Y
   pub may_wait : Bool
 
--- by their types: `keeps S.faults (log_tells Y.gained Y.greets Y.broken_by Y.log_faults) D.L.may_wait`
-abbrev pub keeps : {S Y : Type 0} → (S → ℕ) → LogTells Y → Bool → Keeps S Y
-keeps shelf_faults log may_wait = record { shelf_faults = shelf_faults; log = log; may_wait = may_wait }
+-- by their types: `keeps S.shelved S.faults (log_tells Y.gained Y.greets Y.broken_by Y.log_faults) D.L.may_wait`
+abbrev pub keeps : {S Y : Type 0} → (S → Option (List (ℕ × Segment))) → (S → ℕ) → LogTells Y → Bool → Keeps S Y
+keeps shelved shelf_faults log may_wait = record { shelved = shelved; shelf_faults = shelf_faults; log = log; may_wait = may_wait }
+
+-- what is told of a desk's shelf
+abbrev pub shelf_of : {S Y : Type 0} → Keeps S Y → SharedState S → ShelfNote
+shelf_of of desk = shelf_note of.shelved of.shelf_faults desk
 
 -- what a session of this worker knows then, over a client and the client's bytes that were read and not used
 abbrev pub standing_with : {S Y : Type 0} → WorkerSide S Y → Moment → List ℕ → ClientStanding

@@ -1,5 +1,5 @@
 //! One client: its session, and what a worker makes of the session's end.
-ghost use Rattle.std.specs.Prelude.{◌≡◌, ◌<◌, ℕ, [], ◌∷◌, true, false, None, Some, IsSome};
+ghost use Rattle.std.specs.Prelude.{◌≡◌, ◌<◌, ◌≤◌, ℕ, [], ◌∷◌, true, false, None, Some, IsSome};
 ghost use Rattle.jk_io.specs.Told.{appended};
 ghost use Rattle.client_session.specs.Ends.{MeetsBy, RisesBy};
 ghost use Rattle.client_session.specs.Parts.{HasParts};
@@ -11,9 +11,10 @@ ghost use Rattle.client_session.specs.Whole.{HoldsOfEach, IsWholeSession};
 ghost use Rattle.client_session.specs.declared.ending.Why.TheVariants as why;
 ghost use Rattle.status_worker.specs.Desks.{KeepsTickets};
 ghost use Rattle.locked_balancer.specs.Histories.{HasGone};
-ghost use Rattle.locked_balancer.specs.Loans.{name_in, seat_in, state_in};
+ghost use Rattle.locked_balancer.specs.Loans.{name_in, seat_in, shelf_in, state_in};
 ghost use Rattle.locked_balancer.specs.Notes.{StrayNote};
 ghost use Rattle.locked_balancer.specs.SharedDesks.{SharedState};
+ghost use Rattle.locked_balancer.specs.Shelves.{HasShelved};
 ghost use Rattle.gear_parts.specs.Logs.{log_tells};
 ghost use Rattle.jk_server.specs.Served.{DeskSettles, IsStray, SettlesBy};
 ghost use Rattle.jk_server.specs.PartTells.{part_tells};
@@ -76,6 +77,7 @@ fn end_after<L: SiteName, S: Shelf, W>(
 ) -> Option<WorkerEnd<L>>
     requires { IsStray stop → desk.old.desk.met ≡ true }
     ensures { (from : SharedState S) → before.faults ≡ S.faults from.shelf → before.wants ≡ from.wants
+        → S.faults from.shelf ≤ S.faults desk.old.shelf → from.wants ≤ desk.old.wants
         → DeskSettles S.faults from desk.old desk.new stop result }
 {
     let now = counts(desk);
@@ -103,6 +105,7 @@ fn end_by<L: SiteName, S: Shelf, W>(
 ) -> Option<WorkerEnd<L>>
     requires { IsStray stop → desk.old.desk.met ≡ true }
     ensures { (from : SharedState S) → before.faults ≡ S.faults from.shelf → before.wants ≡ from.wants
+        → S.faults from.shelf ≤ S.faults desk.old.shelf → from.wants ≤ desk.old.wants
         → SettlesBy broken S.faults from desk.old desk.new stop result }
 {
     match broken {
@@ -125,6 +128,7 @@ fn close_client<L: SiteName, D: Door, R, K, S: Shelf, W, Y: WorkerLog>(
     ensures same_door { (D.coming part.new.door ≡ D.coming part.old.door) × (D.faults part.new.door ≡ D.faults part.old.door) }
     ensures same { (part.new.reach ≡ part.old.reach) × (part.new.clock ≡ part.old.clock) × (part.new.log ≡ part.old.log) }
     ensures settled { (from : SharedState S) → before.faults ≡ S.faults from.shelf → before.wants ≡ from.wants
+        → S.faults from.shelf ≤ S.faults part.old.desk.shelf → from.wants ≤ part.old.desk.wants
         → SettlesBy (Y.broken_by part.old.log) S.faults from part.old.desk part.new.desk stop result }
 {
     part.door.leave(link);
@@ -195,7 +199,7 @@ where
 }
 
 /// As `serve_visit`, by a desk that is lent since the moment M and put back.
-#[tactic(auto, using(crate::proofs::ToldLaws::lent_now))]
+#[tactic(auto, using(crate::proofs::ToldLaws::lent_now, crate::proofs::ToldLaws::lent_shelf))]
 fn serve_lent<B: SeatedDesk, R: Reach, C: Link, K: Clock, Y: RowSink, M: Moment>(
     visit: &Visit<'_>,
     loan: &mut DeskLoan<'_, B>,
@@ -211,6 +215,7 @@ where
     requires name { name_in loan.old.desk ≡ M.name }
     requires seat { seat_in B.seat loan.old.desk ≡ M.seat }
     requires receipts { (state_in B.state loan.old.desk).receipts ≡ M.receipts }
+    requires shelf { shelf_in B.shelf loan.old.desk ≡ M.shelf }
     requires ready { IsReady (visit_of visit.now.site) (state_in B.state loan.old.desk) (R.beside reach.old) }
     ensures there { IsSome loan.new.desk }
     ensures same { name_in loan.new.desk ≡ name_in loan.old.desk }
@@ -226,6 +231,7 @@ where
     ensures ready { IsReady (visit_of visit.now.site) (state_in B.state loan.new.desk) (R.beside reach.new) }
     ensures idle_only { result.stop ≡ SessionStop.Closed why.Idle → C.may_wait ≡ true }
     ensures gone { HasGone M.seat M.receipts (seat_in B.seat loan.new.desk) (state_in B.state loan.new.desk).receipts }
+    ensures shelf { HasShelved M.shelf (shelf_in B.shelf loan.new.desk) }
 {
     let desk = loan.desk.take().unwrap();
     let mut lent: LentDesk<'_, B, M> = LentDesk {
@@ -238,7 +244,8 @@ where
     end
 }
 
-/// As `serve_visit`, by a desk at a lock, which is known to stay there, and to have seen as its own what the session was told.
+/// As `serve_visit`, by a desk at a lock, which is known to stay there, and to have seen as its own what the session was told; its
+/// shelf was only added to.
 fn serve_seated<B: SeatedDesk, R: Reach, C: Link, K: Clock, Y: RowSink>(
     visit: &Visit<'_>,
     desk: &mut B,
@@ -263,6 +270,7 @@ where
     ensures ready { IsReady (visit_of visit.now.site) (B.state desk.new) (R.beside reach.new) }
     ensures idle_only { result.stop ≡ SessionStop.Closed why.Idle → C.may_wait ≡ true }
     ensures gone { HasGone (B.seat desk.old) (B.state desk.old).receipts (B.seat desk.new) (B.state desk.new).receipts }
+    ensures shelf { HasShelved (B.shelf desk.old) (B.shelf desk.new) }
 {
     let mut loan = DeskLoan { desk: Some(desk) };
     let end = serve_lent::<B, R, C, K, Y, Brand>(visit, &mut loan, clock, reach, client, rows);
@@ -280,7 +288,7 @@ fn serve_link<'x, L: SiteName, D: Door, R: Reach, K: Clock, S: Shelf, W: Wait, Y
 ) -> SessionEnd
     requires fit { IsFit post.cfg.now post.map.now part.old.desk.desk (R.beside part.old.reach) }
     ensures { let told = part_tells D.coming D.left D.faults D.L.Meanings K.answers R.Meanings
-        (keeps S.faults (log_tells Y.gained Y.greets Y.broken_by Y.log_faults) D.L.may_wait) in
+        (keeps S.shelved S.faults (log_tells Y.gained Y.greets Y.broken_by Y.log_faults) D.L.may_wait) in
         RunsSession told post.entry part.old part.new link.old link.new peer.now result }
 {
     let visit = Visit {
@@ -315,7 +323,7 @@ fn serve_client<L: SiteName, D: Door, R: Reach, K: Clock, S: Shelf, W: Wait, Y: 
     requires logged { Y.broken_by part.old.log ≡ None }
     requires room { 0 < D.room part.old.door }
     ensures { let told = part_tells D.coming D.left D.faults D.L.Meanings K.answers R.Meanings
-        (keeps S.faults (log_tells Y.gained Y.greets Y.broken_by Y.log_faults) D.L.may_wait) in
+        (keeps S.shelved S.faults (log_tells Y.gained Y.greets Y.broken_by Y.log_faults) D.L.may_wait) in
         LeavesClient told post.entry part.old part.new link peer.now result }
 {
     let before = forget_last(&mut part.desk);
@@ -333,7 +341,7 @@ fn go_on<L: SiteName, D: Door, R: Reach, K: Clock, S: Shelf, W, Y: WorkerLog>(
     requires idle { (R.beside part.old.reach).runs ≡ false }
     requires none_held { part.old.desk.desk.held ≡ [] }
     ensures { let told = part_tells D.coming D.left D.faults D.L.Meanings K.answers R.Meanings
-        (keeps S.faults (log_tells Y.gained Y.greets Y.broken_by Y.log_faults) D.L.may_wait) in
+        (keeps S.shelved S.faults (log_tells Y.gained Y.greets Y.broken_by Y.log_faults) D.L.may_wait) in
         RestsPart told part.old part.new result }
 {
     let now = part.clock.now();
@@ -355,7 +363,7 @@ pub(crate) fn serve_next<L: SiteName, D: Door, R: Reach, K: Clock, S: Shelf, W: 
     requires logged { Y.broken_by part.old.log ≡ None }
     requires room { 0 < D.room part.old.door }
     ensures { let told = part_tells D.coming D.left D.faults D.L.Meanings K.answers R.Meanings
-        (keeps S.faults (log_tells Y.gained Y.greets Y.broken_by Y.log_faults) D.L.may_wait) in
+        (keeps S.shelved S.faults (log_tells Y.gained Y.greets Y.broken_by Y.log_faults) D.L.may_wait) in
         NextsPart told post.entry part.old part.new link peer.now result }
 {
     match serve_client(alloc, post, part, link, peer) {

@@ -31,7 +31,7 @@ pub fn serve_part<L: SiteName, D: Door, R: Reach, K: Clock, S: Shelf, W: Wait, Y
     requires fit { IsFit cfg.now map.now part.old.desk.desk (R.beside part.old.reach) }
     requires logged { Y.broken_by part.old.log ≡ None }
     ensures served { let told = part_tells D.coming D.left D.faults D.L.Meanings K.answers R.Meanings
-        (keeps S.faults (log_tells Y.gained Y.greets Y.broken_by Y.log_faults) D.L.may_wait) in
+        (keeps S.shelved S.faults (log_tells Y.gained Y.greets Y.broken_by Y.log_faults) D.L.may_wait) in
         ServesPart told (visit cfg.now map.now number) part.old part.new result }
     ensures fit { IsFit cfg.now map.now part.new.desk.desk (R.beside part.new.reach) }
     ensures parts { part.new.desk.desk.parts ≡ part.old.desk.desk.parts }
@@ -57,7 +57,7 @@ fn serve_turn<L: SiteName, D: Door, R: Reach, K: Clock, S: Shelf, W: Wait, Y: Wo
     requires fit { IsFit post.cfg.now post.map.now part.old.desk.desk (R.beside part.old.reach) }
     requires logged { Y.broken_by part.old.log ≡ None }
     ensures { let told = part_tells D.coming D.left D.faults D.L.Meanings K.answers R.Meanings
-        (keeps S.faults (log_tells Y.gained Y.greets Y.broken_by Y.log_faults) D.L.may_wait) in
+        (keeps S.shelved S.faults (log_tells Y.gained Y.greets Y.broken_by Y.log_faults) D.L.may_wait) in
         TurnsPart told post.entry part.old part.new sessions result }
 {
     match next_client(alloc, &mut part.door) {

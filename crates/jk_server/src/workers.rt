@@ -68,7 +68,7 @@ where
     requires few { vec_len parts ≤ MAX_WORKERS }
     requires ready { All (λ p. MayBegin cfg.now map.now p.desk.desk (R.beside p.reach) (Y.broken_by p.log)) parts.items }
     ensures served { let told = part_tells D.coming D.left D.faults D.L.Meanings K.answers R.Meanings
-        (keeps S.faults (log_tells Y.gained Y.greets Y.broken_by Y.log_faults) D.L.may_wait) in
+        (keeps S.shelved S.faults (log_tells Y.gained Y.greets Y.broken_by Y.log_faults) D.L.may_wait) in
         IfOk result (AreServedParts told cfg.now map.now parts.entry.items) }
 {
     let _site = site;
@@ -144,7 +144,7 @@ where
     requires ready { All (λ s. MayBegin cfg.now map.now s.part.desk.desk (R.beside s.part.reach) (Y.broken_by s.part.log)) room.slots.items }
     requires room { HasRoom (length room.slots.items) room.emptied }
     ensures served { let told = part_tells D.coming D.left D.faults D.L.Meanings K.answers R.Meanings
-        (keeps S.faults (log_tells Y.gained Y.greets Y.broken_by Y.log_faults) D.L.may_wait) in
+        (keeps S.shelved S.faults (log_tells Y.gained Y.greets Y.broken_by Y.log_faults) D.L.may_wait) in
         AreServedParts told cfg.now map.now (parts_in room.entry.slots.items) result }
 {
     let crew = Crew {
@@ -229,7 +229,7 @@ impl<'a, 's, 'r, L: SiteName, D: Door, R: Reach, K: Clock, S: Shelf, W: Wait, Y:
         × MayBegin crew.cfg.now crew.map.now slot.part.desk.desk (R.beside slot.part.reach) (Y.broken_by slot.part.log) };
 
     ghost did = { λ crew number a b. let told = part_tells D.coming D.left D.faults D.L.Meanings K.answers R.Meanings
-        (keeps S.faults (log_tells Y.gained Y.greets Y.broken_by Y.log_faults) D.L.may_wait) in
+        (keeps S.shelved S.faults (log_tells Y.gained Y.greets Y.broken_by Y.log_faults) D.L.may_wait) in
         WorksPart told crew.cfg.now crew.map.now number a.part b.part b.end };
 
     fn work(&self, number: usize, slot: &mut Slot<Part<'s, 'r, L, D, R, K, S, W, Y>, L>) {

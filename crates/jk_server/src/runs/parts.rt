@@ -81,7 +81,8 @@ where
     requires desk_sizes { L.sizes ≡ sizes_of plan.cfg.now.lbs }
     requires pool_sizes { counts common.now.pools.now ≡ sizes_of plan.cfg.now.lbs }
     requires format { common.now.format.now ≡ plan.format.now }
-    ensures { let told = run_tells D.coming D.left D.faults T.talks K.answers D.L.Meanings S.shelved (logging S.faults O.Meanings D.L.may_wait) in
+    ensures { let told = run_tells D.coming D.left D.faults T.talks K.answers D.L.Meanings S.shelved
+        (logging S.shelved S.faults O.Meanings D.L.may_wait) in
         IfOk result (IsRunOf told plan.entry.cfg.now plan.entry.map.now plan.entry.format.now (lock_of common.now.site.now) gears.items) }
 {
     match parts_for(alloc, common, share, gears) {
@@ -118,7 +119,8 @@ where
     requires few { vec_len memory.parts ≤ MAX_WORKERS }
     requires ready { All (λ p. MayBegin plan.cfg.now plan.map.now p.desk.desk (beside_of T.begun T.talks p.reach.pooled) (broken_by p.log)) memory.parts.items }
     requires after { HasAfter (vec_len memory.parts) memory.after }
-    ensures { let told = run_tells D.coming D.left D.faults T.talks K.answers D.L.Meanings S.shelved (logging S.faults O.Meanings D.L.may_wait) in
+    ensures { let told = run_tells D.coming D.left D.faults T.talks K.answers D.L.Meanings S.shelved
+        (logging S.shelved S.faults O.Meanings D.L.may_wait) in
         IfOk result (RunsParts told plan.entry.cfg.now plan.entry.map.now plan.entry.format.now memory.entry.parts.items) }
 {
     let Memory { parts, after } = memory;
@@ -151,7 +153,8 @@ where
     D::L: Send,
     requires few { vec_len parts ≤ MAX_WORKERS }
     requires ready { All (λ p. MayBegin plan.cfg.now plan.map.now p.desk.desk (beside_of T.begun T.talks p.reach.pooled) (broken_by p.log)) parts.items }
-    ensures { let told = run_tells D.coming D.left D.faults T.talks K.answers D.L.Meanings S.shelved (logging S.faults O.Meanings D.L.may_wait) in
+    ensures { let told = run_tells D.coming D.left D.faults T.talks K.answers D.L.Meanings S.shelved
+        (logging S.shelved S.faults O.Meanings D.L.may_wait) in
         IfOk result (LeavesParts told plan.entry.cfg.now plan.entry.map.now plan.entry.format.now parts.entry.items) }
 {
     run_serve(rt, alloc, plan.cfg, plan.map, site, parts)

@@ -53,7 +53,8 @@ where
     requires few { vec_len gears ≤ MAX_WORKERS }
     requires stands { stands_in plan.cfg.now plan.map.now ≡ true }
     requires idle { All (λ g. T.is_idle g.tape) gears.items }
-    ensures ran { let told = run_tells D.coming D.left D.faults T.talks K.answers D.L.Meanings S.shelved (logging S.faults O.Meanings D.L.may_wait) in
+    ensures ran { let told = run_tells D.coming D.left D.faults T.talks K.answers D.L.Meanings S.shelved
+        (logging S.shelved S.faults O.Meanings D.L.may_wait) in
         IfOk result (RunsGears told plan.entry.cfg.now plan.entry.map.now plan.entry.format.now gears.items) }
 {
     let mut gears = gears;
@@ -144,7 +145,8 @@ where
     D::L: Send,
     requires new { IsNewSite L.name L.parts L.starts L.sizes L.firsts L.cut_at plan.cut plan.cfg.now.lbs new }
     requires ready { IsReady T.is_idle L.parts plan.cfg.now plan.map.now (vec_len gears) gears.items }
-    ensures ran { let told = run_tells D.coming D.left D.faults T.talks K.answers D.L.Meanings S.shelved (logging S.faults O.Meanings D.L.may_wait) in
+    ensures ran { let told = run_tells D.coming D.left D.faults T.talks K.answers D.L.Meanings S.shelved
+        (logging S.shelved S.faults O.Meanings D.L.may_wait) in
         IfOk result (RunsStarted told plan.entry.cfg.now plan.entry.map.now plan.entry.format.now gears.items) }
 {
     match pools_for(rt, alloc, plan.cfg) {
@@ -177,7 +179,8 @@ where
     requires pool_sizes { pools.now ≡ pool_table plan.cfg.now.lbs }
     requires new { IsNewSite L.name L.parts L.starts L.sizes L.firsts L.cut_at plan.cut plan.cfg.now.lbs new }
     requires ready { IsReady T.is_idle L.parts plan.cfg.now plan.map.now (vec_len gears) gears.items }
-    ensures ran { let told = run_tells D.coming D.left D.faults T.talks K.answers D.L.Meanings S.shelved (logging S.faults O.Meanings D.L.may_wait) in
+    ensures ran { let told = run_tells D.coming D.left D.faults T.talks K.answers D.L.Meanings S.shelved
+        (logging S.shelved S.faults O.Meanings D.L.may_wait) in
         IfOk result (RunsStarted told plan.entry.cfg.now plan.entry.map.now plan.entry.format.now gears.items) }
 {
     let watch = new.watch;

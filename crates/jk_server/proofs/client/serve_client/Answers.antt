@@ -18,7 +18,7 @@ close_client-requires-clause-stray g c = stray_met _ _ _ c.serve_link-end.ensure
 pub returns : goal.returns
 returns g c =
     let log = log_tells g.Y.RowSink.gained g.Y.WorkerLog.greets g.Y.WorkerLog.broken_by g.Y.WorkerLog.log_faults in
-    let of = keeps g.S.Shelf.faults log g.D.L.Link.may_wait in
+    let of = keeps g.S.Shelf.shelved g.S.Shelf.faults log g.D.L.Link.may_wait in
     let s = c.serve_link-end in
     let from = worker_side g.K.Clock.answers g.R.Meanings c.forget_last-before.new.desk c.args.part.now.clock c.args.part.now.reach c.greet.new.self in
     let to = worker_side g.K.Clock.answers g.R.Meanings s.new.part.desk s.new.part.clock s.new.part.reach s.new.part.log in
@@ -26,7 +26,8 @@ returns g c =
     let loud = rose_loud _ _ _ _ _ c.requires.logged c.greet.ensures.calm
     (g.met.Y.WorkerLog.breaks_loudly _ _ s.ensures.run.session.gained s.ensures.run.session.added) in
     let settles = settles_so of from to c.close_client.new.part.desk s.result _ c.close_client.result refl loud
-    (c.close_client.ensures.settled c.forget_last-before.new.desk c.forget_last-before.ensures.counted.0 c.forget_last-before.ensures.counted.1) in
+    (c.close_client.ensures.settled c.forget_last-before.new.desk c.forget_last-before.ensures.counted.0 c.forget_last-before.ensures.counted.1
+    s.ensures.run.shelf.no_fewer s.ensures.run.shelf.no_less) in
     record {
       served = record {
         back = s.new.link;

@@ -1,5 +1,5 @@
--- The moment at which the session begins: which desk it is, its seat and its receipts then.
-use Rattle.locked_balancer.specs.Loans.{name_in, seat_in, state_in}
+-- The moment at which the session begins: which desk it is, its seat, its receipts and its shelf then.
+use Rattle.locked_balancer.specs.Loans.{name_in, seat_in, shelf_in, state_in}
 use Rattle.jk_server.proofs.client.serve_seated.Given as goal
 
 abbrev pub ghosts-serve_lent : goal.ghosts-serve_lent
@@ -7,4 +7,5 @@ ghosts-serve_lent g a = record {
   name = name_in a.loan.now.desk;
   seat = seat_in g.B.SeatedDesk.seat a.loan.now.desk;
   receipts = (state_in g.B.Desk.state a.loan.now.desk).receipts;
+  shelf = shelf_in g.B.SeatedDesk.shelf a.loan.now.desk;
 }

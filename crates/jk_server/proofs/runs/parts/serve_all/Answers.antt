@@ -35,13 +35,13 @@ returns g c =
     let at = side g.D.Door.coming g.D.Door.left g.D.Door.faults in
     let told =
     run_tells g.D.Door.coming g.D.Door.left g.D.Door.faults g.T.Tape.talks g.K.Clock.answers g.D.L.Meanings g.S.Shelf.shelved
-    (logging g.S.Shelf.faults g.O.Meanings g.D.L.Link.may_wait) in
+    (logging g.S.Shelf.shelved g.S.Shelf.faults g.O.Meanings g.D.L.Link.may_wait) in
     ok_weaker _ (λ end. LeavesParts told c.args.plan.cfg.now c.args.plan.map.now c.args.plan.format.now c.args.parts.items end) _ c.run_serve.ensures.served (λ end each. record {
       outs = (as_many _ 0 c.args.parts.items end.outside end.leaving end.workers each).0;
       desks = (as_many _ 0 c.args.parts.items end.outside end.leaving end.workers each).1;
       idle = all_left _ (λ o. is_some o.reach.pooled.lent ≡ false) 0 c.args.parts.items end.outside end.leaving end.workers each (λ k p o v e is. is.worked.fit.idle);
       served = λ lock fresh.
-          gears_served (visit c.args.plan.cfg.now c.args.plan.map.now) g.D.L.Meanings (logging g.S.Shelf.faults g.O.Meanings g.D.L.Link.may_wait) c.args.plan.format.now
+          gears_served (visit c.args.plan.cfg.now c.args.plan.map.now) g.D.L.Meanings (logging g.S.Shelf.shelved g.S.Shelf.faults g.O.Meanings g.D.L.Link.may_wait) c.args.plan.format.now
           (λ p. BeginsSo lock c.args.plan.format.now p.desk p.log) _
           (λ p. start_side at g.T.Tape.talks g.K.Clock.answers (start_with p.door p.reach p.clock p.desk p.log))
           (gear_with at g.T.Tape.talks g.K.Clock.answers) (λ o. tools o.door o.reach.pooled.dial o.reach.pooled.tape o.clock (sink_of o.log)) (λ v. v.shelf) (λ v. v.seat)

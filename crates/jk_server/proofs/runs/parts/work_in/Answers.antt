@@ -35,7 +35,7 @@ returns-in-Ok g c = λ lock sizes pools watch gears starts.
     let fresh = All-weaker (λ p. BeginsSo lock c.args.plan.format.now (unnumbered p.desk) p.log) (λ p. BeginsSo lock c.args.plan.format.now p.desk p.log) (λ p is. (begins_seated lock p.desk is.0, is.1)) c.args.memory.parts.items begun in
     record {
       served =
-          gears_told (visit c.args.plan.cfg.now c.args.plan.map.now) g.D.L.Meanings (logging g.S.Shelf.faults g.O.Meanings g.D.L.Link.may_wait) c.args.plan.format.now 0 _ _ _ _ _ _ _ _ _ _ _
+          gears_told (visit c.args.plan.cfg.now c.args.plan.map.now) g.D.L.Meanings (logging g.S.Shelf.shelved g.S.Shelf.faults g.O.Meanings g.D.L.Link.may_wait) c.args.plan.format.now 0 _ _ _ _ _ _ _ _ _ _ _
           (starts_told (side g.D.Door.coming g.D.Door.left g.D.Door.faults) g.T.Tape.talks g.K.Clock.answers lock sizes pools watch c.args.plan.format.now
           (λ p. start_with p.door p.reach p.clock p.desk p.log) c.args.memory.parts.items gears starts)
           c.ran_of.ensures.tools (ap (λ vs. map (λ v. v.shelf) vs) c.ran_of.ensures.leaving) (ap (λ vs. map (λ v. v.seat) vs) c.ran_of.ensures.leaving)

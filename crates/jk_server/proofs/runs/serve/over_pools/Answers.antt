@@ -50,7 +50,7 @@ settle-requires-clause-here g c = c.in-Ok.ensures.here
 pub returns-in-Ok : goal.returns-in-Ok
 returns-in-Ok g c = record {
   ran =
-      run_done (visit c.args.plan.cfg.now c.args.plan.map.now) g.D.L.Meanings g.S.Shelf.shelved (logging g.S.Shelf.faults g.O.Meanings g.D.L.Link.may_wait)
+      run_done (visit c.args.plan.cfg.now c.args.plan.map.now) g.D.L.Meanings g.S.Shelf.shelved (logging g.S.Shelf.shelved g.S.Shelf.faults g.O.Meanings g.D.L.Link.may_wait)
       c.args.plan.format.now c.args.plan.cfg.now.lbs _ _ _ _ _ _ _ c.in-Ok.ensures.served c.settle.ensures.workers
       (closes_said (side g.D.Door.coming g.D.Door.left g.D.Door.faults) g.T.Tape.talks g.K.Clock.answers g.S.Shelf.shelved g.S.Shelf.faults
       c.args.plan.cfg.now.lbs _ _ _ _ _ _ _ _ _ _ c.requires.new.sized c.requires.new.numbered c.requires.new.begun c.requires.new.books c.settle.ensures.closed);

@@ -33,7 +33,7 @@ returns-in-Ok g c = record {
   ran =
       ok_weaker _ _ c.over_site.result c.over_site.ensures.ran
       (λ run is.
-      started_run (visit c.args.plan.cfg.now c.args.plan.map.now) g.D.L.Meanings g.S.Shelf.shelved (logging g.S.Shelf.faults g.O.Meanings g.D.L.Link.may_wait)
+      started_run (visit c.args.plan.cfg.now c.args.plan.map.now) g.D.L.Meanings g.S.Shelf.shelved (logging g.S.Shelf.shelved g.S.Shelf.faults g.O.Meanings g.D.L.Link.may_wait)
       c.args.plan.format.now c.args.plan.cfg.now.lbs
       (gear_side (side g.D.Door.coming g.D.Door.left g.D.Door.faults) g.T.Tape.talks g.K.Clock.answers) c.args.gears.items
       c.args.gears.items c.first_moment-at.new.gears.items c.first_moment-at.new.gears.items run.gears.items run.workers run.closing refl refl
