@@ -192,7 +192,7 @@ def watch():
         # at the start, as a head came, at a choice and at its return, and after the session
         clock = ["0"] + [str(n) for at, body in enumerate(told) for n in ([at] * (1 if body is None else 3) + [at + 1])]
         return Row(name, SERVE + "1" + options, gears=[([bad if body is None else GET for body in told], [link, sized(second)])],
-                   files=(("w", site), ("m", MAP)), lines=["clock " + " ".join(clock)],
+                   files=(("w", site), ("m", MAP)), lines=["clock " + second for second in clock],
                    back=[b"".join(map(left, replies)) + talk(0, forward()) * len(asked) + journal(exchanges(counts, 1, asked))])
 
     stays, closed = [first, None, first], [first, None, second]
