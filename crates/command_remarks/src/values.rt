@@ -12,7 +12,7 @@ struct Range {
     wanted: &'static str,
 }
 
-static RANGES: [Range; 10] = [
+static RANGES: [Range; 12] = [
     Range {
         name: "SEED",
         least: 0,
@@ -73,6 +73,38 @@ static RANGES: [Range; 10] = [
         most: 86_400,
         wanted: "--grace must be a number from 0 to 86400",
     },
+    Range {
+        name: "watch",
+        least: 1,
+        most: 86_400,
+        wanted: "--watch must be a number from 1 to 86400",
+    },
+    Range {
+        name: "idle",
+        least: 1,
+        most: 1_000_000,
+        wanted: "--idle must be a number from 1 to 1000000",
+    },
+];
+
+/// An option that stands only beside another one.
+struct Need {
+    option: &'static str,
+    beside: &'static str,
+    wanted: &'static str,
+}
+
+static NEEDS: [Need; 2] = [
+    Need {
+        option: "idle",
+        beside: "watch",
+        wanted: "--idle needs --watch",
+    },
+    Need {
+        option: "format",
+        beside: "log",
+        wanted: "--format needs --log",
+    },
 ];
 
 /// The most bytes of a route.
@@ -112,12 +144,16 @@ fn text_fault<'w>(given: &ArgMatches<'w>) -> Option<(&'static str, &'w str)> {
     }
 }
 
-/// An option that stands without the one that it needs, and its word.
+/// What the first option that stands without the one that it needs wants, and its word.
 fn lone_option<'w>(given: &ArgMatches<'w>) -> Option<(&'static str, &'w str)> {
-    if given.contains_id("log") {
-        return None;
+    for need in &NEEDS {
+        if let Some(word) = given.get_str(need.option) {
+            if !given.contains_id(need.beside) {
+                return Some((need.wanted, word));
+            }
+        }
     }
-    Some(("--format needs --log", given.get_str("format")?))
+    None
 }
 
 fn fault_of<'w>(given: &ArgMatches<'w>) -> Option<(&'static str, &'w str)> {
