@@ -1,7 +1,7 @@
 -- The demo's orders ask for workers within their range.
 use Rattle.std.proofs.Common.{ℕ, List, ◌≡◌, ◌≤◌, length, codes, refl, arith}
 use Rattle.jkd.specs.Demo.{demo_container, demo_front, route_of}
-use Rattle.jkd.specs.Words.{IsInRange}
+use Rattle.jk_commands.specs.Words.{IsInRange}
 use Rattle.jkd.specs.declared.demo.DemoContainer.{DemoContainer}
 use Rattle.jkd.specs.declared.demo.DemoContainer.TheVariants as container
 

@@ -1,3 +1,1 @@
-mod CommandLaws
 mod DemoLaws
-mod OrderLaws

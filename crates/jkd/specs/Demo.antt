@@ -4,11 +4,11 @@ use Rattle.std.specs.Prelude.{◌≡◌, ℕ, List, [], ◌∷◌, ◌++◌, ◌
 use Rattle.jk_cli.specs.declared.order.Order.{Order}
 use Rattle.jk_cli.specs.declared.order.Order.TheVariants as order
 use Rattle.jk_server.specs.Commands.{command_side, CommandTells}
-use Rattle.jkd.specs.Commands.{DoesOrder}
+use Rattle.jk_commands.specs.Commands.{DoesOrder}
 use Rattle.jkd.specs.declared.demo.DemoContainer.{DemoContainer}
 use Rattle.jkd.specs.declared.demo.DemoContainer.TheVariants as container
-use Rattle.jkd.specs.declared.ends.EndOf.{EndOf}
-use Rattle.jkd.specs.declared.ends.EndOf.TheVariants as end
+use Rattle.jk_commands.specs.declared.ends.EndOf.{EndOf}
+use Rattle.jk_commands.specs.declared.ends.EndOf.TheVariants as end
 
 -- the demo's workers.properties: a balancer that keeps sessions, over containers at these ports of this machine, of which b
 -- gets twice as many requests as a, and a status worker

@@ -1,5 +1,1 @@
-pub mod Commands
 pub mod Demo
-pub mod Ends
-pub mod Plain
-pub mod Words

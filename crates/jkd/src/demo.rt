@@ -3,9 +3,8 @@ ghost use Rattle.std.specs.Prelude.{◌≡◌, ◌++◌, ◌∷◌, [], ℕ, Lis
 ghost use Rattle.jk_server.specs.Commands.{telling};
 ghost use Rattle.jkd.specs.Demo.{DoesPart, demo_container, demo_files, demo_front, demo_workers, port_of, route_of};
 
-use crate::command::{do_order, let_go};
-use crate::ends::{EndOf, JkdEnd, NO_MEMORY};
 use jk_cli::Order;
+use jk_commands::{EndOf, JkdEnd, NO_MEMORY, do_order, let_go};
 use jk_io::{
     Bytes, ClientLimits, Door, FileList, Files, MemFiles, NoMemory, NumberList, Sink, put_decimal,
 };

@@ -1,10 +1,9 @@
 //! The threads of `demo`: one for each container, one for the front, and one that waits for the end of the input. `main` starts
 //! them, since it alone has a runtime that may be sent to a thread.
-use crate::command::let_go;
 use crate::demo::{DemoContainer, DemoPorts, contain_demo, demo_files, serve_demo};
-use crate::ends::NO_MEMORY;
 use crossbeam_channel::{Receiver, Sender};
 use jk_cli::{Order, read_words};
+use jk_commands::{NO_MEMORY, let_go};
 use jk_io::{Bytes, Door, Source};
 use libc::net::{POLLIN, poll};
 use libc::types::pollfd;

@@ -1,12 +1,11 @@
 //! What of the files of `serve` has no effect, said before it serves.
 
 use crate::ahead_files::{Ahead, ahead_of};
-use crate::command::let_go;
 use crate::marked_sink::MarkedSink;
-use crate::words::is_serving;
 use crate::write_sink::WriteSink;
 use command_remarks::{Ended, InputSeen, KeptFiles, ReadFile, RemarkOut, remarks_on};
 use jk_cli::{Order, read_words};
+use jk_commands::{is_serving, let_go};
 use jk_io::{Bytes, Files, ListOf, MemLink, NoMemory, NumberList};
 use plain_commands::run_plain;
 use real_io::RealFiles;

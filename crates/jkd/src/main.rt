@@ -1,31 +1,28 @@
 //! jkd: a connector that balances requests over servlet containers.
 //!
-//! Here stand the words of the command line, which of the crates below does what they ask for, and the real world.
+//! Here stand the words of the command line, the real files, streams and world, over which `jk_commands` does what they ask
+//! for, what is told of it on standard error, and the demo.
 //!
-//! Source: own rules for the commands and their statuses.
-//! Contract: `run_jkd`, a clause for each status; of `demo`, `serve_demo` and `contain_demo`. Read first: specs/Commands.antt,
-//! then specs/Demo.antt.
-//! Errors: the statuses 1 to 7, each with its cause; a `Discord`, a stray and a failed drill end `run_jkd` with their values.
+//! Source: own rules for the demo and for what is told.
+//! Contract: of `demo`, `serve_demo` and `contain_demo`, each by `do_order`; `do_in`, that the status is that of `run_jkd`. Read
+//! first: jk_commands' specs/Commands.antt, then specs/Demo.antt.
+//! Errors: the statuses 1 to 7, as `run_jkd` gives them.
 #![tactic(auto)]
 
 mod ahead_files;
 mod arguments;
-mod command;
 mod demo;
 mod demo_threads;
 mod effects;
-mod ends;
 mod marked_sink;
 mod outside;
 mod telling;
-mod words;
 mod write_sink;
 
 use arguments::{WordList, WordsError, read_words};
-use command::let_go;
 use demo_threads::{DEMO_THREADS, Demo, demo_of, end_of, run_part, send_end};
 use effects::tell_effects;
-use ends::{NO_MEMORY, OUTPUT_FAULT};
+use jk_commands::{NO_MEMORY, OUTPUT_FAULT, let_go};
 use jk_io::{Bytes, IoError, NoMemory, Sink, write_all};
 use outside::{do_outside, tell_trouble, threads_of};
 use plain_commands::{USAGE, asked_text};

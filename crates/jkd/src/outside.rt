@@ -2,17 +2,16 @@
 ghost use Rattle.std.specs.Prelude.{◌≡◌, false};
 ghost use Rattle.jk_server.specs.Commands.{telling};
 ghost use Rattle.plain_commands.specs.Endings.{plain_side};
-ghost use Rattle.jkd.specs.Commands.{DoesWords};
-ghost use Rattle.jkd.specs.Ends.{status_of};
-ghost use Rattle.jkd.specs.Plain.{RunsPlain};
-ghost use Rattle.jkd.specs.Words.{is_serving};
+ghost use Rattle.jk_commands.specs.Commands.{DoesWords};
+ghost use Rattle.jk_commands.specs.Ends.{status_of};
+ghost use Rattle.jk_commands.specs.Plain.{RunsPlain};
+ghost use Rattle.jk_commands.specs.Words.{is_serving};
 
 use crate::ahead_files::{Ahead, AheadFiles};
-use crate::command::{let_go, run_jkd};
-use crate::ends::JkdEnd;
 use crate::telling::tell;
 use command_remarks::{CountedInput, KeptFiles};
 use jk_cli::{Order, read_words};
+use jk_commands::{JkdEnd, let_go, run_jkd};
 use jk_io::{Bytes, Door, Files, Sink, Source};
 use real_io::{RealFiles, StdIn, StdOut};
 use std::alloc::Global;

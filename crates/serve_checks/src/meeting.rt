@@ -4,10 +4,11 @@
 ghost use Rattle.std.specs.Prelude.{◌≡◌, ◌<◌, true, vec_len, IfOk};
 ghost use Rattle.uri_map.specs.Sites.{stands_in};
 
-use crate::worlds::{client_by, let_go, link_of, push};
+use crate::worlds::{client_by, link_of, push};
 use block_rows::comparing::wants;
 use block_rows::row::{BlockRow, RowError};
 use conn_pool::NoTape;
+use jk_commands::let_go;
 use jk_io::{
     Bytes, ClientList, Dial, Gate, GateLink, IoError, Link, ListOf, MAX_INPUT_BYTES, MemDoor,
     MemLink, NoMemory, NumberList, StepClock, Turn,

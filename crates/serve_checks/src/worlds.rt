@@ -24,9 +24,6 @@ pub fn link_of(alloc: Global, row: BlockRow<'_>, file: usize) -> Result<MemLink,
     Ok(MemLink::new(alloc, text, NumberList::new(alloc)))
 }
 
-/// Lets a value go. A caller's check then doesn't write out the drop of a large value.
-pub fn let_go<T: Drop>(_it: T) {}
-
 /// Adds an item; where memory is wanted it is let go.
 pub fn push<T: Drop>(list: &mut ListOf<T>, item: T) -> Result<(), NoMemory> {
     list.push(item)?;

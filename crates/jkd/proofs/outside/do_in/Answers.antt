@@ -1,7 +1,7 @@
 -- The status of a plain command is the one that it answered.
 use Rattle.std.proofs.Common.{◌∙◌, ap}
-use Rattle.jkd.specs.Ends.{status_of}
-use Rattle.jkd.specs.declared.ends.EndOf.{EndOf}
+use Rattle.jk_commands.specs.Ends.{status_of}
+use Rattle.jk_commands.specs.declared.ends.EndOf.{EndOf}
 use Rattle.jkd.proofs.outside.do_in.Goals as goal
 
 pub returns-clause-plain : goal.returns-clause-plain

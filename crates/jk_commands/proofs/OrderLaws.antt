@@ -14,7 +14,7 @@ use Rattle.jk_cli.specs.declared.name.CommandName.{CommandName}
 use Rattle.jk_cli.specs.declared.name.CommandName.TheVariants as name
 use Rattle.jk_cli.specs.declared.order.Order.{Order}
 use Rattle.jk_cli.specs.declared.order.Order.TheVariants as order
-use Rattle.jkd.specs.Words.{is_served, is_served_order, is_serving, IsInRange}
+use Rattle.jk_commands.specs.Words.{is_served, is_served_order, is_serving, IsInRange}
 
 -- a step that gave something had something
 bind_some : {A B : Type 0} (o : Option A) (f : A → Option B) (b : B) → option_and_then f o ≡ Some b → (a : A) × (o ≡ Some a) × (f a ≡ Some b)

@@ -5,8 +5,8 @@ use Rattle.drill.specs.declared.writing.DrillEnd.{DrillEnd}
 use Rattle.drill.specs.declared.writing.DrillEnd.TheVariants as drilled
 use Rattle.jk_server.specs.declared.orders.ends.CommandEnd.{CommandEnd}
 use Rattle.jk_server.specs.declared.orders.ends.CommandEnd.TheVariants as server
-use Rattle.jkd.specs.declared.ends.EndOf.{EndOf}
-use Rattle.jkd.specs.declared.ends.EndOf.TheVariants as end
+use Rattle.jk_commands.specs.declared.ends.EndOf.{EndOf}
+use Rattle.jk_commands.specs.declared.ends.EndOf.TheVariants as end
 
 -- the program's status
 abbrev pub status_of : {L : Type 0} → EndOf L → ℕ

@@ -2,7 +2,7 @@
 ghost use Rattle.std.specs.Prelude.{◌≡◌, codes};
 ghost use Rattle.std.specs.List.{list_any};
 ghost use Rattle.std.specs.Str.{bytes_eq};
-ghost use Rattle.jkd.specs.Words.{is_serving};
+ghost use Rattle.jk_commands.specs.Words.{is_serving};
 
 use jk_cli::{CommandName, command_of};
 use jk_io::Bytes;
@@ -22,7 +22,7 @@ fn asks_passes(behind: &[Bytes]) -> bool
 }
 
 /// Whether the words ask for workers.
-pub(crate) fn is_serving(words: &[Bytes]) -> bool
+pub fn is_serving(words: &[Bytes]) -> bool
     ensures { result ≡ is_serving words.now }
 {
     let [_, behind @ ..] = words else {

@@ -1,6 +1,6 @@
 use Rattle.std.proofs.Common.{inl, refl, sym, ◌∙◌}
-use Rattle.jkd.proofs.CommandLaws.{not_both, not_served, serving_command, status_is}
-use Rattle.jkd.proofs.command.run_jkd.Goals as goal
+use Rattle.jk_commands.proofs.CommandLaws.{not_both, not_served, serving_command, status_is}
+use Rattle.jk_commands.proofs.command.run_jkd.Goals as goal
 
 -- ---- words that ask for workers or threads
 

@@ -4,13 +4,14 @@ ghost use Rattle.jk_io.specs.Told.{Rose};
 ghost use Rattle.plain_commands.specs.Endings.{plain_side};
 ghost use Rattle.plain_commands.specs.Plain.{IsInputDue};
 ghost use Rattle.jk_server.specs.Commands.{telling};
-ghost use Rattle.jkd.specs.Commands.{DoesAsked, DoesWords};
-ghost use Rattle.jkd.specs.Plain.{EndsPlain, RunsPlain};
-ghost use Rattle.jkd.specs.Words.{AreFilesRead, is_command, is_served, is_serving, IsInRange, reads_files};
+ghost use Rattle.jk_commands.specs.Commands.{DoesAsked, DoesWords};
+ghost use Rattle.jk_commands.specs.Plain.{EndsPlain, RunsPlain};
+ghost use Rattle.jk_commands.specs.Words.{AreFilesRead, is_command, is_served, is_serving, IsInRange, reads_files};
 
 use crate::ends::{EndOf, JkdEnd, NO_MEMORY};
 use crate::words::is_serving;
 use drill::{DrillOrder, write_drill};
+use gear_parts::World;
 use jk_cli::{Order, read_words};
 use jk_io::{Bytes, Door, Files, Sink, Source};
 use jk_server::{ContainerOrder, GearOrder, ServeOrder, contain, cut_at, serve, watch_plan};
@@ -18,10 +19,9 @@ use plain_commands::run_plain;
 use std::alloc::Global;
 use std::sync::Wait;
 use std::thread::Threads;
-use worker_gears::World;
 
 /// Does an order that asks for workers or threads.
-pub(crate) fn do_order<F: Files, O: Sink, W: World, R: Threads + Wait + Sync>(
+pub fn do_order<F: Files, O: Sink, W: World, R: Threads + Wait + Sync>(
     rt: &R,
     alloc: Global,
     order: &Order,
@@ -103,7 +103,7 @@ where
 }
 
 /// Lets a value go. A caller's check then doesn't write out the drop of a large value.
-pub(crate) fn let_go<T: Drop>(_it: T) {}
+pub fn let_go<T: Drop>(_it: T) {}
 
 /// Does the command of words that ask for workers or threads.
 fn do_words<F: Files, O: Sink, W: World, R: Threads + Wait + Sync>(

@@ -24,11 +24,11 @@ use Rattle.plain_commands.specs.Plain.{readings, AreFilesDue}
 use Rattle.request_log.specs.Formats.{refusal_line}
 use Rattle.request_log.specs.declared.format.Part.{Part as FormatPart}
 use Rattle.site_reports.specs.Readings.{CommandOutside, has_file}
-use Rattle.jkd.specs.Commands.{DoesOrder}
-use Rattle.jkd.specs.Ends.{jkd_end, of_drill}
-use Rattle.jkd.specs.Words.{is_command, is_served, is_served_order, is_serving, AreFilesRead, IsInRange, reads_files}
-use Rattle.jkd.specs.declared.ends.EndOf.{EndOf}
-use Rattle.jkd.specs.declared.ends.EndOf.TheVariants as end
+use Rattle.jk_commands.specs.Commands.{DoesOrder}
+use Rattle.jk_commands.specs.Ends.{jkd_end, of_drill}
+use Rattle.jk_commands.specs.Words.{is_command, is_served, is_served_order, is_serving, AreFilesRead, IsInRange, reads_files}
+use Rattle.jk_commands.specs.declared.ends.EndOf.{EndOf}
+use Rattle.jk_commands.specs.declared.ends.EndOf.TheVariants as end
 
 -- memory was wanted before the words were read
 pub does_none : {W G C S O X Z : Type 0} (L : Type 0) (told : Tells W G C S O X Z) (outside : CommandOutside) (o : Order) (s : CommandSide G) → is_served o ≡ true → IsInRange o

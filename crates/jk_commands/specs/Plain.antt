@@ -3,8 +3,8 @@ use Rattle.std.specs.Prelude.{◌≡◌, ◌↔◌, ℕ, false, ◌⊎◌, List}
 use Rattle.jk_io.specs.Told.{Rose}
 use Rattle.plain_commands.specs.Endings.{PlainSide}
 use Rattle.plain_commands.specs.Plain.{is_plain, EndsWith, Prints, PrintsFront}
-use Rattle.jkd.specs.declared.ends.EndOf.{EndOf}
-use Rattle.jkd.specs.declared.ends.EndOf.TheVariants as end
+use Rattle.jk_commands.specs.declared.ends.EndOf.{EndOf}
+use Rattle.jk_commands.specs.declared.ends.EndOf.TheVariants as end
 
 -- What each status of a plain command says, of words that ask for no workers.
 pub record RunsPlain (words : List (List ℕ)) (s n : PlainSide) (status : ℕ) : Type 0 where

@@ -1,5 +1,5 @@
 use Rattle.std.proofs.Common.{refl}
-use Rattle.jkd.proofs.command.do_order.Goals as goal
+use Rattle.jk_commands.proofs.command.do_order.Goals as goal
 
 pub returns-in-Serve-clause-does : goal.returns-in-Serve-clause-does
 returns-in-Serve-clause-does g c incoming =

@@ -12,9 +12,9 @@ use Rattle.gear_parts.specs.Wants.{container_wants, wants}
 use Rattle.gear_parts.specs.Worlds.{Tells}
 use Rattle.jk_server.specs.declared.orders.ends.CommandEnd.{CommandEnd}
 use Rattle.site_reports.specs.Readings.{CommandOutside, OfFiles}
-use Rattle.jkd.specs.Ends.{jkd_end, of_drill}
-use Rattle.jkd.specs.Words.{is_served}
-use Rattle.jkd.specs.declared.ends.EndOf.{EndOf}
+use Rattle.jk_commands.specs.Ends.{jkd_end, of_drill}
+use Rattle.jk_commands.specs.Words.{is_served}
+use Rattle.jk_commands.specs.declared.ends.EndOf.{EndOf}
 
 -- The server was called, `Said` holds of how its call ended, and the command ended by that.
 pub record EndsServed {L : Type 0} (Said : CommandEnd L → Type 0) (ended : EndOf L) : Type 0 where

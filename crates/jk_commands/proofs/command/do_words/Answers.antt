@@ -1,7 +1,7 @@
 use Rattle.std.proofs.Common.{None, inl, refl}
-use Rattle.jkd.proofs.CommandLaws.{does_done, does_lose, does_none, files_by, one_order, served_by, wanted_done, wanted_lost}
-use Rattle.jkd.proofs.OrderLaws.{range}
-use Rattle.jkd.proofs.command.do_words.Goals as goal
+use Rattle.jk_commands.proofs.CommandLaws.{does_done, does_lose, does_none, files_by, one_order, served_by, wanted_done, wanted_lost}
+use Rattle.jk_commands.proofs.OrderLaws.{range}
+use Rattle.jk_commands.proofs.command.do_words.Goals as goal
 
 pub do_order-end-requires-clause-served : goal.do_order-end-requires-clause-served
 do_order-end-requires-clause-served g c κs within = served_by c.args.words.now c.in-Ok.order c.requires.serving c.in-Ok.ensures.ok

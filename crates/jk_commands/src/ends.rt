@@ -1,6 +1,6 @@
 //! How a command of jkd ends.
 ghost use Rattle.std.specs.Prelude.{◌≡◌};
-ghost use Rattle.jkd.specs.Ends.{status_of};
+ghost use Rattle.jk_commands.specs.Ends.{status_of};
 
 use drill::{DrillEnd, DrillError};
 use jk_server::CommandEnd;
@@ -15,10 +15,10 @@ const DONE: u8 = 0;
 const DIFFERS: u8 = 1;
 
 /// The status of a write of the output that failed.
-pub(crate) const OUTPUT_FAULT: u8 = 5;
+pub const OUTPUT_FAULT: u8 = 5;
 
 /// The status of want of memory.
-pub(crate) const NO_MEMORY: u8 = 6;
+pub const NO_MEMORY: u8 = 6;
 
 /// The status of a ticket that came back and wasn't out.
 const STRAY: u8 = 7;
@@ -56,7 +56,7 @@ impl<L> EndOf<L> {
 
 impl<L> From<CommandEnd<L>> for EndOf<L> {
     ghost use Rattle.std.specs.Prelude.{◌≡◌};
-    ghost use Rattle.jkd.specs.Ends.{jkd_end};
+    ghost use Rattle.jk_commands.specs.Ends.{jkd_end};
 
     ghost from_gives = { λ end ended. ended ≡ jkd_end end };
 
@@ -71,7 +71,7 @@ impl<L> From<CommandEnd<L>> for EndOf<L> {
 
 impl<L> From<DrillEnd> for EndOf<L> {
     ghost use Rattle.std.specs.Prelude.{◌≡◌};
-    ghost use Rattle.jkd.specs.Ends.{of_drill};
+    ghost use Rattle.jk_commands.specs.Ends.{of_drill};
 
     ghost from_gives = { λ end ended. ended ≡ of_drill end };
 
