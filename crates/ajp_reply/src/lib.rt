@@ -1,4 +1,4 @@
-//! The messages of the container, AJPv1.3, both ways.
+//! The messages of the container, AJPv1.3, both ways, and how far a talk came with them.
 //!
 //! Source: AJPv1.3 reference, "Response Packet Structure": Send Headers, Send Body Chunk, End Response, Get Body Chunk,
 //! CPong Reply.
@@ -14,6 +14,7 @@ mod encoding;
 mod laws;
 mod message;
 mod names;
+mod stage;
 
 pub use decoding::{decode_reply, take_reply};
 pub use encoding::encode_reply;
@@ -23,3 +24,4 @@ pub use laws::{
 };
 pub use message::{Message, ReplyParts};
 pub use names::reply_names;
+pub use stage::Stage;

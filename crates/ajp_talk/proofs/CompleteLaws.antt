@@ -21,7 +21,7 @@ use Rattle.ajp_talk.specs.Owed.{asked, pong_of}
 use Rattle.ajp_talk.specs.Talk.{IsTalk, HasFailed, HasNoPong, IsPingCause, IsCause, IsWrong, IsNext, BreaksSum, IsDone, IsGone, HasBadBody}
 use Rattle.ajp_talk.specs.Complete.{Brings, HasWhole, IsCompleted}
 use Rattle.ajp_talk.specs.declared.plan.TalkPlan.{TalkPlan}
-use Rattle.ajp_talk.specs.declared.ending.Stage.{Stage}
+use Rattle.ajp_reply.specs.declared.stage.Stage.{Stage}
 use Rattle.ajp_talk.specs.declared.ending.Told.{Told}
 use Rattle.ajp_talk.specs.declared.ending.Cause.{Cause}
 use Rattle.ajp_talk.specs.declared.ending.Cause.TheVariants as cause_is

@@ -23,7 +23,7 @@ use Rattle.ajp_talk.specs.Turns.{Came, IsHeard, IsUnheard, Sends, Gives, IsHeadF
 use Rattle.ajp_talk.specs.Ends.{IsPlan, stage_end, told_end, bytes_end}
 use Rattle.ajp_talk.specs.declared.plan.TalkPlan.{TalkPlan}
 use Rattle.ajp_talk.specs.declared.course.Course.{Course}
-use Rattle.ajp_talk.specs.declared.ending.Stage.{Stage}
+use Rattle.ajp_reply.specs.declared.stage.Stage.{Stage}
 use Rattle.ajp_talk.specs.declared.ending.Cause.{Cause}
 use Rattle.ajp_talk.specs.declared.ending.Cause.TheVariants as cause_is
 use Rattle.ajp_talk.specs.declared.turn.Turn.TheVariants as turn_is

@@ -7,9 +7,10 @@ ghost use Rattle.ajp_wire.specs.declared.writing.TheConstants.{MAX_PIECE_BYTES, 
 ghost use Rattle.ajp_talk.specs.declared.concluding.TheConstants.{CPING_BYTES};
 
 use crate::course::Course;
-use crate::ending::{Cause, Stage, TalkEnd, Told};
+use crate::ending::{Cause, TalkEnd, Told};
 use crate::plan::TalkPlan;
 use crate::turn::{Turn, Unheard};
+use ajp_reply::Stage;
 use jk_io::NoMemory;
 
 /// The bytes of a CPing: a packet's head and one byte.

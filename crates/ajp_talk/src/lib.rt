@@ -29,6 +29,6 @@ mod talking;
 mod turn;
 mod upload;
 
-pub use ending::{Cause, Stage, TalkEnd, Told};
+pub use ending::{Cause, TalkEnd, Told};
 pub use plan::{TalkLimits, TalkPlan};
 pub use talking::talk;

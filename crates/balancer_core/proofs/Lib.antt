@@ -14,6 +14,8 @@ pub mod RoomLaws
 pub mod SegmentLaws
 pub mod StepLaws
 pub mod ToldLaws
+pub mod OwnLaws
+pub mod HistoryLaws
 pub mod DeskLaws
 pub mod PlainDeskLaws
 pub mod PlainLaws

@@ -9,6 +9,7 @@ pub mod Stepped
 pub mod Commanded
 pub mod Due
 pub mod ToldBooks
+pub mod Histories
 pub mod Ending
 pub mod Desks
 pub mod PlainDesks

@@ -9,7 +9,7 @@
 //! Commanded.antt and Ending.antt.
 //! `Desk` is what a session asks, with the meanings of specs/Desks.antt; what its clauses say of Books that it tells
 //! stands in specs/ToldBooks.antt. `PlainDesk` is one over Books that it owns, whose refusals are told by
-//! specs/Refused.antt.
+//! specs/Refused.antt. What the one history of a Book is, whatever was cut from it, stands in specs/Histories.antt.
 //! Errors: `RoomError`, `AdminError` and `Stray` of jk_model. After one the Book is as it was.
 #![tactic(auto)]
 

@@ -16,7 +16,7 @@ use Rattle.ajp_talk.specs.Owed.{asked, pong_of}
 use Rattle.ajp_talk.specs.Replies.{bytes_for, chunks_of, has_passed, head_out, kind_of, so_far_of_talk, told_by, told_of_talk, told_with}
 use Rattle.ajp_talk.specs.Talk.{IsBad, IsFrontOrForm, IsTalk, IsGone}
 use Rattle.ajp_talk.specs.declared.ending.Cause.{Cause}
-use Rattle.ajp_talk.specs.declared.ending.Stage.{Stage}
+use Rattle.ajp_reply.specs.declared.stage.Stage.{Stage}
 use Rattle.ajp_talk.specs.declared.ending.TalkEnd.{TalkEnd}
 use Rattle.ajp_talk.specs.declared.ending.TalkEnd.TheVariants as ends
 use Rattle.ajp_talk.specs.declared.ending.Told.{Told}

@@ -11,7 +11,7 @@ use Rattle.ajp_talk.specs.Moments.{BodyAt, Takes, data_at}
 use Rattle.ajp_talk.specs.Replies.{chunks_of, has_passed, head_out, kind_of, passed_of}
 use Rattle.ajp_talk.specs.Talk.{HasFailed, HasNoPong, IsCalmEnd, IsTalk}
 use Rattle.ajp_talk.specs.declared.ending.Cause.{Cause}
-use Rattle.ajp_talk.specs.declared.ending.Stage.{Stage}
+use Rattle.ajp_reply.specs.declared.stage.Stage.{Stage}
 use Rattle.ajp_talk.specs.declared.ending.TalkEnd.{TalkEnd}
 use Rattle.ajp_talk.specs.declared.ending.TalkEnd.TheVariants as ends
 use Rattle.ajp_talk.specs.declared.ending.Told.{Told}

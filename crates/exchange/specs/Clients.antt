@@ -16,7 +16,7 @@ use Rattle.ajp_talk.specs.Owed.{pong_of}
 use Rattle.ajp_talk.specs.Replies.{IsReply, IsUnlisted, bytes_for, passed_of, reply_of_talk, so_far_of_talk}
 use Rattle.ajp_talk.specs.Talk.{Accepts, IsFrontOrForm}
 use Rattle.ajp_talk.specs.declared.ending.Cause.{Cause}
-use Rattle.ajp_talk.specs.declared.ending.Stage.{Stage}
+use Rattle.ajp_reply.specs.declared.stage.Stage.{Stage}
 use Rattle.ajp_talk.specs.declared.ending.TalkEnd.{TalkEnd}
 use Rattle.ajp_talk.specs.declared.ending.TalkEnd.TheVariants as ends
 use Rattle.ajp_talk.specs.declared.ending.Told.{Told}

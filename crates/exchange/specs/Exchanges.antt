@@ -6,7 +6,7 @@ use Rattle.jk_io.specs.declared.reaching.Talk.{Talk}
 use Rattle.jk_model.specs.declared.refusal.Stray.{Stray}
 use Rattle.ajp_talk.specs.Moments.{BodyAt, IsUsed}
 use Rattle.ajp_talk.specs.declared.ending.Cause.{Cause}
-use Rattle.ajp_talk.specs.declared.ending.Stage.{Stage}
+use Rattle.ajp_reply.specs.declared.stage.Stage.{Stage}
 use Rattle.ajp_talk.specs.declared.ending.TalkEnd.TheVariants as ends
 use Rattle.ajp_talk.specs.declared.ending.Told.{Told}
 use Rattle.forwarding.specs.FirstPiece.{first_len}

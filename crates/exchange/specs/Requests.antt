@@ -1,6 +1,6 @@
 -- A request as a balancer is asked for it, and as a talk is planned for a member.
 use Rattle.std.specs.Prelude.{ℕ, ◌≡◌, Bool, true, false, List, [], ◌∷◌, length, map, codes, bytes_eq, Option, None, Some, slice_get, if◌then◌else◌}
-use Rattle.ajp_talk.specs.declared.ending.Stage.{Stage}
+use Rattle.ajp_reply.specs.declared.stage.Stage.{Stage}
 use Rattle.ajp_talk.specs.declared.plan.TalkPlan.{TalkPlan}
 use Rattle.forwarding.specs.FirstPiece.{piece_for}
 use Rattle.ajp_request.specs.declared.forward.Forward.{Forward}

@@ -16,7 +16,7 @@ use Rattle.balancer_core.specs.Desks.{Chooses, DeskState, LeaseNote, MeetsStray,
 use Rattle.balancer_core.specs.declared.receipt.Receipt.{Receipt}
 use Rattle.balancer_core.specs.declared.desk.Choice.TheVariants as choice
 use Rattle.ajp_talk.specs.declared.ending.Cause.{Cause}
-use Rattle.ajp_talk.specs.declared.ending.Stage.{Stage}
+use Rattle.ajp_reply.specs.declared.stage.Stage.{Stage}
 use Rattle.ajp_talk.specs.declared.ending.TalkEnd.{TalkEnd}
 use Rattle.ajp_talk.specs.declared.ending.TalkEnd.TheVariants as ends
 use Rattle.ajp_talk.specs.declared.ending.Told.{Told}

@@ -7,7 +7,8 @@ ghost use Rattle.exchange.specs.OneTalk.{IsOneTalk, IsPlanOf, dial_for, keeps as
 
 use crate::sides::Sides;
 use crate::target::Target;
-use ajp_talk::{Cause, Stage, TalkEnd, TalkPlan, talk};
+use ajp_reply::Stage;
+use ajp_talk::{Cause, TalkEnd, TalkPlan, talk};
 use jk_io::{Awaited, IoError, Link, NoMemory, Reach};
 use site_config::Endpoint;
 use std::alloc::Global;

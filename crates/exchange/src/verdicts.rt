@@ -6,7 +6,8 @@ ghost use Rattle.exchange.specs.Requests.{allows as allows_another};
 
 use crate::ending::{ExchangeEnd, Ran, RoundVerdict};
 use crate::methods::method_of;
-use ajp_talk::{Cause, Stage, TalkEnd, Told};
+use ajp_reply::Stage;
+use ajp_talk::{Cause, TalkEnd, Told};
 use forwarding::may_retry;
 use http_front::Head;
 use jk_model::{FailList, Kind, Outcome};

@@ -1,6 +1,6 @@
 -- When a request whose talk failed may be sent once more.
 use Rattle.std.specs.Prelude.{ℕ, ◌/◌, ◌%◌, ◌==◌, Bool, false, not, ◌&&◌, ◌||◌}
-use Rattle.ajp_talk.specs.declared.ending.Stage.{Stage}
+use Rattle.ajp_reply.specs.declared.stage.Stage.{Stage}
 use Rattle.forwarding.specs.declared.method.MethodKind.{MethodKind}
 use Rattle.forwarding.specs.declared.method.MethodKind.TheVariants as method
 use Rattle.forwarding.specs.declared.options.RecoveryOption.{RecoveryOption}

@@ -5,7 +5,7 @@ ghost use Rattle.forwarding.specs.Recovery.{is_on, is_always_recovered, is_early
 
 use crate::method::MethodKind;
 use crate::options::RecoveryOption;
-use ajp_talk::Stage;
+use ajp_reply::Stage;
 
 /// Whether the request may be sent once more. `options` are those of the member whose talk failed, and `stage` is how
 /// far that talk had come.

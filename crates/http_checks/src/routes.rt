@@ -1,7 +1,7 @@
 //! Session ids and their member, the recovery rule, and the packet that a member gets.
 
 use crate::replies::lines_of;
-use ajp_talk::Stage;
+use ajp_reply::Stage;
 use ajp_wire::EncodeError;
 use check_rows::rows::{bytes_of, number};
 use check_rows::telling::{part, put_bytes, put_count, put_shown, put_word};

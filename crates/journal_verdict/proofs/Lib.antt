@@ -1,6 +1,11 @@
 pub mod CheckerFacts
+pub mod CutLaws
+pub mod EntryLaws
+pub mod HeadLaws
+pub mod HeadingLaws
 pub mod JoinFacts
 pub mod JudgeFacts
 pub mod ReaderFacts
+pub mod RunLaws
 pub mod SegmentFacts
 pub mod SpelledLaws

@@ -1,6 +1,9 @@
 pub mod Checkers
 pub mod Checks
+pub mod Followed
 pub mod Judging
+pub mod Lines
+pub mod Machines
 pub mod Rulings
 pub mod Told
 pub mod Verdicts

@@ -12,7 +12,7 @@ use Rattle.balancer_core.specs.declared.receipt.Receipt.{Receipt}
 use Rattle.history_lock.specs.Seats.{by_seat, seated}
 use Rattle.history_lock.specs.declared.view.Claim.{Claim}
 use Rattle.history_lock.specs.declared.view.View.{View}
-use Rattle.seen_history.specs.Histories.{IsHistoryOf}
+use Rattle.balancer_core.specs.Histories.{IsHistoryOf}
 use Rattle.locked_balancer.specs.Holds.{LockedState}
 use Rattle.locked_balancer.specs.Notes.{ViewNote}
 use Rattle.locked_balancer.specs.Sites.{At}

@@ -30,10 +30,10 @@ use Rattle.balancer_core.specs.declared.plain_desk.PlainLease.{PlainLease}
 use Rattle.balancer_core.specs.declared.receipt.Receipt.{Receipt}
 use Rattle.balancer_core.proofs.PlainLaws.{ticket_differs, without}
 use Rattle.balancer_core.proofs.ToldLaws.{past-one}
-use Rattle.seen_history.specs.Histories.{has_made}
+use Rattle.balancer_core.specs.Histories.{has_made}
 use Rattle.seen_history.specs.declared.pass_view.PassView.{PassView}
-use Rattle.seen_history.proofs.HistoryLaws.{whole_next, whole_of}
-use Rattle.seen_history.proofs.OwnLaws.{made-append, own_below, returned-append}
+use Rattle.balancer_core.proofs.HistoryLaws.{whole_next, whole_of}
+use Rattle.balancer_core.proofs.OwnLaws.{made-append, own_below, returned-append}
 use Rattle.pass_desk.specs.Calls.{CallChooses, CallCommands, CallDenies, CallRefuses, CallWants}
 use Rattle.pass_desk.specs.Holds.{Returns, TakesTurn, entries_in, gained_in, own_in}
 use Rattle.pass_desk.specs.PassDesks.{AreGot, IsGot, MaySee, PassDeskState, SeesAt, view_of}

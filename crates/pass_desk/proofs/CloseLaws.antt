@@ -9,7 +9,7 @@ use Rattle.atomic_table.specs.declared.shared.Seat.{Seat}
 use Rattle.atomic_table.proofs.Lists.{at_longer}
 use Rattle.jk_model.specs.declared.journal.Entry.{Entry}
 use Rattle.balancer_core.specs.Journal.{Journal}
-use Rattle.seen_history.specs.Histories.{IsHistory}
+use Rattle.balancer_core.specs.Histories.{IsHistory}
 use Rattle.seen_history.specs.Plays.{joined}
 use Rattle.seen_history.specs.Turns.{Carries, IsBookOf, IsPassTable}
 use Rattle.seen_history.specs.declared.pass_view.Origin.{Origin}

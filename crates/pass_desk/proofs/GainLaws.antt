@@ -17,13 +17,13 @@ use Rattle.balancer_core.specs.Journal.{Journal}
 use Rattle.balancer_core.specs.PlainDesks.{BookGains}
 use Rattle.balancer_core.specs.ToldBooks.{AreNextAt, grown_by}
 use Rattle.balancer_core.specs.declared.receipt.Receipt.{Receipt}
-use Rattle.seen_history.specs.Histories.{AreOf, BeginsWith, IsHistory, has_made, own_of}
+use Rattle.balancer_core.specs.Histories.{AreOf, BeginsWith, IsHistory, has_made, own_of}
 use Rattle.seen_history.specs.Plays.{Took, grown_owns, last_in, turning}
 use Rattle.seen_history.specs.Turns.{Carries, IsBookOf}
 use Rattle.seen_history.specs.declared.pass_view.PassView.{PassView}
 use Rattle.seen_history.specs.declared.pass_view.Turn.TheVariants.{Idle, Out}
 use Rattle.seen_history.proofs.BookLaws.{book_grown}
-use Rattle.seen_history.proofs.HistoryLaws.{history_more}
+use Rattle.balancer_core.proofs.HistoryLaws.{history_more}
 use Rattle.seen_history.proofs.SeatLaws.{carries_one}
 use Rattle.pass_desk.specs.Holds.{Ended, IsIdle, IsTold, TakesTurn, entries_in, gained_in, own_in}
 

@@ -17,11 +17,11 @@ use Rattle.jk_model.specs.declared.view.View.{View}
 use Rattle.balancer_core.specs.Desks.{holds, is_pair, without_last}
 use Rattle.balancer_core.specs.declared.receipt.Receipt.{Receipt}
 use Rattle.balancer_core.proofs.PlainLaws.{pair_is, without, without-none}
-use Rattle.seen_history.specs.Histories.{IsHistory, has_made, own_of}
+use Rattle.balancer_core.specs.Histories.{IsHistory, has_made, own_of}
 use Rattle.seen_history.specs.declared.pass_view.Origin.{Origin}
 use Rattle.seen_history.specs.declared.pass_view.PassView.{PassView}
-use Rattle.seen_history.proofs.HistoryLaws.{whole_present}
-use Rattle.seen_history.proofs.OwnLaws.{made_longer, own-append, own-same, returned-append}
+use Rattle.balancer_core.proofs.HistoryLaws.{whole_present}
+use Rattle.balancer_core.proofs.OwnLaws.{made_longer, own-append, own-same, returned-append}
 use Rattle.pass_desk.specs.Holds.{Looks, TakesTurn, entries_in, gained_in, own_in}
 use Rattle.pass_desk.specs.PassDesks.{AreGot, IsGot, IsPassDesk, PassDeskState, SeesAt, SeesMore, ShowsSeen, StayPasses, StaysPass, sizes_in, view_of}
 use Rattle.pass_desk.proofs.GainLaws.{gained_is}

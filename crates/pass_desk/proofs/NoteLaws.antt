@@ -5,7 +5,7 @@ use lib.ListN.{get_elem?}
 use Rattle.atomic_table.specs.Table.{Allows, Me, Step, step}
 use Rattle.jk_model.specs.declared.journal.Entry.{Entry}
 use Rattle.balancer_core.specs.Journal.{Journal}
-use Rattle.seen_history.specs.Histories.{BeginsWith}
+use Rattle.balancer_core.specs.Histories.{BeginsWith}
 use Rattle.seen_history.specs.Plays.{PutTogether, joined}
 use Rattle.seen_history.specs.Turns.{IsPassTable}
 use Rattle.seen_history.specs.declared.pass_view.Origin.{Origin}

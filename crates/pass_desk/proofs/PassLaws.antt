@@ -11,7 +11,7 @@ use Rattle.seen_history.specs.Turns.{IsBookOf, IsPassTable, first_view}
 use Rattle.seen_history.specs.declared.pass_view.Origin.{Origin}
 use Rattle.seen_history.specs.declared.pass_view.PassView.{PassView}
 use Rattle.seen_history.proofs.EndLaws.{begins}
-use Rattle.seen_history.proofs.HistoryLaws.{begins_here}
+use Rattle.balancer_core.proofs.HistoryLaws.{begins_here}
 use Rattle.seen_history.proofs.SeatLaws.{at_end}
 use Rattle.pass_desk.specs.Passes.{AreNewPasses, IsNewPass, origin_of}
 use Rattle.pass_desk.specs.declared.pass.Pass.{Pass}

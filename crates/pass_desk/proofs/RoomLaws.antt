@@ -36,7 +36,7 @@ use Rattle.seen_history.specs.Turns.{IsBookOf}
 use Rattle.seen_history.specs.declared.pass_view.Origin.{Origin}
 use Rattle.seen_history.specs.declared.pass_view.PassView.{PassView}
 use Rattle.seen_history.proofs.BookLaws.{book_grown}
-use Rattle.seen_history.proofs.HistoryLaws.{IsWhole, whole_next, whole_of, whole_tickets}
+use Rattle.balancer_core.proofs.HistoryLaws.{IsWhole, whole_next, whole_of, whole_tickets}
 use Rattle.pass_desk.specs.Calls.{CallChooses, CallCommands, CallDenies, CallRefuses}
 use Rattle.pass_desk.specs.Holds.{TakesTurn, entries_in, gained_in}
 use Rattle.pass_desk.specs.PassDesks.{view_of}

@@ -7,7 +7,7 @@ use mathlib.Core.Option.{some}
 use lib.ListN.{get_elem?}
 use Rattle.jk_model.specs.declared.journal.Entry.{Entry}
 use Rattle.balancer_core.specs.Journal.{Journal}
-use Rattle.seen_history.specs.Histories.{IsHistory, own_of}
+use Rattle.balancer_core.specs.Histories.{IsHistory, own_of}
 use Rattle.seen_history.specs.Turns.{Carries, IsBookOf}
 use Rattle.seen_history.specs.declared.pass_view.PassView.{PassView}
 use Rattle.seen_history.specs.declared.pass_view.Turn.TheVariants.{Idle}

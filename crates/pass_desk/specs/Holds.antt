@@ -23,7 +23,7 @@ use Rattle.balancer_core.specs.PlainDesks.{BookCommands, BookGainsDue, BookGains
 use Rattle.balancer_core.specs.declared.book.Picked.{Picked}
 use Rattle.balancer_core.specs.declared.desk.Occasion.{Occasion}
 use Rattle.balancer_core.specs.declared.receipt.Receipt.{Receipt}
-use Rattle.seen_history.specs.Histories.{AreOf, BeginsWith, IsHistory, own_of}
+use Rattle.balancer_core.specs.Histories.{AreOf, BeginsWith, IsHistory, own_of}
 use Rattle.seen_history.specs.Plays.{grown_owns, last_in, turn_of, turning}
 use Rattle.seen_history.specs.Turns.{IsBookOf}
 use Rattle.seen_history.specs.declared.pass_view.PassView.{PassView}

@@ -10,7 +10,7 @@ use Rattle.jk_model.specs.declared.journal.Entry.{Entry}
 use Rattle.jk_model.specs.declared.view.View.{View}
 use Rattle.balancer_core.specs.Desks.{DeskState, holds}
 use Rattle.balancer_core.specs.declared.receipt.Receipt.{Receipt}
-use Rattle.seen_history.specs.Histories.{BeginsWith, IsHistory, has_made, own_of}
+use Rattle.balancer_core.specs.Histories.{BeginsWith, IsHistory, has_made, own_of}
 use Rattle.seen_history.specs.declared.pass_view.PassView.{PassView}
 use Rattle.pass_desk.specs.Holds.{entries_in, gained_in, own_in}
 use Rattle.pass_desk.specs.declared.pass.Pass.{Pass}

@@ -3,7 +3,7 @@ ghost use Rattle.std.specs.Prelude.{◌≡◌, ◌≤◌, true, false, not, filt
 ghost use Rattle.balancer_core.specs.Desks.{holds, is_pair};
 ghost use Rattle.jk_model.specs.Tickets.{is_returned};
 ghost use Rattle.jk_model.specs.declared.journal.TheConstants.{MOST_BYTES};
-ghost use Rattle.seen_history.specs.Histories.{has_made};
+ghost use Rattle.balancer_core.specs.Histories.{has_made};
 ghost use Rattle.pass_desk.specs.Calls.{CallChooses, CallCommands, CallDenies, CallRefuses};
 ghost use Rattle.pass_desk.specs.Holds.{Returns, own_in};
 

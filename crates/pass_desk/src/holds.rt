@@ -2,7 +2,7 @@
 ghost use Rattle.std.specs.Prelude.{◌≡◌, ◌+◌, ◌<◌, ◌≤◌, true, false, [], vec_len, vec_capacity, IfOk, IfErr, OnOk};
 ghost use Rattle.jk_model.specs.Tickets.{is_returned};
 ghost use Rattle.jk_model.specs.declared.journal.TheConstants.{MOST_BYTES};
-ghost use Rattle.seen_history.specs.Histories.{has_made};
+ghost use Rattle.balancer_core.specs.Histories.{has_made};
 ghost use Rattle.pass_desk.specs.Holds.{Commands, Denies, Looks, Refuses, Returns, Selects, own_in};
 
 use crate::pass::Pass;

@@ -1,9 +1,9 @@
 -- What `follow` prints of a journal's text, and its status.
 use Rattle.std.specs.Prelude.{◌≡◌, ℕ, Bool, true, false, ◌⊎◌, List, [], ◌∷◌, Option, Some, None, codes}
-use Rattle.journal_follow.specs.Followed.{IsOpened, IsStopped}
-use Rattle.journal_follow.specs.declared.error.FollowError.{FollowError}
-use Rattle.journal_follow.specs.declared.error.FollowError.TheVariants as wrong
-use Rattle.journal_follow.specs.declared.view.FollowView.{FollowView}
+use Rattle.journal_verdict.specs.Followed.{IsOpened, IsStopped}
+use Rattle.journal_verdict.specs.declared.error.FollowError.{FollowError}
+use Rattle.journal_verdict.specs.declared.error.FollowError.TheVariants as wrong
+use Rattle.journal_verdict.specs.declared.view.FollowView.{FollowView}
 use Rattle.journal_verdict.specs.Told.{bad_text}
 use Rattle.status_page.specs.Page.{page_of}
 use Rattle.status_page.specs.declared.page.BalancerType.{BalancerType}

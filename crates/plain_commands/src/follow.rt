@@ -1,8 +1,8 @@
 //! What `follow` prints of a journal's text.
 ghost use Rattle.std.specs.Prelude.{◌≡◌, ℕ, List, Option, true, IfOk};
-ghost use Rattle.journal_follow.specs.Followed.{IsOpened};
-ghost use Rattle.journal_follow.specs.Machines.{HasFed, is_going};
-ghost use Rattle.journal_follow.specs.declared.view.FollowView.{FollowView as AnyView};
+ghost use Rattle.journal_verdict.specs.Followed.{IsOpened};
+ghost use Rattle.journal_verdict.specs.Machines.{HasFed, is_going};
+ghost use Rattle.journal_verdict.specs.declared.view.FollowView.{FollowView as AnyView};
 ghost use Rattle.journal_verdict.specs.Told.{bad_text};
 ghost use Rattle.plain_commands.specs.Endings.{status_of};
 ghost use Rattle.plain_commands.specs.FollowedTexts.{FollowsText, RefusesText, part_of, shown_text, type_of};
@@ -10,8 +10,7 @@ ghost use Rattle.plain_commands.specs.FollowedTexts.{FollowsText, RefusesText, p
 use crate::check::unreadable;
 use crate::play::{Ending, Output};
 use jk_io::{Bytes, NoMemory};
-use journal_follow::{FollowError, FollowView, Follower};
-use journal_verdict::{Ruling, put_bad};
+use journal_verdict::{FollowError, FollowView, Follower, Ruling, put_bad};
 use status_page::{AddressList, BalancerType, PageList, PagePart, render};
 use std::alloc::Global;
 

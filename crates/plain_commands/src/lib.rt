@@ -3,7 +3,7 @@
 //!
 //! Source: own rules for the commands, their statuses and what they print (docs/FORMATS.md). What `play` prints is in
 //! play_script's specs/Play.antt, what `config` and `match` print in site_reports' specs/Reports.antt, the verdict of `check`
-//! in journal_verdict's specs/Verdicts.antt, what is followed in journal_follow's specs/Followed.antt. What `dry` and `log`
+//! in journal_verdict's specs/Verdicts.antt, what is followed in its specs/Followed.antt. What `dry` and `log`
 //! print is in specs/Dry.antt; their session is that of `client_session`, and the log's lines are those of `request_log`.
 //! Shapes: talks are listed newest first where a definition tells over which links they were done.
 //! Contract: `run_plain`, a clause for each status. Read first: specs/Plain.antt, then site_reports' specs/Readings.antt; of

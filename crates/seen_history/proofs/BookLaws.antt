@@ -9,7 +9,7 @@ use Rattle.balancer_core.specs.declared.receipt.Receipt.{Receipt}
 use Rattle.balancer_core.proofs.ToldLaws.{sound_grown}
 use Rattle.seen_history.specs.Turns.{IsBookOf}
 use Rattle.seen_history.specs.declared.pass_view.Origin.{Origin}
-use Rattle.seen_history.proofs.HistoryLaws.{cut_of, entries_in, grown_of, uncut_whole}
+use Rattle.balancer_core.proofs.HistoryLaws.{cut_of, entries_in, grown_of, uncut_whole}
 
 -- The entries of a call follow the history.
 pub book_grown : (o : Origin) (h : List Entry) (b : Journal) (at : ℕ) (gained : List Receipt) → IsBookOf o h b → AreNextAt b at gained

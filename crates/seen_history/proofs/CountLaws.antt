@@ -7,15 +7,15 @@ use lib.ListN.{get_elem?}
 use Rattle.atomic_table.specs.Table.{Allows, gives, keeps, step}
 use Rattle.jk_model.specs.declared.journal.Entry.{Entry}
 use Rattle.balancer_core.specs.Journal.{Journal}
-use Rattle.seen_history.specs.Histories.{AreOf, BeginsWith, IsHistory, own_of}
+use Rattle.balancer_core.specs.Histories.{AreOf, BeginsWith, IsHistory, own_of}
 use Rattle.seen_history.specs.Plays.{Counted, Left, grown_owns, last_in, turn_of, turning}
 use Rattle.seen_history.specs.Turns.{Carries, IsBookOf, IsLive, IsPassTable, IsServed, IsWaiting, Queue, SlotFits, TurnFits, ViewFits}
 use Rattle.seen_history.specs.declared.pass_view.Origin.{Origin}
 use Rattle.seen_history.specs.declared.pass_view.PassView.{PassView}
 use Rattle.seen_history.specs.declared.pass_view.Turn.{Turn}
 use Rattle.seen_history.specs.declared.pass_view.Turn.TheVariants.{Idle, Waits, Out, Spent}
-use Rattle.seen_history.proofs.HistoryLaws.{begins_itself, begins_more, begins_twice}
-use Rattle.seen_history.proofs.OwnLaws.{own-kept, own-more}
+use Rattle.balancer_core.proofs.HistoryLaws.{begins_itself, begins_more, begins_twice}
+use Rattle.balancer_core.proofs.OwnLaws.{own-kept, own-more}
 use Rattle.seen_history.proofs.SeatLaws.{all_set, alone_set, at_dropped, at_within, carries_one, dropped_at, one_carried, slot_out}
 
 -- The history grew by entries of the first caller of the queue; another one isn't it.

@@ -9,14 +9,14 @@ use Rattle.atomic_table.specs.Table.{Allows, State, keeps, step, stepped, takes}
 use Rattle.atomic_table.proofs.Lists.{at_last, at_longer, one_turn, set_again}
 use Rattle.jk_model.specs.declared.journal.Entry.{Entry}
 use Rattle.balancer_core.specs.Journal.{Journal}
-use Rattle.seen_history.specs.Histories.{IsHistory}
+use Rattle.balancer_core.specs.Histories.{IsHistory}
 use Rattle.seen_history.specs.Plays.{Drew, Polled, Took, turn_of, turning}
 use Rattle.seen_history.specs.Turns.{Carries, IsBookOf, IsLive, IsPassTable, IsWaiting, Queue, SlotFits, TurnFits, ViewFits}
 use Rattle.seen_history.specs.declared.pass_view.Origin.{Origin}
 use Rattle.seen_history.specs.declared.pass_view.PassView.{PassView}
 use Rattle.seen_history.specs.declared.pass_view.Turn.{Turn}
 use Rattle.seen_history.specs.declared.pass_view.Turn.TheVariants.{Idle, Waits, Out, Spent}
-use Rattle.seen_history.proofs.HistoryLaws.{begins_itself}
+use Rattle.balancer_core.proofs.HistoryLaws.{begins_itself}
 use Rattle.seen_history.proofs.SeatLaws.{all_set, alone_set, at_end, at_within, carries_one, few_waiting, slot_free, slot_longer}
 
 -- One place in the queue more, for another caller.

@@ -5,7 +5,7 @@ use lib.ListN.{get_elem?}
 use Rattle.atomic_table.specs.Table.{Final, Seen, opening}
 use Rattle.jk_model.specs.declared.journal.Entry.{Entry}
 use Rattle.balancer_core.specs.Journal.{Journal}
-use Rattle.seen_history.specs.Histories.{BeginsWith, IsHistory, own_of}
+use Rattle.balancer_core.specs.Histories.{BeginsWith, IsHistory, own_of}
 use Rattle.seen_history.specs.Turns.{Carries, IsBookOf, IsLive, IsPassTable, Queue, SlotFits, TurnFits, ViewFits, first_view}
 use Rattle.seen_history.specs.declared.pass_view.Origin.{Origin}
 use Rattle.seen_history.specs.declared.pass_view.PassView.{PassView}

@@ -7,14 +7,14 @@ use Rattle.atomic_table.specs.Table.{Allows, Joins, Splits, keeps, step}
 use Rattle.atomic_table.proofs.Lists.{at_longer, at_set, set_again}
 use Rattle.jk_model.specs.declared.journal.Entry.{Entry}
 use Rattle.balancer_core.specs.Journal.{Journal}
-use Rattle.seen_history.specs.Histories.{BeginsWith}
+use Rattle.balancer_core.specs.Histories.{BeginsWith}
 use Rattle.seen_history.specs.Plays.{PutTogether, giver_after, joined, next_caller, noted, spent, turning}
 use Rattle.seen_history.specs.Turns.{Carries, IsLive, IsPassTable, Queue, TurnFits, ViewFits}
 use Rattle.seen_history.specs.declared.pass_view.Origin.{Origin}
 use Rattle.seen_history.specs.declared.pass_view.PassView.{PassView}
 use Rattle.seen_history.specs.declared.pass_view.Turn.{Turn}
 use Rattle.seen_history.specs.declared.pass_view.Turn.TheVariants.{Idle, Waits, Out, Spent}
-use Rattle.seen_history.proofs.HistoryLaws.{begins_itself}
+use Rattle.balancer_core.proofs.HistoryLaws.{begins_itself}
 use Rattle.seen_history.proofs.SeatLaws.{AreAlone, all_set, alone_set, at_end, none_carried, one_carried}
 
 -- A fact of each view after another came.

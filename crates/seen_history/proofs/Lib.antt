@@ -1,5 +1,3 @@
-pub mod OwnLaws
-pub mod HistoryLaws
 pub mod BookLaws
 pub mod SeatLaws
 pub mod DrawLaws

@@ -6,7 +6,7 @@ use Rattle.jk_model.specs.declared.journal.Entry.{Entry}
 use Rattle.jk_model.specs.declared.member.Method.TheVariants as method
 use Rattle.jk_model.specs.declared.opening.Opening.{Opening}
 use Rattle.balancer_core.specs.Journal.{Journal}
-use Rattle.seen_history.specs.Histories.{BeginsWith, IsHistory, own_of}
+use Rattle.balancer_core.specs.Histories.{BeginsWith, IsHistory, own_of}
 use Rattle.seen_history.specs.Turns.{Carries, IsBookOf}
 use Rattle.model_laws.proofs.SmallConfig.{one_counts, one_in_range, one_narrow, one_period, some_member}
 use Rattle.seen_history.specs.declared.pass_view.Origin.{Origin}

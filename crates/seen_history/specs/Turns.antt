@@ -6,7 +6,7 @@ use lib.ListN.{get_elem?}
 use Rattle.atomic_table.specs.Table.{State}
 use Rattle.jk_model.specs.declared.journal.Entry.{Entry}
 use Rattle.balancer_core.specs.Journal.{IsSound, Journal}
-use Rattle.seen_history.specs.Histories.{BeginsWith, IsHistory, IsHistoryOf, own_of}
+use Rattle.balancer_core.specs.Histories.{BeginsWith, IsHistory, IsHistoryOf, own_of}
 use Rattle.seen_history.specs.declared.pass_view.Origin.{Origin}
 use Rattle.seen_history.specs.declared.pass_view.PassView.{PassView}
 use Rattle.seen_history.specs.declared.pass_view.Turn.{Turn}

@@ -1,7 +1,7 @@
 use Rattle.std.proofs.Common.{ℕ, List, [], Result, Ok, Err, IfOk, inr}
 use Rattle.jk_io.specs.declared.failures.NoMemory.{NoMemory}
-use Rattle.journal_follow.specs.Followed.{IsStopped}
-use Rattle.journal_follow.specs.declared.error.FollowError.{FollowError}
+use Rattle.journal_verdict.specs.Followed.{IsStopped}
+use Rattle.journal_verdict.specs.declared.error.FollowError.{FollowError}
 use Rattle.plain_commands.specs.Endings.{status_of}
 use Rattle.plain_commands.specs.FollowedTexts.{FollowsText, RefusesText}
 use Rattle.plain_commands.specs.declared.play.Output.{Output}

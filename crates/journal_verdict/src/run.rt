@@ -1,0 +1,92 @@
+//! The last opening that is whole, and the entries after it.
+ghost use Rattle.std.specs.Prelude.{◌≡◌, [], IfErr, IfOk, true, false};
+ghost use Rattle.balancer_core.specs.Journal.{IsSound};
+ghost use Rattle.jk_model.specs.Segments.{AreRules};
+ghost use Rattle.jk_model.specs.Validity.{IsOpening};
+
+use crate::error::FollowError;
+use crate::judging::judge;
+use crate::ruling::Ruling;
+use balancer_core::Book;
+use jk_io::{Bytes, NoMemory};
+use jk_model::{Entry, Method, Opening};
+
+/// A balancer whose journal is followed.
+#[derive(Drop)]
+pub(crate) struct Run {
+    pub(crate) name: Bytes,
+    pub(crate) direct: bool,
+    pub(crate) method: Method,
+    /// The Book that is where the entries lead; between segments it has none.
+    pub(crate) book: Book,
+    /// The moment that it has reached.
+    pub(crate) at: u64,
+}
+
+impl Run {
+    ghost use Rattle.std.specs.Prelude.{◌≡◌, ◌++◌, ◌∷◌, [], IfErr, IfOk, OnOk, true, false};
+    ghost use Rattle.balancer_core.specs.Journal.{past_of};
+    ghost use Rattle.jk_model.specs.Journal.{moment_of};
+    ghost use Rattle.jk_model.specs.Legal.{IsNext};
+    ghost use Rattle.jk_model.specs.Segments.{AreRules, IsKeptEntry};
+    ghost use Rattle.jk_model.specs.Validity.{IsOpening};
+    ghost use Rattle.journal_verdict.specs.Lines.{RunState};
+    ghost use Rattle.journal_verdict.specs.Machines.{DiffersBy, EndsRun, IsRun, TakesOn};
+
+    /// After an opening of these rules.
+    pub(crate) fn begin(name: Bytes, opening: Opening, rules: u8) -> Result<Run, NoMemory>
+        requires valid { IsOpening opening }
+        requires versions { AreRules rules }
+        ensures named { IfOk result (λ run. run.name ≡ name) }
+        ensures kind { IfOk result (λ run. (run.direct ≡ opening.config.direct) × (run.method ≡ opening.config.method)) }
+        ensures book { IfOk result (λ run. run.book ≡ record { rules = rules; opening = opening; entries = []; added = 0 }) }
+        ensures at { IfOk result (λ run. run.at ≡ opening.at) }
+    {
+        let direct = opening.config.direct;
+        let method = opening.config.method;
+        let at = opening.at;
+        Ok(Run {
+            name,
+            direct,
+            method,
+            book: Book::resume(opening, rules)?,
+            at,
+        })
+    }
+
+    /// Takes a further entry, if it follows from those before it.
+    pub(crate) fn take_entry(&mut self, entry: &Entry, number: u64) -> Result<(), FollowError>
+        requires at { self.old.at ≡ moment_of self.old.book.opening (past_of self.old.book) }
+        requires kept { IsKeptEntry self.old.book.rules entry.now }
+        ensures ok { (run : RunState) → IsRun true self.old run → OnOk result (TakesOn run entry.now self.new) }
+        ensures err { (run : RunState) → IsRun true self.old run → IfErr result (DiffersBy run entry.now number) }
+    {
+        match judge(&mut self.book, self.at, entry)? {
+            None => {
+                self.at = entry.at;
+                Ok(())
+            }
+            Some((kept, ruled)) => Err(FollowError::Bad {
+                line: number,
+                kept,
+                ruled,
+            }),
+        }
+    }
+
+    /// Ends the segment, if this is the count of its entries.
+    pub(crate) fn take_end(&mut self, count: u64, number: u64) -> Result<(), FollowError>
+        ensures { (run : RunState) → IsRun true self.old run → EndsRun run count number self.new result }
+    {
+        let kept = self.book.kept();
+        if count != kept {
+            return Err(FollowError::Bad {
+                line: number,
+                kept: Ruling::Count(count),
+                ruled: Ruling::Count(kept),
+            });
+        }
+        let _kept = self.book.cut()?;
+        Ok(())
+    }
+}
