@@ -75,10 +75,17 @@ fn words_of<R: Env + Print + Eprint + AllocGlobal>(rt: &R) -> Result<WordList, u
     }
 }
 
-// The end of the program. What it says of words that are no command goes to standard error, which may be closed.
+// The end of the program. What it says of words that are no command, or of output that can't be written, goes to standard error,
+// which may be closed.
 fn ended<R: Eprint>(rt: &R, status: u8) -> ExitCode {
-    if status == NO_COMMAND {
-        let _ = eprint!(rt; "{USAGE}");
+    match status {
+        NO_COMMAND => {
+            let _ = eprint!(rt; "{USAGE}");
+        }
+        OUTPUT_FAULT => {
+            let _ = eprintln!(rt; "jkd: standard output can't be written");
+        }
+        _ => {}
     }
     ExitCode::from(status)
 }

@@ -74,6 +74,8 @@ pub(crate) enum Failure<'a> {
     Silent,
     /// It closed its link where an answer was waited for.
     Closed,
+    /// Its first bytes begin no packet.
+    Strange,
 }
 
 /// The name of a worker that is reached at an address.
@@ -361,6 +363,7 @@ fn put_failure(alloc: Global, line: &mut Bytes, failure: Failure<'_>) -> Result<
         }
         Failure::Silent => line.extend(b" failed: no answer in time"),
         Failure::Closed => line.extend(b" failed: it closed the link"),
+        Failure::Strange => line.extend(b" failed: it doesn't speak AJP"),
     }
 }
 

@@ -40,6 +40,11 @@ pub enum AtHand {
     Broken,
 }
 
+// Whether bytes may be the first of a container's packet, which begins with "AB".
+fn begins_packet(given: &[u8]) -> bool {
+    given.first() == Some(&b'A')
+}
+
 /// This side's end of a TCP stream. It tells nothing of what is read and written.
 #[derive(Drop)]
 pub struct StreamEnd {
@@ -59,6 +64,8 @@ pub struct StreamEnd {
     watched: Option<Watched>,
     /// The other side's bytes ended.
     has_ended: bool,
+    /// The other side gave bytes, or ended.
+    was_heard: bool,
     failed: u64,
 }
 
@@ -79,6 +86,7 @@ impl StreamEnd {
             ending: None,
             watched: None,
             has_ended: false,
+            was_heard: false,
             failed: 0,
         }
     }
@@ -260,7 +268,7 @@ impl StreamEnd {
     {
         match self.next_bytes(buf) {
             Some(n) => {
-                self.note_given(n);
+                self.note_given(&buf[..n]);
                 Ok(n)
             }
             None => Err(self.fail()),
@@ -312,17 +320,24 @@ impl StreamEnd {
         }
     }
 
-    fn note_given(&mut self, count: usize)
+    fn note_given(&mut self, given: &[u8])
         ensures { self.new.failed ≡ self.old.failed }
     {
-        self.has_ended = count == 0;
-        match &self.watched {
-            Some(watched) if count != 0 => watched.serves(),
-            Some(_) => self.tell(Failure::Closed),
-            None => {}
-        }
+        self.has_ended = given.is_empty();
+        self.tell_given(given);
+        self.was_heard = true;
         if let Patience::Paced(pace) = self.patience {
-            self.patience = Patience::Paced(pace.after(count as u64, moment()));
+            self.patience = Patience::Paced(pace.after(given.len() as u64, moment()));
+        }
+    }
+
+    // Says what the bytes that a member gave say of it: that it closed, that it serves, or that it speaks something else.
+    fn tell_given(&self, given: &[u8]) {
+        match &self.watched {
+            Some(_) if given.is_empty() => self.tell(Failure::Closed),
+            Some(_) if !self.was_heard && !begins_packet(given) => self.tell(Failure::Strange),
+            Some(watched) => watched.serves(),
+            None => {}
         }
     }
 

@@ -11,6 +11,7 @@ use std::alloc::Global;
 use std::io::ErrorKind;
 use std::net::{Net, SocketAddr, TcpListener, ToSocketAddrs};
 use std::os::fd::AsRawFd;
+use std::os::unix::fs::FileTypeExt;
 use std::os::unix::net::{UnixListener, UnixStream};
 use std::rt::Files;
 use std::sync::Mutex;
@@ -89,11 +90,19 @@ fn bind_control<R: Net + Files>(rt: &R, path: &Bytes) -> io::Result<UnixListener
     Ok(listener)
 }
 
-// Whether nobody waits at a socket.
-fn is_left<R: Net>(rt: &R, path: &str) -> bool {
+// Whether it is a socket at which nobody waits.
+fn is_left<R: Net + Files>(rt: &R, path: &str) -> bool {
     match UnixStream::connect(rt, path) {
         Ok(_) => false,
-        Err(error) => error.kind() == ErrorKind::ConnectionRefused,
+        Err(error) => error.kind() == ErrorKind::ConnectionRefused && is_socket(rt, path),
+    }
+}
+
+// The system refuses a connection to a file of another kind too.
+fn is_socket<R: Files>(rt: &R, path: &str) -> bool {
+    match fs::metadata(rt, path) {
+        Ok(known) => known.file_type().is_socket(),
+        Err(_) => false,
     }
 }
 

@@ -95,6 +95,11 @@ impl<
         }
     }
 
+    // Whether a log couldn't be opened, so that no worker begins.
+    fn has_no_log(&self) -> bool {
+        matches!(self.trouble, Some(Trouble::Log { .. }))
+    }
+
     // Counts a failure, and keeps the first one's reason.
     fn fail(&mut self, trouble: Trouble) -> IoError
         ensures error { result ≡ IoError.Failed }
@@ -288,7 +293,21 @@ impl<
         Ok(())
     }
 
-    // With the first gear, tries whether a journal that is to be kept can be written.
+    // Looks whether the directory of the logs can be written.
+    fn try_logs(&mut self, alloc: Global, dir: &Bytes) -> Result<(), IoError>
+        ensures cause { HasCause self.old.failed self.new.failed result }
+        ensures steady { IsOk result → self.new.failed ≡ self.old.failed }
+        ensures same { self.new.out ≡ self.old.out }
+    {
+        let path = trial_path(dir)?;
+        if let Err(reason) = make_and_remove(self.rt, &path) {
+            let dir = shown(alloc, dir)?;
+            return Err(self.fail(Trouble::Log { dir, reason }));
+        }
+        Ok(())
+    }
+
+    // With the first gear, tries whether a journal and logs that are to be kept can be written.
     fn try_first(
         &mut self,
         alloc: Global,
@@ -299,16 +318,20 @@ impl<
         ensures steady { IsOk result → self.new.failed ≡ self.old.failed }
         ensures same { self.new.out ≡ self.old.out }
     {
-        match (asked.journal, asked.cfg) {
-            (Some(dir), Some(cfg)) if number == 0 => {
-                self.try_journal(alloc, dir, cfg.lbs.as_slice())
-            }
-            _ => Ok(()),
+        if number != 0 {
+            return Ok(());
+        }
+        if let (Some(dir), Some(cfg)) = (asked.journal, asked.cfg) {
+            self.try_journal(alloc, dir, cfg.lbs.as_slice())?;
+        }
+        match asked.log {
+            Some(dir) => self.try_logs(alloc, dir),
+            None => Ok(()),
         }
     }
 
-    // What is done once for all gears: the room or the socket is opened, with the first gear it is tried whether a journal can
-    // be written, and with the last it is said where clients are waited for.
+    // What is done once for all gears: the room or the socket is opened, with the first gear it is tried whether a journal and
+    // logs can be written, and with the last it is said where clients are waited for.
     fn greet(&mut self, alloc: Global, number: u32, asked: &GearOrder<'_>) -> Result<(), IoError>
         ensures cause { HasCause self.old.failed self.new.failed result }
         ensures steady { IsOk result → self.new.failed ≡ self.old.failed }
@@ -408,10 +431,15 @@ fn name_members(notices: &Notices, lbs: &[Lb]) -> Result<(), NoMemory> {
 // Why clients can't be waited for.
 fn listen_trouble(alloc: Global, address: &Bytes, reason: io::Error) -> Result<Trouble, NoMemory> {
     let address = shown(alloc, address)?;
-    match reason.kind() {
-        ErrorKind::InvalidInput => Ok(Trouble::Address { address }),
-        _ => Ok(Trouble::Listen { address, reason }),
+    if reason.kind() == ErrorKind::InvalidInput || !has_host(&address) {
+        return Ok(Trouble::Address { address });
     }
+    Ok(Trouble::Listen { address, reason })
+}
+
+// Whether something stands before the port that may be a host's name.
+fn has_host(address: &str) -> bool {
+    !address.starts_with(':') && !address.starts_with('*')
 }
 
 // Why the socket can't be made at which a stop is asked for.
@@ -589,7 +617,7 @@ where
         } = gear;
         match trouble_in(&mut shelf, log) {
             Some(trouble) if self.trouble.is_none() => self.trouble = Some(trouble),
-            None if door.is_left_open() => say_early(self.rt),
+            None if door.is_left_open() && !self.has_no_log() => say_early(self.rt),
             _ => {}
         }
     }
