@@ -3,8 +3,8 @@
 
     python3 vectors/trials.py PROGRAM [TRIAL ..]
 
-Without a TRIAL all of them, some four minutes: stopped, silent, hung, restarted, strays, refused, pipelined, stops, effects, descriptors,
-disk. Each prints what came, and whether it is as docs/MEASURED.md and docs/OPERATING.md say. All listens at 127.0.0.1; `disk` mounts a small
+Without a TRIAL all of them, some four minutes: stopped, silent, hung, restarted, strays, refused, pipelined, stops, effects, words,
+descriptors, disk. Each prints what came, and whether it is as docs/MEASURED.md and docs/OPERATING.md say. All listens at 127.0.0.1; `disk` mounts a small
 tmpfs where it may, as root. Status: 0 all was as said; 1 else.
 """
 import collections
@@ -329,6 +329,37 @@ def try_effects(site):
         print("config:", by_config.strip(), "serve:", by_serve.strip(), sep="\n    ")
         good &= by_config == "".join(lines) and by_serve.startswith("".join(f"jkd: {line}" for line in lines))
     return good
+
+
+def serve_by_hand(site, files, address, *options):
+    """The status and the words of a front that can't serve."""
+    ended = subprocess.run([site.program, "serve", *options, *files, address, "2"], stdin=subprocess.DEVNULL, capture_output=True, text=True, timeout=30, check=False)
+    return ended.returncode, ended.stderr
+
+
+def try_words(site):
+    """What can't be is said by its name, and nothing before it: an output, an address, a socket's path, a directory of logs, a member of HTTP."""
+    files, folder, good = site.write([free_port()]), site.folder, True
+    with open("/dev/full", "wb") as full:
+        ended = subprocess.run([site.program, "config", *files], stdout=full, stderr=subprocess.PIPE, text=True, check=False)
+    print("an output that is full:", ended.returncode, ended.stderr.strip())
+    good &= (ended.returncode, ended.stderr) == (5, "jkd: standard output can't be written\n")
+    for address in (":8080", "*:8080"):
+        status, said = serve_by_hand(site, files, address)
+        print(f"{address}: {status} {said.strip()}")
+        good &= status == 4 and said.startswith("jkd: an address is HOST:PORT") and said.count("\n") == 1
+    own = site.programs.write("own", "somebody's\n")
+    status, said = serve_by_hand(site, files, "127.0.0.1:0", "--control", own)
+    print(f"a file at --control: {status} {said.strip()}")
+    good &= status == 4 and said.startswith(f"jkd: can't be asked to stop at {own}: ") and os.path.isfile(own)
+    status, said = serve_by_hand(site, files, "127.0.0.1:0", "--log", f"{folder}/none")
+    print(f"no directory of logs: {status} {said.strip()}")
+    good &= status == 4 and said.startswith(f"jkd: can't write a log in {folder}/none: ") and said.count("\n") == 1
+    strange = start_member(lambda _link, _payload: b"HTTP/1.1 400 Bad Request\r\n\r\n")
+    _, port = site.serve(site.write([strange]), threads=2)
+    status, _ = ask(port)
+    print(f"a member that speaks HTTP: {status}; {site.programs.said().splitlines()[-1]}")
+    return good and str(status) in ("502", "503") and f"n0 at 127.0.0.1:{strange} failed: it doesn't speak AJP" in site.programs.said()
 
 
 def try_descriptors(site):
