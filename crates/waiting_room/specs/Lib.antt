@@ -2,3 +2,4 @@ pub mod Stays
 pub mod Rooms
 pub mod Counts
 pub mod Looks
+pub mod Turns

@@ -1,6 +1,7 @@
 //! The room: what all doors share.
 ghost use Rattle.std.specs.Prelude.{◌≡◌};
 ghost use Rattle.waiting_room.specs.Stays.{end_after};
+ghost use Rattle.waiting_room.specs.Turns.{Gives, KeepsAway};
 
 use crate::client::Client;
 use crate::control::{Askers, Control};
@@ -402,8 +403,10 @@ fn token_of(event: &Event) -> usize {
     event.token().0
 }
 
-// What a worker gets.
-fn turn_of(table: &mut Table) -> Turn {
+// What a worker gets. Who is ready is served, also after a stop.
+fn turn_of(table: &mut Table) -> Turn
+    ensures { Gives table.old result }
+{
     match table.places.take() {
         Some((at, stay, client)) => {
             table.note_away();
@@ -450,7 +453,9 @@ fn lay(table: &mut Table, at: usize, stay: Stay, client: Client) {
 }
 
 // A client who waited went.
-fn count_out(table: &mut Table, stay: Stay) {
+fn count_out(table: &mut Table, stay: Stay)
+    ensures { table.new.places ≡ table.old.places }
+{
     if stay.phase == Phase::Lingers {
         table.lingering = table.lingering.saturating_sub(1);
     } else {
@@ -471,8 +476,11 @@ fn make_way(table: &mut Table, waiting: u64) {
     }
 }
 
-// Closes the links of all who wait, but for those that linger.
-fn close_waiting(table: &mut Table) {
+// Closes the links of all who wait, but for those that linger. Who is ready, and whom workers have, stay.
+fn close_waiting(table: &mut Table)
+    ensures ready { table.new.places.ready ≡ table.old.places.ready }
+    ensures away { KeepsAway table.old.places.places table.new.places.places }
+{
     for at in 0..table.places.len() {
         match table.places.stay_at(at) {
             Some(stay) if stay.phase != Phase::Lingers => close(table, at),
@@ -481,7 +489,10 @@ fn close_waiting(table: &mut Table) {
     }
 }
 
-fn close(table: &mut Table, at: usize) {
+fn close(table: &mut Table, at: usize)
+    ensures ready { table.new.places.ready ≡ table.old.places.ready }
+    ensures away { KeepsAway table.old.places.places table.new.places.places }
+{
     if let Some((stay, client)) = table.places.remove(at) {
         count_out(table, stay);
         drop(client);
