@@ -1,5 +1,5 @@
 -- How many clients of a room are there, and how many may still come.
-use Rattle.std.specs.Prelude.{◌≡◌, ◌≢◌, ℕ, ◌+◌, ◌-◌, min, Bool, false, Option, Some, None}
+use Rattle.std.specs.Prelude.{◌≡◌, ◌≢◌, ℕ, ◌+◌, ◌-◌, ◌*◌, ◌≤◌, min, Bool, false, Option, Some, None, length}
 use Rattle.waiting_room.specs.declared.table.Table.{Table}
 
 -- so many may still come, once so many more may; none is without end
@@ -20,3 +20,7 @@ one_more count = min (count + 1) 18446744073709551615
 -- another client may come
 abbrev pub IsOpen : Table → Type 0
 IsOpen table = (table.is_stopped ≡ false) × (table.left ≢ Some 0)
+
+-- a worker may look at its own client for a moment: the room is open, nobody is ready, and three of four workers have no client
+abbrev pub HasLeisure : Table → Type 0
+HasLeisure table = (table.is_stopped ≡ false) × (length table.places.ready ≡ 0) × (4 * table.away ≤ table.doors)

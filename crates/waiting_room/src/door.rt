@@ -1,11 +1,12 @@
 //! A worker's door into the room.
-ghost use Rattle.std.specs.Prelude.{◌≡◌, ◌+◌, ◌<◌, ◌≤◌, ◌++◌, IfOk, IfNone, IfSome, IsOk, OnErr, OnOk, length, min, take};
+ghost use Rattle.std.specs.Prelude.{◌≡◌, ◌+◌, ◌<◌, ◌≤◌, ◌++◌, false, IfOk, IfNone, IfSome, IsOk, OnErr, OnOk, length, min, take};
 ghost use Rattle.std.specs.List.{between};
 ghost use Rattle.jk_io.specs.Told.{HasCause, Rose};
 ghost use Rattle.real_io.specs.Waitless.{IfCame};
 ghost use Rattle.waiting_room.specs.Looks.{SeesAfter};
 
 use crate::client::Client;
+use crate::glances::{GLANCE_MILLIS, comes_within};
 use crate::room::Room;
 use crate::stay::{Phase, Stay};
 use jk_io::{Bytes, Door, IoError, NoMemory, Peer};
@@ -30,6 +31,10 @@ pub struct RoomDoor<'r, R: Wait + Eprint> {
     buffer: Option<Vec<u8>>,
     /// How many links are out and may be left.
     out: u64,
+    /// The head of the worker's client came within a millisecond of its last reply.
+    is_quick: bool,
+    /// For how many milliseconds it looked at its own clients at most, after they were served.
+    looked: u64,
     /// It said that no client comes any more.
     is_closed: bool,
     failed: u64,
@@ -49,6 +54,8 @@ impl<'r, R: Wait + Eprint> RoomDoor<'r, R> {
             clients,
             buffer: None,
             out: 0,
+            is_quick: false,
+            looked: 0,
             is_closed: false,
             failed: 0,
         }
@@ -88,7 +95,11 @@ impl<'r, R: Wait + Eprint> RoomDoor<'r, R> {
     }
 
     // A client who was served: its link waits for more, of which these bytes came, or it goes.
-    fn put_back(&self, at: usize, end: StreamEnd, is_idle: bool, came: &[u8]) {
+    fn put_back(&mut self, at: usize, end: StreamEnd, is_idle: bool, came: &[u8])
+        ensures brief { self.new.looked ≤ self.old.looked + 1 }
+        ensures quick { self.old.is_quick ≡ false → self.new.looked ≡ self.old.looked }
+        ensures same { (self.new.out ≡ self.old.out) × (self.new.failed ≡ self.old.failed) }
+    {
         if !is_idle {
             return self.let_go(at, end);
         }
@@ -96,10 +107,22 @@ impl<'r, R: Wait + Eprint> RoomDoor<'r, R> {
             Ok(client) => {
                 let now = moment();
                 let stay = Stay::new(Phase::Between, now).after(came.len() as u64, now);
-                self.room.give_back(self.rt, at, stay, client);
+                let comes = self.glances(&client);
+                self.room.give_back(self.rt, at, stay, client, comes);
             }
             Err(end) => self.let_go(at, end),
         }
+    }
+
+    // Looks at a client for a moment, if it was quick and others are free: whether something comes of it.
+    fn glances(&mut self, client: &Client) -> bool
+        ensures brief { self.new.looked ≤ self.old.looked + 1 }
+        ensures quick { self.old.is_quick ≡ false → self.new.looked ≡ self.old.looked }
+        ensures same { (self.new.out ≡ self.old.out) × (self.new.failed ≡ self.old.failed) }
+    {
+        self.is_quick
+            && self.room.lends(self.rt, client)
+            && comes_within(client.end.number(), GLANCE_MILLIS, &mut self.looked)
     }
 
     // A client who was served goes: its link lingers, unless its bytes ended.
@@ -126,6 +149,8 @@ struct Ready {
     at: usize,
     end: StreamEnd,
     count: usize,
+    /// Its head came within a millisecond of its last reply.
+    is_quick: bool,
 }
 
 impl Seat {
@@ -136,7 +161,12 @@ impl Seat {
             buffer,
             mut address,
         } = self;
-        let Ready { at, end, count } = ready;
+        let Ready {
+            at,
+            end,
+            count,
+            is_quick: _,
+        } = ready;
         if let Some(ip) = end.peer() {
             let _ = write!(address, "{ip}");
         }
@@ -175,6 +205,7 @@ impl<'r, R: Wait + Eprint> Door for RoomDoor<'r, R> {
         match next_ready(self.rt, &self.room, &mut seat.buffer) {
             Some(ready) => {
                 self.out = out;
+                self.is_quick = ready.is_quick;
                 Ok(Some(seat.client(ready)))
             }
             None => {
@@ -186,6 +217,10 @@ impl<'r, R: Wait + Eprint> Door for RoomDoor<'r, R> {
 
     fn leave(&mut self, link: TcpLink)
         requires { 0 < self.old.out }
+
+        // It looks at its client for a millisecond at most, and only at one that was quick.
+        ensures brief { self.new.looked ≤ self.old.looked + 1 }
+        ensures quick { self.old.is_quick ≡ false → self.new.looked ≡ self.old.looked }
 
         // What each door says.
         ensures one_less { self.new.out + 1 ≡ self.old.out }
@@ -239,13 +274,26 @@ fn next_look<R: Wait + Eprint>(
     let mut ahead = ahead;
     let have = put_ahead(buffer, ahead.as_slice());
     match look_at(&mut end, buffer, have) {
-        Look::Ready(count) => return Some(Ready { at, end, count }),
+        Look::Ready(count) => {
+            let is_quick = stay.is_short(GLANCE_MILLIS, moment());
+            return Some(Ready {
+                at,
+                end,
+                count,
+                is_quick,
+            });
+        }
         Look::Part(count) => {
             if keep(&mut ahead, buffer, have, count).is_err() {
-                return Some(Ready { at, end, count });
+                return Some(Ready {
+                    at,
+                    end,
+                    count,
+                    is_quick: false,
+                });
             }
             let stay = stay.after(count as u64, moment());
-            room.give_back(rt, at, stay, Client { end, ahead });
+            room.give_back(rt, at, stay, Client { end, ahead }, false);
         }
         Look::Gone => room.free(rt, at),
     }

@@ -16,7 +16,7 @@ use real_io::{AtHand, Ending, StreamEnd, is_wanting, moment};
 use std::alloc::Global;
 use std::io::ErrorKind;
 use std::net::{SocketAddr, TcpListener, TcpStream};
-use std::os::fd::AsRawFd;
+use std::os::fd::{AsRawFd, RawFd};
 use std::sync::atomic::{AtomicU64, Ordering};
 use std::sync::{Mutex, Wait};
 use std::time::Duration;
@@ -88,9 +88,29 @@ pub(crate) enum Turn {
 }
 
 impl Room {
-    /// So many clients more may come; none: without end.
+    /// There is a door more, by which so many clients more may come; none: without end.
     pub fn admit<R: Wait + Eprint>(&self, rt: &R, clients: Option<u64>) {
-        self.table.lock(rt).admit(clients);
+        let mut table = self.table.lock(rt);
+        table.note_door();
+        table.admit(clients);
+    }
+
+    /// Whether a worker may look at its own client for a moment, before it gives it back. Who leads isn't told then what comes.
+    pub(crate) fn lends<R: Wait + Eprint>(&self, rt: &R, client: &Client) -> bool {
+        if !self.table.lock(rt).has_leisure() {
+            return false;
+        }
+        // One that isn't watched stays so.
+        let number = client.end.number();
+        let _ = self.registry.deregister(&mut SourceFd(&number));
+        true
+    }
+
+    // The system's word on a place is waited for from now on, also on what came until now. One that is watched stays so.
+    fn watch(&self, at: usize, number: RawFd) {
+        let _ = self
+            .registry
+            .register(&mut SourceFd(&number), Token(at), Interest::READABLE);
     }
 
     /// The port at which clients are accepted.
@@ -284,11 +304,7 @@ impl Room {
         make_way(&mut table, self.limits.waiting);
         table.note_come();
         match table.places.put(Stay::new(Phase::Head, now), client) {
-            Ok(at) => {
-                let _ = self
-                    .registry
-                    .register(&mut SourceFd(&number), Token(at), Interest::READABLE);
-            }
+            Ok(at) => self.watch(at, number),
             Err(client) => {
                 table.note_gone();
                 drop(client);
@@ -308,13 +324,14 @@ impl Room {
         }
     }
 
-    /// A worker gives its client back, who waits for a head, of which some bytes may have come.
+    /// A worker gives its client back, who waits for a head, of which some bytes may have come, or is ready if something comes of it.
     pub(crate) fn give_back<R: Wait + Eprint>(
         &self,
         rt: &R,
         at: usize,
         stay: Stay,
         client: Client,
+        comes: bool,
     ) {
         let mut table = self.table.lock(rt);
         table.note_back();
@@ -322,9 +339,18 @@ impl Room {
             drop(table);
             return self.linger_now(rt, at, client);
         }
-        if let Err(client) = table.places.give_back(at, stay, client) {
-            table.note_gone();
-            drop(client);
+        if comes {
+            stir(&mut table, at, stay.since);
+        }
+        let number = client.end.number();
+        match table.places.give_back(at, stay, client) {
+            Ok(()) if comes => {}
+            Ok(()) => self.watch(at, number),
+            Err(client) => {
+                table.note_gone();
+                table.places.free(at);
+                drop(client);
+            }
         }
     }
 
@@ -346,6 +372,7 @@ impl Room {
     fn linger_now<R: Wait + Eprint>(&self, rt: &R, at: usize, client: Client) {
         client.end.shut();
         let now = moment();
+        let number = client.end.number();
         let mut table = self.table.lock(rt);
         table.note_gone();
         table.places.see(at);
@@ -355,9 +382,13 @@ impl Room {
         {
             Ok(()) => {
                 table.lingering = table.lingering.saturating_add(1);
+                self.watch(at, number);
                 look_at_lingering(&mut table, at, now);
             }
-            Err(client) => drop(client),
+            Err(client) => {
+                table.places.free(at);
+                drop(client);
+            }
         }
     }
 

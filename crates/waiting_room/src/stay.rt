@@ -74,6 +74,13 @@ impl Stay {
         }
     }
 
+    /// Whether it is one between two requests that lasted no more than so many milliseconds.
+    pub fn is_short(self, millis: u64, now: u64) -> bool
+        ensures { IsTrue result ↔ (self.phase ≡ Phase.Between) × (now ≤ self.since + millis) }
+    {
+        self.phase == Phase::Between && now.saturating_sub(self.since) <= millis
+    }
+
     /// Whether it has lasted too long.
     pub fn is_over(self, limits: Limits, now: u64) -> bool
         ensures { IsTrue result ↔ IsOver limits self now }

@@ -1,6 +1,6 @@
 //! The clients of a room, with how many may still come.
 ghost use Rattle.std.specs.Prelude.{◌≡◌, ◌-◌, ◌↔◌, IsTrue, [], false};
-ghost use Rattle.waiting_room.specs.Counts.{IsOpen, admitted, one_fewer, one_more};
+ghost use Rattle.waiting_room.specs.Counts.{HasLeisure, IsOpen, admitted, one_fewer, one_more};
 
 use crate::client::Client;
 use crate::places::Places;
@@ -10,6 +10,8 @@ use std::alloc::Global;
 #[derive(Drop)]
 pub struct Table {
     pub places: Places<Client>,
+    /// How many doors there are, each of a worker.
+    pub doors: u64,
     /// How many clients are served or wait, those that linger not among them.
     pub clients: u64,
     /// How many of them the workers have.
@@ -25,10 +27,11 @@ pub struct Table {
 
 impl Table {
     pub fn new(alloc: Global) -> Table
-        ensures { (result.clients ≡ 0) × (result.away ≡ 0) × (result.lingering ≡ 0) × (result.came ≡ 0) × (result.left ≡ Some 0) × (result.is_stopped ≡ false) }
+        ensures { (result.doors ≡ 0) × (result.clients ≡ 0) × (result.away ≡ 0) × (result.lingering ≡ 0) × (result.came ≡ 0) × (result.left ≡ Some 0) × (result.is_stopped ≡ false) }
     {
         Table {
             places: Places::new(alloc),
+            doors: 0,
             clients: 0,
             away: 0,
             lingering: 0,
@@ -46,6 +49,20 @@ impl Table {
             (Some(left), Some(more)) => Some(left.saturating_add(more)),
             _ => None,
         };
+    }
+
+    /// There is a door more.
+    pub fn note_door(&mut self)
+        ensures { self.new ≡ record self.old { doors = one_more self.old.doors } }
+    {
+        self.doors = self.doors.saturating_add(1);
+    }
+
+    /// Whether a worker may look at its own client for a moment: nobody is ready, and three of four workers have no client.
+    pub fn has_leisure(&self) -> bool
+        ensures { IsTrue result ↔ HasLeisure self.now }
+    {
+        !self.is_stopped && self.places.ready() == 0 && self.away <= self.doors / 4
     }
 
     /// Whether another client may come.
