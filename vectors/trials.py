@@ -3,8 +3,8 @@
 
     python3 vectors/trials.py PROGRAM [TRIAL ..]
 
-Without a TRIAL all of them, some four minutes: stopped, silent, hung, restarted, strays, refused, pipelined, stops, effects, words,
-descriptors, disk. Each prints what came, and whether it is as docs/MEASURED.md and docs/OPERATING.md say. All listens at 127.0.0.1; `disk` mounts a small
+Without a TRIAL all of them, some four minutes: stopped, silent, hung, restarted, strays, refused, pipelined, stops, grace, effects,
+words, descriptors, disk. Each prints what came, and whether it is as docs/MEASURED.md and docs/OPERATING.md say. All listens at 127.0.0.1; `disk` mounts a small
 tmpfs where it may, as root. Status: 0 all was as said; 1 else.
 """
 import collections
@@ -112,7 +112,8 @@ def try_stopped(site):
     """One of two members is stopped for 6 seconds under 64 clients."""
     ports = [free_port(), free_port()]
     first, _ = site.container(ports[0]), site.container(ports[1])
-    _, port = site.serve(site.write(ports, PINGED, "worker.lb.recover_time=5\n"))
+    each = PINGED + "worker.@.reply_timeout=1000\n"
+    _, port = site.serve(site.write(ports, each, "worker.lb.recover_time=5\n"))
     end = load(port, 64, pause=0.01)
     time.sleep(1)
     first.send_signal(signal.SIGSTOP)
@@ -313,6 +314,20 @@ def try_stops(site):
         print(f"{how}: status {status} after {took:.2f} s; {told(came)}; the journal: {said}")
         good &= status == 0 and sound and not any("cut" in str(one) for one in came)
     return good
+
+
+def try_grace(site):
+    """A request that outlasts the grace of a stop gets an answer that says so, and not the end of its link."""
+    control = f"{site.folder}/control"
+    _, port = site.serve(site.write([start_member(mute)]), "--control", control, "--grace", "1", threads=4)
+    answers = []
+    asking = threading.Thread(target=lambda: answers.append(ask(port)))
+    asking.start()
+    time.sleep(0.5)
+    stopped = subprocess.run([site.program, "stop", control], timeout=30, check=False).returncode
+    asking.join()
+    print(f"stop: {stopped}; the request: {answers[0][0]} after {answers[0][1]:.2f} s")
+    return stopped == 0 and str(answers[0][0]) in ("502", "503")
 
 
 def try_effects(site):

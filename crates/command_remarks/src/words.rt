@@ -10,11 +10,20 @@ use jk_io::{Bytes, NoMemory};
 use std::alloc::Global;
 use std::str;
 
+/// The words behind `help`, which asks for the help of their command; any others as they are.
+fn behind_help(words: &[Bytes]) -> &[Bytes] {
+    match words {
+        [first, second, ..] if first.as_slice() == b"help".as_slice() && second.len() > 0 =>
+            &words[1..],
+        _ => words,
+    }
+}
+
 /// The words as a shell gives them, the program's name first.
 fn line_of<'w>(alloc: Global, words: &'w [Bytes]) -> Result<Vec<&'w str>, NoMemory> {
     let mut line = Vec::new(alloc);
     line.push("jkd")?;
-    for word in words {
+    for word in behind_help(words) {
         line.push(str::from_utf8(word.as_slice()).unwrap_or(""))?;
     }
     Ok(line)

@@ -235,14 +235,16 @@ impl StreamEnd {
         over || self.is_all_over()
     }
 
-    // Whether a write that waited so many milliseconds waits no longer.
+    // Whether a write that waited so many milliseconds waits no longer. Once all ends a client still gets what needn't wait, as the
+    // answer that says so; a member gets nothing.
     fn is_stuck(&self, waited: u64) -> bool {
         let stuck = match (self.taking, self.patience) {
             (Some(pace), _) => pace.is_lost(moment()),
             (None, Patience::Each(most)) => most != 0 && waited >= most,
             (None, _) => false,
         };
-        stuck || self.is_all_over()
+        let may_try = waited == 0 && self.limits.is_some();
+        stuck || (self.is_all_over() && !may_try)
     }
 
     fn is_all_over(&self) -> bool {
