@@ -6,11 +6,13 @@ apart from the program's own code: replies and packets are put together by sessi
 
     python3 vectors/serving.py serving > crates/serve_checks/data/serve/serving.txt
     python3 vectors/serving.py faults > crates/serve_checks/data/serve/faults.txt
+    python3 vectors/serving.py places > crates/serve_checks/data/serve/places.txt
     python3 vectors/serving.py logs > crates/serve_checks/data/serve/logs.txt
     python3 vectors/serving.py watch > crates/serve_checks/data/serve/watch.txt
     python3 vectors/serving.py words > crates/serve_checks/data/serve/words.txt
     python3 vectors/serving.py drills > crates/serve_checks/data/serve/drills.txt
 """
+import re
 import sys
 
 import drill
@@ -43,9 +45,19 @@ def spelled(data):
 
 
 def text(data):
-    """The lines of a text; the last one ends without a line feed."""
+    """The lines of a text; the last one ends without a line feed. A long run of one byte is told by its length."""
     *lines, last = data.split(b"\n")
-    return [f"|{spelled(line)}" for line in lines] + ([f"+{spelled(last)}"] if last else [])
+    return [piece for line in lines for piece in pieces(line, "|")] + (pieces(last, "+") if last else [])
+
+
+def pieces(line, mark):
+    """A line with this mark, in pieces where a byte of it is repeated often."""
+    at = re.search(rb"(.)\1{99,}", line)
+    if not at:
+        return [mark + spelled(line)]
+    front = ["+" + spelled(line[:at.start()])] if at.start() else []
+    rest = line[at.end():]
+    return front + [f"times {len(at[0])} {spelled(at[1])}"] + (pieces(rest, mark) if rest or mark == "|" else [])
 
 
 def log(lines):
@@ -89,8 +101,8 @@ class Row:
 
     def show(self):
         lines = [f"row {self.name}", f"words {self.words}", *self.lines]
-        for clients, links in self.gears:
-            lines.append(f"gear {len(clients)} {len(links)}")
+        for clients, links, *refuses in self.gears:
+            lines.append(" ".join(["gear", str(len(clients)), str(len(links)), *refuses]))
             for bytes_ in (*clients, *links):
                 lines += ["file link", *text(bytes_)]
         for name, content in self.files:
@@ -162,6 +174,18 @@ def faults():
     yield Row("the output fails", SERVE + "1", gears=[WHO_GEAR], files=bad, out=b"work", status=5, lines=["output-fails 4"])
 
 
+def places():
+    """A call of a door and one of a shelf fail, in a run with the members a and b; those of a session stand in sessions.py."""
+    pair, files = ("a", "b"), (("w", members("a", "b", options=0)), ("m", LB))
+    to = [forward(route=name) for name in pair]
+    def entries(*sessions):
+        return exchanges([(session, len(sent) + len(HI)) for session, sent in zip(sessions, to)], 2)
+    yield Row("9. the first accept of a door, and the other worker closes", SERVE + "2", gears=[([GET], [HI], "refuses"), ([GET], [HI])], files=files, status=4,
+              back=[journal(entries(1), members=pair), left(reply()) + talk(0, to[0])])
+    yield Row("10. the first keep, once the session's replies were written", SERVE + "1 --cut 1", gears=[([GET * 2, GET], [HI, HI])], files=files, status=4,
+              lines=["shelf-fails 0"], back=[left(reply() * 2) + talk(0, to[0]) + talk(1, to[1]) + journal(entries(0, 0)[2:], 2, pair)])
+
+
 def logs():
     who = journal(exchanges(WHO_BYTES))
     lines = b"w1 GET /who 200 3\n" * 2
@@ -229,6 +253,7 @@ def drills():
     yield Row("more threads than requests", "drill 18446744073709551615 64 3", out=drill.summary(MOST, 3).encode())
     yield Row("a thread with more requests than a session has", "drill 7 2 2100", out=drill.summary(7, 2100).encode())
     yield Row("eight threads with more requests than a session has", "drill 1 8 100000", out=drill.summary(1, 100000).encode())
+    yield Row("the journal of 100,000 requests", "drill 1 8 100000 journal", out=b"good 200000\n", lines=["checked"])
     yield Row("three threads with more requests than a session has", "drill 7 3 7001", out=drill.summary(7, 7001).encode())
     yield Row("the output fails", "drill 1 1 1", out=b"req", status=5, lines=["output-fails 3"])
     for name, line in (("no seed", "drill"), ("no thread", "drill 1 0 1"), ("too many threads", "drill 1 65 1"), ("no request", "drill 1 1 0"),
@@ -242,4 +267,4 @@ def drills():
 
 
 print(f"# Made by vectors/serving.py {sys.argv[1]}. How a row is written stands at the head of serve_checks.\n")
-print("\n".join(row.show() for row in {"serving": serving, "faults": faults, "logs": logs, "watch": watch, "words": words, "drills": drills}[sys.argv[1]]()))
+print("\n".join(row.show() for row in {"serving": serving, "faults": faults, "places": places, "logs": logs, "watch": watch, "words": words, "drills": drills}[sys.argv[1]]()))

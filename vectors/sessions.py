@@ -718,7 +718,7 @@ REPLIES = SESSIONS.replace("session WAYS | WORDS | WORKERS | MAP | LINKS | CLIEN
     "WAYS is of the client's link.", "WAYS is of the first link to a member, LINK what it has to come.").replace("LINKS what each link that is dialled has to come, ", "")
 
 
-PLACES = SESSIONS + "\n#\n# One call fails in each row. Those of the first link to a member stand in member_places.txt."
+PLACES = SESSIONS + "\n#\n# One call fails in each row. Those of the first link to a member stand in member_places.txt,\n# and those of a door and of a shelf in crates/serve_checks/data/serve/places.txt."
 
 MEMBER_PLACES = REPLIES.replace("| CLIENT |", "| CLIENT & LINKS |").replace("CLIENT what the client sends.", "CLIENT what the client sends, LINKS what each link "
                                 "after the first has to come.") + "\n#\n# One call of the first link fails in each row. Those of the client, and the dial, stand in places.txt."

@@ -2,10 +2,12 @@
 
 use crate::{meeting, serving};
 use anyhow::Result;
+use block_rows::comparing::wants;
 use block_rows::row::{BlockRow, RowError};
 use block_rows::texts::With;
 use check_rows::files::{print_count, read_rows};
-use jk_io::NoMemory;
+use check_rows::telling::put_plain;
+use jk_io::{Bytes, NoMemory};
 use std::alloc::Global;
 use std::fmt::Write;
 use std::rt::Files;
@@ -14,34 +16,58 @@ use std::thread::Threads;
 use std::time::Clock;
 
 /// The files of rows.
-static FILES: [&str; 7] = [
+static FILES: [&str; 8] = [
     "serve/words.txt",
     "serve/serving.txt",
     "serve/faults.txt",
+    "serve/places.txt",
     "serve/logs.txt",
     "serve/watch.txt",
     "serve/drills.txt",
     "serve/meeting.txt",
 ];
 
-/// Whether a row comes out as it says; not, where it can't be read.
+/// What comes out of a row.
+fn told<R: Threads + Wait + Clock + Sync>(
+    rt: &R,
+    alloc: Global,
+    row: BlockRow<'_>,
+) -> Result<Bytes, RowError> {
+    if row.count("meeting") > 0 {
+        return meeting::told(rt, alloc, row);
+    }
+    serving::told(rt, alloc, row)
+}
+
+/// Whether a row wants what came out of it. Shows what came out where it doesn't.
+fn is_wanted<R: Threads + Wait + Clock + Sync>(
+    rt: &R,
+    alloc: Global,
+    row: BlockRow<'_>,
+    shown: &mut String,
+) -> Result<bool, RowError> {
+    let told = told(rt, alloc, row)?;
+    if wants(alloc, row, told.as_slice())? {
+        return Ok(true);
+    }
+    put_plain(shown, told.as_slice())?;
+    Ok(false)
+}
+
+/// Whether a row comes out as it says; not, where it can't be read. Shows what came out otherwise.
 fn is_held<R: Threads + Wait + Clock + Sync>(
     rt: &R,
     alloc: Global,
     lines: &str,
+    shown: &mut String,
 ) -> Result<bool, NoMemory> {
     let with = With {
         first: "",
         second: "",
     };
     let row = BlockRow { lines, with };
-    let held = if row.count("meeting") > 0 {
-        meeting::holds(rt, alloc, row)
-    } else {
-        serving::holds(rt, alloc, row)
-    };
-    match held {
-        Ok(held) => Ok(held),
+    match is_wanted(rt, alloc, row, shown) {
+        Ok(wanted) => Ok(wanted),
         Err(RowError::Unreadable) => Ok(false),
         Err(RowError::NoMemory) => Err(NoMemory),
     }
@@ -54,11 +80,16 @@ fn judge_row<R: Threads + Wait + Clock + Sync>(
     lines: &str,
     shown: &mut String,
 ) -> Result<u64, NoMemory> {
-    if is_held(rt, alloc, lines)? {
+    let mut told = String::new(alloc);
+    if is_held(rt, alloc, lines, &mut told)? {
         return Ok(1);
     }
     let name = lines.lines().next().unwrap_or("");
-    write!(shown, "not as wanted: {name}\n")?;
+    write!(
+        shown,
+        "not as wanted: {name}\n  but it gives {}\n",
+        told.as_str()
+    )?;
     Ok(0)
 }
 

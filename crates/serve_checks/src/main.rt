@@ -4,15 +4,17 @@
 //! vectors/serving.py. How a row is written stands in `block_rows`. Here its keys are:
 //!
 //!     gear CLIENTS LINKS  a gear that is handed out, in order, with CLIENTS clients to come to its door and LINKS links to
-//!                         be dialled; the bytes of each are those of the next `file`, clients first
+//!                         be dialled; the bytes of each are those of the next `file`, clients first; with `refuses` after
+//!                         them the first accept at its door fails
 //!     gear-fails N        the call for a gear or for a log with this number, from 0, fails
 //!     door-fails N        the accept with this number, from 0, fails at each door
 //!     dial-fails N        the dial with this number fails in each gear
-//!     clock N N ..        what each clock answers in turn, and the last one from then on; without it 0
+//!     clock N             what each clock answers next, a line for each moment; the last one from then on, and without any 0
 //!     shelf-fails N       the keep with this number fails on each shelf
 //!     log-fails N         a write of each log fails after its first N bytes
 //!     file-fails N        the read of a file with this number fails
 //!     output-fails N      a write of the output fails after its first N bytes
+//!     checked             what was written is given to `check`, and what that says is told in its place
 //!
 //! A row with a line `meeting` has no command: two workers serve a client each over one lock, and the member answers the
 //! first only once the second's client has its own answer. Its first four `file`s are the bytes of the first client and of

@@ -5,7 +5,6 @@ ghost use Rattle.std.specs.Prelude.{◌≡◌, ◌<◌, true, vec_len, IfOk};
 ghost use Rattle.uri_map.specs.Sites.{stands_in};
 
 use crate::worlds::{client_by, link_of, push};
-use block_rows::comparing::wants;
 use block_rows::row::{BlockRow, RowError};
 use conn_pool::NoTape;
 use jk_commands::let_go;
@@ -137,7 +136,7 @@ fn gears_of<L: Drop>(
 }
 
 /// The configuration in a row; it must be read.
-fn config_of(alloc: Global, row: BlockRow<'_>) -> Result<Config, RowError> {
+pub fn config_of(alloc: Global, row: BlockRow<'_>) -> Result<Config, RowError> {
     let text = row.file(alloc, "w")?;
     if text.len() > MAX_INPUT_BYTES {
         return Err(RowError::Unreadable);
@@ -150,7 +149,7 @@ fn config_of(alloc: Global, row: BlockRow<'_>) -> Result<Config, RowError> {
 }
 
 /// The map in a row; it must be read.
-fn map_of(alloc: Global, row: BlockRow<'_>, config: &Config) -> Result<UriMap, RowError>
+pub fn map_of(alloc: Global, row: BlockRow<'_>, config: &Config) -> Result<UriMap, RowError>
     ensures { IfOk result (λ map. stands_in config.now map ≡ true) }
 {
     let text = row.file(alloc, "m")?;
@@ -175,7 +174,7 @@ fn put_left<L: Shown>(gear: &OverLinks<L>, out: &mut Bytes) -> Result<(), NoMemo
 }
 
 /// What was sent on all links that were left.
-fn told<L: Shown>(alloc: Global, gears: &[OverLinks<L>]) -> Result<Bytes, NoMemory> {
+fn sent_of<L: Shown>(alloc: Global, gears: &[OverLinks<L>]) -> Result<Bytes, NoMemory> {
     let mut out = Bytes::new(alloc);
     for gear in gears {
         put_left(gear, &mut out)?;
@@ -185,10 +184,10 @@ fn told<L: Shown>(alloc: Global, gears: &[OverLinks<L>]) -> Result<Bytes, NoMemo
 
 /// The site that the workers serve.
 #[derive(Clone, Copy)]
-struct Served<'a> {
-    config: &'a Config,
-    map: &'a UriMap,
-    ghost stands: { stands_in config.now map.now ≡ true },
+pub struct Served<'a> {
+    pub config: &'a Config,
+    pub map: &'a UriMap,
+    pub ghost stands: { stands_in config.now map.now ≡ true },
 }
 
 /// Serves the clients of two workers by a thread each, and says what was sent on the links that were left.
@@ -209,9 +208,9 @@ fn over_links<L: Link + Shown + Drop + Send, R: Threads + Wait + Sync>(
         watch: None,
     };
     let run = serve_gears(rt, alloc, plan, gears)?;
-    let told = told(alloc, run.gears.as_slice());
+    let sent = sent_of(alloc, run.gears.as_slice());
     let_go(run);
-    told
+    sent
 }
 
 /// As `over_links`, with links that meet at a gate. The member answers the first once the second's client has its answer,
@@ -261,31 +260,21 @@ fn over_row<R: Threads + Wait + Clock + Sync>(
     over_ends(rt, alloc, served, first, second)
 }
 
-fn over_site<R: Threads + Wait + Clock + Sync>(
-    rt: &R,
-    alloc: Global,
-    row: BlockRow<'_>,
-    served: Served<'_>,
-) -> Result<bool, RowError> {
-    let told = over_row(rt, alloc, row, served)?;
-    wants(alloc, row, told.as_slice())
-}
-
 fn over_config<R: Threads + Wait + Clock + Sync>(
     rt: &R,
     alloc: Global,
     row: BlockRow<'_>,
     config: &Config,
-) -> Result<bool, RowError> {
+) -> Result<Bytes, RowError> {
     let map = map_of(alloc, row, config)?;
-    over_site(rt, alloc, row, Served { config, map: &map })
+    over_row(rt, alloc, row, Served { config, map: &map })
 }
 
-/// Whether both clients have the answers that the row says.
-pub fn holds<R: Threads + Wait + Clock + Sync>(
+/// What was sent to both clients.
+pub fn told<R: Threads + Wait + Clock + Sync>(
     rt: &R,
     alloc: Global,
     row: BlockRow<'_>,
-) -> Result<bool, RowError> {
+) -> Result<Bytes, RowError> {
     over_config(rt, alloc, row, &config_of(alloc, row)?)
 }

@@ -1,8 +1,7 @@
 //! A command over files, an output and a world in memory.
-use crate::doing::status_of;
+use crate::doing::{put_checked, status_of};
 use crate::told::put_world;
 use crate::worlds::world_of;
-use block_rows::comparing::wants;
 use block_rows::row::{BlockRow, RowError};
 use jk_io::{Bytes, MemFiles, MemLink, NoMemory, NumberList, put_decimal};
 use std::alloc::Global;
@@ -22,34 +21,42 @@ fn files_of(alloc: Global, row: BlockRow<'_>) -> Result<MemFiles, RowError> {
     Ok(MemFiles::new(files, failing))
 }
 
+/// Adds what was written; where a row says `checked`, what `check` says of it.
+fn put_written(
+    alloc: Global,
+    row: BlockRow<'_>,
+    written: &[u8],
+    out: &mut Bytes,
+) -> Result<(), NoMemory> {
+    if row.count("checked") == 0 {
+        return out.extend(written);
+    }
+    put_checked(alloc, written, out)
+}
+
 fn put_status(out: &mut Bytes, status: u8) -> Result<(), NoMemory> {
     out.extend(b"status ")?;
     put_decimal(out, u128::from(status))?;
     out.extend(b"\n")
 }
 
-/// Adds what is told of a command: what it wrote, its status, and the world after it.
-fn put_told(
-    status: u8,
-    written: &[u8],
-    world: &MemWorld<MemLink>,
-    out: &mut Bytes,
-) -> Result<(), NoMemory> {
-    out.extend(written)?;
+/// Adds what is told of a command after what it wrote: its status, and the world.
+fn put_told(status: u8, world: &MemWorld<MemLink>, out: &mut Bytes) -> Result<(), NoMemory> {
     put_status(out, status)?;
     put_world(world, out)
 }
 
-fn wants_told(
+fn told_after(
     alloc: Global,
     row: BlockRow<'_>,
     status: u8,
     written: &[u8],
     world: &MemWorld<MemLink>,
-) -> Result<bool, RowError> {
+) -> Result<Bytes, RowError> {
     let mut told = Bytes::new(alloc);
-    put_told(status, written, world, &mut told)?;
-    wants(alloc, row, told.as_slice())
+    put_written(alloc, row, written, &mut told)?;
+    put_told(status, world, &mut told)?;
+    Ok(told)
 }
 
 fn over_output<R: Threads + Wait + Sync>(
@@ -59,10 +66,10 @@ fn over_output<R: Threads + Wait + Sync>(
     words: &[Bytes],
     files: &mut MemFiles,
     world: &mut MemWorld<MemLink>,
-) -> Result<bool, RowError> {
+) -> Result<Bytes, RowError> {
     let mut out = output_of(alloc, row)?;
     let status = status_of(rt, alloc, words, files, &mut out, world);
-    wants_told(alloc, row, status, out.sent(), world)
+    told_after(alloc, row, status, out.sent(), world)
 }
 
 fn over_files<R: Threads + Wait + Sync>(
@@ -71,7 +78,7 @@ fn over_files<R: Threads + Wait + Sync>(
     row: BlockRow<'_>,
     words: &[Bytes],
     files: &mut MemFiles,
-) -> Result<bool, RowError> {
+) -> Result<Bytes, RowError> {
     over_output(rt, alloc, row, words, files, &mut world_of(alloc, row)?)
 }
 
@@ -80,15 +87,15 @@ fn over_words<R: Threads + Wait + Sync>(
     alloc: Global,
     row: BlockRow<'_>,
     words: &[Bytes],
-) -> Result<bool, RowError> {
+) -> Result<Bytes, RowError> {
     over_files(rt, alloc, row, words, &mut files_of(alloc, row)?)
 }
 
-/// Whether a command does what its row says.
-pub fn holds<R: Threads + Wait + Sync>(
+/// What comes out of a row's command.
+pub fn told<R: Threads + Wait + Sync>(
     rt: &R,
     alloc: Global,
     row: BlockRow<'_>,
-) -> Result<bool, RowError> {
+) -> Result<Bytes, RowError> {
     over_words(rt, alloc, row, row.words(alloc)?.as_slice())
 }

@@ -12,10 +12,34 @@ fn number_in(text: &str) -> Result<u64, RowError> {
     parse_decimal(text.as_bytes()).ok_or(RowError::Unreadable)
 }
 
-/// How many clients and links a line `gear` has.
-fn counts_in(text: &str) -> Result<(u64, u64), RowError> {
-    let (clients, links) = text.split_once(' ').ok_or(RowError::Unreadable)?;
-    Ok((number_in(clients)?, number_in(links)?))
+/// What a line `gear` says: how many clients and links there are, and whether the first accept at this door fails.
+#[derive(Clone, Copy)]
+struct GearLine {
+    clients: u64,
+    links: u64,
+    refuses: bool,
+}
+
+fn gear_line(text: &str) -> Result<GearLine, RowError> {
+    let (clients, rest) = text.split_once(' ').ok_or(RowError::Unreadable)?;
+    let (links, refuses) = match rest.strip_suffix(" refuses") {
+        Some(links) => (links, true),
+        None => (rest, false),
+    };
+    Ok(GearLine {
+        clients: number_in(clients)?,
+        links: number_in(links)?,
+        refuses,
+    })
+}
+
+/// Which accepts fail at the door of a gear.
+fn refused_of(alloc: Global, row: BlockRow<'_>, line: GearLine) -> Result<NumberList, RowError> {
+    let mut refused = row.numbers(alloc, "door-fails")?;
+    if line.refuses {
+        push(&mut refused, 0)?;
+    }
+    Ok(refused)
 }
 
 /// A link that gives the text of the file with this number.
@@ -112,12 +136,12 @@ fn fill_plan(
     file: &mut usize,
     plan: &mut MemPlan<MemLink>,
 ) -> Result<(), RowError> {
-    let (clients, links) = counts_in(gear)?;
-    let clients = clients_of(alloc, row, clients, file)?;
+    let line = gear_line(gear)?;
+    let clients = clients_of(alloc, row, line.clients, file)?;
     set(&mut plan.clients, clients);
-    let refused = row.numbers(alloc, "door-fails")?;
+    let refused = refused_of(alloc, row, line)?;
     set(&mut plan.refused, refused);
-    let dial = dial_of(alloc, row, links, file)?;
+    let dial = dial_of(alloc, row, line.links, file)?;
     set(&mut plan.dial, dial);
     let answers = row.numbers(alloc, "clock")?;
     set(&mut plan.clock, StepClock::new(answers));
