@@ -1,6 +1,6 @@
 //! Each row of each file, done once.
 
-use crate::{meeting, serving};
+use crate::{joined, meeting, serving};
 use anyhow::Result;
 use block_rows::comparing::wants;
 use block_rows::row::{BlockRow, RowError};
@@ -10,13 +10,14 @@ use check_rows::telling::put_plain;
 use jk_io::{Bytes, NoMemory};
 use std::alloc::Global;
 use std::fmt::Write;
+use std::net::{Net, TcpListener, TcpStream};
 use std::rt::Files;
 use std::sync::Wait;
 use std::thread::Threads;
 use std::time::Clock;
 
 /// The files of rows.
-static FILES: [&str; 8] = [
+static FILES: [&str; 9] = [
     "serve/words.txt",
     "serve/serving.txt",
     "serve/faults.txt",
@@ -25,10 +26,11 @@ static FILES: [&str; 8] = [
     "serve/watch.txt",
     "serve/drills.txt",
     "serve/meeting.txt",
+    "serve/joined.txt",
 ];
 
 /// What comes out of a row.
-fn told<R: Threads + Wait + Clock + Sync>(
+fn told<R: Threads + Wait + Clock + Sync + Net<Listener = TcpListener, Stream = TcpStream>>(
     rt: &R,
     alloc: Global,
     row: BlockRow<'_>,
@@ -36,11 +38,14 @@ fn told<R: Threads + Wait + Clock + Sync>(
     if row.count("meeting") > 0 {
         return meeting::told(rt, alloc, row);
     }
+    if row.count("joined") > 0 {
+        return joined::told(rt, alloc, row);
+    }
     serving::told(rt, alloc, row)
 }
 
 /// Whether a row wants what came out of it. Shows what came out where it doesn't.
-fn is_wanted<R: Threads + Wait + Clock + Sync>(
+fn is_wanted<R: Threads + Wait + Clock + Sync + Net<Listener = TcpListener, Stream = TcpStream>>(
     rt: &R,
     alloc: Global,
     row: BlockRow<'_>,
@@ -55,7 +60,7 @@ fn is_wanted<R: Threads + Wait + Clock + Sync>(
 }
 
 /// Whether a row comes out as it says; not, where it can't be read. Shows what came out otherwise.
-fn is_held<R: Threads + Wait + Clock + Sync>(
+fn is_held<R: Threads + Wait + Clock + Sync + Net<Listener = TcpListener, Stream = TcpStream>>(
     rt: &R,
     alloc: Global,
     lines: &str,
@@ -74,7 +79,7 @@ fn is_held<R: Threads + Wait + Clock + Sync>(
 }
 
 /// Does a row, shows it where it comes out otherwise, and answers how many rows come out as they say, 1 or 0.
-fn judge_row<R: Threads + Wait + Clock + Sync>(
+fn judge_row<R: Threads + Wait + Clock + Sync + Net<Listener = TcpListener, Stream = TcpStream>>(
     rt: &R,
     alloc: Global,
     lines: &str,
@@ -95,7 +100,7 @@ fn judge_row<R: Threads + Wait + Clock + Sync>(
 
 /// Does each row of a text, shows those that come out otherwise, and answers how many come out as they say. (A trait's method
 /// knows nothing of what its threads share, so these rows aren't judged by `judge_files` of block_rows.)
-fn judge_rows<R: Threads + Wait + Clock + Sync>(
+fn judge_rows<R: Threads + Wait + Clock + Sync + Net<Listener = TcpListener, Stream = TcpStream>>(
     rt: &R,
     alloc: Global,
     text: &str,
@@ -108,25 +113,44 @@ fn judge_rows<R: Threads + Wait + Clock + Sync>(
     Ok(fits)
 }
 
-fn judge_text<R: Threads + Wait + Clock + Sync + Print + AllocGlobal>(
-    rt: &R,
-    file: &str,
-    text: &str,
-) -> Result<()> {
+fn judge_text<
+    R: Threads
+        + Wait
+        + Clock
+        + Sync
+        + Net<Listener = TcpListener, Stream = TcpStream>
+        + Print
+        + AllocGlobal,
+>(rt: &R, file: &str, text: &str) -> Result<()> {
     let mut shown = String::new(rt.alloc());
     let rows = judge_rows(rt, rt.alloc(), text, &mut shown)?;
     print_count(rt, shown.as_str(), rows, "rows", file)
 }
 
-fn judge_file<R: Threads + Wait + Clock + Sync + Print + AllocGlobal + Files>(
-    rt: &R,
-    file: &str,
-) -> Result<()> {
+fn judge_file<
+    R: Threads
+        + Wait
+        + Clock
+        + Sync
+        + Net<Listener = TcpListener, Stream = TcpStream>
+        + Print
+        + AllocGlobal
+        + Files,
+>(rt: &R, file: &str) -> Result<()> {
     judge_text(rt, file, read_rows(rt, file)?.as_str())
 }
 
 /// Shows each row that comes out otherwise, and how many of each file come out as they say.
-pub fn judge<R: Threads + Wait + Clock + Sync + Print + AllocGlobal + Files>(rt: &R) -> Result<()> {
+pub fn judge<
+    R: Threads
+        + Wait
+        + Clock
+        + Sync
+        + Net<Listener = TcpListener, Stream = TcpStream>
+        + Print
+        + AllocGlobal
+        + Files,
+>(rt: &R) -> Result<()> {
     for file in &FILES {
         judge_file(rt, file)?;
     }
