@@ -66,6 +66,7 @@ starts b config s sound is = record {
   balancer = subst IsDrillBook (sym s.configured) is;
   added = s.added;
   empty = s.empty;
+  none_out = s.none_out;
   sound = sound;
 }
 

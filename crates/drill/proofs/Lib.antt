@@ -2,5 +2,6 @@ mod AnsweredLaws
 mod RequestLaws
 mod WireLaws
 mod SlotLaws
+mod PassLaws
 mod ClosingLaws
 mod SiteLaws

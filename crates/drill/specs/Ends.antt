@@ -27,6 +27,7 @@ pub record IsStarted (b : Journal) : Type 0 where
   pub balancer : IsDrillBook b.opening.config
   pub added : b.added ≡ 0
   pub empty : b.entries ≡ []
+  pub none_out : b.opening.out ≡ []
   pub sound : IsSound b
 
 -- What a drill hands out: the summary of its Book's journal, or that journal's text, and in the journal each request of

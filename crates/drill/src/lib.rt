@@ -15,6 +15,7 @@ mod answered;
 mod app_link;
 mod app_reach;
 mod drill_error;
+mod pass_slots;
 mod plan;
 mod requests;
 mod running;

@@ -13,6 +13,7 @@ ghost use Rattle.drill.specs.Summaries.{IsJournalText, summary_text};
 
 use crate::answered::are_answered;
 use crate::drill_error::{DrillError, Drilled};
+use crate::pass_slots::serve_in_turns;
 use crate::plan::{MAX_REQUESTS, MAX_THREADS, Plan};
 use crate::site::{BALANCER, DrillSite, book_config, drill_site};
 use crate::slots::serve_all;
@@ -21,9 +22,11 @@ use balancer_core::{Book, BookList, Segment};
 use jk_io::{Bytes, NoMemory};
 use journal_text::write_segment;
 use locked_balancer::{MemShelf, SharedSite, Site, SiteName};
+use pass_desk::{PassBook, close_passes};
 use site_closing::{CloseError, Closed, LeavingList, close_desks};
 use std::alloc::Global;
 use std::marker::Brand;
+use std::slice::from_ref;
 use std::sync::Wait;
 use std::sync::ledger::{Blank, Share};
 use std::thread::Threads;
@@ -199,19 +202,45 @@ fn only_book(books: BookList) -> Book
     }
 }
 
-// As `drilled_book`, over the drill's own site.
-fn book_of<R: Threads + Wait + Sync>(rt: &R, alloc: Global, plan: Plan) -> Result<Book, DrillError>
+// Makes the requests over a Book whose callers take turns, and takes it out.
+fn passed_book<R: Threads + Wait + Sync>(
+    rt: &R,
+    alloc: Global,
+    site: &DrillSite,
+    plan: Plan,
+) -> Result<Book, NoMemory>
+    ensures { IfOk result IsOfDrill }
+{
+    let start = start_book(alloc)?;
+    let (book, passes) = PassBook::new(alloc, start, plan.threads)?;
+    let back = serve_in_turns::<Brand, R>(rt, alloc, site, plan, from_ref(&book), passes)?;
+    match close_passes(book, back) {
+        Ok(book) => Ok(book),
+        Err(_) => Err(NoMemory),
+    }
+}
+
+// The Book of a drill over the drill's own site, behind a lock or by turns.
+fn book_of<R: Threads + Wait + Sync>(
+    rt: &R,
+    alloc: Global,
+    plan: Plan,
+    passes: bool,
+) -> Result<Book, DrillError>
     ensures book { IfOk result IsOfDrill }
     ensures cause { IfErr result (IsDrillError plan.threads plan.requests) }
 {
     let site = drill_site(alloc)?;
-    drilled_book(rt, alloc, &site, plan)
+    if passes {
+        Ok(passed_book(rt, alloc, &site, plan)?)
+    } else {
+        drilled_book(rt, alloc, &site, plan)
+    }
 }
 
 /// Makes requests by several threads over one Site: request i, from 0, is made by thread i mod `threads`, over memory
-/// against a container's application. With `text` the text is the journal's, else the summary.
-///
-/// It runs over desks behind a lock. The desks that hand a Book round aren't built, so nobody may ask for `passes` yet.
+/// against a container's application. With `text` the text is the journal's, else the summary. With `passes` the threads
+/// take turns at one Book, each with a pass; else their desks stand behind a lock.
 pub fn run_drill<R: Threads + Wait + Sync>(
     rt: &R,
     alloc: Global,
@@ -223,7 +252,6 @@ pub fn run_drill<R: Threads + Wait + Sync>(
 ) -> Result<Drilled, DrillError>
     requires threads { (1 ≤ threads) × (threads ≤ MAX_THREADS) }
     requires requests { (1 ≤ requests) × (requests ≤ MAX_REQUESTS) }
-    requires unbuilt { passes ≡ false }
 
     // The summary of the journal of the Book that is handed out, or that journal's text.
     ensures summary { text ≡ false → IfOk result (λ d. d.text ≡ summary_text seed threads requests passes d.book.entries) }
@@ -241,6 +269,6 @@ pub fn run_drill<R: Threads + Wait + Sync>(
         threads,
         requests,
     };
-    let book = book_of(rt, alloc, plan)?;
+    let book = book_of(rt, alloc, plan, passes)?;
     tell(alloc, plan, Wanted { text, passes }, book)
 }

@@ -1,5 +1,5 @@
 //! What one thread of a drill does: its requests, in sessions of at most a thousand.
-ghost use Rattle.std.specs.Prelude.{◌≡◌, false, None};
+ghost use Rattle.std.specs.Prelude.{◌≡◌, false, IfSome};
 ghost use Rattle.exchange.specs.Requests.{sizes_of};
 ghost use Rattle.status_worker.specs.Desks.{KeepsTickets};
 
@@ -31,7 +31,7 @@ fn serve_client<B: Desk, R: Reach>(
 where
     B::Mark: Drop,
     B::Shown: Drop,
-    requires caller { (B.state desk.old).caller ≡ None }
+    requires caller { IfSome (B.state desk.old).caller (λ n. post.number ≡ n) }
     requires sizes { (B.state desk.old).sizes ≡ sizes_of post.site.now.cfg.lbs }
     requires idle { (R.beside reach.old).runs ≡ false }
     requires reach_sizes { (R.beside reach.old).sizes ≡ sizes_of post.site.now.cfg.lbs }
@@ -70,7 +70,7 @@ fn serve_text<B: Desk, R: Reach>(
 where
     B::Mark: Drop,
     B::Shown: Drop,
-    requires caller { (B.state desk.old).caller ≡ None }
+    requires caller { IfSome (B.state desk.old).caller (λ n. post.number ≡ n) }
     requires sizes { (B.state desk.old).sizes ≡ sizes_of post.site.now.cfg.lbs }
     requires idle { (R.beside reach.old).runs ≡ false }
     requires reach_sizes { (R.beside reach.old).sizes ≡ sizes_of post.site.now.cfg.lbs }
@@ -93,7 +93,7 @@ fn serve_requests<B: Desk, R: Reach>(
 where
     B::Mark: Drop,
     B::Shown: Drop,
-    requires caller { (B.state desk.old).caller ≡ None }
+    requires caller { IfSome (B.state desk.old).caller (λ n. post.number ≡ n) }
     requires sizes { (B.state desk.old).sizes ≡ sizes_of post.site.now.cfg.lbs }
     requires idle { (R.beside reach.old).runs ≡ false }
     requires reach_sizes { (R.beside reach.old).sizes ≡ sizes_of post.site.now.cfg.lbs }
@@ -120,7 +120,7 @@ pub(crate) fn serve_thread<B: Desk>(
 where
     B::Mark: Drop,
     B::Shown: Drop,
-    requires caller { (B.state desk.old).caller ≡ None }
+    requires caller { IfSome (B.state desk.old).caller (λ n. number ≡ n) }
     requires sizes { (B.state desk.old).sizes ≡ sizes_of site.now.cfg.lbs }
     ensures kept { KeepsTickets number (B.state desk.old) (B.state desk.new) }
 {

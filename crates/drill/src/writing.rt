@@ -1,5 +1,5 @@
 //! What a drill hands out, written.
-ghost use Rattle.std.specs.Prelude.{◌≡◌, ◌≤◌, false};
+ghost use Rattle.std.specs.Prelude.{◌≡◌, ◌≤◌};
 ghost use Rattle.drill.specs.Written.{RunsDrill, WritesTold, status_of};
 ghost use Rattle.drill.specs.declared.plan.TheConstants.{MAX_REQUESTS, MAX_THREADS};
 
@@ -88,7 +88,6 @@ pub fn write_drill<O: Sink, R: Threads + Wait + Sync>(
 ) -> DrillEnd
     requires threads { (1 ≤ order.threads) × (order.threads ≤ MAX_THREADS) }
     requires requests { (1 ≤ order.requests) × (order.requests ≤ MAX_REQUESTS) }
-    requires unbuilt { order.passes ≡ false }
 
     // What it handed out was written, or a front of it; else it says why there is nothing, and nothing was written.
     ensures { RunsDrill order.seed order.threads order.requests order.text order.passes

@@ -1,4 +1,5 @@
-use Rattle.std.proofs.Common.{length, length-drop, ap, ◌∙◌, arith}
+use Rattle.std.proofs.Common.{◌≡◌, ℕ, Option, length, length-drop, ap, sym, subst, ◌∙◌, arith}
+use Rattle.std.specs.Prelude.{IfSome}
 use Rattle.status_worker.proofs.DeskLaws.{twice}
 use Rattle.drill.proofs.thread.serve_requests.Goals as goal
 
@@ -15,7 +16,7 @@ sessions-preserved g c =
     let kept = c.serve_text.ensures.kept in
     record {
       kept = twice _ _ _ _ inv.kept kept;
-      caller = kept.caller ∙ inv.caller;
+      caller = subst (λ (x : Option ℕ). IfSome x (λ n. c.sessions.post.number ≡ n)) (sym kept.caller) inv.caller;
       sizes = kept.sizes ∙ inv.sizes;
       idle = c.serve_text.ensures.idle;
       reach_sizes = c.serve_text.ensures.reach_sizes ∙ inv.reach_sizes;

@@ -1,5 +1,6 @@
 -- The sessions so far left the desk and the reach as they have to be.
-use Rattle.std.proofs.Common.{◌≡◌, false, None, length}
+use Rattle.std.proofs.Common.{◌≡◌, ℕ, false, length}
+use Rattle.std.specs.Prelude.{IfSome}
 use Rattle.exchange.specs.Requests.{sizes_of}
 use Rattle.status_worker.specs.Desks.{KeepsTickets}
 use Rattle.drill.proofs.thread.serve_requests.Given as goal
@@ -7,7 +8,7 @@ use Rattle.drill.proofs.thread.serve_requests.Given as goal
 abbrev pub invariant-sessions : goal.invariant-sessions
 invariant-sessions g l = record {
   kept : KeepsTickets l.post.number (g.B.Desk.state l.fn.desk) (g.B.Desk.state l.desk);
-  caller : (g.B.Desk.state l.desk).caller ≡ None;
+  caller : IfSome (g.B.Desk.state l.desk).caller (λ n. l.post.number ≡ n);
   sizes : (g.B.Desk.state l.desk).sizes ≡ sizes_of l.post.site.now.cfg.lbs;
   idle : (g.R.Meanings.beside l.reach).runs ≡ false;
   reach_sizes : (g.R.Meanings.beside l.reach).sizes ≡ sizes_of l.post.site.now.cfg.lbs;

@@ -1,0 +1,14 @@
+-- A slot for each pass so far, in order, and room for the others.
+use Rattle.std.proofs.Common.{◌≡◌, ◌+◌, ◌≤◌, length, map}
+use Rattle.std.specs.Prelude.{vec_capacity, vec_len}
+use Rattle.pass_desk.specs.Placed.{AreFrom}
+use Rattle.pass_desk.proofs.PlacedLaws.{AreNext}
+use Rattle.drill.proofs.pass_slots.slots_for.Given as goal
+
+abbrev pub invariant-passes : goal.invariant-passes
+invariant-passes g l = record {
+  next : AreNext g.P.PassPlace.origin g.P.PassPlace.table g.P.PassPlace.given (length l.slots.items) l.pass-iterator.rest.items;
+  numbers : AreFrom 0 (map (λ s. s.number) l.slots.items);
+  count : vec_len l.slots + length l.pass-iterator.rest.items ≡ g.P.PassPlace.given;
+  room : vec_len l.slots + length l.pass-iterator.rest.items ≤ vec_capacity l.slots;
+}

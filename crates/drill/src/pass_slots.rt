@@ -1,0 +1,190 @@
+//! The threads of a drill that take turns at one Book, each with a pass.
+ghost use Rattle.std.specs.Prelude.{◌≡◌, ◌<◌, ◌≤◌, ℕ, [], ◌∷◌, length, map, vec_capacity, vec_len, IfOk, Some, slice_index_or};
+ghost use Rattle.jk_model.specs.Journal.{members};
+ghost use Rattle.pass_desk.specs.PassDesks.{table_in};
+ghost use Rattle.pass_desk.specs.Passes.{AreNewPasses};
+ghost use Rattle.pass_desk.specs.declared.pass_book.PassBook.{PassBook};
+ghost use Rattle.pass_desk.specs.Placed.{AreBack, AreEachBack, AreFrom, IsBack};
+
+use crate::plan::{MAX_THREADS, Plan};
+use crate::site::DrillSite;
+use crate::thread::serve_thread;
+use jk_io::NoMemory;
+use pass_desk::{Pass, PassBook, PassList, PassPlace, PlacedDesk};
+use std::alloc::Global;
+use std::sync::Wait;
+use std::thread::{self, Threads};
+
+/// A thread's desk and number, and whether all its requests were made.
+#[derive(Drop)]
+struct PassSlot<'b, 'r, P: PassPlace, R> {
+    desk: PlacedDesk<'b, 'r, P, R>,
+    number: u32,
+    made: bool,
+    ghost caller: { desk.desk.desk.caller ≡ Some number },
+    ghost none_held: { desk.desk.desk.held ≡ [] },
+    ghost sized: { desk.desk.desk.sizes ≡ 2 ∷ [] },
+}
+
+// A slot with a pass.
+fn slot_of<'b, 'r, P: PassPlace, R>(
+    alloc: Global,
+    rt: &'r R,
+    books: &'b [PassBook],
+    pass: Pass,
+    number: u32,
+) -> Result<PassSlot<'b, 'r, P, R>, NoMemory>
+    requires book { (b : PassBook) × (books.now ≡ b ∷ []) × (table_in b ≡ P.table) }
+    requires pass { IsBack P.table P.origin P.given pass }
+    requires number { pass.number ≡ number }
+    requires two { members P.origin.opening ≡ 2 }
+    ensures { IfOk result (λ s. s.number ≡ number) }
+{
+    Ok(PassSlot {
+        desk: PlacedDesk::new(alloc, rt, books, pass)?,
+        number,
+        made: false,
+    })
+}
+
+// A slot for each pass, in order.
+fn slots_for<'b, 'r, P: PassPlace, R>(
+    alloc: Global,
+    rt: &'r R,
+    books: &'b [PassBook],
+    passes: PassList,
+) -> Result<Vec<PassSlot<'b, 'r, P, R>>, NoMemory>
+    requires book { (b : PassBook) × (books.now ≡ b ∷ []) × (table_in b ≡ P.table) }
+    requires passes { AreNewPasses P.origin P.table P.given passes }
+    requires few { P.given ≤ MAX_THREADS }
+    requires two { members P.origin.opening ≡ 2 }
+    ensures numbers { IfOk result (λ slots. AreFrom 0 (map (λ s. s.number) slots.items)) }
+    ensures count { IfOk result (λ slots. vec_len slots ≡ P.given) }
+{
+    let passes = passes.into_vec();
+    let mut slots = Vec::with_capacity(alloc, passes.len())?;
+    'passes: for pass in passes {
+        let number = slots.len() as u32;
+        slots.push_reserved(slot_of(alloc, rt, books, pass, number)?);
+    }
+    Ok(slots)
+}
+
+// The work of one thread.
+fn serve_slot<P: PassPlace, R: Wait>(
+    alloc: Global,
+    site: &DrillSite,
+    plan: Plan,
+    slot: &mut PassSlot<'_, '_, P, R>,
+)
+    ensures { slot.new.number ≡ slot.old.number }
+{
+    let served = serve_thread(alloc, site, plan, slot.number, &mut slot.desk);
+    slot.made = served.is_ok();
+}
+
+// A thread for each slot.
+fn serve_slots<'b, 'r, P: PassPlace + Send + Sync, R: Threads + Wait + Sync>(
+    rt: &R,
+    alloc: Global,
+    site: &DrillSite,
+    plan: Plan,
+    slots: &mut [PassSlot<'b, 'r, P, R>],
+)
+    requires few { length slots.old ≤ MAX_THREADS }
+    ensures numbers { (i : ℕ) (d : _) → i < length slots.old → (slice_index_or slots.new i d).number ≡ (slice_index_or slots.old i d).number }
+    ensures len { length slots.new ≡ length slots.old }
+{
+    let count = slots.len().max(1);
+    thread::for_each_mut(
+        rt,
+        slots,
+        count,
+        &|_place: usize, slot: &mut PassSlot<P, R>|
+            ensures { slot.new.number ≡ slot.old.number }
+        {
+            serve_slot(alloc, site, plan, slot);
+        },
+    );
+}
+
+// Takes slots apart, and says whether each thread made all its requests.
+fn empty_slots<'b, 'r, P: PassPlace, R>(
+    slots: Vec<PassSlot<'b, 'r, P, R>>,
+    passes: &mut Vec<Pass>,
+) -> bool
+    requires none { passes.old.items ≡ [] }
+    requires room { vec_len slots ≤ vec_capacity passes.old }
+    ensures numbers { map (λ p. p.number) passes.new.items ≡ map (λ s. s.number) slots.entry.items }
+    ensures back { AreEachBack P.table P.origin P.given passes.new.items }
+{
+    let mut made = true;
+    'slots: for slot in slots {
+        let PassSlot {
+            desk,
+            number: _,
+            made: made_here,
+        } = slot;
+        made = made && made_here;
+        passes.push_reserved(desk.into_pass());
+    }
+    made
+}
+
+// As `serve_slots`, over the slots of a list.
+fn serve_each<'b, 'r, P: PassPlace + Send + Sync, R: Threads + Wait + Sync>(
+    rt: &R,
+    alloc: Global,
+    site: &DrillSite,
+    plan: Plan,
+    slots: &mut Vec<PassSlot<'b, 'r, P, R>>,
+)
+    requires few { vec_len slots.old ≤ MAX_THREADS }
+    ensures numbers { map (λ s. s.number) slots.new.items ≡ map (λ s. s.number) slots.old.items }
+    ensures len { vec_len slots.new ≡ vec_len slots.old }
+{
+    serve_slots(rt, alloc, site, plan, slots.as_mut_slice());
+}
+
+// Makes all requests over these slots, and gives the passes back. The memory for them is taken first.
+fn serve_passes<'b, 'r, P: PassPlace + Send + Sync, R: Threads + Wait + Sync>(
+    rt: &R,
+    alloc: Global,
+    site: &DrillSite,
+    plan: Plan,
+    slots: Vec<PassSlot<'b, 'r, P, R>>,
+) -> Result<PassList, NoMemory>
+    requires numbers { AreFrom 0 (map (λ s. s.number) slots.items) }
+    requires count { vec_len slots ≡ P.given }
+    requires few { P.given ≤ MAX_THREADS }
+    ensures { IfOk result (AreBack P.table P.origin P.given) }
+{
+    let mut passes = Vec::with_capacity(alloc, slots.len())?;
+    let mut slots = slots;
+    serve_each(rt, alloc, site, plan, &mut slots);
+    if empty_slots(slots, &mut passes) {
+        Ok(PassList::from_vec(passes))
+    } else {
+        Err(NoMemory)
+    }
+}
+
+/// Makes all requests over a Book whose callers take turns, those of each thread over a desk with one of the passes, and
+/// gives the passes back.
+pub(crate) fn serve_in_turns<'b, P: PassPlace + Send + Sync, R: Threads + Wait + Sync>(
+    rt: &R,
+    alloc: Global,
+    site: &DrillSite,
+    plan: Plan,
+    books: &'b [PassBook],
+    passes: PassList,
+) -> Result<PassList, NoMemory>
+    requires book { (b : PassBook) × (books.now ≡ b ∷ []) × (table_in b ≡ P.table) }
+    requires passes { AreNewPasses P.origin P.table P.given passes }
+    requires few { P.given ≤ MAX_THREADS }
+    requires two { members P.origin.opening ≡ 2 }
+    ensures { IfOk result (AreBack P.table P.origin P.given) }
+{
+    let slots = slots_for::<P, R>(alloc, rt, books, passes)?;
+    serve_passes(rt, alloc, site, plan, slots)
+}
