@@ -1,12 +1,14 @@
 -- What a closing says of a drill's Book.
-use Rattle.std.proofs.Common.{◌≡◌, ℕ, ◌+◌, List, [], ◌∷◌, length, slice_index, Option, Some, None, Result, Ok, Err, refl, sym, ap, subst, ◌∙◌, zero-add}
+use Rattle.std.proofs.Common.{◌≡◌, ℕ, ◌+◌, List, [], ◌∷◌, ◌++◌, length, slice_index, Option, Some, None, Result, Ok, Err, refl, sym, ap, arith, subst, sum_by, ◌∙◌, zero-add}
 use Rattle.std.specs.List.{All}
 use Rattle.std.specs.Prelude.{IfOk, IfSome}
-use Rattle.std.proofs.lemmas.List.Elements.{All-cons, All-nil}
+use Rattle.std.proofs.lemmas.List.{length-append}
+use Rattle.std.proofs.lemmas.List.Elements.{All-cons, All-head, All-nil, All-rest}
+use Rattle.std.proofs.lemmas.List.Sums.{sum_by-cons}
 use Rattle.jk_model.specs.Journal.{members}
 use Rattle.balancer_core.specs.Journal.{IsSound, IsStart, Journal}
 use Rattle.balancer_core.specs.ToldBooks.{sizes_of}
-use Rattle.locked_balancer.specs.Sites.{AreSited, nexts_of}
+use Rattle.locked_balancer.specs.Sites.{AreSited, added_in, nexts_of}
 use Rattle.site_closing.specs.CloseErrors.{IsCloseError}
 use Rattle.site_closing.specs.Closings.{Differs}
 use Rattle.site_closing.specs.declared.close.CloseError.{CloseError}
@@ -33,10 +35,10 @@ of_drill sizes firsts (b ∷ []) s sized first =
     } in (refl, All-cons IsOfDrill b [] is (All-nil IsOfDrill))
 
 -- so of a closing's answer
-pub drill_books : {E : Type 0} (r : Result (List Journal) E) (sizes firsts : List ℕ) → sizes ≡ 2 ∷ [] → firsts ≡ 0 ∷ [] → IfOk r (AreSited sizes firsts)
-    → IfOk r (λ books. length books ≡ 1) × IfOk r (All IsOfDrill)
-drill_books (Ok books) sizes firsts sized first s = of_drill sizes firsts books s sized first
-drill_books (Err e) sizes firsts sized first s = (tt, tt)
+pub drill_books : {C E : Type 0} (books : C → List Journal) (r : Result C E) (sizes firsts : List ℕ) → sizes ≡ 2 ∷ [] → firsts ≡ 0 ∷ []
+    → IfOk r (λ c. AreSited sizes firsts (books c)) → IfOk r (λ c. length (books c) ≡ 1) × IfOk r (λ c. All IsOfDrill (books c))
+drill_books books (Ok c) sizes firsts sized first s = of_drill sizes firsts (books c) s sized first
+drill_books books (Err e) sizes firsts sized first s = (tt, tt)
 
 -- a discord over such a Site is a drill's
 pub drill_found : {L : Type 0} (e : CloseError L) (sizes firsts : List ℕ) (entries : ℕ) (receipts : List (ℕ × Entry)) → sizes ≡ 2 ∷ [] → firsts ≡ 0 ∷ []
@@ -75,3 +77,21 @@ started-sizes b books is s = ap sizes_of is ∙ ap (λ (n : ℕ). n ∷ []) s.tw
 
 pub started-nexts : (b : Journal) (books : List Journal) → books ≡ b ∷ [] → IsStarted b → nexts_of books ≡ 0 ∷ []
 started-nexts b books is s = ap nexts_of is ∙ ap (λ (n : ℕ). n ∷ []) s.first
+
+-- ---- what was counted
+
+-- Where each has as many receipts as the share says and has forgotten, and none forgot, there are as many receipts in all.
+pub all_receipts : {A : Type 0} (amount receipts forgotten : A → ℕ) (xs : List A) → ((x : A) → amount x ≡ receipts x + forgotten x)
+    → All (λ x. forgotten x ≡ 0) xs → sum_by amount xs ≡ sum_by receipts xs
+all_receipts amount receipts forgotten [] counted none = refl
+all_receipts amount receipts forgotten (x ∷ xs) counted none =
+    let here = counted x in
+    let forgot = All-head (λ y. forgotten y ≡ 0) x xs none in
+    let rest = all_receipts amount receipts forgotten xs counted (All-rest (λ y. forgotten y ≡ 0) x xs (x ∷ xs) refl none) in
+    omega (arith, here, forgot, rest, sum_by-cons amount x xs, sum_by-cons receipts x xs)
+
+-- One Book has all entries that were added.
+pub only_added : (books rest : List Journal) (b : Journal) → books ≡ rest ++ b ∷ [] → length books ≡ 1 → b.added ≡ added_in books
+only_added books [] b is one = sym (ap added_in is ∙ sum_by-cons (λ (x : Journal). x.added) b [] ∙ omega arith)
+only_added books (x ∷ rest) b is one =
+    let long : length books ≡ length (x ∷ (rest ++ b ∷ [])) = ap length is in absurd (omega (arith, long, one, length-append rest (b ∷ [])))

@@ -1,6 +1,7 @@
 mod AnsweredLaws
 mod RequestLaws
 mod WireLaws
+mod BodyLaws
 mod SlotLaws
 mod PassLaws
 mod ClosingLaws

@@ -1,11 +1,12 @@
 -- What a drill hands out, and why there is none.
-use Rattle.std.specs.Prelude.{◌≡◌, ℕ, Bool, true, false, List, [], ◌∷◌}
+use Rattle.std.specs.Prelude.{◌≡◌, ℕ, Bool, true, false, List, [], ◌∷◌, length, if◌then◌else◌}
 use Rattle.jk_model.specs.Journal.{members}
 use Rattle.jk_model.specs.Limits.{modern_rules}
 use Rattle.jk_model.specs.declared.journal.Entry.{Entry}
 use Rattle.balancer_core.specs.Journal.{IsSound, Journal, next_number}
 use Rattle.site_closing.specs.Closings.{Differs, DiscordNote}
 use Rattle.drill.specs.Drills.{IsDrilled}
+use Rattle.drill.specs.Requests.{bodies_of}
 use Rattle.drill.specs.Sites.{IsDrillBook}
 use Rattle.drill.specs.Summaries.{IsJournalText, summary_text}
 use Rattle.drill.specs.declared.drill_error.DrillError.{DrillError}
@@ -42,9 +43,16 @@ pub record IsDrill (seed threads requests : ℕ) (text passes : Bool) (told : Li
 abbrev pub IsFound : DiscordNote → Type 0
 IsFound d = (entries : ℕ) × (receipts : List (ℕ × Entry)) × Differs (2 ∷ []) (0 ∷ []) entries receipts d
 
+-- How many receipts are compared with a journal: one of each entry. Over passes there are none.
+abbrev pub receipts_of : (passes : Bool) → List Entry → ℕ
+receipts_of passes h = if passes then 0 else length h
+
 -- Why a drill has no text: a discord, which the closing alone makes; a Book whose journal lacks what it should have of
--- some thread; or want of memory, which needs no cause.
-abbrev pub IsDrillError : (threads requests : ℕ) → DrillError → Type 0
-IsDrillError threads requests (error.Differs d) = IsFound d
-IsDrillError threads requests (error.Lost book) = IsOfDrill book × (IsDrilled threads requests book.entries → ⊥)
-IsDrillError threads requests error.NoMemory = Unit {0}
+-- some thread, or an entry that it added; bodies that had not the bytes that were asked for; or want of memory, which needs no
+-- cause.
+abbrev pub IsDrillError : (seed threads requests : ℕ) → DrillError → Type 0
+IsDrillError seed threads requests (error.Differs d) = IsFound d
+IsDrillError seed threads requests (error.Lost book) = IsOfDrill book × (IsDrilled threads requests book.entries → ⊥)
+IsDrillError seed threads requests (error.Cut book) = IsOfDrill book × (length book.entries ≡ book.added → ⊥)
+IsDrillError seed threads requests (error.Bodies bytes) = bytes ≡ bodies_of seed requests → ⊥
+IsDrillError seed threads requests error.NoMemory = Unit {0}

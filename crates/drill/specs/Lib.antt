@@ -1,6 +1,7 @@
 pub mod Requests
 pub mod Drills
 pub mod Progress
+pub mod Bodies
 pub mod Summaries
 pub mod Ends
 pub mod Wires

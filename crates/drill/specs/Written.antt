@@ -12,6 +12,8 @@ use Rattle.drill.specs.declared.writing.DrillEnd.TheVariants as end
 abbrev pub status_of_error : DrillError → ℕ
 status_of_error (drill_error.Differs discord) = 1
 status_of_error (drill_error.Lost book) = 7
+status_of_error (drill_error.Cut book) = 7
+status_of_error (drill_error.Bodies bytes) = 7
 status_of_error drill_error.NoMemory = 6
 
 -- the program's status
@@ -36,9 +38,9 @@ pub record TellsDrill (seed threads requests : ℕ) (text passes : Bool) (sent s
   pub written : WritesTold sent sent_now faults faults_now told ended
 
 -- It handed out nothing, for this reason, and nothing was written.
-pub record LacksDrill (threads requests : ℕ) (sent sent_now : Option (List ℕ)) (ended : DrillEnd) : Type 0 where
+pub record LacksDrill (seed threads requests : ℕ) (sent sent_now : Option (List ℕ)) (ended : DrillEnd) : Type 0 where
   pub error : DrillError
-  pub why : IsDrillError threads requests error
+  pub why : IsDrillError seed threads requests error
   pub ends : ended ≡ end.Lacked error
   pub written : sent_now ≡ sent
 
@@ -51,5 +53,5 @@ pub record WantsDrill (sent sent_now : Option (List ℕ)) (ended : DrillEnd) : T
 pub data RunsDrill (seed threads requests : ℕ) (text passes : Bool) (sent sent_now : Option (List ℕ)) (faults faults_now : ℕ) (ended : DrillEnd) : Type 0 where
   Told : TellsDrill seed threads requests text passes sent sent_now faults faults_now ended
       → RunsDrill seed threads requests text passes sent sent_now faults faults_now ended
-  Lacked : LacksDrill threads requests sent sent_now ended → RunsDrill seed threads requests text passes sent sent_now faults faults_now ended
+  Lacked : LacksDrill seed threads requests sent sent_now ended → RunsDrill seed threads requests text passes sent sent_now faults faults_now ended
   Wanted : WantsDrill sent sent_now ended → RunsDrill seed threads requests text passes sent sent_now faults faults_now ended

@@ -14,6 +14,10 @@ pub struct Drilled {
     pub text: Bytes,
     /// The Book whose journal it is.
     pub book: Book,
+    /// The bytes of all replies' bodies, as the sessions of the threads counted them.
+    pub bodies: u64,
+    /// How many receipts of the threads' desks were compared with the journal; over passes there are none.
+    pub receipts: u64,
 }
 
 /// Why a drill hands out nothing.
@@ -23,6 +27,10 @@ pub enum DrillError {
     Differs(Discord<Brand>),
     /// The journal of this Book lacks a request of some thread, or has one that wasn't answered whole.
     Lost(Book),
+    /// This Book doesn't keep every entry that it added, so the receipts can't be compared with its journal.
+    Cut(Book),
+    /// The replies' bodies had this many bytes together, and not those that the requests asked for.
+    Bodies(u64),
     NoMemory,
 }
 
@@ -32,7 +40,7 @@ const DIFFERS: u8 = 1;
 /// The status of want of memory.
 pub(crate) const NO_MEMORY: u8 = 6;
 
-/// The status of a journal that lacks a request.
+/// The status of a journal that lacks a request or an entry, and of bodies that lack bytes.
 const LOST: u8 = 7;
 
 impl DrillError {
@@ -42,7 +50,7 @@ impl DrillError {
     {
         match self {
             DrillError::Differs(_) => DIFFERS,
-            DrillError::Lost(_) => LOST,
+            DrillError::Lost(_) | DrillError::Cut(_) | DrillError::Bodies(_) => LOST,
             DrillError::NoMemory => NO_MEMORY,
         }
     }

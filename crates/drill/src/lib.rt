@@ -14,6 +14,7 @@
 mod answered;
 mod app_link;
 mod app_reach;
+mod body_sum;
 mod drill_error;
 mod pass_slots;
 mod plan;

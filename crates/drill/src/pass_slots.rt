@@ -4,8 +4,10 @@ ghost use Rattle.jk_model.specs.Journal.{members};
 ghost use Rattle.pass_desk.specs.PassDesks.{table_in};
 ghost use Rattle.pass_desk.specs.Passes.{AreNewPasses};
 ghost use Rattle.pass_desk.specs.declared.pass_book.PassBook.{PassBook};
+ghost use Rattle.drill.specs.Bodies.{all_together};
 ghost use Rattle.pass_desk.specs.Placed.{AreBack, AreEachBack, AreFrom, IsBack};
 
+use crate::body_sum::together;
 use crate::plan::{MAX_THREADS, Plan};
 use crate::site::DrillSite;
 use crate::thread::serve_thread;
@@ -15,15 +17,22 @@ use std::alloc::Global;
 use std::sync::Wait;
 use std::thread::{self, Threads};
 
-/// A thread's desk and number, and whether all its requests were made.
+/// A thread's desk and number, and the bytes of its replies' bodies once all its requests were made.
 #[derive(Drop)]
 struct PassSlot<'b, 'r, P: PassPlace, R> {
     desk: PlacedDesk<'b, 'r, P, R>,
     number: u32,
-    made: bool,
+    made: Option<u64>,
     ghost caller: { desk.desk.desk.caller ≡ Some number },
     ghost none_held: { desk.desk.desk.held ≡ [] },
     ghost sized: { desk.desk.desk.sizes ≡ 2 ∷ [] },
+}
+
+/// What the threads leave: their passes, and the bytes of all bodies.
+#[derive(Drop)]
+pub(crate) struct PassesLeft {
+    pub(crate) passes: PassList,
+    pub(crate) bodies: u64,
 }
 
 // A slot with a pass.
@@ -43,7 +52,7 @@ fn slot_of<'b, 'r, P: PassPlace, R>(
     Ok(PassSlot {
         desk: PlacedDesk::new(alloc, rt, books, pass)?,
         number,
-        made: false,
+        made: None,
     })
 }
 
@@ -80,7 +89,7 @@ fn serve_slot<P: PassPlace, R: Wait>(
     ensures { slot.new.number ≡ slot.old.number }
 {
     let served = serve_thread(alloc, site, plan, slot.number, &mut slot.desk);
-    slot.made = served.is_ok();
+    slot.made = served.ok();
 }
 
 // A thread for each slot.
@@ -108,27 +117,28 @@ fn serve_slots<'b, 'r, P: PassPlace + Send + Sync, R: Threads + Wait + Sync>(
     );
 }
 
-// Takes slots apart, and says whether each thread made all its requests.
+// Takes slots apart. Where each thread made all its requests, it hands out the bytes of all bodies.
 fn empty_slots<'b, 'r, P: PassPlace, R>(
     slots: Vec<PassSlot<'b, 'r, P, R>>,
     passes: &mut Vec<Pass>,
-) -> bool
+) -> Option<u64>
     requires none { passes.old.items ≡ [] }
     requires room { vec_len slots ≤ vec_capacity passes.old }
     ensures numbers { map (λ p. p.number) passes.new.items ≡ map (λ s. s.number) slots.entry.items }
     ensures back { AreEachBack P.table P.origin P.given passes.new.items }
+    ensures bodies { result ≡ all_together (map (λ s. s.made) slots.entry.items) }
 {
-    let mut made = true;
+    let mut bodies = Some(0);
     'slots: for slot in slots {
         let PassSlot {
             desk,
             number: _,
-            made: made_here,
+            made,
         } = slot;
-        made = made && made_here;
+        bodies = together(bodies, made);
         passes.push_reserved(desk.into_pass());
     }
-    made
+    bodies
 }
 
 // As `serve_slots`, over the slots of a list.
@@ -153,19 +163,21 @@ fn serve_passes<'b, 'r, P: PassPlace + Send + Sync, R: Threads + Wait + Sync>(
     site: &DrillSite,
     plan: Plan,
     slots: Vec<PassSlot<'b, 'r, P, R>>,
-) -> Result<PassList, NoMemory>
+) -> Result<PassesLeft, NoMemory>
     requires numbers { AreFrom 0 (map (λ s. s.number) slots.items) }
     requires count { vec_len slots ≡ P.given }
     requires few { P.given ≤ MAX_THREADS }
-    ensures { IfOk result (AreBack P.table P.origin P.given) }
+    ensures { IfOk result (λ left. AreBack P.table P.origin P.given left.passes) }
 {
     let mut passes = Vec::with_capacity(alloc, slots.len())?;
     let mut slots = slots;
     serve_each(rt, alloc, site, plan, &mut slots);
-    if empty_slots(slots, &mut passes) {
-        Ok(PassList::from_vec(passes))
-    } else {
-        Err(NoMemory)
+    match empty_slots(slots, &mut passes) {
+        Some(bodies) => Ok(PassesLeft {
+            passes: PassList::from_vec(passes),
+            bodies,
+        }),
+        None => Err(NoMemory),
     }
 }
 
@@ -178,12 +190,12 @@ pub(crate) fn serve_in_turns<'b, P: PassPlace + Send + Sync, R: Threads + Wait +
     plan: Plan,
     books: &'b [PassBook],
     passes: PassList,
-) -> Result<PassList, NoMemory>
+) -> Result<PassesLeft, NoMemory>
     requires book { (b : PassBook) × (books.now ≡ b ∷ []) × (table_in b ≡ P.table) }
     requires passes { AreNewPasses P.origin P.table P.given passes }
     requires few { P.given ≤ MAX_THREADS }
     requires two { members P.origin.opening ≡ 2 }
-    ensures { IfOk result (AreBack P.table P.origin P.given) }
+    ensures { IfOk result (λ left. AreBack P.table P.origin P.given left.passes) }
 {
     let slots = slots_for::<P, R>(alloc, rt, books, passes)?;
     serve_passes(rt, alloc, site, plan, slots)

@@ -1,35 +1,54 @@
 //! `run_drill`: the Site, its threads, the closing, and what is printed.
-ghost use Rattle.std.specs.Prelude.{◌≡◌, ◌<◌, ◌≤◌, [], ◌∷◌, false, true, codes, length, sum_by, IfOk, IfErr, IfSome, IfNone};
-ghost use Rattle.std.specs.List.{All};
+ghost use Rattle.std.specs.Prelude.{◌≡◌, ℕ, ◌<◌, ◌≤◌, [], ◌∷◌, false, true, codes, length, sum_by, IfOk, IfErr, IfSome, IfNone};
+ghost use Rattle.std.specs.List.{All, flat_map};
+ghost use Rattle.std.specs.List.Sorted.{IsPermutation};
 ghost use Rattle.balancer_core.specs.Journal.{Journal};
 ghost use Rattle.balancer_core.specs.ToldBooks.{sizes_of};
 ghost use Rattle.locked_balancer.specs.Histories.{starts_of};
-ghost use Rattle.locked_balancer.specs.Sites.{AreSited, nexts_of};
+ghost use Rattle.locked_balancer.specs.Sites.{AreSited, added_in, nexts_of};
 ghost use Rattle.site_closing.specs.CloseErrors.{IsCloseError};
 ghost use Rattle.drill.specs.Drills.{IsDrilled};
-ghost use Rattle.drill.specs.Ends.{IsDrillError, IsFound, IsOfDrill, IsStarted};
+ghost use Rattle.site_closing.specs.Closings.{AreUncut, kept_from, noted};
+ghost use Rattle.drill.specs.Ends.{IsDrillError, IsFound, IsOfDrill, IsStarted, receipts_of};
+ghost use Rattle.drill.specs.Requests.{bodies_of};
 ghost use Rattle.journal_text.specs.SegmentText.{segment_text};
 ghost use Rattle.drill.specs.Summaries.{IsJournalText, summary_text};
 
 use crate::answered::are_answered;
 use crate::drill_error::{DrillError, Drilled};
-use crate::pass_slots::serve_in_turns;
+use crate::pass_slots::{PassesLeft, serve_in_turns};
 use crate::plan::{MAX_REQUESTS, MAX_THREADS, Plan};
 use crate::site::{BALANCER, DrillSite, book_config, drill_site};
-use crate::slots::serve_all;
-use crate::summary::summary;
+use crate::slots::{ThreadsLeft, serve_all};
+use crate::summary::{bodies_of, summary};
 use balancer_core::{Book, BookList, Segment};
 use jk_io::{Bytes, NoMemory};
 use journal_text::write_segment;
 use locked_balancer::{MemShelf, SharedSite, Site, SiteName};
 use pass_desk::{PassBook, close_passes};
-use site_closing::{CloseError, Closed, LeavingList, close_desks};
+use site_closing::{CloseError, Closed, close_desks};
 use std::alloc::Global;
 use std::marker::Brand;
 use std::slice::from_ref;
 use std::sync::Wait;
 use std::sync::ledger::{Blank, Share};
 use std::thread::Threads;
+
+/// A drill's Book, the bytes of all replies' bodies, and how many receipts were compared with the Book's journal.
+#[derive(Drop)]
+struct Measured {
+    book: Book,
+    bodies: u64,
+    receipts: u64,
+}
+
+/// As `Measured`, of all Books of a Site.
+#[derive(Drop)]
+struct Compared {
+    books: BookList,
+    bodies: u64,
+    receipts: u64,
+}
 
 // The Book of a drill, as it starts.
 fn start_book(alloc: Global) -> Result<Book, NoMemory>
@@ -46,7 +65,7 @@ fn one_book(alloc: Global, book: Book) -> Result<BookList, NoMemory>
     Ok(books)
 }
 
-// A drill over the Site that a name stands for. It gives the Books back.
+// A drill over the Site that a name stands for. It gives the Books back, and what was measured.
 fn drill_in<L: SiteName + Send + Sync, R: Threads + Wait + Sync>(
     rt: &R,
     alloc: Global,
@@ -54,7 +73,7 @@ fn drill_in<L: SiteName + Send + Sync, R: Threads + Wait + Sync>(
     site: &DrillSite,
     plan: Plan,
     books: BookList,
-) -> Result<BookList, CloseError<L>>
+) -> Result<Compared, CloseError<L>>
     requires name { (blank.name ≡ L.name) × (blank.parts ≡ L.parts) }
     requires parts { L.parts ≡ plan.threads }
     requires books { (book : Journal) × (books ≡ book ∷ []) × IsStarted book }
@@ -62,8 +81,9 @@ fn drill_in<L: SiteName + Send + Sync, R: Threads + Wait + Sync>(
     requires firsts { nexts_of books ≡ L.firsts }
     requires starts { starts_of books ≡ L.starts }
     requires uncut { 0 ≡ L.cut_at }
-    ensures one { IfOk result (λ books. length books ≡ 1) }
-    ensures books { IfOk result (λ books. All IsOfDrill books) }
+    ensures one { IfOk result (λ c. length c.books ≡ 1) }
+    ensures books { IfOk result (λ c. All IsOfDrill c.books) }
+    ensures receipts { IfOk result (λ c. c.receipts ≡ added_in c.books) }
     ensures cause { IfErr result (IsCloseError IsFound) }
 {
     let (opened, share) = Site::<L>::open(blank, books);
@@ -79,32 +99,43 @@ fn drill_over<'r, L: SiteName + Send + Sync, R: Threads + Wait + Sync>(
     plan: Plan,
     shared: SharedSite<'r, L, R>,
     share: Share<L>,
-) -> Result<BookList, CloseError<L>>
+) -> Result<Compared, CloseError<L>>
     requires parts { (share.parts ≡ plan.threads) × (L.parts ≡ plan.threads) }
     requires amount { share.amount ≡ 0 }
     requires sizes { L.sizes ≡ 2 ∷ [] }
     requires firsts { L.firsts ≡ 0 ∷ [] }
-    ensures sited { IfOk result (AreSited L.sizes L.firsts) }
+    ensures sited { IfOk result (λ c. AreSited L.sizes L.firsts c.books) }
+    ensures receipts { IfOk result (λ c. c.receipts ≡ added_in c.books) }
     ensures cause { IfErr result (IsCloseError IsFound) }
 {
-    let leaving = serve_all(rt, alloc, site, plan, &shared, share)?;
-    close_books(shared, leaving)
+    let left = serve_all(rt, alloc, site, plan, &shared, share)?;
+    close_books(shared, left)
 }
 
-// Closes the desks, and gives the Books back.
+// Closes the desks, and gives the Books back. Where they weren't cut, their entries are the receipts of the desks, each once.
 fn close_books<'r, L: SiteName, R: Wait>(
     shared: SharedSite<'r, L, R>,
-    leaving: LeavingList<L, MemShelf>,
-) -> Result<BookList, CloseError<L>>
-    requires some { 0 < length leaving }
-    requires whole { sum_by (λ l. l.share.parts) leaving ≡ L.parts }
+    left: ThreadsLeft<L>,
+) -> Result<Compared, CloseError<L>>
+    requires some { 0 < length left.leaving }
+    requires whole { sum_by (λ l. l.share.parts) left.leaving ≡ L.parts }
+    requires none_forgot { All (λ l. l.forgotten ≡ 0) left.leaving }
     requires sizes { L.sizes ≡ 2 ∷ [] }
     requires firsts { L.firsts ≡ 0 ∷ [] }
-    ensures sited { IfOk result (AreSited L.sizes L.firsts) }
+    ensures sited { IfOk result (λ c. AreSited L.sizes L.firsts c.books) }
+    ensures once { IfOk result (λ c. AreUncut c.books
+        → IsPermutation (noted (flat_map (λ l. l.receipts) left.leaving)) (kept_from 0 c.books)) }
+    ensures counted { IfOk result (λ c. c.receipts ≡ sum_by (λ l. length l.receipts) left.leaving) }
+    ensures receipts { IfOk result (λ c. c.receipts ≡ added_in c.books) }
     ensures cause { IfErr result (IsCloseError IsFound) }
 {
-    let Closed { books, .. } = close_desks(shared, leaving)?;
-    Ok(books)
+    let ThreadsLeft { leaving, bodies } = left;
+    let Closed { books, entries, .. } = close_desks(shared, leaving)?;
+    Ok(Compared {
+        books,
+        bodies,
+        receipts: entries,
+    })
 }
 
 /// What is wanted of a drill: the journal's text or the summary, and that of a drill over passes or over a lock.
@@ -155,45 +186,93 @@ fn text_of(
     text_in(alloc, plan, wanted, &segment)
 }
 
-// What a drill hands out of the Book that it closed.
-fn tell(alloc: Global, plan: Plan, wanted: Wanted, book: Book) -> Result<Drilled, DrillError>
-    requires { IsOfDrill book }
+// What a drill hands out of the Book that it closed, where all bytes of the bodies were there.
+fn tell(
+    alloc: Global,
+    plan: Plan,
+    wanted: Wanted,
+    measured: Measured,
+) -> Result<Drilled, DrillError>
+    requires book { IsOfDrill measured.book }
+    requires receipts { measured.receipts ≡ receipts_of wanted.passes measured.book.entries }
     ensures summary { wanted.text ≡ false
         → IfOk result (λ d. d.text ≡ summary_text plan.seed plan.threads plan.requests wanted.passes d.book.entries) }
     ensures journal { wanted.text ≡ true → IfOk result (λ d. IsJournalText d.book d.text) }
     ensures drilled { IfOk result (λ d. IsDrilled plan.threads plan.requests d.book.entries) }
     ensures book { IfOk result (λ d. IsOfDrill d.book) }
-    ensures cause { IfErr result (IsDrillError plan.threads plan.requests) }
+    ensures bodies { IfOk result (λ d. d.bodies ≡ bodies_of plan.seed plan.requests) }
+    ensures receipts { IfOk result (λ d. d.receipts ≡ receipts_of wanted.passes d.book.entries) }
+    ensures cause { IfErr result (IsDrillError plan.seed plan.threads plan.requests) }
 {
-    match text_of(alloc, plan, wanted, &book)? {
-        Some(text) => Ok(Drilled { text, book }),
-        None => Err(DrillError::Lost(book)),
+    let Measured {
+        book,
+        bodies,
+        receipts,
+    } = measured;
+    let Some(text) = text_of(alloc, plan, wanted, &book)? else {
+        return Err(DrillError::Lost(book));
+    };
+    if bodies != bodies_of(plan) {
+        return Err(DrillError::Bodies(bodies));
     }
+    Ok(Drilled {
+        text,
+        book,
+        bodies,
+        receipts,
+    })
 }
 
-// Makes the requests over a Site of its own, and gives back its Book.
+// Makes the requests over a Site of its own, and gives back its Book. The receipts are those of each entry that it keeps.
 fn drilled_book<R: Threads + Wait + Sync>(
     rt: &R,
     alloc: Global,
     site: &DrillSite,
     plan: Plan,
-) -> Result<Book, DrillError>
-    ensures book { IfOk result IsOfDrill }
-    ensures cause { IfErr result (IsDrillError plan.threads plan.requests) }
+) -> Result<Measured, DrillError>
+    ensures book { IfOk result (λ m. IsOfDrill m.book) }
+    ensures receipts { IfOk result (λ m. m.receipts ≡ length m.book.entries) }
+    ensures cause { IfErr result (IsDrillError plan.seed plan.threads plan.requests) }
 {
     let books = one_book(alloc, start_book(alloc)?)?;
     let blank = Blank::new(u64::from(plan.threads));
     match drill_in::<Brand, R>(rt, alloc, blank, site, plan, books) {
-        Ok(books) => Ok(only_book(books)),
+        Ok(compared) => whole(compared),
         Err(CloseError::Differs(discord)) => Err(DrillError::Differs(discord)),
         Err(CloseError::NoMemory) => Err(DrillError::NoMemory),
     }
 }
 
+// The Book of a closed Site, where it keeps an entry for each receipt.
+fn whole(compared: Compared) -> Result<Measured, DrillError>
+    requires one { length compared.books ≡ 1 }
+    requires all { All IsOfDrill compared.books }
+    requires receipts { compared.receipts ≡ added_in compared.books }
+    ensures book { IfOk result (λ m. IsOfDrill m.book) }
+    ensures receipts { IfOk result (λ m. m.receipts ≡ length m.book.entries) }
+    ensures cause { (seed threads requests : ℕ) → IfErr result (IsDrillError seed threads requests) }
+{
+    let Compared {
+        books,
+        bodies,
+        receipts,
+    } = compared;
+    let book = only_book(books);
+    if book.kept() != receipts {
+        return Err(DrillError::Cut(book));
+    }
+    Ok(Measured {
+        book,
+        bodies,
+        receipts,
+    })
+}
+
 fn only_book(books: BookList) -> Book
     requires one { length books ≡ 1 }
     requires all { All IsOfDrill books }
-    ensures { IsOfDrill result }
+    ensures book { IsOfDrill result }
+    ensures added { result.added ≡ added_in books }
 {
     let mut books = books;
     match books.pop() {
@@ -208,14 +287,20 @@ fn passed_book<R: Threads + Wait + Sync>(
     alloc: Global,
     site: &DrillSite,
     plan: Plan,
-) -> Result<Book, NoMemory>
-    ensures { IfOk result IsOfDrill }
+) -> Result<Measured, NoMemory>
+    ensures book { IfOk result (λ m. IsOfDrill m.book) }
+    ensures receipts { IfOk result (λ m. m.receipts ≡ 0) }
 {
     let start = start_book(alloc)?;
     let (book, passes) = PassBook::new(alloc, start, plan.threads)?;
-    let back = serve_in_turns::<Brand, R>(rt, alloc, site, plan, from_ref(&book), passes)?;
-    match close_passes(book, back) {
-        Ok(book) => Ok(book),
+    let left = serve_in_turns::<Brand, R>(rt, alloc, site, plan, from_ref(&book), passes)?;
+    let PassesLeft { passes, bodies } = left;
+    match close_passes(book, passes) {
+        Ok(book) => Ok(Measured {
+            book,
+            bodies,
+            receipts: 0,
+        }),
         Err(_) => Err(NoMemory),
     }
 }
@@ -226,9 +311,10 @@ fn book_of<R: Threads + Wait + Sync>(
     alloc: Global,
     plan: Plan,
     passes: bool,
-) -> Result<Book, DrillError>
-    ensures book { IfOk result IsOfDrill }
-    ensures cause { IfErr result (IsDrillError plan.threads plan.requests) }
+) -> Result<Measured, DrillError>
+    ensures book { IfOk result (λ m. IsOfDrill m.book) }
+    ensures receipts { IfOk result (λ m. m.receipts ≡ receipts_of passes m.book.entries) }
+    ensures cause { IfErr result (IsDrillError plan.seed plan.threads plan.requests) }
 {
     let site = drill_site(alloc)?;
     if passes {
@@ -261,14 +347,18 @@ pub fn run_drill<R: Threads + Wait + Sync>(
     ensures drilled { IfOk result (λ d. IsDrilled threads requests d.book.entries) }
     ensures book { IfOk result (λ d. IsOfDrill d.book) }
 
+    // The replies' bodies had the bytes that the requests asked for, and each entry of the journal has its receipt.
+    ensures bodies { IfOk result (λ d. d.bodies ≡ bodies_of seed requests) }
+    ensures receipts { IfOk result (λ d. d.receipts ≡ receipts_of passes d.book.entries) }
+
     // Differs only with a discord of the closing, Lost only with a Book in whose journal they aren't.
-    ensures cause { IfErr result (IsDrillError threads requests) }
+    ensures cause { IfErr result (IsDrillError seed threads requests) }
 {
     let plan = Plan {
         seed,
         threads,
         requests,
     };
-    let book = book_of(rt, alloc, plan, passes)?;
-    tell(alloc, plan, Wanted { text, passes }, book)
+    let measured = book_of(rt, alloc, plan, passes)?;
+    tell(alloc, plan, Wanted { text, passes }, measured)
 }

@@ -1,8 +1,10 @@
 //! A desk for each thread of a drill, and the threads.
-ghost use Rattle.std.specs.Prelude.{◌≡◌, ◌+◌, ◌<◌, ◌≤◌, ℕ, [], ◌∷◌, length, sum_by, vec_capacity, vec_len, IfOk, OnOk, slice_index_or, true};
+ghost use Rattle.std.specs.Prelude.{◌≡◌, ◌+◌, ◌<◌, ◌≤◌, ℕ, [], ◌∷◌, length, map, sum_by, vec_capacity, vec_len, IfOk, OnOk, slice_index_or, Some, true};
 ghost use Rattle.std.specs.List.{All};
+ghost use Rattle.drill.specs.Bodies.{all_together};
 ghost use Rattle.drill.specs.Threads.{IsWhole};
 
+use crate::body_sum::together;
 use crate::plan::{MAX_THREADS, Plan};
 use crate::site::DrillSite;
 use crate::thread::serve_thread;
@@ -14,11 +16,18 @@ use std::sync::Wait;
 use std::sync::ledger::Share;
 use std::thread::{self, Threads};
 
-/// A thread's desk, and whether all its requests were made.
+/// A thread's desk, and the bytes of its replies' bodies once all its requests were made.
 #[derive(Drop)]
 struct Slot<'s, 'r, L: SiteName, R> {
     desk: SharedDesk<'s, 'r, L, MemShelf, R>,
-    made: bool,
+    made: Option<u64>,
+}
+
+/// What the threads leave: their desks' receipts, and the bytes of all bodies.
+#[derive(Drop)]
+pub(crate) struct ThreadsLeft<L: SiteName> {
+    pub(crate) leaving: LeavingList<L, MemShelf>,
+    pub(crate) bodies: u64,
 }
 
 // A slot with a part of the ledger.
@@ -35,7 +44,7 @@ fn slot_of<'s, 'r, L: SiteName, R>(
     let shelf = MemShelf::new(KeptList::new(alloc), NumberList::new(alloc));
     Slot {
         desk: SharedDesk::new(alloc, shared, share, shelf),
-        made: false,
+        made: None,
     }
 }
 
@@ -111,7 +120,7 @@ fn serve_slot<L: SiteName, R: Wait>(
     ensures whole { IsWhole (2 ∷ []) slot.new.desk.desk }
 {
     let served = serve_thread(alloc, site, plan, number as u32, &mut slot.desk);
-    slot.made = served.is_ok();
+    slot.made = served.ok();
 }
 
 // A thread for each slot.
@@ -142,47 +151,48 @@ fn serve_slots<'s, 'r, L: SiteName + Send + Sync, R: Threads + Wait + Sync>(
     );
 }
 
-// Takes slots apart, and says whether each thread made all its requests.
+// Takes slots apart. Where each thread made all its requests, it hands out the bytes of all bodies.
 fn empty_slots<'s, 'r, L: SiteName, R>(
     slots: Vec<Slot<'s, 'r, L, R>>,
     leaving: &mut Vec<Leaving<L, MemShelf>>,
-) -> bool
+) -> Option<u64>
     requires whole { All (λ s. IsWhole (2 ∷ []) s.desk.desk) slots.items }
     requires none { leaving.old.items ≡ [] }
     requires room { vec_len slots ≤ vec_capacity leaving.old }
     ensures parts { sum_by (λ l. l.share.parts) leaving.new.items ≡ vec_len slots.entry }
     ensures count { length leaving.new.items ≡ vec_len slots.entry }
     ensures none_forgot { All (λ l. l.forgotten ≡ 0) leaving.new.items }
+    ensures bodies { result ≡ all_together (map (λ s. s.made) slots.entry.items) }
 {
-    let mut made = true;
+    let mut bodies = Some(0);
     'slots: for slot in slots {
-        let Slot {
-            desk,
-            made: made_here,
-        } = slot;
-        made = made && made_here;
+        let Slot { desk, made } = slot;
+        bodies = together(bodies, made);
         leaving.push_reserved(desk.leave());
     }
-    made
+    bodies
 }
 
 // What the desks leave, in this memory; none where a thread didn't make all its requests.
 fn left_in<'s, 'r, L: SiteName, R>(
     slots: Vec<Slot<'s, 'r, L, R>>,
     leaving: Vec<Leaving<L, MemShelf>>,
-) -> Result<LeavingList<L, MemShelf>, NoMemory>
+) -> Result<ThreadsLeft<L>, NoMemory>
     requires whole { All (λ s. IsWhole (2 ∷ []) s.desk.desk) slots.items }
     requires none { leaving.items ≡ [] }
     requires room { vec_len slots ≤ vec_capacity leaving }
-    ensures parts { IfOk result (λ left. sum_by (λ l. l.share.parts) left ≡ vec_len slots.entry) }
-    ensures count { IfOk result (λ left. length left ≡ vec_len slots.entry) }
-    ensures none_forgot { IfOk result (λ left. All (λ l. l.forgotten ≡ 0) left) }
+    ensures parts { IfOk result (λ left. sum_by (λ l. l.share.parts) left.leaving ≡ vec_len slots.entry) }
+    ensures count { IfOk result (λ left. length left.leaving ≡ vec_len slots.entry) }
+    ensures none_forgot { IfOk result (λ left. All (λ l. l.forgotten ≡ 0) left.leaving) }
+    ensures bodies { IfOk result (λ left. all_together (map (λ s. s.made) slots.entry.items) ≡ Some left.bodies) }
 {
     let mut leaving = leaving;
-    if empty_slots(slots, &mut leaving) {
-        Ok(LeavingList::from_vec(leaving))
-    } else {
-        Err(NoMemory)
+    match empty_slots(slots, &mut leaving) {
+        Some(bodies) => Ok(ThreadsLeft {
+            leaving: LeavingList::from_vec(leaving),
+            bodies,
+        }),
+        None => Err(NoMemory),
     }
 }
 
@@ -209,12 +219,12 @@ fn serve_and_leave<'s, 'r, L: SiteName + Send + Sync, R: Threads + Wait + Sync>(
     site: &DrillSite,
     plan: Plan,
     slots: Vec<Slot<'s, 'r, L, R>>,
-) -> Result<LeavingList<L, MemShelf>, NoMemory>
+) -> Result<ThreadsLeft<L>, NoMemory>
     requires count { vec_len slots ≡ plan.threads }
     requires whole { All (λ s. IsWhole (2 ∷ []) s.desk.desk) slots.items }
-    ensures parts { IfOk result (λ left. sum_by (λ l. l.share.parts) left ≡ plan.threads) }
-    ensures some { IfOk result (λ left. 0 < length left) }
-    ensures none_forgot { IfOk result (λ left. All (λ l. l.forgotten ≡ 0) left) }
+    ensures parts { IfOk result (λ left. sum_by (λ l. l.share.parts) left.leaving ≡ plan.threads) }
+    ensures some { IfOk result (λ left. 0 < length left.leaving) }
+    ensures none_forgot { IfOk result (λ left. All (λ l. l.forgotten ≡ 0) left.leaving) }
 {
     let leaving = Vec::with_capacity(alloc, slots.len())?;
     let mut slots = slots;
@@ -230,13 +240,13 @@ pub(crate) fn serve_all<'s, 'r, L: SiteName + Send + Sync, R: Threads + Wait + S
     plan: Plan,
     shared: &'s SharedSite<'r, L, R>,
     share: Share<L>,
-) -> Result<LeavingList<L, MemShelf>, NoMemory>
+) -> Result<ThreadsLeft<L>, NoMemory>
     requires parts { share.parts ≡ plan.threads }
     requires amount { share.amount ≡ 0 }
     requires sizes { L.sizes ≡ 2 ∷ [] }
-    ensures parts { IfOk result (λ left. sum_by (λ l. l.share.parts) left ≡ plan.threads) }
-    ensures some { IfOk result (λ left. 0 < length left) }
-    ensures none_forgot { IfOk result (λ left. All (λ l. l.forgotten ≡ 0) left) }
+    ensures parts { IfOk result (λ left. sum_by (λ l. l.share.parts) left.leaving ≡ plan.threads) }
+    ensures some { IfOk result (λ left. 0 < length left.leaving) }
+    ensures none_forgot { IfOk result (λ left. All (λ l. l.forgotten ≡ 0) left.leaving) }
 {
     let slots = slots_for(alloc, shared, share, plan.threads)?;
     serve_and_leave(rt, alloc, site, plan, slots)

@@ -31,7 +31,7 @@ fn choices_of(member: u32, entries: &[Entry]) -> usize
 }
 
 /// The sizes of all requests together.
-fn bodies_of(plan: Plan) -> u64
+pub(crate) fn bodies_of(plan: Plan) -> u64
     ensures { result ≡ bodies_of plan.seed plan.requests }
 {
     let mut sum = 0;

@@ -2,14 +2,20 @@
 ghost use Rattle.std.specs.Prelude.{◌≡◌, false, IfSome};
 ghost use Rattle.exchange.specs.Requests.{sizes_of};
 ghost use Rattle.status_worker.specs.Desks.{KeepsTickets};
+ghost use Rattle.client_session.specs.Ready.{IsReady};
+ghost use Rattle.client_session.specs.Requests.{visit_of};
+ghost use Rattle.client_session.specs.Whole.{IsWholeSession, KeepsLent};
+ghost use Rattle.client_session.specs.declared.ending.SessionEnd.{SessionEnd};
+ghost use Rattle.drill.specs.Bodies.{with_bodies};
 
 use crate::app_reach::AppReach;
+use crate::body_sum::BodySum;
 use crate::plan::Plan;
 use crate::requests::Requests;
 use crate::site::DrillSite;
 use balancer_core::Desk;
-use client_session::{SessionSite, SessionStop, Surroundings, serve_session};
-use jk_io::{Bytes, MemLink, NoMemory, NumberList, Peer, Reach, StepClock};
+use client_session::{SessionSite, SessionStop, Surroundings, serve_session_with};
+use jk_io::{Bytes, Clock, Link, MemLink, NoMemory, NumberList, Peer, Reach, StepClock};
 use std::alloc::Global;
 
 /// What a thread's sessions have in common: the site, the thread's number, which is theirs too, and their client.
@@ -20,6 +26,27 @@ struct Post<'a> {
     peer: &'a Peer,
 }
 
+// One session, whose replies' bodies come to the count.
+fn serve_counted<B: Desk, R: Reach, C: Link, K: Clock>(
+    alloc: Global,
+    site: &SessionSite<'_>,
+    around: &mut Surroundings<B, K, R, C>,
+    bodies: &mut BodySum,
+) -> Result<(), NoMemory>
+where
+    B::Mark: Drop,
+    B::Shown: Drop,
+    requires ready { IsReady (visit_of site.now) (B.state around.old.desk.now) (R.beside around.old.reach.now) }
+    ensures session { (end : SessionEnd) × IsWholeSession B.state K.answers R.Meanings C.Meanings (visit_of site.now)
+        around.old around.new (λ rows. bodies.new.bytes ≡ with_bodies bodies.old.bytes rows) end }
+    ensures kept { KeepsLent B.state R.Meanings C.Meanings (visit_of site.now) around.old around.new }
+{
+    match serve_session_with(alloc, site, around, bodies).stop {
+        SessionStop::NoMemory => Err(NoMemory),
+        _ => Ok(()),
+    }
+}
+
 // One session, of a client with all its requests to come. The clock stands at 0.
 fn serve_client<B: Desk, R: Reach>(
     alloc: Global,
@@ -27,6 +54,7 @@ fn serve_client<B: Desk, R: Reach>(
     desk: &mut B,
     reach: &mut R,
     client: &mut MemLink,
+    bodies: &mut BodySum,
 ) -> Result<(), NoMemory>
 where
     B::Mark: Drop,
@@ -53,10 +81,7 @@ where
         reach,
         client,
     };
-    match serve_session(alloc, &site, &mut around).stop {
-        SessionStop::NoMemory => Err(NoMemory),
-        _ => Ok(()),
-    }
+    serve_counted(alloc, &site, &mut around, bodies)
 }
 
 // One session of these requests.
@@ -66,6 +91,7 @@ fn serve_text<B: Desk, R: Reach>(
     desk: &mut B,
     reach: &mut R,
     text: Bytes,
+    bodies: &mut BodySum,
 ) -> Result<(), NoMemory>
 where
     B::Mark: Drop,
@@ -79,7 +105,7 @@ where
     ensures reach_sizes { (R.beside reach.new).sizes ≡ (R.beside reach.old).sizes }
 {
     let mut client = MemLink::new(alloc, text, NumberList::new(alloc));
-    serve_client(alloc, post, desk, reach, &mut client)
+    serve_client(alloc, post, desk, reach, &mut client, bodies)
 }
 
 // All sessions of a thread, one after the other.
@@ -89,6 +115,7 @@ fn serve_requests<B: Desk, R: Reach>(
     desk: &mut B,
     reach: &mut R,
     requests: &mut Requests,
+    bodies: &mut BodySum,
 ) -> Result<(), NoMemory>
 where
     B::Mark: Drop,
@@ -104,19 +131,19 @@ where
         if !requests.put_session(&mut text)? {
             return Ok(());
         }
-        serve_text(alloc, post, desk, reach, text)?;
+        serve_text(alloc, post, desk, reach, text, bodies)?;
     }
 }
 
-/// Makes the requests of a thread: sessions of its own number, each of at most 1,000 requests. After want of memory the
-/// rest of them isn't made.
+/// Makes the requests of a thread: sessions of its own number, each of at most 1,000 requests. It hands out how many bytes the
+/// bodies of their replies had. After want of memory the rest of them isn't made.
 pub(crate) fn serve_thread<B: Desk>(
     alloc: Global,
     site: &DrillSite,
     plan: Plan,
     number: u32,
     desk: &mut B,
-) -> Result<(), NoMemory>
+) -> Result<u64, NoMemory>
 where
     B::Mark: Drop,
     B::Shown: Drop,
@@ -134,5 +161,7 @@ where
     };
     let mut reach = AppReach::new(alloc, &site.cfg, &site.app);
     let mut requests = Requests::new(plan, number);
-    serve_requests(alloc, post, desk, &mut reach, &mut requests)
+    let mut bodies = BodySum::new();
+    serve_requests(alloc, post, desk, &mut reach, &mut requests, &mut bodies)?;
+    Ok(bodies.bytes())
 }

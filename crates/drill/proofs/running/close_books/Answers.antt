@@ -1,4 +1,18 @@
+-- No desk forgot, so there are as many receipts as the shares say.
+use Rattle.std.proofs.Common.{length, ◌∙◌}
+use Rattle.locked_balancer.specs.declared.mem_shelf.MemShelf.{MemShelf}
+use Rattle.locked_balancer.specs.declared.shared_desk.Leaving.{Leaving}
+use Rattle.drill.proofs.ClosingLaws.{all_receipts}
 use Rattle.drill.proofs.running.close_books.Goals as goal
 
 pub returns-clause-sited : goal.returns-clause-sited
 returns-clause-sited g c = c.in_ok-books.ensures.sited
+
+pub returns-clause-once : goal.returns-clause-once
+returns-clause-once g c = c.in_ok-books.ensures.once c.requires.none_forgot
+
+pub returns-clause-counted : goal.returns-clause-counted
+returns-clause-counted g c =
+    c.in_ok-books.ensures.counted
+    ∙ all_receipts {A = Leaving g.row.L.Denot MemShelf g.L.SiteName} (λ l. l.share.amount) (λ l. length l.receipts) (λ l. l.forgotten) _
+    (λ l. l.counted) c.requires.none_forgot

@@ -7,14 +7,14 @@ returns-clause-one g c =
     let started = c.requires.books in
     let sized = sym c.requires.sizes ∙ started-sizes started.0 c.args.books started.1 started.2 in
     let first = sym c.requires.firsts ∙ started-nexts started.0 c.args.books started.1 started.2 in
-    (drill_books c.drill_over.result _ _ sized first c.drill_over.ensures.sited).0
+    (drill_books (λ x. x.books) c.drill_over.result _ _ sized first c.drill_over.ensures.sited).0
 
 pub returns-clause-books : goal.returns-clause-books
 returns-clause-books g c =
     let started = c.requires.books in
     let sized = sym c.requires.sizes ∙ started-sizes started.0 c.args.books started.1 started.2 in
     let first = sym c.requires.firsts ∙ started-nexts started.0 c.args.books started.1 started.2 in
-    (drill_books c.drill_over.result _ _ sized first c.drill_over.ensures.sited).1
+    (drill_books (λ x. x.books) c.drill_over.result _ _ sized first c.drill_over.ensures.sited).1
 
 pub returns-clause-cause : goal.returns-clause-cause
 returns-clause-cause g c = c.drill_over.ensures.cause

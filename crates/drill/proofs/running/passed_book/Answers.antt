@@ -22,9 +22,9 @@ pub close_passes-requires : goal.close_passes-requires
 close_passes-requires g c = record {
   all =
       closed_there _ _ _ (new_table _ _ _ _ c.args.plan.some_threads c.in_ok-book.ensures)
-      (all_back _ _ _ _ c.args.plan.some_threads c.in_ok-back.ensures);
+      (all_back _ _ _ _ c.args.plan.some_threads c.in_ok-left.ensures);
 }
 
-pub returns-in-Ok : goal.returns-in-Ok
-returns-in-Ok g c =
-    closed_drill _ _ _ _ _ _ c.in_ok-start.ensures.start (new_origin _ _ _ _ c.args.plan.some_threads c.in_ok-book.ensures) c.in_ok-back.ensures c.in-Ok.ensures
+pub returns-in-Ok-clause-book : goal.returns-in-Ok-clause-book
+returns-in-Ok-clause-book g c =
+    closed_drill _ _ _ _ _ _ c.in_ok-start.ensures.start (new_origin _ _ _ _ c.args.plan.some_threads c.in_ok-book.ensures) c.in_ok-left.ensures c.in-Ok.ensures

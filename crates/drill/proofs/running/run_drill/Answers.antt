@@ -14,3 +14,9 @@ returns-clause-book g c = c.tell.ensures.book
 
 pub returns-clause-cause : goal.returns-clause-cause
 returns-clause-cause g c = c.tell.ensures.cause
+
+pub returns-clause-bodies : goal.returns-clause-bodies
+returns-clause-bodies g c = c.tell.ensures.bodies
+
+pub returns-clause-receipts : goal.returns-clause-receipts
+returns-clause-receipts g c = c.tell.ensures.receipts

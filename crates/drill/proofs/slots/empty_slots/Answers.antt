@@ -6,6 +6,7 @@ use Rattle.locked_balancer.specs.declared.mem_shelf.MemShelf.{MemShelf}
 use Rattle.locked_balancer.specs.declared.shared_desk.Leaving.{Leaving}
 use Rattle.drill.specs.Threads.{IsWhole}
 use Rattle.drill.specs.declared.slots.Slot.{Slot}
+use Rattle.drill.proofs.BodyLaws.{none_together, one_together}
 use Rattle.drill.proofs.SlotLaws.{none-forgotten, one-left}
 use Rattle.drill.proofs.slots.empty_slots.Goals as goal
 
@@ -32,5 +33,11 @@ slots-preserved g c =
       count = omega (arith, more, length-append c.slots.leaving.items (c.leave.result ∷ []), rest, inv.count);
       none_forgot =
           All-same (λ x. x.forgotten ≡ 0) _ _ pushed (All-push (λ x. x.forgotten ≡ 0) c.slots.leaving.items c.leave.result inv.none_forgot forgot);
+      bodies = one_together _ _ _ _ _ _ _ inv.bodies first c.together-bodies.ensures;
       room = omega (arith, rest, inv.room, c.push_reserved.ensures.len, c.push_reserved.ensures.capacity);
     }
+
+pub returns-clause-bodies : goal.returns-clause-bodies
+returns-clause-bodies g c =
+    let none : length c.slots.slot-iterator.rest.items ≡ 0 = omega (arith, c.in-None.ensures.steps.0, c.slots.slot-iterator.rest.ok.0) in
+    none_together _ _ _ _ c.slots.invariant.bodies none

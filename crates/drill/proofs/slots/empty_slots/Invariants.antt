@@ -1,7 +1,8 @@
 -- What the desks so far left, and room for what the others leave.
-use Rattle.std.proofs.Common.{◌≡◌, ◌+◌, ◌≤◌, [], ◌∷◌, length}
+use Rattle.std.proofs.Common.{◌≡◌, ◌+◌, ◌≤◌, [], ◌∷◌, fold, length, map}
 use Rattle.std.specs.Prelude.{sum_by, vec_capacity, vec_len}
 use Rattle.std.specs.List.{All}
+use Rattle.drill.specs.Bodies.{all_together, together}
 use Rattle.drill.specs.Threads.{IsWhole}
 use Rattle.drill.proofs.slots.empty_slots.Given as goal
 
@@ -11,5 +12,6 @@ invariant-slots g l = record {
   parts : sum_by (λ x. x.share.parts) l.leaving.items + length l.slot-iterator.rest.items ≡ vec_len l.fn.slots;
   count : length l.leaving.items + length l.slot-iterator.rest.items ≡ vec_len l.fn.slots;
   none_forgot : All (λ x. x.forgotten ≡ 0) l.leaving.items;
+  bodies : fold together l.bodies (map (λ s. s.made) l.slot-iterator.rest.items) ≡ all_together (map (λ s. s.made) l.fn.slots.items);
   room : vec_len l.leaving + length l.slot-iterator.rest.items ≤ vec_capacity l.leaving;
 }

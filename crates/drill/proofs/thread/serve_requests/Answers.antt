@@ -16,7 +16,7 @@ sessions-preserved g c =
     let kept = c.serve_text.ensures.kept in
     record {
       kept = twice _ _ _ _ inv.kept kept;
-      caller = subst (λ (x : Option ℕ). IfSome x (λ n. c.sessions.post.number ≡ n)) (sym kept.caller) inv.caller;
+      caller = subst (λ (x : Option ℕ). IfSome x (λ n. c.args.post.number ≡ n)) (sym kept.caller) inv.caller;
       sizes = kept.sizes ∙ inv.sizes;
       idle = c.serve_text.ensures.idle;
       reach_sizes = c.serve_text.ensures.reach_sizes ∙ inv.reach_sizes;
