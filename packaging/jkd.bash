@@ -17,7 +17,7 @@ _jkd() {
     container:-*) mapfile -t COMPREPLY < <(compgen -W "--clients --help" -- "$now") ;;
     match:-*) mapfile -t COMPREPLY < <(compgen -W "-v --help" -- "$now") ;;
     *:-*) mapfile -t COMPREPLY < <(compgen -W "--help" -- "$now") ;;
-    drill:*) [ "$COMP_CWORD" -ne 5 ] || mapfile -t COMPREPLY < <(compgen -W "journal" -- "$now") ;;
+    drill:*) [ "$COMP_CWORD" -ne 5 ] || mapfile -t COMPREPLY < <(compgen -W "journal passes" -- "$now") ;;
     *)
         compopt -o filenames 2>/dev/null
         mapfile -t COMPREPLY < <(compgen -f -- "$now") ;;

@@ -26,11 +26,13 @@ def chosen(requests):
     return counts
 
 
-def summary(seed, requests):
+def summary(seed, requests, passes=None):
+    """What is printed; of a drill whose threads take turns at a Book with the number of their passes."""
     a, b = chosen(requests)
     entries = 2 * requests
+    compared = "receipts equal" if passes is None else f"passes {passes}"
     return (f"requests {requests}\na {a}\nb {b}\nbody {sum(sizes(seed, requests))}\nentries {entries}\n"
-            f"receipts equal\njournal good {entries}\n")
+            f"{compared}\njournal good {entries}\n")
 
 
 def string(text):

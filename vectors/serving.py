@@ -293,7 +293,10 @@ def drills():
                        ("an option", "drill --clients 1 1 1 1")):
         yield Row(f"{name} is no drill", line, status=2)
     for name, line in (("passes", "drill 1 3 20 passes"), ("passes behind --", "drill -- 1 3 20 passes"), ("passes before --", "drill 1 3 20 passes --")):
-        yield Row(f"a drill with {name} is no command yet", line, status=2)
+        yield Row(f"a drill with {name}", line, out=drill.summary(1, 20, passes=3).encode())
+    yield Row("one pass", "drill 7 1 1200 passes", out=drill.summary(7, 1200, passes=1).encode())
+    yield Row("more passes than requests", "drill 18446744073709551615 64 3 passes", out=drill.summary(MOST, 3, passes=64).encode())
+    yield Row("eight passes and more requests than a session has", "drill 1 8 100000 passes", out=drill.summary(1, 100000, passes=8).encode())
     yield Row("a journal behind --", "drill 1 1 -- 1 journal", out=drill.one_journal(1).encode())
 
 

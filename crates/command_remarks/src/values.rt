@@ -140,7 +140,7 @@ fn text_fault<'w>(given: &ArgMatches<'w>) -> Option<(&'static str, &'w str)> {
     if mode == "journal" || mode == "passes" {
         None
     } else {
-        Some(("MODE must be journal", mode))
+        Some(("MODE must be journal or passes", mode))
     }
 }
 

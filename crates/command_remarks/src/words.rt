@@ -5,7 +5,7 @@ ghost use Rattle.command_remarks.specs.Told.{IsLine};
 use crate::values::said_of_values;
 use clap::Error;
 use clap::error::ErrorKind;
-use jk_cli::{CommandName, command, command_of};
+use jk_cli::command;
 use jk_io::{Bytes, NoMemory};
 use std::alloc::Global;
 use std::str;
@@ -56,26 +56,12 @@ fn parsed(alloc: Global, line: &[&str]) -> Result<String, NoMemory> {
     }
 }
 
-/// What is told of a command that isn't done.
-fn put_undone(out: &mut Bytes, command: CommandName, words: &[Bytes]) -> Result<(), NoMemory> {
-    match command {
-        CommandName::Drill => out.extend(b"error: this jkd does not do passes of drill"),
-        _ => {
-            out.extend(b"error: this jkd does not do the command ")?;
-            out.extend(words.first().map_or(b"".as_slice(), |word| word.as_slice()))
-        }
-    }
-}
-
-/// What is wrong with words that are no command, or are one that isn't done.
+/// What is wrong with words that are no command.
 pub(crate) fn said_of_words(alloc: Global, words: &[Bytes]) -> Result<Bytes, NoMemory>
     ensures { IfOk result IsLine }
 {
     let mut said = Bytes::new(alloc);
-    match command_of(words) {
-        Some(command) => put_undone(&mut said, command, words)?,
-        None => said.extend(parsed(alloc, line_of(alloc, words)?.as_slice())?.as_bytes())?,
-    }
+    said.extend(parsed(alloc, line_of(alloc, words)?.as_slice())?.as_bytes())?;
     said.push(b'\n')?;
     Ok(said)
 }

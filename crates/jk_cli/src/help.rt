@@ -178,7 +178,7 @@ static JOURNAL_PAGES: [Page; 2] = [
     Page {
         name: "drill",
         about: "Run requests over memory from a seed, by threads that share one balancer",
-        usage: "jkd drill SEED THREADS REQUESTS [journal]",
+        usage: "jkd drill SEED THREADS REQUESTS [journal|passes]",
         rows: &[
             Row {
                 name: "SEED",
@@ -193,12 +193,12 @@ static JOURNAL_PAGES: [Page; 2] = [
             },
             Row {
                 name: "MODE",
-                about: "journal prints the journal's text",
+                about: "journal prints the journal's text; passes has the threads take turns",
                 kind: Kind::Spare,
             },
             HELP,
         ],
-        after: "Prints how many each member served, or the balancer's journal.\n\nExample: jkd drill 1 4 10000\n\nStatus: 0 done; 1 the journal lacks what the threads were told; 5 the output can't be written; 6 out of memory; 7 the journal lacks a request",
+        after: "Prints how many each member served, or the balancer's journal.\n\nExample: jkd drill 1 4 10000\n\nStatus: 0 done; 1 the journal lacks what the threads were told; 5 the output can't be written; 6 out of memory; 7 the journal lacks a request, or the bodies lack bytes",
     },
 ];
 
@@ -335,7 +335,7 @@ Each with its words:
   jkd check < JOURNAL
   jkd log FORMAT REQUEST REPLY WORKERS MAP
   jkd follow < JOURNAL
-  jkd drill SEED THREADS REQUESTS [journal]
+  jkd drill SEED THREADS REQUESTS [journal|passes]
   jkd serve [OPTIONS] WORKERS MAP ADDRESS THREADS
   jkd container [--clients N] ROUTE ADDRESS THREADS
   jkd stop PATH

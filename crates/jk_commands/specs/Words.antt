@@ -1,16 +1,16 @@
 -- Which words ask for workers, and which are a command at all.
-use Rattle.std.specs.Prelude.{◌≡◌, ℕ, ◌≤◌, Bool, true, false, not, ◌||◌, List, length, Option, Some, None}
+use Rattle.std.specs.Prelude.{◌≡◌, ℕ, ◌≤◌, Bool, true, false, ◌||◌, List, length, Option, Some, None}
 use Rattle.jk_cli.specs.Orders.{order_of}
 use Rattle.jk_cli.specs.declared.order.Order.{Order}
 use Rattle.jk_cli.specs.declared.order.Order.TheVariants as order
 use Rattle.plain_commands.specs.Plain.{is_plain, readings}
 use Rattle.site_reports.specs.Readings.{has_file}
 
--- `serve`, `container` and `drill`. Passes aren't built: a drill with `passes` is no command yet.
+-- `serve`, `container` and `drill`.
 abbrev pub is_served : Order → Bool
 is_served (order.Serve workers map address threads clients journal watch idle log format cut limits control grace) = true
 is_served (order.Container route address threads clients) = true
-is_served (order.Drill seed threads requests text passes) = not passes
+is_served (order.Drill seed threads requests text passes) = true
 is_served other = false
 
 abbrev pub is_served_order : Option Order → Bool
