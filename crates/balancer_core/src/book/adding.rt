@@ -5,6 +5,28 @@ ghost use Rattle.std.specs.Prelude.{◌≡◌, ◌+◌, ◌<◌, ◌≤◌, [], 
 use jk_io::NoMemory;
 use jk_model::Entry;
 
+// From so many elements on, a list takes the room for a whole journal at once ..
+const LONG: usize = 1_024;
+
+// .. and so much, in bytes, that the C library maps it apart from what it keeps for small pieces: the pages of a list that is cut
+// go back to the system, whatever thread cuts it.
+const MAPPED: usize = 0x210_0000;
+
+const WHOLE_ENTRIES: usize = MAPPED / size_of::<Entry>();
+
+const WHOLE_PLACES: usize = MAPPED / size_of::<Option<u64>>();
+
+/// How many elements to take room for, where a list has `taken` of them, needs `more`, and has `whole` as it is long.
+const fn room_for(taken: usize, more: usize, whole: usize) -> usize
+    ensures { more ≤ result }
+{
+    if taken < LONG || more >= whole {
+        more
+    } else {
+        whole
+    }
+}
+
 /// Takes the room for `more` entries, and for the number of the entry that returns each one's ticket.
 pub(super) fn take_room(
     entries: &mut Vec<Entry>,
@@ -18,8 +40,12 @@ pub(super) fn take_room(
     ensures no_less { vec_capacity entries.old ≤ vec_capacity entries.new }
     ensures places_no_less { vec_capacity returned.old ≤ vec_capacity returned.new }
 {
-    entries.reserve(more)?;
-    returned.reserve(more)?;
+    if entries.capacity() - entries.len() < more {
+        entries.reserve(room_for(entries.len(), more, WHOLE_ENTRIES))?;
+    }
+    if returned.capacity() - returned.len() < more {
+        returned.reserve(room_for(returned.len(), more, WHOLE_PLACES))?;
+    }
     Ok(())
 }
 
