@@ -6,7 +6,7 @@ use jk_io::NoMemory;
 use jk_model::Entry;
 
 // From so many elements on, a list takes the room for a whole journal at once ..
-const LONG: usize = 1_024;
+const LONG_LIMIT: usize = 1_024;
 
 // .. and so much, in bytes, that the C library maps it apart from what it keeps for small pieces: the pages of a list that is cut
 // go back to the system, whatever thread cuts it.
@@ -20,7 +20,7 @@ const WHOLE_PLACES: usize = MAPPED / size_of::<Option<u64>>();
 const fn room_for(taken: usize, more: usize, whole: usize) -> usize
     ensures { more ≤ result }
 {
-    if taken < LONG || more >= whole {
+    if taken < LONG_LIMIT || more >= whole {
         more
     } else {
         whole
