@@ -157,11 +157,24 @@ fn put_segment(out: &mut Bytes, name: &[u8], segment: &Segment) -> Result<(), No
     put_end_line(out, segment.rules, segment.entries.len() as u64)
 }
 
+// From so many entries on, a segment's text takes at once ..
+const LONG_LIMIT: usize = 1_024;
+
+// .. so much room that the C library maps it apart from what it keeps for small pieces, and gives it back to the system, whatever
+// thread wrote it.
+const MAPPED: usize = 0x210_0000;
+
+/// The room to begin the text of so many entries with.
+const fn room_of(entries: usize) -> usize {
+    if entries < LONG_LIMIT { 0 } else { MAPPED }
+}
+
 /// The text of a segment of the balancer with this name.
 pub fn write_segment(name: &[u8], segment: &Segment) -> Result<Bytes, NoMemory>
     ensures { IfOk result (λ text. text ≡ segment_text name.now segment.now) }
 {
-    let mut text = Bytes::new(segment.entries.allocator());
+    let room = room_of(segment.entries.len());
+    let mut text = Bytes::with_capacity(segment.entries.allocator(), room)?;
     put_segment(&mut text, name, segment)?;
     Ok(text)
 }
