@@ -24,7 +24,7 @@ mod table;
 
 pub use client::Client;
 pub use door::RoomDoor;
-pub use opening::{RoomError, open_room};
+pub use opening::{OpenRoomError, open_room};
 pub use places::{Place, Places};
 pub use room::Room;
 pub use stay::{Limits, Phase, Stay};

@@ -24,7 +24,7 @@ const MOST_EVENTS: usize = 1_024;
 
 /// Why a room can't be opened.
 #[derive(Debug, Drop, Error)]
-pub enum RoomError {
+pub enum OpenRoomError {
     /// Clients can't be waited for.
     #[error("{0}")]
     Listen(io::Error),
@@ -35,9 +35,9 @@ pub enum RoomError {
     NoMemory,
 }
 
-impl From<NoMemory> for RoomError {
-    fn from(_error: NoMemory) -> RoomError {
-        RoomError::NoMemory
+impl From<NoMemory> for OpenRoomError {
+    fn from(_error: NoMemory) -> OpenRoomError {
+        OpenRoomError::NoMemory
     }
 }
 
@@ -50,22 +50,22 @@ pub fn open_room<R: Net + Files>(
     limits: ClientLimits,
     control: Option<&Bytes>,
     grace: u64,
-) -> Result<Room, RoomError> {
+) -> Result<Room, OpenRoomError> {
     let control = match control {
         Some(path) => Some(control_at(rt, path, grace)?),
         None => None,
     };
     let listener = match listen(rt, address) {
         Ok(listener) => listener,
-        Err(error) => return Err(RoomError::Listen(error)),
+        Err(error) => return Err(OpenRoomError::Listen(error)),
     };
     room_with(rt, alloc, listener, limits, control)
 }
 
-fn control_at<R: Net + Files>(rt: &R, path: &Bytes, grace: u64) -> Result<Control, RoomError> {
+fn control_at<R: Net + Files>(rt: &R, path: &Bytes, grace: u64) -> Result<Control, OpenRoomError> {
     match bind_control(rt, path) {
         Ok(listener) => Ok(Control { listener, grace }),
-        Err(error) => Err(RoomError::Control(error)),
+        Err(error) => Err(OpenRoomError::Control(error)),
     }
 }
 
@@ -128,15 +128,15 @@ fn room_with<R: Net>(
     listener: TcpListener,
     limits: ClientLimits,
     control: Option<Control>,
-) -> Result<Room, RoomError> {
+) -> Result<Room, OpenRoomError> {
     let events = match Events::with_capacity(alloc, MOST_EVENTS) {
         Ok(events) => events,
-        Err(_) => return Err(RoomError::NoMemory),
+        Err(_) => return Err(OpenRoomError::NoMemory),
     };
     let ending = Ending::new(alloc)?;
     let (poll, registry) = match polled(rt, &listener, control.as_ref()) {
         Ok(made) => made,
-        Err(error) => return Err(RoomError::Listen(error)),
+        Err(error) => return Err(OpenRoomError::Listen(error)),
     };
     Ok(Room {
         alloc,

@@ -25,7 +25,7 @@ use std::net::{Net, TcpListener, TcpStream};
 use std::rt::Files;
 use std::sync::{Arc, Wait};
 use std::time::Clock;
-use waiting_room::{Room, RoomDoor, RoomError, open_room};
+use waiting_room::{OpenRoomError, Room, RoomDoor, open_room};
 
 /// A world of sockets and files, of which it tells nothing. The doors of a site's gears lead into one room, in which its
 /// clients wait; those of a container's accept from one socket. It is opened with the first gear.
@@ -210,16 +210,16 @@ impl<
     }
 
     // Why the room isn't there.
-    fn refused(&mut self, alloc: Global, asked: &GearOrder<'_>, error: RoomError) -> IoError
+    fn refused(&mut self, alloc: Global, asked: &GearOrder<'_>, error: OpenRoomError) -> IoError
         ensures failed { (result ≡ IoError.Failed) → Rose self.old.failed self.new.failed }
         ensures wanted { (result ≡ IoError.NoMemory) → self.new.failed ≡ self.old.failed }
         ensures no_fewer { self.old.failed ≤ self.new.failed }
         ensures same { self.new.out ≡ self.old.out }
     {
         let trouble = match error {
-            RoomError::Listen(reason) => listen_trouble(alloc, asked.address, reason),
-            RoomError::Control(reason) => control_trouble(alloc, asked.control, reason),
-            RoomError::NoMemory => Err(NoMemory),
+            OpenRoomError::Listen(reason) => listen_trouble(alloc, asked.address, reason),
+            OpenRoomError::Control(reason) => control_trouble(alloc, asked.control, reason),
+            OpenRoomError::NoMemory => Err(NoMemory),
         };
         match trouble {
             Ok(trouble) => self.fail(trouble),
