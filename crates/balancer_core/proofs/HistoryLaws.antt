@@ -19,7 +19,7 @@ use Rattle.jk_model.specs.declared.member.MemberConfig.{MemberConfig}
 use Rattle.jk_model.specs.declared.opening.Opening.{Opening}
 use Rattle.jk_model.specs.declared.view.MemberRow.{MemberRow}
 use Rattle.jk_model.specs.declared.view.View.{View}
-use Rattle.model_laws.proofs.AlikeLaws.{Alike, GoesOn, busy_alike, goes_on, load_alike}
+use Rattle.balancer_core.proofs.AlikeLaws.{Alike, GoesOn, busy_alike, goes_on, load_alike}
 use Rattle.balancer_core.specs.Ending.{IsCut}
 use Rattle.balancer_core.specs.Journal.{IsSound, Journal, next_number, past_of, tickets_out}
 use Rattle.balancer_core.specs.ToldBooks.{AreNextAt, grown_by}

@@ -22,3 +22,7 @@ pub mod PlainLaws
 pub mod HoldLaws
 pub mod BoundLaws
 pub mod WeightLaws
+pub mod AlikeLaws
+pub mod MultipleLaws
+pub mod PickLaws
+pub mod SmallConfig

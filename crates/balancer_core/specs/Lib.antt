@@ -18,3 +18,5 @@ pub mod PlainLists
 pub mod Refused
 pub mod Bounds
 pub mod Weights
+pub mod Multiples
+pub mod Unanswered

@@ -10,6 +10,8 @@
 //! `Desk` is what a session asks, with the meanings of specs/Desks.antt; what its clauses say of Books that it tells
 //! stands in specs/ToldBooks.antt. `PlainDesk` is one over Books that it owns, whose refusals are told by
 //! specs/Refused.antt. What the one history of a Book is, whatever was cut from it, stands in specs/Histories.antt.
+//! The functions of `picks`, `multiples` and `halvings` have no body: their contracts are laws of what jk_model's specs/Choice.antt and
+//! Multiple.antt mean (specs/Unanswered.antt, Multiples.antt), over a past that is written oldest first.
 //! Errors: `RoomError`, `AdminError` and `Stray` of jk_model. After one the Book is as it was.
 #![tactic(auto)]
 
@@ -19,10 +21,13 @@ mod commanded;
 mod copies;
 pub mod desk;
 mod ending;
+pub mod halvings;
 mod hold_at;
 pub mod holds;
 mod maintenance;
+pub mod multiples;
 mod opened;
+pub mod picks;
 mod plain_desk;
 mod present;
 mod receipt;

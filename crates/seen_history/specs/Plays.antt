@@ -8,7 +8,7 @@ use Rattle.jk_model.specs.declared.opening.Opening.{Opening}
 use Rattle.balancer_core.specs.Journal.{Journal}
 use Rattle.balancer_core.specs.Histories.{BeginsWith, IsHistory, own_of}
 use Rattle.seen_history.specs.Turns.{Carries, IsBookOf}
-use Rattle.model_laws.proofs.SmallConfig.{one_counts, one_in_range, one_narrow, one_period, some_member}
+use Rattle.balancer_core.proofs.SmallConfig.{one_counts, one_in_range, one_narrow, one_period, some_member}
 use Rattle.seen_history.specs.declared.pass_view.Origin.{Origin}
 use Rattle.seen_history.specs.declared.pass_view.PassView.{PassView}
 use Rattle.seen_history.specs.declared.pass_view.Turn.{Turn}

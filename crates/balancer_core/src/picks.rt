@@ -4,7 +4,7 @@ ghost use Rattle.jk_model.specs.Choice.{IsPick};
 ghost use Rattle.jk_model.specs.declared.journal.Answer.{Answer};
 ghost use Rattle.jk_model.specs.Legal.{IsLegal};
 ghost use Rattle.jk_model.specs.Present.{IsEnding};
-ghost use Rattle.model_laws.specs.Unanswered.{IsForcedAsk, IsUnanswered};
+ghost use Rattle.balancer_core.specs.Unanswered.{IsForcedAsk, IsUnanswered};
 
 use jk_model::{Answer, Ask, Entry, Opening};
 

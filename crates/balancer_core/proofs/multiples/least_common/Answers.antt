@@ -1,5 +1,5 @@
-use Rattle.model_laws.proofs.MultipleLaws.{none_among, some_is_least}
-use Rattle.model_laws.proofs.multiples.least_common.Goals as goal
+use Rattle.balancer_core.proofs.MultipleLaws.{none_among, some_is_least}
+use Rattle.balancer_core.proofs.multiples.least_common.Goals as goal
 
 pub returns : goal.returns
 returns c = record {

@@ -6,7 +6,7 @@ use Rattle.std.specs.Prelude.{◌↔◌}
 use Rattle.std.proofs.lemmas.Nat.Gcd.{le_of_dvd}
 use Rattle.jk_model.specs.Multiple.{multiple_of}
 use Rattle.jk_model.proofs.MultipleFacts.{le-fold, multiple_of-each, multiple_of-least}
-use Rattle.model_laws.specs.Multiples.{IsCommon, IsLeastCommon}
+use Rattle.balancer_core.specs.Multiples.{IsCommon, IsLeastCommon}
 
 least_of_all : (fs : List ℕ) → All (λ f. 0 < f) fs → IsLeastCommon fs (multiple_of fs)
 least_of_all fs above = record {

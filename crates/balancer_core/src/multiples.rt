@@ -1,6 +1,6 @@
 //! What the least common multiple of the members' factors means.
 ghost use Rattle.std.specs.Prelude.{◌↔◌, ℕ, ◌<◌, ◌≤◌, ◌^◌, All, IfSome, IsNone};
-ghost use Rattle.model_laws.specs.Multiples.{IsCommon, IsLeastCommon};
+ghost use Rattle.balancer_core.specs.Multiples.{IsCommon, IsLeastCommon};
 
 use jk_model::lcm_of;
 

@@ -10,7 +10,7 @@ use Rattle.std.proofs.lemmas.Option.{slice_get_cases}
 use Rattle.jk_model.proofs.ChoiceFacts.{chosen_roomy}
 use Rattle.jk_model.proofs.LoadLaws.{load-kept}
 use Rattle.jk_model.proofs.OutFacts.{out-chosen, out-kept, out-opening, out-returned, out_is_on}
-use Rattle.model_laws.proofs.PickLaws.{home_is}
+use Rattle.balancer_core.proofs.PickLaws.{home_is}
 use Rattle.jk_model.proofs.SettingFacts.{setting_in_range}
 use Rattle.jk_model.proofs.TicketLaws.{chosen_select}
 use Rattle.jk_model.specs.Choice.{IsChosen, IsFirstOf, IsLeast, IsPick, any_usable, begin_after, begins_trial, is_before, is_before_by, is_candidate, is_forced, is_revivable, is_usable, member_within, place_from, place_of, redirected, routed, routed_choice, routed_member, serves}

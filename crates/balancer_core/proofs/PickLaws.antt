@@ -10,7 +10,7 @@ use Rattle.jk_model.specs.Journal.{any_of, last_chosen, members, next_of}
 use Rattle.jk_model.specs.Loads.{load_of}
 use Rattle.jk_model.specs.Settings.{distance_of, redirect_of}
 use Rattle.jk_model.specs.States.{state_of}
-use Rattle.model_laws.specs.Unanswered.{IsForcedAsk, IsHome, IsUnanswered, IsUnserved}
+use Rattle.balancer_core.specs.Unanswered.{IsForcedAsk, IsHome, IsUnanswered, IsUnserved}
 use Rattle.jk_model.specs.declared.ask.Ask.{Ask}
 use Rattle.jk_model.specs.declared.journal.Answer.{Answer}
 use Rattle.jk_model.specs.declared.journal.Answer.TheVariants as answer

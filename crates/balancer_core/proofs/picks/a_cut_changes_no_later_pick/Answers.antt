@@ -1,6 +1,6 @@
 use Rattle.std.proofs.Common.{reverse}
-use Rattle.model_laws.proofs.AlikeLaws.{pick_after_cut}
-use Rattle.model_laws.proofs.picks.a_cut_changes_no_later_pick.Goals as goal
+use Rattle.balancer_core.proofs.AlikeLaws.{pick_after_cut}
+use Rattle.balancer_core.proofs.picks.a_cut_changes_no_later_pick.Goals as goal
 
 pub returns : goal.returns
 returns c = λ answer.

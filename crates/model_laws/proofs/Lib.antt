@@ -1,4 +1,0 @@
-pub mod AlikeLaws
-pub mod MultipleLaws
-pub mod PickLaws
-pub mod SmallConfig
