@@ -17,6 +17,7 @@ pub mod ToldLaws
 pub mod OwnLaws
 pub mod HistoryLaws
 pub mod DeskLaws
+pub mod ReturnedLaws
 pub mod PlainDeskLaws
 pub mod PlainLaws
 pub mod HoldLaws

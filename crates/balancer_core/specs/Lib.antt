@@ -11,6 +11,7 @@ pub mod Due
 pub mod ToldBooks
 pub mod Histories
 pub mod Ending
+pub mod Returned
 pub mod Desks
 pub mod PlainDesks
 pub mod PlainLeases

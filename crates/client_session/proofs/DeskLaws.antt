@@ -25,6 +25,7 @@ after_exchange old new lb session after held = record {
   receipts = after.receipts;
   added = after.added;
   own = λ k d within. (after.own k d within).caller;
+  returned = after.returned;
 }
 
 pub meets_on : (stop' : SessionStop) (old mid new : DeskState) → MeetsNone old mid → MeetsBy stop' mid new → MeetsBy stop' old new

@@ -18,7 +18,7 @@ use Rattle.exchange.specs.declared.request.Request.{Request}
 use Rattle.exchange.specs.declared.sides.Means.{Means}
 use Rattle.exchange.specs.declared.sides.Sides.{Sides}
 use Rattle.jk_io.specs.Answers.{Answers}
-use Rattle.exchange.proofs.DeskLaws.{after_back, after_choice, same_twice, untouched}
+use Rattle.exchange.proofs.DeskLaws.{after_round, same_twice, untouched}
 use Rattle.exchange.proofs.MeansLaws.{as_many, no_fewer_twice}
 use Rattle.exchange.proofs.RoundLaws.{went_back}
 
@@ -120,6 +120,4 @@ pub spent_desk : {T : Type 0} (note : T → LeaseNote) (q : Errand) (first : Lis
     (member : ℕ) (lease : T) (v : RoundVerdict) → KeepsDesk s m.desk → Chooses note s m.desk q.lb q.session at ask (choice.Chosen member lease)
     → KeepsDesk m.desk n.desk → SpendsLease q first fresh m n member (note lease) v → IsDeskAfter q.lb q.session s n.desk
 spent_desk note q first fresh s m n at ask member lease v kept chose still spent =
-    let own : IsDeskAfter (note lease).lb q.session m.desk n.desk = after_back _ _ _ _ _ _ spent.back.stray still spent.back.wides spent.back.back in
-    same_twice _ _ _ _ _ (after_choice note _ _ _ _ _ _ _ kept chose)
-    (subst (λ (l : LeaseNote). IsDeskAfter l.lb q.session m.desk n.desk) chose.answered.3 own)
+    after_round note s m.desk n.desk q.lb q.session at spent.at ask member lease _ spent.back.stray kept chose still spent.back.wides spent.back.back

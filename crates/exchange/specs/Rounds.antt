@@ -11,6 +11,7 @@ use Rattle.jk_model.specs.declared.member.MemberConfig.{MemberConfig}
 use Rattle.jk_model.specs.declared.refusal.FullMark.{FullMark}
 use Rattle.jk_model.specs.declared.refusal.RoomError.TheVariants as room
 use Rattle.jk_model.specs.declared.refusal.Stray.{Stray}
+use Rattle.balancer_core.specs.Returned.{HaveReturned}
 use Rattle.balancer_core.specs.ToldBooks.{AreSound}
 use Rattle.balancer_core.specs.Desks.{Chooses, DeskState, LeaseNote, MeetsStray, RefusesChoice, TakesBack}
 use Rattle.balancer_core.specs.declared.receipt.Receipt.{Receipt}
@@ -148,7 +149,7 @@ pub record IsReceiptOf (lb session : ℕ) (r : Receipt) : Type 0 where
   pub kind : IsAskOrReturn r.entry.call
 
 -- What never changes of a desk, its counts, which never fall, and the receipts that it gained. No command was too wide, since
--- none is asked for. Told Books stay sound.
+-- none is asked for. Told Books stay sound. Unless a stray was met, each ticket that was given out came back.
 pub record IsDeskAfter (lb session : ℕ) (old new : DeskState) : Type 0 where
   pub caller : new.caller ≡ old.caller
   pub sizes : new.sizes ≡ old.sizes
@@ -162,3 +163,4 @@ pub record IsDeskAfter (lb session : ℕ) (old new : DeskState) : Type 0 where
   pub receipts : new.receipts ≡ old.receipts ++ gained
   pub added : new.added ≡ old.added + length gained
   pub own : All (IsReceiptOf lb session) gained
+  pub returned : new.met ≡ false → HaveReturned gained

@@ -1,11 +1,14 @@
 -- What a desk keeps over several calls, and the receipts that they add.
-use Rattle.std.proofs.Common.{◌≡◌, ℕ, List, [], ◌∷◌, ◌++◌, Result, refl, sym, ap, ◌∙◌, arith}
+use Rattle.std.proofs.Common.{◌≡◌, ℕ, List, [], ◌∷◌, ◌++◌, Result, Bool, true, false, not, refl, sym, ap, ◌∙◌, subst, arith}
 use Rattle.std.proofs.lemmas.List.{append_assoc, append-nil, length-append}
 use Rattle.std.proofs.lemmas.List.Elements.{All-append, All-nil}
 use Rattle.std.specs.List.{All}
 use Rattle.jk_model.specs.declared.change.Command.{Command}
+use Rattle.jk_model.specs.declared.journal.Call.TheVariants as call
 use Rattle.jk_model.specs.declared.refusal.AdminError.{AdminError}
 use Rattle.jk_model.specs.declared.refusal.FullMark.{FullMark}
+use Rattle.balancer_core.proofs.ReturnedLaws.{due_returned, have_returned-append, last_returned, none_out}
+use Rattle.balancer_core.specs.Returned.{HaveReturned}
 use Rattle.balancer_core.specs.Desks.{Commands, DeskState, Gains, KeepsDesk, MeetsNone, RefusesCommand}
 use Rattle.balancer_core.specs.declared.receipt.Receipt.{Receipt}
 use Rattle.status_worker.specs.Desks.{KeepsTickets}
@@ -25,11 +28,12 @@ untouched session desk = record {
   receipts = sym (append-nil desk.receipts);
   added = omega arith;
   own = All-nil (λ (r : Receipt). r.entry.session ≡ session);
+  returned = λ none. tt;
 }
 
 after_gains : (old new : DeskState) (lb session at : ℕ) (gained : List Receipt) → KeepsDesk old new → new.held ≡ old.held
-    → Gains old new lb session at gained → KeepsTickets session old new
-after_gains old new lb session at gained kept held gains = record {
+    → Gains old new lb session at gained → HaveReturned gained → KeepsTickets session old new
+after_gains old new lb session at gained kept held gains returned = record {
   held = held;
   caller = kept.caller;
   sizes = kept.sizes;
@@ -43,16 +47,24 @@ after_gains old new lb session at gained kept held gains = record {
   receipts = gains.receipts;
   added = gains.added;
   own = λ k d within. (gains.own k d within).caller;
+  returned = λ none. returned;
 }
 
 pub after_command : (old new : DeskState) (lb session at : ℕ) (c : Command) → KeepsDesk old new → new.held ≡ old.held
     → Commands old new lb session at c → KeepsTickets session old new
-after_command old new lb session at c kept held done = after_gains old new lb session at _ kept held done.gains.gains
+after_command old new lb session at c kept held done =
+    after_gains old new lb session at _ kept held done.gains.gains
+    (last_returned done.gains.due done.last done.gains.is_due (none_out done.last.entry (call.Admin c) done.commanded tt))
 
 pub after_refusal : {M : Type 0} (numbers : M → FullMark) (old new : DeskState) (lb session at : ℕ) (c : Command) (error : AdminError M)
     → KeepsDesk old new → new.held ≡ old.held → RefusesCommand numbers old new lb session at c error → KeepsTickets session old new
 after_refusal numbers old new lb session at c error kept held refused =
-    after_gains old new lb session at _ kept held refused.gains.gains
+    after_gains old new lb session at _ kept held refused.gains.gains (due_returned refused.gains.due refused.gains.is_due)
+
+-- No stray waits after both, so none did between them.
+pub none_between : (mid new : Bool) → (mid ≡ true → new ≡ true) → new ≡ false → mid ≡ false
+none_between false new met none = refl
+none_between true new met none = cc (met refl, none)
 
 pub twice : (session : ℕ) (old mid new : DeskState) → KeepsTickets session old mid → KeepsTickets session mid new
     → KeepsTickets session old new
@@ -70,6 +82,7 @@ twice session old mid new first second = record {
   receipts = second.receipts ∙ ap (λ (rs : List Receipt). rs ++ second.gained) first.receipts ∙ append_assoc old.receipts first.gained second.gained;
   added = omega (arith, first.added, second.added, length-append first.gained second.gained);
   own = All-append (λ (r : Receipt). r.entry.session ≡ session) first.gained second.gained first.own second.own;
+  returned = λ none. have_returned-append first.gained second.gained (first.returned (none_between mid.met new.met second.met none)) (second.returned none);
 }
 
 pub none_met : (desk : DeskState) → MeetsNone desk desk

@@ -1,7 +1,8 @@
 -- The desk of a session and its clock, and what the desk keeps over a session's calls.
-use Rattle.std.specs.Prelude.{ℕ, ◌≡◌, ◌+◌, ◌≤◌, true, List, ◌++◌, length, map, Option}
+use Rattle.std.specs.Prelude.{ℕ, ◌≡◌, ◌+◌, ◌≤◌, true, false, List, ◌++◌, length, map, Option}
 use Rattle.std.specs.List.{All}
 use Rattle.balancer_core.specs.Desks.{DeskState}
+use Rattle.balancer_core.specs.Returned.{HaveReturned}
 use Rattle.balancer_core.specs.ToldBooks.{AreSound}
 use Rattle.balancer_core.specs.declared.receipt.Receipt.{Receipt}
 use Rattle.site_config.specs.declared.balancer.Lb.{Lb}
@@ -19,7 +20,7 @@ abbrev pub members_in : List Lb → List ℕ
 members_in lbs = map (λ lb. length lb.book.members) lbs
 
 -- The desk holds the tickets that it held before; its caller, sizes and parts never change, its counts never fall, and
--- the receipts that it gained are this session's.
+-- the receipts that it gained are this session's. Unless it met a stray, each ticket that these gave out came back by them.
 pub record KeepsTickets (session : ℕ) (old new : DeskState) : Type 0 where
   pub held : new.held ≡ old.held
   pub caller : new.caller ≡ old.caller
@@ -34,3 +35,4 @@ pub record KeepsTickets (session : ℕ) (old new : DeskState) : Type 0 where
   pub receipts : new.receipts ≡ old.receipts ++ gained
   pub added : new.added ≡ old.added + length gained
   pub own : All (λ (r : Receipt). r.entry.session ≡ session) gained
+  pub returned : new.met ≡ false → HaveReturned gained
