@@ -1,7 +1,7 @@
 -- What two calls of a desk come to.
 use Rattle.std.specs.List.{All}
 use Rattle.std.proofs.lemmas.List.Elements.{All-head, All-tail}
-use Rattle.std.proofs.Common.{◌≡◌, ℕ, ◌+◌, ◌≤◌, true, List, [], ◌∷◌, ◌++◌, length, refl, sym, ap, ◌∙◌, subst, arith, append_assoc, length-append, slice_index, false, ◌<◌}
+use Rattle.std.proofs.Common.{◌≡◌, ℕ, ◌+◌, ◌≤◌, true, List, [], ◌∷◌, ◌++◌, length, Option, refl, sym, ap, ◌∙◌, subst, arith, append_assoc, length-append, slice_index, false, ◌<◌}
 use Rattle.jk_model.specs.Free.{is_in}
 use Rattle.jk_model.specs.declared.ask.Ask.{Ask}
 use Rattle.jk_model.specs.declared.change.Command.{Command}
@@ -11,7 +11,7 @@ use Rattle.jk_model.specs.declared.refusal.RoomError.{RoomError}
 use Rattle.jk_model.specs.declared.refusal.FullMark.{FullMark}
 use Rattle.jk_model.specs.declared.refusal.Stray.{Stray}
 use Rattle.jk_model.specs.declared.view.View.{View}
-use Rattle.balancer_core.specs.Desks.{Chooses, Commands, DeskState, Gains, IsOwn, KeepsDesk, LeaseNote, MeetsStray, RefusesChoice, RisesByOne, Shows, TakesBack}
+use Rattle.balancer_core.specs.Desks.{Chooses, Commands, DeskState, Gains, IsOwn, KeepsDesk, LeaseNote, MeetsStray, RefusesChoice, RisesByOne, Shows, first_stray, TakesBack}
 use Rattle.balancer_core.specs.declared.desk.Choice.TheVariants as choice
 use Rattle.balancer_core.specs.declared.receipt.Receipt.{Receipt}
 use Rattle.balancer_checks.specs.Once.{Ends, GainsAsMany, Returns}
@@ -38,7 +38,7 @@ keeps_twice old mid new first second = record {
   strays = omega (arith, first.strays, second.strays);
   fulls = omega (arith, first.fulls, second.fulls);
   wides = omega (arith, first.wides, second.wides);
-  met = λ h. second.met (first.met h);
+  met = λ stray is. second.met stray (first.met stray is);
   sound_before = first.sound_before;
   sound = second.sound;
 }
@@ -71,9 +71,9 @@ ends_returned note old mid new lb session at ask outcome m lease chose back =
 
 pub ends_stray : {T : Type 0} (note : T → LeaseNote) (old mid new : DeskState) (lb session at : ℕ) (ask : Ask) (outcome : Outcome) (m : ℕ) (lease : T) (stray : Stray)
     → Chooses note old mid lb session at ask (choice.Chosen m lease) → MeetsStray mid new (note lease) stray
-    → RisesByOne old.strays new.strays × (new.met ≡ true)
+    → RisesByOne old.strays new.strays × (new.met ≡ first_stray old.met stray)
 ends_stray note old mid new lb session at ask outcome m lease stray chose met =
-    (subst (λ (n : ℕ). RisesByOne n new.strays) chose.stray met.rose, met.met)
+    (subst (λ (n : ℕ). RisesByOne n new.strays) chose.stray met.rose, met.met ∙ ap (λ (before : Option Stray). first_stray before stray) chose.met)
 
 pub ends_refused : {M : Type 0} (numbers : M → FullMark) (old new : DeskState) (lb session at : ℕ) (ask : Ask) (outcome : Outcome) (error : RoomError M)
     → RefusesChoice numbers old new lb session at error → Ends old new lb ask outcome (once.Refused error)

@@ -8,7 +8,7 @@ use Rattle.jk_model.specs.declared.journal.How.{How}
 use Rattle.jk_model.specs.declared.journal.Outcome.{Outcome}
 use Rattle.jk_model.specs.declared.refusal.RoomError.{RoomError}
 use Rattle.jk_model.specs.declared.refusal.RoomError.TheVariants as room
-use Rattle.balancer_core.specs.Desks.{DeskState, RisesByOne}
+use Rattle.balancer_core.specs.Desks.{DeskState, RisesByOne, first_stray}
 use Rattle.balancer_core.specs.ToldBooks.{IsNoneDue, WhereTold}
 use Rattle.balancer_core.specs.declared.receipt.Receipt.{Receipt}
 use Rattle.balancer_checks.specs.declared.callers.Once.{Once}
@@ -45,7 +45,7 @@ Ends old new lb ask outcome once.Unchosen =
     IsUnchosen old new ask × (new.strays ≡ old.strays) × (new.met ≡ old.met) × (new.fulls ≡ old.fulls)
 Ends old new lb ask outcome (once.Refused error) =
     (new.strays ≡ old.strays) × (new.met ≡ old.met) × (error ≡ room.NoMemory → new.fulls ≡ old.fulls)
-Ends old new lb ask outcome (once.Stray stray) = RisesByOne old.strays new.strays × (new.met ≡ true)
+Ends old new lb ask outcome (once.Stray stray) = RisesByOne old.strays new.strays × (new.met ≡ first_stray old.met stray)
 
 -- A fact of the refusal, where the exchange was refused.
 abbrev pub WhereRefused : {M : Type 0} → Once M → (RoomError M → Type 0) → Type 0

@@ -30,8 +30,8 @@ use Rattle.balancer_core.specs.declared.receipt.Receipt.{Receipt}
 
 -- A desk: the receipts of its calls, the tickets that it holds, how many entries it ever added, the number of its
 -- caller where that is fixed, the number of members of each balancer, the parts of its share where it has one, how
--- often a ticket was a stray, a journal was full and a command too wide, whether a stray was met since it was last
--- asked for, and its Books where it tells them.
+-- often a ticket was a stray, a journal was full and a command too wide, the first stray that was met since it was last
+-- asked for one, and its Books where it tells them.
 pub record DeskState : Type 0 where
   pub receipts : List Receipt
   pub held : List (ℕ × ℕ)
@@ -42,7 +42,7 @@ pub record DeskState : Type 0 where
   pub strays : ℕ
   pub fulls : ℕ
   pub wides : ℕ
-  pub met : Bool
+  pub met : Option Stray
   pub books : Option (List Journal)
 
 -- What a lease names.
@@ -82,7 +82,7 @@ BooksGrow lb gained (Some books) now =
 abbrev pub RisesByOne : (before now : ℕ) → Type 0
 RisesByOne before now = now ≡ min (before + 1) 18446744073709551615
 
--- What never changes, the counts that never fall, and a stray that was met. Told Books are sound, before a call as after it.
+-- What never changes, the counts that never fall, and a stray that was met, which stays. Told Books are sound, before a call as after it.
 pub record KeepsDesk (old new : DeskState) : Type 0 where
   pub caller : new.caller ≡ old.caller
   pub sizes : new.sizes ≡ old.sizes
@@ -90,7 +90,7 @@ pub record KeepsDesk (old new : DeskState) : Type 0 where
   pub strays : old.strays ≤ new.strays
   pub fulls : old.fulls ≤ new.fulls
   pub wides : old.wides ≤ new.wides
-  pub met : old.met ≡ true → new.met ≡ true
+  pub met : (stray : Stray) → old.met ≡ Some stray → new.met ≡ Some stray
   pub sound_before : AreSound old.sizes old.books
   pub sound : AreSound new.sizes new.books
 
@@ -186,6 +186,11 @@ pub record IsNotOut (sizes : List ℕ) (books : Option (List Journal)) (lease : 
   pub not_out : is_out book.opening (past_of book) lease.ticket ≡ false
   pub returned : IsReturnedAt (past_of book) lease.ticket stray.returned_at
 
+-- the first stray stays until it is asked for
+abbrev pub first_stray : Option Stray → Stray → Option Stray
+first_stray None stray = Some stray
+first_stray (Some before) stray = Some before
+
 -- The ticket of the lease was not out: nothing was added.
 pub record MeetsStray (old new : DeskState) (lease : LeaseNote) (stray : Stray) : Type 0 where
   pub ticket : stray.ticket ≡ lease.ticket
@@ -193,7 +198,7 @@ pub record MeetsStray (old new : DeskState) (lease : LeaseNote) (stray : Stray) 
   pub added : new.added ≡ old.added
   pub books : new.books ≡ old.books
   pub rose : RisesByOne old.strays new.strays
-  pub met : new.met ≡ true
+  pub met : new.met ≡ first_stray old.met stray
   pub why : IsNotOut old.sizes old.books lease stray
 
 -- The command was done: its entry is the last one that was added.

@@ -60,7 +60,7 @@ plain_state books receipts held strays fulls wides = record {
   strays = strays;
   fulls = fulls;
   wides = wides;
-  met = false;
+  met = None;
   books = Some books;
 }
 

@@ -1,6 +1,7 @@
 -- What a desk keeps over an exchange, and over several requests.
-use Rattle.std.proofs.Common.{◌≡◌, ℕ, subst, sym, arith}
-use Rattle.balancer_core.specs.Desks.{DeskState, MeetsNone}
+use Rattle.std.proofs.Common.{◌≡◌, ℕ, Option, subst, sym, ap, ◌∙◌, arith}
+use Rattle.jk_model.specs.declared.refusal.Stray.{Stray}
+use Rattle.balancer_core.specs.Desks.{DeskState, MeetsNone, first_stray}
 use Rattle.exchange.specs.Rounds.{IsDeskAfter}
 use Rattle.status_worker.specs.Desks.{KeepsTickets}
 use Rattle.status_worker.proofs.DeskLaws.{none_twice}
@@ -32,7 +33,10 @@ pub meets_on : (stop' : SessionStop) (old mid new : DeskState) → MeetsNone old
 meets_on (stop.Closed why') old mid new first second = none_twice old mid new first second
 meets_on stop.ClientFault old mid new first second = none_twice old mid new first second
 meets_on stop.Truncated old mid new first second = none_twice old mid new first second
-meets_on (stop.Stray ticket returned_at) old mid new first second = (rw (← first.strays) second.0, second.1)
+meets_on (stop.Stray ticket returned_at) old mid new first second = (
+  rw (← first.strays) second.0,
+  second.1 ∙ ap (λ (met : Option Stray). first_stray met (record { ticket = ticket; returned_at = returned_at })) first.met,
+)
 meets_on stop.NoMemory old mid new first second = none_twice old mid new first second
 
 -- the session ended so

@@ -1,17 +1,18 @@
 -- What a session's end says of the desk's strays and of the client's faults.
-use Rattle.std.specs.Prelude.{ℕ, ◌≡◌, true}
+use Rattle.std.specs.Prelude.{ℕ, ◌≡◌}
 use Rattle.jk_io.specs.Told.{Rose}
-use Rattle.balancer_core.specs.Desks.{DeskState, MeetsNone, RisesByOne}
+use Rattle.balancer_core.specs.Desks.{DeskState, MeetsNone, RisesByOne, first_stray}
 use Rattle.client_session.specs.declared.ending.SessionEnd.{SessionEnd}
 use Rattle.client_session.specs.declared.ending.SessionStop.{SessionStop}
 use Rattle.client_session.specs.declared.ending.SessionStop.TheVariants as stop
 
--- A stray was met where the session ended by one, and there alone.
+-- A stray was met where the session ended by one, which is the end's, and there alone.
 abbrev pub MeetsBy : SessionStop → DeskState → DeskState → Type 0
 MeetsBy (stop.Closed why) old new = MeetsNone old new
 MeetsBy stop.ClientFault old new = MeetsNone old new
 MeetsBy stop.Truncated old new = MeetsNone old new
-MeetsBy (stop.Stray ticket returned_at) old new = RisesByOne old.strays new.strays × (new.met ≡ true)
+MeetsBy (stop.Stray ticket returned_at) old new =
+    RisesByOne old.strays new.strays × (new.met ≡ first_stray old.met (record { ticket = ticket; returned_at = returned_at }))
 MeetsBy stop.NoMemory old new = MeetsNone old new
 
 -- The client's faults rose where the session ended by one. Unless it ended by a stray they stand else, for want of memory too.

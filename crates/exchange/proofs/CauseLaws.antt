@@ -1,9 +1,10 @@
 -- Why an exchange ended as it did, by the desk and by the last talk.
-use Rattle.std.proofs.Common.{◌≡◌, ℕ, ◌+◌, ◌<◌, min, Bool, true, false, List, [], ◌∷◌, ◌++◌, None, refl, sym, ap, ◌∙◌, subst, inl, inr, ◌⊎◌, arith, append_assoc, append-nil, if◌then◌else◌}
+use Rattle.std.proofs.Common.{◌≡◌, ℕ, ◌+◌, ◌<◌, min, Bool, true, false, List, [], ◌∷◌, ◌++◌, Option, None, refl, sym, ap, ◌∙◌, subst, inl, inr, ◌⊎◌, arith, append_assoc, append-nil, if◌then◌else◌}
 use Rattle.jk_io.specs.Told.{Rose}
 use Rattle.jk_model.specs.declared.journal.Answer.{Answer}
 use Rattle.jk_model.specs.declared.journal.Answer.TheVariants as answer
-use Rattle.balancer_core.specs.Desks.{DeskState, MeetsNone}
+use Rattle.jk_model.specs.declared.refusal.Stray.{Stray}
+use Rattle.balancer_core.specs.Desks.{DeskState, MeetsNone, first_stray}
 use Rattle.balancer_core.specs.declared.receipt.Receipt.{Receipt}
 use Rattle.ajp_talk.specs.Moments.{BodyAt}
 use Rattle.ajp_talk.specs.declared.ending.Cause.{Cause}
@@ -167,6 +168,10 @@ last_met : (q : Errand) (first : List ℕ) (a m n : Scene) (r : Round) (past : L
 last_met q first a m n r past round rest =
     met_on a.desk m.desk n.desk (round_extends q first _ _ a m r round).none (same_met m.desk n.desk (ap (λ (x : Scene). x.desk) rest))
 
+same_stray : (ticket : ℕ) (returned_at : Option ℕ) (stray : Stray) → ticket ≡ stray.ticket → returned_at ≡ stray.returned_at → record { ticket = ticket; returned_at = returned_at } ≡ stray
+same_stray ticket returned_at stray is at =
+    ap (λ (t : ℕ). record { ticket = t; returned_at = returned_at }) is ∙ ap (λ (o : Option ℕ). record { ticket = stray.ticket; returned_at = o }) at
+
 end_met : (q : Errand) (first : List ℕ) (past : List Round) (s : DeskState) (a m n : Scene) (end : ExchangeEnd) → Extends s a.desk → EndsIn q first past a m n end → MeetsAt end s n.desk
 end_met q first past s a m n (exchange_end.Done member told) extends (r, round, is, reply, rest) = met_on s a.desk n.desk extends.none (last_met q first a m n r past round rest)
 end_met q first past s a m n (exchange_end.Own status) extends (cause, writes) =
@@ -176,10 +181,12 @@ end_met q first past s a m n exchange_end.ClientFault extends (inl (r, round, go
 end_met q first past s a m n exchange_end.ClientFault extends (inr (status, cause, breaks, rose)) =
     met_on s a.desk n.desk extends.none (met_on a.desk m.desk n.desk (own_met q first past a m status cause) (same_met m.desk n.desk (desk_rest m n breaks.rest)))
 end_met q first past s a m n exchange_end.Truncated extends (r, round, gone, rest) = met_on s a.desk n.desk extends.none (last_met q first a m n r past round rest)
-end_met q first past s a m n (exchange_end.Stray ticket returned_at) extends (r, stray, round, is, at, rest) = (
-  ap (λ (x : Scene). x.desk.strays) rest ∙ round.back.rose ∙ ap (λ (k : ℕ). min (k + 1) 18446744073709551615) (round.chose.stray ∙ extends.none.strays),
-  ap (λ (x : Scene). x.desk.met) rest ∙ round.back.met,
-)
+end_met q first past s a m n (exchange_end.Stray ticket returned_at) extends (r, stray, round, is, at, rest) =
+    let same : record { ticket = ticket; returned_at = returned_at } ≡ stray = same_stray ticket returned_at stray is at in (
+      ap (λ (x : Scene). x.desk.strays) rest ∙ round.back.rose ∙ ap (λ (k : ℕ). min (k + 1) 18446744073709551615) (round.chose.stray ∙ extends.none.strays),
+      ap (λ (x : Scene). x.desk.met) rest ∙ round.back.met ∙ ap (λ (met : Option Stray). first_stray met stray) (round.chose.met ∙ extends.none.met)
+          ∙ ap (λ (x : Stray). first_stray s.met x) (sym same),
+    )
 end_met q first past s a m n exchange_end.NoMemory extends (inl (none, rest)) =
     met_on s a.desk n.desk extends.none
     (met_on a.desk m.desk n.desk (record { strays = none.why.stray; met = none.why.met }) (same_met m.desk n.desk (ap (λ (x : Scene). x.desk) rest)))

@@ -1,5 +1,5 @@
 -- What a desk keeps over several calls, and the receipts that they add.
-use Rattle.std.proofs.Common.{◌≡◌, ℕ, List, [], ◌∷◌, ◌++◌, Bool, true, false, Option, Some, None, refl, sym, ap, ◌∙◌, subst, arith}
+use Rattle.std.proofs.Common.{◌≡◌, ℕ, List, [], ◌∷◌, ◌++◌, Option, Some, None, refl, sym, ap, ◌∙◌, subst, arith}
 use Rattle.std.proofs.lemmas.List.{append_assoc, append-nil, length-append}
 use Rattle.std.proofs.lemmas.List.Elements.{All-append, All-contains, All-cons, All-head, All-nil, All-push, Contains-push}
 use Rattle.std.specs.List.{All}
@@ -12,7 +12,7 @@ use Rattle.jk_model.specs.declared.journal.Outcome.{Outcome}
 use Rattle.jk_model.specs.declared.refusal.FullMark.{FullMark}
 use Rattle.jk_model.specs.declared.refusal.RoomError.{RoomError}
 use Rattle.jk_model.specs.declared.refusal.Stray.{Stray}
-use Rattle.balancer_core.specs.Desks.{Chooses, DeskState, Gains, IsDue, IsOwn, KeepsDesk, LeaseNote, MeetsStray, RefusesChoice, TakesBack}
+use Rattle.balancer_core.specs.Desks.{Chooses, DeskState, Gains, IsDue, IsOwn, KeepsDesk, LeaseNote, MeetsStray, RefusesChoice, TakesBack, first_stray}
 use Rattle.balancer_core.specs.Returned.{HaveReturned}
 use Rattle.balancer_core.specs.declared.desk.Choice.{Choice}
 use Rattle.balancer_core.specs.declared.desk.Choice.TheVariants as choice
@@ -31,7 +31,7 @@ untouched lb session desk = record {
   strays = omega arith;
   fulls = omega arith;
   wides = refl;
-  met = λ met. met;
+  met = λ stray is. is;
   sound = λ sound. sound;
   gained = [];
   receipts = sym (append-nil desk.receipts);
@@ -119,7 +119,7 @@ round_back note old mid new lb session at at' ask m lease outcome first chose se
       strays = omega (arith, first.strays, second.strays);
       fulls = omega (arith, first.fulls, second.fulls);
       wides = wides ∙ chose.wide;
-      met = λ met. second.met (first.met met);
+      met = λ stray is. second.met stray (first.met stray is);
       sound = λ sound. second.sound;
       gained = gained ++ back.last ∷ [];
       receipts = gained_twice old mid new gained (back.last ∷ []) chose.gains.gains.receipts own.receipts;
@@ -132,8 +132,9 @@ round_back note old mid new lb session at at' ask m lease outcome first chose se
           (back.returned ∙ ap (λ (l : LeaseNote). call.Return l.ticket outcome) chose.answered.3) back.done;
     }
 
-none_is_met : (met : Bool) → met ≡ true → met ≡ false → ⊥
-none_is_met met is none = cc (is, none)
+none_is_met : (before met : Option Stray) (stray : Stray) → met ≡ first_stray before stray → met ≡ None → ⊥
+none_is_met None met stray is none = absurd cc
+none_is_met (Some first) met stray is none = absurd cc
 
 -- A member was chosen, and the ticket was a stray.
 round_stray : {T : Type 0} (note : T → LeaseNote) (old mid new : DeskState) (lb session at : ℕ) (ask : Ask) (m : ℕ) (lease : T) (stray : Stray)
@@ -148,13 +149,13 @@ round_stray note old mid new lb session at ask m lease stray first chose second 
       strays = omega (arith, first.strays, second.strays);
       fulls = omega (arith, first.fulls, second.fulls);
       wides = wides ∙ chose.wide;
-      met = λ met. second.met (first.met met);
+      met = λ stray is. second.met stray (first.met stray is);
       sound = λ sound. second.sound;
       gained = gained;
       receipts = met.receipts ∙ chose.gains.gains.receipts;
       added = met.added ∙ chose.gains.gains.added;
       own = own_kindly old mid lb session at gained chose.gains.gains (asked_kindly note old mid lb session at ask (choice.Chosen m lease) chose);
-      returned = λ none. absurd (none_is_met new.met met.met none);
+      returned = λ none. absurd (none_is_met mid.met new.met stray met.met none);
     }
 
 pub after_round : {T : Type 0} (note : T → LeaseNote) (old mid new : DeskState) (lb session at at' : ℕ) (ask : Ask) (m : ℕ) (lease : T) (outcome : Outcome) (stray : Option Stray)
@@ -168,9 +169,9 @@ after_round note old mid new lb session at at' ask m lease outcome (Some stray) 
 -- ---- twice
 
 -- No stray waits after both, so none did between them.
-none_between : (mid new : Bool) → (mid ≡ true → new ≡ true) → new ≡ false → mid ≡ false
-none_between false new met none = refl
-none_between true new met none = cc (met refl, none)
+none_between : (mid new : Option Stray) → ((stray : Stray) → mid ≡ Some stray → new ≡ Some stray) → new ≡ None → mid ≡ None
+none_between None new met none = refl
+none_between (Some stray) new met none = absurd cc (met stray refl, none)
 
 pub same_twice : (lb session : ℕ) (old mid new : DeskState) → IsDeskAfter lb session old mid → IsDeskAfter lb session mid new
     → IsDeskAfter lb session old new
@@ -181,7 +182,7 @@ same_twice lb session old mid new first second = record {
   strays = omega (arith, first.strays, second.strays);
   fulls = omega (arith, first.fulls, second.fulls);
   wides = second.wides ∙ first.wides;
-  met = λ met. second.met (first.met met);
+  met = λ stray is. second.met stray (first.met stray is);
   sound = λ sound. second.sound (first.sound sound);
   gained = first.gained ++ second.gained;
   receipts = gained_twice old mid new first.gained second.gained first.receipts second.receipts;

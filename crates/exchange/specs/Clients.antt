@@ -5,7 +5,7 @@ use Rattle.jk_io.specs.declared.reaching.Talk.{Talk}
 use Rattle.jk_model.specs.declared.member.MemberConfig.{MemberConfig}
 use Rattle.jk_model.specs.declared.journal.Answer.{Answer}
 use Rattle.jk_model.specs.declared.journal.Answer.TheVariants as answer
-use Rattle.balancer_core.specs.Desks.{DeskState, MeetsNone, RisesByOne}
+use Rattle.balancer_core.specs.Desks.{DeskState, MeetsNone, RisesByOne, first_stray}
 use Rattle.balancer_core.specs.declared.receipt.Receipt.{Receipt}
 use Rattle.ajp_request.specs.Writing.{Fits}
 use Rattle.ajp_reply.specs.Stream.{Spelled}
@@ -214,14 +214,15 @@ Gives q s n exchange_end.Truncated =
 Gives q s n (exchange_end.Stray ticket returned_at) = Rose s.desk.strays n.desk.strays × GetsFront q s.around n.around
 Gives q s n exchange_end.NoMemory = GetsLess q s.around n.around
 
--- A stray was met where the exchange ended by one, and there alone.
+-- A stray was met where the exchange ended by one, which is the end's, and there alone.
 abbrev pub MeetsAt : ExchangeEnd → DeskState → DeskState → Type 0
 MeetsAt (exchange_end.Done member told) old new = MeetsNone old new
 MeetsAt (exchange_end.Own status) old new = MeetsNone old new
 MeetsAt (exchange_end.Cut member told) old new = MeetsNone old new
 MeetsAt exchange_end.ClientFault old new = MeetsNone old new
 MeetsAt exchange_end.Truncated old new = MeetsNone old new
-MeetsAt (exchange_end.Stray ticket returned_at) old new = RisesByOne old.strays new.strays × (new.met ≡ true)
+MeetsAt (exchange_end.Stray ticket returned_at) old new =
+    RisesByOne old.strays new.strays × (new.met ≡ first_stray old.met (record { ticket = ticket; returned_at = returned_at }))
 MeetsAt exchange_end.NoMemory old new = MeetsNone old new
 
 abbrev pub MeetsThere : Errand → Scene → Scene → ExchangeEnd → Type 0

@@ -157,10 +157,10 @@ pub record IsDeskAfter (lb session : ℕ) (old new : DeskState) : Type 0 where
   pub strays : old.strays ≤ new.strays
   pub fulls : old.fulls ≤ new.fulls
   pub wides : new.wides ≡ old.wides
-  pub met : old.met ≡ true → new.met ≡ true
+  pub met : (stray : Stray) → old.met ≡ Some stray → new.met ≡ Some stray
   pub sound : AreSound old.sizes old.books → AreSound new.sizes new.books
   pub gained : List Receipt
   pub receipts : new.receipts ≡ old.receipts ++ gained
   pub added : new.added ≡ old.added + length gained
   pub own : All (IsReceiptOf lb session) gained
-  pub returned : new.met ≡ false → HaveReturned gained
+  pub returned : new.met ≡ None → HaveReturned gained

@@ -53,7 +53,7 @@ start_of lock sizes pools watch format gear = record {
     watch = watch;
   };
   clock = gear.clock;
-  desk = record { desk = shared_desk sizes 1 [] [] 0 0 0 0 false; shelf = gear.shelf; forgotten = 0; wants = 0; met = None; seat = record { lock = lock; number = 0; seen = [] } };
+  desk = record { desk = shared_desk sizes 1 [] [] 0 0 0 0 None; shelf = gear.shelf; forgotten = 0; wants = 0; met = None; seat = record { lock = lock; number = 0; seen = [] } };
   log = new_log format gear.log;
 }
 

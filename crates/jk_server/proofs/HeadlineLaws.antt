@@ -1,5 +1,5 @@
 -- The headline of a run, by what its workers did and how its closing ended.
-use Rattle.std.proofs.Common.{ℕ, suc, ◌≡◌, ◌+◌, List, [], ◌∷◌, length, map, Option, refl, ap, ◌∙◌}
+use Rattle.std.proofs.Common.{ℕ, suc, ◌≡◌, ◌+◌, List, [], ◌∷◌, length, map, Option, refl, sym, ap, ◌∙◌, subst}
 use Rattle.std.specs.List.{All, AllZip}
 use Rattle.std.proofs.lemmas.List.Elements.{All-head, All-tail}
 use Rattle.jk_io.specs.Told.{Rose}
@@ -8,6 +8,7 @@ use Rattle.jk_io.specs.declared.traits.surroundings.Peer.{Peer}
 use Rattle.jk_model.specs.declared.journal.Entry.{Entry}
 use Rattle.jk_model.specs.declared.segment.Segment.{Segment}
 use Rattle.balancer_core.specs.Journal.{Journal}
+use Rattle.balancer_core.specs.Returned.{AreReturned, HaveReturned}
 use Rattle.balancer_core.specs.declared.receipt.Receipt.{Receipt}
 use Rattle.client_session.specs.Requests.{Visit}
 use Rattle.locked_balancer.specs.Histories.{SeatNote, noted, own_in}
@@ -16,24 +17,27 @@ use Rattle.request_log.specs.declared.format.Part.{Part as FormatPart}
 use Rattle.request_log.specs.LogStates.{LogState}
 use Rattle.gear_parts.specs.Gears.{GearSide}
 use Rattle.jk_server.specs.Closings.{Closes, KeepsFirst, Shelves, ShelvesFront}
-use Rattle.jk_server.specs.Headline.{AreEnded, AreSessions, HasBooks, IsHeadline, IsOneList, told_in}
+use Rattle.jk_server.specs.Headline.{AreEnded, AreSessions, HasBooks, IsHeadline, IsOneList, MetNoStray, NamesItsStray, told_in}
 use Rattle.jk_server.specs.Runs.{AreServedGears}
 use Rattle.jk_server.specs.Served.{Run}
 use Rattle.jk_server.specs.Worker.{Keeps}
 use Rattle.jk_server.specs.declared.part.WorkerEnd.{WorkerEnd}
 use Rattle.jk_server.specs.declared.runs.ends.Closing.{Closing}
 use Rattle.jk_server.specs.declared.runs.ends.Closing.TheVariants as closing
+use Rattle.jk_server.proofs.StrayLaws.{served_back, served_names}
 
--- The sessions of all workers, and what each seat has seen as its own.
+-- The sessions of all workers, what each seat has seen as its own, and of which sessions the tickets came back.
 record HaveServed {C S Y L X : Type 0} (visits : ℕ → Peer → Visit) (told : Ghosts C X) (of : Keeps S Y) (number : ℕ) (seats : List SeatNote) (ends : List (WorkerEnd L)) : Type 0 where
   workers : List (List (Run C S Y))
   each : length workers ≡ length ends
   sessions : AreSessions visits told of number workers
   own : AllZip (λ (s : SeatNote) (runs : List (Run C S Y)). own_in s.number s.seen ≡ noted (told_in runs)) seats workers
+  back : AllZip (λ (s : SeatNote) (runs : List (Run C S Y)). MetNoStray runs → HaveReturned (told_in runs)) seats workers
+  strays : AllZip NamesItsStray workers ends
 
 have_served : {C S O L X : Type 0} (visits : ℕ → Peer → Visit) (told : Ghosts C X) (of : Keeps S (Option (LogState O))) (format : List FormatPart) (number : ℕ) (before after : List (GearSide C S O)) (seats : List SeatNote) (ends : List (WorkerEnd L))
     → AreServedGears visits told of format number before after seats ends → HaveServed visits told of number seats ends
-have_served visits told of format number [] [] [] [] served = record { workers = []; each = refl; sessions = tt; own = tt }
+have_served visits told of format number [] [] [] [] served = record { workers = []; each = refl; sessions = tt; own = tt; back = tt; strays = tt }
 have_served visits told of format number (b ∷ before) (a ∷ after) (s ∷ seats) (e ∷ ends) served =
     let rest = have_served visits told of format (number + 1) before after seats ends served.1 in
     record {
@@ -41,6 +45,14 @@ have_served visits told of format number (b ∷ before) (a ∷ after) (s ∷ sea
       each = ap (λ (n : ℕ). suc n) rest.each;
       sessions = (served.0.served.sessions, rest.sessions);
       own = (served.0.own, rest.own);
+      back = (
+        served_back (visits number) told of b.door a.door served.0.from served.0.to served.0.served.runs e served.0.served.why served.0.served.sessions served.0.fresh.no_stray.1,
+        rest.back,
+      );
+      strays = (
+        served_names (visits number) told of b.door a.door served.0.from served.0.to served.0.served.runs e served.0.served.why served.0.served.sessions served.0.fresh.no_stray.1,
+        rest.strays,
+      );
     }
 have_served visits told of format number [] [] [] (e ∷ ends) served = absurd served
 have_served visits told of format number [] [] (s ∷ seats) ends served = absurd served
@@ -53,7 +65,7 @@ have_served visits told of format number (b ∷ before) (a ∷ after) (s ∷ sea
 told_each : {C S Y : Type 0} (log : List (ℕ × (ℕ × Entry))) (seats : List SeatNote) (workers : List (List (Run C S Y)))
     → All (λ s. own_in s.number log ≡ own_in s.number s.seen) seats
     → AllZip (λ (s : SeatNote) (runs : List (Run C S Y)). own_in s.number s.seen ≡ noted (told_in runs)) seats workers
-    → AllZip (λ (n : ℕ) (receipts : List Receipt). own_in n log ≡ noted receipts) (map (λ s. s.number) seats) (map told_in workers)
+    → AllZip (λ (n : ℕ) (runs : List (Run C S Y)). own_in n log ≡ noted (told_in runs)) (map (λ s. s.number) seats) workers
 told_each log [] [] all own = tt
 told_each log [] (w ∷ workers) all own = absurd own
 told_each log (s ∷ seats) [] all own = absurd own
@@ -62,10 +74,24 @@ told_each log (s ∷ seats) (w ∷ workers) all own = (
   told_each log seats workers (All-tail (λ (t : SeatNote). own_in t.number log ≡ own_in t.number t.seen) s seats all) own.1,
 )
 
+-- So the tickets that the one history has as given out to a desk that met no stray came back in it.
+returned_each : {C S Y : Type 0} (log : List (ℕ × (ℕ × Entry))) (seats : List SeatNote) (workers : List (List (Run C S Y)))
+    → AllZip (λ (n : ℕ) (runs : List (Run C S Y)). own_in n log ≡ noted (told_in runs)) (map (λ s. s.number) seats) workers
+    → AllZip (λ (s : SeatNote) (runs : List (Run C S Y)). MetNoStray runs → HaveReturned (told_in runs)) seats workers
+    → AllZip (λ (n : ℕ) (runs : List (Run C S Y)). MetNoStray runs → AreReturned (own_in n log)) (map (λ s. s.number) seats) workers
+returned_each log [] [] told back = tt
+returned_each log [] (w ∷ workers) told back = absurd back
+returned_each log (s ∷ seats) [] told back = absurd back
+returned_each log (s ∷ seats) (w ∷ workers) told back = (
+  λ calm. subst AreReturned (sym told.0) (back.0 calm),
+  returned_each log seats workers told.1 back.1,
+)
+
 one_list : {C S Y : Type 0} (lbs : List Lb) (seats : List SeatNote) (workers : List (List (Run C S Y))) (books : List Journal) → AreEnded lbs seats books
     → AllZip (λ (s : SeatNote) (runs : List (Run C S Y)). own_in s.number s.seen ≡ noted (told_in runs)) seats workers
-    → IsOneList lbs (map told_in workers) books
-one_list lbs seats workers books ended own = record {
+    → AllZip (λ (s : SeatNote) (runs : List (Run C S Y)). MetNoStray runs → HaveReturned (told_in runs)) seats workers
+    → IsOneList lbs workers books
+one_list lbs seats workers books ended own back = record {
   at = ended.at;
   begun = ended.begun;
   starts = ended.starts;
@@ -74,6 +100,7 @@ one_list lbs seats workers books ended own = record {
   numbers = map (λ s. s.number) seats;
   apart = ended.closed.closed.apart;
   told = told_each ended.closed.closed.log seats workers ended.closed.closed.own own;
+  returned = returned_each ended.closed.closed.log seats workers (told_each ended.closed.closed.log seats workers ended.closed.closed.own own) back;
   no_other = ended.closed.no_other;
 }
 
@@ -103,5 +130,6 @@ headline_of visits told of format shelved faults lbs begun left back seats books
       workers = all.workers;
       each = all.each;
       sessions = all.sessions;
-      journal = λ has. one_list lbs seats all.workers books (ends_with shelved faults lbs seats books left back end closes has) all.own;
+      strays = all.strays;
+      journal = λ has. one_list lbs seats all.workers books (ends_with shelved faults lbs seats books left back end closes has) all.own all.back;
     }

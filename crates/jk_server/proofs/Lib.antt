@@ -7,4 +7,5 @@ pub mod ReturnLaws
 pub mod RunLaws
 pub mod SlotLaws
 pub mod StartLaws
+pub mod StrayLaws
 pub mod ToldLaws

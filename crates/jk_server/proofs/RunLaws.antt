@@ -1,6 +1,6 @@
 -- Clients that a worker has served so far, and what it makes of the door's next answer.
 use Rattle.std.proofs.Common.{ℕ, ◌≡◌, ◌<◌, ◌≤◌, ◌+◌, true, false, min, List, [], ◌∷◌, ◌++◌, ◌⊎◌, length, map, Option, Some, None, inl, inr, refl, sym, ap, subst, ◌∙◌, arith}
-use Rattle.std.specs.Prelude.{IfSome}
+use Rattle.std.specs.Prelude.{IfSome, IsSome}
 use Rattle.std.proofs.lemmas.List.{length-append, map-append}
 use Rattle.std.proofs.lemmas.List.Elements.{All-nil, All-push}
 use Rattle.jk_io.specs.Told.{appended, IsEmpty, Rose}
@@ -11,7 +11,8 @@ use Rattle.jk_io.specs.declared.failures.IoError.TheVariants as io
 use Rattle.jk_io.specs.declared.traits.surroundings.Peer.{Peer}
 use Rattle.door_clients.specs.Doors.{DoorSide, GaveAndGot, Gives, GivesNone}
 use Rattle.door_clients.proofs.DoorLaws.{none_came, none_more, one_more}
-use Rattle.balancer_core.specs.Desks.{DeskState}
+use Rattle.jk_model.specs.declared.refusal.Stray.{Stray}
+use Rattle.balancer_core.specs.Desks.{DeskState, first_stray}
 use Rattle.client_session.specs.Ends.{MeetsBy}
 use Rattle.client_session.specs.Ready.{IsReady}
 use Rattle.client_session.specs.Requests.{Visit, visit}
@@ -318,12 +319,16 @@ turns_again told post first now next count more turn is keeps = record {
 
 -- ---- what a session is asked with, and what a worker may serve with after it
 
+some_met : (before now : Option Stray) (stray : Stray) → now ≡ first_stray before stray → IsSome now
+some_met None now stray is = rw is tt
+some_met (Some first) now stray is = rw is tt
+
 -- a stray was met where the session ended by one
-pub stray_met : (end : SessionStop) (old new : DeskState) → MeetsBy end old new → IsStray end → new.met ≡ true
+pub stray_met : (end : SessionStop) (old new : DeskState) → MeetsBy end old new → IsStray end → IsSome new.met
 stray_met (stop.Closed why) old new meets stray = absurd stray
 stray_met stop.ClientFault old new meets stray = absurd stray
 stray_met stop.Truncated old new meets stray = absurd stray
-stray_met (stop.Stray ticket returned_at) old new meets stray = meets.1
+stray_met (stop.Stray ticket returned_at) old new meets stray = some_met old.met new.met _ meets.1
 stray_met stop.NoMemory old new meets stray = absurd stray
 
 -- A desk that holds what another does, for the same caller and balancers, with the same parts.
@@ -341,7 +346,7 @@ holds_same from to same = record {
   parts = ap (λ (x : DeskState). x.parts) same;
 }
 
-holds_took : (from to : DeskState) → to ≡ record from { met = false } → HoldsAs from to
+holds_took : (from to : DeskState) → to ≡ record from { met = None } → HoldsAs from to
 holds_took from to same = record {
   caller = ap (λ (x : DeskState). x.caller) same;
   sizes = ap (λ (x : DeskState). x.sizes) same;

@@ -2,26 +2,30 @@
 --
 -- Of the run there is one list of entries, sound from where the balancers of the configuration start and ending in the present
 -- state of the Books, of which the last segments went to the shelf. The sessions of each worker were told exactly the entries of
--- its own desk in it, in order, each once; and each entry of the list was told to a session of one worker.
+-- its own desk in it, in order, each once; and each entry of the list was told to a session of one worker. Of each worker that
+-- met no stray, each ticket that a Select gave out came back by a later Return in the list.
 -- Each client was served by one session, of which `IsRun` says what its requests were, what the desk, the talks and the client
 -- have of them, and why it ended.
-use Rattle.std.specs.Prelude.{ℕ, ◌≡◌, ◌+◌, List, [], ◌∷◌, length, map}
+use Rattle.std.specs.Prelude.{ℕ, ◌≡◌, ◌+◌, List, [], ◌∷◌, ◌++◌, length, map}
 use Rattle.std.specs.List.{All, AllZip, Contains, flat_map}
 use Rattle.jk_io.specs.declared.traits.streams.Meanings.{Ghosts}
 use Rattle.jk_io.specs.declared.traits.surroundings.Peer.{Peer}
 use Rattle.jk_model.specs.declared.journal.Entry.{Entry}
 use Rattle.balancer_core.specs.Journal.{Journal}
+use Rattle.balancer_core.specs.Returned.{AreReturned}
 use Rattle.balancer_core.specs.declared.receipt.Receipt.{Receipt}
 use Rattle.client_session.specs.Requests.{Visit}
+use Rattle.client_session.specs.declared.ending.SessionStop.TheVariants as stop
 use Rattle.exchange.specs.Requests.{sizes_of}
 use Rattle.locked_balancer.specs.Histories.{AreDistinct, IsSiteHistory, SeatNote, noted, own_in, starts_of}
 use Rattle.locked_balancer.specs.Sites.{AreSited}
 use Rattle.site_books.specs.Starts.{AreStarts}
 use Rattle.site_closing.specs.OneHistory.{IsWhole}
 use Rattle.site_config.specs.declared.balancer.Lb.{Lb}
-use Rattle.jk_server.specs.Served.{IsRun, Run}
+use Rattle.jk_server.specs.Served.{IsRun, IsStray, Run}
 use Rattle.jk_server.specs.Worker.{Keeps}
 use Rattle.jk_server.specs.declared.part.WorkerEnd.{WorkerEnd}
+use Rattle.jk_server.specs.declared.part.WorkerEnd.TheVariants as worker
 use Rattle.jk_server.specs.declared.runs.ends.Closing.{Closing}
 use Rattle.jk_server.specs.declared.runs.ends.Closing.TheVariants as closing
 
@@ -29,10 +33,15 @@ use Rattle.jk_server.specs.declared.runs.ends.Closing.TheVariants as closing
 abbrev pub told_in : {C S Y : Type 0} → List (Run C S Y) → List Receipt
 told_in runs = flat_map (λ r. r.to.desk.desk.receipts) runs
 
+-- none of these sessions ended by a stray
+abbrev pub MetNoStray : {C S Y : Type 0} → List (Run C S Y) → Type 0
+MetNoStray runs = All (λ r. IsStray r.end.stop → ⊥) runs
+
 -- One list of entries, each with the number of the desk that added it and with its balancer, made these Books what they are.
 -- The balancers began with number 0 at the moment `at`. Each worker had a desk of another number, and of that number the list
 -- has exactly what the worker's sessions were told, in order. It has no other entries: each has the number of one of these desks.
-pub record IsOneList (lbs : List Lb) (tellings : List (List Receipt)) (books : List Journal) : Type 0 where
+-- Unless a session of the worker ended by a stray, each ticket that a Select of that number gave out came back by a later Return.
+pub record IsOneList {C S Y : Type 0} (lbs : List Lb) (workers : List (List (Run C S Y))) (books : List Journal) : Type 0 where
   pub at : ℕ
   pub begun : List Journal
   pub starts : AreStarts lbs at 0 begun
@@ -40,13 +49,25 @@ pub record IsOneList (lbs : List Lb) (tellings : List (List Receipt)) (books : L
   pub history : IsSiteHistory (starts_of begun) log books
   pub numbers : List ℕ
   pub apart : AreDistinct numbers
-  pub told : AllZip (λ number receipts. own_in number log ≡ noted receipts) numbers tellings
+  pub told : AllZip (λ number runs. own_in number log ≡ noted (told_in runs)) numbers workers
+  pub returned : AllZip (λ number runs. MetNoStray runs → AreReturned (own_in number log)) numbers workers
   pub no_other : All (λ x. Contains numbers x.0) log
 
 -- Each client of these workers was served by a session of the worker's number.
 abbrev pub AreSessions : {C S Y X : Type 0} → (ℕ → Peer → Visit) → Ghosts C X → Keeps S Y → (number : ℕ) → List (List (Run C S Y)) → Type 0
 AreSessions visits told of number [] = Unit {0}
 AreSessions visits told of number (runs ∷ workers) = All (IsRun (visits number) told of) runs × AreSessions visits told of (number + 1) workers
+
+-- A worker that ended by a stray names the one by which its last session ended.
+abbrev pub NamesItsStray : {C S Y L : Type 0} → List (Run C S Y) → WorkerEnd L → Type 0
+NamesItsStray runs (worker.Closed sessions) = Unit {0}
+NamesItsStray runs worker.DoorFault = Unit {0}
+NamesItsStray runs worker.ShelfFault = Unit {0}
+NamesItsStray runs worker.LogFault = Unit {0}
+NamesItsStray {C} {S} {Y} runs (worker.Stray note) =
+    (before : List (Run C S Y)) × (last : Run C S Y) × (runs ≡ before ++ last ∷ [])
+    × (last.end.stop ≡ stop.Stray note.stray.ticket note.stray.returned_at)
+NamesItsStray runs worker.NoMemory = Unit {0}
 
 -- The closing took the Books from behind their lock.
 abbrev pub HasBooks : {L : Type 0} → Closing L → Type 0
@@ -55,13 +76,14 @@ HasBooks closing.ShelfFault = Unit {0}
 HasBooks (closing.Differs d) = ⊥
 HasBooks closing.NoMemory = ⊥
 
--- The headline: the sessions of each worker, in order, and the one list that tells the same as they were told and made the Books
--- that the closing took what they are.
+-- The headline: the sessions of each worker, in order, with the stray that a worker's end names, and the one list that tells the
+-- same as they were told and made the Books that the closing took what they are.
 pub record IsHeadline {C S Y L X : Type 0} (visits : ℕ → Peer → Visit) (told : Ghosts C X) (of : Keeps S Y) (lbs : List Lb) (ends : List (WorkerEnd L)) (closing : Closing L) (books : List Journal) : Type 0 where
   pub workers : List (List (Run C S Y))
   pub each : length workers ≡ length ends
   pub sessions : AreSessions visits told of 0 workers
-  pub journal : HasBooks closing → IsOneList lbs (map told_in workers) books
+  pub strays : AllZip NamesItsStray workers ends
+  pub journal : HasBooks closing → IsOneList lbs workers books
 
 -- ---- by the seats that the desks left
 

@@ -36,7 +36,7 @@ pub record IsNew {S : Type 0} (desk : SharedState S) : Type 0 where
   pub no_receipt : desk.desk.receipts ≡ []
   pub none_held : desk.desk.held ≡ []
   pub none_forgotten : desk.forgotten ≡ 0
-  pub no_stray : desk.met ≡ None
+  pub no_stray : (desk.met ≡ None) × (desk.desk.met ≡ None)
   pub none_seen : desk.seat.seen ≡ []
 
 -- A worker served the clients of its gear's door, each by one session, in order, with the talks on its tape; it began a log of

@@ -82,7 +82,8 @@ DeskEnds faults from to end (worker.Closed sessions) = ⊥
 DeskEnds faults from to end worker.DoorFault = ⊥
 DeskEnds faults from to end worker.ShelfFault = Rose (faults from.shelf) (faults to.shelf)
 DeskEnds faults from to end worker.LogFault = ⊥
-DeskEnds faults from to end (worker.Stray stray) = IsStray end × (to.met ≡ Some stray) × (faults to.shelf ≡ faults from.shelf)
+DeskEnds faults from to end (worker.Stray stray) =
+    IsStray end × (to.met ≡ Some stray) × (to.desk.met ≡ Some stray.stray) × (faults to.shelf ≡ faults from.shelf)
 DeskEnds faults from to end worker.NoMemory =
     ((end ≡ stop.NoMemory) ⊎ (from.wants < to.wants)) × (faults to.shelf ≡ faults from.shelf) × (IsStray end → ⊥)
 

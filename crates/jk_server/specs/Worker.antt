@@ -74,7 +74,7 @@ pub record Rests {S Y : Type 0} (w n : WorkerSide S Y) : Type 0 where
 
 -- a desk whose stray was taken
 abbrev pub took : {S : Type 0} → SharedState S → SharedState S
-took d = record d { desk = record d.desk { met = false }; met = None }
+took d = record d { desk = record d.desk { met = None }; met = None }
 
 -- A worker may serve this site with what it has: each worker of the map stands in the configuration, desk and reach have
 -- the sizes of its balancers, the desk holds no ticket, and no talk runs.

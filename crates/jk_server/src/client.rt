@@ -59,8 +59,8 @@ fn forget_last<L: SiteName, S: Shelf, W>(desk: &mut SharedDesk<'_, '_, L, S, W>)
 
 /// Takes the stray that a session met.
 fn stray_of<L: SiteName, S: Shelf, W>(desk: &mut SharedDesk<'_, '_, L, S, W>) -> WorkerEnd<L>
-    requires { desk.old.desk.met ≡ true }
-    ensures { (s : StrayNote) × (result ≡ WorkerEnd.Stray s) × (desk.old.met ≡ Some s) × (desk.new ≡ took desk.old) }
+    requires { IsSome desk.old.desk.met }
+    ensures { (s : StrayNote) × (result ≡ WorkerEnd.Stray s) × (desk.old.met ≡ Some s) × (desk.old.desk.met ≡ Some s.stray) × (desk.new ≡ took desk.old) }
 {
     match desk.take_stray() {
         Some(stray) => WorkerEnd::Stray(stray),
@@ -75,7 +75,7 @@ fn end_after<L: SiteName, S: Shelf, W>(
     before: ShelfCounts,
     stop: SessionStop,
 ) -> Option<WorkerEnd<L>>
-    requires { IsStray stop → desk.old.desk.met ≡ true }
+    requires { IsStray stop → IsSome desk.old.desk.met }
     ensures { (from : SharedState S) → before.faults ≡ S.faults from.shelf → before.wants ≡ from.wants
         → S.faults from.shelf ≤ S.faults desk.old.shelf → from.wants ≤ desk.old.wants
         → DeskSettles S.faults from desk.old desk.new stop result }
@@ -103,7 +103,7 @@ fn end_by<L: SiteName, S: Shelf, W>(
     before: ShelfCounts,
     stop: SessionStop,
 ) -> Option<WorkerEnd<L>>
-    requires { IsStray stop → desk.old.desk.met ≡ true }
+    requires { IsStray stop → IsSome desk.old.desk.met }
     ensures { (from : SharedState S) → before.faults ≡ S.faults from.shelf → before.wants ≡ from.wants
         → S.faults from.shelf ≤ S.faults desk.old.shelf → from.wants ≤ desk.old.wants
         → SettlesBy broken S.faults from desk.old desk.new stop result }
@@ -123,7 +123,7 @@ fn close_client<L: SiteName, D: Door, R, K, S: Shelf, W, Y: WorkerLog>(
     stop: SessionStop,
 ) -> Option<WorkerEnd<L>>
     requires room { 0 < D.room part.old.door }
-    requires stray { IsStray stop → part.old.desk.desk.met ≡ true }
+    requires stray { IsStray stop → IsSome part.old.desk.desk.met }
     ensures left { D.left part.new.door ≡ appended (D.left part.old.door) (link ∷ []) }
     ensures same_door { (D.coming part.new.door ≡ D.coming part.old.door) × (D.faults part.new.door ≡ D.faults part.old.door) }
     ensures same { (part.new.reach ≡ part.old.reach) × (part.new.clock ≡ part.old.clock) × (part.new.log ≡ part.old.log) }

@@ -1,5 +1,5 @@
 -- How many entries a seat has seen as its own, after one hold more.
-use Rattle.std.proofs.Common.{◌≡◌, ℕ, ◌+◌, List, [], ◌++◌, length, drop, Option, inl, inr, ap, ◌∙◌, arith, false}
+use Rattle.std.proofs.Common.{◌≡◌, ℕ, ◌+◌, List, [], ◌++◌, length, drop, Option, None, inl, inr, ap, ◌∙◌, arith}
 use Rattle.std.specs.Prelude.{IfErr, IfOk, Result, Ok, Err}
 use Rattle.std.proofs.lemmas.List.{length-append, length-drop, length-map}
 use Rattle.atomic_table.specs.Seated.{TableId}
@@ -79,13 +79,13 @@ count_looked starts lock lock' old new a a' sees same counted =
 
 pub adds_choice : (sizes : List ℕ) (old new : SharedLists) (on : Occasion) (ask : Ask) (r : Result (Choice LeaseNote) (RoomError MarkNote))
     → IfOk r (ListsChoose sizes old new on ask) → IfErr r (ListsDeny sizes old new on) → Adds old.receipts new.receipts
-adds_choice sizes old new on ask (Ok c) ok err = (_, (ok 0 0 0 false).gains.gains.receipts)
-adds_choice sizes old new on ask (Err e) ok err = (_, (err 0 0 0 0 0 false).gains.receipts)
+adds_choice sizes old new on ask (Ok c) ok err = (_, (ok 0 0 0 None).gains.gains.receipts)
+adds_choice sizes old new on ask (Err e) ok err = (_, (err 0 0 0 0 0 None).gains.receipts)
 
 pub adds_command : {U : Type 0} (sizes : List ℕ) (old new : SharedLists) (on : Occasion) (command : Command) (r : Result U (AdminError MarkNote))
     → IfOk r (λ _. ListsCommand sizes old new on command) → IfErr r (ListsRefuse sizes old new on command) → Adds old.receipts new.receipts
-adds_command sizes old new on command (Ok c) ok err = (_, (ok 0 0 0 false).gains.gains.receipts)
-adds_command sizes old new on command (Err e) ok err = (_, (err 0 0 0 0 0 false).gains.receipts)
+adds_command sizes old new on command (Ok c) ok err = (_, (ok 0 0 0 None).gains.gains.receipts)
+adds_command sizes old new on command (Err e) ok err = (_, (err 0 0 0 0 0 None).gains.receipts)
 
 -- One receipt more, or none, by the length of the list and the share's amount.
 pub count_back : {S : Type 0} (starts : List Opening) (lock lock' : TableId) (old new : Me (Option S) (View (ℕ × Entry))) (rs rs' : List Receipt) (a a' k : ℕ)

@@ -16,8 +16,9 @@ use Rattle.jk_model.specs.declared.refusal.AdminError.{AdminError}
 use Rattle.jk_model.specs.declared.refusal.AdminError.TheVariants as admin
 use Rattle.jk_model.specs.declared.refusal.RoomError.{RoomError}
 use Rattle.jk_model.specs.declared.refusal.RoomError.TheVariants as room
+use Rattle.jk_model.specs.declared.refusal.Stray.{Stray}
 use Rattle.jk_model.specs.declared.segment.Segment.{Segment}
-use Rattle.balancer_core.specs.Desks.{Chooses, Commands, DeskState, KeepsDesk, RefusesChoice, RefusesCommand, Gains, GainsDue, GainsLast, IsAskRefusal, IsChoice, IsCommandRefusal, IsDue, IsOwn, LeaseNote, Shows, TakesBack, holds, is_pair, without_last}
+use Rattle.balancer_core.specs.Desks.{Chooses, Commands, DeskState, KeepsDesk, RefusesChoice, RefusesCommand, Gains, GainsDue, GainsLast, IsAskRefusal, IsChoice, IsCommandRefusal, IsDue, IsOwn, LeaseNote, first_stray, Shows, TakesBack, holds, is_pair, without_last}
 use Rattle.balancer_core.specs.Journal.{Journal, next_number, past_of}
 use Rattle.balancer_core.specs.ToldBooks.{AreNextAt, AreSound, Follows, IsFound}
 use Rattle.balancer_core.specs.declared.desk.Choice.{Choice}
@@ -26,12 +27,12 @@ use Rattle.balancer_core.specs.declared.receipt.Receipt.{Receipt}
 use Rattle.balancer_core.proofs.PlainLaws.{pair_is}
 use Rattle.balancer_core.proofs.ToldLaws.{some_is}
 use Rattle.locked_balancer.specs.Holds.{CutsFirst, HeldState, HoldChooses, HoldCommands, HoldGains, HoldDenies, HoldGainsDue, HoldGainsLast, HoldRefuses, IsHoldChoice, held}
-use Rattle.locked_balancer.specs.Notes.{MarkNote, ViewNote}
+use Rattle.locked_balancer.specs.Notes.{MarkNote, StrayNote, ViewNote}
 use Rattle.locked_balancer.specs.Shelves.{CutsAt}
 use Rattle.locked_balancer.specs.Sites.{AreSited}
 use Rattle.locked_balancer.proofs.HoldLaws.{sited_found}
 use Rattle.locked_balancer.proofs.LockLaws.{after_cut, returned as returned_done}
-use Rattle.locked_balancer.specs.SharedDesks.{AreKnown, CountsFull, CountsRefusal, GoesOnFrom, IsShared, pairs_of, shared_desk}
+use Rattle.locked_balancer.specs.SharedDesks.{AreKnown, CountsFull, CountsRefusal, GoesOnFrom, IsShared, first_met, pairs_of, shared_desk, stray_in}
 
 pub none_sound : (sizes : List ℕ) → AreSound sizes None
 none_sound sizes = record {
@@ -40,7 +41,7 @@ none_sound sizes = record {
 }
 
 -- What a hold gained, told of the desk that had the lock.
-pub gains_desk : (sizes : List ℕ) (parts : ℕ) (old new : HeldState) (held held' : List (ℕ × ℕ)) (s f w s' f' w' : ℕ) (m m' : Bool) (lb session at : ℕ) (gained : List Receipt)
+pub gains_desk : (sizes : List ℕ) (parts : ℕ) (old new : HeldState) (held held' : List (ℕ × ℕ)) (s f w s' f' w' : ℕ) (m m' : Option Stray) (lb session at : ℕ) (gained : List Receipt)
     → HoldGains old new lb session at gained
     → Gains (shared_desk sizes parts old.receipts held old.amount s f w m) (shared_desk sizes parts new.receipts held' new.amount s' f' w' m') lb session at gained
 gains_desk sizes parts old new held held' s f w s' f' w' m m' lb session at gained gains = record {
@@ -58,7 +59,7 @@ follows_desk sizes firsts old new lb session at gained are gains = record {
   next = gains.next;
 }
 
-module _ (sizes firsts : List ℕ) (parts : ℕ) (old new : HeldState) (are : AreSited sizes firsts old.books) (held held' : List (ℕ × ℕ)) (s f w s' f' w' : ℕ) (m : Bool) (lb session at : ℕ) where
+module _ (sizes firsts : List ℕ) (parts : ℕ) (old new : HeldState) (are : AreSited sizes firsts old.books) (held held' : List (ℕ × ℕ)) (s f w s' f' w' : ℕ) (m : Option Stray) (lb session at : ℕ) where
   pub last_desk : (last : Receipt) → HoldGainsLast old new lb session at last
       → GainsLast (shared_desk sizes parts old.receipts held old.amount s f w m) (shared_desk sizes parts new.receipts held' new.amount s' f' w' m) lb session at last
   unfolding follows_desk
@@ -98,7 +99,7 @@ choice_desk old new lb ask e (choice.Chosen m lease) is tickets = (
 choice_desk old new lb ask e choice.NoMember is tickets = (is, tickets ∙ append-nil old.held)
 choice_desk old new lb ask e choice.Forced is tickets = (is, tickets ∙ append-nil old.held)
 
-pub chooses_desk : (sizes firsts : List ℕ) (parts : ℕ) (old new : HeldState) (held held' : List (ℕ × ℕ)) (s f w : ℕ) (m : Bool) (lb session at : ℕ) (ask : Ask) (c : Choice LeaseNote)
+pub chooses_desk : (sizes firsts : List ℕ) (parts : ℕ) (old new : HeldState) (held held' : List (ℕ × ℕ)) (s f w : ℕ) (m : Option Stray) (lb session at : ℕ) (ask : Ask) (c : Choice LeaseNote)
     → AreSited sizes firsts old.books → HoldChooses sizes old new lb session at ask c → held' ≡ held ++ pairs_of lb c
     → Chooses (λ lease. lease) (shared_desk sizes parts old.receipts held old.amount s f w m) (shared_desk sizes parts new.receipts held' new.amount s f w m) lb session at ask c
 chooses_desk sizes firsts parts old new held held' s f w m lb session at ask c are chose tickets = record {
@@ -113,7 +114,7 @@ chooses_desk sizes firsts parts old new held held' s f w m lb session at ask c a
   met = refl;
 }
 
-pub commands_desk : (sizes firsts : List ℕ) (parts : ℕ) (old new : HeldState) (held : List (ℕ × ℕ)) (s f w : ℕ) (m : Bool) (lb session at : ℕ) (command : Command)
+pub commands_desk : (sizes firsts : List ℕ) (parts : ℕ) (old new : HeldState) (held : List (ℕ × ℕ)) (s f w : ℕ) (m : Option Stray) (lb session at : ℕ) (command : Command)
     → AreSited sizes firsts old.books → HoldCommands sizes old new lb session at command
     → Commands (shared_desk sizes parts old.receipts held old.amount s f w m) (shared_desk sizes parts new.receipts held new.amount s f w m) lb session at command
 commands_desk sizes firsts parts old new held s f w m lb session at command are done = record {
@@ -127,7 +128,7 @@ commands_desk sizes firsts parts old new held s f w m lb session at command are 
   wide = refl;
 }
 
-pub takes_back_desk : (sizes firsts : List ℕ) (parts : ℕ) (old new : HeldState) (held held' : List (ℕ × ℕ)) (s f w : ℕ) (m : Bool) (session at : ℕ) (lease : LeaseNote) (outcome : Outcome) (r : Receipt)
+pub takes_back_desk : (sizes firsts : List ℕ) (parts : ℕ) (old new : HeldState) (held held' : List (ℕ × ℕ)) (s f w : ℕ) (m : Option Stray) (session at : ℕ) (lease : LeaseNote) (outcome : Outcome) (r : Receipt)
     → AreSited sizes firsts old.books → r.entry.call ≡ call.Return lease.ticket outcome → HoldGains old new lease.lb session at (r ∷ [])
     → TakesBack (shared_desk sizes parts old.receipts held old.amount s f w m) (shared_desk sizes parts new.receipts held' new.amount s f w m) session at lease outcome
 takes_back_desk sizes firsts parts old new held held' s f w m session at lease outcome r are returned gains = record {
@@ -359,14 +360,14 @@ module _ (sizes firsts : List ℕ) (before after : List Journal) (cut : Option (
 
   module _ (parts parts' : ℕ) (h h' : List (ℕ × ℕ)) where
     pub ok_choose : (ask : Ask) (r : Result (Choice LeaseNote) (RoomError MarkNote)) → parts' ≡ parts → IfOk r (λ c. ChoseOk ask c) → IfOk r (λ c. h' ≡ h ++ pairs_of lb c)
-        → IfOk r (λ c. (s f w : ℕ) (m : Bool) → Chooses (λ lease. lease) (shared_desk sizes parts rs h a s f w m) (shared_desk sizes parts' rs' h' a' s f w m) lb session at ask c)
+        → IfOk r (λ c. (s f w : ℕ) (m : Option Stray) → Chooses (λ lease. lease) (shared_desk sizes parts rs h a s f w m) (shared_desk sizes parts' rs' h' a' s f w m) lb session at ask c)
     ok_choose ask (Ok c) same ok tickets = λ s f w m.
         subst (λ (n : ℕ). Chooses (λ lease. lease) (shared_desk sizes parts rs h a s f w m) (shared_desk sizes n rs' h' a' s f w m) lb session at ask c) (sym same)
         (chooses_desk sizes firsts parts (held ok.0 rs a) (held after rs' a') h h' s f w m lb session at ask c ok.2 ok.3 tickets)
     ok_choose ask (Err e) same ok tickets = tt
 
     pub err_choose : (r : Result (Choice LeaseNote) (RoomError MarkNote)) → parts' ≡ parts → IfErr r (λ e. ChoseErr e)
-        → IfErr r (λ e. (s f w f' w' : ℕ) (m : Bool) → GainsDue (shared_desk sizes parts rs h a s f w m) (shared_desk sizes parts' rs' h' a' s f' w' m) lb session at
+        → IfErr r (λ e. (s f w f' w' : ℕ) (m : Option Stray) → GainsDue (shared_desk sizes parts rs h a s f w m) (shared_desk sizes parts' rs' h' a' s f' w' m) lb session at
         (e ≡ room.NoMemory) (IsAskRefusal (λ mark. mark.numbers) at e))
     err_choose (Ok c) same err = tt
     err_choose (Err e) same err = λ s f w f' w' m.
@@ -374,14 +375,14 @@ module _ (sizes firsts : List ℕ) (before after : List Journal) (cut : Option (
         (due_desk sizes firsts parts (held err.0 rs a) (held after rs' a') err.2 h h' s f w s f' w' m lb session at (e ≡ room.NoMemory) (IsAskRefusal (λ mark. mark.numbers) at e) err.3)
 
     pub ok_command : {T : Type 0} (command : Command) (r : Result T (AdminError MarkNote)) → parts' ≡ parts → OnOk r (DidOk command)
-        → OnOk r ((s f w : ℕ) (m : Bool) → Commands (shared_desk sizes parts rs h a s f w m) (shared_desk sizes parts' rs' h a' s f w m) lb session at command)
+        → OnOk r ((s f w : ℕ) (m : Option Stray) → Commands (shared_desk sizes parts rs h a s f w m) (shared_desk sizes parts' rs' h a' s f w m) lb session at command)
     ok_command command (Ok c) same ok = λ s f w m.
         subst (λ (n : ℕ). Commands (shared_desk sizes parts rs h a s f w m) (shared_desk sizes n rs' h a' s f w m) lb session at command) (sym same)
         (commands_desk sizes firsts parts (held ok.0 rs a) (held after rs' a') h s f w m lb session at command ok.2 ok.3)
     ok_command command (Err e) same ok = tt
 
     pub err_command : {T : Type 0} (command : Command) (r : Result T (AdminError MarkNote)) → parts' ≡ parts → IfErr r (λ e. DidErr command e)
-        → IfErr r (λ e. (s f w f' w' : ℕ) (m : Bool) → GainsDue (shared_desk sizes parts rs h a s f w m) (shared_desk sizes parts' rs' h' a' s f' w' m) lb session at
+        → IfErr r (λ e. (s f w f' w' : ℕ) (m : Option Stray) → GainsDue (shared_desk sizes parts rs h a s f w m) (shared_desk sizes parts' rs' h' a' s f' w' m) lb session at
         (e ≡ admin.NoMemory) (IsCommandRefusal (λ mark. mark.numbers) at command e))
     err_command command (Ok c) same err = tt
     err_command command (Err e) same err = λ s f w f' w' m.
@@ -427,7 +428,7 @@ shared_none n rs rs' h h' parts a f room room' same same_held more is =
       roomy = let roomy : length rs + length h ≤ room = is.roomy in omega arith;
     }))
 
-pub none_desk : (sizes : List ℕ) (parts : ℕ) (rs rs' : List Receipt) (h h' : List (ℕ × ℕ)) (a s f w f' w' : ℕ) (m : Bool) (lb session at : ℕ) (wanting : Type 0) (account : Journal → List Receipt → Type 0)
+pub none_desk : (sizes : List ℕ) (parts : ℕ) (rs rs' : List Receipt) (h h' : List (ℕ × ℕ)) (a s f w f' w' : ℕ) (m : Option Stray) (lb session at : ℕ) (wanting : Type 0) (account : Journal → List Receipt → Type 0)
     → rs' ≡ rs → wanting → GainsDue (shared_desk sizes parts rs h a s f w m) (shared_desk sizes parts rs' h' a s f' w' m) lb session at wanting account
 none_desk sizes parts rs rs' h h' a s f w f' w' m lb session at wanting account same wants = record {
   due = [];
@@ -444,7 +445,7 @@ none_desk sizes parts rs rs' h h' a s f w f' w' m lb session at wanting account 
 -- A Return.
 pub back_ok : {E : Type 0} (sizes firsts : List ℕ) (before after : List Journal) (rs rs' : List Receipt) (parts parts' a a' session at : ℕ) (lease : LeaseNote) (outcome : Outcome) (r : Result (Unit {0}) E)
     → parts' ≡ parts → AreSited sizes firsts before → OnOk r ((x : Receipt) × (x.entry.call ≡ call.Return lease.ticket outcome) × HoldGains (held before rs a) (held after rs' a') lease.lb session at (x ∷ []))
-    → OnOk r ((s f w : ℕ) (m : Bool) (h h' : List (ℕ × ℕ)) → TakesBack (shared_desk sizes parts rs h a s f w m) (shared_desk sizes parts' rs' h' a' s f w m) session at lease outcome)
+    → OnOk r ((s f w : ℕ) (m : Option Stray) (h h' : List (ℕ × ℕ)) → TakesBack (shared_desk sizes parts rs h a s f w m) (shared_desk sizes parts' rs' h' a' s f w m) session at lease outcome)
 back_ok sizes firsts before after rs rs' parts parts' a a' session at lease outcome (Ok x) same are ok = λ s f w m h h'.
     subst (λ (n : ℕ). TakesBack (shared_desk sizes parts rs h a s f w m) (shared_desk sizes n rs' h' a' s f w m) session at lease outcome) (sym same)
     (takes_back_desk sizes firsts parts (held before rs a) (held after rs' a') h h' s f w m session at lease outcome ok.0 are ok.1 ok.2)
@@ -472,16 +473,16 @@ pub holds_all : (held : List (ℕ × ℕ)) (p : ℕ × ℕ) (n : ℕ) → length
 holds_all held p n all = rw (drop_all n held all) refl
 
 -- A choice and a command with what they count.
-module _ (sizes : List ℕ) (parts parts' : ℕ) (rs rs' : List Receipt) (h h' : List (ℕ × ℕ)) (a a' s f f' w w' : ℕ) (m : Bool) (lb session at : ℕ) where
+module _ (sizes : List ℕ) (parts parts' : ℕ) (rs rs' : List Receipt) (h h' : List (ℕ × ℕ)) (a a' s f f' w w' : ℕ) (m : Option Stray) (lb session at : ℕ) where
   pub final_ok : (ask : Ask) (r : Result (Choice LeaseNote) (RoomError MarkNote)) → CountsFull f f' r
-      → IfOk r (λ c. (s f w : ℕ) (m : Bool) → Chooses (λ lease. lease) (shared_desk sizes parts rs h a s f w m) (shared_desk sizes parts' rs' h' a' s f w m) lb session at ask c)
+      → IfOk r (λ c. (s f w : ℕ) (m : Option Stray) → Chooses (λ lease. lease) (shared_desk sizes parts rs h a s f w m) (shared_desk sizes parts' rs' h' a' s f w m) lb session at ask c)
       → IfOk r (λ c. Chooses (λ lease. lease) (shared_desk sizes parts rs h a s f w m) (shared_desk sizes parts' rs' h' a' s f' w m) lb session at ask c)
   final_ok ask (Ok c) counts ok =
       subst (λ (n : ℕ). Chooses (λ lease. lease) (shared_desk sizes parts rs h a s f w m) (shared_desk sizes parts' rs' h' a' s n w m) lb session at ask c) (sym counts) (ok s f w m)
   final_ok ask (Err e) counts ok = tt
 
   pub final_err : (r : Result (Choice LeaseNote) (RoomError MarkNote)) → CountsFull f f' r → OnErr r (h' ≡ h)
-      → IfErr r (λ e. (s f w f' w' : ℕ) (m : Bool) → GainsDue (shared_desk sizes parts rs h a s f w m) (shared_desk sizes parts' rs' h' a' s f' w' m) lb session at
+      → IfErr r (λ e. (s f w f' w' : ℕ) (m : Option Stray) → GainsDue (shared_desk sizes parts rs h a s f w m) (shared_desk sizes parts' rs' h' a' s f' w' m) lb session at
       (e ≡ room.NoMemory) (IsAskRefusal (λ mark. mark.numbers) at e))
       → IfErr r (λ e. RefusesChoice (λ mark. mark.numbers) (shared_desk sizes parts rs h a s f w m) (shared_desk sizes parts' rs' h' a' s f' w m) lb session at e)
   final_err (Ok c) counts same err = tt
@@ -513,13 +514,13 @@ module _ (sizes : List ℕ) (parts parts' : ℕ) (rs rs' : List Receipt) (h h' :
     strays = omega arith;
     fulls = more;
     wides = omega arith;
-    met = λ is. is;
+    met = λ stray is. is;
     sound_before = none_sound sizes;
     sound = none_sound sizes;
   }
 
   pub final_done : {T : Type 0} (command : Command) (r : Result T (AdminError MarkNote)) → CountsRefusal f f' w w' r
-      → OnOk r ((s f w : ℕ) (m : Bool) → Commands (shared_desk sizes parts rs h a s f w m) (shared_desk sizes parts' rs' h' a' s f w m) lb session at command)
+      → OnOk r ((s f w : ℕ) (m : Option Stray) → Commands (shared_desk sizes parts rs h a s f w m) (shared_desk sizes parts' rs' h' a' s f w m) lb session at command)
       → OnOk r (Commands (shared_desk sizes parts rs h a s f w m) (shared_desk sizes parts' rs' h' a' s f' w' m) lb session at command)
   final_done command (Ok c) counts ok =
       subst (λ (n : ℕ). Commands (shared_desk sizes parts rs h a s f w m) (shared_desk sizes parts' rs' h' a' s n w' m) lb session at command) (sym counts.0)
@@ -527,7 +528,7 @@ module _ (sizes : List ℕ) (parts parts' : ℕ) (rs rs' : List Receipt) (h h' :
   final_done command (Err e) counts ok = tt
 
   pub final_refused : {T : Type 0} (command : Command) (r : Result T (AdminError MarkNote)) → CountsRefusal f f' w w' r
-      → IfErr r (λ e. (s f w f' w' : ℕ) (m : Bool) → GainsDue (shared_desk sizes parts rs h a s f w m) (shared_desk sizes parts' rs' h' a' s f' w' m) lb session at
+      → IfErr r (λ e. (s f w f' w' : ℕ) (m : Option Stray) → GainsDue (shared_desk sizes parts rs h a s f w m) (shared_desk sizes parts' rs' h' a' s f' w' m) lb session at
       (e ≡ admin.NoMemory) (IsCommandRefusal (λ mark. mark.numbers) at command e))
       → IfErr r (λ e. RefusesCommand (λ mark. mark.numbers) (shared_desk sizes parts rs h a s f w m) (shared_desk sizes parts' rs' h' a' s f' w' m) lb session at command e)
   final_refused command (Ok c) counts err = tt
@@ -546,10 +547,21 @@ module _ (sizes : List ℕ) (parts parts' : ℕ) (rs rs' : List Receipt) (h h' :
     strays = omega arith;
     fulls = more;
     wides = more';
-    met = λ is. is;
+    met = λ stray is. is;
     sound_before = none_sound sizes;
     sound = none_sound sizes;
   }
+
+-- The desk over the lock keeps the first stray as each desk does.
+pub first_told : (met now : Option StrayNote) (lb : ℕ) (stray : Stray) → now ≡ first_met met (record { lb = lb; stray = stray })
+    → stray_in now ≡ first_stray (stray_in met) stray
+first_told None now lb stray is = rw is refl
+first_told (Some before) now lb stray is = rw is refl
+
+pub stray_kept : (met now : Option StrayNote) (lb : ℕ) (stray : Stray) → now ≡ first_met met (record { lb = lb; stray = stray })
+    → (told : Stray) → stray_in met ≡ Some told → stray_in now ≡ Some told
+stray_kept None now lb stray is told was = absurd cc
+stray_kept (Some before) now lb stray is told was = rw is was
 
 -- After a Return, and after a stray.
 pub shared_back : (n : ℕ) (rs rs' : List Receipt) (h h' : List (ℕ × ℕ)) (p : ℕ × ℕ) (parts parts' a a' f room room' : ℕ) → IsShared n rs h parts a f room → holds h p ≡ true
@@ -579,7 +591,7 @@ shared_stray n rs rs' h h' p parts parts' a a' f room room' is same_receipts sam
     }
 
 -- What is looked at.
-pub shows_shared : {E : Type 0} (sizes : List ℕ) (parts : ℕ) (rs : List Receipt) (h : List (ℕ × ℕ)) (a s f w : ℕ) (m : Bool) (lb : ℕ) (r : Result ViewNote E)
+pub shows_shared : {E : Type 0} (sizes : List ℕ) (parts : ℕ) (rs : List Receipt) (h : List (ℕ × ℕ)) (a s f w : ℕ) (m : Option Stray) (lb : ℕ) (r : Result ViewNote E)
     → IfOk r (λ v. (b : Journal) × IsFound sizes None lb b × IsPresent b.rules b.opening (past_of b) v.view) → IfOk r (λ v. length v.view.rows ≡ slice_index sizes lb)
     → IfOk r (λ v. Shows (shared_desk sizes parts rs h a s f w m) lb v.view)
 shows_shared sizes parts rs h a s f w m lb (Ok v) present rows = record {

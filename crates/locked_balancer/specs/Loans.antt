@@ -1,5 +1,5 @@
 -- What is told of a desk that is lent.
-use Rattle.std.specs.Prelude.{ℕ, false, [], Option, Some, None}
+use Rattle.std.specs.Prelude.{ℕ, [], Option, Some, None}
 use Rattle.std.specs.Borrow.{MutBor}
 use Rattle.balancer_core.specs.Desks.{DeskState}
 use Rattle.locked_balancer.specs.Histories.{SeatNote, no_seat}
@@ -12,7 +12,7 @@ name_in None = 0
 name_in (Some d) = d.ghost_name
 
 abbrev pub state_in : {B : Type 0} → (B → DeskState) → Option (MutBor B) → DeskState
-state_in state None = shared_desk [] 0 [] [] 0 0 0 0 false
+state_in state None = shared_desk [] 0 [] [] 0 0 0 0 None
 state_in state (Some d) = state d.now
 
 abbrev pub seat_in : {B : Type 0} → (B → SeatNote) → Option (MutBor B) → SeatNote

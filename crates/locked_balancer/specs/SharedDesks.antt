@@ -7,6 +7,7 @@ use Rattle.jk_model.specs.declared.refusal.AdminError.{AdminError}
 use Rattle.jk_model.specs.declared.refusal.AdminError.TheVariants as admin
 use Rattle.jk_model.specs.declared.refusal.RoomError.{RoomError}
 use Rattle.jk_model.specs.declared.refusal.RoomError.TheVariants as room
+use Rattle.jk_model.specs.declared.refusal.Stray.{Stray}
 use Rattle.jk_model.specs.declared.segment.Segment.{Segment}
 use Rattle.balancer_core.specs.Desks.{DeskState, LeaseNote, RisesByOne, holds, is_pair}
 use Rattle.balancer_core.specs.Journal.{IsSegmentOf, Journal}
@@ -36,8 +37,13 @@ shelf_note shelved faults d = record { shelved = shelved d.shelf; faults = fault
 abbrev pub unseated : {S : Type 0} → SharedState S → SharedState S
 unseated d = record d { seat = no_seat }
 
+-- what each desk tells of a stray, which doesn't name its balancer
+abbrev pub stray_in : Option StrayNote → Option Stray
+stray_in None = None
+stray_in (Some note) = Some note.stray
+
 -- What this desk tells, as each desk does. The Books behind the lock aren't told.
-abbrev pub shared_desk : (sizes : List ℕ) (parts : ℕ) → List Receipt → (held : List (ℕ × ℕ)) → (amount strays fulls wides : ℕ) → (met : Bool) → DeskState
+abbrev pub shared_desk : (sizes : List ℕ) (parts : ℕ) → List Receipt → (held : List (ℕ × ℕ)) → (amount strays fulls wides : ℕ) → (met : Option Stray) → DeskState
 shared_desk sizes parts receipts held amount strays fulls wides met = record {
   receipts = receipts;
   held = held;

@@ -1,5 +1,5 @@
 -- What a hold of the lock does with the lists of a desk, whatever the desk counted.
-use Rattle.std.specs.Prelude.{◌≡◌, ℕ, Bool, List, Vec, vec_capacity}
+use Rattle.std.specs.Prelude.{◌≡◌, ℕ, List, Option, Vec, vec_capacity}
 use Rattle.jk_model.specs.declared.ask.Ask.{Ask}
 use Rattle.jk_model.specs.declared.change.Command.{Command}
 use Rattle.jk_model.specs.declared.journal.Outcome.{Outcome}
@@ -7,6 +7,7 @@ use Rattle.jk_model.specs.declared.refusal.AdminError.{AdminError}
 use Rattle.jk_model.specs.declared.refusal.AdminError.TheVariants as admin
 use Rattle.jk_model.specs.declared.refusal.RoomError.{RoomError}
 use Rattle.jk_model.specs.declared.refusal.RoomError.TheVariants as room
+use Rattle.jk_model.specs.declared.refusal.Stray.{Stray}
 use Rattle.balancer_core.specs.Desks.{Chooses, Commands, DeskState, GainsDue, IsAskRefusal, IsCommandRefusal, LeaseNote, TakesBack}
 use Rattle.balancer_core.specs.declared.desk.Choice.{Choice}
 use Rattle.balancer_core.specs.declared.desk.Occasion.{Occasion}
@@ -32,7 +33,7 @@ lists parts amount receipts held = record {
 }
 
 -- What is told of a desk with these lists and counts.
-abbrev pub told_of : (sizes : List ℕ) → SharedLists → (strays fulls wides : ℕ) → (met : Bool) → DeskState
+abbrev pub told_of : (sizes : List ℕ) → SharedLists → (strays fulls wides : ℕ) → (met : Option Stray) → DeskState
 told_of sizes l strays fulls wides met = shared_desk sizes l.parts l.receipts l.held l.amount strays fulls wides met
 
 -- A desk over n balancers keeps what `IsShared` says of its lists, however many receipts it forgot.
@@ -44,27 +45,27 @@ KeepsLists n old new =
 -- The desk chose.
 abbrev pub ListsChoose : (sizes : List ℕ) → (old new : SharedLists) → Occasion → Ask → Choice LeaseNote → Type 0
 ListsChoose sizes old new on ask c =
-    (s f w : ℕ) (m : Bool) → Chooses (λ lease. lease) (told_of sizes old s f w m) (told_of sizes new s f w m) on.lb on.session on.at ask c
+    (s f w : ℕ) (m : Option Stray) → Chooses (λ lease. lease) (told_of sizes old s f w m) (told_of sizes new s f w m) on.lb on.session on.at ask c
 
 -- An ask was refused, or the Maintain before it.
 abbrev pub ListsDeny : (sizes : List ℕ) → (old new : SharedLists) → Occasion → RoomError MarkNote → Type 0
 ListsDeny sizes old new on e =
-    (s f w f' w' : ℕ) (m : Bool) → GainsDue (told_of sizes old s f w m) (told_of sizes new s f' w' m) on.lb on.session on.at
+    (s f w f' w' : ℕ) (m : Option Stray) → GainsDue (told_of sizes old s f w m) (told_of sizes new s f' w' m) on.lb on.session on.at
     (e ≡ room.NoMemory) (IsAskRefusal (λ mark. mark.numbers) on.at e)
 
 -- A command was done.
 abbrev pub ListsCommand : (sizes : List ℕ) → (old new : SharedLists) → Occasion → Command → Type 0
 ListsCommand sizes old new on command =
-    (s f w : ℕ) (m : Bool) → Commands (told_of sizes old s f w m) (told_of sizes new s f w m) on.lb on.session on.at command
+    (s f w : ℕ) (m : Option Stray) → Commands (told_of sizes old s f w m) (told_of sizes new s f w m) on.lb on.session on.at command
 
 -- A command was refused, or the Maintain before it.
 abbrev pub ListsRefuse : (sizes : List ℕ) → (old new : SharedLists) → Occasion → Command → AdminError MarkNote → Type 0
 ListsRefuse sizes old new on command e =
-    (s f w f' w' : ℕ) (m : Bool) → GainsDue (told_of sizes old s f w m) (told_of sizes new s f' w' m) on.lb on.session on.at
+    (s f w f' w' : ℕ) (m : Option Stray) → GainsDue (told_of sizes old s f w m) (told_of sizes new s f' w' m) on.lb on.session on.at
     (e ≡ admin.NoMemory) (IsCommandRefusal (λ mark. mark.numbers) on.at command e)
 
 -- A lease came back, whichever pairs the desk held before and after.
 abbrev pub ListsTakeBack : (sizes : List ℕ) → (old new : List (ℕ × ℕ) → SharedLists) → (session at : ℕ) → LeaseNote → Outcome → Type 0
 ListsTakeBack sizes old new session at lease outcome =
-    (s f w : ℕ) (m : Bool) (before after : List (ℕ × ℕ))
+    (s f w : ℕ) (m : Option Stray) (before after : List (ℕ × ℕ))
     → TakesBack (told_of sizes (old before) s f w m) (told_of sizes (new after) s f w m) session at lease outcome

@@ -40,14 +40,14 @@ pub struct SharedDesk<'s, 'r, L: SiteName, S: Shelf, R> {
 }
 
 impl<'s, 'r, L: SiteName, S: Shelf, R> Model for SharedDesk<'s, 'r, L, S, R> {
-    ghost use Rattle.std.specs.Prelude.{◌≡◌, is_some, length, vec_capacity};
+    ghost use Rattle.std.specs.Prelude.{◌≡◌, length, vec_capacity};
     ghost use Rattle.locked_balancer.specs.Histories.{IsResting, number_of, own_count, seat_note, seen_of};
-    ghost use Rattle.locked_balancer.specs.SharedDesks.{IsShared, SharedState, shared_desk};
+    ghost use Rattle.locked_balancer.specs.SharedDesks.{IsShared, SharedState, shared_desk, stray_in};
 
     ghost Value = { SharedState S };
 
     ghost view = { λ d. record {
-      desk = shared_desk L.sizes d.stake.share.parts d.receipts.items d.held.items d.stake.share.amount d.strays d.fulls d.wides (is_some d.met);
+      desk = shared_desk L.sizes d.stake.share.parts d.receipts.items d.held.items d.stake.share.amount d.strays d.fulls d.wides (stray_in d.met);
       shelf = d.shelf;
       forgotten = d.forgotten;
       wants = d.wants;
@@ -80,9 +80,9 @@ pub struct Leaving<L: SiteName, S> {
 }
 
 impl<'s, 'r, L: SiteName, S: Shelf, R> SharedDesk<'s, 'r, L, S, R> {
-    ghost use Rattle.std.specs.Prelude.{◌≡◌, ◌+◌, ◌<◌, ◌↔◌, [], None, false, true, length, IsSome};
+    ghost use Rattle.std.specs.Prelude.{◌≡◌, ◌+◌, ◌<◌, [], None, length};
     ghost use Rattle.locked_balancer.specs.Locks.{lock_of};
-    ghost use Rattle.locked_balancer.specs.SharedDesks.{SharedState, shared_desk};
+    ghost use Rattle.locked_balancer.specs.SharedDesks.{SharedState, shared_desk, stray_in};
 
     /// A desk with a part of the ledger, without a receipt or a ticket. It takes no memory.
     pub fn new(
@@ -93,7 +93,7 @@ impl<'s, 'r, L: SiteName, S: Shelf, R> SharedDesk<'s, 'r, L, S, R> {
     ) -> SharedDesk<'s, 'r, L, S, R>
         requires part { 0 < share.parts }
         requires amount { share.amount ≡ 0 }
-        ensures desk { result.desk ≡ shared_desk L.sizes share.parts [] [] 0 0 0 0 false }
+        ensures desk { result.desk ≡ shared_desk L.sizes share.parts [] [] 0 0 0 0 None }
         ensures shelf { result.shelf ≡ shelf }
         ensures none { (result.forgotten ≡ 0) × (result.wants ≡ 0) × (result.met ≡ None) }
         ensures nothing_seen { result.seat.seen ≡ [] }
@@ -131,8 +131,8 @@ impl<'s, 'r, L: SiteName, S: Shelf, R> SharedDesk<'s, 'r, L, S, R> {
     /// Takes the first stray that was met since this was called last.
     pub fn take_stray(&mut self) -> Option<SiteStray<L>>
         ensures value { result ≡ self.old.met }
-        ensures met { IsSome result ↔ (self.old.desk.met ≡ true) }
-        ensures taken { self.new ≡ record self.old { met = None; desk = record self.old.desk { met = false } } }
+        ensures met { self.old.desk.met ≡ stray_in result }
+        ensures taken { self.new ≡ record self.old { met = None; desk = record self.old.desk { met = None } } }
     {
         self.met.take()
     }

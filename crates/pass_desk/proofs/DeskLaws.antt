@@ -53,7 +53,7 @@ keeps_desk number sizes sizes' r r' h h' f f' w w' same fulls wides = record {
   strays = omega arith;
   fulls = fulls;
   wides = wides;
-  met = λ never. never;
+  met = λ stray is. is;
   sound_before = none_sound sizes;
   sound = none_sound sizes';
 }

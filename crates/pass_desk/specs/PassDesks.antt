@@ -48,7 +48,7 @@ pass_state number sizes receipts held fulls wides = record {
   strays = 0;
   fulls = fulls;
   wides = wides;
-  met = false;
+  met = None;
   books = None;
 }
 

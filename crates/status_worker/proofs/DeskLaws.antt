@@ -1,5 +1,5 @@
 -- What a desk keeps over several calls, and the receipts that they add.
-use Rattle.std.proofs.Common.{◌≡◌, ℕ, List, [], ◌∷◌, ◌++◌, Result, Bool, true, false, not, refl, sym, ap, ◌∙◌, subst, arith}
+use Rattle.std.proofs.Common.{◌≡◌, ℕ, List, [], ◌∷◌, ◌++◌, Result, Option, Some, None, refl, sym, ap, ◌∙◌, arith}
 use Rattle.std.proofs.lemmas.List.{append_assoc, append-nil, length-append}
 use Rattle.std.proofs.lemmas.List.Elements.{All-append, All-nil}
 use Rattle.std.specs.List.{All}
@@ -7,6 +7,7 @@ use Rattle.jk_model.specs.declared.change.Command.{Command}
 use Rattle.jk_model.specs.declared.journal.Call.TheVariants as call
 use Rattle.jk_model.specs.declared.refusal.AdminError.{AdminError}
 use Rattle.jk_model.specs.declared.refusal.FullMark.{FullMark}
+use Rattle.jk_model.specs.declared.refusal.Stray.{Stray}
 use Rattle.balancer_core.proofs.ReturnedLaws.{due_returned, have_returned-append, last_returned, none_out}
 use Rattle.balancer_core.specs.Returned.{HaveReturned}
 use Rattle.balancer_core.specs.Desks.{Commands, DeskState, Gains, KeepsDesk, MeetsNone, RefusesCommand}
@@ -22,7 +23,7 @@ untouched session desk = record {
   strays = omega arith;
   fulls = omega arith;
   wides = omega arith;
-  met = λ met. met;
+  met = λ stray is. is;
   sound = λ sound. sound;
   gained = [];
   receipts = sym (append-nil desk.receipts);
@@ -62,9 +63,9 @@ after_refusal numbers old new lb session at c error kept held refused =
     after_gains old new lb session at _ kept held refused.gains.gains (due_returned refused.gains.due refused.gains.is_due)
 
 -- No stray waits after both, so none did between them.
-pub none_between : (mid new : Bool) → (mid ≡ true → new ≡ true) → new ≡ false → mid ≡ false
-none_between false new met none = refl
-none_between true new met none = cc (met refl, none)
+pub none_between : (mid new : Option Stray) → ((stray : Stray) → mid ≡ Some stray → new ≡ Some stray) → new ≡ None → mid ≡ None
+none_between None new met none = refl
+none_between (Some stray) new met none = absurd cc (met stray refl, none)
 
 pub twice : (session : ℕ) (old mid new : DeskState) → KeepsTickets session old mid → KeepsTickets session mid new
     → KeepsTickets session old new
@@ -76,7 +77,7 @@ twice session old mid new first second = record {
   strays = omega (arith, first.strays, second.strays);
   fulls = omega (arith, first.fulls, second.fulls);
   wides = omega (arith, first.wides, second.wides);
-  met = λ met. second.met (first.met met);
+  met = λ stray is. second.met stray (first.met stray is);
   sound = λ sound. second.sound (first.sound sound);
   gained = first.gained ++ second.gained;
   receipts = second.receipts ∙ ap (λ (rs : List Receipt). rs ++ second.gained) first.receipts ∙ append_assoc old.receipts first.gained second.gained;

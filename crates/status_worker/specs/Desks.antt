@@ -1,6 +1,7 @@
 -- The desk of a session and its clock, and what the desk keeps over a session's calls.
-use Rattle.std.specs.Prelude.{ℕ, ◌≡◌, ◌+◌, ◌≤◌, true, false, List, ◌++◌, length, map, Option}
+use Rattle.std.specs.Prelude.{ℕ, ◌≡◌, ◌+◌, ◌≤◌, List, ◌++◌, length, map, Option, Some, None}
 use Rattle.std.specs.List.{All}
+use Rattle.jk_model.specs.declared.refusal.Stray.{Stray}
 use Rattle.balancer_core.specs.Desks.{DeskState}
 use Rattle.balancer_core.specs.Returned.{HaveReturned}
 use Rattle.balancer_core.specs.ToldBooks.{AreSound}
@@ -29,10 +30,10 @@ pub record KeepsTickets (session : ℕ) (old new : DeskState) : Type 0 where
   pub strays : old.strays ≤ new.strays
   pub fulls : old.fulls ≤ new.fulls
   pub wides : old.wides ≤ new.wides
-  pub met : old.met ≡ true → new.met ≡ true
+  pub met : (stray : Stray) → old.met ≡ Some stray → new.met ≡ Some stray
   pub sound : AreSound old.sizes old.books → AreSound new.sizes new.books
   pub gained : List Receipt
   pub receipts : new.receipts ≡ old.receipts ++ gained
   pub added : new.added ≡ old.added + length gained
   pub own : All (λ (r : Receipt). r.entry.session ≡ session) gained
-  pub returned : new.met ≡ false → HaveReturned gained
+  pub returned : new.met ≡ None → HaveReturned gained

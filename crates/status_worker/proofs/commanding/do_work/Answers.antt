@@ -51,3 +51,6 @@ returns-clause-kept g c = c.loop-command.invariant.kept
 
 pub returns-clause-met : goal.returns-clause-met
 returns-clause-met g c = c.loop-command.invariant.met
+
+pub returns-in_default-clause-kept : goal.returns-in_default-clause-kept
+returns-in_default-clause-kept g c = untouched _ _

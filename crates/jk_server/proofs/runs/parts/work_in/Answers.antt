@@ -31,7 +31,7 @@ pub returns-in-Ok : goal.returns-in-Ok
 returns-in-Ok g c = λ lock sizes pools watch gears starts.
     let begun =
     starts_are lock sizes pools watch c.args.plan.format.now (λ s. BeginsSo lock c.args.plan.format.now s.desk s.log) (λ p. start_with p.door p.reach p.clock p.desk p.log) c.args.memory.parts.items gears starts
-    (λ k d lt. ((record { no_receipt = refl; none_held = refl; none_forgotten = refl; no_stray = refl; none_seen = refl }, refl, refl), new_so c.args.plan.format.now _)) in
+    (λ k d lt. ((record { no_receipt = refl; none_held = refl; none_forgotten = refl; no_stray = (refl, refl); none_seen = refl }, refl, refl), new_so c.args.plan.format.now _)) in
     let fresh = All-weaker (λ p. BeginsSo lock c.args.plan.format.now (unnumbered p.desk) p.log) (λ p. BeginsSo lock c.args.plan.format.now p.desk p.log) (λ p is. (begins_seated lock p.desk is.0, is.1)) c.args.memory.parts.items begun in
     record {
       served =

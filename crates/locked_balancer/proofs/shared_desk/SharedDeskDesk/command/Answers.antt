@@ -1,9 +1,10 @@
 -- What a command tells.
-use Rattle.std.proofs.Common.{◌≡◌, ℕ, Bool, List, length, refl, ap, subst, ◌∙◌}
-use Rattle.std.specs.Prelude.{IfErr, IsErrOf, OnOk, is_some, vec_capacity}
+use Rattle.std.proofs.Common.{◌≡◌, ℕ, List, Option, length, refl, ap, subst, ◌∙◌}
+use Rattle.std.specs.Prelude.{IfErr, IsErrOf, OnOk, vec_capacity}
 use Rattle.jk_model.specs.declared.refusal.AdminError.TheVariants as admin
+use Rattle.jk_model.specs.declared.refusal.Stray.{Stray}
 use Rattle.balancer_core.specs.Desks.{Commands, DeskState, GainsDue, IsCommandRefusal, KeepsDesk, RefusesCommand}
-use Rattle.locked_balancer.specs.SharedDesks.{IsShared, PutsAwayOf, SharedState, shared_desk}
+use Rattle.locked_balancer.specs.SharedDesks.{IsShared, PutsAwayOf, SharedState, shared_desk, stray_in}
 use Rattle.locked_balancer.specs.Histories.{DeskMaySee, gained_in, seat_note}
 use Rattle.locked_balancer.proofs.CountLaws.{adds_command, count_may}
 use Rattle.locked_balancer.proofs.SeatLaws.{desk_may_see, may_rest}
@@ -26,27 +27,27 @@ invariant_of-self g c =
 pub returns-clause-ok : goal.returns-clause-ok
 returns-clause-ok g c =
     let desk_is = ap (λ (st : SharedState _). st.desk) c.self.view_is in
-    let ok = subst (λ (xs : List (ℕ × ℕ)). OnOk c.command_at-segment.result.1 ((s f w : ℕ) (m : Bool) → Commands (shared_desk g.L.SiteName.sizes c.self.inside.stake.share.parts c.self.inside.receipts.items xs c.self.inside.stake.share.amount s f w m) (shared_desk g.L.SiteName.sizes c.command_at-segment.new.stake.share.parts c.command_at-segment.new.receipts.items xs c.command_at-segment.new.stake.share.amount s f w m) c.args.lb c.args.session c.args.at c.args.command.now)) c.as_slice.ensures.value c.command_at-segment.ensures.ok in
-    subst (λ (d : DeskState). OnOk c.command_at-segment.result.1 (Commands d (shared_desk g.L.SiteName.sizes c.command_at-segment.new.stake.share.parts c.command_at-segment.new.receipts.items c.self.inside.held.items c.command_at-segment.new.stake.share.amount c.self.inside.strays c.count_refusal.new.fulls c.count_refusal.new.wides (is_some c.self.inside.met)) c.args.lb c.args.session c.args.at c.args.command.now)) desk_is
-    (final_done g.L.SiteName.sizes c.self.inside.stake.share.parts c.command_at-segment.new.stake.share.parts c.self.inside.receipts.items c.command_at-segment.new.receipts.items c.self.inside.held.items c.self.inside.held.items c.self.inside.stake.share.amount c.command_at-segment.new.stake.share.amount c.self.inside.strays c.self.inside.fulls c.count_refusal.new.fulls c.self.inside.wides c.count_refusal.new.wides (is_some c.self.inside.met) c.args.lb c.args.session c.args.at c.args.command.now c.command_at-segment.result.1 c.count_refusal.ensures.counted ok)
+    let ok = subst (λ (xs : List (ℕ × ℕ)). OnOk c.command_at-segment.result.1 ((s f w : ℕ) (m : Option Stray) → Commands (shared_desk g.L.SiteName.sizes c.self.inside.stake.share.parts c.self.inside.receipts.items xs c.self.inside.stake.share.amount s f w m) (shared_desk g.L.SiteName.sizes c.command_at-segment.new.stake.share.parts c.command_at-segment.new.receipts.items xs c.command_at-segment.new.stake.share.amount s f w m) c.args.lb c.args.session c.args.at c.args.command.now)) c.as_slice.ensures.value c.command_at-segment.ensures.ok in
+    subst (λ (d : DeskState). OnOk c.command_at-segment.result.1 (Commands d (shared_desk g.L.SiteName.sizes c.command_at-segment.new.stake.share.parts c.command_at-segment.new.receipts.items c.self.inside.held.items c.command_at-segment.new.stake.share.amount c.self.inside.strays c.count_refusal.new.fulls c.count_refusal.new.wides (stray_in c.self.inside.met)) c.args.lb c.args.session c.args.at c.args.command.now)) desk_is
+    (final_done g.L.SiteName.sizes c.self.inside.stake.share.parts c.command_at-segment.new.stake.share.parts c.self.inside.receipts.items c.command_at-segment.new.receipts.items c.self.inside.held.items c.self.inside.held.items c.self.inside.stake.share.amount c.command_at-segment.new.stake.share.amount c.self.inside.strays c.self.inside.fulls c.count_refusal.new.fulls c.self.inside.wides c.count_refusal.new.wides (stray_in c.self.inside.met) c.args.lb c.args.session c.args.at c.args.command.now c.command_at-segment.result.1 c.count_refusal.ensures.counted ok)
 
 pub returns-clause-err : goal.returns-clause-err
 returns-clause-err g c =
     let desk_is = ap (λ (st : SharedState _). st.desk) c.self.view_is in
-    let err = subst (λ (xs : List (ℕ × ℕ)). IfErr c.command_at-segment.result.1 (λ e. (s f w f' w' : ℕ) (m : Bool) → GainsDue (shared_desk g.L.SiteName.sizes c.self.inside.stake.share.parts c.self.inside.receipts.items xs c.self.inside.stake.share.amount s f w m) (shared_desk g.L.SiteName.sizes c.command_at-segment.new.stake.share.parts c.command_at-segment.new.receipts.items xs c.command_at-segment.new.stake.share.amount s f' w' m) c.args.lb c.args.session c.args.at
+    let err = subst (λ (xs : List (ℕ × ℕ)). IfErr c.command_at-segment.result.1 (λ e. (s f w f' w' : ℕ) (m : Option Stray) → GainsDue (shared_desk g.L.SiteName.sizes c.self.inside.stake.share.parts c.self.inside.receipts.items xs c.self.inside.stake.share.amount s f w m) (shared_desk g.L.SiteName.sizes c.command_at-segment.new.stake.share.parts c.command_at-segment.new.receipts.items xs c.command_at-segment.new.stake.share.amount s f' w' m) c.args.lb c.args.session c.args.at
     (e ≡ admin.NoMemory) (IsCommandRefusal (λ mark. mark.numbers) c.args.at c.args.command.now e))) c.as_slice.ensures.value c.command_at-segment.ensures.err in
-    subst (λ (d : DeskState). IfErr c.command_at-segment.result.1 (λ e. RefusesCommand (λ mark. mark.numbers) d (shared_desk g.L.SiteName.sizes c.command_at-segment.new.stake.share.parts c.command_at-segment.new.receipts.items c.self.inside.held.items c.command_at-segment.new.stake.share.amount c.self.inside.strays c.count_refusal.new.fulls c.count_refusal.new.wides (is_some c.self.inside.met)) c.args.lb c.args.session c.args.at c.args.command.now e)) desk_is
-    (final_refused g.L.SiteName.sizes c.self.inside.stake.share.parts c.command_at-segment.new.stake.share.parts c.self.inside.receipts.items c.command_at-segment.new.receipts.items c.self.inside.held.items c.self.inside.held.items c.self.inside.stake.share.amount c.command_at-segment.new.stake.share.amount c.self.inside.strays c.self.inside.fulls c.count_refusal.new.fulls c.self.inside.wides c.count_refusal.new.wides (is_some c.self.inside.met) c.args.lb c.args.session c.args.at c.args.command.now c.command_at-segment.result.1 c.count_refusal.ensures.counted err)
+    subst (λ (d : DeskState). IfErr c.command_at-segment.result.1 (λ e. RefusesCommand (λ mark. mark.numbers) d (shared_desk g.L.SiteName.sizes c.command_at-segment.new.stake.share.parts c.command_at-segment.new.receipts.items c.self.inside.held.items c.command_at-segment.new.stake.share.amount c.self.inside.strays c.count_refusal.new.fulls c.count_refusal.new.wides (stray_in c.self.inside.met)) c.args.lb c.args.session c.args.at c.args.command.now e)) desk_is
+    (final_refused g.L.SiteName.sizes c.self.inside.stake.share.parts c.command_at-segment.new.stake.share.parts c.self.inside.receipts.items c.command_at-segment.new.receipts.items c.self.inside.held.items c.self.inside.held.items c.self.inside.stake.share.amount c.command_at-segment.new.stake.share.amount c.self.inside.strays c.self.inside.fulls c.count_refusal.new.fulls c.self.inside.wides c.count_refusal.new.wides (stray_in c.self.inside.met) c.args.lb c.args.session c.args.at c.args.command.now c.command_at-segment.result.1 c.count_refusal.ensures.counted err)
 
 pub returns-clause-kept : goal.returns-clause-kept
 returns-clause-kept g c =
     let desk_is = ap (λ (st : SharedState _). st.desk) c.self.view_is in
-    subst (λ (d : DeskState). KeepsDesk d (shared_desk g.L.SiteName.sizes c.command_at-segment.new.stake.share.parts c.command_at-segment.new.receipts.items c.self.inside.held.items c.command_at-segment.new.stake.share.amount c.self.inside.strays c.count_refusal.new.fulls c.count_refusal.new.wides (is_some c.self.inside.met))) desk_is
-    (refusal_kept g.L.SiteName.sizes c.self.inside.stake.share.parts c.command_at-segment.new.stake.share.parts c.self.inside.receipts.items c.command_at-segment.new.receipts.items c.self.inside.held.items c.self.inside.held.items c.self.inside.stake.share.amount c.command_at-segment.new.stake.share.amount c.self.inside.strays c.self.inside.fulls c.count_refusal.new.fulls c.self.inside.wides c.count_refusal.new.wides (is_some c.self.inside.met) c.args.lb c.args.session c.args.at c.command_at-segment.ensures.parts c.count_refusal.ensures.no_fewer.0 c.count_refusal.ensures.no_fewer.1)
+    subst (λ (d : DeskState). KeepsDesk d (shared_desk g.L.SiteName.sizes c.command_at-segment.new.stake.share.parts c.command_at-segment.new.receipts.items c.self.inside.held.items c.command_at-segment.new.stake.share.amount c.self.inside.strays c.count_refusal.new.fulls c.count_refusal.new.wides (stray_in c.self.inside.met))) desk_is
+    (refusal_kept g.L.SiteName.sizes c.self.inside.stake.share.parts c.command_at-segment.new.stake.share.parts c.self.inside.receipts.items c.command_at-segment.new.receipts.items c.self.inside.held.items c.self.inside.held.items c.self.inside.stake.share.amount c.command_at-segment.new.stake.share.amount c.self.inside.strays c.self.inside.fulls c.count_refusal.new.fulls c.self.inside.wides c.count_refusal.new.wides (stray_in c.self.inside.met) c.args.lb c.args.session c.args.at c.command_at-segment.ensures.parts c.count_refusal.ensures.no_fewer.0 c.count_refusal.ensures.no_fewer.1)
 
 pub returns-clause-shelf : goal.returns-clause-shelf
 returns-clause-shelf g c =
-    subst (λ (st : SharedState _). PutsAwayOf g.S.Shelf.shelved g.S.Shelf.faults g.L.SiteName.sizes g.L.SiteName.cut_at c.args.lb st (record { desk = shared_desk g.L.SiteName.sizes c.command_at-segment.new.stake.share.parts c.command_at-segment.new.receipts.items c.self.inside.held.items c.command_at-segment.new.stake.share.amount c.self.inside.strays c.count_refusal.new.fulls c.count_refusal.new.wides (is_some c.self.inside.met); shelf = c.put_away.new.shelf; forgotten = c.self.inside.forgotten; wants = c.put_away.new.wants; met = c.self.inside.met; seat = seat_note c.command_at-segment.new.stake.seat.table_id c.command_at-segment.new.stake.seat.me }) (IsErrOf c.command_at-segment.result.1 admin.NoMemory)) c.self.view_is (record {
+    subst (λ (st : SharedState _). PutsAwayOf g.S.Shelf.shelved g.S.Shelf.faults g.L.SiteName.sizes g.L.SiteName.cut_at c.args.lb st (record { desk = shared_desk g.L.SiteName.sizes c.command_at-segment.new.stake.share.parts c.command_at-segment.new.receipts.items c.self.inside.held.items c.command_at-segment.new.stake.share.amount c.self.inside.strays c.count_refusal.new.fulls c.count_refusal.new.wides (stray_in c.self.inside.met); shelf = c.put_away.new.shelf; forgotten = c.self.inside.forgotten; wants = c.put_away.new.wants; met = c.self.inside.met; seat = seat_note c.command_at-segment.new.stake.seat.table_id c.command_at-segment.new.stake.seat.me }) (IsErrOf c.command_at-segment.result.1 admin.NoMemory)) c.self.view_is (record {
       cut = c.command_at-segment.result.0;
       of = c.command_at-segment.ensures.cut;
       when = c.command_at-segment.ensures.when;

@@ -1,8 +1,8 @@
 -- The balancer that is looked at is the journal that the hold found.
 use Rattle.std.proofs.Common.{ap, subst, ◌∙◌}
-use Rattle.std.specs.Prelude.{IfOk, is_some}
+use Rattle.std.specs.Prelude.{IfOk}
 use Rattle.balancer_core.specs.Desks.{DeskState, Shows}
-use Rattle.locked_balancer.specs.SharedDesks.{SharedState}
+use Rattle.locked_balancer.specs.SharedDesks.{SharedState, stray_in}
 use Rattle.locked_balancer.proofs.CountLaws.{count_looked}
 use Rattle.locked_balancer.proofs.SharedLaws.{shows_shared}
 use Rattle.locked_balancer.proofs.shared_desk.SharedDeskDesk.look.Goals as goal
@@ -12,7 +12,7 @@ returns-clause-shown g c =
     let desk_is = ap (λ (st : SharedState _). st.desk) c.self.view_is in
     subst (λ (d : DeskState). IfOk c.look_at.result (λ shown. Shows d c.args.lb shown.view)) desk_is
     (shows_shared g.L.SiteName.sizes c.self.inside.stake.share.parts c.self.inside.receipts.items c.self.inside.held.items c.self.inside.stake.share.amount
-    c.self.inside.strays c.self.inside.fulls c.self.inside.wides (is_some c.self.inside.met) c.args.lb c.look_at.result c.look_at.ensures.present c.look_at.ensures.rows)
+    c.self.inside.strays c.self.inside.fulls c.self.inside.wides (stray_in c.self.inside.met) c.args.lb c.look_at.result c.look_at.ensures.present c.look_at.ensures.rows)
 
 pub look_at-requires-clause-seat : goal.look_at-requires-clause-seat
 look_at-requires-clause-seat g c = (c.self.invariant.1, c.self.invariant.2)
