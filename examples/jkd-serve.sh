@@ -12,8 +12,6 @@ if [ $# -eq 0 ]; then
 fi
 jkd=$1
 shift
-# One arena of memory for all threads: else the C library keeps in each what it once took for a journal.
-export MALLOC_ARENA_MAX="${MALLOC_ARENA_MAX:-1}"
 work=
 control=
 
