@@ -1,5 +1,5 @@
 #!/usr/bin/env python3
-"""Measures a program that was built, on this machine alone, and prints the tables that docs/MEASURED.md has.
+"""Measures a program that was built, on this machine alone, and prints the figures that docs/MEASURED.md has.
 
     python3 bench/measure.py PROGRAM [PART ..]
 
