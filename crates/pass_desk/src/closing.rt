@@ -31,7 +31,7 @@ pub fn close_passes(book: PassBook, passes: PassList) -> Result<Book, CloseRefus
         unreachable!()
     };
     let all = gather(&book, last, list);
-    let PassBook { table, cut_at: _ } = book;
+    let PassBook { table, .. } = book;
     let mut closed = table.close_with(all);
     let book = closed.take(BOOK);
     closed.free();

@@ -9,6 +9,7 @@
 //! Errors: those of a Book. A call may wait for its turn; that it ever comes is not promised.
 #![tactic(auto)]
 
+mod bells;
 mod calls;
 mod closing;
 mod desk_lists;

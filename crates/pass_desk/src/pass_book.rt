@@ -4,6 +4,7 @@ ghost use Rattle.seen_history.specs.Plays.{giver_after, next_caller};
 ghost use Rattle.jk_model.specs.declared.segment.TheConstants.{MODERN_RULES};
 ghost use Rattle.pass_desk.specs.Passes.{AreNewPasses, IsNewPass, origin_of};
 
+use crate::bells::Bells;
 use crate::pass::{Pass, PassList};
 use crate::rule::{Founding, InTurns, NextCaller};
 use atomic_table::Table;
@@ -22,6 +23,8 @@ pub(crate) type PassTable = Table<Book, PassView, Founding, InTurns, Global>;
 #[derive(Drop)]
 pub struct PassBook {
     pub(crate) table: PassTable,
+    /// Where the callers sleep.
+    pub(crate) bells: Bells,
     /// The number of kept entries from which on the journal is cut; 0 is never.
     pub(crate) cut_at: u32,
     ghost words: { table.shared.table_id.words ≡ 3 },
@@ -59,6 +62,7 @@ fn begin_table(alloc: Global, book: Book, cut_at: u32) -> Result<(PassBook, Pass
     ensures pass { IfOk result (λ made. IsNewPass (origin_of book cut_at) made.0.table.shared.table_id 1 0 made.1) }
     ensures founded { IfOk result (λ made. (made.0.table.shared.key.book.value ≡ book) × (made.0.cut_at ≡ cut_at)) }
 {
+    let bells = Bells::quiet(alloc)?;
     let mut slots = Vec::with_capacity(alloc, 1)?;
     book.kept();
     let about = Founding {
@@ -67,7 +71,14 @@ fn begin_table(alloc: Global, book: Book, cut_at: u32) -> Result<(PassBook, Pass
     };
     slots.push(book).unwrap();
     match Table::new(alloc, &[0, 0, 0], slots, &about) {
-        Ok((table, seat)) => Ok((PassBook { table, cut_at }, Pass { seat, number: 0 })),
+        Ok((table, seat)) => Ok((
+            PassBook {
+                table,
+                bells,
+                cut_at,
+            },
+            Pass { seat, number: 0 },
+        )),
         Err(_) => Err(NoMemory),
     }
 }
