@@ -11,6 +11,7 @@
 mod ending;
 mod heads;
 mod held_bytes;
+mod leisure;
 mod moments;
 mod notices;
 mod outbox;
@@ -26,6 +27,7 @@ mod tcp_link;
 pub use ending::Ending;
 pub use heads::{MAX_HEAD_BYTES, head_end};
 pub use held_bytes::{HELD_BYTES, HeldBytes};
+pub use leisure::{GLANCE_MILLIS, Leisure};
 pub use moments::moment;
 pub use notices::{Notices, Tally};
 pub use outbox::Outbox;

@@ -7,6 +7,7 @@ use crate::held_bytes::HeldBytes;
 use crate::stream_end::{AtHand, StreamEnd};
 use jk_io::{Awaited, NoMemory, Sink};
 use std::alloc::Global;
+use std::os::fd::RawFd;
 use std::sync::{Arc, Mutex};
 
 /// A client's end, with the bytes that wait to be sent on it.
@@ -173,6 +174,15 @@ impl Outbox {
             Some(mut held) => held.at_hand(buf),
             None => AtHand::Broken,
         }
+    }
+
+    // The system's number of the client's stream, once all that waits was sent.
+    pub(crate) fn number(&self) -> Option<RawFd> {
+        let mut held = self.held.try_lock()?;
+        if !held.flush() {
+            return None;
+        }
+        Some(held.end.as_ref()?.number())
     }
 
     // Tells the client's end what is waited for next.

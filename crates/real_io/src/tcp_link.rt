@@ -1,16 +1,18 @@
 //! A link over a TCP stream.
-ghost use Rattle.std.specs.Prelude.{◌≡◌, ◌≢◌, ◌+◌, ◌-◌, ◌<◌, ◌≤◌, ◌⊎◌, ℕ, IfOk, IfSome, IsOk, false, length, min, take, drop, true, vec_len};
+ghost use Rattle.std.specs.Prelude.{◌≡◌, ◌≢◌, ◌+◌, ◌-◌, ◌<◌, ◌≤◌, ◌⊎◌, ℕ, IfOk, IfSome, IsOk, None, false, length, min, take, drop, true, vec_len};
 ghost use Rattle.jk_io.specs.Told.{HasCause, Rose};
 ghost use Rattle.std.specs.List.{between};
 ghost use Rattle.real_io.specs.Heads.{EndsHead};
 ghost use Rattle.real_io.specs.Waitless.{IfCame};
 
 use crate::heads::{MAX_HEAD_BYTES, head_end};
+use crate::leisure::{GLANCE_MILLIS, Leisure, MOST_GLANCE_MILLIS, comes_within};
 use crate::outbox::Outbox;
 use crate::stream_end::{AtHand, StreamEnd};
 use jk_io::{Awaited, IoError, Link, Meanings, NoMemory, Sink, Source};
 use std::alloc::Global;
 use std::net::TcpStream;
+use std::os::fd::RawFd;
 use std::sync::{Arc, Mutex};
 
 /// How many bytes a link reads ahead at most.
@@ -44,6 +46,12 @@ pub struct TcpLink {
     seat: u64,
     /// How often all that was written went out: once for each whole reply.
     replies: u64,
+    /// Whether workers are free, of a client's link that may then look at its client for a moment.
+    leisure: Option<Leisure>,
+    /// For how many milliseconds it looked at its client at most.
+    looked: u64,
+    /// Nothing came of its client in the last look.
+    is_slow: bool,
     failed: u64,
     ghost within: { (from ≤ to) × (to ≤ vec_len ahead) },
 }
@@ -62,6 +70,8 @@ pub struct LinkParts {
     pub seat: u64,
     /// How often all that was written went out: once for each whole reply.
     pub replies: u64,
+    /// Nothing came of its client in the last look.
+    pub is_slow: bool,
     ghost within: { (from ≤ to) × (to ≤ vec_len ahead) },
 }
 
@@ -146,14 +156,25 @@ impl TcpLink {
             is_idle: false,
             seat: 0,
             replies: 0,
+            leisure: None,
+            looked: 0,
+            is_slow: false,
             failed: 0,
         }
+    }
+
+    /// Where it is told whether workers are free, it may look at its client for a moment before it says that it waits.
+    pub fn look_while(&mut self, leisure: Option<Leisure>)
+        ensures { self.new ≡ record self.old { leisure = leisure } }
+    {
+        self.leisure = leisure;
     }
 
     /// Sends what its outbox held back, and gives what it is made of.
     pub fn into_parts(self) -> LinkParts
         ensures ahead { (result.ahead ≡ self.ahead) × (result.from ≡ self.from) × (result.to ≡ self.to) }
         ensures same { (result.is_idle ≡ self.is_idle) × (result.seat ≡ self.seat) × (result.replies ≡ self.replies) }
+        ensures slow { result.is_slow ≡ self.is_slow }
     {
         let TcpLink {
             wire,
@@ -165,6 +186,9 @@ impl TcpLink {
             is_idle,
             seat,
             replies,
+            leisure: _,
+            looked: _,
+            is_slow,
             failed: _,
         } = self;
         let end = end_of(wire);
@@ -176,6 +200,7 @@ impl TcpLink {
             is_idle,
             seat,
             replies,
+            is_slow,
         }
     }
 
@@ -210,7 +235,7 @@ impl TcpLink {
     fn gather(&mut self)
         ensures at_front { (self.new.from ≡ 0) × (self.new.to ≡ self.old.to - self.old.from) }
         ensures kept { between 0 self.new.to self.new.ahead.items ≡ between self.old.from self.old.to self.old.ahead.items }
-        ensures same { (self.new.failed ≡ self.old.failed) × (vec_len self.new.ahead ≡ vec_len self.old.ahead) }
+        ensures same { (self.new.failed ≡ self.old.failed) × (self.new.looked ≡ self.old.looked) × (vec_len self.new.ahead ≡ vec_len self.old.ahead) }
     {
         let held = self.to - self.from;
         if self.from != 0 {
@@ -236,7 +261,7 @@ impl TcpLink {
     // Whether more of a client's next head is waited for; what is at hand of it is read ahead.
     fn wants_more(&mut self) -> bool
         ensures none { result ≡ true → (n : ℕ) → EndsHead (between self.new.from self.new.to self.new.ahead.items) n → ⊥ }
-        ensures same { self.new.failed ≡ self.old.failed }
+        ensures same { (self.new.failed ≡ self.old.failed) × (self.new.looked ≡ self.old.looked) }
     {
         if !self.lacks_head() {
             return false;
@@ -248,6 +273,23 @@ impl TcpLink {
             AtHand::Nothing => {}
         }
         self.lacks_head()
+    }
+
+    // Looks at its client for a moment, where nothing of it is there and workers are free.
+    fn glance(&mut self)
+        ensures brief { self.new.looked ≤ self.old.looked + 1 }
+        ensures few { self.new.looked ≤ 256 ⊎ (self.new.looked ≡ self.old.looked) }
+        ensures untold { self.old.leisure ≡ None → self.new.looked ≡ self.old.looked }
+        ensures same { self.new.failed ≡ self.old.failed }
+    {
+        if self.from == self.to
+            && self.looked < MOST_GLANCE_MILLIS
+            && let Some(leisure) = &self.leisure
+            && leisure.is_there()
+            && let Some(number) = self.wire.number()
+        {
+            self.is_slow = !comes_within(number, GLANCE_MILLIS, &mut self.looked);
+        }
     }
 
     // Empties the outbox whose bytes go first.
@@ -304,6 +346,14 @@ impl Wire {
         match self {
             Wire::End(end) => end.at_hand(buf),
             Wire::Outbox(outbox) => outbox.at_hand(buf),
+        }
+    }
+
+    // The system's number of the stream, once what is held back was sent.
+    fn number(&self) -> Option<RawFd> {
+        match self {
+            Wire::End(end) => Some(end.number()),
+            Wire::Outbox(outbox) => outbox.number(),
         }
     }
 
@@ -443,9 +493,15 @@ impl Link for TcpLink {
         ensures none { result ≡ true → (n : ℕ) → EndsHead (between self.new.from self.new.to self.new.ahead.items) n → ⊥ }
         ensures idle { result ≡ self.new.is_idle }
 
+        // It looks at its client for a millisecond at most, 256 times at most, and only where it is told whether workers are free.
+        ensures brief { self.new.looked ≤ self.old.looked + 1 }
+        ensures few { self.new.looked ≤ 256 ⊎ (self.new.looked ≡ self.old.looked) }
+        ensures untold { self.old.leisure ≡ None → self.new.looked ≡ self.old.looked }
+
         // What each link says.
         ensures same { self.new.failed ≡ self.old.failed }
     {
+        self.glance();
         self.is_idle = self.wants_more();
         self.is_idle
     }

@@ -21,6 +21,6 @@ one_more count = min (count + 1) 18446744073709551615
 abbrev pub IsOpen : Table → Type 0
 IsOpen table = (table.is_stopped ≡ false) × (table.left ≢ Some 0)
 
--- a worker may look at its own client for a moment: the room is open, nobody is ready, and three of four workers have no client
+-- a worker may look at its own client for a moment: the room is open, nobody is ready, and there are four workers for each client
 abbrev pub HasLeisure : Table → Type 0
-HasLeisure table = (table.is_stopped ≡ false) × (length table.places.ready ≡ 0) × (4 * table.away ≤ table.doors)
+HasLeisure table = (table.is_stopped ≡ false) × (length table.places.ready ≡ 0) × (4 * table.clients ≤ table.doors)

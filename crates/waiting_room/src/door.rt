@@ -1,17 +1,17 @@
 //! A worker's door into the room.
-ghost use Rattle.std.specs.Prelude.{◌≡◌, ◌+◌, ◌<◌, ◌≤◌, ◌++◌, false, IfOk, IfNone, IfSome, IsOk, OnErr, OnOk, length, min, take};
+ghost use Rattle.std.specs.Prelude.{◌≡◌, ◌+◌, ◌-◌, ◌<◌, ◌≤◌, ◌++◌, None, false, if◌then◌else◌, IfOk, IfNone, IfSome, IsOk, OnErr, OnOk, length, min, take};
 ghost use Rattle.std.specs.List.{between};
 ghost use Rattle.jk_io.specs.Told.{HasCause, Rose};
 ghost use Rattle.real_io.specs.Waitless.{IfCame};
 ghost use Rattle.waiting_room.specs.Looks.{SeesAfter};
 
 use crate::client::Client;
-use crate::glances::{GLANCE_MILLIS, comes_within};
 use crate::room::Room;
 use crate::stay::{Phase, Stay};
 use jk_io::{Bytes, Door, IoError, NoMemory, Peer};
 use real_io::{
-    AtHand, LinkParts, MAX_HEAD_BYTES, Outbox, StreamEnd, TcpLink, head_end, moment, room_ahead,
+    AtHand, GLANCE_MILLIS, Leisure, LinkParts, MAX_HEAD_BYTES, Outbox, StreamEnd, TcpLink,
+    head_end, moment, room_ahead,
 };
 use std::alloc::Global;
 use std::sync::{Arc, Wait};
@@ -31,10 +31,6 @@ pub struct RoomDoor<'r, R: Wait + Eprint> {
     buffer: Option<Vec<u8>>,
     /// How many links are out and may be left.
     out: u64,
-    /// The head of the worker's client came within a millisecond of its last reply.
-    is_quick: bool,
-    /// For how many milliseconds it looked at its own clients at most, after they were served.
-    looked: u64,
     /// It said that no client comes any more.
     is_closed: bool,
     failed: u64,
@@ -54,8 +50,6 @@ impl<'r, R: Wait + Eprint> RoomDoor<'r, R> {
             clients,
             buffer: None,
             out: 0,
-            is_quick: false,
-            looked: 0,
             is_closed: false,
             failed: 0,
         }
@@ -94,35 +88,15 @@ impl<'r, R: Wait + Eprint> RoomDoor<'r, R> {
         })
     }
 
-    // A client who was served: its link waits for more, of which these bytes came, or it goes.
-    fn put_back(&mut self, at: usize, end: StreamEnd, is_idle: bool, came: &[u8])
-        ensures brief { self.new.looked ≤ self.old.looked + 1 }
-        ensures quick { self.old.is_quick ≡ false → self.new.looked ≡ self.old.looked }
-        ensures same { (self.new.out ≡ self.old.out) × (self.new.failed ≡ self.old.failed) }
-    {
-        if !is_idle {
-            return self.let_go(at, end);
-        }
+    // A client who was served since this moment: its link waits for more, of which these bytes came.
+    fn put_back(&self, at: usize, end: StreamEnd, served: u64, came: &[u8]) {
         match Client::of(self.room.alloc, end, came) {
             Ok(client) => {
-                let now = moment();
-                let stay = Stay::new(Phase::Between, now).after(came.len() as u64, now);
-                let comes = self.glances(&client);
-                self.room.give_back(self.rt, at, stay, client, comes);
+                let stay = Stay::new(Phase::Between, served).after(came.len() as u64, moment());
+                self.room.give_back(self.rt, at, stay, client);
             }
             Err(end) => self.let_go(at, end),
         }
-    }
-
-    // Looks at a client for a moment, if it was quick and others are free: whether something comes of it.
-    fn glances(&mut self, client: &Client) -> bool
-        ensures brief { self.new.looked ≤ self.old.looked + 1 }
-        ensures quick { self.old.is_quick ≡ false → self.new.looked ≡ self.old.looked }
-        ensures same { (self.new.out ≡ self.old.out) × (self.new.failed ≡ self.old.failed) }
-    {
-        self.is_quick
-            && self.room.lends(self.rt, client)
-            && comes_within(client.end.number(), GLANCE_MILLIS, &mut self.looked)
     }
 
     // A client who was served goes: its link lingers, unless its bytes ended.
@@ -155,7 +129,7 @@ struct Ready {
 
 impl Seat {
     // The text has room for any address, so this one is written whole.
-    fn client(self, ready: Ready) -> (TcpLink, Peer) {
+    fn client(self, ready: Ready, leisure: Option<Leisure>) -> (TcpLink, Peer) {
         let Seat {
             outbox,
             buffer,
@@ -172,7 +146,8 @@ impl Seat {
         }
         let addr = Bytes::from_vec(address.into_bytes());
         let count = count.min(buffer.len());
-        let link = TcpLink::of_client(outbox, end, buffer, count, at as u64);
+        let mut link = TcpLink::of_client(outbox, end, buffer, count, at as u64);
+        link.look_while(leisure);
         (link, Peer { addr })
     }
 }
@@ -205,8 +180,8 @@ impl<'r, R: Wait + Eprint> Door for RoomDoor<'r, R> {
         match next_ready(self.rt, &self.room, &mut seat.buffer) {
             Some(ready) => {
                 self.out = out;
-                self.is_quick = ready.is_quick;
-                Ok(Some(seat.client(ready)))
+                let leisure = leisure_for(&self.room, &ready);
+                Ok(Some(seat.client(ready, leisure)))
             }
             None => {
                 self.is_closed = true;
@@ -217,10 +192,6 @@ impl<'r, R: Wait + Eprint> Door for RoomDoor<'r, R> {
 
     fn leave(&mut self, link: TcpLink)
         requires { 0 < self.old.out }
-
-        // It looks at its client for a millisecond at most, and only at one that was quick.
-        ensures brief { self.new.looked ≤ self.old.looked + 1 }
-        ensures quick { self.old.is_quick ≡ false → self.new.looked ≡ self.old.looked }
 
         // What each door says.
         ensures one_less { self.new.out + 1 ≡ self.old.out }
@@ -235,14 +206,40 @@ impl<'r, R: Wait + Eprint> Door for RoomDoor<'r, R> {
             is_idle,
             seat,
             replies,
+            is_slow,
         } = link.into_parts();
         self.room.note_replies(replies);
         match end {
             None => self.room.free(self.rt, seat as usize),
-            Some(end) => self.put_back(seat as usize, end, is_idle, &ahead[from..to]),
+            Some(end) if is_idle => {
+                let served = served_since(is_slow, moment());
+                self.put_back(seat as usize, end, served, &ahead[from..to]);
+            }
+            Some(end) => self.let_go(seat as usize, end),
         }
         self.buffer = Some(ahead);
     }
+}
+
+// Since when a client is served: it was looked at in vain before, or not.
+fn served_since(is_slow: bool, now: u64) -> u64
+    ensures { result ≡ (if is_slow then now - 1 else now) }
+{
+    if is_slow {
+        now.saturating_sub(GLANCE_MILLIS)
+    } else {
+        now
+    }
+}
+
+// Whether workers are free, for the link of a client who was quick.
+fn leisure_for(room: &Room, ready: &Ready) -> Option<Leisure>
+    ensures quick { ready.now.is_quick ≡ false → result ≡ None }
+{
+    if !ready.is_quick {
+        return None;
+    }
+    room.leisure_of(ready.end.number())
 }
 
 // The next client whom a worker can serve; none once the room is closed.
@@ -293,7 +290,7 @@ fn next_look<R: Wait + Eprint>(
                 });
             }
             let stay = stay.after(count as u64, moment());
-            room.give_back(rt, at, stay, Client { end, ahead }, false);
+            room.give_back(rt, at, stay, Client { end, ahead });
         }
         Look::Gone => room.free(rt, at),
     }

@@ -4,18 +4,17 @@
 //! doors of all workers. A worker gets a client once its head is whole, its bytes ended, or they can't be a head any
 //! more; a client whose link is idle comes back and is given again.
 //! One free worker leads: it waits for the system's word on all links at once, puts what is ready into a queue and passes
-//! the lead on. All others take from the queue. A worker that has answered first looks for a millisecond at most at its own
-//! client, if that was quick before and others are free.
+//! the lead on. All others take from the queue. The link of a client that was quick is told whether others are
+//! free, and then looks at it for a millisecond at most before it says that it waits.
 //! Own rules: the limits of clients, and how a link lingers (docs/DECISIONS.md, "Clients that wait").
 //! Contract: `Places`, which loses no client and gives each again with what it had read ahead; `Stay::is_over`, which says when
-//! one has waited too long; `RoomDoor::leave`, clause `brief`, for the millisecond. Read first: specs/Stays.antt, then src/places.rt.
+//! one has waited too long; `TcpLink::waits`, clause `brief`, for the millisecond. Read first: specs/Stays.antt, then src/places.rt.
 //! Errors: `IoError`; want of memory alone needs no cause.
 #![tactic(auto)]
 
 mod client;
 mod control;
 mod door;
-mod glances;
 mod opening;
 mod places;
 mod room;

@@ -6,7 +6,7 @@ use crate::table::Table;
 use jk_io::{Bytes, ClientLimits, NoMemory};
 use mio::unix::SourceFd;
 use mio::{Events, Interest, Poll, Registry, Token};
-use real_io::{Ending, moment};
+use real_io::{Ending, Leisure, moment};
 use std::alloc::Global;
 use std::io::ErrorKind;
 use std::net::{Net, SocketAddr, TcpListener, ToSocketAddrs};
@@ -134,6 +134,7 @@ fn room_with<R: Net>(
         Err(_) => return Err(OpenRoomError::NoMemory),
     };
     let ending = Ending::new(alloc)?;
+    let leisure = Leisure::new(alloc)?;
     let (poll, registry) = match polled(rt, &listener, control.as_ref()) {
         Ok(made) => made,
         Err(error) => return Err(OpenRoomError::Listen(error)),
@@ -145,6 +146,7 @@ fn room_with<R: Net>(
         control,
         limits,
         ending,
+        leisure,
         lead: Mutex::new(Lead {
             poll,
             events,

@@ -12,7 +12,7 @@ use libc::net::{SHUT_RDWR, shutdown};
 use mio::event::Event;
 use mio::unix::SourceFd;
 use mio::{Events, Interest, Poll, Registry, Token};
-use real_io::{AtHand, Ending, StreamEnd, is_wanting, moment};
+use real_io::{AtHand, Ending, Leisure, StreamEnd, is_wanting, moment};
 use std::alloc::Global;
 use std::io::ErrorKind;
 use std::net::{SocketAddr, TcpListener, TcpStream};
@@ -69,6 +69,7 @@ pub struct Room {
     pub(crate) control: Option<Control>,
     pub(crate) limits: ClientLimits,
     pub(crate) ending: Ending,
+    pub(crate) leisure: Leisure,
     pub(crate) lead: Mutex<Lead>,
     pub(crate) table: Mutex<Table>,
     /// How many replies went out whole.
@@ -93,17 +94,23 @@ impl Room {
         let mut table = self.table.lock(rt);
         table.note_door();
         table.admit(clients);
+        self.tell_leisure(&table);
     }
 
-    /// Whether a worker may look at its own client for a moment, before it gives it back. Who leads isn't told then what comes.
-    pub(crate) fn lends<R: Wait + Eprint>(&self, rt: &R, client: &Client) -> bool {
-        if !self.table.lock(rt).has_leisure() {
-            return false;
+    // Tells the links whether workers are free. The table is locked meanwhile.
+    fn tell_leisure(&self, table: &Table) {
+        self.leisure.tell(table.has_leisure());
+    }
+
+    /// Whether workers are free, for the link of a worker's client; none: they aren't now. Who leads isn't told then what comes of it.
+    pub(crate) fn leisure_of(&self, number: RawFd) -> Option<Leisure> {
+        if !self.leisure.is_there() {
+            return None;
         }
+        let leisure = self.leisure.share().ok()?;
         // One that isn't watched stays so.
-        let number = client.end.number();
         let _ = self.registry.deregister(&mut SourceFd(&number));
-        true
+        Some(leisure)
     }
 
     // The system's word on a place is waited for from now on, also on what came until now. One that is watched stays so.
@@ -158,7 +165,10 @@ impl Room {
     }
 
     fn turn<R: Wait + Eprint>(&self, rt: &R) -> Turn {
-        turn_of(&mut self.table.lock(rt))
+        let mut table = self.table.lock(rt);
+        let turn = turn_of(&mut table);
+        self.tell_leisure(&table);
+        turn
     }
 
     // Waits for the system's word, and does what it says.
@@ -212,6 +222,7 @@ impl Room {
                 place => stir(&mut table, place, now),
             }
         }
+        self.tell_leisure(&table);
         is_asked
     }
 
@@ -245,6 +256,7 @@ impl Room {
         table.is_stopped = true;
         self.ending.set(end_after(now, grace));
         close_waiting(&mut table);
+        self.tell_leisure(&table);
         // Who dials from now on is refused at once.
         shutdown(self.listener.as_raw_fd(), SHUT_RDWR);
         true
@@ -310,6 +322,7 @@ impl Room {
                 drop(client);
             }
         }
+        self.tell_leisure(&table);
     }
 
     // Closes the links of those who have waited too long.
@@ -324,14 +337,13 @@ impl Room {
         }
     }
 
-    /// A worker gives its client back, who waits for a head, of which some bytes may have come, or is ready if something comes of it.
+    /// A worker gives its client back, who waits for a head, of which some bytes may have come.
     pub(crate) fn give_back<R: Wait + Eprint>(
         &self,
         rt: &R,
         at: usize,
         stay: Stay,
         client: Client,
-        comes: bool,
     ) {
         let mut table = self.table.lock(rt);
         table.note_back();
@@ -339,12 +351,8 @@ impl Room {
             drop(table);
             return self.linger_now(rt, at, client);
         }
-        if comes {
-            stir(&mut table, at, stay.since);
-        }
         let number = client.end.number();
         match table.places.give_back(at, stay, client) {
-            Ok(()) if comes => {}
             Ok(()) => self.watch(at, number),
             Err(client) => {
                 table.note_gone();
@@ -352,6 +360,7 @@ impl Room {
                 drop(client);
             }
         }
+        self.tell_leisure(&table);
     }
 
     /// A worker's client goes.
@@ -360,6 +369,7 @@ impl Room {
         table.note_back();
         table.note_gone();
         table.places.free(at);
+        self.tell_leisure(&table);
     }
 
     /// A worker leaves its client, whose link lingers.
@@ -375,6 +385,7 @@ impl Room {
         let number = client.end.number();
         let mut table = self.table.lock(rt);
         table.note_gone();
+        self.tell_leisure(&table);
         table.places.see(at);
         match table
             .places

@@ -58,11 +58,11 @@ impl Table {
         self.doors = self.doors.saturating_add(1);
     }
 
-    /// Whether a worker may look at its own client for a moment: nobody is ready, and three of four workers have no client.
+    /// Whether a worker may look at its own client for a moment: nobody is ready, and there are four workers for each client.
     pub fn has_leisure(&self) -> bool
         ensures { IsTrue result ↔ HasLeisure self.now }
     {
-        !self.is_stopped && self.places.ready() == 0 && self.away <= self.doors / 4
+        !self.is_stopped && self.places.ready() == 0 && self.clients <= self.doors / 4
     }
 
     /// Whether another client may come.
