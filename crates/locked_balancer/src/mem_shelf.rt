@@ -81,6 +81,8 @@ impl Shelf for MemShelf {
         put(&mut self.kept, (lb, segment))
     }
 
+    fn wait_for(&self, _lb: u32, _before: u64) {}
+
     fn failed(&self) -> u64 {
         self.failed
     }

@@ -21,7 +21,8 @@ use std::marker::Model;
 use std::sync::Wait;
 use std::sync::ledger::Share;
 
-/// A desk over a shared Site. Each call is one hold of the lock; a segment that it cut goes to the shelf after the hold.
+/// A desk over a shared Site. Each call is one hold of the lock; a segment that it cut goes to the shelf after the hold. Then a
+/// choosing or commanding call waits for the shelf, where segments that other desks cut aren't kept yet.
 #[derive(Drop)]
 pub struct SharedDesk<'s, 'r, L: SiteName, S: Shelf, R> {
     site: &'s SharedSite<'r, L, R>,
@@ -254,6 +255,7 @@ impl<'s, 'r, L: SiteName, S: Shelf, R: Wait> Desk for SharedDesk<'s, 'r, L, S, R
             ask,
         );
         put_away(&mut self.shelf, &mut self.wants, segment);
+        wait_for_kept(&self.shelf, self.receipts.as_slice(), self.site.cut_at);
         count_full(&mut self.fulls, &done);
         done
     }
@@ -334,6 +336,7 @@ impl<'s, 'r, L: SiteName, S: Shelf, R: Wait> Desk for SharedDesk<'s, 'r, L, S, R
             command,
         );
         put_away(&mut self.shelf, &mut self.wants, segment);
+        wait_for_kept(&self.shelf, self.receipts.as_slice(), self.site.cut_at);
         count_refusal(&mut self.fulls, &mut self.wides, &done);
         done
     }
@@ -378,6 +381,16 @@ fn put_one<L, S: Shelf>(shelf: &mut S, wants: &mut u64, segment: SiteSegment<L>)
         Ok(()) => {}
         Err(IoError::Failed) => {}
         Err(IoError::NoMemory) => *wants = wants.saturating_add(1),
+    }
+}
+
+// Lets a shelf wait where more entries aren't kept than those at which a journal is cut.
+fn wait_for_kept<L, S: Shelf>(shelf: &S, receipts: &[SiteReceipt<L>], cut_at: u32) {
+    if let Some(last) = receipts.last()
+        && cut_at > 0
+    {
+        let last = last.receipt();
+        shelf.wait_for(last.lb, last.entry.seq.saturating_sub(u64::from(cut_at)));
     }
 }
 

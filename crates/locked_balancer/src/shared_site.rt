@@ -13,6 +13,8 @@ use std::sync::Wait;
 pub struct SharedSite<'r, L: SiteName, R> {
     pub(crate) rt: &'r R,
     pub(crate) lock: SiteLock<L>,
+    /// The number of kept entries at which a journal is cut; 0 is never.
+    pub(crate) cut_at: u32,
 }
 
 impl<'r, L: SiteName, R> SharedSite<'r, L, R> {
@@ -37,7 +39,7 @@ impl<'r, L: SiteName, R> SharedSite<'r, L, R> {
     {
         site.count();
         match SiteLock::<L>::open(alloc, Told::new(Locked::new(site, cut_at))) {
-            Ok(lock) => Ok(SharedSite { rt, lock }),
+            Ok(lock) => Ok(SharedSite { rt, lock, cut_at }),
             Err(_) => Err(NoMemory),
         }
     }
@@ -50,7 +52,11 @@ impl<'r, L: SiteName, R> SharedSite<'r, L, R> {
         requires here { All (λ s. s.lock ≡ lock_of self) seats }
         ensures { IsClosed L.starts seats result }
     {
-        let SharedSite { rt, lock } = self;
+        let SharedSite {
+            rt,
+            lock,
+            cut_at: _,
+        } = self;
         let mut seat = lock.seat();
         for other in seats.into_vec() {
             lock.join(&mut seat, other.into_seat());

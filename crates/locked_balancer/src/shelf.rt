@@ -29,6 +29,10 @@ pub trait Shelf {
         ensures stands { OnOk result (faults self.new ≡ faults self.old) }
         ensures wanted { IsErrOf result IoError.NoMemory → faults self.new ≡ faults self.old };
 
+    /// Tells that the entries of balancer `lb` before this number were added. A shelf may let its caller wait here, for a short
+    /// time, for segments with such entries that aren't kept yet. It changes nothing.
+    fn wait_for(&self, lb: u32, before: u64);
+
     /// The count of faults.
     fn failed(&self) -> u64
         ensures { result ≡ faults self.now };

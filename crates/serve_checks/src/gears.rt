@@ -14,7 +14,9 @@ use std::alloc::Global;
 use std::fs;
 use std::net::{Net, TcpListener, TcpStream};
 use std::rt::Files as SystemFiles;
-use worker_gears::FileShelf;
+use std::sync::Wait;
+use std::time::Clock;
+use worker_gears::{FileShelf, SegmentTurns};
 
 /// A journal's text with one segment.
 const TEXT: &[u8] =
@@ -66,15 +68,19 @@ fn keeps_once<S: Shelf, F: Files>(alloc: Global, shelf: &mut S, files: &mut F) -
 }
 
 /// The shelf of a balancer named app, in the directory of the run.
-fn shelf_here<'r, R: SystemFiles>(rt: &'r R, alloc: Global) -> Result<FileShelf<'r, R>, NoMemory> {
+fn shelf_here<'r, R: SystemFiles + Wait + Clock>(
+    rt: &'r R,
+    alloc: Global,
+) -> Result<FileShelf<'r, R>, NoMemory> {
     let mut names = ListOf::new(alloc);
     names.push(Bytes::from_slice(alloc, b"app")?)?;
     let dir = Bytes::from_slice(alloc, b".")?;
-    Ok(FileShelf::new(rt, dir, names, Notices::new(alloc)?))
+    let turns = SegmentTurns::new(alloc, 1, 7, 0)?;
+    Ok(FileShelf::new(rt, dir, names, Notices::new(alloc)?, turns))
 }
 
 /// Whether a segment goes into a file of its own, which no other one is written over.
-fn keep_a_segment<R: SystemFiles + Net>(rt: &R, alloc: Global) -> bool {
+fn keep_a_segment<R: SystemFiles + Net + Wait + Clock>(rt: &R, alloc: Global) -> bool {
     match shelf_here(rt, alloc) {
         Ok(shelf) => {
             let mut shelf = shelf;
@@ -159,7 +165,12 @@ fn accept_by_a_gear<R: Net<Listener = TcpListener, Stream = TcpStream>, W: World
 /// Shows each claim on what a worker gets of the real world, and whether it holds.
 pub fn judge<R, W: World>(rt: &R, world: &mut W) -> Result<()>
 where
-    R: Print + AllocGlobal + Net<Listener = TcpListener, Stream = TcpStream> + SystemFiles,
+    R: Print
+        + AllocGlobal
+        + Net<Listener = TcpListener, Stream = TcpStream>
+        + SystemFiles
+        + Wait
+        + Clock,
 {
     let alloc = rt.alloc();
     let kept = keep_a_segment(rt, alloc);

@@ -12,7 +12,7 @@ use std::net::{Net, SocketAddr, TcpListener, TcpStream};
 use std::rt::Files;
 
 /// The number with which the journals of a run begin.
-const FIRST_NUMBER: u64 = 0;
+pub(crate) const FIRST_NUMBER: u64 = 0;
 
 // The bytes as a text; an error where they aren't UTF-8.
 fn as_text(bytes: &Bytes) -> io::Result<&str> {

@@ -9,9 +9,11 @@ use crate::descriptors::fitting;
 use crate::file_log::FileLog;
 use crate::notice::notice;
 use crate::opening::{
-    bound_address, listen, log_path, make_and_remove, names_of, open_log, shown, taken, trial_path,
+    FIRST_NUMBER, bound_address, listen, log_path, make_and_remove, names_of, open_log, shown,
+    taken, trial_path,
 };
 use crate::real_door::RealDoor;
+use crate::segment_turns::SegmentTurns;
 use crate::shelves::{DropShelf, FileShelf, RealShelf};
 use crate::trouble::Trouble;
 use conn_pool::NoTape;
@@ -41,6 +43,8 @@ pub struct RealWorld<
     room: Option<Arc<Room>>,
     /// Where it is said that a member fails.
     notices: Option<Notices>,
+    /// How far the journals are in files.
+    turns: Option<SegmentTurns>,
     /// Where the clients of a container come.
     listener: Option<TcpListener>,
     /// How many gears are out.
@@ -66,6 +70,7 @@ impl<
             threads,
             room: None,
             notices: None,
+            turns: None,
             listener: None,
             out: 0,
             trouble: None,
@@ -189,6 +194,19 @@ impl<
         Ok(share)
     }
 
+    // A share of how far the journals are in files.
+    fn turns(&mut self, alloc: Global, balancers: usize) -> Result<SegmentTurns, NoMemory>
+        ensures { (self.new.out ≡ self.old.out) × (self.new.failed ≡ self.old.failed) }
+    {
+        if let Some(turns) = &self.turns {
+            return turns.share();
+        }
+        let first = SegmentTurns::new(alloc, balancers, FIRST_NUMBER, self.threads)?;
+        let share = first.share()?;
+        self.turns = Some(first);
+        Ok(share)
+    }
+
     // Opens the room, with no more clients that wait than there are descriptors for.
     fn new_room(&mut self, alloc: Global, asked: &GearOrder<'_>) -> Result<Arc<Room>, IoError>
         ensures cause { HasCause self.old.failed self.new.failed result }
@@ -265,7 +283,8 @@ impl<
         };
         let names = names_of(alloc, cfg.lbs.as_slice())?;
         let notices = self.notices(alloc, Some(cfg))?;
-        let shelf = FileShelf::new(self.rt, dir.copy()?, names, notices);
+        let turns = self.turns(alloc, cfg.lbs.len())?;
+        let shelf = FileShelf::new(self.rt, dir.copy()?, names, notices, turns);
         Ok(RealShelf::Files(shelf))
     }
 
@@ -456,7 +475,7 @@ fn control_trouble(
 }
 
 // Why a worker's files couldn't be written: a segment's, or else its log.
-fn trouble_in<'r, R: Files + Clock>(
+fn trouble_in<'r, R: Files + Clock + Wait>(
     shelf: &mut RealShelf<'r, R>,
     log: Option<FileLog<'r, R::File, R>>,
 ) -> Option<Trouble> {

@@ -5,6 +5,7 @@ ghost use Rattle.worker_gears.specs.Files.{IsFileOf};
 ghost use Rattle.jk_io.specs.Told.{HasCause};
 
 use crate::journal_files::{SegmentFile, segment_file};
+use crate::segment_turns::SegmentTurns;
 use crate::tries::{APART_MILLIS, patience};
 use crate::trouble::Trouble;
 use jk_io::{Bytes, IoError, ListOf, NoMemory};
@@ -15,8 +16,11 @@ use real_io::{Notices, moment};
 use std::fs::{self, OpenOptions};
 use std::io::{self, ErrorKind, Write};
 use std::rt::Files;
+use std::sync::Wait;
+use std::time::Clock;
 
-/// A shelf that writes each segment into a new file `DIR/NAME-FIRST.jkj`. It tells nothing of what it holds.
+/// A shelf that writes each segment into a new file `DIR/NAME-FIRST.jkj`, after those that come before it, whichever shelf of
+/// the run has them. It tells nothing of what it holds.
 #[derive(Drop)]
 pub struct FileShelf<'r, R: Files> {
     rt: &'r R,
@@ -25,14 +29,22 @@ pub struct FileShelf<'r, R: Files> {
     names: ListOf<Bytes>,
     /// Where it is said that a segment can't be written.
     notices: Notices,
+    /// How far the journals are in files.
+    turns: SegmentTurns,
     /// Which segment couldn't be written first.
     trouble: Option<Trouble>,
     failed: u64,
 }
 
-impl<'r, R: Files> FileShelf<'r, R> {
+impl<'r, R: Files + Wait + Clock> FileShelf<'r, R> {
     /// A shelf in this directory, for the balancers of these names, in order. No file is made or looked at.
-    pub fn new(rt: &'r R, dir: Bytes, names: ListOf<Bytes>, notices: Notices) -> FileShelf<'r, R>
+    pub fn new(
+        rt: &'r R,
+        dir: Bytes,
+        names: ListOf<Bytes>,
+        notices: Notices,
+        turns: SegmentTurns,
+    ) -> FileShelf<'r, R>
         ensures { (result.dir ≡ dir) × (result.names ≡ names) × (result.failed ≡ 0) }
     {
         FileShelf {
@@ -40,6 +52,7 @@ impl<'r, R: Files> FileShelf<'r, R> {
             dir,
             names,
             notices,
+            turns,
             trouble: None,
             failed: 0,
         }
@@ -57,7 +70,7 @@ impl<'r, R: Files> FileShelf<'r, R> {
         ensures { self.new.failed ≡ self.old.failed }
     {
         match self.file_of(lb, segment)? {
-            Some(file) => Ok(self.write_file(file)),
+            Some(file) => Ok(self.write_file(lb, file)),
             None => Ok(false),
         }
     }
@@ -73,21 +86,20 @@ impl<'r, R: Files> FileShelf<'r, R> {
     }
 
     // Writes a new file, and says whether that was done whole. It isn't where the path isn't UTF-8.
-    fn write_file(&mut self, file: SegmentFile) -> bool
+    fn write_file(&mut self, lb: u32, file: SegmentFile) -> bool
         ensures { self.new.failed ≡ self.old.failed }
     {
         let SegmentFile { path, text } = file;
         let Ok(path) = String::from_utf8(path.into_vec()) else {
             return false;
         };
-        let until = moment().saturating_add(patience(self.trouble.as_ref()));
-        match write_until(
-            self.rt,
-            &self.notices,
-            until,
-            path.as_str(),
-            text.as_slice(),
-        ) {
+        let trying = Trying {
+            notices: &self.notices,
+            turns: &self.turns,
+            lb,
+            until: moment().saturating_add(patience(self.trouble.as_ref())),
+        };
+        match write_until(self.rt, trying, path.as_str(), text.as_slice()) {
             Ok(()) => true,
             Err(reason) => {
                 self.notices.given_up(path.as_str(), &reason);
@@ -112,23 +124,44 @@ impl<'r, R: Files> FileShelf<'r, R> {
         Err(IoError::Failed)
     }
 
-    // Writes the file of a segment, and counts where that wasn't done.
+    // Says how far the journal of a balancer is in files now.
+    fn pass_on(&self, lb: u32, segment: &Segment, is_written: bool) {
+        if is_written {
+            let count = segment.entries.len() as u64;
+            let end = segment.opening.next.saturating_add(count);
+            self.turns.come_to(self.rt, lb, end);
+        } else {
+            self.turns.be_late(self.rt, lb);
+        }
+    }
+
+    // Writes the file of a segment in its turn, and counts where that wasn't done.
     fn keep_file(&mut self, lb: u32, segment: &Segment) -> Result<(), IoError>
         ensures cause { HasCause self.old.failed self.new.failed result }
         ensures stands { OnOk result (self.new.failed ≡ self.old.failed) }
         ensures wanted { IsErrOf result IoError.NoMemory → self.new.failed ≡ self.old.failed }
     {
-        let written = self.write(lb, segment)?;
-        self.answer(written)
+        self.turns.wait_until(self.rt, lb, segment.opening.next);
+        let written = self.write(lb, segment);
+        self.pass_on(lb, segment, matches!(written, Ok(true)));
+        self.answer(written?)
     }
 }
 
-// Writes a new file. Where that fails it is tried again until a moment, which is said on standard error; not where the file is
-// there already.
-fn write_until<R: Files>(
-    rt: &R,
-    notices: &Notices,
+// Until when a file of a balancer is tried to be written, and who learns that it can't be.
+#[derive(Clone, Copy)]
+struct Trying<'a> {
+    notices: &'a Notices,
+    turns: &'a SegmentTurns,
+    lb: u32,
     until: u64,
+}
+
+// Writes a new file. Where that fails it is tried again until a moment, which is said on standard error, and nobody waits for it;
+// not where the file is there already.
+fn write_until<R: Files + Wait>(
+    rt: &R,
+    trying: Trying<'_>,
     path: &str,
     text: &[u8],
 ) -> io::Result<()> {
@@ -137,11 +170,12 @@ fn write_until<R: Files>(
         let Err(reason) = write_new(rt, path, text) else {
             return Ok(());
         };
-        if reason.kind() == ErrorKind::AlreadyExists || moment() >= until {
+        if reason.kind() == ErrorKind::AlreadyExists || moment() >= trying.until {
             return Err(reason);
         }
         if !is_said {
-            notices.unkept(path, &reason);
+            trying.notices.unkept(path, &reason);
+            trying.turns.be_late(rt, trying.lb);
             is_said = true;
         }
         poll(&mut [], APART_MILLIS);
@@ -169,7 +203,7 @@ fn write_new<R: Files>(rt: &R, path: &str, text: &[u8]) -> io::Result<()> {
     written
 }
 
-impl<'r, R: Files> Shelf for FileShelf<'r, R> {
+impl<'r, R: Files + Wait + Clock> Shelf for FileShelf<'r, R> {
     ghost use Rattle.std.specs.Prelude.{None};
 
     ghost shelved = { λ _. None };
@@ -179,6 +213,11 @@ impl<'r, R: Files> Shelf for FileShelf<'r, R> {
     /// It fails for a balancer that has no name here, and where the file can't be made new and written whole.
     fn keep(&mut self, lb: u32, segment: Segment) -> Result<(), IoError> {
         self.keep_file(lb, &segment)
+    }
+
+    /// It waits, for a second at most, where a file that has such entries is being written, or is to be.
+    fn wait_for(&self, lb: u32, before: u64) {
+        self.turns.wait_about(self.rt, lb, before);
     }
 
     fn failed(&self) -> u64 {
@@ -203,6 +242,8 @@ impl Shelf for DropShelf {
         Ok(())
     }
 
+    fn wait_for(&self, _lb: u32, _before: u64) {}
+
     fn failed(&self) -> u64 {
         0
     }
@@ -215,7 +256,7 @@ pub enum RealShelf<'r, R: Files> {
     Dropped(DropShelf),
 }
 
-impl<'r, R: Files> RealShelf<'r, R> {
+impl<'r, R: Files + Wait + Clock> RealShelf<'r, R> {
     /// Which segment couldn't be written first, and why.
     pub(crate) fn take_trouble(&mut self) -> Option<Trouble> {
         match self {
@@ -225,7 +266,7 @@ impl<'r, R: Files> RealShelf<'r, R> {
     }
 }
 
-impl<'r, R: Files> Shelf for RealShelf<'r, R> {
+impl<'r, R: Files + Wait + Clock> Shelf for RealShelf<'r, R> {
     ghost use Rattle.std.specs.Prelude.{None};
     ghost use Rattle.worker_gears.specs.Real.{shelf_faults};
 
@@ -237,6 +278,13 @@ impl<'r, R: Files> Shelf for RealShelf<'r, R> {
         match self {
             RealShelf::Files(shelf) => shelf.keep(lb, segment),
             RealShelf::Dropped(shelf) => shelf.keep(lb, segment),
+        }
+    }
+
+    fn wait_for(&self, lb: u32, before: u64) {
+        match self {
+            RealShelf::Files(shelf) => shelf.wait_for(lb, before),
+            RealShelf::Dropped(shelf) => shelf.wait_for(lb, before),
         }
     }
 
