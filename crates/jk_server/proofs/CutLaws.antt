@@ -86,9 +86,16 @@ kept_said {D} {G} {T} {K} {S} {O} at talks answers Kept Said Ended Are ts old ba
       keeps.2.tools_put refl,
 )
 
-discord_said : (lbs : List Lb) (sizes firsts : List ℕ) (d : DiscordNote) → sizes ≡ sizes_of lbs → firsts ≡ firsts_of lbs → IsDiscordAt sizes firsts d → IsDiscordOf lbs d
-discord_said lbs sizes firsts d same_sizes same_firsts at =
-    subst (λ (ns : List ℕ). IsDiscordAt ns (firsts_of lbs) d) same_sizes (subst (λ (ns : List ℕ). IsDiscordAt sizes ns d) same_firsts at)
+discord_said : (lbs : List Lb) (sizes firsts : List ℕ) (starts : List Opening) (seats : List SeatNote) (moment : ℕ) (begun : List Journal) (d : DiscordNote)
+    → sizes ≡ sizes_of lbs → firsts ≡ firsts_of lbs → starts ≡ starts_of begun → AreStarts lbs moment 0 begun → (at : IsDiscordAt sizes firsts starts seats d)
+    → IsDiscordOf lbs seats at.2.differs.books d
+discord_said lbs sizes firsts starts seats moment begun d same_sizes same_firsts same_starts begins at = record {
+  ended = ended_said lbs sizes firsts starts seats moment begun at.2.differs.books same_sizes same_firsts same_starts begins
+      (record { sited = at.2.differs.sited; history = at.2.whole });
+  uncut = at.2.differs.uncut;
+  receipts = at.1;
+  discord = at.2.differs.discord;
+}
 
 pub closes_said : {D G T K S O L C : Type 0} (at : D → DoorSide C) (talks : T → Option (List Talk)) (answers : K → Option (List ℕ)) (shelved : S → Option (List (ℕ × Segment)))
     (faults : S → ℕ) (lbs : List Lb) (sizes firsts : List ℕ) (starts : List Opening) (seats : List SeatNote) (moment : ℕ) (begun : List Journal)
@@ -106,9 +113,9 @@ closes_said {S = S} at talks answers shelved faults lbs sizes firsts starts seat
     (λ books closed. ended_said lbs sizes firsts starts seats moment begun books same_sizes same_firsts same_starts begins closed)
     (λ books x y ended kept. ((ended, kept.0), kept.1)) ends
 closes_said {D} {G} {T} {K} {S} {O} at talks answers shelved faults lbs sizes firsts starts seats moment begun ts old back (closing.Differs d) same_sizes same_firsts same_starts begins ends = (
-  [],
+  ends.0.2.differs.books,
   (
-    discord_said lbs sizes firsts d same_sizes same_firsts ends.0,
+    discord_said lbs sizes firsts starts seats moment begun d same_sizes same_firsts same_starts begins ends.0,
     ap (λ (gs : List (Gear D G T K S O)). map (gear_side at talks answers) gs) ends.1,
   ),
 )

@@ -117,7 +117,7 @@ ends_with shelved faults lbs seats books left back closing.Kept closes has =
     first_ends lbs seats books (Shelves shelved lbs seats books) left back (λ x y kept. kept.1.0) closes
 ends_with {S = S} shelved faults lbs seats books left back closing.ShelfFault closes has =
     first_ends lbs seats books (λ (old new : S). ShelvesFront shelved lbs seats books old new × Rose (faults old) (faults new)) left back (λ x y kept. kept.0.0) closes
-ends_with shelved faults lbs seats books left back (closing.Differs d) closes has = absurd has
+ends_with shelved faults lbs seats books left back (closing.Differs d) closes has = closes.0.ended
 ends_with shelved faults lbs seats books left back closing.NoMemory closes has = absurd has
 
 -- The headline.

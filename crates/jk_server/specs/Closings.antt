@@ -4,13 +4,12 @@ use Rattle.jk_io.specs.Told.{appended, Rose}
 use Rattle.jk_model.specs.declared.journal.Entry.{Entry}
 use Rattle.jk_model.specs.declared.segment.Segment.{Segment}
 use Rattle.balancer_core.specs.Journal.{Journal}
-use Rattle.exchange.specs.Requests.{sizes_of}
 use Rattle.locked_balancer.specs.Histories.{SeatNote}
-use Rattle.site_closing.specs.Closings.{Differs, DiscordNote}
+use Rattle.site_closing.specs.Closings.{AreUncut, DiscordNote, IsDiscord, kept_from}
 use Rattle.site_config.specs.declared.balancer.Lb.{Lb}
 use Rattle.gear_parts.specs.Gears.{GearSide}
 use Rattle.gear_parts.specs.Cuts.{AddsFront, AreCuts}
-use Rattle.jk_server.specs.Headline.{AreEnded, firsts_of}
+use Rattle.jk_server.specs.Headline.{AreEnded}
 use Rattle.jk_server.specs.declared.runs.ends.Closing.{Closing}
 use Rattle.jk_server.specs.declared.runs.ends.Closing.TheVariants as closing
 
@@ -33,14 +32,17 @@ Shelves shelved lbs seats books old new =
 abbrev pub ShelvesFront : {S : Type 0} → (S → Option (List (ℕ × Segment))) → List Lb → List SeatNote → List Journal → (old new : S) → Type 0
 ShelvesFront shelved lbs seats books old new = AreEnded lbs seats books × AddsFront shelved books old new
 
--- The receipts of the workers aren't the entries that the Books keep, and this is where they differ first.
-abbrev pub IsDiscordOf : List Lb → DiscordNote → Type 0
-IsDiscordOf lbs d = (entries : ℕ) × (receipts : List (ℕ × Entry)) × Differs (sizes_of lbs) (firsts_of lbs) entries receipts d
+-- The receipts of the workers aren't the entries that these Books keep, and this is where they differ first.
+pub record IsDiscordOf (lbs : List Lb) (seats : List SeatNote) (books : List Journal) (d : DiscordNote) : Type 0 where
+  pub ended : AreEnded lbs seats books
+  pub uncut : AreUncut books
+  pub receipts : List (ℕ × Entry)
+  pub discord : IsDiscord receipts (kept_from 0 books) d
 
 -- What each end of the closing says of the Books that it took.
 abbrev pub Closes : {C S O L : Type 0} → (S → Option (List (ℕ × Segment))) → (S → ℕ) → List Lb → List SeatNote → List Journal → (left back : List (GearSide C S O)) → Closing L → Type 0
 Closes shelved faults lbs seats books left back closing.Kept = KeepsFirst (Shelves shelved lbs seats books) left back
 Closes shelved faults lbs seats books left back closing.ShelfFault =
     KeepsFirst (λ old new. ShelvesFront shelved lbs seats books old new × Rose (faults old) (faults new)) left back
-Closes shelved faults lbs seats books left back (closing.Differs d) = IsDiscordOf lbs d × (back ≡ [])
+Closes shelved faults lbs seats books left back (closing.Differs d) = IsDiscordOf lbs seats books d × (back ≡ [])
 Closes shelved faults lbs seats books left back closing.NoMemory = (back ≡ []) ⊎ KeepsFirst (ShelvesFront shelved lbs seats books) left back

@@ -73,7 +73,7 @@ NamesItsStray runs worker.NoMemory = Unit {0}
 abbrev pub HasBooks : {L : Type 0} → Closing L → Type 0
 HasBooks closing.Kept = Unit {0}
 HasBooks closing.ShelfFault = Unit {0}
-HasBooks (closing.Differs d) = ⊥
+HasBooks (closing.Differs d) = Unit {0}
 HasBooks closing.NoMemory = ⊥
 
 -- The headline: the sessions of each worker, in order, with the stray that a worker's end names, and the one list that tells the

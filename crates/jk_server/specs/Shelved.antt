@@ -7,8 +7,8 @@ use Rattle.balancer_core.specs.Journal.{Journal}
 use Rattle.jk_model.specs.declared.opening.Opening.{Opening}
 use Rattle.locked_balancer.specs.Histories.{SeatNote}
 use Rattle.locked_balancer.specs.Sites.{AreSited}
-use Rattle.site_closing.specs.Closings.{Differs, DiscordNote}
-use Rattle.site_closing.specs.OneHistory.{IsWhole}
+use Rattle.site_closing.specs.Closings.{DiscordNote}
+use Rattle.site_closing.specs.OneHistory.{DiffersWhole, IsWhole}
 use Rattle.gear_parts.specs.declared.world.Gear.{Gear}
 use Rattle.gear_parts.specs.Cuts.{AddsCuts, AddsFront, ToFirst}
 use Rattle.gear_parts.specs.GearParts.{Tools, tools}
@@ -31,15 +31,16 @@ abbrev pub KeepsCuts : {D G T K S O : Type 0} → (List Journal → S → S → 
 KeepsCuts Kept Ended left shelves back =
     (books : List Journal) × Ended books × IsPutBack (Kept books) left shelves back
 
--- Where the receipts of the workers differ first from the entries that the Books of a Site of this kind keep.
-abbrev pub IsDiscordAt : (sizes firsts : List ℕ) → DiscordNote → Type 0
-IsDiscordAt sizes firsts d = (entries : ℕ) × (receipts : List (ℕ × Entry)) × Differs sizes firsts entries receipts d
+-- Where the receipts of the workers differ first from the entries that the Books of a Site of this kind keep, which one history
+-- made what they are.
+abbrev pub IsDiscordAt : (sizes firsts : List ℕ) → (starts : List Opening) → (seats : List SeatNote) → DiscordNote → Type 0
+IsDiscordAt sizes firsts starts seats d = (entries : ℕ) × (receipts : List (ℕ × Entry)) × DiffersWhole starts seats sizes firsts entries receipts d
 
 -- What each end of the closing says of the tools and shelves that the workers left, and of the gears that came back.
 abbrev pub EndsSo : {D G T K S O L : Type 0} → (S → Option (List (ℕ × Segment))) → (S → ℕ) → (sizes firsts : List ℕ) → (starts : List Opening) → (seats : List SeatNote) → List (Tools D G T K O) → List S → (back : List (Gear D G T K S O)) → Closing L → Type 0
 EndsSo shelved faults sizes firsts starts seats left shelves back closing.Kept = KeepsCuts (AddsCuts shelved) (AreClosed sizes firsts starts seats) left shelves back
 EndsSo shelved faults sizes firsts starts seats left shelves back closing.ShelfFault =
     KeepsCuts (λ books old new. AddsFront shelved books old new × Rose (faults old) (faults new)) (AreClosed sizes firsts starts seats) left shelves back
-EndsSo shelved faults sizes firsts starts seats left shelves back (closing.Differs d) = IsDiscordAt sizes firsts d × (back ≡ [])
+EndsSo shelved faults sizes firsts starts seats left shelves back (closing.Differs d) = IsDiscordAt sizes firsts starts seats d × (back ≡ [])
 EndsSo shelved faults sizes firsts starts seats left shelves back closing.NoMemory =
     (back ≡ []) ⊎ KeepsCuts (AddsFront shelved) (AreClosed sizes firsts starts seats) left shelves back

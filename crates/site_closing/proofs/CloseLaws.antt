@@ -4,6 +4,8 @@ use Rattle.std.specs.Prelude.{IfErr, IfOk}
 use Rattle.std.specs.List.Sorted.{IsPermutation}
 use Rattle.jk_model.specs.declared.journal.Entry.{Entry}
 use Rattle.balancer_core.specs.Journal.{Journal}
+use Rattle.jk_model.specs.declared.opening.Opening.{Opening}
+use Rattle.locked_balancer.specs.Histories.{IsClosed, SeatNote}
 use Rattle.locked_balancer.specs.Sites.{AreSited, added_in}
 use Rattle.site_closing.specs.CloseErrors.{IsCloseError}
 use Rattle.site_closing.specs.Closings.{AreUncut, Differs, DiscordNote, IsDiscord, kept_from}
@@ -15,9 +17,10 @@ close_error P Q (close.Differs d) then is = then d is
 close_error P Q close.NoMemory then is = tt
 
 pub differs_from : (sizes firsts : List ℕ) (amount amount' : ℕ) (forgot : Bool) (All : Type 0) (items all : List (ℕ × Entry)) (books told : List Journal) (d : DiscordNote)
-    → (forgot ≡ false → All) → items ≡ all → told ≡ books → AreSited sizes firsts books → amount ≡ added_in books → amount ≡ amount'
-    → (forgot ≡ false) × AreUncut told × IsDiscord items (kept_from 0 told) d → All × Differs sizes firsts amount' all d
-differs_from sizes firsts amount amount' forgot All items all books told d none noted same sited counted sum is = (
+    (starts : List Opening) (seats : List SeatNote)
+    → (forgot ≡ false → All) → items ≡ all → told ≡ books → AreSited sizes firsts books → amount ≡ added_in books → amount ≡ amount' → IsClosed starts seats books
+    → (forgot ≡ false) × AreUncut told × IsDiscord items (kept_from 0 told) d → All × (x : Differs sizes firsts amount' all d) × IsClosed starts seats x.books
+differs_from sizes firsts amount amount' forgot All items all books told d starts seats none noted same sited counted sum closed is = (
   none is.0,
   record {
     books = books;
@@ -26,6 +29,7 @@ differs_from sizes firsts amount amount' forgot All items all books told d none 
     uncut = subst (λ (xs : List Journal). AreUncut xs) same is.1;
     discord = subst (λ (xs : List Journal). IsDiscord all (kept_from 0 xs) d) same (subst (λ (ys : List (ℕ × Entry)). IsDiscord ys (kept_from 0 told) d) noted is.2);
   },
+  closed,
 )
 
 pub once_from : (forgot : Bool) (All : Type 0) (items all : List (ℕ × Entry)) (books told : List Journal) → (All → forgot ≡ false) → items ≡ all → told ≡ books
@@ -37,11 +41,18 @@ once_from forgot All items all books told none noted same is every uncut =
 
 -- What was gathered, told of what the desks left.
 pub differs_left : (sizes firsts : List ℕ) (amount amount' : ℕ) (forgot : Bool) (All : Type 0) (items all : List (ℕ × Entry)) (d : DiscordNote)
-    → (forgot ≡ false → All) → items ≡ all → amount ≡ amount'
-    → (forgot ≡ false) × Differs sizes firsts amount items d → All × Differs sizes firsts amount' all d
-differs_left sizes firsts amount amount' forgot All items all d none noted sum is = (
+    (starts : List Opening) (seats : List SeatNote) → (forgot ≡ false → All) → items ≡ all → amount ≡ amount'
+    → (forgot ≡ false) × (x : Differs sizes firsts amount items d) × IsClosed starts seats x.books → All × (y : Differs sizes firsts amount' all d) × IsClosed starts seats y.books
+differs_left sizes firsts amount amount' forgot All items all d starts seats none noted sum is = (
   none is.0,
-  subst (λ (ys : List (ℕ × Entry)). Differs sizes firsts amount' ys d) noted (subst (λ (n : ℕ). Differs sizes firsts n items d) sum is.1),
+  record {
+    books = is.1.books;
+    sited = is.1.sited;
+    counted = is.1.counted ∙ sum;
+    uncut = is.1.uncut;
+    discord = subst (λ (ys : List (ℕ × Entry)). IsDiscord ys (kept_from 0 is.1.books) d) noted is.1.discord;
+  },
+  is.2,
 )
 
 pub err_left : {T L : Type 0} (P Q : DiscordNote → Type 0) (r : Result T (CloseError L)) → ((d : DiscordNote) → P d → Q d) → IfErr r (IsCloseError P) → IfErr r (IsCloseError Q)

@@ -8,7 +8,7 @@ ghost use Rattle.locked_balancer.specs.Locks.{lock_of};
 ghost use Rattle.locked_balancer.specs.Sites.{AreSited, added_in};
 ghost use Rattle.site_closing.specs.CloseErrors.{IsCloseError};
 ghost use Rattle.site_closing.specs.Closings.{AreUncut, Differs, IsDiscord, kept_from, noted};
-ghost use Rattle.site_closing.specs.OneHistory.{IsWhole};
+ghost use Rattle.site_closing.specs.OneHistory.{DiffersWhole, IsWhole};
 ghost use Rattle.jk_model.specs.declared.config.TheConstants.{MAX_BALANCERS};
 
 use crate::compare::{Noted, first_difference, put_in_order};
@@ -111,8 +111,10 @@ pub fn close_own_desks<'r, L: SiteName, S: Drop, R: Wait>(
     ensures whole { IfOk result (λ c. IsWhole L.starts (map (λ l. l.seat) leaving) c.books) }
     ensures counted { IfOk result (λ c. c.entries ≡ sum_by (λ l. l.share.amount) leaving) }
     ensures shelves { IfOk result (λ c. c.shelves ≡ map (λ l. l.shelf) leaving) }
-    ensures differs { IfErr result (IsCloseError
-        (Differs L.sizes L.firsts (sum_by (λ l. l.share.amount) leaving) (noted (flat_map (λ l. l.receipts) leaving)))) }
+
+    // So it is of the Books with which the receipts are in discord.
+    ensures differs { IfErr result (IsCloseError (DiffersWhole L.starts (map (λ l. l.seat) leaving) L.sizes L.firsts
+        (sum_by (λ l. l.share.amount) leaving) (noted (flat_map (λ l. l.receipts) leaving)))) }
 {
     close_gathered(site, gather(leaving)?)
 }
@@ -130,7 +132,8 @@ fn close_gathered<'r, L: SiteName, S: Drop, R: Wait>(
     ensures counted { IfOk result (λ c. c.entries ≡ all.share.amount) }
     ensures shelves { IfOk result (λ c. c.shelves ≡ all.shelves.items) }
     ensures once { IfOk result (λ c. all.forgot ≡ false → AreUncut c.books → IsPermutation all.noted.items (kept_from 0 c.books)) }
-    ensures differs { IfErr result (IsCloseError (λ d. (all.forgot ≡ false) × Differs L.sizes L.firsts all.share.amount all.noted.items d)) }
+    ensures differs { IfErr result (IsCloseError (λ d. (all.forgot ≡ false)
+        × (x : Differs L.sizes L.firsts all.share.amount all.noted.items d) × IsClosed L.starts all.seats.items x.books)) }
 {
     let Gathered {
         share,

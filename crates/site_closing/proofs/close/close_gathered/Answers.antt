@@ -10,7 +10,7 @@ returns-in_err-compare-clause-differs g c =
     of_error c.from_residual.result c.in_err-compare.field-0.0 _ c.from_residual.ensures.1
     (close_error _ _ c.in_err-compare.field-0.0
     (λ d is. differs_from g.L.SiteName.sizes g.L.SiteName.firsts c.args.all.share.amount _ c.args.all.forgot _ c.args.all.noted.items _ c.end_site-books.result.0 c.as_slice.result.now d
-    (λ e. e) refl c.as_slice.ensures c.end_site-books.ensures.sited c.end_site-books.ensures.amount refl is)
+    g.L.SiteName.starts _ (λ e. e) refl c.as_slice.ensures c.end_site-books.ensures.sited c.end_site-books.ensures.amount refl c.end_site-books.ensures.history is)
     c.in_err-compare.ensures.differs)
 
 pub returns-clause-once : goal.returns-clause-once

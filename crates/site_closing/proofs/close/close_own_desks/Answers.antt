@@ -10,7 +10,14 @@ use Rattle.site_closing.proofs.close.close_own_desks.Goals as goal
 pub returns-clause-differs : goal.returns-clause-differs
 returns-clause-differs g c =
     err_left _ _ c.close_gathered.result
-    (λ d is. (differs_left g.L.SiteName.sizes g.L.SiteName.firsts _ _ _ _ _ _ d c.in_ok-gather.ensures.forgot.0 c.in_ok-gather.ensures.noted c.in_ok-gather.ensures.amount is).1)
+    (λ d is.
+    let left = differs_left g.L.SiteName.sizes g.L.SiteName.firsts _ _ _ _ _ _ d g.L.SiteName.starts _ c.in_ok-gather.ensures.forgot.0 c.in_ok-gather.ensures.noted c.in_ok-gather.ensures.amount is in
+    let here = subst (λ (ss : List SeatNote). IsClosed g.L.SiteName.starts ss left.1.books) c.in_ok-gather.ensures.seats left.2 in
+    record {
+      differs = left.1;
+      whole = whole_by g.L.SiteName.starts _ left.1.books here
+          (amounts (λ l. l.seat) (λ l. l.share.amount) c.args.leaving (λ l. l.own) ∙ sym left.1.counted);
+    })
     c.close_gathered.ensures.differs
 
 -- Their seats are those of the desks.
