@@ -1,7 +1,7 @@
 -- How a command that asks for workers or threads ends.
 use Rattle.std.proofs.Common.{ℕ, ◌≡◌, ◌≢◌, ◌⊎◌, Bool, true, false, List, [], ◌∷◌, Option, Some, None, inl, inr, refl, sym, ◌∙◌, subst, arith}
-use Rattle.container_server.specs.declared.ends.ContainerWorker.{ContainerWorker}
-use Rattle.container_server.specs.declared.ends.ContainerWorker.TheVariants as container
+use Rattle.mini_container.specs.declared.worker_ends.ContainerWorker.{ContainerWorker}
+use Rattle.mini_container.specs.declared.worker_ends.ContainerWorker.TheVariants as container
 use Rattle.drill.specs.Written.{RunsDrill, Told, Lacked, Wanted}
 use Rattle.drill.specs.declared.writing.DrillEnd.{DrillEnd}
 use Rattle.drill.specs.declared.writing.DrillEnd.TheVariants as drilled

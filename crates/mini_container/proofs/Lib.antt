@@ -7,3 +7,5 @@ pub mod BodyLaws
 pub mod TurnLaws
 pub mod SentLaws
 pub mod PacketLaws
+pub mod ServingLaws
+pub mod SlotLaws

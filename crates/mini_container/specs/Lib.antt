@@ -6,3 +6,4 @@ pub mod Reply
 pub mod Turns
 pub mod Ends
 pub mod Steps
+pub mod Served

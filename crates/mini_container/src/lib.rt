@@ -1,12 +1,16 @@
-//! A container of a few applications, at the other end of a link that speaks AJPv1.3.
+//! A container of a few applications, at the other end of a link that speaks AJPv1.3; and a worker thread for each door, which serves
+//! that door's links.
 //!
 //! Source: AJPv1.3 reference, "Request Packet Structure", "Response Packet Structure", "Get Body Chunk", "CPing".
-//! Own rules: the applications, the secret of a request, when a body is asked for, what ends a talk (docs/DECISIONS.md).
+//! Own rules: the applications, the secret of a request, when a body is asked for, what ends a talk or a worker
+//! (docs/DECISIONS.md).
 //! Shapes: a packet's size counts its 4 bytes of head. Names of headers are looked up in either case. Lists of turns and
 //! of answers to asks have the newest first.
 //! Contract: `serve_ajp`, clause `talk`; `app_answer`, clause `answer`. Read first: specs/Pages.antt and specs/Answer.antt,
-//! then specs/Turns.antt and specs/Ends.antt.
-//! Errors: `ContainerEnd` tells how a talk ended; after each of its variants nothing more is read or written.
+//! then specs/Turns.antt and specs/Ends.antt. `run_container`, clauses `served` and `unasked`; read specs/Served.antt, over
+//! door_clients' specs/Doors.antt.
+//! Errors: `ContainerEnd` tells how a talk ended; after each of its variants nothing more is read or written. The doors come back for
+//! want of memory, before one was asked; after that each worker's end is a `ContainerWorker`.
 #![tactic(auto)]
 
 mod answering;
@@ -14,6 +18,7 @@ mod app_config;
 mod application;
 mod body;
 mod cutting;
+mod door_links;
 mod ends;
 mod laws;
 mod packets;
@@ -21,6 +26,8 @@ mod page;
 mod request;
 mod sending;
 mod serving;
+mod worker_ends;
+mod workers;
 
 pub use answering::{MessageList, app_answer};
 pub use app_config::AppConfig;
@@ -30,3 +37,5 @@ pub use laws::{
     an_answer_is_whole_or_dropped, answers_fit_their_packets, what_is_sent_is_spelled,
 };
 pub use serving::serve_ajp;
+pub use worker_ends::{ContainerRunEnd, ContainerWorker, ContainerWorkerList, DoorList};
+pub use workers::run_container;

@@ -4,9 +4,9 @@ ghost use Rattle.jk_server.specs.Ends.{end_by, end_of_closing, end_of_container,
 
 use crate::part::WorkerEnd;
 use crate::runs::ends::Closing;
-use container_server::ContainerWorker;
 use jk_io::IoError;
 use locked_balancer::SiteStray;
+use mini_container::ContainerWorker;
 use site_closing::Discord;
 
 /// The status of a command that did what it was asked.

@@ -5,9 +5,9 @@ use Rattle.std.proofs.Math.Seq.{take-append_seam}
 use Rattle.jk_io.specs.declared.traits.streams.Meanings.{Ghosts}
 use Rattle.door_clients.specs.Doors.{DoorSide}
 use Rattle.mini_container.specs.declared.app_config.AppConfig.{AppConfig}
-use Rattle.container_server.specs.Served.{AreEachServed, IsServedDoor}
-use Rattle.container_server.specs.declared.ends.ContainerWorker.{ContainerWorker}
-use Rattle.container_server.specs.declared.workers.Slot.{Slot}
+use Rattle.mini_container.specs.Served.{AreEachServed, IsServedDoor}
+use Rattle.mini_container.specs.declared.worker_ends.ContainerWorker.{ContainerWorker}
+use Rattle.mini_container.specs.declared.workers.Slot.{Slot}
 
 pub each_served : {D C X : Type 0} → (app : AppConfig) (told : Ghosts C X) (at : D → DoorSide C) (slots after : List (Slot D))
     → length after ≡ length slots

@@ -10,8 +10,8 @@ use Rattle.mini_container.specs.Ends.{IsTalk}
 use Rattle.mini_container.specs.declared.app_config.AppConfig.{AppConfig}
 use Rattle.mini_container.specs.declared.ends.ContainerEnd.{ContainerEnd}
 use Rattle.mini_container.specs.declared.ends.ContainerEnd.TheVariants as container_end
-use Rattle.container_server.specs.declared.ends.ContainerWorker.{ContainerWorker}
-use Rattle.container_server.specs.declared.ends.ContainerWorker.TheVariants as worker
+use Rattle.mini_container.specs.declared.worker_ends.ContainerWorker.{ContainerWorker}
+use Rattle.mini_container.specs.declared.worker_ends.ContainerWorker.TheVariants as worker
 
 -- A link that was served: as the door gave it, whose it was, as it was left, and how its talk ended.
 pub record ServedLink (C : Type 0) : Type 0 where

@@ -1,6 +1,6 @@
 use Rattle.std.proofs.Common.{◌≡◌, ◌+◌, ◌≤◌, ◌++◌, length, map}
 use Rattle.std.specs.Prelude.{vec_capacity, vec_len}
-use Rattle.container_server.proofs.workers.fill_slots.Given as goal
+use Rattle.mini_container.proofs.workers.fill_slots.Given as goal
 
 abbrev pub invariant-doors : goal.invariant-doors
 invariant-doors g l =

@@ -11,8 +11,8 @@ use Rattle.door_clients.proofs.DoorLaws.{all_but_last, but_one_more, none_came, 
 use Rattle.mini_container.specs.declared.app_config.AppConfig.{AppConfig}
 use Rattle.mini_container.specs.declared.ends.ContainerEnd.{ContainerEnd}
 use Rattle.mini_container.specs.declared.ends.ContainerEnd.TheVariants as container_end
-use Rattle.container_server.specs.Served.{AreServed, count_of, GoesOn, IsServed, IsServedDoor, LeavesServed, ServedLink}
-use Rattle.container_server.specs.declared.ends.ContainerWorker.TheVariants as worker
+use Rattle.mini_container.specs.Served.{AreServed, count_of, GoesOn, IsServed, IsServedDoor, LeavesServed, ServedLink}
+use Rattle.mini_container.specs.declared.worker_ends.ContainerWorker.TheVariants as worker
 
 -- These links were served, and the worker goes on.
 pub record IsUnderWay {C X : Type 0} (app : AppConfig) (told : Ghosts C X) (first now : DoorSide C) (count : ℕ) : Type 0 where

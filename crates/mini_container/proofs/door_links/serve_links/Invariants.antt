@@ -1,7 +1,7 @@
 -- The links so far were served, and the worker goes on.
 use Rattle.door_clients.specs.Doors.{side}
-use Rattle.container_server.proofs.ServingLaws.{IsUnderWay}
-use Rattle.container_server.proofs.serving.serve_links.Given as goal
+use Rattle.mini_container.proofs.ServingLaws.{IsUnderWay}
+use Rattle.mini_container.proofs.door_links.serve_links.Given as goal
 
 abbrev pub invariant-links : goal.invariant-links
 invariant-links g l =

@@ -1,6 +1,6 @@
 use Rattle.std.proofs.Common.{length, ap, arith}
-use Rattle.container_server.proofs.SlotLaws.{run_served, written_back}
-use Rattle.container_server.proofs.workers.run_in.Goals as goal
+use Rattle.mini_container.proofs.SlotLaws.{run_served, written_back}
+use Rattle.mini_container.proofs.workers.run_in.Goals as goal
 
 pub returns : goal.returns
 returns g c =

@@ -1,13 +1,13 @@
 //! A worker for each door.
 ghost use Rattle.std.specs.Prelude.{◌≡◌, ◌+◌, ◌≤◌, ◌++◌, [], length, map, vec_capacity, vec_len, IfErr, IfOk};
 ghost use Rattle.door_clients.specs.Doors.{side};
-ghost use Rattle.container_server.specs.Served.{AreEachServed, AreServedDoors, IsServedDoor};
-ghost use Rattle.container_server.specs.declared.workers.Slot.{Slot as AnySlot};
+ghost use Rattle.mini_container.specs.Served.{AreEachServed, AreServedDoors, IsServedDoor};
+ghost use Rattle.mini_container.specs.declared.workers.Slot.{Slot as AnySlot};
 
-use crate::ends::{ContainerRunEnd, ContainerWorker, DoorList};
-use crate::serving::serve_links;
+use crate::app_config::AppConfig;
+use crate::door_links::serve_links;
+use crate::worker_ends::{ContainerRunEnd, ContainerWorker, DoorList};
 use jk_io::{Door, ListOf, NoMemory};
-use mini_container::AppConfig;
 use std::alloc::Global;
 use std::sync::Wait;
 use std::thread::{self, Threads};

@@ -1,6 +1,6 @@
 use Rattle.std.proofs.Common.{refl}
-use Rattle.container_server.proofs.ServingLaws.{begins, closes, goes_on, lacks, wants}
-use Rattle.container_server.proofs.serving.serve_links.Goals as goal
+use Rattle.mini_container.proofs.ServingLaws.{begins, closes, goes_on, lacks, wants}
+use Rattle.mini_container.proofs.door_links.serve_links.Goals as goal
 
 pub links-init : goal.links-init
 links-init g c = begins _ _ _

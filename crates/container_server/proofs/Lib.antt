@@ -1,2 +1,0 @@
-pub mod ServingLaws
-pub mod SlotLaws
