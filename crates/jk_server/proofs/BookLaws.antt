@@ -5,8 +5,8 @@ use Rattle.std.proofs.lemmas.List.Elements.{All-cons, All-nil}
 use Rattle.jk_model.specs.declared.journal.Entry.{Entry}
 use Rattle.balancer_core.specs.Journal.{IsStart, Journal, next_number}
 use Rattle.locked_balancer.specs.Sites.{At, nexts_of}
-use Rattle.site_books.specs.Starts.{AreStarts}
-use Rattle.site_books.proofs.StartLaws.{starts_each}
+use Rattle.site_reports.specs.Starts.{AreStarts}
+use Rattle.site_reports.proofs.StartLaws.{starts_each}
 use Rattle.site_config.specs.declared.balancer.Lb.{Lb}
 use Rattle.jk_server.specs.Headline.{firsts_of}
 

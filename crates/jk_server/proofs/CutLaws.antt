@@ -10,7 +10,7 @@ use Rattle.door_clients.specs.Doors.{DoorSide}
 use Rattle.exchange.specs.Requests.{sizes_of}
 use Rattle.locked_balancer.specs.Histories.{SeatNote, starts_of}
 use Rattle.locked_balancer.specs.Sites.{AreSited}
-use Rattle.site_books.specs.Starts.{AreStarts}
+use Rattle.site_reports.specs.Starts.{AreStarts}
 use Rattle.site_config.specs.declared.balancer.Lb.{Lb}
 use Rattle.gear_parts.specs.Cuts.{AddsCuts, AddsFront, ToFirst}
 use Rattle.gear_parts.specs.GearParts.{gear_with, gears_with, Tools, tools}

@@ -19,7 +19,7 @@ use Rattle.client_session.specs.declared.ending.SessionStop.TheVariants as stop
 use Rattle.exchange.specs.Requests.{sizes_of}
 use Rattle.locked_balancer.specs.Histories.{AreDistinct, IsSiteHistory, SeatNote, noted, own_in, starts_of}
 use Rattle.locked_balancer.specs.Sites.{AreSited}
-use Rattle.site_books.specs.Starts.{AreStarts}
+use Rattle.site_reports.specs.Starts.{AreStarts}
 use Rattle.site_closing.specs.OneHistory.{IsWhole}
 use Rattle.site_config.specs.declared.balancer.Lb.{Lb}
 use Rattle.jk_server.specs.Served.{IsRun, IsStray, Run}

@@ -8,7 +8,7 @@ use Rattle.jk_io.specs.declared.reaching.Talk.{Talk}
 use Rattle.jk_model.specs.declared.served.Served.{Served}
 use Rattle.balancer_core.specs.Journal.{Journal}
 use Rattle.balancer_core.specs.PlainDesks.{plain_state}
-use Rattle.site_books.specs.Starts.{AreStarts}
+use Rattle.site_reports.specs.Starts.{AreStarts}
 use Rattle.site_config.specs.declared.config.Config.{Config}
 use Rattle.uri_map.specs.Lines.{read_text}
 use Rattle.uri_map.specs.declared.rule.Rule.{Rule}

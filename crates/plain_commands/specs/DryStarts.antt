@@ -6,7 +6,7 @@ use Rattle.exchange.specs.Requests.{sizes_of}
 use Rattle.balancer_core.specs.Desks.{DeskState}
 use Rattle.balancer_core.specs.Journal.{Journal}
 use Rattle.balancer_core.specs.PlainDesks.{plain_state}
-use Rattle.site_books.specs.Starts.{AreStarts}
+use Rattle.site_reports.specs.Starts.{AreStarts}
 use Rattle.site_config.specs.declared.balancer.Lb.{Lb}
 
 -- The Books of these balancers as they start, no ticket and no receipt.

@@ -16,8 +16,8 @@ use jk_io::{
     Bytes, MemLink, MemLinkList, MemReach, NoMemory, NumberList, PatientLink, Peer, StepClock,
 };
 use jk_model::{Served, ServedList};
-use site_books::member_counts;
 use site_config::Config;
+use site_reports::member_counts;
 use std::alloc::Global;
 use std::fmt::Write;
 use uri_map::UriMap;

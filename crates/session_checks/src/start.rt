@@ -5,8 +5,8 @@ ghost use Rattle.session_checks.specs.Starts.{IsDeskOf};
 use balancer_core::PlainDesk;
 use jk_io::NoMemory;
 use jk_model::MOST_NUMBERS;
-use site_books::books_of;
 use site_config::Lb;
+use site_reports::books_of;
 use std::alloc::Global;
 
 /// A desk over the balancers' Books, whose first entries have this number.

@@ -1,3 +1,4 @@
 pub mod PathLineLemmas
 pub mod ReportLemmas
 pub mod SiteLaws
+pub mod StartLaws

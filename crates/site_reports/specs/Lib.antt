@@ -7,3 +7,4 @@ pub mod Readings
 pub mod Reports
 pub mod Sites
 pub mod Words
+pub mod Starts

@@ -1,12 +1,13 @@
-//! What a site's files are understood as: a site, or lines of text.
+//! A site of two files: how they are read and judged, the lines that are printed of it, and its Books as they start.
 //!
 //! Source: own rules for the lines (docs/FORMATS.md, "config" and "match").
 //! Contract: `put_config`, which adds `config_text`, and `put_matches`, which adds `match_text`. Read first:
 //! specs/ConfigText.antt, specs/Matches.antt. `read_site`, clause `ok`, reads both files and judges them: specs/Sites.antt.
-//! For the commands above, which read the files: specs/Readings.antt.
+//! For the commands above, which read the files: specs/Readings.antt. `books_of` has a Book for each balancer: specs/Starts.antt.
 //! Errors: want of memory, and of `read_site` a fault of the files.
 #![tactic(auto)]
 
+mod books;
 mod config_text;
 mod limits_line;
 mod match_text;
@@ -17,6 +18,7 @@ mod report;
 mod site;
 mod words;
 
+pub use books::{books_of, member_counts};
 pub use config_text::put_config;
 pub use match_text::put_matches;
 pub use reading::{Judged, read_site};

@@ -5,8 +5,8 @@ ghost use Rattle.plain_commands.specs.DryStarts.{IsFirstDesk, IsFirstReach};
 use crate::session::one_reply::{OneReply, ReplyName};
 use balancer_core::PlainDesk;
 use jk_io::NoMemory;
-use site_books::{books_of, member_counts};
 use site_config::Lb;
+use site_reports::{books_of, member_counts};
 use std::alloc::Global;
 
 /// A desk over the balancers' Books as they start.

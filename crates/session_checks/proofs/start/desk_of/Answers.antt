@@ -1,6 +1,6 @@
 -- Books that start have rules 2, and their balancers' members.
 use Rattle.std.proofs.Common.{ap, ◌∙◌}
-use Rattle.site_books.proofs.StartLaws.{starts_modern, starts_sizes}
+use Rattle.site_reports.proofs.StartLaws.{starts_modern, starts_sizes}
 use Rattle.session_checks.proofs.start.desk_of.Goals as goal
 
 pub new-requires : goal.new-requires

@@ -5,7 +5,7 @@ use Rattle.jk_model.specs.declared.served.Served.{Served}
 use Rattle.client_session.specs.Requests.{undated, visit}
 use Rattle.client_session.proofs.SurroundingsLaws.{parts_at}
 use Rattle.plain_commands.proofs.SessionLemmas.{first_is, run_from, run_listed}
-use Rattle.site_books.proofs.StartLaws.{starts_sizes}
+use Rattle.site_reports.proofs.StartLaws.{starts_sizes}
 use Rattle.plain_commands.proofs.session.report.serve.Goals as goal
 
 pub serve_session_with-end-requires : goal.serve_session_with-end-requires

@@ -1,4 +1,4 @@
-use Rattle.site_books.proofs.StartLaws.{starts_modern}
+use Rattle.site_reports.proofs.StartLaws.{starts_modern}
 use Rattle.plain_commands.proofs.session.start.desk_of.Goals as goal
 
 pub new-requires : goal.new-requires

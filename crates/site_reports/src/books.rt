@@ -1,6 +1,6 @@
 //! A Book for each balancer of a configuration.
 ghost use Rattle.std.specs.Prelude.{◌≡◌, ◌≤◌, length, map, IfOk};
-ghost use Rattle.site_books.specs.Starts.{AreStarts};
+ghost use Rattle.site_reports.specs.Starts.{AreStarts};
 
 use balancer_core::{Book, BookList};
 use jk_io::{NoMemory, SizeList};

@@ -1,5 +1,5 @@
-use Rattle.site_books.proofs.StartLaws.{starts_more}
-use Rattle.site_books.proofs.books.books_of.Goals as goal
+use Rattle.site_reports.proofs.StartLaws.{starts_more}
+use Rattle.site_reports.proofs.books.books_of.Goals as goal
 
 pub loop-lb-preserved : goal.loop-lb-preserved
 loop-lb-preserved c =

@@ -7,7 +7,7 @@ use Rattle.balancer_core.specs.Journal.{IsStart, Journal}
 use Rattle.balancer_core.specs.PlainDesks.{AreModern}
 use Rattle.balancer_core.specs.ToldBooks.{sizes_of}
 use Rattle.site_config.specs.declared.balancer.Lb.{Lb}
-use Rattle.site_books.specs.Starts.{AreStarts}
+use Rattle.site_reports.specs.Starts.{AreStarts}
 
 -- A Book has its balancer's members.
 pub starts_sizes : (lbs : List Lb) (at first : ℕ) (books : List Journal) → AreStarts lbs at first books
