@@ -1,12 +1,31 @@
-//! Rows of data files: how they are written, how their bytes come and go, and whether they come out as they want.
+//! Rows of data files, of one line or of several: how they are written, how their bytes come and go, and whether they come out as they
+//! want.
 //!
 //! A crate of checks has an `Area` for each of its files, which does on the wire what a row says. What comes out of a
 //! row is told by words, and compared with what stands at its end.
+//!
+//! A row of several lines is a line `row NAME` and lines below it:
+//!
+//!     words PLAY --x      words, each after a space; `word` begins one whose text stands below it
+//!     file w              a file of this name, whose text stands below it
+//!     input, output       an input, or what comes out, whose text stands below it
+//!     part                a part of what comes out, whose text stands below it
+//!     |TEXT               the text and LF, at the end of what was begun last; `+TEXT` is the text alone
+//!     times N TEXT        the text N times; in `counted N TEXT` each `\i` is its number, from 0
+//!     again N             all that stands there N times more
+//!     KEY VALUE           what a crate of checks asks for by this key
+//!     with A => B         the row is done once for each such line, with A for `\1` and B for `\2`
+//!
+//! In a text `\n`, `\r`, `\t` and `\s` are LF, CR, a tab and a space, `\e` is nothing, and `\xNN` is any byte.
 //! Nothing is claimed here: a row that comes out otherwise is shown.
 #![tactic(auto)]
 
+pub mod block_judging;
+pub mod comparing;
 pub mod files;
 pub mod judging;
+pub mod row;
 pub mod rows;
 pub mod telling;
+pub mod texts;
 pub mod ways;

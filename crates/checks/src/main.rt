@@ -13,6 +13,6 @@ fn main(rt: HostRuntime) -> Result<()> {
     book_checks::judge(&rt)?;
     desk_checks::judge(&rt)?;
     outside_checks::judge(&rt)?;
-    log_checks::judge(&rt)?;
+    outside_checks::judge_logs(&rt)?;
     socket_checks::judge(&rt)
 }

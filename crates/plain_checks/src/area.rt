@@ -2,8 +2,8 @@
 
 use crate::{plain, values};
 use anyhow::Result;
-use block_rows::judging::{BlockArea, judge_files};
-use block_rows::row::{BlockRow, RowError};
+use check_rows::block_judging::{BlockArea, judge_files};
+use check_rows::row::{BlockRow, RowError};
 use std::alloc::Global;
 use std::rt::Files;
 

@@ -1,6 +1,6 @@
 //! The plain commands over files, input and output in memory.
-use block_rows::comparing::wants;
-use block_rows::row::{BlockRow, RowError};
+use check_rows::comparing::wants;
+use check_rows::row::{BlockRow, RowError};
 use jk_io::{Bytes, MemFiles, MemLink, NoMemory, NumberList};
 use plain_commands::run_plain;
 use std::alloc::Global;

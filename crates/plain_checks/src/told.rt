@@ -1,7 +1,7 @@
 //! What a person is told of a command that ended.
 use crate::plain::{files_of, input_of};
 use crate::row_text::RowText;
-use block_rows::row::{BlockRow, RowError};
+use check_rows::row::{BlockRow, RowError};
 use command_remarks::{CountedInput, Ended, KeptFiles, RemarkOut, remarks_on};
 use jk_io::{Bytes, Files, MemFiles, MemLink, NoMemory, NumberList, Sink, Source};
 use plain_commands::run_plain;

@@ -13,8 +13,8 @@ use crate::scripts::{tell_begun, tell_load, tell_step};
 use crate::sites::{tell_found, tell_mount, tell_properties};
 use crate::told::put_told;
 use crate::words::{put_help, put_words};
-use block_rows::comparing::wants;
-use block_rows::row::{BlockRow, RowError};
+use check_rows::comparing::wants;
+use check_rows::row::{BlockRow, RowError};
 use jk_io::NoMemory;
 use std::alloc::Global;
 

@@ -3,7 +3,7 @@
 //! `words`: the order that the words are, or `no command`, and where the help's command doesn't take it.
 //! `help`: the text that the words ask for.
 use crate::row_text::RowText;
-use block_rows::row::{BlockRow, RowError};
+use check_rows::row::{BlockRow, RowError};
 use jk_cli::{Order, command, command_of, read_words};
 use jk_io::{Bytes, NoMemory};
 use plain_commands::asked_text;

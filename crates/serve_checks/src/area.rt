@@ -2,11 +2,11 @@
 
 use crate::{joined, meeting, serving};
 use anyhow::Result;
-use block_rows::comparing::wants;
-use block_rows::row::{BlockRow, RowError};
-use block_rows::texts::With;
+use check_rows::comparing::wants;
 use check_rows::files::{print_count, read_rows};
+use check_rows::row::{BlockRow, RowError};
 use check_rows::telling::put_plain;
+use check_rows::texts::With;
 use jk_io::{Bytes, NoMemory};
 use std::alloc::Global;
 use std::fmt::Write;
@@ -99,7 +99,7 @@ fn judge_row<R: Threads + Wait + Clock + Sync + Net<Listener = TcpListener, Stre
 }
 
 /// Does each row of a text, shows those that come out otherwise, and answers how many come out as they say. (A trait's method
-/// knows nothing of what its threads share, so these rows aren't judged by `judge_files` of block_rows.)
+/// knows nothing of what its threads share, so these rows aren't judged by `block_judging`.)
 fn judge_rows<R: Threads + Wait + Clock + Sync + Net<Listener = TcpListener, Stream = TcpStream>>(
     rt: &R,
     alloc: Global,

@@ -4,8 +4,8 @@
 ghost use Rattle.std.specs.Prelude.{◌≡◌, vec_len, IfOk};
 
 use crate::meeting::{Served, config_of, map_of};
-use block_rows::row::{BlockRow, RowError};
-use block_rows::texts::With;
+use check_rows::row::{BlockRow, RowError};
+use check_rows::texts::With;
 use conn_pool::NoTape;
 use jk_commands::let_go;
 use jk_io::{

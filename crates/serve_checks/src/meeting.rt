@@ -5,7 +5,7 @@ ghost use Rattle.std.specs.Prelude.{◌≡◌, ◌<◌, true, vec_len, IfOk};
 ghost use Rattle.uri_map.specs.Sites.{stands_in};
 
 use crate::worlds::{client_by, link_of, push};
-use block_rows::row::{BlockRow, RowError};
+use check_rows::row::{BlockRow, RowError};
 use conn_pool::NoTape;
 use jk_commands::let_go;
 use jk_io::{

@@ -2,7 +2,7 @@
 use crate::doing::{put_checked, status_of};
 use crate::told::put_world;
 use crate::worlds::world_of;
-use block_rows::row::{BlockRow, RowError};
+use check_rows::row::{BlockRow, RowError};
 use jk_io::{Bytes, MemFiles, MemLink, NoMemory, NumberList, put_decimal};
 use std::alloc::Global;
 use std::sync::Wait;

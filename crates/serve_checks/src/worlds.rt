@@ -1,5 +1,5 @@
 //! The world of a row: what its gears are made of.
-use block_rows::row::{BlockRow, RowError};
+use check_rows::row::{BlockRow, RowError};
 use jk_io::{
     Bytes, ClientList, ListOf, MemDial, MemLink, MemLinkList, NoMemory, NumberList, Peer,
     StepClock, parse_decimal,

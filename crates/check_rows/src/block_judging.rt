@@ -1,8 +1,8 @@
 //! Each row of a text, done once for each of its lines `with`.
+use crate::files::{print_count, read_rows};
 use crate::row::{BlockRow, RowError};
 use crate::texts::With;
 use anyhow::Result as Judged;
-use check_rows::files::{print_count, read_rows};
 use jk_io::NoMemory;
 use std::alloc::Global;
 use std::fmt::Write;

@@ -1,4 +1,4 @@
-//! What the rows are about.
+//! Rows on the log of requests and on the watch over idle links.
 
 use crate::{logs, watches};
 use anyhow::Result;
@@ -37,6 +37,6 @@ impl judging::Area for Area {
 }
 
 /// Shows each row that comes out otherwise, and how many come out as they say.
-pub fn judge<R: Print + AllocGlobal + Files>(rt: &R) -> Result<()> {
+pub fn judge_logs<R: Print + AllocGlobal + Files>(rt: &R) -> Result<()> {
     judge_files(rt, &FILES)
 }
