@@ -1,7 +1,16 @@
 use Rattle.std.proofs.Common.{◌≡◌, ℕ, Option, length, length-drop, ap, sym, subst, ◌∙◌, arith}
 use Rattle.std.specs.Prelude.{IfSome}
-use Rattle.status_worker.proofs.DeskLaws.{twice}
+use Rattle.status_worker.proofs.DeskLaws.{twice, untouched}
 use Rattle.drill.proofs.thread.serve_requests.Goals as goal
+
+pub sessions-init : goal.sessions-init
+sessions-init g c = record {
+  kept = untouched _ _;
+  caller = c.requires.caller;
+  sizes = c.requires.sizes;
+  idle = c.requires.idle;
+  reach_sizes = c.requires.reach_sizes;
+}
 
 pub sessions-smaller : goal.sessions-smaller
 sessions-smaller g c =
