@@ -2,8 +2,8 @@
 ghost use Rattle.std.specs.Prelude.{◌≤◌, IfSome, length};
 ghost use Rattle.jk_io.specs.declared.whole_input.TheConstants.{MAX_INPUT_BYTES};
 
-use command_remarks::ReadFile;
 use jk_io::{Bytes, FileError, Files, ListOf, NoMemory};
+use remarks::ReadFile;
 use std::alloc::Global;
 
 /// What was read ahead, the first read last. Each text is given once.

@@ -3,12 +3,12 @@
 use crate::ahead_files::{Ahead, ahead_of};
 use crate::marked_sink::MarkedSink;
 use crate::write_sink::WriteSink;
-use command_remarks::{Ended, InputSeen, KeptFiles, ReadFile, RemarkOut, remarks_on};
 use jk_cli::{Order, read_words};
 use jk_commands::{is_serving, let_go};
 use jk_io::{Bytes, Files, ListOf, MemLink, NoMemory, NumberList};
 use plain_commands::run_plain;
 use real_io::RealFiles;
+use remarks::{Ended, InputSeen, KeptFiles, ReadFile, RemarkOut, remarks_on};
 use std::alloc::Global;
 use std::io::{self, Write};
 use std::net::Net;

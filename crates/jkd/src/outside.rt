@@ -9,11 +9,11 @@ ghost use Rattle.jk_commands.specs.Words.{is_serving};
 
 use crate::ahead_files::{Ahead, AheadFiles};
 use crate::telling::tell;
-use command_remarks::{CountedInput, KeptFiles};
 use jk_cli::{Order, read_words};
 use jk_commands::{JkdEnd, let_go, run_jkd};
 use jk_io::{Bytes, Door, Files, Sink, Source};
 use real_io::{RealFiles, StdIn, StdOut};
+use remarks::{CountedInput, KeptFiles};
 use std::alloc::Global;
 use std::io::{Input, Write};
 use std::net::Net;

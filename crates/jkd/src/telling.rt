@@ -1,7 +1,7 @@
 //! What a person reads on standard error once a command ended.
 use crate::write_sink::WriteSink;
-use command_remarks::{Ended, InputSeen, ReadFile, RemarkOut, remarks_on, unread_file};
 use jk_io::{Bytes, NoMemory};
+use remarks::{Ended, InputSeen, ReadFile, RemarkOut, remarks_on, unread_file};
 use std::alloc::Global;
 use std::io::{Read, Write};
 use std::rt::Files;

@@ -2,9 +2,9 @@
 use crate::plain::{files_of, input_of};
 use crate::row_text::RowText;
 use check_rows::row::{BlockRow, RowError};
-use command_remarks::{CountedInput, Ended, KeptFiles, RemarkOut, remarks_on};
 use jk_io::{Bytes, Files, MemFiles, MemLink, NoMemory, NumberList, Sink, Source};
 use plain_commands::run_plain;
+use remarks::{CountedInput, Ended, KeptFiles, RemarkOut, remarks_on};
 use std::alloc::Global;
 
 /// The reason that stands for the system's.

@@ -1,0 +1,46 @@
+-- The lines of a file that are refused, each by itself, as they stand.
+use Rattle.std.specs.Prelude.{ℕ, ◌+◌, Bool, true, false, ◌||◌, List, [], ◌∷◌, ◌++◌, Option, Some, None}
+use Rattle.std.specs.Option.{is_some, option_map}
+use Rattle.jk_io.specs.Decimals.{trimmed}
+use Rattle.property_lines.specs.Lines.{lines, without_mark}
+use Rattle.property_lines.specs.Properties as properties
+use Rattle.site_config.specs.declared.config.Config.{Config}
+use Rattle.remarks.specs.declared.refused.Judge.{Judge}
+use Rattle.remarks.specs.declared.refused.Judge.TheVariants as judge
+use Rattle.remarks.specs.Explained.{map_words, said_of, workers_words}
+use Rattle.uri_map.specs.Lines as rules
+use Rattle.uri_map.specs.Refusals.{code_in}
+
+-- what is wrong with the line of this number in a workers.properties by itself, if something is
+abbrev pub wrong_line : ℕ → (line : List ℕ) → Option (List ℕ)
+wrong_line n line = option_map (workers_words line) (code_in (properties.said true n (trimmed line)))
+
+-- what is wrong with the line of this number in a uriworkermap.properties, if something is
+abbrev pub wrong_rule : Config → ℕ → (line : List ℕ) → Option (List ℕ)
+wrong_rule c n line = option_map map_words (code_in (rules.said c n (trimmed line)))
+
+abbrev pub wrong_by : Judge → ℕ → (line : List ℕ) → Option (List ℕ)
+wrong_by judge.Workers = wrong_line
+wrong_by (judge.Map workers) = wrong_rule workers.now
+
+-- what is said of a line with which this is wrong, if something is
+abbrev pub told_if : (file : List ℕ) → ℕ → (line : List ℕ) → Option (List ℕ) → List ℕ
+told_if file n line None = []
+told_if file n line (Some words) = said_of file n (words ++ line)
+
+-- what is said of these lines from this number on
+abbrev pub refused_from : (wrong : ℕ → List ℕ → Option (List ℕ)) → (file : List ℕ) → ℕ → List (List ℕ) → List ℕ
+refused_from wrong file n [] = []
+refused_from wrong file n (l ∷ ls) = told_if file n l (wrong n l) ++ refused_from wrong file (n + 1) ls
+
+-- one of these lines is refused
+abbrev pub has_wrong : (wrong : ℕ → List ℕ → Option (List ℕ)) → ℕ → List (List ℕ) → Bool
+has_wrong wrong n [] = false
+has_wrong wrong n (l ∷ ls) = is_some (wrong n l) || has_wrong wrong (n + 1) ls
+
+-- each line of a text that is refused by itself, in order
+abbrev pub refused_lines : (wrong : ℕ → List ℕ → Option (List ℕ)) → (file text : List ℕ) → List ℕ
+refused_lines wrong file text = refused_from wrong file 1 (lines (without_mark text))
+
+abbrev pub is_refused_by_line : (wrong : ℕ → List ℕ → Option (List ℕ)) → (text : List ℕ) → Bool
+is_refused_by_line wrong text = has_wrong wrong 1 (lines (without_mark text))

@@ -1,0 +1,64 @@
+-- What a person reads of a site's files on standard error: of each line that is refused the line as it stands and what is
+-- wrong with it, and of files that are accepted, where it is asked for, what has no effect, and that a map has no rule. A file
+-- is its name and its text.
+use Rattle.std.specs.Prelude.{◌≡◌, ◌≤◌, ℕ, Bool, true, false, List, [], ◌++◌, ◌⊎◌, Option, Some, None, IfSome, Result, Ok, Err, length}
+use Rattle.std.specs.Option.{option_map}
+use Rattle.property_lines.specs.Properties as properties
+use Rattle.property_lines.specs.Refusals.{LineRefusal}
+use Rattle.property_lines.specs.declared.property.Property.{Property}
+use Rattle.site_config.specs.declared.config.Config.{Config}
+use Rattle.remarks.specs.declared.site_file.SiteFile.{SiteFile}
+use Rattle.remarks.specs.declared.site_file.SiteFiles.{SiteFiles}
+use Rattle.remarks.specs.Explained.{explained_workers}
+use Rattle.remarks.specs.MapNotices.{empty_words, map_notices}
+use Rattle.remarks.specs.Notices.{kinds_of, notices, site_kinds}
+use Rattle.remarks.specs.Refused.{is_refused_by_line, refused_lines, wrong_line, wrong_rule}
+use Rattle.uri_map.specs.Lines.{read_text}
+use Rattle.uri_map.specs.declared.rule.Rule.{Rule}
+use Rattle.worker_props.specs.Site.{IsConfig, IsRefused}
+
+-- of the lines of a workers.properties that gives this configuration
+abbrev pub workers_remarks : (effects : Bool) → (file : List ℕ) → Config → List Property → List ℕ
+workers_remarks true file c ps = notices file (site_kinds c) ps
+workers_remarks false file c ps = []
+
+abbrev pub rules_remarks : (effects : Bool) → Config → List ℕ × List ℕ → Result (List Rule) LineRefusal → List ℕ
+rules_remarks effects c map (Err r) = refused_lines (wrong_rule c) map.0 map.1
+rules_remarks true c map (Ok rules) = map_notices map.0 (kinds_of c) map.1 ++ empty_words map.0 rules
+rules_remarks false c map (Ok rules) = []
+
+-- of a map, where there is one
+abbrev pub map_remarks : (effects : Bool) → Config → Option (List ℕ × List ℕ) → List ℕ
+map_remarks effects c None = []
+map_remarks effects c (Some map) = rules_remarks effects c map (read_text c map.1)
+
+-- what is wrong with the workers together, told where no line is refused by itself
+abbrev pub together : (by_line : Bool) → (workers : List ℕ × List ℕ) → LineRefusal → List ℕ
+together true workers r = []
+together false workers r = explained_workers workers.0 workers.1 r
+
+-- of a workers.properties that is refused: each line that is refused by itself, or else what is wrong with the workers together
+abbrev pub workers_refusals : (workers : List ℕ × List ℕ) → LineRefusal → List ℕ
+workers_refusals workers r =
+    refused_lines wrong_line workers.0 workers.1 ++ together (is_refused_by_line wrong_line workers.1) workers r
+
+-- of both files: why the first refused one is refused, and what in accepted ones has no effect
+abbrev pub AreRemarks : (effects : Bool) → (workers : List ℕ × List ℕ) → (map : Option (List ℕ × List ℕ)) → (out : List ℕ) → Type 0
+AreRemarks effects workers map out =
+    ((r : LineRefusal) × IsRefused workers.1 r × (out ≡ workers_refusals workers r))
+    ⊎ ((c : Config) × IsConfig workers.1 c × (ps : List Property) × (properties.read_text true workers.1 ≡ Ok ps)
+    × (out ≡ workers_remarks effects workers.0 c ps ++ map_remarks effects c map))
+
+-- a file's name and text
+abbrev pub as_file : SiteFile → List ℕ × List ℕ
+as_file file = (file.name.now, file.text.now)
+
+abbrev pub maps_of : SiteFiles → Option (List ℕ × List ℕ)
+maps_of files = option_map as_file files.map
+
+-- the text is one that a command takes: at most 67,108,864 bytes
+abbrev pub IsShort : SiteFile → Type 0
+IsShort file = length file.text.now ≤ 67108864
+
+abbrev pub AreShort : SiteFiles → Type 0
+AreShort files = IsShort files.workers × IfSome files.map IsShort

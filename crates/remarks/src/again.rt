@@ -1,0 +1,95 @@
+//! Which lines of a workers.properties a later line with the same key replaces.
+ghost use Rattle.std.specs.Prelude.{◌≡◌, ◌≤◌, ◌∷◌, ◌++◌, [], List, Ok, Option, length, true, IfOk, OnOk};
+ghost use Rattle.std.specs.Option.{option_to_list};
+ghost use Rattle.jk_io.specs.declared.whole_input.TheConstants.{MAX_INPUT_BYTES};
+ghost use Rattle.property_lines.specs.declared.property.Property.{Property};
+ghost use Rattle.property_lines.specs.Entries.{as_property};
+ghost use Rattle.property_lines.specs.Properties.{read_text};
+ghost use Rattle.remarks.specs.Again.{IsLineTable, Says, is_again, is_before, is_single, is_single_directive};
+
+use crate::said_lines::said_at;
+use jk_io::NoMemory;
+use property_lines::{
+    Directive, PropertyLine, directive_of, first_line, is_maintain_key, without_mark, worker_part,
+};
+use std::alloc::Global;
+use std::collections::HashMap;
+
+/// Keys, each with its last line.
+pub(crate) type LineTable<'t> = HashMap<&'t [u8], u32>;
+
+/// Whether it is a directive that is built, other than the lists of members, which are joined.
+fn is_single_directive(directive: Option<Directive>) -> bool
+    ensures { result ≡ is_single_directive directive }
+{
+    match directive {
+        None => false,
+        Some(directive) => directive != Directive::BalanceWorkers,
+    }
+}
+
+/// Whether the last line of this key alone counts.
+fn is_single(key: &[u8]) -> bool
+    ensures { result ≡ is_single key.now }
+{
+    match worker_part(key) {
+        None => is_maintain_key(key),
+        Some((_, text)) => is_single_directive(directive_of(text)),
+    }
+}
+
+/// Puts a line into the table of those before it.
+fn put_line<'t>(table: &mut LineTable<'t>, entry: &PropertyLine<'t>) -> Result<(), NoMemory>
+    ensures { (ps : List Property) → IsLineTable table.old ps
+        → OnOk result (IsLineTable table.new (ps ++ as_property entry.now ∷ [])) }
+{
+    if is_single(entry.key) {
+        table.insert(entry.key, entry.line)?;
+        Ok(())
+    } else {
+        Ok(())
+    }
+}
+
+/// Puts what a line says into the table, if it says something.
+fn put_said<'t>(table: &mut LineTable<'t>, number: u32, line: &'t [u8]) -> Result<(), NoMemory>
+    ensures { (ps : List Property) → (says : Option Property) → IsLineTable table.old ps → Says number line.now says
+        → OnOk result (IsLineTable table.new (ps ++ option_to_list says)) }
+{
+    match said_at(number, line)? {
+        None => Ok(()),
+        Some(entry) => put_line(table, &entry),
+    }
+}
+
+/// The last line of each key.
+pub(crate) fn line_table(alloc: Global, text: &[u8]) -> Result<LineTable<'_>, NoMemory>
+    requires { length text.now ≤ MAX_INPUT_BYTES }
+    ensures { (ps : List Property) → read_text true text.now ≡ Ok ps → IfOk result (λ table. IsLineTable table ps) }
+{
+    let mut table = HashMap::new(alloc);
+    let mut number: u32 = 0;
+    let mut rest = without_mark(text);
+    while let Some((line, behind)) = first_line(rest) {
+        number += 1;
+        put_said(&mut table, number, line)?;
+        rest = behind;
+    }
+    Ok(table)
+}
+
+fn is_before(line: u32, last: Option<u32>) -> bool
+    ensures { result ≡ is_before line last }
+{
+    match last {
+        None => false,
+        Some(last) => line < last,
+    }
+}
+
+/// Whether a later one of the table's lines gives the key again.
+pub(crate) fn is_again(table: &LineTable<'_>, entry: &PropertyLine<'_>) -> bool
+    ensures { (ps : List Property) → IsLineTable table.now ps → result ≡ is_again ps (as_property entry.now) }
+{
+    is_before(entry.line, table.get(entry.key).copied())
+}

@@ -1,0 +1,30 @@
+//! How the last read of a file went.
+ghost use Rattle.std.specs.Prelude.{◌≡◌};
+ghost use Rattle.std.specs.Option.{option_map};
+ghost use Rattle.remarks.specs.Told.{long_name, unread_name};
+
+use crate::read_file::ReadFile;
+
+/// The file whose read failed, if the last one did.
+pub fn unread_file(reads: &[ReadFile]) -> Option<&[u8]>
+    ensures { option_map (λ t. t.now) result ≡ unread_name reads.now }
+{
+    let last = reads.last()?;
+    if last.text.is_none() && !last.too_long {
+        Some(last.name.as_slice())
+    } else {
+        None
+    }
+}
+
+/// The file that is too long, if the last one is.
+pub(crate) fn long_file(reads: &[ReadFile]) -> Option<&[u8]>
+    ensures { option_map (λ t. t.now) result ≡ long_name reads.now }
+{
+    let last = reads.last()?;
+    if last.too_long {
+        Some(last.name.as_slice())
+    } else {
+        None
+    }
+}

@@ -1,0 +1,44 @@
+//! What a person is told of a site's files and of a command that ended: the word, the file or the line at fault, why lines are refused,
+//! and what has no effect.
+//!
+//! Source: own rules (docs/FORMATS.md, "What a person is told"); which directives have an effect in mod_jk: its reference,
+//! "workers.properties" and "uriworkermap.properties".
+//! Shapes: `KeptFiles` and `CountedInput` go round the files and the input of a command, and `remarks_on` is called once it
+//! ended. Nothing here changes what the command reads, writes or answers.
+//! Contract: `site_remarks`; read specs/Remarks.antt first, then specs/Refused.antt, Explained.antt, Notices.antt, MapNotices.antt.
+//! `remarks_on`, a clause for each status, and `cause`; `KeptFiles` and `CountedInput` are read as what they go round, and keep
+//! what a read gave (clauses `kept` and `seen`): specs/Told.antt, then specs/Seen.antt.
+//! Errors: a write that failed, only where the sink's count of faults rose, and want of memory.
+#![tactic(auto)]
+
+mod again;
+mod counted_input;
+mod ended;
+mod explain;
+mod input_seen;
+mod kept_files;
+mod kinds;
+mod last_read;
+mod map_effects;
+mod map_notices;
+mod notices;
+mod read_file;
+mod refused;
+mod remark_out;
+mod remarks;
+mod said_lines;
+mod site;
+mod site_file;
+mod values;
+mod wanted;
+mod words;
+
+pub use counted_input::CountedInput;
+pub use ended::{Ended, remarks_on};
+pub use input_seen::InputSeen;
+pub use kept_files::KeptFiles;
+pub use last_read::unread_file;
+pub use read_file::ReadFile;
+pub use remark_out::RemarkOut;
+pub use remarks::site_remarks;
+pub use site_file::{SiteFile, SiteFiles};

@@ -1,0 +1,61 @@
+//! What is said of a map that is accepted: what in it has no effect, and what it means where it has no rule.
+ghost use Rattle.std.specs.Prelude.{◌≡◌, ◌++◌, ℕ, List, IfOk, IsOk};
+ghost use Rattle.jk_io.specs.Told.{HasCause};
+ghost use Rattle.property_lines.specs.declared.values.WorkerKind.{WorkerKind};
+ghost use Rattle.remarks.specs.Added.{AddsText};
+ghost use Rattle.remarks.specs.KindTables.{IsKindTable};
+ghost use Rattle.remarks.specs.MapNotices.{empty_words, map_notices};
+ghost use Rattle.remarks.specs.Remarks.{IsShort};
+
+use crate::kinds::KindTable;
+use crate::map_notices::put_map_notices;
+use crate::remark_out::RemarkOut;
+use crate::site_file::SiteFile;
+use jk_io::{Bytes, IoError, NoMemory, Sink};
+use std::alloc::Global;
+use uri_map::UriMap;
+
+/// What is said of a map of which no line has a rule.
+fn empty_words(alloc: Global, file: &[u8], rules: &UriMap) -> Result<Bytes, NoMemory>
+    ensures { IfOk result (λ said. said ≡ empty_words file.now rules.now) }
+{
+    let mut said = Bytes::new(alloc);
+    if rules.rules() == 0 {
+        said.extend(file)?;
+        said.extend(b" has no rule, so each request gets 404\n")?;
+    }
+    Ok(said)
+}
+
+/// Adds what a map means that has no rule.
+fn put_empty<O: Sink + Drop>(
+    alloc: Global,
+    out: &mut RemarkOut<O>,
+    map: &SiteFile<'_>,
+    rules: &UriMap,
+) -> Result<(), IoError>
+    ensures added { AddsText result out.old.said out.new.said (empty_words map.now.name.now rules.now) }
+    ensures cause { HasCause out.old.faults out.new.faults result }
+    ensures steady { IsOk result → out.new.faults ≡ out.old.faults }
+{
+    let said = empty_words(alloc, map.name, rules)?;
+    out.put(said.as_slice())
+}
+
+/// Adds what of a map of these rules has no effect, and what it means where it has none.
+pub(crate) fn put_map_effects<O: Sink + Drop>(
+    alloc: Global,
+    out: &mut RemarkOut<O>,
+    table: &KindTable<'_>,
+    map: &SiteFile<'_>,
+    rules: &UriMap,
+) -> Result<(), IoError>
+    requires { IsShort map.now }
+    ensures added { (kinds : List (List ℕ × WorkerKind)) → IsKindTable table.now kinds → AddsText result out.old.said out.new.said
+        (map_notices map.now.name.now kinds map.now.text.now ++ empty_words map.now.name.now rules.now) }
+    ensures cause { HasCause out.old.faults out.new.faults result }
+    ensures steady { IsOk result → out.new.faults ≡ out.old.faults }
+{
+    put_map_notices(alloc, out, table, map)?;
+    put_empty(alloc, out, map, rules)
+}

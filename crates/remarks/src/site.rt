@@ -1,0 +1,142 @@
+//! What is told of the files of a site that a command read.
+ghost use Rattle.std.specs.Prelude.{◌≡◌, IfSome, IsOk};
+ghost use Rattle.std.specs.Option.{option_map};
+ghost use Rattle.jk_cli.specs.Orders.{command_of};
+ghost use Rattle.jk_io.specs.Told.{HasCause};
+ghost use Rattle.remarks.specs.Told.{SaysEffects, SaysEffectsAt, SaysPlaced, SaysSite, map_among, site_place, text_of};
+ghost use Rattle.remarks.specs.Added.{AddsSaid};
+ghost use Rattle.remarks.specs.Remarks.{IsShort, as_file};
+
+use crate::read_file::ReadFile;
+use crate::remark_out::RemarkOut;
+use crate::remarks::site_remarks;
+use crate::site_file::{SiteFile, SiteFiles};
+use jk_cli::{CommandName, command_of};
+use jk_io::{Bytes, IoError, Sink};
+use std::alloc::Global;
+
+/// Where a command's WORKERS stands among its files, and whether what has no effect is told.
+#[derive(Clone, Copy)]
+pub(crate) struct SitePlace {
+    pub(crate) place: usize,
+    pub(crate) effects: bool,
+}
+
+fn placed(command: Option<CommandName>) -> Option<SitePlace>
+    ensures { result ≡ site_place command }
+{
+    match command {
+        Some(CommandName::Config) => Some(SitePlace {
+            place: 0,
+            effects: true,
+        }),
+        Some(CommandName::Match | CommandName::Serve) => Some(SitePlace {
+            place: 0,
+            effects: false,
+        }),
+        Some(CommandName::Dry | CommandName::Log) => Some(SitePlace {
+            place: 2,
+            effects: false,
+        }),
+        _ => None,
+    }
+}
+
+pub(crate) fn site_place(words: &[Bytes]) -> Option<SitePlace>
+    ensures { result ≡ site_place (command_of words.now) }
+{
+    placed(command_of(words))
+}
+
+fn file_of(read: &ReadFile) -> Option<SiteFile<'_>>
+    ensures text { option_map as_file result ≡ text_of read.now }
+    ensures short { IfSome result IsShort }
+{
+    match &read.text {
+        Some(text) => Some(SiteFile {
+            name: read.name.as_slice(),
+            text: text.as_slice(),
+        }),
+        None => None,
+    }
+}
+
+/// The file that was read first, if it was read.
+fn map_of(reads: &[ReadFile]) -> Option<SiteFile<'_>>
+    ensures text { option_map as_file result ≡ map_among reads.now }
+    ensures short { IfSome result IsShort }
+{
+    match reads {
+        [] => None,
+        [read, ..] => file_of(read),
+    }
+}
+
+/// Adds what is told of a site whose WORKERS was read first.
+fn put_site<O: Sink + Drop>(
+    alloc: Global,
+    out: &mut RemarkOut<O>,
+    reads: &[ReadFile],
+    effects: bool,
+) -> Result<(), IoError>
+    ensures added { AddsSaid result out.old.said out.new.said (SaysSite effects reads.now) }
+    ensures cause { HasCause out.old.faults out.new.faults result }
+    ensures steady { IsOk result → out.new.faults ≡ out.old.faults }
+{
+    let [first, rest @ ..] = reads else {
+        return Ok(());
+    };
+    match file_of(first) {
+        None => Ok(()),
+        Some(workers) => {
+            let files = SiteFiles {
+                workers,
+                map: map_of(rest),
+            };
+            site_remarks(alloc, out, &files, effects)
+        }
+    }
+}
+
+/// Adds what is told of the site at this place among the files.
+pub(crate) fn put_placed<O: Sink + Drop>(
+    alloc: Global,
+    out: &mut RemarkOut<O>,
+    reads: &[ReadFile],
+    at: Option<SitePlace>,
+) -> Result<(), IoError>
+    ensures added { AddsSaid result out.old.said out.new.said (SaysPlaced at reads.now) }
+    ensures cause { HasCause out.old.faults out.new.faults result }
+    ensures steady { IsOk result → out.new.faults ≡ out.old.faults }
+{
+    let Some(at) = at else {
+        return Ok(());
+    };
+    if reads.len() < at.place {
+        return Ok(());
+    }
+    put_site(alloc, out, &reads[at.place..], at.effects)
+}
+
+/// Adds what of the files of a command that was done has no effect.
+pub(crate) fn put_effects<O: Sink + Drop>(
+    alloc: Global,
+    out: &mut RemarkOut<O>,
+    words: &[Bytes],
+    reads: &[ReadFile],
+) -> Result<(), IoError>
+    ensures added { AddsSaid result out.old.said out.new.said (SaysEffects words.now reads.now) }
+    ensures cause { HasCause out.old.faults out.new.faults result }
+    ensures steady { IsOk result → out.new.faults ≡ out.old.faults }
+{
+    match site_place(words) {
+        None => Ok(()),
+        Some(at) => {
+            if at.effects {
+                put_placed(alloc, out, reads, Some(at))
+            } else {
+                Ok(())
+            }
+        }
+    }
+}

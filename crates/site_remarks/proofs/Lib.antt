@@ -1,6 +1,0 @@
-pub mod AddedLemmas
-pub mod AgainLemmas
-pub mod KindLemmas
-pub mod NoticeLemmas
-pub mod RefusedLemmas
-pub mod WalkLemmas

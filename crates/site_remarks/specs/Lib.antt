@@ -1,9 +1,0 @@
-pub mod Added
-pub mod Again
-pub mod Explained
-pub mod KindTables
-pub mod MapNotices
-pub mod Notices
-pub mod Refused
-pub mod Remarks
-pub mod Wanted
