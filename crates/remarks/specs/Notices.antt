@@ -1,7 +1,7 @@
 -- What a site of mod_jk would expect to have effect and hasn't: a line for each such line of a workers.properties.
-use Rattle.std.specs.Prelude.{ℕ, Bool, true, false, List, [], ◌∷◌, ◌++◌, Option, Some, None, codes, is_some, map, slice_get, if◌then◌else◌, ◌||◌}
+use Rattle.std.specs.Prelude.{ℕ, Bool, true, false, List, [], ◌∷◌, ◌++◌, Option, Some, None, codes, is_some, map, slice_get, if◌then◌else◌, ◌||◌, ◌==◌}
 use Rattle.std.specs.Bool.{nat_eq}
-use Rattle.std.specs.List.{flat_map, starts_with}
+use Rattle.std.specs.List.{flat_map, list_any, starts_with}
 use Rattle.std.specs.Str.{bytes_eq}
 use Rattle.jk_model.specs.declared.member.MemberConfig.{MemberConfig}
 use Rattle.property_lines.specs.declared.directive.Directive.{Directive}
@@ -114,6 +114,10 @@ abbrev pub has_variable : List ℕ → Bool
 has_variable [] = false
 has_variable (b ∷ bs) = starts_with nat_eq (b ∷ bs) (codes "$(") || has_variable bs
 
+-- a text has `#`, at which it would end in mod_jk
+abbrev pub has_hash : List ℕ → Bool
+has_hash text = list_any (λ b. b == 35) text
+
 -- the members of a configuration whose redirect names another one, as workers with their type
 abbrev pub redirected_kind : MemberConfig → List (List ℕ × WorkerKind)
 redirected_kind m = if is_some m.redirect then (m.name, kind.Ajp13) ∷ [] else []
@@ -151,7 +155,8 @@ value_with k (Some parts) value = given_words k parts.0 (directive_of parts.1) v
 abbrev pub value_words : SiteKinds → Property → Option (List ℕ)
 value_words k p =
     if has_variable p.value then Some (codes " has a value with $(, which is taken as it stands")
-    else value_with k (worker_part p.key) p.value
+    else (if has_hash p.value then Some (codes " has a value with #, which is taken as it stands")
+    else value_with k (worker_part p.key) p.value)
 
 abbrev pub or_again : Option (List ℕ) → (again : Bool) → (besides : Option (List ℕ)) → Option (List ℕ)
 or_again None false besides = besides

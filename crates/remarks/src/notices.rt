@@ -16,6 +16,7 @@ ghost use Rattle.remarks.specs.Notices.{
   again_words,
   directive_words,
   given_words,
+  has_hash,
   has_variable,
   key_words,
   misplaced,
@@ -202,6 +203,13 @@ fn has_variable(text: &[u8]) -> bool
     }
 }
 
+/// Whether a text has `#`, at which it would end in mod_jk.
+fn has_hash(text: &[u8]) -> bool
+    ensures { result ≡ has_hash text.now }
+{
+    text.iter().any(|byte| *byte == b'#')
+}
+
 /// What is said of the redirect of a worker, where it is a member and its redirect names no other.
 fn redirect_words(at: Option<WorkerKind>, redirects: bool) -> Option<&'static [u8]>
     ensures { option_map (λ t. t.now) result ≡ redirect_words at redirects }
@@ -243,6 +251,9 @@ fn value_words(tables: &LineTables<'_>, entry: &PropertyLine<'_>) -> Option<&'st
 {
     if has_variable(entry.value) {
         return Some(b" has a value with $(, which is taken as it stands");
+    }
+    if has_hash(entry.value) {
+        return Some(b" has a value with #, which is taken as it stands");
     }
     match worker_part(entry.key) {
         None => None,
