@@ -320,8 +320,8 @@ turns_again told post first now next count more turn is keeps = record {
 -- ---- what a session is asked with, and what a worker may serve with after it
 
 some_met : (before now : Option Stray) (stray : Stray) → now ≡ first_stray before stray → IsSome now
-some_met None now stray is = rw is tt
-some_met (Some first) now stray is = rw is tt
+some_met None now stray is = rw is refl
+some_met (Some first) now stray is = rw is refl
 
 -- a stray was met where the session ended by one
 pub stray_met : (end : SessionStop) (old new : DeskState) → MeetsBy end old new → IsStray end → IsSome new.met
