@@ -2,6 +2,7 @@ mod AnsweredLaws
 mod RequestLaws
 mod WireLaws
 mod BodyLaws
+mod CountLaws
 mod SlotLaws
 mod PassLaws
 mod ClosingLaws

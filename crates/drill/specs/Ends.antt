@@ -5,6 +5,7 @@ use Rattle.jk_model.specs.Limits.{modern_rules}
 use Rattle.jk_model.specs.declared.journal.Entry.{Entry}
 use Rattle.balancer_core.specs.Journal.{IsSound, Journal, next_number}
 use Rattle.site_closing.specs.Closings.{Differs, DiscordNote}
+use Rattle.drill.specs.Counts.{CountsDrill}
 use Rattle.drill.specs.Drills.{IsDrilled}
 use Rattle.drill.specs.Requests.{bodies_of}
 use Rattle.drill.specs.Sites.{IsDrillBook}
@@ -31,12 +32,13 @@ pub record IsStarted (b : Journal) : Type 0 where
   pub none_out : b.opening.out ≡ []
   pub sound : IsSound b
 
--- What a drill hands out: the summary of its Book's journal, or that journal's text, and in the journal each request of
--- each thread was answered whole.
+-- What a drill hands out: the summary of its Book's journal, or that journal's text. In the journal each request of each thread
+-- was answered whole, and the bodies in the rows of all sessions had the bytes that were asked for.
 pub record IsDrill (seed threads requests : ℕ) (text passes : Bool) (told : List ℕ) (b : Journal) : Type 0 where
   pub summary : text ≡ false → told ≡ summary_text seed threads requests passes b.entries
   pub journal : text ≡ true → IsJournalText b told
   pub drilled : IsDrilled threads requests b.entries
+  pub counted : CountsDrill seed threads requests (bodies_of seed requests)
   pub book : IsOfDrill b
 
 -- Receipts of threads, in their order, and the entries that such a Book keeps, differ here first.
@@ -48,11 +50,12 @@ abbrev pub receipts_of : (passes : Bool) → List Entry → ℕ
 receipts_of passes h = if passes then 0 else length h
 
 -- Why a drill has no text: a discord, which the closing alone makes; a Book whose journal lacks what it should have of
--- some thread, or an entry that it added; bodies that had not the bytes that were asked for; or want of memory, which needs no
--- cause.
+-- some thread, or an entry that it added; bodies in the rows of all sessions that had these bytes together, and not those that
+-- were asked for; or want of memory, which needs no cause.
 abbrev pub IsDrillError : (seed threads requests : ℕ) → DrillError → Type 0
 IsDrillError seed threads requests (error.Differs d) = IsFound d
 IsDrillError seed threads requests (error.Lost book) = IsOfDrill book × (IsDrilled threads requests book.entries → ⊥)
 IsDrillError seed threads requests (error.Cut book) = IsOfDrill book × (length book.entries ≡ book.added → ⊥)
-IsDrillError seed threads requests (error.Bodies bytes) = bytes ≡ bodies_of seed requests → ⊥
+IsDrillError seed threads requests (error.Bodies bytes) =
+    CountsDrill seed threads requests bytes × (bytes ≡ bodies_of seed requests → ⊥)
 IsDrillError seed threads requests error.NoMemory = Unit {0}

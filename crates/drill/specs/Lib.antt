@@ -2,6 +2,7 @@ pub mod Requests
 pub mod Drills
 pub mod Progress
 pub mod Bodies
+pub mod Counts
 pub mod Summaries
 pub mod Ends
 pub mod Wires

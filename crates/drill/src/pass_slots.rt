@@ -5,6 +5,7 @@ ghost use Rattle.pass_desk.specs.PassDesks.{table_in};
 ghost use Rattle.pass_desk.specs.Passes.{AreNewPasses};
 ghost use Rattle.pass_desk.specs.declared.pass_book.PassBook.{PassBook};
 ghost use Rattle.drill.specs.Bodies.{all_together};
+ghost use Rattle.drill.specs.Counts.{AreMade, CountsDrill, IsMadeBy};
 ghost use Rattle.pass_desk.specs.Placed.{AreBack, AreEachBack, AreFrom, IsBack};
 
 use crate::body_sum::together;
@@ -86,7 +87,8 @@ fn serve_slot<P: PassPlace, R: Wait>(
     plan: Plan,
     slot: &mut PassSlot<'_, '_, P, R>,
 )
-    ensures { slot.new.number ≡ slot.old.number }
+    ensures number { slot.new.number ≡ slot.old.number }
+    ensures made { IsMadeBy site.now plan slot.old.number slot.new.made }
 {
     let served = serve_thread(alloc, site, plan, slot.number, &mut slot.desk);
     slot.made = served.ok();
@@ -102,6 +104,8 @@ fn serve_slots<'b, 'r, P: PassPlace + Send + Sync, R: Threads + Wait + Sync>(
 )
     requires few { length slots.old ≤ MAX_THREADS }
     ensures numbers { (i : ℕ) (d : _) → i < length slots.old → (slice_index_or slots.new i d).number ≡ (slice_index_or slots.old i d).number }
+    ensures made { (i : ℕ) (d : _) → i < length slots.old
+        → IsMadeBy site.now plan (slice_index_or slots.old i d).number (slice_index_or slots.new i d).made }
     ensures len { length slots.new ≡ length slots.old }
 {
     let count = slots.len().max(1);
@@ -110,7 +114,7 @@ fn serve_slots<'b, 'r, P: PassPlace + Send + Sync, R: Threads + Wait + Sync>(
         slots,
         count,
         &|_place: usize, slot: &mut PassSlot<P, R>|
-            ensures { slot.new.number ≡ slot.old.number }
+            ensures { (slot.new.number ≡ slot.old.number) × IsMadeBy site.entry.now plan slot.old.number slot.new.made }
         {
             serve_slot(alloc, site, plan, slot);
         },
@@ -150,6 +154,8 @@ fn serve_each<'b, 'r, P: PassPlace + Send + Sync, R: Threads + Wait + Sync>(
     slots: &mut Vec<PassSlot<'b, 'r, P, R>>,
 )
     requires few { vec_len slots.old ≤ MAX_THREADS }
+    requires numbers { AreFrom 0 (map (λ s. s.number) slots.old.items) }
+    ensures made { AreMade site.now plan (map (λ s. s.made) slots.new.items) }
     ensures numbers { map (λ s. s.number) slots.new.items ≡ map (λ s. s.number) slots.old.items }
     ensures len { vec_len slots.new ≡ vec_len slots.old }
 {
@@ -167,7 +173,9 @@ fn serve_passes<'b, 'r, P: PassPlace + Send + Sync, R: Threads + Wait + Sync>(
     requires numbers { AreFrom 0 (map (λ s. s.number) slots.items) }
     requires count { vec_len slots ≡ P.given }
     requires few { P.given ≤ MAX_THREADS }
-    ensures { IfOk result (λ left. AreBack P.table P.origin P.given left.passes) }
+    requires threads { P.given ≡ plan.threads }
+    ensures back { IfOk result (λ left. AreBack P.table P.origin P.given left.passes) }
+    ensures counted { IfOk result (λ left. CountsDrill plan.seed plan.threads plan.requests left.bodies) }
 {
     let mut passes = Vec::with_capacity(alloc, slots.len())?;
     let mut slots = slots;
@@ -195,7 +203,11 @@ pub(crate) fn serve_in_turns<'b, P: PassPlace + Send + Sync, R: Threads + Wait +
     requires passes { AreNewPasses P.origin P.table P.given passes }
     requires few { P.given ≤ MAX_THREADS }
     requires two { members P.origin.opening ≡ 2 }
-    ensures { IfOk result (λ left. AreBack P.table P.origin P.given left.passes) }
+    requires threads { P.given ≡ plan.threads }
+    ensures back { IfOk result (λ left. AreBack P.table P.origin P.given left.passes) }
+
+    // The bytes of the bodies are those of the rows of the threads' sessions.
+    ensures counted { IfOk result (λ left. CountsDrill plan.seed plan.threads plan.requests left.bodies) }
 {
     let slots = slots_for::<P, R>(alloc, rt, books, passes)?;
     serve_passes(rt, alloc, site, plan, slots)

@@ -7,6 +7,7 @@ ghost use Rattle.balancer_core.specs.ToldBooks.{sizes_of};
 ghost use Rattle.locked_balancer.specs.Histories.{starts_of};
 ghost use Rattle.locked_balancer.specs.Sites.{AreSited, added_in, nexts_of};
 ghost use Rattle.site_closing.specs.CloseErrors.{IsCloseError};
+ghost use Rattle.drill.specs.Counts.{CountsDrill};
 ghost use Rattle.drill.specs.Drills.{IsDrilled};
 ghost use Rattle.site_closing.specs.Closings.{AreUncut, kept_from, noted};
 ghost use Rattle.drill.specs.Ends.{IsDrillError, IsFound, IsOfDrill, IsStarted, receipts_of};
@@ -83,6 +84,7 @@ fn drill_in<L: SiteName + Send + Sync, R: Threads + Wait + Sync>(
     requires uncut { 0 ≡ L.cut_at }
     ensures one { IfOk result (λ c. length c.books ≡ 1) }
     ensures books { IfOk result (λ c. All IsOfDrill c.books) }
+    ensures counted { IfOk result (λ c. CountsDrill plan.seed plan.threads plan.requests c.bodies) }
     ensures receipts { IfOk result (λ c. c.receipts ≡ added_in c.books) }
     ensures cause { IfErr result (IsCloseError IsFound) }
 {
@@ -105,6 +107,7 @@ fn drill_over<'r, L: SiteName + Send + Sync, R: Threads + Wait + Sync>(
     requires sizes { L.sizes ≡ 2 ∷ [] }
     requires firsts { L.firsts ≡ 0 ∷ [] }
     ensures sited { IfOk result (λ c. AreSited L.sizes L.firsts c.books) }
+    ensures counted { IfOk result (λ c. CountsDrill plan.seed plan.threads plan.requests c.bodies) }
     ensures receipts { IfOk result (λ c. c.receipts ≡ added_in c.books) }
     ensures cause { IfErr result (IsCloseError IsFound) }
 {
@@ -125,6 +128,7 @@ fn close_books<'r, L: SiteName, R: Wait>(
     ensures sited { IfOk result (λ c. AreSited L.sizes L.firsts c.books) }
     ensures once { IfOk result (λ c. AreUncut c.books
         → IsPermutation (noted (flat_map (λ l. l.receipts) left.leaving)) (kept_from 0 c.books)) }
+    ensures bodies { IfOk result (λ c. c.bodies ≡ left.bodies) }
     ensures counted { IfOk result (λ c. c.receipts ≡ sum_by (λ l. length l.receipts) left.leaving) }
     ensures receipts { IfOk result (λ c. c.receipts ≡ added_in c.books) }
     ensures cause { IfErr result (IsCloseError IsFound) }
@@ -195,12 +199,14 @@ fn tell(
 ) -> Result<Drilled, DrillError>
     requires book { IsOfDrill measured.book }
     requires receipts { measured.receipts ≡ receipts_of wanted.passes measured.book.entries }
+    requires counted { CountsDrill plan.seed plan.threads plan.requests measured.bodies }
     ensures summary { wanted.text ≡ false
         → IfOk result (λ d. d.text ≡ summary_text plan.seed plan.threads plan.requests wanted.passes d.book.entries) }
     ensures journal { wanted.text ≡ true → IfOk result (λ d. IsJournalText d.book d.text) }
     ensures drilled { IfOk result (λ d. IsDrilled plan.threads plan.requests d.book.entries) }
     ensures book { IfOk result (λ d. IsOfDrill d.book) }
     ensures bodies { IfOk result (λ d. d.bodies ≡ bodies_of plan.seed plan.requests) }
+    ensures counted { IfOk result (λ d. CountsDrill plan.seed plan.threads plan.requests d.bodies) }
     ensures receipts { IfOk result (λ d. d.receipts ≡ receipts_of wanted.passes d.book.entries) }
     ensures cause { IfErr result (IsDrillError plan.seed plan.threads plan.requests) }
 {
@@ -231,6 +237,7 @@ fn drilled_book<R: Threads + Wait + Sync>(
     plan: Plan,
 ) -> Result<Measured, DrillError>
     ensures book { IfOk result (λ m. IsOfDrill m.book) }
+    ensures counted { IfOk result (λ m. CountsDrill plan.seed plan.threads plan.requests m.bodies) }
     ensures receipts { IfOk result (λ m. m.receipts ≡ length m.book.entries) }
     ensures cause { IfErr result (IsDrillError plan.seed plan.threads plan.requests) }
 {
@@ -249,6 +256,7 @@ fn whole(compared: Compared) -> Result<Measured, DrillError>
     requires all { All IsOfDrill compared.books }
     requires receipts { compared.receipts ≡ added_in compared.books }
     ensures book { IfOk result (λ m. IsOfDrill m.book) }
+    ensures bodies { IfOk result (λ m. m.bodies ≡ compared.bodies) }
     ensures receipts { IfOk result (λ m. m.receipts ≡ length m.book.entries) }
     ensures cause { (seed threads requests : ℕ) → IfErr result (IsDrillError seed threads requests) }
 {
@@ -289,6 +297,7 @@ fn passed_book<R: Threads + Wait + Sync>(
     plan: Plan,
 ) -> Result<Measured, NoMemory>
     ensures book { IfOk result (λ m. IsOfDrill m.book) }
+    ensures counted { IfOk result (λ m. CountsDrill plan.seed plan.threads plan.requests m.bodies) }
     ensures receipts { IfOk result (λ m. m.receipts ≡ 0) }
 {
     let start = start_book(alloc)?;
@@ -313,6 +322,7 @@ fn book_of<R: Threads + Wait + Sync>(
     passes: bool,
 ) -> Result<Measured, DrillError>
     ensures book { IfOk result (λ m. IsOfDrill m.book) }
+    ensures counted { IfOk result (λ m. CountsDrill plan.seed plan.threads plan.requests m.bodies) }
     ensures receipts { IfOk result (λ m. m.receipts ≡ receipts_of passes m.book.entries) }
     ensures cause { IfErr result (IsDrillError plan.seed plan.threads plan.requests) }
 {
@@ -347,11 +357,14 @@ pub fn run_drill<R: Threads + Wait + Sync>(
     ensures drilled { IfOk result (λ d. IsDrilled threads requests d.book.entries) }
     ensures book { IfOk result (λ d. IsOfDrill d.book) }
 
-    // The replies' bodies had the bytes that the requests asked for, and each entry of the journal has its receipt.
+    // The bodies in the rows of all sessions had the bytes that the requests asked for, and each entry of the journal has its
+    // receipt.
     ensures bodies { IfOk result (λ d. d.bodies ≡ bodies_of seed requests) }
+    ensures counted { IfOk result (λ d. CountsDrill seed threads requests d.bodies) }
     ensures receipts { IfOk result (λ d. d.receipts ≡ receipts_of passes d.book.entries) }
 
-    // Differs only with a discord of the closing, Lost only with a Book in whose journal they aren't.
+    // Differs only with a discord of the closing, Lost only with a Book in whose journal they aren't, Bodies only where the
+    // bodies in the rows of all sessions had other bytes.
     ensures cause { IfErr result (IsDrillError seed threads requests) }
 {
     let plan = Plan {

@@ -2,6 +2,7 @@
 ghost use Rattle.std.specs.Prelude.{◌≡◌, ◌+◌, ◌<◌, ◌≤◌, ℕ, [], ◌∷◌, length, map, sum_by, vec_capacity, vec_len, IfOk, OnOk, slice_index_or, Some, true};
 ghost use Rattle.std.specs.List.{All};
 ghost use Rattle.drill.specs.Bodies.{all_together};
+ghost use Rattle.drill.specs.Counts.{AreMade, CountsDrill, IsMadeBy};
 ghost use Rattle.drill.specs.Threads.{IsWhole};
 
 use crate::body_sum::together;
@@ -118,6 +119,7 @@ fn serve_slot<L: SiteName, R: Wait>(
     requires few { number < MAX_THREADS }
     requires whole { IsWhole (2 ∷ []) slot.old.desk.desk }
     ensures whole { IsWhole (2 ∷ []) slot.new.desk.desk }
+    ensures made { IsMadeBy site.now plan number slot.new.made }
 {
     let served = serve_thread(alloc, site, plan, number as u32, &mut slot.desk);
     slot.made = served.ok();
@@ -134,6 +136,7 @@ fn serve_slots<'s, 'r, L: SiteName + Send + Sync, R: Threads + Wait + Sync>(
     requires few { length slots.old ≤ MAX_THREADS }
     requires whole { All (λ s. IsWhole (2 ∷ []) s.desk.desk) slots.old }
     ensures whole { (i : ℕ) (d : _) → i < length slots.old → IsWhole (2 ∷ []) (slice_index_or slots.new i d).desk.desk }
+    ensures made { (i : ℕ) (d : _) → i < length slots.old → IsMadeBy site.now plan i (slice_index_or slots.new i d).made }
     ensures len { length slots.new ≡ length slots.old }
 {
     let count = slots.len().max(1);
@@ -144,7 +147,7 @@ fn serve_slots<'s, 'r, L: SiteName + Send + Sync, R: Threads + Wait + Sync>(
         &|number: usize, slot: &mut Slot<L, R>|
             requires few { number < MAX_THREADS }
             requires whole { IsWhole (2 ∷ []) slot.old.desk.desk }
-            ensures { IsWhole (2 ∷ []) slot.new.desk.desk }
+            ensures { IsWhole (2 ∷ []) slot.new.desk.desk × IsMadeBy site.entry.now plan number slot.new.made }
         {
             serve_slot(alloc, site, plan, number, slot);
         },
@@ -207,6 +210,7 @@ fn serve_each<'s, 'r, L: SiteName + Send + Sync, R: Threads + Wait + Sync>(
     requires few { vec_len slots.old ≤ MAX_THREADS }
     requires whole { All (λ s. IsWhole (2 ∷ []) s.desk.desk) slots.old.items }
     ensures whole { All (λ s. IsWhole (2 ∷ []) s.desk.desk) slots.new.items }
+    ensures made { AreMade site.now plan (map (λ s. s.made) slots.new.items) }
     ensures len { vec_len slots.new ≡ vec_len slots.old }
 {
     serve_slots(rt, alloc, site, plan, slots.as_mut_slice());
@@ -225,6 +229,7 @@ fn serve_and_leave<'s, 'r, L: SiteName + Send + Sync, R: Threads + Wait + Sync>(
     ensures parts { IfOk result (λ left. sum_by (λ l. l.share.parts) left.leaving ≡ plan.threads) }
     ensures some { IfOk result (λ left. 0 < length left.leaving) }
     ensures none_forgot { IfOk result (λ left. All (λ l. l.forgotten ≡ 0) left.leaving) }
+    ensures counted { IfOk result (λ left. CountsDrill plan.seed plan.threads plan.requests left.bodies) }
 {
     let leaving = Vec::with_capacity(alloc, slots.len())?;
     let mut slots = slots;
@@ -247,6 +252,9 @@ pub(crate) fn serve_all<'s, 'r, L: SiteName + Send + Sync, R: Threads + Wait + S
     ensures parts { IfOk result (λ left. sum_by (λ l. l.share.parts) left.leaving ≡ plan.threads) }
     ensures some { IfOk result (λ left. 0 < length left.leaving) }
     ensures none_forgot { IfOk result (λ left. All (λ l. l.forgotten ≡ 0) left.leaving) }
+
+    // The bytes of the bodies are those of the rows of the threads' sessions.
+    ensures counted { IfOk result (λ left. CountsDrill plan.seed plan.threads plan.requests left.bodies) }
 {
     let slots = slots_for(alloc, shared, share, plan.threads)?;
     serve_and_leave(rt, alloc, site, plan, slots)

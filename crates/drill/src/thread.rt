@@ -1,5 +1,5 @@
 //! What one thread of a drill does: its requests, in sessions of at most a thousand.
-ghost use Rattle.std.specs.Prelude.{◌≡◌, false, IfSome};
+ghost use Rattle.std.specs.Prelude.{◌≡◌, false, IfOk, IfSome};
 ghost use Rattle.exchange.specs.Requests.{sizes_of};
 ghost use Rattle.status_worker.specs.Desks.{KeepsTickets};
 ghost use Rattle.client_session.specs.Ready.{IsReady};
@@ -7,6 +7,7 @@ ghost use Rattle.client_session.specs.Requests.{visit_of};
 ghost use Rattle.client_session.specs.Whole.{IsWholeSession, KeepsLent};
 ghost use Rattle.client_session.specs.declared.ending.SessionEnd.{SessionEnd};
 ghost use Rattle.drill.specs.Bodies.{with_bodies};
+ghost use Rattle.drill.specs.Counts.{CountsRows, CountsSessions, CountsThread, visit_by};
 
 use crate::app_reach::AppReach;
 use crate::body_sum::BodySum;
@@ -63,6 +64,8 @@ where
     requires sizes { (B.state desk.old).sizes ≡ sizes_of post.site.now.cfg.lbs }
     requires idle { (R.beside reach.old).runs ≡ false }
     requires reach_sizes { (R.beside reach.old).sizes ≡ sizes_of post.site.now.cfg.lbs }
+    ensures rows { CountsRows (visit_by post.entry.site.now.cfg post.entry.site.now.map post.entry.peer.now post.entry.number)
+        client.old.incoming bodies.old.bytes bodies.new.bytes }
     ensures kept { KeepsTickets post.entry.number (B.state desk.old) (B.state desk.new) }
     ensures idle { (R.beside reach.new).runs ≡ false }
     ensures reach_sizes { (R.beside reach.new).sizes ≡ (R.beside reach.old).sizes }
@@ -100,6 +103,8 @@ where
     requires sizes { (B.state desk.old).sizes ≡ sizes_of post.site.now.cfg.lbs }
     requires idle { (R.beside reach.old).runs ≡ false }
     requires reach_sizes { (R.beside reach.old).sizes ≡ sizes_of post.site.now.cfg.lbs }
+    ensures rows { CountsRows (visit_by post.entry.site.now.cfg post.entry.site.now.map post.entry.peer.now post.entry.number)
+        text bodies.old.bytes bodies.new.bytes }
     ensures kept { KeepsTickets post.entry.number (B.state desk.old) (B.state desk.new) }
     ensures idle { (R.beside reach.new).runs ≡ false }
     ensures reach_sizes { (R.beside reach.new).sizes ≡ (R.beside reach.old).sizes }
@@ -124,6 +129,9 @@ where
     requires sizes { (B.state desk.old).sizes ≡ sizes_of post.site.now.cfg.lbs }
     requires idle { (R.beside reach.old).runs ≡ false }
     requires reach_sizes { (R.beside reach.old).sizes ≡ sizes_of post.site.now.cfg.lbs }
+    ensures counted { IfOk result (λ _. CountsSessions
+        (visit_by post.entry.site.now.cfg post.entry.site.now.map post.entry.peer.now post.entry.number)
+        requests.old.seed requests.old.left bodies.old.bytes bodies.new.bytes) }
     ensures kept { KeepsTickets post.entry.number (B.state desk.old) (B.state desk.new) }
 {
     'sessions: loop {
@@ -149,6 +157,8 @@ where
     B::Shown: Drop,
     requires caller { IfSome (B.state desk.old).caller (λ n. number ≡ n) }
     requires sizes { (B.state desk.old).sizes ≡ sizes_of site.now.cfg.lbs }
+    ensures counted { IfOk result (λ bytes.
+        CountsThread site.now.cfg site.now.map plan.seed plan.threads plan.requests number bytes) }
     ensures kept { KeepsTickets number (B.state desk.old) (B.state desk.new) }
 {
     let peer = Peer {

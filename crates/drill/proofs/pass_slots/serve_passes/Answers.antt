@@ -1,12 +1,20 @@
--- All passes are back, with the numbers that the slots had.
+-- All passes are back, with the numbers that the slots had, and the threads' counts are together.
 use Rattle.std.proofs.Common.{◌∙◌, List, arith, subst, sym}
+use Rattle.std.proofs.lemmas.List.{length-map}
+use Rattle.drill.proofs.CountLaws.{drill_counts}
 use Rattle.pass_desk.specs.Placed.{AreBack}
 use Rattle.pass_desk.specs.declared.pass.Pass.{Pass}
 use Rattle.drill.proofs.PassLaws.{passes_back}
 use Rattle.drill.proofs.pass_slots.serve_passes.Goals as goal
 
-pub returns-in-Some : goal.returns-in-Some
-returns-in-Some g c =
+pub returns-in-Some-clause-back : goal.returns-in-Some-clause-back
+returns-in-Some-clause-back g c =
     subst (λ (ps : List Pass). AreBack g.P.PassPlace.table g.P.PassPlace.origin g.P.PassPlace.given ps) (sym c.from_vec.ensures)
     (passes_back _ _ _ _ c.args.slots.items _ (c.empty_slots.ensures.numbers ∙ c.serve_each.ensures.numbers)
     (omega (arith, c.requires.count, c.args.slots.ok.0)) c.requires.numbers c.empty_slots.ensures.back)
+
+pub returns-in-Some-clause-counted : goal.returns-in-Some-clause-counted
+returns-in-Some-clause-counted g c =
+    drill_counts c.args.site.now c.args.plan _ _
+    (omega (arith, length-map c.serve_each.new.slots.items (λ s. s.made), c.requires.count, c.requires.threads, c.serve_each.ensures.len, c.serve_each.new.slots.ok.0))
+    c.serve_each.ensures.made (sym c.empty_slots.ensures.bodies ∙ c.in-Some.is)

@@ -18,3 +18,6 @@ returns-clause-books g c =
 
 pub returns-clause-cause : goal.returns-clause-cause
 returns-clause-cause g c = c.drill_over.ensures.cause
+
+pub returns-clause-counted : goal.returns-clause-counted
+returns-clause-counted g c = c.drill_over.ensures.counted

@@ -1,7 +1,6 @@
 -- The passes belong to the one table, and all of them are back.
 use Rattle.std.proofs.Common.{◌∙◌, ap, sym}
 use Rattle.jk_model.specs.Journal.{members}
-use Rattle.pass_desk.specs.Passes.{origin_of}
 use Rattle.pass_desk.proofs.PlacedLaws.{all_back, new_origin, new_table}
 use Rattle.seen_history.specs.declared.pass_view.Origin.{Origin}
 use Rattle.drill.proofs.PassLaws.{belong, closed_drill, closed_there}
@@ -22,9 +21,9 @@ pub close_passes-requires : goal.close_passes-requires
 close_passes-requires g c = record {
   all =
       closed_there _ _ _ (new_table _ _ _ _ c.args.plan.some_threads c.in_ok-book.ensures)
-      (all_back _ _ _ _ c.args.plan.some_threads c.in_ok-left.ensures);
+      (all_back _ _ _ _ c.args.plan.some_threads c.in_ok-left.ensures.back);
 }
 
 pub returns-in-Ok-clause-book : goal.returns-in-Ok-clause-book
 returns-in-Ok-clause-book g c =
-    closed_drill _ _ _ _ _ _ c.in_ok-start.ensures.start (new_origin _ _ _ _ c.args.plan.some_threads c.in_ok-book.ensures) c.in_ok-left.ensures c.in-Ok.ensures
+    closed_drill _ _ _ _ _ _ c.in_ok-start.ensures.start (new_origin _ _ _ _ c.args.plan.some_threads c.in_ok-book.ensures) c.in_ok-left.ensures.back c.in-Ok.ensures

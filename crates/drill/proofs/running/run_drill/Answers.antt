@@ -20,3 +20,6 @@ returns-clause-bodies g c = c.tell.ensures.bodies
 
 pub returns-clause-receipts : goal.returns-clause-receipts
 returns-clause-receipts g c = c.tell.ensures.receipts
+
+pub returns-clause-counted : goal.returns-clause-counted
+returns-clause-counted g c = c.tell.ensures.counted

@@ -8,3 +8,6 @@ returns-clause-some g c = c.serve_and_leave.ensures.some
 
 pub returns-clause-none_forgot : goal.returns-clause-none_forgot
 returns-clause-none_forgot g c = c.serve_and_leave.ensures.none_forgot
+
+pub returns-clause-counted : goal.returns-clause-counted
+returns-clause-counted g c = c.serve_and_leave.ensures.counted

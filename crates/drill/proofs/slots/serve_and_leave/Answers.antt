@@ -1,4 +1,6 @@
 use Rattle.std.proofs.Common.{arith}
+use Rattle.std.proofs.lemmas.List.{length-map}
+use Rattle.drill.proofs.CountLaws.{counts_left}
 use Rattle.drill.proofs.SlotLaws.{as_many, some_left}
 use Rattle.drill.proofs.slots.serve_and_leave.Goals as goal
 
@@ -13,3 +15,9 @@ returns-clause-some g c =
 
 pub returns-clause-none_forgot : goal.returns-clause-none_forgot
 returns-clause-none_forgot g c = c.left_in.ensures.none_forgot
+
+pub returns-clause-counted : goal.returns-clause-counted
+returns-clause-counted g c =
+    counts_left _ c.args.site.now c.args.plan _ c.left_in.result
+    (omega (arith, length-map c.serve_each.new.slots.items (λ s. s.made), c.requires.count, c.serve_each.ensures.len, c.serve_each.new.slots.ok.0))
+    c.serve_each.ensures.made c.left_in.ensures.bodies

@@ -1,6 +1,8 @@
-use Rattle.std.proofs.Common.{◌≡◌, ℕ, Option, length, length-drop, ap, sym, subst, ◌∙◌, arith}
+use Rattle.std.proofs.Common.{◌≡◌, ◌++◌, ℕ, List, Option, length, length-drop, refl, take, ap, sym, subst, ◌∙◌, arith}
 use Rattle.std.specs.Prelude.{IfSome}
 use Rattle.status_worker.proofs.DeskLaws.{twice, untouched}
+use Rattle.drill.specs.Requests.{texts_of}
+use Rattle.drill.proofs.CountLaws.{none_so_far, one_more}
 use Rattle.drill.proofs.thread.serve_requests.Goals as goal
 
 pub sessions-init : goal.sessions-init
@@ -10,6 +12,8 @@ sessions-init g c = record {
   sizes = c.requires.sizes;
   idle = c.requires.idle;
   reach_sizes = c.requires.reach_sizes;
+  seed = refl;
+  counted = none_so_far _ _ _ _;
 }
 
 pub sessions-smaller : goal.sessions-smaller
@@ -29,7 +33,12 @@ sessions-preserved g c =
       sizes = kept.sizes ∙ inv.sizes;
       idle = c.serve_text.ensures.idle;
       reach_sizes = c.serve_text.ensures.reach_sizes ∙ inv.reach_sizes;
+      seed = c.in_ok-put_session.ensures.seed ∙ inv.seed;
+      counted =
+          one_more _ _ _ _ _ _ _ _ _ inv.counted c.in_ok-put_session.ensures.ok.1
+          (c.in_ok-put_session.ensures.ok.0 ∙ ap (λ (xs : List ℕ). xs ++ texts_of c.sessions.requests.seed (take 1000 c.sessions.requests.left)) c.new-text.ensures
+          ∙ ap (λ (n : ℕ). texts_of n (take 1000 c.sessions.requests.left)) inv.seed) c.serve_text.ensures.rows;
     }
 
-pub returns-in_err-serve_text : goal.returns-in_err-serve_text
-returns-in_err-serve_text g c = record { kept = twice _ _ _ _ c.sessions.invariant.kept c.serve_text.ensures.kept }
+pub returns-in_err-serve_text-clause-kept : goal.returns-in_err-serve_text-clause-kept
+returns-in_err-serve_text-clause-kept g c = twice _ _ _ _ c.sessions.invariant.kept c.serve_text.ensures.kept

@@ -1,4 +1,5 @@
 use Rattle.std.proofs.Common.{ℕ, List, subst}
+use Rattle.drill.specs.Counts.{CountsDrill}
 use Rattle.drill.specs.Written.{Told, WritesTold}
 use Rattle.drill.proofs.writing.write_drill.Goals as goal
 
@@ -11,6 +12,9 @@ returns-in-Ok g c =
         summary = c.in-Ok.ensures.summary;
         journal = c.in-Ok.ensures.journal;
         drilled = c.in-Ok.ensures.drilled;
+        counted =
+            subst (λ (n : ℕ). CountsDrill c.args.order.seed c.args.order.threads c.args.order.requests n) c.in-Ok.ensures.bodies
+            c.in-Ok.ensures.counted;
         book = c.in-Ok.ensures.book;
       };
       written =
