@@ -13,6 +13,11 @@ is_served (order.Container route address threads clients) = true
 is_served (order.Drill seed threads requests text passes) = true
 is_served other = false
 
+-- an order to serve
+abbrev pub is_front : Order → Bool
+is_front (order.Serve workers map address threads clients journal watch idle log format cut limits control grace) = true
+is_front other = false
+
 abbrev pub is_served_order : Option Order → Bool
 is_served_order None = false
 is_served_order (Some o) = is_served o

@@ -6,7 +6,7 @@ ghost use Rattle.plain_commands.specs.Plain.{IsInputDue};
 ghost use Rattle.jk_server.specs.Commands.{telling};
 ghost use Rattle.jk_commands.specs.Commands.{DoesAsked, DoesWords};
 ghost use Rattle.jk_commands.specs.Plain.{EndsPlain, RunsPlain};
-ghost use Rattle.jk_commands.specs.Words.{AreFilesRead, is_command, is_served, is_serving, IsInRange, reads_files};
+ghost use Rattle.jk_commands.specs.Words.{AreFilesRead, is_command, is_front, is_served, is_serving, IsInRange, reads_files};
 
 use crate::ends::{EndOf, JkdEnd, NO_MEMORY};
 use crate::words::is_serving;
@@ -20,8 +20,8 @@ use std::alloc::Global;
 use std::sync::Wait;
 use std::thread::Threads;
 
-/// Does an order that asks for workers or threads.
-pub fn do_order<F: Files, O: Sink, W: World, R: Threads + Wait + Sync>(
+/// Does an order to serve.
+fn do_serve<F: Files, O: Sink, W: World, R: Threads + Wait + Sync>(
     rt: &R,
     alloc: Global,
     order: &Order,
@@ -31,11 +31,10 @@ pub fn do_order<F: Files, O: Sink, W: World, R: Threads + Wait + Sync>(
 ) -> JkdEnd
 where
     <W::D as Door>::L: Send,
-    requires served { is_served order.now ≡ true }
+    requires front { is_front order.now ≡ true }
     requires range { IsInRange order.now }
     ensures does { DoesAsked (telling F.Files O.Meanings W.World W.D.Door W.T.Tape W.K.Clock W.D.L.Meanings W.S.Shelf W.O.Meanings W.D.L.may_wait)
         order.now (files.old, out.old, world.old) (files.new, out.new, world.new) result }
-    ensures files { (files.new ≡ files.old) ⊎ (reads_files order.now ≡ true) }
 {
     match order {
         Order::Serve {
@@ -75,6 +74,29 @@ where
             };
             EndOf::from(serve(rt, alloc, order, files, out, world))
         }
+        _ => unreachable!(),
+    }
+}
+
+/// Does an order that asks for workers or threads.
+pub fn do_order<F: Files, O: Sink, W: World, R: Threads + Wait + Sync>(
+    rt: &R,
+    alloc: Global,
+    order: &Order,
+    files: &mut F,
+    out: &mut O,
+    world: &mut W,
+) -> JkdEnd
+where
+    <W::D as Door>::L: Send,
+    requires served { is_served order.now ≡ true }
+    requires range { IsInRange order.now }
+    ensures does { DoesAsked (telling F.Files O.Meanings W.World W.D.Door W.T.Tape W.K.Clock W.D.L.Meanings W.S.Shelf W.O.Meanings W.D.L.may_wait)
+        order.now (files.old, out.old, world.old) (files.new, out.new, world.new) result }
+    ensures files { (files.new ≡ files.old) ⊎ (reads_files order.now ≡ true) }
+{
+    match order {
+        Order::Serve { .. } => do_serve(rt, alloc, order, files, out, world),
         Order::Container {
             route,
             address,

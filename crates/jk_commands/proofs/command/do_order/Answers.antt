@@ -1,20 +1,15 @@
 use Rattle.std.proofs.Common.{refl}
 use Rattle.jk_commands.proofs.command.do_order.Goals as goal
 
-pub returns-in-Serve-clause-does : goal.returns-in-Serve-clause-does
-returns-in-Serve-clause-does g c incoming =
-    rw c.in-Serve.is (record {
-      by = c.serve.result;
-      said = rw (c.as_ref.ensures.value, c.as_ref-in-Serve.ensures.value, c.as_ref-in-Serve-2.ensures.value, c.as_ref-in-Serve-3.ensures.value) at (c.serve.ensures.serves incoming);
-      turned = c.from.ensures;
-    })
+pub do_serve-requires-clause-front : goal.do_serve-requires-clause-front
+do_serve-requires-clause-front g c κs within = rw c.in-Serve.is refl
 
 pub returns-in-Container-clause-does : goal.returns-in-Container-clause-does
 returns-in-Container-clause-does g c incoming =
     rw c.in-Container.is (record {
       by = c.contain.result;
       said = record { contained = rw c.of_container.ensures.wanted at c.contain.ensures.contains; written = refl };
-      turned = c.from-in-Container.ensures;
+      turned = c.from.ensures;
     })
 
 pub returns-in-Drill-clause-does : goal.returns-in-Drill-clause-does
