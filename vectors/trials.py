@@ -3,8 +3,8 @@
 
     python3 vectors/trials.py PROGRAM [TRIAL ..]
 
-Without a TRIAL all of them, some four minutes: stopped, silent, hung, restarted, strays, refused, pipelined, stops, grace, effects,
-words, descriptors, disk. Each prints what came, and whether it is as docs/MEASURED.md and docs/OPERATING.md say. All listens at 127.0.0.1; `disk` mounts a small
+Without a TRIAL all of them, some four minutes: stopped, silent, hung, restarted, strays, refused, pipelined, stops, grace, killed,
+effects, words, descriptors, disk. Each prints what came, and whether it is as docs/MEASURED.md and docs/OPERATING.md say. All listens at 127.0.0.1; `disk` mounts a small
 tmpfs where it may, as root. Status: 0 all was as said; 1 else.
 """
 import collections
@@ -328,6 +328,37 @@ def try_grace(site):
     asking.join()
     print(f"stop: {stopped}; the request: {answers[0][0]} after {answers[0][1]:.2f} s")
     return stopped == 0 and str(answers[0][0]) in ("502", "503")
+
+
+def parts_of(journal):
+    """Of the parts of lb's journal in order: the first number, the count of entries, and whether it is whole."""
+    for name in sorted(name for name in os.listdir(journal) if name.startswith("lb-")):
+        lines = open(f"{journal}/{name}", "rb").read().split(b"\n")
+        yield int(name[3:-4]), sum(line.startswith(b"e ") for line in lines), any(line.startswith(b"end ") for line in lines)
+
+
+def try_killed(site):
+    """A front that is killed under 64 clients, `--cut 10`, ten times: how many entries are lost, and whether any before one that is kept."""
+    ports = [free_port(), free_port()]
+    for port in ports:
+        site.container(port)
+    gaps, most, bound = 0, 0, 10 + 3 * 64 + 2
+    for number in range(10):
+        journal = f"{site.folder}/killed{number}"
+        os.mkdir(journal)
+        front, port = site.serve(site.write(ports), "--journal", journal, "--cut", "10")
+        end = load(port, 64)
+        time.sleep(0.5)
+        front.kill()
+        replies = end()[0][200]
+        kept = 0
+        for first, count, whole in parts_of(journal):
+            gaps += first != kept
+            kept += count if whole else 0
+        # The Return of a reply that came may be missing.
+        most = max(most, 2 * replies - 64 - kept)
+    print(f"gaps: {gaps}; lost of what clients were told: {most} entries at most, where {bound} may be")
+    return gaps == 0 and most <= bound
 
 
 def try_effects(site):
