@@ -1,16 +1,20 @@
-//! Has two callers take turns at one Book, and shows where what they were told is otherwise than its row says.
+//! Has two callers take turns at one Book, serves the clients of two such callers, and shows where what came out is otherwise
+//! than its row says.
 //!
-//! The row stands in crates/pass_checks/data/pass, and what it wants comes from the rules, worked out by hand.
+//! The rows stand in crates/pass_checks/data/pass, and what they want comes from the rules, worked out by hand.
 #![tactic(auto)]
 
 mod callers;
 mod meeting;
 mod notes;
+mod sessions;
+mod stages;
 mod start;
 
 use anyhow::Result;
 
 fn main(rt: HostRuntime) -> Result<()> {
     notes::judge(&rt)?;
-    meeting::judge(&rt)
+    meeting::judge(&rt)?;
+    stages::judge(&rt)
 }

@@ -22,13 +22,13 @@ use std::sync::Wait;
 const FILE: &str = "pass/notes.txt";
 
 /// Puts a text, and a number after it.
-fn put_number(out: &mut Bytes, text: &[u8], number: u64) -> Result<(), NoMemory> {
+pub fn put_number(out: &mut Bytes, text: &[u8], number: u64) -> Result<(), NoMemory> {
     out.extend(text)?;
     put_decimal(out, u128::from(number))
 }
 
 /// Puts how many tickets of each member are out.
-fn put_busy(out: &mut Bytes, rows: &[MemberRow]) -> Result<(), NoMemory> {
+pub fn put_busy(out: &mut Bytes, rows: &[MemberRow]) -> Result<(), NoMemory> {
     out.extend(b"\nbusy")?;
     for row in rows {
         put_number(out, b" ", u64::from(row.busy))?;
