@@ -7,28 +7,28 @@ use std::sync::atomic::{AtomicBool, AtomicU64, Ordering};
 use std::sync::{Arc, Condvar, Mutex, Wait};
 use std::time::{Clock, Duration};
 
-/// For how long a thread waits for segments that others write, in milliseconds.
+/// For how long a thread waits for the next segment that others write, in milliseconds.
 const WAIT_MILLIS: u64 = 1_000;
 
 /// How far the journal of a balancer is in files.
 #[derive(Drop)]
-struct Reach {
+struct Progress {
     /// The entries before this number are in files.
     end: AtomicU64,
     /// A segment can't be written, or not in time. Nobody waits until one is.
     is_late: AtomicBool,
 }
 
-impl Reach {
+impl Progress {
     fn is_before(&self, number: u64) -> bool {
         self.end.load(Ordering::SeqCst) < number && !self.is_late.load(Ordering::SeqCst)
     }
 }
 
 #[derive(Drop)]
-struct Reaches {
+struct Journals {
     /// Each balancer's, in order.
-    places: Vec<Reach>,
+    places: Vec<Progress>,
     /// Held where one of them changes, and by who looks whether to sleep.
     changing: Mutex<()>,
     changed: Condvar,
@@ -37,7 +37,7 @@ struct Reaches {
 /// How far the journals of a run are in files. It is shared by all of its shelves.
 #[derive(Drop)]
 pub struct SegmentTurns {
-    shared: Arc<Reaches>,
+    shared: Arc<Journals>,
     /// By how many entries a thread may be ahead of where it would wait.
     slack: u64,
 }
@@ -52,18 +52,18 @@ impl SegmentTurns {
     ) -> Result<SegmentTurns, NoMemory> {
         let mut places = Vec::with_capacity(alloc, balancers)?;
         for _ in 0..balancers {
-            places.push(Reach {
+            places.push(Progress {
                 end: AtomicU64::new(first),
                 is_late: AtomicBool::new(false),
             })?;
         }
-        let reaches = Reaches {
+        let journals = Journals {
             places,
             changing: Mutex::new(()),
             changed: Condvar::new(),
         };
         Ok(SegmentTurns {
-            shared: Arc::new(alloc, reaches)?,
+            shared: Arc::new(alloc, journals)?,
             slack: u64::from(slack),
         })
     }
@@ -76,21 +76,30 @@ impl SegmentTurns {
         })
     }
 
-    /// Waits until the entries of a balancer before this number are in files; for a second at most, and after that not again
-    /// until a segment is written.
+    /// Waits until the entries of a balancer before this number are in files, as long as one of its segments is written within
+    /// each second. After a second without one nobody waits until a segment is written again.
     pub(crate) fn wait_until<R: Wait + Clock>(&self, rt: &R, lb: u32, number: u64) {
-        if let Some(reach) = self.shared.places.get(lb as usize)
-            && reach.is_before(number)
-        {
-            let guard = self.shared.changing.lock(rt);
-            let most = Duration::from_millis(WAIT_MILLIS);
-            let (_, waited) = self
-                .shared
-                .changed
-                .wait_timeout_while(rt, guard, most, |_| reach.is_before(number));
-            if waited.timed_out() {
-                reach.is_late.store(true, Ordering::SeqCst);
+        if let Some(progress) = self.shared.places.get(lb as usize) {
+            for _ in rt.forever() {
+                if !progress.is_before(number) {
+                    return;
+                }
+                self.wait_a_second(rt, progress, number);
             }
+        }
+    }
+
+    // Waits for a second at most. Where no segment was written meanwhile, they are late.
+    fn wait_a_second<R: Wait + Clock>(&self, rt: &R, progress: &Progress, number: u64) {
+        let before = progress.end.load(Ordering::SeqCst);
+        let guard = self.shared.changing.lock(rt);
+        let most = Duration::from_millis(WAIT_MILLIS);
+        let (_, waited) = self
+            .shared
+            .changed
+            .wait_timeout_while(rt, guard, most, |_| progress.is_before(number));
+        if waited.timed_out() && progress.end.load(Ordering::SeqCst) == before {
+            progress.is_late.store(true, Ordering::SeqCst);
         }
     }
 
@@ -101,21 +110,21 @@ impl SegmentTurns {
 
     /// The entries of a balancer before this number are in files.
     pub(crate) fn come_to<R: Wait>(&self, rt: &R, lb: u32, end: u64) {
-        if let Some(reach) = self.shared.places.get(lb as usize) {
+        if let Some(progress) = self.shared.places.get(lb as usize) {
             let _guard = self.shared.changing.lock(rt);
-            if reach.end.load(Ordering::SeqCst) < end {
-                reach.end.store(end, Ordering::SeqCst);
+            if progress.end.load(Ordering::SeqCst) < end {
+                progress.end.store(end, Ordering::SeqCst);
             }
-            reach.is_late.store(false, Ordering::SeqCst);
+            progress.is_late.store(false, Ordering::SeqCst);
         }
         self.shared.changed.notify_all();
     }
 
     /// A segment of a balancer can't be written. Nobody waits for it.
     pub(crate) fn be_late<R: Wait>(&self, rt: &R, lb: u32) {
-        if let Some(reach) = self.shared.places.get(lb as usize) {
+        if let Some(progress) = self.shared.places.get(lb as usize) {
             let _guard = self.shared.changing.lock(rt);
-            reach.is_late.store(true, Ordering::SeqCst);
+            progress.is_late.store(true, Ordering::SeqCst);
         }
         self.shared.changed.notify_all();
     }
