@@ -4,7 +4,7 @@ use Rattle.std.specs.List.{AllZip}
 use Rattle.std.proofs.lemmas.List.{length-map}
 use Rattle.jk_io.specs.declared.reaching.Talk.{Talk}
 use Rattle.jk_io.specs.declared.traits.streams.Meanings.{Ghosts}
-use Rattle.door_clients.specs.Doors.{DoorSide}
+use Rattle.jk_io.specs.Doors.{DoorSide}
 use Rattle.mini_container.specs.Served.{AreEachServed}
 use Rattle.mini_container.specs.declared.worker_ends.ContainerWorker.{ContainerWorker}
 use Rattle.mini_container.specs.declared.app_config.AppConfig.{AppConfig}

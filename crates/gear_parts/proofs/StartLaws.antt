@@ -4,7 +4,7 @@ use Rattle.std.specs.List.{All}
 use Rattle.std.proofs.lemmas.List.Elements.{All-cons, All-head, All-tail}
 use Rattle.jk_io.specs.Answers.{Answers}
 use Rattle.jk_io.specs.declared.reaching.Talk.{Talk}
-use Rattle.door_clients.specs.Doors.{DoorSide}
+use Rattle.jk_io.specs.Doors.{DoorSide}
 use Rattle.gear_parts.specs.Gears.{GearSide, gear_side}
 use Rattle.gear_parts.specs.Starts.{AreStarted, GivesFirst}
 use Rattle.gear_parts.specs.declared.world.Gear.{Gear}

@@ -5,7 +5,7 @@ use Rattle.jk_io.specs.declared.traits.streams.Meanings.{Ghosts}
 use Rattle.mini_container.specs.Served.{AreEachServed}
 use Rattle.mini_container.specs.declared.worker_ends.ContainerWorker.{ContainerWorker}
 use Rattle.mini_container.specs.declared.app_config.AppConfig.{AppConfig}
-use Rattle.door_clients.specs.Doors.{DoorSide}
+use Rattle.jk_io.specs.Doors.{DoorSide}
 use Rattle.gear_parts.specs.Gears.{gear_side, GearSide}
 use Rattle.gear_parts.specs.declared.world.Gear.{Gear}
 use Rattle.gear_parts.specs.declared.container.ContainerRun.{ContainerRun}

@@ -2,7 +2,7 @@
 use Rattle.std.specs.Prelude.{ℕ, false, List, [], ◌∷◌, map, Option, None}
 use Rattle.atomic_table.specs.Seated.{TableId}
 use Rattle.jk_io.specs.declared.reaching.Talk.{Talk}
-use Rattle.door_clients.specs.Doors.{DoorSide}
+use Rattle.jk_io.specs.Doors.{DoorSide}
 use Rattle.locked_balancer.specs.SharedDesks.{SharedState, shared_desk}
 use Rattle.pool_watch.specs.Watched.{WatchedState}
 use Rattle.pool_watch.specs.declared.watch.Watch.{Watch}

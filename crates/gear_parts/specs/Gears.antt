@@ -1,7 +1,7 @@
 -- What a gear tells at a moment. Read this first.
 use Rattle.std.specs.Prelude.{ℕ, ◌≡◌, ◌+◌, List, [], ◌∷◌, Option, Some, None}
 use Rattle.jk_io.specs.declared.reaching.Talk.{Talk}
-use Rattle.door_clients.specs.Doors.{DoorSide}
+use Rattle.jk_io.specs.Doors.{DoorSide}
 use Rattle.gear_parts.specs.declared.world.Gear.{Gear}
 
 -- Its door, the talks on its tape, the answers that its clock is to give, its shelf, and what its log is written to.

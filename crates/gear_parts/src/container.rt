@@ -1,7 +1,7 @@
 //! A container's run.
 ghost use Rattle.std.specs.Prelude.{◌≡◌, ◌+◌, ◌<◌, ◌≤◌, [], length, map, vec_capacity, vec_len, IfErr, IfOk};
 ghost use Rattle.std.specs.List.{AllZip};
-ghost use Rattle.door_clients.specs.Doors.{side};
+ghost use Rattle.jk_io.specs.Doors.{side};
 ghost use Rattle.gear_parts.specs.Containers.{ContainsGears};
 ghost use Rattle.gear_parts.specs.GearParts.{rest_with};
 ghost use Rattle.gear_parts.specs.Gears.{KeepsRest};

@@ -1,7 +1,7 @@
 //! The moment at which the gears of a run begin.
 ghost use Rattle.std.specs.Prelude.{◌≡◌, ◌<◌, length, map, vec_len};
 ghost use Rattle.std.specs.List.{All};
-ghost use Rattle.door_clients.specs.Doors.{side};
+ghost use Rattle.jk_io.specs.Doors.{side};
 ghost use Rattle.gear_parts.specs.Gears.{gear_side};
 ghost use Rattle.gear_parts.specs.Starts.{AreStarted, GivesFirst};
 

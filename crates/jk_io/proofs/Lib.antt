@@ -1,5 +1,6 @@
 pub mod ChunkLaws
 pub mod DecimalLaws
+pub mod DoorLaws
 pub mod MemoryLaws
 pub mod PieceLaws
 pub mod ReadLaws

@@ -1,6 +1,7 @@
 pub mod Answers
 pub mod Chunks
 pub mod Decimals
+pub mod Doors
 pub mod Inputs
 pub mod MemDoors
 pub mod MemReaches

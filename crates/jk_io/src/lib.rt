@@ -4,10 +4,12 @@
 //! real thing: each is an option, and one equation holds of both.
 //! Own rule: a call fails only where the object's count of faults rose in it, and after a refusal nothing was given
 //! or taken.
-//! Contract: each trait's clauses. Read first: specs/Told.antt, then src/traits/streams.rt.
-//! Errors: `IoError` and `FileError`; want of memory alone needs no cause.
+//! Contract: each trait's clauses; `next_client`, by which a worker takes a door's clients one after the other and leaves
+//! their links there. Read first: specs/Told.antt, then src/traits/streams.rt; specs/Doors.antt for doors.
+//! Errors: `IoError` and `FileError`; want of memory alone needs no cause. A door that fails is an `Arrival`.
 #![tactic(auto)]
 
+mod arrivals;
 mod byte_list;
 mod client_limits;
 mod decimals;
@@ -20,6 +22,7 @@ mod traits;
 mod whole_input;
 mod writing;
 
+pub use arrivals::{Arrival, next_client};
 pub use byte_list::Bytes;
 pub use client_limits::ClientLimits;
 pub use decimals::{parse_decimal, put_decimal, trim};

@@ -6,7 +6,7 @@ use Rattle.jk_io.specs.declared.reaching.Talk.{Talk}
 use Rattle.jk_model.specs.declared.opening.Opening.{Opening}
 use Rattle.jk_model.specs.declared.segment.Segment.{Segment}
 use Rattle.balancer_core.specs.Journal.{Journal}
-use Rattle.door_clients.specs.Doors.{DoorSide}
+use Rattle.jk_io.specs.Doors.{DoorSide}
 use Rattle.exchange.specs.Requests.{sizes_of}
 use Rattle.locked_balancer.specs.Histories.{SeatNote, starts_of}
 use Rattle.locked_balancer.specs.Sites.{AreSited}

@@ -9,7 +9,7 @@ use Rattle.jk_io.specs.declared.reaching.Talk.{Talk}
 use Rattle.jk_io.specs.declared.traits.streams.Meanings.{Ghosts}
 use Rattle.jk_io.specs.declared.traits.surroundings.Peer.{Peer}
 use Rattle.client_session.specs.Requests.{Visit}
-use Rattle.door_clients.specs.Doors.{DoorSide}
+use Rattle.jk_io.specs.Doors.{DoorSide}
 use Rattle.request_log.specs.declared.format.Part.{Part as FormatPart}
 use Rattle.request_log.specs.LogStates.{LogState}
 use Rattle.gear_parts.specs.Gears.{GearSide, gear_side}

@@ -9,8 +9,8 @@ use Rattle.jk_io.specs.declared.traits.streams.Meanings.{Ghosts}
 use Rattle.jk_io.specs.declared.failures.IoError.{IoError}
 use Rattle.jk_io.specs.declared.failures.IoError.TheVariants as io
 use Rattle.jk_io.specs.declared.traits.surroundings.Peer.{Peer}
-use Rattle.door_clients.specs.Doors.{DoorSide, GaveAndGot, Gives, GivesNone}
-use Rattle.door_clients.proofs.DoorLaws.{none_came, none_more, one_more}
+use Rattle.jk_io.specs.Doors.{DoorSide, GaveAndGot, Gives, GivesNone}
+use Rattle.jk_io.proofs.DoorLaws.{none_came, none_more, one_more}
 use Rattle.jk_model.specs.declared.refusal.Stray.{Stray}
 use Rattle.balancer_core.specs.Desks.{DeskState, first_stray}
 use Rattle.client_session.specs.Ends.{MeetsBy}

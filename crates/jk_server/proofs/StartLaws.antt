@@ -13,7 +13,7 @@ use Rattle.jk_io.specs.declared.traits.surroundings.Peer.{Peer}
 use Rattle.jk_model.specs.declared.segment.Segment.{Segment}
 use Rattle.balancer_core.specs.Journal.{Journal}
 use Rattle.client_session.specs.Requests.{Visit}
-use Rattle.door_clients.specs.Doors.{DoorSide}
+use Rattle.jk_io.specs.Doors.{DoorSide}
 use Rattle.site_config.specs.declared.balancer.Lb.{Lb}
 use Rattle.request_log.specs.declared.format.Part.{Part as FormatPart}
 use Rattle.request_log.specs.LogStates.{LogState}

@@ -15,7 +15,7 @@ use Rattle.client_session.specs.Ends.{MeetsBy}
 use Rattle.client_session.specs.Requests.{Visit}
 use Rattle.client_session.specs.declared.ending.SessionStop.{SessionStop}
 use Rattle.client_session.specs.declared.ending.SessionStop.TheVariants as stop
-use Rattle.door_clients.specs.Doors.{DoorSide}
+use Rattle.jk_io.specs.Doors.{DoorSide}
 use Rattle.jk_server.specs.Headline.{MetNoStray, NamesItsStray, told_in}
 use Rattle.jk_server.specs.Served.{CanGoOn, EndsAtLast, EndsBy, HaveRested, IsRun, IsStray, Run}
 use Rattle.jk_server.specs.Worker.{Begins, Keeps, WorkerSide}

@@ -10,7 +10,7 @@ use Rattle.jk_io.specs.declared.traits.surroundings.Peer.{Peer}
 use Rattle.jk_model.specs.declared.journal.Entry.{Entry}
 use Rattle.balancer_core.specs.declared.receipt.Receipt.{Receipt}
 use Rattle.client_session.specs.Requests.{Visit}
-use Rattle.door_clients.specs.Doors.{DoorSide}
+use Rattle.jk_io.specs.Doors.{DoorSide}
 use Rattle.locked_balancer.specs.Histories.{HasGone, SeatNote, noted, own_in}
 use Rattle.locked_balancer.specs.SharedDesks.{SharedState}
 use Rattle.locked_balancer.specs.Shelves.{HasShelved, ShelfNote}

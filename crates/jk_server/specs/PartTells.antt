@@ -4,7 +4,7 @@ use Rattle.jk_io.specs.declared.reaching.Beside.{Beside}
 use Rattle.jk_io.specs.declared.traits.streams.Meanings.{Ghosts}
 use Rattle.jk_io.specs.declared.traits.surroundings.Peer.{Peer}
 use Rattle.client_session.specs.Requests.{Visit, visit}
-use Rattle.door_clients.specs.Doors.{DoorSide, side}
+use Rattle.jk_io.specs.Doors.{DoorSide, side}
 use Rattle.jk_server.specs.Worker.{Keeps, worker_side, WorkerSide}
 use Rattle.gear_parts.specs.declared.part.Part.{Part}
 use Rattle.jk_server.specs.declared.part.Post.{Post}

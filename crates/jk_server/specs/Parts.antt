@@ -5,7 +5,7 @@ use Rattle.jk_io.specs.declared.traits.streams.Meanings.{Ghosts}
 use Rattle.jk_io.specs.declared.traits.surroundings.Peer.{Peer}
 use Rattle.balancer_core.specs.declared.receipt.Receipt.{Receipt}
 use Rattle.client_session.specs.Requests.{Visit, visit}
-use Rattle.door_clients.specs.Doors.{DoorSide}
+use Rattle.jk_io.specs.Doors.{DoorSide}
 use Rattle.locked_balancer.specs.Histories.{SeatNote}
 use Rattle.locked_balancer.specs.SharedDesks.{SharedState}
 use Rattle.locked_balancer.specs.declared.shared_desk.Leaving.{Leaving}

@@ -4,7 +4,7 @@ use Rattle.jk_io.specs.declared.reaching.Talk.{Talk}
 use Rattle.jk_io.specs.declared.traits.streams.Meanings.{Ghosts}
 use Rattle.jk_io.specs.declared.traits.surroundings.Peer.{Peer}
 use Rattle.jk_model.specs.declared.segment.Segment.{Segment}
-use Rattle.door_clients.specs.Doors.{DoorSide, side}
+use Rattle.jk_io.specs.Doors.{DoorSide, side}
 use Rattle.request_log.specs.LogStates.{LogState}
 use Rattle.gear_parts.specs.GearLogs.{broken_by, Gains, GreetsIf, log_faults}
 use Rattle.gear_parts.specs.Gears.{gear_side, GearSide}

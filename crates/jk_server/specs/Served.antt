@@ -6,7 +6,7 @@ use Rattle.jk_io.specs.declared.failures.IoError.{IoError}
 use Rattle.jk_io.specs.declared.failures.IoError.TheVariants as io
 use Rattle.jk_io.specs.declared.traits.streams.Meanings.{Ghosts}
 use Rattle.jk_io.specs.declared.traits.surroundings.Peer.{Peer}
-use Rattle.door_clients.specs.Doors.{DoorSide, GaveAndGot}
+use Rattle.jk_io.specs.Doors.{DoorSide, GaveAndGot}
 use Rattle.client_session.specs.Ends.{MeetsBy, RisesBy}
 use Rattle.client_session.specs.Parts.{HasParts}
 use Rattle.client_session.specs.Requests.{Visit}

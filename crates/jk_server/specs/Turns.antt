@@ -6,7 +6,7 @@ use Rattle.jk_io.specs.declared.traits.surroundings.Peer.{Peer}
 use Rattle.client_session.specs.Ready.{IsReady}
 use Rattle.client_session.specs.Requests.{Visit, visit}
 use Rattle.client_session.specs.declared.ending.SessionEnd.{SessionEnd}
-use Rattle.door_clients.specs.Doors.{DoorSide, GaveAndGot}
+use Rattle.jk_io.specs.Doors.{DoorSide, GaveAndGot}
 use Rattle.site_config.specs.declared.config.Config.{Config}
 use Rattle.uri_map.specs.declared.rule.Rule.{Rule}
 use Rattle.gear_parts.specs.declared.part.Part.{Part}

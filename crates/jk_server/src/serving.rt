@@ -9,9 +9,8 @@ ghost use Rattle.jk_server.specs.Worker.{IsFit, keeps};
 
 use crate::client::serve_next;
 use crate::part::{Post, WorkerEnd};
-use door_clients::{Arrival, next_client};
 use gear_parts::{Part, WorkerLog};
-use jk_io::{Clock, Door, Reach};
+use jk_io::{Arrival, Clock, Door, Reach, next_client};
 use locked_balancer::{Shelf, SiteName};
 use site_config::Config;
 use std::alloc::Global;

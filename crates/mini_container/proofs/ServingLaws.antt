@@ -6,8 +6,8 @@ use Rattle.std.proofs.lemmas.List.Elements.{All-nil, All-push}
 use Rattle.jk_io.specs.Told.{IsEmpty, Rose}
 use Rattle.jk_io.specs.declared.traits.streams.Meanings.{Ghosts}
 use Rattle.jk_io.specs.declared.traits.surroundings.Peer.{Peer}
-use Rattle.door_clients.specs.Doors.{DoorSide, Gives, GivesNone}
-use Rattle.door_clients.proofs.DoorLaws.{all_but_last, but_one_more, none_came, none_more, one_more}
+use Rattle.jk_io.specs.Doors.{DoorSide, Gives, GivesNone}
+use Rattle.jk_io.proofs.DoorLaws.{all_but_last, but_one_more, none_came, none_more, one_more}
 use Rattle.mini_container.specs.declared.app_config.AppConfig.{AppConfig}
 use Rattle.mini_container.specs.declared.ends.ContainerEnd.{ContainerEnd}
 use Rattle.mini_container.specs.declared.ends.ContainerEnd.TheVariants as container_end

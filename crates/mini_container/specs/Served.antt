@@ -5,7 +5,7 @@ use Rattle.jk_io.specs.Told.{appended, IsEmpty, Rose}
 use Rattle.jk_io.specs.declared.traits.streams.Meanings.{Ghosts}
 use Rattle.jk_io.specs.declared.traits.surroundings.Peer.{Peer}
 use Rattle.ajp_wire.specs.Moments.{link_at}
-use Rattle.door_clients.specs.Doors.{AllButLast, DoorSide, GaveAndGot}
+use Rattle.jk_io.specs.Doors.{AllButLast, DoorSide, GaveAndGot}
 use Rattle.mini_container.specs.Ends.{IsTalk}
 use Rattle.mini_container.specs.declared.app_config.AppConfig.{AppConfig}
 use Rattle.mini_container.specs.declared.ends.ContainerEnd.{ContainerEnd}

@@ -1,14 +1,13 @@
 //! The whole work of one worker: the links of its door, one after the other.
 ghost use Rattle.std.specs.Prelude.{◌<◌, ◌≡◌, ◌≢◌, true, false};
-ghost use Rattle.door_clients.specs.Doors.{side};
+ghost use Rattle.jk_io.specs.Doors.{side};
 ghost use Rattle.mini_container.specs.Served.{IsServedDoor, LeavesServed};
 
 use crate::app_config::AppConfig;
 use crate::ends::ContainerEnd;
 use crate::serving::serve_ajp;
 use crate::worker_ends::ContainerWorker;
-use door_clients::{Arrival, next_client};
-use jk_io::Door;
+use jk_io::{Arrival, Door, next_client};
 use std::alloc::Global;
 use std::sync::Wait;
 

@@ -1,6 +1,6 @@
 //! A worker for each door.
 ghost use Rattle.std.specs.Prelude.{◌≡◌, ◌+◌, ◌≤◌, ◌++◌, [], length, map, vec_capacity, vec_len, IfErr, IfOk};
-ghost use Rattle.door_clients.specs.Doors.{side};
+ghost use Rattle.jk_io.specs.Doors.{side};
 ghost use Rattle.mini_container.specs.Served.{AreEachServed, AreServedDoors, IsServedDoor};
 ghost use Rattle.mini_container.specs.declared.workers.Slot.{Slot as AnySlot};
 

@@ -1,5 +1,5 @@
 use Rattle.std.proofs.Common.{ap, ◌∙◌, length, arith}
-use Rattle.door_clients.specs.Doors.{side}
+use Rattle.jk_io.specs.Doors.{side}
 use Rattle.gear_parts.proofs.ContainerLaws.{container_ran, doors_back, rests_kept, same_gears}
 use Rattle.gear_parts.proofs.ListLaws.{as_long, as_long_as}
 use Rattle.gear_parts.proofs.container.contain_in.Goals as goal

@@ -1,5 +1,5 @@
 use Rattle.std.proofs.Common.{sym, ◌∙◌}
-use Rattle.door_clients.specs.Doors.{side}
+use Rattle.jk_io.specs.Doors.{side}
 use Rattle.gear_parts.specs.Gears.{gear_side}
 use Rattle.gear_parts.proofs.ListLaws.{some_so, written_back}
 use Rattle.gear_parts.proofs.StartLaws.{gives_back, idle_back, started_back}

@@ -1,4 +1,4 @@
-use Rattle.door_clients.specs.Doors.{side}
+use Rattle.jk_io.specs.Doors.{side}
 use Rattle.gear_parts.proofs.StartLaws.{first_as_long, first_gives, first_idle, first_read}
 use Rattle.gear_parts.proofs.starting.moment_of.Goals as goal
 

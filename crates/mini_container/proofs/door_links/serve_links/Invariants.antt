@@ -1,5 +1,5 @@
 -- The links so far were served, and the worker goes on.
-use Rattle.door_clients.specs.Doors.{side}
+use Rattle.jk_io.specs.Doors.{side}
 use Rattle.mini_container.proofs.ServingLaws.{IsUnderWay}
 use Rattle.mini_container.proofs.door_links.serve_links.Given as goal
 

@@ -5,7 +5,7 @@ use denote.Param.{param}
 use mir.Syntax.{named}
 use denote.Param.Send.{arg_send, param_send}
 use Rattle.client_session.specs.Requests.{visit}
-use Rattle.door_clients.specs.Doors.{side}
+use Rattle.jk_io.specs.Doors.{side}
 use Rattle.gear_parts.specs.GearLogs.{sink_of}
 use Rattle.gear_parts.specs.GearParts.{gear_with, start_with, tools}
 use Rattle.jk_server.specs.RunTells.{logging, run_tells}

@@ -3,7 +3,7 @@ use Rattle.std.specs.Prelude.{sum_by}
 use Rattle.std.specs.List.{All}
 use Rattle.std.proofs.lemmas.List.Elements.{All-weaker}
 use Rattle.client_session.specs.Requests.{visit}
-use Rattle.door_clients.specs.Doors.{side}
+use Rattle.jk_io.specs.Doors.{side}
 use Rattle.gear_parts.specs.GearParts.{start_with, unnumbered}
 use Rattle.gear_parts.proofs.ListLaws.{as_long}
 use Rattle.jk_server.specs.RunTells.{logging}

@@ -1,7 +1,7 @@
 use Rattle.std.proofs.Common.{ap, refl, sym, ◌∙◌}
 use Rattle.client_session.specs.Requests.{visit}
 use Rattle.conn_pool.specs.Idle.{counts}
-use Rattle.door_clients.specs.Doors.{side}
+use Rattle.jk_io.specs.Doors.{side}
 use Rattle.jk_server.proofs.CutLaws.{closes_said}
 use Rattle.jk_server.proofs.GearRunLaws.{some_left}
 use Rattle.jk_server.specs.RunTells.{logging}

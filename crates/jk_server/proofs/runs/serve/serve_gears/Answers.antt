@@ -1,6 +1,6 @@
 use Rattle.std.proofs.Common.{refl, ◌∙◌}
 use Rattle.client_session.specs.Requests.{visit}
-use Rattle.door_clients.specs.Doors.{side}
+use Rattle.jk_io.specs.Doors.{side}
 use Rattle.gear_parts.specs.Gears.{gear_side}
 use Rattle.jk_server.specs.RunTells.{logging}
 use Rattle.gear_parts.proofs.ListLaws.{few_so, some_so}

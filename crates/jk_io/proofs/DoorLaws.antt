@@ -5,7 +5,7 @@ use Rattle.std.proofs.lemmas.List.Elements.{All-head, All-tail}
 use Rattle.jk_io.specs.Told.{appended, prepended}
 use Rattle.jk_io.specs.declared.traits.surroundings.Peer.{Peer}
 use Rattle.jk_io.proofs.ToldLaws.{appended-appended, appended-nil, prepended-prepended, prepended-nil}
-use Rattle.door_clients.specs.Doors.{AllButLast, DoorSide, GaveAndGot, Gives, GivesNone}
+use Rattle.jk_io.specs.Doors.{AllButLast, DoorSide, GaveAndGot, Gives, GivesNone}
 
 -- nobody came yet
 pub none_came : {C : Type 0} → (door : DoorSide C) → GaveAndGot door door [] []

@@ -2,8 +2,8 @@
 use Rattle.std.specs.Prelude.{ℕ, ◌≡◌, ◌≤◌, ◌+◌, List, [], ◌∷◌, Option}
 use Rattle.jk_io.specs.Told.{appended, prepended, IsEmpty, Rose}
 use Rattle.jk_io.specs.declared.traits.surroundings.Peer.{Peer}
-use Rattle.door_clients.specs.declared.arrivals.Arrival.{Arrival}
-use Rattle.door_clients.specs.declared.arrivals.Arrival.TheVariants as arrival
+use Rattle.jk_io.specs.declared.arrivals.Arrival.{Arrival}
+use Rattle.jk_io.specs.declared.arrivals.Arrival.TheVariants as arrival
 
 -- The clients to come, each a link and its peer; the links that were left; and how often the door failed.
 pub record DoorSide (C : Type 0) : Type 0 where

@@ -1,8 +1,8 @@
 //! What a door answers to a worker that waits for a client.
 ghost use Rattle.std.specs.Prelude.{◌+◌, ◌≡◌};
-ghost use Rattle.door_clients.specs.Doors.{Arrives, room_after, side};
+ghost use Rattle.jk_io.specs.Doors.{Arrives, room_after, side};
 
-use jk_io::{Door, IoError, Peer};
+use crate::{Door, IoError, Peer};
 use std::alloc::Global;
 
 /// What a door answered to a worker that waits for a client.
