@@ -7,13 +7,13 @@ use Rattle.std.proofs.lemmas.List.{drop-drop}
 use Rattle.jk_io.specs.Told.{appended, prepended}
 use Rattle.jk_io.proofs.ToldLaws.{appended-appended, appended-nil, prepended-prepended, prepended-nil}
 use Rattle.ajp_wire.specs.Packet.{body_packet, HasCome}
-use Rattle.http_body_in.specs.Body.{Data, Uses, behind, data_from, data_of, dropped, reaches, place_behind}
-use Rattle.http_body_in.specs.State.{place_of, taken_of, failed_of}
-use Rattle.http_body_in.specs.declared.body.BodyIn.{BodyIn}
-use Rattle.http_body_in.specs.Places.{is_limited, step}
-use Rattle.http_body_in.specs.declared.place.Place.{Place}
-use Rattle.http_body_in.specs.declared.place.Place.TheVariants as at
-use Rattle.http_body_in.proofs.BodyLemmas.{Uses-nil, Uses-then, data_from-append, next-place}
+use Rattle.http_front.specs.Body.{Data, Uses, behind, data_from, data_of, dropped, reaches, place_behind}
+use Rattle.http_front.specs.State.{place_of, taken_of, failed_of}
+use Rattle.http_front.specs.declared.body.BodyIn.{BodyIn}
+use Rattle.http_front.specs.Places.{is_limited, step}
+use Rattle.http_front.specs.declared.place.Place.{Place}
+use Rattle.http_front.specs.declared.place.Place.TheVariants as at
+use Rattle.http_front.proofs.BodyLemmas.{Uses-nil, Uses-then, data_from-append, next-place}
 use Rattle.jk_io.specs.Moments.{Moment}
 use Rattle.ajp_talk.specs.Moments.{BodyAt, data_at, Traffic, Takes, IsUsed, IsFrontOf}
 use Rattle.ajp_talk.specs.Owed.{behind_first, answer}

@@ -13,8 +13,8 @@ use Rattle.ajp_reply.specs.Stream.{IsPacketOf, Spelled, IsFront, IsForm, head_of
 use Rattle.ajp_reply.proofs.StreamLaws.{packets-only, goes_on, not_both}
 use Rattle.http_out.specs.declared.framing.Framing.{Framing}
 use Rattle.http_out.specs.declared.framing.Framing.TheVariants as By
-use Rattle.http_body_in.specs.Body.{Data, reaches}
-use Rattle.http_body_in.specs.State.{taken_of, most_of}
+use Rattle.http_front.specs.Body.{Data, reaches}
+use Rattle.http_front.specs.State.{taken_of, most_of}
 use Rattle.ajp_talk.specs.Moments.{TalkMoment, data_at}
 use Rattle.ajp_talk.specs.Replies.{is_good, is_listed, chunks_of, sum_of, framing_in, exceeds, agrees, IsUnlisted, IsReply, bytes_for}
 use Rattle.ajp_talk.specs.Owed.{asked, pong_of}

@@ -10,9 +10,9 @@ use Rattle.ajp_reply.specs.declared.message.Message.{Message}
 use Rattle.ajp_reply.specs.declared.message.Message.TheVariants.{Headers, Chunk, End, Ask, Pong}
 use Rattle.ajp_reply.specs.declared.message.ReplyParts.{ReplyParts}
 use Rattle.ajp_reply.specs.Stream.{IsPacketOf, Spelled, IsFront, head_of}
-use Rattle.http_body_in.specs.Body.{Data, dropped}
-use Rattle.http_body_in.specs.State.{taken_of}
-use Rattle.http_body_in.specs.Walks.{counted}
+use Rattle.http_front.specs.Body.{Data, dropped}
+use Rattle.http_front.specs.State.{taken_of}
+use Rattle.http_front.specs.Walks.{counted}
 use Rattle.http_out.specs.declared.framing.RequestKind.{RequestKind}
 use Rattle.http_out.specs.Framing.{framing_of, has_no_body, is_beyond, is_complete}
 use Rattle.http_out.specs.ReplyBytes.{so_far, so_far_of}

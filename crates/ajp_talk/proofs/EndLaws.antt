@@ -9,8 +9,8 @@ use Rattle.ajp_wire.specs.Packet.{body_packet}
 use Rattle.ajp_reply.specs.declared.message.Message.{Message}
 use Rattle.ajp_reply.specs.declared.message.Message.TheVariants.{Headers, Chunk, End, Ask, Pong}
 use Rattle.ajp_reply.specs.Stream.{IsFront, IsForm, head_of, Spelled}
-use Rattle.http_body_in.specs.Body.{Data, reaches, behind, dropped}
-use Rattle.http_body_in.specs.State.{taken_of, most_of}
+use Rattle.http_front.specs.Body.{Data, reaches, behind, dropped}
+use Rattle.http_front.specs.State.{taken_of, most_of}
 use Rattle.http_out.specs.Writer.{Writer, IsOpen, chunk_bytes, end_bytes}
 use Rattle.jk_io.specs.Moments.{Moment}
 use Rattle.ajp_talk.specs.Moments.{BodyAt, TalkMoment, data_at, Traffic, IsSteady, Takes, IsUsed, IsFrontOf}

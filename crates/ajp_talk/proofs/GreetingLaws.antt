@@ -7,9 +7,9 @@ use Rattle.jk_io.proofs.ToldLaws.{all_put, appended-nil}
 use Rattle.ajp_wire.specs.Packet.{packet, HasCome}
 use Rattle.ajp_reply.specs.declared.message.Message.{Message}
 use Rattle.ajp_reply.specs.declared.message.Message.TheVariants.{Headers, Chunk, End, Ask, Pong}
-use Rattle.http_body_in.specs.Body.{Data}
-use Rattle.http_body_in.specs.State.{taken_of, failed_of}
-use Rattle.http_body_in.specs.Walks.{counted}
+use Rattle.http_front.specs.Body.{Data}
+use Rattle.http_front.specs.State.{taken_of, failed_of}
+use Rattle.http_front.specs.Walks.{counted}
 use Rattle.jk_io.specs.Moments.{Moment}
 use Rattle.ajp_talk.specs.Moments.{BodyAt, TalkMoment, data_at, Traffic, IsSteady, Takes, IsFrontOf}
 use Rattle.ajp_talk.specs.Owed.{ping_of, pong_of, first_packet, request_of, opening, owed, IsSealed}

@@ -9,7 +9,7 @@ use Rattle.ajp_wire.specs.declared.errors.DecodeError.TheVariants as Decode
 use Rattle.ajp_reply.specs.declared.message.Message.{Message}
 use Rattle.ajp_reply.specs.Spelling.{Spells, IsMessage, BeginsHead}
 use Rattle.ajp_reply.proofs.StreamLaws.{no_packet-begins, too_long-begins, unread-begins}
-use Rattle.http_body_in.specs.Walks.{counted}
+use Rattle.http_front.specs.Walks.{counted}
 use Rattle.ajp_talk.specs.Hearing.{unheard, undecoded}
 use Rattle.jk_io.specs.Moments.{Moment}
 use Rattle.ajp_talk.specs.Moments.{IsSteady}

@@ -7,13 +7,13 @@ use Rattle.jk_io.specs.Told.{appended, Rose, HasCause}
 use Rattle.jk_io.specs.declared.failures.IoError.{IoError}
 use Rattle.jk_io.specs.declared.failures.IoError.TheVariants as Io
 use Rattle.jk_io.proofs.ToldLaws.{appended-nil}
-use Rattle.http_body_in.specs.Body.{Data, reaches}
-use Rattle.http_body_in.specs.Faults.{IsNoFailure}
-use Rattle.http_body_in.specs.Places.{is_limited}
-use Rattle.http_body_in.specs.State.{place_of, taken_of, most_of}
-use Rattle.http_body_in.specs.Walks.{counted}
-use Rattle.http_body_in.specs.declared.fault.BodyFault.{BodyFault}
-use Rattle.http_body_in.specs.declared.fault.BodyFault.TheVariants as fault
+use Rattle.http_front.specs.Body.{Data, reaches}
+use Rattle.http_front.specs.Faults.{IsNoFailure}
+use Rattle.http_front.specs.Places.{is_limited}
+use Rattle.http_front.specs.State.{place_of, taken_of, most_of}
+use Rattle.http_front.specs.Walks.{counted}
+use Rattle.http_front.specs.declared.fault.BodyFault.{BodyFault}
+use Rattle.http_front.specs.declared.fault.BodyFault.TheVariants as fault
 use Rattle.jk_io.specs.Moments.{Moment}
 use Rattle.ajp_talk.specs.Moments.{BodyAt, data_at, IsSteady, IsUsed, IsFrontOf}
 use Rattle.ajp_talk.specs.declared.plan.TalkPlan.{TalkPlan}

@@ -2,7 +2,7 @@
 use Rattle.std.proofs.Common.{◌≡◌, ◌≢◌, ℕ, ◌≤◌, false, ◌&&◌, not, length, refl, sym, ap, subst, ◌∙◌, Ok, inl, inr}
 use Rattle.jk_io.specs.Moments.{Moment}
 use Rattle.jk_io.specs.declared.failures.NoMemory.{NoMemory}
-use Rattle.http_body_in.specs.State.{taken_of}
+use Rattle.http_front.specs.State.{taken_of}
 use Rattle.ajp_talk.specs.Moments.{BodyAt, TalkMoment}
 use Rattle.ajp_talk.specs.Talk.{IsTalk, IsCalmEnd, IsGone}
 use Rattle.ajp_talk.specs.Turns.{IsCalmTurn, IsTurn}

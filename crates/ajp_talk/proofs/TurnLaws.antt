@@ -10,7 +10,7 @@ use Rattle.ajp_reply.specs.declared.message.Message.TheVariants.{Headers, Chunk,
 use Rattle.ajp_reply.specs.declared.message.ReplyParts.{ReplyParts}
 use Rattle.ajp_reply.specs.Stream.{IsFront, IsForm, head_of}
 use Rattle.ajp_reply.proofs.StreamLaws.{no_reply-other, no_reply-none}
-use Rattle.http_body_in.specs.State.{taken_of}
+use Rattle.http_front.specs.State.{taken_of}
 use Rattle.http_out.specs.Framing.{is_beyond, is_complete}
 use Rattle.http_out.specs.Writer.{Writer, framing_now}
 use Rattle.jk_io.specs.Moments.{Moment}

@@ -4,8 +4,8 @@ use Rattle.jk_io.specs.Moments.{Moment}
 use Rattle.jk_io.specs.Told.{appended, IsEmpty, Rose}
 use Rattle.jk_io.specs.declared.failures.NoMemory.{NoMemory}
 use Rattle.ajp_reply.specs.declared.message.Message.{Message}
-use Rattle.http_body_in.specs.Body.{Data}
-use Rattle.http_body_in.specs.State.{taken_of, most_of}
+use Rattle.http_front.specs.Body.{Data}
+use Rattle.http_front.specs.State.{taken_of, most_of}
 use Rattle.ajp_talk.specs.Moments.{TalkMoment, data_at}
 use Rattle.ajp_talk.specs.Replies.{IsReply, IsUnlisted, bytes_for}
 use Rattle.ajp_talk.specs.Owed.{pong_of}

@@ -5,8 +5,8 @@ use Rattle.jk_io.specs.declared.failures.NoMemory.{NoMemory}
 use Rattle.ajp_reply.specs.declared.message.Message.{Message}
 use Rattle.ajp_reply.specs.declared.message.ReplyParts.{ReplyParts}
 use Rattle.ajp_reply.specs.Stream.{head_of}
-use Rattle.http_body_in.specs.Body.{dropped}
-use Rattle.http_body_in.specs.State.{taken_of, failed_of}
+use Rattle.http_front.specs.Body.{dropped}
+use Rattle.http_front.specs.State.{taken_of, failed_of}
 use Rattle.http_out.specs.declared.framing.RequestKind.{RequestKind}
 use Rattle.http_out.specs.Writer.{Writer, new_writer, writer_after}
 use Rattle.jk_io.specs.Moments.{Moment}

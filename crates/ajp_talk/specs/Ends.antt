@@ -1,6 +1,6 @@
 -- How a talk's answer is made from how far it had come; and what a plan keeps.
 use Rattle.std.specs.Prelude.{ℕ, ◌^◌, ◌<◌, ◌≤◌, Bool, true, false, ◌&&◌, not, nat_le, nat_lt, length, Option, Some, None, Result, Ok, Err, if◌then◌else◌}
-use Rattle.http_body_in.specs.Walks.{counted}
+use Rattle.http_front.specs.Walks.{counted}
 use Rattle.ajp_talk.specs.Owed.{opening, IsSealed}
 use Rattle.ajp_talk.specs.declared.plan.TalkPlan.{TalkPlan}
 use Rattle.ajp_talk.specs.declared.course.Course.{Course}

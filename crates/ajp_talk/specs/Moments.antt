@@ -6,9 +6,9 @@ use Rattle.jk_io.specs.Told.{appended, prepended}
 use Rattle.ajp_wire.specs.Moments.{link_at}
 use Rattle.ajp_wire.specs.Packet.{HasCome}
 use Rattle.http_front.specs.Unread.{unread}
-use Rattle.http_body_in.specs.Body.{Data, Uses}
-use Rattle.http_body_in.specs.State.{place_of, taken_of, most_of, failed_of, data_left_of}
-use Rattle.http_body_in.specs.declared.body.BodyIn.{BodyIn}
+use Rattle.http_front.specs.Body.{Data, Uses}
+use Rattle.http_front.specs.State.{place_of, taken_of, most_of, failed_of, data_left_of}
+use Rattle.http_front.specs.declared.body.BodyIn.{BodyIn}
 
 -- the body as far as it was taken, and the client's bytes that no one used
 pub record BodyAt : Type 0 where

@@ -3,7 +3,7 @@ use Rattle.std.specs.Prelude.{◌≡◌, ℕ, ◌+◌, ◌<◌, ◌==◌, min, t
 use Rattle.ajp_wire.specs.Packet.{packet, body_packet}
 use Rattle.ajp_reply.specs.declared.message.Message.{Message}
 use Rattle.ajp_reply.specs.declared.message.Message.TheVariants.{Headers, Chunk, End, Ask, Pong}
-use Rattle.http_body_in.specs.Body.{Data, reaches}
+use Rattle.http_front.specs.Body.{Data, reaches}
 use Rattle.ajp_talk.specs.declared.plan.TalkPlan.{TalkPlan}
 
 -- an ask of 0 wants the most that a piece may have

@@ -7,9 +7,9 @@ use Rattle.ajp_reply.specs.declared.message.Message.{Message}
 use Rattle.ajp_reply.specs.declared.message.Message.TheVariants.{Headers, Chunk, End, Ask, Pong}
 use Rattle.ajp_reply.specs.declared.message.ReplyParts.{ReplyParts}
 use Rattle.ajp_reply.specs.Stream.{Spelled, IsPacketOf, IsFront, IsForm, NoReply, BeginsNoMessage, head_of}
-use Rattle.http_body_in.specs.Body.{dropped, reaches}
-use Rattle.http_body_in.specs.Places.{is_limited}
-use Rattle.http_body_in.specs.State.{place_of, taken_of, most_of}
+use Rattle.http_front.specs.Body.{dropped, reaches}
+use Rattle.http_front.specs.Places.{is_limited}
+use Rattle.http_front.specs.State.{place_of, taken_of, most_of}
 use Rattle.ajp_talk.specs.Moments.{BodyAt, TalkMoment, data_at, Traffic, IsSteady, Takes, IsUsed, IsFrontOf, AreAlong}
 use Rattle.ajp_talk.specs.Replies.{is_good, is_listed, kind_of, chunks_of, sum_of, framing_in, exceeds, agrees, IsWithin, IsUnlisted, IsReply, so_far_of_talk, reply_of_talk, bytes_for, told_by, passed_of, told_of_talk}
 use Rattle.ajp_talk.specs.Owed.{asked, ping_of, pong_of, opening, owed}

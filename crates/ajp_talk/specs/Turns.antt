@@ -9,11 +9,11 @@ use Rattle.ajp_reply.specs.declared.message.Message.TheVariants.{Headers, Chunk,
 use Rattle.ajp_reply.specs.declared.message.ReplyParts.{ReplyParts}
 use Rattle.ajp_reply.specs.Spelling.{IsMessage, BeginsHead}
 use Rattle.ajp_reply.specs.Stream.{IsPacketOf, BeginsNoMessage}
-use Rattle.http_body_in.specs.Body.{Uses, dropped, reaches}
-use Rattle.http_body_in.specs.State.{place_of, taken_of, most_of, failed_of}
-use Rattle.http_body_in.specs.Walks.{counted}
-use Rattle.http_body_in.specs.declared.fault.BodyFault.{BodyFault}
-use Rattle.http_body_in.specs.declared.fault.BodyFault.TheVariants as fault
+use Rattle.http_front.specs.Body.{Uses, dropped, reaches}
+use Rattle.http_front.specs.State.{place_of, taken_of, most_of, failed_of}
+use Rattle.http_front.specs.Walks.{counted}
+use Rattle.http_front.specs.declared.fault.BodyFault.{BodyFault}
+use Rattle.http_front.specs.declared.fault.BodyFault.TheVariants as fault
 use Rattle.http_out.specs.Framing.{has_no_body, is_beyond, is_complete}
 use Rattle.http_out.specs.Writer.{Writer, IsOpen, framing_now, after_head, after_chunk, after_end, chunk_bytes, end_bytes}
 use Rattle.http_out.specs.Writer.{counted as counted_chunk}

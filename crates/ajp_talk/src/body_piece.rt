@@ -1,7 +1,7 @@
 //! Pieces of the request's body, which answer Get Body Chunk.
 
 ghost use Rattle.std.specs.Prelude.{◌≡◌, ◌<◌, ◌≤◌, None, length, IfOk};
-ghost use Rattle.http_body_in.specs.State.{failed_of};
+ghost use Rattle.http_front.specs.State.{failed_of};
 ghost use Rattle.ajp_wire.specs.Packet.{body_packet as body_packet_of};
 ghost use Rattle.ajp_talk.specs.Owed.{want};
 ghost use Rattle.ajp_talk.specs.Turns.{IsAskTurn, IsCalmTurn, IsSent, turn_of_sent};

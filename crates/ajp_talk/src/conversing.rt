@@ -1,7 +1,7 @@
 //! A talk from its first byte to its end.
 
 ghost use Rattle.std.specs.Prelude.{◌≡◌, ◌≤◌, ◌<◌, None, length};
-ghost use Rattle.http_body_in.specs.State.{failed_of, taken_of};
+ghost use Rattle.http_front.specs.State.{failed_of, taken_of};
 ghost use Rattle.ajp_wire.specs.Moments.{link_at};
 ghost use Rattle.ajp_talk.specs.Complete.{Completes};
 ghost use Rattle.ajp_talk.specs.Courses.{Begins, fresh};

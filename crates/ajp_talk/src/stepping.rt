@@ -1,7 +1,7 @@
 //! One message of the container, and what it asks for.
 
 ghost use Rattle.std.specs.Prelude.{◌≡◌, ◌≤◌, None};
-ghost use Rattle.http_body_in.specs.State.{failed_of};
+ghost use Rattle.http_front.specs.State.{failed_of};
 ghost use Rattle.ajp_talk.specs.Ends.{IsPlan};
 ghost use Rattle.ajp_talk.specs.Turns.{IsCalmTurn, IsOnCourse, IsTurn};
 ghost use Rattle.ajp_talk.specs.Uploads.{IsSameUpload, talk_over};

@@ -1,7 +1,7 @@
 //! `talk`: one try of a request on one link.
 
 ghost use Rattle.std.specs.Prelude.{◌≡◌, None, length};
-ghost use Rattle.http_body_in.specs.State.{failed_of, taken_of};
+ghost use Rattle.http_front.specs.State.{failed_of, taken_of};
 ghost use Rattle.ajp_talk.specs.Complete.{Completes};
 ghost use Rattle.ajp_talk.specs.Ends.{IsPlan};
 ghost use Rattle.ajp_talk.specs.Moments.{talk_at};
@@ -13,8 +13,7 @@ use crate::ending::TalkEnd;
 use crate::plan::TalkPlan;
 use crate::room::Room;
 use crate::upload::Upload;
-use http_body_in::BodyIn;
-use http_front::Inbox;
+use http_front::{BodyIn, Inbox};
 use jk_io::{Link, NoMemory};
 use std::alloc::Global;
 

@@ -4,7 +4,7 @@ ghost use Rattle.std.specs.Prelude.{◌≡◌};
 ghost use Rattle.ajp_talk.specs.Turns.{turn_of as turn_for, fault_turn as turn_by};
 
 use crate::ending::Cause;
-use http_body_in::BodyFault;
+use http_front::BodyFault;
 
 /// What became of a talk with one more message.
 #[derive(Clone, Copy, PartialEq, Eq)]

@@ -1,7 +1,6 @@
 //! `Upload`: the request's body, as far as it came.
 
-use http_body_in::BodyIn;
-use http_front::Inbox;
+use http_front::{BodyIn, Inbox};
 
 /// The body of the request, and the client's bytes that were read and not used.
 #[derive(Drop)]

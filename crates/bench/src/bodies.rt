@@ -7,8 +7,7 @@ ghost use Rattle.http_out.specs.Writer.{IsOpen};
 
 use crate::done::Done;
 use crate::feed::Feed;
-use http_body_in::BodyIn;
-use http_front::{BodyPlan, HeadLines, Inbox};
+use http_front::{BodyIn, BodyPlan, HeadLines, Inbox};
 use http_out::{OutError, ReplyHead, ReplyWriter, RequestKind};
 use jk_io::{Bytes, NoMemory};
 use std::alloc::Global;

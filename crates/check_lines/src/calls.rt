@@ -10,7 +10,7 @@ use jk_io::{Bytes, NoMemory};
 use jk_model::{
     AdminError, Call, Command, Entry, FullMark, MODERN_RULES, MOST_BYTES, Outcome, RoomError, Stray,
 };
-use journal_lines::{Line, put_entry, read_line};
+use journal_text::{Line, put_entry, read_line};
 use std::alloc::Global;
 
 fn entry_in(line: Option<Line>) -> Option<Entry> {

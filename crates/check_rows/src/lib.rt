@@ -1,5 +1,5 @@
 //! Rows of data files, of one line or of several: how they are written, how their bytes come and go, and whether they come out as they
-//! want.
+//! want; and callers that are proved from the traits of the outside alone.
 //!
 //! A crate of checks has an `Area` for each of its files, which does on the wire what a row says. What comes out of a
 //! row is told by words, and compared with what stands at its end.
@@ -17,10 +17,16 @@
 //!     with A => B         the row is done once for each such line, with A for `\1` and B for `\2`
 //!
 //! In a text `\n`, `\r`, `\t` and `\s` are LF, CR, a tab and a space, `\e` is nothing, and `\xNN` is any byte.
-//! Nothing is claimed here: a row that comes out otherwise is shown.
+//! A row that comes out otherwise is shown.
+//! A caller in callers.rt is generic over a link, a door or a reach. So its contract, which says what was read, written, left
+//! and noted, shows that the clauses of the trait suffice for the crates above.
+//! Contract: `echo`, clause `echoed`; `pass_on`, clauses `passed` and `closed`; `ask`, clause `talk`;
+//! `speaks_between_talks`, clause `refused`; `quiet_talk`, over a reach in memory, clause `steady`.
+//! Errors: those of the traits.
 #![tactic(auto)]
 
 pub mod block_judging;
+mod callers;
 pub mod comparing;
 pub mod files;
 pub mod judging;
@@ -29,3 +35,5 @@ pub mod rows;
 pub mod telling;
 pub mod texts;
 pub mod ways;
+
+pub use callers::{ask, echo, pass_on, quiet_talk, speaks_between_talks};

@@ -7,12 +7,12 @@ use anyhow::Result;
 
 fn main(rt: HostRuntime) -> Result<()> {
     wire_checks::judge(&rt)?;
-    http_checks::judge(&rt)?;
+    wire_checks::judge_http(&rt)?;
     session_checks::judge(&rt)?;
     value_checks::judge(&rt)?;
-    book_checks::judge(&rt)?;
+    desk_checks::judge_books(&rt)?;
     desk_checks::judge(&rt)?;
     outside_checks::judge(&rt)?;
     outside_checks::judge_logs(&rt)?;
-    socket_checks::judge(&rt)
+    outside_checks::judge_sockets(&rt)
 }

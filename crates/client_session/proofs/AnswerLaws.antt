@@ -7,7 +7,7 @@ use Rattle.jk_model.specs.declared.served.Asked.TheVariants as asked
 use Rattle.jk_model.specs.declared.served.Served.{Served}
 use Rattle.http_front.specs.declared.head.BodyPlan.{BodyPlan}
 use Rattle.http_front.specs.declared.head.Head.{Head}
-use Rattle.http_body_in.specs.declared.body.BodyIn.{BodyIn}
+use Rattle.http_front.specs.declared.body.BodyIn.{BodyIn}
 use Rattle.http_out.specs.declared.own_answers.OwnKind.{OwnKind}
 use Rattle.site_config.specs.declared.config.Named.{Named}
 use Rattle.site_config.specs.declared.config.Named.TheVariants as named

@@ -9,13 +9,13 @@ use Rattle.http_front.specs.Request.{IsHeadOf}
 use Rattle.http_front.specs.Unread.{unread}
 use Rattle.http_front.specs.declared.head.Head.{Head}
 use Rattle.http_front.proofs.AnswerLemmas.{empty-head, head-one, head-refused, short-head}
-use Rattle.http_body_in.specs.Body.{Data, behind, data_from, data_of}
-use Rattle.http_body_in.specs.State.{most_of, place_of, taken_of}
-use Rattle.http_body_in.specs.declared.body.BodyIn.{BodyIn}
-use Rattle.http_body_in.specs.declared.fault.BodyFault.{BodyFault}
-use Rattle.http_body_in.specs.declared.fault.BodyFault.TheVariants as fault
-use Rattle.http_body_in.specs.declared.place.Place.{Place}
-use Rattle.http_body_in.proofs.BodyLemmas.{data_from-append}
+use Rattle.http_front.specs.Body.{Data, behind, data_from, data_of}
+use Rattle.http_front.specs.State.{most_of, place_of, taken_of}
+use Rattle.http_front.specs.declared.body.BodyIn.{BodyIn}
+use Rattle.http_front.specs.declared.fault.BodyFault.{BodyFault}
+use Rattle.http_front.specs.declared.fault.BodyFault.TheVariants as fault
+use Rattle.http_front.specs.declared.place.Place.{Place}
+use Rattle.http_front.proofs.BodyLemmas.{data_from-append}
 use Rattle.ajp_reply.specs.declared.message.Message.{Message}
 use Rattle.ajp_talk.specs.Moments.{Takes}
 use Rattle.ajp_talk.specs.Replies.{bytes_for}

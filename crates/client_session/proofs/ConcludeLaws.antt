@@ -5,7 +5,7 @@ use Rattle.jk_model.specs.declared.member.MemberConfig.{MemberConfig}
 use Rattle.jk_model.specs.declared.served.Asked.{Asked}
 use Rattle.jk_model.specs.declared.served.Asked.TheVariants as asked
 use Rattle.http_front.specs.declared.head.Head.{Head}
-use Rattle.http_body_in.specs.declared.body.BodyIn.{BodyIn}
+use Rattle.http_front.specs.declared.body.BodyIn.{BodyIn}
 use Rattle.http_out.specs.Own.{own_of}
 use Rattle.http_out.specs.declared.own_answers.Own.{Own}
 use Rattle.site_config.specs.declared.balancer.Lb.{Lb}

@@ -12,16 +12,16 @@ use Rattle.http_front.specs.Request.{AreEmptyLines, EndsWithin, IsHeadOf, NoHead
 use Rattle.http_front.specs.declared.answers.Form.{Form}
 use Rattle.http_front.specs.declared.head.Head.{Head}
 use Rattle.http_front.proofs.AnswerLemmas.{empty-head, empty-refused, form-one, head-one, head-refused, short-head, short-refused}
-use Rattle.http_body_in.specs.declared.body.BodyIn.{BodyIn}
+use Rattle.http_front.specs.declared.body.BodyIn.{BodyIn}
 use Rattle.site_config.specs.Places.{named_among}
 use Rattle.site_config.specs.declared.balancer.Lb.{Lb}
 use Rattle.site_config.specs.declared.config.Config.{Config}
 use Rattle.site_config.specs.declared.config.Named.TheVariants as named
 use Rattle.site_config.specs.declared.config.Status.{Status}
-use Rattle.status_page.specs.BookCommands.{commands_for}
-use Rattle.status_page.specs.Effects.{is_change, worker_of}
-use Rattle.status_page.specs.Meaning.{meaning_of}
-use Rattle.status_page.specs.declared.command.StatusCommand.{StatusCommand}
+use Rattle.status_worker.specs.BookCommands.{commands_for}
+use Rattle.status_worker.specs.Effects.{is_change, worker_of}
+use Rattle.status_worker.specs.Meaning.{meaning_of}
+use Rattle.status_worker.specs.declared.command.StatusCommand.{StatusCommand}
 use Rattle.status_worker.specs.Commands.{Asks, AsksOpen, IsAllowed, IsRefused, IsRefusedOpen, IsWorkFor, NamesNone, TurnsAway}
 use Rattle.status_worker.specs.Desks.{DeskSide}
 use Rattle.status_worker.specs.declared.asking.Work.{Work}

@@ -5,7 +5,7 @@ use Rattle.jk_io.specs.declared.reaching.Beside.{Beside}
 use Rattle.jk_io.specs.declared.traits.streams.Meanings.{Ghosts}
 use Rattle.jk_model.specs.declared.served.Asked.{Asked}
 use Rattle.balancer_core.specs.Desks.{DeskState, MeetsNone}
-use Rattle.http_body_in.specs.declared.body.BodyIn.{BodyIn}
+use Rattle.http_front.specs.declared.body.BodyIn.{BodyIn}
 use Rattle.http_front.specs.declared.head.Head.{Head}
 use Rattle.site_config.specs.declared.config.Config.{Config}
 use Rattle.site_config.specs.declared.config.Named.TheVariants as named

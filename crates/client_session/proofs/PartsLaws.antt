@@ -9,13 +9,13 @@ use Rattle.http_front.specs.Unread.{unread}
 use Rattle.http_front.specs.Refusal.{status_of}
 use Rattle.http_front.specs.Request.{IsHeadOf}
 use Rattle.http_front.specs.declared.head.Head.{Head}
-use Rattle.http_body_in.specs.Body.{place_behind}
-use Rattle.http_body_in.specs.Places.{start_of}
-use Rattle.http_body_in.specs.State.{place_of}
-use Rattle.http_body_in.specs.declared.body.BodyIn.{BodyIn}
-use Rattle.http_body_in.specs.declared.fault.BodyFault.{BodyFault}
-use Rattle.http_body_in.specs.declared.place.Place.{Place}
-use Rattle.http_body_in.proofs.BodyLemmas.{place_behind-append}
+use Rattle.http_front.specs.Body.{place_behind}
+use Rattle.http_front.specs.Places.{start_of}
+use Rattle.http_front.specs.State.{place_of}
+use Rattle.http_front.specs.declared.body.BodyIn.{BodyIn}
+use Rattle.http_front.specs.declared.fault.BodyFault.{BodyFault}
+use Rattle.http_front.specs.declared.place.Place.{Place}
+use Rattle.http_front.proofs.BodyLemmas.{place_behind-append}
 use Rattle.ajp_talk.specs.Replies.{so_far_of_talk}
 use Rattle.jk_io.specs.Moments.{Moment}
 use Rattle.http_out.specs.Own.{own_bytes, own_of}
@@ -23,8 +23,8 @@ use Rattle.http_out.specs.declared.own_answers.Own.{Own}
 use Rattle.http_out.specs.declared.own_answers.OwnKind.{OwnKind}
 use Rattle.httpdate.specs.declared.date.HttpDate.{HttpDate}
 use Rattle.ajp_talk.specs.declared.ending.Told.{Told}
-use Rattle.status_page.specs.Mimes.{mime_of}
-use Rattle.status_page.specs.declared.page.PagePart.{PagePart}
+use Rattle.status_worker.specs.Mimes.{mime_of}
+use Rattle.status_worker.specs.declared.page.PagePart.{PagePart}
 use Rattle.status_worker.specs.Pages.{page_reply, shown_for}
 use Rattle.status_worker.specs.Refusals.{refusal_bytes}
 use Rattle.status_worker.specs.declared.refusal.PageRefusal.{PageRefusal}

@@ -10,12 +10,12 @@ use Rattle.httpdate.specs.declared.date.HttpDate.{HttpDate}
 use Rattle.http_front.specs.declared.answers.HeadError.{HeadError}
 use Rattle.http_front.specs.declared.answers.HeadError.TheVariants as error
 use Rattle.http_front.specs.declared.head.Head.{Head}
-use Rattle.http_body_in.specs.State.{failed_of}
-use Rattle.http_body_in.specs.Takes.{BodyMoment, MeetsFault, body_at}
-use Rattle.http_body_in.specs.Wants.{Rest}
-use Rattle.http_body_in.specs.declared.body.BodyIn.{BodyIn}
-use Rattle.http_body_in.specs.declared.fault.BodyFault.{BodyFault}
-use Rattle.http_body_in.specs.declared.fault.BodyFault.TheVariants as fault
+use Rattle.http_front.specs.State.{failed_of}
+use Rattle.http_front.specs.Takes.{BodyMoment, MeetsFault, body_at}
+use Rattle.http_front.specs.Wants.{Rest}
+use Rattle.http_front.specs.declared.body.BodyIn.{BodyIn}
+use Rattle.http_front.specs.declared.fault.BodyFault.{BodyFault}
+use Rattle.http_front.specs.declared.fault.BodyFault.TheVariants as fault
 use Rattle.client_session.specs.Answers.{IsAnswer}
 use Rattle.balancer_core.specs.Desks.{DeskState, MeetsNone}
 use Rattle.client_session.specs.Ends.{MeetsBy, RisesBy, end_of}

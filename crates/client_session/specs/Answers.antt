@@ -5,15 +5,15 @@ use Rattle.jk_model.specs.declared.member.MemberConfig.{MemberConfig}
 use Rattle.jk_model.specs.declared.served.Asked.TheVariants as asked
 use Rattle.jk_model.specs.declared.served.Served.{Served}
 use Rattle.http_front.specs.declared.head.Head.{Head}
-use Rattle.http_body_in.specs.declared.body.BodyIn.{BodyIn}
+use Rattle.http_front.specs.declared.body.BodyIn.{BodyIn}
 use Rattle.http_out.specs.Own.{own_body, own_bytes, own_of}
 use Rattle.http_out.specs.declared.own_answers.Own.{Own}
 use Rattle.http_out.specs.declared.own_answers.OwnKind.{OwnKind}
 use Rattle.site_config.specs.declared.balancer.Lb.{Lb}
 use Rattle.site_config.specs.declared.config.Named.TheVariants as named
 use Rattle.site_config.specs.declared.config.Status.{Status}
-use Rattle.status_page.specs.Mimes.{mime_of}
-use Rattle.status_page.specs.declared.page.PagePart.{PagePart}
+use Rattle.status_worker.specs.Mimes.{mime_of}
+use Rattle.status_worker.specs.declared.page.PagePart.{PagePart}
 use Rattle.uri_map.specs.Mounts.{terms}
 use Rattle.ajp_talk.specs.declared.ending.Told.{Told}
 use Rattle.ajp_talk.specs.Moments.{IsUsed}

@@ -6,8 +6,8 @@ use Rattle.http_front.specs.Refusal.{status_of}
 use Rattle.http_front.specs.Request.{AreEmptyLines, EndsWithin, IsHeadOf, Refuses}
 use Rattle.http_front.specs.declared.answers.Form.{Form}
 use Rattle.http_front.specs.declared.head.Head.{Head}
-use Rattle.http_body_in.specs.State.{most_of, taken_of}
-use Rattle.http_body_in.specs.declared.body.BodyIn.{BodyIn}
+use Rattle.http_front.specs.State.{most_of, taken_of}
+use Rattle.http_front.specs.declared.body.BodyIn.{BodyIn}
 use Rattle.ajp_talk.specs.declared.ending.Cause.{Cause}
 use Rattle.ajp_talk.specs.Moments.{data_at}
 use Rattle.exchange.specs.Clients.{EndsWith, GivesUp, IsTooLarge, MeetsBody}

@@ -4,7 +4,7 @@ use Rattle.jk_io.specs.Told.{appended}
 use Rattle.jk_io.specs.declared.reaching.Talk.{Talk}
 use Rattle.http_front.specs.Request.{IsHeadOf}
 use Rattle.http_front.specs.declared.head.Head.{Head}
-use Rattle.http_body_in.specs.declared.body.BodyIn.{BodyIn}
+use Rattle.http_front.specs.declared.body.BodyIn.{BodyIn}
 use Rattle.ajp_reply.specs.declared.message.Message.{Message}
 use Rattle.ajp_talk.specs.Replies.{bytes_for}
 use Rattle.site_config.specs.declared.balancer.Lb.{Lb}

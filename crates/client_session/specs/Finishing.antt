@@ -6,10 +6,10 @@ use Rattle.http_front.specs.Refusal.{status_of}
 use Rattle.http_front.specs.declared.answers.Form.{Form}
 use Rattle.http_front.specs.declared.answers.HeadError.{HeadError}
 use Rattle.http_front.specs.declared.answers.HeadError.TheVariants as error
-use Rattle.http_body_in.specs.Takes.{BodyMoment, MeetsFault, PassesRest}
-use Rattle.http_body_in.specs.Wants.{Rest}
-use Rattle.http_body_in.specs.declared.fault.BodyFault.{BodyFault}
-use Rattle.http_body_in.specs.declared.fault.BodyFault.TheVariants as fault
+use Rattle.http_front.specs.Takes.{BodyMoment, MeetsFault, PassesRest}
+use Rattle.http_front.specs.Wants.{Rest}
+use Rattle.http_front.specs.declared.fault.BodyFault.{BodyFault}
+use Rattle.http_front.specs.declared.fault.BodyFault.TheVariants as fault
 use Rattle.httpdate.specs.declared.date.HttpDate.{HttpDate}
 use Rattle.client_session.specs.Requests.{refused_kind}
 use Rattle.client_session.specs.Sessions.{refused_row}

@@ -5,9 +5,9 @@ use Rattle.jk_io.specs.declared.reaching.Talk.{Talk}
 use Rattle.jk_model.specs.declared.member.MemberConfig.{MemberConfig}
 use Rattle.http_front.specs.Request.{IsHeadOf}
 use Rattle.http_front.specs.declared.head.Head.{Head}
-use Rattle.http_body_in.specs.Body.{place_behind}
-use Rattle.http_body_in.specs.Places.{is_whole, start_of}
-use Rattle.http_body_in.specs.declared.place.Place.{Place}
+use Rattle.http_front.specs.Body.{place_behind}
+use Rattle.http_front.specs.Places.{is_whole, start_of}
+use Rattle.http_front.specs.declared.place.Place.{Place}
 use Rattle.ajp_reply.specs.Stream.{Spelled}
 use Rattle.ajp_reply.specs.declared.message.Message.{Message}
 use Rattle.ajp_reply.specs.declared.message.Message.TheVariants.{End}
@@ -20,8 +20,8 @@ use Rattle.site_config.specs.declared.balancer.Lb.{Lb}
 use Rattle.site_config.specs.declared.config.Named.TheVariants as named
 use Rattle.site_config.specs.declared.config.Status.{Status}
 use Rattle.site_config.specs.declared.endpoint.Endpoint.{Endpoint}
-use Rattle.status_page.specs.Mimes.{mime_of}
-use Rattle.status_page.specs.declared.page.PagePart.{PagePart}
+use Rattle.status_worker.specs.Mimes.{mime_of}
+use Rattle.status_worker.specs.declared.page.PagePart.{PagePart}
 use Rattle.status_worker.specs.Pages.{page_reply, shown_for}
 use Rattle.status_worker.specs.Refusals.{refusal_bytes}
 use Rattle.status_worker.specs.declared.refusal.PageRefusal.{PageRefusal}

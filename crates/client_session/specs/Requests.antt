@@ -4,13 +4,13 @@ use Rattle.jk_io.specs.declared.traits.surroundings.Peer.{Peer}
 use Rattle.http_front.specs.declared.head.BodyPlan.{BodyPlan}
 use Rattle.http_front.specs.declared.head.BodyPlan.TheVariants as plan_is
 use Rattle.http_front.specs.declared.head.Head.{Head}
-use Rattle.http_body_in.specs.Places.{start_of}
+use Rattle.http_front.specs.Places.{start_of}
 use Rattle.http_out.specs.declared.framing.RequestKind.{RequestKind}
 use Rattle.http_out.specs.declared.own_answers.OwnKind.{OwnKind}
 use Rattle.httpdate.specs.declared.date.HttpDate.{HttpDate}
 use Rattle.exchange.specs.Requests.{is_head}
-use Rattle.http_body_in.specs.State.{failed_of, most_of, place_of, taken_of}
-use Rattle.http_body_in.specs.declared.body.BodyIn.{BodyIn}
+use Rattle.http_front.specs.State.{failed_of, most_of, place_of, taken_of}
+use Rattle.http_front.specs.declared.body.BodyIn.{BodyIn}
 use Rattle.site_config.specs.declared.config.Config.{Config}
 use Rattle.site_config.specs.declared.config.Named.{Named}
 use Rattle.uri_map.specs.Mounts.{mount}

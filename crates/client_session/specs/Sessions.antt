@@ -12,12 +12,12 @@ use Rattle.http_front.specs.Refusal.{status_of}
 use Rattle.http_front.specs.Request.{EndsWithin, Refuses}
 use Rattle.http_front.specs.declared.answers.Form.{Form}
 use Rattle.http_front.specs.declared.head.Head.{Head}
-use Rattle.http_body_in.specs.State.{failed_of}
-use Rattle.http_body_in.specs.Takes.{MeetsFault, PassesRest, body_at}
-use Rattle.http_body_in.specs.Wants.{Rest}
-use Rattle.http_body_in.specs.declared.body.BodyIn.{BodyIn}
-use Rattle.http_body_in.specs.declared.fault.BodyFault.{BodyFault}
-use Rattle.http_body_in.specs.declared.fault.BodyFault.TheVariants as fault
+use Rattle.http_front.specs.State.{failed_of}
+use Rattle.http_front.specs.Takes.{MeetsFault, PassesRest, body_at}
+use Rattle.http_front.specs.Wants.{Rest}
+use Rattle.http_front.specs.declared.body.BodyIn.{BodyIn}
+use Rattle.http_front.specs.declared.fault.BodyFault.{BodyFault}
+use Rattle.http_front.specs.declared.fault.BodyFault.TheVariants as fault
 use Rattle.client_session.specs.Answers.{IsAnswer, own_for, own_len}
 use Rattle.httpdate.specs.declared.date.HttpDate.{HttpDate}
 use Rattle.client_session.specs.Moments.{ReadsLast, ReadsMoment}

@@ -3,7 +3,7 @@ use Rattle.std.specs.Prelude.{◌≡◌, ◌⊎◌, ℕ, List, Option, Result, O
 use Rattle.jk_io.specs.Moments.{Moment}
 use Rattle.jk_io.specs.declared.reaching.Beside.{Beside}
 use Rattle.jk_io.specs.declared.traits.streams.Meanings.{Ghosts}
-use Rattle.http_body_in.specs.declared.body.BodyIn.{BodyIn}
+use Rattle.http_front.specs.declared.body.BodyIn.{BodyIn}
 use Rattle.httpdate.specs.declared.date.HttpDate.{HttpDate}
 use Rattle.balancer_core.specs.Desks.{DeskState}
 use Rattle.jk_model.specs.declared.served.Served.{Served}

@@ -2,8 +2,8 @@
 use Rattle.std.specs.Prelude.{ℕ, ◌≡◌, ◌+◌, List, None}
 use Rattle.balancer_core.specs.Desks.{DeskState, MeetsNone}
 use Rattle.jk_model.specs.declared.served.Served.{Served}
-use Rattle.http_body_in.specs.State.{failed_of}
-use Rattle.http_body_in.specs.declared.body.BodyIn.{BodyIn}
+use Rattle.http_front.specs.State.{failed_of}
+use Rattle.http_front.specs.declared.body.BodyIn.{BodyIn}
 use Rattle.client_session.specs.Ends.{MeetsBy, RisesBy}
 use Rattle.client_session.specs.Requests.{Visit}
 use Rattle.client_session.specs.Sessions.{EndsIn, IsServed}

@@ -2,7 +2,7 @@
 ghost use Rattle.std.specs.Prelude.{◌≡◌, ◌≤◌, ◌<◌, true, [], Some, IfErr, IfOk, length, slice_get, vec_capacity};
 ghost use Rattle.std.specs.List.{All};
 ghost use Rattle.jk_model.specs.declared.member.MemberConfig.{MemberConfig as AnyMember};
-ghost use Rattle.http_body_in.specs.declared.body.BodyIn.{BodyIn as AnyBody};
+ghost use Rattle.http_front.specs.declared.body.BodyIn.{BodyIn as AnyBody};
 ghost use Rattle.uri_map.specs.Sites.{is_worker};
 ghost use Rattle.site_config.specs.declared.config.Named.TheVariants as named_is;
 ghost use Rattle.exchange.specs.Requests.{errand_of};
@@ -27,8 +27,7 @@ use crate::turn::{Answered, Settled, stopped};
 use crate::writing::{send, write_own};
 use balancer_core::Desk;
 use exchange::{ExchangeEnd, Means, Request, Sides, exchange_of};
-use http_body_in::BodyIn;
-use http_front::{Head, Inbox};
+use http_front::{BodyIn, Head, Inbox};
 use jk_io::{Clock, Link, NoMemory, Reach, Sink};
 use jk_model::MemberConfig;
 use site_config::{Config, Named, Status};

@@ -1,6 +1,6 @@
 //! `serve_session`: all requests of one client.
 ghost use Rattle.std.specs.Prelude.{◌≡◌, ◌≤◌, ◌<◌, ◌+◌, [], true, false};
-ghost use Rattle.http_body_in.specs.Takes.{body_at};
+ghost use Rattle.http_front.specs.Takes.{body_at};
 ghost use Rattle.client_session.specs.Concluding.{rows_of};
 ghost use Rattle.client_session.specs.Finishing.{Finishes, RefusesHead, StopsWithoutHead, TurnsAfter, stop_after};
 ghost use Rattle.client_session.specs.Keeping.{KeepsAround, TellsEnd, TellsTurn};
@@ -22,8 +22,7 @@ use crate::surroundings::{Sitting, Surroundings};
 use crate::turn::{Answered, SessionTurn, Settled};
 use crate::writing::write_own;
 use balancer_core::Desk;
-use http_body_in::{BodyFault, BodyIn};
-use http_front::{Form, Head, HeadError, HeadGot, Inbox, MAX_BODY_BYTES, read_head};
+use http_front::{BodyFault, BodyIn, Form, Head, HeadError, HeadGot, Inbox, MAX_BODY_BYTES, read_head};
 use http_out::OwnKind;
 use httpdate::HttpDate;
 use jk_io::{Awaited, Clock, Link, Reach, Sink};

@@ -1,3 +1,5 @@
+pub mod JudgeLaws
+pub mod SendLaws
 mod BeginLaws
 mod DialLaws
 mod NotedLaws

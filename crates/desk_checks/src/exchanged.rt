@@ -1,6 +1,6 @@
 //! What is told of any desk.
 
-use balancer_checks::Once;
+use check_lines::Once;
 use check_lines::calls::tell_stray;
 use check_lines::texts::put_number;
 use jk_io::{Bytes, NoMemory};

@@ -7,11 +7,11 @@ ghost use Rattle.jk_model.specs.declared.journal.TheConstants.{MOST_BYTES};
 
 use crate::exchanged::{FRESH, tell_once, tell_view};
 use crate::sites::site_of;
-use balancer_checks::one_exchange;
 use balancer_core::{Book, Desk};
 use check_lines::begin::is_opening_line;
 use check_lines::calls::{call_of, outcome_of};
 use check_lines::judging::{Teller, judge_line, judge_lines};
+use check_lines::one_exchange;
 use check_lines::texts::{first_word, put_number, say};
 use jk_io::{Bytes, NoMemory, NumberList};
 use jk_model::{Entry, Outcome, Segment};

@@ -1,9 +1,18 @@
+pub mod BoundLaws
+pub mod DataLaws
+pub mod EchoLaws
+pub mod EndLaws
+pub mod FirstGetLaws
+pub mod FirstPostLaws
+pub mod GoingOnLaws
+pub mod LengthLaws
+pub mod MeetingLaws
 mod AnsweredLaws
-mod RequestLaws
-mod WireLaws
 mod BodyLaws
-mod CountLaws
-mod SlotLaws
-mod PassLaws
 mod ClosingLaws
+mod CountLaws
+mod PassLaws
+mod RequestLaws
 mod SiteLaws
+mod SlotLaws
+mod WireLaws

@@ -13,9 +13,9 @@ use Rattle.pass_desk.specs.Passes.{AreNewPasses, IsNewPass, origin_of}
 use Rattle.pass_desk.specs.Placed.{AreBack, AreEachBack, AreFrom, IsBack, origin_in, table_in_passes}
 use Rattle.pass_desk.specs.declared.pass.Pass.{Pass}
 use Rattle.pass_desk.proofs.PlacedLaws.{AreNext, back_at, back_more, from_more, new_origin, new_table, next_rest}
-use Rattle.seen_history.specs.Turns.{IsBookOf}
-use Rattle.seen_history.specs.declared.pass_view.Origin.{Origin}
-use Rattle.seen_history.proofs.BookLaws.{book_entries}
+use Rattle.pass_desk.specs.Turns.{IsBookOf}
+use Rattle.pass_desk.specs.declared.pass_view.Origin.{Origin}
+use Rattle.pass_desk.proofs.BookLaws.{book_entries}
 use Rattle.drill.specs.Ends.{IsOfDrill, IsStarted}
 
 -- Where each keeps its number, all do.

@@ -22,8 +22,8 @@ use Rattle.ajp_talk.specs.declared.ending.TalkEnd.TheVariants as ends
 use Rattle.ajp_talk.specs.declared.ending.Told.{Told}
 use Rattle.ajp_talk.specs.declared.plan.TalkPlan.{TalkPlan}
 use Rattle.forwarding.specs.Forwards.{forward_for}
-use Rattle.http_body_in.specs.Body.{Data, dropped, reaches}
-use Rattle.http_body_in.specs.State.{most_of, taken_of}
+use Rattle.http_front.specs.Body.{Data, dropped, reaches}
+use Rattle.http_front.specs.State.{most_of, taken_of}
 use Rattle.http_out.specs.declared.framing.RequestKind.{RequestKind}
 use Rattle.http_out.specs.ReplyBytes.{has_begun}
 use Rattle.http_out.specs.Framing.{framing_of}

@@ -17,7 +17,7 @@ use Rattle.ajp_talk.specs.declared.ending.Told.{Told}
 use Rattle.ajp_talk.specs.declared.plan.TalkPlan.{TalkPlan}
 use Rattle.forwarding.specs.FirstPiece.{first_len}
 use Rattle.http_front.specs.declared.head.Head.{Head}
-use Rattle.http_body_in.specs.Body.{Data, dropped}
+use Rattle.http_front.specs.Body.{Data, dropped}
 use Rattle.site_config.specs.declared.endpoint.Endpoint.{Endpoint}
 use Rattle.exchange.specs.Complete.{BringsIn, Completes, HasWhole, IsCompleted, plan_of_note}
 use Rattle.exchange.specs.Exchanges.{EndsIn, IsExchange, IsOwnCause, begun_with as scene_with}

@@ -10,7 +10,7 @@ use Rattle.ajp_talk.specs.declared.ending.TalkEnd.TheVariants as ends
 use Rattle.ajp_talk.specs.declared.ending.Told.{Told}
 use Rattle.ajp_talk.specs.declared.plan.TalkPlan.{TalkPlan}
 use Rattle.forwarding.specs.FirstPiece.{first_len}
-use Rattle.http_body_in.specs.Body.{Data, dropped, reaches}
+use Rattle.http_front.specs.Body.{Data, dropped, reaches}
 use Rattle.site_config.specs.declared.endpoint.Endpoint.{Endpoint}
 use Rattle.balancer_core.specs.Desks.{RisesByOne}
 use Rattle.exchange.specs.Exchanges.{begun_with}

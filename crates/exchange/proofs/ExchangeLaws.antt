@@ -9,7 +9,7 @@ use Rattle.ajp_talk.specs.Moments.{BodyAt, IsUsed}
 use Rattle.std.proofs.lemmas.Option.{get_or_from_slice_get, slice_get_within}
 use Rattle.forwarding.proofs.FirstPieceLaws.{within_each}
 use Rattle.forwarding.specs.FirstPiece.{piece_for}
-use Rattle.http_body_in.specs.declared.body.BodyIn.{BodyIn}
+use Rattle.http_front.specs.declared.body.BodyIn.{BodyIn}
 use Rattle.http_front.specs.Unread.{unread}
 use Rattle.http_front.specs.declared.head.BodyPlan.{BodyPlan}
 use Rattle.http_front.specs.declared.head.BodyPlan.TheVariants as plan_is

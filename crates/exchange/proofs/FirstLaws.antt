@@ -2,19 +2,19 @@
 use Rattle.std.proofs.Common.{◌≡◌, ℕ, ◌-◌, ◌==◌, ◌||◌, true, false, List, [], ◌∷◌, Option, Some, None, IfSome, refl, sym, ap, ◌∙◌, subst, inl, inr, ◌≤◌, arith}
 use Rattle.std.proofs.lemmas.Bool.{cases_Bool}
 use Rattle.ajp_talk.specs.Moments.{IsUsed}
-use Rattle.http_body_in.specs.State.{failed_of, most_of, place_of, taken_of}
-use Rattle.http_body_in.specs.Takes.{BodyMoment, MeetsFault, TakesPiece, unread_at}
-use Rattle.http_body_in.specs.Wants.{Next}
-use Rattle.http_body_in.specs.declared.fault.BodyFault.{BodyFault}
-use Rattle.http_body_in.specs.declared.fault.BodyFault.TheVariants as fault
+use Rattle.http_front.specs.State.{failed_of, most_of, place_of, taken_of}
+use Rattle.http_front.specs.Takes.{BodyMoment, MeetsFault, TakesPiece, unread_at}
+use Rattle.http_front.specs.Wants.{Next}
+use Rattle.http_front.specs.declared.fault.BodyFault.{BodyFault}
+use Rattle.http_front.specs.declared.fault.BodyFault.TheVariants as fault
 use Rattle.exchange.specs.Exchanges.{IsCalm}
 use Rattle.exchange.specs.FirstPiece.{IsFirstFailure, TakesFirst, end_by}
 use Rattle.exchange.specs.declared.ending.ExchangeEnd.{ExchangeEnd}
-use Rattle.http_body_in.specs.Body.{data_from, data_of, reaches}
-use Rattle.http_body_in.specs.Places.{is_limited, start_of}
-use Rattle.http_body_in.specs.Walks.{IsUnder}
-use Rattle.http_body_in.specs.declared.place.Place.{Place}
-use Rattle.http_body_in.specs.declared.place.Place.TheVariants as at
+use Rattle.http_front.specs.Body.{data_from, data_of, reaches}
+use Rattle.http_front.specs.Places.{is_limited, start_of}
+use Rattle.http_front.specs.Walks.{IsUnder}
+use Rattle.http_front.specs.declared.place.Place.{Place}
+use Rattle.http_front.specs.declared.place.Place.TheVariants as at
 use Rattle.http_front.specs.declared.head.BodyPlan.{BodyPlan}
 use Rattle.http_front.specs.declared.head.BodyPlan.TheVariants as plan_is
 use Rattle.forwarding.specs.FirstPiece.{first_len}

@@ -6,7 +6,7 @@ use Rattle.jk_model.specs.declared.ask.Ask.{Ask}
 use Rattle.balancer_core.specs.Desks.{Chooses, DeskState, KeepsDesk, LeaseNote, pair_of}
 use Rattle.balancer_core.specs.declared.desk.Choice.TheVariants as choice
 use Rattle.balancer_core.proofs.DeskLaws.{held_again}
-use Rattle.http_body_in.specs.State.{failed_of, taken_of}
+use Rattle.http_front.specs.State.{failed_of, taken_of}
 use Rattle.exchange.specs.Keeping.{KeepsMeans, KeepsSides, MayAsk, MayTalk, SpendsLease}
 use Rattle.exchange.specs.OneTalk.{Around}
 use Rattle.exchange.specs.Requests.{Errand, ask_for}

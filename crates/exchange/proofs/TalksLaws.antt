@@ -4,7 +4,7 @@ use Rattle.jk_io.specs.declared.failures.NoMemory.{NoMemory}
 use Rattle.ajp_talk.specs.Ends.{IsPlan}
 use Rattle.ajp_talk.specs.declared.ending.TalkEnd.{TalkEnd}
 use Rattle.ajp_talk.specs.declared.plan.TalkPlan.{TalkPlan}
-use Rattle.http_body_in.specs.State.{failed_of, taken_of}
+use Rattle.http_front.specs.State.{failed_of, taken_of}
 use Rattle.http_front.specs.declared.head.Head.{Head}
 use Rattle.site_config.specs.declared.endpoint.Endpoint.{Endpoint}
 use Rattle.exchange.specs.Ends.{bytes_of, told_bytes, tries_again}

@@ -16,8 +16,8 @@ use Rattle.ajp_talk.specs.declared.ending.TalkEnd.{TalkEnd}
 use Rattle.ajp_talk.specs.declared.ending.TalkEnd.TheVariants as ends
 use Rattle.ajp_talk.specs.declared.ending.Told.{Told}
 use Rattle.ajp_talk.specs.declared.plan.TalkPlan.{TalkPlan}
-use Rattle.http_body_in.proofs.BodyLemmas.{Uses-nil, Uses-then}
-use Rattle.http_body_in.specs.State.{failed_of, place_of, taken_of}
+use Rattle.http_front.proofs.BodyLemmas.{Uses-nil, Uses-then}
+use Rattle.http_front.specs.State.{failed_of, place_of, taken_of}
 use Rattle.http_front.specs.declared.head.Head.{Head}
 use Rattle.http_out.specs.ReplyBytes.{so_far}
 use Rattle.http_out.specs.declared.framing.RequestKind.{RequestKind}

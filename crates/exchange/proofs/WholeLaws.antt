@@ -21,7 +21,7 @@ use Rattle.ajp_talk.specs.declared.ending.TalkEnd.{TalkEnd}
 use Rattle.ajp_talk.specs.declared.ending.TalkEnd.TheVariants as ends
 use Rattle.ajp_talk.specs.declared.plan.TalkPlan.{TalkPlan}
 use Rattle.forwarding.specs.FirstPiece.{first_len}
-use Rattle.http_body_in.specs.Body.{Data}
+use Rattle.http_front.specs.Body.{Data}
 use Rattle.forwarding.specs.Recovery.{is_always_recovered, is_on, may_retry_of}
 use Rattle.forwarding.specs.declared.method.MethodKind.{MethodKind}
 use Rattle.forwarding.specs.declared.method.MethodKind.TheVariants as method

@@ -23,8 +23,8 @@ use Rattle.ajp_talk.specs.declared.ending.Told.{Told}
 use Rattle.ajp_talk.specs.declared.plan.TalkPlan.{TalkPlan}
 use Rattle.forwarding.specs.FirstPiece.{first_len}
 use Rattle.forwarding.specs.Forwards.{forward_for}
-use Rattle.http_body_in.specs.Body.{dropped}
-use Rattle.http_body_in.specs.State.{most_of, taken_of}
+use Rattle.http_front.specs.Body.{dropped}
+use Rattle.http_front.specs.State.{most_of, taken_of}
 use Rattle.http_out.specs.Own.{own_bytes, own_of}
 use Rattle.http_out.specs.declared.own_answers.Own.{Own}
 use Rattle.site_config.specs.declared.endpoint.Endpoint.{Endpoint}

@@ -9,8 +9,8 @@ use Rattle.ajp_talk.specs.Owed.{pong_of}
 use Rattle.ajp_talk.specs.Replies.{IsReply, IsUnlisted, bytes_for}
 use Rattle.ajp_talk.specs.declared.plan.TalkPlan.{TalkPlan}
 use Rattle.forwarding.specs.FirstPiece.{first_len}
-use Rattle.http_body_in.specs.Body.{Data}
-use Rattle.http_body_in.specs.State.{taken_of, most_of}
+use Rattle.http_front.specs.Body.{Data}
+use Rattle.http_front.specs.State.{taken_of, most_of}
 use Rattle.site_config.specs.declared.endpoint.Endpoint.{Endpoint}
 use Rattle.exchange.specs.OneTalk.{plan_on}
 use Rattle.exchange.specs.Requests.{Errand, plan_for}

@@ -3,11 +3,11 @@ use Rattle.std.specs.Prelude.{◌≡◌, ℕ, ◌≤◌, false, List, length, ta
 use Rattle.jk_io.specs.Told.{Rose}
 use Rattle.jk_io.specs.declared.traits.streams.Meanings.{Ghosts}
 use Rattle.http_front.specs.Unread.{unread}
-use Rattle.http_body_in.specs.Body.{dropped, reaches}
+use Rattle.http_front.specs.Body.{dropped, reaches}
 use Rattle.ajp_talk.specs.Moments.{BodyAt, Takes, data_at}
-use Rattle.http_body_in.specs.declared.body.BodyIn.{BodyIn}
-use Rattle.http_body_in.specs.declared.fault.BodyFault.{BodyFault}
-use Rattle.http_body_in.specs.declared.fault.BodyFault.TheVariants as fault
+use Rattle.http_front.specs.declared.body.BodyIn.{BodyIn}
+use Rattle.http_front.specs.declared.fault.BodyFault.{BodyFault}
+use Rattle.http_front.specs.declared.fault.BodyFault.TheVariants as fault
 use Rattle.exchange.specs.declared.ending.ExchangeEnd.{ExchangeEnd}
 use Rattle.exchange.specs.declared.ending.ExchangeEnd.TheVariants as exchange_end
 

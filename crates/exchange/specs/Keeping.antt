@@ -1,8 +1,8 @@
 -- What the parts of an exchange ask of what they are lent, and what they keep of it.
 use Rattle.std.specs.Prelude.{◌≡◌, ℕ, ◌≤◌, ◌<◌, Bool, true, false, List, length, slice_get, slice_index, None, Some, IfSome}
-use Rattle.http_body_in.specs.Places.{start_of}
-use Rattle.http_body_in.specs.State.{failed_of, place_of, taken_of}
-use Rattle.http_body_in.specs.declared.body.BodyIn.{BodyIn}
+use Rattle.http_front.specs.Places.{start_of}
+use Rattle.http_front.specs.State.{failed_of, place_of, taken_of}
+use Rattle.http_front.specs.declared.body.BodyIn.{BodyIn}
 use Rattle.http_front.specs.declared.head.BodyPlan.{BodyPlan}
 use Rattle.jk_io.specs.Answers.{Answers}
 use Rattle.jk_io.specs.declared.reaching.Beside.{Beside}

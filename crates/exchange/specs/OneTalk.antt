@@ -16,7 +16,7 @@ use Rattle.ajp_talk.specs.declared.ending.Cause.TheVariants as cause_is
 use Rattle.ajp_talk.specs.declared.ending.TalkEnd.{TalkEnd}
 use Rattle.ajp_talk.specs.declared.ending.TalkEnd.TheVariants as ends
 use Rattle.ajp_talk.specs.declared.plan.TalkPlan.{TalkPlan}
-use Rattle.http_body_in.specs.declared.body.BodyIn.{BodyIn}
+use Rattle.http_front.specs.declared.body.BodyIn.{BodyIn}
 use Rattle.http_front.specs.Unread.{unread}
 use Rattle.jk_io.specs.declared.traits.streams.Awaited.{Awaited}
 use Rattle.jk_io.specs.declared.traits.streams.Awaited.TheVariants as awaited

@@ -8,8 +8,7 @@ ghost use Rattle.exchange.specs.Keeping.{IsAllLeft};
 
 use crate::ending::ExchangeEnd;
 use forwarding::first_len;
-use http_body_in::{BodyFault, BodyIn};
-use http_front::{BodyPlan, Inbox};
+use http_front::{BodyFault, BodyIn, BodyPlan, Inbox};
 use jk_io::{Awaited, Bytes, Link};
 use site_config::EndList;
 use std::alloc::Global;

@@ -1,7 +1,6 @@
 //! What an exchange is held with.
 
-use http_body_in::BodyIn;
-use http_front::Inbox;
+use http_front::{BodyIn, Inbox};
 
 /// The two sides of a talk: the reach to members, and the client with the body of its request.
 #[derive(Drop)]

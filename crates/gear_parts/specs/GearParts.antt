@@ -4,8 +4,8 @@ use Rattle.atomic_table.specs.Seated.{TableId}
 use Rattle.jk_io.specs.declared.reaching.Talk.{Talk}
 use Rattle.jk_io.specs.Doors.{DoorSide}
 use Rattle.locked_balancer.specs.SharedDesks.{SharedState, shared_desk}
-use Rattle.pool_watch.specs.Watched.{WatchedState}
-use Rattle.pool_watch.specs.declared.watch.Watch.{Watch}
+use Rattle.conn_pool.specs.Watched.{WatchedState}
+use Rattle.conn_pool.specs.declared.watch.Watch.{Watch}
 use Rattle.request_log.specs.LogStates.{LogState}
 use Rattle.request_log.specs.declared.format.Part.{Part as FormatPart}
 use Rattle.gear_parts.specs.GearLogs.{new_log}

@@ -8,9 +8,8 @@ ghost use Rattle.gear_parts.specs.Putting.{PutsNext};
 use crate::gear_log::GearLog;
 use crate::part::Outside;
 use crate::world::Gear;
-use conn_pool::Tape;
+use conn_pool::{Tape, WatchedReach};
 use jk_io::Dial;
-use pool_watch::WatchedReach;
 use request_log::Timed;
 use std::vec::IntoIter;
 

@@ -1,6 +1,10 @@
 pub mod Answer
 pub mod Ascii
+pub mod Body
+pub mod Chunked
 pub mod Cut
+pub mod Falls
+pub mod Faults
 pub mod Fields
 pub mod Framing
 pub mod Host
@@ -9,7 +13,12 @@ pub mod Lines
 pub mod Lone
 pub mod Makes
 pub mod Path
+pub mod Places
 pub mod Refusal
 pub mod Request
 pub mod Search
+pub mod State
+pub mod Takes
 pub mod Unread
+pub mod Walks
+pub mod Wants

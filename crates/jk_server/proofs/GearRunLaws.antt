@@ -20,8 +20,8 @@ use Rattle.jk_server.specs.declared.part.WorkerEnd.{WorkerEnd}
 use Rattle.gear_parts.specs.declared.memory.After.{After}
 use Rattle.gear_parts.specs.GearParts.{gear_with, gears_with, start_of, start_with, tools}
 use Rattle.gear_parts.specs.declared.part.Part.{Part}
-use Rattle.pool_watch.specs.Watched.{WatchedState}
-use Rattle.pool_watch.specs.declared.watch.Watch.{Watch}
+use Rattle.conn_pool.specs.Watched.{WatchedState}
+use Rattle.conn_pool.specs.declared.watch.Watch.{Watch}
 use Rattle.locked_balancer.specs.Histories.{SeatNote}
 use Rattle.locked_balancer.specs.declared.site.SiteName.{Ghosts as SiteGhosts}
 use Rattle.site_config.specs.declared.config.Config.{Config}

@@ -5,7 +5,7 @@ use Rattle.std.proofs.lemmas.List.{length-map}
 use Rattle.std.proofs.lemmas.List.Elements.{All-map}
 use Rattle.conn_pool.specs.Idle.{counts}
 use Rattle.exchange.specs.Requests.{sizes_of}
-use Rattle.pool_watch.specs.Looks.{ends_of}
+use Rattle.conn_pool.specs.Looks.{ends_of}
 use Rattle.atomic_table.specs.Seated.{TableId}
 use Rattle.jk_io.specs.declared.reaching.Talk.{Talk}
 use Rattle.jk_io.specs.declared.traits.streams.Meanings.{Ghosts}
@@ -25,7 +25,7 @@ use Rattle.jk_server.specs.Served.{IsServed}
 use Rattle.jk_server.specs.Worker.{Keeps, WorkerSide}
 use Rattle.jk_server.specs.declared.part.WorkerEnd.{WorkerEnd}
 use Rattle.gear_parts.specs.GearParts.{Start, start_of, unnumbered}
-use Rattle.pool_watch.specs.declared.watch.Watch.{Watch}
+use Rattle.conn_pool.specs.declared.watch.Watch.{Watch}
 use Rattle.jk_server.specs.Closings.{Closes}
 use Rattle.jk_server.specs.Runs.{AreServedGears, IsNew, IsSiteRun, IsServedGear, WorksWith}
 use Rattle.locked_balancer.specs.Histories.{SeatNote, noted, own_in}

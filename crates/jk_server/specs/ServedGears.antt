@@ -10,8 +10,8 @@ use Rattle.client_session.specs.Requests.{visit}
 use Rattle.locked_balancer.specs.declared.site.SiteName.{Ghosts as SiteGhosts}
 use Rattle.site_config.specs.declared.config.Config.{Config}
 use Rattle.uri_map.specs.declared.rule.Rule.{Rule}
-use Rattle.pool_watch.specs.Watched.{WatchedState}
-use Rattle.pool_watch.specs.declared.watch.Watch.{Watch}
+use Rattle.conn_pool.specs.Watched.{WatchedState}
+use Rattle.conn_pool.specs.declared.watch.Watch.{Watch}
 use Rattle.request_log.specs.declared.format.Part.{Part as FormatPart}
 use Rattle.request_log.specs.LogStates.{LogState}
 use Rattle.gear_parts.specs.GearLogs.{new_log, sink_of}

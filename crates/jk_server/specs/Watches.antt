@@ -1,6 +1,6 @@
 -- How the workers of a run look after idle links.
 use Rattle.std.specs.Prelude.{ℕ, ◌==◌, Option, Some, None, if◌then◌else◌}
-use Rattle.pool_watch.specs.declared.watch.Watch.{Watch}
+use Rattle.conn_pool.specs.declared.watch.Watch.{Watch}
 use Rattle.jk_server.specs.declared.runs.parts.WatchPlan.{WatchPlan}
 
 -- the looks that a link may stay idle for: 10 where no number is given

@@ -1,6 +1,13 @@
 pub mod KeptFacts
 pub mod LineFacts
+pub mod LineLaws
+pub mod NameFacts
+pub mod NumberFacts
 pub mod OpeningFacts
 pub mod PairFacts
 pub mod ReadingLaws
+pub mod SaidFacts
+pub mod SplitFacts
+pub mod WideLemmas
+pub mod WordFacts
 pub mod WrittenLaws

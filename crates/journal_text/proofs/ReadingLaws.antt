@@ -11,10 +11,10 @@ use Rattle.jk_model.specs.declared.member.Method.{Method}
 use Rattle.jk_model.specs.declared.config.LbConfig.{LbConfig}
 use Rattle.jk_model.specs.declared.opening.Opening.{Opening}
 use Rattle.jk_model.specs.declared.view.MemberRow.{MemberRow}
-use Rattle.journal_lines.specs.Readings.{line_of}
-use Rattle.journal_lines.specs.declared.line.Beginning.{Beginning}
-use Rattle.journal_lines.specs.declared.line.Line.{Line}
-use Rattle.journal_lines.specs.declared.line.Line.TheVariants as line
+use Rattle.journal_text.specs.Readings.{line_of}
+use Rattle.journal_text.specs.declared.line.Beginning.{Beginning}
+use Rattle.journal_text.specs.declared.line.Line.{Line}
+use Rattle.journal_text.specs.declared.line.Line.TheVariants as line
 use Rattle.journal_text.specs.Openings.{AreCounted, IsConfigured, IsOpened}
 use Rattle.journal_text.specs.Reading.{Heads, Opens, TextOutcome, Reads, TakesAt, TakesText, opened, unreadable}
 use Rattle.journal_text.specs.declared.draft.OpeningDraft.{OpeningDraft}

@@ -14,12 +14,12 @@ use Rattle.jk_model.specs.declared.member.MemberConfig.{MemberConfig}
 use Rattle.jk_model.specs.declared.opening.Opening.{Opening}
 use Rattle.jk_model.specs.declared.view.MemberRow.{MemberRow}
 use Rattle.play_script.specs.Parts.{parts_of}
-use Rattle.journal_lines.specs.Lines.{joined, line_text, line_words, lines_text, spaced}
-use Rattle.journal_lines.specs.Ranges.{FitsLine}
-use Rattle.journal_lines.specs.declared.line.Line.{Line}
-use Rattle.journal_lines.specs.declared.line.Line.TheVariants as line
-use Rattle.journal_lines.proofs.LineLaws.{line_back, line_graphic}
-use Rattle.journal_lines.proofs.SplitFacts.{AreGraphic, IsGraphic}
+use Rattle.journal_text.specs.Lines.{joined, line_text, line_words, lines_text, spaced}
+use Rattle.journal_text.specs.Ranges.{FitsLine}
+use Rattle.journal_text.specs.declared.line.Line.{Line}
+use Rattle.journal_text.specs.declared.line.Line.TheVariants as line
+use Rattle.journal_text.proofs.LineLaws.{line_back, line_graphic}
+use Rattle.journal_text.proofs.SplitFacts.{AreGraphic, IsGraphic}
 use Rattle.journal_text.specs.Openings.{AreCounted, IsOpened, row_of}
 use Rattle.journal_text.specs.Reading.{TextOutcome, Reads, TakesAt, TakesText, headed, is_full, opened, readable, unreadable, with_member, with_ticket}
 use Rattle.journal_text.specs.SegmentText.{balancer_values, beginning, entry_lines, lease_lines, member_line, member_lines, member_values, opening_lines}

@@ -1,6 +1,13 @@
+pub mod Calls
 pub mod Kept
+pub mod Lines
+pub mod Names
 pub mod Openings
 pub mod Pairs
+pub mod Ranges
 pub mod Reading
+pub mod Readings
 pub mod SegmentText
+pub mod Wide
+pub mod Words
 pub mod Written

@@ -5,8 +5,8 @@ use Rattle.jk_model.specs.declared.config.LbConfig.{LbConfig}
 use Rattle.jk_model.specs.declared.member.MemberConfig.{MemberConfig}
 use Rattle.jk_model.specs.declared.opening.Opening.{Opening}
 use Rattle.jk_model.specs.declared.view.MemberRow.{MemberRow}
-use Rattle.journal_lines.specs.declared.line.Beginning.{Beginning}
-use Rattle.journal_lines.specs.declared.line.MemberValues.{MemberValues}
+use Rattle.journal_text.specs.declared.line.Beginning.{Beginning}
+use Rattle.journal_text.specs.declared.line.MemberValues.{MemberValues}
 use Rattle.journal_text.specs.declared.draft.OpeningDraft.{OpeningDraft}
 
 -- the configuration and the row of a member's line; the tickets are counted where the opening is whole

@@ -4,11 +4,11 @@ use Rattle.jk_model.specs.declared.journal.Entry.{Entry}
 use Rattle.jk_model.specs.declared.opening.Opening.{Opening}
 use Rattle.jk_model.specs.Validity.{IsOpening}
 use Rattle.play_script.specs.Parts.{parts_of}
-use Rattle.journal_lines.specs.Readings.{line_of}
-use Rattle.journal_lines.specs.declared.line.Beginning.{Beginning}
-use Rattle.journal_lines.specs.declared.line.Line.{Line}
-use Rattle.journal_lines.specs.declared.line.Line.TheVariants as line
-use Rattle.journal_lines.specs.declared.line.MemberValues.{MemberValues}
+use Rattle.journal_text.specs.Readings.{line_of}
+use Rattle.journal_text.specs.declared.line.Beginning.{Beginning}
+use Rattle.journal_text.specs.declared.line.Line.{Line}
+use Rattle.journal_text.specs.declared.line.Line.TheVariants as line
+use Rattle.journal_text.specs.declared.line.MemberValues.{MemberValues}
 use Rattle.journal_text.specs.Openings.{IsOpened, config_of, row_of}
 use Rattle.journal_text.specs.declared.counted.Counted.{Counted}
 use Rattle.journal_text.specs.declared.draft.OpeningDraft.{OpeningDraft}

@@ -7,12 +7,12 @@ use Rattle.jk_model.specs.declared.member.MemberConfig.{MemberConfig}
 use Rattle.jk_model.specs.declared.opening.Opening.{Opening}
 use Rattle.jk_model.specs.declared.segment.Segment.{Segment}
 use Rattle.jk_model.specs.declared.view.MemberRow.{MemberRow}
-use Rattle.journal_lines.specs.Lines.{lines_text}
-use Rattle.journal_lines.specs.declared.line.BalancerValues.{BalancerValues}
-use Rattle.journal_lines.specs.declared.line.Beginning.{Beginning}
-use Rattle.journal_lines.specs.declared.line.Line.{Line}
-use Rattle.journal_lines.specs.declared.line.Line.TheVariants as line
-use Rattle.journal_lines.specs.declared.line.MemberValues.{MemberValues}
+use Rattle.journal_text.specs.Lines.{lines_text}
+use Rattle.journal_text.specs.declared.line.BalancerValues.{BalancerValues}
+use Rattle.journal_text.specs.declared.line.Beginning.{Beginning}
+use Rattle.journal_text.specs.declared.line.Line.{Line}
+use Rattle.journal_text.specs.declared.line.Line.TheVariants as line
+use Rattle.journal_text.specs.declared.line.MemberValues.{MemberValues}
 
 -- lb NAME METHOD STICKY FORCE DIRECT MAINTAIN RECOVER MEMBERS
 abbrev pub balancer_values : LbConfig → BalancerValues

@@ -2,9 +2,9 @@
 use Rattle.std.specs.Prelude.{ℕ, ◌≤◌, List, [], ◌∷◌}
 use Rattle.std.specs.List.{flat_map}
 use Rattle.jk_model.specs.Validity.{IsOpening}
-use Rattle.journal_lines.specs.Lines.{lines_text}
-use Rattle.journal_lines.specs.Ranges.{FitsLine}
-use Rattle.journal_lines.specs.declared.line.Line.{Line}
+use Rattle.journal_text.specs.Lines.{lines_text}
+use Rattle.journal_text.specs.Ranges.{FitsLine}
+use Rattle.journal_text.specs.declared.line.Line.{Line}
 use Rattle.journal_text.specs.SegmentText.{whole_lines}
 use Rattle.journal_text.specs.declared.counted.Counted.{Counted}
 

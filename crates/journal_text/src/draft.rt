@@ -5,9 +5,9 @@ ghost use Rattle.jk_model.specs.Validity.{IsOpening};
 ghost use Rattle.journal_text.specs.Openings.{AreCounted, IsOpened, config_of, row_of};
 ghost use Rattle.journal_text.specs.Reading.{is_full, with_member, with_ticket};
 
+use crate::{BalancerValues, Beginning, MemberValues};
 use jk_io::{Bytes, NoMemory};
 use jk_model::{LbConfig, MemberConfig, MemberList, MemberRow, Opening, RowList, TicketList};
-use journal_lines::{BalancerValues, Beginning, MemberValues};
 
 /// An opening as far as its lines are read.
 #[derive(Drop)]

@@ -1,7 +1,7 @@
 //! The reader of a text: where it stands, and what each line makes of that.
 ghost use Rattle.std.specs.Prelude.{◌≡◌, [], ◌∷◌, ◌++◌, ◌+◌, ◌≤◌, ◌<◌, ◌^◌, None, Some, true, false, All, length, IfNone, IfErr, IfOk, IfSome, MatchOption};
 ghost use Rattle.jk_model.specs.Segments.{AreRules};
-ghost use Rattle.journal_lines.specs.Ranges.{IsKeptLine};
+ghost use Rattle.journal_text.specs.Ranges.{IsKeptLine};
 ghost use Rattle.jk_model.specs.Segments.{AreKeptEntries};
 ghost use Rattle.jk_model.specs.Validity.{IsOpening};
 ghost use Rattle.journal_text.specs.Kept.{IsKept, IsSound};
@@ -10,9 +10,9 @@ ghost use Rattle.journal_text.specs.Reading.{Heads, Opens, Refuses, TakesAt, Tak
 use crate::counted::{Counted, CountedList};
 use crate::draft::OpeningDraft;
 use crate::text_error::TextError;
+use crate::{Beginning, Line, MemberValues, read_line};
 use jk_io::{Bytes, NoMemory};
 use jk_model::{Entry, EntryList, MemberList, Opening, RowList, TicketList};
-use journal_lines::{Beginning, Line, MemberValues, read_line};
 use std::alloc::Global;
 
 /// Where a text is read.

@@ -1,16 +1,16 @@
 //! A segment, written.
 ghost use Rattle.std.specs.Prelude.{◌≡◌, ◌∷◌, [], ◌++◌, IfOk, OnOk, length};
 ghost use Rattle.jk_model.specs.declared.opening.Opening.{Opening};
-ghost use Rattle.journal_lines.specs.Lines.{lines_text};
-ghost use Rattle.journal_lines.specs.declared.line.Line.TheVariants as line;
+ghost use Rattle.journal_text.specs.Lines.{lines_text};
+ghost use Rattle.journal_text.specs.declared.line.Line.TheVariants as line;
 ghost use Rattle.journal_text.specs.SegmentText.{balancer_values, beginning, entry_lines, lease_lines, member_line, member_lines, member_values, opening_lines, segment_text};
 
-use jk_io::{Bytes, NoMemory};
-use jk_model::{Entry, LbConfig, MemberConfig, MemberRow, Opening, Segment};
-use journal_lines::{
+use crate::{
     BalancerValues, Beginning, MemberValues, put_balancer, put_beginning, put_end, put_entry,
     put_lease, put_member, put_rules,
 };
+use jk_io::{Bytes, NoMemory};
+use jk_model::{Entry, LbConfig, MemberConfig, MemberRow, Opening, Segment};
 
 /// What the line of a balancer says of its configuration.
 pub fn balancer_values(config: &LbConfig) -> BalancerValues

@@ -7,7 +7,7 @@ use Rattle.std.specs.Prelude.{IsErrAnd, if◌then◌else◌}
 use Rattle.jk_model.specs.Present.{IsEnding}
 use Rattle.jk_model.specs.declared.opening.Opening.{Opening}
 use Rattle.play_script.specs.Parts.{parts_of}
-use Rattle.journal_lines.specs.declared.line.Line.TheVariants as line
+use Rattle.journal_text.specs.declared.line.Line.TheVariants as line
 use Rattle.journal_text.specs.Kept.{IsSound}
 use Rattle.journal_text.specs.Reading.{TextOutcome, Reads, ReadsText, TakesText, at_start, held, is_end, is_outside, readable, unreadable}
 use Rattle.journal_text.specs.SegmentText.{entry_lines, opening_lines}

@@ -1,9 +1,9 @@
 -- A line among the entries.
 use Rattle.std.proofs.Common.{◌≡◌, ℕ, Bool, true, false, List, [], ◌∷◌, ◌++◌, Option, Some, None, Result, Ok, Err, IfErr, OnOk, refl, sym, subst, ap, ◌∙◌}
 use Rattle.std.specs.Result.{IsErrAnd}
-use Rattle.journal_lines.specs.Readings.{line_of}
-use Rattle.journal_lines.specs.declared.line.Line.{Line}
-use Rattle.journal_lines.specs.declared.line.Line.TheVariants as line
+use Rattle.journal_text.specs.Readings.{line_of}
+use Rattle.journal_text.specs.declared.line.Line.{Line}
+use Rattle.journal_text.specs.declared.line.Line.TheVariants as line
 use Rattle.jk_model.specs.declared.journal.Entry.{Entry}
 use Rattle.journal_text.specs.declared.reader.Reader.{Reader}
 use Rattle.journal_verdict.specs.declared.ruling.Ruling.{Ruling}

@@ -3,9 +3,9 @@ use Rattle.std.proofs.Common.{◌≡◌, ℕ, ◌+◌, ◌-◌, inl, inr, Bool, 
 use Rattle.std.specs.Prelude.{MatchOption, slice_index_or, if◌then◌else◌}
 use Rattle.journal_text.specs.Openings.{row_of}
 use Rattle.std.proofs.lemmas.Option.{cond_some}
-use Rattle.journal_lines.specs.Readings.{line_of}
-use Rattle.journal_lines.specs.declared.line.Line.{Line}
-use Rattle.journal_lines.specs.declared.line.Line.TheVariants as line
+use Rattle.journal_text.specs.Readings.{line_of}
+use Rattle.journal_text.specs.declared.line.Line.{Line}
+use Rattle.journal_text.specs.declared.line.Line.TheVariants as line
 use Rattle.journal_text.specs.Kept.{IsSound}
 use Rattle.journal_text.specs.Reading.{TakesAt, TakesText, is_body, is_full}
 use Rattle.journal_text.specs.declared.reader.Reader.{Reader}

@@ -7,8 +7,8 @@ use Rattle.jk_model.specs.Validity.{IsOpening}
 use Rattle.jk_model.specs.declared.member.MemberConfig.{MemberConfig}
 use Rattle.jk_model.specs.declared.opening.Opening.{Opening}
 use Rattle.jk_model.specs.declared.view.MemberRow.{MemberRow}
-use Rattle.journal_lines.specs.Lines.{line_text}
-use Rattle.journal_lines.specs.declared.line.Line.TheVariants as line
+use Rattle.journal_text.specs.Lines.{line_text}
+use Rattle.journal_text.specs.declared.line.Line.TheVariants as line
 use Rattle.journal_text.specs.SegmentText.{beginning, lease_lines, member_lines, opening_lines}
 use Rattle.journal_verdict.specs.Verdicts.{opening_texts}
 

@@ -7,11 +7,11 @@ use Rattle.jk_model.specs.Tickets.{Ticket}
 use Rattle.jk_model.specs.declared.member.MemberConfig.{MemberConfig}
 use Rattle.jk_model.specs.declared.opening.Opening.{Opening}
 use Rattle.jk_model.specs.declared.view.MemberRow.{MemberRow}
-use Rattle.journal_lines.specs.Lines.{line_text}
-use Rattle.journal_lines.specs.declared.line.BalancerValues.{BalancerValues}
-use Rattle.journal_lines.specs.declared.line.Beginning.{Beginning}
-use Rattle.journal_lines.specs.declared.line.Line.{Line}
-use Rattle.journal_lines.specs.declared.line.Line.TheVariants as line
+use Rattle.journal_text.specs.Lines.{line_text}
+use Rattle.journal_text.specs.declared.line.BalancerValues.{BalancerValues}
+use Rattle.journal_text.specs.declared.line.Beginning.{Beginning}
+use Rattle.journal_text.specs.declared.line.Line.{Line}
+use Rattle.journal_text.specs.declared.line.Line.TheVariants as line
 use Rattle.journal_text.specs.SegmentText.{balancer_values, beginning, lease_lines, member_line, member_lines, opening_lines}
 use Rattle.journal_verdict.specs.Verdicts.{opening_texts}
 

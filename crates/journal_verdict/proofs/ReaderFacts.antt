@@ -8,9 +8,9 @@ use Rattle.jk_model.specs.declared.journal.Entry.{Entry}
 use Rattle.jk_model.specs.declared.member.MemberConfig.{MemberConfig}
 use Rattle.jk_model.specs.declared.opening.Opening.{Opening}
 use Rattle.jk_model.specs.declared.view.MemberRow.{MemberRow}
-use Rattle.journal_lines.specs.Readings.{line_of}
-use Rattle.journal_lines.specs.declared.line.Line.{Line}
-use Rattle.journal_lines.specs.declared.line.Line.TheVariants as line
+use Rattle.journal_text.specs.Readings.{line_of}
+use Rattle.journal_text.specs.declared.line.Line.{Line}
+use Rattle.journal_text.specs.declared.line.Line.TheVariants as line
 use Rattle.journal_verdict.specs.Checks.{front, lines_taken}
 use Rattle.journal_text.specs.Openings.{IsOpened, row_of}
 use Rattle.journal_text.specs.Reading.{Heads, TakesAt, TakesText, begun, continued, headed, is_full, named, with_member, with_ticket}

@@ -11,8 +11,8 @@ use Rattle.jk_model.specs.Present.{IsEnding}
 use Rattle.jk_model.specs.Validity.{IsOpening}
 use Rattle.jk_model.specs.declared.journal.Entry.{Entry}
 use Rattle.jk_model.specs.declared.opening.Opening.{Opening}
-use Rattle.journal_lines.specs.Lines.{line_text}
-use Rattle.journal_lines.specs.declared.line.Line.TheVariants as line
+use Rattle.journal_text.specs.Lines.{line_text}
+use Rattle.journal_text.specs.declared.line.Line.TheVariants as line
 use Rattle.journal_text.specs.SegmentText.{entry_lines, opening_lines}
 use Rattle.journal_text.specs.Written.{lines_of}
 use Rattle.journal_text.specs.declared.counted.Counted.{Counted}

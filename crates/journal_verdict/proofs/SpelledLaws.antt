@@ -13,14 +13,14 @@ use Rattle.jk_model.specs.declared.member.Method.{Method}
 use Rattle.jk_model.specs.declared.opening.Opening.{Opening}
 use Rattle.jk_model.specs.declared.view.MemberRow.{MemberRow}
 use Rattle.play_script.specs.Parts.{parts_of}
-use Rattle.journal_lines.specs.Lines.{line_text, lines_text}
-use Rattle.journal_lines.specs.Readings.{line_of}
-use Rattle.journal_lines.specs.declared.line.BalancerValues.{BalancerValues}
-use Rattle.journal_lines.specs.declared.line.Beginning.{Beginning}
-use Rattle.journal_lines.specs.declared.line.Line.{Line}
-use Rattle.journal_lines.specs.declared.line.Line.TheVariants as line
-use Rattle.journal_lines.specs.declared.line.MemberValues.{MemberValues}
-use Rattle.journal_lines.proofs.LineLaws.{line_spelled}
+use Rattle.journal_text.specs.Lines.{line_text, lines_text}
+use Rattle.journal_text.specs.Readings.{line_of}
+use Rattle.journal_text.specs.declared.line.BalancerValues.{BalancerValues}
+use Rattle.journal_text.specs.declared.line.Beginning.{Beginning}
+use Rattle.journal_text.specs.declared.line.Line.{Line}
+use Rattle.journal_text.specs.declared.line.Line.TheVariants as line
+use Rattle.journal_text.specs.declared.line.MemberValues.{MemberValues}
+use Rattle.journal_text.proofs.LineLaws.{line_spelled}
 use Rattle.journal_text.specs.Openings.{AreCounted, IsOpened, config_of, row_of}
 use Rattle.journal_text.specs.Reading.{Reads, ReadsText, TakesAt, TakesText, at_start, begun, continued, ended, headed, is_end, is_full, is_outside, named, opened, readable, unreadable, with_member, with_ticket}
 use Rattle.journal_text.specs.SegmentText.{balancer_values, beginning, entry_lines, lease_lines, member_line, member_lines, opening_lines}

@@ -4,9 +4,9 @@ use Rattle.jk_model.specs.Legal.{IsNext}
 use Rattle.jk_model.specs.Present.{IsEnding}
 use Rattle.jk_model.specs.declared.journal.Entry.{Entry}
 use Rattle.jk_model.specs.declared.opening.Opening.{Opening}
-use Rattle.journal_lines.specs.Readings.{line_of}
-use Rattle.journal_lines.specs.declared.line.Line.{Line}
-use Rattle.journal_lines.specs.declared.line.Line.TheVariants as line
+use Rattle.journal_text.specs.Readings.{line_of}
+use Rattle.journal_text.specs.declared.line.Line.{Line}
+use Rattle.journal_text.specs.declared.line.Line.TheVariants as line
 use Rattle.journal_text.specs.Reading.{TakesText, at_start}
 use Rattle.journal_text.specs.declared.reader.Reader.{Reader}
 use Rattle.journal_text.specs.declared.reader.TextPlace.{TextPlace}

@@ -1,7 +1,7 @@
 -- The line that says a verdict.
 use Rattle.std.specs.Prelude.{ℕ, List, [], ◌∷◌, ◌++◌, codes, decimal}
-use Rattle.journal_lines.specs.Calls.{answer_words}
-use Rattle.journal_lines.specs.Lines.{spaced}
+use Rattle.journal_text.specs.Calls.{answer_words}
+use Rattle.journal_text.specs.Lines.{spaced}
 use Rattle.journal_verdict.specs.declared.ruling.Ruling.{Ruling}
 use Rattle.journal_verdict.specs.declared.ruling.Ruling.TheVariants as ruling
 use Rattle.journal_verdict.specs.declared.ruling.Verdict.{Verdict}

@@ -3,7 +3,7 @@ use Rattle.std.specs.Prelude.{◌≡◌, ℕ, ◌+◌, ◌<◌, List, [], ◌∷
 use Rattle.jk_model.specs.Legal.{IsLegal}
 use Rattle.jk_model.specs.Present.{IsEnding}
 use Rattle.jk_model.specs.declared.opening.Opening.{Opening}
-use Rattle.journal_lines.specs.Lines.{line_text}
+use Rattle.journal_text.specs.Lines.{line_text}
 use Rattle.journal_text.specs.Reading.{ReadsText, readable, unreadable}
 use Rattle.journal_verdict.specs.Rulings.{IsFirstWrong}
 use Rattle.journal_text.specs.SegmentText.{opening_lines}

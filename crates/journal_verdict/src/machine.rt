@@ -11,8 +11,7 @@ use crate::heading::difference;
 use crate::ruling::Ruling;
 use crate::run::Run;
 use jk_io::{Bytes, NoMemory};
-use journal_lines::{Line, read_line};
-use journal_text::Reader;
+use journal_text::{Line, Reader, read_line};
 use std::alloc::Global;
 use std::mem;
 

@@ -4,7 +4,7 @@ ghost use Rattle.journal_verdict.specs.Told.{bad_text, ruling_text, verdict_text
 
 use crate::ruling::{Ruling, Verdict};
 use jk_io::{Bytes, NoMemory, put_decimal};
-use journal_lines::put_answer;
+use journal_text::put_answer;
 
 // Adds a word and a number after it, with a space before each.
 fn put_number(out: &mut Bytes, word: &[u8], number: u64) -> Result<(), NoMemory>

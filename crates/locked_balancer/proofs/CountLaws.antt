@@ -14,7 +14,7 @@ use Rattle.balancer_core.specs.Desks.{LeaseNote}
 use Rattle.balancer_core.specs.declared.desk.Choice.{Choice}
 use Rattle.balancer_core.specs.declared.desk.Occasion.{Occasion}
 use Rattle.balancer_core.specs.declared.receipt.Receipt.{Receipt}
-use Rattle.history_lock.specs.declared.view.View.{View}
+use Rattle.locked_balancer.specs.declared.view.View.{View}
 use Rattle.locked_balancer.specs.Histories.{SeatMaySee, SeatSees, gained_in, number_of, own_count, own_in, seat_note, seen_of}
 use Rattle.locked_balancer.specs.Notes.{MarkNote}
 use Rattle.locked_balancer.specs.SharedLists.{ListsChoose, ListsCommand, ListsDeny, ListsRefuse, SharedLists}

@@ -24,7 +24,7 @@ use Rattle.balancer_core.specs.declared.desk.Choice.{Choice}
 use Rattle.balancer_core.specs.declared.desk.Occasion.{Occasion}
 use Rattle.balancer_core.specs.declared.receipt.Receipt.{Receipt}
 use Rattle.balancer_core.proofs.ToldLaws.{get-set, get-set_other, some_is}
-use Rattle.history_lock.specs.Seats.{by_seat}
+use Rattle.locked_balancer.specs.Seats.{by_seat}
 use Rattle.balancer_core.specs.Histories.{IsHistoryOf}
 use Rattle.balancer_core.proofs.HistoryLaws.{begins_here, cut_of, grown_of, whole_present}
 use Rattle.locked_balancer.specs.Histories.{IsPresentOf, IsSiteHistory, entries_in, entries_of, gained_in, last_in, noted, starts_of}

@@ -11,9 +11,9 @@ use Rattle.jk_model.specs.declared.journal.Entry.{Entry}
 use Rattle.jk_model.specs.declared.opening.Opening.{Opening}
 use Rattle.balancer_core.specs.Journal.{Journal}
 use Rattle.balancer_core.specs.declared.receipt.Receipt.{Receipt}
-use Rattle.history_lock.specs.Seats.{AreApart, IsClaim, by_seat, seated, united}
-use Rattle.history_lock.specs.declared.view.Claim.{Claim}
-use Rattle.history_lock.specs.declared.view.View.{View}
+use Rattle.locked_balancer.specs.Seats.{AreApart, IsClaim, by_seat, seated, united}
+use Rattle.locked_balancer.specs.declared.view.Claim.{Claim}
+use Rattle.locked_balancer.specs.declared.view.View.{View}
 use Rattle.locked_balancer.specs.Histories.{AreDistinct, DeskSees, HasGone, IsClosed, IsSiteHistory, SeatNote, SeesHold, gained_in, noted, own_in}
 
 -- What a seat claims.

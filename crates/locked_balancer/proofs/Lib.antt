@@ -3,8 +3,10 @@ pub mod GoneLaws
 pub mod HeldLaws
 pub mod HistoryLaws
 pub mod HoldLaws
+pub mod Keeps
 pub mod LeftLaws
 pub mod LockLaws
+pub mod Places
 pub mod PoolLaws
 pub mod SeatLaws
 pub mod SetLaws

@@ -5,9 +5,9 @@ use Rattle.atomic_table.specs.Table.{Me, rest}
 use Rattle.jk_model.specs.declared.journal.Entry.{Entry}
 use Rattle.jk_model.specs.declared.opening.Opening.{Opening}
 use Rattle.balancer_core.specs.Journal.{Journal}
-use Rattle.history_lock.specs.Seats.{IsClaim, IsToldLast, Took, by_seat, caught_up, seated}
-use Rattle.history_lock.specs.declared.view.Claim.{Claim}
-use Rattle.history_lock.specs.declared.view.View.{View}
+use Rattle.locked_balancer.specs.Seats.{IsClaim, IsToldLast, Took, by_seat, caught_up, seated}
+use Rattle.locked_balancer.specs.declared.view.Claim.{Claim}
+use Rattle.locked_balancer.specs.declared.view.View.{View}
 use Rattle.locked_balancer.specs.Histories.{DeskMaySee, DeskSees, IsResting, IsSiteHistory, SeatMaySee, SeatSees, number_of, seat_note, seen_of}
 use mathlib.Core.Option.{some}
 use lib.ListN.{get_elem?}

@@ -9,9 +9,9 @@ use Rattle.jk_model.specs.declared.journal.Entry.{Entry}
 use Rattle.jk_model.specs.declared.opening.Opening.{Opening}
 use Rattle.balancer_core.specs.Journal.{Journal}
 use Rattle.balancer_core.specs.declared.receipt.Receipt.{Receipt}
-use Rattle.history_lock.specs.Seats.{by_seat, seated}
-use Rattle.history_lock.specs.declared.view.Claim.{Claim}
-use Rattle.history_lock.specs.declared.view.View.{View}
+use Rattle.locked_balancer.specs.Seats.{by_seat, seated}
+use Rattle.locked_balancer.specs.declared.view.Claim.{Claim}
+use Rattle.locked_balancer.specs.declared.view.View.{View}
 use Rattle.balancer_core.specs.Histories.{IsHistoryOf}
 use Rattle.locked_balancer.specs.Holds.{LockedState}
 use Rattle.locked_balancer.specs.Notes.{ViewNote}

@@ -3,6 +3,7 @@ pub mod Holds
 pub mod Loans
 pub mod Locks
 pub mod Notes
+pub mod Seats
 pub mod SharedDesks
 pub mod SharedLists
 pub mod Shelves

@@ -30,7 +30,7 @@ pub type LeftSeatList<L> = ListOf<LeftSeat<L>>;
 
 impl<L: SiteName> LeftSeat<L> {
     ghost use Rattle.std.specs.Prelude.{◌≡◌, [], false};
-    ghost use Rattle.history_lock.specs.Seats.{seated};
+    ghost use Rattle.locked_balancer.specs.Seats.{seated};
     ghost use Rattle.locked_balancer.specs.Histories.{IsResting, number_of, seen_of};
 
     pub(crate) fn new(seat: SiteSeat<L>) -> LeftSeat<L>

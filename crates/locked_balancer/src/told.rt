@@ -2,8 +2,8 @@
 
 use crate::locked::{Cut, HandedBack, Locked};
 use crate::site::{SiteLease, SiteMark, SiteName, SiteReceipt, SiteStray, SiteView};
+use crate::{HistoryLock, LockSeat, Telling};
 use balancer_core::desk::{Choice, Occasion};
-use history_lock::{HistoryLock, LockSeat, Telling};
 use jk_io::NoMemory;
 use jk_model::{AdminError, Ask, Command, Entry, RoomError};
 use std::marker::{Model, PhantomData};

@@ -1,9 +1,9 @@
 //! Objects in memory fail where they were told to, and nowhere else.
 
 use crate::lists::link_of;
+use check_rows::pass_on;
 use check_rows::rows::{bytes_of, numbers_of};
 use check_rows::telling::{put_bytes, put_count, put_shown, put_word};
-use io_checks::pass_on;
 use jk_io::{
     Bytes, ClientList, Clock, Dial, FileList, Files, MemDial, MemDoor, MemFiles, MemLink,
     MemLinkList, NoMemory, Peer, StepClock,

@@ -5,10 +5,10 @@ ghost use Rattle.conn_pool.specs.Idle.{HasMember};
 use crate::counted_dial::CountedDial;
 use crate::lists::{link_of, one_balancer};
 use crate::pools::small;
+use check_rows::ask;
 use check_rows::rows::numbers_of;
 use check_rows::telling::{put_bytes, put_count, put_shown, put_word};
 use conn_pool::{Idle, MemTape, PooledReach, Pools};
-use io_checks::ask;
 use jk_io::{
     Bytes, Filled, IoError, ListOf, MemLink, MemLinkList, MemReach, NoMemory, NumberList, Reach,
     Talk, fill, write_all,

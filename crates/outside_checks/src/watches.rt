@@ -2,9 +2,8 @@
 
 use check_rows::rows::{bytes_of, number};
 use check_rows::telling::{put_bytes, put_count};
-use conn_pool::LinkList;
+use conn_pool::{AgedLink, LinkList, WatchReport, judge};
 use jk_io::{ListOf, MemLink, NoMemory};
-use pool_watch::{AgedLink, WatchReport, judge};
 use std::alloc::Global;
 
 /// The most links that a row has.

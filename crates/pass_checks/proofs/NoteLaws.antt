@@ -4,7 +4,7 @@ use mathlib.Core.Option.{some}
 use lib.ListN.{get_elem?}
 use Rattle.atomic_table.specs.Seated.{TableId}
 use Rattle.atomic_table.proofs.Lists.{at_last, at_longer}
-use Rattle.seen_history.specs.declared.pass_view.Origin.{Origin}
+use Rattle.pass_desk.specs.declared.pass_view.Origin.{Origin}
 use Rattle.pass_desk.specs.Closing.{AreAllPasses}
 use Rattle.pass_desk.specs.Passes.{AreNewPasses, IsNewPass}
 use Rattle.pass_desk.specs.Placed.{AreBack, IsBack, origin_in, table_in_passes}

@@ -13,8 +13,8 @@ use Rattle.balancer_core.specs.PlainDesks.{BookGainsDue, BookGainsLast, Picks, r
 use Rattle.balancer_core.specs.declared.book.Picked.{Picked}
 use Rattle.balancer_core.specs.declared.desk.Occasion.{Occasion}
 use Rattle.balancer_core.specs.declared.receipt.Receipt.{Receipt}
-use Rattle.seen_history.specs.Plays.{Took}
-use Rattle.seen_history.specs.declared.pass_view.PassView.{PassView}
+use Rattle.pass_desk.specs.Plays.{Took}
+use Rattle.pass_desk.specs.declared.pass_view.PassView.{PassView}
 use Rattle.pass_desk.specs.Holds.{Denies, Ended, IsIdle, IsTold, Selects, TakesTurn, gained_in}
 use Rattle.pass_desk.proofs.GainLaws.{Adds, GivesOwn, adds_of, due_gives, idle_after, select_gives, takes_turn, told_by, with_book}
 

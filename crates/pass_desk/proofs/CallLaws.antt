@@ -22,7 +22,7 @@ use Rattle.balancer_core.specs.declared.receipt.Receipt.{Receipt}
 use Rattle.balancer_core.proofs.PlainLaws.{own_one}
 use Rattle.balancer_core.proofs.ToldLaws.{grown-nil}
 use Rattle.balancer_core.specs.Histories.{has_made}
-use Rattle.seen_history.specs.declared.pass_view.PassView.{PassView}
+use Rattle.pass_desk.specs.declared.pass_view.PassView.{PassView}
 use Rattle.balancer_core.proofs.HistoryLaws.{own_is_out, whole_of, whole_out}
 use Rattle.pass_desk.specs.Holds.{Commands, Refuses, TakesTurn, gained_in, own_in}
 use Rattle.pass_desk.proofs.AskLaws.{Gained}

@@ -31,7 +31,7 @@ use Rattle.balancer_core.specs.declared.receipt.Receipt.{Receipt}
 use Rattle.balancer_core.proofs.PlainLaws.{ticket_differs, without}
 use Rattle.balancer_core.proofs.ToldLaws.{past-one}
 use Rattle.balancer_core.specs.Histories.{has_made}
-use Rattle.seen_history.specs.declared.pass_view.PassView.{PassView}
+use Rattle.pass_desk.specs.declared.pass_view.PassView.{PassView}
 use Rattle.balancer_core.proofs.HistoryLaws.{whole_next, whole_of}
 use Rattle.balancer_core.proofs.OwnLaws.{made-append, own_below, returned-append}
 use Rattle.pass_desk.specs.Calls.{CallChooses, CallCommands, CallDenies, CallRefuses, CallWants}

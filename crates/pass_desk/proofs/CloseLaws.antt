@@ -10,12 +10,12 @@ use Rattle.atomic_table.proofs.Lists.{at_longer}
 use Rattle.jk_model.specs.declared.journal.Entry.{Entry}
 use Rattle.balancer_core.specs.Journal.{Journal}
 use Rattle.balancer_core.specs.Histories.{IsHistory}
-use Rattle.seen_history.specs.Plays.{joined}
-use Rattle.seen_history.specs.Turns.{Carries, IsBookOf, IsPassTable}
-use Rattle.seen_history.specs.declared.pass_view.Origin.{Origin}
-use Rattle.seen_history.specs.declared.pass_view.PassView.{PassView}
-use Rattle.seen_history.proofs.EndLaws.{IsEnd, ends}
-use Rattle.seen_history.proofs.SeatLaws.{carries_one}
+use Rattle.pass_desk.specs.Plays.{joined}
+use Rattle.pass_desk.specs.Turns.{Carries, IsBookOf, IsPassTable}
+use Rattle.pass_desk.specs.declared.pass_view.Origin.{Origin}
+use Rattle.pass_desk.specs.declared.pass_view.PassView.{PassView}
+use Rattle.pass_desk.proofs.EndLaws.{IsEnd, ends}
+use Rattle.pass_desk.proofs.SeatLaws.{carries_one}
 use Rattle.pass_desk.specs.Closing.{AreAllPasses, HasGathered, HasNumber, IsClosed, IsJoiner}
 use Rattle.pass_desk.specs.Holds.{IsIdle, own_in}
 use Rattle.pass_desk.specs.PassDesks.{view_of}

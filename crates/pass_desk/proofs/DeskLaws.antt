@@ -30,7 +30,7 @@ use Rattle.balancer_core.specs.declared.desk.Choice.{Choice}
 use Rattle.balancer_core.specs.declared.desk.Choice.TheVariants as choice
 use Rattle.balancer_core.specs.declared.plain_desk.PlainLease.{PlainLease}
 use Rattle.balancer_core.specs.declared.receipt.Receipt.{Receipt}
-use Rattle.seen_history.specs.declared.pass_view.PassView.{PassView}
+use Rattle.pass_desk.specs.declared.pass_view.PassView.{PassView}
 use Rattle.balancer_core.proofs.HistoryLaws.{whole_members}
 use Rattle.pass_desk.specs.Calls.{CallChooses, CallCommands, CallDenies, CallRefuses}
 use Rattle.pass_desk.specs.Holds.{Looks, Returns, TakesTurn, gained_in}

@@ -18,13 +18,13 @@ use Rattle.balancer_core.specs.PlainDesks.{BookGains}
 use Rattle.balancer_core.specs.ToldBooks.{AreNextAt, grown_by}
 use Rattle.balancer_core.specs.declared.receipt.Receipt.{Receipt}
 use Rattle.balancer_core.specs.Histories.{AreOf, BeginsWith, IsHistory, has_made, own_of}
-use Rattle.seen_history.specs.Plays.{Took, grown_owns, last_in, turning}
-use Rattle.seen_history.specs.Turns.{Carries, IsBookOf}
-use Rattle.seen_history.specs.declared.pass_view.PassView.{PassView}
-use Rattle.seen_history.specs.declared.pass_view.Turn.TheVariants.{Idle, Out}
-use Rattle.seen_history.proofs.BookLaws.{book_grown}
+use Rattle.pass_desk.specs.Plays.{Took, grown_owns, last_in, turning}
+use Rattle.pass_desk.specs.Turns.{Carries, IsBookOf}
+use Rattle.pass_desk.specs.declared.pass_view.PassView.{PassView}
+use Rattle.pass_desk.specs.declared.pass_view.Turn.TheVariants.{Idle, Out}
+use Rattle.pass_desk.proofs.BookLaws.{book_grown}
 use Rattle.balancer_core.proofs.HistoryLaws.{history_more}
-use Rattle.seen_history.proofs.SeatLaws.{carries_one}
+use Rattle.pass_desk.proofs.SeatLaws.{carries_one}
 use Rattle.pass_desk.specs.Holds.{Ended, IsIdle, IsTold, TakesTurn, entries_in, gained_in, own_in}
 
 -- Entries that a call added, each with its receipt.

@@ -18,8 +18,8 @@ use Rattle.balancer_core.specs.Desks.{holds, is_pair, without_last}
 use Rattle.balancer_core.specs.declared.receipt.Receipt.{Receipt}
 use Rattle.balancer_core.proofs.PlainLaws.{pair_is, without, without-none}
 use Rattle.balancer_core.specs.Histories.{IsHistory, has_made, own_of}
-use Rattle.seen_history.specs.declared.pass_view.Origin.{Origin}
-use Rattle.seen_history.specs.declared.pass_view.PassView.{PassView}
+use Rattle.pass_desk.specs.declared.pass_view.Origin.{Origin}
+use Rattle.pass_desk.specs.declared.pass_view.PassView.{PassView}
 use Rattle.balancer_core.proofs.HistoryLaws.{whole_present}
 use Rattle.balancer_core.proofs.OwnLaws.{made_longer, own-append, own-same, returned-append}
 use Rattle.pass_desk.specs.Holds.{Looks, TakesTurn, entries_in, gained_in, own_in}

@@ -6,11 +6,11 @@ use Rattle.atomic_table.specs.Table.{Allows, Me, Step, step}
 use Rattle.jk_model.specs.declared.journal.Entry.{Entry}
 use Rattle.balancer_core.specs.Journal.{Journal}
 use Rattle.balancer_core.specs.Histories.{BeginsWith}
-use Rattle.seen_history.specs.Plays.{PutTogether, joined}
-use Rattle.seen_history.specs.Turns.{IsPassTable}
-use Rattle.seen_history.specs.declared.pass_view.Origin.{Origin}
-use Rattle.seen_history.specs.declared.pass_view.PassView.{PassView}
-use Rattle.seen_history.proofs.JoinLaws.{puts_together}
+use Rattle.pass_desk.specs.Plays.{PutTogether, joined}
+use Rattle.pass_desk.specs.Turns.{IsPassTable}
+use Rattle.pass_desk.specs.declared.pass_view.Origin.{Origin}
+use Rattle.pass_desk.specs.declared.pass_view.PassView.{PassView}
+use Rattle.pass_desk.proofs.JoinLaws.{puts_together}
 use Rattle.pass_desk.specs.Holds.{IsIdle, IsNote, first_own, own_in}
 use Rattle.pass_desk.specs.Notes.{Meets}
 use Rattle.pass_desk.specs.PassDesks.{ArePassesOf, IsPassDesk}

@@ -6,13 +6,13 @@ use Rattle.atomic_table.specs.Seated.{TableId}
 use Rattle.atomic_table.specs.Table.{Me, opening}
 use Rattle.atomic_table.proofs.Lists.{at_set}
 use Rattle.balancer_core.specs.Journal.{IsSound, Journal}
-use Rattle.seen_history.specs.Plays.{giver_after, next_caller}
-use Rattle.seen_history.specs.Turns.{IsBookOf, IsPassTable, first_view}
-use Rattle.seen_history.specs.declared.pass_view.Origin.{Origin}
-use Rattle.seen_history.specs.declared.pass_view.PassView.{PassView}
-use Rattle.seen_history.proofs.EndLaws.{begins}
+use Rattle.pass_desk.specs.Plays.{giver_after, next_caller}
+use Rattle.pass_desk.specs.Turns.{IsBookOf, IsPassTable, first_view}
+use Rattle.pass_desk.specs.declared.pass_view.Origin.{Origin}
+use Rattle.pass_desk.specs.declared.pass_view.PassView.{PassView}
+use Rattle.pass_desk.proofs.EndLaws.{begins}
 use Rattle.balancer_core.proofs.HistoryLaws.{begins_here}
-use Rattle.seen_history.proofs.SeatLaws.{at_end}
+use Rattle.pass_desk.proofs.SeatLaws.{at_end}
 use Rattle.pass_desk.specs.Passes.{AreNewPasses, IsNewPass, origin_of}
 use Rattle.pass_desk.specs.declared.pass.Pass.{Pass}
 

@@ -4,7 +4,7 @@ use mathlib.Core.Option.{some, some-injective, some-ne-none}
 use native.Mathlib.Decide.{ℕ_discrete}
 use lib.ListN.{get_elem?}
 use Rattle.atomic_table.specs.Seated.{TableId}
-use Rattle.seen_history.specs.declared.pass_view.Origin.{Origin}
+use Rattle.pass_desk.specs.declared.pass_view.Origin.{Origin}
 use Rattle.pass_desk.specs.Closing.{AreAllPasses, HasNumber}
 use Rattle.pass_desk.specs.PassDesks.{ArePassesOf, PassDeskState, StayPasses, StaysPass, desk_value, sizes_in, table_in, table_of, view_of}
 use Rattle.pass_desk.specs.Passes.{AreNewPasses, IsNewPass}

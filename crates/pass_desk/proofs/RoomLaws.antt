@@ -32,10 +32,10 @@ use Rattle.balancer_core.specs.declared.desk.Occasion.{Occasion}
 use Rattle.balancer_core.specs.declared.plain_desk.PlainLease.{PlainLease}
 use Rattle.balancer_core.specs.declared.receipt.Receipt.{Receipt}
 use Rattle.balancer_core.proofs.ToldLaws.{grown-nil}
-use Rattle.seen_history.specs.Turns.{IsBookOf}
-use Rattle.seen_history.specs.declared.pass_view.Origin.{Origin}
-use Rattle.seen_history.specs.declared.pass_view.PassView.{PassView}
-use Rattle.seen_history.proofs.BookLaws.{book_grown}
+use Rattle.pass_desk.specs.Turns.{IsBookOf}
+use Rattle.pass_desk.specs.declared.pass_view.Origin.{Origin}
+use Rattle.pass_desk.specs.declared.pass_view.PassView.{PassView}
+use Rattle.pass_desk.proofs.BookLaws.{book_grown}
 use Rattle.balancer_core.proofs.HistoryLaws.{IsWhole, whole_next, whole_of, whole_tickets}
 use Rattle.pass_desk.specs.Calls.{CallChooses, CallCommands, CallDenies, CallRefuses}
 use Rattle.pass_desk.specs.Holds.{TakesTurn, entries_in, gained_in}

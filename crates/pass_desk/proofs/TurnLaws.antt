@@ -4,13 +4,13 @@ use mathlib.Core.Option.{none}
 use Rattle.atomic_table.specs.Table.{Allows, Me, Step, rest, step}
 use Rattle.jk_model.specs.declared.journal.Entry.{Entry}
 use Rattle.balancer_core.specs.Journal.{Journal}
-use Rattle.seen_history.specs.Plays.{Drew, Left, Polled, Took, grown_owns, last_in, turn_of, turning}
-use Rattle.seen_history.specs.Turns.{IsPassTable}
-use Rattle.seen_history.specs.declared.pass_view.Origin.{Origin}
-use Rattle.seen_history.specs.declared.pass_view.PassView.{PassView}
-use Rattle.seen_history.specs.declared.pass_view.Turn.TheVariants.{Idle, Waits}
-use Rattle.seen_history.proofs.CountLaws.{leaves}
-use Rattle.seen_history.proofs.DrawLaws.{polls}
+use Rattle.pass_desk.specs.Plays.{Drew, Left, Polled, Took, grown_owns, last_in, turn_of, turning}
+use Rattle.pass_desk.specs.Turns.{IsPassTable}
+use Rattle.pass_desk.specs.declared.pass_view.Origin.{Origin}
+use Rattle.pass_desk.specs.declared.pass_view.PassView.{PassView}
+use Rattle.pass_desk.specs.declared.pass_view.Turn.TheVariants.{Idle, Waits}
+use Rattle.pass_desk.proofs.CountLaws.{leaves}
+use Rattle.pass_desk.proofs.DrawLaws.{polls}
 use Rattle.pass_desk.specs.Holds.{Ended, IsTold}
 
 -- A caller that drew a turn may look whether it has come.

@@ -12,7 +12,7 @@ use Rattle.balancer_core.specs.declared.book.Picked.{Picked}
 use Rattle.balancer_core.specs.declared.desk.Choice.{Choice}
 use Rattle.balancer_core.specs.declared.desk.Occasion.{Occasion}
 use Rattle.balancer_core.specs.declared.plain_desk.PlainLease.{PlainLease}
-use Rattle.seen_history.specs.declared.pass_view.PassView.{PassView}
+use Rattle.pass_desk.specs.declared.pass_view.PassView.{PassView}
 use Rattle.pass_desk.specs.Holds.{Commands, Denies, Refuses, Selects}
 use Rattle.pass_desk.specs.declared.desk_lists.DeskLists.{DeskLists}
 

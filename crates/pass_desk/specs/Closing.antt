@@ -8,9 +8,9 @@ use lib.ListN.{get_elem?}
 use Rattle.jk_model.specs.declared.journal.Entry.{Entry}
 use Rattle.balancer_core.specs.Journal.{Journal}
 use Rattle.balancer_core.specs.Histories.{IsHistory, own_of}
-use Rattle.seen_history.specs.Turns.{Carries, IsBookOf}
-use Rattle.seen_history.specs.declared.pass_view.PassView.{PassView}
-use Rattle.seen_history.specs.declared.pass_view.Turn.TheVariants.{Idle}
+use Rattle.pass_desk.specs.Turns.{Carries, IsBookOf}
+use Rattle.pass_desk.specs.declared.pass_view.PassView.{PassView}
+use Rattle.pass_desk.specs.declared.pass_view.Turn.TheVariants.{Idle}
 use Rattle.pass_desk.specs.Holds.{own_in}
 use Rattle.pass_desk.specs.PassDesks.{view_of}
 use Rattle.pass_desk.specs.declared.pass.Pass.{Pass}

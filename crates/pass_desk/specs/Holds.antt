@@ -24,10 +24,10 @@ use Rattle.balancer_core.specs.declared.book.Picked.{Picked}
 use Rattle.balancer_core.specs.declared.desk.Occasion.{Occasion}
 use Rattle.balancer_core.specs.declared.receipt.Receipt.{Receipt}
 use Rattle.balancer_core.specs.Histories.{AreOf, BeginsWith, IsHistory, own_of}
-use Rattle.seen_history.specs.Plays.{grown_owns, last_in, turn_of, turning}
-use Rattle.seen_history.specs.Turns.{IsBookOf}
-use Rattle.seen_history.specs.declared.pass_view.PassView.{PassView}
-use Rattle.seen_history.specs.declared.pass_view.Turn.TheVariants.{Idle, Out}
+use Rattle.pass_desk.specs.Plays.{grown_owns, last_in, turn_of, turning}
+use Rattle.pass_desk.specs.Turns.{IsBookOf}
+use Rattle.pass_desk.specs.declared.pass_view.PassView.{PassView}
+use Rattle.pass_desk.specs.declared.pass_view.Turn.TheVariants.{Idle, Out}
 
 -- The entries of these receipts.
 abbrev pub entries_in : List Receipt → List Entry

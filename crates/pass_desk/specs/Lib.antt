@@ -1,8 +1,10 @@
-pub mod Holds
-pub mod Passes
 pub mod Calls
-pub mod PassDesks
-pub mod Rooms
-pub mod Notes
 pub mod Closing
+pub mod Holds
+pub mod Notes
+pub mod PassDesks
+pub mod Passes
 pub mod Placed
+pub mod Plays
+pub mod Rooms
+pub mod Turns

@@ -3,7 +3,7 @@ use Rattle.std.specs.Prelude.{◌≡◌, ℕ, ◌⊎◌}
 use mathlib.Core.Option.{some}
 use lib.ListN.{get_elem?}
 use Rattle.balancer_core.specs.Histories.{BeginsWith}
-use Rattle.seen_history.specs.declared.pass_view.PassView.{PassView}
+use Rattle.pass_desk.specs.declared.pass_view.PassView.{PassView}
 use Rattle.pass_desk.specs.PassDesks.{PassDeskState, view_of}
 use Rattle.pass_desk.specs.declared.pass.Note.{Note}
 use Rattle.pass_desk.specs.declared.pass.Pass.{Pass}

@@ -11,7 +11,7 @@ use Rattle.jk_model.specs.declared.view.View.{View}
 use Rattle.balancer_core.specs.Desks.{DeskState, holds}
 use Rattle.balancer_core.specs.declared.receipt.Receipt.{Receipt}
 use Rattle.balancer_core.specs.Histories.{BeginsWith, IsHistory, has_made, own_of}
-use Rattle.seen_history.specs.declared.pass_view.PassView.{PassView}
+use Rattle.pass_desk.specs.declared.pass_view.PassView.{PassView}
 use Rattle.pass_desk.specs.Holds.{entries_in, gained_in, own_in}
 use Rattle.pass_desk.specs.declared.pass.Pass.{Pass}
 use Rattle.pass_desk.specs.declared.pass_book.PassBook.{PassBook}

@@ -5,8 +5,8 @@ use lib.ListN.{get_elem?}
 use Rattle.atomic_table.specs.Seated.{TableId}
 use Rattle.pass_desk.specs.declared.pass.Pass.{Pass}
 use Rattle.balancer_core.specs.Journal.{Journal}
-use Rattle.seen_history.specs.declared.pass_view.Origin.{Origin}
-use Rattle.seen_history.specs.declared.pass_view.PassView.{PassView}
+use Rattle.pass_desk.specs.declared.pass_view.Origin.{Origin}
+use Rattle.pass_desk.specs.declared.pass_view.PassView.{PassView}
 
 -- The history of a pass book that begins with this Book, which is cut where it has `cut_at` kept entries.
 abbrev pub origin_of : Journal → (cut_at : ℕ) → Origin

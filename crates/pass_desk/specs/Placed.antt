@@ -7,8 +7,8 @@ use Rattle.balancer_core.specs.Desks.{DeskState}
 use Rattle.jk_model.specs.Journal.{members}
 use Rattle.pass_desk.specs.PassDesks.{PassDeskState, table_of, view_of}
 use Rattle.pass_desk.specs.declared.pass.Pass.{Pass}
-use Rattle.seen_history.specs.Plays.{no_origin}
-use Rattle.seen_history.specs.declared.pass_view.Origin.{Origin}
+use Rattle.pass_desk.specs.Plays.{no_origin}
+use Rattle.pass_desk.specs.declared.pass_view.Origin.{Origin}
 
 -- A table that there isn't.
 abbrev pub no_table : TableId

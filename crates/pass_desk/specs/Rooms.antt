@@ -13,7 +13,7 @@ use Rattle.jk_model.specs.declared.refusal.FullMark.{FullMark}
 use Rattle.jk_model.specs.declared.refusal.RoomError.{RoomError}
 use Rattle.jk_model.specs.declared.refusal.RoomError.TheVariants as room
 use Rattle.balancer_core.specs.Journal.{IsMarked}
-use Rattle.seen_history.specs.declared.pass_view.PassView.{PassView}
+use Rattle.pass_desk.specs.declared.pass_view.PassView.{PassView}
 
 -- The number that comes next after the history h, and the count of the tickets that are then out.
 abbrev pub next_after : Opening → (h : List Entry) → ℕ

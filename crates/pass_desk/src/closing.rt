@@ -4,7 +4,7 @@ ghost use mathlib.Core.Option.{some};
 ghost use lib.ListN.{get_elem?};
 ghost use Rattle.pass_desk.specs.Closing.{AreAllPasses, HasGathered, IsClosed, IsJoiner};
 ghost use Rattle.pass_desk.specs.declared.pass.Pass.{Pass};
-ghost use Rattle.seen_history.specs.Plays.{joined};
+ghost use Rattle.pass_desk.specs.Plays.{joined};
 
 use crate::pass::{Pass, PassList, PassSeat};
 use crate::pass_book::PassBook;

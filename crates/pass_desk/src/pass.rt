@@ -2,10 +2,10 @@
 ghost use Rattle.std.specs.Prelude.{◌≡◌, true};
 ghost use Rattle.pass_desk.specs.Holds.{IsIdle, IsNote};
 
+use crate::PassView;
 use atomic_table::Seat;
 use balancer_core::Book;
 use jk_io::ListOf;
-use seen_history::PassView;
 
 /// A place at a pass book's table.
 pub(crate) type PassSeat = Seat<Book, PassView>;

@@ -1,16 +1,16 @@
 //! A Book whose callers take turns.
 ghost use Rattle.std.specs.Prelude.{◌≡◌, ◌<◌, ◌≤◌, [], IfOk, vec_capacity};
-ghost use Rattle.seen_history.specs.Plays.{giver_after, next_caller};
+ghost use Rattle.pass_desk.specs.Plays.{giver_after, next_caller};
 ghost use Rattle.jk_model.specs.declared.segment.TheConstants.{MODERN_RULES};
 ghost use Rattle.pass_desk.specs.Passes.{AreNewPasses, IsNewPass, origin_of};
 
+use crate::PassView;
 use crate::bells::Bells;
 use crate::pass::{Pass, PassList};
 use crate::rule::{Founding, InTurns, NextCaller};
 use atomic_table::Table;
 use balancer_core::Book;
 use jk_io::NoMemory;
-use seen_history::PassView;
 use std::alloc::Global;
 use std::snapshot::Snapshot;
 

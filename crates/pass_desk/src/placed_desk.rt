@@ -4,9 +4,9 @@ ghost use Rattle.pass_desk.specs.Placed.{IsBack, IsPlaced};
 ghost use Rattle.pass_desk.specs.PassDesks.{table_in};
 ghost use Rattle.pass_desk.specs.declared.pass_book.PassBook.{PassBook};
 
+use crate::pass_desk::PassDesk;
 use crate::pass::{Note, Pass, PassList};
 use crate::pass_book::PassBook;
-use crate::pass_desk::PassDesk;
 use balancer_core::desk::Choice;
 use balancer_core::{Desk, PlainLease};
 use jk_io::NoMemory;
@@ -20,7 +20,7 @@ use std::sync::Wait;
 pub trait PassPlace {
     ghost use Rattle.std.specs.Prelude.{ℕ};
     ghost use Rattle.atomic_table.specs.Seated.{TableId};
-    ghost use Rattle.seen_history.specs.declared.pass_view.Origin.{Origin};
+    ghost use Rattle.pass_desk.specs.declared.pass_view.Origin.{Origin};
 
     ghost table: { TableId };
 
@@ -31,7 +31,7 @@ pub trait PassPlace {
 
 impl PassPlace for Brand {
     ghost use Rattle.pass_desk.specs.Placed.{no_table};
-    ghost use Rattle.seen_history.specs.Plays.{no_origin};
+    ghost use Rattle.pass_desk.specs.Plays.{no_origin};
 
     ghost table = { no_table };
 

@@ -1,8 +1,8 @@
 //! The rule of a pass book's table, and what each step on it tells: the words are those of seen_history's specs.
 
+use crate::PassView;
 use atomic_table::{Join, Play, Split, TableRule};
 use balancer_core::Book;
-use seen_history::PassView;
 use std::snapshot::Snapshot;
 
 /// What a table began with, and the count of kept entries at which its Book is cut, 0 for never.
@@ -16,7 +16,7 @@ pub(crate) struct Founding {
 pub(crate) struct InTurns;
 
 impl TableRule<Book, PassView, Founding> for InTurns {
-    ghost use Rattle.seen_history.specs.Turns.{IsPassTable, first_view};
+    ghost use Rattle.pass_desk.specs.Turns.{IsPassTable, first_view};
     ghost use Rattle.pass_desk.specs.Passes.{origin_of};
 
     ghost holds = { λ key. IsPassTable (origin_of key.book.value key.cut_at) };
@@ -28,7 +28,7 @@ impl TableRule<Book, PassView, Founding> for InTurns {
 pub(crate) struct Draws;
 
 impl Play<Book, PassView> for Draws {
-    ghost use Rattle.seen_history.specs.Plays.{Drew};
+    ghost use Rattle.pass_desk.specs.Plays.{Drew};
 
     ghost then = { Drew };
 }
@@ -37,7 +37,7 @@ impl Play<Book, PassView> for Draws {
 pub(crate) struct Polls;
 
 impl Play<Book, PassView> for Polls {
-    ghost use Rattle.seen_history.specs.Plays.{Polled};
+    ghost use Rattle.pass_desk.specs.Plays.{Polled};
 
     ghost then = { Polled };
 }
@@ -46,7 +46,7 @@ impl Play<Book, PassView> for Polls {
 pub(crate) struct Counts;
 
 impl Play<Book, PassView> for Counts {
-    ghost use Rattle.seen_history.specs.Plays.{Counted};
+    ghost use Rattle.pass_desk.specs.Plays.{Counted};
 
     ghost then = { Counted };
 }
@@ -55,7 +55,7 @@ impl Play<Book, PassView> for Counts {
 pub(crate) struct Leaves;
 
 impl Play<Book, PassView> for Leaves {
-    ghost use Rattle.seen_history.specs.Plays.{Left};
+    ghost use Rattle.pass_desk.specs.Plays.{Left};
 
     ghost then = { Left };
 }
@@ -64,7 +64,7 @@ impl Play<Book, PassView> for Leaves {
 pub(crate) struct PutsTogether;
 
 impl Play<Book, PassView> for PutsTogether {
-    ghost use Rattle.seen_history.specs.Plays.{PutTogether};
+    ghost use Rattle.pass_desk.specs.Plays.{PutTogether};
 
     ghost then = { PutTogether };
 }
@@ -73,7 +73,7 @@ impl Play<Book, PassView> for PutsTogether {
 pub(crate) struct NextCaller;
 
 impl Split<PassView> for NextCaller {
-    ghost use Rattle.seen_history.specs.Plays.{giver_after, next_caller};
+    ghost use Rattle.pass_desk.specs.Plays.{giver_after, next_caller};
 
     ghost left = { giver_after };
 
@@ -84,7 +84,7 @@ impl Split<PassView> for NextCaller {
 pub(crate) struct Noting;
 
 impl Split<PassView> for Noting {
-    ghost use Rattle.seen_history.specs.Plays.{noted};
+    ghost use Rattle.pass_desk.specs.Plays.{noted};
 
     ghost left = { λ v. v };
 
@@ -95,7 +95,7 @@ impl Split<PassView> for Noting {
 pub(crate) struct Joining;
 
 impl Join<PassView> for Joining {
-    ghost use Rattle.seen_history.specs.Plays.{joined, spent};
+    ghost use Rattle.pass_desk.specs.Plays.{joined, spent};
 
     ghost both = { joined };
 

@@ -1,6 +1,6 @@
 //! The turn of a caller: it takes the Book when the turn has come, and gives it back.
 ghost use Rattle.std.specs.Prelude.{◌≡◌, ℕ};
-ghost use Rattle.seen_history.specs.Plays.{Took};
+ghost use Rattle.pass_desk.specs.Plays.{Took};
 ghost use Rattle.pass_desk.specs.Holds.{Ended, IsIdle, IsTold};
 
 use crate::pass::PassSeat;

@@ -2,7 +2,7 @@
 use Rattle.std.specs.Prelude.{◌≡◌, ℕ, Bool, false, List, [], ◌∷◌, Some, IsSomeAnd, Result, Ok, Err, codes, reverse}
 use Rattle.request_log.specs.Lines.{log_of}
 use Rattle.request_log.specs.declared.format.Part.{Part}
-use Rattle.property_lines.specs.Refusals.{LineRefusal}
+use Rattle.site_config.specs.Refusals.{LineRefusal}
 use Rattle.jk_io.specs.MemReaches.{MemReachState}
 use Rattle.jk_io.specs.declared.reaching.Talk.{Talk}
 use Rattle.jk_model.specs.declared.served.Served.{Served}

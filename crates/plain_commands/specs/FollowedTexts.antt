@@ -5,10 +5,10 @@ use Rattle.journal_verdict.specs.declared.error.FollowError.{FollowError}
 use Rattle.journal_verdict.specs.declared.error.FollowError.TheVariants as wrong
 use Rattle.journal_verdict.specs.declared.view.FollowView.{FollowView}
 use Rattle.journal_verdict.specs.Told.{bad_text}
-use Rattle.status_page.specs.Page.{page_of}
-use Rattle.status_page.specs.declared.page.BalancerType.{BalancerType}
-use Rattle.status_page.specs.declared.page.BalancerType.TheVariants as type
-use Rattle.status_page.specs.declared.page.PagePart.{PagePart}
+use Rattle.status_worker.specs.Page.{page_of}
+use Rattle.status_worker.specs.declared.page.BalancerType.{BalancerType}
+use Rattle.status_worker.specs.declared.page.BalancerType.TheVariants as type
+use Rattle.status_worker.specs.declared.page.PagePart.{PagePart}
 use Rattle.plain_commands.specs.Checked.{unreadable_text}
 
 abbrev pub type_of : (direct : Bool) → BalancerType

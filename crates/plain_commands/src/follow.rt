@@ -11,7 +11,7 @@ use crate::check::unreadable;
 use crate::play::{Ending, Output};
 use jk_io::{Bytes, NoMemory};
 use journal_verdict::{FollowError, FollowView, Follower, Ruling, put_bad};
-use status_page::{AddressList, BalancerType, PageList, PagePart, render};
+use status_worker::{AddressList, BalancerType, PageList, PagePart, render};
 use std::alloc::Global;
 
 fn type_of(direct: bool) -> BalancerType

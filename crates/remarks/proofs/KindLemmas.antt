@@ -3,7 +3,7 @@ use Rattle.std.proofs.Common.{◌≡◌, ℕ, ◌+◌, ◌<◌, Bool, true, fals
 use Rattle.std.proofs.lemmas.List.{map-append, take_more}
 use Rattle.std.specs.Map.{update}
 use Rattle.std.specs.Str.{bytes_eq}
-use Rattle.property_lines.specs.declared.values.WorkerKind.{WorkerKind}
+use Rattle.site_config.specs.declared.values.WorkerKind.{WorkerKind}
 use Rattle.worker_props.specs.Given.{or_else}
 use Rattle.remarks.specs.KindTables.{as_kinds}
 use Rattle.remarks.specs.Notices.{kind_among}

@@ -3,12 +3,12 @@ use Rattle.std.specs.Bool.{⊤}
 use Rattle.std.proofs.Common.{◌≡◌, ℕ, List, [], ◌∷◌, ◌++◌, length, Option, Result, Ok, Err, OnOk, refl, sym, ap, ◌∙◌, arith, subst}
 use Rattle.std.proofs.lemmas.Grind.{flat_map-append}
 use Rattle.std.specs.List.{flat_map}
-use Rattle.property_lines.specs.declared.property.Property.{Property}
+use Rattle.site_config.specs.declared.property.Property.{Property}
 use Rattle.jk_io.specs.Told.{appended}
 use Rattle.jk_io.specs.declared.failures.IoError.{IoError}
 use Rattle.jk_io.specs.declared.failures.IoError.TheVariants as Io
-use Rattle.property_lines.specs.Lines.{lines}
-use Rattle.property_lines.specs.declared.values.WorkerKind.{WorkerKind}
+use Rattle.site_config.specs.Lines.{lines}
+use Rattle.site_config.specs.declared.values.WorkerKind.{WorkerKind}
 use Rattle.remarks.specs.Added.{AddsText, IsFront}
 use Rattle.remarks.proofs.AddedLemmas.{adds_same, adds_then, front_more}
 use Rattle.remarks.specs.MapNotices.{notices_from}

@@ -1,7 +1,7 @@
 -- Refused lines, one after another.
 use Rattle.std.proofs.Common.{◌≡◌, ◌||◌, ℕ, Bool, true, false, List, [], ◌∷◌, Option, Some, None, length, refl, sym, subst, arith}
 use Rattle.std.specs.Option.{is_some, option_map}
-use Rattle.property_lines.specs.Lines.{lines}
+use Rattle.site_config.specs.Lines.{lines}
 use Rattle.remarks.specs.Refused.{has_wrong, refused_from}
 
 -- nothing is said where no line is left

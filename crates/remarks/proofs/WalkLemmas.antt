@@ -2,10 +2,10 @@
 use Rattle.std.proofs.Common.{◌≡◌, ◌+◌, ℕ, true, List, [], ◌∷◌, ◌++◌, Option, Result, Ok, Err, refl, sym, ◌∙◌, ap, length, append_assoc, append-nil, arith}
 use Rattle.std.specs.Option.{option_to_list}
 use Rattle.jk_io.specs.Decimals.{trimmed}
-use Rattle.property_lines.specs.declared.property.Property.{Property}
-use Rattle.property_lines.specs.Lines.{lines, without_mark}
-use Rattle.property_lines.specs.Properties.{before_rest, read_lines, read_text, said}
-use Rattle.property_lines.specs.Refusals.{LineRefusal}
+use Rattle.site_config.specs.declared.property.Property.{Property}
+use Rattle.site_config.specs.Lines.{lines, without_mark}
+use Rattle.site_config.specs.Properties.{before_rest, read_lines, read_text, said}
+use Rattle.site_config.specs.Refusals.{LineRefusal}
 use Rattle.remarks.specs.Again.{Says}
 
 -- of these properties these stand in front of the line of this number, which the rest begins with

@@ -6,11 +6,11 @@ use Rattle.std.specs.HashMap.{HashMap, get_by}
 use Rattle.std.specs.declared.hash.FoldHasher.{FoldHasher}
 use Rattle.std.specs.declared.hash.BuildHasherDefault.{BuildHasherDefault}
 use Rattle.jk_io.specs.Decimals.{trimmed}
-use Rattle.property_lines.specs.declared.directive.Directive.{Directive}
-use Rattle.property_lines.specs.declared.directive.Directive.TheVariants as directive
-use Rattle.property_lines.specs.declared.property.Property.{Property}
-use Rattle.property_lines.specs.Directives.{directive_of, maintain_key, worker_part}
-use Rattle.property_lines.specs.Properties.{said}
+use Rattle.site_config.specs.declared.directive.Directive.{Directive}
+use Rattle.site_config.specs.declared.directive.Directive.TheVariants as directive
+use Rattle.site_config.specs.declared.property.Property.{Property}
+use Rattle.site_config.specs.Directives.{directive_of, maintain_key, worker_part}
+use Rattle.site_config.specs.Properties.{said}
 use Rattle.worker_props.specs.Given.{last_of}
 use denote.Ref.{Bor}
 

@@ -1,7 +1,7 @@
 -- What is said of a refused line: in words what is wrong with it, and the line as it stands.
 use Rattle.std.specs.Prelude.{ℕ, ◌-◌, List, [], ◌++◌, codes, decimal, slice_get, unwrap_or, if◌then◌else◌, ◌==◌}
-use Rattle.property_lines.specs.Lines.{lines, without_mark}
-use Rattle.property_lines.specs.Refusals.{LineRefusal}
+use Rattle.site_config.specs.Lines.{lines, without_mark}
+use Rattle.site_config.specs.Refusals.{LineRefusal}
 use Rattle.remarks.specs.Wanted.{wanted_of}
 
 -- what is said of a line of a file

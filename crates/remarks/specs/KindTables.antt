@@ -4,9 +4,9 @@ use Rattle.std.specs.Str.{bytes_eq}
 use Rattle.std.specs.HashMap.{HashMap, get_by}
 use Rattle.std.specs.declared.hash.FoldHasher.{FoldHasher}
 use Rattle.std.specs.declared.hash.BuildHasherDefault.{BuildHasherDefault}
-use Rattle.property_lines.specs.declared.values.WorkerKind.{WorkerKind}
+use Rattle.site_config.specs.declared.values.WorkerKind.{WorkerKind}
 use Rattle.remarks.specs.Notices.{SiteKinds, kind_among}
-use Rattle.property_lines.specs.declared.property.Property.{Property}
+use Rattle.site_config.specs.declared.property.Property.{Property}
 use Rattle.remarks.specs.Again.{IsLineTable}
 use Rattle.remarks.specs.declared.notices.LineTables.{LineTables}
 use denote.Ref.{Bor}

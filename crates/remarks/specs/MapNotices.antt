@@ -5,11 +5,11 @@ use Rattle.std.specs.Bool.{nat_eq}
 use Rattle.std.specs.List.{flat_map, list_all}
 use Rattle.std.specs.Str.{bytes_eq}
 use Rattle.jk_io.specs.Decimals.{trimmed}
-use Rattle.property_lines.specs.Cut.{cut_at, is_separator}
-use Rattle.property_lines.specs.Lines.{lines, without_mark}
-use Rattle.property_lines.specs.Properties.{is_silent}
-use Rattle.property_lines.specs.declared.values.WorkerKind.{WorkerKind}
-use Rattle.property_lines.specs.declared.values.WorkerKind.TheVariants as kind
+use Rattle.site_config.specs.Cut.{cut_at, is_separator}
+use Rattle.site_config.specs.Lines.{lines, without_mark}
+use Rattle.site_config.specs.Properties.{is_silent}
+use Rattle.site_config.specs.declared.values.WorkerKind.{WorkerKind}
+use Rattle.site_config.specs.declared.values.WorkerKind.TheVariants as kind
 use Rattle.remarks.specs.Explained.{said_of}
 use Rattle.remarks.specs.Notices.{kind_among}
 use Rattle.remarks.specs.Wanted.{key_in}

@@ -4,12 +4,12 @@ use Rattle.std.specs.Bool.{nat_eq}
 use Rattle.std.specs.List.{flat_map, list_any, starts_with}
 use Rattle.std.specs.Str.{bytes_eq}
 use Rattle.jk_model.specs.declared.member.MemberConfig.{MemberConfig}
-use Rattle.property_lines.specs.declared.directive.Directive.{Directive}
-use Rattle.property_lines.specs.declared.directive.Directive.TheVariants as directive
-use Rattle.property_lines.specs.declared.property.Property.{Property}
-use Rattle.property_lines.specs.declared.values.WorkerKind.{WorkerKind}
-use Rattle.property_lines.specs.declared.values.WorkerKind.TheVariants as kind
-use Rattle.property_lines.specs.Directives.{behind_worker, directive_of, list_key, maintain_key, worker_part}
+use Rattle.site_config.specs.declared.directive.Directive.{Directive}
+use Rattle.site_config.specs.declared.directive.Directive.TheVariants as directive
+use Rattle.site_config.specs.declared.property.Property.{Property}
+use Rattle.site_config.specs.declared.values.WorkerKind.{WorkerKind}
+use Rattle.site_config.specs.declared.values.WorkerKind.TheVariants as kind
+use Rattle.site_config.specs.Directives.{behind_worker, directive_of, list_key, maintain_key, worker_part}
 use Rattle.site_config.specs.declared.balancer.Lb.{Lb}
 use Rattle.site_config.specs.declared.config.Config.{Config}
 use Rattle.site_config.specs.declared.config.Named.{Named}

@@ -2,8 +2,8 @@
 use Rattle.std.specs.Prelude.{ℕ, ◌+◌, Bool, true, false, ◌||◌, List, [], ◌∷◌, ◌++◌, Option, Some, None}
 use Rattle.std.specs.Option.{is_some, option_map}
 use Rattle.jk_io.specs.Decimals.{trimmed}
-use Rattle.property_lines.specs.Lines.{lines, without_mark}
-use Rattle.property_lines.specs.Properties as properties
+use Rattle.site_config.specs.Lines.{lines, without_mark}
+use Rattle.site_config.specs.Properties as properties
 use Rattle.site_config.specs.declared.config.Config.{Config}
 use Rattle.remarks.specs.declared.refused.Judge.{Judge}
 use Rattle.remarks.specs.declared.refused.Judge.TheVariants as judge

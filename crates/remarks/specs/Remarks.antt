@@ -3,9 +3,9 @@
 -- is its name and its text.
 use Rattle.std.specs.Prelude.{◌≡◌, ◌≤◌, ℕ, Bool, true, false, List, [], ◌++◌, ◌⊎◌, Option, Some, None, IfSome, Result, Ok, Err, length}
 use Rattle.std.specs.Option.{option_map}
-use Rattle.property_lines.specs.Properties as properties
-use Rattle.property_lines.specs.Refusals.{LineRefusal}
-use Rattle.property_lines.specs.declared.property.Property.{Property}
+use Rattle.site_config.specs.Properties as properties
+use Rattle.site_config.specs.Refusals.{LineRefusal}
+use Rattle.site_config.specs.declared.property.Property.{Property}
 use Rattle.site_config.specs.declared.config.Config.{Config}
 use Rattle.remarks.specs.declared.site_file.SiteFile.{SiteFile}
 use Rattle.remarks.specs.declared.site_file.SiteFiles.{SiteFiles}

@@ -2,10 +2,10 @@
 use Rattle.std.specs.Prelude.{ℕ, List, [], Option, Some, None, codes, if◌then◌else◌}
 use Rattle.std.specs.Str.{bytes_eq}
 use Rattle.jk_io.specs.Decimals.{trimmed}
-use Rattle.property_lines.specs.Cut.{cut_at}
-use Rattle.property_lines.specs.declared.directive.Directive.{Directive}
-use Rattle.property_lines.specs.declared.directive.Directive.TheVariants as directive
-use Rattle.property_lines.specs.Directives.{directive_of, list_key, maintain_key, worker_part}
+use Rattle.site_config.specs.Cut.{cut_at}
+use Rattle.site_config.specs.declared.directive.Directive.{Directive}
+use Rattle.site_config.specs.declared.directive.Directive.TheVariants as directive
+use Rattle.site_config.specs.Directives.{directive_of, list_key, maintain_key, worker_part}
 
 abbrev pub key_before : List ℕ → Option (List ℕ × List ℕ) → List ℕ
 key_before text None = trimmed text

@@ -2,14 +2,14 @@
 ghost use Rattle.std.specs.Prelude.{◌≡◌, ◌≤◌, ◌∷◌, ◌++◌, [], List, Ok, Option, length, true, IfOk, OnOk};
 ghost use Rattle.std.specs.Option.{option_to_list};
 ghost use Rattle.jk_io.specs.declared.whole_input.TheConstants.{MAX_INPUT_BYTES};
-ghost use Rattle.property_lines.specs.declared.property.Property.{Property};
-ghost use Rattle.property_lines.specs.Entries.{as_property};
-ghost use Rattle.property_lines.specs.Properties.{read_text};
+ghost use Rattle.site_config.specs.declared.property.Property.{Property};
+ghost use Rattle.site_config.specs.Entries.{as_property};
+ghost use Rattle.site_config.specs.Properties.{read_text};
 ghost use Rattle.remarks.specs.Again.{IsLineTable, Says, is_again, is_before, is_single, is_single_directive};
 
 use crate::said_lines::said_at;
 use jk_io::NoMemory;
-use property_lines::{
+use site_config::{
     Directive, PropertyLine, directive_of, first_line, is_maintain_key, without_mark, worker_part,
 };
 use std::alloc::Global;

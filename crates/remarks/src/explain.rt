@@ -1,12 +1,12 @@
 //! What is said of a refused line: in words what is wrong with it, and the line as it stands.
 ghost use Rattle.std.specs.Prelude.{◌≡◌, ◌++◌, codes, OnOk};
-ghost use Rattle.property_lines.specs.Refusals.{LineRefusal};
+ghost use Rattle.site_config.specs.Refusals.{LineRefusal};
 ghost use Rattle.remarks.specs.Explained.{explained_workers, line_at, map_words, said_of, told_of, workers_words};
 
 use crate::site_file::SiteFile;
 use crate::wanted::wanted_of;
 use jk_io::{Bytes, NoMemory, put_decimal};
-use property_lines::{first_line, without_mark};
+use site_config::{first_line, without_mark};
 
 /// A line of a file, from 1.
 #[derive(Clone, Copy)]

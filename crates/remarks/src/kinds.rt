@@ -1,14 +1,13 @@
 //! The workers of a configuration with their types.
 ghost use Rattle.std.specs.Prelude.{◌≡◌, ◌∷◌, ◌++◌, [], ℕ, List, map, IfOk, OnOk};
-ghost use Rattle.property_lines.specs.declared.values.WorkerKind.{WorkerKind as AnyKind};
+ghost use Rattle.site_config.specs.declared.values.WorkerKind.{WorkerKind as AnyKind};
 ghost use Rattle.std.specs.List.{flat_map};
 ghost use Rattle.remarks.specs.KindTables.{as_kinds, IsKindTable};
 ghost use Rattle.remarks.specs.Notices.{balancer_kind, kinds_of, listed_kind, member_kinds, redirected_kind, redirected_kinds, redirecting};
 
 use jk_io::NoMemory;
 use jk_model::MemberConfig;
-use property_lines::WorkerKind;
-use site_config::{Config, Lb, Named};
+use site_config::{Config, Lb, Named, WorkerKind};
 use std::alloc::Global;
 use std::collections::HashMap;
 

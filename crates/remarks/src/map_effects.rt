@@ -1,7 +1,7 @@
 //! What is said of a map that is accepted: what in it has no effect, and what it means where it has no rule.
 ghost use Rattle.std.specs.Prelude.{◌≡◌, ◌++◌, ℕ, List, IfOk, IsOk};
 ghost use Rattle.jk_io.specs.Told.{HasCause};
-ghost use Rattle.property_lines.specs.declared.values.WorkerKind.{WorkerKind};
+ghost use Rattle.site_config.specs.declared.values.WorkerKind.{WorkerKind};
 ghost use Rattle.remarks.specs.Added.{AddsText};
 ghost use Rattle.remarks.specs.KindTables.{IsKindTable};
 ghost use Rattle.remarks.specs.MapNotices.{empty_words, map_notices};

@@ -5,12 +5,12 @@ ghost use Rattle.jk_io.specs.Told.{HasCause};
 ghost use Rattle.jk_io.specs.declared.whole_input.TheConstants.{MAX_INPUT_BYTES};
 ghost use Rattle.std.specs.List.{flat_map, list_all};
 ghost use Rattle.std.specs.Option.{option_map};
-ghost use Rattle.property_lines.specs.declared.values.WorkerKind.{WorkerKind};
-ghost use Rattle.property_lines.specs.Cut.{cut_at, is_separator};
+ghost use Rattle.site_config.specs.declared.values.WorkerKind.{WorkerKind};
+ghost use Rattle.site_config.specs.Cut.{cut_at, is_separator};
 ghost use Rattle.remarks.specs.Added.{AddsText};
 ghost use Rattle.remarks.specs.KindTables.{IsKindTable};
 ghost use Rattle.remarks.specs.MapNotices.{behind_notices, is_list_name, is_part_name, lists_nobody, line_notices, map_notices, part_notice, parts_notices, side_notices};
-ghost use Rattle.property_lines.specs.Properties.{is_silent};
+ghost use Rattle.site_config.specs.Properties.{is_silent};
 ghost use Rattle.uri_map.specs.Parts.{pieces_of};
 ghost use Rattle.uri_map.specs.Sides.{Left, behind_byte, left_of};
 
@@ -20,7 +20,7 @@ use crate::remark_out::RemarkOut;
 use crate::site_file::SiteFile;
 use crate::wanted::key_in;
 use jk_io::{Bytes, IoError, NoMemory, Sink, trim};
-use property_lines::{WorkerKind, cut_at, first_line, is_separator, without_mark};
+use site_config::{WorkerKind, cut_at, first_line, is_separator, without_mark};
 use std::alloc::Global;
 
 /// The marks before a rule's pattern: `!` makes an exclusion, `-` turns the rule off.

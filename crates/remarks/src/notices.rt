@@ -2,12 +2,12 @@
 ghost use Rattle.std.specs.Prelude.{◌≡◌, ◌≤◌, ◌++◌, ℕ, List, Ok, Option, length, true, IsOk, OnOk};
 ghost use Rattle.std.specs.Option.{option_map, option_to_list};
 ghost use Rattle.std.specs.List.{flat_map};
-ghost use Rattle.property_lines.specs.declared.values.WorkerKind.{WorkerKind};
-ghost use Rattle.property_lines.specs.declared.property.Property.{Property};
+ghost use Rattle.site_config.specs.declared.values.WorkerKind.{WorkerKind};
+ghost use Rattle.site_config.specs.declared.property.Property.{Property};
 ghost use Rattle.jk_io.specs.Told.{HasCause};
 ghost use Rattle.jk_io.specs.declared.whole_input.TheConstants.{MAX_INPUT_BYTES};
-ghost use Rattle.property_lines.specs.Entries.{as_property};
-ghost use Rattle.property_lines.specs.Properties.{read_text};
+ghost use Rattle.site_config.specs.Entries.{as_property};
+ghost use Rattle.site_config.specs.Properties.{read_text};
 ghost use Rattle.remarks.specs.Added.{AddsText};
 ghost use Rattle.remarks.specs.Again.{Says};
 ghost use Rattle.remarks.specs.KindTables.{AreKindTables, ForTables, IsKindTable};
@@ -39,7 +39,7 @@ use crate::remark_out::RemarkOut;
 use crate::said_lines::said_at;
 use crate::site_file::SiteFile;
 use jk_io::{Bytes, IoError, NoMemory, Sink};
-use property_lines::{
+use site_config::{
     Directive, PropertyLine, WorkerKind, behind_worker, directive_of, first_line, is_list_key,
     is_maintain_key, without_mark, worker_part,
 };

@@ -11,7 +11,7 @@ use crate::explain::{FileLine, map_words, put_said, workers_words};
 use crate::remark_out::RemarkOut;
 use crate::site_file::SiteFile;
 use jk_io::{Bytes, IoError, NoMemory, Sink, trim};
-use property_lines::{PropsError, first_line, said, without_mark};
+use site_config::{PropsError, first_line, said, without_mark};
 use std::alloc::Global;
 use uri_map::{Workers, refusal_of};
 

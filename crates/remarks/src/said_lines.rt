@@ -1,12 +1,12 @@
 //! What the lines of a workers.properties say that was accepted.
 ghost use Rattle.std.specs.Prelude.{◌≡◌, Option, IfOk};
 ghost use Rattle.std.specs.Option.{option_map};
-ghost use Rattle.property_lines.specs.declared.property.Property.{Property};
-ghost use Rattle.property_lines.specs.Entries.{as_property};
+ghost use Rattle.site_config.specs.declared.property.Property.{Property};
+ghost use Rattle.site_config.specs.Entries.{as_property};
 ghost use Rattle.remarks.specs.Again.{Says};
 
 use jk_io::{NoMemory, trim};
-use property_lines::{PropertyLine, PropsError, said};
+use site_config::{PropertyLine, PropsError, said};
 
 /// What a line says; of one that is refused nothing is told.
 pub(crate) fn said_at(number: u32, line: &[u8]) -> Result<Option<PropertyLine<'_>>, NoMemory>

@@ -3,7 +3,7 @@ ghost use Rattle.std.specs.Prelude.{◌≡◌};
 ghost use Rattle.remarks.specs.Wanted.{key_in, wanted_at, wanted_by, wanted_of};
 
 use jk_io::trim;
-use property_lines::{Directive, cut_at, directive_of, is_list_key, is_maintain_key, worker_part};
+use site_config::{Directive, cut_at, directive_of, is_list_key, is_maintain_key, worker_part};
 
 /// What a text has before its first `=`, or the whole text, without outer blanks.
 pub(crate) fn key_in(text: &[u8]) -> &[u8]

@@ -9,7 +9,7 @@ use jk_model::Segment;
 use journal_text::read_segments;
 use locked_balancer::Shelf;
 use real_io::{Notices, RealFiles};
-use socket_checks::{answers_a_dial, listener};
+use outside_checks::{answers_a_dial, listener};
 use std::alloc::Global;
 use std::fs;
 use std::net::{Net, TcpListener, TcpStream};

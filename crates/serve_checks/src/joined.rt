@@ -16,7 +16,7 @@ use locked_balancer::{KeptList, MemShelf};
 use mini_container::AppConfig;
 use real_io::{TcpDial, TcpDoor};
 use site_config::Config;
-use socket_checks::listener;
+use outside_checks::listener;
 use std::alloc::Global;
 use std::fmt::Write;
 use std::net::{Net, TcpListener, TcpStream};

@@ -1,15 +1,14 @@
 //! Talks of the connector with a container.
 ghost use Rattle.std.specs.Prelude.{◌≡◌, ◌<◌, ◌≤◌, None, length, IfOk};
 ghost use Rattle.ajp_talk.specs.Ends.{IsPlan};
-ghost use Rattle.http_body_in.specs.State.{taken_of, failed_of};
+ghost use Rattle.http_front.specs.State.{taken_of, failed_of};
 
 use crate::told::put_awaited;
 use ajp_talk::{TalkLimits, TalkPlan, talk};
 use check_rows::rows::{bytes_of, number};
 use check_rows::telling::{put_bytes, put_count, put_shown, put_word};
 use check_rows::ways::{Way, link_of, writing};
-use http_body_in::{BodyFault, BodyIn};
-use http_front::{BodyPlan, Inbox};
+use http_front::{BodyFault, BodyIn, BodyPlan, Inbox};
 use jk_io::{Bytes, NoMemory, NumberList, PatientLink};
 use jk_model::FailList;
 use std::alloc::Global;

@@ -1,4 +1,12 @@
 pub mod Bounds
+pub mod Cut
+pub mod Directives
+pub mod Entries
 pub mod Ignored
 pub mod Limits
+pub mod Lines
+pub mod Names
 pub mod Places
+pub mod Properties
+pub mod Refusals
+pub mod Values

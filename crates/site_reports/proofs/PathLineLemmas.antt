@@ -3,7 +3,7 @@ use Rattle.std.proofs.Common.{◌≡◌, ℕ, ◌<◌, Bool, true, false, List, 
 use Rattle.std.proofs.lemmas.Option.{some_pair_parts}
 use Rattle.std.specs.Option.{option_map}
 use Rattle.std.specs.List.{onto_first}
-use Rattle.property_lines.specs.Cut.{cut_at, with_front}
+use Rattle.site_config.specs.Cut.{cut_at, with_front}
 use Rattle.site_reports.specs.PathLines.{path_lines}
 
 -- the line before the first LF, and the lines after it

@@ -1,7 +1,7 @@
 -- What a site's files are judged to be.
 use Rattle.std.proofs.Common.{ℕ, ◌≡◌, true, List, ◌++◌, Ok, Err, IfOk, Result, codes, inl, inr, refl, sym, subst}
 use Rattle.site_reports.specs.Readings.{CommandOutside, File, IsLong, IsRead}
-use Rattle.property_lines.specs.Refusals.{LineRefusal}
+use Rattle.site_config.specs.Refusals.{LineRefusal}
 use Rattle.site_config.specs.declared.config.Config.{Config}
 use Rattle.site_reports.specs.ConfigText.{config_text}
 use Rattle.site_reports.specs.Reports.{OfMap, refusal_line, rules_line}

@@ -1,7 +1,7 @@
 -- What `config` and `match` print of the texts of a site's files, and whether one of these is refused; and which line refuses
 -- the files themselves.
 use Rattle.std.specs.Prelude.{◌≡◌, ℕ, Bool, true, false, List, [], ◌∷◌, ◌++◌, ◌⊎◌, Result, Ok, Err, codes, decimal}
-use Rattle.property_lines.specs.Refusals.{LineRefusal}
+use Rattle.site_config.specs.Refusals.{LineRefusal}
 use Rattle.site_config.specs.declared.config.Config.{Config}
 use Rattle.uri_map.specs.Lines.{read_text}
 use Rattle.uri_map.specs.Mounts.{line_count}

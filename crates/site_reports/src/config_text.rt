@@ -17,8 +17,7 @@ ghost use Rattle.site_reports.specs.ConfigText.{
 use crate::member_line::put_member;
 use crate::words::{method_letter, put_number, put_text, truth_digit};
 use jk_io::{Bytes, NoMemory};
-use property_lines::behind_worker;
-use site_config::{Config, IgnoredList, Lb, Named, Status};
+use site_config::{Config, IgnoredList, Lb, Named, Status, behind_worker};
 
 fn put_members(out: &mut Bytes, lb: &Lb) -> Result<(), NoMemory>
     ensures { OnOk result (out.new ≡ out.old ++ member_lines lb.now) }

@@ -8,8 +8,7 @@ use crate::path_lines::first_line;
 use crate::words::put_number;
 use http_front::{PathError, clean_path};
 use jk_io::{Bytes, NoMemory};
-use property_lines::cut_at;
-use site_config::{Config, Named};
+use site_config::{Config, Named, cut_at};
 use std::alloc::Global;
 use uri_map::UriMap;
 

@@ -2,7 +2,7 @@
 ghost use Rattle.std.specs.Prelude.{◌≡◌, ◌∷◌, ◌<◌, length, IfSome, IfNone};
 ghost use Rattle.site_reports.specs.PathLines.{path_lines};
 
-use property_lines::cut_at;
+use site_config::cut_at;
 
 /// The first line and the text after it; none in an empty text.
 pub(crate) fn first_line(text: &[u8]) -> Option<(&[u8], &[u8])>

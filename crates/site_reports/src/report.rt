@@ -1,6 +1,6 @@
 //! What a command prints of a site's files.
 ghost use Rattle.std.specs.Prelude.{◌≡◌, ◌++◌, ◌≤◌, length, false, IfOk, OnOk};
-ghost use Rattle.property_lines.specs.Refusals.{LineRefusal};
+ghost use Rattle.site_config.specs.Refusals.{LineRefusal};
 ghost use Rattle.uri_map.specs.Lines.{read_text};
 ghost use Rattle.site_reports.specs.ConfigText.{config_text};
 ghost use Rattle.site_reports.specs.Matches.{match_text};

@@ -5,10 +5,10 @@ use Rattle.std.proofs.lemmas.Option.{slice_get_within}
 use Rattle.site_config.specs.declared.balancer.Lb.{Lb}
 use Rattle.site_config.specs.declared.config.Config.{Config}
 use Rattle.site_config.specs.declared.config.Status.{Status}
-use Rattle.status_page.specs.BookCommands.{commands_for}
-use Rattle.status_page.specs.Effects.{is_change}
-use Rattle.status_page.specs.Meaning.{meaning_of}
-use Rattle.status_page.specs.declared.command.StatusCommand.{StatusCommand}
+use Rattle.status_worker.specs.BookCommands.{commands_for}
+use Rattle.status_worker.specs.Effects.{is_change}
+use Rattle.status_worker.specs.Meaning.{meaning_of}
+use Rattle.status_worker.specs.declared.command.StatusCommand.{StatusCommand}
 use Rattle.status_worker.specs.Asking.{AsksBy, IfRefused, IsNamedBalancer, IsRefusedBy}
 use Rattle.status_worker.specs.Commands.{Asks, AsksOpen, IsAllowed, IsRefused, IsRefusedOpen, IsWorkFor, NamesNone}
 use Rattle.status_worker.specs.declared.asking.NoPage.{NoPage}

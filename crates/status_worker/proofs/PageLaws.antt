@@ -6,7 +6,7 @@ use Rattle.status_worker.proofs.CommandLaws.{next_taken}
 use Rattle.balancer_core.specs.Desks.{DeskState}
 use Rattle.site_config.specs.declared.balancer.Lb.{Lb}
 use Rattle.site_config.specs.declared.config.Config.{Config}
-use Rattle.status_page.specs.declared.page.PagePart.{PagePart}
+use Rattle.status_worker.specs.declared.page.PagePart.{PagePart}
 use Rattle.status_worker.specs.Pages.{AreSeen, IsPageOf, IsSeen}
 
 pub one_more_seen : (desk : DeskState) (place : ℕ) (lbs : List Lb) (parts : List PagePart) (lb : Lb) (part : PagePart) → AreSeen desk place lbs parts

@@ -12,8 +12,8 @@ use Rattle.site_config.specs.declared.config.Named.{Named}
 use Rattle.site_config.specs.declared.config.Named.TheVariants as named
 use Rattle.status_worker.specs.Asking.{IsNamedBalancer}
 use Rattle.status_worker.specs.Desks.{members_in}
-use Rattle.status_page.specs.Effects.{worker_of}
-use Rattle.status_page.specs.declared.command.StatusCommand.{StatusCommand}
+use Rattle.status_worker.specs.Effects.{worker_of}
+use Rattle.status_worker.specs.declared.command.StatusCommand.{StatusCommand}
 
 named_place : (lbs statuses : ℕ) (name : List ℕ) (listed : List (List ℕ × Named)) (worker : Named) → are_places lbs statuses listed ≡ true
     → named_among name listed ≡ Some worker → is_place lbs statuses worker ≡ true

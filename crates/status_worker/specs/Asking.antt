@@ -3,8 +3,8 @@ use Rattle.std.specs.Prelude.{ℕ, ◌≡◌, ◌⊎◌, true, List, Option, Som
 use Rattle.site_config.specs.declared.balancer.Lb.{Lb}
 use Rattle.site_config.specs.declared.config.Config.{Config}
 use Rattle.site_config.specs.declared.config.Status.{Status}
-use Rattle.status_page.specs.Effects.{is_change, worker_of}
-use Rattle.status_page.specs.declared.command.StatusCommand.{StatusCommand}
+use Rattle.status_worker.specs.Effects.{is_change, worker_of}
+use Rattle.status_worker.specs.declared.command.StatusCommand.{StatusCommand}
 use Rattle.status_worker.specs.Commands.{IsAllowed, IsNamed, IsWorkFor, NamesNone}
 use Rattle.status_worker.specs.declared.asking.NoPage.{NoPage}
 use Rattle.status_worker.specs.declared.asking.NoPage.TheVariants as no_page

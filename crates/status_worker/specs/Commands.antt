@@ -11,10 +11,10 @@ use Rattle.site_config.specs.declared.balancer.Lb.{Lb}
 use Rattle.site_config.specs.declared.config.Config.{Config}
 use Rattle.site_config.specs.declared.config.Named.TheVariants as named
 use Rattle.site_config.specs.declared.config.Status.{Status}
-use Rattle.status_page.specs.BookCommands.{commands_for}
-use Rattle.status_page.specs.Effects.{is_change, worker_of}
-use Rattle.status_page.specs.Meaning.{meaning_of}
-use Rattle.status_page.specs.declared.command.StatusCommand.{StatusCommand}
+use Rattle.status_worker.specs.BookCommands.{commands_for}
+use Rattle.status_worker.specs.Effects.{is_change, worker_of}
+use Rattle.status_worker.specs.Meaning.{meaning_of}
+use Rattle.status_worker.specs.declared.command.StatusCommand.{StatusCommand}
 use Rattle.status_worker.specs.Desks.{DeskSide}
 use Rattle.status_worker.specs.declared.asking.Work.{Work}
 use Rattle.status_worker.specs.declared.refusal.PageRefusal.{PageRefusal}

@@ -7,13 +7,13 @@ use Rattle.site_config.specs.declared.balancer.Lb.{Lb}
 use Rattle.site_config.specs.declared.config.Config.{Config}
 use Rattle.site_config.specs.declared.config.Status.{Status}
 use Rattle.site_config.specs.declared.endpoint.Endpoint.{Endpoint}
-use Rattle.status_page.specs.Mimes.{content_type, mime_of}
-use Rattle.status_page.specs.Shown.{shown}
-use Rattle.status_page.specs.declared.mime.Mime.{Mime}
-use Rattle.status_page.specs.declared.page.Address.{Address}
-use Rattle.status_page.specs.declared.page.BalancerType.{BalancerType}
-use Rattle.status_page.specs.declared.page.BalancerType.TheVariants as type_is
-use Rattle.status_page.specs.declared.page.PagePart.{PagePart}
+use Rattle.status_worker.specs.Mimes.{content_type, mime_of}
+use Rattle.status_worker.specs.Shown.{shown}
+use Rattle.status_worker.specs.declared.mime.Mime.{Mime}
+use Rattle.status_worker.specs.declared.page.Address.{Address}
+use Rattle.status_worker.specs.declared.page.BalancerType.{BalancerType}
+use Rattle.status_worker.specs.declared.page.BalancerType.TheVariants as type_is
+use Rattle.status_worker.specs.declared.page.PagePart.{PagePart}
 use Rattle.status_worker.specs.declared.pages.Page.{Page}
 
 -- an ajp13 worker that is listed itself stands for a balancer of its own

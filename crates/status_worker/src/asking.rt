@@ -1,14 +1,14 @@
 //! What a status worker's request asks for.
 ghost use Rattle.std.specs.Prelude.{◌≡◌, ◌<◌, ◌&&◌, None, Some, length, IfOk, IfErr, IfSome};
-ghost use Rattle.status_page.specs.Effects.{is_change};
-ghost use Rattle.status_page.specs.Meaning.{meaning_of};
+ghost use Rattle.status_worker.specs.Effects.{is_change};
+ghost use Rattle.status_worker.specs.Meaning.{meaning_of};
 ghost use Rattle.status_worker.specs.Asking.{AsksBy, IfRefused, IsNamedBalancer, IsRefusedBy};
 ghost use Rattle.status_worker.specs.Commands.{Asks, AsksOpen, IsRefused, IsRefusedOpen, IsWorkFor, NamesNone};
 
 use crate::refusal::PageRefusal;
+use crate::{CommandList, StatusCommand, StatusError, commands_for, read_command};
 use jk_io::{Bytes, NoMemory};
 use site_config::{Config, Named, Status};
-use status_page::{CommandList, StatusCommand, StatusError, commands_for, read_command};
 use std::alloc::Global;
 
 /// Why a status worker's request gets no page.

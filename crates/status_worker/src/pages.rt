@@ -1,6 +1,6 @@
 //! The page of a status worker, as a reply.
 ghost use Rattle.std.specs.Prelude.{◌≡◌, ◌<◌, ◌++◌, length, map, IfOk, IfSome, OnOk};
-ghost use Rattle.status_page.specs.Mimes.{mime_of};
+ghost use Rattle.status_worker.specs.Mimes.{mime_of};
 ghost use Rattle.status_worker.specs.Desks.{members_in};
 ghost use Rattle.status_worker.specs.Pages.{
   AreSeen,
@@ -18,14 +18,12 @@ ghost use Rattle.status_worker.specs.Pages.{
 };
 
 use crate::request::PageRequest;
+use crate::{Address, AddressList, BalancerType, Mime, PageList, PagePart, read_mime, render_as};
 use balancer_core::Desk;
 use http_out::{RequestKind, put_date};
 use jk_io::{Bytes, ListOf, NoMemory, put_decimal};
 use jk_model::View;
 use site_config::{Config, Endpoint, Lb};
-use status_page::{
-    Address, AddressList, BalancerType, Mime, PageList, PagePart, read_mime, render_as,
-};
 use std::alloc::Global;
 
 fn type_of(lb: &Lb) -> BalancerType

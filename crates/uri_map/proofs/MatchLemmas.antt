@@ -7,7 +7,7 @@ use Rattle.std.proofs.lemmas.List.{drop-drop}
 use Rattle.std.proofs.lemmas.Option.{some_pair_parts, same_Some}
 use Rattle.std.specs.Option.{option_map, option_map_or, option_or, is_some}
 use Rattle.std.specs.Str.{bytes_eq}
-use Rattle.property_lines.specs.Cut.{cut_at, with_front}
+use Rattle.site_config.specs.Cut.{cut_at, with_front}
 use Rattle.uri_map.specs.Patterns.{has_wildcard, stands_for, some_end, matches}
 use Rattle.uri_map.specs.Pieces.{behind, first_behind}
 

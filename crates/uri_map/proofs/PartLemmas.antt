@@ -2,8 +2,8 @@
 use Rattle.std.proofs.Common.{◌≡◌, ◌==◌, ℕ, List, [], ◌∷◌, ◌++◌, Option, Some, None, refl, sym, ◌∙◌, ap, append_assoc, Bor, ◌+◌, ◌<◌, length, take, get_or}
 use Rattle.std.proofs.lemmas.List.{take_more, map-append}
 use Rattle.std.specs.Option.{option_map, option_or}
-use Rattle.property_lines.specs.Cut.{cut_at}
-use Rattle.property_lines.proofs.WordLemmas.{SplitsSo, split_cut}
+use Rattle.site_config.specs.Cut.{cut_at}
+use Rattle.site_config.proofs.WordLemmas.{SplitsSo, split_cut}
 use Rattle.uri_map.specs.declared.parts.Part.{Part}
 use Rattle.uri_map.specs.PartViews.{as_part, as_parts}
 use Rattle.uri_map.specs.Parts.{before, last_value, part_of, parts_of, pieces_of, value_of}

@@ -4,10 +4,10 @@ use Rattle.std.specs.Option.{option_map, option_and_then}
 use Rattle.std.specs.Str.{bytes_eq}
 use Rattle.jk_io.specs.Decimals.{trimmed}
 use Rattle.jk_model.specs.declared.ask.Terms.{Terms}
-use Rattle.property_lines.specs.Cut.{cut_at}
-use Rattle.property_lines.specs.Lines.{lines, without_mark}
-use Rattle.property_lines.specs.Properties.{is_silent}
-use Rattle.property_lines.specs.Refusals.{LineRefusal}
+use Rattle.site_config.specs.Cut.{cut_at}
+use Rattle.site_config.specs.Lines.{lines, without_mark}
+use Rattle.site_config.specs.Properties.{is_silent}
+use Rattle.site_config.specs.Refusals.{LineRefusal}
 use Rattle.site_config.specs.declared.config.Config.{Config}
 use Rattle.site_config.specs.declared.config.Named.{Named}
 use Rattle.site_config.specs.declared.config.Named.TheVariants as named

@@ -6,9 +6,9 @@ use Rattle.std.specs.Str.{bytes_eq}
 use Rattle.jk_io.specs.Decimals.{trimmed}
 use Rattle.jk_model.specs.declared.ask.Terms.{Terms}
 use Rattle.jk_model.specs.declared.member.MemberConfig.{MemberConfig}
-use Rattle.property_lines.specs.Cut.{cut_at}
-use Rattle.property_lines.specs.Names.{words}
-use Rattle.property_lines.specs.Values.{number_in, truth_of}
+use Rattle.site_config.specs.Cut.{cut_at}
+use Rattle.site_config.specs.Names.{words}
+use Rattle.site_config.specs.Values.{number_in, truth_of}
 use Rattle.uri_map.specs.Members.{are_members, set_of}
 
 unfoldable pub sticky_ignore : List ℕ

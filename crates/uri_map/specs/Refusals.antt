@@ -1,6 +1,6 @@
 -- The refusals of a uriworkermap.properties, each with its line and its number.
 use Rattle.std.specs.Prelude.{◌≡◌, ℕ, Option, Some, None, Result, Ok, Err}
-use Rattle.property_lines.specs.Refusals.{LineRefusal}
+use Rattle.site_config.specs.Refusals.{LineRefusal}
 use Rattle.uri_map.specs.declared.error.MapReason.{MapReason}
 use Rattle.uri_map.specs.declared.error.MapReason.TheVariants as reason
 use Rattle.uri_map.specs.declared.error.MapError.{MapError}

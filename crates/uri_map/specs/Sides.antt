@@ -1,7 +1,7 @@
 -- The left side of a rule: its marks, and the patterns.
 use Rattle.std.specs.Prelude.{ℕ, Bool, true, false, List, [], ◌∷◌, ◌++◌, Option, Some, None, is_some, if◌then◌else◌, ◌==◌}
 use Rattle.std.specs.Option.{option_map, option_map_or}
-use Rattle.property_lines.specs.Cut.{cut_at}
+use Rattle.site_config.specs.Cut.{cut_at}
 use Rattle.uri_map.specs.declared.side.Side.{Side}
 use Rattle.uri_map.specs.declared.side.Patterns.{Patterns}
 

@@ -1,7 +1,7 @@
 //! Reading a map, line by line.
 ghost use Rattle.std.specs.Prelude.{◌≡◌, ◌≤◌, ◌+◌, ◌++◌, map, length, true, Some, IfOk, OnOk};
 ghost use Rattle.std.specs.Option.{option_map};
-ghost use Rattle.property_lines.specs.Properties.{is_silent};
+ghost use Rattle.site_config.specs.Properties.{is_silent};
 ghost use Rattle.uri_map.specs.Lines.{made_rules, read_text, rules_of, said, with_rules};
 ghost use Rattle.uri_map.specs.Refusals.{Gives, code_in};
 ghost use Rattle.uri_map.specs.Sides.{as_patterns};
@@ -16,8 +16,7 @@ use crate::side::{Patterns, left_of, patterns_of};
 use crate::uri_map::UriMap;
 use crate::workers::Workers;
 use jk_io::{Bytes, NoMemory, trim};
-use property_lines::{cut_at, first_line, without_mark};
-use site_config::Config;
+use site_config::{Config, cut_at, first_line, without_mark};
 use std::alloc::Global;
 
 /// The pattern P, or P with S after it.

@@ -2,11 +2,11 @@
 //! at the path's end, so that no place of the path is tried twice for one piece.
 ghost use Rattle.std.specs.Prelude.{◌≡◌, List, ℕ, None};
 ghost use Rattle.std.specs.Option.{option_map};
-ghost use Rattle.property_lines.specs.Cut.{cut_at};
+ghost use Rattle.site_config.specs.Cut.{cut_at};
 ghost use Rattle.uri_map.specs.Patterns.{stands_for, some_end, matches};
 ghost use Rattle.uri_map.specs.Pieces.{behind, first_behind};
 
-use property_lines::cut_at;
+use site_config::cut_at;
 
 fn stands_for(c: u8, b: u8) -> bool
     ensures { result ≡ stands_for c b }

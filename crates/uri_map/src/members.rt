@@ -1,12 +1,12 @@
 //! Members of a balancer by their names.
 ghost use Rattle.std.specs.Prelude.{◌≡◌, ◌≤◌, ◌<◌, length, map, IfOk};
-ghost use Rattle.property_lines.specs.Names.{words};
+ghost use Rattle.site_config.specs.Names.{words};
 ghost use Rattle.uri_map.specs.Members.{are_members, is_member, is_named, set_of};
 ghost use Rattle.jk_model.specs.declared.config.TheConstants.{MAX_MEMBERS};
 
 use jk_io::NoMemory;
 use jk_model::MemberConfig;
-use property_lines::push_words;
+use site_config::push_words;
 use std::alloc::Global;
 
 fn is_member(members: &[MemberConfig], name: &[u8]) -> bool

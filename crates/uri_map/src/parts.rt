@@ -11,7 +11,7 @@ ghost use Rattle.jk_model.specs.declared.config.TheConstants.{MAX_MEMBERS};
 use crate::members::{listed_set, lists_members};
 use jk_io::{NoMemory, trim};
 use jk_model::{MemberConfig, Terms};
-use property_lines::{cut_at, number_in, truth_of};
+use site_config::{cut_at, number_in, truth_of};
 use std::alloc::Global;
 
 /// A part, its name and value without outer blanks.

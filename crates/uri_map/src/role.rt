@@ -12,8 +12,7 @@ use crate::rule::{Mount, Role};
 use crate::workers::Workers;
 use jk_io::{NoMemory, trim};
 use jk_model::Terms;
-use property_lines::cut_at;
-use site_config::Named;
+use site_config::{Named, cut_at};
 use std::alloc::Global;
 
 /// The listed worker of this name.

@@ -3,7 +3,7 @@ ghost use Rattle.std.specs.Prelude.{◌≡◌, is_some};
 ghost use Rattle.std.specs.Option.{option_map};
 ghost use Rattle.uri_map.specs.Sides.{as_left, as_patterns, behind_byte, behind_exclusion, behind_off, left_of, patterns_of};
 
-use property_lines::cut_at;
+use site_config::cut_at;
 
 /// What stands before the `=` of a rule.
 #[derive(Clone, Copy)]

@@ -1,14 +1,23 @@
-//! Reads rows of data/ on links and on AJPv1.3, does on the wire what each says, and shows each row that comes out otherwise.
+//! Reads rows of data/ on links, AJPv1.3, HTTP and what is forwarded, does on the wire what each says, and shows each row that
+//! comes out otherwise.
 //!
-//! The wanted answer stands at the end of a row. It comes from the AJPv1.3 reference, or the scripts of vectors/. How a row is
-//! written stands in `check_rows::rows`, and what its fields are at the head of each file of crates/checks/data/wire.
+//! The wanted answer stands at the end of a row. It comes from RFC 9110, RFC 9112, the AJPv1.3 reference, or the scripts of
+//! vectors/. How a row is written stands in `check_rows::rows`, and what its fields are at the head of each file of
+//! crates/checks/data/wire and http.
 #![tactic(auto)]
 
 mod area;
+mod bodies;
+mod heads;
+mod http_area;
+mod laws;
 mod links;
 mod messages;
 mod packets;
+mod replies;
 mod requests;
+mod routes;
 mod vectors;
 
 pub use area::judge;
+pub use http_area::judge_http;

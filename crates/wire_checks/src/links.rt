@@ -1,8 +1,8 @@
 //! Links in memory, and numbers in decimal digits.
 
+use check_rows::echo;
 use check_rows::rows::{bytes_of, number, numbers_of};
 use check_rows::telling::{part, put_bytes, put_faults, put_plain, put_shown, put_word};
-use io_checks::echo;
 use jk_io::{
     Bytes, IoError, MemLink, NoMemory, NumberList, Sink, Source, parse_decimal, put_decimal, trim,
 };

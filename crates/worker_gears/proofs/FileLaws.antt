@@ -13,7 +13,7 @@ use Rattle.std.specs.Cmp.{nat_cmp_is}
 use Rattle.std.specs.Cmp.Lexicographic.{slice_cmp}
 use Rattle.std.specs.declared.cmp.Ordering.{Ordering}
 use Rattle.std.specs.declared.cmp.Ordering.TheVariants.{Less, Equal}
-use Rattle.journal_lines.specs.Names.{name_word}
+use Rattle.journal_text.specs.Names.{name_word}
 use Rattle.worker_gears.specs.Files.{first_word, file_name, file_path}
 
 -- digits after a number add less than one of its units

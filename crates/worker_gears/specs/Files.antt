@@ -1,7 +1,7 @@
 -- The file into which a segment of a journal goes, DIR/NAME-FIRST.jkj, and that of a worker's log, DIR/worker-N.log.
 use Rattle.std.specs.Prelude.{◌≡◌, ℕ, ◌-◌, List, [], ◌∷◌, ◌++◌, Option, Some, None, length, replicate, codes, decimal}
 use Rattle.jk_model.specs.declared.segment.Segment.{Segment}
-use Rattle.journal_lines.specs.Names.{name_word}
+use Rattle.journal_text.specs.Names.{name_word}
 use Rattle.journal_text.specs.SegmentText.{segment_text}
 use Rattle.worker_gears.specs.declared.journal_files.SegmentFile.{SegmentFile}
 

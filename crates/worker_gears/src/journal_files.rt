@@ -1,7 +1,7 @@
 //! The file of a segment: where it lies, and what it holds.
 ghost use Rattle.std.specs.Prelude.{◌≡◌, ◌<◌, ◌++◌, IfOk, OnOk, true};
 ghost use Rattle.std.specs.Fmt.{digit_glyph};
-ghost use Rattle.journal_lines.specs.Names.{escaped_byte, is_plain, name_word};
+ghost use Rattle.journal_text.specs.Names.{escaped_byte, is_plain, name_word};
 ghost use Rattle.journal_text.specs.SegmentText.{segment_text};
 ghost use Rattle.worker_gears.specs.Files.{file_path, first_word};
 

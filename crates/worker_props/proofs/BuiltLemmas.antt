@@ -9,9 +9,9 @@ use Rattle.std.specs.Str.{bytes_eq}
 use Rattle.jk_io.specs.Decimals.{decimal_of}
 use Rattle.jk_model.specs.declared.member.MemberConfig.{MemberConfig}
 use Rattle.jk_model.specs.Ranges.{IsInRange, AreInRange, redirects_within}
-use Rattle.property_lines.specs.declared.property.Property.{Property}
-use Rattle.property_lines.specs.declared.directive.Directive.{Directive}
-use Rattle.property_lines.specs.declared.directive.Directive.TheVariants as directive
+use Rattle.site_config.specs.declared.property.Property.{Property}
+use Rattle.site_config.specs.declared.directive.Directive.{Directive}
+use Rattle.site_config.specs.declared.directive.Directive.TheVariants as directive
 use Rattle.site_config.specs.declared.endpoint.Endpoint.{Endpoint}
 use Rattle.worker_props.specs.declared.row.Row.{Row}
 use Rattle.worker_props.specs.declared.listing.Listing as declared
@@ -22,7 +22,7 @@ use Rattle.worker_props.specs.Listings.{as_listing, as_listings}
 use Rattle.worker_props.specs.Rows.{HasForce, property_at}
 use Rattle.worker_props.specs.Settings.{IsEndpoint, IsMember, number_or, other_at, redirect_in, text_in, text_or}
 use Rattle.worker_props.specs.Site.{AreMembers, routes_of}
-use Rattle.property_lines.specs.Values.{within}
+use Rattle.site_config.specs.Values.{within}
 
 -- the listings so far, after one more
 pub listings_more : (ls : List declared.Listing) (i : ℕ) (d : declared.Listing) → i < length ls → as_listings (take (i + 1) ls) ≡ as_listings (take i ls) ++ as_listing (get_or ls i d) ∷ []

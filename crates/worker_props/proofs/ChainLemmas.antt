@@ -4,13 +4,13 @@ use Rattle.std.proofs.lemmas.Bool.{false≢true, or_cases}
 use Rattle.std.proofs.lemmas.Option.{same_Some, none-some}
 use Rattle.std.proofs.lemmas.Slice.Eq.{bytes_eq-Decides}
 use Rattle.std.specs.Str.{bytes_eq}
-use Rattle.property_lines.specs.declared.property.Property.{Property}
-use Rattle.property_lines.specs.declared.directive.Directive.{Directive}
-use Rattle.property_lines.specs.declared.directive.Directive.TheVariants as directive
-use Rattle.property_lines.specs.declared.error.PropsError.{PropsError}
-use Rattle.property_lines.specs.declared.error.PropsError.TheVariants as errors
-use Rattle.property_lines.specs.Directives.{name_of, worker_part}
-use Rattle.property_lines.specs.Refusals.{LineRefusal, IsRefusal}
+use Rattle.site_config.specs.declared.property.Property.{Property}
+use Rattle.site_config.specs.declared.directive.Directive.{Directive}
+use Rattle.site_config.specs.declared.directive.Directive.TheVariants as directive
+use Rattle.site_config.specs.declared.error.PropsError.{PropsError}
+use Rattle.site_config.specs.declared.error.PropsError.TheVariants as errors
+use Rattle.site_config.specs.Directives.{name_of, worker_part}
+use Rattle.site_config.specs.Refusals.{LineRefusal, IsRefusal}
 use Rattle.worker_props.specs.Ways.{IsBroken}
 use Rattle.worker_props.specs.Given.{IsChain, concerns, gives, is_given, is_among, last_given, names_both, names_worker, target_at, target_in, not_passed, Walks, BreaksAt}
 

@@ -1,11 +1,11 @@
 -- What holds of each listed worker, and a loop that checks them one after another.
 use Rattle.std.proofs.Common.{ℕ, ◌+◌, ◌<◌, ◌≤◌, List, [], ◌∷◌, length, get_or, drop, suc, zero, ◌≡◌, Option, arith, sym, refl, subst, inl, inr}
 use Rattle.std.proofs.lemmas.List.{drop_all, drop_more}
-use Rattle.property_lines.specs.declared.directive.Directive.{Directive}
-use Rattle.property_lines.specs.declared.directive.Directive.TheVariants as directive
-use Rattle.property_lines.specs.declared.property.Property.{Property}
-use Rattle.property_lines.specs.declared.error.PropsError.{PropsError}
-use Rattle.property_lines.specs.Refusals.{LineRefusal, IsRefusal}
+use Rattle.site_config.specs.declared.directive.Directive.{Directive}
+use Rattle.site_config.specs.declared.directive.Directive.TheVariants as directive
+use Rattle.site_config.specs.declared.property.Property.{Property}
+use Rattle.site_config.specs.declared.error.PropsError.{PropsError}
+use Rattle.site_config.specs.Refusals.{LineRefusal, IsRefusal}
 use Rattle.worker_props.specs.Checks.{Checked}
 use Rattle.worker_props.specs.declared.listing.Listing as declared
 use Rattle.worker_props.specs.declared.row.Row.{Row}

@@ -1,10 +1,10 @@
 -- What a configuration that is being made keeps: at most 1,024 balancers, and names that stand for what is there.
 use Rattle.std.proofs.Common.{◌≡◌, ℕ, ◌+◌, ◌<◌, ◌≤◌, true, List, [], ◌∷◌, ◌++◌, length, refl, sym, subst, arith, lit≤, nat_lt, Option, length-append}
 use Rattle.std.proofs.lemmas.Bool.{and_parts}
-use Rattle.property_lines.specs.declared.property.Property.{Property}
-use Rattle.property_lines.specs.declared.directive.Directive.{Directive}
-use Rattle.property_lines.specs.declared.values.WorkerKind.{WorkerKind}
-use Rattle.property_lines.specs.declared.values.WorkerKind.TheVariants as kind
+use Rattle.site_config.specs.declared.property.Property.{Property}
+use Rattle.site_config.specs.declared.directive.Directive.{Directive}
+use Rattle.site_config.specs.declared.values.WorkerKind.{WorkerKind}
+use Rattle.site_config.specs.declared.values.WorkerKind.TheVariants as kind
 use Rattle.site_config.specs.declared.balancer.Lb.{Lb}
 use Rattle.site_config.specs.declared.config.Named.{Named}
 use Rattle.site_config.specs.declared.config.Named.TheVariants as named
@@ -13,7 +13,7 @@ use Rattle.worker_props.specs.declared.draft.Draft.{Draft}
 use Rattle.worker_props.specs.Given.{in_force}
 use Rattle.worker_props.specs.Lists.{Listing}
 use Rattle.worker_props.specs.Settings.{kind_in}
-use Rattle.property_lines.specs.declared.directive.Directive.TheVariants as directive
+use Rattle.site_config.specs.declared.directive.Directive.TheVariants as directive
 use Rattle.worker_props.specs.Site.{AddsKind, Builds, no_workers, with_lb}
 
 below_more : (i a b : ℕ) → a ≤ b → nat_lt i a ≡ true → nat_lt i b ≡ true

@@ -5,12 +5,12 @@ use Rattle.jk_model.specs.declared.config.LbConfig.{LbConfig}
 use Rattle.jk_model.specs.declared.config_error.ConfigError.{ConfigError}
 use Rattle.jk_model.specs.declared.member.MemberConfig.{MemberConfig}
 use Rattle.jk_model.specs.declared.member.Method.{Method}
-use Rattle.property_lines.specs.declared.directive.Directive.{Directive}
-use Rattle.property_lines.specs.declared.directive.Directive.TheVariants as directive
-use Rattle.property_lines.specs.declared.error.PropsError.{PropsError}
-use Rattle.property_lines.specs.declared.property.Property.{Property}
-use Rattle.property_lines.specs.declared.values.WorkerKind.TheVariants as kind
-use Rattle.property_lines.specs.Refusals.{IsRefusal, LineRefusal}
+use Rattle.site_config.specs.declared.directive.Directive.{Directive}
+use Rattle.site_config.specs.declared.directive.Directive.TheVariants as directive
+use Rattle.site_config.specs.declared.error.PropsError.{PropsError}
+use Rattle.site_config.specs.declared.property.Property.{Property}
+use Rattle.site_config.specs.declared.values.WorkerKind.TheVariants as kind
+use Rattle.site_config.specs.Refusals.{IsRefusal, LineRefusal}
 use Rattle.site_config.specs.declared.balancer.Lb.{Lb}
 use Rattle.site_config.specs.declared.endpoint.Endpoint.{Endpoint}
 use Rattle.worker_props.specs.declared.draft.Draft.{Draft}

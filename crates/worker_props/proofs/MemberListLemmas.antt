@@ -10,10 +10,10 @@ use Rattle.std.proofs.Math.Bool.{and-true}
 use Rattle.std.specs.List.{flat_map, slice_get}
 use Rattle.std.specs.Option.{IfSome}
 use Rattle.std.specs.Str.{bytes_eq}
-use Rattle.property_lines.specs.declared.property.Property.{Property}
-use Rattle.property_lines.specs.declared.directive.Directive.TheVariants as directive
-use Rattle.property_lines.specs.Directives.{name_of, worker_part}
-use Rattle.property_lines.specs.Refusals.{LineRefusal}
+use Rattle.site_config.specs.declared.property.Property.{Property}
+use Rattle.site_config.specs.declared.directive.Directive.TheVariants as directive
+use Rattle.site_config.specs.Directives.{name_of, worker_part}
+use Rattle.site_config.specs.Refusals.{LineRefusal}
 use Rattle.worker_props.specs.declared.listing.Listing as declared
 use Rattle.worker_props.specs.Given.{concerns, gives, is_given, names_both, names_worker}
 use Rattle.worker_props.specs.Lists.{Listing, drop_name, firsts, listings_of, members_in, name_part, own_members}

@@ -8,16 +8,16 @@ use Rattle.std.proofs.lemmas.Slice.Eq.{bytes_eq-Decides}
 use Rattle.std.specs.Option.{option_map}
 use Rattle.std.specs.Str.{bytes_eq}
 use Rattle.std.specs.List.{slice_get}
-use Rattle.property_lines.specs.declared.property.Property.{Property}
-use Rattle.property_lines.specs.declared.directive.Directive.{Directive}
-use Rattle.property_lines.specs.declared.property_line.PropertyLine.{PropertyLine}
-use Rattle.property_lines.specs.Entries.{as_property, as_properties}
+use Rattle.site_config.specs.declared.property.Property.{Property}
+use Rattle.site_config.specs.declared.directive.Directive.{Directive}
+use Rattle.site_config.specs.declared.property_line.PropertyLine.{PropertyLine}
+use Rattle.site_config.specs.Entries.{as_property, as_properties}
 use Rattle.worker_props.specs.declared.row.Row.{Row}
-use Rattle.property_lines.specs.Directives.{name_of, slot_of, directive_of, worker_part}
+use Rattle.site_config.specs.Directives.{name_of, slot_of, directive_of, worker_part}
 use Rattle.worker_props.specs.Given.{last_of, last_given, gives, names_both, or_else}
 use Rattle.worker_props.specs.Numbers.{number_of}
 use Rattle.worker_props.specs.Rows.{place_at, HasLines, HasOwn, AreRows, row_with, adjusted, rows_for, rows_at, rows_after}
-use Rattle.property_lines.proofs.DirectiveLemmas.{name_of-none, name_of-other, name_of-same, same_slot, slot_of-within}
+use Rattle.site_config.proofs.DirectiveLemmas.{name_of-none, name_of-other, name_of-same, same_slot, slot_of-within}
 
 -- of the lines that pass, the last: the one at the end, if it does
 pub last_of-snoc : (passes : Property → Bool) (ps : List Property) (p : Property) → last_of passes (ps ++ p ∷ []) ≡ cond (passes p) (Some p) (last_of passes ps)

@@ -3,8 +3,8 @@ use Rattle.std.proofs.Common.{◌≡◌, ℕ, ◌+◌, ◌<◌, Bool, true, fals
 use Rattle.std.proofs.Math.Bool.{or-false}
 use Rattle.std.proofs.lemmas.List.{take_more}
 use Rattle.std.proofs.lemmas.List.Folds.{list_any-append}
-use Rattle.property_lines.specs.declared.property.Property.{Property}
-use Rattle.property_lines.specs.Directives.{worker_part}
+use Rattle.site_config.specs.declared.property.Property.{Property}
+use Rattle.site_config.specs.Directives.{worker_part}
 use Rattle.worker_props.specs.Given.{names_worker}
 use Rattle.worker_props.specs.Table.{with_name, names_with, IsNameOfGiven}
 use Rattle.std.specs.Option.{option_map, is_some}

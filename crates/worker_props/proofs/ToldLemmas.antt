@@ -7,16 +7,16 @@ use Rattle.std.specs.Option.{option_to_list}
 use Rattle.jk_io.specs.Decimals.{trimmed}
 use Rattle.std.specs.List.{list_any, flat_map}
 use Rattle.std.specs.Str.{bytes_eq}
-use Rattle.property_lines.specs.declared.error.PropsError.{PropsError}
-use Rattle.property_lines.specs.declared.error.PropsError.TheVariants as errors
-use Rattle.property_lines.specs.declared.property.Property.{Property}
-use Rattle.property_lines.specs.declared.directive.Directive.{Directive}
-use Rattle.property_lines.specs.declared.directive.Directive.TheVariants as directive
-use Rattle.property_lines.specs.Directives.{name_of, worker_part, list_key, maintain_key}
-use Rattle.property_lines.specs.Entries.{as_properties}
-use Rattle.property_lines.specs.Lines.{lines, without_mark}
-use Rattle.property_lines.specs.Properties.{before_rest, read_lines, read_text, said, with_properties}
-use Rattle.property_lines.specs.Refusals.{Gives, LineRefusal, IsRefusal}
+use Rattle.site_config.specs.declared.error.PropsError.{PropsError}
+use Rattle.site_config.specs.declared.error.PropsError.TheVariants as errors
+use Rattle.site_config.specs.declared.property.Property.{Property}
+use Rattle.site_config.specs.declared.directive.Directive.{Directive}
+use Rattle.site_config.specs.declared.directive.Directive.TheVariants as directive
+use Rattle.site_config.specs.Directives.{name_of, worker_part, list_key, maintain_key}
+use Rattle.site_config.specs.Entries.{as_properties}
+use Rattle.site_config.specs.Lines.{lines, without_mark}
+use Rattle.site_config.specs.Properties.{before_rest, read_lines, read_text, said, with_properties}
+use Rattle.site_config.specs.Refusals.{Gives, LineRefusal, IsRefusal}
 use Rattle.site_config.specs.declared.config.Config.{Config}
 use Rattle.worker_props.specs.declared.draft.Draft.{Draft}
 use Rattle.worker_props.specs.declared.told.Told.{Told}

@@ -8,8 +8,8 @@ use Rattle.std.specs.Option.{is_some}
 use Rattle.std.proofs.lemmas.List.{map-append, reverse-append, take_all}
 use Rattle.std.specs.Str.{bytes_eq}
 use Rattle.std.specs.List.{slice_get}
-use Rattle.property_lines.specs.declared.property.Property.{Property}
-use Rattle.property_lines.specs.declared.directive.Directive.TheVariants as directive
+use Rattle.site_config.specs.declared.property.Property.{Property}
+use Rattle.site_config.specs.declared.directive.Directive.TheVariants as directive
 use Rattle.worker_props.specs.declared.row.Row.{Row}
 use Rattle.worker_props.specs.declared.row.Progress.{Progress}
 use Rattle.worker_props.specs.declared.row.Progress.TheVariants as progress

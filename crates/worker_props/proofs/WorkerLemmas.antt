@@ -4,19 +4,19 @@ use Rattle.std.proofs.lemmas.List.{drop_all, drop_more}
 use Rattle.std.proofs.lemmas.Nat.Gcd.{IsGcd-from_zero, IsGcd-from_mod, IsGcd-swap}
 use Rattle.jk_model.specs.Multiple.{multiple_of}
 use Rattle.jk_model.proofs.MultipleFacts.{multiple_of_two-by}
-use Rattle.property_lines.specs.declared.property.Property.{Property}
-use Rattle.property_lines.specs.declared.directive.Directive.{Directive}
-use Rattle.property_lines.specs.declared.directive.Directive.TheVariants as directive
+use Rattle.site_config.specs.declared.property.Property.{Property}
+use Rattle.site_config.specs.declared.directive.Directive.{Directive}
+use Rattle.site_config.specs.declared.directive.Directive.TheVariants as directive
 use Rattle.worker_props.specs.declared.draft.Draft.{Draft}
-use Rattle.property_lines.specs.declared.error.PropsError.{PropsError}
-use Rattle.property_lines.specs.declared.error.PropsError.TheVariants as errors
+use Rattle.site_config.specs.declared.error.PropsError.{PropsError}
+use Rattle.site_config.specs.declared.error.PropsError.TheVariants as errors
 use Rattle.worker_props.specs.declared.listing.Listing as declared
 use Rattle.worker_props.specs.declared.row.Row.{Row}
 use Rattle.worker_props.specs.Building.{IsBuilding}
 use Rattle.worker_props.specs.Given.{in_force}
 use Rattle.worker_props.specs.Lists.{Listing}
 use Rattle.worker_props.specs.Listings.{as_listing, as_listings}
-use Rattle.property_lines.specs.Refusals.{LineRefusal, IsRefusal}
+use Rattle.site_config.specs.Refusals.{LineRefusal, IsRefusal}
 use Rattle.worker_props.specs.Rows.{HasForce, property_at}
 use Rattle.worker_props.specs.Settings.{kind_in}
 use Rattle.worker_props.specs.Site.{Adds, AddsKind, Builds, Known, Refuses, Stops}

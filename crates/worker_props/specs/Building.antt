@@ -1,9 +1,9 @@
 -- A loop over the listed workers, as far as it has come: what is left decides the whole.
 use Rattle.std.specs.Prelude.{ℕ, List}
-use Rattle.property_lines.specs.declared.property.Property.{Property}
+use Rattle.site_config.specs.declared.property.Property.{Property}
 use Rattle.worker_props.specs.declared.draft.Draft.{Draft}
 use Rattle.worker_props.specs.Lists.{Listing}
-use Rattle.property_lines.specs.Refusals.{LineRefusal}
+use Rattle.site_config.specs.Refusals.{LineRefusal}
 use Rattle.worker_props.specs.Site.{Builds, Stops}
 
 pub record IsBuilding (ps : List Property) (maintain : ℕ) (all : List Listing) (start : Draft) (rest : List Listing) (now : Draft) : Type 0 where

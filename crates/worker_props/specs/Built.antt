@@ -1,8 +1,8 @@
 -- Members that are made of the rows of their workers.
 use Rattle.std.specs.Prelude.{ℕ, ◌+◌, List, [], ◌∷◌}
 use Rattle.jk_model.specs.declared.member.MemberConfig.{MemberConfig}
-use Rattle.property_lines.specs.declared.property.Property.{Property}
-use Rattle.property_lines.specs.declared.directive.Directive.TheVariants as directive
+use Rattle.site_config.specs.declared.property.Property.{Property}
+use Rattle.site_config.specs.declared.directive.Directive.TheVariants as directive
 use Rattle.site_config.specs.declared.endpoint.Endpoint.{Endpoint}
 use Rattle.worker_props.specs.declared.row.Row.{Row}
 use Rattle.worker_props.specs.Lists.{Listing}

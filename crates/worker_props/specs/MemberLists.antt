@@ -1,7 +1,7 @@
 -- The lists of members, by the number of the worker whose lines they are.
 use Rattle.std.specs.Prelude.{◌≡◌, ℕ, Bool, false, List, [], ◌++◌, Option, Some, None, length, slice_get, if◌then◌else◌, ◌==◌}
-use Rattle.property_lines.specs.declared.property.Property.{Property}
-use Rattle.property_lines.specs.declared.directive.Directive.TheVariants as directive
+use Rattle.site_config.specs.declared.property.Property.{Property}
+use Rattle.site_config.specs.declared.directive.Directive.TheVariants as directive
 use Rattle.worker_props.specs.declared.listing.Listing as declared
 use Rattle.worker_props.specs.Given.{gives}
 use Rattle.worker_props.specs.Lists.{firsts, listings_of, own_members}

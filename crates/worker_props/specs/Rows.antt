@@ -1,11 +1,11 @@
 -- Rows of places, and the lines at them.
 use Rattle.std.specs.Prelude.{◌≡◌, ℕ, List, Option, Some, None, [], ◌∷◌, zero, suc, slice_index_or, slice_get, slice_set, take, length}
 use Rattle.std.specs.Option.{is_some}
-use Rattle.property_lines.specs.declared.property.Property.{Property}
-use Rattle.property_lines.specs.declared.directive.Directive.{Directive}
+use Rattle.site_config.specs.declared.property.Property.{Property}
+use Rattle.site_config.specs.declared.directive.Directive.{Directive}
 use Rattle.worker_props.specs.declared.row.Row.{Row}
 use Rattle.worker_props.specs.declared.row.Progress.TheVariants as progress
-use Rattle.property_lines.specs.Directives.{slot_of, directive_of, worker_part}
+use Rattle.site_config.specs.Directives.{slot_of, directive_of, worker_part}
 use Rattle.worker_props.specs.Numbers.{number_of}
 use Rattle.worker_props.specs.Given.{last_given, IsChain, in_force}
 

@@ -7,15 +7,15 @@ use Rattle.jk_model.specs.declared.member.Activation.TheVariants as activation
 use Rattle.jk_model.specs.declared.member.Method.{Method}
 use Rattle.jk_model.specs.declared.member.Method.TheVariants as method
 use Rattle.jk_model.specs.declared.member.MemberConfig.{MemberConfig}
-use Rattle.property_lines.specs.declared.property.Property.{Property}
-use Rattle.property_lines.specs.declared.values.WorkerKind.{WorkerKind}
-use Rattle.property_lines.specs.declared.values.WorkerKind.TheVariants as kind
-use Rattle.property_lines.specs.declared.directive.Directive.{Directive}
-use Rattle.property_lines.specs.declared.directive.Directive.TheVariants as directive
+use Rattle.site_config.specs.declared.property.Property.{Property}
+use Rattle.site_config.specs.declared.values.WorkerKind.{WorkerKind}
+use Rattle.site_config.specs.declared.values.WorkerKind.TheVariants as kind
+use Rattle.site_config.specs.declared.directive.Directive.{Directive}
+use Rattle.site_config.specs.declared.directive.Directive.TheVariants as directive
 use Rattle.site_config.specs.declared.endpoint.Endpoint.{Endpoint}
 use Rattle.site_config.specs.declared.limits.MemberLimits.{MemberLimits}
 use Rattle.worker_props.specs.Given.{or_else}
-use Rattle.property_lines.specs.Values.{number_in, truth_of, kind_of, activation_of, method_of, pings, statuses_of}
+use Rattle.site_config.specs.Values.{number_in, truth_of, kind_of, activation_of, method_of, pings, statuses_of}
 
 -- the value of a directive in force
 abbrev pub text_in : Option Property → Option (List ℕ)

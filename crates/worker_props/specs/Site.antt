@@ -7,21 +7,21 @@ use Rattle.jk_model.specs.Multiple.{multiple_of}
 use Rattle.jk_model.specs.Ranges.{factors_in}
 use Rattle.jk_model.specs.declared.member.MemberConfig.{MemberConfig}
 use Rattle.jk_model.specs.declared.member.Method.TheVariants as method
-use Rattle.property_lines.specs.declared.property.Property.{Property}
-use Rattle.property_lines.specs.declared.values.WorkerKind.{WorkerKind}
-use Rattle.property_lines.specs.declared.values.WorkerKind.TheVariants as kind
-use Rattle.property_lines.specs.declared.directive.Directive.{Directive}
-use Rattle.property_lines.specs.declared.directive.Directive.TheVariants as directive
-use Rattle.property_lines.specs.declared.error.PropsReason.TheVariants as reason
+use Rattle.site_config.specs.declared.property.Property.{Property}
+use Rattle.site_config.specs.declared.values.WorkerKind.{WorkerKind}
+use Rattle.site_config.specs.declared.values.WorkerKind.TheVariants as kind
+use Rattle.site_config.specs.declared.directive.Directive.{Directive}
+use Rattle.site_config.specs.declared.directive.Directive.TheVariants as directive
+use Rattle.site_config.specs.declared.error.PropsReason.TheVariants as reason
 use Rattle.site_config.specs.declared.endpoint.Endpoint.{Endpoint}
 use Rattle.site_config.specs.declared.balancer.Lb.{Lb}
 use Rattle.site_config.specs.declared.config.Status.{Status}
 use Rattle.site_config.specs.declared.config.Config.{Config}
 use Rattle.worker_props.specs.declared.draft.Draft.{Draft}
 use Rattle.site_config.specs.declared.config.Named.TheVariants as named
-use Rattle.property_lines.specs.Refusals.{LineRefusal, refusal}
-use Rattle.property_lines.specs.Directives.{directive_of, worker_part, list_key, maintain_key}
-use Rattle.property_lines.specs.Properties.{read_text}
+use Rattle.site_config.specs.Refusals.{LineRefusal, refusal}
+use Rattle.site_config.specs.Directives.{directive_of, worker_part, list_key, maintain_key}
+use Rattle.site_config.specs.Properties.{read_text}
 use Rattle.worker_props.specs.Given.{IsChain, in_force, is_given, last_of, BreaksAt}
 use Rattle.worker_props.specs.Lists.{Listing, firsts, site_list, members_in}
 use Rattle.worker_props.specs.Settings.{IsEndpoint, IsMember, filled_or, is_closed, kind_in, method_in, number_or, shared, text_in, truth_or}

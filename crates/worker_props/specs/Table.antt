@@ -1,7 +1,7 @@
 -- Names with their numbers.
 use Rattle.std.specs.Prelude.{◌≡◌, ℕ, List, [], ◌∷◌, Option, Some, None, if◌then◌else◌, ◌++◌}
 use Rattle.std.specs.Option.{is_some}
-use Rattle.property_lines.specs.declared.property.Property.{Property}
+use Rattle.site_config.specs.declared.property.Property.{Property}
 use Rattle.worker_props.specs.Given.{is_given}
 use Rattle.worker_props.specs.Numbers.{number_of}
 

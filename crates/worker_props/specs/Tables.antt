@@ -1,7 +1,7 @@
 -- The lines of a text, and the rows of its workers while no walk goes on.
 use Rattle.std.specs.Prelude.{List, []}
-use Rattle.property_lines.specs.Entries.{as_properties}
-use Rattle.property_lines.specs.declared.property.Property.{Property}
+use Rattle.site_config.specs.Entries.{as_properties}
+use Rattle.site_config.specs.declared.property.Property.{Property}
 use Rattle.worker_props.specs.Ways.{AreOnWay}
 use Rattle.worker_props.specs.declared.given.Given.{Given}
 use Rattle.worker_props.specs.declared.row.Row.{Row}

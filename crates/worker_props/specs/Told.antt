@@ -4,11 +4,11 @@ use Rattle.std.specs.Prelude.{◌≡◌, ◌++◌, ℕ, Bool, true, List, Option
 use Rattle.std.specs.Option.{option_to_list}
 use Rattle.std.specs.Str.{bytes_eq}
 use Rattle.jk_io.specs.Decimals.{trimmed}
-use Rattle.property_lines.specs.declared.property.Property.{Property}
-use Rattle.property_lines.specs.Directives.{worker_part, list_key, maintain_key}
-use Rattle.property_lines.specs.Entries.{as_properties}
-use Rattle.property_lines.specs.Lines.{lines}
-use Rattle.property_lines.specs.Properties.{read_lines, read_text, said, with_properties}
+use Rattle.site_config.specs.declared.property.Property.{Property}
+use Rattle.site_config.specs.Directives.{worker_part, list_key, maintain_key}
+use Rattle.site_config.specs.Entries.{as_properties}
+use Rattle.site_config.specs.Lines.{lines}
+use Rattle.site_config.specs.Properties.{read_lines, read_text, said, with_properties}
 use Rattle.worker_props.specs.declared.told.Told.{Told}
 use Rattle.worker_props.specs.Site.{ignored_of}
 

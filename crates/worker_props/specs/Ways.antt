@@ -1,14 +1,14 @@
 -- Walks along references, and the rows that they pass.
 use Rattle.std.specs.Prelude.{◌≡◌, ℕ, Bool, true, false, List, [], ◌∷◌, Option, Some, None, length, slice_get, if◌then◌else◌, ◌+◌}
 use Rattle.std.specs.Option.{option_and_then}
-use Rattle.property_lines.specs.declared.property.Property.{Property}
-use Rattle.property_lines.specs.declared.directive.Directive.{Directive}
-use Rattle.property_lines.specs.declared.directive.Directive.TheVariants as directive
+use Rattle.site_config.specs.declared.property.Property.{Property}
+use Rattle.site_config.specs.declared.directive.Directive.{Directive}
+use Rattle.site_config.specs.declared.directive.Directive.TheVariants as directive
 use Rattle.worker_props.specs.declared.row.Row.{Row}
 use Rattle.worker_props.specs.declared.row.Progress.{Progress}
 use Rattle.worker_props.specs.declared.row.Progress.TheVariants as progress
-use Rattle.property_lines.specs.declared.error.PropsError.{PropsError}
-use Rattle.property_lines.specs.declared.error.PropsError.TheVariants as errors
+use Rattle.site_config.specs.declared.error.PropsError.{PropsError}
+use Rattle.site_config.specs.declared.error.PropsError.TheVariants as errors
 use Rattle.worker_props.specs.Numbers.{number_of}
 use Rattle.worker_props.specs.Given.{last_given, is_given, is_among, target_at, target_in, Walks, BreaksAt, or_else}
 use Rattle.worker_props.specs.Rows.{place_at, property_at, HasLines, HasForce, AreRows}

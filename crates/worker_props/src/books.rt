@@ -1,10 +1,10 @@
 //! Balancers that are made of lb workers, and of ajp13 workers that are listed themselves.
 ghost use Rattle.std.specs.Prelude.{◌≡◌, ◌≤◌, ◌<◌, length, IfOk, IfErr, OnErr, OnOk};
 ghost use Rattle.jk_model.specs.Ranges.{AreInRange};
-ghost use Rattle.property_lines.specs.Entries.{as_properties};
+ghost use Rattle.site_config.specs.Entries.{as_properties};
 ghost use Rattle.worker_props.specs.Books.{AreBookable, AreTooWide, IsBook, IsLbOf, HasParts, RefusesWide};
 ghost use Rattle.worker_props.specs.Listings.{as_listing, as_listings};
-ghost use Rattle.property_lines.specs.Refusals.{IsRefusal};
+ghost use Rattle.site_config.specs.Refusals.{IsRefusal};
 ghost use Rattle.worker_props.specs.Rows.{property_at};
 ghost use Rattle.worker_props.specs.Site.{Each, IsDirect, IsLb, Known, Chained, RefusesBook, line_in};
 ghost use Rattle.worker_props.specs.Tables.{AreAtRest, lines_in};
@@ -18,8 +18,7 @@ use crate::row::{Row, picked};
 use crate::settings::{filled_or, method, number_or, text, truth_or};
 use jk_io::{Bytes, ListOf};
 use jk_model::{ConfigError, LbConfig, MemberList, Method};
-use property_lines::{Directive, PropertyLine, PropsError, PropsReason, refused};
-use site_config::{Endpoint, Lb};
+use site_config::{Directive, Endpoint, Lb, PropertyLine, PropsError, PropsReason, refused};
 use std::alloc::Global;
 
 /// The line of the worker's type; 0 where none gives it.

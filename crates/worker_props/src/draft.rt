@@ -3,8 +3,7 @@ ghost use Rattle.std.specs.Prelude.{◌≡◌, OnOk, IfErr};
 ghost use Rattle.worker_props.specs.Site.{no_workers, with_lb, with_status};
 
 use jk_io::{Bytes, ListOf};
-use property_lines::PropsError;
-use site_config::{Lb, LbList, Named, NamedList, Status, StatusList};
+use site_config::{Lb, LbList, Named, NamedList, PropsError, Status, StatusList};
 use std::alloc::Global;
 
 /// The balancers, the status workers and the listed names so far. Places that a u32 can't hold count as want of memory.

@@ -1,14 +1,14 @@
 //! What the lines of a text give, as one value.
 ghost use Rattle.std.specs.Prelude.{◌≡◌, ◌<◌, ◌^◌, [], length};
 ghost use Rattle.jk_model.specs.Ranges.{IsPeriod};
-ghost use Rattle.property_lines.specs.Entries.{as_properties};
+ghost use Rattle.site_config.specs.Entries.{as_properties};
 ghost use Rattle.worker_props.specs.MemberLists.{HaveMembers};
 ghost use Rattle.worker_props.specs.Table.{IsNameOfGiven};
 
 use crate::listing::Listing;
 use crate::name_table::NameTable;
 use jk_io::ListOf;
-use property_lines::PropertyLine;
+use site_config::PropertyLine;
 
 /// The lines of a text, the numbers of the workers that have a directive, and by these numbers the members that each
 /// worker's own lines list.

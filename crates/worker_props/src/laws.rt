@@ -1,6 +1,6 @@
 //! A law of the site's definition, in words of its own.
 ghost use Rattle.std.specs.Prelude.{◌≡◌, ℕ, List};
-ghost use Rattle.property_lines.specs.Refusals.{LineRefusal};
+ghost use Rattle.site_config.specs.Refusals.{LineRefusal};
 ghost use Rattle.site_config.specs.declared.config.Config.{Config};
 ghost use Rattle.worker_props.specs.Site.{IsConfig, IsRefused};
 

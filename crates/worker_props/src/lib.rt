@@ -27,7 +27,7 @@ mod told;
 mod whole;
 mod workers;
 
-pub use property_lines::{Property, PropertyList, PropsError, read_properties};
+pub use site_config::{Property, PropertyList, PropsError, read_properties};
 pub use site_config::{
     Config, EndList, Endpoint, IgnoredList, Lb, LbList, Named, NamedList, Status, StatusList,
 };

@@ -1,13 +1,12 @@
 //! A member's time limits.
 ghost use Rattle.std.specs.Prelude.{◌≡◌};
-ghost use Rattle.property_lines.specs.Entries.{as_properties};
+ghost use Rattle.site_config.specs.Entries.{as_properties};
 ghost use Rattle.worker_props.specs.Rows.{property_at};
 ghost use Rattle.worker_props.specs.Settings.{AreLimits};
 
 use crate::row::Row;
 use crate::settings::{limit, truth};
-use property_lines::{Directive, PropertyLine};
-use site_config::MemberLimits;
+use site_config::{Directive, MemberLimits, PropertyLine};
 
 /// A day.
 const MOST_SECONDS: u64 = 86_400;

@@ -1,12 +1,12 @@
 //! The lists of workers: `worker.list` and `balance_workers`.
 ghost use Rattle.std.specs.Prelude.{◌≡◌, ◌++◌, map, IfOk, OnOk};
-ghost use Rattle.property_lines.specs.Entries.{as_property, as_properties};
+ghost use Rattle.site_config.specs.Entries.{as_property, as_properties};
 ghost use Rattle.worker_props.specs.Lists.{firsts, listings_of, joined, is_list_line, site_list};
 ghost use Rattle.worker_props.specs.Listings.{as_listings};
 
 use crate::firsts::firsts;
 use jk_io::{ListOf, NoMemory};
-use property_lines::{PropertyLine, is_list_key, push_words};
+use site_config::{PropertyLine, is_list_key, push_words};
 use std::alloc::Global;
 
 /// A name of a list, and the line on which it stands.

@@ -1,7 +1,7 @@
 //! A member of a balancer.
 ghost use Rattle.std.specs.Prelude.{◌≡◌, ◌<◌, ◌+◌, ◌||◌, map, IfOk, OnOk, length, None};
 ghost use Rattle.std.specs.Option.{option_map};
-ghost use Rattle.property_lines.specs.Entries.{as_properties};
+ghost use Rattle.site_config.specs.Entries.{as_properties};
 ghost use Rattle.worker_props.specs.Rows.{property_at};
 ghost use Rattle.worker_props.specs.Settings.{IsEndpoint, IsMember, is_limited, limit_in, redirect_in, other_at, shared, statuses_in, text_in};
 ghost use Rattle.jk_model.specs.declared.config.TheConstants.{MAX_MEMBERS};
@@ -11,8 +11,7 @@ use crate::row::Row;
 use crate::settings::{activation, is_limited, number_or, text, text_or};
 use jk_io::{Bytes, ListOf, NoMemory};
 use jk_model::{FailList, MemberConfig};
-use property_lines::{Directive, PropertyLine, pings, statuses_of};
-use site_config::Endpoint;
+use site_config::{Directive, Endpoint, PropertyLine, pings, statuses_of};
 use std::alloc::Global;
 
 fn copied(alloc: Global, text: Option<&[u8]>) -> Result<Option<Bytes>, NoMemory>

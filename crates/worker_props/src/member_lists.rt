@@ -1,8 +1,8 @@
 //! The members that each worker's own lines list: each list is read once, however many balancers have it.
 ghost use Rattle.std.specs.Prelude.{◌≡◌, ℕ, All, List, [], Some, length, map, IfOk, IfSome, OnOk, ◌<◌, vec_len};
-ghost use Rattle.property_lines.specs.Entries.{as_property, as_properties};
+ghost use Rattle.site_config.specs.Entries.{as_property, as_properties};
 ghost use Rattle.worker_props.specs.Given.{gives};
-ghost use Rattle.property_lines.specs.Directives.{worker_part};
+ghost use Rattle.site_config.specs.Directives.{worker_part};
 ghost use Rattle.worker_props.specs.Lists.{firsts, members_in, name_part};
 ghost use Rattle.worker_props.specs.Listings.{as_listings};
 ghost use Rattle.worker_props.specs.MemberLists.{AddsLine, HaveLines, HaveMembers, is_number};
@@ -16,7 +16,7 @@ use crate::listing::{Listing, push_listings};
 use crate::name_table::NameTable;
 use crate::row::{Row, picked};
 use jk_io::{ListOf, NoMemory};
-use property_lines::{Directive, PropertyLine, worker_part};
+use site_config::{Directive, PropertyLine, worker_part};
 use std::alloc::Global;
 
 /// Lists of members, by the number of the worker whose lines they are.

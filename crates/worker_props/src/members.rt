@@ -3,9 +3,9 @@ ghost use Rattle.std.specs.Prelude.{◌≡◌, ◌≤◌, ◌<◌, ◌+◌, [], 
 ghost use Rattle.std.specs.Option.{option_map};
 ghost use Rattle.jk_model.specs.Ranges.{AreInRange};
 ghost use Rattle.worker_props.specs.Built.{HaveForce, AreBuilt, routes_at};
-ghost use Rattle.property_lines.specs.Entries.{as_properties};
+ghost use Rattle.site_config.specs.Entries.{as_properties};
 ghost use Rattle.worker_props.specs.Listings.{as_listing, as_listings};
-ghost use Rattle.property_lines.specs.Refusals.{IsRefusal};
+ghost use Rattle.site_config.specs.Refusals.{IsRefusal};
 ghost use Rattle.worker_props.specs.Site.{AreMembers, Breaks, Chained, Each, FirstBad, IsAjp13, IsNoAjp13, IsUnknown, Known, routes_of};
 ghost use Rattle.worker_props.specs.Tables.{AreAtRest, lines_in};
 ghost use Rattle.jk_model.specs.declared.config.TheConstants.{MAX_MEMBERS};
@@ -17,8 +17,7 @@ use crate::row::Row;
 use crate::settings::text_or;
 use crate::site::{check_ajp13, check_known, check_reference, force_of};
 use jk_model::MemberConfig;
-use property_lines::{Directive, PropertyLine, PropsError};
-use site_config::Endpoint;
+use site_config::{Directive, Endpoint, PropertyLine, PropsError};
 use std::alloc::Global;
 
 /// Whether the references of each member lead on.

@@ -1,18 +1,18 @@
 //! References: a worker's directives hold for another that has none of its own.
 ghost use Rattle.std.specs.Prelude.{◌≡◌, ◌<◌, ◌≤◌, ℕ, List, length, map, reverse, IfOk, IfErr, OnOk, true, false, if◌then◌else◌, slice_get, slice_index_or, Some, None, []};
 ghost use Rattle.std.specs.Option.{option_map};
-ghost use Rattle.property_lines.specs.Entries.{as_property, as_properties};
+ghost use Rattle.site_config.specs.Entries.{as_property, as_properties};
 ghost use Rattle.worker_props.specs.Given.{is_given, or_else, target_name};
 ghost use Rattle.worker_props.specs.Numbers.{number_of};
 ghost use Rattle.worker_props.specs.Rows.{adjusted};
 ghost use Rattle.worker_props.specs.Tables.{AreAtRest, lines_in};
 ghost use Rattle.worker_props.specs.Ways.{IsWay, IsBroken, IsSettled, Inherits, is_open, passed_row, row_of_target};
-ghost use Rattle.property_lines.specs.declared.directive.TheConstants.{DIRECTIVE_COUNT};
+ghost use Rattle.site_config.specs.declared.directive.TheConstants.{DIRECTIVE_COUNT};
 
 use crate::given::Given;
 use crate::name_table::NameTable;
 use crate::row::{Progress, Row, picked};
-use property_lines::{Directive, PropertyLine, PropsError, PropsReason, behind_worker, refused};
+use site_config::{Directive, PropertyLine, PropsError, PropsReason, behind_worker, refused};
 use std::alloc::Global;
 
 /// The worker that a reference names.

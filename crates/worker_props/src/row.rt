@@ -1,13 +1,13 @@
 //! What the lines give one worker.
 ghost use Rattle.std.specs.Prelude.{◌≡◌, slice_index_or, slice_set, length, None};
 ghost use Rattle.std.specs.Option.{option_map};
-ghost use Rattle.property_lines.specs.Directives.{slot_of};
-ghost use Rattle.property_lines.specs.Entries.{as_property, as_properties};
+ghost use Rattle.site_config.specs.Directives.{slot_of};
+ghost use Rattle.site_config.specs.Entries.{as_property, as_properties};
 ghost use Rattle.worker_props.specs.Ways.{is_whole, passed_row};
 ghost use Rattle.worker_props.specs.Rows.{place_at, picked, property_at, row_with};
-ghost use Rattle.property_lines.specs.declared.directive.TheConstants.{DIRECTIVE_COUNT};
+ghost use Rattle.site_config.specs.declared.directive.TheConstants.{DIRECTIVE_COUNT};
 
-use property_lines::{Directive, PropertyLine};
+use site_config::{Directive, PropertyLine};
 
 /// How far a row has come.
 #[derive(Clone, Copy, PartialEq, Eq)]

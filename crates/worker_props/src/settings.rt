@@ -1,14 +1,14 @@
 //! The values that are in force for a worker.
 ghost use Rattle.std.specs.Prelude.{◌≡◌, ◌≤◌, ◌<◌, length, option_copied, nat_lt, Some, true};
 ghost use Rattle.std.specs.Option.{option_map};
-ghost use Rattle.property_lines.specs.Entries.{as_properties};
+ghost use Rattle.site_config.specs.Entries.{as_properties};
 ghost use Rattle.worker_props.specs.Rows.{property_at};
 ghost use Rattle.worker_props.specs.Settings.{activation_in, filled, filled_or, is_closed, is_limited, kind_in, limit_in, method_in, number_or, text_in, text_or, truth_in, truth_or};
 ghost use Rattle.site_config.specs.Bounds.{is_at_most};
 
 use crate::row::{Row, picked};
 use jk_model::{Activation, Method};
-use property_lines::{
+use site_config::{
     Directive, PropertyLine, WorkerKind, activation_of, kind_of, method_of, number_in, truth_of,
 };
 

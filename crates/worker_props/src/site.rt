@@ -4,7 +4,7 @@ ghost use Rattle.worker_props.specs.Given.{is_given};
 ghost use Rattle.worker_props.specs.Lists.{Listing};
 ghost use Rattle.worker_props.specs.Listings.{as_listing, as_listings};
 ghost use Rattle.worker_props.specs.Numbers.{number_of};
-ghost use Rattle.property_lines.specs.Refusals.{IsRefusal};
+ghost use Rattle.site_config.specs.Refusals.{IsRefusal};
 ghost use Rattle.worker_props.specs.Rows.{HasForce};
 ghost use Rattle.worker_props.specs.Site.{Breaks, Chained, Each, FirstBad, IsAjp13, IsNoAjp13, IsUnknown, Known};
 ghost use Rattle.worker_props.specs.Tables.{AreAtRest, lines_in};
@@ -16,7 +16,7 @@ use crate::name_table::NameTable;
 use crate::reference::resolve;
 use crate::row::Row;
 use crate::settings::kind;
-use property_lines::{PropsError, PropsReason, WorkerKind, refused};
+use site_config::{PropsError, PropsReason, WorkerKind, refused};
 use std::alloc::Global;
 
 /// The row of a worker whose row is whole.

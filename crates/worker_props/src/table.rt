@@ -1,7 +1,7 @@
 //! The workers that have directives, each with the lines that give them.
 ghost use Rattle.std.specs.Prelude.{◌≡◌, ◌<◌, ◌^◌, ℕ, List, length, IfOk, OnOk, is_some, take, slice_set, vec_len};
-ghost use Rattle.property_lines.specs.Directives.{worker_part};
-ghost use Rattle.property_lines.specs.Entries.{as_property, as_properties};
+ghost use Rattle.site_config.specs.Directives.{worker_part};
+ghost use Rattle.site_config.specs.Entries.{as_property, as_properties};
 ghost use Rattle.worker_props.specs.Numbers.{number_of};
 ghost use Rattle.worker_props.specs.Table.{with_name, names_with, IsNameOfGiven};
 ghost use Rattle.worker_props.specs.Rows.{HasOwn, AreRows, rows_after};
@@ -9,7 +9,7 @@ ghost use Rattle.worker_props.specs.Rows.{HasOwn, AreRows, rows_after};
 use crate::name_table::NameTable;
 use crate::row::Row;
 use jk_io::NoMemory;
-use property_lines::{PropertyLine, directive_of, worker_part};
+use site_config::{PropertyLine, directive_of, worker_part};
 use std::alloc::Global;
 
 /// Adds the name, unless it is there.

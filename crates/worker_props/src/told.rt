@@ -2,20 +2,16 @@
 ghost use Rattle.std.specs.Prelude.{◌≡◌, ◌≤◌, ◌+◌, ◌∷◌, ◌++◌, [], Err, true, length, vec_len, IfOk, IfErr, OnOk};
 ghost use Rattle.jk_io.specs.Decimals.{trimmed};
 ghost use Rattle.jk_io.specs.declared.whole_input.TheConstants.{MAX_INPUT_BYTES};
-ghost use Rattle.property_lines.specs.Directives.{worker_part};
-ghost use Rattle.property_lines.specs.Entries.{as_property, as_properties};
-ghost use Rattle.property_lines.specs.Properties.{read_text, said};
-ghost use Rattle.property_lines.specs.Refusals.{IsRefusal};
+ghost use Rattle.site_config.specs.Directives.{worker_part};
+ghost use Rattle.site_config.specs.Entries.{as_property, as_properties};
+ghost use Rattle.site_config.specs.Properties.{read_text, said};
+ghost use Rattle.site_config.specs.Refusals.{IsRefusal};
 ghost use Rattle.worker_props.specs.Site.{ignored_of};
 ghost use Rattle.worker_props.specs.Told.{AreTold, TakesLine, tells_part, telling};
 
 use crate::whole::is_built;
 use jk_io::{NoMemory, trim};
-use property_lines::{
-    PropertyLine, PropsError, first_line, is_list_key, is_maintain_key, said, without_mark,
-    worker_part,
-};
-use site_config::IgnoredList;
+use site_config::{IgnoredList, PropertyLine, PropsError, first_line, is_list_key, is_maintain_key, said, without_mark, worker_part};
 use std::alloc::Global;
 
 /// The lines that tell something, and beside them those that have no effect. A line that has none isn't kept as an entry,

@@ -1,13 +1,13 @@
 //! What a text says of the site as a whole.
 ghost use Rattle.std.specs.Prelude.{◌≡◌, ◌≤◌};
 ghost use Rattle.std.specs.Option.{option_map};
-ghost use Rattle.property_lines.specs.Directives.{worker_part};
-ghost use Rattle.property_lines.specs.Entries.{as_property, as_properties};
+ghost use Rattle.site_config.specs.Directives.{worker_part};
+ghost use Rattle.site_config.specs.Entries.{as_property, as_properties};
 ghost use Rattle.worker_props.specs.Site.{is_built, is_maintain_line, maintain_of};
 ghost use Rattle.worker_props.specs.Given.{last_of};
 ghost use Rattle.jk_model.specs.declared.config.TheConstants.{MAX_PERIOD_SECONDS};
 
-use property_lines::{
+use site_config::{
     PropertyLine, directive_of, is_list_key, is_maintain_key, number_in, worker_part,
 };
 

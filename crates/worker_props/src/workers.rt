@@ -1,12 +1,12 @@
 //! The second pass: the workers of `worker.list`, in order.
 ghost use Rattle.std.specs.Prelude.{◌≡◌, ◌≤◌, ◌<◌, ◌^◌, ℕ, length, IfOk, IfErr, OnOk};
 ghost use Rattle.jk_io.specs.declared.whole_input.TheConstants.{MAX_INPUT_BYTES};
-ghost use Rattle.property_lines.specs.Directives.{slot_of};
-ghost use Rattle.property_lines.specs.Entries.{as_properties};
+ghost use Rattle.site_config.specs.Directives.{slot_of};
+ghost use Rattle.site_config.specs.Entries.{as_properties};
 ghost use Rattle.worker_props.specs.Books.{Pass, RefusesMembers};
 ghost use Rattle.worker_props.specs.Listings.{as_listing, as_listings};
 ghost use Rattle.worker_props.specs.Lists.{firsts, site_list};
-ghost use Rattle.property_lines.specs.Refusals.{IsRefusal};
+ghost use Rattle.site_config.specs.Refusals.{IsRefusal};
 ghost use Rattle.worker_props.specs.Rows.{HasForce, property_at};
 ghost use Rattle.worker_props.specs.Settings.{kind_in};
 ghost use Rattle.worker_props.specs.Site.{Adds, AddsKind, Builds, IsConfig, IsRefused, Known, Chained, Refuses, RefusesKind, Stops, draft_of, maintain_of, no_workers, with_lb};
@@ -26,8 +26,7 @@ use crate::told::{Told, told_lines};
 use crate::whole::maintain_of;
 use jk_io::Bytes;
 use jk_model::MAX_BALANCERS;
-use property_lines::{Directive, PropertyLine, PropsError, PropsReason, WorkerKind, refused};
-use site_config::{Config, IgnoredList, Lb, Status};
+use site_config::{Config, Directive, IgnoredList, Lb, PropertyLine, PropsError, PropsReason, Status, WorkerKind, refused};
 use std::alloc::Global;
 
 /// Adds a balancer under a copy of its name.

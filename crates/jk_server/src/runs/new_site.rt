@@ -3,7 +3,7 @@ ghost use Rattle.std.specs.Prelude.{◌<◌};
 ghost use Rattle.std.specs.Option.{ForSome};
 
 use balancer_core::BookList;
-use pool_watch::Watch;
+use conn_pool::Watch;
 use std::sync::ledger::Blank;
 
 /// A Site that isn't open yet.

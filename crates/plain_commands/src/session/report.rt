@@ -1,7 +1,7 @@
 //! One session over memory, and what is printed of it.
 ghost use Rattle.std.specs.Prelude.{◌≡◌, ◌≤◌, length, true, false, codes, IfOk, IsSomeAnd};
 ghost use Rattle.jk_io.specs.declared.whole_input.TheConstants.{MAX_INPUT_BYTES};
-ghost use Rattle.property_lines.specs.Refusals.{LineRefusal};
+ghost use Rattle.site_config.specs.Refusals.{LineRefusal};
 ghost use Rattle.site_reports.specs.Reports.{Refuses};
 ghost use Rattle.uri_map.specs.Lines.{read_text};
 ghost use Rattle.uri_map.specs.Sites.{stands_in};

@@ -1,8 +1,8 @@
 -- A piece was sent, or the body can't be taken further, and nothing was sent.
 use Rattle.std.proofs.Common.{ap, subst, ◌∙◌}
 use Rattle.jk_io.specs.Moments.{Moment}
-use Rattle.http_body_in.specs.Takes.{body_at, MeetsFault, TakesPiece}
-use Rattle.http_body_in.specs.Wants.{Next}
+use Rattle.http_front.specs.Takes.{body_at, MeetsFault, TakesPiece}
+use Rattle.http_front.specs.Wants.{Next}
 use Rattle.ajp_wire.specs.Moments.{link_at}
 use Rattle.ajp_talk.proofs.SendingLaws.{ask-refused, ask-sent, refused-calm}
 use Rattle.ajp_talk.proofs.body_piece.answer_ask.Goals as goal

@@ -1,6 +1,6 @@
 -- The request's turn: it ends the session, or the rest of its body was read.
 use Rattle.std.proofs.Common.{refl, sym, ◌∙◌}
-use Rattle.http_body_in.specs.Takes.{body_at}
+use Rattle.http_front.specs.Takes.{body_at}
 use Rattle.status_worker.proofs.DeskLaws.{none_met, untouched}
 use Rattle.client_session.specs.Requests.{visit_at, visit_of}
 use Rattle.client_session.specs.Standings.{client_at, standing}

@@ -1,6 +1,6 @@
 -- The session ends with the answer, or the rest of the body is read.
 use Rattle.std.proofs.Common.{refl}
-use Rattle.http_body_in.specs.Takes.{body_at}
+use Rattle.http_front.specs.Takes.{body_at}
 use Rattle.client_session.specs.Standings.{client_at}
 use Rattle.client_session.proofs.TurnLaws.{turns_last, turns_not, turns_on}
 use Rattle.client_session.proofs.serving.turn_after.Goals as goal

@@ -2,7 +2,7 @@
 use Rattle.std.proofs.Common.{◌∙◌, ap, sym}
 use Rattle.jk_model.specs.Journal.{members}
 use Rattle.pass_desk.proofs.PlacedLaws.{all_back, new_origin, new_table}
-use Rattle.seen_history.specs.declared.pass_view.Origin.{Origin}
+use Rattle.pass_desk.specs.declared.pass_view.Origin.{Origin}
 use Rattle.drill.proofs.PassLaws.{belong, closed_drill, closed_there}
 use Rattle.drill.proofs.running.passed_book.Goals as goal
 

@@ -1,6 +1,6 @@
 use Rattle.std.proofs.Common.{◌≡◌, ◌∷◌, [], ◌++◌, length, ◌+◌, ◌<◌, take, ap, ◌∙◌, arith}
 use Rattle.std.proofs.lemmas.Grind.{common_steps, flat_map-append}
-use Rattle.journal_lines.specs.Lines.{lines_text}
+use Rattle.journal_text.specs.Lines.{lines_text}
 use Rattle.journal_text.specs.SegmentText.{member_line, member_lines}
 use Rattle.journal_text.proofs.LineFacts.{member_lines_more}
 use Rattle.journal_text.proofs.writing.put_members.Goals as goal

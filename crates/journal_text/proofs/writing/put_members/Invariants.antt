@@ -1,5 +1,5 @@
 use Rattle.std.proofs.Common.{◌≡◌, ◌++◌, take}
-use Rattle.journal_lines.specs.Lines.{lines_text}
+use Rattle.journal_text.specs.Lines.{lines_text}
 use Rattle.journal_text.specs.SegmentText.{member_lines}
 use Rattle.journal_text.proofs.writing.put_members.Given as goal
 

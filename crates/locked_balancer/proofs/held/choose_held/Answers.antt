@@ -2,7 +2,7 @@
 use Rattle.std.proofs.Common.{◌≡◌, ℕ, List, ◌∷◌, ◌++◌, Some, subst, sym, ap, ◌∙◌}
 use Rattle.atomic_table.specs.Table.{rest}
 use Rattle.jk_model.specs.declared.journal.Entry.{Entry}
-use Rattle.history_lock.specs.Seats.{by_seat}
+use Rattle.locked_balancer.specs.Seats.{by_seat}
 use Rattle.locked_balancer.specs.Histories.{IsSiteHistory, SeatSees, ToldState, gained_in, last_in}
 use Rattle.locked_balancer.specs.Holds.{held}
 use Rattle.locked_balancer.proofs.HistoryLaws.{choose_history}

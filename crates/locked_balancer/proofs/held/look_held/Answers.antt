@@ -5,7 +5,7 @@ use Rattle.atomic_table.specs.Table.{rest}
 use Rattle.jk_model.specs.Present.{IsPresent}
 use Rattle.balancer_core.specs.Journal.{Journal, past_of}
 use Rattle.jk_model.specs.declared.journal.Entry.{Entry}
-use Rattle.history_lock.specs.Seats.{by_seat}
+use Rattle.locked_balancer.specs.Seats.{by_seat}
 use Rattle.locked_balancer.specs.Histories.{IsSiteHistory, SeatSees, ToldState, last_in}
 use Rattle.locked_balancer.specs.Holds.{LockedState}
 use Rattle.locked_balancer.specs.Sites.{AreSited, At}

@@ -1,6 +1,6 @@
 -- Both are idle.
 use Rattle.std.proofs.Common.{arith}
-use Rattle.seen_history.proofs.JoinLaws.{joins}
+use Rattle.pass_desk.proofs.JoinLaws.{joins}
 use Rattle.pass_desk.proofs.closing.join_pass.Goals as goal
 
 pub join_seat-requires : goal.join_seat-requires

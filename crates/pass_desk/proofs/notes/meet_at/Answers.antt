@@ -1,6 +1,6 @@
 -- The note is joined, and then both are put together.
 use Rattle.std.proofs.Common.{◌∙◌, arith}
-use Rattle.seen_history.proofs.JoinLaws.{joins}
+use Rattle.pass_desk.proofs.JoinLaws.{joins}
 use Rattle.pass_desk.proofs.NoteLaws.{meets_of, together_joined}
 use Rattle.pass_desk.proofs.notes.meet_at.Goals as goal
 

@@ -1,6 +1,6 @@
 -- A note copies what was seen.
 use Rattle.std.proofs.Common.{arith}
-use Rattle.seen_history.proofs.JoinLaws.{notes}
+use Rattle.pass_desk.proofs.JoinLaws.{notes}
 use Rattle.pass_desk.proofs.notes.note_at.Goals as goal
 
 pub split_seat-seat-requires : goal.split_seat-seat-requires

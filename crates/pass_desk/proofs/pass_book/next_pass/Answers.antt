@@ -3,8 +3,8 @@ use Rattle.std.proofs.Common.{◌∙◌, ap, arith, refl, subst, sym}
 use Rattle.atomic_table.specs.Table.{Me}
 use Rattle.balancer_core.specs.Journal.{Journal}
 use Rattle.pass_desk.specs.Holds.{IsIdle}
-use Rattle.seen_history.specs.declared.pass_view.PassView.{PassView}
-use Rattle.seen_history.proofs.JoinLaws.{splits}
+use Rattle.pass_desk.specs.declared.pass_view.PassView.{PassView}
+use Rattle.pass_desk.proofs.JoinLaws.{splits}
 use Rattle.pass_desk.proofs.pass_book.next_pass.Goals as goal
 
 pub split_seat-seat-requires : goal.split_seat-seat-requires

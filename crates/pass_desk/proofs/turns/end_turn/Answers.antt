@@ -1,6 +1,6 @@
 -- The new entries are told, and then the Book is given back.
 use Rattle.std.proofs.Common.{◌∙◌, arith}
-use Rattle.seen_history.proofs.CountLaws.{counts}
+use Rattle.pass_desk.proofs.CountLaws.{counts}
 use Rattle.pass_desk.proofs.TurnLaws.{ended_told, leaves_told}
 use Rattle.pass_desk.proofs.turns.end_turn.Goals as goal
 

@@ -1,6 +1,6 @@
 -- A turn is drawn, and then looked for until it has come.
 use Rattle.std.proofs.Common.{◌∙◌, arith}
-use Rattle.seen_history.proofs.DrawLaws.{draws}
+use Rattle.pass_desk.proofs.DrawLaws.{draws}
 use Rattle.pass_desk.proofs.TurnLaws.{came_drawn, polls_drawn}
 use Rattle.pass_desk.proofs.turns.take_turn.Goals as goal
 

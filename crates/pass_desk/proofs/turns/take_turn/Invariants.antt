@@ -2,7 +2,7 @@
 use Rattle.std.proofs.Common.{◌≡◌}
 use mathlib.Core.Option.{none}
 use Rattle.atomic_table.specs.Table.{step}
-use Rattle.seen_history.specs.Plays.{Drew}
+use Rattle.pass_desk.specs.Plays.{Drew}
 use Rattle.pass_desk.proofs.turns.take_turn.Given as goal
 
 abbrev pub invariant-loop : goal.invariant-loop

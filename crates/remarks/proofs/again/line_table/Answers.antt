@@ -1,6 +1,6 @@
 use Rattle.std.proofs.Common.{◌+◌, ◌++◌, List, [], subst, arith, rules}
 use Rattle.std.specs.Option.{option_to_list}
-use Rattle.property_lines.specs.declared.property.Property.{Property}
+use Rattle.site_config.specs.declared.property.Property.{Property}
 use Rattle.remarks.specs.Again.{IsLineTable}
 use Rattle.remarks.proofs.WalkLemmas.{walk_end, walk_start, walk_step}
 use Rattle.remarks.proofs.again.line_table.Goals as goal

@@ -1,6 +1,6 @@
 use Rattle.std.proofs.Common.{◌≡◌, ◌≤◌, ◌+◌, Ok, true, List, length}
-use Rattle.property_lines.specs.declared.property.Property.{Property}
-use Rattle.property_lines.specs.Properties.{read_text}
+use Rattle.site_config.specs.declared.property.Property.{Property}
+use Rattle.site_config.specs.Properties.{read_text}
 use Rattle.remarks.specs.Again.{IsLineTable}
 use Rattle.remarks.proofs.WalkLemmas.{IsWalk}
 use Rattle.remarks.proofs.again.line_table.Given as goal

@@ -2,7 +2,7 @@ use Rattle.std.proofs.Common.{ℕ, Bor, List, sym, ◌∙◌}
 use Rattle.std.proofs.lemmas.Map.Text.{hash_map_updates_str}
 use Rattle.std.specs.HashMap.{get_by}
 use Rattle.std.specs.Str.{bytes_eq}
-use Rattle.property_lines.specs.Entries.{as_property}
+use Rattle.site_config.specs.Entries.{as_property}
 use Rattle.remarks.proofs.AgainLemmas.{line_kept, line_put}
 use Rattle.remarks.proofs.again.put_line.Goals as goal
 

@@ -1,7 +1,7 @@
 use Rattle.std.proofs.Common.{◌++◌, ◌≡◌, List, Option, Some, None, sym, subst, append-nil}
 use Rattle.std.specs.Option.{option_to_list}
-use Rattle.property_lines.specs.declared.property.Property.{Property}
-use Rattle.property_lines.specs.Entries.{as_property}
+use Rattle.site_config.specs.declared.property.Property.{Property}
+use Rattle.site_config.specs.Entries.{as_property}
 use Rattle.remarks.specs.Again.{IsLineTable}
 use Rattle.remarks.proofs.NoticeLemmas.{on_ok}
 use Rattle.remarks.proofs.again.put_said.Goals as goal

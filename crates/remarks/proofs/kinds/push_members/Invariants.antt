@@ -1,5 +1,5 @@
 use Rattle.std.proofs.Common.{◌≡◌, ◌++◌, map, take}
-use Rattle.property_lines.specs.declared.values.WorkerKind.TheVariants as kind
+use Rattle.site_config.specs.declared.values.WorkerKind.TheVariants as kind
 use Rattle.remarks.specs.KindTables.{as_kinds}
 use Rattle.remarks.proofs.kinds.push_members.Given as goal
 

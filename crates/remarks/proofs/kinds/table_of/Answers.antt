@@ -1,6 +1,6 @@
 use Rattle.std.proofs.Common.{ℕ, [], List, sym, subst, take, arith}
-use Rattle.property_lines.specs.declared.values.WorkerKind.{WorkerKind}
-use Rattle.property_lines.specs.declared.values.WorkerKind.TheVariants as kind
+use Rattle.site_config.specs.declared.values.WorkerKind.{WorkerKind}
+use Rattle.site_config.specs.declared.values.WorkerKind.TheVariants as kind
 use Rattle.remarks.specs.KindTables.{as_kinds, IsKindTable}
 use Rattle.remarks.proofs.KindLemmas.{kinds_more}
 use Rattle.remarks.proofs.kinds.table_of.Goals as goal

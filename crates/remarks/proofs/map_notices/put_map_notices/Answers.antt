@@ -2,7 +2,7 @@ use Rattle.std.proofs.Common.{◌≡◌, ◌+◌, ◌++◌, ◌∙◌, List, Opt
 use Rattle.jk_io.specs.Decimals.{trimmed}
 use Rattle.jk_io.specs.Told.{appended}
 use Rattle.jk_io.proofs.ToldLaws.{appended-appended, appended-nil}
-use Rattle.property_lines.specs.Lines.{lines}
+use Rattle.site_config.specs.Lines.{lines}
 use Rattle.remarks.specs.MapNotices.{line_notices, map_notices, notices_from}
 use Rattle.remarks.specs.Added.{IsFront}
 use Rattle.remarks.proofs.AddedLemmas.{failed, front_more}

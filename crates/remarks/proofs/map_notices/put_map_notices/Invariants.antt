@@ -1,7 +1,7 @@
 use Rattle.std.proofs.Common.{◌≡◌, ◌≤◌, ◌+◌, ℕ, List, length}
 use Rattle.jk_io.specs.Told.{appended}
-use Rattle.property_lines.specs.Lines.{lines}
-use Rattle.property_lines.specs.declared.values.WorkerKind.{WorkerKind}
+use Rattle.site_config.specs.Lines.{lines}
+use Rattle.site_config.specs.declared.values.WorkerKind.{WorkerKind}
 use Rattle.remarks.specs.KindTables.{IsKindTable}
 use Rattle.remarks.specs.MapNotices.{map_notices, notices_from}
 use Rattle.remarks.proofs.map_notices.put_map_notices.Given as goal

@@ -3,8 +3,8 @@ use Rattle.std.specs.List.{flat_map}
 use Rattle.std.specs.Option.{option_to_list}
 use Rattle.jk_io.specs.Told.{appended}
 use Rattle.jk_io.proofs.ToldLaws.{appended-nil}
-use Rattle.property_lines.specs.declared.property.Property.{Property}
-use Rattle.property_lines.specs.Entries.{as_property}
+use Rattle.site_config.specs.declared.property.Property.{Property}
+use Rattle.site_config.specs.Entries.{as_property}
 use Rattle.remarks.specs.Notices.{notice}
 use Rattle.remarks.proofs.AddedLemmas.{adds_same}
 use Rattle.remarks.proofs.notices.put_line_notice.Goals as goal

@@ -4,7 +4,7 @@ use Rattle.std.specs.List.{flat_map}
 use Rattle.std.specs.Option.{option_to_list}
 use Rattle.jk_io.specs.Told.{appended}
 use Rattle.jk_io.proofs.ToldLaws.{appended-nil}
-use Rattle.property_lines.specs.declared.property.Property.{Property}
+use Rattle.site_config.specs.declared.property.Property.{Property}
 use Rattle.remarks.specs.Notices.{notice}
 use Rattle.remarks.proofs.AddedLemmas.{failed}
 use Rattle.remarks.proofs.NoticeLemmas.{cut_short, notices_more}

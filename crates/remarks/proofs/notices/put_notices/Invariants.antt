@@ -1,8 +1,8 @@
 use Rattle.std.proofs.Common.{◌≡◌, ◌≤◌, ◌+◌, Ok, true, List, length}
 use Rattle.std.specs.List.{flat_map}
 use Rattle.jk_io.specs.Told.{appended}
-use Rattle.property_lines.specs.declared.property.Property.{Property}
-use Rattle.property_lines.specs.Properties.{read_text}
+use Rattle.site_config.specs.declared.property.Property.{Property}
+use Rattle.site_config.specs.Properties.{read_text}
 use Rattle.remarks.specs.KindTables.{ForTables}
 use Rattle.remarks.specs.Notices.{notice}
 use Rattle.remarks.proofs.WalkLemmas.{IsWalk}

@@ -1,5 +1,5 @@
 use Rattle.std.proofs.Common.{◌≡◌, ℕ, Bool, List, Option, None, ◌∙◌, ap, true, false, sym}
-use Rattle.property_lines.specs.Entries.{as_property}
+use Rattle.site_config.specs.Entries.{as_property}
 use Rattle.remarks.specs.Again.{is_again}
 use Rattle.remarks.specs.Notices.{or_again, value_words, words_of}
 use Rattle.remarks.proofs.notices.words_at.Goals as goal

@@ -2,7 +2,7 @@ use Rattle.std.specs.Option.{is_some}
 use Rattle.std.proofs.Common.{◌≡◌, ◌+◌, ◌++◌, ◌∙◌, ◌||◌, List, Option, ℕ, false, ap, refl, sym, subst, arith}
 use Rattle.jk_io.specs.Told.{appended}
 use Rattle.jk_io.proofs.ToldLaws.{appended-appended, appended-nil}
-use Rattle.property_lines.specs.Lines.{lines}
+use Rattle.site_config.specs.Lines.{lines}
 use Rattle.remarks.specs.Added.{IsFront}
 use Rattle.remarks.specs.Refused.{has_wrong, is_refused_by_line, refused_from, refused_lines, told_if, wrong_by}
 use Rattle.remarks.proofs.AddedLemmas.{failed, front_more}

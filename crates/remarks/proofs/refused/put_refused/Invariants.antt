@@ -1,6 +1,6 @@
 use Rattle.std.proofs.Common.{◌≡◌, ◌≤◌, ◌+◌, ◌||◌, ℕ, List, length}
 use Rattle.jk_io.specs.Told.{appended}
-use Rattle.property_lines.specs.Lines.{lines}
+use Rattle.site_config.specs.Lines.{lines}
 use Rattle.remarks.specs.Refused.{has_wrong, is_refused_by_line, refused_from, refused_lines, wrong_by}
 use Rattle.remarks.proofs.refused.put_refused.Given as goal
 

@@ -1,6 +1,6 @@
 -- Three pieces, one after the other.
 use Rattle.std.proofs.Common.{ℕ, List, ◌++◌, codes, ap, ◌∙◌}
-use Rattle.status_page.specs.Mimes.{content_type}
+use Rattle.status_worker.specs.Mimes.{content_type}
 use Rattle.status_worker.proofs.PageLaws.{three_put}
 use Rattle.status_worker.proofs.pages.put_page_type.Goals as goal
 

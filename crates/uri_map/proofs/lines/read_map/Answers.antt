@@ -1,6 +1,6 @@
 use Rattle.std.proofs.Common.{◌+◌, sym, ◌∙◌, arith}
 use Rattle.jk_io.specs.Decimals.{trimmed}
-use Rattle.property_lines.specs.Lines.{lines}
+use Rattle.site_config.specs.Lines.{lines}
 use Rattle.uri_map.specs.Lines.{read_lines, said}
 use Rattle.uri_map.proofs.LineLemmas.{handed_on, read_ended, read_stands, refused_line, with_line}
 use Rattle.uri_map.proofs.lines.read_map.Goals as goal

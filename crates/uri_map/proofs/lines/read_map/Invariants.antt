@@ -1,5 +1,5 @@
 use Rattle.std.proofs.Common.{◌≡◌, ◌+◌, ◌*◌, ◌≤◌, length}
-use Rattle.property_lines.specs.Lines.{lines}
+use Rattle.site_config.specs.Lines.{lines}
 use Rattle.uri_map.specs.Lines.{read_lines, read_text, with_rules}
 use Rattle.uri_map.proofs.lines.read_map.Given as goal
 

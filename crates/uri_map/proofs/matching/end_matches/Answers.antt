@@ -1,5 +1,5 @@
 use Rattle.std.proofs.Common.{◌≡◌, Some, None, sym, ◌∙◌, rules}
-use Rattle.property_lines.proofs.CutLemmas.{cut_shorter}
+use Rattle.site_config.proofs.CutLemmas.{cut_shorter}
 use Rattle.uri_map.specs.Patterns.{is_star}
 use Rattle.uri_map.specs.Pieces.{first_behind}
 use Rattle.uri_map.proofs.MatchLemmas.{some_end_front}

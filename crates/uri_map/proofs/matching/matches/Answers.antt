@@ -1,6 +1,6 @@
 use Rattle.std.proofs.Common.{◌≡◌, ℕ, List, Option, Some, None, sym, ◌∙◌, ap, rules, arith}
 use Rattle.std.specs.Option.{is_some}
-use Rattle.property_lines.specs.Cut.{cut_at}
+use Rattle.site_config.specs.Cut.{cut_at}
 use Rattle.uri_map.specs.Pieces.{behind}
 use Rattle.uri_map.proofs.MatchLemmas.{found_so, matches_front, matches_same_length, matches_other_length}
 use Rattle.uri_map.proofs.matching.matches.Goals as goal

@@ -1,7 +1,7 @@
 use Rattle.std.proofs.Common.{◌≡◌, ◌==◌, ℕ, ◌++◌, ◌∷◌, [], List, Some, None, sym, ◌∙◌, ap, rules}
 use Rattle.std.proofs.lemmas.List.{map-append}
 use Rattle.std.specs.Option.{option_map}
-use Rattle.property_lines.proofs.CutLemmas.{cut_shorter}
+use Rattle.site_config.proofs.CutLemmas.{cut_shorter}
 use Rattle.uri_map.specs.PartViews.{as_part, as_parts}
 use Rattle.uri_map.specs.Parts.{before, part_of, parts_of, pieces_of}
 use Rattle.uri_map.proofs.PartLemmas.{front_more, front_none, pieces_cut, pieces_one}

@@ -1,5 +1,5 @@
 use Rattle.std.proofs.Common.{◌≡◌, ◌++◌, take}
-use Rattle.journal_lines.specs.Names.{escaped}
+use Rattle.journal_text.specs.Names.{escaped}
 use Rattle.worker_gears.proofs.journal_files.put_name.Given as goal
 
 -- the bytes so far

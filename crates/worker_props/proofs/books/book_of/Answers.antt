@@ -1,5 +1,5 @@
 use Rattle.jk_model.specs.Ranges.{IsPeriod}
-use Rattle.property_lines.specs.Entries.{as_properties}
+use Rattle.site_config.specs.Entries.{as_properties}
 use Rattle.worker_props.specs.Rows.{property_at}
 use Rattle.worker_props.proofs.LbLemmas.{is_book, is_too_wide}
 use Rattle.worker_props.proofs.books.book_of.Goals as goal

@@ -1,7 +1,7 @@
 use Rattle.std.proofs.Common.{◌≤◌, length, arith}
 use Rattle.std.proofs.lemmas.List.{length-map}
-use Rattle.property_lines.specs.declared.directive.Directive.TheVariants as directive
-use Rattle.property_lines.specs.Entries.{as_properties}
+use Rattle.site_config.specs.declared.directive.Directive.TheVariants as directive
+use Rattle.site_config.specs.Entries.{as_properties}
 use Rattle.worker_props.specs.Listings.{as_listings}
 use Rattle.worker_props.specs.Rows.{property_at}
 use Rattle.worker_props.specs.Site.{line_in}

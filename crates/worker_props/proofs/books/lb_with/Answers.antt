@@ -1,10 +1,10 @@
 use Rattle.std.proofs.Common.{ℕ, List, Option, length, map, ◌∙◌, sym, ap, subst}
 use Rattle.std.proofs.lemmas.List.{length-map}
 use Rattle.jk_model.specs.declared.member.MemberConfig.{MemberConfig}
-use Rattle.property_lines.specs.declared.directive.Directive.TheVariants as directive
-use Rattle.property_lines.specs.declared.error.PropsReason.TheVariants as reason
-use Rattle.property_lines.specs.Entries.{as_properties}
-use Rattle.property_lines.specs.Refusals.{refusal}
+use Rattle.site_config.specs.declared.directive.Directive.TheVariants as directive
+use Rattle.site_config.specs.declared.error.PropsReason.TheVariants as reason
+use Rattle.site_config.specs.Entries.{as_properties}
+use Rattle.site_config.specs.Refusals.{refusal}
 use Rattle.site_config.specs.declared.endpoint.Endpoint.{Endpoint}
 use Rattle.worker_props.specs.Books.{AreTooWide, IsBook, RefusesWide}
 use Rattle.worker_props.specs.Rows.{property_at}

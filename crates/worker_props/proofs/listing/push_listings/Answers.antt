@@ -2,7 +2,7 @@ use Rattle.std.proofs.Common.{◌≡◌, ◌++◌, ℕ, List, [], ◌∷◌, map
 use Rattle.std.proofs.lemmas.List.{take_all}
 use Rattle.worker_props.specs.Lists.{Listing, listing_at}
 use Rattle.worker_props.specs.Listings.{as_listings}
-use Rattle.property_lines.specs.Names.{words}
+use Rattle.site_config.specs.Names.{words}
 use Rattle.worker_props.proofs.listing.push_listings.Goals as goal
 
 -- each word with its line

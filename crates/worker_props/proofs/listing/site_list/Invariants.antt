@@ -1,7 +1,7 @@
 use Rattle.std.proofs.Common.{◌≡◌, take}
 use Rattle.worker_props.specs.Lists.{joined, is_list_line}
 use Rattle.worker_props.specs.Listings.{as_listings}
-use Rattle.property_lines.specs.Entries.{as_properties}
+use Rattle.site_config.specs.Entries.{as_properties}
 use Rattle.worker_props.proofs.listing.site_list.Given as goal
 
 -- the names of the lines so far

@@ -1,5 +1,5 @@
 use Rattle.std.proofs.Common.{◌<◌, length, arith}
-use Rattle.property_lines.specs.Entries.{as_property}
+use Rattle.site_config.specs.Entries.{as_property}
 use Rattle.worker_props.proofs.MemberListLemmas.{adds_here, listed_at}
 use Rattle.worker_props.proofs.WorkerLemmas.{on_ok}
 use Rattle.worker_props.proofs.member_lists.add_line.Goals as goal

@@ -1,6 +1,6 @@
 use Rattle.std.proofs.Common.{arith, sym}
 use Rattle.std.proofs.lemmas.List.{length-map, get_or-map}
-use Rattle.property_lines.specs.Entries.{as_property, as_properties}
+use Rattle.site_config.specs.Entries.{as_property, as_properties}
 use Rattle.worker_props.proofs.MemberListLemmas.{lines_step}
 use Rattle.worker_props.proofs.member_lists.joined_lists.Goals as goal
 

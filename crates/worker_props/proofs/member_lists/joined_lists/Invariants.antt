@@ -1,5 +1,5 @@
 use Rattle.std.proofs.Common.{take}
-use Rattle.property_lines.specs.Entries.{as_properties}
+use Rattle.site_config.specs.Entries.{as_properties}
 use Rattle.worker_props.specs.MemberLists.{HaveLines}
 use Rattle.worker_props.proofs.member_lists.joined_lists.Given as goal
 

@@ -1,5 +1,5 @@
 use Rattle.std.proofs.Common.{arith}
-use Rattle.property_lines.specs.Directives.{worker_part}
+use Rattle.site_config.specs.Directives.{worker_part}
 use Rattle.worker_props.proofs.MemberListLemmas.{gives_number, number_within}
 use Rattle.worker_props.proofs.member_lists.lister.Goals as goal
 

@@ -1,5 +1,5 @@
 use Rattle.std.proofs.lemmas.Result.{IfOk-weaker}
-use Rattle.property_lines.specs.Entries.{as_properties}
+use Rattle.site_config.specs.Entries.{as_properties}
 use Rattle.worker_props.proofs.MemberListLemmas.{once_each}
 use Rattle.worker_props.proofs.member_lists.member_lists.Goals as goal
 

@@ -1,6 +1,6 @@
 use Rattle.std.proofs.Common.{◌≡◌, ◌<◌, Some, length, arith, sym, ◌∙◌, ap}
-use Rattle.property_lines.specs.declared.directive.Directive.TheVariants as directive
-use Rattle.property_lines.specs.Entries.{as_property, as_properties}
+use Rattle.site_config.specs.declared.directive.Directive.TheVariants as directive
+use Rattle.site_config.specs.Entries.{as_property, as_properties}
 use Rattle.worker_props.specs.Lists.{firsts}
 use Rattle.worker_props.specs.Listings.{as_listings}
 use Rattle.worker_props.specs.Numbers.{number_of}

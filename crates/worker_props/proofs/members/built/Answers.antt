@@ -1,5 +1,5 @@
 use Rattle.std.proofs.Common.{ℕ, List, map, arith, Bor}
-use Rattle.property_lines.specs.Entries.{as_properties}
+use Rattle.site_config.specs.Entries.{as_properties}
 use Rattle.worker_props.proofs.BuiltLemmas.{built_more}
 use Rattle.worker_props.proofs.members.built.Goals as goal
 

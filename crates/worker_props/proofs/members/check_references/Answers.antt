@@ -1,5 +1,5 @@
 use Rattle.std.proofs.lemmas.Result.{err_from_is_err_and}
-use Rattle.property_lines.specs.Entries.{as_properties}
+use Rattle.site_config.specs.Entries.{as_properties}
 use Rattle.worker_props.specs.Listings.{as_listings}
 use Rattle.worker_props.specs.Site.{Breaks, Chained}
 use Rattle.worker_props.proofs.CheckLemmas.{checked_ends, checked_more, checked_starts, checked_stops}

@@ -1,6 +1,6 @@
 use Rattle.std.proofs.Common.{arith}
 use Rattle.std.proofs.lemmas.Result.{err_from_is_err_and}
-use Rattle.property_lines.specs.Entries.{as_properties}
+use Rattle.site_config.specs.Entries.{as_properties}
 use Rattle.worker_props.specs.Listings.{as_listings}
 use Rattle.worker_props.specs.Site.{Chained, IsAjp13, IsNoAjp13, Known}
 use Rattle.worker_props.proofs.CheckLemmas.{checked_ends, checked_more, checked_starts, checked_stops, each_at}

@@ -1,6 +1,6 @@
 use Rattle.std.proofs.Common.{arith, sym}
 use Rattle.std.proofs.lemmas.List.{map-append}
-use Rattle.property_lines.specs.Entries.{as_properties}
+use Rattle.site_config.specs.Entries.{as_properties}
 use Rattle.worker_props.proofs.BuiltLemmas.{routes_more}
 use Rattle.worker_props.proofs.members.routes_of.Goals as goal
 

@@ -1,6 +1,6 @@
 use Rattle.std.proofs.Common.{arith}
 use Rattle.std.proofs.lemmas.Result.{err_from_is_err_and}
-use Rattle.property_lines.specs.Entries.{as_properties}
+use Rattle.site_config.specs.Entries.{as_properties}
 use Rattle.worker_props.specs.Site.{Chained, Known}
 use Rattle.worker_props.proofs.CheckLemmas.{each_at}
 use Rattle.worker_props.proofs.ChainLemmas.{only_memory}

@@ -2,7 +2,7 @@ use Rattle.std.proofs.Common.{◌≡◌, ◌<◌, ◌∷◌, ℕ, List, length, 
 use Rattle.std.proofs.lemmas.Option.{slice_get_read}
 use Rattle.std.specs.List.{slice_get}
 use Rattle.worker_props.specs.declared.row.Row.{Row}
-use Rattle.property_lines.specs.Entries.{as_properties}
+use Rattle.site_config.specs.Entries.{as_properties}
 use Rattle.worker_props.specs.Numbers.{number_of}
 use Rattle.worker_props.specs.Ways.{IsWay, Inherits, row_of_target}
 use Rattle.worker_props.proofs.RowLemmas.{adjusted_set}

@@ -1,5 +1,5 @@
 use Rattle.std.proofs.Common.{ℕ, List, map, reverse, Bor, vec_len}
-use Rattle.property_lines.specs.Entries.{as_properties}
+use Rattle.site_config.specs.Entries.{as_properties}
 use Rattle.worker_props.specs.Ways.{IsWay}
 use Rattle.worker_props.proofs.reference.resolve.Given as goal
 

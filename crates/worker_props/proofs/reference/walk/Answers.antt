@@ -1,8 +1,8 @@
 use Rattle.std.proofs.Common.{◌≡◌, ◌<◌, ◌∷◌, [], ◌++◌, ℕ, Bool, true, false, List, length, map, reverse, arith, sym, ◌∙◌, ap, subst, Some, None, Bor, refl, cond}
 use Rattle.std.proofs.lemmas.Option.{slice_get_read, same_Some, none-some}
 use Rattle.std.specs.List.{slice_get}
-use Rattle.property_lines.specs.declared.directive.Directive.TheVariants as directive
-use Rattle.property_lines.specs.Entries.{as_property, as_properties}
+use Rattle.site_config.specs.declared.directive.Directive.TheVariants as directive
+use Rattle.site_config.specs.Entries.{as_property, as_properties}
 use Rattle.worker_props.specs.Given.{target_in, target_name, last_given}
 use Rattle.worker_props.specs.Numbers.{number_of}
 use Rattle.worker_props.specs.Rows.{property_at, adjusted}

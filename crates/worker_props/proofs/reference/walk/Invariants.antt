@@ -1,5 +1,5 @@
 use Rattle.std.proofs.Common.{ℕ, List, map, reverse, Bor}
-use Rattle.property_lines.specs.Entries.{as_properties}
+use Rattle.site_config.specs.Entries.{as_properties}
 use Rattle.worker_props.specs.Ways.{IsAt, fresh_in}
 use Rattle.worker_props.proofs.reference.walk.Given as goal
 

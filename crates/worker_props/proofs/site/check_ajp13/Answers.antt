@@ -1,5 +1,5 @@
 use Rattle.std.proofs.lemmas.Result.{err_from_is_err_and}
-use Rattle.property_lines.specs.Entries.{as_properties}
+use Rattle.site_config.specs.Entries.{as_properties}
 use Rattle.worker_props.specs.Listings.{as_listing}
 use Rattle.worker_props.specs.Site.{IsNoAjp13}
 use Rattle.worker_props.proofs.ChainLemmas.{not_broken}

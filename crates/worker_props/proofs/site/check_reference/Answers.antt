@@ -1,5 +1,5 @@
 use Rattle.std.proofs.Common.{[], sym}
-use Rattle.property_lines.specs.Entries.{as_properties}
+use Rattle.site_config.specs.Entries.{as_properties}
 use Rattle.worker_props.proofs.ChainLemmas.{unknown_chain}
 use Rattle.worker_props.proofs.WayLemmas.{number_none}
 use Rattle.worker_props.proofs.site.check_reference.Goals as goal

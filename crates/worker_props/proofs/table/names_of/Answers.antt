@@ -1,10 +1,10 @@
 use Rattle.std.proofs.Common.{◌≡◌, ◌+◌, ◌<◌, ℕ, List, length, take, get_or, arith, sym, subst}
 use Rattle.std.proofs.lemmas.List.{length-map, take-map, get_or-map}
-use Rattle.property_lines.specs.Entries.{as_property, as_properties}
-use Rattle.property_lines.specs.Directives.{worker_part}
+use Rattle.site_config.specs.Entries.{as_property, as_properties}
+use Rattle.site_config.specs.Directives.{worker_part}
 use Rattle.worker_props.specs.Table.{IsNameOfGiven, names_with}
-use Rattle.property_lines.specs.declared.property_line.PropertyLine.{PropertyLine}
-use Rattle.property_lines.specs.declared.property.Property.{Property}
+use Rattle.site_config.specs.declared.property_line.PropertyLine.{PropertyLine}
+use Rattle.site_config.specs.declared.property.Property.{Property}
 use Rattle.worker_props.proofs.TableLemmas.{known_step}
 use Rattle.worker_props.proofs.table.names_of.Goals as goal
 

@@ -1,7 +1,7 @@
 use Rattle.std.proofs.Common.{◌≡◌, arith, sym, Some}
 use Rattle.std.proofs.lemmas.Option.{slice_get_within}
 use Rattle.worker_props.specs.Numbers.{number_of}
-use Rattle.property_lines.specs.Directives.{worker_part, directive_of}
+use Rattle.site_config.specs.Directives.{worker_part, directive_of}
 use Rattle.worker_props.specs.Rows.{row_with}
 use Rattle.worker_props.proofs.RowLemmas.{number_of-named, adjusted_set}
 use Rattle.worker_props.proofs.table.put.Goals as goal

@@ -1,8 +1,8 @@
 use Rattle.std.proofs.Common.{◌≡◌, ◌+◌, ◌<◌, ℕ, List, length, get_or, arith, sym, subst}
 use Rattle.std.proofs.lemmas.List.{length-map, get_or-map}
-use Rattle.property_lines.specs.Entries.{as_property, as_properties}
+use Rattle.site_config.specs.Entries.{as_property, as_properties}
 use Rattle.worker_props.specs.Rows.{AreRows, HasOwn, rows_after}
-use Rattle.property_lines.specs.declared.property_line.PropertyLine.{PropertyLine}
+use Rattle.site_config.specs.declared.property_line.PropertyLine.{PropertyLine}
 use Rattle.worker_props.specs.declared.row.Row.{Row}
 use Rattle.worker_props.proofs.RowLemmas.{rows_step}
 use Rattle.worker_props.proofs.table.rows_of.Goals as goal

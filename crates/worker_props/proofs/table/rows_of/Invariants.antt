@@ -1,4 +1,4 @@
-use Rattle.property_lines.specs.Entries.{as_properties}
+use Rattle.site_config.specs.Entries.{as_properties}
 use Rattle.worker_props.specs.Rows.{AreRows, HasOwn}
 use Rattle.worker_props.proofs.table.rows_of.Given as goal
 

@@ -3,9 +3,9 @@ use Rattle.std.proofs.lemmas.List.{append-nil}
 use Rattle.std.proofs.lemmas.Result.{err_from_is_err_and}
 use Rattle.std.specs.Option.{option_map}
 use Rattle.jk_io.specs.Decimals.{trimmed}
-use Rattle.property_lines.specs.Entries.{as_property, as_properties}
-use Rattle.property_lines.specs.Properties.{said}
-use Rattle.property_lines.specs.Refusals.{IsRefusal}
+use Rattle.site_config.specs.Entries.{as_property, as_properties}
+use Rattle.site_config.specs.Properties.{said}
+use Rattle.site_config.specs.Refusals.{IsRefusal}
 use Rattle.worker_props.proofs.ToldLemmas.{refused_said}
 use Rattle.worker_props.proofs.told.take_line.Goals as goal
 

@@ -1,6 +1,6 @@
 use Rattle.std.proofs.Common.{arith, sym, ◌∙◌}
 use Rattle.std.specs.Option.{option_map}
-use Rattle.property_lines.specs.Entries.{as_property}
+use Rattle.site_config.specs.Entries.{as_property}
 use Rattle.worker_props.specs.Site.{is_maintain_line}
 use Rattle.worker_props.proofs.RowLemmas.{last_put, last_kept}
 use Rattle.worker_props.proofs.whole.maintain_line.Goals as goal

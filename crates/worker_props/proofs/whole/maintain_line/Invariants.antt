@@ -1,6 +1,6 @@
 use Rattle.std.proofs.Common.{◌≡◌, take}
 use Rattle.std.specs.Option.{option_map}
-use Rattle.property_lines.specs.Entries.{as_property, as_properties}
+use Rattle.site_config.specs.Entries.{as_property, as_properties}
 use Rattle.worker_props.specs.Given.{last_of}
 use Rattle.worker_props.specs.Site.{is_maintain_line}
 use Rattle.worker_props.proofs.whole.maintain_line.Given as goal

@@ -1,7 +1,7 @@
 use Rattle.std.proofs.Common.{◌≡◌, length}
 use Rattle.std.proofs.lemmas.Result.{err_from_is_err_and}
-use Rattle.property_lines.specs.declared.directive.Directive.TheVariants as directive
-use Rattle.property_lines.specs.Entries.{as_properties}
+use Rattle.site_config.specs.declared.directive.Directive.TheVariants as directive
+use Rattle.site_config.specs.Entries.{as_properties}
 use Rattle.worker_props.specs.Books.{Pass, RefusesMembers}
 use Rattle.worker_props.specs.Lists.{firsts, members_in}
 use Rattle.worker_props.specs.Listings.{as_listing, as_listings}

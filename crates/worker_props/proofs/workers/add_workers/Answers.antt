@@ -1,5 +1,5 @@
 use Rattle.std.proofs.lemmas.Result.{err_from_is_err_and}
-use Rattle.property_lines.specs.Entries.{as_properties}
+use Rattle.site_config.specs.Entries.{as_properties}
 use Rattle.worker_props.specs.Site.{no_workers}
 use Rattle.worker_props.proofs.WorkerLemmas.{building_ends, building_more, building_starts, building_stops}
 use Rattle.worker_props.proofs.workers.add_workers.Goals as goal

@@ -1,6 +1,6 @@
 use Rattle.std.proofs.Common.{drop}
 use Rattle.worker_props.specs.Building.{IsBuilding}
-use Rattle.property_lines.specs.Entries.{as_properties}
+use Rattle.site_config.specs.Entries.{as_properties}
 use Rattle.worker_props.specs.Listings.{as_listings}
 use Rattle.worker_props.specs.Site.{no_workers}
 use Rattle.worker_props.specs.Tables.{AreAtRest}

@@ -1,6 +1,6 @@
 use Rattle.std.proofs.Common.{◌<◌, ◌≤◌, refl, inl, inr}
 use Rattle.std.proofs.lemmas.Result.{err_from_is_err_and}
-use Rattle.property_lines.specs.Entries.{as_properties}
+use Rattle.site_config.specs.Entries.{as_properties}
 use Rattle.worker_props.specs.Books.{RefusesMembers}
 use Rattle.worker_props.specs.Listings.{as_listing, as_listings}
 use Rattle.worker_props.specs.Site.{Breaks, Chained, FirstBad, IsAjp13, IsNoAjp13, IsUnknown, Known}

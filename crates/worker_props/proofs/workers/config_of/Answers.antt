@@ -1,4 +1,4 @@
-use Rattle.property_lines.specs.Entries.{as_properties}
+use Rattle.site_config.specs.Entries.{as_properties}
 use Rattle.worker_props.specs.Lists.{firsts, site_list}
 use Rattle.worker_props.specs.Site.{no_workers}
 use Rattle.worker_props.proofs.DraftLemmas.{sound_builds, sound_start}

@@ -1,6 +1,6 @@
 use Rattle.std.proofs.Common.{length}
 use Rattle.std.proofs.lemmas.List.{length-map}
-use Rattle.property_lines.specs.Entries.{as_property, as_properties}
+use Rattle.site_config.specs.Entries.{as_property, as_properties}
 use Rattle.worker_props.proofs.WayLemmas.{fresh_rows}
 use Rattle.worker_props.proofs.workers.drafted.Goals as goal
 

@@ -11,7 +11,7 @@ use Rattle.gear_parts.specs.GearParts.{gear_with, start_with, tools}
 use Rattle.jk_server.specs.RunTells.{logging, run_tells}
 use Rattle.jk_server.specs.ServedGears.{BeginsSo, LeavesParts, start_side}
 use Rattle.jk_server.proofs.GearRunLaws.{all_left, as_many, each_left, gears_served, parts_whole}
-use Rattle.pool_watch.proofs.SendLaws.{watched_send}
+use Rattle.conn_pool.proofs.SendLaws.{watched_send}
 use Rattle.jk_server.proofs.StartLaws.{ok_weaker, one_part, served_gear}
 use Rattle.jk_server.proofs.ToldLaws.{lock_left, told_left, told_served}
 use Rattle.jk_server.proofs.runs.parts.serve_all.Goals as goal

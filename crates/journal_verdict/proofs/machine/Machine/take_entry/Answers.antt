@@ -1,6 +1,6 @@
 use Rattle.std.proofs.Common.{◌≡◌, Some, rules}
-use Rattle.journal_lines.specs.Readings.{line_of}
-use Rattle.journal_lines.specs.declared.line.Line.TheVariants as line
+use Rattle.journal_text.specs.Readings.{line_of}
+use Rattle.journal_text.specs.declared.line.Line.TheVariants as line
 use Rattle.journal_verdict.proofs.EntryLaws.{ended_ok, entered_ok}
 use Rattle.journal_verdict.proofs.machine.Machine.take_entry.Goals as goal
 

@@ -5,8 +5,8 @@ use mathlib.Core.Option.{some}
 use lib.ListN.{get_elem?}
 use Rattle.jk_model.specs.declared.journal.Entry.{Entry}
 use Rattle.balancer_core.specs.Journal.{Journal}
-use Rattle.history_lock.specs.Seats.{AreApart, IsClaim}
-use Rattle.history_lock.specs.declared.view.Claim.{Claim}
+use Rattle.locked_balancer.specs.Seats.{AreApart, IsClaim}
+use Rattle.locked_balancer.specs.declared.view.Claim.{Claim}
 use Rattle.locked_balancer.specs.Histories.{IsSiteHistory, SeatNote}
 use Rattle.locked_balancer.specs.Holds.{LockedState}
 use Rattle.locked_balancer.proofs.LeftLaws.{claim_of, closed_by, joined_more, no_seats}

@@ -9,7 +9,7 @@ use Rattle.pass_desk.proofs.DeskLaws.{desk_chooses, desk_denies, keeps_desk}
 use Rattle.pass_desk.proofs.GotLaws.{at_place, desk_set, of_place, size_at, sizes_set, stay_set}
 use Rattle.pass_desk.proofs.RoomLaws.{ask_fits, fits_set}
 use Rattle.pass_desk.specs.Rooms.{AskFits}
-use Rattle.seen_history.specs.declared.pass_view.PassView.{PassView}
+use Rattle.pass_desk.specs.declared.pass_view.PassView.{PassView}
 use Rattle.pass_desk.proofs.pass_desk.PassDeskDesk.choose.Goals as goal
 
 pub choose_at-done-requires-clause-of : goal.choose_at-done-requires-clause-of

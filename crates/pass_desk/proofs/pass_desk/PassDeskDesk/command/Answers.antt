@@ -8,7 +8,7 @@ use Rattle.pass_desk.proofs.DeskLaws.{desk_commands, desk_refuses, keeps_desk}
 use Rattle.pass_desk.proofs.GotLaws.{at_place, desk_set, of_place, size_at, sizes_set, stay_set}
 use Rattle.pass_desk.proofs.RoomLaws.{command_fits, fits_set}
 use Rattle.pass_desk.specs.Rooms.{CommandFits}
-use Rattle.seen_history.specs.declared.pass_view.PassView.{PassView}
+use Rattle.pass_desk.specs.declared.pass_view.PassView.{PassView}
 use Rattle.pass_desk.proofs.pass_desk.PassDeskDesk.command.Goals as goal
 
 pub command_at-done-requires-clause-of : goal.command_at-done-requires-clause-of

@@ -6,7 +6,7 @@ use Rattle.atomic_table.proofs.Lists.{at_index}
 use Rattle.jk_model.specs.Tickets.{is_returned}
 use Rattle.balancer_core.specs.Desks.{KeepsDesk, TakesBack, holds, without_last}
 use Rattle.balancer_core.specs.Histories.{has_made}
-use Rattle.seen_history.specs.declared.pass_view.PassView.{PassView}
+use Rattle.pass_desk.specs.declared.pass_view.PassView.{PassView}
 use Rattle.pass_desk.specs.Holds.{own_in}
 use Rattle.pass_desk.specs.PassDesks.{AreGot, PassDeskState, SeesAt, StayPasses, desk_value, pass_state, sizes_in, view_of}
 use Rattle.pass_desk.specs.declared.pass.Pass.{Pass}

@@ -3,7 +3,7 @@ use Rattle.std.proofs.Common.{◌∙◌, ◌<◌, ℕ, List, [], length, set, re
 use Rattle.std.specs.Prelude.{IfOk}
 use Rattle.jk_model.specs.declared.journal.Entry.{Entry}
 use Rattle.balancer_core.specs.Desks.{Shows}
-use Rattle.seen_history.specs.declared.pass_view.PassView.{PassView}
+use Rattle.pass_desk.specs.declared.pass_view.PassView.{PassView}
 use Rattle.pass_desk.specs.PassDesks.{PassDeskState, SeesAt, SeesMore, StayPasses, desk_value, pass_state, sizes_in, view_of}
 use Rattle.pass_desk.proofs.DeskLaws.{desk_shows}
 use Rattle.pass_desk.proofs.GotLaws.{at_place, desk_set, gained_none, got_all, got_turn, of_place, sees_more, sees_set, shows_set, size_at, sizes_set, stay_set}

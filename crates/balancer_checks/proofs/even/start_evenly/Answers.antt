@@ -1,5 +1,0 @@
-use Rattle.balancer_checks.proofs.EvenLaws.{started_even}
-use Rattle.balancer_checks.proofs.even.start_evenly.Goals as goal
-
-pub returns : goal.returns
-returns c = started_even c.start.result c.args.config c.args.at 0 c.requires c.start.ensures.start

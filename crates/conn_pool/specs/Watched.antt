@@ -1,0 +1,20 @@
+-- A pooled reach, and the watch over its idle links.
+use Rattle.std.specs.Prelude.{ℕ, ◌≡◌, Option, Some, None}
+use Rattle.conn_pool.specs.Reaches.{PooledState}
+use Rattle.conn_pool.specs.Looks.{IsDue}
+use Rattle.conn_pool.specs.declared.watch.Watch.{Watch}
+
+pub record WatchedState (D T L : Type 0) : Type 0 where
+  pub pooled : PooledState D T L
+  pub watch : Option Watch
+
+-- If looks were due, they were now; else nothing changed.
+pub record LooksAt (before : Watch) (now : ℕ) (after : Watch) : Type 0 where
+  pub due : IsDue before now → after ≡ record before { last = now }
+  pub early : (IsDue before now → ⊥) → after ≡ before
+
+-- So of a reach that has a watch.
+abbrev pub RestsAt : Option Watch → ℕ → Option Watch → Type 0
+RestsAt None now after = after ≡ None
+RestsAt (Some before) now None = ⊥
+RestsAt (Some before) now (Some after) = LooksAt before now after

@@ -1,0 +1,176 @@
+//! A pooled reach that looks after its idle links between two sessions.
+ghost use Rattle.std.specs.Prelude.{◌≡◌, ◌<◌, None, false, is_some};
+ghost use Rattle.std.specs.Option.{ForSome};
+ghost use Rattle.conn_pool.specs.Idle.{counts};
+ghost use Rattle.conn_pool.specs.Looks.{ends_of};
+ghost use Rattle.conn_pool.specs.Watched.{LooksAt, RestsAt};
+
+use crate::aged_dial::AgedDial;
+use crate::aged_link::AgedLink;
+use crate::watch::{Watch, watch_if_due};
+use crate::{Idle, PooledReach, Pools, Tape};
+use jk_io::{Awaited, Beside, Bytes, Dial, IoError, Link, Meanings, NoMemory, Reach, Sink, Source};
+use site_config::Config;
+use std::alloc::Global;
+use std::marker::Model;
+use std::sync::Wait;
+
+/// A reach over pools of links that count looks, and the watch over these pools, if there is one.
+#[derive(Drop)]
+pub struct WatchedReach<'p, 'r, D: Dial, T: Tape, R> {
+    reach: PooledReach<'p, 'r, AgedDial<D>, T, R>,
+    pools: &'p Pools<'r, Idle<AgedLink<D::L>>, R>,
+    cfg: &'p Config,
+    watch: Option<Watch>,
+    ghost every: { ForSome watch (λ w. 0 < w.every) },
+    ghost sizes: { counts pools.now ≡ ends_of cfg.now.lbs },
+}
+
+impl<'p, 'r, D: Dial, T: Tape, R> Model for WatchedReach<'p, 'r, D, T, R> {
+    ghost use Rattle.conn_pool.specs.Watched.{WatchedState};
+    ghost use Rattle.conn_pool.specs.declared.aged_link.AgedLink.{AgedLink as AnyAged};
+
+    ghost Value = { WatchedState D T (AnyAged D.L) };
+
+    ghost view = { λ w. record { pooled = w.reach; watch = w.watch } };
+}
+
+impl<'p, 'r, D: Dial, T: Tape, R> WatchedReach<'p, 'r, D, T, R> {
+    /// A reach over these pools of this site's members, and its watch, if any. No memory is taken.
+    pub fn new(
+        pools: &'p Pools<'r, Idle<AgedLink<D::L>>, R>,
+        dial: D,
+        tape: T,
+        cfg: &'p Config,
+        watch: Option<Watch>,
+    ) -> WatchedReach<'p, 'r, D, T, R>
+        requires idle { T.is_idle tape }
+        requires every { ForSome watch (λ w. 0 < w.every) }
+        requires sizes { counts pools.now ≡ ends_of cfg.now.lbs }
+        ensures pooled { result.pooled ≡ record { dial = dial; tape = tape; lent = None; back = None; sizes = counts pools.now; faults = 0 } }
+        ensures watch { result.watch ≡ watch }
+    {
+        WatchedReach {
+            reach: PooledReach::new(pools, AgedDial::new(dial), tape),
+            pools,
+            cfg,
+            watch,
+        }
+    }
+
+    /// Ends the reach and its watch, and gives back its dial and tape.
+    pub fn into_parts(self) -> (D, T)
+        requires { is_some self.pooled.lent ≡ false }
+        ensures { result ≡ (self.entry.pooled.dial, self.entry.pooled.tape) }
+    {
+        let WatchedReach {
+            reach,
+            pools: _,
+            cfg: _,
+            watch: _,
+        } = self;
+        let (dial, tape) = reach.into_parts();
+        (dial.into_dial(), tape)
+    }
+}
+
+impl<'p, 'r, D: Dial, T: Tape, R: Wait> Meanings for WatchedReach<'p, 'r, D, T, R> {
+    ghost use Rattle.std.specs.Prelude.{None, is_some};
+    ghost use Rattle.conn_pool.specs.Reaches.{beside_of};
+
+    type Beside = Beside;
+
+    ghost incoming = { λ _. None };
+
+    ghost received = { λ w. T.received w.pooled.tape };
+
+    ghost sent = { λ w. T.sent w.pooled.tape };
+
+    ghost beside = { λ w. beside_of T.begun T.talks w.pooled };
+
+    ghost faults = { λ w. w.pooled.faults };
+
+    ghost is_open = { λ w. is_some w.pooled.lent };
+}
+
+impl<'p, 'r, D: Dial, T: Tape, R: Wait> Source for WatchedReach<'p, 'r, D, T, R> {
+    fn read(&mut self, buf: &mut [u8]) -> Result<usize, IoError> {
+        self.reach.read(buf)
+    }
+}
+
+impl<'p, 'r, D: Dial, T: Tape, R: Wait> Sink for WatchedReach<'p, 'r, D, T, R> {
+    fn write(&mut self, piece: &[u8]) -> Result<usize, IoError> {
+        self.reach.write(piece)
+    }
+
+    fn flush(&mut self) -> Result<(), IoError> {
+        self.reach.flush()
+    }
+}
+
+impl<'p, 'r, D: Dial, T: Tape, R: Wait> Link for WatchedReach<'p, 'r, D, T, R> {
+    ghost may_wait = { D.L.may_wait };
+
+    fn waits(&mut self) -> bool {
+        self.reach.waits()
+    }
+
+    fn await_next(&mut self, what: Awaited) {
+        self.reach.await_next(what);
+    }
+
+    fn is_quiet(&mut self) -> bool {
+        self.reach.is_quiet()
+    }
+}
+
+impl<'p, 'r, D: Dial, T: Tape, R: Wait> Reach for WatchedReach<'p, 'r, D, T, R> {
+    ghost use Rattle.std.specs.Prelude.{refl};
+
+    fn begin(
+        &mut self,
+        alloc: Global,
+        lb: u32,
+        member: u32,
+        host: &Bytes,
+        port: u16,
+        fresh: bool,
+    ) -> Result<bool, IoError> {
+        self.reach.begin(alloc, lb, member, host, port, fresh)
+    }
+
+    fn finish(&mut self, keep: bool) {
+        self.reach.finish(keep);
+    }
+
+    /// The idle links are looked at where it is time, and then the moment of the last looks is now.
+    fn rest(&mut self, alloc: Global, now: u64) -> Result<(), NoMemory>
+        requires { is_some self.old.pooled.lent ≡ false }
+        ensures watch { RestsAt self.old.watch now self.new.watch }
+        ensures pooled { self.new.pooled ≡ self.old.pooled }
+    {
+        match &mut self.watch {
+            Some(watch) => look(alloc, self.pools, self.cfg, watch, now),
+            None => Ok(()),
+        }
+    }
+
+    ghost open_in_talk = { λ w. refl };
+}
+
+/// Looks at the idle links of all members, if it is time.
+fn look<L: Link + Drop, R: Wait>(
+    alloc: Global,
+    pools: &Pools<'_, Idle<AgedLink<L>>, R>,
+    cfg: &Config,
+    watch: &mut Watch,
+    now: u64,
+) -> Result<(), NoMemory>
+    requires every { 0 < watch.old.every }
+    requires sizes { counts pools.now ≡ ends_of cfg.now.lbs }
+    ensures { LooksAt watch.old now watch.new }
+{
+    watch_if_due(alloc, pools, cfg, watch, now)?;
+    Ok(())
+}

@@ -1,9 +1,0 @@
-pub mod DataLaws
-pub mod BoundLaws
-pub mod LengthLaws
-pub mod MeetingLaws
-pub mod EchoLaws
-pub mod EndLaws
-pub mod FirstGetLaws
-pub mod FirstPostLaws
-pub mod GoingOnLaws

@@ -1,5 +1,0 @@
-use Rattle.end_to_end.proofs.FirstGetLaws.{first_get}
-use Rattle.end_to_end.proofs.laws.a_first_get_is_answered.Goals as goal
-
-pub returns : goal.returns
-returns c = first_get

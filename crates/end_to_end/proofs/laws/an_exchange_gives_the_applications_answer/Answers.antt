@@ -1,5 +1,0 @@
-use Rattle.end_to_end.proofs.EndLaws.{end_to_end_of_exchange}
-use Rattle.end_to_end.proofs.laws.an_exchange_gives_the_applications_answer.Goals as goal
-
-pub returns : goal.returns
-returns c = end_to_end_of_exchange

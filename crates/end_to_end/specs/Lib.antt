@@ -1,3 +1,0 @@
-pub mod FirstGet
-pub mod FirstPost
-pub mod Meeting

@@ -1,5 +1,0 @@
-use Rattle.http_body_in.proofs.ChunkedLemmas.{reads_spelled}
-use Rattle.http_body_in.proofs.body_laws.chunked_bodies_are_read_whole.Goals as goal
-
-pub returns : goal.returns
-returns c = reads_spelled

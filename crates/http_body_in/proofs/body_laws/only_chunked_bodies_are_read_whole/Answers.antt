@@ -1,5 +1,0 @@
-use Rattle.http_body_in.proofs.SpelledLemmas.{reads_only_spelled}
-use Rattle.http_body_in.proofs.body_laws.only_chunked_bodies_are_read_whole.Goals as goal
-
-pub returns : goal.returns
-returns c = reads_only_spelled

@@ -1,9 +1,0 @@
-pub mod Body
-pub mod Chunked
-pub mod Falls
-pub mod Faults
-pub mod Places
-pub mod State
-pub mod Takes
-pub mod Walks
-pub mod Wants

@@ -1,0 +1,132 @@
+//! Two threads that share one pool.
+ghost use Rattle.std.specs.Prelude.{◌<◌};
+ghost use Rattle.conn_pool.specs.Idle.{HasMember};
+
+use crate::socket_pools::one_pool;
+use conn_pool::Pools;
+use jk_io::NoMemory;
+use std::alloc::Global;
+use std::sync::Wait;
+use std::thread::{self, Threads};
+
+/// The links that each of two threads has in the end.
+#[derive(Drop)]
+struct Hands {
+    even: Vec<u32>,
+    odd: Vec<u32>,
+}
+
+fn empty_hands(alloc: Global) -> Result<Hands, NoMemory> {
+    Ok(Hands {
+        even: Vec::with_capacity(alloc, 50_000)?,
+        odd: Vec::with_capacity(alloc, 50_000)?,
+    })
+}
+
+/// Whether two threads that pass 100,000 links through one pool end with each of them once.
+pub fn pass_each_once<R: Threads + Wait + Sync>(rt: &R, alloc: Global) -> bool {
+    pass_through_one(rt, alloc) == Ok(true)
+}
+
+fn pass_through_one<R: Threads + Wait + Sync>(rt: &R, alloc: Global) -> Result<bool, NoMemory> {
+    let sizes = one_pool(alloc, 64)?;
+    pass_with(rt, alloc, &Pools::new(rt, alloc, &sizes)?)
+}
+
+fn pass_with<R: Threads + Wait + Sync>(
+    rt: &R,
+    alloc: Global,
+    pools: &Pools<'_, u32, R>,
+) -> Result<bool, NoMemory>
+    requires { HasMember pools.now 0 0 }
+{
+    pass_into(rt, alloc, pools, &mut empty_hands(alloc)?)
+}
+
+fn pass_into<R: Threads + Wait + Sync>(
+    rt: &R,
+    alloc: Global,
+    pools: &Pools<'_, u32, R>,
+    hands: &mut Hands,
+) -> Result<bool, NoMemory>
+    requires { HasMember pools.now 0 0 }
+{
+    let passed = pass_both(rt, pools, hands);
+    let idle = pools.take_all(alloc, 0, 0)?;
+    Ok(passed && is_each_once(alloc, hands, idle.as_slice())?)
+}
+
+fn pass_both<R: Threads + Wait + Sync>(rt: &R, pools: &Pools<'_, u32, R>, hands: &mut Hands) -> bool
+    requires { HasMember pools.now 0 0 }
+{
+    let Hands { even, odd } = hands;
+    let (first, second) = thread::join(
+        rt,
+        || -> bool
+            requires { HasMember pools.now 0 0 }
+        { pass_through(pools, 0, even) },
+        || -> bool
+            requires { HasMember pools.now 0 0 }
+        { pass_through(pools, 1, odd) },
+    );
+    first && second
+}
+
+/// Puts 50,000 links, `first` and each second one after it, and takes eight after each eight puts. False in want of
+/// memory.
+fn pass_through<R: Wait>(pools: &Pools<'_, u32, R>, first: u32, has: &mut Vec<u32>) -> bool
+    requires known { HasMember pools.now 0 0 }
+    requires small { first < 2 }
+{
+    for k in 0..50_000u32 {
+        if !put_one(pools, 2 * k + first, has) || k % 8 == 7 && !take_eight(pools, has) {
+            return false;
+        }
+    }
+    true
+}
+
+fn put_one<R: Wait>(pools: &Pools<'_, u32, R>, link: u32, has: &mut Vec<u32>) -> bool
+    requires known { HasMember pools.now 0 0 }
+{
+    match pools.put(0, 0, link) {
+        Some(link) => has.push(link).is_ok(),
+        None => true,
+    }
+}
+
+/// Takes eight times, and adds the links that came.
+fn take_eight<R: Wait>(pools: &Pools<'_, u32, R>, has: &mut Vec<u32>) -> bool
+    requires known { HasMember pools.now 0 0 }
+{
+    for _ in 0..8 {
+        if let Some(link) = pools.take(0, 0)
+            && has.push(link).is_err()
+        {
+            return false;
+        }
+    }
+    true
+}
+
+/// Counts each link, where it is one of the numbers that `seen` has.
+fn count(seen: &mut [u8], links: &[u32]) {
+    for link in links {
+        if let Some(n) = seen.get_mut(*link as usize) {
+            *n = n.saturating_add(1);
+        }
+    }
+}
+
+fn count_all(seen: &mut [u8], hands: &Hands, idle: &[u32]) -> bool {
+    count(seen, hands.even.as_slice());
+    count(seen, hands.odd.as_slice());
+    count(seen, idle);
+    seen.iter().all(|n| *n == 1)
+}
+
+/// Whether each of 100,000 links is in one of the three lists, once.
+fn is_each_once(alloc: Global, hands: &Hands, idle: &[u32]) -> Result<bool, NoMemory> {
+    let mut seen = vec![in alloc; 0u8; 100_000]?;
+    Ok(count_all(seen.as_mut_slice(), hands, idle))
+}

@@ -1,4 +1,0 @@
-pub mod Judging
-pub mod Looks
-pub mod Pings
-pub mod Watched

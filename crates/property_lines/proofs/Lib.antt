@@ -1,5 +1,0 @@
-pub mod CutLemmas
-pub mod DirectiveLemmas
-pub mod LineLemmas
-pub mod StatusLemmas
-pub mod WordLemmas

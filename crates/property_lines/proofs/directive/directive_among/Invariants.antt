@@ -1,7 +1,0 @@
-use Rattle.std.proofs.Common.{◌≡◌, drop}
-use Rattle.property_lines.specs.Directives.{directive_among}
-use Rattle.property_lines.proofs.directive.directive_among.Given as goal
-
--- the name is sought among the directives that are left
-abbrev pub invariant-loop-d : goal.invariant-loop-d
-invariant-loop-d l = directive_among (drop l.d-index l.among) l.text ≡ directive_among l.among l.text

@@ -1,0 +1,38 @@
+//! The properties of a workers.properties.
+ghost use Rattle.std.specs.Prelude.{◌≡◌, ◌≤◌, false, length, IfOk};
+ghost use Rattle.site_config.specs.Entries.{as_property};
+ghost use Rattle.site_config.specs.Refusals.{Gives};
+ghost use Rattle.site_config.specs.Properties.{read_text};
+ghost use Rattle.jk_io.specs.declared.whole_input.TheConstants.{MAX_INPUT_BYTES};
+
+use crate::error::PropsError;
+use crate::first_pass::read_entries;
+use crate::property::{Property, PropertyList};
+use crate::property_line::PropertyLine;
+use jk_io::{Bytes, ListOf, NoMemory};
+use std::alloc::Global;
+
+/// The lines of a text that give a key its value, or the first refusal with the number 1 or 2. Names are judged, values
+/// aren't.
+pub fn read_properties(alloc: Global, text: &[u8]) -> Result<PropertyList, PropsError>
+    requires { length text.now ≤ MAX_INPUT_BYTES }
+    ensures { Gives (λ properties. properties) result (read_text false text.now) }
+{
+    let entries = read_entries(alloc, false, text)?;
+    let mut properties = Vec::with_capacity(alloc, entries.len())?;
+    for entry in entries.iter() {
+        properties.push(copied(alloc, entry)?)?;
+    }
+    Ok(ListOf::from_vec(properties))
+}
+
+// The property of a line, with copies of its texts.
+fn copied(alloc: Global, entry: &PropertyLine<'_>) -> Result<Property, NoMemory>
+    ensures { IfOk result (λ property. property ≡ as_property entry.now) }
+{
+    Ok(Property {
+        line: entry.line,
+        key: Bytes::from_slice(alloc, entry.key)?,
+        value: Bytes::from_slice(alloc, entry.value)?,
+    })
+}

@@ -1,0 +1,187 @@
+//! What the values of directives mean.
+ghost use Rattle.std.specs.Prelude.{◌≡◌, ◌==◌, ◌||◌, ◌≤◌, ◌^◌, ◌<◌, length, List, Some, [], IfSome, IfOk, nat_lt};
+ghost use Rattle.std.specs.Option.{option_map, is_some};
+ghost use Rattle.std.specs.List.{list_any, list_all};
+ghost use Rattle.site_config.specs.Values.{number_in, lower, is_word, says_yes, says_no, truth_of, kind_of, activation_of, method_of, is_ping_letter, is_ping, pings, is_value};
+
+use crate::directive::{Directive, behind_worker};
+use crate::statuses::statuses_of;
+use jk_io::parse_decimal;
+use jk_model::{Activation, Method};
+
+/// The type of a worker.
+#[derive(Clone, Copy)]
+pub enum WorkerKind {
+    Ajp13,
+    Lb,
+    Status,
+}
+
+/// The number that the text writes, where it is one of this range.
+pub fn number_in(low: u64, high: u64, text: &[u8]) -> Option<u64>
+    ensures value { result ≡ number_in low high text.now }
+    ensures low { IfSome result (λ n. low ≤ n) }
+    ensures high { IfSome result (λ n. n ≤ high) }
+{
+    let n = parse_decimal(text)?;
+    if low <= n && n <= high { Some(n) } else { None }
+}
+
+fn lower(b: u8) -> u8
+    ensures { result ≡ lower b }
+{
+    if 65 <= b && b <= 90 { b + 32 } else { b }
+}
+
+/// Whether the text is this word, in either case.
+fn is_word(word: &[u8], text: &[u8]) -> bool
+    ensures { result ≡ is_word word.now text.now }
+{
+    if word.len() != text.len() {
+        return false;
+    }
+    for (i, b) in text.iter().enumerate() {
+        if lower(*b) != word[i] {
+            return false;
+        }
+    }
+    true
+}
+
+#[tactic(auto, unfolding(crate::specs::Values::says_yes))]
+fn says_yes(text: &[u8]) -> bool
+    ensures { result ≡ says_yes text.now }
+{
+    is_word(b"true", text)
+        || (is_word(b"t", text)
+            || (is_word(b"yes", text)
+                || (is_word(b"y", text) || (is_word(b"on", text) || is_word(b"1", text)))))
+}
+
+#[tactic(auto, unfolding(crate::specs::Values::says_no))]
+fn says_no(text: &[u8]) -> bool
+    ensures { result ≡ says_no text.now }
+{
+    is_word(b"false", text)
+        || (is_word(b"f", text)
+            || (is_word(b"no", text)
+                || (is_word(b"n", text) || (is_word(b"off", text) || is_word(b"0", text)))))
+}
+
+/// The truth value that the text writes.
+pub fn truth_of(text: &[u8]) -> Option<bool>
+    ensures { result ≡ truth_of text.now }
+{
+    if says_yes(text) {
+        Some(true)
+    } else if says_no(text) {
+        Some(false)
+    } else {
+        None
+    }
+}
+
+#[tactic(auto, unfolding(crate::specs::Values::kind_of))]
+pub fn kind_of(text: &[u8]) -> Option<WorkerKind>
+    ensures { result ≡ kind_of text.now }
+{
+    if text == b"ajp13".as_slice() {
+        Some(WorkerKind::Ajp13)
+    } else if text == b"lb".as_slice() {
+        Some(WorkerKind::Lb)
+    } else if text == b"status".as_slice() {
+        Some(WorkerKind::Status)
+    } else {
+        None
+    }
+}
+
+/// The activation whose first letter the text begins with, in either case.
+pub fn activation_of(text: &[u8]) -> Option<Activation>
+    ensures { result ≡ activation_of text.now }
+{
+    match lower(*text.first()?) {
+        b'a' => Some(Activation::Active),
+        b'd' => Some(Activation::Disabled),
+        b's' => Some(Activation::Stopped),
+        _ => None,
+    }
+}
+
+/// The method whose first letter the text begins with, in either case.
+pub fn method_of(text: &[u8]) -> Option<Method>
+    ensures { result ≡ method_of text.now }
+{
+    match lower(*text.first()?) {
+        b'r' => Some(Method::Request),
+        b's' => Some(Method::Session),
+        b't' => Some(Method::Traffic),
+        b'b' => Some(Method::Busyness),
+        _ => None,
+    }
+}
+
+fn is_ping_letter(b: u8) -> bool
+    ensures { result ≡ is_ping_letter b }
+{
+    lower(b) == b'c' || (lower(b) == b'p' || (lower(b) == b'i' || lower(b) == b'a'))
+}
+
+/// Whether the text has no other letters than those of pings.
+pub fn is_ping(text: &[u8]) -> bool
+    ensures { result ≡ is_ping text.now }
+{
+    text.iter().all(|b| is_ping_letter(*b))
+}
+
+/// Whether the text has this letter, which is given small, or `a`, which stands for all pings.
+pub fn pings(letter: u8, text: &[u8]) -> bool
+    ensures { result ≡ pings letter text.now }
+{
+    text.iter()
+        .any(|b| lower(*b) == letter || lower(*b) == b'a')
+}
+
+/// Whether the directive takes this value; the names in it aren't judged.
+pub fn is_value(directive: Directive, text: &[u8]) -> bool
+    ensures { result ≡ is_value directive text.now }
+{
+    match directive {
+        Directive::Kind => kind_of(text).is_some(),
+        Directive::Reference => behind_worker(text).is_some(),
+        Directive::Host => true,
+        Directive::Port => number_in(1, 65535, text).is_some(),
+        Directive::Factor => number_in(1, 65535, text).is_some(),
+        Directive::Distance => number_in(0, 65535, text).is_some(),
+        Directive::Route => true,
+        Directive::Redirect => true,
+        Directive::Activation => activation_of(text).is_some(),
+        Directive::PoolSize => number_in(1, 1024, text).is_some(),
+        Directive::Retries => number_in(1, 10, text).is_some(),
+        Directive::PacketSize => number_in(8192, 65536, text).is_some(),
+        Directive::Secret => true,
+        Directive::PingMode => is_ping(text),
+        Directive::RecoveryOptions => number_in(0, 31, text).is_some(),
+        Directive::FailOnStatus => statuses_of(text).is_some(),
+        Directive::BalanceWorkers => true,
+        Directive::Method => method_of(text).is_some(),
+        Directive::Sticky => truth_of(text).is_some(),
+        Directive::Force => truth_of(text).is_some(),
+        Directive::RecoverTime => number_in(1, 86400, text).is_some(),
+        Directive::Cookie => !text.is_empty(),
+        Directive::Path => !text.is_empty(),
+        Directive::ReadOnly => truth_of(text).is_some(),
+        Directive::DialTimeout => number_in(0, 86_400_000, text).is_some(),
+        Directive::ConnectTimeout => number_in(0, 86_400_000, text).is_some(),
+        Directive::PrepostTimeout => number_in(0, 86_400_000, text).is_some(),
+        Directive::PingTimeout => number_in(0, 86_400_000, text).is_some(),
+        Directive::SocketTimeout => number_in(0, 86400, text).is_some(),
+        Directive::ReplyTimeout => number_in(0, 86_400_000, text).is_some(),
+        Directive::Keepalive => truth_of(text).is_some(),
+        Directive::PoolTimeout => number_in(0, 86400, text).is_some(),
+        Directive::PingInterval => number_in(0, 86400, text).is_some(),
+        Directive::User => true,
+        Directive::Good => true,
+        Directive::Bad => true,
+    }
+}

@@ -1,6 +1,0 @@
-use Rattle.std.proofs.Common.{◌≡◌}
-use Rattle.status_page.specs.BookCommands.{resets}
-use Rattle.status_page.proofs.book_commands.resets.Given as goal
-
-abbrev pub invariant-loop-member : goal.invariant-loop-member
-invariant-loop-member l = l.commands.items ≡ resets l.member

@@ -1,6 +1,0 @@
-use Rattle.std.proofs.Common.{◌≡◌, ◌++◌, take}
-use Rattle.status_page.specs.Marks.{label_text}
-use Rattle.status_page.proofs.marks.put_label.Given as goal
-
-abbrev pub invariant-loop-byte : goal.invariant-loop-byte
-invariant-loop-byte l = l.out ≡ l.fn.out ++ label_text (take l.byte-index l.text)

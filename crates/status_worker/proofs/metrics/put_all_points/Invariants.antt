@@ -1,0 +1,7 @@
+use Rattle.std.proofs.Common.{◌≡◌, ◌++◌, take}
+use Rattle.std.specs.List.{flat_map}
+use Rattle.status_worker.specs.Metrics.{part_points}
+use Rattle.status_worker.proofs.metrics.put_all_points.Given as goal
+
+abbrev pub invariant-loop-part : goal.invariant-loop-part
+invariant-loop-part l = l.out ≡ l.fn.out ++ flat_map (part_points l.metric) (take l.part-index l.parts)
