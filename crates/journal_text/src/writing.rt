@@ -173,8 +173,11 @@ const fn room_of(entries: usize) -> usize {
 pub fn write_segment(name: &[u8], segment: &Segment) -> Result<Bytes, NoMemory>
     ensures { IfOk result (λ text. text ≡ segment_text name.now segment.now) }
 {
-    let room = room_of(segment.entries.len());
-    let mut text = Bytes::with_capacity(segment.entries.allocator(), room)?;
+    let alloc = segment.entries.allocator();
+    let mut text = match Bytes::with_capacity(alloc, room_of(segment.entries.len())) {
+        Ok(text) => text,
+        Err(NoMemory) => Bytes::new(alloc),
+    };
     put_segment(&mut text, name, segment)?;
     Ok(text)
 }

@@ -16,15 +16,20 @@ const WHOLE_ENTRIES: usize = MAPPED / size_of::<Entry>();
 
 const WHOLE_PLACES: usize = MAPPED / size_of::<Option<u64>>();
 
-/// How many elements to take room for, where a list has `taken` of them, needs `more`, and has `whole` as it is long.
-const fn room_for(taken: usize, more: usize, whole: usize) -> usize
-    ensures { more ≤ result }
+// Takes the room for `more` elements; as many as `whole` where the list is long, if the system has as much.
+fn grow<T>(list: &mut Vec<T>, more: usize, whole: usize) -> Result<(), NoMemory>
+    ensures items { list.new.items ≡ list.old.items }
+    ensures room { OnOk result (length list.old.items + more ≤ vec_capacity list.new) }
+    ensures no_less { vec_capacity list.old ≤ vec_capacity list.new }
 {
-    if taken < LONG_LIMIT || more >= whole {
-        more
-    } else {
-        whole
+    if list.capacity() - list.len() >= more {
+        return Ok(());
     }
+    if list.len() >= LONG_LIMIT && more < whole && list.reserve(whole).is_ok() {
+        return Ok(());
+    }
+    list.reserve(more)?;
+    Ok(())
 }
 
 /// Takes the room for `more` entries, and for the number of the entry that returns each one's ticket.
@@ -40,13 +45,8 @@ pub(super) fn take_room(
     ensures no_less { vec_capacity entries.old ≤ vec_capacity entries.new }
     ensures places_no_less { vec_capacity returned.old ≤ vec_capacity returned.new }
 {
-    if entries.capacity() - entries.len() < more {
-        entries.reserve(room_for(entries.len(), more, WHOLE_ENTRIES))?;
-    }
-    if returned.capacity() - returned.len() < more {
-        returned.reserve(room_for(returned.len(), more, WHOLE_PLACES))?;
-    }
-    Ok(())
+    grow(entries, more, WHOLE_ENTRIES)?;
+    grow(returned, more, WHOLE_PLACES)
 }
 
 /// Adds an entry, whose ticket did not come back yet.
