@@ -67,6 +67,14 @@ impl Inbox {
         &self.buffer[self.start..self.end]
     }
 
+    /// Forgets the bytes; the memory stays.
+    pub fn clear(&mut self)
+        ensures { self.new ≡ [] }
+    {
+        self.start = 0;
+        self.end = 0;
+    }
+
     /// Uses the first `n` bytes.
     pub fn skip(&mut self, n: usize)
         requires { n ≤ length self.old }

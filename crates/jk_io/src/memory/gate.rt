@@ -146,4 +146,10 @@ impl<'g, 'r, L: Link + Drop, R: Wait + Clock> Sink for GateLink<'g, 'r, L, R> {
 
 impl<'g, 'r, L: Link + Drop, R: Wait + Clock> Link for GateLink<'g, 'r, L, R> {
     ghost may_wait = { L.may_wait };
+
+    ghost found_quiet = { λ before after. L.found_quiet before.link after.link };
+
+    fn is_quiet(&mut self) -> bool {
+        self.link.is_quiet()
+    }
 }

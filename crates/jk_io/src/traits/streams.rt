@@ -100,6 +100,9 @@ pub trait Link: Source + Sink {
     // a read may ever wait; where it is false none does
     ghost may_wait: { Bool } = { true };
 
+    // a look at the first found it quiet, and left the second; where it isn't told, each may be so
+    ghost found_quiet: { Self → Self → Type 0 } = { λ _ _. Unit {0} };
+
     /// Whether the next read would wait, as far as can be seen without waiting. A link in memory has all its bytes at
     /// hand, and says no.
     fn waits(&mut self) -> bool
@@ -119,12 +122,13 @@ pub trait Link: Source + Sink {
     {}
 
     /// Whether no byte is there to read and the other end didn't close, as far as can be seen without waiting. A link
-    /// that isn't quiet serves no other talk.
+    /// that isn't quiet serves no other talk; one that can't be looked at says that it isn't.
     fn is_quiet(&mut self) -> bool
+        ensures found { result ≡ true → Self.found_quiet self.old self.new }
         ensures same_bytes { (Self.incoming self.new ≡ Self.incoming self.old) × (Self.received self.new ≡ Self.received self.old)
             × (Self.sent self.new ≡ Self.sent self.old) }
         ensures same { (Self.beside self.new ≡ Self.beside self.old) × (Self.faults self.new ≡ Self.faults self.old) }
     {
-        true
+        false
     }
 }
