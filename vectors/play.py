@@ -10,7 +10,7 @@
     play.py rows                     prints some short and large scripts with their output, as rows of plain_checks:
                                      vectors/play.py rows > crates/plain_checks/data/plain/plays.txt
     play.py pairs                    prints 32,768 choices, each given back, twice from one opening, as the rows of
-                                     book_checks: vectors/play.py pairs > crates/checks/data/book/pairs.txt
+                                     desk_checks: vectors/play.py pairs > crates/checks/data/book/pairs.txt
 
 So the program is compared with a second reading of the rules, and not with itself. A balancer that a script starts has the
 rules of version 2, and its asks have no masks, so version 1 and masks stand in no script.

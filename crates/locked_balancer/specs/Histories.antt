@@ -1,4 +1,4 @@
--- The one history of a Site, and what a desk has seen of it. Read this with history_lock's specs/Seats.antt.
+-- The one history of a Site, and what a desk has seen of it. Read this with specs/Seats.antt.
 use Rattle.std.specs.Prelude.{◌≡◌, ◌≢◌, ◌⊎◌, ℕ, ◌-◌, ◌==◌, ◌<◌, false, List, [], ◌∷◌, ◌++◌, length, map, reverse, drop, Option, Some, None, slice_get}
 use Rattle.std.specs.List.{All, filter}
 use Rattle.atomic_table.specs.Seated.{TableId}

@@ -8,7 +8,7 @@
 //! of answers to asks have the newest first.
 //! Contract: `serve_ajp`, clause `talk`; `app_answer`, clause `answer`. Read first: specs/Pages.antt and specs/Answer.antt,
 //! then specs/Turns.antt and specs/Ends.antt. `run_container`, clauses `served` and `unasked`; read specs/Served.antt, over
-//! door_clients' specs/Doors.antt.
+//! jk_io's specs/Doors.antt.
 //! Errors: `ContainerEnd` tells how a talk ended; after each of its variants nothing more is read or written. The doors come back for
 //! want of memory, before one was asked; after that each worker's end is a `ContainerWorker`.
 #![tactic(auto)]

@@ -1,4 +1,4 @@
-//! The rule of a pass book's table, and what each step on it tells: the words are those of seen_history's specs.
+//! The rule of a pass book's table, and what each step on it tells: the words are those of specs/Turns.antt.
 
 use crate::PassView;
 use atomic_table::{Join, Play, Split, TableRule};

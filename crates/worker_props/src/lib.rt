@@ -3,7 +3,7 @@
 //! Source: Apache Tomcat Connectors reference, "workers.properties" and "LoadBalancer HowTo".
 //! Own rules: the ranges, the numbers of the refusals and their order, how lists are spelled (docs/DECISIONS.md).
 //! Contract: `read_workers`, clauses `ok` and `refused`. Read first: specs/Site.antt, then specs/Given.antt,
-//! specs/Settings.antt, property_lines' specs/Properties.antt.
+//! specs/Settings.antt, site_config's specs/Properties.antt.
 //! Errors: `PropsError`.
 #![tactic(auto)]
 
