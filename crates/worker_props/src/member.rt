@@ -1,5 +1,5 @@
 //! A member of a balancer.
-ghost use Rattle.std.specs.Prelude.{◌≡◌, ◌<◌, ◌+◌, ◌||◌, map, IfOk, OnOk, length, None};
+ghost use Rattle.std.specs.Prelude.{◌≡◌, ◌<◌, ◌+◌, ◌||◌, map, IfOk, IsSome, OnOk, length, None};
 ghost use Rattle.std.specs.Option.{option_map};
 ghost use Rattle.site_config.specs.Entries.{as_properties};
 ghost use Rattle.worker_props.specs.Rows.{property_at};
@@ -67,7 +67,10 @@ pub(crate) fn endpoint_of<'t>(
 
 /// Gives a member that has no secret of its own that of its balancer.
 fn share_one(alloc: Global, end: &mut Endpoint, common: Option<&[u8]>) -> Result<(), NoMemory>
-    ensures { OnOk result (end.new ≡ shared (option_map (λ t. t.now) common.entry) end.old) }
+    ensures shared { OnOk result (end.new ≡ shared (option_map (λ t. t.now) common.entry) end.old) }
+
+    // Its own secret stays.
+    ensures own { IsSome end.old.secret → end.new.secret ≡ end.old.secret }
 {
     if end.secret.is_none() {
         end.secret = copied(alloc, common)?;
