@@ -27,7 +27,8 @@ def rows(heading):
     for row in part.splitlines():
         cells = re.split(r"(?<!\\)\|", row)
         if len(cells) > 3 and cells[1].strip().startswith("`"):
-            yield cells[1].strip().strip("`").replace("\\|", "|"), cells[2].strip()
+            for line in re.findall("`([^`]+)`", cells[1]):
+                yield line.replace("\\|", "|"), cells[2].strip()
 
 
 def config(command, workers, rules):
