@@ -22,7 +22,9 @@ use crate::surroundings::{Sitting, Surroundings};
 use crate::turn::{Answered, SessionTurn, Settled};
 use crate::writing::write_own;
 use balancer_core::Desk;
-use http_front::{BodyFault, BodyIn, Form, Head, HeadError, HeadGot, Inbox, MAX_BODY_BYTES, read_head};
+use http_front::{
+    BodyFault, BodyIn, Form, Head, HeadError, HeadGot, Inbox, MAX_BODY_BYTES, read_head,
+};
 use http_out::OwnKind;
 use httpdate::HttpDate;
 use jk_io::{Awaited, Clock, Link, Reach, Sink};

@@ -8,7 +8,9 @@ ghost use Rattle.journal_verdict.specs.Verdicts.{IsDifference, opening_texts};
 use crate::ruling::{Ruling, Wrong};
 use jk_io::{Bytes, NoMemory};
 use jk_model::{MemberConfig, MemberRow, Opening};
-use journal_text::{balancer_values, beginning, member_values, put_balancer, put_beginning, put_lease, put_member};
+use journal_text::{
+    balancer_values, beginning, member_values, put_balancer, put_beginning, put_lease, put_member,
+};
 use std::alloc::Global;
 
 /// How many lines an opening has: one for the balancer, for each member, for each ticket that is out, and the last.

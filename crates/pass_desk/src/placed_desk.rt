@@ -4,9 +4,9 @@ ghost use Rattle.pass_desk.specs.Placed.{IsBack, IsPlaced};
 ghost use Rattle.pass_desk.specs.PassDesks.{table_in};
 ghost use Rattle.pass_desk.specs.declared.pass_book.PassBook.{PassBook};
 
-use crate::pass_desk::PassDesk;
 use crate::pass::{Note, Pass, PassList};
 use crate::pass_book::PassBook;
+use crate::pass_desk::PassDesk;
 use balancer_core::desk::Choice;
 use balancer_core::{Desk, PlainLease};
 use jk_io::NoMemory;

@@ -8,8 +8,8 @@ use jk_io::{Bytes, Files, ListOf, MAX_INPUT_BYTES, NoMemory, Sink, put_decimal, 
 use jk_model::Segment;
 use journal_text::read_segments;
 use locked_balancer::Shelf;
-use real_io::{Notices, RealFiles};
 use outside_checks::{answers_a_dial, listener};
+use real_io::{Notices, RealFiles};
 use std::alloc::Global;
 use std::fs;
 use std::net::{Net, TcpListener, TcpStream};

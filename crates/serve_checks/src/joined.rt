@@ -14,9 +14,9 @@ use jk_io::{
 use jk_server::{SitePlan, cut_at, run_container, serve_gears};
 use locked_balancer::{KeptList, MemShelf};
 use mini_container::AppConfig;
+use outside_checks::listener;
 use real_io::{TcpDial, TcpDoor};
 use site_config::Config;
-use outside_checks::listener;
 use std::alloc::Global;
 use std::fmt::Write;
 use std::net::{Net, TcpListener, TcpStream};

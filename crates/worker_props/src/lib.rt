@@ -27,8 +27,8 @@ mod told;
 mod whole;
 mod workers;
 
-pub use site_config::{Property, PropertyList, PropsError, read_properties};
 pub use site_config::{
-    Config, EndList, Endpoint, IgnoredList, Lb, LbList, Named, NamedList, Status, StatusList,
+    Config, EndList, Endpoint, IgnoredList, Lb, LbList, Named, NamedList, Property, PropertyList,
+    PropsError, Status, StatusList, read_properties,
 };
 pub use workers::read_workers;

@@ -11,7 +11,10 @@ ghost use Rattle.worker_props.specs.Told.{AreTold, TakesLine, tells_part, tellin
 
 use crate::whole::is_built;
 use jk_io::{NoMemory, trim};
-use site_config::{IgnoredList, PropertyLine, PropsError, first_line, is_list_key, is_maintain_key, said, without_mark, worker_part};
+use site_config::{
+    IgnoredList, PropertyLine, PropsError, first_line, is_list_key, is_maintain_key, said,
+    without_mark, worker_part,
+};
 use std::alloc::Global;
 
 /// The lines that tell something, and beside them those that have no effect. A line that has none isn't kept as an entry,

@@ -26,7 +26,10 @@ use crate::told::{Told, told_lines};
 use crate::whole::maintain_of;
 use jk_io::Bytes;
 use jk_model::MAX_BALANCERS;
-use site_config::{Config, Directive, IgnoredList, Lb, PropertyLine, PropsError, PropsReason, Status, WorkerKind, refused};
+use site_config::{
+    Config, Directive, IgnoredList, Lb, PropertyLine, PropsError, PropsReason, Status, WorkerKind,
+    refused,
+};
 use std::alloc::Global;
 
 /// Adds a balancer under a copy of its name.
