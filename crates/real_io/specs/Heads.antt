@@ -23,3 +23,7 @@ pub record EndsHead (bytes : List ℕ) (n : ℕ) : Type 0 where
   pub is_before : text < at
   pub line : IsEndAt bytes at len
   pub count : n ≡ at + 1 + len
+
+-- so many bytes are fewer than a head may have
+abbrev pub IsShort : ℕ → Type 0
+IsShort count = count < 16384

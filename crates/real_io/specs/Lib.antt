@@ -1,3 +1,4 @@
+pub mod Unflushed
 pub mod Pace
 pub mod Waitless
 pub mod Heads

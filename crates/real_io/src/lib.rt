@@ -23,6 +23,7 @@ mod stream_end;
 mod tcp_dial;
 mod tcp_door;
 mod tcp_link;
+mod unflushed;
 
 pub use ending::Ending;
 pub use heads::{MAX_HEAD_BYTES, head_end};

@@ -1,5 +1,5 @@
 //! The files and the clock of the system.
-ghost use Rattle.std.specs.Prelude.{◌≡◌, ◌≤◌, IfOk, length};
+ghost use Rattle.std.specs.Prelude.{◌≡◌, ◌≤◌, IfOk, false, length, true};
 ghost use Rattle.jk_io.specs.Told.{Rose};
 
 use crate::std_streams::ReadSource;
@@ -22,14 +22,31 @@ const IS_SOCKET: i32 = 6;
 #[derive(Drop)]
 pub struct RealFiles<'r, R: SystemFiles + Net> {
     rt: &'r R,
+    /// Only a socket is read: any other file can't be.
+    sockets: bool,
     failed: u64,
 }
 
 impl<'r, R: SystemFiles + Net> RealFiles<'r, R> {
     pub fn new(rt: &'r R) -> RealFiles<'r, R>
-        ensures { result.failed ≡ 0 }
+        ensures { (result.sockets ≡ false) × (result.failed ≡ 0) }
     {
-        RealFiles { rt, failed: 0 }
+        RealFiles {
+            rt,
+            sockets: false,
+            failed: 0,
+        }
+    }
+
+    /// The sockets among the files: any other file can't be read.
+    pub fn sockets(rt: &'r R) -> RealFiles<'r, R>
+        ensures { (result.sockets ≡ true) × (result.failed ≡ 0) }
+    {
+        RealFiles {
+            rt,
+            sockets: true,
+            failed: 0,
+        }
     }
 
     fn fail(&mut self) -> FileError
@@ -49,7 +66,7 @@ impl<'r, R: SystemFiles + Net> Files for RealFiles<'r, R> {
 
     /// A name that isn't UTF-8 is that of no file.
     fn read_file(&mut self, alloc: Global, name: &Bytes) -> Result<Bytes, FileError> {
-        match read_named(self.rt, alloc, name) {
+        match read_named(self.rt, alloc, name, self.sockets) {
             Err(FileError::Failed) => Err(self.fail()),
             answer => answer,
         }
@@ -57,13 +74,19 @@ impl<'r, R: SystemFiles + Net> Files for RealFiles<'r, R> {
 }
 
 // A name that isn't UTF-8 is that of no file.
-fn read_named<R: SystemFiles + Net>(rt: &R, alloc: Global, name: &Bytes) -> Result<Bytes, FileError>
+fn read_named<R: SystemFiles + Net>(
+    rt: &R,
+    alloc: Global,
+    name: &Bytes,
+    sockets: bool,
+) -> Result<Bytes, FileError>
     ensures { IfOk result (λ bytes. length bytes ≤ MAX_INPUT_BYTES) }
 {
     let Ok(path) = str::from_utf8(name.as_slice()) else {
         return Err(FileError::Failed);
     };
     match fs::open(rt, path) {
+        Ok(_) if sockets => Err(FileError::Failed),
         Ok(file) => read_whole(alloc, &mut ReadSource::new(file)),
         Err(error) if error.raw_os_error() == Some(IS_SOCKET) => read_answer(rt, alloc, path),
         Err(_) => Err(FileError::Failed),

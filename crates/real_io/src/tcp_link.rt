@@ -1,14 +1,16 @@
 //! A link over a TCP stream.
-ghost use Rattle.std.specs.Prelude.{◌≡◌, ◌≢◌, ◌+◌, ◌-◌, ◌<◌, ◌≤◌, ◌⊎◌, ℕ, IfOk, IfSome, IsOk, None, false, length, min, take, drop, true, vec_len};
+ghost use Rattle.std.specs.Prelude.{◌≡◌, ◌≢◌, ◌+◌, ◌-◌, ◌<◌, ◌≤◌, ◌⊎◌, ℕ, IfOk, IfSome, IsOk, None, false, length, take, drop, true, vec_len};
 ghost use Rattle.jk_io.specs.Told.{HasCause, Rose};
 ghost use Rattle.std.specs.List.{between};
-ghost use Rattle.real_io.specs.Heads.{EndsHead};
+ghost use Rattle.real_io.specs.Heads.{EndsHead, IsShort};
+ghost use Rattle.real_io.specs.Unflushed.{unflushed_with, replies_after};
 ghost use Rattle.real_io.specs.Waitless.{IfCame};
 
 use crate::heads::{MAX_HEAD_BYTES, head_end};
 use crate::leisure::{GLANCE_MILLIS, Leisure, MOST_GLANCE_MILLIS, comes_within};
 use crate::outbox::Outbox;
 use crate::stream_end::{AtHand, StreamEnd};
+use crate::unflushed::Unflushed;
 use jk_io::{Awaited, IoError, Link, Meanings, NoMemory, Sink, Source};
 use std::alloc::Global;
 use std::net::TcpStream;
@@ -44,7 +46,9 @@ pub struct TcpLink {
     is_idle: bool,
     /// A number by which a door knows it again.
     seat: u64,
-    /// How often all that was written went out: once for each whole reply.
+    /// What was written since the last flush.
+    unflushed: Unflushed,
+    /// How often a final reply went out whole.
     replies: u64,
     /// Whether workers are free, of a client's link that may then look at its client for a moment.
     leisure: Option<Leisure>,
@@ -52,6 +56,8 @@ pub struct TcpLink {
     looked: u64,
     /// Nothing came of its client in the last look.
     is_slow: bool,
+    /// Its door goes on hearing of what comes of its client.
+    is_heard: bool,
     failed: u64,
     ghost within: { (from ≤ to) × (to ≤ vec_len ahead) },
 }
@@ -68,10 +74,12 @@ pub struct LinkParts {
     /// It said that it waits, and nothing was read or written since.
     pub is_idle: bool,
     pub seat: u64,
-    /// How often all that was written went out: once for each whole reply.
+    /// How often a final reply went out whole.
     pub replies: u64,
     /// Nothing came of its client in the last look.
     pub is_slow: bool,
+    /// Its door goes on hearing of what comes of its client.
+    pub is_heard: bool,
     ghost within: { (from ≤ to) × (to ≤ vec_len ahead) },
 }
 
@@ -155,12 +163,21 @@ impl TcpLink {
             is_head: false,
             is_idle: false,
             seat: 0,
+            unflushed: Unflushed::Nothing,
             replies: 0,
             leisure: None,
             looked: 0,
             is_slow: false,
+            is_heard: false,
             failed: 0,
         }
+    }
+
+    /// Its door goes on hearing of what comes of its client, and needn't be told again.
+    pub fn leave_to_door(&mut self)
+        ensures { self.new ≡ record self.old { is_heard = true } }
+    {
+        self.is_heard = true;
     }
 
     /// Where it is told whether workers are free, it may look at its client for a moment before it says that it waits.
@@ -174,7 +191,7 @@ impl TcpLink {
     pub fn into_parts(self) -> LinkParts
         ensures ahead { (result.ahead ≡ self.ahead) × (result.from ≡ self.from) × (result.to ≡ self.to) }
         ensures same { (result.is_idle ≡ self.is_idle) × (result.seat ≡ self.seat) × (result.replies ≡ self.replies) }
-        ensures slow { result.is_slow ≡ self.is_slow }
+        ensures looks { (result.is_slow ≡ self.is_slow) × (result.is_heard ≡ self.is_heard) }
     {
         let TcpLink {
             wire,
@@ -185,10 +202,12 @@ impl TcpLink {
             is_head: _,
             is_idle,
             seat,
+            unflushed: _,
             replies,
             leisure: _,
             looked: _,
             is_slow,
+            is_heard,
             failed: _,
         } = self;
         let end = end_of(wire);
@@ -201,6 +220,7 @@ impl TcpLink {
             seat,
             replies,
             is_slow,
+            is_heard,
         }
     }
 
@@ -245,9 +265,12 @@ impl TcpLink {
         self.to = held;
     }
 
-    // Whether no whole head was read ahead, and not as many bytes as a head may have.
+    // Whether no whole head was read ahead, and fewer bytes than a head may have.
     fn lacks_head(&self) -> bool
-        ensures { result ≡ true → (n : ℕ) → EndsHead (between self.now.from self.now.to self.now.ahead.items) n → ⊥ }
+        ensures none { result ≡ true → (n : ℕ) → EndsHead (between self.now.from self.now.to self.now.ahead.items) n → ⊥ }
+        ensures short { result ≡ true → IsShort (self.now.to - self.now.from) }
+        ensures whole { result ≡ false → IsShort (self.now.to - self.now.from)
+            → (n : ℕ) × EndsHead (between self.now.from self.now.to self.now.ahead.items) n }
     {
         if self.to - self.from >= MAX_HEAD_BYTES {
             return false;
@@ -261,6 +284,7 @@ impl TcpLink {
     // Whether more of a client's next head is waited for; what is at hand of it is read ahead.
     fn wants_more(&mut self) -> bool
         ensures none { result ≡ true → (n : ℕ) → EndsHead (between self.new.from self.new.to self.new.ahead.items) n → ⊥ }
+        ensures short { result ≡ true → IsShort (self.new.to - self.new.from) }
         ensures same { (self.new.failed ≡ self.old.failed) × (self.new.looked ≡ self.old.looked) }
     {
         if !self.lacks_head() {
@@ -280,7 +304,7 @@ impl TcpLink {
         ensures brief { self.new.looked ≤ self.old.looked + 1 }
         ensures few { self.new.looked ≤ 256 ⊎ (self.new.looked ≡ self.old.looked) }
         ensures untold { self.old.leisure ≡ None → self.new.looked ≡ self.old.looked }
-        ensures same { self.new.failed ≡ self.old.failed }
+        ensures same { self.new ≡ record self.old { looked = self.new.looked; is_slow = self.new.is_slow } }
     {
         if self.from == self.to
             && self.looked < MOST_GLANCE_MILLIS
@@ -305,6 +329,7 @@ impl TcpLink {
         ensures error { result ≡ IoError.Failed }
         ensures rose { Rose self.old.failed self.new.failed × (self.old.failed ≤ self.new.failed) }
         ensures same { (self.new.from ≡ self.old.from) × (self.new.to ≡ self.old.to) × (self.new.ahead ≡ self.old.ahead) }
+        ensures uncounted { self.new.replies ≡ self.old.replies }
     {
         self.failed = self.failed.saturating_add(1);
         IoError::Failed
@@ -454,8 +479,10 @@ impl Sink for TcpLink {
     fn write(&mut self, piece: &[u8]) -> Result<usize, IoError>
         requires { 0 < length piece.now }
 
-        // What was read ahead stays.
+        // What was read ahead stays, and the first piece after a flush tells whether a final reply begins.
         ensures rest { (self.new.from ≡ self.old.from) × (self.new.to ≡ self.old.to) × (self.new.ahead ≡ self.old.ahead) }
+        ensures begun { IsOk result → self.new.unflushed ≡ unflushed_with self.old.unflushed piece.now }
+        ensures uncounted { self.new.replies ≡ self.old.replies }
 
         // What each sink says.
         ensures count { IfOk result (λ n. (0 < n) × (n ≤ length piece.now)) }
@@ -465,22 +492,27 @@ impl Sink for TcpLink {
         self.is_idle = false;
         self.let_first_go();
         match self.wire.send(piece) {
-            Some(n) => Ok(n),
+            Some(n) => {
+                self.unflushed = self.unflushed.with(piece);
+                Ok(n)
+            }
             None => Err(self.fail()),
         }
     }
 
     fn flush(&mut self) -> Result<(), IoError>
-        // What was read ahead stays, and a whole reply is counted.
+        // What was read ahead stays, and a final reply that is whole now is counted.
         ensures rest { (self.new.from ≡ self.old.from) × (self.new.to ≡ self.old.to) × (self.new.ahead ≡ self.old.ahead) }
-        ensures counted { IsOk result → self.new.replies ≡ min (self.old.replies + 1) 18446744073709551615 }
+        ensures counted { IsOk result → self.new.replies ≡ replies_after self.old.unflushed self.old.replies }
+        ensures anew { IsOk result → self.new.unflushed ≡ Unflushed.Nothing }
 
         // What each sink says.
         ensures cause { HasCause self.old.failed self.new.failed result }
         ensures steady { IsOk result → self.new.failed ≡ self.old.failed }
     {
         if self.wire.flush() {
-            self.replies = self.replies.saturating_add(1);
+            self.replies = self.unflushed.counted(self.replies);
+            self.unflushed = Unflushed::Nothing;
             return Ok(());
         }
         Err(self.fail())
@@ -488,9 +520,15 @@ impl Sink for TcpLink {
 }
 
 impl Link for TcpLink {
+    // nothing was read ahead
+    ghost found_quiet = { λ before after. before.from ≡ before.to };
+
     fn waits(&mut self) -> bool
         // Where it waits, no whole head is there.
         ensures none { result ≡ true → (n : ℕ) → EndsHead (between self.new.from self.new.to self.new.ahead.items) n → ⊥ }
+
+        // Nor as many bytes as a head may have.
+        ensures short { result ≡ true → IsShort (self.new.to - self.new.from) }
         ensures idle { result ≡ self.new.is_idle }
 
         // It looks at its client for a millisecond at most, 256 times at most, and only where it is told whether workers are free.
@@ -523,6 +561,7 @@ impl Link for TcpLink {
         ensures rest { (self.new.from ≡ self.old.from) × (self.new.to ≡ self.old.to) × (self.new.ahead ≡ self.old.ahead) }
 
         // What each link says.
+        ensures found { result ≡ true → self.old.from ≡ self.old.to }
         ensures same { self.new.failed ≡ self.old.failed }
     {
         if self.from != self.to {

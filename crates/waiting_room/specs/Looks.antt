@@ -1,7 +1,19 @@
 -- What a look at a client keeps: the bytes that came of it before stand in front of those that come now.
-use Rattle.std.specs.Prelude.{◌≡◌, ℕ, ◌≤◌, List, length, take}
+use Rattle.std.specs.Prelude.{◌≡◌, ℕ, ◌≤◌, List, Option, Some, None, length, take}
 use Rattle.waiting_room.specs.declared.door.Look.{Look}
 use Rattle.waiting_room.specs.declared.door.Look.TheVariants.{Ready, Part, Gone}
+use Rattle.waiting_room.specs.declared.stay.Phase.TheVariants.{Between}
+use Rattle.waiting_room.specs.declared.stay.Stay.{Stay}
+
+-- a client is quick whose next head was there within a millisecond of its last reply
+abbrev pub IsQuick : Option ℕ → Type 0
+IsQuick (Some millis) = millis ≤ 1
+IsQuick None = ⊥
+
+-- what is said of how long a client waited between two requests is said of such a wait alone
+abbrev pub WaitedBetween : Stay → Option ℕ → Type 0
+WaitedBetween stay (Some millis) = stay.phase ≡ Between
+WaitedBetween stay None = Unit {0}
 
 -- no fewer bytes than before are there, the same ones first
 abbrev pub SeesAfter : ℕ → Look → List ℕ → List ℕ → Type 0

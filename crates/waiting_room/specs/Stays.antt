@@ -1,5 +1,5 @@
 -- When a client has waited too long, and when all ends after a stop.
-use Rattle.std.specs.Prelude.{◌≡◌, ℕ, ◌+◌, ◌*◌, ◌<◌, ◌≤◌, ◌⊎◌, ◌==◌, if◌then◌else◌, min}
+use Rattle.std.specs.Prelude.{◌≡◌, ℕ, ◌+◌, ◌*◌, ◌<◌, ◌≤◌, ◌⊎◌, ◌==◌, if◌then◌else◌, min, Option, Some, None}
 use Rattle.waiting_room.specs.declared.stay.Limits.{Limits}
 use Rattle.waiting_room.specs.declared.stay.Phase.{Phase}
 use Rattle.waiting_room.specs.declared.stay.Phase.TheVariants.{Head, Between, Lingers}
@@ -29,6 +29,12 @@ abbrev pub stay_after : Phase → Stay → ℕ → ℕ → Stay
 stay_after Head stay count now = stay
 stay_after Between stay count now = if count == 0 then stay else record { phase = Head; since = now; last = now }
 stay_after Lingers stay count now = stay
+
+-- how long a wait lasted that is one between two requests
+abbrev pub between_of : Phase → ℕ → Option ℕ
+between_of Between lasted = Some lasted
+between_of Head lasted = None
+between_of Lingers lasted = None
 
 -- when all ends after a stop at this moment, at which requests under way may take so many seconds
 abbrev pub end_after : (now : ℕ) → (grace : ℕ) → ℕ

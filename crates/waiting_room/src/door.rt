@@ -1,9 +1,9 @@
 //! A worker's door into the room.
-ghost use Rattle.std.specs.Prelude.{◌≡◌, ◌+◌, ◌-◌, ◌<◌, ◌≤◌, ◌++◌, None, false, if◌then◌else◌, IfOk, IfNone, IfSome, IsOk, OnErr, OnOk, length, min, take};
+ghost use Rattle.std.specs.Prelude.{◌≡◌, ◌+◌, ◌-◌, ◌<◌, ◌≤◌, ◌++◌, ◌⊎◌, None, if◌then◌else◌, IfOk, IfNone, IfSome, IsOk, OnErr, OnOk, length, min, take};
 ghost use Rattle.std.specs.List.{between};
 ghost use Rattle.jk_io.specs.Told.{HasCause, Rose};
 ghost use Rattle.real_io.specs.Waitless.{IfCame};
-ghost use Rattle.waiting_room.specs.Looks.{SeesAfter};
+ghost use Rattle.waiting_room.specs.Looks.{IsQuick, SeesAfter, WaitedBetween};
 
 use crate::client::Client;
 use crate::room::Room;
@@ -31,6 +31,8 @@ pub struct RoomDoor<'r, R: Wait + Eprint> {
     buffer: Option<Vec<u8>>,
     /// How many links are out and may be left.
     out: u64,
+    /// How many milliseconds its last client waited between two requests; none: it was another wait.
+    waited: Option<u64>,
     /// It said that no client comes any more.
     is_closed: bool,
     failed: u64,
@@ -50,6 +52,7 @@ impl<'r, R: Wait + Eprint> RoomDoor<'r, R> {
             clients,
             buffer: None,
             out: 0,
+            waited: None,
             is_closed: false,
             failed: 0,
         }
@@ -88,12 +91,14 @@ impl<'r, R: Wait + Eprint> RoomDoor<'r, R> {
         })
     }
 
-    // A client who was served since this moment: its link waits for more, of which these bytes came.
-    fn put_back(&self, at: usize, end: StreamEnd, served: u64, came: &[u8]) {
+    // A client who was served: its link waits for more, of which these bytes came.
+    fn put_back(&self, at: usize, end: StreamEnd, is_slow: bool, is_heard: bool, came: &[u8]) {
         match Client::of(self.room.alloc, end, came) {
             Ok(client) => {
-                let stay = Stay::new(Phase::Between, served).after(came.len() as u64, moment());
-                self.room.give_back(self.rt, at, stay, client);
+                let now = moment();
+                let stay = Stay::new(Phase::Between, served_since(is_slow, now));
+                let stay = stay.after(came.len() as u64, now);
+                self.room.give_back(self.rt, at, stay, client, is_heard);
             }
             Err(end) => self.let_go(at, end),
         }
@@ -123,13 +128,15 @@ struct Ready {
     at: usize,
     end: StreamEnd,
     count: usize,
-    /// Its head came within a millisecond of its last reply.
-    is_quick: bool,
+    /// How many milliseconds after its last reply its head was there; none: it was another wait.
+    waited: Option<u64>,
 }
 
 impl Seat {
     // The text has room for any address, so this one is written whole.
-    fn client(self, ready: Ready, leisure: Option<Leisure>) -> (TcpLink, Peer) {
+    fn client(self, ready: Ready, leisure: Option<Leisure>) -> (TcpLink, Peer)
+        ensures { result.0.leisure ≡ leisure }
+    {
         let Seat {
             outbox,
             buffer,
@@ -139,7 +146,7 @@ impl Seat {
             at,
             end,
             count,
-            is_quick: _,
+            waited: _,
         } = ready;
         if let Some(ip) = end.peer() {
             let _ = write!(address, "{ip}");
@@ -147,7 +154,10 @@ impl Seat {
         let addr = Bytes::from_vec(address.into_bytes());
         let count = count.min(buffer.len());
         let mut link = TcpLink::of_client(outbox, end, buffer, count, at as u64);
-        link.look_while(leisure);
+        match leisure {
+            Some(_) => link.look_while(leisure),
+            None => link.leave_to_door(),
+        }
         (link, Peer { addr })
     }
 }
@@ -166,6 +176,9 @@ impl<'r, R: Wait + Eprint> Door for RoomDoor<'r, R> {
     ghost faults = { λ d. d.failed };
 
     fn accept(&mut self, alloc: Global) -> Result<Option<(TcpLink, Peer)>, IoError>
+        // The link alone of a client who was quick is told whether workers are free.
+        ensures quick { IfOk result (λ answer. IfSome answer (λ client. IsQuick self.new.waited ⊎ (client.0.leisure ≡ None))) }
+
         // What each door says.
         ensures one_more { IfOk result (λ answer. IfSome answer (λ _. self.new.out ≡ self.old.out + 1)) }
         ensures no_more { IfOk result (λ answer. IfNone answer (self.new.out ≡ self.old.out)) }
@@ -180,6 +193,7 @@ impl<'r, R: Wait + Eprint> Door for RoomDoor<'r, R> {
         match next_ready(self.rt, &self.room, &mut seat.buffer) {
             Some(ready) => {
                 self.out = out;
+                self.waited = ready.waited;
                 let leisure = leisure_for(&self.room, &ready);
                 Ok(Some(seat.client(ready, leisure)))
             }
@@ -207,13 +221,13 @@ impl<'r, R: Wait + Eprint> Door for RoomDoor<'r, R> {
             seat,
             replies,
             is_slow,
+            is_heard,
         } = link.into_parts();
         self.room.note_replies(replies);
         match end {
             None => self.room.free(self.rt, seat as usize),
             Some(end) if is_idle => {
-                let served = served_since(is_slow, moment());
-                self.put_back(seat as usize, end, served, &ahead[from..to]);
+                self.put_back(seat as usize, end, is_slow, is_heard, &ahead[from..to]);
             }
             Some(end) => self.let_go(seat as usize, end),
         }
@@ -234,12 +248,12 @@ fn served_since(is_slow: bool, now: u64) -> u64
 
 // Whether workers are free, for the link of a client who was quick.
 fn leisure_for(room: &Room, ready: &Ready) -> Option<Leisure>
-    ensures quick { ready.now.is_quick ≡ false → result ≡ None }
+    ensures quick { IsQuick ready.now.waited ⊎ (result ≡ None) }
 {
-    if !ready.is_quick {
-        return None;
+    match ready.waited {
+        Some(millis) if millis <= GLANCE_MILLIS => room.leisure_of(ready.end.number()),
+        _ => None,
     }
-    room.leisure_of(ready.end.number())
 }
 
 // The next client whom a worker can serve; none once the room is closed.
@@ -263,6 +277,7 @@ fn next_look<R: Wait + Eprint>(
     client: Client,
 ) -> Option<Ready>
     ensures same { IfSome result (λ ready. ready.at ≡ at) }
+    ensures waited { IfSome result (λ ready. WaitedBetween stay ready.waited) }
     ensures ahead { let have = min (length client.ahead.items) (length buffer.old) in
         IfSome result (λ ready. (have ≤ ready.count) × (take have buffer.new ≡ take have client.ahead.items)) }
 {
@@ -272,12 +287,12 @@ fn next_look<R: Wait + Eprint>(
     let have = put_ahead(buffer, ahead.as_slice());
     match look_at(&mut end, buffer, have) {
         Look::Ready(count) => {
-            let is_quick = stay.is_short(GLANCE_MILLIS, moment());
+            let waited = stay.between(moment());
             return Some(Ready {
                 at,
                 end,
                 count,
-                is_quick,
+                waited,
             });
         }
         Look::Part(count) => {
@@ -286,11 +301,11 @@ fn next_look<R: Wait + Eprint>(
                     at,
                     end,
                     count,
-                    is_quick: false,
+                    waited: None,
                 });
             }
             let stay = stay.after(count as u64, moment());
-            room.give_back(rt, at, stay, Client { end, ahead });
+            room.give_back(rt, at, stay, Client { end, ahead }, true);
         }
         Look::Gone => room.free(rt, at),
     }

@@ -6,7 +6,7 @@ use crate::table::Table;
 use jk_io::{Bytes, ClientLimits, NoMemory};
 use mio::unix::SourceFd;
 use mio::{Events, Interest, Poll, Registry, Token};
-use real_io::{Ending, Leisure, moment};
+use real_io::{Ending, Leisure, Tally, moment};
 use std::alloc::Global;
 use std::io::ErrorKind;
 use std::net::{Net, SocketAddr, TcpListener, ToSocketAddrs};
@@ -160,6 +160,7 @@ fn room_with<R: Net>(
         askers: Mutex::new(Askers {
             streams: Vec::new(alloc),
         }),
+        unwatched: Mutex::new(Tally::new()),
     })
 }
 

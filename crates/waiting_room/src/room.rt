@@ -1,5 +1,5 @@
 //! The room: what all doors share.
-ghost use Rattle.std.specs.Prelude.{◌≡◌};
+ghost use Rattle.std.specs.Prelude.{◌≡◌, ◌==◌, IfNone, if◌then◌else◌};
 ghost use Rattle.waiting_room.specs.Stays.{end_after};
 ghost use Rattle.waiting_room.specs.Turns.{Gives, KeepsAway};
 
@@ -12,8 +12,9 @@ use libc::net::{SHUT_RDWR, shutdown};
 use mio::event::Event;
 use mio::unix::SourceFd;
 use mio::{Events, Interest, Poll, Registry, Token};
-use real_io::{AtHand, Ending, Leisure, StreamEnd, is_wanting, moment};
+use real_io::{AtHand, Ending, Leisure, StreamEnd, Tally, is_wanting, moment};
 use std::alloc::Global;
+use std::io;
 use std::io::ErrorKind;
 use std::net::{SocketAddr, TcpListener, TcpStream};
 use std::os::fd::{AsRawFd, RawFd};
@@ -75,6 +76,8 @@ pub struct Room {
     /// How many replies went out whole.
     pub(crate) replies: AtomicU64,
     pub(crate) askers: Mutex<Askers>,
+    /// When it was said last that a client can't be watched.
+    pub(crate) unwatched: Mutex<Tally>,
 }
 
 /// What a worker gets of a room.
@@ -113,11 +116,40 @@ impl Room {
         Some(leisure)
     }
 
-    // The system's word on a place is waited for from now on, also on what came until now. One that is watched stays so.
-    fn watch(&self, at: usize, number: RawFd) {
-        let _ = self
+    // The system's word on a place is waited for from now on, also on what came until now. One that is watched stays so. Where it
+    // can't be, the answer says why, and its client is closed, unless it lingers, which ends by itself.
+    fn watch(&self, table: &mut Table, at: usize, number: RawFd) -> Option<io::Error>
+        ensures watched { IfNone result (table.new ≡ table.old) }
+        ensures ready { table.new.places.ready ≡ table.old.places.ready }
+        ensures away { KeepsAway table.old.places.places table.new.places.places }
+    {
+        let answer = self
             .registry
             .register(&mut SourceFd(&number), Token(at), Interest::READABLE);
+        match answer {
+            Err(error) if error.kind() != ErrorKind::AlreadyExists => {
+                close_unless_lingering(table, at);
+                Some(error)
+            }
+            _ => None,
+        }
+    }
+
+    // Says that a client can't be watched, if it can't, at most once a second. Standard error that can't be written is no fault.
+    fn say_unwatched<R: Wait + Eprint>(&self, rt: &R, failure: Option<io::Error>) {
+        let Some(error) = failure else {
+            return;
+        };
+        let Some(left_out) = self.unwatched.lock(rt).ask(moment()) else {
+            return;
+        };
+        let _ = if left_out == 0 {
+            eprintln!(rt; "jkd: a client can't be waited for, and is closed: {error}")
+        } else {
+            eprintln!(rt;
+                "jkd: a client can't be waited for, and is closed: {error} (left out before: {left_out})"
+            )
+        };
     }
 
     /// The port at which clients are accepted.
@@ -241,8 +273,9 @@ impl Room {
     // is no fault.
     fn stop<R: Wait + Eprint>(&self, rt: &R, now: u64, grace: u64) {
         if self.close_door(rt, now, grace) {
+            let seconds = counted(grace, "second", "seconds");
             let _ = eprintln!(rt;
-                "jkd: it stops: no client is accepted any more, and requests under way may take {grace} seconds"
+                "jkd: it stops: no client is accepted any more, and requests under way may take {grace} {seconds}"
             );
         }
     }
@@ -273,8 +306,10 @@ impl Room {
     fn say_served<R: Wait + Eprint>(&self, rt: &R) {
         let came = self.table.lock(rt).came;
         let replies = self.replies.load(Ordering::SeqCst);
+        let clients = counted(came, "client", "clients");
+        let whole = counted(replies, "reply", "replies");
         let _ = eprintln!(rt;
-            "jkd: it ended: {came} clients came, and {replies} replies went out whole"
+            "jkd: it ended: {came} {clients} came, and {replies} {whole} went out whole"
         );
     }
 
@@ -315,14 +350,17 @@ impl Room {
         let mut table = self.table.lock(rt);
         make_way(&mut table, self.limits.waiting);
         table.note_come();
-        match table.places.put(Stay::new(Phase::Head, now), client) {
-            Ok(at) => self.watch(at, number),
+        let failure = match table.places.put(Stay::new(Phase::Head, now), client) {
+            Ok(at) => self.watch(&mut table, at, number),
             Err(client) => {
                 table.note_gone();
                 drop(client);
+                None
             }
-        }
+        };
         self.tell_leisure(&table);
+        drop(table);
+        self.say_unwatched(rt, failure);
     }
 
     // Closes the links of those who have waited too long.
@@ -337,13 +375,15 @@ impl Room {
         }
     }
 
-    /// A worker gives its client back, who waits for a head, of which some bytes may have come.
+    /// A worker gives its client back, who waits for a head, of which some bytes may have come. The system's word on it was
+    /// waited for meanwhile, or is from now on.
     pub(crate) fn give_back<R: Wait + Eprint>(
         &self,
         rt: &R,
         at: usize,
         stay: Stay,
         client: Client,
+        is_heard: bool,
     ) {
         let mut table = self.table.lock(rt);
         table.note_back();
@@ -352,15 +392,19 @@ impl Room {
             return self.linger_now(rt, at, client);
         }
         let number = client.end.number();
-        match table.places.give_back(at, stay, client) {
-            Ok(()) => self.watch(at, number),
+        let failure = match table.places.give_back(at, stay, client) {
+            Ok(()) if is_heard => None,
+            Ok(()) => self.watch(&mut table, at, number),
             Err(client) => {
                 table.note_gone();
                 table.places.free(at);
                 drop(client);
+                None
             }
-        }
+        };
         self.tell_leisure(&table);
+        drop(table);
+        self.say_unwatched(rt, failure);
     }
 
     /// A worker's client goes.
@@ -387,20 +431,22 @@ impl Room {
         table.note_gone();
         self.tell_leisure(&table);
         table.places.see(at);
-        match table
-            .places
-            .give_back(at, Stay::new(Phase::Lingers, now), client)
-        {
+        let stay = Stay::new(Phase::Lingers, now);
+        let failure = match table.places.give_back(at, stay, client) {
             Ok(()) => {
                 table.lingering = table.lingering.saturating_add(1);
-                self.watch(at, number);
+                let failure = self.watch(&mut table, at, number);
                 look_at_lingering(&mut table, at, now);
+                failure
             }
             Err(client) => {
                 table.places.free(at);
                 drop(client);
+                None
             }
-        }
+        };
+        drop(table);
+        self.say_unwatched(rt, failure);
     }
 
     /// The run ended: what was served is said, and who asked for a stop is told so, once no link lingers any more.
@@ -432,6 +478,13 @@ fn tell_want<R: Eprint>(rt: &R, told: &mut Option<u64>, now: u64) {
     }
     *told = Some(now);
     let _ = eprintln!(rt; "jkd: no client is accepted until one goes: no descriptor is left");
+}
+
+// The word for one, or for another number.
+fn counted(count: u64, one: &'static str, more: &'static str) -> &'static str
+    ensures { result ≡ (if count == 1 then one.entry else more.entry) }
+{
+    if count == 1 { one } else { more }
 }
 
 // When all ends where a stop comes now and requests under way may take so many seconds.
@@ -524,10 +577,18 @@ fn close_waiting(table: &mut Table)
     ensures away { KeepsAway table.old.places.places table.new.places.places }
 {
     for at in 0..table.places.len() {
-        match table.places.stay_at(at) {
-            Some(stay) if stay.phase != Phase::Lingers => close(table, at),
-            _ => {}
-        }
+        close_unless_lingering(table, at);
+    }
+}
+
+// Closes the link of the client who waits at a place, unless it lingers.
+fn close_unless_lingering(table: &mut Table, at: usize)
+    ensures ready { table.new.places.ready ≡ table.old.places.ready }
+    ensures away { KeepsAway table.old.places.places table.new.places.places }
+{
+    match table.places.stay_at(at) {
+        Some(stay) if stay.phase != Phase::Lingers => close(table, at),
+        _ => {}
     }
 }
 

@@ -1,6 +1,6 @@
 //! How long a client may wait.
-ghost use Rattle.std.specs.Prelude.{◌≡◌, ◌↔◌, ◌+◌, ◌<◌, ◌≤◌, IsTrue};
-ghost use Rattle.waiting_room.specs.Stays.{IsOver, millis_of, stay_after};
+ghost use Rattle.std.specs.Prelude.{◌≡◌, ◌↔◌, ◌+◌, ◌-◌, ◌<◌, ◌≤◌, IsTrue};
+ghost use Rattle.waiting_room.specs.Stays.{IsOver, between_of, millis_of, stay_after};
 
 use jk_io::ClientLimits;
 
@@ -74,11 +74,14 @@ impl Stay {
         }
     }
 
-    /// Whether it is one between two requests that lasted no more than so many milliseconds.
-    pub fn is_short(self, millis: u64, now: u64) -> bool
-        ensures { IsTrue result ↔ (self.phase ≡ Phase.Between) × (now ≤ self.since + millis) }
+    /// How many milliseconds it lasted until now, if it is one between two requests.
+    pub fn between(self, now: u64) -> Option<u64>
+        ensures { result ≡ between_of self.phase (now - self.since) }
     {
-        self.phase == Phase::Between && now.saturating_sub(self.since) <= millis
+        match self.phase {
+            Phase::Between => Some(now.saturating_sub(self.since)),
+            _ => None,
+        }
     }
 
     /// Whether it has lasted too long.

@@ -3,5 +3,5 @@ use Rattle.std.specs.List.{between}
 use Rattle.real_io.specs.Heads.{EndsHead}
 use Rattle.real_io.proofs.tcp_link.TcpLink.lacks_head.Goals as goal
 
-pub returns-in-None : goal.returns-in-None
-returns-in-None c = λ _ n e. c.in-None.ensures.none n (subst (λ (l : List ℕ). EndsHead (between c.args.self.now.from c.args.self.now.to l) n) (sym c.deref.ensures.value) e)
+pub returns-in-None-clause-none : goal.returns-in-None-clause-none
+returns-in-None-clause-none c = λ _ n e. c.in-None.ensures.none n (subst (λ (l : List ℕ). EndsHead (between c.args.self.now.from c.args.self.now.to l) n) (sym c.deref.ensures.value) e)
