@@ -23,6 +23,11 @@ there_is : {X : Type 0} (o : Option X) (P : X → Type 0) → IsSomeAnd o P → 
 there_is None P some = absurd some
 there_is (Some x) P some = refl
 
+-- what is always new is never kept
+pub never_kept : {P : Type 0} (result : Result Bool IoError) → IfOk result (λ dialled. dialled ≡ true) → result ≡ Ok false → P
+never_kept (Ok dialled) new kept = absurd (cc (new, kept))
+never_kept (Err e) new kept = absurd cc
+
 answered : {L : Type 0} (o : Option (LentState L)) (answer : Result L IoError) → IsSomeAnd o (λ l. answer ≡ Ok l.given) → is_ok answer ≡ true
 answered None answer some = absurd some
 answered (Some l) answer some = ap is_ok some

@@ -21,7 +21,7 @@ pub record LentState (L : Type 0) : Type 0 where
   pub faulty : Bool
 
 -- a link that was given back: whose it is, what it told then, and in whose pool it is idle, as lb and member; in none
--- where it was closed, since the pool was full, or a byte came on it or its other end closed
+-- where it was closed, since the pool was full
 pub record BackState : Type 0 where
   pub lb : ℕ
   pub member : ℕ

@@ -87,6 +87,8 @@ impl<L: Link> Sink for AgedLink<L> {
 impl<L: Link> Link for AgedLink<L> {
     ghost may_wait = { L.may_wait };
 
+    ghost found_quiet = { λ before after. L.found_quiet before.link after.link };
+
     fn waits(&mut self) -> bool {
         self.link.waits()
     }

@@ -29,6 +29,7 @@ pub(crate) fn begin_idle<L: Link + Drop, T: Tape, R: Wait>(
     ensures whose { IfSome lent.new (λ new. (new.lb ≡ asked.now.lb) × (new.member ≡ asked.now.member)) }
     ensures begins { IfSome lent.new (λ new. (new.began ≡ new.link.faults) × (new.faulty ≡ false)) }
     ensures idle_link { IfSome lent.new (λ new. new.dialled ≡ false) }
+    ensures quiet { IfSome lent.new (λ new. (kept : L) × L.found_quiet kept new.given) }
     ensures fresh { IfOk result (λ there. asked.now.fresh ≡ true → there ≡ false) }
     ensures running { IfOk result (λ there. there ≡ true → T.is_running tape.new) }
     ensures begun { IfOk result (λ there. there ≡ true → IfSome (T.begun tape.new) (λ b. b
@@ -133,6 +134,7 @@ fn idle_link<L: Link + Drop, R: Wait>(
     requires { HasMember pools.now lb member }
     ensures fresh { fresh ≡ true → result ≡ None }
     ensures whose { IfSome result (λ idle. (idle.lb ≡ lb) × (idle.member ≡ member)) }
+    ensures quiet { IfSome result (λ idle. (kept : L) × L.found_quiet kept idle.link) }
 {
     if fresh {
         return None;

@@ -39,6 +39,7 @@ impl<L> Idle<L> {
 impl<L: Link> Idle<L> {
     /// Whether no byte came and the other end didn't close, as far as can be seen without waiting.
     pub(crate) fn is_quiet(&mut self) -> bool
+        ensures found { result ≡ true → L.found_quiet self.old.link self.new.link }
         ensures whose { (self.new.lb ≡ self.old.lb) × (self.new.member ≡ self.old.member) }
         ensures same { moment L.incoming L.received L.sent L.faults self.new.link ≡ moment L.incoming L.received L.sent L.faults self.old.link }
     {

@@ -252,8 +252,14 @@ impl<'p, 'r, D: Dial, T: Tape, R: Wait> Reach for PooledReach<'p, 'r, D, T, R> {
         ensures begun { IfOk result (λ dialled. IfSome (T.begun self.new.tape) (λ b. b ≡ told_begun lb member host.now port fresh dialled)) }
         ensures nothing_yet { IsEmpty (T.sent self.new.tape) × IsEmpty (T.received self.new.tape) }
 
-        // Over an idle link the dial isn't asked. Where the dial failed there is no talk, and a begin fails only there.
+        // Over an idle link the dial isn't asked.
         ensures idle { IfOk result (λ dialled. dialled ≡ false → self.new.dial ≡ self.old.dial) }
+
+        // An idle link is lent as a look in this begin found it: quiet, so that no byte is there and its other end didn't close.
+        // A pool tells nothing of its links, so no earlier look will do.
+        ensures quiet { result ≡ Ok false → IfSome self.new.lent (λ lent. (kept : D.L) × D.L.found_quiet kept lent.given) }
+
+        // Where the dial failed there is no talk, and a begin fails only there.
         ensures clean { IsOk result → D.faults self.new.dial ≡ D.faults self.old.dial }
         ensures dial_failed { IsErrOf result IoError.Failed → Rose (D.faults self.old.dial) (D.faults self.new.dial) }
 
@@ -318,8 +324,7 @@ impl<'p, 'r, D: Dial, T: Tape, R: Wait> Reach for PooledReach<'p, 'r, D, T, R> {
     ghost open_in_talk = { λ r. refl };
 }
 
-// Hands a talk's link to the pool of its member if it is to be kept and may be. Where a byte came on it or its other end
-// closed, or the pool is full, it is closed.
+// Hands a talk's link to the pool of its member if it is to be kept and may be. It isn't looked at: the next begin looks.
 fn put_back<L: Link + Drop, R: Wait>(
     pools: &Pools<'_, Idle<L>, R>,
     lent: Lent<L>,
@@ -328,9 +333,6 @@ fn put_back<L: Link + Drop, R: Wait>(
     requires { HasMember pools.now lent.lb lent.member }
     ensures { GoesBack lent keep (back_of (moment L.incoming L.received L.sent L.faults) result) }
 {
-    let mut idle = lent.kept(keep)?;
-    if idle.is_quiet() {
-        return Some(pools.hand_in(idle.home(), idle));
-    }
-    Some(HandedIn::closed(idle))
+    let idle = lent.kept(keep)?;
+    Some(pools.hand_in(idle.home(), idle))
 }

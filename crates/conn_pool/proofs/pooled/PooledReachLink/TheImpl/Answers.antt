@@ -24,6 +24,7 @@ pub is_quiet-tells : goal.is_quiet-tells
 is_quiet-tells g c =
     let is = c.ensures in
     record {
+      found = λ _. tt;
       same_bytes = (refl, ap (λ (r : PooledState _ _ _). g.T.Tape.received r.tape) is, ap (λ (r : PooledState _ _ _). g.T.Tape.sent r.tape) is);
       same = (ap (λ (r : PooledState _ _ _). beside_of g.T.Tape.begun g.T.Tape.talks r) is, ap (λ (r : PooledState _ _ _). r.faults) is);
     }

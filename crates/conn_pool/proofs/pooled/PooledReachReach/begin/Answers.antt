@@ -4,7 +4,7 @@ use Rattle.std.proofs.lemmas.Result.{err_from_is_err_and, on_err_weaker}
 use Rattle.jk_io.specs.declared.failures.IoError.TheVariants as Io
 use Rattle.conn_pool.specs.Begins.{sight_of}
 use Rattle.conn_pool.specs.Reaches.{PooledState}
-use Rattle.conn_pool.proofs.BeginLaws.{BeginFacts, dialled_facts, idle_facts, wants_facts}
+use Rattle.conn_pool.proofs.BeginLaws.{BeginFacts, dialled_facts, idle_facts, never_kept, wants_facts}
 use Rattle.conn_pool.proofs.pooled.PooledReachReach.begin.Goals as goal
 
 pub returns-in_err-begin_idle : goal.returns-in_err-begin_idle
@@ -23,6 +23,7 @@ returns-in_err-begin_idle g c =
       begun = f.begun;
       nothing_yet = f.nothing_yet;
       idle = f.idle;
+      quiet = λ ok. absurd (cc (ok, is));
       clean = f.clean;
       dial_failed = f.dial_failed;
       ok = f.ok;
@@ -51,6 +52,7 @@ returns-then-branch g c =
       begun = f.begun;
       nothing_yet = f.nothing_yet;
       idle = f.idle;
+      quiet = λ _. c.begin_idle.ensures.quiet;
       clean = f.clean;
       dial_failed = f.dial_failed;
       ok = f.ok;
@@ -80,6 +82,7 @@ returns g c =
       begun = f.begun;
       nothing_yet = f.nothing_yet;
       idle = f.idle;
+      quiet = never_kept _ e.new_link;
       clean = f.clean;
       dial_failed = f.dial_failed;
       ok = f.ok;
