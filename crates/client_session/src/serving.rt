@@ -1,5 +1,5 @@
-//! `serve_session`: all requests of one client.
-ghost use Rattle.std.specs.Prelude.{◌≡◌, ◌≤◌, ◌<◌, ◌+◌, [], true, false};
+//! `serve_session_in`: all requests of one client.
+ghost use Rattle.std.specs.Prelude.{◌≡◌, ◌≤◌, ◌<◌, ◌+◌, [], true, false, IfOk, IsOk, IsSome};
 ghost use Rattle.http_front.specs.Takes.{body_at};
 ghost use Rattle.client_session.specs.Concluding.{rows_of};
 ghost use Rattle.client_session.specs.Finishing.{Finishes, RefusesHead, StopsWithoutHead, TurnsAfter, stop_after};
@@ -27,7 +27,7 @@ use http_front::{
 };
 use http_out::OwnKind;
 use httpdate::HttpDate;
-use jk_io::{Awaited, Clock, Link, Reach, Sink};
+use jk_io::{Awaited, Clock, Link, NoMemory, Reach, Sink};
 use jk_model::{NoRows, RowSink, Served};
 use std::alloc::Global;
 
@@ -247,12 +247,28 @@ where
     }
 }
 
-/// Serves a client's requests until the session ends, and puts a row for each one that was answered, as it ends.
+// An empty inbox in this memory, or in its own where there is none.
+fn empty_inbox(alloc: Global, lent: Option<Inbox>) -> Result<Inbox, NoMemory>
+    ensures empty { IfOk result (λ inbox. inbox ≡ []) }
+    ensures lent { IsSome lent → IsOk result }
+{
+    match lent {
+        None => Inbox::new(alloc),
+        Some(mut inbox) => {
+            inbox.clear();
+            Ok(inbox)
+        }
+    }
+}
+
+/// Serves a client's requests until the session ends, and puts a row for each one that was answered, as it ends. Their bytes
+/// are read into the memory that is lent, or that is taken where none is; of what an earlier session left there none is seen.
 ///
 /// No talk of the reach runs before the call or after it.
-pub fn serve_session_with<B: Desk, R: Reach, C: Link, K: Clock, W: RowSink>(
+pub fn serve_session_in<B: Desk, R: Reach, C: Link, K: Clock, W: RowSink>(
     alloc: Global,
     site: &SessionSite<'_>,
+    lent: &mut Option<Inbox>,
     around: &mut Surroundings<B, K, R, C>,
     rows: &mut W,
 ) -> SessionEnd
@@ -268,8 +284,11 @@ where
 
     // A client that is left while it waits is one whose reads may wait.
     ensures idle_only { result.stop ≡ SessionStop.Closed Why.Idle → C.may_wait ≡ true }
+
+    // What was lent comes back.
+    ensures back { IsSome lent.old → IsSome lent.new }
 {
-    let Ok(mut inbox) = Inbox::new(alloc) else {
+    let Ok(mut inbox) = empty_inbox(alloc, lent.take()) else {
         return SessionEnd {
             requests: 0,
             stop: SessionStop::NoMemory,
@@ -282,7 +301,28 @@ where
         client: around.client,
         inbox: &mut inbox,
     };
-    serve_all(alloc, site, &mut sitting, rows)
+    let end = serve_all(alloc, site, &mut sitting, rows);
+    *lent = Some(inbox);
+    end
+}
+
+/// As `serve_session_in`, in memory of its own.
+pub fn serve_session_with<B: Desk, R: Reach, C: Link, K: Clock, W: RowSink>(
+    alloc: Global,
+    site: &SessionSite<'_>,
+    around: &mut Surroundings<B, K, R, C>,
+    rows: &mut W,
+) -> SessionEnd
+where
+    B::Mark: Drop,
+    B::Shown: Drop,
+    requires ready { IsReady (visit_of site.now) (B.state around.old.desk.now) (R.beside around.old.reach.now) }
+    ensures session { IsWholeSession B.state K.answers R.Meanings C.Meanings (visit_of site.now) around.old around.new
+        (λ gained. W.gained rows.old gained rows.new) result }
+    ensures each { HoldsOfEach (visit_of site.now) result }
+    ensures idle_only { result.stop ≡ SessionStop.Closed Why.Idle → C.may_wait ≡ true }
+{
+    serve_session_in(alloc, site, &mut None, around, rows)
 }
 
 /// Serves a client's requests until the session ends, and keeps no rows.

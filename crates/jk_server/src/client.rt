@@ -23,8 +23,9 @@ ghost use Rattle.jk_server.specs.Worker.{forgot_desk, IsFit, keeps, took};
 
 use crate::part::{Post, WorkerEnd};
 use balancer_core::Desk;
-use client_session::{SessionEnd, SessionSite, SessionStop, Surroundings, serve_session_with};
+use client_session::{SessionEnd, SessionSite, SessionStop, Surroundings, serve_session_in};
 use gear_parts::{Part, WorkerLog};
+use http_front::Inbox;
 use jk_io::{Clock, Door, IoError, Link, NoMemory, Peer, Reach};
 use jk_model::RowSink;
 use locked_balancer::{DeskLoan, LentDesk, Moment, SeatedDesk, SharedDesk, Shelf, SiteName};
@@ -135,38 +136,39 @@ fn close_client<L: SiteName, D: Door, R, K, S: Shelf, W, Y: WorkerLog>(
     end_by(part.log.broken(), &mut part.desk, before, stop)
 }
 
-/// A session's memory, and whom it serves by what.
-#[derive(Clone, Copy)]
-struct Visit<'a> {
+/// A session's memory, with what its client's bytes are read into, and whom it serves by what.
+#[derive(Drop)]
+struct Visit<'a, 'i> {
     alloc: Global,
     site: SessionSite<'a>,
+    inbox: &'i mut Option<Inbox>,
 }
 
 /// One session over what it is lent, which stays the caller's own.
 fn serve_around<'a, 'b, 'c, 'd, B: Desk, R: Reach, C: Link, K: Clock, Y: RowSink>(
-    visit: &Visit<'_>,
+    visit: Visit<'_, '_>,
     around: &mut Surroundings<'a, 'b, 'c, 'd, B, K, R, C>,
     rows: &mut Y,
 ) -> SessionEnd
 where
     B::Mark: Drop,
     B::Shown: Drop,
-    requires ready { IsReady (visit_of visit.now.site) (B.state around.old.desk.now) (R.beside around.old.reach.now) }
-    ensures session { IsWholeSession B.state K.answers R.Meanings C.Meanings (visit_of visit.now.site) around.old around.new
+    requires ready { IsReady (visit_of visit.site) (B.state around.old.desk.now) (R.beside around.old.reach.now) }
+    ensures session { IsWholeSession B.state K.answers R.Meanings C.Meanings (visit_of visit.entry.site) around.old around.new
         (λ gained. Y.gained rows.old gained rows.new) result }
-    ensures each { HoldsOfEach (visit_of visit.now.site) result }
+    ensures each { HoldsOfEach (visit_of visit.entry.site) result }
     ensures idle_only { result.stop ≡ SessionStop.Closed why.Idle → C.may_wait ≡ true }
     ensures same_desk { around.new.desk.ghost_name ≡ around.old.desk.ghost_name }
     ensures same_clock { around.new.clock.ghost_name ≡ around.old.clock.ghost_name }
     ensures same_reach { around.new.reach.ghost_name ≡ around.old.reach.ghost_name }
     ensures same_client { around.new.client.ghost_name ≡ around.old.client.ghost_name }
 {
-    serve_session_with(visit.alloc, &visit.site, around, rows)
+    serve_session_in(visit.alloc, &visit.site, visit.inbox, around, rows)
 }
 
 /// One session, by each of the things that it is lent.
 fn serve_visit<B: Desk, R: Reach, C: Link, K: Clock, Y: RowSink>(
-    visit: &Visit<'_>,
+    visit: Visit<'_, '_>,
     desk: &mut B,
     clock: &mut K,
     reach: &mut R,
@@ -176,17 +178,17 @@ fn serve_visit<B: Desk, R: Reach, C: Link, K: Clock, Y: RowSink>(
 where
     B::Mark: Drop,
     B::Shown: Drop,
-    requires ready { IsReady (visit_of visit.now.site) (B.state desk.old) (R.beside reach.old) }
+    requires ready { IsReady (visit_of visit.site) (B.state desk.old) (R.beside reach.old) }
     ensures session { let at = standing B.state K.answers R.Meanings C.Meanings in
-        Serves (visit_of visit.now.site) (at desk.old clock.old reach.old client.old) (at desk.new clock.new reach.new client.new)
+        Serves (visit_of visit.entry.site) (at desk.old clock.old reach.old client.old) (at desk.new clock.new reach.new client.new)
         (λ gained. Y.gained rows.old gained rows.new) result }
     ensures parts { let at = standing B.state K.answers R.Meanings C.Meanings in
-        HasParts (visit_of visit.now.site) (at desk.old clock.old reach.old client.old []) (at desk.new clock.new reach.new client.new []) result }
-    ensures each { HoldsOfEach (visit_of visit.now.site) result }
+        HasParts (visit_of visit.entry.site) (at desk.old clock.old reach.old client.old []) (at desk.new clock.new reach.new client.new []) result }
+    ensures each { HoldsOfEach (visit_of visit.entry.site) result }
     ensures fault { RisesBy result.stop (C.faults client.old) (C.faults client.new) }
     ensures met { MeetsBy result.stop (B.state desk.old) (B.state desk.new) }
-    ensures kept { KeepsTickets (visit_of visit.now.site).session (B.state desk.old) (B.state desk.new) }
-    ensures ready { IsReady (visit_of visit.now.site) (B.state desk.new) (R.beside reach.new) }
+    ensures kept { KeepsTickets (visit_of visit.entry.site).session (B.state desk.old) (B.state desk.new) }
+    ensures ready { IsReady (visit_of visit.entry.site) (B.state desk.new) (R.beside reach.new) }
     ensures idle_only { result.stop ≡ SessionStop.Closed why.Idle → C.may_wait ≡ true }
 {
     let mut around = Surroundings {
@@ -201,7 +203,7 @@ where
 /// As `serve_visit`, by a desk that is lent since the moment M and put back.
 #[tactic(auto, using(crate::proofs::ToldLaws::lent_now, crate::proofs::ToldLaws::lent_shelf))]
 fn serve_lent<B: SeatedDesk, R: Reach, C: Link, K: Clock, Y: RowSink, M: Moment>(
-    visit: &Visit<'_>,
+    visit: Visit<'_, '_>,
     loan: &mut DeskLoan<'_, B>,
     clock: &mut K,
     reach: &mut R,
@@ -216,19 +218,19 @@ where
     requires seat { seat_in B.seat loan.old.desk ≡ M.seat }
     requires receipts { (state_in B.state loan.old.desk).receipts ≡ M.receipts }
     requires shelf { shelf_in B.shelf loan.old.desk ≡ M.shelf }
-    requires ready { IsReady (visit_of visit.now.site) (state_in B.state loan.old.desk) (R.beside reach.old) }
+    requires ready { IsReady (visit_of visit.site) (state_in B.state loan.old.desk) (R.beside reach.old) }
     ensures there { IsSome loan.new.desk }
     ensures same { name_in loan.new.desk ≡ name_in loan.old.desk }
     ensures session { let at = standing (state_in B.state) K.answers R.Meanings C.Meanings in
-        Serves (visit_of visit.now.site) (at loan.old.desk clock.old reach.old client.old) (at loan.new.desk clock.new reach.new client.new)
+        Serves (visit_of visit.entry.site) (at loan.old.desk clock.old reach.old client.old) (at loan.new.desk clock.new reach.new client.new)
         (λ gained. Y.gained rows.old gained rows.new) result }
     ensures parts { let at = standing (state_in B.state) K.answers R.Meanings C.Meanings in
-        HasParts (visit_of visit.now.site) (at loan.old.desk clock.old reach.old client.old []) (at loan.new.desk clock.new reach.new client.new []) result }
-    ensures each { HoldsOfEach (visit_of visit.now.site) result }
+        HasParts (visit_of visit.entry.site) (at loan.old.desk clock.old reach.old client.old []) (at loan.new.desk clock.new reach.new client.new []) result }
+    ensures each { HoldsOfEach (visit_of visit.entry.site) result }
     ensures fault { RisesBy result.stop (C.faults client.old) (C.faults client.new) }
     ensures met { MeetsBy result.stop (state_in B.state loan.old.desk) (state_in B.state loan.new.desk) }
-    ensures kept { KeepsTickets (visit_of visit.now.site).session (state_in B.state loan.old.desk) (state_in B.state loan.new.desk) }
-    ensures ready { IsReady (visit_of visit.now.site) (state_in B.state loan.new.desk) (R.beside reach.new) }
+    ensures kept { KeepsTickets (visit_of visit.entry.site).session (state_in B.state loan.old.desk) (state_in B.state loan.new.desk) }
+    ensures ready { IsReady (visit_of visit.entry.site) (state_in B.state loan.new.desk) (R.beside reach.new) }
     ensures idle_only { result.stop ≡ SessionStop.Closed why.Idle → C.may_wait ≡ true }
     ensures gone { HasGone M.seat M.receipts (seat_in B.seat loan.new.desk) (state_in B.state loan.new.desk).receipts }
     ensures shelf { HasShelved M.shelf (shelf_in B.shelf loan.new.desk) }
@@ -247,7 +249,7 @@ where
 /// As `serve_visit`, by a desk at a lock, which is known to stay there, and to have seen as its own what the session was told; its
 /// shelf was only added to.
 fn serve_seated<B: SeatedDesk, R: Reach, C: Link, K: Clock, Y: RowSink>(
-    visit: &Visit<'_>,
+    visit: Visit<'_, '_>,
     desk: &mut B,
     clock: &mut K,
     reach: &mut R,
@@ -257,17 +259,17 @@ fn serve_seated<B: SeatedDesk, R: Reach, C: Link, K: Clock, Y: RowSink>(
 where
     B::Mark: Drop,
     B::Shown: Drop,
-    requires ready { IsReady (visit_of visit.now.site) (B.state desk.old) (R.beside reach.old) }
+    requires ready { IsReady (visit_of visit.site) (B.state desk.old) (R.beside reach.old) }
     ensures session { let at = standing B.state K.answers R.Meanings C.Meanings in
-        Serves (visit_of visit.now.site) (at desk.old clock.old reach.old client.old) (at desk.new clock.new reach.new client.new)
+        Serves (visit_of visit.entry.site) (at desk.old clock.old reach.old client.old) (at desk.new clock.new reach.new client.new)
         (λ gained. Y.gained rows.old gained rows.new) result }
     ensures parts { let at = standing B.state K.answers R.Meanings C.Meanings in
-        HasParts (visit_of visit.now.site) (at desk.old clock.old reach.old client.old []) (at desk.new clock.new reach.new client.new []) result }
-    ensures each { HoldsOfEach (visit_of visit.now.site) result }
+        HasParts (visit_of visit.entry.site) (at desk.old clock.old reach.old client.old []) (at desk.new clock.new reach.new client.new []) result }
+    ensures each { HoldsOfEach (visit_of visit.entry.site) result }
     ensures fault { RisesBy result.stop (C.faults client.old) (C.faults client.new) }
     ensures met { MeetsBy result.stop (B.state desk.old) (B.state desk.new) }
-    ensures kept { KeepsTickets (visit_of visit.now.site).session (B.state desk.old) (B.state desk.new) }
-    ensures ready { IsReady (visit_of visit.now.site) (B.state desk.new) (R.beside reach.new) }
+    ensures kept { KeepsTickets (visit_of visit.entry.site).session (B.state desk.old) (B.state desk.new) }
+    ensures ready { IsReady (visit_of visit.entry.site) (B.state desk.new) (R.beside reach.new) }
     ensures idle_only { result.stop ≡ SessionStop.Closed why.Idle → C.may_wait ≡ true }
     ensures gone { HasGone (B.seat desk.old) (B.state desk.old).receipts (B.seat desk.new) (B.state desk.new).receipts }
     ensures shelf { HasShelved (B.shelf desk.old) (B.shelf desk.new) }
@@ -285,6 +287,7 @@ fn serve_link<'x, L: SiteName, D: Door, R: Reach, K: Clock, S: Shelf, W: Wait, Y
     part: &mut Part<'_, '_, L, D, R, K, S, W, Y>,
     link: &mut D::L,
     peer: &'x Peer,
+    inbox: &mut Option<Inbox>,
 ) -> SessionEnd
     requires fit { IsFit post.cfg.now post.map.now part.old.desk.desk (R.beside part.old.reach) }
     ensures { let told = part_tells D.coming D.left D.faults D.L.Meanings K.answers R.Meanings
@@ -300,9 +303,10 @@ fn serve_link<'x, L: SiteName, D: Door, R: Reach, K: Clock, S: Shelf, W: Wait, Y
             peer,
             dated: true,
         },
+        inbox,
     };
     serve_seated(
-        &visit,
+        visit,
         &mut part.desk,
         &mut part.clock,
         &mut part.reach,
@@ -318,6 +322,7 @@ fn serve_client<L: SiteName, D: Door, R: Reach, K: Clock, S: Shelf, W: Wait, Y: 
     part: &mut Part<'_, '_, L, D, R, K, S, W, Y>,
     link: D::L,
     peer: &Peer,
+    inbox: &mut Option<Inbox>,
 ) -> Option<WorkerEnd<L>>
     requires fit { IsFit post.cfg.now post.map.now part.old.desk.desk (R.beside part.old.reach) }
     requires logged { Y.broken_by part.old.log ≡ None }
@@ -329,7 +334,7 @@ fn serve_client<L: SiteName, D: Door, R: Reach, K: Clock, S: Shelf, W: Wait, Y: 
     let before = forget_last(&mut part.desk);
     part.log.greet(peer);
     let mut link = link;
-    let end = serve_link(alloc, post, part, &mut link, peer);
+    let end = serve_link(alloc, post, part, &mut link, peer, inbox);
     close_client(part, link, before, end.stop)
 }
 
@@ -358,6 +363,7 @@ pub(crate) fn serve_next<L: SiteName, D: Door, R: Reach, K: Clock, S: Shelf, W: 
     part: &mut Part<'_, '_, L, D, R, K, S, W, Y>,
     link: D::L,
     peer: &Peer,
+    inbox: &mut Option<Inbox>,
 ) -> Option<WorkerEnd<L>>
     requires fit { IsFit post.cfg.now post.map.now part.old.desk.desk (R.beside part.old.reach) }
     requires logged { Y.broken_by part.old.log ≡ None }
@@ -366,7 +372,7 @@ pub(crate) fn serve_next<L: SiteName, D: Door, R: Reach, K: Clock, S: Shelf, W: 
         (keeps S.shelved S.faults (log_tells Y.gained Y.greets Y.broken_by Y.log_faults) D.L.may_wait) in
         NextsPart told post.entry part.old part.new link peer.now result }
 {
-    match serve_client(alloc, post, part, link, peer) {
+    match serve_client(alloc, post, part, link, peer, inbox) {
         Some(end) => Some(end),
         None => go_on(alloc, part),
     }

@@ -10,6 +10,7 @@ ghost use Rattle.jk_server.specs.Worker.{IsFit, keeps};
 use crate::client::serve_next;
 use crate::part::{Post, WorkerEnd};
 use gear_parts::{Part, WorkerLog};
+use http_front::Inbox;
 use jk_io::{Arrival, Clock, Door, Reach, next_client};
 use locked_balancer::{Shelf, SiteName};
 use site_config::Config;
@@ -37,8 +38,10 @@ pub fn serve_part<L: SiteName, D: Door, R: Reach, K: Clock, S: Shelf, W: Wait, Y
 {
     let post = Post { cfg, map, number };
     let mut sessions: u64 = 0;
+    // What the clients' bytes are read into, once the first has come.
+    let mut inbox = None;
     'clients: for _ in rt.forever() {
-        match serve_turn(alloc, post, part, sessions) {
+        match serve_turn(alloc, post, part, sessions, &mut inbox) {
             Some(end) => return end,
             None => sessions = sessions.saturating_add(1),
         }
@@ -52,6 +55,7 @@ fn serve_turn<L: SiteName, D: Door, R: Reach, K: Clock, S: Shelf, W: Wait, Y: Wo
     post: Post<'_>,
     part: &mut Part<'_, '_, L, D, R, K, S, W, Y>,
     sessions: u64,
+    inbox: &mut Option<Inbox>,
 ) -> Option<WorkerEnd<L>>
     requires fit { IsFit post.cfg.now post.map.now part.old.desk.desk (R.beside part.old.reach) }
     requires logged { Y.broken_by part.old.log ≡ None }
@@ -60,7 +64,7 @@ fn serve_turn<L: SiteName, D: Door, R: Reach, K: Clock, S: Shelf, W: Wait, Y: Wo
         TurnsPart told post.entry part.old part.new sessions result }
 {
     match next_client(alloc, &mut part.door) {
-        Arrival::Client { link, peer } => serve_next(alloc, post, part, link, &peer),
+        Arrival::Client { link, peer } => serve_next(alloc, post, part, link, &peer, inbox),
         Arrival::Closed => Some(WorkerEnd::Closed { sessions }),
         Arrival::Fault => Some(WorkerEnd::DoorFault),
         Arrival::NoMemory => Some(WorkerEnd::NoMemory),

@@ -2,7 +2,7 @@ use Rattle.jk_server.proofs.client.serve_around.Goals as goal
 
 pub returns : goal.returns
 returns g c =
-    let s = c.serve_session_with.ensures in
+    let s = c.serve_session_in.ensures in
     record {
       session = s.session;
       each = s.each;

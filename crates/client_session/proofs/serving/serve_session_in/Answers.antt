@@ -5,7 +5,7 @@ use Rattle.status_worker.proofs.DeskLaws.{none_met, untouched}
 use Rattle.client_session.proofs.PartsLaws.{has_parts}
 use Rattle.client_session.proofs.SurroundingsLaws.{no_fewer_at, parts_at}
 use Rattle.client_session.proofs.WayLaws.{holds_of_each, never_began, no_parts}
-use Rattle.client_session.proofs.serving.serve_session_with.Goals as goal
+use Rattle.client_session.proofs.serving.serve_session_in.Goals as goal
 
 pub returns-in_default-clause-session : goal.returns-in_default-clause-session
 returns-in_default-clause-session g c = record {
@@ -31,13 +31,13 @@ returns-clause-each g c = holds_of_each _ _
 
 pub returns-clause-session : goal.returns-clause-session
 returns-clause-session g c =
-    let e = c.serve_all.ensures in
-    let session = rw c.in-Ok.ensures at e.session.2 in
+    let e = c.serve_all-end.ensures in
+    let session = rw c.in-Ok.ensures.empty at e.session.2 in
     record {
-      session = record { inbox = c.serve_all.new.around.inbox.now; gained = e.session.0; session = session; added = e.session.1 };
+      session = record { inbox = c.serve_all-end.new.around.inbox.now; gained = e.session.0; session = session; added = e.session.1 };
       parts = parts_at _ (standing_with g.B.Desk.state g.K.Clock.answers g.R.Meanings g.C.Meanings c.args.around.now [])
-          (standing_of g.B.Desk.state g.K.Clock.answers g.R.Meanings g.C.Meanings c.serve_all.new.around) [] [] _
-          (has_parts _ _ _ e.session.0 c.serve_all.result refl session);
+          (standing_of g.B.Desk.state g.K.Clock.answers g.R.Meanings g.C.Meanings c.serve_all-end.new.around) [] [] _
+          (has_parts _ _ _ e.session.0 c.serve_all-end.result refl session);
       fault = e.told.fault;
       met = e.told.met;
       kept = record {
