@@ -8,7 +8,7 @@ ghost use Rattle.jk_commands.specs.Plain.{RunsPlain};
 ghost use Rattle.jk_commands.specs.Words.{is_serving};
 
 use crate::ahead_files::{Ahead, AheadFiles};
-use crate::telling::tell;
+use crate::telling::{asks_stop, tell};
 use jk_cli::{Order, read_words};
 use jk_commands::{JkdEnd, let_go, run_jkd};
 use jk_io::{Bytes, Door, Files, Sink, Source};
@@ -74,7 +74,12 @@ pub(crate) fn do_outside<
 where
     <W::D as Door>::L: Send,
 {
-    let mut files = KeptFiles::new(rt.alloc(), AheadFiles::new(RealFiles::new(rt), ahead));
+    let files = if asks_stop(words) {
+        RealFiles::sockets(rt)
+    } else {
+        RealFiles::new(rt)
+    };
+    let mut files = KeptFiles::new(rt.alloc(), AheadFiles::new(files, ahead));
     let mut input = CountedInput::new(StdIn::new(rt.reader()));
     let mut out = StdOut::new(rt);
     let (end, status) = do_in(rt, words, &mut files, &mut input, &mut out, world);

@@ -1,34 +1,64 @@
 //! What a person reads on standard error once a command ended.
 use crate::write_sink::WriteSink;
+use jk_cli::{CommandName, command_of};
 use jk_io::{Bytes, NoMemory};
 use remarks::{Ended, InputSeen, ReadFile, RemarkOut, remarks_on, unread_file};
 use std::alloc::Global;
 use std::io::{Read, Write};
+use std::net::Net;
+use std::os::unix::net::UnixStream;
 use std::rt::Files;
 use std::{fs, io, str};
 
-/// Opens and reads once more a file that the system didn't give, to learn why.
-fn probe<R: Files>(rt: &R, path: &str) -> io::Result<usize> {
+/// The system's number for the open of a file that is a socket, ENXIO.
+const IS_SOCKET: i32 = 6;
+
+/// Opens and reads once more a file that the system didn't give, to learn why. A socket can't be opened: it is dialled.
+fn probe<R: Files + Net>(rt: &R, path: &str, of_stop: bool) -> io::Result<&'static str> {
     let mut byte = [0u8; 1];
-    fs::open(rt, path)?.read(&mut byte)
+    match fs::open(rt, path) {
+        Ok(_) if of_stop => Ok("it is no socket"),
+        Ok(mut file) => {
+            file.read(&mut byte)?;
+            Ok("a read failed")
+        }
+        Err(error) if error.raw_os_error() == Some(IS_SOCKET) => {
+            UnixStream::connect(rt, path)?;
+            Ok("a read failed")
+        }
+        Err(error) => Err(error),
+    }
 }
 
 /// Why the system doesn't give a file.
-fn reason_of<R: Files + AllocGlobal>(rt: &R, name: &[u8]) -> Result<String, NoMemory> {
+fn reason_of<R: Files + Net + AllocGlobal>(
+    rt: &R,
+    name: &[u8],
+    of_stop: bool,
+) -> Result<String, NoMemory> {
     let Ok(path) = str::from_utf8(name) else {
         return Ok(String::from_str(rt.alloc(), "its name is not UTF-8")?);
     };
-    match probe(rt, path) {
-        Ok(_) => Ok(String::from_str(rt.alloc(), "a read failed")?),
+    match probe(rt, path, of_stop) {
+        Ok(reason) => Ok(String::from_str(rt.alloc(), reason)?),
         Err(error) => Ok(format!(in rt.alloc(); "{error}")?),
     }
 }
 
-fn reason<R: Files + AllocGlobal>(rt: &R, reads: &[ReadFile]) -> Result<String, NoMemory> {
+fn reason<R: Files + Net + AllocGlobal>(
+    rt: &R,
+    words: &[Bytes],
+    reads: &[ReadFile],
+) -> Result<String, NoMemory> {
     match unread_file(reads) {
-        Some(name) => reason_of(rt, name),
+        Some(name) => reason_of(rt, name, asks_stop(words)),
         None => Ok(String::new(rt.alloc())),
     }
+}
+
+/// Whether the words ask a front to end.
+pub(crate) fn asks_stop(words: &[Bytes]) -> bool {
+    matches!(command_of(words), Some(CommandName::Stop))
 }
 
 /// Writes what a person is told of a command that ended.
@@ -39,7 +69,7 @@ fn write_remarks<W: Write + Drop>(alloc: Global, err: W, ended: &Ended<'_>) {
 }
 
 /// Writes what a person is told of a command. A write that fails ends it and changes nothing, and so does want of memory.
-pub(crate) fn tell<R: Files + AllocGlobal, W: Write + Drop>(
+pub(crate) fn tell<R: Files + Net + AllocGlobal, W: Write + Drop>(
     rt: &R,
     err: W,
     words: &[Bytes],
@@ -47,7 +77,7 @@ pub(crate) fn tell<R: Files + AllocGlobal, W: Write + Drop>(
     reads: &[ReadFile],
     input: InputSeen,
 ) {
-    let Ok(reason) = reason(rt, reads) else {
+    let Ok(reason) = reason(rt, words, reads) else {
         return;
     };
     let ended = Ended {

@@ -5,8 +5,8 @@ use jk_io::{Bytes, NoMemory};
 use std::alloc::Global;
 use std::str;
 
-/// What is printed where the words are no command.
-pub const USAGE: &str = "usage: jkd COMMAND WORDS\njkd --help shows the commands.\n";
+/// What is printed last where the words are no command, after what is wrong with them and how the command is used.
+pub const USAGE: &str = "jkd --help shows the commands.\n";
 
 fn is(word: &Bytes, text: &[u8]) -> bool {
     word.as_slice() == text

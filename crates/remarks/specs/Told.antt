@@ -85,6 +85,20 @@ SaysEffects words reads said = SaysEffectsAt (site_place (command_of words)) rea
 abbrev pub IsLine : (said : List ℕ) → Type 0
 IsLine said = (text : List ℕ) × (said ≡ text ++ codes "\n")
 
+-- the words ask a front to end
+abbrev pub asks_stop : Option CommandName → Bool
+asks_stop (Some name.Stop) = true
+asks_stop command = false
+
+-- the socket of a front that was asked to end, and answered
+abbrev pub unended_name : (words : List (List ℕ)) → List ReadFile → Option (List ℕ)
+unended_name words reads = if asks_stop (command_of words) then name_if (λ read. not (is_none read.text)) (last_read reads) else None
+
+-- of a front that answered otherwise than that it ended, or of what can't be read
+abbrev pub fault_text : (front : Option (List ℕ)) → (unread : List ℕ) → List ℕ
+fault_text (Some name) unread = codes "jkd: " ++ name ++ codes " didn't answer that its front ended\n"
+fault_text None unread = unread
+
 -- what can't be read
 abbrev pub unread_text : Option (List ℕ) → (failed : Bool) → (reason : List ℕ) → List ℕ
 unread_text (Some name) failed reason = codes "jkd: can't read " ++ name ++ codes ": " ++ reason ++ codes "\n"

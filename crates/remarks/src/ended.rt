@@ -2,10 +2,10 @@
 ghost use Rattle.std.specs.Prelude.{◌≡◌, ◌≢◌, [], IfOk, IsOk, None, Some, true};
 ghost use Rattle.jk_io.specs.Told.{HasCause};
 ghost use Rattle.remarks.specs.Added.{AddsSaid, AddsText};
-ghost use Rattle.remarks.specs.Told.{IsLine, SaysEffects, SaysRefused, too_long_text, unread_name, unread_text};
+ghost use Rattle.remarks.specs.Told.{IsLine, SaysEffects, SaysRefused, fault_text, too_long_text, unended_name, unread_name, unread_text};
 
 use crate::input_seen::InputSeen;
-use crate::last_read::{long_file, unread_file};
+use crate::last_read::{long_file, unended_file, unread_file};
 use crate::read_file::ReadFile;
 use crate::remark_out::RemarkOut;
 use crate::site::{put_effects, put_placed, site_place};
@@ -69,8 +69,28 @@ fn put_refusal<O: Sink + Drop>(
     put_placed(alloc, out, reads, site_place(words))
 }
 
+/// What failed: a front that was asked to end answered otherwise, or a file can't be read.
+fn fault_of(alloc: Global, ended: &Ended<'_>) -> Result<Bytes, NoMemory>
+    ensures { IfOk result (λ said. said ≡ fault_text (unended_name ended.now.words.now ended.now.reads.now)
+        (unread_text (unread_name ended.now.reads.now) ended.now.input.failed ended.now.reason.now)) }
+{
+    match unended_file(ended.words, ended.reads) {
+        Some(name) => unended(alloc, name),
+        None => unread_of(alloc, ended.reads, ended.input, ended.reason),
+    }
+}
+
+fn unended(alloc: Global, name: &[u8]) -> Result<Bytes, NoMemory>
+    ensures { IfOk result (λ said. said ≡ fault_text (Some name.now) []) }
+{
+    let mut said = Bytes::from_slice(alloc, b"jkd: ")?;
+    said.extend(name)?;
+    said.extend(b" didn't answer that its front ended\n")?;
+    Ok(said)
+}
+
 /// What can't be read.
-fn fault_of(
+fn unread_of(
     alloc: Global,
     reads: &[ReadFile],
     input: InputSeen,
@@ -105,18 +125,18 @@ fn unread_input(alloc: Global, failed: bool) -> Result<Bytes, NoMemory>
     }
 }
 
-/// Adds what can't be read.
+/// Adds what failed.
 fn put_fault<O: Sink + Drop>(
     alloc: Global,
     out: &mut RemarkOut<O>,
     ended: &Ended<'_>,
 ) -> Result<(), IoError>
-    ensures added { AddsText result out.old.said out.new.said
-        (unread_text (unread_name ended.now.reads.now) ended.now.input.failed ended.now.reason.now) }
+    ensures added { AddsText result out.old.said out.new.said (fault_text (unended_name ended.now.words.now ended.now.reads.now)
+        (unread_text (unread_name ended.now.reads.now) ended.now.input.failed ended.now.reason.now)) }
     ensures cause { HasCause out.old.faults out.new.faults result }
     ensures steady { IsOk result → out.new.faults ≡ out.old.faults }
 {
-    let said = fault_of(alloc, ended.reads, ended.input, ended.reason)?;
+    let said = fault_of(alloc, ended)?;
     out.put(said.as_slice())
 }
 
@@ -135,8 +155,8 @@ fn put_words<O: Sink + Drop>(
 }
 
 /// Adds what a person is told of a command that ended, besides what it printed: for status 2 the word at fault; for 3 the
-/// file, its line and what is wrong with it, or what is too long; for 4 the file and the system's reason; and of `config`
-/// what of its files has no effect.
+/// file, its line and what is wrong with it, or what is too long; for 4 the file and the system's reason, or the
+/// front that didn't answer that it ended; and of `config` what of its files has no effect.
 pub fn remarks_on<O: Sink + Drop>(
     alloc: Global,
     out: &mut RemarkOut<O>,
@@ -147,8 +167,9 @@ pub fn remarks_on<O: Sink + Drop>(
     ensures words { ended.now.status ≡ 2 → AddsSaid result out.old.said out.new.said IsLine }
     ensures refused { ended.now.status ≡ 3
         → AddsSaid result out.old.said out.new.said (SaysRefused ended.now.words.now ended.now.reads.now ended.now.input) }
-    ensures unread { ended.now.status ≡ 4 → AddsText result out.old.said out.new.said
-        (unread_text (unread_name ended.now.reads.now) ended.now.input.failed ended.now.reason.now) }
+    ensures failed { ended.now.status ≡ 4
+        → AddsText result out.old.said out.new.said (fault_text (unended_name ended.now.words.now ended.now.reads.now)
+        (unread_text (unread_name ended.now.reads.now) ended.now.input.failed ended.now.reason.now)) }
 
     // Of the other statuses nothing is told, also where it ends with an error.
     ensures other { ended.now.status ≢ 0 → ended.now.status ≢ 2 → ended.now.status ≢ 3 → ended.now.status ≢ 4

@@ -1,9 +1,11 @@
 //! How the last read of a file went.
 ghost use Rattle.std.specs.Prelude.{◌≡◌};
 ghost use Rattle.std.specs.Option.{option_map};
-ghost use Rattle.remarks.specs.Told.{long_name, unread_name};
+ghost use Rattle.remarks.specs.Told.{long_name, unended_name, unread_name};
 
 use crate::read_file::ReadFile;
+use jk_cli::{CommandName, command_of};
+use jk_io::Bytes;
 
 /// The file whose read failed, if the last one did.
 pub fn unread_file(reads: &[ReadFile]) -> Option<&[u8]>
@@ -11,6 +13,21 @@ pub fn unread_file(reads: &[ReadFile]) -> Option<&[u8]>
 {
     let last = reads.last()?;
     if last.text.is_none() && !last.too_long {
+        Some(last.name.as_slice())
+    } else {
+        None
+    }
+}
+
+/// The socket of a front that these words asked to end, if it answered.
+pub(crate) fn unended_file<'r>(words: &[Bytes], reads: &'r [ReadFile]) -> Option<&'r [u8]>
+    ensures { option_map (λ t. t.now) result ≡ unended_name words.now reads.now }
+{
+    if !matches!(command_of(words), Some(CommandName::Stop)) {
+        return None;
+    }
+    let last = reads.last()?;
+    if last.text.is_some() {
         Some(last.name.as_slice())
     } else {
         None

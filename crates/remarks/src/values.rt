@@ -169,7 +169,10 @@ fn fault_of<'w>(given: &ArgMatches<'w>) -> Option<(&'static str, &'w str)> {
 /// What is wrong with the values of these words.
 pub(crate) fn said_of_values(alloc: Global, matches: &ArgMatches<'_>) -> Result<String, NoMemory> {
     let Some((name, given)) = matches.subcommand() else {
-        return Ok(String::from_str(alloc, "error: no command is given")?);
+        return Ok(String::from_str(
+            alloc,
+            "error: no command is given\n\nUsage: jkd COMMAND WORDS",
+        )?);
     };
     let usage = usage_of(name).unwrap_or("jkd COMMAND WORDS");
     match fault_of(given) {
