@@ -249,7 +249,7 @@ static FRONT_PAGES: [Page; 1] = [Page {
         },
         Row {
             name: "cut",
-            about: "Keep a journal's part after so many entries, 1 to 65536; 65536 where not given",
+            about: "A kill loses at most so many entries of a balancer, 1 to 65536, fewer than 4 as 4; 65539 where not given",
             kind: Kind::Long("ENTRIES"),
         },
         Row {

@@ -69,7 +69,7 @@ pub enum Order {
         log: Option<Bytes>,
         /// The format of their lines; given only with `log`.
         format: Option<Bytes>,
-        /// The most entries of a journal that aren't kept yet, 1 to 65,536.
+        /// The most entries of a balancer that a kill may lose, 1 to 65,536; fewer than 4 as 4.
         cut: Option<u64>,
         /// What its clients may take.
         limits: ClientLimits,
