@@ -9,9 +9,10 @@ use Rattle.mini_container.specs.Served.{AreEachServed}
 use Rattle.mini_container.specs.declared.worker_ends.ContainerWorker.{ContainerWorker}
 use Rattle.mini_container.specs.declared.app_config.AppConfig.{AppConfig}
 use Rattle.gear_parts.specs.Gears.{GearSide, gear_side, KeepsRest}
+use Rattle.gear_parts.specs.declared.container.Rest.{Rest}
 use Rattle.gear_parts.specs.declared.world.Gear.{Gear}
 use Rattle.gear_parts.specs.Containers.{IsContainerRun, SameButDoors}
-use Rattle.gear_parts.specs.GearParts.{rest_with, RestOfGear}
+use Rattle.gear_parts.specs.GearParts.{but_door}
 use Rattle.gear_parts.proofs.ListLaws.{map_map}
 
 as_many_doors : {C X : Type 0} → (app : AppConfig) (told : Ghosts C X) (before after : List (DoorSide C)) (ends : List ContainerWorker)
@@ -31,48 +32,48 @@ doors_back app told at before after ends each =
     sym (length-map after at) ∙ as_many_doors app told (map at before) (map at after) ends each ∙ length-map before at
 
 same_rests : {D G T K S O C : Type 0} → (at : D → DoorSide C) (talks : T → Option (List Talk)) (answers : K → Option (List ℕ)) (gears back : List (Gear D G T K S O))
-    → map (λ g. rest_with g.dial g.tape g.clock g.shelf g.log) back ≡ map (λ g. rest_with g.dial g.tape g.clock g.shelf g.log) gears
+    → map but_door back ≡ map but_door gears
     → SameButDoors (map (gear_side at talks answers) gears) (map (gear_side at talks answers) back)
 same_rests at talks answers [] [] same = tt
 same_rests at talks answers [] (b ∷ back) same = absurd cc
 same_rests at talks answers (g ∷ gears) [] same = absurd cc
 same_rests {G = G} {T = T} {K = K} {S = S} {O = O} {C = C} at talks answers (g ∷ gears) (b ∷ back) same =
-    let here : rest_with b.dial b.tape b.clock b.shelf b.log ≡ rest_with g.dial g.tape g.clock g.shelf g.log = cc in
-    let tail : map (λ x. rest_with x.dial x.tape x.clock x.shelf x.log) back ≡ map (λ x. rest_with x.dial x.tape x.clock x.shelf x.log) gears = cc in (
-      ap (λ (r : RestOfGear G T K S O). record (gear_side at talks answers g) { door = at b.door; talks = talks r.tape; clock = answers r.clock; shelf = r.shelf; log = r.log }) here,
+    let here : but_door b ≡ but_door g = cc in
+    let tail : map but_door back ≡ map but_door gears = cc in (
+      ap (λ (r : Rest G T K S O). record (gear_side at talks answers g) { door = at b.door; talks = talks r.tape; clock = answers r.clock; shelf = r.shelf; log = r.log }) here,
       same_rests at talks answers gears back tail,
     )
 
 -- Gears that have the same rests have each its own.
 pub rests_kept : {D G T K S O : Type 0} → (gears back : List (Gear D G T K S O))
-    → map (λ g. rest_with g.dial g.tape g.clock g.shelf g.log) back ≡ map (λ g. rest_with g.dial g.tape g.clock g.shelf g.log) gears
+    → map but_door back ≡ map but_door gears
     → AllZip KeepsRest gears back
 rests_kept [] [] same = tt
 rests_kept [] (b ∷ back) same = absurd cc
 rests_kept (g ∷ gears) [] same = absurd cc
 rests_kept {D = D} {G = G} {T = T} {K = K} {S = S} {O = O} (g ∷ gears) (b ∷ back) same =
-    let here : rest_with b.dial b.tape b.clock b.shelf b.log ≡ rest_with g.dial g.tape g.clock g.shelf g.log = cc in
-    let tail : map (λ x. rest_with x.dial x.tape x.clock x.shelf x.log) back ≡ map (λ x. rest_with x.dial x.tape x.clock x.shelf x.log) gears = cc in (
-      ap (λ (r : RestOfGear G T K S O). record g { door = b.door; dial = r.dial; tape = r.tape; clock = r.clock; shelf = r.shelf; log = r.log }) here,
+    let here : but_door b ≡ but_door g = cc in
+    let tail : map but_door back ≡ map but_door gears = cc in (
+      ap (λ (r : Rest G T K S O). record g { door = b.door; dial = r.dial; tape = r.tape; clock = r.clock; shelf = r.shelf; log = r.log }) here,
       rests_kept gears back tail,
     )
 
 -- Gears that have the same doors and the same rests are the same.
 pub same_gears : {D G T K S O : Type 0} → (gears back : List (Gear D G T K S O))
     → map (λ g. g.door) back ≡ map (λ g. g.door) gears
-    → map (λ g. rest_with g.dial g.tape g.clock g.shelf g.log) back ≡ map (λ g. rest_with g.dial g.tape g.clock g.shelf g.log) gears
+    → map but_door back ≡ map but_door gears
     → back ≡ gears
 same_gears [] [] doors rests = refl
 same_gears [] (b ∷ back) doors rests = absurd cc
 same_gears (g ∷ gears) [] doors rests = absurd cc
 same_gears {D = D} {G = G} {T = T} {K = K} {S = S} {O = O} (g ∷ gears) (b ∷ back) doors rests =
     let door : b.door ≡ g.door = cc in
-    let rest : rest_with b.dial b.tape b.clock b.shelf b.log ≡ rest_with g.dial g.tape g.clock g.shelf g.log = cc in
+    let rest : but_door b ≡ but_door g = cc in
     let later_doors : map (λ x. x.door) back ≡ map (λ x. x.door) gears = cc in
-    let later_rests : map (λ x. rest_with x.dial x.tape x.clock x.shelf x.log) back ≡ map (λ x. rest_with x.dial x.tape x.clock x.shelf x.log) gears = cc in
-    let both : (b.door, rest_with b.dial b.tape b.clock b.shelf b.log) ≡ (g.door, rest_with g.dial g.tape g.clock g.shelf g.log) = cc in
+    let later_rests : map but_door back ≡ map but_door gears = cc in
+    let both : (b.door, but_door b) ≡ (g.door, but_door g) = cc in
     let here : b ≡ g =
-    ap (λ (p : D × RestOfGear G T K S O). record g { door = p.0; dial = p.1.dial; tape = p.1.tape; clock = p.1.clock; shelf = p.1.shelf; log = p.1.log }) both in
+    ap (λ (p : D × Rest G T K S O). record g { door = p.0; dial = p.1.dial; tape = p.1.tape; clock = p.1.clock; shelf = p.1.shelf; log = p.1.log }) both in
     let later = same_gears gears back later_doors later_rests in
     cc
 
@@ -85,7 +86,7 @@ doors_told {D} {G} {T} {K} {S} {O} {C} at talks answers gears =
 pub container_ran : {D G T K S O C X : Type 0} → (app : AppConfig) (told : Ghosts C X) (at : D → DoorSide C) (talks : T → Option (List Talk)) (answers : K → Option (List ℕ))
     (gears back : List (Gear D G T K S O)) (doors doors' : List D) (ends : List ContainerWorker)
     → doors ≡ map (λ g. g.door) gears → map (λ g. g.door) back ≡ doors' → AreEachServed app told (map at doors) (map at doors') ends
-    → map (λ g. rest_with g.dial g.tape g.clock g.shelf g.log) back ≡ map (λ g. rest_with g.dial g.tape g.clock g.shelf g.log) gears
+    → map but_door back ≡ map but_door gears
     → IsContainerRun app told (map (gear_side at talks answers) gears) (map (gear_side at talks answers) back) ends
 container_ran {D} {G} {T} {K} {S} {O} {C} app told at talks answers gears back doors doors' ends off on served same = record {
   served =

@@ -1,30 +1,33 @@
 -- What of a gear goes where while its worker runs.
-use Rattle.std.specs.Prelude.{ℕ, false, List, [], ◌∷◌, map, Option, None}
+use Rattle.std.specs.Prelude.{ℕ, ◌≡◌, List, [], ◌∷◌, map, Option, None}
 use Rattle.atomic_table.specs.Seated.{TableId}
 use Rattle.jk_io.specs.declared.reaching.Talk.{Talk}
+use Rattle.jk_io.specs.declared.traits.streams.Link.{Ghosts as LinkGhosts}
+use Rattle.jk_io.specs.declared.traits.streams.Meanings.{Ghosts}
+use Rattle.jk_io.specs.declared.traits.surroundings.Dial.{Ghosts as DialGhosts}
+use Rattle.conn_pool.specs.Idle.{counts}
 use Rattle.jk_io.specs.Doors.{DoorSide}
+use Rattle.locked_balancer.specs.Locks.{lock_of}
 use Rattle.locked_balancer.specs.SharedDesks.{SharedState, shared_desk}
 use Rattle.conn_pool.specs.Watched.{WatchedState}
+use Rattle.conn_pool.specs.declared.aged_link.AgedLink.{AgedLink}
 use Rattle.conn_pool.specs.declared.watch.Watch.{Watch}
 use Rattle.request_log.specs.LogStates.{LogState}
 use Rattle.request_log.specs.declared.format.Part.{Part as FormatPart}
-use Rattle.gear_parts.specs.GearLogs.{new_log}
+use Rattle.gear_parts.specs.GearLogs.{new_log, sink_of}
 use Rattle.gear_parts.specs.Gears.{GearSide}
 use Rattle.gear_parts.specs.declared.world.Gear.{Gear}
+use Rattle.gear_parts.specs.declared.container.Rest.{Rest}
 use Rattle.gear_parts.specs.declared.left.Left.{Left}
+use Rattle.gear_parts.specs.declared.part.Outside.{Outside}
+use Rattle.gear_parts.specs.declared.part.Part.{Part}
+use Rattle.gear_parts.specs.declared.common.Common.{Common}
 
 -- ---- a container's gear
 
 -- a gear but for its door
-pub record RestOfGear (G T K S O : Type 0) : Type 0 where
-  pub dial : G
-  pub tape : T
-  pub clock : K
-  pub shelf : S
-  pub log : Option O
-
-abbrev pub rest_with : {G T K S O : Type 0} → G → T → K → S → Option O → RestOfGear G T K S O
-rest_with dial tape clock shelf log = record { dial = dial; tape = tape; clock = clock; shelf = shelf; log = log }
+abbrev pub but_door : {D G T K S O : Type 0} → Gear D G T K S O → Rest G T K S O
+but_door gear = record { dial = gear.dial; tape = gear.tape; clock = gear.clock; shelf = gear.shelf; log = gear.log }
 
 -- ---- a connector's gear
 
@@ -40,8 +43,9 @@ pub record Start (D G T K S O C : Type 0) : Type 0 where
   pub desk : SharedState S
   pub log : Option (LogState O)
 
-abbrev pub start_with : {D G T K S O C : Type 0} → D → WatchedState G T C → K → SharedState S → Option (LogState O) → Start D G T K S O C
-start_with door reach clock desk log = record { door = door; reach = reach; clock = clock; desk = unnumbered desk; log = log }
+-- what the worker of a part has when it begins
+abbrev pub start_with : {L D G T K S W O C : Type 0} → Part L D (WatchedState G T C) K S W (Option (LogState O)) → Start D G T K S O C
+start_with part = record { door = part.door; reach = part.reach; clock = part.clock; desk = unnumbered part.desk; log = part.log }
 
 -- What the worker of a gear begins with: a desk of one part at this lock that has the gear's shelf and has seen nothing, a
 -- reach with its dial, its tape and this watch, and a log of this format where the gear has one.
@@ -57,26 +61,29 @@ start_of lock sizes pools watch format gear = record {
   log = new_log format gear.log;
 }
 
--- what a worker leaves beside its desk, and what its log was written to
-pub record Tools (D G T K O : Type 0) : Type 0 where
-  pub door : D
-  pub dial : G
-  pub tape : T
-  pub clock : K
-  pub log : Option O
+-- the same by what all workers ask, at a site of these sizes
+abbrev pub start_by : {L D G T K S O R C X : Type 0} {of_dial : DialGhosts G C X} {of_link : LinkGhosts C X} {told : Ghosts C X} → Common L G R C X of_dial of_link told → List ℕ → Gear D G T K S O → Start D G T K S O (AgedLink C)
+start_by common sizes = start_of (lock_of common.site.now) sizes (counts common.pools.now) common.watch common.format.now
 
-abbrev pub tools : {D G T K O : Type 0} → D → G → T → K → Option O → Tools D G T K O
-tools door dial tape clock log = record { door = door; dial = dial; tape = tape; clock = clock; log = log }
+-- A part for each gear, in order, each with what its worker begins with.
+abbrev pub ArePartsOf : {L D G T K S W O R C X : Type 0} {of_dial : DialGhosts G C X} {of_link : LinkGhosts C X} {told : Ghosts C X} → Common L G R C X of_dial of_link told → (sizes : List ℕ) → List (Gear D G T K S O)
+    → List (Part L D (WatchedState G T (AgedLink C)) K S W (Option (LogState O))) → Type 0
+ArePartsOf common sizes gears parts = map start_with parts ≡ map (start_by common sizes) gears
 
--- what workers left beside their desks, in order
-abbrev pub tools_of : {D G T K O : Type 0} → List (Left D G T K O) → List (Tools D G T K O)
-tools_of left = map (λ l. tools l.door l.dial l.tape l.clock l.log) left
+-- what a worker leaves beside its desk: its door, the dial and the tape of its reach, its clock, and what its log was written to
+abbrev pub left_from : {D G T K O C : Type 0} → Outside D (WatchedState G T C) K (Option (LogState O)) → Left D G T K O
+left_from o = record { door = o.door; dial = o.reach.pooled.dial; tape = o.reach.pooled.tape; clock = o.clock; log = sink_of o.log }
 
--- a gear of these parts, by what its types tell
-abbrev pub gear_with : {D G T K S O C : Type 0} → (D → DoorSide C) → (T → Option (List Talk)) → (K → Option (List ℕ)) → Tools D G T K O → S → GearSide C S O
-gear_with at talks answers t shelf = record { door = at t.door; talks = talks t.tape; clock = answers t.clock; shelf = shelf; log = t.log }
+-- a gear but for its shelf
+abbrev pub but_shelf : {D G T K S O : Type 0} → Gear D G T K S O → Left D G T K O
+but_shelf gear = record { door = gear.door; dial = gear.dial; tape = gear.tape; clock = gear.clock; log = gear.log }
 
--- gears of these tools and shelves, in order
+-- a gear of what its worker left and a shelf, by what its types tell
+abbrev pub gear_with : {D G T K S O C : Type 0} → (D → DoorSide C) → (T → Option (List Talk)) → (K → Option (List ℕ)) → Left D G T K O → S → GearSide C S O
+gear_with at talks answers left shelf =
+    record { door = at left.door; talks = talks left.tape; clock = answers left.clock; shelf = shelf; log = left.log }
+
+-- gears of what workers left and their shelves, in order
 abbrev pub gears_with : {C S O X : Type 0} → (X → S → GearSide C S O) → List X → List S → List (GearSide C S O)
 gears_with with [] shelves = []
 gears_with with (x ∷ xs) [] = []

@@ -49,7 +49,7 @@ pub record Tells (W G C S O X Z : Type 0) : Type 1 where
   pub keeps_rest : G → G → Type 0
   pub suits : ℕ → GearWants → Option Config → G → Type 0
 
--- what they tell, by their types: `tells W.World W.D.Door W.T.Tape W.K.Clock W.D.L.Meanings W.S.Shelf W.O.Meanings W.D.L.may_wait`
+-- what they tell, by their types; of a world W it is `⟦<W as ToldWorld>⟧.told` in a clause
 abbrev pub tells : {W D G T K S O C X E Y Z V : Type 0} → WorldGhosts W D G T K S O C X E Y Z V → DoorGhosts D C X → TapeGhosts T → ClockGhosts K → Ghosts C X → ShelfGhosts S → Ghosts O V → Bool → Tells W (Gear D G T K S O) C S O X V
 tells of_world of_door of_tape of_clock of_link of_shelf of_log may_wait = record {
   world = world_side of_world;

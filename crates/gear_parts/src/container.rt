@@ -3,7 +3,7 @@ ghost use Rattle.std.specs.Prelude.{◌≡◌, ◌+◌, ◌<◌, ◌≤◌, [], 
 ghost use Rattle.std.specs.List.{AllZip};
 ghost use Rattle.jk_io.specs.Doors.{side};
 ghost use Rattle.gear_parts.specs.Containers.{ContainsGears};
-ghost use Rattle.gear_parts.specs.GearParts.{rest_with};
+ghost use Rattle.gear_parts.specs.GearParts.{but_door};
 ghost use Rattle.gear_parts.specs.Gears.{KeepsRest};
 ghost use Rattle.gear_parts.specs.Putting.{PutsNext};
 
@@ -140,8 +140,7 @@ fn take_doors<D: Drop, G: Drop, T: Drop, K: Drop, S: Drop, O: Drop>(
     requires none { (doors.old.items ≡ []) × (rests.old.items ≡ []) }
     requires room { (vec_len gears ≤ vec_capacity doors.old) × (vec_len gears ≤ vec_capacity rests.old) }
     ensures doors { doors.new.items ≡ map (λ g. g.door) gears.items }
-    ensures rests { map (λ r. rest_with r.dial r.tape r.clock r.shelf r.log) rests.new.items
-        ≡ map (λ g. rest_with g.dial g.tape g.clock g.shelf g.log) gears.items }
+    ensures rests { rests.new.items ≡ map but_door gears.items }
 {
     'gears: for gear in gears {
         let (door, rest) = door_off(gear);
@@ -153,8 +152,7 @@ fn take_doors<D: Drop, G: Drop, T: Drop, K: Drop, S: Drop, O: Drop>(
 /// Takes the door off a gear.
 fn door_off<D, G, T, K, S, O>(gear: Gear<D, G, T, K, S, O>) -> (D, Rest<G, T, K, S, O>)
     ensures door { result.0 ≡ gear.door }
-    ensures rest { rest_with result.1.dial result.1.tape result.1.clock result.1.shelf result.1.log
-        ≡ rest_with gear.dial gear.tape gear.clock gear.shelf gear.log }
+    ensures rest { result.1 ≡ but_door gear }
 {
     let Gear {
         door,
@@ -184,8 +182,7 @@ fn put_doors<D: Drop, G: Drop, T: Drop, K: Drop, S: Drop, O: Drop>(
     requires paired { vec_len doors ≡ vec_len rests }
     requires room { vec_len doors ≤ vec_capacity gears.old }
     ensures doors { map (λ g. g.door) gears.new.items ≡ doors.items }
-    ensures rests { map (λ g. rest_with g.dial g.tape g.clock g.shelf g.log) gears.new.items
-        ≡ map (λ r. rest_with r.dial r.tape r.clock r.shelf r.log) rests.items }
+    ensures rests { map but_door gears.new.items ≡ rests.items }
 {
     let mut rests = rests.into_iter();
     put_all(doors, &mut rests, gears);
@@ -201,8 +198,7 @@ fn put_all<D: Drop, G: Drop, T: Drop, K: Drop, S: Drop, O: Drop>(
     requires paired { vec_len doors ≡ length rests.old.rest.items }
     requires room { vec_len doors ≤ vec_capacity gears.old }
     ensures doors { map (λ g. g.door) gears.new.items ≡ doors.items }
-    ensures rests { map (λ g. rest_with g.dial g.tape g.clock g.shelf g.log) gears.new.items
-        ≡ map (λ r. rest_with r.dial r.tape r.clock r.shelf r.log) rests.old.rest.items }
+    ensures rests { map but_door gears.new.items ≡ rests.old.rest.items }
 {
     'doors: for door in doors {
         put_door(door, rests, gears);
@@ -217,7 +213,7 @@ fn put_door<D: Drop, G: Drop, T: Drop, K: Drop, S: Drop, O: Drop>(
 )
     requires more { 0 < length rests.old.rest.items }
     requires room { vec_len gears.old < vec_capacity gears.old }
-    ensures put { PutsNext (λ r g. (g.door ≡ door) × (rest_with g.dial g.tape g.clock g.shelf g.log ≡ rest_with r.dial r.tape r.clock r.shelf r.log))
+    ensures put { PutsNext (λ rest gear. (gear.door ≡ door) × (but_door gear ≡ rest))
         rests.old.rest.items rests.new.rest.items gears.old.items gears.new.items }
     ensures len { vec_len gears.new ≡ vec_len gears.old + 1 }
     ensures capacity { vec_capacity gears.new ≡ vec_capacity gears.old }
@@ -231,8 +227,7 @@ fn put_door<D: Drop, G: Drop, T: Drop, K: Drop, S: Drop, O: Drop>(
 /// Puts a gear together again.
 fn door_on<D, G, T, K, S, O>(door: D, rest: Rest<G, T, K, S, O>) -> Gear<D, G, T, K, S, O>
     ensures door { result.door ≡ door }
-    ensures rest { rest_with result.dial result.tape result.clock result.shelf result.log
-        ≡ rest_with rest.dial rest.tape rest.clock rest.shelf rest.log }
+    ensures rest { but_door result ≡ rest }
 {
     let Rest {
         dial,

@@ -1,8 +1,7 @@
 //! What workers leave of their gears, and gears put together again.
 ghost use Rattle.std.specs.Prelude.{◌≡◌, ◌+◌, ◌<◌, ◌≤◌, [], false, is_some, length, map, vec_capacity, vec_len};
 ghost use Rattle.std.specs.List.{All};
-ghost use Rattle.gear_parts.specs.GearLogs.{sink_of};
-ghost use Rattle.gear_parts.specs.GearParts.{tools, tools_of};
+ghost use Rattle.gear_parts.specs.GearParts.{but_shelf, left_from};
 ghost use Rattle.gear_parts.specs.Putting.{PutsNext};
 
 use crate::gear_log::GearLog;
@@ -31,8 +30,7 @@ pub fn take_apart<'s, 'r, 'f, D: Drop, G: Dial + Drop, T: Tape + Drop, K: Drop, 
     requires none { left.old.items ≡ [] }
     requires room { vec_len outside ≤ vec_capacity left.old }
     requires idle { All (λ o. is_some o.reach.pooled.lent ≡ false) outside.items }
-    ensures { tools_of left.new.items
-        ≡ map (λ o. tools o.door o.reach.pooled.dial o.reach.pooled.tape o.clock (sink_of o.log)) outside.entry.items }
+    ensures { left.new.items ≡ map left_from outside.entry.items }
 {
     let mut outside = outside.into_iter();
     take_each(&mut outside, left);
@@ -46,8 +44,7 @@ fn take_each<'s, 'r, 'f, D: Drop, G: Dial + Drop, T: Tape + Drop, K: Drop, O: Ti
     requires none { left.old.items ≡ [] }
     requires room { length outside.old.rest.items ≤ vec_capacity left.old }
     requires idle { All (λ o. is_some o.reach.pooled.lent ≡ false) outside.old.rest.items }
-    ensures { tools_of left.new.items
-        ≡ map (λ o. tools o.door o.reach.pooled.dial o.reach.pooled.tape o.clock (sink_of o.log)) outside.old.rest.items }
+    ensures { left.new.items ≡ map left_from outside.old.rest.items }
 {
     'outside: while let Some(one) = outside.next() {
         left.push_reserved(left_of(one));
@@ -59,8 +56,7 @@ fn left_of<'s, 'r, 'f, D, G: Dial, T: Tape, K, O: Timed, R>(
     outside: Outside<D, WatchedReach<'s, 'r, G, T, R>, K, GearLog<'f, O>>,
 ) -> Left<D, G, T, K, O>
     requires idle { is_some outside.reach.pooled.lent ≡ false }
-    ensures { tools result.door result.dial result.tape result.clock result.log
-        ≡ tools outside.entry.door outside.entry.reach.pooled.dial outside.entry.reach.pooled.tape outside.entry.clock (sink_of outside.entry.log) }
+    ensures { result ≡ left_from outside.entry }
 {
     let Outside {
         door,
@@ -87,7 +83,7 @@ pub fn gears_again<D: Drop, G: Drop, T: Drop, K: Drop, S: Drop, O: Drop>(
     requires none { gears.old.items ≡ [] }
     requires paired { vec_len left ≡ vec_len shelves }
     requires room { vec_len left ≤ vec_capacity gears.old }
-    ensures tools { map (λ g. tools g.door g.dial g.tape g.clock g.log) gears.new.items ≡ tools_of left.items }
+    ensures left { map but_shelf gears.new.items ≡ left.items }
     ensures shelves { map (λ g. g.shelf) gears.new.items ≡ shelves.items }
 {
     let mut shelves = shelves.into_iter();
@@ -103,7 +99,7 @@ fn put_all<D: Drop, G: Drop, T: Drop, K: Drop, S: Drop, O: Drop>(
     requires none { gears.old.items ≡ [] }
     requires paired { vec_len left ≡ length shelves.old.rest.items }
     requires room { vec_len left ≤ vec_capacity gears.old }
-    ensures tools { map (λ g. tools g.door g.dial g.tape g.clock g.log) gears.new.items ≡ tools_of left.items }
+    ensures left { map but_shelf gears.new.items ≡ left.items }
     ensures shelves { map (λ g. g.shelf) gears.new.items ≡ shelves.old.rest.items }
 {
     'left: for left in left {
@@ -119,8 +115,8 @@ fn put_gear<D: Drop, G: Drop, T: Drop, K: Drop, S: Drop, O: Drop>(
 )
     requires more { 0 < length shelves.old.rest.items }
     requires room { vec_len gears.old < vec_capacity gears.old }
-    ensures put { PutsNext (λ shelf g. (tools g.door g.dial g.tape g.clock g.log ≡ tools left.door left.dial left.tape left.clock left.log)
-        × (g.shelf ≡ shelf)) shelves.old.rest.items shelves.new.rest.items gears.old.items gears.new.items }
+    ensures put { PutsNext (λ shelf gear. (but_shelf gear ≡ left) × (gear.shelf ≡ shelf))
+        shelves.old.rest.items shelves.new.rest.items gears.old.items gears.new.items }
     ensures len { vec_len gears.new ≡ vec_len gears.old + 1 }
     ensures capacity { vec_capacity gears.new ≡ vec_capacity gears.old }
 {
@@ -132,8 +128,7 @@ fn put_gear<D: Drop, G: Drop, T: Drop, K: Drop, S: Drop, O: Drop>(
 
 /// Puts what a worker left and its shelf together.
 fn gear_of<D, G, T, K, S, O>(left: Left<D, G, T, K, O>, shelf: S) -> Gear<D, G, T, K, S, O>
-    ensures tools { tools result.door result.dial result.tape result.clock result.log
-        ≡ tools left.door left.dial left.tape left.clock left.log }
+    ensures left { but_shelf result ≡ left }
     ensures shelf { result.shelf ≡ shelf }
 {
     let Left {

@@ -10,6 +10,7 @@
 //! Errors: `IoError` of the world or a shelf; a container's run has want of memory alone, after which no gear comes back.
 #![tactic(auto)]
 
+mod common;
 mod container;
 mod gear_log;
 mod gears;
@@ -21,9 +22,11 @@ mod order;
 mod part;
 mod parts;
 mod starting;
+mod told_world;
 mod worker_log;
 mod world;
 
+pub use common::Common;
 pub use container::{ContainerRun, contain_gears};
 pub use gear_log::GearLog;
 pub use gears::{GearOf, give_back, take_gears};
@@ -33,7 +36,7 @@ pub use logs::log_gears;
 pub use memory::{After, Memory, parts_for};
 pub use order::GearOrder;
 pub use part::{Outside, OutsideList, Part};
-pub use parts::Common;
 pub use starting::first_moment;
+pub use told_world::ToldWorld;
 pub use worker_log::WorkerLog;
 pub use world::{Gear, World};

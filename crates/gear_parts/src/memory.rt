@@ -1,14 +1,13 @@
 //! The memory of a connector's run, with a part for each gear.
 ghost use Rattle.std.specs.Prelude.{◌≡◌, ◌≤◌, [], map, vec_capacity, vec_len, IfOk};
 ghost use Rattle.std.specs.List.{All};
-ghost use Rattle.conn_pool.specs.Idle.{counts};
-ghost use Rattle.locked_balancer.specs.Locks.{lock_of};
-ghost use Rattle.gear_parts.specs.GearParts.{start_of, start_with};
+ghost use Rattle.gear_parts.specs.GearParts.{ArePartsOf};
 ghost use Rattle.gear_parts.specs.Memories.{HasAfter, HasMemory};
 
+use crate::common::Common;
 use crate::gear_log::GearLog;
 use crate::part::Part;
-use crate::parts::{Common, fill_parts};
+use crate::parts::fill_parts;
 use crate::world::Gear;
 use conn_pool::{Tape, WatchedReach};
 use jk_io::{Dial, NoMemory};
@@ -57,8 +56,7 @@ pub fn parts_for<
     requires parts { share.parts ≡ vec_len gears }
     requires amount { share.amount ≡ 0 }
     requires idle { All (λ g. T.is_idle g.tape) gears.items }
-    ensures starts { IfOk result (λ m. map (λ p. start_with p.door p.reach p.clock p.desk p.log) m.parts.items
-        ≡ map (start_of (lock_of common.now.site.now) L.sizes (counts common.now.pools.now) common.now.watch common.now.format.now) gears.items) }
+    ensures starts { IfOk result (λ m. ArePartsOf common.now L.sizes gears.items m.parts.items) }
     ensures count { IfOk result (λ m. vec_len m.parts ≡ vec_len gears) }
     ensures after { IfOk result (λ m. HasAfter (vec_len gears) m.after) }
 {
@@ -97,8 +95,7 @@ fn filled<
     requires amount { share.amount ≡ 0 }
     requires idle { All (λ g. T.is_idle g.tape) gears.items }
     requires memory { HasMemory (vec_len gears) memory }
-    ensures starts { map (λ p. start_with p.door p.reach p.clock p.desk p.log) result.parts.items
-        ≡ map (start_of (lock_of common.now.site.now) L.sizes (counts common.now.pools.now) common.now.watch common.now.format.now) gears.items }
+    ensures starts { ArePartsOf common.now L.sizes gears.items result.parts.items }
     ensures count { vec_len result.parts ≡ vec_len gears }
     ensures after { HasAfter (vec_len gears) result.after }
 {

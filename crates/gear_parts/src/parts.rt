@@ -1,37 +1,20 @@
 //! The parts of gears, with which the workers of a connector work.
 ghost use Rattle.std.specs.Prelude.{◌≡◌, ◌+◌, ◌<◌, ◌≤◌, [], length, map, vec_capacity, vec_len};
-ghost use Rattle.std.specs.Option.{ForSome};
 ghost use Rattle.std.specs.List.{All};
-ghost use Rattle.conn_pool.specs.Idle.{counts};
-ghost use Rattle.locked_balancer.specs.Locks.{lock_of};
-ghost use Rattle.conn_pool.specs.Looks.{ends_of};
-ghost use Rattle.gear_parts.specs.GearParts.{start_of, start_with};
+ghost use Rattle.gear_parts.specs.GearParts.{ArePartsOf, start_by, start_with};
 ghost use Rattle.gear_parts.specs.Putting.{PutsOne};
 
+use crate::common::Common;
 use crate::gear_log::GearLog;
 use crate::part::Part;
 use crate::world::Gear;
-use conn_pool::{AgedLink, Idle, Pools, Tape, Watch, WatchedReach};
+use conn_pool::{Tape, WatchedReach};
 use jk_io::Dial;
-use locked_balancer::{SharedDesk, SharedSite, Shelf, SiteName};
-use request_log::{Format, Timed};
-use site_config::Config;
+use locked_balancer::{SharedDesk, Shelf, SiteName};
+use request_log::Timed;
 use std::alloc::Global;
 use std::sync::ledger::Share;
 use std::vec::IntoIter;
-
-/// What all workers ask: the balancers, the pools of idle links and how these are looked after, and the format of their logs.
-#[derive(Drop)]
-pub struct Common<'s, 'r, L: SiteName, G: Dial, R> {
-    pub site: &'s SharedSite<'r, L, R>,
-    pub pools: &'s Pools<'r, Idle<AgedLink<G::L>>, R>,
-    pub cfg: &'s Config,
-    /// When each worker looks at the idle links, if it does.
-    pub watch: Option<Watch>,
-    pub format: &'s Format,
-    pub ghost every: { ForSome watch (λ w. 0 < w.every) },
-    pub ghost ends: { counts pools.now ≡ ends_of cfg.now.lbs },
-}
 
 /// A part for each gear, with one part of the share.
 pub(crate) fn fill_parts<
@@ -57,8 +40,7 @@ pub(crate) fn fill_parts<
     requires parts { share.parts ≡ vec_len gears }
     requires amount { share.amount ≡ 0 }
     requires idle { All (λ g. T.is_idle g.tape) gears.items }
-    ensures starts { map (λ p. start_with p.door p.reach p.clock p.desk p.log) parts.new.items
-        ≡ map (start_of (lock_of common.now.site.now) L.sizes (counts common.now.pools.now) common.now.watch common.now.format.now) gears.items }
+    ensures starts { ArePartsOf common.now L.sizes gears.items parts.new.items }
 {
     let mut share = share;
     let mut gears = gears.into_iter();
@@ -78,8 +60,7 @@ fn put_parts<'s, 'r, L: SiteName, D, G: Dial, T: Tape, K, S: Shelf, O: Timed, R>
     requires parts { share.old.parts ≡ length gears.old.rest.items }
     requires amount { share.old.amount ≡ 0 }
     requires idle { All (λ g. T.is_idle g.tape) gears.old.rest.items }
-    ensures starts { map (λ p. start_with p.door p.reach p.clock p.desk p.log) parts.new.items
-        ≡ map (start_of (lock_of common.now.site.now) L.sizes (counts common.now.pools.now) common.now.watch common.now.format.now) gears.old.rest.items }
+    ensures starts { ArePartsOf common.now L.sizes gears.old.rest.items parts.new.items }
 {
     'gears: while let Some(gear) = gears.next() {
         put_part(alloc, common, share, gear, parts);
@@ -98,9 +79,7 @@ fn put_part<'s, 'r, L: SiteName, D, G: Dial, T: Tape, K, S: Shelf, O: Timed, R>(
     requires amount { share.old.amount ≡ 0 }
     requires idle { T.is_idle gear.tape }
     requires room { vec_len parts.old < vec_capacity parts.old }
-    ensures part { PutsOne (λ p. start_with p.door p.reach p.clock p.desk p.log
-        ≡ start_of (lock_of common.now.site.now) L.sizes (counts common.now.pools.now) common.now.watch common.now.format.now gear)
-        parts.old.items parts.new.items }
+    ensures part { PutsOne (λ p. start_with p ≡ start_by common.now L.sizes gear) parts.old.items parts.new.items }
     ensures share { (share.new.parts + 1 ≡ share.old.parts) × (share.new.amount ≡ 0) }
     ensures len { vec_len parts.new ≡ vec_len parts.old + 1 }
     ensures capacity { vec_capacity parts.new ≡ vec_capacity parts.old }
@@ -119,8 +98,7 @@ fn part_of<'s, 'r, L: SiteName, D, G: Dial, T: Tape, K, S: Shelf, O: Timed, R>(
     requires part { share.parts ≡ 1 }
     requires amount { share.amount ≡ 0 }
     requires idle { T.is_idle gear.tape }
-    ensures { start_with result.door result.reach result.clock result.desk result.log
-        ≡ start_of (lock_of common.now.site.now) L.sizes (counts common.now.pools.now) common.now.watch common.now.format.now gear }
+    ensures { start_with result ≡ start_by common.now L.sizes gear }
 {
     let Gear {
         door,

@@ -1,7 +1,7 @@
 use Rattle.std.proofs.Common.{ap, ◌∙◌, length, arith}
 use Rattle.jk_io.specs.Doors.{side}
 use Rattle.gear_parts.proofs.ContainerLaws.{container_ran, doors_back, rests_kept, same_gears}
-use Rattle.gear_parts.proofs.ListLaws.{as_long, as_long_as}
+use Rattle.gear_parts.proofs.ListLaws.{as_long_as}
 use Rattle.gear_parts.proofs.container.contain_in.Goals as goal
 
 pub put_doors-requires-clause-paired : goal.put_doors-requires-clause-paired
@@ -14,7 +14,7 @@ put_doors-requires-clause-paired g c =
       back,
       ap length c.into_vec.ensures,
       as_long_as _ _ _ c.take_doors.ensures.doors,
-      as_long _ _ _ _ c.take_doors.ensures.rests,
+      as_long_as _ _ _ c.take_doors.ensures.rests,
       c.into_vec.result.ok.0,
       c.take_doors.new.rests.ok.0,
     )
@@ -41,7 +41,7 @@ put_doors-requires-in-Err-clause-paired g c =
       ap length c.in-Err.ensures.unasked,
       ap length c.into_vec-in-Err.ensures,
       as_long_as _ _ _ c.take_doors.ensures.doors,
-      as_long _ _ _ _ c.take_doors.ensures.rests,
+      as_long_as _ _ _ c.take_doors.ensures.rests,
       c.into_vec-in-Err.result.ok.0,
       c.take_doors.new.rests.ok.0,
     )

@@ -1,12 +1,11 @@
 use Rattle.std.proofs.Common.{◌≡◌, ◌+◌, ◌≤◌, ◌++◌, length, map}
 use Rattle.std.specs.Prelude.{vec_capacity, vec_len}
-use Rattle.gear_parts.specs.GearParts.{tools}
+use Rattle.gear_parts.specs.GearParts.{but_shelf}
 use Rattle.gear_parts.proofs.left.put_all.Given as goal
 
 abbrev pub invariant-left : goal.invariant-left
 invariant-left g l = record {
-  tools_put : map (λ x. tools x.door x.dial x.tape x.clock x.log) l.gears.items ++ map (λ x. tools x.door x.dial x.tape x.clock x.log) l.left-iterator.rest.items
-      ≡ map (λ x. tools x.door x.dial x.tape x.clock x.log) l.fn.left.items;
+  left_put : map but_shelf l.gears.items ++ l.left-iterator.rest.items ≡ l.fn.left.items;
   shelves_put : map (λ x. x.shelf) l.gears.items ++ l.shelves.rest.items ≡ l.initial.shelves.rest.items;
   paired : length l.left-iterator.rest.items ≡ length l.shelves.rest.items;
   room : vec_len l.gears + length l.left-iterator.rest.items ≤ vec_capacity l.gears;

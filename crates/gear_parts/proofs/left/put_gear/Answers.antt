@@ -6,5 +6,5 @@ returns-clause-put g c = record {
   item = _;
   taken = c.in-Some.ensures.cases.0;
   added = c.push_reserved.ensures.items;
-  is = (c.gear_of.ensures.tools, c.gear_of.ensures.shelf);
+  is = (c.gear_of.ensures.left, c.gear_of.ensures.shelf);
 }

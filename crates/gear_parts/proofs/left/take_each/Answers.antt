@@ -1,12 +1,12 @@
 use Rattle.std.proofs.Common.{◌≡◌, false, ap, length, refl, sym, arith}
 use Rattle.std.specs.Prelude.{is_some}
 use Rattle.std.proofs.lemmas.List.Elements.{All-head, All-rest, All-same}
-use Rattle.gear_parts.proofs.ListLaws.{no_more_of, none_left, none_put, one_put}
+use Rattle.gear_parts.proofs.ListLaws.{no_more_of, none_left, none_put_of, one_put_of}
 use Rattle.gear_parts.proofs.left.take_each.Goals as goal
 
 pub outside-init : goal.outside-init
 outside-init g c = record {
-  tools_left = none_put _ _ _ _ _ c.requires.none refl;
+  taken = none_put_of _ _ _ _ c.requires.none refl;
   idle = c.requires.idle;
   room = omega (arith, ap length c.requires.none, c.args.left.now.ok.0, c.requires.room);
 }
@@ -26,7 +26,7 @@ pub outside-preserved : goal.outside-preserved
 outside-preserved g c =
     let first = c.in-Some.ensures.items in
     record {
-      tools_left = one_put _ _ _ _ _ _ _ _ _ c.outside.invariant.tools_left first c.push_reserved.ensures.items c.left_of.ensures;
+      taken = one_put_of _ _ _ _ _ _ _ _ c.outside.invariant.taken first c.push_reserved.ensures.items c.left_of.ensures;
       idle = All-rest (λ o. is_some o.reach.pooled.lent ≡ false) _ _ _ first c.outside.invariant.idle;
       room = omega (arith, ap length first, c.outside.invariant.room, c.push_reserved.ensures.len, c.push_reserved.ensures.capacity);
     }
@@ -34,4 +34,4 @@ outside-preserved g c =
 pub returns : goal.returns
 returns g c =
     let none : length c.outside.outside.rest.items ≡ 0 = none_left _ _ c.outside.outside.rest.ok.0 c.in_default.ensures.variant.1 in
-    no_more_of _ _ _ _ c.outside.invariant.tools_left none
+    no_more_of _ _ _ _ c.outside.invariant.taken none

@@ -1,14 +1,12 @@
 use Rattle.std.proofs.Common.{◌≡◌, ◌+◌, ◌≤◌, ◌++◌, false, length, map}
 use Rattle.std.specs.List.{All}
 use Rattle.std.specs.Prelude.{is_some, vec_capacity, vec_len}
-use Rattle.gear_parts.specs.GearLogs.{sink_of}
-use Rattle.gear_parts.specs.GearParts.{tools}
+use Rattle.gear_parts.specs.GearParts.{left_from}
 use Rattle.gear_parts.proofs.left.take_each.Given as goal
 
 abbrev pub invariant-outside : goal.invariant-outside
 invariant-outside g l = record {
-  tools_left : map (λ x. tools x.door x.dial x.tape x.clock x.log) l.left.items ++ map (λ o. tools o.door o.reach.pooled.dial o.reach.pooled.tape o.clock (sink_of o.log)) l.outside.rest.items
-      ≡ map (λ o. tools o.door o.reach.pooled.dial o.reach.pooled.tape o.clock (sink_of o.log)) l.fn.outside.rest.items;
+  taken : l.left.items ++ map left_from l.outside.rest.items ≡ map left_from l.fn.outside.rest.items;
   idle : All (λ o. is_some o.reach.pooled.lent ≡ false) l.outside.rest.items;
   room : vec_len l.left + length l.outside.rest.items ≤ vec_capacity l.left;
 }

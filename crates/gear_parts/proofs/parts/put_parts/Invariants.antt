@@ -2,15 +2,13 @@
 use Rattle.std.proofs.Common.{◌≡◌, ◌+◌, ◌≤◌, ◌++◌, length, map}
 use Rattle.std.specs.Prelude.{vec_capacity, vec_len}
 use Rattle.std.specs.List.{All}
-use Rattle.conn_pool.specs.Idle.{counts}
-use Rattle.locked_balancer.specs.Locks.{lock_of}
-use Rattle.gear_parts.specs.GearParts.{start_of, start_with}
+use Rattle.gear_parts.specs.GearParts.{start_by, start_with}
 use Rattle.gear_parts.proofs.parts.put_parts.Given as goal
 
 abbrev pub invariant-gears : goal.invariant-gears
 invariant-gears g l = record {
-  started : map (λ p. start_with p.door p.reach p.clock p.desk p.log) l.parts.items ++ map (start_of (lock_of l.common.site.now) g.L.SiteName.sizes (counts l.common.pools.now) l.common.watch l.common.format.now) l.gears.rest.items
-      ≡ map (start_of (lock_of l.common.site.now) g.L.SiteName.sizes (counts l.common.pools.now) l.common.watch l.common.format.now) l.fn.gears.rest.items;
+  started : map start_with l.parts.items ++ map (start_by l.common g.L.SiteName.sizes) l.gears.rest.items
+      ≡ map (start_by l.common g.L.SiteName.sizes) l.fn.gears.rest.items;
   idle : All (λ x. g.T.Tape.is_idle x.tape) l.gears.rest.items;
   parts_left : l.share.parts ≡ length l.gears.rest.items;
   none_counted : l.share.amount ≡ 0;
