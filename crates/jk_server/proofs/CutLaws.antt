@@ -13,7 +13,8 @@ use Rattle.locked_balancer.specs.Sites.{AreSited}
 use Rattle.site_reports.specs.Starts.{AreStarts}
 use Rattle.site_config.specs.declared.balancer.Lb.{Lb}
 use Rattle.gear_parts.specs.Cuts.{AddsCuts, AddsFront, ToFirst}
-use Rattle.gear_parts.specs.GearParts.{gear_with, gears_with, Tools, tools}
+use Rattle.gear_parts.specs.GearParts.{but_shelf, gear_with, gears_with}
+use Rattle.gear_parts.specs.declared.left.Left.{Left}
 use Rattle.gear_parts.specs.Gears.{GearSide, gear_side}
 use Rattle.gear_parts.specs.declared.world.Gear.{Gear}
 use Rattle.site_closing.specs.Closings.{DiscordNote}
@@ -27,7 +28,7 @@ use Rattle.jk_server.proofs.GearRunLaws.{told_again}
 
 -- What was done with the first shelf, said of the gears.
 pub first_kept : {D G T K S O C : Type 0} (at : D → DoorSide C) (talks : T → Option (List Talk)) (answers : K → Option (List ℕ)) (Kept : S → S → Type 0)
-    (ts : List (Tools D G T K O)) (old new : List S) → length ts ≡ length old → ToFirst Kept old new
+    (ts : List (Left D G T K O)) (old new : List S) → length ts ≡ length old → ToFirst Kept old new
     → KeepsFirst Kept (gears_with (gear_with at talks answers) ts old) (gears_with (gear_with at talks answers) ts new)
 first_kept at talks answers Kept ts [] new len kept = absurd kept
 first_kept at talks answers Kept ts (s ∷ old) [] len kept = absurd kept
@@ -47,13 +48,13 @@ first_weaker P Q (x ∷ old) (y ∷ new) then is = (then x y is.0, is.1)
 
 -- So it is of the gears that were put together again.
 pub kept_again : {D G T K S O C : Type 0} (at : D → DoorSide C) (talks : T → Option (List Talk)) (answers : K → Option (List ℕ)) (Kept : S → S → Type 0)
-    (ts : List (Tools D G T K O)) (old new : List S) (back : List (Gear D G T K S O)) → length ts ≡ length old → ToFirst Kept old new
-    → map (λ g. tools g.door g.dial g.tape g.clock g.log) back ≡ ts → map (λ g. g.shelf) back ≡ new
+    (ts : List (Left D G T K O)) (old new : List S) (back : List (Gear D G T K S O)) → length ts ≡ length old → ToFirst Kept old new
+    → map but_shelf back ≡ ts → map (λ g. g.shelf) back ≡ new
     → KeepsFirst Kept (gears_with (gear_with at talks answers) ts old) (map (gear_side at talks answers) back)
-kept_again {D} {G} {T} {K} {S} {O} {C} at talks answers Kept ts old new back len kept tools_put shelves_put =
+kept_again {D} {G} {T} {K} {S} {O} {C} at talks answers Kept ts old new back len kept left_put shelves_put =
     subst (λ (gs : List (GearSide C S O)). KeepsFirst Kept (gears_with (gear_with at talks answers) ts old) gs)
     (sym (told_again at talks answers back
-    ∙ ap (λ (us : List (Tools D G T K O)). gears_with (gear_with at talks answers) us (map (λ (g : Gear D G T K S O). g.shelf) back)) tools_put
+    ∙ ap (λ (us : List (Left D G T K O)). gears_with (gear_with at talks answers) us (map (λ (g : Gear D G T K S O). g.shelf) back)) left_put
     ∙ ap (λ (ss : List S). gears_with (gear_with at talks answers) ts ss) shelves_put))
     (first_kept at talks answers Kept ts old new len kept)
 
@@ -73,7 +74,7 @@ ended_said lbs sizes firsts starts seats at begun books same_sizes same_firsts s
 
 -- What a closing says of the Books of a Site, said of the configuration.
 kept_said : {D G T K S O C : Type 0} (at : D → DoorSide C) (talks : T → Option (List Talk)) (answers : K → Option (List ℕ)) (Kept Said : List Journal → S → S → Type 0)
-    (Ended Are : List Journal → Type 0) (ts : List (Tools D G T K O)) (old : List S) (back : List (Gear D G T K S O))
+    (Ended Are : List Journal → Type 0) (ts : List (Left D G T K O)) (old : List S) (back : List (Gear D G T K S O))
     → ((books : List Journal) → Ended books → Are books)
     → ((books : List Journal) (x y : S) → Are books → Kept books x y → Said books x y)
     → KeepsCuts Kept Ended ts old back
@@ -83,7 +84,7 @@ kept_said {D} {G} {T} {K} {S} {O} at talks answers Kept Said Ended Are ts old ba
   kept_again at talks answers (Said keeps.0) ts old (map (λ (g : Gear D G T K S O). g.shelf) back) back keeps.2.paired
       (first_weaker (Kept keeps.0) (Said keeps.0) old (map (λ (g : Gear D G T K S O). g.shelf) back)
       (λ x y kept. say keeps.0 x y (are keeps.0 keeps.1) kept) keeps.2.shelves_put)
-      keeps.2.tools_put refl,
+      keeps.2.left_put refl,
 )
 
 discord_said : (lbs : List Lb) (sizes firsts : List ℕ) (starts : List Opening) (seats : List SeatNote) (moment : ℕ) (begun : List Journal) (d : DiscordNote)
@@ -99,7 +100,7 @@ discord_said lbs sizes firsts starts seats moment begun d same_sizes same_firsts
 
 pub closes_said : {D G T K S O L C : Type 0} (at : D → DoorSide C) (talks : T → Option (List Talk)) (answers : K → Option (List ℕ)) (shelved : S → Option (List (ℕ × Segment)))
     (faults : S → ℕ) (lbs : List Lb) (sizes firsts : List ℕ) (starts : List Opening) (seats : List SeatNote) (moment : ℕ) (begun : List Journal)
-    (ts : List (Tools D G T K O)) (old : List S) (back : List (Gear D G T K S O)) (end : Closing L)
+    (ts : List (Left D G T K O)) (old : List S) (back : List (Gear D G T K S O)) (end : Closing L)
     → sizes ≡ sizes_of lbs → firsts ≡ firsts_of lbs → starts ≡ starts_of begun → AreStarts lbs moment 0 begun
     → EndsSo shelved faults sizes firsts starts seats ts old back end
     → (books : List Journal) × Closes shelved faults lbs seats books (gears_with (gear_with at talks answers) ts old) (map (gear_side at talks answers) back) end
@@ -128,12 +129,12 @@ closes_said at talks answers shelved faults lbs sizes firsts starts seats moment
     (said.0, inr said.1)
 
 -- The gears were put together so, of shelves that were lent.
-pub put_back : {D G T K S O : Type 0} (Kept : S → S → Type 0) (ts : List (Tools D G T K O)) (old lent new : List S) (back : List (Gear D G T K S O))
-    → length ts ≡ length old → map (λ g. tools g.door g.dial g.tape g.clock g.log) back ≡ ts
+pub put_back : {D G T K S O : Type 0} (Kept : S → S → Type 0) (ts : List (Left D G T K O)) (old lent new : List S) (back : List (Gear D G T K S O))
+    → length ts ≡ length old → map but_shelf back ≡ ts
     → lent ≡ old → map (λ g. g.shelf) back ≡ new → ToFirst Kept lent new → IsPutBack Kept ts old back
-put_back {S = S} Kept ts old lent new back paired tools_put same put kept = record {
+put_back {S = S} Kept ts old lent new back paired left_put same put kept = record {
   paired = paired;
-  tools_put = tools_put;
+  left_put = left_put;
   shelves_put =
       subst (λ (ss : List S). ToFirst Kept old ss) (sym put) (subst (λ (ss : List S). ToFirst Kept ss new) same kept);
 }

@@ -18,7 +18,7 @@ use Rattle.gear_parts.specs.Memories.{HasAfter}
 use Rattle.jk_server.specs.Parts.{AreEach}
 use Rattle.jk_server.specs.declared.part.WorkerEnd.{WorkerEnd}
 use Rattle.gear_parts.specs.declared.memory.After.{After}
-use Rattle.gear_parts.specs.GearParts.{gear_with, gears_with, start_of, start_with, tools}
+use Rattle.gear_parts.specs.GearParts.{gear_with, gears_with, start_of, start_with, but_shelf}
 use Rattle.gear_parts.specs.declared.part.Part.{Part}
 use Rattle.conn_pool.specs.Watched.{WatchedState}
 use Rattle.conn_pool.specs.declared.watch.Watch.{Watch}
@@ -28,6 +28,7 @@ use Rattle.site_config.specs.declared.config.Config.{Config}
 use Rattle.uri_map.specs.declared.rule.Rule.{Rule}
 use Rattle.jk_server.specs.RunTells.{RunTells}
 use Rattle.jk_server.specs.ServedGears.{IsRunOf, RunsParts}
+use Rattle.jk_server.specs.declared.runs.parts.SitePlan.{SitePlan}
 use Rattle.jk_server.specs.declared.runs.ran.Ran.{Ran}
 use Rattle.jk_server.specs.Runs.{AreServedGears, IsServedGear}
 use Rattle.jk_server.specs.Worker.{Keeps}
@@ -108,12 +109,12 @@ pub after_so : {A B : Type 0} → (many count : ℕ) (after : After A B) → man
 after_so many count after same has = subst (λ (n : ℕ). HasAfter n after) (sym same) has
 
 -- What holds of all gears of which the parts were made, holds of these.
-pub runs_of : {D G T K S O L C X P W E : Type 0} {N : SiteGhosts L} → (told : RunTells D T K S O C X) (cfg : Config) (rules : List Rule) (format : List FormatPart)
+pub runs_of : {D G T K S O L C X P W E : Type 0} {N : SiteGhosts L} → (told : RunTells D T K S O C X) (plan : SitePlan)
     (parts : List (Part L D (WatchedState G T P) K S W (Option (LogState O)))) (lock : TableId) (sizes pools : List ℕ) (watch : Option Watch) (gears : List (Gear D G T K S O)) (r : Result (Ran L D G T K S O N) E)
-    → map (λ p. start_with p.door p.reach p.clock p.desk p.log) parts ≡ map (start_of lock sizes pools watch format) gears
-    → IfOk r (λ ran. RunsParts told cfg rules format parts ran) → IfOk r (λ ran. IsRunOf told cfg rules format lock gears ran)
-runs_of told cfg rules format parts lock sizes pools watch gears (Ok ran) starts runs = runs lock sizes pools watch gears starts
-runs_of told cfg rules format parts lock sizes pools watch gears (Err e) starts runs = runs
+    → map start_with parts ≡ map (start_of lock sizes pools watch plan.format.now) gears
+    → IfOk r (λ ran. RunsParts told plan parts ran) → IfOk r (λ ran. IsRunOf told plan lock gears ran)
+runs_of told plan parts lock sizes pools watch gears (Ok ran) starts runs = runs lock sizes pools watch gears starts
+runs_of told plan parts lock sizes pools watch gears (Err e) starts runs = runs
 
 -- What follows of each holds of all that the workers left.
 pub all_left : {P O V E : Type 0} → (Is : ℕ → P → O → V → E → Type 0) (Left : O → Type 0)
@@ -129,9 +130,9 @@ all_left Is Left n (p ∷ ps) (o ∷ os) (v ∷ vs) [] each so = absurd each
 all_left Is Left n (p ∷ ps) (o ∷ os) (v ∷ vs) (e ∷ es) each so =
     All-cons Left o os (so n p o v e each.0) (all_left Is Left (n + 1) ps os vs es each.1 so)
 
--- Gears that were put together are told by their tools and shelves.
+-- Gears that were put together are told by what their workers left and their shelves.
 pub told_again : {D G T K S O C : Type 0} → (at : D → DoorSide C) (talks : T → Option (List Talk)) (answers : K → Option (List ℕ)) (gears : List (Gear D G T K S O))
-    → map (λ g. gear_side at talks answers g) gears ≡ gears_with (gear_with at talks answers) (map (λ g. tools g.door g.dial g.tape g.clock g.log) gears) (map (λ g. g.shelf) gears)
+    → map (λ g. gear_side at talks answers g) gears ≡ gears_with (gear_with at talks answers) (map but_shelf gears) (map (λ g. g.shelf) gears)
 told_again at talks answers [] = refl
 told_again {S = S} {O = O} {C = C} at talks answers (g ∷ gears) =
     ap (λ (rest : List (GearSide C S O)). gear_side at talks answers g ∷ rest) (told_again at talks answers gears)

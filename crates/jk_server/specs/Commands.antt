@@ -1,17 +1,13 @@
 -- What `serve` and `container` do with the outside, and how they end. Read this first; what a run does is in specs/Runs.antt and
 -- specs/Containers.antt.
-use Rattle.std.specs.Prelude.{◌≡◌, ℕ, ◌≤◌, ◌⊎◌, min, Bool, List, [], length, map, Option, Some, None, codes, unwrap_or}
+use Rattle.std.specs.Prelude.{◌≡◌, ℕ, ◌≤◌, ◌⊎◌, min, List, [], length, map, Option, Some, None, codes, unwrap_or}
 use Rattle.std.specs.Option.{option_copied}
 use Rattle.std.specs.List.{All, AllZip}
 use Rattle.client_session.specs.Requests.{visit}
-use Rattle.conn_pool.specs.declared.tape.Tape.{Ghosts as TapeGhosts}
 use Rattle.mini_container.specs.declared.worker_ends.ContainerWorker.{ContainerWorker}
 use Rattle.jk_io.specs.Told.{appended, PutsFront, Rose}
 use Rattle.jk_io.specs.declared.traits.streams.Meanings.{Ghosts}
-use Rattle.jk_io.specs.declared.traits.surroundings.Clock.{Ghosts as ClockGhosts}
-use Rattle.jk_io.specs.declared.traits.surroundings.Door.{Ghosts as DoorGhosts}
 use Rattle.jk_io.specs.declared.traits.surroundings.Files.{Ghosts as FilesGhosts}
-use Rattle.locked_balancer.specs.declared.shelf.Shelf.{Ghosts as ShelfGhosts}
 use Rattle.mini_container.specs.declared.app_config.AppConfig.{AppConfig}
 use Rattle.site_reports.specs.Readings.{CommandOutside, OfFiles}
 use Rattle.site_reports.specs.Reports.{RefusesSite}
@@ -19,8 +15,6 @@ use Rattle.site_config.specs.declared.config.Config.{Config}
 use Rattle.uri_map.specs.declared.rule.Rule.{Rule}
 use Rattle.request_log.specs.Formats.{IsFormat, IsRefusedFrom, refusal_line}
 use Rattle.request_log.specs.declared.format.Part.{Part as FormatPart}
-use Rattle.gear_parts.specs.declared.world.Gear.{Gear}
-use Rattle.gear_parts.specs.declared.world.World.{Ghosts as WorldGhosts}
 use Rattle.gear_parts.specs.Containers.{IsContainerRun}
 use Rattle.jk_server.specs.Runs.{IsSiteRun}
 use Rattle.jk_server.specs.RunTells.{logging}
@@ -29,7 +23,7 @@ use Rattle.jk_server.specs.declared.part.WorkerEnd.{WorkerEnd}
 use Rattle.jk_server.specs.Ends.{end_of_container, end_of_run, returned}
 use Rattle.site_reports.specs.Sites.{IsSite}
 use Rattle.gear_parts.specs.Wants.{AreSuited, GearWants, wants_of}
-use Rattle.gear_parts.specs.Worlds.{tells, HandsAndTakes, IsMade, RefusesGear, Tells, WorldSide}
+use Rattle.gear_parts.specs.Worlds.{HandsAndTakes, IsMade, RefusesGear, Tells, WorldSide}
 use Rattle.jk_server.specs.declared.orders.ends.CommandEnd.{CommandEnd}
 use Rattle.jk_server.specs.declared.orders.ends.CommandEnd.TheVariants as end
 use Rattle.gear_parts.specs.declared.order.GearOrder.{GearOrder}
@@ -53,14 +47,14 @@ pub record CommandTells (F O W G C S Y X Z : Type 0) : Type 1 where
   pub output_faults : O → ℕ
   pub world : Tells W G C S Y X Z
 
--- by their traits: `telling F.Files O.Meanings W.World W.D.Door W.T.Tape W.K.Clock W.D.L.Meanings W.S.Shelf W.O.Meanings W.D.L.may_wait`
-abbrev pub telling : {F P A W D G T K S O C X E Y Z V : Type 0} → FilesGhosts F → Ghosts P A → WorldGhosts W D G T K S O C X E Y Z V → DoorGhosts D C X → TapeGhosts T → ClockGhosts K → Ghosts C X → ShelfGhosts S → Ghosts O V → Bool → CommandTells F P W (Gear D G T K S O) C S O X V
-telling of_files of_output of_world of_door of_tape of_clock of_link of_shelf of_log may_wait = record {
+-- by their types: `telling F.Files O.Meanings ⟦<W as ToldWorld>⟧.told`
+abbrev pub telling : {F P A W G C S Y X Z : Type 0} → FilesGhosts F → Ghosts P A → Tells W G C S Y X Z → CommandTells F P W G C S Y X Z
+telling of_files of_output of_world = record {
   files = of_files.files;
   file_faults = of_files.faults;
   sent = of_output.sent;
   output_faults = of_output.faults;
-  world = tells of_world of_door of_tape of_clock of_link of_shelf of_log may_wait;
+  world = of_world;
 }
 
 -- a command over these files, this output and this world
@@ -229,9 +223,9 @@ pub record Contains {W G C S O X Z L : Type 0} (told : Tells W G C S O X Z) (rou
 -- ---- the same of what a command goes over, as it was before and is after it
 
 -- The workers of a site were wanted.
-abbrev pub WorksSite : {W G C S O X Z L : Type 0} → Tells W G C S O X Z → ReadSite → List FormatPart → (threads : ℕ) → GearOrder → (before after : W) → CommandEnd L → Type 0
-WorksSite told site format threads asked before after ended =
-    Works threads (RunsLogged told site.cfg site.map format threads (wants_of asked)) (told.world before) (told.world after) ended
+abbrev pub WorksSite : {W G C S O X Z L : Type 0} → Tells W G C S O X Z → ReadSite → FormattedOrder → (before after : W) → CommandEnd L → Type 0
+WorksSite told site of before after ended =
+    Works of.order.threads (RunsLogged told site.cfg site.map of.format.now of.order.threads (wants_of of.order.asked)) (told.world before) (told.world after) ended
 
 -- The workers of a container were wanted.
 abbrev pub WorksContainer : {W G C S O X Z L : Type 0} → Tells W G C S O X Z → AppConfig → (threads : ℕ) → GearOrder → (before after : W) → CommandEnd L → Type 0

@@ -1,11 +1,15 @@
 -- What the types of a part tell, and what its worker has at a moment.
-use Rattle.std.specs.Prelude.{ℕ, List, Option}
+use Rattle.std.specs.Prelude.{ℕ, Bool, List, Option}
 use Rattle.jk_io.specs.declared.reaching.Beside.{Beside}
 use Rattle.jk_io.specs.declared.traits.streams.Meanings.{Ghosts}
+use Rattle.jk_io.specs.declared.traits.surroundings.Clock.{Ghosts as ClockGhosts}
+use Rattle.jk_io.specs.declared.traits.surroundings.Door.{Ghosts as DoorGhosts}
 use Rattle.jk_io.specs.declared.traits.surroundings.Peer.{Peer}
+use Rattle.locked_balancer.specs.declared.shelf.Shelf.{Ghosts as ShelfGhosts}
 use Rattle.client_session.specs.Requests.{Visit, visit}
 use Rattle.jk_io.specs.Doors.{DoorSide, side}
-use Rattle.jk_server.specs.Worker.{Keeps, worker_side, WorkerSide}
+use Rattle.gear_parts.specs.Logs.{LogTells}
+use Rattle.jk_server.specs.Worker.{Keeps, keeps, worker_side, WorkerSide}
 use Rattle.gear_parts.specs.declared.part.Part.{Part}
 use Rattle.jk_server.specs.declared.part.Post.{Post}
 
@@ -17,14 +21,14 @@ pub record PartTells (D R K S Y C X : Type 0) : Type 1 where
   pub reach : Ghosts R Beside
   pub keeps : Keeps S Y
 
--- what they tell, by their types: `part_tells D.coming D.left D.faults D.L.Meanings K.answers R.Meanings` and a `keeps`
-abbrev pub part_tells : {D R K S Y C X : Type 0} → (D → Option (List (C × Peer))) → (D → Option (List C)) → (D → ℕ) → Ghosts C X → (K → Option (List ℕ)) → Ghosts R Beside → Keeps S Y → PartTells D R K S Y C X
-part_tells coming left faults link clock reach keeps' = record {
-  door = side coming left faults;
-  link = link;
-  clock = clock;
-  reach = reach;
-  keeps = keeps';
+-- what they tell, by their types: `part_tells D.Door D.L.Meanings K.Clock R.Meanings S.Shelf (log_tells Y.gained Y.greets Y.broken_by Y.log_faults) D.L.may_wait`
+abbrev pub part_tells : {D R K S Y C X : Type 0} → DoorGhosts D C X → Ghosts C X → ClockGhosts K → Ghosts R Beside → ShelfGhosts S → LogTells Y → Bool → PartTells D R K S Y C X
+part_tells of_door of_link of_clock of_reach of_shelf of_log may_wait = record {
+  door = side of_door.coming of_door.left of_door.faults;
+  link = of_link;
+  clock = of_clock.answers;
+  reach = of_reach;
+  keeps = keeps of_shelf.shelved of_shelf.faults of_log may_wait;
 }
 
 -- the worker of a part at a moment

@@ -1,10 +1,13 @@
 -- What the parts of gears tell.
 use Rattle.std.specs.Prelude.{ℕ, Bool, List, map, Option}
+use Rattle.conn_pool.specs.declared.tape.Tape.{Ghosts as TapeGhosts}
 use Rattle.jk_io.specs.declared.reaching.Talk.{Talk}
 use Rattle.jk_io.specs.declared.traits.streams.Meanings.{Ghosts}
-use Rattle.jk_io.specs.declared.traits.surroundings.Peer.{Peer}
+use Rattle.jk_io.specs.declared.traits.surroundings.Clock.{Ghosts as ClockGhosts}
+use Rattle.jk_io.specs.declared.traits.surroundings.Door.{Ghosts as DoorGhosts}
 use Rattle.jk_model.specs.declared.segment.Segment.{Segment}
 use Rattle.jk_io.specs.Doors.{DoorSide, side}
+use Rattle.locked_balancer.specs.declared.shelf.Shelf.{Ghosts as ShelfGhosts}
 use Rattle.request_log.specs.LogStates.{LogState}
 use Rattle.gear_parts.specs.GearLogs.{broken_by, Gains, GreetsIf, log_faults}
 use Rattle.gear_parts.specs.Gears.{gear_side, GearSide}
@@ -21,20 +24,20 @@ pub record RunTells (D T K S O C X : Type 0) : Type 1 where
   pub shelved : S → Option (List (ℕ × Segment))
   pub keeps : Keeps S (Option (LogState O))
 
--- what they tell, by their types: `run_tells D.coming D.left D.faults T.talks K.answers D.L.Meanings S.shelved` and a `keeps`
-abbrev pub run_tells : {D T K S O C X : Type 0} → (D → Option (List (C × Peer))) → (D → Option (List C)) → (D → ℕ) → (T → Option (List Talk)) → (K → Option (List ℕ)) → Ghosts C X → (S → Option (List (ℕ × Segment))) → Keeps S (Option (LogState O)) → RunTells D T K S O C X
-run_tells coming left faults talks answers link shelved keeps' = record {
-  door = side coming left faults;
-  talks = talks;
-  answers = answers;
-  link = link;
-  shelved = shelved;
-  keeps = keeps';
-}
-
 -- what is told of a shelf, and of logs that are written to this: `logging S.shelved S.faults O.Meanings D.L.may_wait`
 abbrev pub logging : {S O Z : Type 0} → (S → Option (List (ℕ × Segment))) → (S → ℕ) → Ghosts O Z → Bool → Keeps S (Option (LogState O))
 logging shelved faults told may_wait = keeps shelved faults (log_tells (Gains told) (λ s peer t. GreetsIf s peer t) (λ s. broken_by s) (λ s. log_faults told.faults s)) may_wait
+
+-- what they tell, by their types: `run_tells D.Door T.Tape K.Clock D.L.Meanings S.Shelf O.Meanings D.L.may_wait`
+abbrev pub run_tells : {D T K S O C X Z : Type 0} → DoorGhosts D C X → TapeGhosts T → ClockGhosts K → Ghosts C X → ShelfGhosts S → Ghosts O Z → Bool → RunTells D T K S O C X
+run_tells of_door of_tape of_clock of_link of_shelf of_log may_wait = record {
+  door = side of_door.coming of_door.left of_door.faults;
+  talks = of_tape.talks;
+  answers = of_clock.answers;
+  link = of_link;
+  shelved = of_shelf.shelved;
+  keeps = logging of_shelf.shelved of_shelf.faults of_log may_wait;
+}
 
 -- gears at a moment, in order
 abbrev pub gears_at : {D G T K S O C X : Type 0} → RunTells D T K S O C X → List (Gear D G T K S O) → List (GearSide C S O)

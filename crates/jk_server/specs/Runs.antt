@@ -8,8 +8,6 @@ use Rattle.client_session.specs.Requests.{Visit, visit}
 use Rattle.locked_balancer.specs.Histories.{SeatNote, noted, own_in}
 use Rattle.locked_balancer.specs.SharedDesks.{SharedState}
 use Rattle.site_config.specs.declared.balancer.Lb.{Lb}
-use Rattle.site_config.specs.declared.config.Config.{Config}
-use Rattle.uri_map.specs.declared.rule.Rule.{Rule}
 use Rattle.request_log.specs.declared.format.Part.{Part as FormatPart}
 use Rattle.request_log.specs.LogStates.{LogState}
 use Rattle.gear_parts.specs.GearLogs.{new_log, sink_of}
@@ -24,6 +22,7 @@ use Rattle.jk_server.specs.Closings.{Closes}
 use Rattle.jk_server.specs.RunTells.{gears_at, RunTells}
 use Rattle.jk_server.specs.declared.runs.ends.Closing.{Closing}
 use Rattle.jk_server.specs.declared.runs.ends.SiteRun.{SiteRun}
+use Rattle.jk_server.specs.declared.runs.parts.SitePlan.{SitePlan}
 
 -- The worker works with this gear: with its shelf, its clock and its tape.
 pub record WorksWith {C S O Y : Type 0} (gear : GearSide C S O) (worker : WorkerSide S Y) : Type 0 where
@@ -73,6 +72,6 @@ pub record IsSiteRun {C S O L X : Type 0} (visits : ℕ → Peer → Visit) (tol
   pub headline : IsHeadline visits told of lbs ends closing books
 
 -- What `IsSiteRun` says of the gears that were handed in, and of what the run gave back.
-abbrev pub RunsGears : {D G T K S O L C X : Type 0} → RunTells D T K S O C X → Config → List Rule → List FormatPart → List (Gear D G T K S O) → SiteRun L (Gear D G T K S O) → Type 0
-RunsGears told cfg rules format gears run =
-    IsSiteRun (visit cfg rules) told.link told.shelved told.keeps format cfg.lbs (gears_at told gears) (gears_at told run.gears.items) run.workers run.closing
+abbrev pub RunsGears : {D G T K S O L C X : Type 0} → RunTells D T K S O C X → SitePlan → List (Gear D G T K S O) → SiteRun L (Gear D G T K S O) → Type 0
+RunsGears told plan gears run =
+    IsSiteRun (visit plan.cfg.now plan.map.now) told.link told.shelved told.keeps plan.format.now plan.cfg.now.lbs (gears_at told gears) (gears_at told run.gears.items) run.workers run.closing

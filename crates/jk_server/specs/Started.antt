@@ -27,6 +27,7 @@ use Rattle.jk_server.specs.Worker.{Keeps}
 use Rattle.jk_server.specs.declared.runs.ends.Closing.{Closing}
 use Rattle.jk_server.specs.declared.runs.ends.SiteRun.{SiteRun}
 use Rattle.jk_server.specs.declared.runs.new_site.NewSite.{NewSite}
+use Rattle.jk_server.specs.declared.runs.parts.SitePlan.{SitePlan}
 
 -- the pool sizes of each balancer's members
 abbrev pub pool_table : List Lb → List (List ℕ)
@@ -61,6 +62,6 @@ pub record IsStartedRun {C S O L X : Type 0} (visits : ℕ → Peer → Visit) (
   pub closed : Closes shelved of.shelf_faults lbs seats books left back closing
 
 -- What `IsStartedRun` says of the gears as they were at the start, and of what the run gave back.
-abbrev pub RunsStarted : {D G T K S O L C X : Type 0} → RunTells D T K S O C X → Config → List Rule → List FormatPart → List (Gear D G T K S O) → SiteRun L (Gear D G T K S O) → Type 0
-RunsStarted told cfg rules format gears run =
-    IsStartedRun (visit cfg rules) told.link told.shelved told.keeps format cfg.lbs (gears_at told gears) (gears_at told run.gears.items) run.workers run.closing
+abbrev pub RunsStarted : {D G T K S O L C X : Type 0} → RunTells D T K S O C X → SitePlan → List (Gear D G T K S O) → SiteRun L (Gear D G T K S O) → Type 0
+RunsStarted told plan gears run =
+    IsStartedRun (visit plan.cfg.now plan.map.now) told.link told.shelved told.keeps plan.format.now plan.cfg.now.lbs (gears_at told gears) (gears_at told run.gears.items) run.workers run.closing

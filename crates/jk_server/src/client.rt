@@ -1,25 +1,22 @@
 //! One client: its session, and what a worker makes of the session's end.
-ghost use Rattle.std.specs.Prelude.{◌≡◌, ◌<◌, ◌≤◌, ℕ, [], ◌∷◌, true, false, None, Some, IsSome};
+ghost use Rattle.std.specs.Prelude.{◌≡◌, ◌<◌, [], ◌∷◌, true, false, None, Some, IsSome};
 ghost use Rattle.jk_io.specs.Told.{appended};
 ghost use Rattle.client_session.specs.Ends.{MeetsBy, RisesBy};
-ghost use Rattle.client_session.specs.Parts.{HasParts};
 ghost use Rattle.client_session.specs.Ready.{IsReady};
 ghost use Rattle.client_session.specs.Requests.{visit_of};
-ghost use Rattle.client_session.specs.Sessions.{Serves};
-ghost use Rattle.client_session.specs.Standings.{standing};
 ghost use Rattle.client_session.specs.Whole.{HoldsOfEach, IsWholeSession};
 ghost use Rattle.client_session.specs.declared.ending.Why.TheVariants as why;
 ghost use Rattle.status_worker.specs.Desks.{KeepsTickets};
 ghost use Rattle.locked_balancer.specs.Histories.{HasGone};
 ghost use Rattle.locked_balancer.specs.Loans.{name_in, seat_in, shelf_in, state_in};
 ghost use Rattle.locked_balancer.specs.Notes.{StrayNote};
-ghost use Rattle.locked_balancer.specs.SharedDesks.{SharedState};
 ghost use Rattle.locked_balancer.specs.Shelves.{HasShelved};
 ghost use Rattle.gear_parts.specs.Logs.{log_tells};
+ghost use Rattle.jk_server.specs.Lent.{HasPartsOver, ServesOver, SinceCounts, loaned};
 ghost use Rattle.jk_server.specs.Served.{DeskSettles, IsStray, SettlesBy};
 ghost use Rattle.jk_server.specs.PartTells.{part_tells};
 ghost use Rattle.jk_server.specs.Turns.{LeavesClient, NextsPart, RestsPart, RunsSession};
-ghost use Rattle.jk_server.specs.Worker.{forgot_desk, IsFit, keeps, took};
+ghost use Rattle.jk_server.specs.Worker.{forgot_desk, IsFit, took};
 
 use crate::part::{Post, WorkerEnd};
 use balancer_core::Desk;
@@ -77,9 +74,7 @@ fn end_after<L: SiteName, S: Shelf, W>(
     stop: SessionStop,
 ) -> Option<WorkerEnd<L>>
     requires { IsStray stop → IsSome desk.old.desk.met }
-    ensures { (from : SharedState S) → before.faults ≡ S.faults from.shelf → before.wants ≡ from.wants
-        → S.faults from.shelf ≤ S.faults desk.old.shelf → from.wants ≤ desk.old.wants
-        → DeskSettles S.faults from desk.old desk.new stop result }
+    ensures { SinceCounts S.faults before desk.old (λ from. DeskSettles S.faults from desk.old desk.new stop result) }
 {
     let now = counts(desk);
     if before.faults < now.faults {
@@ -105,9 +100,7 @@ fn end_by<L: SiteName, S: Shelf, W>(
     stop: SessionStop,
 ) -> Option<WorkerEnd<L>>
     requires { IsStray stop → IsSome desk.old.desk.met }
-    ensures { (from : SharedState S) → before.faults ≡ S.faults from.shelf → before.wants ≡ from.wants
-        → S.faults from.shelf ≤ S.faults desk.old.shelf → from.wants ≤ desk.old.wants
-        → SettlesBy broken S.faults from desk.old desk.new stop result }
+    ensures { SinceCounts S.faults before desk.old (λ from. SettlesBy broken S.faults from desk.old desk.new stop result) }
 {
     match broken {
         None => end_after(desk, before, stop),
@@ -128,9 +121,8 @@ fn close_client<L: SiteName, D: Door, R, K, S: Shelf, W, Y: WorkerLog>(
     ensures left { D.left part.new.door ≡ appended (D.left part.old.door) (link ∷ []) }
     ensures same_door { (D.coming part.new.door ≡ D.coming part.old.door) × (D.faults part.new.door ≡ D.faults part.old.door) }
     ensures same { (part.new.reach ≡ part.old.reach) × (part.new.clock ≡ part.old.clock) × (part.new.log ≡ part.old.log) }
-    ensures settled { (from : SharedState S) → before.faults ≡ S.faults from.shelf → before.wants ≡ from.wants
-        → S.faults from.shelf ≤ S.faults part.old.desk.shelf → from.wants ≤ part.old.desk.wants
-        → SettlesBy (Y.broken_by part.old.log) S.faults from part.old.desk part.new.desk stop result }
+    ensures settled { SinceCounts S.faults before part.old.desk (λ from.
+        SettlesBy (Y.broken_by part.old.log) S.faults from part.old.desk part.new.desk stop result) }
 {
     part.door.leave(link);
     end_by(part.log.broken(), &mut part.desk, before, stop)
@@ -146,29 +138,30 @@ struct Visit<'a, 'i> {
 
 /// One session over what it is lent, which stays the caller's own.
 fn serve_around<'a, 'b, 'c, 'd, B: Desk, R: Reach, C: Link, K: Clock, Y: RowSink>(
-    visit: Visit<'_, '_>,
+    of: Visit<'_, '_>,
     around: &mut Surroundings<'a, 'b, 'c, 'd, B, K, R, C>,
     rows: &mut Y,
 ) -> SessionEnd
 where
     B::Mark: Drop,
     B::Shown: Drop,
-    requires ready { IsReady (visit_of visit.site) (B.state around.old.desk.now) (R.beside around.old.reach.now) }
-    ensures session { IsWholeSession B.state K.answers R.Meanings C.Meanings (visit_of visit.entry.site) around.old around.new
+    requires ready { IsReady (visit_of of.site) (B.state around.old.desk.now) (R.beside around.old.reach.now) }
+    ensures session { IsWholeSession B.state K.answers R.Meanings C.Meanings (visit_of of.entry.site) around.old around.new
         (λ gained. Y.gained rows.old gained rows.new) result }
-    ensures each { HoldsOfEach (visit_of visit.entry.site) result }
+    ensures each { HoldsOfEach (visit_of of.entry.site) result }
     ensures idle_only { result.stop ≡ SessionStop.Closed why.Idle → C.may_wait ≡ true }
     ensures same_desk { around.new.desk.ghost_name ≡ around.old.desk.ghost_name }
     ensures same_clock { around.new.clock.ghost_name ≡ around.old.clock.ghost_name }
     ensures same_reach { around.new.reach.ghost_name ≡ around.old.reach.ghost_name }
     ensures same_client { around.new.client.ghost_name ≡ around.old.client.ghost_name }
 {
-    serve_session_in(visit.alloc, &visit.site, visit.inbox, around, rows)
+    let Visit { alloc, site, inbox } = of;
+    serve_session_in(alloc, &site, inbox, around, rows)
 }
 
 /// One session, by each of the things that it is lent.
 fn serve_visit<B: Desk, R: Reach, C: Link, K: Clock, Y: RowSink>(
-    visit: Visit<'_, '_>,
+    of: Visit<'_, '_>,
     desk: &mut B,
     clock: &mut K,
     reach: &mut R,
@@ -178,17 +171,16 @@ fn serve_visit<B: Desk, R: Reach, C: Link, K: Clock, Y: RowSink>(
 where
     B::Mark: Drop,
     B::Shown: Drop,
-    requires ready { IsReady (visit_of visit.site) (B.state desk.old) (R.beside reach.old) }
-    ensures session { let at = standing B.state K.answers R.Meanings C.Meanings in
-        Serves (visit_of visit.entry.site) (at desk.old clock.old reach.old client.old) (at desk.new clock.new reach.new client.new)
-        (λ gained. Y.gained rows.old gained rows.new) result }
-    ensures parts { let at = standing B.state K.answers R.Meanings C.Meanings in
-        HasParts (visit_of visit.entry.site) (at desk.old clock.old reach.old client.old []) (at desk.new clock.new reach.new client.new []) result }
-    ensures each { HoldsOfEach (visit_of visit.entry.site) result }
+    requires ready { IsReady (visit_of of.site) (B.state desk.old) (R.beside reach.old) }
+    ensures ran { ServesOver B.state K.Clock R.Meanings C.Meanings Y.RowSink of.entry
+        desk.old clock.old reach.old client.old rows.old desk.new clock.new reach.new client.new rows.new result }
+    ensures parts { HasPartsOver B.state K.Clock R.Meanings C.Meanings of.entry
+        desk.old clock.old reach.old client.old desk.new clock.new reach.new client.new result }
+    ensures each { HoldsOfEach (visit_of of.entry.site) result }
     ensures fault { RisesBy result.stop (C.faults client.old) (C.faults client.new) }
     ensures met { MeetsBy result.stop (B.state desk.old) (B.state desk.new) }
-    ensures kept { KeepsTickets (visit_of visit.entry.site).session (B.state desk.old) (B.state desk.new) }
-    ensures ready { IsReady (visit_of visit.entry.site) (B.state desk.new) (R.beside reach.new) }
+    ensures kept { KeepsTickets (visit_of of.entry.site).session (B.state desk.old) (B.state desk.new) }
+    ensures ready { IsReady (visit_of of.entry.site) (B.state desk.new) (R.beside reach.new) }
     ensures idle_only { result.stop ≡ SessionStop.Closed why.Idle → C.may_wait ≡ true }
 {
     let mut around = Surroundings {
@@ -197,13 +189,13 @@ where
         reach,
         client,
     };
-    serve_around(visit, &mut around, rows)
+    serve_around(of, &mut around, rows)
 }
 
 /// As `serve_visit`, by a desk that is lent since the moment M and put back.
 #[tactic(auto, using(crate::proofs::ToldLaws::lent_now, crate::proofs::ToldLaws::lent_shelf))]
 fn serve_lent<B: SeatedDesk, R: Reach, C: Link, K: Clock, Y: RowSink, M: Moment>(
-    visit: Visit<'_, '_>,
+    of: Visit<'_, '_>,
     loan: &mut DeskLoan<'_, B>,
     clock: &mut K,
     reach: &mut R,
@@ -218,19 +210,18 @@ where
     requires seat { seat_in B.seat loan.old.desk ≡ M.seat }
     requires receipts { (state_in B.state loan.old.desk).receipts ≡ M.receipts }
     requires shelf { shelf_in B.shelf loan.old.desk ≡ M.shelf }
-    requires ready { IsReady (visit_of visit.site) (state_in B.state loan.old.desk) (R.beside reach.old) }
+    requires ready { IsReady (visit_of of.site) (state_in B.state loan.old.desk) (R.beside reach.old) }
     ensures there { IsSome loan.new.desk }
     ensures same { name_in loan.new.desk ≡ name_in loan.old.desk }
-    ensures session { let at = standing (state_in B.state) K.answers R.Meanings C.Meanings in
-        Serves (visit_of visit.entry.site) (at loan.old.desk clock.old reach.old client.old) (at loan.new.desk clock.new reach.new client.new)
-        (λ gained. Y.gained rows.old gained rows.new) result }
-    ensures parts { let at = standing (state_in B.state) K.answers R.Meanings C.Meanings in
-        HasParts (visit_of visit.entry.site) (at loan.old.desk clock.old reach.old client.old []) (at loan.new.desk clock.new reach.new client.new []) result }
-    ensures each { HoldsOfEach (visit_of visit.entry.site) result }
+    ensures ran { ServesOver (loaned B.state) K.Clock R.Meanings C.Meanings Y.RowSink of.entry
+        loan.old clock.old reach.old client.old rows.old loan.new clock.new reach.new client.new rows.new result }
+    ensures parts { HasPartsOver (loaned B.state) K.Clock R.Meanings C.Meanings of.entry
+        loan.old clock.old reach.old client.old loan.new clock.new reach.new client.new result }
+    ensures each { HoldsOfEach (visit_of of.entry.site) result }
     ensures fault { RisesBy result.stop (C.faults client.old) (C.faults client.new) }
     ensures met { MeetsBy result.stop (state_in B.state loan.old.desk) (state_in B.state loan.new.desk) }
-    ensures kept { KeepsTickets (visit_of visit.entry.site).session (state_in B.state loan.old.desk) (state_in B.state loan.new.desk) }
-    ensures ready { IsReady (visit_of visit.entry.site) (state_in B.state loan.new.desk) (R.beside reach.new) }
+    ensures kept { KeepsTickets (visit_of of.entry.site).session (state_in B.state loan.old.desk) (state_in B.state loan.new.desk) }
+    ensures ready { IsReady (visit_of of.entry.site) (state_in B.state loan.new.desk) (R.beside reach.new) }
     ensures idle_only { result.stop ≡ SessionStop.Closed why.Idle → C.may_wait ≡ true }
     ensures gone { HasGone M.seat M.receipts (seat_in B.seat loan.new.desk) (state_in B.state loan.new.desk).receipts }
     ensures shelf { HasShelved M.shelf (shelf_in B.shelf loan.new.desk) }
@@ -240,7 +231,7 @@ where
         desk,
         of: PhantomData,
     };
-    let end = serve_visit(visit, &mut lent, clock, reach, client, rows);
+    let end = serve_visit(of, &mut lent, clock, reach, client, rows);
     let LentDesk { desk, of: _ } = lent;
     loan.desk = Some(desk);
     end
@@ -249,7 +240,7 @@ where
 /// As `serve_visit`, by a desk at a lock, which is known to stay there, and to have seen as its own what the session was told; its
 /// shelf was only added to.
 fn serve_seated<B: SeatedDesk, R: Reach, C: Link, K: Clock, Y: RowSink>(
-    visit: Visit<'_, '_>,
+    of: Visit<'_, '_>,
     desk: &mut B,
     clock: &mut K,
     reach: &mut R,
@@ -259,23 +250,22 @@ fn serve_seated<B: SeatedDesk, R: Reach, C: Link, K: Clock, Y: RowSink>(
 where
     B::Mark: Drop,
     B::Shown: Drop,
-    requires ready { IsReady (visit_of visit.site) (B.state desk.old) (R.beside reach.old) }
-    ensures session { let at = standing B.state K.answers R.Meanings C.Meanings in
-        Serves (visit_of visit.entry.site) (at desk.old clock.old reach.old client.old) (at desk.new clock.new reach.new client.new)
-        (λ gained. Y.gained rows.old gained rows.new) result }
-    ensures parts { let at = standing B.state K.answers R.Meanings C.Meanings in
-        HasParts (visit_of visit.entry.site) (at desk.old clock.old reach.old client.old []) (at desk.new clock.new reach.new client.new []) result }
-    ensures each { HoldsOfEach (visit_of visit.entry.site) result }
+    requires ready { IsReady (visit_of of.site) (B.state desk.old) (R.beside reach.old) }
+    ensures ran { ServesOver B.state K.Clock R.Meanings C.Meanings Y.RowSink of.entry
+        desk.old clock.old reach.old client.old rows.old desk.new clock.new reach.new client.new rows.new result }
+    ensures parts { HasPartsOver B.state K.Clock R.Meanings C.Meanings of.entry
+        desk.old clock.old reach.old client.old desk.new clock.new reach.new client.new result }
+    ensures each { HoldsOfEach (visit_of of.entry.site) result }
     ensures fault { RisesBy result.stop (C.faults client.old) (C.faults client.new) }
     ensures met { MeetsBy result.stop (B.state desk.old) (B.state desk.new) }
-    ensures kept { KeepsTickets (visit_of visit.entry.site).session (B.state desk.old) (B.state desk.new) }
-    ensures ready { IsReady (visit_of visit.entry.site) (B.state desk.new) (R.beside reach.new) }
+    ensures kept { KeepsTickets (visit_of of.entry.site).session (B.state desk.old) (B.state desk.new) }
+    ensures ready { IsReady (visit_of of.entry.site) (B.state desk.new) (R.beside reach.new) }
     ensures idle_only { result.stop ≡ SessionStop.Closed why.Idle → C.may_wait ≡ true }
     ensures gone { HasGone (B.seat desk.old) (B.state desk.old).receipts (B.seat desk.new) (B.state desk.new).receipts }
     ensures shelf { HasShelved (B.shelf desk.old) (B.shelf desk.new) }
 {
     let mut loan = DeskLoan { desk: Some(desk) };
-    let end = serve_lent::<B, R, C, K, Y, Brand>(visit, &mut loan, clock, reach, client, rows);
+    let end = serve_lent::<B, R, C, K, Y, Brand>(of, &mut loan, clock, reach, client, rows);
     let _back = loan.desk.unwrap();
     end
 }
@@ -290,9 +280,8 @@ fn serve_link<'x, L: SiteName, D: Door, R: Reach, K: Clock, S: Shelf, W: Wait, Y
     inbox: &mut Option<Inbox>,
 ) -> SessionEnd
     requires fit { IsFit post.cfg.now post.map.now part.old.desk.desk (R.beside part.old.reach) }
-    ensures { let told = part_tells D.coming D.left D.faults D.L.Meanings K.answers R.Meanings
-        (keeps S.shelved S.faults (log_tells Y.gained Y.greets Y.broken_by Y.log_faults) D.L.may_wait) in
-        RunsSession told post.entry part.old part.new link.old link.new peer.now result }
+    ensures { RunsSession (part_tells D.Door D.L.Meanings K.Clock R.Meanings S.Shelf (log_tells Y.gained Y.greets Y.broken_by Y.log_faults) D.L.may_wait)
+        post.entry part.old part.new link.old link.new peer.now result }
 {
     let visit = Visit {
         alloc,
@@ -327,9 +316,8 @@ fn serve_client<L: SiteName, D: Door, R: Reach, K: Clock, S: Shelf, W: Wait, Y: 
     requires fit { IsFit post.cfg.now post.map.now part.old.desk.desk (R.beside part.old.reach) }
     requires logged { Y.broken_by part.old.log ≡ None }
     requires room { 0 < D.room part.old.door }
-    ensures { let told = part_tells D.coming D.left D.faults D.L.Meanings K.answers R.Meanings
-        (keeps S.shelved S.faults (log_tells Y.gained Y.greets Y.broken_by Y.log_faults) D.L.may_wait) in
-        LeavesClient told post.entry part.old part.new link peer.now result }
+    ensures { LeavesClient (part_tells D.Door D.L.Meanings K.Clock R.Meanings S.Shelf (log_tells Y.gained Y.greets Y.broken_by Y.log_faults) D.L.may_wait)
+        post.entry part.old part.new link peer.now result }
 {
     let before = forget_last(&mut part.desk);
     part.log.greet(peer);
@@ -345,9 +333,8 @@ fn go_on<L: SiteName, D: Door, R: Reach, K: Clock, S: Shelf, W, Y: WorkerLog>(
 ) -> Option<WorkerEnd<L>>
     requires idle { (R.beside part.old.reach).runs ≡ false }
     requires none_held { part.old.desk.desk.held ≡ [] }
-    ensures { let told = part_tells D.coming D.left D.faults D.L.Meanings K.answers R.Meanings
-        (keeps S.shelved S.faults (log_tells Y.gained Y.greets Y.broken_by Y.log_faults) D.L.may_wait) in
-        RestsPart told part.old part.new result }
+    ensures { RestsPart (part_tells D.Door D.L.Meanings K.Clock R.Meanings S.Shelf (log_tells Y.gained Y.greets Y.broken_by Y.log_faults) D.L.may_wait)
+        part.old part.new result }
 {
     let now = part.clock.now();
     match part.reach.rest(alloc, now) {
@@ -368,9 +355,8 @@ pub(crate) fn serve_next<L: SiteName, D: Door, R: Reach, K: Clock, S: Shelf, W: 
     requires fit { IsFit post.cfg.now post.map.now part.old.desk.desk (R.beside part.old.reach) }
     requires logged { Y.broken_by part.old.log ≡ None }
     requires room { 0 < D.room part.old.door }
-    ensures { let told = part_tells D.coming D.left D.faults D.L.Meanings K.answers R.Meanings
-        (keeps S.shelved S.faults (log_tells Y.gained Y.greets Y.broken_by Y.log_faults) D.L.may_wait) in
-        NextsPart told post.entry part.old part.new link peer.now result }
+    ensures { NextsPart (part_tells D.Door D.L.Meanings K.Clock R.Meanings S.Shelf (log_tells Y.gained Y.greets Y.broken_by Y.log_faults) D.L.may_wait)
+        post.entry part.old part.new link peer.now result }
 {
     match serve_client(alloc, post, part, link, peer, inbox) {
         Some(end) => Some(end),

@@ -5,7 +5,7 @@ ghost use Rattle.gear_parts.specs.Logs.{log_tells};
 ghost use Rattle.jk_server.specs.Served.{ServesPart};
 ghost use Rattle.jk_server.specs.PartTells.{part_tells};
 ghost use Rattle.jk_server.specs.Turns.{TurnsPart};
-ghost use Rattle.jk_server.specs.Worker.{IsFit, keeps};
+ghost use Rattle.jk_server.specs.Worker.{IsFit};
 
 use crate::client::serve_next;
 use crate::part::{Post, WorkerEnd};
@@ -30,9 +30,8 @@ pub fn serve_part<L: SiteName, D: Door, R: Reach, K: Clock, S: Shelf, W: Wait, Y
 ) -> WorkerEnd<L>
     requires fit { IsFit cfg.now map.now part.old.desk.desk (R.beside part.old.reach) }
     requires logged { Y.broken_by part.old.log ≡ None }
-    ensures served { let told = part_tells D.coming D.left D.faults D.L.Meanings K.answers R.Meanings
-        (keeps S.shelved S.faults (log_tells Y.gained Y.greets Y.broken_by Y.log_faults) D.L.may_wait) in
-        ServesPart told (visit cfg.now map.now number) part.old part.new result }
+    ensures served { ServesPart (part_tells D.Door D.L.Meanings K.Clock R.Meanings S.Shelf (log_tells Y.gained Y.greets Y.broken_by Y.log_faults) D.L.may_wait)
+        (visit cfg.now map.now number) part.old part.new result }
     ensures fit { IsFit cfg.now map.now part.new.desk.desk (R.beside part.new.reach) }
     ensures parts { part.new.desk.desk.parts ≡ part.old.desk.desk.parts }
 {
@@ -59,9 +58,8 @@ fn serve_turn<L: SiteName, D: Door, R: Reach, K: Clock, S: Shelf, W: Wait, Y: Wo
 ) -> Option<WorkerEnd<L>>
     requires fit { IsFit post.cfg.now post.map.now part.old.desk.desk (R.beside part.old.reach) }
     requires logged { Y.broken_by part.old.log ≡ None }
-    ensures { let told = part_tells D.coming D.left D.faults D.L.Meanings K.answers R.Meanings
-        (keeps S.shelved S.faults (log_tells Y.gained Y.greets Y.broken_by Y.log_faults) D.L.may_wait) in
-        TurnsPart told post.entry part.old part.new sessions result }
+    ensures { TurnsPart (part_tells D.Door D.L.Meanings K.Clock R.Meanings S.Shelf (log_tells Y.gained Y.greets Y.broken_by Y.log_faults) D.L.may_wait)
+        post.entry part.old part.new sessions result }
 {
     match next_client(alloc, &mut part.door) {
         Arrival::Client { link, peer } => serve_next(alloc, post, part, link, &peer, inbox),

@@ -5,7 +5,7 @@ ghost use Rattle.gear_parts.specs.Logs.{log_tells};
 ghost use Rattle.jk_server.specs.Parts.{AllFour, AreServedParts, InEach, LeavesPart};
 ghost use Rattle.jk_server.specs.PartTells.{part_tells};
 ghost use Rattle.jk_server.specs.Rooms.{HasRoom, HasSpace, PutsLeft, parts_in};
-ghost use Rattle.jk_server.specs.Worker.{MayBegin, keeps};
+ghost use Rattle.jk_server.specs.Worker.{MayBegin};
 
 use crate::part::{ServeEnd, WorkerEnd};
 use crate::serving::serve_part;
@@ -67,9 +67,8 @@ where
     D::L: Send,
     requires few { vec_len parts ≤ MAX_WORKERS }
     requires ready { All (λ p. MayBegin cfg.now map.now p.desk.desk (R.beside p.reach) (Y.broken_by p.log)) parts.items }
-    ensures served { let told = part_tells D.coming D.left D.faults D.L.Meanings K.answers R.Meanings
-        (keeps S.shelved S.faults (log_tells Y.gained Y.greets Y.broken_by Y.log_faults) D.L.may_wait) in
-        IfOk result (AreServedParts told cfg.now map.now parts.entry.items) }
+    ensures served { IfOk result (AreServedParts (part_tells D.Door D.L.Meanings K.Clock R.Meanings S.Shelf (log_tells Y.gained Y.greets Y.broken_by Y.log_faults) D.L.may_wait)
+        cfg.now map.now parts.entry.items) }
 {
     let _site = site;
     match room_of(alloc, parts) {
@@ -143,9 +142,8 @@ where
     requires few { length room.slots.items ≤ MAX_WORKERS }
     requires ready { All (λ s. MayBegin cfg.now map.now s.part.desk.desk (R.beside s.part.reach) (Y.broken_by s.part.log)) room.slots.items }
     requires room { HasRoom (length room.slots.items) room.emptied }
-    ensures served { let told = part_tells D.coming D.left D.faults D.L.Meanings K.answers R.Meanings
-        (keeps S.shelved S.faults (log_tells Y.gained Y.greets Y.broken_by Y.log_faults) D.L.may_wait) in
-        AreServedParts told cfg.now map.now (parts_in room.entry.slots.items) result }
+    ensures served { AreServedParts (part_tells D.Door D.L.Meanings K.Clock R.Meanings S.Shelf (log_tells Y.gained Y.greets Y.broken_by Y.log_faults) D.L.may_wait)
+        cfg.now map.now (parts_in room.entry.slots.items) result }
 {
     let crew = Crew {
         rt,
@@ -223,13 +221,12 @@ impl<'a, 's, 'r, L: SiteName, D: Door, R: Reach, K: Clock, S: Shelf, W: Wait, Y:
     ghost use Rattle.jk_server.specs.declared.workers.TheConstants.{MAX_WORKERS};
     ghost use Rattle.jk_server.specs.Parts.{WorksPart};
     ghost use Rattle.jk_server.specs.PartTells.{part_tells};
-    ghost use Rattle.jk_server.specs.Worker.{MayBegin, keeps};
+    ghost use Rattle.jk_server.specs.Worker.{MayBegin};
 
     ghost may = { λ crew number slot. (number < MAX_WORKERS)
         × MayBegin crew.cfg.now crew.map.now slot.part.desk.desk (R.beside slot.part.reach) (Y.broken_by slot.part.log) };
 
-    ghost did = { λ crew number a b. let told = part_tells D.coming D.left D.faults D.L.Meanings K.answers R.Meanings
-        (keeps S.shelved S.faults (log_tells Y.gained Y.greets Y.broken_by Y.log_faults) D.L.may_wait) in
+    ghost did = { λ crew number a b. let told = part_tells D.Door D.L.Meanings K.Clock R.Meanings S.Shelf (log_tells Y.gained Y.greets Y.broken_by Y.log_faults) D.L.may_wait in
         WorksPart told crew.cfg.now crew.map.now number a.part b.part b.end };
 
     fn work(&self, number: usize, slot: &mut Slot<Part<'s, 'r, L, D, R, K, S, W, Y>, L>) {

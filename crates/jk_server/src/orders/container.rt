@@ -2,10 +2,9 @@
 ghost use Rattle.std.specs.Prelude.{◌≡◌, ◌≤◌, length, None};
 ghost use Rattle.jk_server.specs.declared.orders.container.TheConstants.{MOST_ROUTE_BYTES};
 ghost use Rattle.jk_server.specs.Commands.{ContainsAsked, WorksContainer};
-ghost use Rattle.gear_parts.specs.Worlds.{tells};
 
 use crate::orders::ends::{CommandEnd, NO_MEMORY, end_by, end_of_container};
-use gear_parts::{ContainerRun, GearOrder, World, contain_gears, give_back, take_gears};
+use gear_parts::{ContainerRun, GearOrder, ToldWorld, World, contain_gears, give_back, take_gears};
 use jk_io::{Bytes, Door, NoMemory};
 use mini_container::AppConfig;
 use std::alloc::Global;
@@ -40,7 +39,7 @@ fn contain_links<W: World, R: Threads + Wait + Sync>(
 where
     <W::D as Door>::L: Send,
     requires none { (order.now.asked.journal ≡ None) × (order.now.asked.cfg ≡ None) }
-    ensures { WorksContainer (tells W.World W.D.Door W.T.Tape W.K.Clock W.D.L.Meanings W.S.Shelf W.O.Meanings W.D.L.may_wait)
+    ensures { WorksContainer ⟦<W as ToldWorld>⟧.told
         app.now order.now.threads order.now.asked world.old world.new result }
 {
     let gears = match take_gears(alloc, world, order.threads, &order.asked) {
@@ -70,7 +69,7 @@ where
     <W::D as Door>::L: Send,
     requires none { (order.asked.journal ≡ None) × (order.asked.cfg ≡ None) }
     requires short { length order.route.now ≤ MOST_ROUTE_BYTES }
-    ensures contains { ContainsAsked (tells W.World W.D.Door W.T.Tape W.K.Clock W.D.L.Meanings W.S.Shelf W.O.Meanings W.D.L.may_wait)
+    ensures contains { ContainsAsked ⟦<W as ToldWorld>⟧.told
         order.entry world.old world.new result }
 {
     match order.route.copy() {

@@ -6,14 +6,14 @@ ghost use Rattle.request_log.specs.Formats.{refusal_line as line_of_refusal};
 ghost use Rattle.jk_server.specs.Commands.{cut_at, format_text as text_of_format, telling, ServesFormatted, ServesOrder, WorksSite, WritesLine};
 ghost use Rattle.jk_server.specs.Ends.{end_of_run, returned};
 ghost use Rattle.jk_server.specs.Watches.{watch_plan};
-ghost use Rattle.gear_parts.specs.Worlds.{HandsAndTakes, tells, world_side};
+ghost use Rattle.gear_parts.specs.Worlds.{HandsAndTakes, world_side};
 ghost use Rattle.jk_server.specs.declared.workers.TheConstants.{MAX_WORKERS};
 
 use crate::orders::ends::{CommandEnd, NO_MEMORY, OUTPUT_FAULT, REFUSED, end_by, end_of_run};
 use crate::runs::ends::{Closing, SiteRun};
 use crate::runs::parts::{SitePlan, WatchPlan};
 use crate::runs::serve::serve_gears;
-use gear_parts::{GearOf, GearOrder, World, give_back, log_gears, take_gears};
+use gear_parts::{GearOf, GearOrder, ToldWorld, World, give_back, log_gears, take_gears};
 use jk_io::{Bytes, Door, Files, IoError, NoMemory, Sink, write_all};
 use request_log::{Format, FormatError, read_format, refusal_line};
 use site_reports::{Judged, ReadSite, read_site};
@@ -133,8 +133,8 @@ fn serve_site<W: World, R: Threads + Wait + Sync>(
 where
     <W::D as Door>::L: Send,
     requires threads { (1 ≤ of.now.order.threads) × (of.now.order.threads ≤ MAX_WORKERS) }
-    ensures { WorksSite (tells W.World W.D.Door W.T.Tape W.K.Clock W.D.L.Meanings W.S.Shelf W.O.Meanings W.D.L.may_wait)
-        site.now of.now.format.now of.now.order.threads of.now.order.asked world.old world.new result }
+    ensures { WorksSite ⟦<W as ToldWorld>⟧.told
+        site.now of.now world.old world.new result }
 {
     let order = of.order;
     let asked = order.asked.over(&site.cfg);
@@ -171,7 +171,7 @@ fn serve_files<F: Files, O: Sink, W: World, R: Threads + Wait + Sync>(
 where
     <W::D as Door>::L: Send,
     requires threads { (1 ≤ of.order.threads) × (of.order.threads ≤ MAX_WORKERS) }
-    ensures serves { ServesFormatted (telling F.Files O.Meanings W.World W.D.Door W.T.Tape W.K.Clock W.D.L.Meanings W.S.Shelf W.O.Meanings W.D.L.may_wait)
+    ensures serves { ServesFormatted (telling F.Files O.Meanings ⟦<W as ToldWorld>⟧.told)
         of.entry (files.old, out.old, world.old) (files.new, out.new, world.new) result }
 {
     match read_site(alloc, files, of.order.workers, of.order.map) {
@@ -193,7 +193,7 @@ pub fn serve<F: Files, O: Sink, W: World, R: Threads + Wait + Sync>(
 where
     <W::D as Door>::L: Send,
     requires threads { (1 ≤ order.threads) × (order.threads ≤ MAX_WORKERS) }
-    ensures serves { ServesOrder (telling F.Files O.Meanings W.World W.D.Door W.T.Tape W.K.Clock W.D.L.Meanings W.S.Shelf W.O.Meanings W.D.L.may_wait)
+    ensures serves { ServesOrder (telling F.Files O.Meanings ⟦<W as ToldWorld>⟧.told)
         order.entry (files.old, out.old, world.old) (files.new, out.new, world.new) result }
 {
     match read_format(alloc, format_text(order.format)) {

@@ -1,12 +1,9 @@
 //! The closing of a connector's run. The desks are closed, and what the journals still keep goes to the first shelf.
-ghost use Rattle.std.specs.Prelude.{◌≡◌, ◌<◌, ◌≤◌, ℕ, [], List, length, map, sum_by, vec_capacity, vec_len};
+ghost use Rattle.std.specs.Prelude.{◌≡◌, ◌<◌, ◌≤◌, [], length, map, sum_by, vec_capacity, vec_len};
 ghost use Rattle.std.specs.List.{All};
-ghost use Rattle.jk_model.specs.declared.opening.Opening.{Opening};
-ghost use Rattle.locked_balancer.specs.Histories.{SeatNote};
 ghost use Rattle.locked_balancer.specs.Locks.{lock_of};
 ghost use Rattle.jk_model.specs.declared.config.TheConstants.{MAX_BALANCERS};
-ghost use Rattle.gear_parts.specs.GearParts.{tools_of};
-ghost use Rattle.jk_server.specs.Shelved.{AreClosed, EndsSo};
+ghost use Rattle.jk_server.specs.Shelved.{EndsByBooks, EndsSo};
 
 use crate::runs::ends::{Closing, SiteRun};
 use crate::runs::ran::Ran;
@@ -32,7 +29,7 @@ pub(crate) fn settle<
     requires whole { sum_by (λ l. l.share.parts) ran.leaving ≡ L.parts }
     requires here { All (λ l. l.seat.lock ≡ lock_of site) ran.leaving }
     ensures workers { result.workers ≡ ran.workers }
-    ensures closed { EndsSo S.shelved S.faults L.sizes L.firsts L.starts (map (λ l. l.seat) ran.leaving) (tools_of ran.left.items) (map (λ l. l.shelf) ran.leaving)
+    ensures closed { EndsSo S.shelved S.faults L.sizes L.firsts L.starts (map (λ l. l.seat) ran.leaving) ran.left.items (map (λ l. l.shelf) ran.leaving)
         result.gears.items result.closing }
 {
     let Ran {
@@ -73,7 +70,7 @@ fn close_gears<
     requires none { gears.old.items ≡ [] }
     requires paired { vec_len left ≡ length leaving }
     requires room { vec_len left ≤ vec_capacity gears.old }
-    ensures { EndsSo S.shelved S.faults L.sizes L.firsts L.starts (map (λ l. l.seat) leaving) (tools_of left.items) (map (λ l. l.shelf) leaving)
+    ensures { EndsSo S.shelved S.faults L.sizes L.firsts L.starts (map (λ l. l.seat) leaving) left.items (map (λ l. l.shelf) leaving)
         gears.new.items result }
 {
     match close_own_desks(site, leaving) {
@@ -94,8 +91,7 @@ fn close_books<L, D: Drop, G: Drop, T: Drop, K: Drop, S: Shelf + Drop, O: Drop>(
     requires none { gears.old.items ≡ [] }
     requires paired { vec_len left ≡ length closed.shelves }
     requires room { vec_len left ≤ vec_capacity gears.old }
-    ensures { (sizes firsts : List ℕ) (starts : List Opening) (seats : List SeatNote) → AreClosed sizes firsts starts seats closed.books
-        → EndsSo S.shelved S.faults sizes firsts starts seats (tools_of left.items) closed.shelves gears.new.items result }
+    ensures { EndsByBooks S.shelved S.faults closed.books left.items closed.shelves gears.new.items result }
 {
     let Closed {
         books,

@@ -6,11 +6,11 @@ ghost use Rattle.conn_pool.specs.Reaches.{beside_of};
 ghost use Rattle.exchange.specs.Requests.{sizes_of};
 ghost use Rattle.locked_balancer.specs.Locks.{lock_of};
 ghost use Rattle.uri_map.specs.Sites.{stands_in};
-ghost use Rattle.gear_parts.specs.GearLogs.{broken_by, sink_of};
-ghost use Rattle.gear_parts.specs.GearParts.{tools, tools_of};
+ghost use Rattle.gear_parts.specs.GearLogs.{broken_by};
+ghost use Rattle.gear_parts.specs.GearParts.{left_from};
 ghost use Rattle.gear_parts.specs.Memories.{HasAfter};
 ghost use Rattle.jk_server.specs.ServedGears.{IsRunOf, LeavesParts, RunsParts};
-ghost use Rattle.jk_server.specs.RunTells.{logging, run_tells};
+ghost use Rattle.jk_server.specs.RunTells.{run_tells};
 ghost use Rattle.jk_server.specs.Worker.{MayBegin};
 
 use crate::part::ServeEnd;
@@ -80,9 +80,8 @@ where
     requires desk_sizes { L.sizes ≡ sizes_of plan.cfg.now.lbs }
     requires pool_sizes { counts common.now.pools.now ≡ sizes_of plan.cfg.now.lbs }
     requires format { common.now.format.now ≡ plan.format.now }
-    ensures { let told = run_tells D.coming D.left D.faults T.talks K.answers D.L.Meanings S.shelved
-        (logging S.shelved S.faults O.Meanings D.L.may_wait) in
-        IfOk result (IsRunOf told plan.entry.cfg.now plan.entry.map.now plan.entry.format.now (lock_of common.now.site.now) gears.items) }
+    ensures { let told = run_tells D.Door T.Tape K.Clock D.L.Meanings S.Shelf O.Meanings D.L.may_wait in
+        IfOk result (IsRunOf told plan.entry (lock_of common.now.site.now) gears.items) }
 {
     match parts_for(alloc, common, share, gears) {
         Ok(memory) => work_in(rt, alloc, plan, common.site, memory),
@@ -118,9 +117,8 @@ where
     requires few { vec_len memory.parts ≤ MAX_WORKERS }
     requires ready { All (λ p. MayBegin plan.cfg.now plan.map.now p.desk.desk (beside_of T.begun T.talks p.reach.pooled) (broken_by p.log)) memory.parts.items }
     requires after { HasAfter (vec_len memory.parts) memory.after }
-    ensures { let told = run_tells D.coming D.left D.faults T.talks K.answers D.L.Meanings S.shelved
-        (logging S.shelved S.faults O.Meanings D.L.may_wait) in
-        IfOk result (RunsParts told plan.entry.cfg.now plan.entry.map.now plan.entry.format.now memory.entry.parts.items) }
+    ensures { let told = run_tells D.Door T.Tape K.Clock D.L.Meanings S.Shelf O.Meanings D.L.may_wait in
+        IfOk result (RunsParts told plan.entry memory.entry.parts.items) }
 {
     let Memory { parts, after } = memory;
     match serve_all(rt, alloc, plan, site, parts) {
@@ -152,9 +150,8 @@ where
     D::L: Send,
     requires few { vec_len parts ≤ MAX_WORKERS }
     requires ready { All (λ p. MayBegin plan.cfg.now plan.map.now p.desk.desk (beside_of T.begun T.talks p.reach.pooled) (broken_by p.log)) parts.items }
-    ensures { let told = run_tells D.coming D.left D.faults T.talks K.answers D.L.Meanings S.shelved
-        (logging S.shelved S.faults O.Meanings D.L.may_wait) in
-        IfOk result (LeavesParts told plan.entry.cfg.now plan.entry.map.now plan.entry.format.now parts.entry.items) }
+    ensures { let told = run_tells D.Door T.Tape K.Clock D.L.Meanings S.Shelf O.Meanings D.L.may_wait in
+        IfOk result (LeavesParts told plan.entry parts.entry.items) }
 {
     run_serve(rt, alloc, plan.cfg, plan.map, site, parts)
 }
@@ -180,7 +177,7 @@ fn ran_of<
     requires idle { All (λ o. is_some o.reach.pooled.lent ≡ false) end.outside }
     ensures workers { result.workers ≡ end.entry.workers }
     ensures leaving { result.leaving ≡ end.entry.leaving }
-    ensures tools { tools_of result.left.items ≡ map (λ o. tools o.door o.reach.pooled.dial o.reach.pooled.tape o.clock (sink_of o.log)) end.entry.outside }
+    ensures left { result.left.items ≡ map left_from end.entry.outside }
 {
     let ServeEnd {
         workers,

@@ -6,7 +6,7 @@ ghost use Rattle.uri_map.specs.Sites.{stands_in};
 ghost use Rattle.jk_server.specs.Runs.{RunsGears};
 ghost use Rattle.site_reports.specs.Starts.{AreStarts};
 ghost use Rattle.jk_server.specs.Started.{IsNewSite, IsReady, RunsStarted, pool_table};
-ghost use Rattle.jk_server.specs.RunTells.{logging, run_tells};
+ghost use Rattle.jk_server.specs.RunTells.{run_tells};
 ghost use Rattle.jk_server.specs.Watches.{watch_at};
 
 use crate::runs::closing::settle;
@@ -52,9 +52,8 @@ where
     requires few { vec_len gears ≤ MAX_WORKERS }
     requires stands { stands_in plan.cfg.now plan.map.now ≡ true }
     requires idle { All (λ g. T.is_idle g.tape) gears.items }
-    ensures ran { let told = run_tells D.coming D.left D.faults T.talks K.answers D.L.Meanings S.shelved
-        (logging S.shelved S.faults O.Meanings D.L.may_wait) in
-        IfOk result (RunsGears told plan.entry.cfg.now plan.entry.map.now plan.entry.format.now gears.items) }
+    ensures ran { let told = run_tells D.Door T.Tape K.Clock D.L.Meanings S.Shelf O.Meanings D.L.may_wait in
+        IfOk result (RunsGears told plan.entry gears.items) }
 {
     let mut gears = gears;
     let at = first_moment(&mut gears);
@@ -144,9 +143,8 @@ where
     D::L: Send,
     requires new { IsNewSite L.name L.parts L.starts L.sizes L.firsts L.cut_at plan.cut plan.cfg.now.lbs new }
     requires ready { IsReady T.is_idle L.parts plan.cfg.now plan.map.now (vec_len gears) gears.items }
-    ensures ran { let told = run_tells D.coming D.left D.faults T.talks K.answers D.L.Meanings S.shelved
-        (logging S.shelved S.faults O.Meanings D.L.may_wait) in
-        IfOk result (RunsStarted told plan.entry.cfg.now plan.entry.map.now plan.entry.format.now gears.items) }
+    ensures ran { let told = run_tells D.Door T.Tape K.Clock D.L.Meanings S.Shelf O.Meanings D.L.may_wait in
+        IfOk result (RunsStarted told plan.entry gears.items) }
 {
     match pools_for(rt, alloc, plan.cfg) {
         Ok(pools) => over_pools(rt, alloc, plan, new, gears, &pools),
@@ -178,9 +176,8 @@ where
     requires pool_sizes { pools.now ≡ pool_table plan.cfg.now.lbs }
     requires new { IsNewSite L.name L.parts L.starts L.sizes L.firsts L.cut_at plan.cut plan.cfg.now.lbs new }
     requires ready { IsReady T.is_idle L.parts plan.cfg.now plan.map.now (vec_len gears) gears.items }
-    ensures ran { let told = run_tells D.coming D.left D.faults T.talks K.answers D.L.Meanings S.shelved
-        (logging S.shelved S.faults O.Meanings D.L.may_wait) in
-        IfOk result (RunsStarted told plan.entry.cfg.now plan.entry.map.now plan.entry.format.now gears.items) }
+    ensures ran { let told = run_tells D.Door T.Tape K.Clock D.L.Meanings S.Shelf O.Meanings D.L.may_wait in
+        IfOk result (RunsStarted told plan.entry gears.items) }
 {
     let watch = new.watch;
     let (shared, share) = shared_site::<L, R>(rt, alloc, plan, new)?;

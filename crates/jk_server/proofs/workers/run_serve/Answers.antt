@@ -1,8 +1,8 @@
 use Rattle.std.proofs.Common.{subst}
-use Rattle.jk_server.specs.Parts.{AreServedParts}
 use Rattle.gear_parts.specs.Logs.{log_tells}
+use Rattle.jk_server.specs.Parts.{AreServedParts}
 use Rattle.jk_server.specs.PartTells.{part_tells}
-use Rattle.jk_server.specs.Worker.{keeps, MayBegin}
+use Rattle.jk_server.specs.Worker.{MayBegin}
 use Rattle.gear_parts.specs.declared.part.Part.{Part}
 use Rattle.jk_server.specs.declared.workers.Slot.{Slot}
 use Rattle.jk_server.proofs.SlotLaws.{all_of_parts, as_few}
@@ -22,6 +22,5 @@ serve_in-requires-clause-room g c = λ κs within. c.in-Ok.ensures.room
 
 pub returns-in-Ok : goal.returns-in-Ok
 returns-in-Ok g c =
-    let told = part_tells g.D.Door.coming g.D.Door.left g.D.Door.faults g.D.L.Meanings g.K.Clock.answers g.R.Meanings
-    (keeps g.S.Shelf.shelved g.S.Shelf.faults (log_tells g.Y.RowSink.gained g.Y.WorkerLog.greets g.Y.WorkerLog.broken_by g.Y.WorkerLog.log_faults) g.D.L.Link.may_wait) in
+    let told = part_tells g.D.Door g.D.L.Meanings g.K.Clock g.R.Meanings g.S.Shelf (log_tells g.Y.RowSink.gained g.Y.WorkerLog.greets g.Y.WorkerLog.broken_by g.Y.WorkerLog.log_faults) g.D.L.Link.may_wait in
     record { served = subst (λ ps. AreServedParts told c.args.cfg.now c.args.map.now ps c.serve_in.result) c.in-Ok.ensures.filled c.serve_in.ensures.served }

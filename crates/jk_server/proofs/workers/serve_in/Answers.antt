@@ -1,8 +1,8 @@
-use Rattle.jk_server.specs.Parts.{WorksPart}
 use Rattle.gear_parts.specs.Logs.{log_tells}
+use Rattle.jk_server.specs.Parts.{WorksPart}
 use Rattle.jk_server.specs.PartTells.{part_tells}
 use Rattle.jk_server.specs.Rooms.{HasRoom}
-use Rattle.jk_server.specs.Worker.{keeps, MayBegin}
+use Rattle.jk_server.specs.Worker.{MayBegin}
 use Rattle.gear_parts.specs.declared.part.Part.{Part}
 use Rattle.jk_server.specs.declared.workers.Slot.{Slot}
 use Rattle.std.proofs.Common.{◌≡◌, [], refl, length, subst, sym, ap, ◌∙◌}
@@ -17,8 +17,7 @@ work_in_all-requires-clause-may g c = λ κs within.
 
 pub empty_room-requires-clause-none_held : goal.empty_room-requires-clause-none_held
 empty_room-requires-clause-none_held g c =
-    let told = part_tells g.D.Door.coming g.D.Door.left g.D.Door.faults g.D.L.Meanings g.K.Clock.answers g.R.Meanings
-    (keeps g.S.Shelf.shelved g.S.Shelf.faults (log_tells g.Y.RowSink.gained g.Y.WorkerLog.greets g.Y.WorkerLog.broken_by g.Y.WorkerLog.log_faults) g.D.L.Link.may_wait) in
+    let told = part_tells g.D.Door g.D.L.Meanings g.K.Clock g.R.Meanings g.S.Shelf (log_tells g.Y.RowSink.gained g.Y.WorkerLog.greets g.Y.WorkerLog.broken_by g.Y.WorkerLog.log_faults) g.D.L.Link.may_wait in
     none_held_after {Q = Slot (Part g.row.L.Denot g.row.D.Denot g.row.R.Denot g.row.K.Denot g.row.S.Denot g.row.W.Denot g.row.Y.Denot) g.row.L.Denot}
     (λ n a b. WorksPart told c.args.cfg.now c.args.map.now n a.part b.part b.end) (λ s. s.part.desk.desk.held ≡ []) (λ n a b did. did.fit.none_held) _ c.work_in_all.new.slots _
     (as_long_back _ _ _ c.work_in_all.new.slots _ c.args.room.slots.ok.0 c.as_mut_slice.ensures.value c.work_in_all.ensures.len)
@@ -31,8 +30,7 @@ empty_room-requires-clause-room g c =
 
 pub returns : goal.returns
 returns g c =
-    let told = part_tells g.D.Door.coming g.D.Door.left g.D.Door.faults g.D.L.Meanings g.K.Clock.answers g.R.Meanings
-    (keeps g.S.Shelf.shelved g.S.Shelf.faults (log_tells g.Y.RowSink.gained g.Y.WorkerLog.greets g.Y.WorkerLog.broken_by g.Y.WorkerLog.log_faults) g.D.L.Link.may_wait) in
+    let told = part_tells g.D.Door g.D.L.Meanings g.K.Clock g.R.Meanings g.S.Shelf (log_tells g.Y.RowSink.gained g.Y.WorkerLog.greets g.Y.WorkerLog.broken_by g.Y.WorkerLog.log_faults) g.D.L.Link.may_wait in
     record {
       served =
           parts_served {Q = Slot (Part g.row.L.Denot g.row.D.Denot g.row.R.Denot g.row.K.Denot g.row.S.Denot g.row.W.Denot g.row.Y.Denot) g.row.L.Denot} (λ s. s.part)

@@ -2,7 +2,6 @@ use Rattle.std.proofs.Common.{◌≡◌, ap, ◌∙◌, length, Err, inr, arith}
 use Rattle.std.proofs.lemmas.List.{length-map}
 use Rattle.jk_io.specs.Told.{Rose}
 use Rattle.jk_io.specs.declared.failures.IoError.TheVariants.{Failed}
-use Rattle.gear_parts.specs.GearParts.{tools, tools_of}
 use Rattle.gear_parts.specs.Cuts.{AddsCuts, AddsFront}
 use Rattle.gear_parts.proofs.ListLaws.{written_back}
 use Rattle.jk_server.proofs.CutLaws.{both_first, of_err, put_back}
@@ -13,14 +12,14 @@ returns-in-Ok g c = λ sizes firsts starts seats ended.
     let lent = ap length c.as_mut_slice.ensures.value in
     let whole = c.into_vec-shelves.result.ok.0 in
     let len = c.keep_on_first-kept.ensures.len in
-    let paired : length (tools_of c.args.left.items) ≡ length c.args.closed.shelves =
-    omega (arith, length-map c.args.left.items (λ l. tools l.door l.dial l.tape l.clock l.log), c.requires.paired, c.args.left.ok.0) in
+    let paired : length c.args.left.items ≡ length c.args.closed.shelves =
+    omega (arith, c.requires.paired, c.args.left.ok.0) in
     let put = c.gears_again.ensures.shelves
     ∙ written_back c.into_vec-shelves.result.len c.keep_on_first-kept.new.shelves _ (omega (arith, lent, whole, len)) in (
       c.args.closed.books,
       ended,
-      put_back (AddsCuts g.S.Shelf.shelved c.args.closed.books) (tools_of c.args.left.items) c.args.closed.shelves _ c.keep_on_first-kept.new.shelves _
-          paired c.gears_again.ensures.tools (c.as_mut_slice.ensures.value ∙ c.into_vec-shelves.ensures) put
+      put_back (AddsCuts g.S.Shelf.shelved c.args.closed.books) c.args.left.items c.args.closed.shelves _ c.keep_on_first-kept.new.shelves _
+          paired c.gears_again.ensures.left (c.as_mut_slice.ensures.value ∙ c.into_vec-shelves.ensures) put
           c.in-Ok.ensures.kept,
     )
 
@@ -31,15 +30,15 @@ returns-in-Err-Failed g c = λ sizes firsts starts seats ended.
     let lent = ap length c.as_mut_slice.ensures.value in
     let whole = c.into_vec-shelves.result.ok.0 in
     let len = c.keep_on_first-kept.ensures.len in
-    let paired : length (tools_of c.args.left.items) ≡ length c.args.closed.shelves =
-    omega (arith, length-map c.args.left.items (λ l. tools l.door l.dial l.tape l.clock l.log), c.requires.paired, c.args.left.ok.0) in
+    let paired : length c.args.left.items ≡ length c.args.closed.shelves =
+    omega (arith, c.requires.paired, c.args.left.ok.0) in
     let put = c.gears_again.ensures.shelves
     ∙ written_back c.into_vec-shelves.result.len c.keep_on_first-kept.new.shelves _ (omega (arith, lent, whole, len)) in (
       c.args.closed.books,
       ended,
       put_back (λ old new. AddsFront g.S.Shelf.shelved c.args.closed.books old new × Rose (g.S.Shelf.faults old) (g.S.Shelf.faults new))
-          (tools_of c.args.left.items) c.args.closed.shelves _ c.keep_on_first-kept.new.shelves _
-          paired c.gears_again.ensures.tools (c.as_mut_slice.ensures.value ∙ c.into_vec-shelves.ensures) put
+          c.args.left.items c.args.closed.shelves _ c.keep_on_first-kept.new.shelves _
+          paired c.gears_again.ensures.left (c.as_mut_slice.ensures.value ∙ c.into_vec-shelves.ensures) put
           (both_first (AddsFront g.S.Shelf.shelved c.args.closed.books) (λ old new. Rose (g.S.Shelf.faults old) (g.S.Shelf.faults new)) _ _
           (of_err c.keep_on_first-kept.result _ _ c.in-Err-Failed.is c.keep_on_first-kept.ensures.front) (c.keep_on_first-kept.ensures.failed failed)),
     )
@@ -49,14 +48,14 @@ returns-in-Err-NoMemory g c = λ sizes firsts starts seats ended.
     let lent = ap length c.as_mut_slice.ensures.value in
     let whole = c.into_vec-shelves.result.ok.0 in
     let len = c.keep_on_first-kept.ensures.len in
-    let paired : length (tools_of c.args.left.items) ≡ length c.args.closed.shelves =
-    omega (arith, length-map c.args.left.items (λ l. tools l.door l.dial l.tape l.clock l.log), c.requires.paired, c.args.left.ok.0) in
+    let paired : length c.args.left.items ≡ length c.args.closed.shelves =
+    omega (arith, c.requires.paired, c.args.left.ok.0) in
     let put = c.gears_again.ensures.shelves
     ∙ written_back c.into_vec-shelves.result.len c.keep_on_first-kept.new.shelves _ (omega (arith, lent, whole, len)) in
     inr (
       c.args.closed.books,
       ended,
-      put_back (AddsFront g.S.Shelf.shelved c.args.closed.books) (tools_of c.args.left.items) c.args.closed.shelves _ c.keep_on_first-kept.new.shelves _
-          paired c.gears_again.ensures.tools (c.as_mut_slice.ensures.value ∙ c.into_vec-shelves.ensures) put
+      put_back (AddsFront g.S.Shelf.shelved c.args.closed.books) c.args.left.items c.args.closed.shelves _ c.keep_on_first-kept.new.shelves _
+          paired c.gears_again.ensures.left (c.as_mut_slice.ensures.value ∙ c.into_vec-shelves.ensures) put
           (of_err c.keep_on_first-kept.result _ _ c.in-Err-NoMemory.is c.keep_on_first-kept.ensures.front),
     )

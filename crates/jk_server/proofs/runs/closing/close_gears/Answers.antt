@@ -1,5 +1,4 @@
 use Rattle.std.proofs.Common.{map, subst, arith}
-use Rattle.gear_parts.specs.GearParts.{tools_of}
 use Rattle.jk_server.specs.Shelved.{EndsSo}
 use Rattle.gear_parts.proofs.ListLaws.{as_long_as}
 use Rattle.jk_server.proofs.runs.closing.close_gears.Goals as goal
@@ -7,7 +6,7 @@ use Rattle.jk_server.proofs.runs.closing.close_gears.Goals as goal
 pub returns-in-Ok : goal.returns-in-Ok
 returns-in-Ok g c =
     subst
-    (λ ss. EndsSo {L = g.row.L.Denot} g.S.Shelf.shelved g.S.Shelf.faults g.L.SiteName.sizes g.L.SiteName.firsts g.L.SiteName.starts (map (λ l. l.seat) c.args.leaving) (tools_of c.args.left.items) ss
+    (λ ss. EndsSo {L = g.row.L.Denot} g.S.Shelf.shelved g.S.Shelf.faults g.L.SiteName.sizes g.L.SiteName.firsts g.L.SiteName.starts (map (λ l. l.seat) c.args.leaving) c.args.left.items ss
     c.close_books.new.gears.items c.close_books.result)
     c.in-Ok.ensures.shelves (c.close_books.ensures g.L.SiteName.sizes g.L.SiteName.firsts g.L.SiteName.starts (map (λ l. l.seat) c.args.leaving)
     (record { sited = c.in-Ok.ensures.sited; history = c.in-Ok.ensures.whole }))

@@ -1,9 +1,8 @@
 use Rattle.std.proofs.Common.{◌≡◌, ap, ◌∙◌, length, map, false, sym, subst}
 use Rattle.std.specs.Prelude.{is_some}
 use Rattle.std.specs.List.{All}
-use Rattle.gear_parts.specs.GearLogs.{sink_of}
-use Rattle.gear_parts.specs.GearParts.{tools}
-use Rattle.gear_parts.proofs.ListLaws.{as_long, few_so}
+use Rattle.gear_parts.specs.GearParts.{left_from}
+use Rattle.gear_parts.proofs.ListLaws.{as_long_as, few_so}
 use Rattle.jk_server.proofs.runs.parts.ran_of.Goals as goal
 
 pub take_apart-requires-clause-room : goal.take_apart-requires-clause-room
@@ -15,13 +14,13 @@ take_apart-requires-clause-idle g c = λ κs within.
 
 pub invariant_of-result : goal.invariant_of-result
 invariant_of-result g c =
-    let left_len = c.take_apart.new.left.ok.0 ∙ as_long _ _ _ _ c.take_apart.ensures ∙ ap length c.into_vec.ensures in
+    let left_len = c.take_apart.new.left.ok.0 ∙ as_long_as _ _ _ c.take_apart.ensures ∙ ap length c.into_vec.ensures in
     record {
       paired = left_len ∙ sym c.requires.paired;
       none_back = c.requires.after.no_back;
       room = few_so _ _ _ left_len c.requires.after.for_back;
     }
 
-pub returns-clause-tools : goal.returns-clause-tools
-returns-clause-tools g c =
-    c.take_apart.ensures ∙ ap (λ os. map (λ o. tools o.door o.reach.pooled.dial o.reach.pooled.tape o.clock (sink_of o.log)) os) c.into_vec.ensures
+pub returns-clause-left : goal.returns-clause-left
+returns-clause-left g c =
+    c.take_apart.ensures ∙ ap (λ os. map left_from os) c.into_vec.ensures

@@ -6,8 +6,7 @@ use mir.Syntax.{named}
 use denote.Param.Send.{arg_send, param_send}
 use Rattle.client_session.specs.Requests.{visit}
 use Rattle.jk_io.specs.Doors.{side}
-use Rattle.gear_parts.specs.GearLogs.{sink_of}
-use Rattle.gear_parts.specs.GearParts.{gear_with, start_with, tools}
+use Rattle.gear_parts.specs.GearParts.{gear_with, left_from, start_with}
 use Rattle.jk_server.specs.RunTells.{logging, run_tells}
 use Rattle.jk_server.specs.ServedGears.{BeginsSo, LeavesParts, start_side}
 use Rattle.jk_server.proofs.GearRunLaws.{all_left, as_many, each_left, gears_served, parts_whole}
@@ -34,17 +33,16 @@ pub returns : goal.returns
 returns g c =
     let at = side g.D.Door.coming g.D.Door.left g.D.Door.faults in
     let told =
-    run_tells g.D.Door.coming g.D.Door.left g.D.Door.faults g.T.Tape.talks g.K.Clock.answers g.D.L.Meanings g.S.Shelf.shelved
-    (logging g.S.Shelf.shelved g.S.Shelf.faults g.O.Meanings g.D.L.Link.may_wait) in
-    ok_weaker _ (λ end. LeavesParts told c.args.plan.cfg.now c.args.plan.map.now c.args.plan.format.now c.args.parts.items end) _ c.run_serve.ensures.served (λ end each. record {
+    run_tells g.D.Door g.T.Tape g.K.Clock g.D.L.Meanings g.S.Shelf g.O.Meanings g.D.L.Link.may_wait in
+    ok_weaker _ (λ end. LeavesParts told c.args.plan c.args.parts.items end) _ c.run_serve.ensures.served (λ end each. record {
       outs = (as_many _ 0 c.args.parts.items end.outside end.leaving end.workers each).0;
       desks = (as_many _ 0 c.args.parts.items end.outside end.leaving end.workers each).1;
       idle = all_left _ (λ o. is_some o.reach.pooled.lent ≡ false) 0 c.args.parts.items end.outside end.leaving end.workers each (λ k p o v e is. is.worked.fit.idle);
       served = λ lock fresh.
           gears_served (visit c.args.plan.cfg.now c.args.plan.map.now) g.D.L.Meanings (logging g.S.Shelf.shelved g.S.Shelf.faults g.O.Meanings g.D.L.Link.may_wait) c.args.plan.format.now
           (λ p. BeginsSo lock c.args.plan.format.now p.desk p.log) _
-          (λ p. start_side at g.T.Tape.talks g.K.Clock.answers (start_with p.door p.reach p.clock p.desk p.log))
-          (gear_with at g.T.Tape.talks g.K.Clock.answers) (λ o. tools o.door o.reach.pooled.dial o.reach.pooled.tape o.clock (sink_of o.log)) (λ v. v.shelf) (λ v. v.seat)
+          (λ p. start_side at g.T.Tape.talks g.K.Clock.answers (start_with p))
+          (gear_with at g.T.Tape.talks g.K.Clock.answers) left_from (λ v. v.shelf) (λ v. v.seat)
           0 c.args.parts.items end.outside end.leaving end.workers fresh each
           (λ k p o v e new is.
           served_gear _ _ _ _ _ _ _ _ _ _ is.worked.served (record { shelf = refl; clock = refl; talks = refl }) new.0.0

@@ -19,7 +19,7 @@ work_in-requires-clause-ready g c = λ κs within.
     starts_are (lock_of c.args.common.now.site.now) g.L.SiteName.sizes (counts c.args.common.now.pools.now)
     c.args.common.now.watch c.args.common.now.format.now
     (λ s. MayBegin c.args.plan.cfg.now c.args.plan.map.now s.desk.desk (beside_of g.T.Tape.begun g.T.Tape.talks s.reach.pooled) (broken_by s.log))
-    (λ p. start_with p.door p.reach p.clock p.desk p.log) c.in-Ok.memory.parts.items c.args.gears.items c.in-Ok.ensures.starts
+    start_with c.in-Ok.memory.parts.items c.args.gears.items c.in-Ok.ensures.starts
     (λ k d lt. record {
       fit = record {
         stands = c.requires.stands;
@@ -40,8 +40,8 @@ returns-in-Ok g c =
     let starts =
     subst
     (λ (f : List FormatPart).
-    map (λ p. start_with p.door p.reach p.clock p.desk p.log) c.in-Ok.memory.parts.items
+    map start_with c.in-Ok.memory.parts.items
     ≡ map (start_of (lock_of c.args.common.now.site.now) g.L.SiteName.sizes (counts c.args.common.now.pools.now) c.args.common.now.watch f) c.args.gears.items)
     c.requires.format c.in-Ok.ensures.starts in
-    runs_of _ _ _ c.args.plan.format.now c.in-Ok.memory.parts.items (lock_of c.args.common.now.site.now) g.L.SiteName.sizes (counts c.args.common.now.pools.now)
+    runs_of _ c.args.plan c.in-Ok.memory.parts.items (lock_of c.args.common.now.site.now) g.L.SiteName.sizes (counts c.args.common.now.pools.now)
     c.args.common.now.watch c.args.gears.items _ starts c.work_in.ensures

@@ -30,15 +30,15 @@ ran_of-requires-clause-idle g c = λ κs within. c.in-Ok.ensures.idle
 pub returns-in-Ok : goal.returns-in-Ok
 returns-in-Ok g c = λ lock sizes pools watch gears starts.
     let begun =
-    starts_are lock sizes pools watch c.args.plan.format.now (λ s. BeginsSo lock c.args.plan.format.now s.desk s.log) (λ p. start_with p.door p.reach p.clock p.desk p.log) c.args.memory.parts.items gears starts
+    starts_are lock sizes pools watch c.args.plan.format.now (λ s. BeginsSo lock c.args.plan.format.now s.desk s.log) start_with c.args.memory.parts.items gears starts
     (λ k d lt. ((record { no_receipt = refl; none_held = refl; none_forgotten = refl; no_stray = (refl, refl); none_seen = refl }, refl, refl), new_so c.args.plan.format.now _)) in
     let fresh = All-weaker (λ p. BeginsSo lock c.args.plan.format.now (unnumbered p.desk) p.log) (λ p. BeginsSo lock c.args.plan.format.now p.desk p.log) (λ p is. (begins_seated lock p.desk is.0, is.1)) c.args.memory.parts.items begun in
     record {
       served =
           gears_told (visit c.args.plan.cfg.now c.args.plan.map.now) g.D.L.Meanings (logging g.S.Shelf.shelved g.S.Shelf.faults g.O.Meanings g.D.L.Link.may_wait) c.args.plan.format.now 0 _ _ _ _ _ _ _ _ _ _ _
           (starts_told (side g.D.Door.coming g.D.Door.left g.D.Door.faults) g.T.Tape.talks g.K.Clock.answers lock sizes pools watch c.args.plan.format.now
-          (λ p. start_with p.door p.reach p.clock p.desk p.log) c.args.memory.parts.items gears starts)
-          c.ran_of.ensures.tools (ap (λ vs. map (λ v. v.shelf) vs) c.ran_of.ensures.leaving) (ap (λ vs. map (λ v. v.seat) vs) c.ran_of.ensures.leaving)
+          start_with c.args.memory.parts.items gears starts)
+          c.ran_of.ensures.left (ap (λ vs. map (λ v. v.shelf) vs) c.ran_of.ensures.leaving) (ap (λ vs. map (λ v. v.seat) vs) c.ran_of.ensures.leaving)
           c.ran_of.ensures.workers (c.in-Ok.ensures.served lock fresh);
       here = subst (λ vs. All (λ v. v.seat.lock ≡ lock) vs) (sym c.ran_of.ensures.leaving) (c.in-Ok.ensures.here lock fresh);
       whole =
