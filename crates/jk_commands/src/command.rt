@@ -11,7 +11,7 @@ ghost use Rattle.jk_commands.specs.Words.{AreFilesRead, is_command, is_front, is
 use crate::ends::{EndOf, JkdEnd, NO_MEMORY};
 use crate::words::is_serving;
 use drill::{DrillOrder, write_drill};
-use gear_parts::World;
+use gear_parts::{ToldWorld, World};
 use jk_cli::{Order, read_words};
 use jk_io::{Bytes, Door, Files, Sink, Source};
 use jk_server::{ContainerOrder, GearOrder, ServeOrder, contain, cut_at, serve, watch_plan};
@@ -33,7 +33,7 @@ where
     <W::D as Door>::L: Send,
     requires front { is_front order.now ≡ true }
     requires range { IsInRange order.now }
-    ensures does { DoesAsked (telling F.Files O.Meanings W.World W.D.Door W.T.Tape W.K.Clock W.D.L.Meanings W.S.Shelf W.O.Meanings W.D.L.may_wait)
+    ensures does { DoesAsked (telling F.Files O.Meanings ⟦<W as ToldWorld>⟧.told)
         order.now (files.old, out.old, world.old) (files.new, out.new, world.new) result }
 {
     match order {
@@ -91,7 +91,7 @@ where
     <W::D as Door>::L: Send,
     requires served { is_served order.now ≡ true }
     requires range { IsInRange order.now }
-    ensures does { DoesAsked (telling F.Files O.Meanings W.World W.D.Door W.T.Tape W.K.Clock W.D.L.Meanings W.S.Shelf W.O.Meanings W.D.L.may_wait)
+    ensures does { DoesAsked (telling F.Files O.Meanings ⟦<W as ToldWorld>⟧.told)
         order.now (files.old, out.old, world.old) (files.new, out.new, world.new) result }
     ensures files { (files.new ≡ files.old) ⊎ (reads_files order.now ≡ true) }
 {
@@ -139,7 +139,7 @@ fn do_words<F: Files, O: Sink, W: World, R: Threads + Wait + Sync>(
 where
     <W::D as Door>::L: Send,
     requires serving { is_serving words.now ≡ true }
-    ensures serves { DoesWords (telling F.Files O.Meanings W.World W.D.Door W.T.Tape W.K.Clock W.D.L.Meanings W.S.Shelf W.O.Meanings W.D.L.may_wait)
+    ensures serves { DoesWords (telling F.Files O.Meanings ⟦<W as ToldWorld>⟧.told)
         words.now (files.old, out.old, world.old) (files.new, out.new, world.new) result }
     ensures files { (files.new ≡ files.old) ⊎ AreFilesRead words.now }
     ensures command { result ≢ EndOf.Status 2 }
@@ -186,7 +186,7 @@ pub fn run_jkd<F: Files, S: Source, O: Sink, W: World, R: Threads + Wait + Sync>
 where
     <W::D as Door>::L: Send,
     // Words that ask for workers or threads: `serve`, `container` and `drill`. Their input isn't looked at.
-    ensures serves { DoesWords (telling F.Files O.Meanings W.World W.D.Door W.T.Tape W.K.Clock W.D.L.Meanings W.S.Shelf W.O.Meanings W.D.L.may_wait)
+    ensures serves { DoesWords (telling F.Files O.Meanings ⟦<W as ToldWorld>⟧.told)
         words.now (files.old, out.old, world.old) (files.new, out.new, world.new) result }
 
     // Any other words: a plain command, or none. The world isn't asked.

@@ -48,3 +48,13 @@ abbrev pub DoesPart : {F O W G C S Y X Z L : Type 0} → CommandTells F O W G C 
 DoesPart told files o before after ended =
     ((ended ≡ end.Status 6) × (after ≡ before))
     ⊎ DoesOrder told.world (record { files = Some files; incoming = None }) o (command_side told before) (command_side told after) ended
+
+-- The front of the demo does its part for clients at this address, over the files of any two ports.
+abbrev pub ServesDemo : {F O W G C S Y X Z L : Type 0} → CommandTells F O W G C S Y X Z → (address : List ℕ) → (before after : F × O × W) → EndOf L → Type 0
+ServesDemo told address before after ended =
+    (a b : ℕ) → told.files before.0 ≡ Some (demo_files a b) → DoesPart told (demo_files a b) (demo_front address) before after ended
+
+-- A container of the demo does its part, over any files.
+abbrev pub ContainsDemo : {F O W G C S Y X Z L : Type 0} → CommandTells F O W G C S Y X Z → DemoContainer → (before after : F × O × W) → EndOf L → Type 0
+ContainsDemo told which before after ended =
+    (held : List (List ℕ × List ℕ)) → told.files before.0 ≡ Some held → DoesPart told held (demo_container which) before after ended

@@ -1,8 +1,9 @@
 //! `demo`: two containers and a front before them, each as the command of its kind does it.
-ghost use Rattle.std.specs.Prelude.{◌≡◌, ◌++◌, ◌∷◌, [], ℕ, List, Some, codes, decimal, IfOk, OnOk};
+ghost use Rattle.std.specs.Prelude.{◌≡◌, ◌++◌, ◌∷◌, [], codes, decimal, IfOk, OnOk};
 ghost use Rattle.jk_server.specs.Commands.{telling};
-ghost use Rattle.jkd.specs.Demo.{DoesPart, demo_container, demo_files, demo_front, demo_workers, port_of, route_of};
+ghost use Rattle.jkd.specs.Demo.{ContainsDemo, ServesDemo, demo_container, demo_files, demo_front, demo_workers, port_of, route_of};
 
+use gear_parts::ToldWorld;
 use jk_cli::Order;
 use jk_commands::{EndOf, JkdEnd, NO_MEMORY, do_order, let_go};
 use jk_io::{
@@ -146,9 +147,8 @@ pub(crate) fn serve_demo<F: Files, O: Sink, W: World, R: Threads + Wait + Sync>(
 ) -> JkdEnd
 where
     <W::D as Door>::L: Send,
-    ensures serves { (a : ℕ) → (b : ℕ) → F.files files.old ≡ Some (demo_files a b)
-        → DoesPart (telling F.Files O.Meanings W.World W.D.Door W.T.Tape W.K.Clock W.D.L.Meanings W.S.Shelf W.O.Meanings W.D.L.may_wait)
-        (demo_files a b) (demo_front address.now) (files.old, out.old, world.old) (files.new, out.new, world.new) result }
+    ensures serves { ServesDemo (telling F.Files O.Meanings ⟦<W as ToldWorld>⟧.told) address.now
+        (files.old, out.old, world.old) (files.new, out.new, world.new) result }
 {
     match front_order(alloc, address) {
         Ok(order) => {
@@ -171,9 +171,8 @@ pub(crate) fn contain_demo<F: Files, O: Sink, W: World, R: Threads + Wait + Sync
 ) -> JkdEnd
 where
     <W::D as Door>::L: Send,
-    ensures contains { (held : List (List ℕ × List ℕ)) → F.files files.old ≡ Some held
-        → DoesPart (telling F.Files O.Meanings W.World W.D.Door W.T.Tape W.K.Clock W.D.L.Meanings W.S.Shelf W.O.Meanings W.D.L.may_wait)
-        held (demo_container which) (files.old, out.old, world.old) (files.new, out.new, world.new) result }
+    ensures contains { ContainsDemo (telling F.Files O.Meanings ⟦<W as ToldWorld>⟧.told) which
+        (files.old, out.old, world.old) (files.new, out.new, world.new) result }
 {
     match container_order(alloc, which) {
         Ok(order) => {

@@ -9,6 +9,7 @@ ghost use Rattle.jk_commands.specs.Words.{is_serving};
 
 use crate::ahead_files::{Ahead, AheadFiles};
 use crate::telling::{asks_stop, tell};
+use gear_parts::ToldWorld;
 use jk_cli::{Order, read_words};
 use jk_commands::{JkdEnd, let_go, run_jkd};
 use jk_io::{Bytes, Door, Files, Sink, Source};
@@ -54,7 +55,7 @@ fn do_in<F: Files, S: Source, O: Sink, W: World, R: AllocGlobal + Threads + Wait
 where
     <W::D as Door>::L: Send,
     ensures status { result.1 ≡ status_of result.0 }
-    ensures serves { DoesWords (telling F.Files O.Meanings W.World W.D.Door W.T.Tape W.K.Clock W.D.L.Meanings W.S.Shelf W.O.Meanings W.D.L.may_wait)
+    ensures serves { DoesWords (telling F.Files O.Meanings ⟦<W as ToldWorld>⟧.told)
         words.now (files.old, out.old, world.old) (files.new, out.new, world.new) result.0 }
     ensures plain { is_serving words.now ≡ false → let at = plain_side F.Files S.Meanings O.Meanings in
         RunsPlain words.now (at files.old input.old out.old) (at files.new input.new out.new) result.1 }
