@@ -11,15 +11,20 @@ use Rattle.client_session.specs.Requests.{Visit, undated, visit}
 use Rattle.client_session.specs.Sessions.{Serves}
 use Rattle.client_session.specs.Standings.{ClientStanding}
 use Rattle.client_session.specs.declared.ending.SessionEnd.{SessionEnd}
-use Rattle.drill.specs.Bodies.{all_together, with_bodies}
+use Rattle.drill.specs.Bodies.{all_together, AreCounted, with_bodies}
 use Rattle.drill.specs.Requests.{requests_of, texts_of}
 use Rattle.drill.specs.Sites.{IsDrillSite}
 use Rattle.drill.specs.declared.plan.Plan.{Plan}
 use Rattle.drill.specs.declared.site.DrillSite.{DrillSite}
+use Rattle.drill.specs.declared.thread.Post.{Post}
 
 -- the visits of thread t, whose sessions have its number, and whose answers tell no moment
 abbrev pub visit_by : Config → List Rule → Peer → (t : ℕ) → Visit
 visit_by cfg rules peer t = undated (visit cfg rules t peer)
+
+-- the visits of the thread at this post
+abbrev pub visit_at : Post → Visit
+visit_at post = visit_by post.site.now.cfg post.site.now.map post.peer.now post.number
 
 -- A client with these bytes had a session, and the session added these rows.
 pub record HasRows (v : Visit) (text : List ℕ) (rows : List Served) : Type 0 where
@@ -31,7 +36,7 @@ pub record HasRows (v : Visit) (text : List ℕ) (rows : List Served) : Type 0 w
 
 -- The bodies in the rows of such a session came to a count.
 abbrev pub CountsRows : Visit → (text : List ℕ) → (before after : ℕ) → Type 0
-CountsRows v text before after = (rows : List Served) × HasRows v text rows × (after ≡ with_bodies before rows)
+CountsRows v text before after = (rows : List Served) × HasRows v text rows × AreCounted before after rows
 
 -- These are a session's requests, at most a thousand, and its rows.
 abbrev pub IsSessionOf : Visit → (seed : ℕ) → List ℕ × List Served → Type 0

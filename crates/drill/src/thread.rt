@@ -1,13 +1,13 @@
 //! What one thread of a drill does: its requests, in sessions of at most a thousand.
-ghost use Rattle.std.specs.Prelude.{◌≡◌, false, IfOk, IfSome};
+ghost use Rattle.std.specs.Prelude.{◌≡◌, IfOk, IfSome};
 ghost use Rattle.exchange.specs.Requests.{sizes_of};
 ghost use Rattle.status_worker.specs.Desks.{KeepsTickets};
 ghost use Rattle.client_session.specs.Ready.{IsReady};
 ghost use Rattle.client_session.specs.Requests.{visit_of};
 ghost use Rattle.client_session.specs.Whole.{IsWholeSession, KeepsLent};
 ghost use Rattle.client_session.specs.declared.ending.SessionEnd.{SessionEnd};
-ghost use Rattle.drill.specs.Bodies.{with_bodies};
-ghost use Rattle.drill.specs.Counts.{CountsRows, CountsSessions, CountsThread, visit_by};
+ghost use Rattle.drill.specs.Bodies.{AreCounted};
+ghost use Rattle.drill.specs.Counts.{CountsRows, CountsSessions, CountsThread, visit_at};
 
 use crate::app_reach::AppReach;
 use crate::body_sum::BodySum;
@@ -39,7 +39,7 @@ where
     B::Shown: Drop,
     requires ready { IsReady (visit_of site.now) (B.state around.old.desk.now) (R.beside around.old.reach.now) }
     ensures session { (end : SessionEnd) × IsWholeSession B.state K.answers R.Meanings C.Meanings (visit_of site.now)
-        around.old around.new (λ rows. bodies.new.bytes ≡ with_bodies bodies.old.bytes rows) end }
+        around.old around.new (AreCounted bodies.old.bytes bodies.new.bytes) end }
     ensures kept { KeepsLent B.state R.Meanings C.Meanings (visit_of site.now) around.old around.new }
 {
     match serve_session_with(alloc, site, around, bodies).stop {
@@ -60,15 +60,10 @@ fn serve_client<B: Desk, R: Reach>(
 where
     B::Mark: Drop,
     B::Shown: Drop,
-    requires caller { IfSome (B.state desk.old).caller (λ n. post.number ≡ n) }
-    requires sizes { (B.state desk.old).sizes ≡ sizes_of post.site.now.cfg.lbs }
-    requires idle { (R.beside reach.old).runs ≡ false }
-    requires reach_sizes { (R.beside reach.old).sizes ≡ sizes_of post.site.now.cfg.lbs }
-    ensures rows { CountsRows (visit_by post.entry.site.now.cfg post.entry.site.now.map post.entry.peer.now post.entry.number)
-        client.old.incoming bodies.old.bytes bodies.new.bytes }
+    requires ready { IsReady (visit_at post) (B.state desk.old) (R.beside reach.old) }
+    ensures rows { CountsRows (visit_at post.entry) client.old.incoming bodies.old.bytes bodies.new.bytes }
     ensures kept { KeepsTickets post.entry.number (B.state desk.old) (B.state desk.new) }
-    ensures idle { (R.beside reach.new).runs ≡ false }
-    ensures reach_sizes { (R.beside reach.new).sizes ≡ (R.beside reach.old).sizes }
+    ensures ready { IsReady (visit_at post.entry) (B.state desk.new) (R.beside reach.new) }
 {
     let mut clock = StepClock::new(NumberList::new(alloc));
     let site = SessionSite {
@@ -99,15 +94,10 @@ fn serve_text<B: Desk, R: Reach>(
 where
     B::Mark: Drop,
     B::Shown: Drop,
-    requires caller { IfSome (B.state desk.old).caller (λ n. post.number ≡ n) }
-    requires sizes { (B.state desk.old).sizes ≡ sizes_of post.site.now.cfg.lbs }
-    requires idle { (R.beside reach.old).runs ≡ false }
-    requires reach_sizes { (R.beside reach.old).sizes ≡ sizes_of post.site.now.cfg.lbs }
-    ensures rows { CountsRows (visit_by post.entry.site.now.cfg post.entry.site.now.map post.entry.peer.now post.entry.number)
-        text bodies.old.bytes bodies.new.bytes }
+    requires ready { IsReady (visit_at post) (B.state desk.old) (R.beside reach.old) }
+    ensures rows { CountsRows (visit_at post.entry) text bodies.old.bytes bodies.new.bytes }
     ensures kept { KeepsTickets post.entry.number (B.state desk.old) (B.state desk.new) }
-    ensures idle { (R.beside reach.new).runs ≡ false }
-    ensures reach_sizes { (R.beside reach.new).sizes ≡ (R.beside reach.old).sizes }
+    ensures ready { IsReady (visit_at post.entry) (B.state desk.new) (R.beside reach.new) }
 {
     let mut client = MemLink::new(alloc, text, NumberList::new(alloc));
     serve_client(alloc, post, desk, reach, &mut client, bodies)
@@ -125,12 +115,8 @@ fn serve_requests<B: Desk, R: Reach>(
 where
     B::Mark: Drop,
     B::Shown: Drop,
-    requires caller { IfSome (B.state desk.old).caller (λ n. post.number ≡ n) }
-    requires sizes { (B.state desk.old).sizes ≡ sizes_of post.site.now.cfg.lbs }
-    requires idle { (R.beside reach.old).runs ≡ false }
-    requires reach_sizes { (R.beside reach.old).sizes ≡ sizes_of post.site.now.cfg.lbs }
-    ensures counted { IfOk result (λ _. CountsSessions
-        (visit_by post.entry.site.now.cfg post.entry.site.now.map post.entry.peer.now post.entry.number)
+    requires ready { IsReady (visit_at post) (B.state desk.old) (R.beside reach.old) }
+    ensures counted { IfOk result (λ _. CountsSessions (visit_at post.entry)
         requests.old.seed requests.old.left bodies.old.bytes bodies.new.bytes) }
     ensures kept { KeepsTickets post.entry.number (B.state desk.old) (B.state desk.new) }
 {

@@ -1,5 +1,4 @@
-use Rattle.std.proofs.Common.{◌≡◌, ◌++◌, ℕ, List, Option, length, length-drop, refl, take, ap, sym, subst, ◌∙◌, arith}
-use Rattle.std.specs.Prelude.{IfSome}
+use Rattle.std.proofs.Common.{◌++◌, ℕ, List, length, length-drop, refl, take, ap, ◌∙◌, arith}
 use Rattle.status_worker.proofs.DeskLaws.{twice, untouched}
 use Rattle.drill.specs.Requests.{texts_of}
 use Rattle.drill.proofs.CountLaws.{none_so_far, one_more}
@@ -8,10 +7,7 @@ use Rattle.drill.proofs.thread.serve_requests.Goals as goal
 pub sessions-init : goal.sessions-init
 sessions-init g c = record {
   kept = untouched _ _;
-  caller = c.requires.caller;
-  sizes = c.requires.sizes;
-  idle = c.requires.idle;
-  reach_sizes = c.requires.reach_sizes;
+  ready = c.requires.ready;
   seed = refl;
   counted = none_so_far _ _ _ _;
 }
@@ -29,10 +25,7 @@ sessions-preserved g c =
     let kept = c.serve_text.ensures.kept in
     record {
       kept = twice _ _ _ _ inv.kept kept;
-      caller = subst (λ (x : Option ℕ). IfSome x (λ n. c.args.post.number ≡ n)) (sym kept.caller) inv.caller;
-      sizes = kept.sizes ∙ inv.sizes;
-      idle = c.serve_text.ensures.idle;
-      reach_sizes = c.serve_text.ensures.reach_sizes ∙ inv.reach_sizes;
+      ready = c.serve_text.ensures.ready;
       seed = c.in_ok-put_session.ensures.seed ∙ inv.seed;
       counted =
           one_more _ _ _ _ _ _ _ _ _ inv.counted c.in_ok-put_session.ensures.ok.1

@@ -1,9 +1,8 @@
 -- The client has the text to come.
 use Rattle.std.proofs.Common.{List, ℕ, subst}
-use Rattle.drill.specs.Counts.{CountsRows, visit_by}
+use Rattle.drill.specs.Counts.{CountsRows, visit_at}
 use Rattle.drill.proofs.thread.serve_text.Goals as goal
 
 pub returns-clause-rows : goal.returns-clause-rows
 returns-clause-rows g c =
-    let v = visit_by c.args.post.site.now.cfg c.args.post.site.now.map c.args.post.peer.now c.args.post.number in
-    subst (λ (xs : List ℕ). CountsRows v xs c.args.bodies.now.bytes c.serve_client.new.bodies.bytes) c.new-client.ensures.came.0 c.serve_client.ensures.rows
+    subst (λ (xs : List ℕ). CountsRows (visit_at c.args.post) xs c.args.bodies.now.bytes c.serve_client.new.bodies.bytes) c.new-client.ensures.came.0 c.serve_client.ensures.rows
