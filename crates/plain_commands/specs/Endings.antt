@@ -1,12 +1,13 @@
 -- How a plain command ends.
-use Rattle.std.specs.Prelude.{◌≡◌, ℕ, true, false, ◌⊎◌, List, Option, Some}
+use Rattle.std.specs.Prelude.{◌≡◌, ℕ, true, false, ◌⊎◌, List, [], ◌∷◌, Option, Some}
 use Rattle.jk_cli.specs.Orders.{order_of}
 use Rattle.jk_cli.specs.declared.order.Order.{Order}
 use Rattle.jk_io.specs.Told.{appended, PutsFront, Rose}
 use Rattle.jk_io.specs.declared.traits.streams.Meanings.{Ghosts}
 use Rattle.jk_io.specs.declared.traits.surroundings.Files.{Ghosts as FilesGhosts}
 use Rattle.plain_commands.specs.Plain.{is_plain, readings, Answers, EndsWith, Plain, Prints, PrintsFront, PrintsOf}
-use Rattle.site_reports.specs.Readings.{CommandOutside, Reading}
+use Rattle.site_reports.specs.Readings.{CommandOutside, File, Reading}
+use Rattle.plain_commands.specs.declared.log.LogNames.{LogNames}
 use Rattle.plain_commands.specs.declared.play.Ending.{Ending}
 use Rattle.plain_commands.specs.declared.play.Ending.TheVariants as ending
 use Rattle.plain_commands.specs.declared.play.Output.{Output}
@@ -85,6 +86,10 @@ abbrev pub EndsSo : (words : List (List ℕ)) → (s n : PlainSide) → PlainEnd
 EndsSo words s n end.NoCommand = (is_plain words ≡ false) × (n.sent ≡ s.sent)
 EndsSo words s n ended = (is_plain words ≡ true) × AnswersSo words s n ended
 
+-- Why a command ends with status 4: a read of the files or of the input failed, or a front that was told to stop may still run.
+abbrev pub IsInputFault : (words : List (List ℕ)) → (s n : PlainSide) → Type 0
+IsInputFault words s n = Rose s.faults.files n.faults.files ⊎ Rose s.faults.input n.faults.input ⊎ EndsWith words s.outside 4
+
 -- What is printed of files alone, whatever the input.
 abbrev pub PrintsOfFiles : Option (List (List ℕ × List ℕ)) → List Reading → (List (List ℕ) → List ℕ → ℕ → Type 0) → Output → Type 0
 PrintsOfFiles files readings Of o =
@@ -101,6 +106,10 @@ PlainOfFiles files command o = PrintsOfFiles files (readings command) (Answers c
 
 abbrev pub PlainOfInput : Option (List ℕ) → Order → Output → Type 0
 PlainOfInput incoming command o = PrintsOfInput incoming (readings command) (Answers command) o
+
+-- the files of `log`, in the order in which they are read
+abbrev pub log_readings : LogNames → List Reading
+log_readings names = File names.request.now ∷ File names.reply.now ∷ File names.workers.now ∷ File names.map.now ∷ []
 
 -- What `log` prints, whatever the input.
 abbrev pub LogOfFiles : Option (List (List ℕ × List ℕ)) → Order → Output → Type 0

@@ -2,7 +2,7 @@
 ghost use Rattle.std.specs.Prelude.{◌≡◌, ◌⊎◌, List, [], ◌∷◌, IfOk, IsErrOf};
 ghost use Rattle.jk_cli.specs.declared.order.Order.TheVariants as order;
 ghost use Rattle.plain_commands.specs.Causes.{IsCaused};
-ghost use Rattle.plain_commands.specs.Endings.{LogOfFiles, PrintsOfFiles, status_of};
+ghost use Rattle.plain_commands.specs.Endings.{LogOfFiles, PrintsOfFiles, log_readings, status_of};
 ghost use Rattle.plain_commands.specs.Plain.{LogOf, LogOver};
 ghost use Rattle.request_log.specs.Formats.{IsFormat, refusal_line as line_of_refusal};
 ghost use Rattle.request_log.specs.declared.format.Part.{Part as AnyPart};
@@ -57,8 +57,7 @@ fn log_over<F: Files>(
     format: &Format,
     names: &LogNames<'_>,
 ) -> Result<Output, IoError>
-    ensures ok { IfOk result (λ o. PrintsOfFiles (F.files files.old)
-        (File names.now.request.now ∷ File names.now.reply.now ∷ File names.now.workers.now ∷ File names.now.map.now ∷ []) (LogOf format.now) o) }
+    ensures ok { IfOk result (λ o. PrintsOfFiles (F.files files.old) (log_readings names.now) (LogOf format.now) o) }
     ensures cause { IsCaused (F.faults files.old) (F.faults files.new) result }
 {
     match read_pair(alloc, files, names.request, names.reply)? {

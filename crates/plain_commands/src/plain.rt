@@ -2,8 +2,8 @@
 ghost use Rattle.std.specs.Prelude.{◌≡◌, ◌↔◌, ◌⊎◌, true, false};
 ghost use Rattle.jk_cli.specs.Names.{command_in};
 ghost use Rattle.jk_io.specs.Told.{Rose};
-ghost use Rattle.plain_commands.specs.Endings.{number_of, plain_side, AnswersOrder, EndsSo, Writes};
-ghost use Rattle.plain_commands.specs.Plain.{is_built, is_plain, readings, AreFilesDue, EndsWith, HasFormat, IsFormatDue, InputIsDue, IsInputDue, Prints, PrintsFront};
+ghost use Rattle.plain_commands.specs.Endings.{number_of, plain_side, AnswersOrder, EndsSo, IsInputFault, Writes};
+ghost use Rattle.plain_commands.specs.Plain.{is_built, is_plain, readings, AreFilesDue, HasFormat, IsFormatDue, InputIsDue, IsInputDue, Prints, PrintsFront};
 ghost use Rattle.site_reports.specs.Readings.{has_file};
 
 use crate::commands::answer;
@@ -169,8 +169,8 @@ pub fn run_plain<F: Files, S: Source, O: Sink>(
     ensures no_words { result ≡ 2 → O.sent out.new ≡ O.sent out.old }
 
     // Only where the faults of the files or of the input rose, or where `stop` was answered by a front that may still run.
-    ensures input_fault { result ≡ 4 → Rose (F.faults files.old) (F.faults files.new) ⊎ Rose (S.faults input.old) (S.faults input.new)
-        ⊎ EndsWith words.now (record { files = F.files files.old; incoming = S.incoming input.old }) 4 }
+    ensures input_fault { let at = plain_side F.Files S.Meanings O.Meanings in
+        result ≡ 4 → IsInputFault words.now (at files.old input.old out.old) (at files.new input.new out.new) }
     ensures nothing { result ≡ 4 → O.sent out.new ≡ O.sent out.old }
 
     // Only where the output's faults rose.

@@ -2,6 +2,7 @@
 use Rattle.std.specs.Prelude.{ℕ, Bool, true, false, List, [], ◌∷◌, ◌++◌, Option, Some, None, codes, is_some, map, slice_get, if◌then◌else◌, ◌||◌, ◌==◌}
 use Rattle.std.specs.Bool.{nat_eq}
 use Rattle.std.specs.List.{flat_map, list_any, starts_with}
+use Rattle.std.specs.Option.{option_to_list}
 use Rattle.std.specs.Str.{bytes_eq}
 use Rattle.jk_model.specs.declared.member.MemberConfig.{MemberConfig}
 use Rattle.site_config.specs.declared.directive.Directive.{Directive}
@@ -177,3 +178,7 @@ notice file kinds ps p = notice_with file p.line p.key (words_at kinds ps p)
 
 abbrev pub notices : (file : List ℕ) → SiteKinds → List Property → List ℕ
 notices file kinds ps = flat_map (notice file kinds ps) ps
+
+-- of one line of theirs, which may say something
+abbrev pub notices_by : (file : List ℕ) → SiteKinds → List Property → (says : Option Property) → List ℕ
+notices_by file kinds ps says = flat_map (notice file kinds ps) (option_to_list says)

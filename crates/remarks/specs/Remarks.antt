@@ -6,6 +6,7 @@ use Rattle.std.specs.Option.{option_map}
 use Rattle.site_config.specs.Properties as properties
 use Rattle.site_config.specs.Refusals.{LineRefusal}
 use Rattle.site_config.specs.declared.property.Property.{Property}
+use Rattle.site_config.specs.declared.values.WorkerKind.{WorkerKind}
 use Rattle.site_config.specs.declared.config.Config.{Config}
 use Rattle.remarks.specs.declared.site_file.SiteFile.{SiteFile}
 use Rattle.remarks.specs.declared.site_file.SiteFiles.{SiteFiles}
@@ -22,9 +23,13 @@ abbrev pub workers_remarks : (effects : Bool) → (file : List ℕ) → Config �
 workers_remarks true file c ps = notices file (site_kinds c) ps
 workers_remarks false file c ps = []
 
+-- of a map of these rules, by the types of the workers: what in it has no effect, and what it means where it has no rule
+abbrev pub effect_words : List ℕ × List ℕ → (kinds : List (List ℕ × WorkerKind)) → List Rule → List ℕ
+effect_words map kinds rules = map_notices map.0 kinds map.1 ++ empty_words map.0 rules
+
 abbrev pub rules_remarks : (effects : Bool) → Config → List ℕ × List ℕ → Result (List Rule) LineRefusal → List ℕ
 rules_remarks effects c map (Err r) = refused_lines (wrong_rule c) map.0 map.1
-rules_remarks true c map (Ok rules) = map_notices map.0 (kinds_of c) map.1 ++ empty_words map.0 rules
+rules_remarks true c map (Ok rules) = effect_words map (kinds_of c) rules
 rules_remarks false c map (Ok rules) = []
 
 -- of a map, where there is one
@@ -62,3 +67,7 @@ IsShort file = length file.text.now ≤ 67108864
 
 abbrev pub AreShort : SiteFiles → Type 0
 AreShort files = IsShort files.workers × IfSome files.map IsShort
+
+-- of both files where they are accepted, by what the first says
+abbrev pub site_remarks : (effects : Bool) → SiteFiles → Config → List Property → List ℕ
+site_remarks effects files c ps = workers_remarks effects files.workers.name.now c ps ++ map_remarks effects c (maps_of files)

@@ -1,11 +1,11 @@
 //! What is said of a map that is accepted: what in it has no effect, and what it means where it has no rule.
-ghost use Rattle.std.specs.Prelude.{◌≡◌, ◌++◌, ℕ, List, IfOk, IsOk};
+ghost use Rattle.std.specs.Prelude.{◌≡◌, ℕ, List, IfOk, IsOk};
 ghost use Rattle.jk_io.specs.Told.{HasCause};
 ghost use Rattle.site_config.specs.declared.values.WorkerKind.{WorkerKind};
 ghost use Rattle.remarks.specs.Added.{AddsText};
 ghost use Rattle.remarks.specs.KindTables.{IsKindTable};
-ghost use Rattle.remarks.specs.MapNotices.{empty_words, map_notices};
-ghost use Rattle.remarks.specs.Remarks.{IsShort};
+ghost use Rattle.remarks.specs.MapNotices.{empty_words};
+ghost use Rattle.remarks.specs.Remarks.{IsShort, as_file, effect_words};
 
 use crate::kinds::KindTable;
 use crate::map_notices::put_map_notices;
@@ -52,7 +52,7 @@ pub(crate) fn put_map_effects<O: Sink + Drop>(
 ) -> Result<(), IoError>
     requires { IsShort map.now }
     ensures added { (kinds : List (List ℕ × WorkerKind)) → IsKindTable table.now kinds → AddsText result out.old.said out.new.said
-        (map_notices map.now.name.now kinds map.now.text.now ++ empty_words map.now.name.now rules.now) }
+        (effect_words (as_file map.now) kinds rules.now) }
     ensures cause { HasCause out.old.faults out.new.faults result }
     ensures steady { IsOk result → out.new.faults ≡ out.old.faults }
 {

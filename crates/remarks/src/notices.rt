@@ -1,7 +1,6 @@
 //! What a site of mod_jk would expect to have effect, and hasn't.
 ghost use Rattle.std.specs.Prelude.{◌≡◌, ◌≤◌, ◌++◌, ℕ, List, Ok, Option, length, true, IsOk, OnOk};
-ghost use Rattle.std.specs.Option.{option_map, option_to_list};
-ghost use Rattle.std.specs.List.{flat_map};
+ghost use Rattle.std.specs.Option.{option_map};
 ghost use Rattle.site_config.specs.declared.values.WorkerKind.{WorkerKind};
 ghost use Rattle.site_config.specs.declared.property.Property.{Property};
 ghost use Rattle.jk_io.specs.Told.{HasCause};
@@ -23,6 +22,7 @@ ghost use Rattle.remarks.specs.Notices.{
   notice,
   notice_with,
   notices,
+  notices_by,
   owner_of,
   redirect_words,
   secret_words,
@@ -324,7 +324,7 @@ fn put_line_notice<O: Sink + Drop>(
     line: &[u8],
 ) -> Result<(), IoError>
     ensures added { ForTables tables.now (λ kinds ps. (says : Option Property) → Says number line.now says
-        → AddsText result out.old.said out.new.said (flat_map (notice file.now kinds ps) (option_to_list says))) }
+        → AddsText result out.old.said out.new.said (notices_by file.now kinds ps says)) }
     ensures cause { HasCause out.old.faults out.new.faults result }
     ensures steady { IsOk result → out.new.faults ≡ out.old.faults }
 {

@@ -1,5 +1,5 @@
 //! What a person reads of a site's files: why they are refused, and what of those that are accepted has no effect.
-ghost use Rattle.std.specs.Prelude.{◌≡◌, List, ◌++◌, Ok, true, IfSome, IsOk};
+ghost use Rattle.std.specs.Prelude.{◌≡◌, List, Ok, true, IfSome, IsOk};
 ghost use Rattle.std.specs.Option.{option_map};
 ghost use Rattle.jk_io.specs.Told.{HasCause};
 ghost use Rattle.site_config.specs.Properties as properties;
@@ -11,7 +11,7 @@ ghost use Rattle.remarks.specs.KindTables.{IsKindTable};
 ghost use Rattle.remarks.specs.Notices.{kinds_of, notices, site_kinds};
 ghost use Rattle.remarks.specs.Added.{AddsSaid, AddsText};
 ghost use Rattle.remarks.specs.Refused.{refused_lines, wrong_rule};
-ghost use Rattle.remarks.specs.Remarks.{AreRemarks, AreShort, IsShort, as_file, map_remarks, maps_of, rules_remarks, workers_refusals, workers_remarks};
+ghost use Rattle.remarks.specs.Remarks.{AreRemarks, AreShort, IsShort, as_file, map_remarks, maps_of, rules_remarks, site_remarks, workers_refusals, workers_remarks};
 
 use crate::again::line_table;
 use crate::explain::explain_workers;
@@ -192,8 +192,7 @@ fn put_accepted<O: Sink + Drop>(
 ) -> Result<(), IoError>
     requires short { AreShort files.now }
     ensures added { (ps : List Property) → properties.read_text true files.now.workers.text.now ≡ Ok ps
-        → AddsText result out.old.said out.new.said (workers_remarks effects files.now.workers.name.now config.now ps
-        ++ map_remarks effects config.now (maps_of files.now)) }
+        → AddsText result out.old.said out.new.said (site_remarks effects files.now config.now ps) }
     ensures cause { HasCause out.old.faults out.new.faults result }
     ensures steady { IsOk result → out.new.faults ≡ out.old.faults }
 {
