@@ -137,7 +137,7 @@ def serving():
     pair = ("a", "b")
     to = [forward(route=pair[n % 2]) for n in range(3)]
     entries = exchanges([(0, len(sent) + len(HI)) for sent in to], 2)
-    yield Row("a journal is cut at four", SERVE + "1 --cut 4", gears=[([GET * 3], [HI * 2, HI])], files=(("w", members(*pair)), ("m", LB)),
+    yield Row("a journal is cut at four", SERVE + "1 --cut 7", gears=[([GET * 3], [HI * 2, HI])], files=(("w", members(*pair)), ("m", LB)),
               back=[left(reply() * 3) + b"".join(talk(n % 2, sent) for n, sent in enumerate(to))
                     + journal(entries[:4], members=pair) + journal(entries[4:], 4, pair)])
     yield Row("no client comes", SERVE + "1", gears=[([], [])], files=FILES, back=[journal([])])
@@ -160,7 +160,7 @@ def faults():
     yield Row("a door fails", SERVE + "1", gears=[([GET, GET], [HI])], files=FILES, status=4, lines=["door-fails 1"],
               back=[left(reply()) + talk(0, forward()) + journal(exchanges([(0, len(forward()) + len(HI))]))])
     twice = exchanges([(0, len(forward()) + len(HI))] * 2)
-    yield Row("a shelf fails in a session, whose replies were written", SERVE + "1 --cut 1", gears=[([GET * 2, GET], [HI * 2])], files=FILES, status=4,
+    yield Row("a shelf fails in a session, whose replies were written", SERVE + "1 --cut 5", gears=[([GET * 2, GET], [HI * 2])], files=FILES, status=4,
               lines=["shelf-fails 0"], back=[left(reply() * 2) + talk(0, forward()) * 2 + journal(twice[2:], 2)])
     yield Row("a container's door fails", "container n1 127.0.0.1:8009 1", gears=[([], [])], status=4, lines=["door-fails 0"], back=[b""])
     yield Row("a shelf fails in the closing", SERVE + "1", gears=[([], [])], files=FILES, status=4, lines=["shelf-fails 0"], back=[b""])
@@ -183,7 +183,7 @@ def places():
         return exchanges([(session, len(sent) + len(HI)) for session, sent in zip(sessions, to)], 2)
     yield Row("9. the first accept of a door, and the other worker closes", SERVE + "2", gears=[([GET], [HI], "refuses"), ([GET], [HI])], files=files, status=4,
               back=[journal(entries(1), members=pair), left(reply()) + talk(0, to[0])])
-    yield Row("10. the first keep, once the session's replies were written", SERVE + "1 --cut 1", gears=[([GET * 2, GET], [HI, HI])], files=files, status=4,
+    yield Row("10. the first keep, once the session's replies were written", SERVE + "1 --cut 5", gears=[([GET * 2, GET], [HI, HI])], files=files, status=4,
               lines=["shelf-fails 0"], back=[left(reply() * 2) + talk(0, to[0]) + talk(1, to[1]) + journal(entries(0, 0)[2:], 2, pair)])
 
 

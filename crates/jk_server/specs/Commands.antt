@@ -1,6 +1,6 @@
 -- What `serve` and `container` do with the outside, and how they end. Read this first; what a run does is in specs/Runs.antt and
 -- specs/Containers.antt.
-use Rattle.std.specs.Prelude.{◌≡◌, ℕ, ◌≤◌, ◌⊎◌, min, List, [], length, map, Option, Some, None, codes, unwrap_or}
+use Rattle.std.specs.Prelude.{◌≡◌, ℕ, ◌-◌, ◌≤◌, ◌⊎◌, min, max, List, [], length, map, Option, Some, None, codes}
 use Rattle.std.specs.Option.{option_copied}
 use Rattle.std.specs.List.{All, AllZip}
 use Rattle.client_session.specs.Requests.{visit}
@@ -66,9 +66,11 @@ command_side told over = record {
   world = told.world.world over.2;
 }
 
--- the number of kept entries at which a journal is cut; where none is given it is 65,536
+-- The number of kept entries at which a journal is cut, where so many may be lost: three more than it may be in no file. It is
+-- one at least, and 65,536 where no number is given.
 abbrev pub cut_at : Option ℕ → ℕ
-cut_at cut = min (unwrap_or cut 65536) 4294967295
+cut_at None = 65536
+cut_at (Some most) = min (max (most - 3) 1) 4294967295
 
 -- ---- with the world
 

@@ -1,6 +1,6 @@
 -- How many entries a seat has seen as its own, after one hold more.
 use Rattle.std.proofs.Common.{◌≡◌, ℕ, ◌+◌, List, [], ◌++◌, length, drop, Option, None, inl, inr, ap, ◌∙◌, arith}
-use Rattle.std.specs.Prelude.{IfErr, IfOk, Result, Ok, Err}
+use Rattle.std.specs.Prelude.{IfErr, IfOk, OnErr, OnOk, Result, Ok, Err}
 use Rattle.std.proofs.lemmas.List.{length-append, length-drop, length-map}
 use Rattle.atomic_table.specs.Seated.{TableId}
 use Rattle.atomic_table.specs.Table.{Me}
@@ -104,3 +104,11 @@ count_back starts lock lock' old new rs rs' a a' k sees longer more counted =
       more,
       counted,
     )
+
+-- By what the hold answered.
+pub count_returned : {S E : Type 0} (starts : List Opening) (lock lock' : TableId) (old new : Me (Option S) (View (ℕ × Entry))) (rs rs' : List Receipt) (a a' : ℕ) (r : Result (Unit {0}) E)
+    → SeatSees starts old new (gained_in rs rs') → OnOk r (length rs' ≡ length rs + 1) → OnOk r (a' ≡ a + 1) → OnErr r ((rs' ≡ rs) × (a' ≡ a))
+    → own_count (seat_note lock old) ≡ a → own_count (seat_note lock' new) ≡ a'
+count_returned starts lock lock' old new rs rs' a a' (Ok x) sees one more none counted = count_back starts lock lock' old new rs rs' a a' 1 sees one more counted
+count_returned starts lock lock' old new rs rs' a a' (Err e) sees one more none counted =
+    count_back starts lock lock' old new rs rs' a a' 0 sees (omega (arith, ap (λ (xs : List Receipt). length xs) none.0)) (omega (arith, none.1)) counted

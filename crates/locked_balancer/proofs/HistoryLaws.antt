@@ -28,7 +28,7 @@ use Rattle.locked_balancer.specs.Seats.{by_seat}
 use Rattle.balancer_core.specs.Histories.{IsHistoryOf}
 use Rattle.balancer_core.proofs.HistoryLaws.{begins_here, cut_of, grown_of, whole_present}
 use Rattle.locked_balancer.specs.Histories.{IsPresentOf, IsSiteHistory, entries_in, entries_of, gained_in, last_in, noted, starts_of}
-use Rattle.locked_balancer.specs.Holds.{CutChooses, CutCommands, CutDenies, CutRefuses, CutsFirst, HeldState, HoldGains, HoldReturns, held}
+use Rattle.locked_balancer.specs.Holds.{CutChooses, CutCommands, CutDenies, CutMeets, CutRefuses, CutReturns, CutsFirst, HeldState, HoldGains, held}
 use Rattle.locked_balancer.specs.Notes.{MarkNote, ViewNote}
 use Rattle.locked_balancer.specs.Shelves.{CutsAt}
 use Rattle.locked_balancer.specs.Sites.{AreSited, At}
@@ -264,18 +264,14 @@ same_history starts n log old new lb same was =
       last = ap (λ (k : ℕ). last_in old.books lb k) none ∙ last-none old.books lb ∙ sym nothing;
     })
 
-pub back_history : {E : Type 0} (starts : List Opening) (n : ℕ) (log : List (ℕ × (ℕ × Entry))) (sizes firsts : List ℕ) (old new : HeldState) (session at : ℕ) (lease : LeaseNote) (outcome : Outcome)
-    (r : Result (Unit {0}) E) → lease.lb < length sizes → AreSited sizes firsts old.books → OnOk r (HoldReturns old new session at lease outcome) → OnErr r (new ≡ old)
-    → IsSiteHistory starts log old.books → Grew starts n log old.receipts new.receipts lease.lb new.books
-back_history starts n log sizes firsts old new session at lease outcome (Ok done) within are ok err was =
-    let known : lease.lb < length starts = subst (λ (k : ℕ). lease.lb < k) was.count (sited_within sizes firsts old.books lease.lb are within) in
-    let same : gained_in old.receipts new.receipts ≡ noted (ok.0 ∷ []) = gained-is old.receipts new.receipts (ok.0 ∷ []) ok.2.receipts in
-    record {
-      history = subst (λ (es : List (ℕ × Entry)). IsSiteHistory starts (log ++ by_seat n es) new.books) (sym same)
-          (grown_history starts n log old new lease.lb session at (ok.0 ∷ []) known ok.2 was);
-      last = last-grown old new lease.lb session at (length new.receipts - length old.receipts) (ok.0 ∷ []) ok.2 (gained-count old.receipts new.receipts (ok.0 ∷ []) ok.2.receipts) ∙ sym same;
-    }
-back_history starts n log sizes firsts old new session at lease outcome (Err e) within are ok err was = same_history starts n log old new lease.lb err was
+pub back_history : {E : Type 0} (starts : List Opening) (n : ℕ) (log : List (ℕ × (ℕ × Entry))) (sizes firsts : List ℕ) (books : List Journal) (new : HeldState) (receipts : List Receipt) (amount : ℕ)
+    (session at : ℕ) (lease : LeaseNote) (outcome : Outcome) (cut : Option (ℕ × Segment)) (r : Result (Unit {0}) E) → lease.lb < length sizes
+    → OnOk r (CutReturns sizes firsts cut (held books receipts amount) new session at lease outcome) → OnErr r (CutMeets sizes firsts cut (held books receipts amount) new lease.lb)
+    → IsSiteHistory starts log books → Grew starts n log receipts new.receipts lease.lb new.books
+back_history starts n log sizes firsts books new receipts amount session at lease outcome cut (Ok done) within ok err was =
+    hold_history starts n log sizes firsts books ok.0 new receipts amount lease.lb session at cut (ok.3.0 ∷ []) within ok.1 ok.2 ok.3.2 was
+back_history starts n log sizes firsts books new receipts amount session at lease outcome cut (Err e) within ok err was =
+    same_history starts n log (held err.0 receipts amount) new lease.lb err.3 (first_history starts log books err.0 lease.lb cut err.1 was)
 
 pub no_news : (books : List Journal) (lb count : ℕ) → count ≡ 0 → last_in books lb count ≡ []
 no_news books lb count is = ap (λ (k : ℕ). last_in books lb k) is ∙ last-none books lb

@@ -1,6 +1,6 @@
 -- How long the journals behind the lock may grow.
-use Rattle.std.proofs.Common.{◌≡◌, ℕ, zero, suc, ◌+◌, ◌<◌, ◌≤◌, true, List, [], ◌∷◌, ◌++◌, length, map, Option, Some, None, sym, ap, ◌∙◌, subst, inl, inr, arith}
-use Rattle.std.specs.Prelude.{◌==◌, ◌↔◌, IfErr, IfOk, IsOk, IsSome, OnErr, OnOk, Result, Ok, Err, slice_get, slice_index, slice_set}
+use Rattle.std.proofs.Common.{◌≡◌, ℕ, zero, suc, ◌+◌, ◌<◌, ◌≤◌, true, List, [], ◌∷◌, ◌++◌, length, map, Option, Some, None, refl, sym, ap, ◌∙◌, subst, inl, inr, arith}
+use Rattle.std.specs.Prelude.{◌==◌, ◌↔◌, IfErr, IfOk, IsErr, IsOk, IsSome, OnErr, OnOk, Result, Ok, Err, slice_get, slice_index, slice_set}
 use Rattle.std.proofs.lemmas.Bool.{cases_Bool, eqb-true}
 use Rattle.std.proofs.lemmas.List.{length-append, length-map}
 use Rattle.std.proofs.lemmas.Option.{slice_get_within}
@@ -30,9 +30,9 @@ use Rattle.balancer_core.specs.declared.desk.Choice.{Choice}
 use Rattle.balancer_core.specs.declared.receipt.Receipt.{Receipt}
 use Rattle.balancer_core.proofs.PlainLaws.{size-at}
 use Rattle.balancer_core.proofs.ToldLaws.{at_place, get-set, get-set_other, past-one, some_is}
-use Rattle.locked_balancer.specs.Holds.{AreShort, CutsFirst, HeldState, HoldChooses, HoldCommands, HoldDenies, HoldGains, HoldGainsLast, HoldRefuses, held, pools_of}
+use Rattle.locked_balancer.specs.Holds.{AreShort, CutsFirst, HeldState, HoldChooses, HoldCommands, HoldDenies, HoldGains, HoldGainsLast, HoldRefuses, cut_in, held, pools_of}
 use Rattle.locked_balancer.specs.Notes.{MarkNote, StrayNote}
-use Rattle.locked_balancer.specs.SharedDesks.{CutsWhen}
+use Rattle.locked_balancer.specs.SharedDesks.{CutsOrWants, CutsWhen}
 use Rattle.locked_balancer.specs.Shelves.{CutsAt}
 use Rattle.locked_balancer.specs.Sites.{AddsAt, AreSited, At, added_in}
 use Rattle.locked_balancer.proofs.HoldLaws.{sited_found}
@@ -215,6 +215,18 @@ cuts_when sizes firsts cut_at lb books books' (Some cut) are within cuts when = 
   whole = cuts.whole;
   legal = cuts.legal;
 }
+
+-- The first half of a hold that takes a lease back: it cut if due, but where memory was wanted.
+pub first_cut : {E : Type 0} (books mid : List Journal) (lb : ℕ) (cut : Result (Option (ℕ × Segment)) E) → IfOk cut (λ s. CutsFirst books mid lb s)
+    → OnErr cut (mid ≡ books) → CutsFirst books mid lb (cut_in cut)
+first_cut books mid lb (Ok cut) ok err = ok
+first_cut books mid lb (Err e) ok err = err
+
+pub cuts_or_wants : {E : Type 0} (sizes firsts : List ℕ) (cut_at lb : ℕ) (books mid : List Journal) (cut : Result (Option (ℕ × Segment)) E) → AreSited sizes firsts books
+    → lb < length books → IfOk cut (λ s. CutsFirst books mid lb s)
+    → IfOk cut (λ s. At books lb (λ b. IsSome s ↔ ((0 < cut_at) × (cut_at ≤ length b.entries)))) → CutsOrWants sizes cut_at lb (cut_in cut) (IsErr cut)
+cuts_or_wants sizes firsts cut_at lb books mid (Ok cut) are within ok when = inl (cuts_when sizes firsts cut_at lb books mid cut are within ok when)
+cuts_or_wants sizes firsts cut_at lb books mid (Err e) are within ok when = inr (refl, refl)
 
 -- A ticket that wasn't out.
 pub not_out_at : {T : Type 0} (sizes firsts : List ℕ) (books : List Journal) (lease : LeaseNote) (r : Result T StrayNote) → AreSited sizes firsts books → lease.lb < length books

@@ -1,5 +1,5 @@
 -- What a hold of the lock is for the desk that has it.
-use Rattle.std.proofs.Common.{◌≡◌, ℕ, zero, suc, ◌+◌, ◌^◌, ◌<◌, ◌≤◌, Bool, true, false, not, List, [], ◌∷◌, ◌++◌, length, take, drop, get_or, Option, Some, None, refl, sym, ap, ◌∙◌, subst, inl, inr, arith}
+use Rattle.std.proofs.Common.{◌≡◌, ℕ, zero, suc, ◌+◌, ◌^◌, ◌<◌, ◌≤◌, Bool, true, false, not, List, [], ◌∷◌, ◌++◌, length, take, drop, get_or, Option, Some, None, refl, sym, ap, ◌∙◌, subst, inl, inr, arith, append-nil}
 use Rattle.std.specs.Prelude.{◌&&◌, IfErr, IfOk, IfSome, OnErr, OnOk, Result, Ok, Err, reverse, slice_get, slice_index}
 use Rattle.std.specs.List.{AllByRecursion as ByRecursion}
 use Rattle.std.proofs.lemmas.Bool.{cases_Bool}
@@ -18,7 +18,7 @@ use Rattle.jk_model.specs.declared.refusal.RoomError.{RoomError}
 use Rattle.jk_model.specs.declared.refusal.RoomError.TheVariants as room
 use Rattle.jk_model.specs.declared.refusal.Stray.{Stray}
 use Rattle.jk_model.specs.declared.segment.Segment.{Segment}
-use Rattle.balancer_core.specs.Desks.{Chooses, Commands, DeskState, KeepsDesk, RefusesChoice, RefusesCommand, Gains, GainsDue, GainsLast, IsAskRefusal, IsChoice, IsCommandRefusal, IsDue, IsOwn, LeaseNote, first_stray, Shows, TakesBack, holds, is_pair, without_last}
+use Rattle.balancer_core.specs.Desks.{Chooses, Commands, DeskState, KeepsDesk, RefusesChoice, RefusesCommand, Gains, GainsDue, GainsLast, IsAskRefusal, IsChoice, IsCommandRefusal, IsDue, IsOwn, LeaseNote, Shows, TakesBack, holds, is_pair, without_last}
 use Rattle.balancer_core.specs.Journal.{Journal, next_number, past_of}
 use Rattle.balancer_core.specs.ToldBooks.{AreNextAt, AreSound, Follows, IsFound}
 use Rattle.balancer_core.specs.declared.desk.Choice.{Choice}
@@ -26,13 +26,13 @@ use Rattle.balancer_core.specs.declared.desk.Choice.TheVariants as choice
 use Rattle.balancer_core.specs.declared.receipt.Receipt.{Receipt}
 use Rattle.balancer_core.proofs.PlainLaws.{pair_is}
 use Rattle.balancer_core.proofs.ToldLaws.{some_is}
-use Rattle.locked_balancer.specs.Holds.{CutsFirst, HeldState, HoldChooses, HoldCommands, HoldGains, HoldDenies, HoldGainsDue, HoldGainsLast, HoldRefuses, IsHoldChoice, held}
-use Rattle.locked_balancer.specs.Notes.{MarkNote, StrayNote, ViewNote}
+use Rattle.locked_balancer.specs.Holds.{CutMeets, CutReturns, CutsFirst, HeldState, HoldChooses, HoldCommands, HoldGains, HoldDenies, HoldGainsDue, HoldGainsLast, HoldRefuses, IsHoldChoice, held}
+use Rattle.locked_balancer.specs.Notes.{MarkNote, ViewNote}
 use Rattle.locked_balancer.specs.Shelves.{CutsAt}
 use Rattle.locked_balancer.specs.Sites.{AreSited}
 use Rattle.locked_balancer.proofs.HoldLaws.{sited_found}
 use Rattle.locked_balancer.proofs.LockLaws.{after_cut, returned as returned_done}
-use Rattle.locked_balancer.specs.SharedDesks.{AreKnown, CountsFull, CountsRefusal, GoesOnFrom, IsShared, first_met, pairs_of, shared_desk, stray_in}
+use Rattle.locked_balancer.specs.SharedDesks.{AreKnown, CountsFull, CountsRefusal, GoesOnFrom, IsShared, pairs_of, shared_desk}
 
 pub none_sound : (sizes : List ℕ) → AreSound sizes None
 none_sound sizes = record {
@@ -281,6 +281,11 @@ gained_due old new lb session at due is gains =
     let one : length due ≤ 1 = due_length due is in
     (due, gains.receipts, gains.amount, omega arith)
 
+two_gained : (rs rs' : List Receipt) (a a' : ℕ) → Gained rs rs' a a' → length rs' ≤ length rs + 2
+two_gained rs rs' a a' is =
+    let all : length rs' ≡ length rs + length is.0 = ap (λ (xs : List Receipt). length xs) is.1 ∙ length-append rs is.0 in
+    omega (arith, is.3)
+
 -- The entry that comes first after a cut has the number that comes after the segment's.
 first_gained : (rs : List Receipt) (x : Receipt) (rest : List Receipt) → slice_get (rs ++ x ∷ rest) (length rs) ≡ Some x
 first_gained [] x rest = refl
@@ -309,6 +314,11 @@ goes_on_from before mid lb cut rs rs' gained b at is found next receipts =
     λ r there. number_after rs gained b at (cut.1.opening.next + length cut.1.entries) next number r
     (sym (ap (λ (xs : List Receipt). slice_get xs (length rs)) receipts) ∙ there)
 
+goes_on_none : (cut : Option (ℕ × Segment)) (rs rs' : List Receipt) → rs' ≡ rs → IfSome cut (λ x. GoesOnFrom x.1 rs rs')
+goes_on_none None rs rs' same = tt
+goes_on_none (Some x) rs rs' same = λ r there.
+    absurd (none_gained rs r (sym (ap (λ (xs : List Receipt). slice_get xs (length rs)) (same ∙ sym (append-nil rs))) ∙ there))
+
 module _ (sizes firsts : List ℕ) (before after : List Journal) (cut : Option (ℕ × Segment)) (rs rs' : List Receipt) (a a' : ℕ) (lb session at : ℕ) where
   -- What the locked value's choice says, and its command.
   abbrev pub ChoseOk : Ask → Choice LeaseNote → Type 0
@@ -330,6 +340,13 @@ module _ (sizes firsts : List ℕ) (before after : List Journal) (cut : Option (
   pub gained_command : {T : Type 0} (command : Command) (r : Result T (AdminError MarkNote)) → OnOk r (DidOk command) → IfErr r (λ e. DidErr command e) → Gained rs rs' a a'
   gained_command command (Ok c) ok err = gained_last (held ok.0 rs a) (held after rs' a') lb session at ok.3.last ok.3.gains
   gained_command command (Err e) ok err = gained_due (held err.0 rs a) (held after rs' a') lb session at err.3.due err.3.is_due err.3.gains
+
+  -- At most two.
+  pub two_chosen : (ask : Ask) (r : Result (Choice LeaseNote) (RoomError MarkNote)) → IfOk r (λ c. ChoseOk ask c) → IfErr r (λ e. ChoseErr e) → length rs' ≤ length rs + 2
+  two_chosen ask r ok err = two_gained rs rs' a a' (gained_choose ask r ok err)
+
+  pub two_commanded : {T : Type 0} (command : Command) (r : Result T (AdminError MarkNote)) → OnOk r (DidOk command) → IfErr r (λ e. DidErr command e) → length rs' ≤ length rs + 2
+  two_commanded command r ok err = two_gained rs rs' a a' (gained_command command r ok err)
 
   cut_first : (mid : List Journal) (c : Option (ℕ × Segment)) → CutsFirst before mid lb c → IfSome c (λ x. x.0 ≡ lb)
   cut_first mid None is = tt
@@ -443,31 +460,44 @@ none_desk sizes parts rs rs' h h' a s f w f' w' m lb session at wanting account 
 }
 
 -- A Return.
-pub back_ok : {E : Type 0} (sizes firsts : List ℕ) (before after : List Journal) (rs rs' : List Receipt) (parts parts' a a' session at : ℕ) (lease : LeaseNote) (outcome : Outcome) (r : Result (Unit {0}) E)
-    → parts' ≡ parts → AreSited sizes firsts before → OnOk r ((x : Receipt) × (x.entry.call ≡ call.Return lease.ticket outcome) × HoldGains (held before rs a) (held after rs' a') lease.lb session at (x ∷ []))
-    → OnOk r ((s f w : ℕ) (m : Option Stray) (h h' : List (ℕ × ℕ)) → TakesBack (shared_desk sizes parts rs h a s f w m) (shared_desk sizes parts' rs' h' a' s f w m) session at lease outcome)
-back_ok sizes firsts before after rs rs' parts parts' a a' session at lease outcome (Ok x) same are ok = λ s f w m h h'.
-    subst (λ (n : ℕ). TakesBack (shared_desk sizes parts rs h a s f w m) (shared_desk sizes n rs' h' a' s f w m) session at lease outcome) (sym same)
-    (takes_back_desk sizes firsts parts (held before rs a) (held after rs' a') h h' s f w m session at lease outcome ok.0 are ok.1 ok.2)
-back_ok sizes firsts before after rs rs' parts parts' a a' session at lease outcome (Err e) same are ok = tt
+-- A Return's hold, which cut before it if due.
+module _ (sizes firsts : List ℕ) (before after : List Journal) (cut : Option (ℕ × Segment)) (rs rs' : List Receipt) (a a' session at : ℕ) (lease : LeaseNote) (outcome : Outcome) where
+  abbrev pub BackOk : Type 0
+  BackOk = CutReturns sizes firsts cut (held before rs a) (held after rs' a') session at lease outcome
 
-pub back_length : {E : Type 0} (before after : List Journal) (rs rs' : List Receipt) (a a' session at : ℕ) (lease : LeaseNote) (outcome : Outcome) (r : Result (Unit {0}) E)
-    → OnOk r ((x : Receipt) × (x.entry.call ≡ call.Return lease.ticket outcome) × HoldGains (held before rs a) (held after rs' a') lease.lb session at (x ∷ []))
-    → OnOk r (length rs' ≡ length rs + 1)
-back_length before after rs rs' a a' session at lease outcome (Ok x) ok =
-    ap (λ (xs : List Receipt). length xs) ok.2.receipts ∙ length-append rs (ok.0 ∷ [])
-back_length before after rs rs' a a' session at lease outcome (Err e) ok = tt
+  abbrev pub BackErr : Type 0
+  BackErr = CutMeets sizes firsts cut (held before rs a) (held after rs' a') lease.lb
 
-pub back_amount : {E : Type 0} (before after : List Journal) (rs rs' : List Receipt) (a a' session at : ℕ) (lease : LeaseNote) (outcome : Outcome) (r : Result (Unit {0}) E)
-    → OnOk r ((x : Receipt) × (x.entry.call ≡ call.Return lease.ticket outcome) × HoldGains (held before rs a) (held after rs' a') lease.lb session at (x ∷ []))
-    → OnOk r (a' ≡ a + 1)
-back_amount before after rs rs' a a' session at lease outcome (Ok x) ok = ok.2.amount
-back_amount before after rs rs' a a' session at lease outcome (Err e) ok = tt
+  pub back_ok : {E : Type 0} (parts parts' : ℕ) (r : Result (Unit {0}) E) → parts' ≡ parts → OnOk r BackOk
+      → OnOk r ((s f w : ℕ) (m : Option Stray) (h h' : List (ℕ × ℕ)) → TakesBack (shared_desk sizes parts rs h a s f w m) (shared_desk sizes parts' rs' h' a' s f w m) session at lease outcome)
+  back_ok parts parts' (Ok x) same ok = λ s f w m h h'.
+      subst (λ (n : ℕ). TakesBack (shared_desk sizes parts rs h a s f w m) (shared_desk sizes n rs' h' a' s f w m) session at lease outcome) (sym same)
+      (takes_back_desk sizes firsts parts (held ok.0 rs a) (held after rs' a') h h' s f w m session at lease outcome ok.3.0 ok.2 ok.3.1 ok.3.2)
+  back_ok parts parts' (Err e) same ok = tt
 
-pub back_err : {T E : Type 0} (before after : List Journal) (rs rs' : List Receipt) (a a' : ℕ) (r : Result T E) → OnErr r (held after rs' a' ≡ held before rs a)
-    → OnErr r ((rs' ≡ rs) × (a' ≡ a))
-back_err before after rs rs' a a' (Ok x) err = tt
-back_err before after rs rs' a a' (Err e) err = (ap (λ (x : HeldState). x.receipts) err, ap (λ (x : HeldState). x.amount) err)
+  pub back_length : {E : Type 0} (r : Result (Unit {0}) E) → OnOk r BackOk → OnOk r (length rs' ≡ length rs + 1)
+  back_length (Ok x) ok = ap (λ (xs : List Receipt). length xs) ok.3.2.receipts ∙ length-append rs (ok.3.0 ∷ [])
+  back_length (Err e) ok = tt
+
+  pub back_amount : {E : Type 0} (r : Result (Unit {0}) E) → OnOk r BackOk → OnOk r (a' ≡ a + 1)
+  back_amount (Ok x) ok = ok.3.2.amount
+  back_amount (Err e) ok = tt
+
+  pub back_err : {E : Type 0} (r : Result (Unit {0}) E) → OnErr r BackErr → OnErr r ((rs' ≡ rs) × (a' ≡ a))
+  back_err (Ok x) err = tt
+  back_err (Err e) err = (ap (λ (x : HeldState). x.receipts) err.3, ap (λ (x : HeldState). x.amount) err.3)
+
+  pub one_back : {E : Type 0} (r : Result (Unit {0}) E) → OnOk r BackOk → OnErr r BackErr → length rs' ≤ length rs + 1
+  one_back (Ok x) ok err = omega (arith, ap (λ (xs : List Receipt). length xs) ok.3.2.receipts, length-append rs (ok.3.0 ∷ []))
+  one_back (Err e) ok err = omega (arith, ap (λ (x : HeldState). length x.receipts) err.3)
+
+  pub cut_back : {E : Type 0} (r : Result (Unit {0}) E) → OnOk r BackOk → OnErr r BackErr → IfSome cut (λ x. x.0 ≡ lease.lb)
+  cut_back (Ok x) ok err = cut_first sizes firsts before after cut rs rs' a a' lease.lb session at ok.0 cut ok.1
+  cut_back (Err e) ok err = cut_first sizes firsts before after cut rs rs' a a' lease.lb session at err.0 cut err.1
+
+  pub next_back : {E : Type 0} (r : Result (Unit {0}) E) → OnOk r BackOk → OnErr r BackErr → IfSome cut (λ x. GoesOnFrom x.1 rs rs')
+  next_back (Ok x) ok err = next_first sizes firsts before after cut rs rs' a a' lease.lb session at ok.0 cut (ok.3.0 ∷ []) ok.1 ok.3.2
+  next_back (Err e) ok err = goes_on_none cut rs rs' (ap (λ (x : HeldState). x.receipts) err.3)
 
 pub holds_all : (held : List (ℕ × ℕ)) (p : ℕ × ℕ) (n : ℕ) → length held ≤ n → holds (drop n held) p ≡ false
 holds_all held p n all = rw (drop_all n held all) refl
@@ -552,17 +582,6 @@ module _ (sizes : List ℕ) (parts parts' : ℕ) (rs rs' : List Receipt) (h h' :
     sound = none_sound sizes;
   }
 
--- The desk over the lock keeps the first stray as each desk does.
-pub first_told : (met now : Option StrayNote) (lb : ℕ) (stray : Stray) → now ≡ first_met met (record { lb = lb; stray = stray })
-    → stray_in now ≡ first_stray (stray_in met) stray
-first_told None now lb stray is = rw is refl
-first_told (Some before) now lb stray is = rw is refl
-
-pub stray_kept : (met now : Option StrayNote) (lb : ℕ) (stray : Stray) → now ≡ first_met met (record { lb = lb; stray = stray })
-    → (told : Stray) → stray_in met ≡ Some told → stray_in now ≡ Some told
-stray_kept None now lb stray is told was = absurd cc
-stray_kept (Some before) now lb stray is told was = rw is was
-
 -- After a Return, and after a stray.
 pub shared_back : (n : ℕ) (rs rs' : List Receipt) (h h' : List (ℕ × ℕ)) (p : ℕ × ℕ) (parts parts' a a' f room room' : ℕ) → IsShared n rs h parts a f room → holds h p ≡ true
     → length rs' ≡ length rs + 1 → a' ≡ a + 1 → a' ≤ 2 ^ 58 → parts' ≡ parts → h' ≡ without_last h p → room ≤ room' → IsShared n rs' h' parts' a' f room'
@@ -589,6 +608,15 @@ shared_stray n rs rs' h h' p parts parts' a a' f room room' is same_receipts sam
       known = subst (λ (xs : List (ℕ × ℕ)). AreKnown n xs) (sym without) (known-without n h p is.known);
       roomy = let roomy : length rs + length h ≤ room = is.roomy in omega arith;
     }
+
+-- After either of the two.
+pub shared_returned : {E : Type 0} (n : ℕ) (rs rs' : List Receipt) (h h' : List (ℕ × ℕ)) (p : ℕ × ℕ) (parts parts' a a' f room room' : ℕ) (r : Result (Unit {0}) E)
+    → IsShared n rs h parts a f room → holds h p ≡ true → OnOk r (length rs' ≡ length rs + 1) → OnOk r (a' ≡ a + 1) → OnErr r ((rs' ≡ rs) × (a' ≡ a))
+    → a' ≤ 2 ^ 58 → parts' ≡ parts → h' ≡ without_last h p → room ≤ room' → IsShared n rs' h' parts' a' f room'
+shared_returned n rs rs' h h' p parts parts' a a' f room room' (Ok x) is had one counted none few same without more =
+    shared_back n rs rs' h h' p parts parts' a a' f room room' is had one counted few same without more
+shared_returned n rs rs' h h' p parts parts' a a' f room room' (Err e) is had one counted none few same without more =
+    shared_stray n rs rs' h h' p parts parts' a a' f room room' is none.0 none.1 same without more
 
 -- What is looked at.
 pub shows_shared : {E : Type 0} (sizes : List ℕ) (parts : ℕ) (rs : List Receipt) (h : List (ℕ × ℕ)) (a s f w : ℕ) (m : Option Stray) (lb : ℕ) (r : Result ViewNote E)

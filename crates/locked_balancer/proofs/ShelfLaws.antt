@@ -1,5 +1,6 @@
 -- What became of a desk's shelf since a moment, after one call more.
 use Rattle.std.proofs.Common.{◌≡◌, ℕ, ◌≤◌, List, [], ◌∷◌, ◌++◌, length, drop, Option, Some, None, inl, inr, refl, sym, ap, ◌∙◌, arith}
+use Rattle.std.specs.Prelude.{⊤}
 use Rattle.jk_io.specs.Told.{appended}
 use Rattle.jk_io.proofs.ToldLaws.{appended-appended, appended-nil}
 use Rattle.jk_model.specs.declared.segment.Segment.{Segment}
@@ -52,6 +53,21 @@ put_on shelved faults old new (Some cut) put forgotten =
 pub shelved_put : {S : Type 0} (shelved : S → Option (List (ℕ × Segment))) (faults : S → ℕ) (sizes : List ℕ) (cut_at lb : ℕ) (old new : SharedState S) (W : Type 0)
     → PutsAwayOf shelved faults sizes cut_at lb old new W → ShelvesOn (shelf_note shelved faults old) (shelf_note shelved faults new)
 shelved_put shelved faults sizes cut_at lb old new W put = put_on shelved faults old new put.cut put.put put.forgotten
+
+-- Why nothing was cut isn't told.
+pub put_untold : {S : Type 0} (shelved : S → Option (List (ℕ × Segment))) (faults : S → ℕ) (sizes : List ℕ) (cut_at lb : ℕ) (old new : SharedState S) (W : Type 0)
+    → PutsAwayOf shelved faults sizes cut_at lb old new W → PutsAwayOf shelved faults sizes cut_at lb old new ⊤
+put_untold shelved faults sizes cut_at lb old new W put = record {
+  cut = put.cut;
+  of = put.of;
+  when = elim put.when [
+    | inl is ↦ inl is
+    | inr wanted ↦ inr (wanted.0, tt)
+  ];
+  next = put.next;
+  put = put.put;
+  forgotten = put.forgotten;
+}
 
 -- A call that leaves it alone.
 pub shelved_same : {S : Type 0} (shelved : S → Option (List (ℕ × Segment))) (faults : S → ℕ) (old new : S) (wants wants' forgotten forgotten' : ℕ)

@@ -1,5 +1,5 @@
 -- What one hold of the lock does: a Maintain if due, and then a call, on one Book.
-use Rattle.std.specs.Prelude.{◌≡◌, ℕ, ◌+◌, ◌<◌, ◌≤◌, ◌⊎◌, Bool, false, List, [], ◌∷◌, ◌++◌, length, sum_by, Option, Some, None, slice_get, slice_index, slice_set}
+use Rattle.std.specs.Prelude.{◌≡◌, ℕ, ◌+◌, ◌<◌, ◌≤◌, ◌⊎◌, Bool, false, List, [], ◌∷◌, ◌++◌, length, sum_by, Option, Some, None, Result, Ok, Err, slice_get, slice_index, slice_set}
 use Rattle.std.specs.List.{All}
 use Rattle.jk_model.specs.Free.{is_in}
 use Rattle.jk_model.specs.Legal.{HasValues}
@@ -162,6 +162,21 @@ abbrev pub CutRefuses : (sizes firsts : List ℕ) → Option (ℕ × Segment) �
 CutRefuses sizes firsts cut old new on command e =
     (mid : List Journal) × CutsFirst old.books mid on.lb cut × AreSited sizes firsts mid
     × HoldRefuses (held mid old.receipts old.amount) new on.lb on.session on.at command e
+
+-- What was cut, where there was memory for it.
+abbrev pub cut_in : {E : Type 0} → Result (Option (ℕ × Segment)) E → Option (ℕ × Segment)
+cut_in (Ok cut) = cut
+cut_in (Err e) = None
+
+-- A hold cut if due, and then it took a lease back, or it met a stray, and changed nothing else.
+abbrev pub CutReturns : (sizes firsts : List ℕ) → Option (ℕ × Segment) → (old new : HeldState) → (session at : ℕ) → LeaseNote → Outcome → Type 0
+CutReturns sizes firsts cut old new session at lease outcome =
+    (mid : List Journal) × CutsFirst old.books mid lease.lb cut × AreSited sizes firsts mid
+    × HoldReturns (held mid old.receipts old.amount) new session at lease outcome
+
+abbrev pub CutMeets : (sizes firsts : List ℕ) → Option (ℕ × Segment) → (old new : HeldState) → (lb : ℕ) → Type 0
+CutMeets sizes firsts cut old new lb =
+    (mid : List Journal) × CutsFirst old.books mid lb cut × AreSited sizes firsts mid × (new ≡ held mid old.receipts old.amount)
 
 -- A mark of this refusal of balancer lb; that of a Full has the numbers of a Book with fewer than `more` left.
 pub record IsMark (lb : ℕ) (why : MarkKind) (mark : MarkNote) : Type 0 where

@@ -99,7 +99,7 @@ CutsOrWants sizes cut_at lb cut Wanting = CutsWhen sizes cut_at lb cut ⊎ ((cut
 abbrev pub GoesOnFrom : Segment → (old new : List Receipt) → Type 0
 GoesOnFrom s old new = (r : Receipt) → slice_get new (length old) ≡ Some r → r.entry.seq ≡ s.opening.next + length s.entries
 
--- At most one segment of balancer lb was put away, and nothing else changed beside what each desk tells.
+-- At most one segment of balancer lb was put away, and no receipt was forgotten.
 pub record PutsAwayOf {S : Type 0} (shelved : S → Option (List (ℕ × Segment))) (faults : S → ℕ) (sizes : List ℕ) (cut_at lb : ℕ) (old new : SharedState S) (Wanting : Type 0) : Type 0 where
   pub cut : Option (ℕ × Segment)
   pub of : IfSome cut (λ s. s.0 ≡ lb)
@@ -107,7 +107,6 @@ pub record PutsAwayOf {S : Type 0} (shelved : S → Option (List (ℕ × Segment
   pub next : IfSome cut (λ s. GoesOnFrom s.1 old.desk.receipts new.desk.receipts)
   pub put : PutsAway shelved faults old.shelf new.shelf old.wants new.wants cut
   pub forgotten : new.forgotten ≡ old.forgotten
-  pub met : new.met ≡ old.met
 
 -- The place of the last copy of this pair, if there is one.
 abbrev pub IsLastPlace : List (ℕ × ℕ) → ℕ × ℕ → Option ℕ → Type 0

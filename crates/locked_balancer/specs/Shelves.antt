@@ -24,6 +24,11 @@ pub record CutsAt (old new : List Journal) (lb : ℕ) (cut : ℕ × Segment) : T
   pub is_cut : IsCut book after
   pub others : new ≡ slice_set old lb after
 
+-- So many entries may be added to balancer lb.
+pub record AdmissionNote : Type 0 where
+  pub lb : ℕ
+  pub entries : ℕ
+
 -- What is told of a desk's shelf: the segments that it kept, how often it failed, and for how many segments it wanted memory;
 -- and how many receipts the desk forgot.
 pub record ShelfNote : Type 0 where

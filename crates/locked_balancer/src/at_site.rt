@@ -1,11 +1,11 @@
 //! One hold of the lock, over what a desk keeps: its receipts, the pairs that it holds, and its share.
-ghost use Rattle.std.specs.Prelude.{◌≡◌, [], None, ◌++◌, ◌+◌, ◌<◌, ◌≤◌, true, length, slice_index, vec_len, vec_capacity, IfOk, IfErr, IfSome, IsErrOf, OnOk, OnErr};
+ghost use Rattle.std.specs.Prelude.{◌≡◌, [], None, ◌++◌, ◌+◌, ◌<◌, ◌≤◌, true, length, slice_index, vec_len, vec_capacity, IfOk, IfErr, IfSome, IsErr, IsErrOf, OnOk, OnErr};
 ghost use Rattle.jk_model.specs.Present.{IsPresent};
 ghost use Rattle.balancer_core.specs.Journal.{Journal, past_of};
 ghost use Rattle.balancer_core.specs.ToldBooks.{IsFound};
 ghost use Rattle.balancer_core.specs.Desks.{IsNotOut, is_pair, without_last};
 ghost use Rattle.locked_balancer.specs.Histories.{IsPresentOf, IsResting, SeatMaySee, SeatSees, gained_in, seen_of};
-ghost use Rattle.locked_balancer.specs.Holds.{IsAdminMark, IsRoomMark};
+ghost use Rattle.locked_balancer.specs.Holds.{IsAdminMark, IsRoomMark, cut_in};
 ghost use Rattle.locked_balancer.specs.SharedDesks.{CutsOrWants, GoesOnFrom, IsLastPlace, pairs_of};
 ghost use Rattle.locked_balancer.specs.SharedLists.{
   KeepsLists,
@@ -20,9 +20,9 @@ ghost use Rattle.jk_model.specs.declared.journal.TheConstants.{MOST_BYTES};
 ghost use Rattle.locked_balancer.specs.declared.site.TheConstants.{MOST_ENTRIES};
 
 use crate::held::{choose_held, command_held, give_back_held, look_held};
-use crate::locked::{Cut, HandedBack};
+use crate::locked::{Cut, CutBack, HandedBack};
 use crate::shared_site::SharedSite;
-use crate::site::{SiteLease, SiteMark, SiteName, SiteReceipt, SiteStray, SiteView};
+use crate::site::{SiteLease, SiteMark, SiteName, SiteReceipt, SiteView};
 use crate::stake::Stake;
 use balancer_core::desk::{Choice, Occasion};
 use jk_io::NoMemory;
@@ -55,6 +55,7 @@ pub(crate) fn choose_at<'r, L: SiteName, R: Wait>(
     ensures when { CutsOrWants L.sizes L.cut_at on.lb result.0 (IsErrOf result.1 RoomError.NoMemory) }
     ensures cut { IfSome result.0 (λ s. s.0 ≡ on.lb) }
     ensures next { IfSome result.0 (λ s. GoesOnFrom s.1 receipts.old.items receipts.new.items) }
+    ensures two { length receipts.new.items ≤ length receipts.old.items + 2 }
     ensures parts { stake.new.share.parts ≡ stake.old.share.parts }
 {
     match take_room(receipts, held) {
@@ -121,6 +122,7 @@ pub(crate) fn command_at<'r, L: SiteName, R: Wait>(
     ensures when { CutsOrWants L.sizes L.cut_at on.lb result.0 (IsErrOf result.1 AdminError.NoMemory) }
     ensures cut { IfSome result.0 (λ s. s.0 ≡ on.lb) }
     ensures next { IfSome result.0 (λ s. GoesOnFrom s.1 receipts.old.items receipts.new.items) }
+    ensures two { length receipts.new.items ≤ length receipts.old.items + 2 }
     ensures parts { stake.new.share.parts ≡ stake.old.share.parts }
 {
     match receipts.reserve(held.len() + 2) {
@@ -130,7 +132,7 @@ pub(crate) fn command_at<'r, L: SiteName, R: Wait>(
     command_held(site, stake, receipts, on, command)
 }
 
-/// A Return of a lease. It takes no memory.
+/// A Return of a lease. It isn't refused for want of memory.
 pub(crate) fn give_back_at<'r, L: SiteName, R: Wait>(
     site: &SharedSite<'r, L, R>,
     stake: &mut Stake<L>,
@@ -138,19 +140,23 @@ pub(crate) fn give_back_at<'r, L: SiteName, R: Wait>(
     session: u32,
     at: u64,
     back: HandedBack<L>,
-) -> Result<(), SiteStray<L>>
+) -> CutBack<L>
     requires seat { (stake.old.seat.table_id ≡ site.now.lock.table.shared.table_id) × IsResting stake.old.seat.me }
     requires known { back.lease.lb < length L.sizes }
     requires part { 0 < stake.old.share.parts }
     requires room { vec_len receipts.old < vec_capacity receipts.old }
     requires bytes { back.outcome.bytes ≤ MOST_BYTES }
-    ensures ok { OnOk result (ListsTakeBack L.sizes (lists stake.old.share.parts stake.old.share.amount receipts.old)
+    ensures ok { OnOk result.1 (ListsTakeBack L.sizes (lists stake.old.share.parts stake.old.share.amount receipts.old)
         (lists stake.new.share.parts stake.new.share.amount receipts.new) session at back.lease back.outcome) }
-    ensures length { OnOk result (length receipts.new.items ≡ length receipts.old.items + 1) }
-    ensures amount { OnOk result (stake.new.share.amount ≡ stake.old.share.amount + 1) }
-    ensures stray { IfErr result (λ s. (s.lb ≡ back.lease.lb) × (s.stray.ticket ≡ back.lease.ticket)) }
-    ensures why { IfErr result (λ s. IsNotOut L.sizes None back.lease s.stray) }
-    ensures err { OnErr result ((receipts.new.items ≡ receipts.old.items) × (stake.new.share.amount ≡ stake.old.share.amount)) }
+    ensures length { OnOk result.1 (length receipts.new.items ≡ length receipts.old.items + 1) }
+    ensures one { length receipts.new.items ≤ length receipts.old.items + 1 }
+    ensures amount { OnOk result.1 (stake.new.share.amount ≡ stake.old.share.amount + 1) }
+    ensures stray { IfErr result.1 (λ s. (s.lb ≡ back.lease.lb) × (s.stray.ticket ≡ back.lease.ticket)) }
+    ensures why { IfErr result.1 (λ s. IsNotOut L.sizes None back.lease s.stray) }
+    ensures err { OnErr result.1 ((receipts.new.items ≡ receipts.old.items) × (stake.new.share.amount ≡ stake.old.share.amount)) }
+    ensures when { CutsOrWants L.sizes L.cut_at back.lease.lb (cut_in result.0) (IsErr result.0) }
+    ensures cut { IfSome (cut_in result.0) (λ s. s.0 ≡ back.lease.lb) }
+    ensures next { IfSome (cut_in result.0) (λ s. GoesOnFrom s.1 receipts.old.items receipts.new.items) }
     ensures sees { SeatSees L.starts stake.old.seat.me stake.new.seat.me (gained_in receipts.old.items receipts.new.items) }
     ensures table { stake.new.seat.table_id ≡ stake.old.seat.table_id }
     ensures few { stake.new.share.amount ≤ MOST_ENTRIES }

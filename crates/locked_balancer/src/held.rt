@@ -1,19 +1,18 @@
 //! One hold of the Site's lock: the value is taken, the call is made on it, and it goes home with its history.
-ghost use Rattle.std.specs.Prelude.{◌≡◌, ◌+◌, ◌<◌, ◌≤◌, [], None, length, slice_index, vec_len, vec_capacity, IfOk, IfErr, IsErrOf, OnOk, OnErr};
+ghost use Rattle.std.specs.Prelude.{◌≡◌, ◌+◌, ◌<◌, ◌≤◌, [], None, length, slice_index, vec_len, vec_capacity, IfOk, IfErr, IsErr, IsErrOf, OnOk, OnErr};
 ghost use Rattle.jk_model.specs.Present.{IsPresent};
 ghost use Rattle.balancer_core.specs.Desks.{IsNotOut};
 ghost use Rattle.balancer_core.specs.Journal.{Journal, past_of};
 ghost use Rattle.balancer_core.specs.ToldBooks.{IsFound};
 ghost use Rattle.locked_balancer.specs.Histories.{IsPresentOf, IsResting, OfBooks, SeatSees, gained_in, seen_of};
-ghost use Rattle.locked_balancer.specs.Holds.{CutChooses, CutCommands, CutDenies, CutRefuses, HoldReturns, IsAdminMark, IsRoomMark, held};
+ghost use Rattle.locked_balancer.specs.Holds.{CutChooses, CutCommands, CutDenies, CutMeets, CutRefuses, CutReturns, IsAdminMark, IsRoomMark, cut_in, held};
 ghost use Rattle.locked_balancer.specs.SharedDesks.{CutsOrWants};
-ghost use Rattle.locked_balancer.specs.Sites.{AreSited};
 ghost use Rattle.jk_model.specs.declared.journal.TheConstants.{MOST_BYTES};
 ghost use Rattle.locked_balancer.specs.declared.site.TheConstants.{MOST_ENTRIES};
 
-use crate::locked::{Cut, HandedBack};
+use crate::locked::{Cut, CutBack, HandedBack};
 use crate::shared_site::SharedSite;
-use crate::site::{SiteLease, SiteMark, SiteName, SiteReceipt, SiteStray, SiteView};
+use crate::site::{SiteLease, SiteMark, SiteName, SiteReceipt, SiteView};
 use crate::stake::Stake;
 use balancer_core::desk::{Choice, Occasion};
 use jk_io::NoMemory;
@@ -90,28 +89,29 @@ pub(crate) fn command_held<'r, L: SiteName, R: Wait>(
     done
 }
 
-/// A hold that takes a lease back, for a session at a moment.
+/// A hold that cuts the journal if due, and takes a lease back, for a session at a moment.
 pub(crate) fn give_back_held<'r, L: SiteName, R: Wait>(
     site: &SharedSite<'r, L, R>,
     stake: &mut Stake<L>,
     receipts: &mut Vec<SiteReceipt<L>>,
     by: (u32, u64),
     back: HandedBack<L>,
-) -> Result<(), SiteStray<L>>
+) -> CutBack<L>
     requires seat { (stake.old.seat.table_id ≡ site.now.lock.table.shared.table_id) × IsResting stake.old.seat.me }
     requires lb { back.lease.lb < length L.sizes }
     requires bytes { back.outcome.bytes ≤ MOST_BYTES }
     requires part { 0 < stake.old.share.parts }
     requires room { vec_len receipts.old < vec_capacity receipts.old }
     ensures held { OfBooks (λ books after.
-        OnOk result (HoldReturns (held books receipts.old.items stake.old.share.amount)
+        OnOk result.1 (CutReturns L.sizes L.firsts (cut_in result.0) (held books receipts.old.items stake.old.share.amount)
         (held after receipts.new.items stake.new.share.amount) by.0 by.1 back.lease back.outcome)
-        × AreSited L.sizes L.firsts books
-        × OnErr result (held after receipts.new.items stake.new.share.amount ≡ held books receipts.old.items stake.old.share.amount)) }
+        × OnErr result.1 (CutMeets L.sizes L.firsts (cut_in result.0) (held books receipts.old.items stake.old.share.amount)
+        (held after receipts.new.items stake.new.share.amount) back.lease.lb)) }
     ensures sees { SeatSees L.starts stake.old.seat.me stake.new.seat.me (gained_in receipts.old.items receipts.new.items) }
     ensures table { stake.new.seat.table_id ≡ stake.old.seat.table_id }
-    ensures stray { IfErr result (λ s. (s.lb ≡ back.lease.lb) × (s.stray.ticket ≡ back.lease.ticket)) }
-    ensures why { IfErr result (λ s. IsNotOut L.sizes None back.lease s.stray) }
+    ensures when { CutsOrWants L.sizes L.cut_at back.lease.lb (cut_in result.0) (IsErr result.0) }
+    ensures stray { IfErr result.1 (λ s. (s.lb ≡ back.lease.lb) × (s.stray.ticket ≡ back.lease.ticket)) }
+    ensures why { IfErr result.1 (λ s. IsNotOut L.sizes None back.lease s.stray) }
     ensures few { stake.new.share.amount ≤ MOST_ENTRIES }
     ensures parts { stake.new.share.parts ≡ stake.old.share.parts }
     ensures room { vec_capacity receipts.old ≤ vec_capacity receipts.new }

@@ -42,7 +42,7 @@ pub use plays::{Law, Telling};
 pub use seated_desk::SeatedDesk;
 pub use shared_desk::{Leaving, SharedDesk};
 pub use shared_site::SharedSite;
-pub use shelf::Shelf;
+pub use shelf::{Admission, Shelf};
 pub use site::{
     MarkKind, Site, SiteLease, SiteMark, SiteName, SitePicked, SiteReceipt, SiteReceiptList,
     SiteSegment, SiteStray, SiteView,

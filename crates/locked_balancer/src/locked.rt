@@ -13,6 +13,12 @@ use std::sync::ledger::Share;
 /// What a hold that may cut answered, with the segment that it cut.
 pub(crate) type Cut<L, T> = (Option<SiteSegment<L>>, T);
 
+/// How a hold that takes a lease back ended, with the segment that it cut before, where there was memory to cut one.
+pub(crate) type CutBack<L> = (
+    Result<Option<SiteSegment<L>>, NoMemory>,
+    Result<(), SiteStray<L>>,
+);
+
 /// A lease that comes back, with how its exchange ended.
 pub(crate) struct HandedBack<L> {
     pub(crate) lease: SiteLease<L>,
@@ -39,7 +45,7 @@ impl<L: SiteName> Model for Locked<L> {
 }
 
 impl<L: SiteName> Locked<L> {
-    ghost use Rattle.std.specs.Prelude.{◌≡◌, ℕ, ◌+◌, ◌<◌, ◌≤◌, ◌↔◌, [], length, slice_index, vec_len, vec_capacity, None, IfOk, IfErr, IsErrOf, IsSome, OnOk, OnErr};
+    ghost use Rattle.std.specs.Prelude.{◌≡◌, ℕ, ◌+◌, ◌<◌, ◌≤◌, ◌↔◌, [], length, slice_index, vec_len, vec_capacity, None, IfOk, IfErr, IsErr, IsErrOf, IsSome, OnOk, OnErr};
     ghost use Rattle.jk_model.specs.Present.{IsPresent};
     ghost use Rattle.balancer_core.specs.Desks.{IsNotOut};
     ghost use Rattle.balancer_core.specs.Journal.{Journal, past_of};
@@ -48,11 +54,14 @@ impl<L: SiteName> Locked<L> {
       CutChooses,
       CutCommands,
       CutDenies,
+      CutMeets,
       CutRefuses,
+      CutReturns,
       CutsFirst,
       HoldReturns,
       IsAdminMark,
       IsRoomMark,
+      cut_in,
       held,
     };
     ghost use Rattle.locked_balancer.specs.SharedDesks.{CutsOrWants};
@@ -156,8 +165,38 @@ impl<L: SiteName> Locked<L> {
         (segment, done)
     }
 
-    /// Takes a lease back. It takes no memory.
+    /// Cuts the journal if due, and takes a lease back. Where there is no memory for the cut the journal isn't cut.
     pub(crate) fn give_back(
+        &mut self,
+        session: u32,
+        at: u64,
+        back: HandedBack<L>,
+        share: &mut Share<L>,
+        receipts: &mut Vec<SiteReceipt<L>>,
+    ) -> CutBack<L>
+        requires lb { back.lease.lb < length L.sizes }
+        requires bytes { back.outcome.bytes ≤ MOST_BYTES }
+        requires part { 0 < share.old.parts }
+        requires room { vec_len receipts.old < vec_capacity receipts.old }
+        ensures ok { OnOk result.1 (CutReturns L.sizes L.firsts (cut_in result.0) (held self.old.books receipts.old.items share.old.amount)
+            (held self.new.books receipts.new.items share.new.amount) session at back.lease back.outcome) }
+        ensures err { OnErr result.1 (CutMeets L.sizes L.firsts (cut_in result.0) (held self.old.books receipts.old.items share.old.amount)
+            (held self.new.books receipts.new.items share.new.amount) back.lease.lb) }
+        ensures when { CutsOrWants L.sizes L.cut_at back.lease.lb (cut_in result.0) (IsErr result.0) }
+        ensures stray { IfErr result.1 (λ s. (s.lb ≡ back.lease.lb) × (s.stray.ticket ≡ back.lease.ticket)) }
+        ensures why { IfErr result.1 (λ s. IsNotOut L.sizes None back.lease s.stray) }
+        ensures few { share.new.amount ≤ MOST_ENTRIES }
+        ensures parts { share.new.parts ≡ share.old.parts }
+        ensures room { vec_capacity receipts.old ≤ vec_capacity receipts.new }
+    {
+        self.site.count();
+        let cut = self.cut_first(back.lease.lb());
+        let done = self.take_back(session, at, back, share, receipts);
+        (cut, done)
+    }
+
+    // Takes a lease back. It takes no memory.
+    fn take_back(
         &mut self,
         session: u32,
         at: u64,

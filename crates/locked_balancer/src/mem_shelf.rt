@@ -1,7 +1,7 @@
 //! A shelf in memory.
 ghost use Rattle.std.specs.Prelude.{◌≡◌, ◌↔◌, ◌++◌, [], ◌∷◌, IsOk, IsErrOf, OnOk, OnErr};
 
-use crate::shelf::Shelf;
+use crate::shelf::{Admission, Shelf};
 use jk_io::{IoError, ListOf, NumberList};
 use jk_model::Segment;
 use std::marker::Model;
@@ -81,7 +81,13 @@ impl Shelf for MemShelf {
         put(&mut self.kept, (lb, segment))
     }
 
-    fn wait_for(&self, _lb: u32, _before: u64) {}
+    fn admit(&self, lb: u32, entries: usize, _cut_at: u32) -> Admission {
+        Admission::new(lb, entries)
+    }
+
+    fn settle(&self, admission: Admission, added: usize) {
+        admission.unused(added);
+    }
 
     fn failed(&self) -> u64 {
         self.failed

@@ -1,6 +1,7 @@
 //! A desk of one thread over the Site that all threads share.
-ghost use Rattle.std.specs.Prelude.{◌≡◌, ◌+◌, ◌<◌, ◌≤◌, length};
+ghost use Rattle.std.specs.Prelude.{◌≡◌, ◌+◌, ◌<◌, ◌≤◌, is_err, length};
 ghost use Rattle.locked_balancer.specs.Histories.{own_count};
+ghost use Rattle.locked_balancer.specs.Holds.{cut_in};
 ghost use Rattle.locked_balancer.specs.SharedDesks.{CountsFull, CountsRefusal, IsPutAway, PutsAway, first_met};
 
 use crate::at_site::{choose_at, command_at, give_back_at, look_at, take_last};
@@ -21,8 +22,14 @@ use std::marker::Model;
 use std::sync::Wait;
 use std::sync::ledger::Share;
 
-/// A desk over a shared Site. Each call is one hold of the lock; a segment that it cut goes to the shelf after the hold. Then a
-/// choosing or commanding call waits for the shelf, where segments that other desks cut aren't kept yet.
+/// The most entries that a choosing or commanding hold adds: a Maintain and the call's own.
+const MAINTAIN_AND_CALL: usize = 2;
+
+/// What a Return adds.
+const RETURN_ALONE: usize = 1;
+
+/// A desk over a shared Site. Each call is one hold of the lock; a segment that it cut goes to the shelf after the hold. Before
+/// a hold that adds entries the shelf lets the desk wait, where too many aren't kept yet.
 #[derive(Drop)]
 pub struct SharedDesk<'s, 'r, L: SiteName, S: Shelf, R> {
     site: &'s SharedSite<'r, L, R>,
@@ -81,9 +88,12 @@ pub struct Leaving<L: SiteName, S> {
 }
 
 impl<'s, 'r, L: SiteName, S: Shelf, R> SharedDesk<'s, 'r, L, S, R> {
-    ghost use Rattle.std.specs.Prelude.{◌≡◌, ◌+◌, ◌<◌, [], None, length};
+    ghost use Rattle.std.specs.Prelude.{◌≡◌, ◌+◌, ◌<◌, ◌≤◌, ◌↔◌, [], None, true, length, IfErr, IfOk, IfSome, IsErr, IsOk, OnOk};
+    ghost use Rattle.balancer_core.specs.Desks.{KeepsDesk, MeetsStray, TakesBack, holds, pair_of, without_last};
+    ghost use Rattle.jk_model.specs.declared.journal.TheConstants.{MOST_BYTES};
+    ghost use Rattle.locked_balancer.specs.Histories.{DeskSees, gained_in};
     ghost use Rattle.locked_balancer.specs.Locks.{lock_of};
-    ghost use Rattle.locked_balancer.specs.SharedDesks.{SharedState, shared_desk, stray_in};
+    ghost use Rattle.locked_balancer.specs.SharedDesks.{PutsAwayOf, SharedState, first_met, shared_desk, stray_in};
 
     /// A desk with a part of the ledger, without a receipt or a ticket. It takes no memory.
     pub fn new(
@@ -152,6 +162,58 @@ impl<'s, 'r, L: SiteName, S: Shelf, R> SharedDesk<'s, 'r, L, S, R> {
         self.wants
     }
 
+    /// As `hand_back`, and says whether there was memory for the cut before it, if one was due.
+    fn take_back(
+        &mut self,
+        session: u32,
+        at: u64,
+        lease: SiteLease<L>,
+        outcome: Outcome,
+    ) -> (Result<(), NoMemory>, Result<(), Stray>)
+    where
+        R: Wait,
+        requires caller { IfSome self.old.desk.caller (λ n. session ≡ n) }
+        requires held { holds self.old.desk.held (pair_of lease) ≡ true }
+        requires bytes { outcome.bytes ≤ MOST_BYTES }
+        ensures ok { IfOk result.1 (λ _. TakesBack self.old.desk self.new.desk session at lease outcome) }
+        ensures err { IfErr result.1 (λ stray. MeetsStray self.old.desk self.new.desk lease stray) }
+        ensures held { self.new.desk.held ≡ without_last self.old.desk.held (pair_of lease) }
+        ensures same { (self.new.desk.fulls ≡ self.old.desk.fulls) × (self.new.desk.wides ≡ self.old.desk.wides) }
+        ensures kept { KeepsDesk self.old.desk self.new.desk }
+        ensures counted { IsOk result.1 ↔ (self.new.desk.added ≡ self.old.desk.added + 1) }
+
+        // A segment that the hold cut is put away after it. It cuts exactly where the journal has come to its length and there
+        // is memory for the cut.
+        ensures shelf { PutsAwayOf S.shelved S.faults L.sizes L.cut_at lease.lb self.old self.new (IsErr result.0) }
+        ensures sees { DeskSees L.starts self.old.seat self.new.seat (gained_in self.old.desk.receipts self.new.desk.receipts) }
+        ensures none_met { OnOk result.1 (self.new.met ≡ self.old.met) }
+        ensures met { IfErr result.1 (λ stray. self.new.met ≡ first_met self.old.met (record { lb = lease.lb; stray = stray })) }
+    {
+        let (lb, ticket, before) = (lease.lb(), lease.ticket(), self.receipts.len());
+        let admission = self.shelf.admit(lb, RETURN_ALONE, self.site.cut_at);
+        let (cut, done) = give_back_at(
+            self.site,
+            &mut self.stake,
+            &mut self.receipts,
+            session,
+            at,
+            HandedBack { lease, outcome },
+        );
+        let kept = put_cut(&mut self.shelf, &mut self.wants, cut);
+        self.shelf
+            .settle(admission, self.receipts.len().saturating_sub(before));
+        take_last(&mut self.held, (lb, ticket));
+        match done {
+            Ok(()) => (kept, Ok(())),
+            Err(stray) => {
+                let told = stray.stray();
+                meet(&mut self.met, stray);
+                self.strays = self.strays.saturating_add(1);
+                (kept, Err(told))
+            }
+        }
+    }
+
     /// Ends the desk. The share's amount is the number of the receipts and of those that were forgotten. It takes no
     /// memory.
     pub fn leave(self) -> Leaving<L, S>
@@ -188,7 +250,7 @@ impl<'s, 'r, L: SiteName, S: Shelf, R> SharedDesk<'s, 'r, L, S, R> {
 }
 
 impl<'s, 'r, L: SiteName, S: Shelf, R: Wait> Desk for SharedDesk<'s, 'r, L, S, R> {
-    ghost use Rattle.std.specs.Prelude.{◌≡◌, ◌+◌, ◌<◌, ◌≤◌, ◌↔◌, [], true, length, slice_index, IfSome, IfOk, IfErr, IsErrOf, IsOk, OnOk};
+    ghost use Rattle.std.specs.Prelude.{◌≡◌, ◌+◌, ◌<◌, ◌≤◌, ◌↔◌, [], true, length, slice_index, IfSome, IfOk, IfErr, IsErrOf, IsOk, OnOk, ⊤};
     ghost use Rattle.balancer_core.specs.Desks.{
       Chooses,
       Commands,
@@ -245,7 +307,10 @@ impl<'s, 'r, L: SiteName, S: Shelf, R: Wait> Desk for SharedDesk<'s, 'r, L, S, R
         // What the desk has seen: a history of the Site that begins with what it had seen, and ends with the entries of this
         // call. It has no other new entry of this desk. Only where memory was wanted no hold may have been made.
         ensures sees { DeskMaySee L.starts self.old.seat self.new.seat (gained_in self.old.desk.receipts self.new.desk.receipts) (IsErrOf result RoomError.NoMemory) }
+        ensures met { self.new.met ≡ self.old.met }
     {
+        let before = self.receipts.len();
+        let admission = self.shelf.admit(lb, MAINTAIN_AND_CALL, self.site.cut_at);
         let (segment, done) = choose_at(
             self.site,
             &mut self.stake,
@@ -255,7 +320,8 @@ impl<'s, 'r, L: SiteName, S: Shelf, R: Wait> Desk for SharedDesk<'s, 'r, L, S, R
             ask,
         );
         put_away(&mut self.shelf, &mut self.wants, segment);
-        wait_for_kept(&self.shelf, self.receipts.as_slice(), self.site.cut_at);
+        self.shelf
+            .settle(admission, self.receipts.len().saturating_sub(before));
         count_full(&mut self.fulls, &done);
         done
     }
@@ -279,32 +345,15 @@ impl<'s, 'r, L: SiteName, S: Shelf, R: Wait> Desk for SharedDesk<'s, 'r, L, S, R
         // It is Ok exactly where an entry was counted.
         ensures counted { IsOk result ↔ (self.new.desk.added ≡ self.old.desk.added + 1) }
 
-        ensures shelf { (self.new.shelf ≡ self.old.shelf) × (self.new.wants ≡ self.old.wants) × (self.new.forgotten ≡ self.old.forgotten) }
+        // A segment that the hold cut is put away after it, as `take_back` says.
+        ensures shelf { PutsAwayOf S.shelved S.faults L.sizes L.cut_at lease.lb self.old self.new ⊤ }
         ensures sees { DeskSees L.starts self.old.seat self.new.seat (gained_in self.old.desk.receipts self.new.desk.receipts) }
 
         // The first stray is kept until it is taken.
         ensures none_met { OnOk result (self.new.met ≡ self.old.met) }
         ensures met { IfErr result (λ stray. self.new.met ≡ first_met self.old.met (record { lb = lease.lb; stray = stray })) }
     {
-        let (lb, ticket) = (lease.lb(), lease.ticket());
-        let done = give_back_at(
-            self.site,
-            &mut self.stake,
-            &mut self.receipts,
-            session,
-            at,
-            HandedBack { lease, outcome },
-        );
-        take_last(&mut self.held, (lb, ticket));
-        match done {
-            Ok(()) => Ok(()),
-            Err(stray) => {
-                let told = stray.stray();
-                meet(&mut self.met, stray);
-                self.strays = self.strays.saturating_add(1);
-                Err(told)
-            }
-        }
+        self.take_back(session, at, lease, outcome).1
     }
 
     fn command(
@@ -326,7 +375,10 @@ impl<'s, 'r, L: SiteName, S: Shelf, R: Wait> Desk for SharedDesk<'s, 'r, L, S, R
         ensures mark { IfErr result (IsAdminMark lb) }
         ensures shelf { PutsAwayOf S.shelved S.faults L.sizes L.cut_at lb self.old self.new (IsErrOf result AdminError.NoMemory) }
         ensures sees { DeskMaySee L.starts self.old.seat self.new.seat (gained_in self.old.desk.receipts self.new.desk.receipts) (IsErrOf result AdminError.NoMemory) }
+        ensures met { self.new.met ≡ self.old.met }
     {
+        let before = self.receipts.len();
+        let admission = self.shelf.admit(lb, MAINTAIN_AND_CALL, self.site.cut_at);
         let (segment, done) = command_at(
             self.site,
             &mut self.stake,
@@ -336,7 +388,8 @@ impl<'s, 'r, L: SiteName, S: Shelf, R: Wait> Desk for SharedDesk<'s, 'r, L, S, R
             command,
         );
         put_away(&mut self.shelf, &mut self.wants, segment);
-        wait_for_kept(&self.shelf, self.receipts.as_slice(), self.site.cut_at);
+        self.shelf
+            .settle(admission, self.receipts.len().saturating_sub(before));
         count_refusal(&mut self.fulls, &mut self.wides, &done);
         done
     }
@@ -384,14 +437,17 @@ fn put_one<L, S: Shelf>(shelf: &mut S, wants: &mut u64, segment: SiteSegment<L>)
     }
 }
 
-// Lets a shelf wait where more entries aren't kept than those at which a journal is cut.
-fn wait_for_kept<L, S: Shelf>(shelf: &S, receipts: &[SiteReceipt<L>], cut_at: u32) {
-    if let Some(last) = receipts.last()
-        && cut_at > 0
-    {
-        let last = last.receipt();
-        shelf.wait_for(last.lb, last.entry.seq.saturating_sub(u64::from(cut_at)));
-    }
+// Puts the segment of a Return away, where there is one, and says whether there was memory to cut it.
+fn put_cut<L, S: Shelf>(
+    shelf: &mut S,
+    wants: &mut u64,
+    cut: Result<Option<SiteSegment<L>>, NoMemory>,
+) -> Result<(), NoMemory>
+    ensures put { PutsAway S.shelved S.faults shelf.old shelf.new wants.old wants.new (cut_in cut) }
+    ensures err { is_err result ≡ is_err cut }
+{
+    put_away(shelf, wants, cut?);
+    Ok(())
 }
 
 // Keeps a stray, unless there is one already.

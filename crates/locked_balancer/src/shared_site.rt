@@ -24,8 +24,8 @@ impl<'r, L: SiteName, R> SharedSite<'r, L, R> {
     ghost use Rattle.locked_balancer.specs.Locks.{lock_of};
     ghost use Rattle.locked_balancer.specs.Sites.{At};
 
-    /// Puts a Site behind a lock, at the start of its history. A journal that has `cut_at` kept entries is cut before more
-    /// are added by a choosing or commanding hold; 0 is never.
+    /// Puts a Site behind a lock, at the start of its history. A journal that has `cut_at` kept entries is cut before a
+    /// hold adds more, but for a Return that finds no memory to cut it; 0 is never.
     pub fn new(
         rt: &'r R,
         alloc: Global,

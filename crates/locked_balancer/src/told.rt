@@ -1,6 +1,6 @@
 //! The value of the Site's lock, and what its history says of it.
 
-use crate::locked::{Cut, HandedBack, Locked};
+use crate::locked::{Cut, CutBack, HandedBack, Locked};
 use crate::site::{SiteLease, SiteMark, SiteName, SiteReceipt, SiteStray, SiteView};
 use crate::{HistoryLock, LockSeat, Telling};
 use balancer_core::desk::{Choice, Occasion};
@@ -43,7 +43,7 @@ pub(crate) type SiteLock<L> = HistoryLock<Told<L>, (u32, Entry), SiteTells<L>>;
 pub(crate) type SiteSeat<L> = LockSeat<Told<L>, (u32, Entry)>;
 
 impl<L: SiteName> Told<L> {
-    ghost use Rattle.std.specs.Prelude.{◌≡◌, ◌+◌, ◌-◌, ◌<◌, ◌≤◌, length, slice_index, vec_len, vec_capacity, None, IfOk, IfErr, IsErrOf, OnOk, OnErr};
+    ghost use Rattle.std.specs.Prelude.{◌≡◌, ◌+◌, ◌-◌, ◌<◌, ◌≤◌, length, slice_index, vec_len, vec_capacity, None, IfOk, IfErr, IsErr, IsErrOf, OnOk, OnErr};
     ghost use Rattle.jk_model.specs.Present.{IsPresent};
     ghost use Rattle.balancer_core.specs.Desks.{IsNotOut};
     ghost use Rattle.balancer_core.specs.Journal.{Journal, past_of};
@@ -52,10 +52,12 @@ impl<L: SiteName> Told<L> {
       CutChooses,
       CutCommands,
       CutDenies,
+      CutMeets,
       CutRefuses,
-      HoldReturns,
+      CutReturns,
       IsAdminMark,
       IsRoomMark,
+      cut_in,
       held,
     };
     ghost use Rattle.locked_balancer.specs.SharedDesks.{CutsOrWants};
@@ -150,17 +152,18 @@ impl<L: SiteName> Told<L> {
         back: HandedBack<L>,
         share: &mut Share<L>,
         receipts: &mut Vec<SiteReceipt<L>>,
-    ) -> Result<(), SiteStray<L>>
+    ) -> CutBack<L>
         requires lb { back.lease.lb < length L.sizes }
         requires bytes { back.outcome.bytes ≤ MOST_BYTES }
         requires part { 0 < share.old.parts }
         requires room { vec_len receipts.old < vec_capacity receipts.old }
-        ensures ok { OnOk result (HoldReturns (held self.old.locked.books receipts.old.items share.old.amount)
+        ensures ok { OnOk result.1 (CutReturns L.sizes L.firsts (cut_in result.0) (held self.old.locked.books receipts.old.items share.old.amount)
             (held self.new.locked.books receipts.new.items share.new.amount) session at back.lease back.outcome) }
-        ensures sited { AreSited L.sizes L.firsts self.old.locked.books }
-        ensures stray { IfErr result (λ s. (s.lb ≡ back.lease.lb) × (s.stray.ticket ≡ back.lease.ticket)) }
-        ensures why { IfErr result (λ s. IsNotOut L.sizes None back.lease s.stray) }
-        ensures err { OnErr result (held self.new.locked.books receipts.new.items share.new.amount ≡ held self.old.locked.books receipts.old.items share.old.amount) }
+        ensures err { OnErr result.1 (CutMeets L.sizes L.firsts (cut_in result.0) (held self.old.locked.books receipts.old.items share.old.amount)
+            (held self.new.locked.books receipts.new.items share.new.amount) back.lease.lb) }
+        ensures when { CutsOrWants L.sizes L.cut_at back.lease.lb (cut_in result.0) (IsErr result.0) }
+        ensures stray { IfErr result.1 (λ s. (s.lb ≡ back.lease.lb) × (s.stray.ticket ≡ back.lease.ticket)) }
+        ensures why { IfErr result.1 (λ s. IsNotOut L.sizes None back.lease s.stray) }
         ensures few { share.new.amount ≤ MOST_ENTRIES }
         ensures parts { share.new.parts ≡ share.old.parts }
         ensures room { vec_capacity receipts.old ≤ vec_capacity receipts.new }

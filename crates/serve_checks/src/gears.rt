@@ -75,7 +75,7 @@ fn shelf_here<'r, R: SystemFiles + Wait + Clock>(
     let mut names = ListOf::new(alloc);
     names.push(Bytes::from_slice(alloc, b"app")?)?;
     let dir = Bytes::from_slice(alloc, b".")?;
-    let turns = SegmentTurns::new(alloc, 1, 7, 0)?;
+    let turns = SegmentTurns::new(alloc, 1, 7)?;
     Ok(FileShelf::new(rt, dir, names, Notices::new(alloc)?, turns))
 }
 

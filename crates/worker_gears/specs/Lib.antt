@@ -4,3 +4,4 @@ pub mod Notices
 pub mod Real
 pub mod Worlds
 pub mod RealDoors
+pub mod Unkept

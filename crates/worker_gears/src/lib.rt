@@ -24,6 +24,7 @@ mod segment_turns;
 mod shelves;
 mod tries;
 mod trouble;
+mod unkept;
 
 pub use file_log::FileLog;
 pub use gear_parts::{Gear, World};

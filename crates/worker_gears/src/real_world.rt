@@ -201,7 +201,7 @@ impl<
         if let Some(turns) = &self.turns {
             return turns.share();
         }
-        let first = SegmentTurns::new(alloc, balancers, FIRST_NUMBER, self.threads)?;
+        let first = SegmentTurns::new(alloc, balancers, FIRST_NUMBER)?;
         let share = first.share()?;
         self.turns = Some(first);
         Ok(share)

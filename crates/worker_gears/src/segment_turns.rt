@@ -1,9 +1,9 @@
-//! How far each journal of a run is in files: its segments are written in order, whichever threads cut them, and who is far
-//! ahead of them waits.
+//! How far each journal of a run is in files: its segments are written in order, whichever threads cut them, and a hold waits
+//! that might leave more entries in no file than may be lost.
 
+use crate::unkept::Unkept;
 use jk_io::NoMemory;
 use std::alloc::Global;
-use std::sync::atomic::{AtomicBool, AtomicU64, Ordering};
 use std::sync::{Arc, Condvar, Mutex, Wait};
 use std::time::{Clock, Duration};
 
@@ -14,118 +14,241 @@ const WAIT_MILLIS: u64 = 1_000;
 #[derive(Drop)]
 struct Progress {
     /// The entries before this number are in files.
-    end: AtomicU64,
+    end: u64,
+    /// How many aren't.
+    unkept: Unkept,
     /// A segment can't be written, or not in time. Nobody waits until one is.
-    is_late: AtomicBool,
+    is_late: bool,
+    /// How many threads wait until their hold may begin.
+    waiting: u64,
 }
 
 impl Progress {
     fn is_before(&self, number: u64) -> bool {
-        self.end.load(Ordering::SeqCst) < number && !self.is_late.load(Ordering::SeqCst)
+        self.end < number && !self.is_late
+    }
+
+    // A second went by. Where no segment was written in it, they are late.
+    fn pass_a_second(&mut self, before: u64) {
+        if self.end == before {
+            self.is_late = true;
+        }
+    }
+
+    // Lets a hold begin that may add so many, if it may now, and says so. It always may where a segment is late, and where
+    // the journal is never cut.
+    fn begins(&mut self, entries: u64, cut_at: u32) -> bool {
+        if self.is_late || cut_at == 0 {
+            self.unkept = self.unkept.with_hold(entries);
+            return true;
+        }
+        match self.unkept.begin(entries, cut_at) {
+            Some(unkept) => {
+                self.unkept = unkept;
+                true
+            }
+            None => false,
+        }
+    }
+
+    // Whether somebody waits is the answer of these two.
+    fn settle(&mut self, unused: u64) -> bool {
+        self.unkept = self.unkept.settled(unused);
+        self.waiting > 0
+    }
+
+    fn come_to(&mut self, end: u64, entries: u64) -> bool {
+        self.end = self.end.max(end);
+        self.unkept = self.unkept.without(entries);
+        self.is_late = false;
+        self.waiting > 0
+    }
+
+    fn be_late(&mut self, lost: u64) {
+        self.unkept = self.unkept.without(lost);
+        self.is_late = true;
     }
 }
 
+/// The journal of a balancer.
 #[derive(Drop)]
-struct Journals {
-    /// Each balancer's, in order.
-    places: Vec<Progress>,
-    /// Held where one of them changes, and by who looks whether to sleep.
-    changing: Mutex<()>,
-    changed: Condvar,
+struct Place {
+    progress: Mutex<Progress>,
+    /// Told where a hold may begin that waits.
+    may_begin: Condvar,
+    /// Told where a segment is written, or late.
+    written: Condvar,
+}
+
+impl Place {
+    fn new(first: u64) -> Place {
+        let progress = Progress {
+            end: first,
+            unkept: Unkept::none(),
+            is_late: false,
+            waiting: 0,
+        };
+        Place {
+            progress: Mutex::new(progress),
+            may_begin: Condvar::new(),
+            written: Condvar::new(),
+        }
+    }
+
+    // Waits until the entries before this number are in files, for a second at most, and says whether nobody need wait more.
+    fn wait_for_turn<R: Wait + Clock>(&self, rt: &R, number: u64) -> bool {
+        let guard = self.progress.lock(rt);
+        let before = guard.end;
+        let most = Duration::from_millis(WAIT_MILLIS);
+        let (mut now, waited) = self
+            .written
+            .wait_timeout_while(rt, guard, most, |now| now.is_before(number));
+        if waited.timed_out() {
+            now.pass_a_second(before);
+        }
+        !waited.timed_out()
+    }
+
+    // Lets a hold begin that may add so many, as soon as it may.
+    fn begin<R: Wait + Clock>(&self, rt: &R, entries: u64, cut_at: u32) {
+        if self.begins_at_once(rt, entries, cut_at) {
+            return;
+        }
+        for _ in rt.forever() {
+            if self.wait_to_begin(rt, entries, cut_at) {
+                self.call_next(rt);
+                return;
+            }
+        }
+    }
+
+    fn begins_at_once<R: Wait>(&self, rt: &R, entries: u64, cut_at: u32) -> bool {
+        self.progress.lock(rt).begins(entries, cut_at)
+    }
+
+    // Waits until a hold may begin, for a second at most, and says whether it began.
+    fn wait_to_begin<R: Wait + Clock>(&self, rt: &R, entries: u64, cut_at: u32) -> bool {
+        let mut guard = self.progress.lock(rt);
+        guard.waiting = guard.waiting.saturating_add(1);
+        let before = guard.end;
+        let most = Duration::from_millis(WAIT_MILLIS);
+        let (mut now, waited) = self
+            .may_begin
+            .wait_timeout_while(rt, guard, most, |now| !now.begins(entries, cut_at));
+        now.waiting = now.waiting.saturating_sub(1);
+        if waited.timed_out() {
+            now.pass_a_second(before);
+        }
+        !waited.timed_out()
+    }
+
+    // The next hold that waits looks whether it may begin.
+    fn call_next<R: Wait>(&self, rt: &R) {
+        if self.has_waiting(rt) {
+            self.may_begin.notify_one();
+        }
+    }
+
+    fn has_waiting<R: Wait>(&self, rt: &R) -> bool {
+        self.progress.lock(rt).waiting > 0
+    }
+
+    // A hold is over that didn't add so many of its entries.
+    fn settle<R: Wait>(&self, rt: &R, unused: u64) {
+        let is_awaited = self.progress.lock(rt).settle(unused);
+        if is_awaited {
+            self.may_begin.notify_one();
+        }
+    }
+
+    // A part with so many entries is written: those before this number are in files.
+    fn come_to<R: Wait>(&self, rt: &R, end: u64, entries: u64) {
+        let is_awaited = self.progress.lock(rt).come_to(end, entries);
+        self.written.notify_all();
+        if is_awaited {
+            self.may_begin.notify_one();
+        }
+    }
+
+    // A part isn't written yet, or won't be: so many entries are lost with it.
+    fn be_late<R: Wait>(&self, rt: &R, lost: u64) {
+        self.progress.lock(rt).be_late(lost);
+        self.written.notify_all();
+        self.may_begin.notify_all();
+    }
 }
 
 /// How far the journals of a run are in files. It is shared by all of its shelves.
 #[derive(Drop)]
 pub struct SegmentTurns {
-    shared: Arc<Journals>,
-    /// By how many entries a thread may be ahead of where it would wait.
-    slack: u64,
+    /// Each balancer's, in order.
+    places: Arc<Vec<Place>>,
 }
 
 impl SegmentTurns {
     /// Nothing is in files yet of the journals of so many balancers, which begin with this number.
-    pub fn new(
-        alloc: Global,
-        balancers: usize,
-        first: u64,
-        slack: u32,
-    ) -> Result<SegmentTurns, NoMemory> {
+    pub fn new(alloc: Global, balancers: usize, first: u64) -> Result<SegmentTurns, NoMemory> {
         let mut places = Vec::with_capacity(alloc, balancers)?;
         for _ in 0..balancers {
-            places.push(Progress {
-                end: AtomicU64::new(first),
-                is_late: AtomicBool::new(false),
-            })?;
+            places.push(Place::new(first))?;
         }
-        let journals = Journals {
-            places,
-            changing: Mutex::new(()),
-            changed: Condvar::new(),
-        };
         Ok(SegmentTurns {
-            shared: Arc::new(alloc, journals)?,
-            slack: u64::from(slack),
+            places: Arc::new(alloc, places)?,
         })
     }
 
     /// The same ones, for another shelf.
     pub fn share(&self) -> Result<SegmentTurns, NoMemory> {
         Ok(SegmentTurns {
-            shared: self.shared.clone()?,
-            slack: self.slack,
+            places: self.places.clone()?,
         })
     }
 
     /// Waits until the entries of a balancer before this number are in files, as long as one of its segments is written within
     /// each second. After a second without one nobody waits until a segment is written again.
     pub(crate) fn wait_until<R: Wait + Clock>(&self, rt: &R, lb: u32, number: u64) {
-        if let Some(progress) = self.shared.places.get(lb as usize) {
+        if let Some(place) = self.places.get(lb as usize) {
             for _ in rt.forever() {
-                if !progress.is_before(number) {
+                if place.wait_for_turn(rt, number) {
                     return;
                 }
-                self.wait_a_second(rt, progress, number);
             }
         }
     }
 
-    // Waits for a second at most. Where no segment was written meanwhile, they are late.
-    fn wait_a_second<R: Wait + Clock>(&self, rt: &R, progress: &Progress, number: u64) {
-        let before = progress.end.load(Ordering::SeqCst);
-        let guard = self.shared.changing.lock(rt);
-        let most = Duration::from_millis(WAIT_MILLIS);
-        let (_, waited) = self
-            .shared
-            .changed
-            .wait_timeout_while(rt, guard, most, |_| progress.is_before(number));
-        if waited.timed_out() && progress.end.load(Ordering::SeqCst) == before {
-            progress.is_late.store(true, Ordering::SeqCst);
+    /// Waits until a hold may begin that may add so many entries to a balancer, whose journal is cut at `cut_at`: until few
+    /// enough are in no file, or no other hold is under way. As long as a segment is written within each second.
+    pub(crate) fn begin<R: Wait + Clock>(&self, rt: &R, lb: u32, entries: usize, cut_at: u32) {
+        if let Some(place) = self.places.get(lb as usize) {
+            place.begin(rt, entries as u64, cut_at);
         }
     }
 
-    /// As `wait_until`, with the entries that a thread may be ahead.
-    pub(crate) fn wait_about<R: Wait + Clock>(&self, rt: &R, lb: u32, number: u64) {
-        self.wait_until(rt, lb, number.saturating_sub(self.slack));
-    }
-
-    /// The entries of a balancer before this number are in files.
-    pub(crate) fn come_to<R: Wait>(&self, rt: &R, lb: u32, end: u64) {
-        if let Some(progress) = self.shared.places.get(lb as usize) {
-            let _guard = self.shared.changing.lock(rt);
-            if progress.end.load(Ordering::SeqCst) < end {
-                progress.end.store(end, Ordering::SeqCst);
-            }
-            progress.is_late.store(false, Ordering::SeqCst);
+    /// That hold is over, and its segment was put away; it didn't add so many of them.
+    pub(crate) fn settle<R: Wait>(&self, rt: &R, lb: u32, unused: usize) {
+        if let Some(place) = self.places.get(lb as usize) {
+            place.settle(rt, unused as u64);
         }
-        self.shared.changed.notify_all();
     }
 
-    /// A segment of a balancer can't be written. Nobody waits for it.
+    /// A segment of a balancer with so many entries is written: the entries before this number are in files.
+    pub(crate) fn come_to<R: Wait>(&self, rt: &R, lb: u32, end: u64, entries: u64) {
+        if let Some(place) = self.places.get(lb as usize) {
+            place.come_to(rt, end, entries);
+        }
+    }
+
+    /// A segment of a balancer can't be written now. Nobody waits for it.
     pub(crate) fn be_late<R: Wait>(&self, rt: &R, lb: u32) {
-        if let Some(progress) = self.shared.places.get(lb as usize) {
-            let _guard = self.shared.changing.lock(rt);
-            progress.is_late.store(true, Ordering::SeqCst);
+        if let Some(place) = self.places.get(lb as usize) {
+            place.be_late(rt, 0);
         }
-        self.shared.changed.notify_all();
+    }
+
+    /// A segment of a balancer with so many entries won't be written. Nobody waits for it.
+    pub(crate) fn give_up<R: Wait>(&self, rt: &R, lb: u32, entries: u64) {
+        if let Some(place) = self.places.get(lb as usize) {
+            place.be_late(rt, entries);
+        }
     }
 }

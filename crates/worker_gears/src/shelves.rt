@@ -11,7 +11,7 @@ use crate::trouble::Trouble;
 use jk_io::{Bytes, IoError, ListOf, NoMemory};
 use jk_model::Segment;
 use libc::net::poll;
-use locked_balancer::Shelf;
+use locked_balancer::{Admission, Shelf};
 use real_io::{Notices, moment};
 use std::fs::{self, OpenOptions};
 use std::io::{self, ErrorKind, Write};
@@ -126,12 +126,12 @@ impl<'r, R: Files + Wait + Clock> FileShelf<'r, R> {
 
     // Says how far the journal of a balancer is in files now.
     fn pass_on(&self, lb: u32, segment: &Segment, is_written: bool) {
+        let count = segment.entries.len() as u64;
         if is_written {
-            let count = segment.entries.len() as u64;
             let end = segment.opening.next.saturating_add(count);
-            self.turns.come_to(self.rt, lb, end);
+            self.turns.come_to(self.rt, lb, end, count);
         } else {
-            self.turns.be_late(self.rt, lb);
+            self.turns.give_up(self.rt, lb, count);
         }
     }
 
@@ -215,9 +215,15 @@ impl<'r, R: Files + Wait + Clock> Shelf for FileShelf<'r, R> {
         self.keep_file(lb, &segment)
     }
 
-    /// It waits, for a second at most, where a file that has such entries is being written, or is to be.
-    fn wait_for(&self, lb: u32, before: u64) {
-        self.turns.wait_about(self.rt, lb, before);
+    /// It waits where more entries than may be lost could come to be in no file.
+    fn admit(&self, lb: u32, entries: usize, cut_at: u32) -> Admission {
+        self.turns.begin(self.rt, lb, entries, cut_at);
+        Admission::new(lb, entries)
+    }
+
+    fn settle(&self, admission: Admission, added: usize) {
+        let lb = admission.lb();
+        self.turns.settle(self.rt, lb, admission.unused(added));
     }
 
     fn failed(&self) -> u64 {
@@ -242,7 +248,13 @@ impl Shelf for DropShelf {
         Ok(())
     }
 
-    fn wait_for(&self, _lb: u32, _before: u64) {}
+    fn admit(&self, lb: u32, entries: usize, _cut_at: u32) -> Admission {
+        Admission::new(lb, entries)
+    }
+
+    fn settle(&self, admission: Admission, added: usize) {
+        admission.unused(added);
+    }
 
     fn failed(&self) -> u64 {
         0
@@ -281,10 +293,17 @@ impl<'r, R: Files + Wait + Clock> Shelf for RealShelf<'r, R> {
         }
     }
 
-    fn wait_for(&self, lb: u32, before: u64) {
+    fn admit(&self, lb: u32, entries: usize, cut_at: u32) -> Admission {
         match self {
-            RealShelf::Files(shelf) => shelf.wait_for(lb, before),
-            RealShelf::Dropped(shelf) => shelf.wait_for(lb, before),
+            RealShelf::Files(shelf) => shelf.admit(lb, entries, cut_at),
+            RealShelf::Dropped(shelf) => shelf.admit(lb, entries, cut_at),
+        }
+    }
+
+    fn settle(&self, admission: Admission, added: usize) {
+        match self {
+            RealShelf::Files(shelf) => shelf.settle(admission, added),
+            RealShelf::Dropped(shelf) => shelf.settle(admission, added),
         }
     }
 

@@ -66,11 +66,14 @@ fn refuse_format<O: Sink>(alloc: Global, at: u64, out: &mut O) -> CommandEnd<Bra
     }
 }
 
-/// The number of kept entries at which a journal is cut, by the word that says so; 65,536 without one.
-pub fn cut_at(cut: Option<u64>) -> u32
-    ensures { result ≡ cut_at cut }
+/// The number of kept entries at which a journal is cut, by the word that says how many may be lost; 65,536 without one.
+pub fn cut_at(most: Option<u64>) -> u32
+    ensures { result ≡ cut_at most }
 {
-    u32::try_from(cut.unwrap_or(65_536)).unwrap_or(u32::MAX)
+    match most {
+        Some(most) => u32::try_from(most.saturating_sub(3).max(1)).unwrap_or(u32::MAX),
+        None => 65_536,
+    }
 }
 
 /// How idle links are looked after, by the words that say so; where no looks are given a link may stay idle for ten.

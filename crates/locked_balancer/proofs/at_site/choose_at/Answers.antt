@@ -3,7 +3,7 @@ use Rattle.std.proofs.Common.{◌≡◌, ℕ, ◌+◌, ◌≤◌, ◌++◌, List
 use Rattle.std.specs.Prelude.{IfErr, IfOk, OnErr, vec_capacity}
 use Rattle.balancer_core.specs.declared.receipt.Receipt.{Receipt}
 use Rattle.locked_balancer.specs.SharedDesks.{pairs_of}
-use Rattle.locked_balancer.proofs.SharedLaws.{ChoseErr, ChoseOk, cut_choose, err_choose, gained_choose, kept_choose, next_choose, none_desk, ok_choose, shared_none}
+use Rattle.locked_balancer.proofs.SharedLaws.{ChoseErr, ChoseOk, cut_choose, err_choose, gained_choose, kept_choose, next_choose, none_desk, ok_choose, shared_none, two_chosen}
 use Rattle.locked_balancer.proofs.at_site.choose_at.Goals as goal
 
 pub returns-in-Err-clause-kept : goal.returns-in-Err-clause-kept
@@ -53,3 +53,9 @@ returns-clause-next g c =
     let ok = subst (λ (rs : List Receipt). IfOk c.choose_held-segment.result.1 (λ x. ChoseOk g.L.SiteName.sizes g.L.SiteName.firsts c.choose_held-segment.ensures.held.books c.choose_held-segment.ensures.held.after c.choose_held-segment.result.0 rs c.choose_held-segment.new.receipts.items c.args.stake.now.share.amount c.choose_held-segment.new.stake.share.amount c.args.on.lb c.args.on.session c.args.on.at c.args.ask.now x)) c.take_room.ensures.receipts c.choose_held-segment.ensures.held.is.0 in
     let err = subst (λ (rs : List Receipt). IfErr c.choose_held-segment.result.1 (λ e. ChoseErr g.L.SiteName.sizes g.L.SiteName.firsts c.choose_held-segment.ensures.held.books c.choose_held-segment.ensures.held.after c.choose_held-segment.result.0 rs c.choose_held-segment.new.receipts.items c.args.stake.now.share.amount c.choose_held-segment.new.stake.share.amount c.args.on.lb c.args.on.session c.args.on.at e)) c.take_room.ensures.receipts c.choose_held-segment.ensures.held.is.1 in
     next_choose g.L.SiteName.sizes g.L.SiteName.firsts c.choose_held-segment.ensures.held.books c.choose_held-segment.ensures.held.after c.choose_held-segment.result.0 c.args.receipts.now.items c.choose_held-segment.new.receipts.items c.args.stake.now.share.amount c.choose_held-segment.new.stake.share.amount c.args.on.lb c.args.on.session c.args.on.at c.args.ask.now c.choose_held-segment.result.1 ok err
+
+pub returns-clause-two : goal.returns-clause-two
+returns-clause-two g c =
+    let ok = subst (λ (rs : List Receipt). IfOk c.choose_held-segment.result.1 (λ x. ChoseOk g.L.SiteName.sizes g.L.SiteName.firsts c.choose_held-segment.ensures.held.books c.choose_held-segment.ensures.held.after c.choose_held-segment.result.0 rs c.choose_held-segment.new.receipts.items c.args.stake.now.share.amount c.choose_held-segment.new.stake.share.amount c.args.on.lb c.args.on.session c.args.on.at c.args.ask.now x)) c.take_room.ensures.receipts c.choose_held-segment.ensures.held.is.0 in
+    let err = subst (λ (rs : List Receipt). IfErr c.choose_held-segment.result.1 (λ e. ChoseErr g.L.SiteName.sizes g.L.SiteName.firsts c.choose_held-segment.ensures.held.books c.choose_held-segment.ensures.held.after c.choose_held-segment.result.0 rs c.choose_held-segment.new.receipts.items c.args.stake.now.share.amount c.choose_held-segment.new.stake.share.amount c.args.on.lb c.args.on.session c.args.on.at e)) c.take_room.ensures.receipts c.choose_held-segment.ensures.held.is.1 in
+    two_chosen g.L.SiteName.sizes g.L.SiteName.firsts c.choose_held-segment.ensures.held.books c.choose_held-segment.ensures.held.after c.choose_held-segment.result.0 c.args.receipts.now.items c.choose_held-segment.new.receipts.items c.args.stake.now.share.amount c.choose_held-segment.new.stake.share.amount c.args.on.lb c.args.on.session c.args.on.at c.args.ask.now c.choose_held-segment.result.1 ok err

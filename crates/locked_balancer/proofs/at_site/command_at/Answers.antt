@@ -2,7 +2,7 @@
 use Rattle.std.proofs.Common.{◌+◌, ◌≤◌, List, length, refl, subst, arith}
 use Rattle.std.specs.Prelude.{IfErr, OnOk, vec_capacity}
 use Rattle.balancer_core.specs.declared.receipt.Receipt.{Receipt}
-use Rattle.locked_balancer.proofs.SharedLaws.{DidErr, DidOk, cut_command, err_command, gained_command, kept_command, next_command, none_desk, ok_command, shared_none}
+use Rattle.locked_balancer.proofs.SharedLaws.{DidErr, DidOk, cut_command, err_command, gained_command, kept_command, next_command, none_desk, ok_command, shared_none, two_commanded}
 use Rattle.locked_balancer.proofs.at_site.command_at.Goals as goal
 
 pub returns-in-Err-clause-kept : goal.returns-in-Err-clause-kept
@@ -48,3 +48,9 @@ returns-clause-next g c =
     let ok = subst (λ (rs : List Receipt). OnOk c.command_held.result.1 (DidOk g.L.SiteName.sizes g.L.SiteName.firsts c.command_held.ensures.held.books c.command_held.ensures.held.after c.command_held.result.0 rs c.command_held.new.receipts.items c.args.stake.now.share.amount c.command_held.new.stake.share.amount c.args.on.lb c.args.on.session c.args.on.at c.args.command.now)) c.reserve.ensures.items c.command_held.ensures.held.is.0 in
     let err = subst (λ (rs : List Receipt). IfErr c.command_held.result.1 (λ e. DidErr g.L.SiteName.sizes g.L.SiteName.firsts c.command_held.ensures.held.books c.command_held.ensures.held.after c.command_held.result.0 rs c.command_held.new.receipts.items c.args.stake.now.share.amount c.command_held.new.stake.share.amount c.args.on.lb c.args.on.session c.args.on.at c.args.command.now e)) c.reserve.ensures.items c.command_held.ensures.held.is.1 in
     next_command g.L.SiteName.sizes g.L.SiteName.firsts c.command_held.ensures.held.books c.command_held.ensures.held.after c.command_held.result.0 c.args.receipts.now.items c.command_held.new.receipts.items c.args.stake.now.share.amount c.command_held.new.stake.share.amount c.args.on.lb c.args.on.session c.args.on.at c.args.command.now c.command_held.result.1 ok err
+
+pub returns-clause-two : goal.returns-clause-two
+returns-clause-two g c =
+    let ok = subst (λ (rs : List Receipt). OnOk c.command_held.result.1 (DidOk g.L.SiteName.sizes g.L.SiteName.firsts c.command_held.ensures.held.books c.command_held.ensures.held.after c.command_held.result.0 rs c.command_held.new.receipts.items c.args.stake.now.share.amount c.command_held.new.stake.share.amount c.args.on.lb c.args.on.session c.args.on.at c.args.command.now)) c.reserve.ensures.items c.command_held.ensures.held.is.0 in
+    let err = subst (λ (rs : List Receipt). IfErr c.command_held.result.1 (λ e. DidErr g.L.SiteName.sizes g.L.SiteName.firsts c.command_held.ensures.held.books c.command_held.ensures.held.after c.command_held.result.0 rs c.command_held.new.receipts.items c.args.stake.now.share.amount c.command_held.new.stake.share.amount c.args.on.lb c.args.on.session c.args.on.at c.args.command.now e)) c.reserve.ensures.items c.command_held.ensures.held.is.1 in
+    two_commanded g.L.SiteName.sizes g.L.SiteName.firsts c.command_held.ensures.held.books c.command_held.ensures.held.after c.command_held.result.0 c.args.receipts.now.items c.command_held.new.receipts.items c.args.stake.now.share.amount c.command_held.new.stake.share.amount c.args.on.lb c.args.on.session c.args.on.at c.args.command.now c.command_held.result.1 ok err

@@ -1,40 +1,15 @@
--- The Return of one hold.
-use Rattle.std.proofs.Common.{◌∙◌, List, Err, sym, ap, subst}
-use Rattle.jk_model.specs.declared.journal.Call.TheVariants as call
-use Rattle.balancer_core.specs.Journal.{Journal}
-use Rattle.balancer_core.specs.declared.receipt.Receipt.{Receipt}
-use Rattle.balancer_core.proofs.HoldLaws.{of_error}
-use Rattle.locked_balancer.specs.Holds.{AreShort, LockedState, held}
-use Rattle.locked_balancer.specs.Sites.{AddsAt}
-use Rattle.locked_balancer.proofs.HoldLaws.{gains_one}
-use Rattle.locked_balancer.proofs.LockLaws.{not_out_at, short_back, sited_within}
+-- A hold that takes a lease back cuts as others do, but where memory is wanting.
+use Rattle.std.proofs.Common.{ℕ, ◌<◌, length, sym, subst}
+use Rattle.std.specs.Prelude.{IsErr}
+use Rattle.locked_balancer.specs.Holds.{cut_in}
+use Rattle.locked_balancer.specs.SharedDesks.{CutsOrWants}
+use Rattle.locked_balancer.proofs.LockLaws.{cuts_or_wants, sited_within}
 use Rattle.locked_balancer.proofs.locked.Locked.give_back.Goals as goal
 
-pub invariant_of-self-2 : goal.invariant_of-self-2
-invariant_of-self-2 g c = (
-  c.self.invariant.0,
-  subst (λ (xs : List Journal). AreShort c.self.inside.cut_at xs) (sym c.audit.ensures.same)
-      (short_back c.self.inside.cut_at c.self.inside.site c.give_back-done.new.self c.args.back.lease.lb c.args.session c.args.at c.args.back.lease.ticket c.args.back.outcome c.give_back-done.result
-      c.self.invariant.1 c.give_back-done.ensures.ok c.give_back-done.ensures.err c.count.ensures.named.sound),
-)
-
-pub returns-clause-ok : goal.returns-clause-ok
-returns-clause-ok g c =
-    let books_is = ap (λ (s : LockedState). s.books) c.self.view_is in
-    let after = subst (λ (xs : List Journal). AddsAt c.self.inside.site xs c.args.back.lease.lb c.args.session c.args.at (call.Return c.args.back.lease.ticket c.args.back.outcome) c.in_ok-done.field-0)
-    (sym c.audit.ensures.same) c.in_ok-done.ensures.ok in
-    let adds = subst (λ (xs : List Journal). AddsAt xs c.audit.new.self c.args.back.lease.lb c.args.session c.args.at (call.Return c.args.back.lease.ticket c.args.back.outcome) c.in_ok-done.field-0)
-    books_is after in (
-      c.in_ok-done.field-0,
-      adds.called,
-      gains_one (held c.args.self.now.books c.args.receipts.now.items c.args.share.now.amount) (held c.audit.new.self c.note.new.receipts.items c.audit.new.share.amount)
-          c.args.back.lease.lb c.args.session c.args.at (call.Return c.args.back.lease.ticket c.args.back.outcome) c.in_ok-done.field-0 adds c.note.ensures.items
-          (c.audit.ensures.amount ∙ c.in_ok-done.ensures.amount),
-    )
-
-pub returns-in_err-done-clause-why : goal.returns-in_err-done-clause-why
-returns-in_err-done-clause-why g c =
-    of_error c.from_residual.result c.in_err-done.field-0.0 _ c.from_residual.ensures.1
-    (not_out_at {T = Receipt} g.L.SiteName.sizes g.L.SiteName.firsts c.self.inside.site c.args.back.lease (Err c.in_err-done.field-0.0) c.count.ensures.named
-    (sited_within g.L.SiteName.sizes g.L.SiteName.firsts c.self.inside.site c.args.back.lease.lb c.count.ensures.named c.requires.lb)
-    c.in_err-done.ensures.found c.in_err-done.ensures.returned)
+pub returns-clause-when : goal.returns-clause-when
+returns-clause-when g c =
+    let cut = c.cut_first-cut.result in
+    let within = subst (λ (lb : ℕ). lb < length g.L.SiteName.sizes) (sym c.lb.ensures) c.requires.lb in
+    subst (λ (lb : ℕ). CutsOrWants g.L.SiteName.sizes g.L.SiteName.cut_at lb (cut_in cut) (IsErr cut)) c.lb.ensures
+    (cuts_or_wants g.L.SiteName.sizes g.L.SiteName.firsts g.L.SiteName.cut_at c.lb.result _ c.cut_first-cut.new.self.books cut c.cut_first-cut.ensures.sited.0
+    (sited_within g.L.SiteName.sizes g.L.SiteName.firsts _ c.lb.result c.cut_first-cut.ensures.sited.0 within) c.cut_first-cut.ensures.ok c.cut_first-cut.ensures.when)

@@ -1,6 +1,6 @@
 -- What the desk did since some moment, after this call too.
 use Rattle.locked_balancer.proofs.GoneLaws.{adds_back, gone_sees}
-use Rattle.locked_balancer.proofs.ShelfLaws.{shelved_same}
+use Rattle.locked_balancer.proofs.ShelfLaws.{shelved_put}
 use Rattle.locked_balancer.proofs.seated_desk.SharedDeskSeatedDesk.hand_back_here.Goals as goal
 
 pub returns-clause-gone : goal.returns-clause-gone
@@ -9,5 +9,4 @@ returns-clause-gone g c = λ since first.
     (adds_back _ _ _ _ _ _ c.hand_back.result c.hand_back.ensures.ok c.hand_back.ensures.err) c.hand_back.ensures.sees
 
 pub returns-clause-shelf : goal.returns-clause-shelf
-returns-clause-shelf g c =
-    shelved_same g.S.Shelf.shelved g.S.Shelf.faults _ _ _ _ _ _ c.hand_back.ensures.shelf.0 c.hand_back.ensures.shelf.1 c.hand_back.ensures.shelf.2
+returns-clause-shelf g c = shelved_put g.S.Shelf.shelved g.S.Shelf.faults _ _ _ _ _ _ c.hand_back.ensures.shelf

@@ -48,7 +48,6 @@ returns-clause-shelf g c =
       next = c.choose_at-segment.ensures.next;
       put = c.put_away.ensures;
       forgotten = refl;
-      met = refl;
     })
 
 pub choose_at-segment-requires-clause-seat : goal.choose_at-segment-requires-clause-seat

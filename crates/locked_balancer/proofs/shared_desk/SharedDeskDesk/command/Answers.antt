@@ -54,7 +54,6 @@ returns-clause-shelf g c =
       next = c.command_at-segment.ensures.next;
       put = c.put_away.ensures;
       forgotten = refl;
-      met = refl;
     })
 
 pub command_at-segment-requires-clause-seat : goal.command_at-segment-requires-clause-seat
