@@ -154,9 +154,10 @@ impl Seat {
         let addr = Bytes::from_vec(address.into_bytes());
         let count = count.min(buffer.len());
         let mut link = TcpLink::of_client(outbox, end, buffer, count, at as u64);
-        match leisure {
-            Some(_) => link.look_while(leisure),
-            None => link.leave_to_door(),
+        let is_heard = leisure.is_none();
+        link.look_while(leisure);
+        if is_heard {
+            link.leave_to_door();
         }
         (link, Peer { addr })
     }
