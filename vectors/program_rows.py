@@ -5,7 +5,8 @@
 
 The rows are those of crates/plain_checks/data/plain and crates/serve_checks/data/serve, of which the gate does the commands in memory. Here
 each row's files are files, its input is standard input, and what comes out is standard output and the status. Rows that need a read or
-write that fails, a world in memory, or a part of the program alone are left out, and those whose words `main` answers with a text.
+write that fails, a world in memory, a file in a front's place, or a part of the program alone are left out, and those whose words `main`
+answers with a text.
 Status: 0 all came out as they say; 1 else.
 """
 import glob
@@ -80,6 +81,8 @@ class Row:
         """Whether the program itself can do the row."""
         names = [name for name, _ in self.files]
         if any(key in self.values for key in ALONE) or any("/" in name or name in ("", "-", ".", "..") for name in names):
+            return False
+        if b"stop" in self.words[:1] and names:
             return False
         if any(b"\0" in word for word in self.words) or {b"--help", b"--version", b"-h", b"-V", b"help"} & {bytes(word) for word in self.words}:
             return False
