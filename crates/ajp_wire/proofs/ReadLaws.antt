@@ -1,12 +1,12 @@
 -- A packet that is read in two parts: its head, and the payload after it.
-use Rattle.std.proofs.Common.{◌≡◌, ℕ, ◌<◌, length, List, ◌++◌, Option, Result, Ok, Err, Bool, true, false, refl, sym, ap, ◌∙◌, arith, length-append}
+use Rattle.std.proofs.Common.{◌≡◌, ℕ, ◌<◌, length, List, ◌++◌, Option, Result, Ok, Err, IsErr, Bool, true, false, refl, sym, ap, ◌∙◌, arith, length-append}
 use Rattle.jk_io.specs.Moments.{Moment}
 use Rattle.jk_io.specs.Told.{appended, prepended}
 use Rattle.jk_io.proofs.ToldLaws.{appended-appended, prepended-prepended}
 use Rattle.ajp_wire.specs.declared.errors.PacketError.{PacketError}
 use Rattle.ajp_wire.specs.declared.errors.PacketError.TheVariants.{End, Short, BadMagic, TooLong, Fault, NoMemory}
-use Rattle.ajp_wire.specs.Packet.{head, IsPart, CameAs, count_of, HasCome, ReadsPacket}
-use Rattle.ajp_wire.specs.Head.{IsHead, Lacks, PayloadCameAs}
+use Rattle.ajp_wire.specs.Packet.{head, IsPart, CameAs, count_of, HasCome, ReadsPacket, read_into}
+use Rattle.ajp_wire.specs.Head.{IsHead, Lacks, HeadCameAs, PayloadCameAs}
 use Rattle.ajp_wire.proofs.PacketLaws.{part-behind_head}
 
 HasCome-then : (l m n : Moment) (x y : List ℕ) → HasCome l m x → HasCome m n y → HasCome l n (x ++ y)
@@ -57,3 +57,14 @@ pub reads-joined : (from_container : Bool) (most size : ℕ) (result : Result (L
 reads-joined b most size result l m n p q =
     let joined = are-joined b most size result p.0 q.0 p.2 q.2 in
     record { bytes = p.0 ++ q.0; came = HasCome-then l m n p.0 q.0 p.1 q.1; are = joined.0; counted = joined.1 }
+
+-- a head that was refused is all that came
+pub reads-head : (from_container : Bool) (most : ℕ) (error : PacketError) (l m : Moment) → (bytes : List ℕ) × HasCome l m bytes × HeadCameAs from_container most (Err error) bytes
+    → ReadsPacket from_container most (Err error) l m
+reads-head b most error l m p = record { bytes = p.0; came = p.1; are = p.2.0; counted = p.2.1 }
+
+-- after an error it is no matter which bytes the buffer has
+pub emptied : (from_container : Bool) (most : ℕ) (result : Result Unit PacketError) (l m : Moment) (payload left : List ℕ) → IsErr result
+    → ReadsPacket from_container most (read_into result payload) l m → ReadsPacket from_container most (read_into result left) l m
+emptied b most (Ok done) l m payload left failed reads = absurd cc
+emptied b most (Err error) l m payload left failed reads = reads

@@ -52,32 +52,14 @@ pub fn read_packet_into<L: Link>(
     ensures calm { IfErr result (λ error. IsTrue (says_calm error) → L.faults line.new ≡ L.faults line.old) }
     ensures same { (L.sent line.new ≡ L.sent line.old) × (L.beside line.new ≡ L.beside line.old) }
 {
-    match read_over(line, from_container, most, payload) {
-        Ok(()) => Ok(()),
-        Err(error) => {
-            payload.clear();
-            Err(error)
-        }
+    let answer = match read_head(line, from_container, most) {
+        Ok(size) => read_payload(line, size, payload),
+        Err(error) => Err(error),
+    };
+    if answer.is_err() {
+        payload.clear();
     }
-}
-
-/// Reads one packet into a buffer. After an error the buffer's bytes are any.
-fn read_over<L: Link>(
-    line: &mut L,
-    from_container: bool,
-    most: u32,
-    payload: &mut Vec<u8>,
-) -> Result<(), PacketError>
-    ensures packet { ReadsPacket from_container most (read_into result payload.new.items) (link_at L.Meanings line.old) (link_at L.Meanings line.new) }
-    ensures end { IfErr result (λ error. IsTrue (says_end error) → IsEmpty (L.incoming line.new)) }
-    ensures fault { IfErr result (λ error. IsTrue (says_fault error) → Rose (L.faults line.old) (L.faults line.new)) }
-    ensures no_fewer { L.faults line.old ≤ L.faults line.new }
-    ensures steady { IsOk result → L.faults line.new ≡ L.faults line.old }
-    ensures calm { IfErr result (λ error. IsTrue (says_calm error) → L.faults line.new ≡ L.faults line.old) }
-    ensures same { (L.sent line.new ≡ L.sent line.old) × (L.beside line.new ≡ L.beside line.old) }
-{
-    let size = read_head(line, from_container, most)?;
-    read_payload(line, size, payload)
+    answer
 }
 
 /// Reads the head of a packet, and gives the length of its payload.
