@@ -1,6 +1,6 @@
 //! What has gone to the client.
-ghost use Rattle.std.specs.Prelude.{◌≡◌, ◌+◌, ◌-◌, ◌^◌, ◌<◌, ◌≤◌, ◌||◌, length, take, IsOk, OnOk, IsErrOf};
-ghost use Rattle.jk_io.specs.Told.{appended, HasCause, Rose};
+ghost use Rattle.std.specs.Prelude.{◌≡◌, ◌≤◌, ◌||◌, IsErrOf};
+ghost use Rattle.jk_io.specs.Told.{Rose};
 ghost use Rattle.http_out.specs.Passage.{IsCalm, IsSent};
 
 use crate::reply_head::OutError;
@@ -28,7 +28,10 @@ pub fn send<C: Sink>(
     ensures steady { IsCalm result → C.faults client.new ≡ C.faults client.old }
 {
     let mut written = 0;
-    let answer = write_out(client, piece, last, &mut written);
+    let answer = match write_counted(client, piece, &mut written) {
+        Ok(()) if last => client.flush(),
+        answer => answer,
+    };
     passage.passed = either(passage.passed, written > 0);
     match answer {
         Ok(()) => Ok(()),
@@ -41,27 +44,6 @@ pub fn send<C: Sink>(
             Err(OutError::NoMemory)
         }
     }
-}
-
-/// Writes a piece whole, and adds what was taken to `written`; flushes after the last one.
-fn write_out<C: Sink>(
-    client: &mut C,
-    piece: &[u8],
-    last: bool,
-    written: &mut u64,
-) -> Result<(), IoError>
-    requires { written.old + length piece.now < 2 ^ 64 }
-    ensures whole { OnOk result (written.new ≡ written.old + length piece.now) }
-    ensures up { written.old ≤ written.new }
-    ensures most { written.new ≤ written.old + length piece.now }
-    ensures put { C.sent client.new ≡ appended (C.sent client.old) (take (written.new - written.old) piece.now) }
-    ensures same { (C.incoming client.new ≡ C.incoming client.old) × (C.received client.new ≡ C.received client.old)
-        × (C.beside client.new ≡ C.beside client.old) }
-    ensures cause { HasCause (C.faults client.old) (C.faults client.new) result }
-    ensures steady { IsOk result → C.faults client.new ≡ C.faults client.old }
-{
-    write_counted(client, piece, written)?;
-    if last { client.flush() } else { Ok(()) }
 }
 
 fn either(before: bool, now: bool) -> bool

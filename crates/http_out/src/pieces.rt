@@ -30,10 +30,12 @@ pub fn write_piece<C: Sink>(
     if text.is_empty() && !framing.is_chunked() {
         return send(client, chunk, false, passage);
     }
-    match put_framed(text, framing, chunk) {
-        Ok(()) => write_out(text, false, client, passage),
-        Err(NoMemory) => Err(give_up(text, passage)),
-    }
+    let sent = match put_framed(text, framing, chunk) {
+        Ok(()) => send(client, text.as_slice(), false, passage),
+        Err(NoMemory) => Err(give_up(passage)),
+    };
+    text.clear();
+    sent
 }
 
 /// Writes what is held and what follows the last chunk, flushes the client, and leaves no text.
@@ -51,39 +53,19 @@ pub fn write_closing<C: Sink>(
     ensures cause { IsErrOf result OutError.Fault → Rose (C.faults client.old) (C.faults client.new) }
     ensures steady { IsCalm result → C.faults client.new ≡ C.faults client.old }
 {
-    match put_closing(text, framing) {
-        Ok(()) => write_out(text, true, client, passage),
-        Err(NoMemory) => Err(give_up(text, passage)),
-    }
-}
-
-/// Writes the text, and leaves none.
-fn write_out<C: Sink>(
-    text: &mut Bytes,
-    last: bool,
-    client: &mut C,
-    passage: &mut Passage,
-) -> Result<(), OutError>
-    ensures sent { IsSent text.old passage.old passage.new (C.sent client.old) (C.sent client.new) result }
-    ensures spent { text.new ≡ [] }
-    ensures same { (C.incoming client.new ≡ C.incoming client.old) × (C.received client.new ≡ C.received client.old)
-        × (C.beside client.new ≡ C.beside client.old) }
-    ensures no_fewer { C.faults client.old ≤ C.faults client.new }
-    ensures cause { IsErrOf result OutError.Fault → Rose (C.faults client.old) (C.faults client.new) }
-    ensures steady { IsCalm result → C.faults client.new ≡ C.faults client.old }
-{
-    let sent = send(client, text.as_slice(), last, passage);
+    let sent = match put_closing(text, framing) {
+        Ok(()) => send(client, text.as_slice(), true, passage),
+        Err(NoMemory) => Err(give_up(passage)),
+    };
     text.clear();
     sent
 }
 
-/// Leaves no text, and the reply broken off for want of memory.
-fn give_up(text: &mut Bytes, passage: &mut Passage) -> OutError
+/// Leaves the reply broken off for want of memory.
+fn give_up(passage: &mut Passage) -> OutError
     ensures error { result ≡ OutError.NoMemory }
-    ensures spent { text.new ≡ [] }
     ensures broken { passage.new ≡ record passage.old { failed = true } }
 {
-    text.clear();
     passage.failed = true;
     OutError::NoMemory
 }
