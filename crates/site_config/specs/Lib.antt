@@ -5,8 +5,10 @@ pub mod Entries
 pub mod Ignored
 pub mod Limits
 pub mod Lines
+pub mod Meanings
 pub mod Names
 pub mod Places
 pub mod Properties
 pub mod Refusals
+pub mod Subjects
 pub mod Values

@@ -1,6 +1,6 @@
 -- The first pass over a workers.properties: its lines, each with its key and value, or the first line that is refused.
-use Rattle.std.specs.Prelude.{ℕ, ◌+◌, Bool, true, false, List, [], ◌∷◌, ◌++◌, Option, Some, None, Result, Ok, Err, if◌then◌else◌, ◌==◌, ◌||◌, ◌&&◌, length, slice_index}
-use Rattle.std.specs.Option.{option_to_list, is_some, option_map}
+use Rattle.std.specs.Prelude.{ℕ, ◌+◌, Bool, true, false, List, [], ◌∷◌, ◌++◌, Option, Some, None, Result, Ok, Err, if◌then◌else◌, ◌==◌, ◌||◌, length, slice_index}
+use Rattle.std.specs.Option.{option_to_list, is_some}
 use Rattle.std.specs.List.{list_all}
 use Rattle.std.specs.Str.{bytes_eq}
 use Rattle.jk_io.specs.Decimals.{trimmed}
@@ -9,15 +9,15 @@ use Rattle.site_config.specs.declared.property.Fault.{Fault}
 use Rattle.site_config.specs.declared.property.Fault.TheVariants as fault
 use Rattle.site_config.specs.declared.directive.Directive.{Directive}
 use Rattle.site_config.specs.declared.directive.Directive.TheVariants as directive
-use Rattle.site_config.specs.declared.error.PropsReason.{PropsReason}
 use Rattle.site_config.specs.declared.error.PropsReason.TheVariants as reason
 use Rattle.site_config.specs.Cut.{cut_at}
 use Rattle.site_config.specs.Lines.{lines, without_mark}
 use Rattle.site_config.specs.Names.{is_name, words}
 use Rattle.site_config.specs.Directives.{directive_of, worker_part, list_key, maintain_key}
-use Rattle.site_config.specs.Values.{is_value, target_of, number_in}
+use Rattle.site_config.specs.Meanings.{given_value, period_of}
+use Rattle.site_config.specs.Values.{target_of}
 use Rattle.site_config.specs.Refusals.{LineRefusal, refusal}
-use Rattle.jk_model.specs.Limits.{most_seconds}
+use Rattle.site_config.specs.declared.value.Value.{Value}
 
 -- each word of a list is a name
 abbrev pub are_names : List ℕ → Bool
@@ -34,21 +34,21 @@ abbrev pub reference_fault : Option (List ℕ) → Option Fault
 reference_fault None = Some fault.Value
 reference_fault (Some name) = name_fault (is_name name)
 
--- what is wrong with a directive's value; one that isn't built has none
-abbrev pub directive_fault : Option Directive → List ℕ → Option Fault
-directive_fault None value = None
-directive_fault (Some directive.Reference) value = reference_fault (target_of value)
-directive_fault (Some directive.BalanceWorkers) value = name_fault (are_names value)
-directive_fault (Some d) value = value_fault (is_value d value)
+-- what is wrong with a directive's value, which means this to it; one that isn't built has none
+abbrev pub directive_fault : Option Directive → Option Value → List ℕ → Option Fault
+directive_fault None meaning value = None
+directive_fault (Some directive.Reference) meaning value = reference_fault (target_of value)
+directive_fault (Some directive.BalanceWorkers) meaning value = name_fault (are_names value)
+directive_fault (Some d) meaning value = value_fault (is_some meaning)
 
 -- a key of no worker: the list of workers, the time between maintenances, or one that is ignored
 abbrev pub other_fault : List ℕ → List ℕ → Option Fault
-other_fault key value = if bytes_eq key list_key then name_fault (are_names value) else (if bytes_eq key maintain_key then value_fault (is_some (number_in 1 most_seconds value)) else None)
+other_fault key value = if bytes_eq key list_key then name_fault (are_names value) else (if bytes_eq key maintain_key then value_fault (is_some (period_of value)) else None)
 
 -- a bad name goes before a bad value
 abbrev pub fault_at : Option (List ℕ × List ℕ) → List ℕ → List ℕ → Option Fault
 fault_at None key value = other_fault key value
-fault_at (Some parts) key value = if is_name parts.0 then directive_fault (directive_of parts.1) value else Some fault.Name
+fault_at (Some parts) key value = if is_name parts.0 then directive_fault (directive_of parts.1) (given_value (directive_of parts.1) value) value else Some fault.Name
 
 abbrev pub fault_of : List ℕ → List ℕ → Option Fault
 fault_of key value = fault_at (worker_part key) key value

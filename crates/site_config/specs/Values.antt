@@ -1,19 +1,16 @@
 -- What the value of a directive means.
-use Rattle.std.specs.Prelude.{ℕ, ◌+◌, Bool, true, false, List, [], ◌∷◌, ◌++◌, Option, Some, None, if◌then◌else◌, ◌==◌, ◌||◌, ◌&&◌, nat_le, nat_lt, length, map, codes, not}
+use Rattle.std.specs.Prelude.{ℕ, ◌+◌, Bool, true, false, List, [], ◌∷◌, ◌++◌, Option, Some, None, if◌then◌else◌, ◌==◌, ◌||◌, ◌&&◌, nat_le, length, map, codes, not}
 use mathlib.Core.Bool.{beq}
-use Rattle.std.specs.Option.{option_map, option_and_then, is_some}
+use Rattle.std.specs.Option.{option_map}
 use Rattle.std.specs.List.{list_any, list_all}
 use Rattle.std.specs.Str.{bytes_eq}
 use Rattle.jk_io.specs.Decimals.{decimal_of}
-use Rattle.jk_model.specs.Limits.{most_seconds}
 use Rattle.jk_model.specs.declared.member.Activation.{Activation}
 use Rattle.jk_model.specs.declared.member.Activation.TheVariants as activation
 use Rattle.jk_model.specs.declared.member.Method.{Method}
 use Rattle.jk_model.specs.declared.member.Method.TheVariants as method
 use Rattle.site_config.specs.declared.values.WorkerKind.{WorkerKind}
 use Rattle.site_config.specs.declared.values.WorkerKind.TheVariants as kind
-use Rattle.site_config.specs.declared.directive.Directive.{Directive}
-use Rattle.site_config.specs.declared.directive.Directive.TheVariants as directive
 use Rattle.site_config.specs.Directives.{behind_worker}
 use Rattle.site_config.specs.Names.{words}
 
@@ -106,42 +103,3 @@ statuses_of text = some_statuses (statuses_after (Some []) (words text))
 -- the worker that a reference names
 abbrev pub target_of : List ℕ → Option (List ℕ)
 target_of text = behind_worker text
-
--- whether the directive takes a value; the names in it aren't judged
-abbrev pub is_value : Directive → List ℕ → Bool
-is_value directive.Kind text = is_some (kind_of text)
-is_value directive.Reference text = is_some (target_of text)
-is_value directive.Host text = true
-is_value directive.Port text = is_some (number_in 1 65535 text)
-is_value directive.Factor text = is_some (number_in 1 65535 text)
-is_value directive.Distance text = is_some (number_in 0 65535 text)
-is_value directive.Route text = true
-is_value directive.Redirect text = true
-is_value directive.Activation text = is_some (activation_of text)
-is_value directive.PoolSize text = is_some (number_in 1 1024 text)
-is_value directive.Retries text = is_some (number_in 1 10 text)
-is_value directive.PacketSize text = is_some (number_in 8192 65536 text)
-is_value directive.Secret text = true
-is_value directive.PingMode text = is_ping text
-is_value directive.RecoveryOptions text = is_some (number_in 0 31 text)
-is_value directive.FailOnStatus text = is_some (statuses_of text)
-is_value directive.BalanceWorkers text = true
-is_value directive.Method text = is_some (method_of text)
-is_value directive.Sticky text = is_some (truth_of text)
-is_value directive.Force text = is_some (truth_of text)
-is_value directive.RecoverTime text = is_some (number_in 1 most_seconds text)
-is_value directive.Cookie text = nat_lt 0 (length text)
-is_value directive.Path text = nat_lt 0 (length text)
-is_value directive.ReadOnly text = is_some (truth_of text)
-is_value directive.DialTimeout text = is_some (number_in 0 86400000 text)
-is_value directive.ConnectTimeout text = is_some (number_in 0 86400000 text)
-is_value directive.PrepostTimeout text = is_some (number_in 0 86400000 text)
-is_value directive.PingTimeout text = is_some (number_in 0 86400000 text)
-is_value directive.SocketTimeout text = is_some (number_in 0 86400 text)
-is_value directive.ReplyTimeout text = is_some (number_in 0 86400000 text)
-is_value directive.Keepalive text = is_some (truth_of text)
-is_value directive.PoolTimeout text = is_some (number_in 0 86400 text)
-is_value directive.PingInterval text = is_some (number_in 0 86400 text)
-is_value directive.User text = true
-is_value directive.Good text = true
-is_value directive.Bad text = true

@@ -54,12 +54,8 @@ pub fn said(values: bool, line: u32, text: &[u8]) -> Result<Option<PropertyLine<
     match cut_at(text, b'=') {
         None => Err(refused(line, PropsReason::NoEquals)),
         Some((key, value)) => {
-            let entry = PropertyLine {
-                line,
-                key: trim(key),
-                value: trim(value),
-            };
-            judged(values, entry, fault_of(entry.key, entry.value))
+            let entry = PropertyLine::new(line, trim(key), trim(value));
+            judged(values, entry, fault_of(&entry))
         }
     }
 }

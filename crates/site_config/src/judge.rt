@@ -4,15 +4,15 @@ ghost use Rattle.std.specs.List.{list_all};
 ghost use Rattle.std.specs.Option.{option_map};
 ghost use Rattle.site_config.specs.Directives.{behind_worker};
 ghost use Rattle.site_config.specs.Names.{is_name, words, word_first};
-ghost use Rattle.site_config.specs.Properties.{are_names, name_fault, value_fault, reference_fault, directive_fault, other_fault, fault_of};
+ghost use Rattle.site_config.specs.Properties.{are_names, name_fault, value_fault, reference_fault, directive_fault, fault_of};
 
 use crate::cut::cut_at_separator;
-use crate::directive::{
-    Directive, behind_worker, directive_of, is_list_key, is_maintain_key, worker_part,
-};
+use crate::directive::{Directive, behind_worker};
 use crate::names::is_name;
 use crate::property::Fault;
-use crate::values::{is_value, number_in};
+use crate::property_line::PropertyLine;
+use crate::subject::Subject;
+use crate::value::Value;
 
 /// Whether a word is a name, or is empty.
 fn is_word_a_name(word: &[u8]) -> bool
@@ -60,41 +60,36 @@ fn reference_fault(value: &[u8]) -> Option<Fault>
     }
 }
 
-fn directive_fault(directive: Option<Directive>, value: &[u8]) -> Option<Fault>
-    ensures { result ≡ directive_fault directive value.now }
+fn directive_fault(
+    directive: Option<Directive>,
+    meaning: Option<Value>,
+    value: &[u8],
+) -> Option<Fault>
+    ensures { result ≡ directive_fault directive meaning value.now }
 {
     match directive {
         None => None,
         Some(Directive::Reference) => reference_fault(value),
         Some(Directive::BalanceWorkers) => name_fault(are_names(value)),
-        Some(directive) => value_fault(is_value(directive, value)),
+        Some(_) => value_fault(meaning.is_some()),
     }
 }
 
-fn other_fault(key: &[u8], value: &[u8]) -> Option<Fault>
-    ensures { result ≡ other_fault key.now value.now }
+/// What is wrong with a line by itself: a bad name goes before a bad value.
+#[tactic(auto, using(crate::proofs::SubjectLemmas::list_fault, crate::proofs::SubjectLemmas::maintain_fault, crate::proofs::SubjectLemmas::worker_fault, crate::proofs::SubjectLemmas::no_fault))]
+pub(crate) fn fault_of(entry: &PropertyLine<'_>) -> Option<Fault>
+    ensures { result ≡ fault_of entry.now.key.now entry.now.value.now }
 {
-    if is_list_key(key) {
-        name_fault(are_names(value))
-    } else if is_maintain_key(key) {
-        value_fault(number_in(1, 86400, value).is_some())
-    } else {
-        None
-    }
-}
-
-/// What is wrong with a property: a bad name goes before a bad value.
-pub fn fault_of(key: &[u8], value: &[u8]) -> Option<Fault>
-    ensures { result ≡ fault_of key.now value.now }
-{
-    match worker_part(key) {
-        None => other_fault(key, value),
-        Some((name, directive)) => {
+    match entry.subject {
+        Subject::List => name_fault(are_names(entry.value)),
+        Subject::Maintain => value_fault(entry.meaning.is_some()),
+        Subject::Worker { name, directive } => {
             if is_name(name) {
-                directive_fault(directive_of(directive), value)
+                directive_fault(directive, entry.meaning, entry.value)
             } else {
                 Some(Fault::Name)
             }
         }
+        Subject::Other => None,
     }
 }

@@ -6,7 +6,7 @@
 //! numbers of the refusals, how lists are spelled (docs/DECISIONS.md).
 //! Shapes: a line ends with LF or CR LF; a property is a line number, a key and a value without outer blanks.
 //! Contract: the types; `Config::find`; `MemberLimits`; `read_properties`. Read first: src/config.rt; for the files
-//! specs/Properties.antt, then specs/Values.antt.
+//! specs/Properties.antt, then specs/Meanings.antt and specs/Values.antt.
 //! Errors: `PropsError` of lines.
 #![tactic(auto)]
 
@@ -25,7 +25,10 @@ mod names;
 mod properties;
 mod property;
 mod property_line;
+mod says;
 mod statuses;
+mod subject;
+mod value;
 mod values;
 
 pub use balancer::{Lb, LbList};
@@ -38,7 +41,6 @@ pub use endpoint::{EndList, Endpoint};
 pub use error::{PropsError, PropsReason, refused};
 pub use first_pass::{read_entries, said};
 pub use ignored::IgnoredList;
-pub use judge::fault_of;
 pub use limits::MemberLimits;
 pub use lines::{first_line, without_mark};
 pub use names::{is_name, push_words};
@@ -46,6 +48,8 @@ pub use properties::read_properties;
 pub use property::{Fault, Property, PropertyList};
 pub use property_line::PropertyLine;
 pub use statuses::{Statuses, status_of, statuses_of};
+pub use subject::Subject;
+pub use value::{Value, period_of};
 pub use values::{
-    WorkerKind, activation_of, is_ping, is_value, kind_of, method_of, number_in, pings, truth_of,
+    WorkerKind, activation_of, is_ping, kind_of, method_of, number_in, pings, truth_of,
 };

@@ -2,10 +2,8 @@
 ghost use Rattle.std.specs.Prelude.{◌≡◌, ◌==◌, ◌||◌, ◌≤◌, ◌^◌, ◌<◌, length, List, Some, [], IfSome, IfOk, nat_lt};
 ghost use Rattle.std.specs.Option.{option_map, is_some};
 ghost use Rattle.std.specs.List.{list_any, list_all};
-ghost use Rattle.site_config.specs.Values.{number_in, lower, is_word, says_yes, says_no, truth_of, kind_of, activation_of, method_of, is_ping_letter, is_ping, pings, is_value};
+ghost use Rattle.site_config.specs.Values.{number_in, lower, is_word, says_yes, says_no, truth_of, kind_of, activation_of, method_of, is_ping_letter, is_ping, pings};
 
-use crate::directive::{Directive, behind_worker};
-use crate::statuses::statuses_of;
 use jk_io::parse_decimal;
 use jk_model::{Activation, Method};
 
@@ -140,48 +138,4 @@ pub fn pings(letter: u8, text: &[u8]) -> bool
 {
     text.iter()
         .any(|b| lower(*b) == letter || lower(*b) == b'a')
-}
-
-/// Whether the directive takes this value; the names in it aren't judged.
-pub fn is_value(directive: Directive, text: &[u8]) -> bool
-    ensures { result ≡ is_value directive text.now }
-{
-    match directive {
-        Directive::Kind => kind_of(text).is_some(),
-        Directive::Reference => behind_worker(text).is_some(),
-        Directive::Host => true,
-        Directive::Port => number_in(1, 65535, text).is_some(),
-        Directive::Factor => number_in(1, 65535, text).is_some(),
-        Directive::Distance => number_in(0, 65535, text).is_some(),
-        Directive::Route => true,
-        Directive::Redirect => true,
-        Directive::Activation => activation_of(text).is_some(),
-        Directive::PoolSize => number_in(1, 1024, text).is_some(),
-        Directive::Retries => number_in(1, 10, text).is_some(),
-        Directive::PacketSize => number_in(8192, 65536, text).is_some(),
-        Directive::Secret => true,
-        Directive::PingMode => is_ping(text),
-        Directive::RecoveryOptions => number_in(0, 31, text).is_some(),
-        Directive::FailOnStatus => statuses_of(text).is_some(),
-        Directive::BalanceWorkers => true,
-        Directive::Method => method_of(text).is_some(),
-        Directive::Sticky => truth_of(text).is_some(),
-        Directive::Force => truth_of(text).is_some(),
-        Directive::RecoverTime => number_in(1, 86400, text).is_some(),
-        Directive::Cookie => !text.is_empty(),
-        Directive::Path => !text.is_empty(),
-        Directive::ReadOnly => truth_of(text).is_some(),
-        Directive::DialTimeout => number_in(0, 86_400_000, text).is_some(),
-        Directive::ConnectTimeout => number_in(0, 86_400_000, text).is_some(),
-        Directive::PrepostTimeout => number_in(0, 86_400_000, text).is_some(),
-        Directive::PingTimeout => number_in(0, 86_400_000, text).is_some(),
-        Directive::SocketTimeout => number_in(0, 86400, text).is_some(),
-        Directive::ReplyTimeout => number_in(0, 86_400_000, text).is_some(),
-        Directive::Keepalive => truth_of(text).is_some(),
-        Directive::PoolTimeout => number_in(0, 86400, text).is_some(),
-        Directive::PingInterval => number_in(0, 86400, text).is_some(),
-        Directive::User => true,
-        Directive::Good => true,
-        Directive::Bad => true,
-    }
 }
