@@ -7,7 +7,8 @@
 //! exists in contracts alone; a desk's seat, which takes no memory, knows what it has seen of that history and which entries are
 //! its own (specs/Histories.antt, `SeesHold`). The lock is the futex lock of three states, over the kit's table of words and slots.
 //! Contract: each call of a `Site`, clauses `ok`, `amount` and `err`; `Site::close`, clause `counted`; `SharedDesk` is a
-//! `Desk`, with `hand_back`, clause `counted`, `choose` and `command`, clause `shelf`, and each call, clause `sees`; the type `Leaving`, field `counted`.
+//! `Desk`, with `hand_back`, clause `counted`, `choose` and `command`, clause `shelf`, and each call, clause `sees`; its own `take_back`,
+//! clause `shelf`; the type `Leaving`, field `counted`.
 //! Of the lock: `HistoryLock::enter`, clause `took`, and `HistoryLock::leave`, clause `left` (specs/Seats.antt).
 //! What stands behind the lock keeps that no journal grows much longer than where it is cut (specs/Holds.antt, `AreShort`).
 //! Read first: specs/Sites.antt, then specs/Histories.antt, SiteAnswers.antt, Holds.antt and SharedDesks.antt.

@@ -2,7 +2,7 @@
 ghost use Rattle.std.specs.Prelude.{◌≡◌, ◌+◌, ◌<◌, ◌≤◌, is_err, length};
 ghost use Rattle.locked_balancer.specs.Histories.{own_count};
 ghost use Rattle.locked_balancer.specs.Holds.{cut_in};
-ghost use Rattle.locked_balancer.specs.SharedDesks.{CountsFull, CountsRefusal, IsPutAway, PutsAway, first_met};
+ghost use Rattle.locked_balancer.specs.SharedDesks.{CountsFull, CountsRefusal, PutsAway, first_met};
 
 use crate::at_site::{choose_at, command_at, give_back_at, look_at, take_last};
 use crate::left_seat::LeftSeat;
@@ -163,7 +163,7 @@ impl<'s, 'r, L: SiteName, S: Shelf, R> SharedDesk<'s, 'r, L, S, R> {
     }
 
     /// As `hand_back`, and says whether there was memory for the cut before it, if one was due.
-    fn take_back(
+    pub fn take_back(
         &mut self,
         session: u32,
         at: u64,
@@ -345,7 +345,8 @@ impl<'s, 'r, L: SiteName, S: Shelf, R: Wait> Desk for SharedDesk<'s, 'r, L, S, R
         // It is Ok exactly where an entry was counted.
         ensures counted { IsOk result ↔ (self.new.desk.added ≡ self.old.desk.added + 1) }
 
-        // A segment that the hold cut is put away after it, as `take_back` says.
+        // A segment that the hold cut is put away after it. `take_back`, of which this is the second half of the answer, says when
+        // it cuts.
         ensures shelf { PutsAwayOf S.shelved S.faults L.sizes L.cut_at lease.lb self.old self.new ⊤ }
         ensures sees { DeskSees L.starts self.old.seat self.new.seat (gained_in self.old.desk.receipts self.new.desk.receipts) }
 
@@ -416,20 +417,11 @@ impl<'s, 'r, L: SiteName, S: Shelf, R: Wait> Desk for SharedDesk<'s, 'r, L, S, R
     }
 }
 
-// Puts a segment away, where there is one.
-fn put_away<L, S: Shelf>(shelf: &mut S, wants: &mut u64, segment: Option<SiteSegment<L>>)
-    ensures { PutsAway S.shelved S.faults shelf.old shelf.new wants.old wants.new segment }
+// Puts a segment away, where there is one, and counts the want of memory on the shelf.
+fn put_away<L, S: Shelf>(shelf: &mut S, wants: &mut u64, cut: Option<SiteSegment<L>>)
+    ensures { PutsAway S.shelved S.faults shelf.old shelf.new wants.old wants.new cut }
 {
-    match segment {
-        Some(segment) => put_one(shelf, wants, segment),
-        None => {}
-    }
-}
-
-// Puts a segment on a shelf, and counts the want of memory there.
-fn put_one<L, S: Shelf>(shelf: &mut S, wants: &mut u64, segment: SiteSegment<L>)
-    ensures { IsPutAway S.shelved S.faults shelf.old shelf.new wants.old wants.new segment }
-{
+    let Some(segment) = cut else { return };
     match segment.keep_in(shelf) {
         Ok(()) => {}
         Err(IoError::Failed) => {}
