@@ -13,7 +13,6 @@
 mod awaiting;
 mod body_piece;
 mod concluding;
-mod conversing;
 mod course;
 mod cping;
 mod drain;

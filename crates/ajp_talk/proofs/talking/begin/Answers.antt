@@ -2,7 +2,7 @@
 use Rattle.std.proofs.Common.{ap}
 use Rattle.ajp_talk.specs.declared.course.Course.{Course}
 use Rattle.ajp_talk.proofs.GreetingLaws.{begins_on, begins_failed, begins_wanted, begins_unanswered, fresh-counts}
-use Rattle.ajp_talk.proofs.conversing.begin.Goals as goal
+use Rattle.ajp_talk.proofs.talking.begin.Goals as goal
 
 pub greet-requires : goal.greet-requires
 greet-requires g c = record {

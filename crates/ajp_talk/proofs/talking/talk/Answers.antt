@@ -1,12 +1,12 @@
 -- Each way out of a talk, from how it stood and from its last turn.
-use Rattle.std.proofs.Common.{refl, ap, ◌∙◌, arith, Ok}
+use Rattle.std.proofs.Common.{refl, sym, ap, ◌∙◌, arith, Ok}
 use Rattle.http_front.specs.Unread.{unread}
 use Rattle.ajp_talk.proofs.AskLaws.{untaken-same}
 use Rattle.ajp_talk.proofs.CompleteLaws.{completed}
 use Rattle.ajp_talk.proofs.EndLaws.{on, on_more, on_course}
 use Rattle.ajp_talk.proofs.LostLaws.{lost}
 use Rattle.ajp_talk.proofs.TalkLaws.{calm_turn, ended_talk, lost_calm, lost_talk}
-use Rattle.ajp_talk.proofs.conversing.hold.Goals as goal
+use Rattle.ajp_talk.proofs.talking.talk.Goals as goal
 
 pub returns-in-Some-clause-talk : goal.returns-in-Some-clause-talk
 returns-in-Some-clause-talk g c = record {
@@ -63,14 +63,17 @@ lost-requires g c =
 pub returns-in-Lost-clause-talk : goal.returns-in-Lost-clause-talk
 returns-in-Lost-clause-talk g c =
     let i = c.loop-room.invariant in
-    record {
+    let body = c.body-1.given.1 (sym (c.step.ensures.same.0 ∙ i.same.0)) in
+    let inbox = c.inbox-1.given.1 (sym (c.step.ensures.same.1 ∙ i.same.1)) in
+    rw (body, inbox)
+    (record {
       talk = lost_talk c.args.plan.now _ _ _ c.step.new.course c.lost.new.course c.lost.result c.requires.plan
           (lost c.args.plan.now _ _ _ c.loop-room.course c.step.new.course i.stands c.requires.plan (omega (arith, i.client_faults)) c.in-Lost.ensures.turn)
           (untaken-same _ _ (record { body = refl; unread = ap (unread c.step.new.upload.inbox.now) c.lost.ensures.incoming })) c.lost.ensures.no_fewer.1 c.lost.ensures.ended;
       line = omega (arith, c.lost.ensures.no_fewer.0, c.step.ensures.no_fewer.0, i.line_faults);
       client = omega (arith, c.lost.ensures.no_fewer.1, c.step.ensures.no_fewer.1, i.client_faults);
       calm = λ calm. absurd (lost_calm c.args.plan.now _ _ _ _ c.step.new.course c.lost.new.course c.lost.result c.lost.ensures.ended calm);
-    }
+    })
 
 pub returns-in-Some-clause-complete : goal.returns-in-Some-clause-complete
 returns-in-Some-clause-complete g c = λ all w. completed _ _ _ all w _ (returns-in-Some-clause-talk g c).talk
@@ -84,14 +87,17 @@ ended-requires g c = record { plan = c.requires.plan; over = c.in_default.not-On
 pub returns-in_default-clause-talk : goal.returns-in_default-clause-talk
 returns-in_default-clause-talk g c =
     let i = c.loop-room.invariant in
-    record {
+    let body = c.body-in_default-1.given.1 (sym (c.step.ensures.same.0 ∙ i.same.0)) in
+    let inbox = c.inbox-in_default-1.given.1 (sym (c.step.ensures.same.1 ∙ i.same.1)) in
+    rw (body, inbox)
+    (record {
       talk = rw c.ended.ensures
           (ended_talk c.args.plan.now _ _ _ c.loop-room.course c.step.new.course (record {}) c.taken.result c.step.result i.stands c.requires.plan c.requires.first
           i.line_faults (omega (arith, i.client_faults)) c.taken.ensures c.in_default.not-On c.in_default.not-Lost c.step.ensures.turn);
       line = omega (arith, c.step.ensures.no_fewer.0, i.line_faults);
       client = omega (arith, c.step.ensures.no_fewer.1, i.client_faults);
       calm = λ calm. c.step.ensures.calm (calm_turn (record {}) c.args.plan.now c.step.new.course c.taken.result c.step.result c.in_default.not-Lost (rw c.ended.ensures at calm)) ∙ i.client_faults;
-    }
+    })
 
 pub returns-in_default-clause-complete : goal.returns-in_default-clause-complete
 returns-in_default-clause-complete g c = λ all w. completed _ _ _ all w _ (returns-in_default-clause-talk g c).talk
@@ -100,8 +106,3 @@ pub returns-in_default-clause-beside : goal.returns-in_default-clause-beside
 returns-in_default-clause-beside g c =
     let i = c.loop-room.invariant in
     (c.step.ensures.beside.0 ∙ i.line_beside, c.step.ensures.beside.1 ∙ i.client_beside)
-
-pub returns-in_default-clause-same : goal.returns-in_default-clause-same
-returns-in_default-clause-same g c =
-    let i = c.loop-room.invariant in
-    (c.step.ensures.same.0 ∙ i.same.0, c.step.ensures.same.1 ∙ i.same.1)

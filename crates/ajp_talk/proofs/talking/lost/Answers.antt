@@ -1,6 +1,6 @@
 -- The link is closed at once, or what came was dropped.
 use Rattle.std.proofs.Common.{refl, inl, inr, true, false}
-use Rattle.ajp_talk.proofs.conversing.lost.Goals as goal
+use Rattle.ajp_talk.proofs.talking.lost.Goals as goal
 
 pub returns-then-plan-clause-ended : goal.returns-then-plan-clause-ended
 returns-then-plan-clause-ended g c = inl (c.if-plan.true, c.gone.ensures, refl, refl)
