@@ -1,5 +1,5 @@
 -- What is kept over several steps of an exchange.
-use Rattle.std.proofs.Common.{◌≡◌, ℕ, ◌<◌, false, List, length, slice_index, Bool, Option, None, IfSome, refl, sym, ap, ◌∙◌, subst}
+use Rattle.std.proofs.Common.{◌≡◌, ℕ, ◌<◌, false, List, length, slice_index, Option, None, IfSome, refl, sym, ap, ◌∙◌, subst}
 use Rattle.jk_io.specs.declared.reaching.Beside.{Beside}
 use Rattle.jk_io.specs.declared.traits.streams.Meanings.{Ghosts}
 use Rattle.jk_model.specs.declared.ask.Ask.{Ask}
@@ -7,20 +7,18 @@ use Rattle.balancer_core.specs.Desks.{Chooses, DeskState, KeepsDesk, LeaseNote, 
 use Rattle.balancer_core.specs.declared.desk.Choice.TheVariants as choice
 use Rattle.balancer_core.proofs.DeskLaws.{held_again}
 use Rattle.http_front.specs.State.{failed_of, taken_of}
-use Rattle.exchange.specs.Keeping.{KeepsMeans, KeepsSides, MayAsk, MayTalk, SpendsLease}
-use Rattle.exchange.specs.OneTalk.{Around}
-use Rattle.exchange.specs.Requests.{Errand, ask_for}
-use Rattle.exchange.specs.Rounds.{IsDeskAfter, Scene}
-use Rattle.exchange.specs.Steps.{IsStep}
-use Rattle.exchange.specs.Talks.{HasRun}
+use Rattle.http_front.specs.declared.head.Head.{Head}
+use Rattle.site_config.specs.declared.endpoint.Endpoint.{Endpoint}
+use Rattle.exchange.specs.Keeping.{KeepsMeans, KeepsSides, MayAsk, MayTalk}
+use Rattle.exchange.specs.Rounds.{IsDeskAfter}
+use Rattle.exchange.specs.Steps.{HandsBack}
+use Rattle.exchange.specs.declared.ending.Ran.{Ran}
 use Rattle.exchange.specs.declared.ending.RoundVerdict.{RoundVerdict}
 use Rattle.exchange.specs.declared.request.Request.{Request}
 use Rattle.exchange.specs.declared.sides.Means.{Means}
 use Rattle.exchange.specs.declared.sides.Sides.{Sides}
-use Rattle.jk_io.specs.Answers.{Answers}
 use Rattle.exchange.proofs.DeskLaws.{after_round, same_twice, untouched}
 use Rattle.exchange.proofs.MeansLaws.{as_many, no_fewer_twice}
-use Rattle.exchange.proofs.RoundLaws.{went_back}
 
 -- ---- the two sides
 
@@ -91,33 +89,12 @@ asks_again state of_reach of_client q s n may kept = record {
 
 -- ---- a lease that was spent
 
-pub spent_step : {T : Type 0} (note : T → LeaseNote) (q : Errand) (first : List ℕ) (fresh : Bool) (s m n : Scene) (at : ℕ) (ask : Ask)
-    (member : ℕ) (lease : T) (v : RoundVerdict) → ask ≡ ask_for q ask.tried → Answers s.clock at m.clock
-    → Chooses note s.desk m.desk q.lb q.session at ask (choice.Chosen member lease) → m.around ≡ s.around
-    → SpendsLease q first fresh m n member (note lease) v → IsStep q first ask.tried fresh s n v
-spent_step note q first fresh s m n at ask member lease v is asked chose same spent =
-    went_back note q first fresh s n at spent.at ask member lease spent.config spent.endpoint spent.ran m.desk m.clock spent.back.stray v
-    (record {
-      ask_is = is;
-      asked_at = asked;
-      chose = chose;
-      configured = spent.configured;
-      reached = spent.reached;
-      talked = subst (λ (a : Around). HasRun q first member spent.config spent.endpoint fresh a n.around spent.ran) same spent.talked;
-      handed_at = spent.handed_at;
-      back = spent.back.back;
-      fulls = spent.back.fulls;
-      let_go = spent.back.held;
-    }) spent.back.follows
+pub spent_held : {T : Type 0} (note : T → LeaseNote) (s m n : DeskState) (lb session at back_at : ℕ) (ask : Ask) (member : ℕ) (lease : T) (endpoint : Endpoint) (head : Head) (ran : Ran)
+    (v : RoundVerdict) → Chooses note s m lb session at ask (choice.Chosen member lease) → HandsBack m n session back_at (note lease) endpoint head member ran v → n.held ≡ s.held
+spent_held note s m n lb session at back_at ask member lease endpoint head ran v chose back = held_again _ _ _ _ _ chose.answered.4 (ap pair_of chose.answered.3) back.held
 
-pub spent_held : {T : Type 0} (note : T → LeaseNote) (q : Errand) (first : List ℕ) (fresh : Bool) (s : DeskState) (m n : Scene) (at : ℕ) (ask : Ask)
-    (member : ℕ) (lease : T) (v : RoundVerdict) → Chooses note s m.desk q.lb q.session at ask (choice.Chosen member lease)
-    → SpendsLease q first fresh m n member (note lease) v → n.desk.held ≡ s.held
-spent_held note q first fresh s m n at ask member lease v chose spent =
-    held_again _ _ _ _ _ chose.answered.4 (ap pair_of chose.answered.3) spent.back.held
-
-pub spent_desk : {T : Type 0} (note : T → LeaseNote) (q : Errand) (first : List ℕ) (fresh : Bool) (s : DeskState) (m n : Scene) (at : ℕ) (ask : Ask)
-    (member : ℕ) (lease : T) (v : RoundVerdict) → KeepsDesk s m.desk → Chooses note s m.desk q.lb q.session at ask (choice.Chosen member lease)
-    → KeepsDesk m.desk n.desk → SpendsLease q first fresh m n member (note lease) v → IsDeskAfter q.lb q.session s n.desk
-spent_desk note q first fresh s m n at ask member lease v kept chose still spent =
-    after_round note s m.desk n.desk q.lb q.session at spent.at ask member lease _ spent.back.stray kept chose still spent.back.wides spent.back.back
+pub spent_desk : {T : Type 0} (note : T → LeaseNote) (s m n : DeskState) (lb session at back_at : ℕ) (ask : Ask) (member : ℕ) (lease : T) (endpoint : Endpoint) (head : Head) (ran : Ran)
+    (v : RoundVerdict) → KeepsDesk s m → Chooses note s m lb session at ask (choice.Chosen member lease) → KeepsDesk m n
+    → HandsBack m n session back_at (note lease) endpoint head member ran v → IsDeskAfter lb session s n
+spent_desk note s m n lb session at back_at ask member lease endpoint head ran v kept chose still back =
+    after_round note s m n lb session at back_at ask member lease _ back.stray kept chose still back.wides back.back

@@ -1,23 +1,16 @@
 -- What the parts of an exchange ask of what they are lent, and what they keep of it.
-use Rattle.std.specs.Prelude.{◌≡◌, ℕ, ◌≤◌, ◌<◌, Bool, true, false, List, length, slice_get, slice_index, None, Some, IfSome}
+use Rattle.std.specs.Prelude.{◌≡◌, ℕ, ◌≤◌, ◌<◌, false, List, length, slice_get, slice_index, None, Some, IfSome}
 use Rattle.http_front.specs.Places.{start_of}
 use Rattle.http_front.specs.State.{failed_of, place_of, taken_of}
 use Rattle.http_front.specs.declared.body.BodyIn.{BodyIn}
 use Rattle.http_front.specs.declared.head.BodyPlan.{BodyPlan}
-use Rattle.jk_io.specs.Answers.{Answers}
 use Rattle.jk_io.specs.declared.reaching.Beside.{Beside}
 use Rattle.jk_io.specs.declared.traits.streams.Meanings.{Ghosts}
-use Rattle.jk_model.specs.declared.member.MemberConfig.{MemberConfig}
-use Rattle.balancer_core.specs.Desks.{DeskState, LeaseNote, holds, pair_of}
+use Rattle.balancer_core.specs.Desks.{DeskState}
 use Rattle.forwarding.specs.FirstPiece.{piece_for}
 use Rattle.site_config.specs.declared.endpoint.Endpoint.{Endpoint}
 use Rattle.exchange.specs.Means.{AreSameSides}
-use Rattle.exchange.specs.Requests.{Errand}
-use Rattle.exchange.specs.Rounds.{IsDeskAfter, Scene}
-use Rattle.exchange.specs.Steps.{HandsBack}
-use Rattle.exchange.specs.Talks.{HasRun}
-use Rattle.exchange.specs.declared.ending.Ran.{Ran}
-use Rattle.exchange.specs.declared.ending.RoundVerdict.{RoundVerdict}
+use Rattle.exchange.specs.Rounds.{IsDeskAfter}
 use Rattle.exchange.specs.declared.request.Request.{Request}
 use Rattle.exchange.specs.declared.sides.Means.{Means}
 use Rattle.exchange.specs.declared.sides.Sides.{Sides}
@@ -66,24 +59,3 @@ pub record KeepsMeans {B K R C X : Type 0} (state : B → DeskState) (of_reach :
   pub desk : n.desk.ghost_name ≡ s.desk.ghost_name
   pub clock : n.clock.ghost_name ≡ s.clock.ghost_name
   pub sides : KeepsSides of_reach of_client s.sides n.sides
-
--- A lease of the desk may be spent on this member of the request's balancer.
-pub record MaySpend {B K R C : Type 0} (state : B → DeskState) (told : Ghosts R Beside) (q : Request) (member : ℕ) (lease : LeaseNote)
-    (m : Means B K R C) : Type 0 where
-  pub within : member < length q.balancer.now.book.members
-  pub reach_size : slice_index (told.beside m.sides.reach.now).sizes q.lb ≡ length q.balancer.now.book.members
-  pub idle : (told.beside m.sides.reach.now).runs ≡ false
-  pub caller : IfSome (state m.desk.now).caller (λ n. q.session ≡ n)
-  pub held : holds (state m.desk.now).held (pair_of lease) ≡ true
-
--- Talks were held on the member of a lease, and then it was handed back.
-pub record SpendsLease (q : Errand) (first : List ℕ) (fresh : Bool) (s n : Scene) (member : ℕ) (lease : LeaseNote) (v : RoundVerdict) : Type 0 where
-  pub config : MemberConfig
-  pub endpoint : Endpoint
-  pub ran : Ran
-  pub at : ℕ
-  pub configured : slice_get q.balancer.book.members member ≡ Some config
-  pub reached : slice_get q.balancer.ends member ≡ Some endpoint
-  pub talked : HasRun q first member config endpoint fresh s.around n.around ran
-  pub handed_at : Answers s.clock at n.clock
-  pub back : HandsBack s.desk n.desk q.session at lease endpoint q.head member ran v

@@ -1,50 +1,24 @@
 //! One round: the desk is asked, talks are held, the lease goes back.
 ghost use Rattle.std.specs.Prelude.{◌≡◌, ◌≤◌, ◌<◌, true, length, IfSome, IfOk, IfErr};
 ghost use Rattle.balancer_core.specs.Desks.{Chooses, KeepsDesk, holds, pair_of};
-ghost use Rattle.forwarding.specs.FirstPiece.{piece_for};
 ghost use Rattle.exchange.specs.Requests.{ask_for, errand_of};
-ghost use Rattle.exchange.specs.Keeping.{KeepsMeans, KeepsSides, MayAsk, MaySpend, MayTalk, SpendsLease, TookFirst};
-ghost use Rattle.exchange.specs.Means.{around_of, scene_of};
+ghost use Rattle.exchange.specs.Keeping.{KeepsMeans, MayAsk, TookFirst};
+ghost use Rattle.exchange.specs.Means.{scene_of};
 ghost use Rattle.exchange.specs.Ends.{outcome_for};
 ghost use Rattle.exchange.specs.Steps.{HandsBack, IsNoLease, IsStep};
-ghost use Rattle.exchange.specs.Talks.{HasRun};
 ghost use Rattle.jk_model.specs.declared.journal.TheConstants.{MOST_BYTES};
 
 use crate::ending::{ExchangeEnd, Ran, RoundVerdict};
-use crate::planning::plan_for;
 use crate::request::Request;
-use crate::sides::{Means, Sides};
+use crate::sides::Means;
 use crate::talks::run_talks;
 use crate::target::{Target, target_of};
 use crate::verdicts::{outcome_of, verdict_of};
-use ajp_wire::EncodeError;
 use balancer_core::Desk;
 use balancer_core::desk::Choice;
 use jk_io::{Bytes, Clock, Link, Reach};
 use jk_model::{Ask, RoomError};
 use std::alloc::Global;
-
-/// Makes the Forward Request for a member, and holds its talks.
-fn run_member<R: Reach, C: Link>(
-    alloc: Global,
-    request: &Request,
-    first: &Bytes,
-    to: &Target,
-    fresh: bool,
-    sides: &mut Sides<R, C>,
-) -> Ran
-    requires may { MayTalk R.Meanings request.now.lb to.now.member first.now sides.old }
-    requires short { length first.now ≤ piece_for to.now.endpoint.now }
-    ensures ran { let at = around_of R.Meanings C.Meanings in
-        HasRun (errand_of request.now) first.now to.now.member to.now.config.now to.now.endpoint.now fresh (at sides.old) (at sides.new) result }
-    ensures kept { KeepsSides R.Meanings C.Meanings sides.old sides.new }
-{
-    match plan_for(alloc, request, first, to.config, to.endpoint) {
-        Ok(mut plan) => run_talks(alloc, request, to, &mut plan, fresh, sides),
-        Err(EncodeError::TooLarge) => Ran::TooLarge,
-        Err(EncodeError::NoMemory) => Ran::Wanted { bytes: 0 },
-    }
-}
 
 /// Asks the desk for a member that wasn't tried. Where it gives none, what follows.
 fn chosen<B: Desk>(
@@ -96,30 +70,6 @@ fn give_back<B: Desk>(
     }
 }
 
-/// Holds talks on the member that the desk chose, and hands its lease back.
-fn spend<B: Desk, R: Reach, C: Link, K: Clock>(
-    alloc: Global,
-    request: &Request,
-    first: &Bytes,
-    fresh: bool,
-    chosen: (u32, B::Lease),
-    means: &mut Means<B, K, R, C>,
-) -> RoundVerdict
-    requires may { MaySpend B.state R.Meanings request.now chosen.0 (B.note chosen.1) means.old }
-    requires first { TookFirst request.now first.now means.old.sides.body.now }
-    ensures spent { let at = scene_of B.state K.answers R.Meanings C.Meanings in
-        SpendsLease (errand_of request.now) first.now fresh (at means.old) (at means.new) chosen.0 (B.note chosen.1) result }
-    ensures desk { KeepsDesk (B.state means.old.desk.now) (B.state means.new.desk.now) }
-    ensures same { (means.new.desk.ghost_name ≡ means.old.desk.ghost_name) × (means.new.clock.ghost_name ≡ means.old.clock.ghost_name) }
-    ensures sides { KeepsSides R.Meanings C.Meanings means.old.sides means.new.sides }
-{
-    let (member, lease) = chosen;
-    let to = target_of(request, member);
-    let ran = run_member(alloc, request, first, &to, fresh, &mut means.sides);
-    let back_at = means.clock.now();
-    give_back(request, &to, lease, ran, back_at, means.desk)
-}
-
 /// Asks the desk for a member that wasn't tried, holds talks on it and hands its lease back.
 pub(crate) fn one_round<B: Desk, R: Reach, C: Link, K: Clock>(
     alloc: Global,
@@ -139,8 +89,12 @@ where
     ensures kept { KeepsMeans B.state R.Meanings C.Meanings request.now means.old means.new }
 {
     let at = means.clock.now();
-    match chosen(request, ask, at, means.desk) {
-        Ok(chosen) => spend(alloc, request, first, fresh, chosen, means),
-        Err(verdict) => verdict,
-    }
+    let (member, lease) = match chosen(request, ask, at, means.desk) {
+        Ok(chosen) => chosen,
+        Err(verdict) => return verdict,
+    };
+    let to = target_of(request, member);
+    let ran = run_talks(alloc, request, first, &to, fresh, &mut means.sides);
+    let back_at = means.clock.now();
+    give_back(request, &to, lease, ran, back_at, means.desk)
 }

@@ -1,20 +1,22 @@
 //! The talks of one round.
-ghost use Rattle.std.specs.Prelude.{◌≡◌};
-ghost use Rattle.ajp_talk.specs.Ends.{IsPlan};
+ghost use Rattle.std.specs.Prelude.{◌≡◌, ◌+◌, ◌≤◌, length, min};
+ghost use Rattle.forwarding.specs.FirstPiece.{piece_for};
 ghost use Rattle.exchange.specs.Keeping.{KeepsSides, MayTalk};
 ghost use Rattle.exchange.specs.Means.{around_of};
-ghost use Rattle.exchange.specs.Talks.{HaveTalked};
-ghost use Rattle.exchange.specs.Ends.{bytes_of as bytes_in, outcome_for};
-ghost use Rattle.std.specs.Prelude.{min, ◌+◌};
+ghost use Rattle.exchange.specs.Requests.{errand_of};
+ghost use Rattle.exchange.specs.Talks.{HasRun};
+ghost use Rattle.exchange.specs.Ends.{bytes_of as bytes_in};
 
 use crate::ending::Ran;
 use crate::one_talk::one_talk;
+use crate::planning::plan_for;
 use crate::request::Request;
 use crate::sides::Sides;
 use crate::target::Target;
 use crate::verdicts::{bytes_of, tries_again};
-use ajp_talk::{TalkEnd, TalkPlan};
-use jk_io::{Link, NoMemory, Reach};
+use ajp_talk::TalkEnd;
+use ajp_wire::EncodeError;
+use jk_io::{Bytes, Link, NoMemory, Reach};
 use jk_model::MOST_BYTES;
 use std::alloc::Global;
 
@@ -25,28 +27,32 @@ fn with_talk(bytes: u64, end: TalkEnd) -> u64
     bytes.saturating_add(bytes_of(end)).min(MOST_BYTES)
 }
 
-/// Holds talks on a member until one doesn't fail, or none may follow it. The first one is on a newly dialled link where
-/// `fresh` is true, and each further one is.
+/// Makes the Forward Request for a member, and holds talks on it until one doesn't fail, or none may follow it. The first
+/// one is on a newly dialled link where `fresh` is true, and each further one is.
 pub(crate) fn run_talks<R: Reach, C: Link>(
     alloc: Global,
     request: &Request,
+    first: &Bytes,
     to: &Target,
-    plan: &mut TalkPlan,
     fresh: bool,
     sides: &mut Sides<R, C>,
 ) -> Ran
-    requires may { MayTalk R.Meanings request.now.lb to.now.member plan.now.first sides.old }
-    requires plan { IsPlan plan.now }
-    ensures talks { let at = around_of R.Meanings C.Meanings in
-        HaveTalked request.now.lb to.now.member to.now.endpoint.now request.now.head.now plan.entry.now fresh
-        (at sides.old) (at sides.new) result }
+    requires may { MayTalk R.Meanings request.now.lb to.now.member first.now sides.old }
+    requires short { length first.now ≤ piece_for to.now.endpoint.now }
+    ensures ran { let at = around_of R.Meanings C.Meanings in
+        HasRun (errand_of request.now) first.now to.now.member to.now.config.now to.now.endpoint.now fresh (at sides.old) (at sides.new) result }
     ensures kept { KeepsSides R.Meanings C.Meanings sides.old sides.new }
 {
+    let mut plan = match plan_for(alloc, request, first, to.config, to.endpoint) {
+        Ok(plan) => plan,
+        Err(EncodeError::TooLarge) => return Ran::TooLarge,
+        Err(EncodeError::NoMemory) => return Ran::Wanted { bytes: 0 },
+    };
     let mut fresh_link = fresh;
     let mut bytes = 0;
     let mut left = to.endpoint.retries;
     loop {
-        let end = match one_talk(alloc, request.lb, to, plan, fresh_link, sides) {
+        let end = match one_talk(alloc, request.lb, to, &mut plan, fresh_link, sides) {
             Ok(end) => end,
             Err(NoMemory) => return Ran::Wanted { bytes },
         };

@@ -1,5 +1,5 @@
 -- Each exit is one of the ends of a round; a talk after which another is allowed leaves all under way.
-use Rattle.std.proofs.Common.{sym, ◌∙◌, arith}
+use Rattle.std.proofs.Common.{sym, ◌∙◌, arith, inl}
 use Rattle.std.proofs.lemmas.Bool.{both_ways}
 use Rattle.exchange.proofs.KeepingLaws.{sides_twice, sides_untouched, talks_again}
 use Rattle.exchange.proofs.TalksLaws.{first_taken, goes_on, is_over, is_wanted, no_talk_yet, still_plan}
@@ -7,9 +7,9 @@ use Rattle.exchange.proofs.talks.run_talks.Goals as goal
 
 pub loop-end-init : goal.loop-end-init
 loop-end-init g c = record {
-  way = no_talk_yet _ _ _ _ _ _ _ c.requires.may.taken c.requires.may.going;
-  plan = c.requires.plan;
-  may = c.requires.may;
+  way = rw c.in-Ok.ensures.value (no_talk_yet _ _ _ _ _ _ _ c.requires.may.taken c.requires.may.going);
+  plan = c.in-Ok.ensures.plan;
+  may = rw c.in-Ok.ensures.value c.requires.may;
   kept = sides_untouched _ _ _ c.requires.may.idle;
 }
 
@@ -19,33 +19,39 @@ one_talk-requires-clause-may g c = c.loop-end.invariant.may
 pub one_talk-requires-clause-plan : goal.one_talk-requires-clause-plan
 one_talk-requires-clause-plan g c = c.loop-end.invariant.plan
 
-pub returns-in-Err-clause-talks : goal.returns-in-Err-clause-talks
-returns-in-Err-clause-talks g c =
-    is_wanted _ _ _ _ _ _ _ _ _ _ _ _ _ _ c.loop-end.invariant.way c.in-Err.ensures.talk
+pub returns-in-Err-clause-ran : goal.returns-in-Err-clause-ran
+returns-in-Err-clause-ran g c = inl (
+  c.in-Ok.ensures.fits,
+  is_wanted _ _ _ _ _ _ _ _ _ _ _ _ _ _ c.loop-end.invariant.way c.in-Err.ensures.talk,
+)
 
 pub returns-in-Err-clause-kept : goal.returns-in-Err-clause-kept
 returns-in-Err-clause-kept g c = sides_twice _ _ _ _ _ c.loop-end.invariant.kept c.one_talk.ensures.kept
 
-pub returns-then-not-tries_again-clause-talks : goal.returns-then-not-tries_again-clause-talks
-returns-then-not-tries_again-clause-talks g c =
-    is_over _ _ _ _ _ _ _ _ _ _ _ _ _ _ _ c.loop-end.invariant.way c.in-Ok.ensures.talk
-    (λ again. absurd (both_ways c.tries_again.result c.if-not-tries_again.true (c.tries_again.ensures ∙ again)))
-    c.with_talk-bytes.ensures
+pub returns-then-not-tries_again-clause-ran : goal.returns-then-not-tries_again-clause-ran
+returns-then-not-tries_again-clause-ran g c = inl (
+  c.in-Ok.ensures.fits,
+  is_over _ _ _ _ _ _ _ _ _ _ _ _ _ _ _ c.loop-end.invariant.way c.in-Ok-one_talk.ensures.talk
+      (λ again. absurd (both_ways c.tries_again.result c.if-not-tries_again.true (c.tries_again.ensures ∙ again)))
+      c.with_talk-bytes.ensures,
+)
 
 pub returns-then-not-tries_again-clause-kept : goal.returns-then-not-tries_again-clause-kept
 returns-then-not-tries_again-clause-kept g c = sides_twice _ _ _ _ _ c.loop-end.invariant.kept c.one_talk.ensures.kept
 
-pub returns-then-left-eq0-clause-talks : goal.returns-then-left-eq0-clause-talks
-returns-then-left-eq0-clause-talks g c =
-    is_over _ _ _ _ _ _ _ _ _ _ _ _ _ _ _ c.loop-end.invariant.way c.in-Ok.ensures.talk
-    (λ again. omega (arith, c.loop-end.invariant.way.some, c.if-left-eq0.true)) c.with_talk-bytes.ensures
+pub returns-then-left-eq0-clause-ran : goal.returns-then-left-eq0-clause-ran
+returns-then-left-eq0-clause-ran g c = inl (
+  c.in-Ok.ensures.fits,
+  is_over _ _ _ _ _ _ _ _ _ _ _ _ _ _ _ c.loop-end.invariant.way c.in-Ok-one_talk.ensures.talk
+      (λ again. omega (arith, c.loop-end.invariant.way.some, c.if-left-eq0.true)) c.with_talk-bytes.ensures,
+)
 
 pub returns-then-left-eq0-clause-kept : goal.returns-then-left-eq0-clause-kept
 returns-then-left-eq0-clause-kept g c = sides_twice _ _ _ _ _ c.loop-end.invariant.kept c.one_talk.ensures.kept
 
 pub loop-end-preserved : goal.loop-end-preserved
 loop-end-preserved g c =
-    let way = goes_on _ _ _ _ _ _ _ _ _ _ _ _ _ _ _ _ c.loop-end.invariant.way c.in-Ok.ensures.talk
+    let way = goes_on _ _ _ _ _ _ _ _ _ _ _ _ _ _ _ _ c.loop-end.invariant.way c.in-Ok-one_talk.ensures.talk
     (sym c.tries_again.ensures ∙ c.if-not-tries_again.false) c.with_talk-bytes.ensures
     (omega (arith, c.loop-end.invariant.way.some, c.if-left-eq0.false)) c.one_talk.ensures.plan in
     record {

@@ -2,12 +2,13 @@
 use Rattle.ajp_talk.specs.Ends.{IsPlan}
 use Rattle.exchange.specs.Keeping.{KeepsSides, MayTalk}
 use Rattle.exchange.specs.Means.{around_of}
+use Rattle.exchange.specs.Requests.{errand_of, plan_for}
 use Rattle.exchange.proofs.TalksLaws.{IsUnderWay}
 use Rattle.exchange.proofs.talks.run_talks.Given as goal
 
 abbrev pub invariant-loop-end : goal.invariant-loop-end
 invariant-loop-end g l = record {
-  way : IsUnderWay l.request.lb l.to.member l.to.endpoint.now l.request.head.now l.fn.plan l.fresh
+  way : IsUnderWay l.request.lb l.to.member l.to.endpoint.now l.request.head.now (plan_for (errand_of l.request) l.first l.to.config.now l.to.endpoint.now) l.fresh
       (around_of g.R.Meanings g.C.Meanings l.fn.sides) (around_of g.R.Meanings g.C.Meanings l.sides)
       l.plan l.fresh_link l.bytes l.left;
   plan : IsPlan l.plan;
