@@ -7,12 +7,14 @@ ghost use Rattle.exchange.specs.Means.{scene_of};
 ghost use Rattle.exchange.specs.Requests.{errand_of};
 ghost use Rattle.exchange.specs.WholeTalks.{GoesWholeOnce};
 
-use crate::all_rounds::all_rounds;
-use crate::ending::ExchangeEnd;
+use crate::ending::{ExchangeEnd, RoundVerdict};
 use crate::first_piece::take_first;
+use crate::own::write_own;
 use crate::planning::ask_of;
-use crate::request::Request;
+use crate::request::{Request, own_kind};
+use crate::rounds::one_round;
 use crate::sides::Means;
+use crate::tried::with_member;
 use balancer_core::Desk;
 use jk_io::{Clock, Link, NoMemory, Reach};
 use std::alloc::Global;
@@ -51,7 +53,7 @@ where
     // Desk, clock and sides are still the caller's own, and each lease went back.
     ensures kept { KeepsMeans B.state R.Meanings C.Meanings request.now means.old means.new }
 {
-    let ask = match ask_of(alloc, request) {
+    let mut ask = match ask_of(alloc, request) {
         Ok(ask) => ask,
         Err(NoMemory) => return ExchangeEnd::NoMemory,
     };
@@ -67,5 +69,18 @@ where
         Ok(first) => first,
         Err(end) => return end,
     };
-    all_rounds(alloc, request, &first, ask, means)
+    let first = &first;
+    let mut fresh = false;
+    loop {
+        match one_round(alloc, request, first, &ask, fresh, means) {
+            RoundVerdict::Again { member } => {
+                ask.tried = with_member(ask.tried, member);
+                fresh = true;
+            }
+            RoundVerdict::Answer(status) => {
+                return write_own(status, own_kind(request), means.sides.client);
+            }
+            RoundVerdict::End(end) => return end,
+        }
+    }
 }

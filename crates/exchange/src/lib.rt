@@ -11,7 +11,6 @@
 //! Errors: none; each end is an `ExchangeEnd`, and want of memory is one of them.
 #![tactic(auto)]
 
-mod all_rounds;
 mod delivery;
 mod ending;
 mod exchanging;

@@ -4,7 +4,7 @@ use Rattle.exchange.specs.Keeping.{KeepsMeans}
 use Rattle.exchange.specs.Means.{scene_of}
 use Rattle.exchange.specs.Requests.{errand_of}
 use Rattle.exchange.proofs.ExchangeLaws.{IsSearching}
-use Rattle.exchange.proofs.all_rounds.all_rounds.Given as goal
+use Rattle.exchange.proofs.exchanging.exchange_of.Given as goal
 
 abbrev pub invariant-loop-member : goal.invariant-loop-member
 invariant-loop-member g l = record {
