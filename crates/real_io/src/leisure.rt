@@ -1,19 +1,18 @@
-//! A short look at one client alone, while other workers are free for who comes.
-ghost use Rattle.std.specs.Prelude.{◌≡◌, ◌+◌, min};
+//! Whether workers are free for who comes, so that one may wait for its own client alone.
 
 use jk_io::NoMemory;
-use libc::net::{POLLIN, poll};
-use libc::types::pollfd;
 use std::alloc::Global;
-use std::os::fd::RawFd;
 use std::sync::Arc;
 use std::sync::atomic::{AtomicBool, Ordering};
 
-/// For how many milliseconds a worker looks at its own client at most, before it gives it back.
+/// A client is quick whose next head is there so many milliseconds after its last reply.
 pub const GLANCE_MILLIS: u64 = 1;
 
-/// For how many milliseconds it looks at one client at most, before it gives it back all the same.
-pub(crate) const MOST_GLANCE_MILLIS: u64 = 256;
+/// For how many milliseconds a worker waits for its own client at a time.
+pub const LOOK_MILLIS: u64 = 10;
+
+/// For how many milliseconds it waits for one client at most, before it gives it back all the same.
+pub(crate) const MOST_LOOK_MILLIS: u64 = 2_560;
 
 /// Whether workers are free, so that one may look at its own client for a moment. Its shares see what it is told.
 #[derive(Drop)]
@@ -47,17 +46,4 @@ impl Leisure {
     pub fn is_there(&self) -> bool {
         self.is_there.load(Ordering::SeqCst)
     }
-}
-
-/// Whether something comes of a stream within so many milliseconds, which are counted. Its end is something too.
-pub(crate) fn comes_within(number: RawFd, millis: u64, looked: &mut u64) -> bool
-    ensures { looked.new ≡ min (looked.old + millis) 18446744073709551615 }
-{
-    *looked = looked.saturating_add(millis);
-    let mut fds = [pollfd {
-        fd: number,
-        events: POLLIN,
-        revents: 0,
-    }];
-    poll(&mut fds, i32::try_from(millis).unwrap_or(0)) > 0
 }

@@ -28,7 +28,7 @@ mod unflushed;
 pub use ending::Ending;
 pub use heads::{MAX_HEAD_BYTES, head_end};
 pub use held_bytes::{HELD_BYTES, HeldBytes};
-pub use leisure::{GLANCE_MILLIS, Leisure};
+pub use leisure::{GLANCE_MILLIS, LOOK_MILLIS, Leisure};
 pub use moments::moment;
 pub use notices::{Notices, Tally};
 pub use outbox::Outbox;

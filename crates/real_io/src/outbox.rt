@@ -7,7 +7,6 @@ use crate::held_bytes::HeldBytes;
 use crate::stream_end::{AtHand, StreamEnd};
 use jk_io::{Awaited, NoMemory, Sink};
 use std::alloc::Global;
-use std::os::fd::RawFd;
 use std::sync::{Arc, Mutex};
 
 /// A client's end, with the bytes that wait to be sent on it.
@@ -100,6 +99,20 @@ impl Held<StreamEnd> {
             None => AtHand::Broken,
         }
     }
+
+    // Reads what is there of the client, or comes within 10 milliseconds, once all that waits was sent.
+    fn soon(&mut self, buf: &mut [u8]) -> AtHand
+        ensures count { IfCame result (λ n. n ≤ length buf.new) }
+        ensures first { self.new.is_broken ≡ false → self.new.bytes ≡ [] }
+    {
+        if !self.flush() {
+            return AtHand::Broken;
+        }
+        match &mut self.end {
+            Some(end) => end.soon(buf),
+            None => AtHand::Broken,
+        }
+    }
 }
 
 /// What a worker wrote to its client and hasn't sent yet: at most 73,728 bytes. It is shared by the client's link and the
@@ -176,13 +189,14 @@ impl Outbox {
         }
     }
 
-    // The system's number of the client's stream, once all that waits was sent.
-    pub(crate) fn number(&self) -> Option<RawFd> {
-        let mut held = self.held.try_lock()?;
-        if !held.flush() {
-            return None;
+    // Reads what is there of the client, or comes within 10 milliseconds, once all that waits was sent.
+    pub(crate) fn soon(&self, buf: &mut [u8]) -> AtHand
+        ensures { IfCame result (λ n. n ≤ length buf.new) }
+    {
+        match self.held.try_lock() {
+            Some(mut held) => held.soon(buf),
+            None => AtHand::Broken,
         }
-        Some(held.end.as_ref()?.number())
     }
 
     // Tells the client's end what is waited for next.

@@ -4,6 +4,7 @@ ghost use Rattle.jk_io.specs.Told.{HasCause, Rose};
 ghost use Rattle.real_io.specs.Waitless.{IfCame, IsWaitless};
 
 use crate::ending::Ending;
+use crate::leisure::LOOK_MILLIS;
 use crate::moments::moment;
 use crate::notices::{Failure, Watched};
 use crate::pace::Pace;
@@ -38,6 +39,14 @@ pub enum AtHand {
     Nothing,
     /// The stream is broken.
     Broken,
+}
+
+// Whether a call of the system came back before something came.
+fn comes_back(error: &io::Error) -> bool {
+    matches!(
+        error.kind(),
+        ErrorKind::Interrupted | ErrorKind::WouldBlock | ErrorKind::TimedOut
+    )
 }
 
 // Whether bytes may be the first of a container's packet, which begins with "AB".
@@ -310,11 +319,20 @@ impl StreamEnd {
         None
     }
 
-    // How long a call has waited after this error of the system; none: it is broken.
-    fn waited(&self, error: &io::Error, waited: u64) -> Option<u64> {
+    // How long a call has waited after this error of the system; none: it is broken. A client that isn't quick is waited for by
+    // longer calls.
+    fn waited(&mut self, error: &io::Error, waited: u64) -> Option<u64>
+        ensures { self.new.failed ≡ self.old.failed }
+    {
         match error.kind() {
             ErrorKind::Interrupted => Some(waited),
-            ErrorKind::WouldBlock | ErrorKind::TimedOut => Some(waited.saturating_add(self.slice)),
+            ErrorKind::WouldBlock | ErrorKind::TimedOut => {
+                let waited = waited.saturating_add(self.slice);
+                if self.limits.is_some() {
+                    self.come_back_after(SLICE_MILLIS);
+                }
+                Some(waited)
+            }
             _ => {
                 self.tell(Failure::Broken(error));
                 None
@@ -353,6 +371,22 @@ impl StreamEnd {
             self.has_ended = true;
         }
         came
+    }
+
+    /// Reads what is there, or comes within `LOOK_MILLIS`.
+    pub(crate) fn soon(&mut self, buf: &mut [u8]) -> AtHand
+        ensures count { IfCame result (λ n. n ≤ length buf.new) }
+        ensures same { self.new.failed ≡ self.old.failed }
+    {
+        self.come_back_after(LOOK_MILLIS);
+        match self.stream.read(buf) {
+            Ok(n) => {
+                self.has_ended = n == 0;
+                AtHand::Came(n)
+            }
+            Err(error) if comes_back(&error) => AtHand::Nothing,
+            Err(_) => AtHand::Broken,
+        }
     }
 
     /// Whether no byte is there and the other side didn't close, as far as can be seen now.

@@ -7,14 +7,13 @@ ghost use Rattle.real_io.specs.Unflushed.{unflushed_with, replies_after};
 ghost use Rattle.real_io.specs.Waitless.{IfCame};
 
 use crate::heads::{MAX_HEAD_BYTES, head_end};
-use crate::leisure::{GLANCE_MILLIS, Leisure, MOST_GLANCE_MILLIS, comes_within};
+use crate::leisure::{LOOK_MILLIS, Leisure, MOST_LOOK_MILLIS};
 use crate::outbox::Outbox;
 use crate::stream_end::{AtHand, StreamEnd};
 use crate::unflushed::Unflushed;
 use jk_io::{Awaited, IoError, Link, Meanings, NoMemory, Sink, Source};
 use std::alloc::Global;
 use std::net::TcpStream;
-use std::os::fd::RawFd;
 use std::sync::{Arc, Mutex};
 
 /// How many bytes a link reads ahead at most.
@@ -52,7 +51,7 @@ pub struct TcpLink {
     replies: u64,
     /// Whether workers are free, of a client's link that may then look at its client for a moment.
     leisure: Option<Leisure>,
-    /// For how many milliseconds it looked at its client at most.
+    /// For how many milliseconds it waited for its client at most, to say whether it waits.
     looked: u64,
     /// Nothing came of its client in the last look.
     is_slow: bool,
@@ -256,6 +255,7 @@ impl TcpLink {
         ensures at_front { (self.new.from ≡ 0) × (self.new.to ≡ self.old.to - self.old.from) }
         ensures kept { between 0 self.new.to self.new.ahead.items ≡ between self.old.from self.old.to self.old.ahead.items }
         ensures same { (self.new.failed ≡ self.old.failed) × (self.new.looked ≡ self.old.looked) × (vec_len self.new.ahead ≡ vec_len self.old.ahead) }
+        ensures leisure { self.new.leisure ≡ self.old.leisure }
     {
         let held = self.to - self.from;
         if self.from != 0 {
@@ -284,14 +284,17 @@ impl TcpLink {
     // Whether more of a client's next head is waited for; what is at hand of it is read ahead.
     fn wants_more(&mut self) -> bool
         ensures none { result ≡ true → (n : ℕ) → EndsHead (between self.new.from self.new.to self.new.ahead.items) n → ⊥ }
+        ensures brief { self.new.looked ≤ self.old.looked + 10 }
+        ensures few { self.new.looked ≤ 2560 ⊎ (self.new.looked ≡ self.old.looked) }
+        ensures untold { self.old.leisure ≡ None → self.new.looked ≡ self.old.looked }
         ensures short { result ≡ true → IsShort (self.new.to - self.new.from) }
-        ensures same { (self.new.failed ≡ self.old.failed) × (self.new.looked ≡ self.old.looked) }
+        ensures same { self.new.failed ≡ self.old.failed }
     {
         if !self.lacks_head() {
             return false;
         }
         self.gather();
-        match self.wire.at_hand(&mut self.ahead[self.to..]) {
+        match self.look() {
             AtHand::Came(0) | AtHand::Broken => return false,
             AtHand::Came(n) => self.to += n,
             AtHand::Nothing => {}
@@ -299,21 +302,25 @@ impl TcpLink {
         self.lacks_head()
     }
 
-    // Looks at its client for a moment, where nothing of it is there and workers are free.
-    fn glance(&mut self)
-        ensures brief { self.new.looked ≤ self.old.looked + 1 }
-        ensures few { self.new.looked ≤ 256 ⊎ (self.new.looked ≡ self.old.looked) }
+    // Reads what is there of its client; or, where nothing of it was read ahead and workers are free, what comes within 10 milliseconds.
+    fn look(&mut self) -> AtHand
+        ensures count { IfCame result (λ n. self.new.to + n ≤ vec_len self.new.ahead) }
+        ensures brief { self.new.looked ≤ self.old.looked + 10 }
+        ensures few { self.new.looked ≤ 2560 ⊎ (self.new.looked ≡ self.old.looked) }
         ensures untold { self.old.leisure ≡ None → self.new.looked ≡ self.old.looked }
-        ensures same { self.new ≡ record self.old { looked = self.new.looked; is_slow = self.new.is_slow } }
+        ensures same { (self.new.from ≡ self.old.from) × (self.new.to ≡ self.old.to) × (self.new.failed ≡ self.old.failed) }
     {
         if self.from == self.to
-            && self.looked < MOST_GLANCE_MILLIS
+            && self.looked <= MOST_LOOK_MILLIS - LOOK_MILLIS
             && let Some(leisure) = &self.leisure
             && leisure.is_there()
-            && let Some(number) = self.wire.number()
         {
-            self.is_slow = !comes_within(number, GLANCE_MILLIS, &mut self.looked);
+            self.looked += LOOK_MILLIS;
+            let came = self.wire.soon(&mut self.ahead[self.to..]);
+            self.is_slow = came == AtHand::Nothing;
+            return came;
         }
+        self.wire.at_hand(&mut self.ahead[self.to..])
     }
 
     // Empties the outbox whose bytes go first.
@@ -374,11 +381,13 @@ impl Wire {
         }
     }
 
-    // The system's number of the stream, once what is held back was sent.
-    fn number(&self) -> Option<RawFd> {
+    // One read that waits for 10 milliseconds at most.
+    fn soon(&mut self, buf: &mut [u8]) -> AtHand
+        ensures { IfCame result (λ n. n ≤ length buf.new) }
+    {
         match self {
-            Wire::End(end) => Some(end.number()),
-            Wire::Outbox(outbox) => outbox.number(),
+            Wire::End(end) => end.soon(buf),
+            Wire::Outbox(outbox) => outbox.soon(buf),
         }
     }
 
@@ -531,15 +540,14 @@ impl Link for TcpLink {
         ensures short { result ≡ true → IsShort (self.new.to - self.new.from) }
         ensures idle { result ≡ self.new.is_idle }
 
-        // It looks at its client for a millisecond at most, 256 times at most, and only where it is told whether workers are free.
-        ensures brief { self.new.looked ≤ self.old.looked + 1 }
-        ensures few { self.new.looked ≤ 256 ⊎ (self.new.looked ≡ self.old.looked) }
+        // It waits for its client for 10 milliseconds at most, 256 times at most, and only where it is told whether workers are free.
+        ensures brief { self.new.looked ≤ self.old.looked + 10 }
+        ensures few { self.new.looked ≤ 2560 ⊎ (self.new.looked ≡ self.old.looked) }
         ensures untold { self.old.leisure ≡ None → self.new.looked ≡ self.old.looked }
 
         // What each link says.
         ensures same { self.new.failed ≡ self.old.failed }
     {
-        self.glance();
         self.is_idle = self.wants_more();
         self.is_idle
     }
