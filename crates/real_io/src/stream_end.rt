@@ -8,8 +8,9 @@ use crate::leisure::LOOK_MILLIS;
 use crate::moments::moment;
 use crate::notices::{Failure, Watched};
 use crate::pace::Pace;
-use jk_io::{Awaited, ClientLimits, IoError, Meanings, Sink};
+use jk_io::{Awaited, ClientLimits, IoError, Meanings, NoMemory, Sink};
 use libc::net as c;
+use std::alloc::Global;
 use std::io;
 use std::io::{ErrorKind, Read, Write};
 use std::net::{IpAddr, Shutdown, TcpStream};
@@ -54,10 +55,9 @@ fn begins_packet(given: &[u8]) -> bool {
     given.first() == Some(&b'A')
 }
 
-/// This side's end of a TCP stream. It tells nothing of what is read and written.
+/// How an end of a stream is waited for, and whose it is.
 #[derive(Drop)]
-pub struct StreamEnd {
-    stream: TcpStream,
+pub(crate) struct Waits {
     patience: Patience,
     /// After how many milliseconds a call of the system comes back; 0: it may wait without limit.
     slice: u64,
@@ -71,6 +71,30 @@ pub struct StreamEnd {
     ending: Option<Ending>,
     /// The member at the other end, where it is said that it fails.
     watched: Option<Watched>,
+}
+
+impl Waits {
+    /// They are without limit, until it is told otherwise.
+    pub(crate) fn new(alloc: Global) -> Result<Box<Waits>, NoMemory> {
+        let waits = Waits {
+            patience: Patience::Each(0),
+            slice: 0,
+            limits: None,
+            peer: None,
+            taking: None,
+            ending: None,
+            watched: None,
+        };
+        Ok(Box::new(alloc, waits)?)
+    }
+}
+
+/// This side's end of a TCP stream. It tells nothing of what is read and written.
+#[derive(Drop)]
+pub struct StreamEnd {
+    stream: TcpStream,
+    /// It stays where it is while the end goes from hand to hand.
+    waits: Box<Waits>,
     /// The other side's bytes ended.
     has_ended: bool,
     /// The other side gave bytes, or ended.
@@ -79,81 +103,86 @@ pub struct StreamEnd {
 }
 
 impl StreamEnd {
-    /// An end that waits without limit, until it is told otherwise. Small writes are sent without delay.
-    pub fn new(stream: TcpStream) -> StreamEnd
-        ensures { result.failed ≡ 0 }
+    /// An end that waits without limit, until it is told otherwise. Small writes are sent without delay. For want of memory the
+    /// stream is closed.
+    pub fn new(alloc: Global, stream: TcpStream) -> Result<StreamEnd, NoMemory>
+        ensures { IfOk result (λ end. end.failed ≡ 0) }
+    {
+        Ok(StreamEnd::over(stream, Waits::new(alloc)?))
+    }
+
+    /// The same. It takes no memory.
+    pub(crate) fn over(stream: TcpStream, waits: Box<Waits>) -> StreamEnd
+        ensures { (result.failed ≡ 0) × (result.waits ≡ waits) }
     {
         // A stream that refuses this is broken, and the next read or write of it fails.
         let _ = stream.set_nodelay(true);
         StreamEnd {
             stream,
-            patience: Patience::Each(0),
-            slice: 0,
-            limits: None,
-            peer: None,
-            taking: None,
-            ending: None,
-            watched: None,
+            waits,
             has_ended: false,
             was_heard: false,
             failed: 0,
         }
     }
 
-    /// An end of which each read and each write waits so many milliseconds at most.
-    pub fn patient(stream: TcpStream, millis: u64) -> StreamEnd
+    /// An end of which each read and each write waits so many milliseconds at most. It takes no memory.
+    pub(crate) fn patient(stream: TcpStream, millis: u64, waits: Box<Waits>) -> StreamEnd
         ensures { result.failed ≡ 0 }
     {
-        let mut end = StreamEnd::new(stream);
+        let mut end = StreamEnd::over(stream, waits);
         end.come_back_after(millis);
-        end.patience = Patience::Each(millis);
+        end.waits.patience = Patience::Each(millis);
         end
     }
 
-    /// A client's end, which keeps to these limits.
+    /// A client's end, which keeps to these limits. For want of memory the stream is closed.
     pub fn of_client(
+        alloc: Global,
         stream: TcpStream,
         peer: IpAddr,
         limits: ClientLimits,
         ending: Ending,
-    ) -> StreamEnd
-        ensures { (result.failed ≡ 0) × (result.peer ≡ Some peer) }
+    ) -> Result<StreamEnd, NoMemory>
+        ensures { IfOk result (λ end. (end.failed ≡ 0) × (end.waits.value.peer ≡ Some peer)) }
     {
-        let mut end = StreamEnd::new(stream);
+        let mut end = StreamEnd::new(alloc, stream)?;
         end.come_back_after(SLICE_MILLIS);
-        end.limits = Some(limits);
-        end.peer = Some(peer);
-        end.ending = Some(ending);
-        end
+        end.waits.limits = Some(limits);
+        end.waits.peer = Some(peer);
+        end.waits.ending = Some(ending);
+        Ok(end)
     }
 
     /// Who is at the other end, where it is a client.
     pub fn peer(&self) -> Option<IpAddr>
-        ensures { result ≡ self.now.peer }
+        ensures { result ≡ self.now.waits.value.peer }
     {
-        self.peer
+        self.waits.peer
     }
 
-    /// A member's end, which fails once all ends. Where it is watched, it is said that it fails.
+    /// A member's end, which fails once all ends. Where it is watched, it is said that it fails. For want of memory the stream is
+    /// closed.
     pub(crate) fn of_member(
+        alloc: Global,
         stream: TcpStream,
         ending: Option<Ending>,
         watched: Option<Watched>,
-    ) -> StreamEnd
-        ensures { result.failed ≡ 0 }
+    ) -> Result<StreamEnd, NoMemory>
+        ensures { IfOk result (λ end. end.failed ≡ 0) }
     {
-        let mut end = StreamEnd::new(stream);
+        let mut end = StreamEnd::new(alloc, stream)?;
         if ending.is_some() {
             end.come_back_after(SLICE_MILLIS);
         }
-        end.ending = ending;
-        end.watched = watched;
-        end
+        end.waits.ending = ending;
+        end.waits.watched = watched;
+        Ok(end)
     }
 
     // Says that the member at the other end fails, unless all ends.
     fn tell(&self, failure: Failure<'_>) {
-        if let Some(watched) = &self.watched
+        if let Some(watched) = &self.waits.watched
             && !self.is_all_over()
         {
             watched.fails(failure);
@@ -164,11 +193,11 @@ impl StreamEnd {
     fn come_back_after(&mut self, millis: u64)
         ensures { self.new.failed ≡ self.old.failed }
     {
-        if self.slice != millis && millis != 0 {
+        if self.waits.slice != millis && millis != 0 {
             let wait = Some(Duration::from_millis(millis));
             let _ = self.stream.set_read_timeout(wait);
             let _ = self.stream.set_write_timeout(wait);
-            self.slice = millis;
+            self.waits.slice = millis;
         }
     }
 
@@ -205,18 +234,18 @@ impl StreamEnd {
     fn wait_each(&mut self, millis: u64)
         ensures { self.new.failed ≡ self.old.failed }
     {
-        if millis != 0 && self.slice == 0 {
+        if millis != 0 && self.waits.slice == 0 {
             self.come_back_after(SLICE_MILLIS);
         }
-        self.patience = Patience::Each(millis);
+        self.waits.patience = Patience::Each(millis);
     }
 
     // A client's body is to come at its pace, from this moment on.
     fn begin_body(&mut self, now: u64)
         ensures { self.new.failed ≡ self.old.failed }
     {
-        if let Some(limits) = self.limits {
-            self.patience = Patience::Paced(Pace::new(limits.rate, now));
+        if let Some(limits) = self.waits.limits {
+            self.waits.patience = Patience::Paced(Pace::new(limits.rate, now));
         }
     }
 
@@ -224,19 +253,19 @@ impl StreamEnd {
     fn begin_head(&mut self, now: u64)
         ensures { self.new.failed ≡ self.old.failed }
     {
-        match self.limits {
+        match self.waits.limits {
             Some(limits) if limits.head != 0 => {
                 let millis = limits.head.saturating_mul(1_000);
-                self.patience = Patience::Until(now.saturating_add(millis));
+                self.waits.patience = Patience::Until(now.saturating_add(millis));
             }
-            Some(_) => self.patience = Patience::Each(0),
+            Some(_) => self.waits.patience = Patience::Each(0),
             None => {}
         }
     }
 
     // Whether a read that waited so many milliseconds waits no longer.
     fn is_over(&self, waited: u64) -> bool {
-        let over = match self.patience {
+        let over = match self.waits.patience {
             Patience::Each(most) => most != 0 && waited >= most,
             Patience::Paced(pace) => pace.is_lost(moment()),
             Patience::Until(last) => moment() >= last,
@@ -247,17 +276,17 @@ impl StreamEnd {
     // Whether a write that waited so many milliseconds waits no longer. Once all ends a client still gets what needn't wait, as the
     // answer that says so; a member gets nothing.
     fn is_stuck(&self, waited: u64) -> bool {
-        let stuck = match (self.taking, self.patience) {
+        let stuck = match (self.waits.taking, self.waits.patience) {
             (Some(pace), _) => pace.is_lost(moment()),
             (None, Patience::Each(most)) => most != 0 && waited >= most,
             (None, _) => false,
         };
-        let may_try = waited == 0 && self.limits.is_some();
+        let may_try = waited == 0 && self.waits.limits.is_some();
         stuck || (self.is_all_over() && !may_try)
     }
 
     fn is_all_over(&self) -> bool {
-        match &self.ending {
+        match &self.waits.ending {
             Some(ending) => ending.is_over(),
             None => false,
         }
@@ -291,7 +320,7 @@ impl StreamEnd {
         ensures count { IfSome result (λ n. n ≤ length buf.new) }
         ensures same { self.new.failed ≡ self.old.failed }
     {
-        if !matches!(self.patience, Patience::Each(_)) {
+        if !matches!(self.waits.patience, Patience::Each(_)) {
             match self.at_hand(buf) {
                 AtHand::Came(n) => return Some(n),
                 AtHand::Nothing => {}
@@ -327,8 +356,8 @@ impl StreamEnd {
         match error.kind() {
             ErrorKind::Interrupted => Some(waited),
             ErrorKind::WouldBlock | ErrorKind::TimedOut => {
-                let waited = waited.saturating_add(self.slice);
-                if self.limits.is_some() {
+                let waited = waited.saturating_add(self.waits.slice);
+                if self.waits.limits.is_some() {
                     self.come_back_after(SLICE_MILLIS);
                 }
                 Some(waited)
@@ -346,14 +375,14 @@ impl StreamEnd {
         self.has_ended = given.is_empty();
         self.tell_given(given);
         self.was_heard = true;
-        if let Patience::Paced(pace) = self.patience {
-            self.patience = Patience::Paced(pace.after(given.len() as u64, moment()));
+        if let Patience::Paced(pace) = self.waits.patience {
+            self.waits.patience = Patience::Paced(pace.after(given.len() as u64, moment()));
         }
     }
 
     // Says what the bytes that a member gave say of it: that it closed, that it serves, or that it speaks something else.
     fn tell_given(&self, given: &[u8]) {
-        match &self.watched {
+        match &self.waits.watched {
             Some(_) if given.is_empty() => self.tell(Failure::Closed),
             Some(_) if !self.was_heard && !begins_packet(given) => self.tell(Failure::Strange),
             Some(watched) => watched.serves(),
@@ -426,11 +455,11 @@ impl StreamEnd {
         ensures { self.new.failed ≡ self.old.failed }
     {
         if is_whole {
-            self.taking = None;
+            self.waits.taking = None;
             return;
         }
-        match self.taking {
-            Some(pace) => self.taking = Some(pace.after(count as u64, moment())),
+        match self.waits.taking {
+            Some(pace) => self.waits.taking = Some(pace.after(count as u64, moment())),
             None => self.note_stuck(),
         }
     }
@@ -439,8 +468,8 @@ impl StreamEnd {
     fn note_stuck(&mut self)
         ensures { self.new.failed ≡ self.old.failed }
     {
-        if let (Some(limits), None) = (self.limits, self.taking) {
-            self.taking = Some(Pace::new(limits.rate, moment()));
+        if let (Some(limits), None) = (self.waits.limits, self.waits.taking) {
+            self.waits.taking = Some(Pace::new(limits.rate, moment()));
         }
     }
 }

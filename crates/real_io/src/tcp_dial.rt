@@ -83,7 +83,13 @@ impl<'r, R: Net<Stream = TcpStream>> TcpDial<'r, R> {
     }
 
     // The end of a stream to a member.
-    fn end_of(&self, stream: TcpStream, host: &Bytes, port: u16) -> Result<StreamEnd, NoMemory> {
+    fn end_of(
+        &self,
+        alloc: Global,
+        stream: TcpStream,
+        host: &Bytes,
+        port: u16,
+    ) -> Result<StreamEnd, NoMemory> {
         if self.keepalive {
             keep_alive(&stream);
         }
@@ -95,7 +101,7 @@ impl<'r, R: Net<Stream = TcpStream>> TcpDial<'r, R> {
             Some(notices) => Some(Watched::new(notices, host, port)?),
             None => None,
         };
-        Ok(StreamEnd::of_member(stream, ending, watched))
+        StreamEnd::of_member(alloc, stream, ending, watched)
     }
 
     fn link_over(&self, alloc: Global, end: StreamEnd) -> Result<TcpLink, NoMemory> {
@@ -118,7 +124,7 @@ impl<'r, R: Net<Stream = TcpStream>> Dial for TcpDial<'r, R> {
         let answer = connect(self.rt, host, port, self.millis);
         self.tell(host, port, &answer);
         match answer {
-            Ok(stream) => Ok(self.link_over(alloc, self.end_of(stream, host, port)?)?),
+            Ok(stream) => Ok(self.link_over(alloc, self.end_of(alloc, stream, host, port)?)?),
             Err(_) => {
                 self.failed = self.failed.saturating_add(1);
                 Err(IoError::Failed)

@@ -5,7 +5,7 @@ ghost use Rattle.jk_io.specs.Told.{Rose, HasCause};
 
 use crate::outbox::Outbox;
 use crate::passing::{is_passing, pause};
-use crate::stream_end::StreamEnd;
+use crate::stream_end::{StreamEnd, Waits};
 use crate::tcp_link::{TcpLink, room_ahead};
 use jk_io::{Bytes, Door, IoError, NoMemory, Peer};
 use std::alloc::Global;
@@ -160,10 +160,11 @@ fn next_client(
     }
 }
 
-// The memory of one client: the buffer of its link, and the text of its address.
+// The memory of one client: its end and the buffer of its link, and the text of its address.
 #[derive(Drop)]
 struct ClientRoom {
     outbox: Option<Outbox>,
+    waits: Box<Waits>,
     ahead: Vec<u8>,
     address: String,
 }
@@ -176,6 +177,7 @@ impl ClientRoom {
         };
         Ok(ClientRoom {
             outbox,
+            waits: Waits::new(alloc)?,
             ahead: room_ahead(alloc)?,
             address: String::with_capacity(alloc, MAX_ADDRESS_BYTES)?,
         })
@@ -185,12 +187,13 @@ impl ClientRoom {
     fn client(self, stream: TcpStream, ip: IpAddr) -> (TcpLink, Peer) {
         let ClientRoom {
             outbox,
+            waits,
             ahead,
             mut address,
         } = self;
         let _ = write!(address, "{ip}");
         let addr = Bytes::from_vec(address.into_bytes());
-        let end = StreamEnd::patient(stream, CLIENT_SECONDS * 1_000);
+        let end = StreamEnd::patient(stream, CLIENT_SECONDS * 1_000, waits);
         let link = match outbox {
             Some(outbox) => TcpLink::held_by(outbox, end, ahead),
             None => TcpLink::over(end, ahead),

@@ -87,7 +87,8 @@ impl TcpLink {
     pub fn new(alloc: Global, stream: TcpStream) -> Result<TcpLink, NoMemory>
         ensures { IfOk result (λ link. (link.failed ≡ 0) × (link.from ≡ link.to)) }
     {
-        Ok(TcpLink::over(StreamEnd::new(stream), room_ahead(alloc)?))
+        let end = StreamEnd::new(alloc, stream)?;
+        Ok(TcpLink::over(end, room_ahead(alloc)?))
     }
 
     /// A link to a member, before whose waits and writes this outbox is emptied.

@@ -10,8 +10,8 @@ use crate::room::Room;
 use crate::stay::{Phase, Stay};
 use jk_io::{Bytes, Door, IoError, NoMemory, Peer};
 use real_io::{
-    AtHand, GLANCE_MILLIS, Leisure, LinkParts, MAX_HEAD_BYTES, Outbox, StreamEnd, TcpLink,
-    head_end, moment, room_ahead,
+    AtHand, GLANCE_MILLIS, LOOK_MILLIS, Leisure, LinkParts, MAX_HEAD_BYTES, Outbox, StreamEnd,
+    TcpLink, head_end, moment, room_ahead,
 };
 use std::alloc::Global;
 use std::sync::{Arc, Wait};
@@ -236,12 +236,12 @@ impl<'r, R: Wait + Eprint> Door for RoomDoor<'r, R> {
     }
 }
 
-// Since when a client is served: it was looked at in vain before, or not.
+// Since when a client is served: it was waited for in vain before, or not.
 fn served_since(is_slow: bool, now: u64) -> u64
-    ensures { result ≡ (if is_slow then now - 1 else now) }
+    ensures { result ≡ (if is_slow then now - 10 else now) }
 {
     if is_slow {
-        now.saturating_sub(GLANCE_MILLIS)
+        now.saturating_sub(LOOK_MILLIS)
     } else {
         now
     }

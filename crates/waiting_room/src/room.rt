@@ -341,7 +341,10 @@ impl Room {
         let Ok(ending) = self.ending.share() else {
             return;
         };
-        let end = StreamEnd::of_client(stream, address.ip(), self.limits, ending);
+        let Ok(end) = StreamEnd::of_client(self.alloc, stream, address.ip(), self.limits, ending)
+        else {
+            return;
+        };
         let number = end.number();
         let client = Client {
             end,
