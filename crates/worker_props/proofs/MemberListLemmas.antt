@@ -81,6 +81,14 @@ adds_here names p old k before new at whose more = record {
       (cases_eq i k);
 }
 
+-- a line that lists nobody's members adds nothing
+pub adds_none : (names : List (List ℕ)) (p : Property) (lists : List (List declared.Listing))
+    → ((name : List ℕ) (i : ℕ) → number_of name names ≡ Some i → gives name directive.BalanceWorkers p ≡ is_number i None) → AddsLine names p lists lists
+adds_none names p lists none = record {
+  count = refl;
+  each = λ name i list num got. (list, got, rw (none name i num) (sym (append-nil (as_listings list))));
+}
+
 -- a name's number is within the names
 pub number_within : (name : List ℕ) (names : List (List ℕ)) (o : Option ℕ) → o ≡ number_of name names → IfSome o (λ i. i < length names)
 number_within name names None e = tt

@@ -1,6 +1,6 @@
 use Rattle.std.proofs.Common.{◌<◌, length, arith}
 use Rattle.site_config.specs.Entries.{as_property}
-use Rattle.worker_props.proofs.MemberListLemmas.{adds_here, listed_at}
+use Rattle.worker_props.proofs.MemberListLemmas.{adds_here, adds_none, listed_at}
 use Rattle.worker_props.proofs.WorkerLemmas.{on_ok}
 use Rattle.worker_props.proofs.member_lists.add_line.Goals as goal
 
@@ -14,3 +14,6 @@ returns-in-Some c =
     adds_here c.args.names.now (as_property c.args.entry.now) c.args.lists.now.items c.in-Some.number c.index_mut.result.now c.push_listings.new.out
     (listed_at c.args.lists.now.items c.in-Some.number c.index_mut.result.now within c.index_mut.ensures.value)
     c.in-Some.ensures.value more)
+
+pub returns-in-None : goal.returns-in-None
+returns-in-None c = adds_none c.args.names.now (as_property c.args.entry.now) c.args.lists.now.items c.in-None.ensures.value

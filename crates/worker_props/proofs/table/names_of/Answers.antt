@@ -18,4 +18,9 @@ known es i d names within h =
 
 pub loop-entry-preserved : goal.loop-entry-preserved
 loop-entry-preserved c =
-    rw c.in_ok-add_worker.ensures (known c.args.entries.now c.loop-entry.entry-index _ c.loop-entry.names (omega arith) c.loop-entry.invariant)
+    let es = c.args.entries.now in
+    let i = c.loop-entry.entry-index in
+    let item = c.entry-item.result in
+    rw c.in_ok-add_worker.ensures
+    (subst (λ (x : PropertyLine). IsNameOfGiven (as_properties (take (i + 1) es)) (names_with (worker_part x.key.now) c.loop-entry.names)) (sym c.entry-item.is)
+    (known es i item c.loop-entry.names (omega arith) c.loop-entry.invariant))

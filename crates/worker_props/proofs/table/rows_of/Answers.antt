@@ -14,7 +14,12 @@ one_more es i d names rows within h =
 
 pub loop-i-preserved : goal.loop-i-preserved
 loop-i-preserved c =
-    rw c.put.ensures (one_more c.args.entries.now c.loop-i.i _ c.args.names.now c.loop-i.rows.items (omega arith) c.loop-i.invariant)
+    let es = c.args.entries.now in
+    let i = c.loop-i.i in
+    let item = c.index-entries-i.result in
+    rw c.put.ensures
+    (subst (λ (x : PropertyLine). AreRows (HasOwn (as_properties es) (i + 1)) c.args.names.now (rows_after c.args.names.now (as_property x) i c.loop-i.rows.items)) (sym c.index-entries-i.is)
+    (one_more es i item c.args.names.now c.loop-i.rows.items (omega arith) c.loop-i.invariant))
 
 pub returns : goal.returns
 returns c =
